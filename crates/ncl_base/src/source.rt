@@ -1,0 +1,101 @@
+//! Where files come from.
+ghost use Rattle.std.specs.Prelude.{◌≡◌, ℕ, ◌<◌, ◌≤◌, Bool, List, [], length, take, drop, Option, Some, OnOk, OnErr, IfOk, IfSome, IsTrue, IsErrOf};
+ghost use Rattle.ncl_base.specs.Files.{Files, bytes_of, Rose, Took};
+
+use std::alloc::Global;
+use std::cmp;
+
+/// A call of a source or a sink that failed.
+#[derive(Clone, Copy, Debug, PartialEq, Eq)]
+pub struct Failed;
+
+/// Why `load` gave no bytes.
+#[derive(Clone, Copy, Debug, PartialEq, Eq)]
+pub enum LoadFault {
+    /// The source failed.
+    Read,
+    /// The file has more than 16,777,216 bytes.
+    TooLong,
+    /// Memory was refused.
+    Memory,
+}
+
+/// Files that are read by name, one after another.
+pub trait Source {
+    /// The files, where they are told.
+    ghost files: { Self → Option Files };
+
+    /// The rest of the file that was begun, where it is told.
+    ghost left: { Self → Option (List ℕ) };
+
+    /// How many calls have failed.
+    ghost faults: { Self → ℕ };
+
+    /// The names that may be begun.
+    ghost allowed: { Self → List ℕ → Bool };
+
+    /// Begins the file of a name, so that its bytes are what is left.
+    fn begin(&mut self, name: &str) -> Result<(), Failed>
+        requires { IsTrue (allowed self.old name.now) }
+        ensures ok { OnOk result (IfSome (files self.old) (λ fs. left self.new ≡ Some (bytes_of fs name.now))) }
+        ensures rose { OnErr result (Rose (faults self.old) (faults self.new)) }
+        ensures none_left { OnErr result (IfSome (left self.new) (λ l. l ≡ [])) }
+        ensures files { files self.new ≡ files self.old }
+        ensures faults { faults self.old ≤ faults self.new }
+        ensures allowed { allowed self.new ≡ allowed self.old };
+
+    /// Takes bytes from what is left into the front of a buffer, and says how many. None is the end.
+    fn read(&mut self, buf: &mut [u8]) -> Result<usize, Failed>
+        requires { 0 < length buf.old }
+        ensures within { IfOk result (λ n. n ≤ length buf.new) }
+        ensures took { IfOk result (λ n. Took (left self.old) (take n buf.new) (left self.new)) }
+        ensures rose { OnErr result (Rose (faults self.old) (faults self.new)) }
+        ensures kept { OnErr result (left self.new ≡ left self.old) }
+        ensures files { files self.new ≡ files self.old }
+        ensures faults { faults self.old ≤ faults self.new }
+        ensures allowed { allowed self.new ≡ allowed self.old };
+}
+
+/// The most bytes of a file.
+const MOST_BYTES: usize = 16_777_216;
+
+/// The most bytes that are asked for in one read.
+const PIECE: usize = 4096;
+
+/// The bytes of a file, which are at most 16,777,216.
+///
+/// Begins the file once and reads until its end, or until one byte more than that. Linear in the
+/// bytes.
+pub fn load<S: Source>(alloc: Global, source: &mut S, name: &str) -> Result<Vec<u8>, LoadFault>
+    requires { IsTrue (S.allowed source.old name.now) }
+    ensures short { IfOk result (λ bytes. length bytes.items ≤ 16777216) }
+    ensures told { IfOk result (λ bytes. IfSome (S.files source.old) (λ fs. bytes.items ≡ bytes_of fs name.now)) }
+    ensures whole { OnOk result (IfSome (S.files source.old) (λ fs. S.left source.new ≡ Some [])) }
+    ensures read { IsErrOf result LoadFault.Read → Rose (S.faults source.old) (S.faults source.new) }
+    ensures long { IsErrOf result LoadFault.TooLong
+        → IfSome (S.files source.old) (λ fs. 16777216 < length (bytes_of fs name.now)) }
+    ensures bounded { IsErrOf result LoadFault.TooLong
+        → IfSome (S.files source.old) (λ fs. S.left source.new ≡ Some (drop 16777217 (bytes_of fs name.now))) }
+    ensures files { S.files source.new ≡ S.files source.old }
+    ensures faults { S.faults source.old ≤ S.faults source.new }
+    ensures allowed { S.allowed source.new ≡ S.allowed source.old }
+{
+    match source.begin(name) {
+        Ok(()) => {}
+        Err(_) => return Err(LoadFault::Read),
+    }
+    let mut bytes: Vec<u8> = Vec::new(alloc);
+    let mut buffer = [0u8; PIECE];
+    while bytes.len() <= MOST_BYTES {
+        let room = cmp::min(MOST_BYTES + 1 - bytes.len(), PIECE);
+        match source.read(&mut buffer[..room]) {
+            Ok(0) => return Ok(bytes),
+            Ok(n) => match bytes.extend_from_slice(&buffer[..n]) {
+                Ok(()) => {}
+                Err(_) => return Err(LoadFault::Memory),
+            },
+            Err(_) => return Err(LoadFault::Read),
+        }
+    }
+    Err(LoadFault::TooLong)
+}

@@ -1,0 +1,46 @@
+-- The rules for parts, in the order in which they are asked, and the fault where one is broken.
+use Rattle.std.specs.Prelude.{◌≡◌, ℕ, ◌<◌, ◌≤◌, length}
+use Rattle.ncl_netlist.specs.declared.parts.Parts.{Parts}
+use Rattle.ncl_netlist.specs.declared.build_fault.BuildFault.{BuildFault}
+use Rattle.ncl_netlist.specs.declared.build_fault.BuildFault.TheVariants.{TooMany, SameName, TwoDrivers, NoDriver, Memory}
+use Rattle.ncl_netlist.specs.Names.{AllDiffer, Repeats, IsFirstWhere}
+use Rattle.ncl_netlist.specs.Netlist.{most_cells, drivers_of}
+use Rattle.ncl_netlist.specs.Parts.{cell_names, nets_of, netlist_of}
+
+-- how many drivers the net of this number has
+abbrev pub drivers_at : Parts → ℕ → ℕ
+drivers_at parts net = drivers_of (netlist_of parts) net
+
+-- there are at most 131,072 cells
+abbrev pub HasFewCells : Parts → Type 0
+HasFewCells parts = length parts.cells ≤ most_cells
+
+-- no two cells have one name
+abbrev pub HasOwnCellNames : Parts → Type 0
+HasOwnCellNames parts = AllDiffer (cell_names parts)
+
+-- no net has two drivers
+abbrev pub HasNoTwoDrivers : Parts → Type 0
+HasNoTwoDrivers parts = (net : ℕ) → net < length (nets_of parts) → drivers_at parts net ≤ 1
+
+-- each net has a driver
+abbrev pub HasAllDrivers : Parts → Type 0
+HasAllDrivers parts = (net : ℕ) → net < length (nets_of parts) → 1 ≤ drivers_at parts net
+
+-- no rule is broken
+abbrev pub IsFaultless : Parts → Type 0
+IsFaultless parts =
+    HasFewCells parts × HasOwnCellNames parts × HasNoTwoDrivers parts × HasAllDrivers parts
+
+-- the fault of parts: that of the first rule that is broken, with the name of the first cell, or of
+-- the first net, that breaks it. Want of memory is no fault of the parts, and may come at any
+abbrev pub IsFaultOf : Parts → BuildFault → Type 0
+IsFaultOf parts TooMany = most_cells < length parts.cells
+IsFaultOf parts (SameName x) =
+    HasFewCells parts × IsFirstWhere (Repeats (cell_names parts)) (cell_names parts) x
+IsFaultOf parts (TwoDrivers x) =
+    HasFewCells parts × HasOwnCellNames parts × IsFirstWhere (λ net. 2 ≤ drivers_at parts net) (nets_of parts) x
+IsFaultOf parts (NoDriver x) =
+    HasFewCells parts × HasOwnCellNames parts × HasNoTwoDrivers parts
+    × IsFirstWhere (λ net. drivers_at parts net ≡ 0) (nets_of parts) x
+IsFaultOf parts Memory = Unit {0}

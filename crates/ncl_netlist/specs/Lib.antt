@@ -1,0 +1,4 @@
+pub mod Names
+pub mod Netlist
+pub mod Parts
+pub mod Faults

@@ -1,0 +1,56 @@
+-- The netlist that parts describe, before any rule is asked.
+use Rattle.std.specs.Prelude.{◌≡◌, ℕ, ◌-◌, List, [], ◌++◌, map, take, length, slice_index_or}
+use Rattle.std.specs.List.{flat_map}
+use Rattle.ncl_gates.specs.Cell.{pins_of}
+use Rattle.ncl_netlist.specs.declared.ids.NetId.{NetId}
+use Rattle.ncl_netlist.specs.declared.cell.Cell.{Cell}
+use Rattle.ncl_netlist.specs.declared.parts.PartCell.{PartCell}
+use Rattle.ncl_netlist.specs.declared.parts.Parts.{Parts}
+use Rattle.ncl_netlist.specs.Names.{once_each, number_of}
+use Rattle.ncl_netlist.specs.Netlist.{NetlistData}
+
+-- the cell has one net for each pin of its kind
+abbrev pub HasAllPins : PartCell → Type 0
+HasAllPins cell = length cell.pins ≡ length (pins_of cell.kind)
+
+-- the names of the ports in header order
+abbrev pub port_names : Parts → List (List ℕ)
+port_names parts = map (λ port. port.name) parts.ports
+
+-- the names of the cells in order
+abbrev pub cell_names : Parts → List (List ℕ)
+cell_names parts = map (λ cell. cell.name) parts.cells
+
+-- the nets: the ports in header order, then the other names in order of first appearance, going
+-- through the cells in order and each cell's pins in pin order
+abbrev pub nets_of : Parts → List (List ℕ)
+nets_of parts = once_each (port_names parts ++ flat_map (λ cell. cell.pins) parts.cells)
+
+-- the names at the input pins, and at the last pin, which is the output Z
+abbrev pub input_names : PartCell → List (List ℕ)
+input_names cell = take (length cell.pins - 1) cell.pins
+
+abbrev pub output_name : PartCell → List ℕ
+output_name cell = slice_index_or cell.pins (length cell.pins - 1) []
+
+-- the number of the net of a name
+abbrev pub net_of : List (List ℕ) → List ℕ → NetId
+net_of nets x = record { 0 = number_of nets x }
+
+-- the cell, with the numbers of its nets in place of their names
+abbrev pub cell_of : List (List ℕ) → PartCell → Cell
+cell_of nets cell = record {
+  kind = cell.kind;
+  name = cell.name;
+  ins = record { items = map (net_of nets) (input_names cell) };
+  out = net_of nets (output_name cell);
+}
+
+-- the netlist
+abbrev pub netlist_of : Parts → NetlistData
+netlist_of parts = record {
+  name = parts.«module»;
+  ports = parts.ports;
+  nets = nets_of parts;
+  cells = map (cell_of (nets_of parts)) parts.cells;
+}

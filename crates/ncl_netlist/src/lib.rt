@@ -1,0 +1,17 @@
+//! Netlists: the parts that a reader or a compiler hands over, and the netlist that is built of
+//! them, in which each net is driven once.
+#![tactic(auto)]
+
+mod build_fault;
+mod cell;
+mod ids;
+mod netlist;
+mod parts;
+mod port;
+
+pub use build_fault::BuildFault;
+pub use cell::Cell;
+pub use ids::{CellId, NetId};
+pub use netlist::Netlist;
+pub use parts::{NamePair, PartCell, Parts};
+pub use port::Port;

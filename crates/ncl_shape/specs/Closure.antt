@@ -1,0 +1,45 @@
+-- What a netlist computes when nothing is waited for and nothing falls, and the pipeline's function.
+use Rattle.std.specs.Prelude.{ℕ, Bool, false, List, [], ◌∷◌, map, length}
+use Rattle.ncl_gates.specs.declared.cell_kind.CellKind.{CellKind}
+use Rattle.ncl_gates.specs.declared.cell_kind.CellKind.TheVariants.{Gate, Register, Ack}
+use Rattle.ncl_gates.specs.Gate.{set_of}
+use Rattle.ncl_netlist.specs.declared.ids.NetId.{NetId}
+use Rattle.ncl_netlist.specs.declared.cell.Cell.{Cell}
+use Rattle.ncl_netlist.specs.Netlist.{NetlistData}
+use Rattle.ncl_shape.specs.declared.rails.Rails.{Rails}
+use Rattle.ncl_shape.specs.Nets.{Nets, among, rounds}
+use Rattle.ncl_shape.specs.Stage.{named_rails}
+use Rattle.ncl_shape.specs.Pipeline.{PipelineData}
+
+-- the values at the input pins of a cell
+abbrev pub pin_values : Nets → List NetId → List Bool
+pin_values v ins = map (λ (net : NetId). v net.0) ins
+
+-- the output net of a cell
+abbrev pub net_of : Cell → ℕ
+net_of c = c.out.0
+
+-- the value on pin A
+abbrev pub first_pin : List Bool → Bool
+first_pin [] = false
+first_pin (a ∷ others) = a
+
+-- a gate cell passes DATA on where its set function holds, a register cell where its A net is high, as
+-- if every request were made; acknowledge cells pass nothing on
+abbrev pub passes_on : CellKind → List Bool → Bool
+passes_on (Gate kind) values = set_of kind values
+passes_on Register values = first_pin values
+passes_on Ack values = false
+
+abbrev pub passes : Nets → Cell → Bool
+passes v c = passes_on c.kind (pin_values v c.ins.items)
+
+-- the closure of some nets: they are high and all else is low, and then cells raise their outputs, in as
+-- many rounds as there are cells
+abbrev pub close : NetlistData → Nets → Nets
+close n start = rounds net_of passes n.cells (length n.cells) start
+
+-- the function of a pipeline: the word whose bit j is 1 where rail 1 of output j is high in the closure of
+-- the rails that the word names
+abbrev pub function_of : PipelineData → List Bool → List Bool
+function_of p word = map (λ (r : Rails). close p.netlist (among (named_rails p.inputs word)) r.one.0) p.outputs

@@ -1,0 +1,15 @@
+//! The shape of a netlist: register banks, the stages of gates between them, and the items of the
+//! firing machine.
+#![tactic(auto)]
+
+mod bank;
+mod fault;
+mod item;
+mod rails;
+mod stage;
+
+pub use bank::{Bank, Bit};
+pub use fault::ShapeFault;
+pub use item::Item;
+pub use rails::Rails;
+pub use stage::{Stage, StageCell};

@@ -1,0 +1,6 @@
+//! The values of a stage at a word, and the faults that a stage can have.
+#![tactic(auto)]
+
+mod variant;
+
+pub use variant::Variant;

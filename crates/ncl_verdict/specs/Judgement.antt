@@ -1,0 +1,101 @@
+-- The judgement of a pipeline's stages: the first fault in order, with the least word that shows it.
+use Rattle.std.specs.Prelude.{ℕ, ◌+◌, nat_lt, Bool, List, [], ◌∷◌, ◌++◌, map, length, Option, Some, None, if◌then◌else◌, unwrap_or, option_and_then, slice_get}
+use Rattle.std.specs.List.{find, flat_map, range_with_len}
+use Rattle.ncl_netlist.specs.declared.ids.CellId.{CellId}
+use Rattle.ncl_shape.specs.declared.stage.StageCell.{StageCell}
+use Rattle.ncl_shape.specs.Stage.{StageData}
+use Rattle.ncl_diagram.specs.Table.{words}
+use Rattle.ncl_stage.specs.declared.variant.Variant.{Variant}
+use Rattle.ncl_stage.specs.declared.variant.Variant.TheVariants.{Base, Bit, Cell}
+use Rattle.ncl_stage.specs.Faults.{StageFault, BothRails, NoRail, Incomplete, Orphan, shows}
+use Rattle.ncl_stage.specs.Tables.{count}
+use Rattle.ncl_verdict.specs.declared.verdict.Verdict.{Verdict}
+use Rattle.ncl_verdict.specs.declared.verdict.Verdict.TheVariants as verdict
+
+-- what stops the judgement of a stage before its faults are looked for: more nodes at a variant than a
+-- limit, or more input bits than can be tried word by word
+pub data Bound : Type 0 where
+  Nodes : ℕ → Bound
+  TenBits : Bound
+
+abbrev pub stopped_at : Bound → StageData → Variant → Option Verdict
+stopped_at (Nodes limit) s variant = if nat_lt limit (count s variant) then Some (verdict.Limit s.number) else None
+stopped_at TenBits s variant = if nat_lt 10 (length s.inputs) then Some (verdict.Wide s.number) else None
+
+-- the number of the cell at a place of the stage
+abbrev pub cell_number : Option StageCell → CellId
+cell_number None = record { 0 = 0 }
+cell_number (Some c) = c.cell
+
+-- the verdict that a fault gives, with the word that shows it
+abbrev pub verdict_of : StageData → StageFault → List Bool → Verdict
+verdict_of s (BothRails output) word = verdict.Both s.number (output + 1) word
+verdict_of s (NoRail output) word = verdict.Empty s.number (output + 1) word
+verdict_of s (Incomplete bit) word = verdict.Incomplete s.number (bit + 1) word
+verdict_of s (Orphan cell) word = verdict.Orphan s.number (cell_number (slice_get s.cells cell)) word
+
+-- the numbers below n
+abbrev pub below : ℕ → List ℕ
+below n = range_with_len 0 n
+
+-- a place among places in ascending order of their keys
+abbrev pub inserted : (ℕ → ℕ) → ℕ → List ℕ → List ℕ
+inserted key place [] = place ∷ []
+inserted key place (other ∷ places) = if nat_lt (key place) (key other) then place ∷ other ∷ places else other ∷ inserted key place places
+
+-- places in ascending order of their keys
+abbrev pub ordered_by : (ℕ → ℕ) → List ℕ → List ℕ
+ordered_by key [] = []
+ordered_by key (place ∷ places) = inserted key place (ordered_by key places)
+
+-- the number in the file of the cell at a place of the stage
+abbrev pub file_number : StageData → ℕ → ℕ
+file_number s place = (cell_number (slice_get s.cells place)).0
+
+-- the places of the stage's cells in the order of the file
+abbrev pub file_order : StageData → List ℕ
+file_order s = ordered_by (file_number s) (below (length s.cells))
+
+-- the variants in their order: Base, the input bits, the gate cells in the order of the file
+abbrev pub variants : StageData → List Variant
+variants s = Base ∷ map Bit (below (length s.inputs)) ++ map Cell (file_order s)
+
+-- the faults that belong to a variant, in their order
+abbrev pub faults_of : StageData → Variant → List StageFault
+faults_of s Base = flat_map (λ output. BothRails output ∷ NoRail output ∷ []) (below (length s.outputs))
+faults_of s (Bit bit) = Incomplete bit ∷ []
+faults_of s (Cell cell) = Orphan cell ∷ []
+
+-- the least word that shows the fault
+abbrev pub least_word : StageData → StageFault → Option (List Bool)
+least_word s fault = find (λ word. shows s word fault) (words (length s.inputs))
+
+-- the verdict of a fault, if some word shows it
+abbrev pub found : StageData → StageFault → Option Verdict
+found s fault = option_and_then (λ word. Some (verdict_of s fault word)) (least_word s fault)
+
+-- the first that is there
+abbrev pub first_of : List (Option Verdict) → Option Verdict
+first_of [] = None
+first_of (None ∷ others) = first_of others
+first_of (Some v ∷ others) = Some v
+
+-- what stops the judgement of a stage at a variant, if anything does
+abbrev pub Stop : Type 0
+Stop = StageData → Variant → Option Verdict
+
+-- at a variant: first what stops the judgement, then its faults
+abbrev pub at_variant : Stop → StageData → Variant → Option Verdict
+at_variant stop s variant = first_of (stop s variant ∷ map (found s) (faults_of s variant))
+
+-- of one stage: the first answer at its variants
+abbrev pub of_stage : Stop → StageData → Option Verdict
+of_stage stop s = first_of (map (at_variant stop s) (variants s))
+
+-- of the stages in order; accepted where nothing is found
+abbrev pub judged : Stop → List StageData → Verdict
+judged stop stages = unwrap_or (first_of (map (of_stage stop) stages)) verdict.Accepted
+
+-- the judgement of the stages of a pipeline
+abbrev pub judgement : Bound → List StageData → Verdict
+judgement bound stages = judged (stopped_at bound) stages

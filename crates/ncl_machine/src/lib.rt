@@ -1,0 +1,8 @@
+//! The firing machine of a pipeline: cells fire one at a time, in any order, and the environment moves
+//! by the four-phase protocol.
+#![tactic(auto)]
+
+mod pair;
+
+pub use ncl_shape::Item;
+pub use pair::Pair;

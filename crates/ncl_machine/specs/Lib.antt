@@ -3,3 +3,4 @@ pub mod Steps
 pub mod Run
 pub mod AtWork
 pub mod DelayInsensitive
+pub mod Examples

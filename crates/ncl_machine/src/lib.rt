@@ -2,6 +2,7 @@
 //! by the four-phase protocol.
 #![tactic(auto)]
 
+pub mod examples;
 mod pair;
 
 pub use ncl_shape::Item;

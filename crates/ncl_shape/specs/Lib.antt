@@ -6,3 +6,4 @@ pub mod Chain
 pub mod Pipeline
 pub mod Shape
 pub mod Closure
+pub mod Examples

@@ -1,2 +1,4 @@
 pub mod Gate
+pub mod GateLaw
 pub mod Cell
+pub mod Name

@@ -1,15 +1,20 @@
 //! The cells of a netlist.
-ghost use Rattle.std.specs.Prelude.{◌≡◌, map};
-ghost use Rattle.ncl_gates.specs.Cell.{pins_of};
+ghost use Rattle.std.specs.Prelude.{◌≡◌, ◌≢◌, ◌+◌, IfNone, IfSome, length, map};
+ghost use Rattle.ncl_gates.specs.declared.cell_kind.CellKind.{CellKind};
+ghost use Rattle.ncl_gates.specs.Cell.{next_of_cell, pins_of};
+ghost use Rattle.ncl_gates.specs.Name.{cell_name_of};
 
-use crate::kind::Kind;
+use crate::kind::{Kind, is_some_high};
 
 /// What a cell of a netlist is: a threshold gate, a register cell `TH22N` or an acknowledge cell
 /// `TH12B`.
 #[derive(Clone, Copy, Debug, PartialEq, Eq)]
 pub enum CellKind {
+    /// A threshold gate.
     Gate(Kind),
+    /// A register cell: TH22 with a reset to 0.
     Register,
+    /// An acknowledge cell: 1 where neither rail of a bit is at 1.
     Ack,
 }
 
@@ -27,6 +32,43 @@ impl CellKind {
                 3 => &[b"A", b"B", b"C", b"Z"],
                 _ => &[b"A", b"B", b"C", b"D", b"Z"],
             },
+        }
+    }
+
+    /// The next value of the cell's output from the values of its other pins, in the order of `pins`,
+    /// and the old value. A gate keeps its value as `Kind::next` says. A register cell is TH22 on `A` and
+    /// `B`, whatever `RST` is. An acknowledge cell is 1 where `A` and `B` are both 0.
+    pub fn next(self, ins: &[bool], old: bool) -> bool
+        requires { length ins.now + 1 ≡ length (pins_of self) }
+        ensures { result ≡ next_of_cell self ins.now old }
+    {
+        match self {
+            CellKind::Gate(kind) => kind.next(ins, old),
+            CellKind::Register => Kind::Th22.next(&ins[..2], old),
+            CellKind::Ack => !is_some_high(ins),
+        }
+    }
+
+    /// The name of the cell, as it stands in a netlist.
+    pub fn name(self) -> &'static [u8]
+        ensures { result.now ≡ cell_name_of self }
+    {
+        match self {
+            CellKind::Gate(kind) => kind.name(),
+            CellKind::Register => b"TH22N",
+            CellKind::Ack => b"TH12B",
+        }
+    }
+
+    /// The cell of a name, and None where no cell has it. Upper and lower case differ.
+    pub fn from_name(name: &[u8]) -> Option<CellKind>
+        ensures some { IfSome result (λ cell. cell_name_of cell ≡ name.now) }
+        ensures none { IfNone result ((cell : CellKind) → cell_name_of cell ≢ name.now) }
+    {
+        match name {
+            b"TH22N" => Some(CellKind::Register),
+            b"TH12B" => Some(CellKind::Ack),
+            _ => Kind::from_name(name).map(CellKind::Gate),
         }
     }
 }

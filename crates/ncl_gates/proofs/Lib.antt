@@ -1,0 +1,4 @@
+mod ListTests
+mod Table
+pub mod GateLaws
+pub mod NameLaws

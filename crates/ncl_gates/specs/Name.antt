@@ -7,7 +7,7 @@ use Rattle.ncl_gates.specs.declared.cell_kind.CellKind.{CellKind}
 use Rattle.ncl_gates.specs.declared.cell_kind.CellKind.TheVariants.{Gate, Register, Ack}
 
 -- the name of a gate, as bytes: THmn has threshold m and n inputs, and after a w stand the weights of
--- its first inputs, where they aren't 1
+-- its first inputs, where they aren't 1; THxor0, THand0 and TH24comp are no threshold functions
 abbrev pub name_of : Kind → List ℕ
 name_of Th12 = codes "TH12"
 name_of Th22 = codes "TH22"

@@ -21,8 +21,10 @@ pub fn monotone()
 
 /// A set function is 0 where all inputs are 0, and 1 where all inputs are 1.
 pub fn extremes()
-    ensures low { (kind : Kind) (ins : List Bool) → some_high ins ≡ false → set_of kind ins ≡ false }
-    ensures high { (kind : Kind) (ins : List Bool) → length ins ≡ arity_of kind → all_high ins ≡ true → set_of kind ins ≡ true }
+    ensures low { (kind : Kind) (ins : List Bool) →
+        some_high ins ≡ false → set_of kind ins ≡ false }
+    ensures high { (kind : Kind) (ins : List Bool) → length ins ≡ arity_of kind →
+        all_high ins ≡ true → set_of kind ins ≡ true }
 {}
 
 /// A gate rises where its set function holds, falls where all inputs are 0, and else keeps its value.

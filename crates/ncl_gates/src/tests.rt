@@ -44,21 +44,20 @@ fn inputs(number: u16) -> [bool; 4] {
     ]
 }
 
+// The set function of a gate at these inputs, and its next value from 0 and from 1.
+fn answers(kind: Kind, number: u16) -> [bool; 3] {
+    let pins = inputs(number);
+    let ins = &pins[..kind.arity()];
+    [kind.set(ins), kind.next(ins, false), kind.next(ins, true)]
+}
+
 #[test]
 fn gates_follow_their_truth_tables(rt: HostRuntime) {
-    for (kind, _, arity, table) in GATES {
-        assert_eq!(rt; kind.arity(), arity, "{kind:?}");
-        for number in 0..1 << arity {
-            let pins = inputs(number);
-            let ins = &pins[..kind.arity()];
+    for (kind, _, _, table) in GATES {
+        for number in 0..1 << kind.arity() {
             let set = table >> number & 1 != 0;
-            assert_eq!(rt; kind.set(ins), set, "{kind:?} at {number}");
-            assert_eq!(rt; kind.next(ins, false), set, "{kind:?} at {number} from 0");
-            assert_eq!(rt;
-                kind.next(ins, true),
-                set || number != 0,
-                "{kind:?} at {number} from 1"
-            );
+            let want = [set, set, set || number != 0];
+            assert_eq!(rt; answers(kind, number), want, "{kind:?} at {number}");
         }
     }
 }
@@ -99,6 +98,7 @@ fn names_and_pins(rt: HostRuntime) {
             3 => &[b"A", b"B", b"C", b"Z"],
             _ => &[b"A", b"B", b"C", b"D", b"Z"],
         };
+        assert_eq!(rt; kind.arity(), arity, "{kind:?}");
         assert!(rt; kind.name() == name, "{kind:?}");
         assert_eq!(rt; Kind::from_name(name), Some(kind));
         assert!(rt; cell.name() == name, "{kind:?}");

@@ -5,6 +5,7 @@
 mod bank;
 mod fault;
 mod item;
+pub mod laws;
 mod rails;
 mod stage;
 

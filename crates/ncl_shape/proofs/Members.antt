@@ -1,0 +1,45 @@
+-- Members of a list, in the form in which proofs go through them: the first, or a member of the rest.
+use Rattle.std.proofs.Common.{◌≡◌, ℕ, zero, suc, ◌<◌, Bool, true, false, List, [], ◌∷◌, length, get_or, inl, inr, refl, subst, arith}
+use Rattle.std.specs.Prelude.{Contains, All}
+use Rattle.std.specs.List.{list_any, AllByRecursion}
+use Rattle.std.proofs.lemmas.Bool.{or_cases, or_left, or_right, both_ways}
+
+pub data Member {X : Type 0} (x : X) : List X → Type 0 where
+  here : {xs : List X} → Member x (x ∷ xs)
+  there : {y : X} {xs : List X} → Member x xs → Member x (y ∷ xs)
+
+-- what stands at a place is a member
+pub Member-get_or : {X : Type 0} (xs : List X) (place : ℕ) (d : X) → place < length xs → Member (get_or xs place d) xs
+Member-get_or [] place d lt = absurd (omega arith)
+Member-get_or (x ∷ xs) zero d lt = here
+Member-get_or (x ∷ xs) (suc place) d lt = there (Member-get_or xs place d (omega arith))
+
+pub Contains-from_Member : {X : Type 0} (x : X) {xs : List X} → Member x xs → Contains xs x
+Contains-from_Member x (here {xs = xs}) = (0, omega arith, refl)
+Contains-from_Member x (there {y = y} {xs = xs} m) = let (place, lt, at) = Contains-from_Member x m in (suc place, omega arith, at)
+
+pub Member-from_Contains : {X : Type 0} (xs : List X) (x : X) → Contains xs x → Member x xs
+Member-from_Contains [] x (place, lt, at) = absurd (omega arith)
+Member-from_Contains (y ∷ xs) x (zero, lt, at) = subst (λ z. Member z (y ∷ xs)) at here
+Member-from_Contains (y ∷ xs) x (suc place, lt, at) = there (Member-from_Contains xs x (place, omega arith, at))
+
+-- what holds of each member holds of all
+pub All-from_members : {X : Type 0} (P : X → Type 0) (xs : List X) → ((x : X) → Member x xs → P x) → All P xs
+All-from_members P xs each place d lt = each (get_or xs place d) (Member-get_or xs place d lt)
+
+pub recursion_from_members : {X : Type 0} (P : X → Type 0) (xs : List X) → ((x : X) → Member x xs → P x) → AllByRecursion P xs
+recursion_from_members P [] each = tt
+recursion_from_members P (x ∷ xs) each = (each x here, recursion_from_members P xs (λ y m. each y (there m)))
+
+-- a member that passes a test
+pub list_any-from_member : {X : Type 0} (test : X → Bool) (x : X) {xs : List X} → Member x xs → test x ≡ true → list_any test xs ≡ true
+list_any-from_member test x (here {xs = xs}) passes = or_left (test x) (list_any test xs) passes
+list_any-from_member test x (there {y = y} {xs = xs} m) passes = or_right (test y) (list_any test xs) (list_any-from_member test x m passes)
+
+pub member_from_list_any : {X : Type 0} (test : X → Bool) (xs : List X) → list_any test xs ≡ true → (x : X) × Member x xs × (test x ≡ true)
+member_from_list_any test [] some = absurd (both_ways false refl some)
+member_from_list_any test (y ∷ xs) some =
+    elim (or_cases (test y) (list_any test xs) some) [
+      | inl first ↦ (y, here, first)
+      | inr rest ↦ let (x, m, passes) = member_from_list_any test xs rest in (x, there m, passes)
+    ]

@@ -1,0 +1,24 @@
+//! The laws of the closure of a netlist. Each function states some, and does nothing.
+ghost use Rattle.std.specs.Prelude.{◌≡◌, ◌⊎◌, ℕ, true, All, Contains};
+ghost use Rattle.ncl_netlist.specs.declared.cell.Cell.{Cell};
+ghost use Rattle.ncl_netlist.specs.Netlist.{NetlistData};
+ghost use Rattle.ncl_shape.specs.Nets.{Nets, IsBelow};
+ghost use Rattle.ncl_shape.specs.Closure.{close, net_of, passes};
+
+/// The closure of more nets is no less.
+pub fn closure_grows()
+    ensures { (n : NetlistData) (v w : Nets) → IsBelow v w → IsBelow (close n v) (close n w) }
+{}
+
+/// The closure keeps what is high at the start, leaves no cell that passes on with a low output, and is
+/// the least that does.
+pub fn closure_is_least()
+    ensures kept { (n : NetlistData) (v : Nets) → IsBelow v (close n v) }
+    ensures settled { (n : NetlistData) (v : Nets) → All (λ cell. passes (close n v) cell ≡ true → close n v (net_of cell) ≡ true) n.cells }
+    ensures least { (n : NetlistData) (v w : Nets) → IsBelow v w → All (λ cell. passes w cell ≡ true → w (net_of cell) ≡ true) n.cells → IsBelow (close n v) w }
+{}
+
+/// A net that is high in the closure is high at the start, or is the output of a cell that passes on.
+pub fn closure_is_supported()
+    ensures { (n : NetlistData) (v : Nets) (net : ℕ) → close n v net ≡ true → (v net ≡ true) ⊎ ((cell : Cell) × Contains n.cells cell × (net_of cell ≡ net) × (passes (close n v) cell ≡ true)) }
+{}

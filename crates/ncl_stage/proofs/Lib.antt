@@ -1,1 +1,4 @@
 pub mod Counted
+pub mod Apart
+pub mod ValueLaws
+pub mod OnePass

@@ -2,3 +2,4 @@ pub mod Values
 pub mod Faults
 pub mod Tables
 pub mod Examples
+pub mod Pass

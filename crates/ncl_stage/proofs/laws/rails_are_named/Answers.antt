@@ -1,0 +1,5 @@
+use Rattle.ncl_stage.proofs.ValueLaws.{val-rails}
+use Rattle.ncl_stage.proofs.laws.rails_are_named.Goals as goal
+
+pub returns : goal.returns
+returns c = λ s word variant is. val-rails s is word variant

@@ -1,0 +1,34 @@
+//! The laws of the values of a stage. Each function states some, and does nothing.
+ghost use Rattle.std.specs.Prelude.{◌≡◌, ℕ, Bool, false, List, All, Contains};
+ghost use Rattle.ncl_shape.specs.Nets.{IsBelow};
+ghost use Rattle.ncl_shape.specs.Stage.{StageData, IsStage, rail_nets, nets_of, out_of};
+ghost use Rattle.ncl_stage.specs.declared.variant.Variant.{Variant};
+ghost use Rattle.ncl_stage.specs.declared.variant.Variant.TheVariants.{Base};
+ghost use Rattle.ncl_stage.specs.Values.{kept_low, rises, start, val};
+ghost use Rattle.ncl_stage.specs.Pass.{pass};
+
+/// A rail of the inputs is high exactly where the word names it and the variant doesn't keep it low.
+pub fn rails_are_named()
+    ensures { (s : StageData) (word : List Bool) (variant : Variant) → IsStage s → All (λ net. val s word variant net ≡ start s (kept_low s variant) word net) (rail_nets s.inputs) }
+{}
+
+/// The output of a cell is high exactly where its set function holds at the values and the variant
+/// doesn't keep it low.
+pub fn outputs_are_set()
+    ensures { (s : StageData) (word : List Bool) (variant : Variant) → IsStage s → All (λ cell. val s word variant (out_of cell) ≡ rises (kept_low s variant) (val s word variant) cell) s.cells }
+{}
+
+/// A net that is no net of the stage is low.
+pub fn other_nets_are_low()
+    ensures { (s : StageData) (word : List Bool) (variant : Variant) (net : ℕ) → (Contains (nets_of s.inputs s.cells) net → ⊥) → val s word variant net ≡ false }
+{}
+
+/// No variant raises a net that Base leaves low.
+pub fn variants_are_below_base()
+    ensures { (s : StageData) (word : List Bool) (variant : Variant) → IsBelow (val s word variant) (val s word Base) }
+{}
+
+/// Evaluating each cell once, in the stage's order, gives the values.
+pub fn one_pass_is_enough()
+    ensures { (s : StageData) (word : List Bool) (variant : Variant) (net : ℕ) → IsStage s → pass (kept_low s variant) s.cells (start s (kept_low s variant) word) net ≡ val s word variant net }
+{}

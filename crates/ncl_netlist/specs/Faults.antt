@@ -1,5 +1,5 @@
 -- The rules for parts, in the order in which they are asked, and the fault where one is broken.
-use Rattle.std.specs.Prelude.{◌≡◌, ℕ, ◌<◌, ◌≤◌, length}
+use Rattle.std.specs.Prelude.{◌≡◌, ℕ, ◌<◌, ◌≤◌, List, length, slice_index, EachIndex}
 use Rattle.ncl_netlist.specs.declared.parts.Parts.{Parts}
 use Rattle.ncl_netlist.specs.declared.build_fault.BuildFault.{BuildFault}
 use Rattle.ncl_netlist.specs.declared.build_fault.BuildFault.TheVariants.{TooMany, SameName, TwoDrivers, NoDriver, Memory}
@@ -44,3 +44,13 @@ IsFaultOf parts (NoDriver x) =
     HasFewCells parts × HasOwnCellNames parts × HasNoTwoDrivers parts
     × IsFirstWhere (λ net. drivers_at parts net ≡ 0) (nets_of parts) x
 IsFaultOf parts Memory = Unit {0}
+
+-- the fault of nets that have these counts of drivers
+abbrev pub IsFaultOfCounts : List ℕ → List (List ℕ) → BuildFault → Type 0
+IsFaultOfCounts counts nets TooMany = ⊥
+IsFaultOfCounts counts nets (SameName x) = ⊥
+IsFaultOfCounts counts nets (TwoDrivers x) = IsFirstWhere (λ net. 2 ≤ slice_index counts net) nets x
+IsFaultOfCounts counts nets (NoDriver x) =
+    EachIndex counts (λ net. slice_index counts net ≤ 1)
+    × IsFirstWhere (λ net. slice_index counts net ≡ 0) nets x
+IsFaultOfCounts counts nets Memory = Unit {0}

@@ -14,7 +14,7 @@ AllDiffer names = IsDistinct same_name names
 -- each name once, in the order of first appearance
 abbrev pub once_each : List (List ℕ) → List (List ℕ)
 once_each [] = []
-once_each (x ∷ xs) = x ∷ filter (λ y. not (same_name x y)) (once_each xs)
+once_each (x ∷ xs) = x ∷ filter (λ y. not (same_name y x)) (once_each xs)
 
 -- the number of a name: the place of the first name that is the same, counted from 0
 abbrev pub number_of : List (List ℕ) → List ℕ → ℕ

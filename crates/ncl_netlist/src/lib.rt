@@ -4,14 +4,17 @@
 
 mod build_fault;
 mod cell;
+mod cell_rules;
+mod drivers;
 mod ids;
 mod netlist;
+mod numbering;
 mod parts;
 mod port;
 
 pub use build_fault::BuildFault;
 pub use cell::Cell;
 pub use ids::{CellId, NetId};
-pub use netlist::Netlist;
+pub use netlist::{Netlist, build};
 pub use parts::{NamePair, PartCell, Parts};
 pub use port::Port;

@@ -1,10 +1,19 @@
 //! The netlist.
-ghost use Rattle.std.specs.Prelude.{◌≡◌};
+ghost use Rattle.std.specs.Prelude.{◌≡◌, ◌<◌, ◌^◌, OnOk, IfOk, IfErr, All, length};
+ghost use Rattle.ncl_netlist.specs.Names.{AllDiffer};
 ghost use Rattle.ncl_netlist.specs.Netlist.{IsNetlist};
+ghost use Rattle.ncl_netlist.specs.Parts.{HasAllPins, port_names, netlist_of};
+ghost use Rattle.ncl_netlist.specs.Faults.{IsFaultless, IsFaultOf};
 
+use crate::build_fault::BuildFault;
 use crate::cell::Cell;
+use crate::cell_rules::check_cells;
+use crate::drivers::{check_drivers, count_drivers};
+use crate::numbering::{into_nets, number_cells, number_ports};
+use crate::parts::Parts;
 use crate::port::Port;
 use ncl_base::Name;
+use std::alloc::Global;
 use std::marker::Model;
 
 /// A netlist, which only `build` makes.
@@ -27,6 +36,41 @@ impl Model for Netlist {
     ghost view = { λ a. record { name = a.module; ports = a.ports.items; nets = a.nets.items; cells = a.cells.items } };
 
     ghost invariant = { λ a. IsNetlist (record { name = a.module; ports = a.ports.items; nets = a.nets.items; cells = a.cells.items }) };
+}
+
+/// Builds the netlist of parts.
+///
+/// The nets are numbered in order of first appearance: the ports in header order, then the other
+/// names through the cells, pin by pin. Refuses, in this order: more than 131,072 cells; a cell with
+/// the name of an earlier cell; a net with two or more drivers; a net without a driver, with the name
+/// of the first such cell or net. Also fails where memory is refused. The parts are used up.
+///
+/// Near linear in the bytes of the names: each is hashed once.
+pub fn build(alloc: Global, parts: Parts) -> Result<Netlist, BuildFault>
+    requires ports_differ { AllDiffer (port_names parts) }
+    requires few_ports { length parts.ports < 2 ^ 31 }
+    requires all_pins { All HasAllPins parts.cells }
+    ensures built { IfOk result (λ netlist. netlist ≡ netlist_of parts) }
+    ensures faultless { OnOk result (IsFaultless parts) }
+    ensures fault { IfErr result (IsFaultOf parts) }
+{
+    check_cells(alloc, &parts)?;
+    let Parts {
+        module,
+        ports,
+        cells,
+    } = parts;
+    let mut names = number_ports(alloc, ports.items())?;
+    let cells = number_cells(alloc, &mut names, cells.into_vec())?;
+    let nets = into_nets(alloc, names)?;
+    let counts = count_drivers(alloc, ports.items(), &cells, nets.len())?;
+    check_drivers(alloc, &counts, &nets)?;
+    Ok(Netlist {
+        module,
+        ports: ports.into_vec(),
+        nets,
+        cells,
+    })
 }
 
 impl Netlist {

@@ -1,0 +1,3 @@
+mod Steps
+mod Building
+pub mod NameLists

@@ -1,0 +1,47 @@
+//! The rules for the cells of parts.
+ghost use Rattle.std.specs.Prelude.{MatchOption, OnOk, IfOk, IfErr, map};
+ghost use Rattle.ncl_netlist.specs.Names.{AllDiffer, Repeats, IsFirstWhere};
+ghost use Rattle.ncl_netlist.specs.Faults.{HasFewCells, HasOwnCellNames, IsFaultOf};
+
+use crate::build_fault::BuildFault;
+use crate::parts::{PartCell, Parts};
+use indexmap::IndexSet;
+use ncl_base::{Memory, Name};
+use std::alloc::Global;
+
+/// The most cells of a netlist.
+const MOST_CELLS: usize = 131_072;
+
+/// The name of the first cell that repeats an earlier cell's name, or `None` where the names differ.
+///
+/// Linear in the bytes of the names, each of which is copied.
+fn first_repeated(alloc: Global, cells: &[PartCell]) -> Result<Option<Name>, Memory>
+    ensures { IfOk result (λ repeated. let names = map (λ cell. cell.name) cells.now in
+        MatchOption repeated (AllDiffer names) (IsFirstWhere (Repeats names) names)) }
+{
+    let mut seen: IndexSet<Name> = IndexSet::new(alloc);
+    for cell in cells {
+        let added = seen.insert(Name::from_bytes(alloc, cell.name.bytes())?)?;
+        if !added {
+            return Ok(Some(Name::from_bytes(alloc, cell.name.bytes())?));
+        }
+    }
+    Ok(None)
+}
+
+/// Refuses parts with too many cells, and parts in which two cells have one name.
+///
+/// Linear in the bytes of the names of the cells.
+pub(crate) fn check_cells(alloc: Global, parts: &Parts) -> Result<(), BuildFault>
+    ensures ok { OnOk result (HasFewCells parts.now × HasOwnCellNames parts.now) }
+    ensures fault { IfErr result (IsFaultOf parts.now) }
+{
+    let cells = parts.cells.items();
+    if cells.len() > MOST_CELLS {
+        return Err(BuildFault::TooMany);
+    }
+    match first_repeated(alloc, cells)? {
+        Some(name) => Err(BuildFault::SameName(name)),
+        None => Ok(()),
+    }
+}

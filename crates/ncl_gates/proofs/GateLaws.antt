@@ -12,15 +12,17 @@ use Rattle.ncl_gates.specs.GateLaw.{all_high, IsBelow, IsMonotone, HasHysteresis
 use Rattle.ncl_gates.proofs.ListTests.{list_all_more, list_any_more}
 use Rattle.ncl_gates.proofs.Table.{every_kind}
 
--- the test that the table passes: a gate has products, and each has pins, all of them the gate's
+-- the test of the table: whether a product has pins, all of them within the arity
 abbrev is_product_within : ℕ → List Pin → Bool
 is_product_within arity [] = false
 is_product_within arity (pin ∷ pins) = list_all (λ p. ltb (place_of p) arity) (pin ∷ pins)
 
+-- whether there are products, and each passes
 abbrev all_within : ℕ → List (List Pin) → Bool
 all_within arity [] = false
 all_within arity (product ∷ more) = list_all (is_product_within arity) (product ∷ more)
 
+-- the whole table passes, by computation
 table_passes : (kind : Kind) → all_within (arity_of kind) (products kind) ≡ true
 table_passes kind = every_kind (λ k. all_within (arity_of k) (products k)) refl kind
 
@@ -32,11 +34,12 @@ within_from_test arity (pin ∷ pins) passes = record {
   within = λ k d lt. ltb-true _ _ (AllPass-from_list_all (λ p. ltb (place_of p) arity) (pin ∷ pins) passes k d lt);
 }
 
--- a table entry that passes the test is as the rule says
+-- an entry of the table that passes has products
 some_from_test : (arity : ℕ) (ps : List (List Pin)) → all_within arity ps ≡ true → ps ≢ []
 some_from_test arity [] passes = λ is. absurd cc
 some_from_test arity (p ∷ ps) passes = λ is. absurd cc
 
+-- and the rule holds of each
 each_from_test : (arity : ℕ) (ps : List (List Pin)) → all_within arity ps ≡ true → All (IsProductWithin arity) ps
 each_from_test arity [] passes = absurd cc
 each_from_test arity (p ∷ ps) passes = λ k d lt. within_from_test _ _ (AllPass-from_list_all (is_product_within arity) (p ∷ ps) passes k d lt)
@@ -54,11 +57,13 @@ set_of-monotone kind ins more below =
     list_any_more (list_all (at_pin ins)) (list_all (at_pin more))
     (list_all_more (at_pin ins) (at_pin more) (λ pin. below.rises (place_of pin))) (products kind)
 
+-- where no input is 1, each is 0
 low_at : (ins : List Bool) → some_high ins ≡ false → (place : ℕ) → get_or ins place false ≡ false
 low_at [] low place = refl
 low_at (b ∷ bs) low zero = (or_parts b (some_high bs) low).0
 low_at (b ∷ bs) low (suc place) = low_at bs (or_parts b (some_high bs) low).1 place
 
+-- where all inputs are 0, no product with pins holds
 product_low : (ins : List Bool) → some_high ins ≡ false → (product : List Pin) → product ≢ [] → list_all (at_pin ins) product ≡ false
 product_low ins low [] filled = absurd (filled refl)
 product_low ins low (pin ∷ pins) filled = and_left _ _ (low_at ins low (place_of pin))
@@ -68,15 +73,18 @@ pub set_of-low : (kind : Kind) (ins : List Bool) → some_high ins ≡ false →
 set_of-low kind ins low =
     list_any_none (list_all (at_pin ins)) (products kind) (λ k d lt. product_low ins low _ ((products-within kind).each k d lt).filled)
 
+-- where all inputs are 1, each is 1
 high_at : (ins : List Bool) → all_high ins ≡ true → (place : ℕ) → place < length ins → get_or ins place false ≡ true
 high_at [] high place lt = absurd (omega arith)
 high_at (b ∷ bs) high zero lt = (and_parts b (all_high bs) high).0
 high_at (b ∷ bs) high (suc place) lt = high_at bs (and_parts b (all_high bs) high).1 place (omega arith)
 
+-- where all inputs are 1, each product of the gate holds
 product_high : (arity : ℕ) (ins : List Bool) → length ins ≡ arity → all_high ins ≡ true → (product : List Pin) → IsProductWithin arity product → list_all (at_pin ins) product ≡ true
 product_high arity ins len high product is =
     list_all-from_AllPass (at_pin ins) product (λ k d lt. let here = is.within k d lt in high_at ins high _ (omega arith))
 
+-- a list that isn't empty has a first element
 first_at : (ps : List (List Pin)) → ps ≢ [] → 0 < length ps
 first_at [] some = absurd (some refl)
 first_at (p ∷ ps) some = omega arith
@@ -96,28 +104,33 @@ next_of-hysteresis kind = record {
   keeps = λ ins old unset high. ap (λ b. if b then true else (if some_high ins then old else false)) unset ∙ ap (λ b. if b then old else false) high;
 }
 
+-- 0 adds nothing
 or_false : (b : Bool) → (b || false) ≡ b
 or_false true = refl
 or_false false = refl
 
+-- 1 takes nothing away
 and_true : (b : Bool) → (b && true) ≡ b
 and_true true = refl
 and_true false = refl
 
--- what holds of two, three and four inputs holds of each list as long
+-- what holds of any two inputs holds of each list of two
 of_two : (P : List Bool → Type 0) → ((a b : Bool) → P (a ∷ b ∷ [])) → (ins : List Bool) → length ins ≡ 2 → P ins
 of_two P here [] len = absurd (omega arith)
 of_two P here (a ∷ []) len = absurd (omega arith)
 of_two P here (a ∷ b ∷ []) len = here a b
 of_two P here (a ∷ b ∷ c ∷ rest) len = absurd (omega arith)
 
+-- what holds of one input before any n holds of each list of n + 1
 of_more : (n : ℕ) (P : List Bool → Type 0) → ((a : Bool) (rest : List Bool) → length rest ≡ n → P (a ∷ rest)) → (ins : List Bool) → length ins ≡ n + 1 → P ins
 of_more n P here [] len = absurd (omega arith)
 of_more n P here (a ∷ rest) len = here a rest (omega arith)
 
+-- the same of three
 of_three : (P : List Bool → Type 0) → ((a b c : Bool) → P (a ∷ b ∷ c ∷ [])) → (ins : List Bool) → length ins ≡ 3 → P ins
 of_three P here = of_more 2 P (λ a. of_two (λ rest. P (a ∷ rest)) (here a))
 
+-- the same of four
 of_four : (P : List Bool → Type 0) → ((a b c d : Bool) → P (a ∷ b ∷ c ∷ d ∷ [])) → (ins : List Bool) → length ins ≡ 4 → P ins
 of_four P here = of_more 3 P (λ a. of_three (λ rest. P (a ∷ rest)) (here a))
 

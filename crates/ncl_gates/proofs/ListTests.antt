@@ -1,13 +1,14 @@
--- Tests of lists: what follows for the list where it follows for each element.
+-- Tests over lists.
 use Rattle.std.proofs.Common.{◌≡◌, List, [], ◌∷◌, Bool, true, false, cond, Some, inl, inr, subst}
 use Rattle.std.specs.List.{list_any, list_all, find}
 use Rattle.std.proofs.lemmas.Bool.{and_parts, and_from, or_cases, or_left, or_right}
 
--- what each element passes more easily, the list does
+-- where each element that passes p passes q, a list that passes p does
 pub list_all_more : {X : Type 0} (p q : X → Bool) → ((x : X) → p x ≡ true → q x ≡ true) → (xs : List X) → list_all p xs ≡ true → list_all q xs ≡ true
 list_all_more p q more [] e = e
 list_all_more p q more (x ∷ xs) e = let (here, rest) = and_parts (p x) (list_all p xs) e in and_from _ _ (more x here) (list_all_more p q more xs rest)
 
+-- the same of some element
 pub list_any_more : {X : Type 0} (p q : X → Bool) → ((x : X) → p x ≡ true → q x ≡ true) → (xs : List X) → list_any p xs ≡ true → list_any q xs ≡ true
 list_any_more p q more [] e = e
 list_any_more p q more (x ∷ xs) e =

@@ -40,7 +40,8 @@ impl Model for MemSink {
 
 impl MemSink {
     /// An empty sink that holds at most `room` bytes, takes at most `piece` bytes of a write, and whose
-    /// writes with the numbers in `failing` fail, counted from 1.
+    /// writes with the numbers in `failing` fail, counted from 1. It answers `Memory` where the room
+    /// can't be reserved.
     pub fn new(
         alloc: Global,
         room: usize,
@@ -79,6 +80,10 @@ impl Sink for MemSink {
 
     ghost faults = { λ s. s.faults };
 
+    /// Keeps as many bytes as the piece, the sink's own piece and the room left allow. Takes no memory.
+    /// Linear in these bytes and in the numbers that fail.
+    ///
+    /// It fails exactly where the number of this call is one that fails, or no room is left.
     fn write(&mut self, piece: &[u8]) -> Result<usize, Failed>
         requires { 0 < length piece.now }
         ensures fails { IsErr result

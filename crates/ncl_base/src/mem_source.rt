@@ -70,6 +70,9 @@ impl Source for MemSource {
     ghost allowed = { λ s name. true };
 
     /// Begins the first file of the name, by one walk over the files.
+    ///
+    /// It fails exactly where the number of this call is one that fails, or no file has the name, and
+    /// nothing is left then.
     #[tactic(auto, using(crate::proofs::Named::absent))]
     fn begin(&mut self, name: &str) -> Result<(), Failed>
         ensures fails { IsErr result
@@ -95,6 +98,10 @@ impl Source for MemSource {
         Ok(())
     }
 
+    /// Takes as many bytes as the piece, the buffer and what is left allow, and keeps the rest of the
+    /// buffer. Linear in these bytes and in the numbers that fail.
+    ///
+    /// It fails exactly where the number of this call is one that fails.
     fn read(&mut self, buf: &mut [u8]) -> Result<usize, Failed>
         requires { 0 < length buf.old }
         ensures fails { IsErr result ↔ IsTrue (next_fails self.old.failing self.old.calls) }

@@ -32,7 +32,8 @@ pub trait Sink {
 
 /// Writes all bytes, or a first part of them where the sink fails.
 ///
-/// Takes no memory. Linear in the bytes, since each write takes at least one.
+/// Takes no memory. Linear in the bytes, since each write takes at least one. It answers `Write`
+/// where the sink failed, which then holds a first part of the bytes.
 pub fn deliver<K: Sink>(sink: &mut K, bytes: &[u8]) -> Result<(), SinkFault>
     ensures ok { OnOk result (Grew (K.written sink.old) bytes.now (K.written sink.new)) }
     ensures rose { OnErr result (Rose (K.faults sink.old) (K.faults sink.new)) }

@@ -64,8 +64,9 @@ const PIECE: usize = 4096;
 
 /// The bytes of a file, which are at most 16,777,216.
 ///
-/// Begins the file once and reads until its end, or until one byte more than that. Linear in the
-/// bytes.
+/// Begins the file once and reads until its end, or until one byte more than that, and asks for at
+/// most 4,096 bytes at a time. Linear in the bytes. It answers `Read` where the source failed,
+/// `TooLong` where there was one byte more, and `Memory` where memory was refused.
 pub fn load<S: Source>(alloc: Global, source: &mut S, name: &str) -> Result<Vec<u8>, LoadFault>
     requires { IsTrue (S.allowed source.old name.now) }
     ensures short { IfOk result (λ bytes. length bytes.items ≤ 16777216) }

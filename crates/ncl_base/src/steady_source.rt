@@ -119,6 +119,7 @@ impl Source for SteadySource {
 
     ghost allowed = { λ s name. true };
 
+    /// Begins the first file of the name, by one walk over the files.
     fn begin(&mut self, name: &str) -> Result<(), Failed>
         ensures ok { IsOk result }
         ensures begun { self.new ≡ record self.old { left = bytes_of self.old.files name.now } }
@@ -127,6 +128,7 @@ impl Source for SteadySource {
         Ok(())
     }
 
+    /// Takes as many bytes as the buffer and what is left allow, and keeps the rest of the buffer.
     fn read(&mut self, buf: &mut [u8]) -> Result<usize, Failed>
         ensures ok { IsOk result }
         ensures count { IfOk result (λ n. n ≡ min (length buf.old) (length self.old.left)) }

@@ -1,3 +1,5 @@
 mod Steps
 mod Building
 pub mod NameLists
+pub mod NetlistLaws
+pub mod FaultLaws

@@ -1,5 +1,5 @@
 -- What the loops keep, and their steps.
-use Rattle.std.proofs.Common.{codes, unwrap_or, true≢false, ◌-◌, ◌≡◌, ℕ, ◌+◌, ◌<◌, ◌≤◌, true, false, not, List, [], ◌∷◌, ◌++◌, length, map, take, filter, slice_get, get_or, Some, sym, refl, ap, ◌∙◌, arith, append_assoc}
+use Rattle.std.proofs.Common.{codes, unwrap_or, true≢false, ◌-◌, ◌≡◌, ℕ, ◌+◌, ◌<◌, ◌≤◌, Bool, true, false, not, List, [], ◌∷◌, ◌++◌, length, map, take, filter, slice_get, get_or, Some, sym, refl, ap, ◌∙◌, arith, append_assoc}
 use Rattle.std.specs.List.{flat_map, list_any}
 use Rattle.std.proofs.lemmas.List.{map-append, flat_map_more, length-append, length-take, get_or-take}
 use Rattle.std.proofs.lemmas.List.Sums.{fold-append}
@@ -92,6 +92,15 @@ inputs_few cell keys inputs new all i n =
 pub record Seen (keys names : List (List ℕ)) : Type 0 where
   pub all : keys ≡ names
   pub differ : AllDiffer keys
+
+-- what `insert` answers, as a test of the names that were seen
+pub not_false : (b : Bool) → false ≡ not b → b ≡ true
+not_false true e = refl
+not_false false e = e
+
+pub not_true : (b : Bool) → true ≡ not b → b ≡ false
+not_true true e = e
+not_true false e = refl
 
 -- a name that was seen repeats an earlier one, and is the first to do so
 pub repeats_first : (names : List (List ℕ)) (i : ℕ) (x : List ℕ) → slice_get names i ≡ Some x → AllDiffer (take i names) → list_any (same_name x) (take i names) ≡ true → IsFirstWhere (Repeats names) names x

@@ -3,17 +3,8 @@ use Rattle.std.specs.List.{list_any}
 use Rattle.std.proofs.lemmas.List.{take-map, map_more}
 use Rattle.std.proofs.lemmas.Option.{slice_get_read, slice_get-map}
 use Rattle.ncl_netlist.specs.Names.{same_name, AllDiffer}
-use Rattle.ncl_netlist.proofs.Steps.{Seen, repeats_first, Seen-more}
+use Rattle.ncl_netlist.proofs.Steps.{Seen, repeats_first, Seen-more, not_false, not_true}
 use Rattle.ncl_netlist.proofs.cell_rules.first_repeated.Goals as goal
-
--- what `insert` answers, as a test of the names that were seen
-not_false : (b : Bool) → false ≡ not b → b ≡ true
-not_false true e = refl
-not_false false e = e
-
-not_true : (b : Bool) → true ≡ not b → b ≡ false
-not_true true e = e
-not_true false e = refl
 
 pub returns-then-not-added : goal.returns-then-not-added
 returns-then-not-added c =

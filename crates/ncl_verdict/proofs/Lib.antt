@@ -1,1 +1,4 @@
 pub mod Computed
+pub mod Firsts
+pub mod Places
+pub mod Sound

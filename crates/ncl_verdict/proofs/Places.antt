@@ -1,0 +1,60 @@
+-- Every place, every cell's place and every word is asked.
+use Rattle.std.proofs.Common.{◌≡◌, ℕ, zero, suc, ◌+◌, ◌<◌, ◌≤◌, Bool, true, false, List, [], ◌∷◌, length, map, None, ◌⊎◌, inl, inr, refl, sym, subst, arith}
+use Rattle.std.specs.Prelude.{nat_lt, if◌then◌else◌, slice_get}
+use Rattle.std.specs.List.{range_with_len}
+use Rattle.std.proofs.lemmas.Bool.{cases_eq}
+use Rattle.ncl_shape.proofs.Members.{Member, here, there}
+use Rattle.ncl_stage.proofs.Apart.{member_cases, Member-map, Member-append_left, Member-append_right}
+use Rattle.ncl_diagram.specs.Table.{words}
+use Rattle.ncl_verdict.specs.Judgement.{below, inserted, ordered_by}
+
+Member-range : (from count k : ℕ) → from ≤ k → k < from + count → Member k (range_with_len from count)
+Member-range from zero k low high = absurd (omega arith)
+Member-range from (suc count) k low high =
+    elim (cases_eq from k) [
+      | inl first ↦ subst (λ x. Member k (x ∷ range_with_len (from + 1) count)) (sym first) here
+      | inr later ↦ there (Member-range (from + 1) count k (omega arith) (omega arith))
+    ]
+
+-- each number below n
+pub Member-below : (n k : ℕ) → k < n → Member k (below n)
+Member-below n k lt = Member-range 0 n k (omega arith) (omega arith)
+
+Member-inserted : (key : ℕ → ℕ) (place : ℕ) (places : List ℕ) (k : ℕ) → (place ≡ k) ⊎ Member k places → Member k (inserted key place places)
+Member-inserted key place [] k (inl own) = subst (λ x. Member k (x ∷ [])) (sym own) here
+Member-inserted key place [] k (inr m) = elim m [ ]
+Member-inserted key place (other ∷ places) k at =
+    by_test (nat_lt (key place) (key other))
+    (elim at [
+      | inl own ↦ there (Member-inserted key place places k (inl own))
+      | inr m ↦
+          elim (member_cases k other places m) [
+            | inl first ↦ subst (λ x. Member k (x ∷ inserted key place places)) (sym first) here
+            | inr n ↦ there (Member-inserted key place places k (inr n))
+          ]
+    ])
+  where
+    by_test : (b : Bool) → Member k (other ∷ inserted key place places) → Member k (if b then place ∷ other ∷ places else other ∷ inserted key place places)
+    by_test true later = elim at [ inl own ↦ subst (λ x. Member k (x ∷ other ∷ places)) (sym own) here | inr m ↦ there m ]
+    by_test false later = later
+
+-- ordering loses no place
+pub Member-ordered_by : (key : ℕ → ℕ) (places : List ℕ) (k : ℕ) → Member k places → Member k (ordered_by key places)
+Member-ordered_by key [] k m = elim m [ ]
+Member-ordered_by key (place ∷ places) k m =
+    elim (member_cases k place places m) [
+      | inl own ↦ Member-inserted key place (ordered_by key places) k (inl own)
+      | inr n ↦ Member-inserted key place (ordered_by key places) k (inr (Member-ordered_by key places k n))
+    ]
+
+-- the words of a length are all
+pub Member-words : (word : List Bool) → Member word (words (length word))
+Member-words [] = here
+Member-words (false ∷ word) = Member-append_left (false ∷ word) (map (λ rest. true ∷ rest) (words (length word))) (Member-map (λ rest. false ∷ rest) word (Member-words word))
+Member-words (true ∷ word) = Member-append_right (map (λ rest. false ∷ rest) (words (length word))) (true ∷ word) (Member-map (λ rest. true ∷ rest) word (Member-words word))
+
+-- a place within a list or past its end
+pub slice_get-cases : {X : Type 0} (xs : List X) (k : ℕ) → (slice_get xs k ≡ None) ⊎ (k < length xs)
+slice_get-cases [] k = inl refl
+slice_get-cases (x ∷ xs) zero = inr (omega arith)
+slice_get-cases (x ∷ xs) (suc k) = elim (slice_get-cases xs k) [ inl past ↦ inl past | inr within ↦ inr (omega arith) ]

@@ -1,0 +1,117 @@
+-- An accepted pipeline is sound: no word of the inputs of any of its stages shows any fault.
+use Rattle.std.proofs.Common.{◌≡◌, ℕ, ◌<◌, Bool, true, false, not, ◌&&◌, List, [], ◌∷◌, length, map, Option, Some, None, inl, inr, refl, ap, subst}
+use Rattle.std.specs.Prelude.{nat_lt, All, if◌then◌else◌, option_and_then}
+use Rattle.std.specs.List.{flat_map}
+use Rattle.ncl_shape.specs.declared.rails.Rails.{Rails}
+use Rattle.ncl_shape.specs.declared.stage.StageCell.{StageCell}
+use Rattle.ncl_shape.specs.Stage.{StageData}
+use Rattle.ncl_shape.proofs.Members.{Member, here, there, All-from_members}
+use Rattle.ncl_diagram.specs.Table.{words}
+use Rattle.ncl_stage.specs.declared.variant.Variant.{Variant}
+use Rattle.ncl_stage.specs.declared.variant.Variant.TheVariants.{Base, Bit, Cell}
+use Rattle.ncl_stage.specs.Values.{val}
+use Rattle.ncl_stage.specs.Faults.{StageFault, BothRails, NoRail, Incomplete, Orphan, shows, holds_at, is_illegal, has_data, all_data, IsSound, IsWordOf}
+use Rattle.ncl_stage.specs.Tables.{count}
+use Rattle.ncl_stage.proofs.Apart.{member_cases, Member-map, Member-append_left, Member-append_right}
+use Rattle.ncl_verdict.specs.declared.verdict.Verdict.{Verdict}
+use Rattle.ncl_verdict.specs.declared.verdict.Verdict.TheVariants as verdict
+use Rattle.ncl_verdict.specs.Judgement.{Bound, Nodes, TenBits, stopped_at, verdict_of, below, file_number, file_order, variants, faults_of, least_word, found, first_of, at_variant, of_stage, judgement}
+use Rattle.ncl_verdict.proofs.Firsts.{first_of-none, none_of, find-none, Refuses, map-refuses, unwrap-refuses}
+use Rattle.ncl_verdict.proofs.Places.{Member-below, Member-ordered_by, Member-words, slice_get-cases}
+
+-- no fault gives Accepted
+verdict_of-refuses : (s : StageData) (fault : StageFault) (word : List Bool) → Refuses (Some (verdict_of s fault word))
+verdict_of-refuses s (BothRails output) word = λ e. absurd cc
+verdict_of-refuses s (NoRail output) word = λ e. absurd cc
+verdict_of-refuses s (Incomplete bit) word = λ e. absurd cc
+verdict_of-refuses s (Orphan cell) word = λ e. absurd cc
+
+found-refuses : (s : StageData) (fault : StageFault) → Refuses (found s fault)
+found-refuses s fault = by_word (least_word s fault)
+  where
+    by_word : (least : Option (List Bool)) → Refuses (option_and_then (λ word. Some (verdict_of s fault word)) least)
+    by_word None = λ e. absurd cc
+    by_word (Some word) = verdict_of-refuses s fault word
+
+stopped_at-refuses : (bound : Bound) (s : StageData) (variant : Variant) → Refuses (stopped_at bound s variant)
+stopped_at-refuses (Nodes limit) s variant = by_test (nat_lt limit (count s variant))
+  where
+    by_test : (b : Bool) → Refuses (if b then Some (verdict.Limit s.number) else None)
+    by_test true = λ e. absurd cc
+    by_test false = λ e. absurd cc
+stopped_at-refuses TenBits s variant = by_test (nat_lt 10 (length s.inputs))
+  where
+    by_test : (b : Bool) → Refuses (if b then Some (verdict.Wide s.number) else None)
+    by_test true = λ e. absurd cc
+    by_test false = λ e. absurd cc
+
+at_variant-refuses : (bound : Bound) (s : StageData) (variant : Variant) → Refuses (at_variant (stopped_at bound) s variant)
+at_variant-refuses bound s variant = by_stop (stopped_at bound s variant) (stopped_at-refuses bound s variant)
+  where
+    by_stop : (stop : Option Verdict) → Refuses stop → Refuses (first_of (stop ∷ map (found s) (faults_of s variant)))
+    by_stop None refuses = map-refuses (found s) (found-refuses s) (faults_of s variant)
+    by_stop (Some v) refuses = refuses
+
+of_stage-refuses : (bound : Bound) (s : StageData) → Refuses (of_stage (stopped_at bound) s)
+of_stage-refuses bound s = map-refuses (at_variant (stopped_at bound) s) (at_variant-refuses bound s) (variants s)
+
+-- where nothing is found of a stage, nothing is found of a fault at a variant
+found-none : (bound : Bound) (s : StageData) → of_stage (stopped_at bound) s ≡ None → (variant : Variant) → Member variant (variants s) → (fault : StageFault) → Member fault (faults_of s variant) → found s fault ≡ None
+found-none bound s none variant m fault n =
+    let here_none : at_variant (stopped_at bound) s variant ≡ None = none_of (at_variant (stopped_at bound) s) (variants s) none variant m in
+    first_of-none (stopped_at bound s variant ∷ map (found s) (faults_of s variant)) here_none (found s fault) (there (Member-map (found s) fault n))
+
+-- where nothing is found of a fault, no word shows it
+shows-none : (s : StageData) (fault : StageFault) → found s fault ≡ None → (word : List Bool) → IsWordOf s word → shows s word fault ≡ false
+shows-none s fault none word is =
+    find-none (λ w. shows s w fault) (words (length s.inputs)) (no_word (least_word s fault) none) word
+    (subst (λ n. Member word (words n)) is (Member-words word))
+  where
+    no_word : (least : Option (List Bool)) → option_and_then (λ w. Some (verdict_of s fault w)) least ≡ None → least ≡ None
+    no_word None e = refl
+    no_word (Some w) e = absurd cc
+
+-- the faults of an output are asked under Base
+Member-outputs : (outputs : List ℕ) (output : ℕ) → Member output outputs → Member (BothRails output) (flat_map (λ k. BothRails k ∷ NoRail k ∷ []) outputs) × Member (NoRail output) (flat_map (λ k. BothRails k ∷ NoRail k ∷ []) outputs)
+Member-outputs [] output m = elim m [ ]
+Member-outputs (k ∷ outputs) output m =
+    elim (member_cases output k outputs m) [
+      | inl own ↦ subst (λ x. Member (BothRails x) (flat_map (λ k. BothRails k ∷ NoRail k ∷ []) (k ∷ outputs)) × Member (NoRail x) (flat_map (λ k. BothRails k ∷ NoRail k ∷ []) (k ∷ outputs))) own (here, there here)
+      | inr n ↦ let (both, none) = Member-outputs outputs output n in (there (there both), there (there none))
+    ]
+
+Member-bit : (s : StageData) (bit : ℕ) → bit < length s.inputs → Member (Bit bit) (variants s)
+Member-bit s bit lt = there (Member-append_left (Bit bit) (map Cell (file_order s)) (Member-map Bit bit (Member-below (length s.inputs) bit lt)))
+
+Member-cell : (s : StageData) (cell : ℕ) → cell < length s.cells → Member (Cell cell) (variants s)
+Member-cell s cell lt = there (Member-append_right (map Bit (below (length s.inputs))) (Cell cell) (Member-map Cell cell (Member-ordered_by (file_number s) (below (length s.cells)) cell (Member-below (length s.cells) cell lt))))
+
+-- where nothing is found of a stage, it is sound
+of_stage-sound : (bound : Bound) (s : StageData) → of_stage (stopped_at bound) s ≡ None → IsSound s
+of_stage-sound bound s none (BothRails output) word is =
+    elim (slice_get-cases s.outputs output) [
+      | inl past ↦ ap (holds_at (is_illegal (val s word Base))) past
+      | inr within ↦ shows-none s (BothRails output) (found-none bound s none Base here (BothRails output) (Member-outputs (below (length s.outputs)) output (Member-below (length s.outputs) output within)).0) word is
+    ]
+of_stage-sound bound s none (NoRail output) word is =
+    elim (slice_get-cases s.outputs output) [
+      | inl past ↦ ap (holds_at (λ r. not (has_data (val s word Base) r))) past
+      | inr within ↦ shows-none s (NoRail output) (found-none bound s none Base here (NoRail output) (Member-outputs (below (length s.outputs)) output (Member-below (length s.outputs) output within)).1) word is
+    ]
+of_stage-sound bound s none (Incomplete bit) word is =
+    elim (slice_get-cases s.inputs bit) [
+      | inl past ↦ ap (holds_at (λ (r : Rails). all_data s (val s word (Bit bit)))) past
+      | inr within ↦ shows-none s (Incomplete bit) (found-none bound s none (Bit bit) (Member-bit s bit within) (Incomplete bit) here) word is
+    ]
+of_stage-sound bound s none (Orphan cell) word is =
+    elim (slice_get-cases s.cells cell) [
+      | inl past ↦ ap (holds_at (λ (c : StageCell). val s word Base c.out.0 && all_data s (val s word (Cell cell)))) past
+      | inr within ↦ shows-none s (Orphan cell) (found-none bound s none (Cell cell) (Member-cell s cell within) (Orphan cell) here) word is
+    ]
+
+-- the stages of an accepted pipeline are sound
+pub judgement-sound : (bound : Bound) (stages : List StageData) → judgement bound stages ≡ verdict.Accepted → All IsSound stages
+judgement-sound bound stages accepted =
+    let none : first_of (map (of_stage (stopped_at bound)) stages) ≡ None =
+    unwrap-refuses (first_of (map (of_stage (stopped_at bound)) stages)) (map-refuses (of_stage (stopped_at bound)) (of_stage-refuses bound) stages) accepted in
+    All-from_members IsSound stages (λ s m. of_stage-sound bound s (none_of (of_stage (stopped_at bound)) stages none s m))

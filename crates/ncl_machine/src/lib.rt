@@ -3,6 +3,7 @@
 #![tactic(auto)]
 
 pub mod examples;
+pub mod laws;
 mod pair;
 
 pub use ncl_shape::Item;

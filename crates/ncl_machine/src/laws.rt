@@ -1,0 +1,13 @@
+//! The laws of the firing machine. Each function states some, and does nothing.
+ghost use Rattle.std.specs.Prelude.{◌≡◌, List, Bool, ◌++◌};
+ghost use Rattle.ncl_shape.specs.declared.item.Item.{Item};
+ghost use Rattle.ncl_shape.specs.Pipeline.{PipelineData};
+ghost use Rattle.ncl_machine.specs.State.{State};
+ghost use Rattle.ncl_machine.specs.Run.{IsRun, after};
+
+/// The first items of a run are a run, and the state that all items lead to is the one that the others
+/// lead to from where the first ones end.
+pub fn run_prefix()
+    ensures prefix { (p : PipelineData) (offered : List (List Bool)) (xs ys : List Item) → IsRun p offered (xs ++ ys) → IsRun p offered xs }
+    ensures state { (p : PipelineData) (s : State) (xs ys : List Item) → after p s (xs ++ ys) ≡ after p (after p s xs) ys }
+{}

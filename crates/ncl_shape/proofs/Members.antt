@@ -1,8 +1,10 @@
 -- Members of a list, in the form in which proofs go through them: the first, or a member of the rest.
-use Rattle.std.proofs.Common.{◌≡◌, ℕ, zero, suc, ◌<◌, Bool, true, false, List, [], ◌∷◌, length, get_or, inl, inr, refl, subst, arith}
-use Rattle.std.specs.Prelude.{Contains, All}
+use Rattle.std.proofs.Common.{◌≡◌, ℕ, zero, suc, ◌+◌, ◌<◌, ◌≤◌, Bool, true, false, cond, List, [], ◌∷◌, length, get_or, Some, inl, inr, refl, sym, ap, subst, ◌∙◌, arith}
+use Rattle.std.specs.Prelude.{Contains, All, slice_get, count_by, filter}
 use Rattle.std.specs.List.{list_any, AllByRecursion}
-use Rattle.std.proofs.lemmas.Bool.{or_cases, or_left, or_right, both_ways}
+use Rattle.std.proofs.lemmas.Bool.{or_cases, or_left, or_right, both_ways, cases_Bool, cond-true, cond-false, cond_both}
+use Rattle.std.proofs.lemmas.List.Sums.{sum_by-cons}
+use Rattle.std.proofs.lemmas.Option.{slice_get_within, slice_get-get_or, get_or_from_slice_get}
 
 pub data Member {X : Type 0} (x : X) : List X → Type 0 where
   here : {xs : List X} → Member x (x ∷ xs)
@@ -43,3 +45,40 @@ member_from_list_any test (y ∷ xs) some =
       | inl first ↦ (y, here, first)
       | inr rest ↦ let (x, m, passes) = member_from_list_any test xs rest in (x, there m, passes)
     ]
+
+-- a member that passes a test is among those that do
+pub Member-filter : {X : Type 0} (test : X → Bool) (x : X) {xs : List X} → Member x xs → test x ≡ true → Member x (filter test xs)
+Member-filter test x (here {xs = xs}) passes = subst (Member x) (sym (cond-true (test x) (x ∷ filter test xs) (filter test xs) passes)) here
+Member-filter test x (there {y = y} {xs = xs} m) passes =
+    let later : Member x (filter test xs) = Member-filter test x m passes in
+    cond_both (test y) (y ∷ filter test xs) (filter test xs) (Member x) (λ is. there later) (λ is. later)
+
+-- where some elements pass a test, one of them is a member
+pub member_from_count : {X : Type 0} (test : X → Bool) (xs : List X) → 1 ≤ count_by test xs → (x : X) × Member x xs × (test x ≡ true)
+member_from_count test [] some = absurd (omega arith)
+member_from_count test (y ∷ xs) some =
+    elim (cases_Bool (test y)) [
+      | inl passes ↦ (y, here, passes)
+      | inr fails ↦
+          let whole : count_by test (y ∷ xs) ≡ cond (test y) 1 0 + count_by test xs = sum_by-cons (λ x. cond (test x) 1 0) y xs in
+          let none : cond (test y) (suc zero) zero ≡ zero = cond-false (test y) (suc zero) zero fails in
+          let rest : 1 ≤ count_by test xs = omega (arith, whole, none) in
+          let (x, m, passes) = member_from_count test xs rest in (x, there m, passes)
+    ]
+
+single_is : {X : Type 0} (z x : X) → Contains (z ∷ []) x → z ≡ x
+single_is z x (zero, lt, at) = at
+single_is z x (suc place, lt, at) = absurd (omega arith)
+
+-- the members of a list of at most one are one
+pub Member-only : {X : Type 0} (xs : List X) (x y : X) → length xs ≤ 1 → Member x xs → Member y xs → x ≡ y
+Member-only [] x y few m k = let (place, lt, at) = Contains-from_Member x m in absurd (omega arith)
+Member-only (z ∷ []) x y few m k = sym (single_is z x (Contains-from_Member x m)) ∙ single_is z y (Contains-from_Member y k)
+Member-only (z ∷ w ∷ xs) x y few m k = absurd (omega arith)
+
+-- what stands at a place is contained, and what is contained stands at a place
+pub Contains-from_slice_get : {X : Type 0} (xs : List X) (k : ℕ) (x : X) → slice_get xs k ≡ Some x → Contains xs x
+Contains-from_slice_get xs k x at = (k, slice_get_within xs k x at, get_or_from_slice_get xs k x x at)
+
+pub slice_get-from_Contains : {X : Type 0} (xs : List X) (x : X) → Contains xs x → (k : ℕ) × (slice_get xs k ≡ Some x)
+slice_get-from_Contains xs x (k, lt, at) = (k, slice_get-get_or xs k x lt ∙ ap Some at)

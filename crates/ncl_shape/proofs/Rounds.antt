@@ -95,6 +95,20 @@ module _ (C : Type 0) (out : C → ℕ) (raises : Nets → C → Bool) (cells : 
             inr (cell, m, eqb-true (out cell) net at, mono before (round out raises cells before) (round-keeps before) cell up)
       ]
 
+  -- what holds of the nets at the start, and of the output of each cell that is raised where it holds of
+  -- the high nets, holds of each net that is high after rounds
+  pub rounds-each : (P : ℕ → Type 0) (v : Nets) → ((net : ℕ) → v net ≡ true → P net) → ((w : Nets) → ((net : ℕ) → w net ≡ true → P net) → (cell : C) → Member cell cells → raises w cell ≡ true → P (out cell)) → (n : ℕ) (net : ℕ) → rounds out raises cells n v net ≡ true → P net
+  rounds-each P v start more zero net high = start net high
+  rounds-each P v start more (suc n) net high =
+      let before : Nets = rounds out raises cells n v in
+      elim (or_cases (before net) _ high) [
+        | inl old ↦ rounds-each P v start more n net old
+        | inr new ↦
+            let (cell, m, passes) = member_from_list_any (λ cell. nat_eq (out cell) net && raises before cell) cells new in
+            let (at, up) = and_parts (nat_eq (out cell) net) _ passes in
+            subst P (eqb-true (out cell) net at) (more before (rounds-each P v start more n) cell m up)
+      ]
+
   -- how many of some cells have a low output
   abbrev lows : Nets → List C → ℕ
   lows v [] = 0

@@ -3,3 +3,8 @@ pub mod Rounds
 pub mod ClosureLaws
 pub mod Drivers
 pub mod OriginLaws
+pub mod ChainLaws
+pub mod CellTests
+mod WrittenCells
+mod ExampleChains
+mod ExampleTrees

@@ -3,6 +3,7 @@
 #![tactic(auto)]
 
 mod bank;
+pub mod examples;
 mod fault;
 mod item;
 pub mod laws;

@@ -1,0 +1,71 @@
+-- Tests of cells that compute: what holds of each cell of a written netlist that passes a test holds of each
+-- cell that is so.
+use Rattle.std.proofs.Common.{◌≡◌, ℕ, Bool, true, false, ◌&&◌, Option, None, Some, refl, ap, subst, ◌∙◌}
+use Rattle.std.specs.Prelude.{filter, slice_get, nat_eq}
+use Rattle.std.specs.List.{list_any, AllByRecursion}
+use Rattle.std.proofs.lemmas.Bool.{and_from, eq-eqb}
+use Rattle.std.proofs.lemmas.List.Elements.{All-from_recursion, All-contains}
+use Rattle.ncl_gates.specs.declared.cell_kind.CellKind.{CellKind}
+use Rattle.ncl_gates.specs.declared.cell_kind.CellKind.TheVariants.{Gate, Register, Ack}
+use Rattle.ncl_netlist.specs.declared.ids.NetId.{NetId}
+use Rattle.ncl_netlist.specs.declared.cell.Cell.{Cell}
+use Rattle.ncl_netlist.specs.Netlist.{NetlistData}
+use Rattle.ncl_shape.specs.Origin.{IsCell, IsGate, IsRegister, ReadsNet, OnPin, B, IsOfBank}
+use Rattle.ncl_shape.proofs.Members.{Member-from_Contains, Contains-from_Member, Member-filter, list_any-from_member}
+
+abbrev is_register : CellKind → Bool
+is_register Register = true
+is_register (Gate kind) = false
+is_register Ack = false
+
+abbrev is_gate : CellKind → Bool
+is_gate (Gate kind) = true
+is_gate Register = false
+is_gate Ack = false
+
+abbrev has_net : ℕ → Option NetId → Bool
+has_net net None = false
+has_net net (Some id) = nat_eq id.0 net
+
+-- the tests
+abbrev pub register_test : Cell → Bool
+register_test c = is_register c.kind
+
+abbrev pub bank_test : ℕ → Cell → Bool
+bank_test request c = is_register c.kind && has_net request (slice_get c.ins.items B)
+
+abbrev pub gate_reads_test : ℕ → Cell → Bool
+gate_reads_test net c = is_gate c.kind && list_any (λ (id : NetId). nat_eq id.0 net) c.ins.items
+
+-- what holds of each cell that passes a test
+pub each_passing : (n : NetlistData) (test : Cell → Bool) (P : Cell → Type 0) → AllByRecursion P (filter test n.cells) → (c : Cell) → IsCell n c → test c ≡ true → P c
+each_passing n test P all c in_c passes =
+    All-contains P (filter test n.cells) c (All-from_recursion P (filter test n.cells) all)
+    (Contains-from_Member c (Member-filter test c (Member-from_Contains n.cells c in_c) passes))
+
+-- of each register cell
+pub each_register : (n : NetlistData) (P : Cell → Type 0) → AllByRecursion P (filter register_test n.cells) → (c : Cell) → IsCell n c → IsRegister c → P c
+each_register n P all c in_c register = each_passing n register_test P all c in_c (ap is_register register)
+
+-- of each register cell of a bank
+pub each_of_bank : (n : NetlistData) (request : ℕ) (P : Cell → Type 0) → AllByRecursion P (filter (bank_test request) n.cells) → (c : Cell) → IsOfBank n request c → P c
+each_of_bank n request P all c (in_c, register, on) =
+    each_passing n (bank_test request) P all c in_c
+    (and_from (is_register c.kind) _ (ap is_register register) (ap (has_net request) on ∙ eq-eqb request request refl))
+
+-- of each gate cell that reads a net
+pub each_gate_reading : (n : NetlistData) (net : ℕ) (P : Cell → Type 0) → AllByRecursion P (filter (gate_reads_test net) n.cells) → (c : Cell) → IsCell n c → IsGate c → ReadsNet c net → P c
+each_gate_reading n net P all c in_c (kind, gate) reads =
+    each_passing n (gate_reads_test net) P all c in_c
+    (and_from (is_gate c.kind) _ (ap is_gate gate) (list_any-from_member (λ (id : NetId). nat_eq id.0 net) (record { 0 = net }) (Member-from_Contains c.ins.items (record { 0 = net }) reads) (eq-eqb net net refl)))
+
+-- what holds of the net on a pin holds of each net on it
+pub on_pin_each : (c : Cell) (pin x : ℕ) (P : ℕ → Type 0) → OnPin c pin x → P x → (net : ℕ) → OnPin c pin net → P net
+on_pin_each c pin x P on holds net other =
+    let same : Some (record { 0 = x }) ≡ Some (record { 0 = net }) = cc in
+    let nets : x ≡ net = ap (number x) same in
+    subst P nets holds
+  where
+    number : ℕ → Option NetId → ℕ
+    number d None = d
+    number d (Some id) = id.0

@@ -1,0 +1,21 @@
+-- The laws of chains of banks.
+use Rattle.std.proofs.Common.{◌≡◌, ℕ, List, ◌∷◌, Some, ◌⊎◌, inl, inr, refl, sym, subst, ◌∙◌}
+use Rattle.std.specs.Prelude.{slice_get}
+use Rattle.ncl_netlist.specs.Netlist.{NetlistData}
+use Rattle.ncl_shape.specs.Chain.{Follows, IsPath, end, next}
+use Rattle.ncl_shape.proofs.Members.{Member, here, there}
+
+-- a list has one head
+pub head_is_one : (banks : List ℕ) (x y : ℕ) → slice_get banks 0 ≡ Some x → slice_get banks 0 ≡ Some y → x ≡ y
+head_is_one banks x y at_x at_y = let same : Some x ≡ Some y = sym at_x ∙ at_y in cc
+
+-- each bank of a path is its head, or follows some bank
+pub head_or_follows : (n : NetlistData) (banks : List ℕ) → IsPath n banks → (bank : ℕ) → Member bank banks → (slice_get banks 0 ≡ Some bank) ⊎ ((before : ℕ) × Follows n before bank)
+head_or_follows n banks (end {bank = first}) bank here = inl refl
+head_or_follows n banks (end {bank = first}) bank (there m) = elim m [ ]
+head_or_follows n banks (next {bank = first} {following = second} {banks = others} follows path) bank here = inl refl
+head_or_follows n banks (next {bank = first} {following = second} {banks = others} follows path) bank (there m) =
+    elim (head_or_follows n (second ∷ others) path bank m) [
+      | inl at ↦ let same : second ≡ bank = cc in inr (first, subst (Follows n first) same follows)
+      | inr later ↦ inr later
+    ]

@@ -1,13 +1,20 @@
 //! The laws of the firing machine. Each function states some, and does nothing.
-ghost use Rattle.std.specs.Prelude.{◌≡◌, List, Bool, ◌++◌};
+ghost use Rattle.std.specs.Prelude.{◌≡◌, List, [], Bool, ◌++◌};
 ghost use Rattle.ncl_shape.specs.declared.item.Item.{Item};
+ghost use Rattle.ncl_netlist.specs.Netlist.{IsNetlist, NetlistData};
 ghost use Rattle.ncl_shape.specs.Pipeline.{PipelineData};
-ghost use Rattle.ncl_machine.specs.State.{State};
-ghost use Rattle.ncl_machine.specs.Run.{IsRun, after};
+ghost use Rattle.ncl_shape.specs.Shape.{Shape};
+ghost use Rattle.ncl_machine.specs.State.{State, reset};
+ghost use Rattle.ncl_machine.specs.Run.{IsQuiet, IsRun, after};
 
 /// The first items of a run are a run, and the state that all items lead to is the one that the others
 /// lead to from where the first ones end.
 pub fn run_prefix()
     ensures prefix { (p : PipelineData) (offered : List (List Bool)) (xs ys : List Item) → IsRun p offered (xs ++ ys) → IsRun p offered xs }
     ensures state { (p : PipelineData) (s : State) (xs ys : List Item) → after p s (xs ++ ys) ≡ after p (after p s xs) ys }
+{}
+
+/// At reset with no word offered nothing can move.
+pub fn still_at_reset()
+    ensures { (n : NetlistData) (p : PipelineData) → IsNetlist n → Shape n p → IsQuiet p (reset p []) }
 {}

@@ -1,8 +1,8 @@
 -- The laws of chains of banks.
-use Rattle.std.proofs.Common.{◌≡◌, ℕ, List, ◌∷◌, Some, ◌⊎◌, inl, inr, refl, sym, subst, ◌∙◌}
+use Rattle.std.proofs.Common.{◌≡◌, ℕ, zero, suc, List, ◌∷◌, Some, ◌⊎◌, inl, inr, refl, sym, subst, ◌∙◌}
 use Rattle.std.specs.Prelude.{slice_get}
 use Rattle.ncl_netlist.specs.Netlist.{NetlistData}
-use Rattle.ncl_shape.specs.Chain.{Follows, IsPath, end, next}
+use Rattle.ncl_shape.specs.Chain.{IsBank, IsChain, Follows, IsPath, end, next}
 use Rattle.ncl_shape.proofs.Members.{Member, here, there}
 
 -- a list has one head
@@ -19,3 +19,16 @@ head_or_follows n banks (next {bank = first} {following = second} {banks = other
       | inl at ↦ let same : second ≡ bank = cc in inr (first, subst (Follows n first) same follows)
       | inr later ↦ inr later
     ]
+
+-- where the head of a path is a bank, each member is
+banks_of_path : (n : NetlistData) (banks : List ℕ) → IsPath n banks → ((bank : ℕ) → slice_get banks 0 ≡ Some bank → IsBank n bank) → (k bank : ℕ) → slice_get banks k ≡ Some bank → IsBank n bank
+banks_of_path n banks (end {bank = first}) head zero bank at = head bank at
+banks_of_path n banks (end {bank = first}) head (suc k) bank at = absurd cc
+banks_of_path n banks (next {bank = first} {following = second} {banks = others} follows path) head zero bank at = head bank at
+banks_of_path n banks (next {bank = first} {following = second} {banks = others} follows path) head (suc k) bank at =
+    let (net, (c, of_second, on), from) = follows in
+    banks_of_path n (second ∷ others) path (λ bank at. let same : second ≡ bank = cc in subst (IsBank n) same (c, of_second)) k bank at
+
+-- each member of a chain is a bank
+pub banks_of_chain : (n : NetlistData) (banks : List ℕ) → IsChain n banks → (k bank : ℕ) → slice_get banks k ≡ Some bank → IsBank n bank
+banks_of_chain n banks chain = banks_of_path n banks chain.path (λ bank at. (chain.first bank at).is_bank)

@@ -4,6 +4,7 @@ pub mod ClosureLaws
 pub mod Drivers
 pub mod OriginLaws
 pub mod ChainLaws
+pub mod PinLaws
 pub mod CellTests
 mod WrittenCells
 mod ExampleChains

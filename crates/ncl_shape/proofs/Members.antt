@@ -82,3 +82,8 @@ Contains-from_slice_get xs k x at = (k, slice_get_within xs k x at, get_or_from_
 
 pub slice_get-from_Contains : {X : Type 0} (xs : List X) (x : X) → Contains xs x → (k : ℕ) × (slice_get xs k ≡ Some x)
 slice_get-from_Contains xs x (k, lt, at) = (k, slice_get-get_or xs k x lt ∙ ap Some at)
+
+pub slice_get-some : {X : Type 0} (xs : List X) (k : ℕ) → k < length xs → (x : X) × (slice_get xs k ≡ Some x)
+slice_get-some [] k lt = absurd (omega arith)
+slice_get-some (x ∷ xs) zero lt = (x, refl)
+slice_get-some (x ∷ xs) (suc k) lt = slice_get-some xs k (omega arith)

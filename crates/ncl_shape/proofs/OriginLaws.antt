@@ -81,7 +81,14 @@ ack_of_bank n net origin bank e (ack {request = request} c acks) =
     let same : request ≡ bank = cc in (c, subst (λ r. AcksBank n r c) same acks)
 ack_of_bank n net origin bank e (gate {net = input} {origin = from_origin} c in_c is_gate reads from) = ack_of_bank n input from_origin bank e from
 
--- where the first five rules hold, each net has an origin
+-- where the first five rules hold, each acknowledge cell is of some bank
+pub bank_of_ack : (n : NetlistData) → IsFree n → (c : Cell) → IsCell n c → IsAck c → (request : ℕ) × AcksBank n request c
+bank_of_ack n free c in_c is_ack =
+    let (k, at) = place_of n c in_c in
+    let bit = (free.paired k c at).ack is_ack in
+    (bit.request, (in_c, is_ack, (bit.zero, bit.zero_of, bit.on_a)))
+
+-- and each net has an origin
 pub has_origin : (n : NetlistData) → IsNetlist n → IsFree n → (net : ℕ) → net < length n.nets → (origin : Origin) × ComesFrom n net origin
 has_origin n is free net lt =
     elim (driver_of n is net lt) [
@@ -102,6 +109,5 @@ has_origin n is free net lt =
           | inr (inl register) ↦
               let (request, of_bank) = bank_of_register n is c in_c register in (RailOf request, rail c of_bank)
           | inr (inr is_ack) ↦
-              let bit = (free.paired k c at).ack is_ack in
-              (AckOf bit.request, ack c (in_c, is_ack, (bit.zero, bit.zero_of, bit.on_a)))
+              let (request, acks) = bank_of_ack n free c in_c is_ack in (AckOf request, ack c acks)
         ]

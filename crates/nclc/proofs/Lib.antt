@@ -1,0 +1,5 @@
+mod WiresParts
+mod Held
+mod Sameness
+mod Saying
+mod Ends

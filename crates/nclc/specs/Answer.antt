@@ -1,0 +1,81 @@
+-- What a call answers: the status and the text that go with the words and the files.
+use Rattle.std.specs.Prelude.{◌≡◌, ◌≢◌, ℕ, ◌<◌, ◌≤◌, ◌⊎◌, List, [], length, Option, Some, None, IfSome, codes}
+use Rattle.ncl_base.specs.Files.{Files, bytes_of, Rose, Grew, GrewWithin}
+use Rattle.nclc.specs.Frame.{line, wires}
+use Rattle.nclc.specs.Verdict.{status_of, text_of, verdict_of}
+use Rattle.nclc.specs.Command.{Words, Command, check, command_of, files_named}
+use Rattle.nclc.specs.declared.form.Rail.{Rail}
+
+-- what `check` replies to a file's bytes
+pub data IsCheckReply (bytes : List ℕ) : ℕ → List ℕ → Type 0 where
+  -- a file has at most 16,777,216 bytes
+  too_long : 16777216 < length bytes → IsCheckReply bytes 3 (line (codes "netlist: too long"))
+  -- the bytes are of no form that is built
+  not_built : length bytes ≤ 16777216 → ((zero one : Rail) → bytes ≢ wires zero one) → IsCheckReply bytes 3 (line (codes "netlist: form not built"))
+  -- the bytes are a netlist, and this is the verdict on it
+  judged : (zero one : Rail) → bytes ≡ wires zero one → IsCheckReply bytes (status_of (verdict_of zero one)) (text_of (verdict_of zero one))
+
+-- what a command replies where the files are these
+abbrev pub IsReply : Command → Files → ℕ → List ℕ → Type 0
+IsReply (check file) files status text = IsCheckReply (bytes_of files file) status text
+
+-- what the words are answered where the files are these and nothing fails
+pub data Answer (words : Words) (files : Files) : ℕ → List ℕ → Type 0 where
+  -- the words are of no form
+  not_understood : command_of words ≡ None → Answer words files 2 (line (codes "words not understood"))
+  -- the words give a command, and this is its reply
+  replied : (command : Command) → command_of words ≡ Some command → (status : ℕ) (text : List ℕ) → IsReply command files status text → Answer words files status text
+
+-- what a source tells at one moment: the files that it holds, and how many of its calls have failed
+pub record SourceState : Type 0 where
+  pub files : Option Files
+  pub faults : ℕ
+
+-- what a sink tells at one moment: the bytes that were written, and how many of its calls have failed
+pub record SinkState : Type 0 where
+  pub written : Option (List ℕ)
+  pub faults : ℕ
+
+-- some files, which are those of the source where it tells them
+abbrev pub AreHeld : Option Files → Files → Type 0
+AreHeld told held = IfSome told (λ files. held ≡ files)
+
+-- what a call has to say, before it is written
+pub data Says (words : Words) (before now : SourceState) : ℕ → List ℕ → Type 0 where
+  -- the answer for the files that are held
+  answered : (held : Files) → AreHeld before.files held → (status : ℕ) (text : List ℕ) → Answer words held status text → Says words before now status text
+  -- the words name a file, and the source failed in this call
+  read_failed : (command : Command) → command_of words ≡ Some command → files_named command ≢ [] → Rose before.faults now.faults → Says words before now 4 (line (codes "read failed"))
+  -- memory was refused
+  no_memory : Says words before now 7 (line (codes "out of memory"))
+
+-- how a status and its text came out
+pub data Tells (before now : SinkState) (said : ℕ) (text : List ℕ) : ℕ → Type 0 where
+  -- the text was written whole, and the status is its status
+  whole : Grew before.written text now.written → Tells before now said text said
+  -- the sink failed in this call, after a first part of the text
+  cut_short : Rose before.faults now.faults → GrewWithin before.written text now.written → Tells before now said text 5
+
+-- a call with these words ended with this status
+pub record Ran (words : Words) (source source' : SourceState) (sink sink' : SinkState) (status : ℕ) : Type 0 where
+  -- the status that belongs to the text
+  pub said : ℕ
+  -- the whole text, as it was before the first byte was written
+  pub text : List ℕ
+  pub says : Says words source source' said text
+  pub tells : Tells sink sink' said text status
+
+-- where the source tells its files and neither the source nor the sink fails, the call gives the
+-- answer whole, or memory was refused
+abbrev pub AnswersUnlessFaults : Words → SourceState → SourceState → SinkState → SinkState → ℕ → Type 0
+AnswersUnlessFaults words source source' sink sink' status =
+    (files : Files) → source.files ≡ Some files
+    → ¬ Rose source.faults source'.faults → ¬ Rose sink.faults sink'.faults
+    → (status ≡ 7) ⊎ ((text : List ℕ) × Answer words files status text × Grew sink.written text sink'.written)
+
+-- there is at most one answer for the words and the files, and the call gives it whole unless it was
+-- kept from it: by the source (4), by the sink (5) or by want of memory (7)
+abbrev pub AnswersExactly : Words → SourceState → SinkState → SinkState → ℕ → Type 0
+AnswersExactly words source sink sink' status =
+    (files : Files) (expected : ℕ) (text : List ℕ) → source.files ≡ Some files → Answer words files expected text
+    → ((status ≡ expected) × Grew sink.written text sink'.written) ⊎ ((status ≡ 4) ⊎ ((status ≡ 5) ⊎ (status ≡ 7)))

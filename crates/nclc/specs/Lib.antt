@@ -1,0 +1,5 @@
+pub mod Frame
+pub mod Verdict
+pub mod Command
+pub mod Answer
+pub mod Replies

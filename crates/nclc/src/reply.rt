@@ -1,0 +1,79 @@
+//! What a call has to say.
+ghost use Rattle.std.specs.Prelude.{◌≢◌, ◌≤◌, [], length, IfOk, IsTrue, IsErrOf};
+ghost use Rattle.ncl_base.specs.Files.{Rose};
+ghost use Rattle.nclc.specs.Command.{AllowsFiles, files_named, check as check_command};
+ghost use Rattle.nclc.specs.Answer.{IsCheckReply};
+ghost use Rattle.nclc.specs.Replies.{command_meant, Gives, AnswersCommand};
+
+use crate::command::Command;
+use crate::form::read_wires;
+use crate::verdict::judge;
+use ncl_base::{LoadFault, Memory, Source, load};
+use std::alloc::Global;
+
+/// A status, and the whole text that belongs to it.
+#[derive(Drop, Debug)]
+pub enum Reply {
+    /// A text that was made for this call.
+    Made(u8, Vec<u8>),
+    /// A text that is always the same.
+    Fixed(u8, &'static [u8]),
+}
+
+/// What keeps a command from its reply.
+#[derive(Clone, Copy, Debug, PartialEq, Eq)]
+pub enum Kept {
+    /// The source failed.
+    Read,
+    /// Memory was refused.
+    Memory,
+}
+
+/// Carries out a command and gives its reply.
+///
+/// Reads each file that the command names from the source.
+pub fn carry_out<S: Source>(
+    alloc: Global,
+    source: &mut S,
+    command: Command<'_>,
+) -> Result<Reply, Kept>
+    requires { AllowsFiles (S.allowed source.old) (command_meant command) }
+    ensures ok { IfOk result (AnswersCommand (S.files source.old) (command_meant command.entry)) }
+    ensures read { IsErrOf result Kept.Read → Rose (S.faults source.old) (S.faults source.new) }
+    ensures read_named { IsErrOf result Kept.Read → files_named (command_meant command.entry) ≢ [] }
+{
+    match command {
+        Command::Check(file) => check(alloc, source, file),
+    }
+}
+
+/// Loads a file and replies to `check` of it.
+///
+/// Linear in the file's bytes.
+fn check<S: Source>(alloc: Global, source: &mut S, file: &str) -> Result<Reply, Kept>
+    requires { IsTrue (S.allowed source.old file.now) }
+    ensures ok { IfOk result (AnswersCommand (S.files source.old) (check_command file.now)) }
+    ensures read { IsErrOf result Kept.Read → Rose (S.faults source.old) (S.faults source.new) }
+{
+    match load(alloc, source, file) {
+        Ok(bytes) => match reply_to(alloc, &bytes) {
+            Ok(reply) => Ok(reply),
+            Err(_) => Err(Kept::Memory),
+        },
+        Err(LoadFault::TooLong) => Ok(Reply::Fixed(3, b"netlist: too long\n")),
+        Err(LoadFault::Read) => Err(Kept::Read),
+        Err(LoadFault::Memory) => Err(Kept::Memory),
+    }
+}
+
+/// The reply of `check` to the bytes of a file that is not too long.
+fn reply_to(alloc: Global, bytes: &[u8]) -> Result<Reply, Memory>
+    requires { length bytes.now ≤ 16777216 }
+    ensures { IfOk result (Gives (IsCheckReply bytes.now)) }
+{
+    let Some((zero, one)) = read_wires(bytes) else {
+        return Ok(Reply::Fixed(3, b"netlist: form not built\n"));
+    };
+    let verdict = judge(zero, one);
+    Ok(Reply::Made(verdict.status(), verdict.text(alloc)?))
+}

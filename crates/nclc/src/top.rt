@@ -1,0 +1,80 @@
+//! The top call: all that the program does, between a source of files and a sink of bytes.
+ghost use Rattle.std.specs.Prelude.{◌≡◌, ◌≤◌, map};
+ghost use Rattle.nclc.specs.Command.{AllowsNamed};
+ghost use Rattle.nclc.specs.Answer.{Says, Tells, Ran, AnswersUnlessFaults, AnswersExactly};
+ghost use Rattle.nclc.specs.Replies.{Gives};
+
+use crate::command::Command;
+use crate::reply::{Kept, Reply, carry_out};
+use ncl_base::{Sink, Source, deliver};
+use std::alloc::Global;
+use std::thread::Threads;
+
+/// Answers the words that follow the program's name, and gives the status to end with.
+///
+/// Reads the files that the words name from the source, makes the whole text, and writes it to the
+/// sink. The status is 0 where a netlist is accepted and 1 where it is refused, 2 where the words are
+/// of no form, 3 where a file can't be judged, 4 where the source failed, 5 where the sink failed and
+/// 7 where memory was refused. Linear in the bytes of the files and of the text.
+pub fn run<R: Threads + Sync, S: Source, K: Sink>(
+    rt: &R,
+    alloc: Global,
+    words: &[&str],
+    source: &mut S,
+    sink: &mut K,
+) -> u8
+    requires { AllowsNamed (S.allowed source.old) (map (λ word. word.now) words.now) }
+    ensures ran { Ran (map (λ word. word.now) words.now)
+        (record { files = S.files source.old; faults = S.faults source.old })
+        (record { files = S.files source.new; faults = S.faults source.new })
+        (record { written = K.written sink.old; faults = K.faults sink.old })
+        (record { written = K.written sink.new; faults = K.faults sink.new })
+        result }
+    ensures complete { AnswersUnlessFaults (map (λ word. word.now) words.now)
+        (record { files = S.files source.old; faults = S.faults source.old })
+        (record { files = S.files source.new; faults = S.faults source.new })
+        (record { written = K.written sink.old; faults = K.faults sink.old })
+        (record { written = K.written sink.new; faults = K.faults sink.new })
+        result }
+    ensures exact { AnswersExactly (map (λ word. word.now) words.now)
+        (record { files = S.files source.old; faults = S.faults source.old })
+        (record { written = K.written sink.old; faults = K.faults sink.old })
+        (record { written = K.written sink.new; faults = K.faults sink.new })
+        result }
+{
+    let _ = rt;
+    match answer(alloc, words, source) {
+        Reply::Made(status, text) => tell(sink, status, &text),
+        Reply::Fixed(status, text) => tell(sink, status, text),
+    }
+}
+
+/// What the words are answered.
+fn answer<S: Source>(alloc: Global, words: &[&str], source: &mut S) -> Reply
+    requires { AllowsNamed (S.allowed source.old) (map (λ word. word.now) words.now) }
+    ensures { Gives (Says (map (λ word. word.now) words.now)
+        (record { files = S.files source.old; faults = S.faults source.old })
+        (record { files = S.files source.new; faults = S.faults source.new })) result }
+{
+    let Some(command) = Command::parse(words) else {
+        return Reply::Fixed(2, b"words not understood\n");
+    };
+    match carry_out(alloc, source, command) {
+        Ok(reply) => reply,
+        Err(Kept::Read) => Reply::Fixed(4, b"read failed\n"),
+        Err(Kept::Memory) => Reply::Fixed(7, b"out of memory\n"),
+    }
+}
+
+/// Writes a text, and gives its status, or 5 where the sink fails.
+fn tell<K: Sink>(sink: &mut K, said: u8, text: &[u8]) -> u8
+    ensures { Tells
+        (record { written = K.written sink.old; faults = K.faults sink.old })
+        (record { written = K.written sink.new; faults = K.faults sink.new })
+        said text.now result }
+{
+    match deliver(sink, text) {
+        Ok(()) => said,
+        Err(_) => 5,
+    }
+}

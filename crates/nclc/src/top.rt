@@ -78,3 +78,6 @@ fn tell<K: Sink>(sink: &mut K, said: u8, text: &[u8]) -> u8
         Err(_) => 5,
     }
 }
+
+#[cfg(test)]
+mod tests;

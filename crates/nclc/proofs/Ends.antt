@@ -1,6 +1,6 @@
 -- What follows from how a call ended.
-use Rattle.std.proofs.Common.{◌≡◌, ◌≢◌, ℕ, List, Option, Some, None, inl, inr, refl, sym, ap, ◌∙◌, subst}
-use Rattle.ncl_base.specs.Files.{Files, Rose, Grew}
+use Rattle.std.proofs.Common.{◌≡◌, ℕ, List, Option, Some, inl, inr, refl, subst}
+use Rattle.ncl_base.specs.Files.{Files, Grew}
 use Rattle.nclc.specs.Command.{Words}
 use Rattle.nclc.specs.Answer.{Answer, SourceState, SinkState, AreHeld, Says, answered, read_failed, no_memory, Tells, whole, cut_short, Ran, AnswersUnlessFaults, AnswersExactly}
 use Rattle.nclc.proofs.Sameness.{same_answer}

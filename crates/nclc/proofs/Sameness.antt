@@ -1,9 +1,9 @@
 -- There is at most one answer for the words and the files.
-use Rattle.std.proofs.Common.{◌≡◌, ◌≢◌, ℕ, ◌<◌, ◌≤◌, List, length, get_or, Option, Some, None, refl, sym, ap, ◌∙◌, subst, arith}
+use Rattle.std.proofs.Common.{◌≡◌, ℕ, ◌<◌, List, length, get_or, Some, None, refl, sym, ap, ◌∙◌, subst, arith}
 use Rattle.ncl_base.specs.Files.{Files, bytes_of}
 use Rattle.nclc.specs.Frame.{wires}
 use Rattle.nclc.specs.Verdict.{status_of, text_of, verdict_of}
-use Rattle.nclc.specs.Command.{Words, Command, check, command_of}
+use Rattle.nclc.specs.Command.{Words, Command, check}
 use Rattle.nclc.specs.Answer.{IsCheckReply, too_long, not_built, judged, IsReply, Answer, not_understood, replied}
 use Rattle.nclc.specs.declared.form.Rail.{Rail}
 use Rattle.nclc.specs.declared.form.Rail.TheVariants.{Zero, One}

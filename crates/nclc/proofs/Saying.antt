@@ -1,9 +1,8 @@
 -- How a call comes to say a text.
-use Rattle.std.proofs.Common.{◌≡◌, ◌≢◌, ℕ, List, [], Option, Some, None, codes}
-use Rattle.ncl_base.specs.Files.{Files, Rose}
+use Rattle.std.proofs.Common.{◌≡◌, ℕ, List, Some, None, codes}
 use Rattle.nclc.specs.Frame.{line}
-use Rattle.nclc.specs.Command.{Words, Command, command_of, files_named}
-use Rattle.nclc.specs.Answer.{IsReply, AreHeld, Answer, not_understood, replied, SourceState, Says, answered, read_failed}
+use Rattle.nclc.specs.Command.{Words, Command, command_of}
+use Rattle.nclc.specs.Answer.{IsReply, not_understood, replied, SourceState, Says, answered}
 use Rattle.nclc.specs.Replies.{Gives, AnswersCommand}
 use Rattle.nclc.specs.declared.reply.Reply.{Reply}
 use Rattle.nclc.specs.declared.reply.Reply.TheVariants.{Made, Fixed}

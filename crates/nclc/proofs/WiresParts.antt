@@ -1,5 +1,5 @@
 -- The text of two banks joined by wires, cut where it is read.
-use Rattle.std.proofs.Common.{◌≡◌, ◌≢◌, ℕ, List, [], ◌++◌, drop, Option, None, MatchOption, refl, sym, ap, ◌∙◌, codes}
+use Rattle.std.proofs.Common.{◌≡◌, ℕ, List, ◌++◌, drop, Option, None, MatchOption, refl, sym, ap, ◌∙◌, codes}
 use Rattle.std.proofs.lemmas.List.{append_cancel_left}
 use Rattle.nclc.specs.Frame.{line, header, input_bank, net_of, wires}
 use Rattle.nclc.specs.declared.form.Rail.{Rail}

@@ -1,5 +1,5 @@
 -- Commands, and how words give them.
-use Rattle.std.specs.Prelude.{◌≡◌, ℕ, Bool, true, false, List, [], ◌∷◌, Option, Some, None, if◌then◌else◌, ◌==◌, ◌&&◌, not, All, IfSome, IsTrue, codes}
+use Rattle.std.specs.Prelude.{ℕ, Bool, false, List, [], ◌∷◌, Option, Some, None, if◌then◌else◌, ◌==◌, ◌&&◌, not, All, IfSome, IsTrue, codes}
 use Rattle.std.specs.Str.{bytes_eq}
 
 -- the words after the program's name, each a text

@@ -1,5 +1,5 @@
 -- Verdicts on a pipeline, with the status and the text that tell them.
-use Rattle.std.specs.Prelude.{ℕ, Bool, true, false, List, [], ◌∷◌, ◌++◌, codes, decimal}
+use Rattle.std.specs.Prelude.{ℕ, true, false, List, [], ◌∷◌, ◌++◌, codes, decimal}
 use Rattle.ncl_base.specs.Words.{text_of as word_text_of}
 use Rattle.nclc.specs.Frame.{line}
 use Rattle.nclc.specs.declared.form.Rail.{Rail}

@@ -1,4 +1,4 @@
-use Rattle.std.proofs.Common.{ℕ, List, ap, Err, subst}
+use Rattle.std.proofs.Common.{ap, Err, subst}
 use Rattle.nclc.specs.Answer.{IsCheckReply, too_long}
 use Rattle.nclc.specs.Replies.{Gives}
 use Rattle.nclc.proofs.Held.{holding, holding_more}

@@ -1,5 +1,4 @@
 use Rattle.std.proofs.Common.{refl}
-use Rattle.nclc.specs.Answer.{Ran}
 use Rattle.nclc.proofs.Ends.{ran_by, answers_unless_faults, answers_exactly}
 use Rattle.nclc.proofs.top.run.Goals as goal
 

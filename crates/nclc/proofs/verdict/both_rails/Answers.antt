@@ -1,4 +1,4 @@
-use Rattle.std.proofs.Common.{◌≡◌, List, ℕ, ◌++◌, refl, ◌∙◌, rules}
+use Rattle.std.proofs.Common.{◌≡◌, List, ℕ, ◌++◌, refl, ◌∙◌}
 use Rattle.nclc.proofs.verdict.both_rails.Goals as goal
 
 -- a text to which a part was appended

@@ -41,41 +41,41 @@ abbrev pub AreHeld : Option Files → Files → Type 0
 AreHeld told held = IfSome told (λ files. held ≡ files)
 
 -- what a call has to say, before it is written
-pub data Says (words : Words) (before now : SourceState) : ℕ → List ℕ → Type 0 where
+pub data Says (words : Words) (source source_after : SourceState) : ℕ → List ℕ → Type 0 where
   -- the answer for the files that are held
-  answered : (held : Files) → AreHeld before.files held → (status : ℕ) (text : List ℕ) → Answer words held status text → Says words before now status text
+  answered : (held : Files) → AreHeld source.files held → (status : ℕ) (text : List ℕ) → Answer words held status text → Says words source source_after status text
   -- the words name a file, and the source failed in this call
-  read_failed : (command : Command) → command_of words ≡ Some command → files_named command ≢ [] → Rose before.faults now.faults → Says words before now 4 (line (codes "read failed"))
+  read_failed : (command : Command) → command_of words ≡ Some command → files_named command ≢ [] → Rose source.faults source_after.faults → Says words source source_after 4 (line (codes "read failed"))
   -- memory was refused
-  no_memory : Says words before now 7 (line (codes "out of memory"))
+  no_memory : Says words source source_after 7 (line (codes "out of memory"))
 
 -- how a status and its text came out
-pub data Tells (before now : SinkState) (said : ℕ) (text : List ℕ) : ℕ → Type 0 where
+pub data Tells (sink sink_after : SinkState) (said : ℕ) (text : List ℕ) : ℕ → Type 0 where
   -- the text was written whole, and the status is its status
-  whole : Grew before.written text now.written → Tells before now said text said
+  whole : Grew sink.written text sink_after.written → Tells sink sink_after said text said
   -- the sink failed in this call, after a first part of the text
-  cut_short : Rose before.faults now.faults → GrewWithin before.written text now.written → Tells before now said text 5
+  cut_short : Rose sink.faults sink_after.faults → GrewWithin sink.written text sink_after.written → Tells sink sink_after said text 5
 
 -- a call with these words ended with this status
-pub record Ran (words : Words) (source source' : SourceState) (sink sink' : SinkState) (status : ℕ) : Type 0 where
+pub record Ran (words : Words) (source source_after : SourceState) (sink sink_after : SinkState) (status : ℕ) : Type 0 where
   -- the status that belongs to the text
   pub said : ℕ
   -- the whole text, as it was before the first byte was written
   pub text : List ℕ
-  pub says : Says words source source' said text
-  pub tells : Tells sink sink' said text status
+  pub says : Says words source source_after said text
+  pub tells : Tells sink sink_after said text status
 
 -- where the source tells its files and neither the source nor the sink fails, the call gives the
 -- answer whole, or memory was refused
 abbrev pub AnswersUnlessFaults : Words → SourceState → SourceState → SinkState → SinkState → ℕ → Type 0
-AnswersUnlessFaults words source source' sink sink' status =
+AnswersUnlessFaults words source source_after sink sink_after status =
     (files : Files) → source.files ≡ Some files
-    → ¬ Rose source.faults source'.faults → ¬ Rose sink.faults sink'.faults
-    → (status ≡ 7) ⊎ ((text : List ℕ) × Answer words files status text × Grew sink.written text sink'.written)
+    → ¬ Rose source.faults source_after.faults → ¬ Rose sink.faults sink_after.faults
+    → (status ≡ 7) ⊎ ((text : List ℕ) × Answer words files status text × Grew sink.written text sink_after.written)
 
--- there is at most one answer for the words and the files, and the call gives it whole unless it was
--- kept from it: by the source (4), by the sink (5) or by want of memory (7)
+-- whatever the words are answered where the source holds these files, the call ends with that status
+-- and writes that text, unless it is kept from it by the source (4), the sink (5) or want of memory (7)
 abbrev pub AnswersExactly : Words → SourceState → SinkState → SinkState → ℕ → Type 0
-AnswersExactly words source sink sink' status =
+AnswersExactly words source sink sink_after status =
     (files : Files) (expected : ℕ) (text : List ℕ) → source.files ≡ Some files → Answer words files expected text
-    → ((status ≡ expected) × Grew sink.written text sink'.written) ⊎ ((status ≡ 4) ⊎ ((status ≡ 5) ⊎ (status ≡ 7)))
+    → ((status ≡ expected) × Grew sink.written text sink_after.written) ⊎ ((status ≡ 4) ⊎ ((status ≡ 5) ⊎ (status ≡ 7)))

@@ -25,14 +25,11 @@ TH12B k1(.A(p1_0),.B(p1_1),.Z(ko));
 const BEFORE_ZERO: &[u8] = b"TH22N s1_0(.A(";
 
 /// The text between the two rails of the output.
-const BEFORE_ONE: &[u8] = b"),.B(ki),.RST(rst),.Z(z1_0));
-TH22N s1_1(.A(";
+const BEFORE_ONE: &[u8] = b"),.B(ki),.RST(rst),.Z(z1_0));\nTH22N s1_1(.A(";
 
 /// The text after rail 1 of the output.
-const AFTER_ONE: &[u8] = b"),.B(ki),.RST(rst),.Z(z1_1));
-TH12B d1(.A(z1_0),.B(z1_1),.Z(c));
-endmodule
-";
+const AFTER_ONE: &[u8] =
+    b"),.B(ki),.RST(rst),.Z(z1_1));\nTH12B d1(.A(z1_0),.B(z1_1),.Z(c));\nendmodule\n";
 
 /// The rails of the input bit that the text puts on rails 0 and 1 of the stage's output, or `None`
 /// where it is no netlist of two banks joined by wires.

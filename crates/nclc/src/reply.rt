@@ -20,9 +20,9 @@ pub enum Reply {
     Fixed(u8, &'static [u8]),
 }
 
-/// What keeps a command from its reply.
+/// Why a command has no reply.
 #[derive(Clone, Copy, Debug, PartialEq, Eq)]
-pub enum Kept {
+pub enum Fault {
     /// The source failed.
     Read,
     /// Memory was refused.
@@ -36,11 +36,11 @@ pub fn carry_out<S: Source>(
     alloc: Global,
     source: &mut S,
     command: Command<'_>,
-) -> Result<Reply, Kept>
+) -> Result<Reply, Fault>
     requires { AllowsFiles (S.allowed source.old) (command_meant command) }
     ensures ok { IfOk result (AnswersCommand (S.files source.old) (command_meant command.entry)) }
-    ensures read { IsErrOf result Kept.Read → Rose (S.faults source.old) (S.faults source.new) }
-    ensures read_named { IsErrOf result Kept.Read → files_named (command_meant command.entry) ≢ [] }
+    ensures read { IsErrOf result Fault.Read → Rose (S.faults source.old) (S.faults source.new) }
+    ensures read_named { IsErrOf result Fault.Read → files_named (command_meant command.entry) ≢ [] }
 {
     match command {
         Command::Check(file) => check(alloc, source, file),
@@ -50,19 +50,19 @@ pub fn carry_out<S: Source>(
 /// Loads a file and replies to `check` of it.
 ///
 /// Linear in the file's bytes.
-fn check<S: Source>(alloc: Global, source: &mut S, file: &str) -> Result<Reply, Kept>
+fn check<S: Source>(alloc: Global, source: &mut S, file: &str) -> Result<Reply, Fault>
     requires { IsTrue (S.allowed source.old file.now) }
     ensures ok { IfOk result (AnswersCommand (S.files source.old) (check_command file.now)) }
-    ensures read { IsErrOf result Kept.Read → Rose (S.faults source.old) (S.faults source.new) }
+    ensures read { IsErrOf result Fault.Read → Rose (S.faults source.old) (S.faults source.new) }
 {
     match load(alloc, source, file) {
         Ok(bytes) => match reply_to(alloc, &bytes) {
             Ok(reply) => Ok(reply),
-            Err(_) => Err(Kept::Memory),
+            Err(_) => Err(Fault::Memory),
         },
         Err(LoadFault::TooLong) => Ok(Reply::Fixed(3, b"netlist: too long\n")),
-        Err(LoadFault::Read) => Err(Kept::Read),
-        Err(LoadFault::Memory) => Err(Kept::Memory),
+        Err(LoadFault::Read) => Err(Fault::Read),
+        Err(LoadFault::Memory) => Err(Fault::Memory),
     }
 }
 

@@ -5,7 +5,7 @@ ghost use Rattle.nclc.specs.Answer.{Says, Tells, Ran, AnswersUnlessFaults, Answe
 ghost use Rattle.nclc.specs.Replies.{Gives};
 
 use crate::command::Command;
-use crate::reply::{Kept, Reply, carry_out};
+use crate::reply::{Fault, Reply, carry_out};
 use ncl_base::{Sink, Source, deliver};
 use std::alloc::Global;
 use std::thread::Threads;
@@ -61,8 +61,8 @@ fn answer<S: Source>(alloc: Global, words: &[&str], source: &mut S) -> Reply
     };
     match carry_out(alloc, source, command) {
         Ok(reply) => reply,
-        Err(Kept::Read) => Reply::Fixed(4, b"read failed\n"),
-        Err(Kept::Memory) => Reply::Fixed(7, b"out of memory\n"),
+        Err(Fault::Read) => Reply::Fixed(4, b"read failed\n"),
+        Err(Fault::Memory) => Reply::Fixed(7, b"out of memory\n"),
     }
 }
 

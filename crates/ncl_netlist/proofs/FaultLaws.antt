@@ -1,5 +1,5 @@
 -- Parts have one fault, or none.
-use Rattle.std.proofs.Common.{◌≡◌, ℕ, ◌+◌, ◌<◌, ◌≤◌, ◌⊎◌, inl, inr, true, false, List, [], length, slice_get, get_or, Some, unwrap_or, sym, refl, ap, ◌∙◌, arith, true≢false}
+use Rattle.std.proofs.Common.{◌≡◌, ℕ, ◌<◌, ◌≤◌, ◌⊎◌, inl, inr, List, [], slice_get, get_or, unwrap_or, sym, refl, ap, ◌∙◌, arith, true≢false}
 use Rattle.std.proofs.lemmas.Option.{same_Some, slice_get_within, unwrap_or-slice_get}
 use Rattle.std.proofs.lemmas.Map.Keys.{apart_from_distinct}
 use Rattle.ncl_netlist.specs.declared.parts.Parts.{Parts}

@@ -1,16 +1,15 @@
 -- What follows from a netlist's facts: its nets by number and by name, its cells, and what drives a
 -- net.
-use Rattle.std.proofs.Common.{◌≡◌, ℕ, zero, suc, ◌+◌, ◌<◌, ◌≤◌, ◌⊎◌, inl, inr, Bool, true, false, if◌then◌else◌, cond, List, [], ◌∷◌, length, map, take, get_or, slice_get, slice_index, Option, Some, option_map, count_by, nat_eq, sym, refl, ap, ◌∙◌, arith, true≢false}
+use Rattle.std.proofs.Common.{◌≡◌, ℕ, zero, suc, ◌<◌, ◌≤◌, ◌⊎◌, inl, inr, Bool, true, false, if◌then◌else◌, cond, List, [], ◌∷◌, length, map, take, slice_get, slice_index, Some, option_map, count_by, nat_eq, sym, refl, ap, ◌∙◌, arith}
 use Rattle.std.proofs.lemmas.Bool.{eq-eqb, eqb-true, cases_lt}
-use Rattle.std.proofs.lemmas.List.{length-take, length-map, get_or-take, get_or-map}
+use Rattle.std.proofs.lemmas.List.{length-take, length-map}
 use Rattle.std.proofs.lemmas.List.Sums.{sum_by-cons}
-use Rattle.std.proofs.lemmas.Option.{same_Some, none-some, slice_get-get_or, slice_get-map, slice_get_within, get_or_from_slice_get}
-use Rattle.ncl_gates.specs.Cell.{pins_of}
+use Rattle.std.proofs.lemmas.Option.{same_Some, none-some, slice_get-map, slice_get_within, get_or_from_slice_get}
 use Rattle.ncl_netlist.specs.declared.ids.NetId.{NetId}
 use Rattle.ncl_netlist.specs.declared.port.Port.{Port}
 use Rattle.ncl_netlist.specs.declared.cell.Cell.{Cell}
-use Rattle.ncl_netlist.specs.Names.{AllDiffer, number_of}
-use Rattle.ncl_netlist.specs.Netlist.{NetlistData, drives, drivers_of, CellFits, IsNetlist}
+use Rattle.ncl_netlist.specs.Names.{number_of}
+use Rattle.ncl_netlist.specs.Netlist.{NetlistData, drives, CellFits, IsNetlist}
 use Rattle.ncl_netlist.proofs.NameLists.{number_of-get_or}
 
 -- ---- how many of a list pass a test

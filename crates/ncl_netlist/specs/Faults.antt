@@ -33,7 +33,7 @@ IsFaultless parts =
     HasFewCells parts × HasOwnCellNames parts × HasNoTwoDrivers parts × HasAllDrivers parts
 
 -- the fault of parts: that of the first rule that is broken, with the name of the first cell, or of
--- the first net, that breaks it. Want of memory is no fault of the parts, and may come at any
+-- the first net, that breaks it. Want of memory is no fault of the parts, and may come at all of them
 abbrev pub IsFaultOf : Parts → BuildFault → Type 0
 IsFaultOf parts TooMany = most_cells < length parts.cells
 IsFaultOf parts (SameName x) =

@@ -1,4 +1,5 @@
--- Netlists.
+-- Netlists: cells that are joined by named nets, as in a structural module of Verilog
+-- (IEEE 1364-2005), in which each net is driven once.
 use Rattle.std.specs.Prelude.{◌≡◌, ℕ, ◌+◌, ◌<◌, ◌≤◌, ◌^◌, List, map, take, length, count_by, All, nat_eq, slice_index, if◌then◌else◌}
 use Rattle.ncl_netlist.specs.declared.port.Port.{Port}
 use Rattle.ncl_netlist.specs.declared.cell.Cell.{Cell}
@@ -33,13 +34,15 @@ pub record CellFits (nets : ℕ) (cell : Cell) : Type 0 where
   pub inputs : All (λ net. net.0 < nets) cell.ins.items
   pub pins : length cell.ins.items + 1 ≡ length (pins_of cell.kind)
 
--- what holds of every netlist
+-- what holds of every netlist, which `build` alone makes
 pub record IsNetlist (n : NetlistData) : Type 0 where
   -- each net has exactly one driver
   pub driven : (net : ℕ) → net < length n.nets → drivers_of n net ≡ 1
+  -- the nets of each cell are there, and it has an input for each pin of its kind but Z
   pub fits : All (CellFits (length n.nets)) n.cells
   -- the ports are the first nets, in header order
   pub ports_first : take (length n.ports) n.nets ≡ map (λ port. port.name) n.ports
+  -- no two nets have one name, and no two cells
   pub net_names : AllDiffer n.nets
   pub cell_names : AllDiffer (map (λ cell. cell.name) n.cells)
   pub few_cells : length n.cells ≤ most_cells

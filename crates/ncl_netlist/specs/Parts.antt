@@ -1,4 +1,5 @@
--- The netlist that parts describe, before any rule is asked.
+-- The netlist that parts describe, before any rule is asked. Parts name the net at each pin of a
+-- cell, as the instances of a structural module do (IEEE 1364-2005).
 use Rattle.std.specs.Prelude.{◌≡◌, ℕ, ◌-◌, List, [], ◌++◌, map, take, length, slice_index_or}
 use Rattle.std.specs.List.{flat_map}
 use Rattle.ncl_gates.specs.Cell.{pins_of}
@@ -26,10 +27,11 @@ cell_names parts = map (λ cell. cell.name) parts.cells
 abbrev pub nets_of : Parts → List (List ℕ)
 nets_of parts = once_each (port_names parts ++ flat_map (λ cell. cell.pins) parts.cells)
 
--- the names at the input pins, and at the last pin, which is the output Z
+-- the names at the input pins, which are all but the last
 abbrev pub input_names : PartCell → List (List ℕ)
 input_names cell = take (length cell.pins - 1) cell.pins
 
+-- the name at the last pin, which is the output Z
 abbrev pub output_name : PartCell → List ℕ
 output_name cell = slice_index_or cell.pins (length cell.pins - 1) []
 
@@ -46,7 +48,7 @@ cell_of nets cell = record {
   out = net_of nets (output_name cell);
 }
 
--- the netlist
+-- the netlist: its nets in their order, and each cell with the numbers of its nets
 abbrev pub netlist_of : Parts → NetlistData
 netlist_of parts = record {
   name = parts.«module»;

@@ -1,4 +1,4 @@
-use Rattle.std.proofs.Common.{◌≡◌, Bool, true, false, not, [], ◌∷◌, ◌++◌, length, map, take, slice_get, Some, option_map, sym, ap, ◌∙◌, subst, refl}
+use Rattle.std.proofs.Common.{◌≡◌, true, [], ◌∷◌, ◌++◌, length, map, take, slice_get, Some, option_map, sym, ap, ◌∙◌, subst, refl}
 use Rattle.std.specs.List.{list_any}
 use Rattle.std.proofs.lemmas.List.{take-map, map_more}
 use Rattle.std.proofs.lemmas.Option.{slice_get_read, slice_get-map}

@@ -1,12 +1,11 @@
 -- The state at reset: which nets are high, and that nothing is enabled where no word is offered.
-use Rattle.std.proofs.Common.{◌≡◌, ℕ, zero, suc, ◌+◌, ◌<◌, Bool, true, false, not, List, [], ◌∷◌, length, map, take, get_or, Option, None, Some, inl, inr, refl, sym, ap, subst, ◌∙◌, codes, arith}
+use Rattle.std.proofs.Common.{◌≡◌, ℕ, zero, suc, ◌+◌, ◌<◌, Bool, true, false, not, List, [], ◌∷◌, length, take, get_or, Option, None, Some, inl, inr, refl, sym, ap, subst, ◌∙◌, codes, arith}
 use Rattle.std.specs.Prelude.{slice_get}
 use Rattle.std.specs.List.{AllZip}
-use Rattle.std.specs.Option.{option_map}
 use Rattle.std.proofs.lemmas.Bool.{and_left, and_right, or_from, or_left, or_right, eq-eqb, ne_eqb, false_from_ne_true, not_from_false, not_from_true, both_ways}
 use Rattle.std.proofs.lemmas.List.{length-map}
 use Rattle.std.proofs.lemmas.List.Elements.{All-contains}
-use Rattle.std.proofs.lemmas.Option.{slice_get-map, slice_get_within}
+use Rattle.std.proofs.lemmas.Option.{slice_get_within}
 use Rattle.ncl_gates.specs.declared.kind.Kind.{Kind}
 use Rattle.ncl_gates.specs.declared.kind.Kind.TheVariants.{Th22}
 use Rattle.ncl_gates.specs.declared.cell_kind.CellKind.TheVariants.{Gate}
@@ -26,10 +25,11 @@ use Rattle.ncl_shape.specs.Origin.{IsCell, IsRegister, IsAck, OnPin, A, B, IsInp
 use Rattle.ncl_shape.specs.Chain.{IsBank}
 use Rattle.ncl_shape.specs.Pipeline.{PipelineData}
 use Rattle.ncl_shape.specs.Shape.{IsBitOf, AreRailsOf, Shape}
-use Rattle.ncl_shape.proofs.Members.{Member, here, Contains-from_Member, Member-from_Contains, slice_get-from_Contains, Contains-from_slice_get, slice_get-some}
+use Rattle.ncl_shape.proofs.Members.{Member, here, Contains-from_Member, Member-from_Contains, slice_get-from_Contains, Contains-from_slice_get}
 use Rattle.ncl_shape.proofs.Drivers.{cell_fits, no_cell_drives_port}
 use Rattle.ncl_shape.proofs.OriginLaws.{sort_of, place_of, pin_of_register, port_origin, register_origin, bank_of_ack, has_origin, ack_of_bank}
 use Rattle.ncl_shape.proofs.ChainLaws.{banks_of_chain}
+use Rattle.ncl_shape.proofs.ShapeLaws.{requests, request_at, last_bank}
 use Rattle.ncl_shape.proofs.PinLaws.{some_high-low, all_high-from, first_pin-is}
 use Rattle.ncl_machine.specs.State.{reset, reset_nets, tree_nets}
 use Rattle.ncl_machine.specs.Steps.{next_value, differ, is_excited, is_data}
@@ -60,29 +60,19 @@ pins_of_tree kind th33 = refl
 pins_of_tree kind th44 = refl
 
 module _ (p : PipelineData) (is : IsNetlist p.netlist) (shape : Shape p.netlist p) where
-  -- the last bank
-  last_bank : (k : ℕ) × (last : Bank) × (k + 1 ≡ length p.banks) × (slice_get p.banks k ≡ Some last)
-  last_bank =
-      let place : length p.stages + 1 ≡ length p.banks = shape.stages in
-      let (last, at) = slice_get-some p.banks (length p.stages) (omega (arith, place)) in
-      (length p.stages, last, place, at)
-
-  request_at : (k : ℕ) (b : Bank) → slice_get p.banks k ≡ Some b → slice_get (map (λ (b : Bank). b.request.0) p.banks) k ≡ Some b.request.0
-  request_at k b at = slice_get-map (λ (b : Bank). b.request.0) p.banks k ∙ ap (option_map (λ (b : Bank). b.request.0)) at
-
   -- the sink's acknowledge is an input port, and the request of the last bank
   ki_is_port : IsInputPort p.netlist p.ki
   ki_is_port =
-      let (k, last, end, at) = last_bank in
-      let all : length (map (λ (b : Bank). b.request.0) p.banks) ≡ length p.banks = length-map p.banks (λ (b : Bank). b.request.0) in
+      let (k, last, end, at) = last_bank p.netlist p shape in
+      let all : length (requests p.banks) ≡ length p.banks = length-map p.banks (λ (b : Bank). b.request.0) in
       subst (IsInputPort p.netlist) (sym (shape.outputs k last end at).1)
-      ((shape.chained 5 (map (λ (b : Bank). b.request.0) p.banks) shape.chain).by_port k last.request.0 (end ∙ sym all) (request_at k last at))
+      ((shape.chained 5 (requests p.banks) shape.chain).by_port k last.request.0 (end ∙ sym all) (request_at p.banks k last at))
 
   ki_is_bank : IsBank p.netlist p.ki
   ki_is_bank =
-      let (k, last, end, at) = last_bank in
+      let (k, last, end, at) = last_bank p.netlist p shape in
       subst (IsBank p.netlist) (sym (shape.outputs k last end at).1)
-      (banks_of_chain p.netlist (map (λ (b : Bank). b.request.0) p.banks) shape.chain k last.request.0 (request_at k last at))
+      (banks_of_chain p.netlist (requests p.banks) shape.chain k last.request.0 (request_at p.banks k last at))
 
   -- a net that comes from acknowledge cells is high
   pub ack_is_high : (net bank : ℕ) → ComesFrom p.netlist net (AckOf bank) → reset_nets p net ≡ true
@@ -217,7 +207,7 @@ module _ (p : PipelineData) (is : IsNetlist p.netlist) (shape : Shape p.netlist 
 
   outputs_are_no_data : is_data p.outputs (reset_nets p) ≡ false
   outputs_are_no_data =
-      let (k, last, end, at) = last_bank in
+      let (k, last, end, at) = last_bank p.netlist p shape in
       let bank = (shape.banks k last at).0 in
       let (c, acks) = ack_of_bank p.netlist last.root.0 (AckOf last.request.0) last.request.0 refl bank.root.acks in
       let (j, at_j) = place_of p.netlist c acks.0 in

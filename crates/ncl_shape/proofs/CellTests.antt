@@ -3,7 +3,7 @@
 use Rattle.std.proofs.Common.{◌≡◌, ℕ, Bool, true, false, ◌&&◌, Option, None, Some, refl, ap, subst, ◌∙◌}
 use Rattle.std.specs.Prelude.{filter, slice_get, nat_eq}
 use Rattle.std.specs.List.{list_any, AllByRecursion}
-use Rattle.std.proofs.lemmas.Bool.{and_from, eq-eqb}
+use Rattle.std.proofs.lemmas.Bool.{and_from, and_parts, both_ways, eq-eqb, eqb-true}
 use Rattle.std.proofs.lemmas.List.Elements.{All-from_recursion, All-contains}
 use Rattle.ncl_gates.specs.declared.cell_kind.CellKind.{CellKind}
 use Rattle.ncl_gates.specs.declared.cell_kind.CellKind.TheVariants.{Gate, Register, Ack}
@@ -47,11 +47,29 @@ each_passing n test P all c in_c passes =
 pub each_register : (n : NetlistData) (P : Cell → Type 0) → AllByRecursion P (filter register_test n.cells) → (c : Cell) → IsCell n c → IsRegister c → P c
 each_register n P all c in_c register = each_passing n register_test P all c in_c (ap is_register register)
 
+-- a register cell of a bank passes its test
+pub of_bank_passes : (n : NetlistData) (request : ℕ) (c : Cell) → IsOfBank n request c → bank_test request c ≡ true
+of_bank_passes n request c (in_c, register, on) =
+    and_from (is_register c.kind) _ (ap is_register register) (ap (has_net request) on ∙ eq-eqb request request refl)
+
 -- of each register cell of a bank
 pub each_of_bank : (n : NetlistData) (request : ℕ) (P : Cell → Type 0) → AllByRecursion P (filter (bank_test request) n.cells) → (c : Cell) → IsOfBank n request c → P c
-each_of_bank n request P all c (in_c, register, on) =
-    each_passing n (bank_test request) P all c in_c
-    (and_from (is_register c.kind) _ (ap is_register register) (ap (has_net request) on ∙ eq-eqb request request refl))
+each_of_bank n request P all c of_bank = each_passing n (bank_test request) P all c of_bank.0 (of_bank_passes n request c of_bank)
+
+-- and what passes that test in the netlist is of the bank
+pub of_bank-from_test : (n : NetlistData) (request : ℕ) (c : Cell) → IsCell n c → bank_test request c ≡ true → IsOfBank n request c
+of_bank-from_test n request c in_c passes =
+    let (is, on) = and_parts (is_register c.kind) _ passes in
+    (in_c, kind_is c.kind is, net_is (slice_get c.ins.items B) on)
+  where
+    kind_is : (k : CellKind) → is_register k ≡ true → k ≡ Register
+    kind_is Register is = refl
+    kind_is (Gate kind) is = absurd (both_ways false refl is)
+    kind_is Ack is = absurd (both_ways false refl is)
+
+    net_is : (o : Option NetId) → has_net request o ≡ true → o ≡ Some (record { 0 = request })
+    net_is None on = absurd (both_ways false refl on)
+    net_is (Some id) on = ap (λ (x : ℕ). Some (record { 0 = x })) (eqb-true id.0 request on)
 
 -- of each gate cell that reads a net
 pub each_gate_reading : (n : NetlistData) (net : ℕ) (P : Cell → Type 0) → AllByRecursion P (filter (gate_reads_test net) n.cells) → (c : Cell) → IsCell n c → IsGate c → ReadsNet c net → P c
@@ -69,3 +87,7 @@ on_pin_each c pin x P on holds net other =
     number : ℕ → Option NetId → ℕ
     number d None = d
     number d (Some id) = id.0
+
+-- a pin has one net
+pub same_net : (c : Cell) (pin x y : ℕ) → OnPin c pin x → OnPin c pin y → x ≡ y
+same_net c pin x y on other = on_pin_each c pin x (λ z. x ≡ z) on refl y other

@@ -1,14 +1,13 @@
 -- What drives a net of a netlist: an input port or one cell.
 use Rattle.std.proofs.Common.{◌≡◌, ℕ, zero, suc, ◌<◌, ◌≤◌, Bool, false, if◌then◌else◌, List, [], ◌∷◌, length, map, get_or, Some, ◌⊎◌, inl, inr, refl, sym, ap, ◌∙◌, arith}
-use Rattle.std.specs.Prelude.{slice_get, count_by, filter, nat_eq}
+use Rattle.std.specs.Prelude.{slice_get, nat_eq}
 use Rattle.std.proofs.lemmas.Bool.{cases_Bool, cases_lt, eq-eqb, eqb-true}
 use Rattle.std.proofs.lemmas.List.Elements.{All-contains}
-use Rattle.std.proofs.lemmas.List.Sums.{length-filter}
 use Rattle.ncl_netlist.specs.declared.port.Port.{Port}
 use Rattle.ncl_netlist.specs.declared.cell.Cell.{Cell}
 use Rattle.ncl_netlist.specs.Netlist.{NetlistData, IsNetlist, CellFits, drives, drivers_of}
-use Rattle.ncl_shape.specs.Origin.{IsCell, IsInputPort}
-use Rattle.ncl_shape.proofs.Members.{Contains-from_Member, Member-from_Contains, Member-filter, Member-only, member_from_count}
+use Rattle.ncl_shape.specs.Origin.{IsCell, CellAt, IsInputPort}
+use Rattle.ncl_shape.proofs.Members.{Contains-from_Member, Member-from_Contains, Contains-from_slice_get, slice_get-from_Contains, count_from_member, member_from_count, place_is_one}
 
 -- an input port drives its net
 port_drives : (ports : List Port) (net : ℕ) (port : Port) → slice_get ports net ≡ Some port → port.output ≡ false → get_or (map drives ports) net 0 ≡ 1
@@ -35,23 +34,28 @@ drives_net net cell = nat_eq cell.out.0 net
 pub cell_fits : (n : NetlistData) → IsNetlist n → (c : Cell) → IsCell n c → CellFits (length n.nets) c
 cell_fits n is c in_c = All-contains (CellFits (length n.nets)) n.cells c is.fits in_c
 
--- cells with one output are one cell
+-- cells with one output stand at one place
+pub same_place : (n : NetlistData) → IsNetlist n → (i j : ℕ) (c d : Cell) → CellAt n i c → CellAt n j d → c.out.0 ≡ d.out.0 → i ≡ j
+same_place n is i j c d at_c at_d same =
+    let one : drivers_of n c.out.0 ≡ 1 = is.driven c.out.0 (cell_fits n is c (Contains-from_slice_get n.cells i c at_c)).output in
+    place_is_one (drives_net c.out.0) n.cells (omega (arith, one)) i j c d at_c at_d (eq-eqb c.out.0 c.out.0 refl) (eq-eqb d.out.0 c.out.0 (sym same))
+
+-- so they are one cell
 pub same_driver : (n : NetlistData) → IsNetlist n → (c d : Cell) → IsCell n c → IsCell n d → c.out.0 ≡ d.out.0 → c ≡ d
 same_driver n is c d in_c in_d same =
-    let one : drivers_of n c.out.0 ≡ 1 = is.driven c.out.0 (cell_fits n is c in_c).output in
-    let count : length (filter (drives_net c.out.0) n.cells) ≡ count_by (drives_net c.out.0) n.cells = length-filter (drives_net c.out.0) n.cells in
-    Member-only (filter (drives_net c.out.0) n.cells) c d (omega (arith, one, count))
-    (Member-filter (drives_net c.out.0) c (Member-from_Contains n.cells c in_c) (eq-eqb c.out.0 c.out.0 refl))
-    (Member-filter (drives_net c.out.0) d (Member-from_Contains n.cells d in_d) (eq-eqb d.out.0 c.out.0 (sym same)))
+    let (i, at_c) = slice_get-from_Contains n.cells c in_c in
+    let (j, at_d) = slice_get-from_Contains n.cells d in_d in
+    let places : i ≡ j = same_place n is i j c d at_c at_d same in
+    let cells : slice_get n.cells i ≡ slice_get n.cells j = ap (slice_get n.cells) places in
+    cc
 
 -- no cell drives an input port
 pub no_cell_drives_port : (n : NetlistData) → IsNetlist n → (c : Cell) → IsCell n c → IsInputPort n c.out.0 → ⊥
 no_cell_drives_port n is c in_c (port, at, input) =
     let one : drivers_of n c.out.0 ≡ 1 = is.driven c.out.0 (cell_fits n is c in_c).output in
-    let count : length (filter (drives_net c.out.0) n.cells) ≡ count_by (drives_net c.out.0) n.cells = length-filter (drives_net c.out.0) n.cells in
     let by_port : get_or (map drives n.ports) c.out.0 0 ≡ 1 = port_drives n.ports c.out.0 port at input in
-    let (place, lt, is_at) = Contains-from_Member c (Member-filter (drives_net c.out.0) c (Member-from_Contains n.cells c in_c) (eq-eqb c.out.0 c.out.0 refl)) in
-    omega (arith, one, count, by_port, lt)
+    let by_cell = count_from_member (drives_net c.out.0) c (Member-from_Contains n.cells c in_c) (eq-eqb c.out.0 c.out.0 refl) in
+    omega (arith, one, by_port, by_cell)
 
 -- each net is an input port, or some cell drives it
 pub driver_of : (n : NetlistData) → IsNetlist n → (net : ℕ) → net < length n.nets → IsInputPort n net ⊎ ((c : Cell) × IsCell n c × (c.out.0 ≡ net))

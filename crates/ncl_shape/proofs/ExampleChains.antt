@@ -8,7 +8,6 @@ use Rattle.ncl_netlist.specs.Netlist.{NetlistData}
 use Rattle.ncl_shape.specs.Origin.{OnPin, A, B, IsInputPort, RailOf, ComesFrom, rail}
 use Rattle.ncl_shape.specs.Chain.{IsBank, IsInputOf, IsFirstBank, Follows, IsPath, end, next, IsChain, HasChain, InnerRule, BreaksInner}
 use Rattle.ncl_shape.specs.Examples.{three, cut}
-use Rattle.ncl_shape.proofs.Members.{Member-from_Contains}
 use Rattle.ncl_shape.proofs.OriginLaws.{cell_of_rail}
 use Rattle.ncl_shape.proofs.ChainLaws.{head_is_one, head_or_follows}
 use Rattle.ncl_shape.proofs.CellTests.{bank_test, each_passing, each_register, each_of_bank, on_pin_each}
@@ -79,7 +78,7 @@ last_follows_none bank (net, is_input, from) =
 -- a bank of cut that follows none is the head of each chain
 is_head : (banks : List ℕ) → IsChain cut banks → (bank : ℕ) → IsBank cut bank → ((before : ℕ) → Follows cut before bank → ⊥) → slice_get banks 0 ≡ Some bank
 is_head banks chain bank is_bank none =
-    elim (head_or_follows cut banks chain.path bank (Member-from_Contains banks bank (chain.every bank is_bank))) [
+    elim (head_or_follows cut banks chain.path bank (chain.every bank is_bank)) [
       | inl at ↦ at
       | inr (before, follows) ↦ absurd (none before follows)
     ]

@@ -3,7 +3,9 @@ pub mod Rounds
 pub mod ClosureLaws
 pub mod Drivers
 pub mod OriginLaws
+pub mod Lists
 pub mod ChainLaws
+pub mod ShapeLaws
 pub mod PinLaws
 pub mod CellTests
 mod WrittenCells

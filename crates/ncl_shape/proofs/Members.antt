@@ -66,15 +66,16 @@ member_from_count test (y ∷ xs) some =
           let (x, m, passes) = member_from_count test xs rest in (x, there m, passes)
     ]
 
-single_is : {X : Type 0} (z x : X) → Contains (z ∷ []) x → z ≡ x
-single_is z x (zero, lt, at) = at
-single_is z x (suc place, lt, at) = absurd (omega arith)
-
--- the members of a list of at most one are one
-pub Member-only : {X : Type 0} (xs : List X) (x y : X) → length xs ≤ 1 → Member x xs → Member y xs → x ≡ y
-Member-only [] x y few m k = let (place, lt, at) = Contains-from_Member x m in absurd (omega arith)
-Member-only (z ∷ []) x y few m k = sym (single_is z x (Contains-from_Member x m)) ∙ single_is z y (Contains-from_Member y k)
-Member-only (z ∷ w ∷ xs) x y few m k = absurd (omega arith)
+-- where a member passes a test, some elements do
+pub count_from_member : {X : Type 0} (test : X → Bool) (x : X) {xs : List X} → Member x xs → test x ≡ true → 1 ≤ count_by test xs
+count_from_member test x (here {xs = xs}) passes =
+    let whole : count_by test (x ∷ xs) ≡ cond (test x) 1 0 + count_by test xs = sum_by-cons (λ x. cond (test x) 1 0) x xs in
+    let one : cond (test x) (suc zero) zero ≡ suc zero = cond-true (test x) (suc zero) zero passes in
+    omega (arith, whole, one)
+count_from_member test x (there {y = y} {xs = xs} m) passes =
+    let whole : count_by test (y ∷ xs) ≡ cond (test y) 1 0 + count_by test xs = sum_by-cons (λ x. cond (test x) 1 0) y xs in
+    let later = count_from_member test x m passes in
+    omega (arith, whole, later)
 
 -- what stands at a place is contained, and what is contained stands at a place
 pub Contains-from_slice_get : {X : Type 0} (xs : List X) (k : ℕ) (x : X) → slice_get xs k ≡ Some x → Contains xs x
@@ -87,3 +88,38 @@ pub slice_get-some : {X : Type 0} (xs : List X) (k : ℕ) → k < length xs → 
 slice_get-some [] k lt = absurd (omega arith)
 slice_get-some (x ∷ xs) zero lt = (x, refl)
 slice_get-some (x ∷ xs) (suc k) lt = slice_get-some xs k (omega arith)
+
+-- where at most one element passes a test, it stands at one place
+pub place_is_one : {X : Type 0} (test : X → Bool) (xs : List X) → count_by test xs ≤ 1 → (i j : ℕ) (x y : X) → slice_get xs i ≡ Some x → slice_get xs j ≡ Some y → test x ≡ true → test y ≡ true → i ≡ j
+place_is_one test [] few i j x y at_x at_y pass_x pass_y = absurd cc
+place_is_one test (z ∷ zs) few zero zero x y at_x at_y pass_x pass_y = refl
+place_is_one test (z ∷ zs) few zero (suc j) x y at_x at_y pass_x pass_y =
+    let same : z ≡ x = cc in
+    let whole : count_by test (z ∷ zs) ≡ cond (test z) 1 0 + count_by test zs = sum_by-cons (λ x. cond (test x) 1 0) z zs in
+    let one : cond (test z) (suc zero) zero ≡ suc zero = cond-true (test z) (suc zero) zero (ap test same ∙ pass_x) in
+    let other = count_from_member test y (Member-from_Contains zs y (Contains-from_slice_get zs j y at_y)) pass_y in
+    absurd (omega (arith, few, whole, one, other))
+place_is_one test (z ∷ zs) few (suc i) zero x y at_x at_y pass_x pass_y =
+    let same : z ≡ y = cc in
+    let whole : count_by test (z ∷ zs) ≡ cond (test z) 1 0 + count_by test zs = sum_by-cons (λ x. cond (test x) 1 0) z zs in
+    let one : cond (test z) (suc zero) zero ≡ suc zero = cond-true (test z) (suc zero) zero (ap test same ∙ pass_y) in
+    let other = count_from_member test x (Member-from_Contains zs x (Contains-from_slice_get zs i x at_x)) pass_x in
+    absurd (omega (arith, few, whole, one, other))
+place_is_one test (z ∷ zs) few (suc i) (suc j) x y at_x at_y pass_x pass_y =
+    let whole : count_by test (z ∷ zs) ≡ cond (test z) 1 0 + count_by test zs = sum_by-cons (λ x. cond (test x) 1 0) z zs in
+    ap suc (place_is_one test zs (omega (arith, few, whole)) i j x y at_x at_y pass_x pass_y)
+
+-- the first element that passes a test
+pub first_passing : {X : Type 0} (test : X → Bool) (x : X) {xs : List X} → Member x xs → test x ≡ true → (k : ℕ) × (y : X) × (slice_get xs k ≡ Some y) × (test y ≡ true) × ((j : ℕ) (z : X) → j < k → slice_get xs j ≡ Some z → test z ≡ false)
+first_passing test x (here {xs = xs}) passes = (0, x, refl, passes, λ j z lt at. absurd (omega arith))
+first_passing {X} test x (there {y = y} {xs = xs} m) passes =
+    elim (cases_Bool (test y)) [
+      | inl first ↦ (0, y, refl, first, λ j z lt at. absurd (omega arith))
+      | inr fails ↦
+          let (k, found, at, is, before) = first_passing test x m passes in
+          (suc k, found, at, is, earlier k fails before)
+    ]
+  where
+    earlier : (k : ℕ) → test y ≡ false → ((j : ℕ) (z : X) → j < k → slice_get xs j ≡ Some z → test z ≡ false) → (j : ℕ) (z : X) → j < suc k → slice_get (y ∷ xs) j ≡ Some z → test z ≡ false
+    earlier k fails before zero z lt at = let same : y ≡ z = cc in subst (λ x. test x ≡ false) same fails
+    earlier k fails before (suc j) z lt at = before j z (omega arith) at

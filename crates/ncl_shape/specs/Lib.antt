@@ -7,3 +7,4 @@ pub mod Pipeline
 pub mod Shape
 pub mod Closure
 pub mod Examples
+pub mod SamePipeline

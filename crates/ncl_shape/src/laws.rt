@@ -1,8 +1,11 @@
-//! The laws of the closure of a netlist. Each function states some, and does nothing.
+//! The laws of the closure of a netlist, and of its shape. Each function states some, and does nothing.
 ghost use Rattle.std.specs.Prelude.{◌≡◌, ◌⊎◌, ℕ, true, All, Contains};
 ghost use Rattle.ncl_netlist.specs.declared.cell.Cell.{Cell};
-ghost use Rattle.ncl_netlist.specs.Netlist.{NetlistData};
+ghost use Rattle.ncl_netlist.specs.Netlist.{IsNetlist, NetlistData};
 ghost use Rattle.ncl_shape.specs.Nets.{Nets, IsBelow};
+ghost use Rattle.ncl_shape.specs.Pipeline.{PipelineData};
+ghost use Rattle.ncl_shape.specs.Shape.{Shape};
+ghost use Rattle.ncl_shape.specs.SamePipeline.{IsSamePipeline};
 ghost use Rattle.ncl_shape.specs.Closure.{close, net_of, passes};
 
 /// The closure of more nets is no less.
@@ -21,4 +24,9 @@ pub fn closure_is_least()
 /// A net that is high in the closure is high at the start, or is the output of a cell that passes on.
 pub fn closure_is_supported()
     ensures { (n : NetlistData) (v : Nets) (net : ℕ) → close n v net ≡ true → (v net ≡ true) ⊎ ((cell : Cell) × Contains n.cells cell × (net_of cell ≡ net) × (passes (close n v) cell ≡ true)) }
+{}
+
+/// A netlist has the shape of one pipeline, but for the order of the cells of its stages.
+pub fn shape_is_one()
+    ensures { (n : NetlistData) (p q : PipelineData) → IsNetlist n → Shape n p → Shape n q → IsSamePipeline p q }
 {}

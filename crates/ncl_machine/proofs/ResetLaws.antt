@@ -22,6 +22,7 @@ use Rattle.ncl_shape.specs.declared.item.Item.TheVariants.{Cell as Fire, Raise, 
 use Rattle.ncl_shape.specs.Nets.{Nets}
 use Rattle.ncl_shape.specs.Closure.{pin_values, first_pin}
 use Rattle.ncl_shape.specs.Origin.{IsCell, IsRegister, IsAck, OnPin, A, B, IsInputPort, Origin, FromPort, RailOf, AckOf, ComesFrom, port, ack, gate, IsTreeKind, th22, th33, th44}
+use Rattle.ncl_shape.specs.Rules.{ReadsOneBit}
 use Rattle.ncl_shape.specs.Chain.{IsBank}
 use Rattle.ncl_shape.specs.Pipeline.{PipelineData}
 use Rattle.ncl_shape.specs.Shape.{IsBitOf, AreRailsOf, Shape}
@@ -133,29 +134,34 @@ module _ (p : PipelineData) (is : IsNetlist p.netlist) (shape : Shape p.netlist 
       ∙ register-low (pin_values (reset_nets p) c.ins.items) (reset_nets p c.out.0) low was
       ∙ sym was
 
-  -- an acknowledge cell reads two register cells, and is high
+  -- the two nets that an acknowledge cell reads
+  ack_input_is_low : (c : Cell) → ReadsOneBit p.netlist c → length c.ins.items ≡ 2 → (place : ℕ) (net : NetId) → slice_get c.ins.items place ≡ Some net → reset_nets p net.0 ≡ false
+  ack_input_is_low c bit two zero net at =
+      let on : slice_get c.ins.items 0 ≡ Some bit.zero.out = bit.on_a in
+      let same : net ≡ bit.zero.out = cc in
+      ap (λ (x : NetId). reset_nets p x.0) same ∙ register_is_low bit.zero bit.zero_of.0 bit.zero_of.1
+  ack_input_is_low c bit two (suc zero) net at =
+      let on : slice_get c.ins.items 1 ≡ Some bit.one.out = bit.on_b in
+      let same : net ≡ bit.one.out = cc in
+      ap (λ (x : NetId). reset_nets p x.0) same ∙ register_is_low bit.one bit.one_of.0 bit.one_of.1
+  ack_input_is_low c bit two (suc (suc place)) net at =
+      let within : suc (suc place) < length c.ins.items = slice_get_within c.ins.items (suc (suc place)) net at in absurd (omega (arith, within, two))
+
+  -- an acknowledge cell is high
   ack_is_still : (c : Cell) → IsCell p.netlist c → IsAck c → next_value (reset_nets p) c ≡ reset_nets p c.out.0
   ack_is_still c in_c is_ack =
       let (k, at) = place_of p.netlist c in_c in
-      let bit = (shape.free.paired k c at).ack is_ack in
+      let bit : ReadsOneBit p.netlist c = (shape.free.paired k c at).ack is_ack in
       let pins : length c.ins.items + 1 ≡ length (pins_of c.kind) = (cell_fits p.netlist is c in_c).pins in
       let three : length (pins_of c.kind) ≡ 3 = ap (λ k. length (pins_of k)) is_ack in
-      let two : length c.ins.items ≡ 2 = omega (arith, pins, three) in
       let (request, acks) = bank_of_ack p.netlist shape.free c in_c is_ack in
       let low : some_high (pin_values (reset_nets p) c.ins.items) ≡ false =
-      some_high-low (reset_nets p) c.ins.items (λ net m. let (place, on) = slice_get-from_Contains c.ins.items net (Contains-from_Member net m) in
-      pin_is_low bit.zero bit.one bit.zero_of.0 bit.zero_of.1 bit.one_of.0 bit.one_of.1 c.ins.items two bit.on_a bit.on_b place net on) in
+      some_high-low (reset_nets p) c.ins.items (λ net m.
+      let (place, on) = slice_get-from_Contains c.ins.items net (Contains-from_Member net m) in
+      ack_input_is_low c bit (omega (arith, pins, three)) place net on) in
       ap (λ k. next_of_cell k (pin_values (reset_nets p) c.ins.items) (reset_nets p c.out.0)) is_ack
       ∙ not_from_false _ low
       ∙ sym (ack_is_high c.out.0 request (ack c acks))
-    where
-      pin_is_low : (zero_cell one_cell : Cell) → IsCell p.netlist zero_cell → IsRegister zero_cell → IsCell p.netlist one_cell → IsRegister one_cell → (ins : List NetId) → length ins ≡ 2 → slice_get ins 0 ≡ Some zero_cell.out → slice_get ins 1 ≡ Some one_cell.out → (place : ℕ) (net : NetId) → slice_get ins place ≡ Some net → reset_nets p net.0 ≡ false
-      pin_is_low z o in_z is_z in_o is_o ins two a b zero net on =
-          let same : net ≡ z.out = cc in ap (λ (x : NetId). reset_nets p x.0) same ∙ register_is_low z in_z is_z
-      pin_is_low z o in_z is_z in_o is_o ins two a b (suc zero) net on =
-          let same : net ≡ o.out = cc in ap (λ (x : NetId). reset_nets p x.0) same ∙ register_is_low o in_o is_o
-      pin_is_low z o in_z is_z in_o is_o ins two a b (suc (suc place)) net on =
-          let within : suc (suc place) < length ins = slice_get_within ins (suc (suc place)) net on in absurd (omega (arith, within, two))
 
   -- a gate cell of a stage is low with all its inputs, a completion cell is high with them
   gate_is_still : (c : Cell) → IsCell p.netlist c → (kind : Kind) → c.kind ≡ Gate kind → next_value (reset_nets p) c ≡ reset_nets p c.out.0

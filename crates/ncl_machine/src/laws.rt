@@ -5,12 +5,13 @@ ghost use Rattle.ncl_netlist.specs.Netlist.{IsNetlist, NetlistData};
 ghost use Rattle.ncl_shape.specs.Pipeline.{PipelineData};
 ghost use Rattle.ncl_shape.specs.Shape.{Shape};
 ghost use Rattle.ncl_machine.specs.State.{State, reset};
-ghost use Rattle.ncl_machine.specs.Run.{IsQuiet, IsRun, after};
+ghost use Rattle.ncl_machine.specs.Run.{IsQuiet, IsRun, IsRunFrom, after};
 
-/// The first items of a run are a run, and the state that all items lead to is the one that the others
-/// lead to from where the first ones end.
+/// The first items of a run are a run, the others are a run from where those end, and there they lead to
+/// the state that all items lead to.
 pub fn run_prefix()
     ensures prefix { (p : PipelineData) (offered : List (List Bool)) (xs ys : List Item) → IsRun p offered (xs ++ ys) → IsRun p offered xs }
+    ensures rest { (p : PipelineData) (offered : List (List Bool)) (xs ys : List Item) → IsRun p offered (xs ++ ys) → IsRunFrom p (after p (reset p offered) xs) ys }
     ensures state { (p : PipelineData) (s : State) (xs ys : List Item) → after p s (xs ++ ys) ≡ after p (after p s xs) ys }
 {}
 

@@ -11,7 +11,7 @@ abbrev pub net_id : ℕ → NetId
 net_id n = record { 0 = n }
 
 abbrev pub rails : ℕ → ℕ → Rails
-rails zero one = record { zero = net_id zero; one = net_id one }
+rails rail0 rail1 = record { zero = net_id rail0; one = net_id rail1 }
 
 -- the gate cell with a number in the file, its input nets and its output net
 abbrev pub gate : ℕ → Kind → List ℕ → ℕ → StageCell

@@ -1,3 +1,4 @@
 pub mod RunLaws
 pub mod TreeNets
 pub mod ResetLaws
+pub mod WiresOrigins

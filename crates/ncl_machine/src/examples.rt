@@ -1,6 +1,8 @@
 //! A worked example: a run of two banks joined by wires.
 ghost use Rattle.std.specs.Prelude.{◌≡◌, true, false, [], ◌∷◌};
-ghost use Rattle.ncl_shape.specs.Examples.{wires_pipeline};
+ghost use Rattle.ncl_netlist.specs.Netlist.{IsNetlist};
+ghost use Rattle.ncl_shape.specs.Examples.{wires, wires_pipeline};
+ghost use Rattle.ncl_shape.specs.Shape.{IsFree};
 ghost use Rattle.ncl_shape.specs.Closure.{function_of};
 ghost use Rattle.ncl_machine.specs.Run.{IsRun, IsQuiet};
 ghost use Rattle.ncl_machine.specs.Examples.{one_word, through_wires, at_the_end};
@@ -12,4 +14,10 @@ pub fn word_through_wires()
     ensures delivered { at_the_end.delivered ≡ record { rail0 = false ∷ []; rail1 = true ∷ [] } ∷ [] }
     ensures function { function_of wires_pipeline (true ∷ []) ≡ true ∷ [] }
     ensures quiet { IsQuiet wires_pipeline at_the_end }
+{}
+
+/// Two banks joined by wires are a netlist, and keep the first five rules of shape.
+pub fn wires_have_a_shape()
+    ensures netlist { IsNetlist wires }
+    ensures free { IsFree wires }
 {}

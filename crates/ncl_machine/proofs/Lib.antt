@@ -1,4 +1,7 @@
 pub mod RunLaws
 pub mod TreeNets
 pub mod ResetLaws
-pub mod WiresOrigins
+mod WiresOrigins
+mod ShortLists
+mod WiresChain
+mod WiresShape

@@ -62,7 +62,7 @@ no_gate = each_cell (λ c. IsGate c → ⊥) (
 )
 
 -- the input ports are the nets from 0 to 3, and the output ports those from 4 to 6
-pub each_input_port : (P : ℕ → Type 0) → P 0 → P 1 → P 2 → P 3 → (net : ℕ) → IsInputPort wires net → P net
+each_input_port : (P : ℕ → Type 0) → P 0 → P 1 → P 2 → P 3 → (net : ℕ) → IsInputPort wires net → P net
 each_input_port P at0 at1 at2 at3 zero input = at0
 each_input_port P at0 at1 at2 at3 (suc zero) input = at1
 each_input_port P at0 at1 at2 at3 (suc (suc zero)) input = at2
@@ -71,6 +71,10 @@ each_input_port P at0 at1 at2 at3 (suc (suc (suc (suc zero)))) (p, at, input) = 
 each_input_port P at0 at1 at2 at3 (suc (suc (suc (suc (suc zero))))) (p, at, input) = absurd cc
 each_input_port P at0 at1 at2 at3 (suc (suc (suc (suc (suc (suc zero)))))) (p, at, input) = absurd cc
 each_input_port P at0 at1 at2 at3 (suc (suc (suc (suc (suc (suc (suc net))))))) (p, at, input) = absurd cc
+
+pub not_input : (net : ℕ) → 3 < net → IsInputPort wires net → ⊥
+not_input net past input =
+    each_input_port (λ x. 3 < x → ⊥) (λ lt. omega (arith, lt)) (λ lt. omega (arith, lt)) (λ lt. omega (arith, lt)) (λ lt. omega (arith, lt)) net input past
 
 pub each_output_port : (P : ℕ → Type 0) → P 4 → P 5 → P 6 → (net : ℕ) → IsOutputPort wires net → P net
 each_output_port P at4 at5 at6 zero (p, at, output) = absurd cc

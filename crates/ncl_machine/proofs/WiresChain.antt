@@ -9,9 +9,9 @@ use Rattle.ncl_shape.specs.Origin.{IsCell, OnPin, A, B, IsInputPort, IsOutputPor
 use Rattle.ncl_shape.specs.Chain.{IsBank, IsFirstBank, IsLastBank, Follows, end, next, IsChain, IsRoot, HasEnds, HasOne, IsAcknowledged, HasRoots, IsShown, IsHead, IsEnd, IsClosed, OnPinNamed, HasOneRole, IsChained}
 use Rattle.ncl_shape.specs.Examples.{wires, net_id}
 use Rattle.ncl_shape.proofs.ChainLaws.{chain_is_one}
-use Rattle.ncl_shape.proofs.CellTests.{each_register, each_of_bank, on_pin_each}
+use Rattle.ncl_shape.proofs.CellTests.{each_of_bank, on_pin_each}
 use Rattle.ncl_machine.proofs.ShortLists.{written, of_pair, of_last}
-use Rattle.ncl_machine.proofs.WiresOrigins.{cell_at, is_cell, of_bank, each_cell, no_gate, each_output_port, not_input, wires_netlist, origin_of, origin_is, first_acks, last_acks, only_ack_of_last, first_source, wires_free}
+use Rattle.ncl_machine.proofs.WiresOrigins.{cell_at, is_cell, of_bank, each_cell, each_register_cell, no_gate, each_output_port, not_input, wires_netlist, origin_of, origin_is, first_acks, last_acks, only_ack_of_last, first_source, wires_free}
 
 -- ---- the banks
 
@@ -24,8 +24,9 @@ is_bank_2 = (cell_at 3, of_bank 3 2 refl refl refl)
 -- the banks are 7 and 2
 each_bank : (P : ℕ → Type 0) → P 7 → P 2 → (bank : ℕ) → IsBank wires bank → P bank
 each_bank P holds_7 holds_2 bank (c, (in_c, register, on)) =
-    each_register wires (λ (c : Cell). (net : ℕ) → OnPin c B net → P net)
-    (on_pin_each (cell_at 0) B 7 P refl holds_7, (on_pin_each (cell_at 1) B 7 P refl holds_7, (on_pin_each (cell_at 3) B 2 P refl holds_2, (on_pin_each (cell_at 4) B 2 P refl holds_2, tt))))
+    each_register_cell (λ (c : Cell). (net : ℕ) → OnPin c B net → P net)
+    (on_pin_each (cell_at 0) B 7 P refl holds_7) (on_pin_each (cell_at 1) B 7 P refl holds_7)
+    (on_pin_each (cell_at 3) B 2 P refl holds_2) (on_pin_each (cell_at 4) B 2 P refl holds_2)
     c in_c register bank on
 
 first_bank : IsFirstBank wires 7
@@ -145,22 +146,13 @@ no_port : (net : ℕ) (x : List ℕ) → 3 < net → HasRole x net
 no_port net x past input = absurd (not_input net past input)
 
 each_role : (c : Cell) → IsCell wires c → EachPin HasRole (pins_of c.kind) c.ins.items
-each_role = each_cell (λ c. EachPin HasRole (pins_of c.kind) c.ins.items) (
-  (λ input. refl, (no_port 7 (codes "B") (omega arith), (λ input. refl, tt))),
-  (
-    (λ input. refl, (no_port 7 (codes "B") (omega arith), (λ input. refl, tt))),
-    (
-      (no_port 8 (codes "A") (omega arith), (no_port 9 (codes "B") (omega arith), tt)),
-      (
-        (no_port 8 (codes "A") (omega arith), (λ input. refl, (λ input. refl, tt))),
-        (
-          (no_port 9 (codes "A") (omega arith), (λ input. refl, (λ input. refl, tt))),
-          ((no_port 4 (codes "A") (omega arith), (no_port 5 (codes "B") (omega arith), tt)), tt),
-        ),
-      ),
-    ),
-  ),
-)
+each_role = each_cell (λ c. EachPin HasRole (pins_of c.kind) c.ins.items)
+    (λ input. refl, (no_port 7 (codes "B") (omega arith), (λ input. refl, tt)))
+    (λ input. refl, (no_port 7 (codes "B") (omega arith), (λ input. refl, tt)))
+    (no_port 8 (codes "A") (omega arith), (no_port 9 (codes "B") (omega arith), tt))
+    (no_port 8 (codes "A") (omega arith), (λ input. refl, (λ input. refl, tt)))
+    (no_port 9 (codes "A") (omega arith), (λ input. refl, (λ input. refl, tt)))
+    (no_port 4 (codes "A") (omega arith), (no_port 5 (codes "B") (omega arith), tt))
 
 role_is : (c : Cell) (x : List ℕ) (net : ℕ) → IsCell wires c → IsInputPort wires net → OnPinNamed c x net → x ≡ role_of net
 role_is c x net in_c input (pin, named, on) = each_pin HasRole (pins_of c.kind) c.ins.items (each_role c in_c) pin x net named on input
@@ -172,23 +164,13 @@ IsReader c = (net : ℕ) → OnPin c A net → IsInputPort wires net → c ≡ c
 reader_from : (k net : ℕ) → OnPin (cell_at k) A net → (IsInputPort wires net → cell_at k ≡ cell_at net) → IsReader (cell_at k)
 reader_from k net on is = on_pin_each (cell_at k) A net (λ x. IsInputPort wires x → cell_at k ≡ cell_at x) on is
 
+reads_no_port : (k net : ℕ) → OnPin (cell_at k) A net → 3 < net → IsReader (cell_at k)
+reads_no_port k net on past = reader_from k net on (λ input. absurd (not_input net past input))
+
 each_reader : (c : Cell) → IsCell wires c → IsReader c
-each_reader = each_cell IsReader (
-  reader_from 0 0 refl (λ input. refl),
-  (
-    reader_from 1 1 refl (λ input. refl),
-    (
-      reader_from 2 8 refl (λ input. absurd (not_input 8 (omega arith) input)),
-      (
-        reader_from 3 8 refl (λ input. absurd (not_input 8 (omega arith) input)),
-        (
-          reader_from 4 9 refl (λ input. absurd (not_input 9 (omega arith) input)),
-          (reader_from 5 4 refl (λ input. absurd (not_input 4 (omega arith) input)), tt),
-        ),
-      ),
-    ),
-  ),
-)
+each_reader = each_cell IsReader
+    (reader_from 0 0 refl (λ input. refl)) (reader_from 1 1 refl (λ input. refl)) (reads_no_port 2 8 refl (omega arith))
+    (reads_no_port 3 8 refl (omega arith)) (reads_no_port 4 9 refl (omega arith)) (reads_no_port 5 4 refl (omega arith))
 
 one_role : (net : ℕ) → IsInputPort wires net → HasOneRole wires net
 one_role net input = record {

@@ -10,7 +10,7 @@ use Rattle.ncl_netlist.specs.declared.cell.Cell.{Cell}
 use Rattle.ncl_netlist.specs.Netlist.{IsNetlist, CellFits, drivers_of}
 use Rattle.ncl_netlist.proofs.NameLists.{same_name-equiv}
 use Rattle.ncl_shape.specs.Origin.{IsCell, CellAt, IsGate, IsRegister, IsAck, ReadsNet, OnPin, A, B, RST, IsInputPort, IsOutputPort, IsOfBank, AcksBank, Origin, FromPort, RailOf, AckOf, ComesFrom, port, rail, ack, gate, HasOnlyOrigin, HaveSameOrigins}
-use Rattle.ncl_shape.specs.Rules.{IsReadPort, IsPaired, IsFromOneRail, IsFromOneAck, IsRegisterOfOne, IsTied}
+use Rattle.ncl_shape.specs.Rules.{IsReadPort, IsPaired, ReadsOneBit, ack_pins, IsFromOneRail, IsFromOneAck, IsRegisterOfOne, IsTied}
 use Rattle.ncl_shape.specs.Chain.{IsInputOf}
 use Rattle.ncl_shape.specs.Shape.{IsFree}
 use Rattle.ncl_shape.specs.Examples.{wires, cell}
@@ -29,9 +29,14 @@ is_cell k at = Contains-from_slice_get wires.cells k (cell_at k) at
 pub of_bank : (k request : ℕ) → CellAt wires k (cell_at k) → IsRegister (cell_at k) → OnPin (cell_at k) B request → IsOfBank wires request (cell_at k)
 of_bank k request at register on = (is_cell k at, register, on)
 
--- what holds of six cells holds of each
-pub each_cell : (P : Cell → Type 0) → AllByRecursion P wires.cells → (c : Cell) → IsCell wires c → P c
-each_cell P all c in_c = All-contains P wires.cells c (All-from_recursion P wires.cells all) in_c
+-- what holds of the six cells holds of each
+pub each_cell : (P : Cell → Type 0) → P (cell_at 0) → P (cell_at 1) → P (cell_at 2) → P (cell_at 3) → P (cell_at 4) → P (cell_at 5) → (c : Cell) → IsCell wires c → P c
+each_cell P at0 at1 at2 at3 at4 at5 c in_c =
+    All-contains P wires.cells c (All-from_recursion P wires.cells (at0, (at1, (at2, (at3, (at4, (at5, tt))))))) in_c
+
+-- and what holds of the four register cells holds of each
+pub each_register_cell : (P : Cell → Type 0) → P (cell_at 0) → P (cell_at 1) → P (cell_at 3) → P (cell_at 4) → (c : Cell) → IsCell wires c → IsRegister c → P c
+each_register_cell P at0 at1 at3 at4 = each_register wires P (at0, (at1, (at3, (at4, tt))))
 
 -- no cell is a gate
 no_register_is_gate : (c : Cell) → IsRegister c → IsGate c → ⊥
@@ -44,22 +49,9 @@ no_register_is_ack : (c : Cell) → IsRegister c → IsAck c → ⊥
 no_register_is_ack c register is_ack = absurd cc
 
 pub no_gate : (c : Cell) → IsCell wires c → IsGate c → ⊥
-no_gate = each_cell (λ c. IsGate c → ⊥) (
-  no_register_is_gate (cell_at 0) refl,
-  (
-    no_register_is_gate (cell_at 1) refl,
-    (
-      no_ack_is_gate (cell_at 2) refl,
-      (
-        no_register_is_gate (cell_at 3) refl,
-        (
-          no_register_is_gate (cell_at 4) refl,
-          (no_ack_is_gate (cell_at 5) refl, tt),
-        ),
-      ),
-    ),
-  ),
-)
+no_gate = each_cell (λ c. IsGate c → ⊥)
+    (no_register_is_gate (cell_at 0) refl) (no_register_is_gate (cell_at 1) refl) (no_ack_is_gate (cell_at 2) refl)
+    (no_register_is_gate (cell_at 3) refl) (no_register_is_gate (cell_at 4) refl) (no_ack_is_gate (cell_at 5) refl)
 
 -- the input ports are the nets from 0 to 3, and the output ports those from 4 to 6
 each_input_port : (P : ℕ → Type 0) → P 0 → P 1 → P 2 → P 3 → (net : ℕ) → IsInputPort wires net → P net
@@ -146,6 +138,9 @@ rail_is k request on is = on_pin_each (cell_at k) B request (λ r. RailOf r ≡ 
 abbrev AcksItsBank : Cell → Type 0
 AcksItsBank c = IsAck c → (net : ℕ) → OnPin c A net → (request : ℕ) → RailOf request ≡ origin_of net → AckOf request ≡ origin_of c.out.0
 
+acks_none : (c : Cell) → IsRegister c → AcksItsBank c
+acks_none c register is_ack = absurd (no_register_is_ack c register is_ack)
+
 ack_is : (k net bank : ℕ) → OnPin (cell_at k) A net → RailOf bank ≡ origin_of net → AckOf bank ≡ origin_of (cell_at k).out.0 → AcksItsBank (cell_at k)
 ack_is k net bank on of_net is is_ack =
     on_pin_each (cell_at k) A net (λ x. (request : ℕ) → RailOf request ≡ origin_of x → AckOf request ≡ origin_of (cell_at k).out.0) on same
@@ -157,26 +152,13 @@ ack_is k net bank on of_net is is_ack =
         subst (λ r. AckOf r ≡ origin_of (cell_at k).out.0) (sym banks) is
 
 each_rail : (c : Cell) → IsCell wires c → IsRegister c → (request : ℕ) → OnPin c B request → RailOf request ≡ origin_of c.out.0
-each_rail = each_register wires (λ (c : Cell). (request : ℕ) → OnPin c B request → RailOf request ≡ origin_of c.out.0)
-    (rail_is 0 7 refl refl, (rail_is 1 7 refl refl, (rail_is 3 2 refl refl, (rail_is 4 2 refl refl, tt))))
+each_rail = each_register_cell (λ (c : Cell). (request : ℕ) → OnPin c B request → RailOf request ≡ origin_of c.out.0)
+    (rail_is 0 7 refl refl) (rail_is 1 7 refl refl) (rail_is 3 2 refl refl) (rail_is 4 2 refl refl)
 
 each_ack : (c : Cell) → IsCell wires c → AcksItsBank c
-each_ack = each_cell AcksItsBank (
-  λ is_ack. absurd (no_register_is_ack (cell_at 0) refl is_ack),
-  (
-    λ is_ack. absurd (no_register_is_ack (cell_at 1) refl is_ack),
-    (
-      ack_is 2 8 7 refl refl refl,
-      (
-        λ is_ack. absurd (no_register_is_ack (cell_at 3) refl is_ack),
-        (
-          λ is_ack. absurd (no_register_is_ack (cell_at 4) refl is_ack),
-          (ack_is 5 4 2 refl refl refl, tt),
-        ),
-      ),
-    ),
-  ),
-)
+each_ack = each_cell AcksItsBank
+    (acks_none (cell_at 0) refl) (acks_none (cell_at 1) refl) (ack_is 2 8 7 refl refl refl)
+    (acks_none (cell_at 3) refl) (acks_none (cell_at 4) refl) (ack_is 5 4 2 refl refl refl)
 
 -- a net comes from no other origin
 pub origin_is : (net : ℕ) (origin : Origin) → ComesFrom wires net origin → origin ≡ origin_of net
@@ -235,32 +217,22 @@ read_port net input =
     (cell_at 3, is_cell 3 refl, (1, omega arith, refl))
     (cell_at 0, is_cell 0 refl, (2, omega arith, refl)) net input
 
+paired_rail : (k : ℕ) → IsRegister (cell_at k) → ack_pins wires (cell_at k).out.0 ≡ 1 → IsPaired wires (cell_at k)
+paired_rail k register one = record { register = λ is. one; ack = λ is_ack. absurd (no_register_is_ack (cell_at k) register is_ack) }
+
+paired_ack : (k : ℕ) → IsAck (cell_at k) → ReadsOneBit wires (cell_at k) → IsPaired wires (cell_at k)
+paired_ack k is_ack reads = record { register = λ is. absurd (no_register_is_ack (cell_at k) is is_ack); ack = λ is. reads }
+
+first_bit : ReadsOneBit wires (cell_at 2)
+first_bit = record { request = 7; zero = cell_at 0; one = cell_at 1; zero_of = of_bank 0 7 refl refl refl; one_of = of_bank 1 7 refl refl refl; on_a = refl; on_b = refl; differ = λ e. omega (arith, e) }
+
+last_bit : ReadsOneBit wires (cell_at 5)
+last_bit = record { request = 2; zero = cell_at 3; one = cell_at 4; zero_of = of_bank 3 2 refl refl refl; one_of = of_bank 4 2 refl refl refl; on_a = refl; on_b = refl; differ = λ e. omega (arith, e) }
+
 each_paired : (c : Cell) → IsCell wires c → IsPaired wires c
-each_paired = each_cell (IsPaired wires) (
-  record { register = λ is. refl; ack = λ is_ack. absurd (no_register_is_ack (cell_at 0) refl is_ack) },
-  (
-    record { register = λ is. refl; ack = λ is_ack. absurd (no_register_is_ack (cell_at 1) refl is_ack) },
-    (
-      record {
-        register = λ is. absurd (no_register_is_ack (cell_at 2) is refl);
-        ack = λ is_ack. record { request = 7; zero = cell_at 0; one = cell_at 1; zero_of = of_bank 0 7 refl refl refl; one_of = of_bank 1 7 refl refl refl; on_a = refl; on_b = refl; differ = λ e. omega (arith, e) };
-      },
-      (
-        record { register = λ is. refl; ack = λ is_ack. absurd (no_register_is_ack (cell_at 3) refl is_ack) },
-        (
-          record { register = λ is. refl; ack = λ is_ack. absurd (no_register_is_ack (cell_at 4) refl is_ack) },
-          (
-            record {
-              register = λ is. absurd (no_register_is_ack (cell_at 5) is refl);
-              ack = λ is_ack. record { request = 2; zero = cell_at 3; one = cell_at 4; zero_of = of_bank 3 2 refl refl refl; one_of = of_bank 4 2 refl refl refl; on_a = refl; on_b = refl; differ = λ e. omega (arith, e) };
-            },
-            tt,
-          ),
-        ),
-      ),
-    ),
-  ),
-)
+each_paired = each_cell (IsPaired wires)
+    (paired_rail 0 refl refl) (paired_rail 1 refl refl) (paired_ack 2 refl first_bit)
+    (paired_rail 3 refl refl) (paired_rail 4 refl refl) (paired_ack 5 refl last_bit)
 
 register_of_one : (k net bank : ℕ) (origin : Origin) → OnPin (cell_at k) RST 3 → OnPin (cell_at k) B bank → OnPin (cell_at k) A net → CellAt wires k (cell_at k) → IsRegister (cell_at k) → IsFromOneAck wires bank → IsFromOneRail wires net → IsSource bank origin → IsRegisterOfOne wires (cell_at k)
 register_of_one k net bank origin reset request on_a at register from_ack from_rail source = record {
@@ -275,38 +247,20 @@ register_of_one k net bank origin reset request on_a at register from_ack from_r
 }
 
 each_register_of_one : (c : Cell) → IsCell wires c → IsRegister c → IsRegisterOfOne wires c
-each_register_of_one = each_register wires (IsRegisterOfOne wires) (
-  register_of_one 0 0 7 FromPort refl refl refl refl refl (inr (2, only_ack_of_last)) (inl (_, refl, refl)) first_source,
-  (
-    register_of_one 1 1 7 FromPort refl refl refl refl refl (inr (2, only_ack_of_last)) (inl (_, refl, refl)) first_source,
-    (
-      register_of_one 3 8 2 (RailOf 7) refl refl refl refl refl (inl (_, refl, refl)) (inr (7, last_source 8 (cell_at 3, of_bank 3 2 refl refl refl, refl))) last_source,
-      (register_of_one 4 9 2 (RailOf 7) refl refl refl refl refl (inl (_, refl, refl)) (inr (7, last_source 9 (cell_at 4, of_bank 4 2 refl refl refl, refl))) last_source, tt),
-    ),
-  ),
-)
+each_register_of_one = each_register_cell (IsRegisterOfOne wires)
+    (register_of_one 0 0 7 FromPort refl refl refl refl refl (inr (2, only_ack_of_last)) (inl (_, refl, refl)) first_source)
+    (register_of_one 1 1 7 FromPort refl refl refl refl refl (inr (2, only_ack_of_last)) (inl (_, refl, refl)) first_source)
+    (register_of_one 3 8 2 (RailOf 7) refl refl refl refl refl (inl (_, refl, refl)) (inr (7, last_source 8 (cell_at 3, of_bank 3 2 refl refl refl, refl))) last_source)
+    (register_of_one 4 9 2 (RailOf 7) refl refl refl refl refl (inl (_, refl, refl)) (inr (7, last_source 9 (cell_at 4, of_bank 4 2 refl refl refl, refl))) last_source)
 
 register_tied : (c : Cell) → IsRegister c → IsTied wires c
 register_tied c register request sort from =
     elim sort [ inl is_ack ↦ absurd (no_register_is_ack c register is_ack) | inr is_gate ↦ absurd (no_register_is_gate c register is_gate) ]
 
 each_tied : (c : Cell) → IsCell wires c → IsTied wires c
-each_tied = each_cell (IsTied wires) (
-  register_tied (cell_at 0) refl,
-  (
-    register_tied (cell_at 1) refl,
-    (
-      λ request sort from. inr (inr (_, refl, refl)),
-      (
-        register_tied (cell_at 3) refl,
-        (
-          register_tied (cell_at 4) refl,
-          (λ request sort from. inr (inl (cell_at 0, of_bank 0 7 refl refl refl)), tt),
-        ),
-      ),
-    ),
-  ),
-)
+each_tied = each_cell (IsTied wires)
+    (register_tied (cell_at 0) refl) (register_tied (cell_at 1) refl) (λ request sort from. inr (inr (_, refl, refl)))
+    (register_tied (cell_at 3) refl) (register_tied (cell_at 4) refl) (λ request sort from. inr (inl (cell_at 0, of_bank 0 7 refl refl refl)))
 
 pub wires_free : IsFree wires
 wires_free = record {

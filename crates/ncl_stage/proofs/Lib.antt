@@ -2,3 +2,5 @@ pub mod Counted
 pub mod Apart
 pub mod ValueLaws
 pub mod OnePass
+pub mod StageTest
+pub mod ExampleLaws

@@ -6,6 +6,7 @@ ghost use Rattle.ncl_stage.specs.declared.variant.Variant.{Variant};
 ghost use Rattle.ncl_stage.specs.declared.variant.Variant.TheVariants.{Base};
 ghost use Rattle.ncl_stage.specs.Values.{kept_low, rises, start, val};
 ghost use Rattle.ncl_stage.specs.Pass.{pass};
+ghost use Rattle.ncl_stage.specs.Examples.{and_stage, eager_and_stage, orphan_and_stage, crossed_stage, dead_rail_stage, adder_stage, sum_stage};
 
 /// A rail of the inputs is high exactly where the word names it and the variant doesn't keep it low.
 pub fn rails_are_named()
@@ -31,4 +32,15 @@ pub fn variants_are_below_base()
 /// Evaluating each cell once, in the stage's order, gives the values.
 pub fn one_pass_is_enough()
     ensures { (s : StageData) (word : List Bool) (variant : Variant) (net : ℕ) → IsStage s → pass (kept_low s variant) s.cells (start s (kept_low s variant) word) net ≡ val s word variant net }
+{}
+
+/// The worked examples are stages.
+pub fn examples_are_stages()
+    ensures and_of_two { IsStage and_stage }
+    ensures eager_and { IsStage eager_and_stage }
+    ensures unobserved_cell { IsStage orphan_and_stage }
+    ensures crossed { IsStage crossed_stage }
+    ensures dead_rail { IsStage dead_rail_stage }
+    ensures adder { IsStage adder_stage }
+    ensures sum { IsStage sum_stage }
 {}

@@ -9,7 +9,7 @@ use Rattle.nclc.specs.declared.reply.Reply.TheVariants.{Made, Fixed}
 use Rattle.nclc.proofs.Held.{some_held}
 
 -- what holds of a status and a text holds of a reply with them
-gives_along : (reply : Reply) (F G : ℕ → List ℕ → Type 0) → ((status : ℕ) (text : List ℕ) → F status text → G status text) → Gives F reply → Gives G reply
+pub gives_along : (reply : Reply) (F G : ℕ → List ℕ → Type 0) → ((status : ℕ) (text : List ℕ) → F status text → G status text) → Gives F reply → Gives G reply
 gives_along (Made status text) F G h f = h status text.items f
 gives_along (Fixed status text) F G h f = h status text.now f
 

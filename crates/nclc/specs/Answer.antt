@@ -1,19 +1,32 @@
 -- What a call answers: the status and the text that go with the words and the files.
-use Rattle.std.specs.Prelude.{◌≡◌, ◌≢◌, ℕ, ◌<◌, ◌≤◌, ◌⊎◌, List, [], length, Option, Some, None, IfSome, codes}
+use Rattle.std.specs.Prelude.{◌≡◌, ◌≢◌, ℕ, ◌<◌, ◌≤◌, ◌⊎◌, List, [], ◌∷◌, length, Option, Some, None, IfSome, codes}
 use Rattle.ncl_base.specs.Files.{Files, bytes_of, Rose, Grew, GrewWithin}
-use Rattle.nclc.specs.Frame.{line, wires}
-use Rattle.nclc.specs.Verdict.{status_of, text_of, verdict_of}
+use Rattle.ncl_netlist.specs.Parts.{netlist_of}
+use Rattle.ncl_netlist.specs.Faults.{IsFaultless}
+use Rattle.ncl_verdict.specs.declared.verdict.Verdict.{Verdict}
+use Rattle.ncl_verdict.specs.Judgement.{TenBits, judgement}
+use Rattle.nclc.specs.Frame.{line}
+use Rattle.nclc.specs.FirstForm.{Form, IsForm, text_of}
+use Rattle.nclc.specs.FormNetlist.{parts_of, stage_of}
+use Rattle.nclc.specs.VerdictText.{status_of, text_of as line_of_verdict}
 use Rattle.nclc.specs.Command.{Words, Command, check, command_of, files_named}
-use Rattle.nclc.specs.declared.form.Rail.{Rail}
+
+-- the verdict on a form: the judgement of its one stage
+abbrev pub verdict_on : Form → Verdict
+verdict_on f = judgement TenBits (stage_of f ∷ [])
+
+-- the line that tells it. No limit of nodes is printed while stages are tried word by word
+abbrev pub verdict_line : Form → List ℕ
+verdict_line f = line_of_verdict (netlist_of (parts_of f)) 1 1 (verdict_on f)
 
 -- what `check` replies to a file's bytes
 pub data IsCheckReply (bytes : List ℕ) : ℕ → List ℕ → Type 0 where
   -- a file has at most 16,777,216 bytes
   too_long : 16777216 < length bytes → IsCheckReply bytes 3 (line (codes "netlist: too long"))
   -- the bytes are of no form that is built
-  not_built : length bytes ≤ 16777216 → ((zero one : Rail) → bytes ≢ wires zero one) → IsCheckReply bytes 3 (line (codes "netlist: form not built"))
-  -- the bytes are a netlist, and this is the verdict on it
-  judged : (zero one : Rail) → bytes ≡ wires zero one → IsCheckReply bytes (status_of (verdict_of zero one)) (text_of (verdict_of zero one))
+  not_built : length bytes ≤ 16777216 → ((f : Form) → IsForm f → bytes ≢ text_of f) → IsCheckReply bytes 3 (line (codes "netlist: form not built"))
+  -- the bytes are the text of a form, whose parts are a netlist, and this is the verdict on it
+  judged : length bytes ≤ 16777216 → (f : Form) → IsForm f → bytes ≡ text_of f → IsFaultless (parts_of f) → IsCheckReply bytes (status_of (verdict_on f)) (verdict_line f)
 
 -- what a command replies where the files are these
 abbrev pub IsReply : Command → Files → ℕ → List ℕ → Type 0

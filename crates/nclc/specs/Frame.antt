@@ -1,21 +1,19 @@
--- The one form of netlist text that is built: two one-bit register banks and the stage between them.
+-- The frame of the netlist texts that are read: two one-bit register banks with a stage between them.
 use Rattle.std.specs.Prelude.{ℕ, List, ◌++◌, codes}
-use Rattle.nclc.specs.declared.form.Rail.{Rail}
-use Rattle.nclc.specs.declared.form.Rail.TheVariants.{Zero, One}
 
 -- a text as a line, ended by a line feed
 abbrev pub line : List ℕ → List ℕ
 line text = text ++ codes "\n"
 
--- the module's header: the dual-rail input x1 and output z1, the request ki, the reset and the
--- acknowledge ko
+-- the module's header: the dual-rail input x1 and output z1, the net ki that requests the second bank,
+-- the reset and the acknowledge ko
 abbrev pub header : List ℕ
 header =
     line (codes "module t(x1_0,x1_1,ki,rst,z1_0,z1_1,ko);")
     ++ line (codes "input x1_0,x1_1,ki,rst;")
     ++ line (codes "output z1_0,z1_1,ko;")
 
--- the first bank: a register cell for each rail of the input, both under the request c, and the
+-- the first bank: a register cell for each rail of the input, both requested by c, and the
 -- completion cell that sees DATA or NULL on p1_0 and p1_1
 abbrev pub input_bank : List ℕ
 input_bank =
@@ -24,7 +22,7 @@ input_bank =
     ++ line (codes "TH12B k1(.A(p1_0),.B(p1_1),.Z(ko));")
 
 -- the second bank: a register cell for each rail of the stage's output, of which the nets are given,
--- both under the request ki, and the completion cell that drives c
+-- both requested by ki, and the completion cell that drives c
 abbrev pub output_bank : List ℕ → List ℕ → List ℕ
 output_bank zero one =
     line (codes "TH22N s1_0(.A(" ++ zero ++ codes "),.B(ki),.RST(rst),.Z(z1_0));")
@@ -35,13 +33,3 @@ output_bank zero one =
 -- and one as rails 0 and 1 of its output
 abbrev pub frame : List ℕ → List ℕ → List ℕ → List ℕ
 frame lines zero one = header ++ input_bank ++ lines ++ output_bank zero one ++ line (codes "endmodule")
-
--- the net of a rail of the input bit, as the first bank holds it
-abbrev pub net_of : Rail → List ℕ
-net_of Zero = codes "p1_0"
-net_of One = codes "p1_1"
-
--- the netlist of two banks joined by wires: its stage has no cell, and each rail of its output is a
--- rail of its input
-abbrev pub wires : Rail → Rail → List ℕ
-wires zero one = frame (codes "") (net_of zero) (net_of one)

@@ -2,12 +2,21 @@
 #![tactic(auto)]
 
 mod command;
+mod cursor;
+mod evaluate;
 mod file_source;
-mod form;
+mod first_form;
+mod form_netlist;
+mod form_stage;
+#[cfg(test)]
+mod form_tests;
+mod judge;
+mod label;
 mod reply;
+mod stage_line;
 mod stdout_sink;
 mod top;
-mod verdict;
+mod verdict_text;
 
 use file_source::FileSource;
 use std::alloc::{AllocError, Global};

@@ -3,11 +3,16 @@ ghost use Rattle.std.specs.Prelude.{◌≢◌, ◌≤◌, [], length, IfOk, IsTr
 ghost use Rattle.ncl_base.specs.Files.{Rose};
 ghost use Rattle.nclc.specs.Command.{AllowsFiles, files_named, check as check_command};
 ghost use Rattle.nclc.specs.Answer.{IsCheckReply};
-ghost use Rattle.nclc.specs.Replies.{command_meant, Gives, AnswersCommand};
+ghost use Rattle.nclc.specs.FirstForm.{IsForm};
+ghost use Rattle.nclc.specs.Reading.{form_of};
+ghost use Rattle.nclc.specs.Replies.{command_meant, Gives, AnswersCommand, IsVerdictOn};
 
 use crate::command::Command;
-use crate::form::read_wires;
-use crate::verdict::judge;
+use crate::first_form::{FirstForm, read_form};
+use crate::form_netlist::netlist_of_form;
+use crate::form_stage::stage_of_form;
+use crate::judge::judge;
+use crate::verdict_text::{status_of, verdict_text};
 use ncl_base::{LoadFault, Memory, Source, load};
 use std::alloc::Global;
 
@@ -67,13 +72,29 @@ fn check<S: Source>(alloc: Global, source: &mut S, file: &str) -> Result<Reply, 
 }
 
 /// The reply of `check` to the bytes of a file that is not too long.
+///
+/// No more bytes are looked at than a text of the form can have.
 fn reply_to(alloc: Global, bytes: &[u8]) -> Result<Reply, Memory>
     requires { length bytes.now ≤ 16777216 }
     ensures { IfOk result (Gives (IsCheckReply bytes.now)) }
 {
-    let Some((zero, one)) = read_wires(bytes) else {
-        return Ok(Reply::Fixed(3, b"netlist: form not built\n"));
-    };
-    let verdict = judge(zero, one);
-    Ok(Reply::Made(verdict.status(), verdict.text(alloc)?))
+    match read_form(alloc, bytes) {
+        Ok(Some(form)) => verdict_on(alloc, &form),
+        Ok(None) => Ok(Reply::Fixed(3, b"netlist: form not built\n")),
+        Err(_) => Err(Memory),
+    }
+}
+
+/// The verdict on a form, told.
+///
+/// The netlist is built of the form's parts, and its one stage is judged by evaluating it.
+fn verdict_on(alloc: Global, form: &FirstForm<'_>) -> Result<Reply, Memory>
+    requires { IsForm (form_of form.now) }
+    ensures { IfOk result (Gives (IsVerdictOn (form_of form.now))) }
+{
+    let netlist = netlist_of_form(alloc, form)?;
+    let stage = stage_of_form(alloc, form)?;
+    let verdict = judge(alloc, &stage, netlist.nets().len())?;
+    let text = verdict_text(alloc, &netlist, 1, &verdict, 1)?;
+    Ok(Reply::Made(status_of(&verdict), text))
 }

@@ -80,4 +80,6 @@ fn tell<K: Sink>(sink: &mut K, said: u8, text: &[u8]) -> u8
 }
 
 #[cfg(test)]
+mod stage_tests;
+#[cfg(test)]
 mod tests;

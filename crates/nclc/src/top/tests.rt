@@ -10,8 +10,13 @@ const READ_FAILED: &str = "read failed\n";
 
 const NOT_UNDERSTOOD: &str = "words not understood\n";
 
-/// The netlist whose stage has these nets as rails 0 and 1 of its output.
+/// The netlist whose stage is wires from these nets to rails 0 and 1 of its output.
 fn netlist(alloc: Global, zero: &str, one: &str) -> Result<String, Fail> {
+    netlist_of(alloc, "", zero, one)
+}
+
+/// The netlist whose stage has these lines, and these nets as rails 0 and 1 of its output.
+pub fn netlist_of(alloc: Global, lines: &str, zero: &str, one: &str) -> Result<String, Fail> {
     let text = format!(in alloc;
         "module t(x1_0,x1_1,ki,rst,z1_0,z1_1,ko);
 input x1_0,x1_1,ki,rst;
@@ -19,7 +24,7 @@ output z1_0,z1_1,ko;
 TH22N r1_0(.A(x1_0),.B(c),.RST(rst),.Z(p1_0));
 TH22N r1_1(.A(x1_1),.B(c),.RST(rst),.Z(p1_1));
 TH12B k1(.A(p1_0),.B(p1_1),.Z(ko));
-TH22N s1_0(.A({zero}),.B(ki),.RST(rst),.Z(z1_0));
+{lines}TH22N s1_0(.A({zero}),.B(ki),.RST(rst),.Z(z1_0));
 TH22N s1_1(.A({one}),.B(ki),.RST(rst),.Z(z1_1));
 TH12B d1(.A(z1_0),.B(z1_1),.Z(c));
 endmodule
@@ -39,7 +44,7 @@ fn held(alloc: Global, bytes: &[u8]) -> Result<Vec<MemFile>, Fail> {
 }
 
 /// The status of these words, and what was written, where the file `f` has these bytes.
-fn ask<R: Threads + Sync>(
+pub fn ask<R: Threads + Sync>(
     rt: &R,
     alloc: Global,
     words: &[&str],

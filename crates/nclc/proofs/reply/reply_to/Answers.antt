@@ -1,20 +1,28 @@
-use Rattle.std.proofs.Common.{◌≡◌, ℕ, List, sym, ap, ◌∙◌, subst}
-use Rattle.nclc.specs.Frame.{wires}
-use Rattle.nclc.specs.Verdict.{status_of, text_of, verdict_of}
-use Rattle.nclc.specs.Answer.{IsCheckReply, not_built, judged}
-use Rattle.nclc.specs.declared.form.Rail.{Rail}
+use Rattle.std.proofs.Common.{◌≡◌, ◌≤◌, ℕ, List, length, Result, Ok, Err, IfOk, sym, subst}
+use Rattle.ncl_base.specs.declared.memory.Memory.{Memory}
+use Rattle.nclc.specs.FirstForm.{Form, IsForm, text_of}
+use Rattle.nclc.specs.VerdictText.{status_of}
+use Rattle.nclc.specs.Answer.{IsCheckReply, not_built, judged, verdict_on}
+use Rattle.nclc.specs.Replies.{Gives, IsVerdictOn}
+use Rattle.nclc.specs.declared.reply.Reply.{Reply}
+use Rattle.nclc.specs.Reading.{form_of}
+use Rattle.nclc.proofs.Saying.{gives_along}
 use Rattle.nclc.proofs.reply.reply_to.Goals as goal
 
--- the verdict's status and text are a reply
-judged_as : (bytes text : List ℕ) (status : ℕ) (zero one : Rail) → bytes ≡ wires zero one → status ≡ status_of (verdict_of zero one) → text ≡ text_of (verdict_of zero one) → IsCheckReply bytes status text
-judged_as bytes text status zero one e s t =
-    subst (λ n. IsCheckReply bytes n text) (sym s) (subst (λ x. IsCheckReply bytes (status_of (verdict_of zero one)) x) (sym t) (judged zero one e))
+-- the verdict on a form is the reply to its text
+verdict_is_reply : (bytes : List ℕ) → length bytes ≤ 16777216 → (f : Form) → IsForm f → bytes ≡ text_of f → (status : ℕ) (text : List ℕ) → IsVerdictOn f status text → IsCheckReply bytes status text
+verdict_is_reply bytes few f is e status text v =
+    subst (λ n. IsCheckReply bytes n text) (sym v.status_is) (subst (IsCheckReply bytes (status_of (verdict_on f))) (sym v.text_is) (judged few f is e v.faultless))
 
-pub returns-in_default : goal.returns-in_default
-returns-in_default c = not_built c.requires (c.in_default.ensures)
+reply_along : (r : Result Reply Memory) (F G : ℕ → List ℕ → Type 0) → ((status : ℕ) (text : List ℕ) → F status text → G status text) → IfOk r (Gives F) → IfOk r (Gives G)
+reply_along (Ok reply) F G h f = gives_along reply F G h f
+reply_along (Err memory) F G h f = tt
 
-pub returns : goal.returns
-returns c =
-    judged_as _ _ _ c.in-Some.zero c.in-Some.one c.in-Some.ensures
-    (c.status.ensures ∙ ap status_of c.judge-verdict.ensures)
-    (c.in_ok-text.ensures ∙ ap text_of c.judge-verdict.ensures)
+pub returns-in-Ok-Some : goal.returns-in-Ok-Some
+returns-in-Ok-Some c =
+    let read = rw c.in-Ok-Some.field-0-is at c.in-Ok-Some.ensures in
+    let f = form_of c.in-Ok-Some.form in
+    reply_along c.verdict_on.result (IsVerdictOn f) (IsCheckReply c.args.bytes.now) (verdict_is_reply c.args.bytes.now c.requires f read.0 read.1) c.verdict_on.ensures
+
+pub returns-in-Ok-None : goal.returns-in-Ok-None
+returns-in-Ok-None c = not_built c.requires (rw c.in-Ok-None.field-0-is at c.in-Ok-None.ensures)

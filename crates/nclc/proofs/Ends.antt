@@ -6,7 +6,7 @@ use Rattle.nclc.specs.Answer.{Answer, SourceState, SinkState, AreHeld, Says, ans
 use Rattle.nclc.proofs.Sameness.{same_answer}
 
 -- the held files are the told ones
-held_is : (told : Option Files) (held files : Files) → told ≡ Some files → AreHeld told held → held ≡ files
+pub held_is : (told : Option Files) (held files : Files) → told ≡ Some files → AreHeld told held → held ≡ files
 held_is told held files is same = subst (λ o. AreHeld o held) is same
 
 unless_faults : (words : Words) (source source' : SourceState) (sink sink' : SinkState) {said status : ℕ} {text : List ℕ} → Says words source source' said text → Tells sink sink' said text status → AnswersUnlessFaults words source source' sink sink' status

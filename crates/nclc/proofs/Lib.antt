@@ -3,6 +3,7 @@ mod OneForm
 mod Sameness
 mod Saying
 mod Ends
+mod Acceptance
 mod NamedCell
 mod Cuts
 mod Labels

@@ -3,6 +3,7 @@ use Rattle.std.specs.Prelude.{◌≡◌, ◌≢◌, ℕ, ◌<◌, ◌≤◌, ◌
 use Rattle.ncl_base.specs.Files.{Files, bytes_of, Rose, Grew, GrewWithin}
 use Rattle.ncl_netlist.specs.Parts.{netlist_of}
 use Rattle.ncl_netlist.specs.Faults.{IsFaultless}
+use Rattle.ncl_stage.specs.Faults.{IsSound}
 use Rattle.ncl_verdict.specs.declared.verdict.Verdict.{Verdict}
 use Rattle.ncl_verdict.specs.Judgement.{TenBits, judgement}
 use Rattle.nclc.specs.Frame.{line}
@@ -92,3 +93,17 @@ abbrev pub AnswersExactly : Words → SourceState → SinkState → SinkState �
 AnswersExactly words source sink sink_after status =
     (files : Files) (expected : ℕ) (text : List ℕ) → source.files ≡ Some files → Answer words files expected text
     → ((status ≡ expected) × Grew sink.written text sink_after.written) ⊎ ((status ≡ 4) ⊎ ((status ≡ 5) ⊎ (status ≡ 7)))
+
+-- the bytes are the text of a form whose stage is sound: no word shows a fault of it
+pub record IsSoundText (bytes : List ℕ) : Type 0 where
+  pub form : Form
+  pub is_form : IsForm form
+  pub text : bytes ≡ text_of form
+  pub sound : IsSound (stage_of form)
+
+-- where the words ask for the check of a file, the source tells its files and the status is 0, the bytes
+-- under the file's name are such a text
+abbrev pub AcceptsSound : Words → SourceState → ℕ → Type 0
+AcceptsSound words source status =
+    (files : Files) (file : List ℕ) → source.files ≡ Some files → command_of words ≡ Some (check file)
+    → status ≡ 0 → IsSoundText (bytes_of files file)

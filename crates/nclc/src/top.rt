@@ -1,7 +1,7 @@
 //! The top call: all that the program does, between a source of files and a sink of bytes.
 ghost use Rattle.std.specs.Prelude.{◌≡◌, ◌≤◌, map};
 ghost use Rattle.nclc.specs.Command.{AllowsNamed};
-ghost use Rattle.nclc.specs.Answer.{Says, Tells, Ran, AnswersUnlessFaults, AnswersExactly};
+ghost use Rattle.nclc.specs.Answer.{Says, Tells, Ran, AnswersUnlessFaults, AnswersExactly, AcceptsSound};
 ghost use Rattle.nclc.specs.Replies.{Gives};
 
 use crate::command::Command;
@@ -35,6 +35,9 @@ pub fn run<R: Threads + Sync, S: Source, K: Sink>(
         (record { files = S.files source.new; faults = S.faults source.new })
         (record { written = K.written sink.old; faults = K.faults sink.old })
         (record { written = K.written sink.new; faults = K.faults sink.new })
+        result }
+    ensures sound { AcceptsSound (map (λ word. word.now) words.now)
+        (record { files = S.files source.old; faults = S.faults source.old })
         result }
     ensures exact { AnswersExactly (map (λ word. word.now) words.now)
         (record { files = S.files source.old; faults = S.faults source.old })

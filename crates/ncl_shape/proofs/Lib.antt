@@ -6,6 +6,7 @@ pub mod OriginLaws
 pub mod Lists
 pub mod ChainLaws
 pub mod ShapeLaws
+pub mod FaultLaws
 pub mod PinLaws
 pub mod CellTests
 mod WrittenCells

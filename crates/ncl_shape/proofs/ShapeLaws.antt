@@ -87,7 +87,7 @@ module _ (n : NetlistData) (is : IsNetlist n) where
       (y, Member-from_Contains ys y in_ys, sym same)
 
   -- a bank has one list of bits
-  bits_are_one : (bank : ℕ) (xs ys : List Bit) → AreBitsOf n bank xs → AreBitsOf n bank ys → xs ≡ ys
+  pub bits_are_one : (bank : ℕ) (xs ys : List Bit) → AreBitsOf n bank xs → AreBitsOf n bank ys → xs ≡ ys
   bits_are_one bank xs ys of_x of_y =
       same_increasing (λ (b : Bit). b.ack.0) xs ys of_x.in_order of_y.in_order (has_acks bank xs ys of_x of_y) (has_acks bank ys xs of_y of_x)
       (λ x y in_x in_y acks. bit_is_one bank x y (bit_of n bank xs of_x x in_x) (bit_of n bank ys of_y y in_y) acks)

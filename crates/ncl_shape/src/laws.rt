@@ -2,9 +2,10 @@
 ghost use Rattle.std.specs.Prelude.{◌≡◌, ◌⊎◌, ℕ, true, All, Contains};
 ghost use Rattle.ncl_netlist.specs.declared.cell.Cell.{Cell};
 ghost use Rattle.ncl_netlist.specs.Netlist.{IsNetlist, NetlistData};
+ghost use Rattle.ncl_shape.specs.declared.fault.ShapeFault.{ShapeFault};
 ghost use Rattle.ncl_shape.specs.Nets.{Nets, IsBelow};
 ghost use Rattle.ncl_shape.specs.Pipeline.{PipelineData};
-ghost use Rattle.ncl_shape.specs.Shape.{Shape};
+ghost use Rattle.ncl_shape.specs.Shape.{Shape, Broken};
 ghost use Rattle.ncl_shape.specs.SamePipeline.{IsSamePipeline};
 ghost use Rattle.ncl_shape.specs.Closure.{close, net_of, passes};
 
@@ -29,4 +30,14 @@ pub fn closure_is_supported()
 /// A netlist has the shape of one pipeline, but for the order of the cells of its stages.
 pub fn shape_is_one()
     ensures { (n : NetlistData) (p q : PipelineData) → IsNetlist n → Shape n p → Shape n q → IsSamePipeline p q }
+{}
+
+/// A netlist that has the shape of a pipeline breaks no rule of shape.
+pub fn shape_is_unbroken()
+    ensures { (n : NetlistData) (p : PipelineData) (fault : ShapeFault) → IsNetlist n → Shape n p → Broken n fault → ⊥ }
+{}
+
+/// A netlist has at most one fault of shape: the first rule that it breaks, at the first place.
+pub fn first_broken_is_one()
+    ensures { (n : NetlistData) (f g : ShapeFault) → IsNetlist n → Broken n f → Broken n g → f ≡ g }
 {}

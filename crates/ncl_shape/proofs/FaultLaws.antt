@@ -1,0 +1,164 @@
+-- The laws of faults of shape: a netlist that has a shape has none, and a netlist has at most one.
+use Rattle.std.proofs.Common.{◌≡◌, ℕ, zero, suc, ◌-◌, ◌<◌, ◌≤◌, List, length, Some, inl, inr, refl, sym, ap, subst, ◌∙◌, arith}
+use Rattle.std.specs.Prelude.{slice_get}
+use Rattle.std.proofs.lemmas.Bool.{cases_lt}
+use Rattle.std.proofs.lemmas.List.{length-map}
+use Rattle.std.proofs.lemmas.Option.{slice_get_within}
+use Rattle.ncl_netlist.specs.Netlist.{NetlistData, IsNetlist}
+use Rattle.ncl_shape.specs.declared.bank.Bank.{Bank}
+use Rattle.ncl_shape.specs.declared.fault.ShapeFault.{ShapeFault}
+use Rattle.ncl_shape.specs.declared.fault.ShapeFault.TheVariants.{UnusedPort, Cycle, Unpaired, Mixed, Loose, NoChain, TooWide, TooLong, Memory}
+use Rattle.ncl_shape.specs.Rules.{IsReadPort, IsOffCycles, IsPaired, IsUnmixed, IsTied}
+use Rattle.ncl_shape.specs.Chain.{IsChain, InnerRule}
+use Rattle.ncl_shape.specs.Pipeline.{PipelineData}
+use Rattle.ncl_shape.specs.Shape.{IsFree, IsNarrow, IsShort, AreBitsOf, Shape, FailsFirst, AtCell, RuleHolds, BreaksRule, rule_of, Broken}
+use Rattle.ncl_shape.proofs.Members.{slice_get-some}
+use Rattle.ncl_shape.proofs.ChainLaws.{chain_is_one}
+use Rattle.ncl_shape.proofs.ShapeLaws.{requests, request_at, bits_are_one}
+
+-- the rule of a fault doesn't hold
+rule_fails : (n : NetlistData) (fault : ShapeFault) → BreaksRule n fault → RuleHolds n (rule_of fault) → ⊥
+rule_fails n (UnusedPort net) breaks holds = breaks.fails (holds net.0)
+rule_fails n (Cycle cell) breaks holds = breaks.fails (holds cell.0)
+rule_fails n (Unpaired cell) breaks holds = breaks.fails (holds cell.0)
+rule_fails n (Mixed cell) breaks holds = breaks.fails (holds cell.0)
+rule_fails n (Loose cell) breaks holds = breaks.fails (holds cell.0)
+rule_fails n (NoChain rule) breaks holds = breaks.broken (holds rule)
+rule_fails n (TooWide number) (banks, chain, positive, first) holds = first.fails (λ bank at. holds banks (number - 1) bank chain at)
+rule_fails n TooLong breaks holds = breaks holds
+rule_fails n Memory breaks holds = breaks
+
+module _ (n : NetlistData) (is : IsNetlist n) where
+  module _ (p : PipelineData) (shape : Shape n p) where
+    as_many_requests : length (requests p.banks) ≡ length p.banks
+    as_many_requests = length-map p.banks (λ (b : Bank). b.request.0)
+
+    -- each chain is that of the pipeline
+    chain_of_pipeline : (banks : List ℕ) → IsChain n banks → banks ≡ requests p.banks
+    chain_of_pipeline banks chain = chain_is_one n is shape.free (shape.chained 2) banks (requests p.banks) chain shape.chain
+
+    bank_is_narrow : (k bank : ℕ) → slice_get (requests p.banks) k ≡ Some bank → IsNarrow n bank
+    bank_is_narrow k bank at bits of_bank =
+        let within : k < length (requests p.banks) = slice_get_within (requests p.banks) k bank at in
+        let (b, at_b) = slice_get-some p.banks k (omega (arith, within, as_many_requests)) in
+        let named_at = request_at p.banks k b at_b in
+        let named : bank ≡ b.request.0 = cc in
+        let (of_b, few) = shape.banks k b at_b in
+        let same : bits ≡ b.bits = bits_are_one n is b.request.0 bits b.bits (subst (λ r. AreBitsOf n r bits) named of_bank) of_b.bits in
+        subst (λ xs. length xs ≤ 128) (sym same) few
+
+    narrow : (banks : List ℕ) (k bank : ℕ) → IsChain n banks → slice_get banks k ≡ Some bank → IsNarrow n bank
+    narrow banks k bank chain at = bank_is_narrow k bank (subst (λ xs. slice_get xs k ≡ Some bank) (chain_of_pipeline banks chain) at)
+
+    short : IsShort n
+    short banks chain =
+        let few : length p.banks ≤ 256 = shape.few_banks in
+        let same : length banks ≡ length (requests p.banks) = ap length (chain_of_pipeline banks chain) in
+        omega (arith, few, same, as_many_requests)
+
+    -- each rule holds
+    every_rule : (r : ℕ) → RuleHolds n r
+    every_rule zero = tt
+    every_rule (suc zero) = shape.free.ports_read
+    every_rule (suc (suc zero)) = shape.free.off_cycles
+    every_rule (suc (suc (suc zero))) = shape.free.paired
+    every_rule (suc (suc (suc (suc zero)))) = shape.free.unmixed
+    every_rule (suc (suc (suc (suc (suc zero))))) = shape.free.tied
+    every_rule (suc (suc (suc (suc (suc (suc zero)))))) = shape.chained
+    every_rule (suc (suc (suc (suc (suc (suc (suc zero))))))) = narrow
+    every_rule (suc (suc (suc (suc (suc (suc (suc (suc r)))))))) = short
+
+    -- so a netlist that has a shape has no fault
+    pub shape_is_unbroken : (fault : ShapeFault) → BreaksRule n fault → ⊥
+    shape_is_unbroken fault breaks = rule_fails n fault breaks (every_rule (rule_of fault))
+
+-- there is one first place
+first_is_one : (Holds : ℕ → Type 0) (j k : ℕ) → FailsFirst Holds j → FailsFirst Holds k → j ≡ k
+first_is_one Holds j k at_j at_k =
+    elim (cases_lt j k) [
+      | inl less ↦ absurd (at_j.fails (at_k.before j less))
+      | inr most ↦
+          elim (cases_lt k j) [
+            | inl less ↦ absurd (at_k.fails (at_j.before k less))
+            | inr least ↦ omega (arith, most, least)
+          ]
+    ]
+
+-- the fault of a rule at a place
+abbrev fault_at : ℕ → ℕ → ShapeFault
+fault_at zero place = Memory
+fault_at (suc zero) place = UnusedPort (record { 0 = place })
+fault_at (suc (suc zero)) place = Cycle (record { 0 = place })
+fault_at (suc (suc (suc zero))) place = Unpaired (record { 0 = place })
+fault_at (suc (suc (suc (suc zero)))) place = Mixed (record { 0 = place })
+fault_at (suc (suc (suc (suc (suc zero))))) place = Loose (record { 0 = place })
+fault_at (suc (suc (suc (suc (suc (suc zero)))))) place = NoChain place
+fault_at (suc (suc (suc (suc (suc (suc (suc zero))))))) place = TooWide place
+fault_at (suc (suc (suc (suc (suc (suc (suc (suc r)))))))) place = TooLong
+
+-- each fault is that of its rule at some place
+has_place : (fault : ShapeFault) → (place : ℕ) × (fault_at (rule_of fault) place ≡ fault)
+has_place (UnusedPort net) = (net.0, refl)
+has_place (Cycle cell) = (cell.0, refl)
+has_place (Unpaired cell) = (cell.0, refl)
+has_place (Mixed cell) = (cell.0, refl)
+has_place (Loose cell) = (cell.0, refl)
+has_place (NoChain rule) = (rule, refl)
+has_place (TooWide number) = (number, refl)
+has_place TooLong = (0, refl)
+has_place Memory = (0, refl)
+
+module _ (n : NetlistData) (is : IsNetlist n) where
+  -- the first five rules leave the netlist free
+  free_before : ((r : ℕ) → r < 7 → RuleHolds n r) → IsFree n
+  free_before before = record {
+    ports_read = before 1 (omega arith);
+    off_cycles = before 2 (omega arith);
+    paired = before 3 (omega arith);
+    unmixed = before 4 (omega arith);
+    tied = before 5 (omega arith);
+  }
+
+  -- the first wide bank has one number
+  number_is_one : (i j : ℕ) → ((r : ℕ) → r < 7 → RuleHolds n r) → BreaksRule n (TooWide i) → BreaksRule n (TooWide j) → i ≡ j
+  number_is_one i j before (xs, chain_x, some_i, first_i) (ys, chain_y, some_j, first_j) =
+      let same : xs ≡ ys = chain_is_one n is (free_before before) (before 6 (omega arith) 2) xs ys chain_x chain_y in
+      let first = subst (λ banks. FailsFirst (λ k. (bank : ℕ) → slice_get banks k ≡ Some bank → IsNarrow n bank) (i - 1)) same first_i in
+      let places : i - 1 ≡ j - 1 = first_is_one (λ k. (bank : ℕ) → slice_get ys k ≡ Some bank → IsNarrow n bank) (i - 1) (j - 1) first first_j in
+      omega (arith, some_i, some_j, places)
+
+  -- a rule breaks first at one place, so the places give one fault
+  same_at_places : (r i j : ℕ) → ((q : ℕ) → q < r → RuleHolds n q) → BreaksRule n (fault_at r i) → BreaksRule n (fault_at r j) → fault_at r i ≡ fault_at r j
+  same_at_places zero i j before at_i at_j = refl
+  same_at_places (suc zero) i j before at_i at_j = ap (fault_at 1) (first_is_one (IsReadPort n) i j at_i at_j)
+  same_at_places (suc (suc zero)) i j before at_i at_j = ap (fault_at 2) (first_is_one (AtCell IsOffCycles n) i j at_i at_j)
+  same_at_places (suc (suc (suc zero))) i j before at_i at_j = ap (fault_at 3) (first_is_one (AtCell IsPaired n) i j at_i at_j)
+  same_at_places (suc (suc (suc (suc zero)))) i j before at_i at_j = ap (fault_at 4) (first_is_one (AtCell IsUnmixed n) i j at_i at_j)
+  same_at_places (suc (suc (suc (suc (suc zero))))) i j before at_i at_j = ap (fault_at 5) (first_is_one (AtCell IsTied n) i j at_i at_j)
+  same_at_places (suc (suc (suc (suc (suc (suc zero)))))) i j before at_i at_j = ap NoChain (first_is_one (InnerRule n) i j (record { fails = at_i.broken; before = at_i.before }) (record { fails = at_j.broken; before = at_j.before }))
+  same_at_places (suc (suc (suc (suc (suc (suc (suc zero))))))) i j before at_i at_j = ap TooWide (number_is_one i j before at_i at_j)
+  same_at_places (suc (suc (suc (suc (suc (suc (suc (suc r)))))))) i j before at_i at_j = refl
+
+  -- faults of one rule are the same
+  same_of_rule : (f g : ShapeFault) → rule_of f ≡ rule_of g → Broken n f → Broken n g → f ≡ g
+  same_of_rule f g rules broken_f broken_g =
+      let (i, at_i) = has_place f in
+      let (j, at_j) = has_place g in
+      let at_g : fault_at (rule_of f) j ≡ g = ap (λ r. fault_at r j) rules ∙ at_j in
+      let same = same_at_places (rule_of f) i j broken_f.before (subst (BreaksRule n) (sym at_i) broken_f.breaks) (subst (BreaksRule n) (sym at_g) broken_g.breaks) in
+      sym at_i ∙ same ∙ at_g
+
+  -- no fault is of an earlier rule than the first fault
+  no_earlier : (f g : ShapeFault) → Broken n f → Broken n g → rule_of f ≤ rule_of g
+  no_earlier f g broken_f broken_g =
+      elim (cases_lt (rule_of g) (rule_of f)) [
+        | inl less ↦ absurd (rule_fails n g broken_g.breaks (broken_f.before (rule_of g) less))
+        | inr most ↦ most
+      ]
+
+  -- so a netlist has at most one fault
+  pub first_broken_is_one : (f g : ShapeFault) → Broken n f → Broken n g → f ≡ g
+  first_broken_is_one f g broken_f broken_g =
+      let most = no_earlier f g broken_f broken_g in
+      let least = no_earlier g f broken_g broken_f in
+      same_of_rule f g (omega (arith, most, least)) broken_f broken_g

@@ -2,10 +2,15 @@
 ghost use Rattle.std.specs.Prelude.{◌≡◌, List, [], Bool, ◌++◌};
 ghost use Rattle.ncl_shape.specs.declared.item.Item.{Item};
 ghost use Rattle.ncl_netlist.specs.Netlist.{IsNetlist, NetlistData};
+ghost use Rattle.ncl_shape.specs.Nets.{Nets, IsBelow};
+ghost use Rattle.ncl_shape.specs.Stage.{StageData};
 ghost use Rattle.ncl_shape.specs.Pipeline.{PipelineData};
 ghost use Rattle.ncl_shape.specs.Shape.{Shape};
+ghost use Rattle.ncl_stage.specs.declared.variant.Variant.TheVariants.{Base};
+ghost use Rattle.ncl_stage.specs.Values.{val};
 ghost use Rattle.ncl_machine.specs.State.{State, reset};
 ghost use Rattle.ncl_machine.specs.Run.{IsQuiet, IsRun, IsRunFrom, after};
+ghost use Rattle.ncl_machine.specs.AtWork.{IsRising, IsFalling};
 
 /// The first items of a run are a run, the others are a run from where those end, and there they lead to
 /// the state that all items lead to.
@@ -18,4 +23,11 @@ pub fn run_prefix()
 /// At reset with no word offered nothing can move.
 pub fn still_at_reset()
     ensures { (n : NetlistData) (p : PipelineData) → IsNetlist n → Shape n p → IsQuiet p (reset p []) }
+{}
+
+/// A stage at work stays within its values: while a word comes in, and while NULL does, no net is high that
+/// isn't high in the values at the word.
+pub fn at_work_within_values()
+    ensures rising { (s : StageData) (word : List Bool) (v : Nets) → IsRising s word v → IsBelow v (val s word Base) }
+    ensures falling { (s : StageData) (word : List Bool) (v : Nets) → IsFalling s word v → IsBelow v (val s word Base) }
 {}

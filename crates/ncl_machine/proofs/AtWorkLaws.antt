@@ -1,0 +1,63 @@
+-- The laws of a stage at work: no net is high that isn't high in its values.
+use Rattle.std.proofs.Common.{◌≡◌, ℕ, Bool, true, false, not, if◌then◌else◌, List, refl, subst}
+use Rattle.std.specs.Prelude.{Contains, nat_eq}
+use Rattle.std.proofs.lemmas.Bool.{and_from, both_ways, cond_both, eqb-true}
+use Rattle.ncl_gates.specs.Gate.{set_of, some_high}
+use Rattle.ncl_shape.specs.declared.stage.StageCell.{StageCell}
+use Rattle.ncl_shape.specs.Nets.{Nets, IsBelow, among, put}
+use Rattle.ncl_shape.specs.Stage.{StageData, named_rails}
+use Rattle.ncl_shape.specs.Closure.{pin_values}
+use Rattle.ncl_shape.proofs.Members.{Member-from_Contains}
+use Rattle.ncl_stage.specs.declared.variant.Variant.TheVariants.{Base}
+use Rattle.ncl_stage.specs.Values.{holds, kept_low, val}
+use Rattle.ncl_stage.proofs.ValueLaws.{holds-grows, val-keeps, val-settled}
+use Rattle.ncl_stage.proofs.OnePass.{among-from_member}
+use Rattle.ncl_machine.specs.Steps.{differ}
+use Rattle.ncl_machine.specs.AtWork.{next_of_gate, IsExcited, IsRising, IsFalling, null, raise, settled, lower, fire}
+
+-- with one net changed the nets stay below others in which that net is as high
+pub put-below : (v w : Nets) (net : ℕ) (value : Bool) → IsBelow v w → (value ≡ true → w net ≡ true) → IsBelow (put v net value) w
+put-below v w net value below here other =
+    cond_both (nat_eq net other) value (v other) (λ b. b ≡ true → w other ≡ true)
+    (λ same high. subst (λ x. w x ≡ true) (eqb-true net other same) (here high))
+    (λ apart. below other)
+
+-- hysteresis keeps a value: where the next value is high and not the old one, the set function holds
+set-from_rise : (set high old : Bool) → differ (if set then true else (if high then old else false)) old ≡ true → (if set then true else (if high then old else false)) ≡ true → set ≡ true
+set-from_rise true high old excited up = refl
+set-from_rise false true true excited up = absurd (both_ways false refl excited)
+set-from_rise false true false excited up = up
+set-from_rise false false old excited up = up
+
+-- a gate cell that is excited and goes high has its set function holding
+pub holds-excited : (v : Nets) (c : StageCell) → IsExcited v c → next_of_gate v c ≡ true → holds v c ≡ true
+holds-excited v c = set-from_rise (set_of c.kind (pin_values v c.ins.items)) (some_high (pin_values v c.ins.items)) (v c.out.0)
+
+-- so below the values of the stage its output is high in them
+fire-within : (s : StageData) (word : List Bool) (v : Nets) (c : StageCell) → Contains s.cells c → IsExcited v c → IsBelow v (val s word Base) → IsBelow (put v c.out.0 (next_of_gate v c)) (val s word Base)
+fire-within s word v c in_s excited below =
+    put-below v (val s word Base) c.out.0 (next_of_gate v c) below
+    (λ up. val-settled s word Base c (Member-from_Contains s.cells c in_s)
+    (and_from (not (kept_low s Base c.out.0)) _ refl (holds-grows v (val s word Base) below c (holds-excited v c excited up))))
+
+-- a rail that the word names is high in the values
+named-within_values : (s : StageData) (word : List Bool) (net : ℕ) → Contains (named_rails s.inputs word) net → val s word Base net ≡ true
+named-within_values s word net named =
+    val-keeps s word Base net
+    (and_from (among (named_rails s.inputs word) net) (not (kept_low s Base net)) (among-from_member net (Member-from_Contains (named_rails s.inputs word) net named)) refl)
+
+-- the rising states are below the values
+pub rising-within : (s : StageData) (word : List Bool) (v : Nets) → IsRising s word v → IsBelow v (val s word Base)
+rising-within s word v null x high = absurd (both_ways false refl high)
+rising-within s word v (raise {v = old} net named before) x high =
+    put-below old (val s word Base) net true (rising-within s word old before) (λ up. named-within_values s word net named) x high
+rising-within s word v (fire {v = old} c in_s excited before) x high =
+    fire-within s word old c in_s excited (rising-within s word old before) x high
+
+-- and so are the falling states
+pub falling-within : (s : StageData) (word : List Bool) (v : Nets) → IsFalling s word v → IsBelow v (val s word Base)
+falling-within s word v settled x high = high
+falling-within s word v (lower {v = old} net rail before) x high =
+    put-below old (val s word Base) net false (falling-within s word old before) (λ up. absurd (both_ways false refl up)) x high
+falling-within s word v (fire {v = old} c in_s excited before) x high =
+    fire-within s word old c in_s excited (falling-within s word old before) x high

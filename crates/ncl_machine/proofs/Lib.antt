@@ -2,6 +2,7 @@ pub mod RunLaws
 pub mod TreeNets
 pub mod ResetLaws
 pub mod AtWorkLaws
+pub mod DeliveryLaws
 mod WiresOrigins
 mod ShortLists
 mod WiresChain

@@ -1,5 +1,5 @@
 //! The laws of the firing machine. Each function states some, and does nothing.
-ghost use Rattle.std.specs.Prelude.{◌≡◌, List, [], Bool, ◌++◌};
+ghost use Rattle.std.specs.Prelude.{◌≡◌, ◌≤◌, List, [], Bool, ◌++◌, length};
 ghost use Rattle.ncl_shape.specs.declared.item.Item.{Item};
 ghost use Rattle.ncl_netlist.specs.Netlist.{IsNetlist, NetlistData};
 ghost use Rattle.ncl_shape.specs.Nets.{Nets, IsBelow};
@@ -9,8 +9,9 @@ ghost use Rattle.ncl_shape.specs.Shape.{Shape};
 ghost use Rattle.ncl_stage.specs.declared.variant.Variant.TheVariants.{Base};
 ghost use Rattle.ncl_stage.specs.Values.{val};
 ghost use Rattle.ncl_machine.specs.State.{State, reset};
-ghost use Rattle.ncl_machine.specs.Run.{IsQuiet, IsRun, IsRunFrom, after};
+ghost use Rattle.ncl_machine.specs.Run.{AreWordsOf, IsQuiet, IsRun, IsRunFrom, after};
 ghost use Rattle.ncl_machine.specs.AtWork.{IsRising, IsFalling};
+ghost use Rattle.ncl_machine.specs.DelayInsensitive.{IsDelayInsensitive};
 
 /// The first items of a run are a run, the others are a run from where those end, and there they lead to
 /// the state that all items lead to.
@@ -30,4 +31,9 @@ pub fn still_at_reset()
 pub fn at_work_within_values()
     ensures rising { (s : StageData) (word : List Bool) (v : Nets) → IsRising s word v → IsBelow v (val s word Base) }
     ensures falling { (s : StageData) (word : List Bool) (v : Nets) → IsFalling s word v → IsBelow v (val s word Base) }
+{}
+
+/// A run of a delay-insensitive pipeline delivers no more pairs than words are offered.
+pub fn delivers_no_more()
+    ensures { (p : PipelineData) → IsDelayInsensitive p → (offered : List (List Bool)) (items : List Item) → AreWordsOf p offered → IsRun p offered items → length (after p (reset p offered) items).delivered ≤ length offered }
 {}

@@ -1,5 +1,5 @@
 -- A worked example: a word goes through two banks joined by wires.
-use Rattle.std.specs.Prelude.{ℕ, true, Bool, List, [], ◌∷◌}
+use Rattle.std.specs.Prelude.{ℕ, true, Bool, List, [], ◌∷◌, take}
 use Rattle.ncl_shape.specs.declared.item.Item.{Item}
 use Rattle.ncl_shape.specs.declared.item.Item.TheVariants.{Cell, Raise, Lower, Take, Ready}
 use Rattle.ncl_shape.specs.Examples.{wires_pipeline}
@@ -22,3 +22,8 @@ through_wires =
 -- where it ends
 abbrev pub at_the_end : State
 at_the_end = after wires_pipeline (reset wires_pipeline one_word) through_wires
+
+-- on the way, once the first bank has passed rail 1 on and acknowledged it: the source may lower the rail,
+-- and the second bank may pass it on
+abbrev pub where_two_may_move : State
+where_two_may_move = after wires_pipeline (reset wires_pipeline one_word) (take 3 through_wires)

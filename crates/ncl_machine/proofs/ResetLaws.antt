@@ -61,7 +61,7 @@ pins_of_tree kind th33 = refl
 pins_of_tree kind th44 = refl
 
 module _ (p : PipelineData) (is : IsNetlist p.netlist) (shape : Shape p.netlist p) where
-  -- the sink's acknowledge is an input port, and the request of the last bank
+  -- the sink's acknowledge is an input port, and the last bank's request
   ki_is_port : IsInputPort p.netlist p.ki
   ki_is_port =
       let (k, last, end, at) = last_bank p.netlist p shape in

@@ -23,7 +23,7 @@ use Rattle.ncl_shape.proofs.Drivers.{same_place}
 use Rattle.ncl_shape.proofs.CellTests.{same_net}
 use Rattle.ncl_shape.proofs.ChainLaws.{chain_is_one}
 
--- the requests of some banks
+-- by what some banks are requested
 abbrev pub requests : List Bank → List ℕ
 requests banks = map (λ (b : Bank). b.request.0) banks
 

@@ -69,8 +69,8 @@ IsUnforked n = (bank x y : ℕ) → Follows n bank x → Follows n bank y → x 
 abbrev pub HasChain : NetlistData → Type 0
 HasChain n = (banks : List ℕ) × IsChain n banks
 
--- inner rule 5: the request of each bank but the last is the acknowledge of the next bank, and the
--- request of the last bank is an input port
+-- inner rule 5: each bank but the last has the acknowledge of the next bank as its request, and the last
+-- bank's request is an input port
 pub record IsAcknowledged (n : NetlistData) (banks : List ℕ) : Type 0 where
   pub by_next : (k bank next : ℕ) → slice_get banks k ≡ Some bank → slice_get banks (k + 1) ≡ Some next → HasOnlyOrigin n bank (AckOf next)
   pub by_port : (k bank : ℕ) → k + 1 ≡ length banks → slice_get banks k ≡ Some bank → IsInputPort n bank

@@ -2,6 +2,9 @@ pub mod RunLaws
 pub mod TreeNets
 pub mod ResetLaws
 pub mod AtWorkLaws
+pub mod InOrder
+pub mod WithinVariants
+pub mod RisingLaws
 pub mod DeliveryLaws
 mod WiresOrigins
 mod ShortLists

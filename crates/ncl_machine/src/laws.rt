@@ -8,10 +8,14 @@ ghost use Rattle.ncl_shape.specs.Pipeline.{PipelineData};
 ghost use Rattle.ncl_shape.specs.Shape.{Shape};
 ghost use Rattle.ncl_stage.specs.declared.variant.Variant.TheVariants.{Base};
 ghost use Rattle.ncl_stage.specs.Values.{val};
+ghost use Rattle.ncl_stage.specs.Faults.{IsSound, IsWordOf};
 ghost use Rattle.ncl_machine.specs.State.{State, reset};
 ghost use Rattle.ncl_machine.specs.Run.{AreWordsOf, IsQuiet, IsRun, IsRunFrom, after};
 ghost use Rattle.ncl_machine.specs.AtWork.{IsRising, IsFalling};
+ghost use Rattle.ncl_machine.specs.StageLaw.{IsRisingSafely};
 ghost use Rattle.ncl_machine.specs.DelayInsensitive.{IsDelayInsensitive};
+
+use ncl_shape::Stage;
 
 /// The first items of a run are a run, the others are a run from where those end, and there they lead to
 /// the state that all items lead to.
@@ -32,6 +36,15 @@ pub fn at_work_within_values()
     ensures rising { (s : StageData) (word : List Bool) (v : Nets) → IsRising s word v → IsBelow v (val s word Base) }
     ensures falling { (s : StageData) (word : List Bool) (v : Nets) → IsFalling s word v → IsBelow v (val s word Base) }
 {}
+
+/// A sound stage rises in one way only: while a word comes in, no gate cell is disturbed and no output is
+/// illegal, and where every output has a high rail, each net has its value at the word.
+pub fn rising(stage: &Stage)
+    requires { IsSound stage.now }
+    ensures { (word : List Bool) → IsWordOf stage.now word → (v : Nets) → IsRising stage.now word v → IsRisingSafely stage.now word v }
+{
+    stage.facts();
+}
 
 /// A run of a delay-insensitive pipeline delivers no more pairs than words are offered.
 pub fn delivers_no_more()

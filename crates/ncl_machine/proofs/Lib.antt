@@ -5,6 +5,7 @@ pub mod AtWorkLaws
 pub mod InOrder
 pub mod WithinVariants
 pub mod RisingLaws
+pub mod FallingLaws
 pub mod DeliveryLaws
 mod WiresOrigins
 mod ShortLists

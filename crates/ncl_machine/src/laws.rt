@@ -12,7 +12,7 @@ ghost use Rattle.ncl_stage.specs.Faults.{IsSound, IsWordOf};
 ghost use Rattle.ncl_machine.specs.State.{State, reset};
 ghost use Rattle.ncl_machine.specs.Run.{AreWordsOf, IsQuiet, IsRun, IsRunFrom, after};
 ghost use Rattle.ncl_machine.specs.AtWork.{IsRising, IsFalling};
-ghost use Rattle.ncl_machine.specs.StageLaw.{IsRisingSafely};
+ghost use Rattle.ncl_machine.specs.StageLaw.{IsRisingSafely, IsFallingSafely};
 ghost use Rattle.ncl_machine.specs.DelayInsensitive.{IsDelayInsensitive};
 
 use ncl_shape::Stage;
@@ -42,6 +42,15 @@ pub fn at_work_within_values()
 pub fn rising(stage: &Stage)
     requires { IsSound stage.now }
     ensures { (word : List Bool) → IsWordOf stage.now word → (v : Nets) → IsRising stage.now word v → IsRisingSafely stage.now word v }
+{
+    stage.facts();
+}
+
+/// A sound stage falls in one way only: while NULL comes in, no gate cell is disturbed and no output is
+/// illegal, and where all output rails are low, every net is low.
+pub fn falling(stage: &Stage)
+    requires { IsSound stage.now }
+    ensures { (word : List Bool) → IsWordOf stage.now word → (v : Nets) → IsFalling stage.now word v → IsFallingSafely stage.now v }
 {
     stage.facts();
 }

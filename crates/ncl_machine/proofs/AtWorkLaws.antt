@@ -1,7 +1,7 @@
 -- The laws of a stage at work: no net is high that isn't high in its values.
-use Rattle.std.proofs.Common.{◌≡◌, ℕ, Bool, true, false, not, if◌then◌else◌, List, refl, subst}
+use Rattle.std.proofs.Common.{◌≡◌, ◌≢◌, ℕ, Bool, true, false, not, if◌then◌else◌, List, refl, subst}
 use Rattle.std.specs.Prelude.{Contains, nat_eq}
-use Rattle.std.proofs.lemmas.Bool.{and_from, both_ways, cond_both, eqb-true}
+use Rattle.std.proofs.lemmas.Bool.{and_from, both_ways, cond_both, cond-false, eqb-true, ne_eqb}
 use Rattle.ncl_gates.specs.Gate.{set_of, some_high}
 use Rattle.ncl_shape.specs.declared.stage.StageCell.{StageCell}
 use Rattle.ncl_shape.specs.Nets.{Nets, IsBelow, among, put}
@@ -21,6 +21,18 @@ put-below v w net value below here other =
     cond_both (nat_eq net other) value (v other) (λ b. b ≡ true → w other ≡ true)
     (λ same high. subst (λ x. w x ≡ true) (eqb-true net other same) (here high))
     (λ apart. below other)
+
+-- a net that isn't changed keeps its value
+pub put-elsewhere : (v : Nets) (net other : ℕ) (value : Bool) → net ≢ other → put v net value other ≡ v other
+put-elsewhere v net other value apart = cond-false (nat_eq net other) value (v other) (ne_eqb net other apart)
+
+-- where one net goes high, all that was high is
+pub put-raised : (v : Nets) (net : ℕ) → IsBelow v (put v net true)
+put-raised v net other high = cond_both (nat_eq net other) true (v other) (λ b. b ≡ true) (λ same. refl) (λ apart. high)
+
+-- where one goes low, all that is high was
+pub put-lowered : (v : Nets) (net : ℕ) → IsBelow (put v net false) v
+put-lowered v net = put-below v v net false (λ other high. high) (λ up. absurd (both_ways false refl up))
 
 -- hysteresis keeps a value: where the next value is high and not the old one, the set function holds
 set-from_rise : (set high old : Bool) → differ (if set then true else (if high then old else false)) old ≡ true → (if set then true else (if high then old else false)) ≡ true → set ≡ true

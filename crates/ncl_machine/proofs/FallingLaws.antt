@@ -1,8 +1,8 @@
 -- The theorem of one stage, falling.
 use Rattle.std.proofs.Common.{◌≡◌, ◌≢◌, ℕ, Bool, true, false, not, if◌then◌else◌, List, [], ◌∷◌, inl, inr, refl, sym, ap, ◌∙◌, subst}
-use Rattle.std.specs.Prelude.{Contains, nat_eq}
+use Rattle.std.specs.Prelude.{Contains}
 use Rattle.std.specs.List.{list_all}
-use Rattle.std.proofs.lemmas.Bool.{and_parts, and_from, both_ways, cases_eq, cond_both, not-true, not_from_false, or_cases, or_left, or_right, or_parts, or_from, false_from_ne_true, true_from_ne_false}
+use Rattle.std.proofs.lemmas.Bool.{and_parts, and_from, both_ways, cases_eq, not-true, not_from_false, or_cases, or_left, or_right, or_parts, or_from, false_from_ne_true, true_from_ne_false}
 use Rattle.ncl_gates.specs.Gate.{set_of, some_high}
 use Rattle.ncl_gates.proofs.GateLaws.{set_of-low}
 use Rattle.ncl_netlist.specs.declared.ids.NetId.{NetId}
@@ -21,13 +21,9 @@ use Rattle.ncl_stage.proofs.ValueLaws.{holds-grows, rail-no_output, same_output,
 use Rattle.ncl_machine.specs.Steps.{differ, is_null}
 use Rattle.ncl_machine.specs.AtWork.{next_of_gate, IsExcited, IsFalling, settled, lower, fire}
 use Rattle.ncl_machine.specs.StageLaw.{IsUndisturbed, IsFallingSafely}
-use Rattle.ncl_machine.proofs.AtWorkLaws.{falling-within}
+use Rattle.ncl_machine.proofs.AtWorkLaws.{falling-within, put-elsewhere, put-lowered}
 use Rattle.ncl_machine.proofs.InOrder.{in_order}
-use Rattle.ncl_machine.proofs.WithinVariants.{missed, legal-below, named-from_high}
-use Rattle.ncl_machine.proofs.RisingLaws.{put-elsewhere}
-
-put-below_old : (v : Nets) (net : ℕ) → IsBelow (put v net false) v
-put-below_old v net x = cond_both (nat_eq net x) false (v x) (λ b. b ≡ true → v x ≡ true) (λ same high. absurd (both_ways false refl high)) (λ apart high. high)
+use Rattle.ncl_machine.proofs.SoundLaws.{need, legal-below, named-from_high}
 
 -- no net that the cell reads is high
 abbrev IsUnfed : Nets → StageCell → Type 0
@@ -88,7 +84,7 @@ drained-excited s word v below drained c m =
 -- one net less, which is no output of a cell but of some that read nothing that is high
 drained-less : (s : StageData) (word : List Bool) (v : Nets) (net : ℕ) → IsDrained s word v → ((c : StageCell) → Member c s.cells → net ≡ out_of c → IsUnfed v c) → IsDrained s word (put v net false)
 drained-less s word v net drained own c m high low =
-    unfed-below v (put v net false) (put-below_old v net) c
+    unfed-below v (put v net false) (put-lowered v net) c
     (elim (cases_eq net (out_of c)) [
       | inl same ↦ own c m same
       | inr apart ↦ drained c m high (sym (put-elsewhere v net (out_of c) false apart) ∙ low)
@@ -150,10 +146,10 @@ data_from_null v base w (r ∷ rs) each more null =
 falling-empty : (s : StageData) → IsStage s → IsSound s → (word : List Bool) → IsWordOf s word → (v : Nets) → IsBelow v (val s word Base) → IsDrained s word v → is_null s.outputs v ≡ true → (net : ℕ) → v net ≡ false
 falling-empty s is sound word right v below drained null net =
     false_from_ne_true (v net) (λ high.
-    let (variant, misses) = missed s is sound word right net (below net high) in
+    let (variant, needs) = need s is sound word right net (below net high) in
     let fallen = fallen-within_variant s is word variant v drained
-    (λ x up low. misses.others x up (λ e. both_ways (v x) low (ap v e ∙ high))) in
-    both_ways (all_data s (val s word variant)) misses.refused
+    (λ x up low. needs.others x up (λ e. both_ways (v x) low (ap v e ∙ high))) in
+    both_ways (all_data s (val s word variant)) needs.not_all
     (data_from_null v (val s word Base) (val s word variant) s.outputs (data_in_values s sound word right) fallen null))
 
 -- ---- undisturbed
@@ -161,7 +157,7 @@ falling-empty s is sound word right v below drained null net =
 -- a cell that is high and reads nothing that is stays excited where one other net falls
 excited-below : (v : Nets) (c : StageCell) (net : ℕ) → net ≢ out_of c → (v (out_of c) ≡ true) × IsUnfed v c → IsExcited (put v net false) c
 excited-below v c net apart (high, unfed) =
-    let low : IsUnfed (put v net false) c = unfed-below v (put v net false) (put-below_old v net) c unfed in
+    let low : IsUnfed (put v net false) c = unfed-below v (put v net false) (put-lowered v net) c unfed in
     excited-from_unfed (set_of c.kind (pin_values (put v net false) c.ins.items)) (some_high (pin_values (put v net false) c.ins.items)) (put v net false c.out.0)
     (put-elsewhere v net (out_of c) false apart ∙ high) (set_of-low c.kind (pin_values (put v net false) c.ins.items) low) low
 

@@ -3,7 +3,7 @@ pub mod TreeNets
 pub mod ResetLaws
 pub mod AtWorkLaws
 pub mod InOrder
-pub mod WithinVariants
+pub mod SoundLaws
 pub mod RisingLaws
 pub mod FallingLaws
 pub mod DeliveryLaws

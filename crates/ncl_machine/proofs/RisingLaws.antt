@@ -1,7 +1,7 @@
 -- The theorem of one stage, rising.
 use Rattle.std.proofs.Common.{◌≡◌, ◌≢◌, ℕ, Bool, true, false, if◌then◌else◌, List, inl, inr, refl, sym, ap, ◌∙◌, subst}
-use Rattle.std.specs.Prelude.{Contains, nat_eq}
-use Rattle.std.proofs.lemmas.Bool.{and_from, both_ways, cases_Bool, cases_eq, cond_both, cond-true, cond-false, eq-eqb, ne_eqb, not_from_false}
+use Rattle.std.specs.Prelude.{Contains}
+use Rattle.std.proofs.lemmas.Bool.{and_from, both_ways, cases_Bool, cases_eq, not_from_false}
 use Rattle.ncl_gates.specs.Gate.{set_of, some_high}
 use Rattle.ncl_netlist.specs.declared.ids.NetId.{NetId}
 use Rattle.ncl_shape.specs.declared.stage.StageCell.{StageCell}
@@ -21,20 +21,9 @@ use Rattle.ncl_stage.proofs.OnePass.{among-from_member}
 use Rattle.ncl_machine.specs.Steps.{differ}
 use Rattle.ncl_machine.specs.AtWork.{next_of_gate, IsExcited, IsRising, null, raise, fire}
 use Rattle.ncl_machine.specs.StageLaw.{IsUndisturbed, IsRisingSafely}
-use Rattle.ncl_machine.proofs.AtWorkLaws.{rising-within}
+use Rattle.ncl_machine.proofs.AtWorkLaws.{put-elsewhere, put-raised, rising-within}
 use Rattle.ncl_machine.proofs.InOrder.{in_order}
-use Rattle.ncl_machine.proofs.WithinVariants.{missed, all_data-grows, legal-below, named-from_high}
-
--- ---- one net changed
-
-pub put-here : (v : Nets) (net : ℕ) (value : Bool) → put v net value net ≡ value
-put-here v net value = cond-true (nat_eq net net) value (v net) (eq-eqb net net refl)
-
-pub put-elsewhere : (v : Nets) (net other : ℕ) (value : Bool) → net ≢ other → put v net value other ≡ v other
-put-elsewhere v net other value apart = cond-false (nat_eq net other) value (v other) (ne_eqb net other apart)
-
-put-above : (v : Nets) (net : ℕ) → IsBelow v (put v net true)
-put-above v net x high = cond_both (nat_eq net x) true (v x) (λ b. b ≡ true) (λ same. refl) (λ other. high)
+use Rattle.ncl_machine.proofs.SoundLaws.{need, all_data-grows, legal-below, named-from_high}
 
 -- ---- a cell whose set function holds where it is high
 
@@ -75,7 +64,7 @@ named-no_output s is word net named c m e =
 rising-supported : (s : StageData) → IsStage s → (word : List Bool) (v : Nets) → IsRising s word v → IsSupported s v
 rising-supported s is word v null c m high = absurd (both_ways false refl high)
 rising-supported s is word v (raise {v = old} net named before) c m high =
-    holds-grows old (put old net true) (put-above old net) c
+    holds-grows old (put old net true) (put-raised old net) c
     (rising-supported s is word old before c m (sym (put-elsewhere old net (out_of c) true (named-no_output s is word net named c m)) ∙ high))
 rising-supported s is word v (fire {v = old} other in_s excited before) c m high =
     let supported : IsSupported s old = rising-supported s is word old before in
@@ -83,7 +72,7 @@ rising-supported s is word v (fire {v = old} other in_s excited before) c m high
     let set : holds old other ≡ true = (waits-from_excited old other (supported other n) excited).1 in
     let up : next_of_gate old other ≡ true = next-from_set old other set in
     subst (λ b. holds (put old other.out.0 b) c ≡ true) (sym up)
-    (holds-grows old (put old other.out.0 true) (put-above old other.out.0) c
+    (holds-grows old (put old other.out.0 true) (put-raised old other.out.0) c
     (elim (cases_eq other.out.0 (out_of c)) [
       | inl same ↦ subst (λ k. holds old k ≡ true) (same_output s is other c n m same) set
       | inr apart ↦ supported c m (sym (put-elsewhere old other.out.0 (out_of c) (next_of_gate old other) apart) ∙ high)
@@ -106,16 +95,16 @@ rising-all s is sound word right v below supported all net high =
     elim (cases_Bool (v net)) [
       | inl up ↦ up
       | inr low ↦
-          let (variant, misses) = missed s is sound word right net high in
+          let (variant, needs) = need s is sound word right net high in
           let within = rising-within_variant s is word variant v below supported
-          (λ x up. misses.others x (below x up) (λ e. both_ways (v x) (ap v e ∙ low) up)) in
-          absurd (both_ways (all_data s (val s word variant)) misses.refused (all_data-grows v (val s word variant) within s.outputs all))
+          (λ x up. needs.others x (below x up) (λ e. both_ways (v x) (ap v e ∙ low) up)) in
+          absurd (both_ways (all_data s (val s word variant)) needs.not_all (all_data-grows v (val s word variant) within s.outputs all))
     ]
 
 -- a cell that waits stays excited where one other net rises
 excited-above : (v : Nets) (c : StageCell) (net : ℕ) → net ≢ out_of c → (v (out_of c) ≡ false) × (holds v c ≡ true) → IsExcited (put v net true) c
 excited-above v c net apart (low, set) =
-    excited-from_waiting (put v net true) c (put-elsewhere v net (out_of c) true apart ∙ low) (holds-grows v (put v net true) (put-above v net) c set)
+    excited-from_waiting (put v net true) c (put-elsewhere v net (out_of c) true apart ∙ low) (holds-grows v (put v net true) (put-raised v net) c set)
 
 rising-undisturbed : (s : StageData) → IsStage s → (word : List Bool) (v : Nets) → IsSupported s v → IsUndisturbed s (named_rails s.inputs word) true v
 rising-undisturbed s is word v supported = record {

@@ -1,5 +1,5 @@
--- What a sound stage says of nets: some nets that aren't high with one net kept low can't give all outputs
--- a high rail; and outputs of nets below the values are legal.
+-- What soundness says: the outputs need each net that is high in the values, and where no more is high than
+-- in them no output is illegal.
 use Rattle.std.proofs.Common.{◌≡◌, ℕ, Bool, true, false, not, ◌&&◌, List, [], ◌∷◌, map, inl, inr, refl, sym, ap, ◌∙◌, subst}
 use Rattle.std.specs.Prelude.{nat_eq}
 use Rattle.std.specs.List.{list_all}
@@ -34,15 +34,15 @@ pub named-from_high : (s : StageData) → IsStage s → (word : List Bool) (net 
 named-from_high s is word net rail high =
     (and_parts (among (named_rails s.inputs word) net) (not (kept_low s Base net)) (sym (val-rail s is word Base net rail) ∙ high)).0
 
--- a variant of a bit or of a cell keeps a net low that is high in the values, no other net that is high in
--- them, and with it not every output has a high rail
-pub record IsMissedBy (s : StageData) (word : List Bool) (net : ℕ) (variant : Variant) : Type 0 where
+-- a variant shows that the outputs need a net: of what is high in the values it keeps at most this net low,
+-- and under it not every output has a high rail
+pub record ShowsNeed (s : StageData) (word : List Bool) (net : ℕ) (variant : Variant) : Type 0 where
   pub others : (x : ℕ) → val s word Base x ≡ true → (x ≡ net → ⊥) → kept_low s variant x ≡ false
-  pub refused : all_data s (val s word variant) ≡ false
+  pub not_all : all_data s (val s word variant) ≡ false
 
--- of a rail
-missed_rail : (s : StageData) → IsStage s → IsSound s → (word : List Bool) → IsWordOf s word → (net : ℕ) → among (named_rails s.inputs word) net ≡ true → (variant : Variant) × IsMissedBy s word net variant
-missed_rail s is sound word right net named =
+-- where the stage is sound, some variant shows it of each rail that the word names
+need-rail : (s : StageData) → IsStage s → IsSound s → (word : List Bool) → IsWordOf s word → (net : ℕ) → among (named_rails s.inputs word) net ≡ true → (variant : Variant) × ShowsNeed s word net variant
+need-rail s is sound word right net named =
     let (r, m, at) = bit_of_named s.inputs word net named in
     let (bit, found) = slice_get-from_Contains s.inputs r (Contains-from_Member r m) in
     let (zero_in, one_in) = rails_within r m in
@@ -62,32 +62,32 @@ missed_rail s is sound word right net named =
               | inl z ↦ not_both (subst (λ y. among (named_rails s.inputs word) y ≡ true) z named) (named-from_high s is word r.one.0 one_in (subst (λ y. val s word Base y ≡ true) e high))
               | inr o ↦ other (e ∙ sym o)
             ]));
-        refused = ap (holds_at (λ (r : Rails). all_data s (val s word (Bit bit)))) (sym found) ∙ sound (Incomplete bit) word right;
+        not_all = ap (holds_at (λ (r : Rails). all_data s (val s word (Bit bit)))) (sym found) ∙ sound (Incomplete bit) word right;
       },
     )
 
--- of the output of a cell
-missed_cell : (s : StageData) → IsSound s → (word : List Bool) → IsWordOf s word → (c : StageCell) → Member c s.cells → val s word Base (out_of c) ≡ true → (variant : Variant) × IsMissedBy s word (out_of c) variant
-missed_cell s sound word right c m high =
+-- of the output of each cell that is high
+need-output : (s : StageData) → IsSound s → (word : List Bool) → IsWordOf s word → (c : StageCell) → Member c s.cells → val s word Base (out_of c) ≡ true → (variant : Variant) × ShowsNeed s word (out_of c) variant
+need-output s sound word right c m high =
     let (cell, found) = slice_get-from_Contains s.cells c (Contains-from_Member c m) in (
       Cell cell,
       record {
         others = λ x up other. ap (λ o. output_net o x) found ∙ ne_eqb x c.out.0 other;
-        refused = false_from_ne_true _ (λ all.
+        not_all = false_from_ne_true _ (λ all.
             both_ways (val s word Base c.out.0 && all_data s (val s word (Cell cell)))
             (ap (holds_at (λ (k : StageCell). val s word Base k.out.0 && all_data s (val s word (Cell cell)))) (sym found) ∙ sound (Orphan cell) word right)
             (and_from _ _ high all));
       },
     )
 
--- of each net that is high in the values of a sound stage
-pub missed : (s : StageData) → IsStage s → IsSound s → (word : List Bool) → IsWordOf s word → (net : ℕ) → val s word Base net ≡ true → (variant : Variant) × IsMissedBy s word net variant
-missed s is sound word right net high =
+-- and so of each net that is high
+pub need : (s : StageData) → IsStage s → IsSound s → (word : List Bool) → IsWordOf s word → (net : ℕ) → val s word Base net ≡ true → (variant : Variant) × ShowsNeed s word net variant
+need s is sound word right net high =
     elim (val-support s word Base net high) [
-      | inl first ↦ missed_rail s is sound word right net (and_parts (among (named_rails s.inputs word) net) (not (kept_low s Base net)) first).0
+      | inl first ↦ need-rail s is sound word right net (and_parts (among (named_rails s.inputs word) net) (not (kept_low s Base net)) first).0
       | inr (c, m, at, up) ↦
-          subst (λ x. (variant : Variant) × IsMissedBy s word x variant) at
-          (missed_cell s sound word right c m (subst (λ x. val s word Base x ≡ true) (sym at) high))
+          subst (λ x. (variant : Variant) × ShowsNeed s word x variant) at
+          (need-output s sound word right c m (subst (λ x. val s word Base x ≡ true) (sym at) high))
     ]
 
 -- below the values of a sound stage no output is illegal

@@ -26,7 +26,7 @@ use Rattle.ncl_machine.proofs.InOrder.{in_order}
 use Rattle.ncl_machine.proofs.SoundLaws.{need, legal-below, named-from_high}
 
 -- no net that the cell reads is high
-abbrev IsUnfed : Nets → StageCell → Type 0
+abbrev pub IsUnfed : Nets → StageCell → Type 0
 IsUnfed v c = some_high (pin_values v c.ins.items) ≡ false
 
 unfed-below : (v w : Nets) → IsBelow w v → (c : StageCell) → IsUnfed v c → IsUnfed w c
@@ -68,11 +68,11 @@ next-from_unfed v c low =
 -- ---- falling states
 
 -- each cell of the values that is low reads nothing that is high
-abbrev IsDrained : StageData → List Bool → Nets → Type 0
+abbrev pub IsDrained : StageData → List Bool → Nets → Type 0
 IsDrained s word v = (c : StageCell) → Member c s.cells → val s word Base (out_of c) ≡ true → v (out_of c) ≡ false → IsUnfed v c
 
 -- so a cell that is excited is high, and reads nothing that is high
-drained-excited : (s : StageData) (word : List Bool) (v : Nets) → IsBelow v (val s word Base) → IsDrained s word v → (c : StageCell) → Member c s.cells → IsExcited v c → (v (out_of c) ≡ true) × IsUnfed v c
+pub drained-excited : (s : StageData) (word : List Bool) (v : Nets) → IsBelow v (val s word Base) → IsDrained s word v → (c : StageCell) → Member c s.cells → IsExcited v c → (v (out_of c) ≡ true) × IsUnfed v c
 drained-excited s word v below drained c m =
     unfed-from_excited (set_of c.kind (pin_values v c.ins.items)) (some_high (pin_values v c.ins.items)) (v c.out.0)
     (λ low.
@@ -93,7 +93,7 @@ drained-less s word v net drained own c m high low =
 rail-apart : (s : StageData) → IsStage s → (net : ℕ) → Contains (rail_nets s.inputs) net → (c : StageCell) → Member c s.cells → net ≢ out_of c
 rail-apart s is net rail c m e = rail-no_output s is net (Member-from_Contains (rail_nets s.inputs) net rail) c m (sym e)
 
-falling-drained : (s : StageData) → IsStage s → (word : List Bool) (v : Nets) → IsFalling s word v → IsDrained s word v
+pub falling-drained : (s : StageData) → IsStage s → (word : List Bool) (v : Nets) → IsFalling s word v → IsDrained s word v
 falling-drained s is word v settled = λ c m high low. absurd (both_ways (val s word Base (out_of c)) low high)
 falling-drained s is word v (lower {v = old} net rail before) =
     drained-less s word old net (falling-drained s is word old before) (λ c m same. absurd (rail-apart s is net rail c m same))
@@ -143,7 +143,7 @@ data_from_null v base w (r ∷ rs) each more null =
     ])
     (data_from_null v base w rs (λ other m. each other (there m)) more rest)
 
-falling-empty : (s : StageData) → IsStage s → IsSound s → (word : List Bool) → IsWordOf s word → (v : Nets) → IsBelow v (val s word Base) → IsDrained s word v → is_null s.outputs v ≡ true → (net : ℕ) → v net ≡ false
+pub falling-empty : (s : StageData) → IsStage s → IsSound s → (word : List Bool) → IsWordOf s word → (v : Nets) → IsBelow v (val s word Base) → IsDrained s word v → is_null s.outputs v ≡ true → (net : ℕ) → v net ≡ false
 falling-empty s is sound word right v below drained null net =
     false_from_ne_true (v net) (λ high.
     let (variant, needs) = need s is sound word right net (below net high) in
@@ -161,7 +161,7 @@ excited-below v c net apart (high, unfed) =
     excited-from_unfed (set_of c.kind (pin_values (put v net false) c.ins.items)) (some_high (pin_values (put v net false) c.ins.items)) (put v net false c.out.0)
     (put-elsewhere v net (out_of c) false apart ∙ high) (set_of-low c.kind (pin_values (put v net false) c.ins.items) low) low
 
-falling-undisturbed : (s : StageData) → IsStage s → (word : List Bool) (v : Nets) → IsBelow v (val s word Base) → IsDrained s word v → IsUndisturbed s (rail_nets s.inputs) false v
+pub falling-undisturbed : (s : StageData) → IsStage s → (word : List Bool) (v : Nets) → IsBelow v (val s word Base) → IsDrained s word v → IsUndisturbed s (rail_nets s.inputs) false v
 falling-undisturbed s is word v below drained = record {
   by_rails = λ c net in_s rail excited.
       let m : Member c s.cells = Member-from_Contains s.cells c in_s in

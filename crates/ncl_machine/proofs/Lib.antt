@@ -7,6 +7,7 @@ pub mod SoundLaws
 pub mod RisingLaws
 pub mod FallingLaws
 pub mod DeliveryLaws
+mod SoundAnd
 mod WiresOrigins
 mod ShortLists
 mod WiresChain

@@ -41,10 +41,10 @@ excited-from_set true high true low up = absurd (both_ways true low refl)
 excited-from_set true high false low up = refl
 excited-from_set false high old low up = absurd (both_ways false refl up)
 
-waits-from_excited : (v : Nets) (c : StageCell) → (v (out_of c) ≡ true → holds v c ≡ true) → IsExcited v c → (v (out_of c) ≡ false) × (holds v c ≡ true)
+pub waits-from_excited : (v : Nets) (c : StageCell) → (v (out_of c) ≡ true → holds v c ≡ true) → IsExcited v c → (v (out_of c) ≡ false) × (holds v c ≡ true)
 waits-from_excited v c = set-from_excited (set_of c.kind (pin_values v c.ins.items)) (some_high (pin_values v c.ins.items)) (v c.out.0)
 
-excited-from_waiting : (v : Nets) (c : StageCell) → v (out_of c) ≡ false → holds v c ≡ true → IsExcited v c
+pub excited-from_waiting : (v : Nets) (c : StageCell) → v (out_of c) ≡ false → holds v c ≡ true → IsExcited v c
 excited-from_waiting v c = excited-from_set (set_of c.kind (pin_values v c.ins.items)) (some_high (pin_values v c.ins.items)) (v c.out.0)
 
 next-from_set : (v : Nets) (c : StageCell) → holds v c ≡ true → next_of_gate v c ≡ true
@@ -53,7 +53,7 @@ next-from_set v c = ap (λ b. if b then true else (if some_high (pin_values v c.
 -- ---- rising states
 
 -- in these nets each cell that is high has its set function holding
-abbrev IsSupported : StageData → Nets → Type 0
+abbrev pub IsSupported : StageData → Nets → Type 0
 IsSupported s v = (c : StageCell) → Member c s.cells → v (out_of c) ≡ true → holds v c ≡ true
 
 -- a rail that the word names is no output of a cell
@@ -61,7 +61,7 @@ named-no_output : (s : StageData) → IsStage s → (word : List Bool) (net : �
 named-no_output s is word net named c m e =
     rail-no_output s is net (named-within s.inputs word net (among-from_member net (Member-from_Contains (named_rails s.inputs word) net named))) c m (sym e)
 
-rising-supported : (s : StageData) → IsStage s → (word : List Bool) (v : Nets) → IsRising s word v → IsSupported s v
+pub rising-supported : (s : StageData) → IsStage s → (word : List Bool) (v : Nets) → IsRising s word v → IsSupported s v
 rising-supported s is word v null c m high = absurd (both_ways false refl high)
 rising-supported s is word v (raise {v = old} net named before) c m high =
     holds-grows old (put old net true) (put-raised old net) c
@@ -90,7 +90,7 @@ rising-within_variant s is word variant v below supported free net high =
     net (val-within s word Base net (below net high)) high
 
 -- where every output has a high rail, all of the values are there
-rising-all : (s : StageData) → IsStage s → IsSound s → (word : List Bool) → IsWordOf s word → (v : Nets) → IsBelow v (val s word Base) → IsSupported s v → all_data s v ≡ true → IsBelow (val s word Base) v
+pub rising-all : (s : StageData) → IsStage s → IsSound s → (word : List Bool) → IsWordOf s word → (v : Nets) → IsBelow v (val s word Base) → IsSupported s v → all_data s v ≡ true → IsBelow (val s word Base) v
 rising-all s is sound word right v below supported all net high =
     elim (cases_Bool (v net)) [
       | inl up ↦ up
@@ -106,7 +106,7 @@ excited-above : (v : Nets) (c : StageCell) (net : ℕ) → net ≢ out_of c → 
 excited-above v c net apart (low, set) =
     excited-from_waiting (put v net true) c (put-elsewhere v net (out_of c) true apart ∙ low) (holds-grows v (put v net true) (put-raised v net) c set)
 
-rising-undisturbed : (s : StageData) → IsStage s → (word : List Bool) (v : Nets) → IsSupported s v → IsUndisturbed s (named_rails s.inputs word) true v
+pub rising-undisturbed : (s : StageData) → IsStage s → (word : List Bool) (v : Nets) → IsSupported s v → IsUndisturbed s (named_rails s.inputs word) true v
 rising-undisturbed s is word v supported = record {
   by_rails = λ c net in_s named excited.
       let m : Member c s.cells = Member-from_Contains s.cells c in_s in

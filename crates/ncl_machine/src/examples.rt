@@ -1,11 +1,13 @@
 //! Worked examples: two banks joined by wires have a shape, a word goes through them, and on its way two
-//! items may happen in either order.
+//! items may happen in either order. The AND of two bits is a sound stage.
 ghost use Rattle.std.specs.Prelude.{◌≡◌, ◌≢◌, true, false, [], ◌∷◌};
 ghost use Rattle.ncl_shape.specs.declared.item.Item.TheVariants.{Lower};
 ghost use Rattle.ncl_netlist.specs.Netlist.{IsNetlist};
 ghost use Rattle.ncl_shape.specs.Examples.{wires, wires_pipeline};
 ghost use Rattle.ncl_shape.specs.Shape.{Shape};
 ghost use Rattle.ncl_shape.specs.Closure.{function_of};
+ghost use Rattle.ncl_stage.specs.Examples.{and_stage};
+ghost use Rattle.ncl_stage.specs.Faults.{IsSound};
 ghost use Rattle.ncl_machine.specs.Run.{IsRun, IsQuiet, IsPersistent};
 ghost use Rattle.ncl_machine.specs.Steps.{enabled};
 ghost use Rattle.ncl_machine.specs.Examples.{fire, one_word, through_wires, where_two_may_move, at_the_end};
@@ -33,4 +35,10 @@ pub fn two_that_may_move()
 pub fn wires_have_a_shape()
     ensures netlist { IsNetlist wires }
     ensures shape { Shape wires wires_pipeline }
+{}
+
+/// The AND of two bits, with a TH22 for rail 1 and a THand0 for rail 0, is a sound stage, as the laws of
+/// rising and falling ask.
+pub fn and_of_two_is_sound()
+    ensures { IsSound and_stage }
 {}

@@ -1,5 +1,5 @@
 -- What status 0 says.
-use Rattle.std.proofs.Common.{◌≡◌, ℕ, ◌∷◌, [], List, Some, None, refl, sym, ◌∙◌, subst, arith}
+use Rattle.std.proofs.Common.{◌≡◌, ℕ, ◌∷◌, [], List, Some, refl, sym, ◌∙◌, subst, arith}
 use Rattle.ncl_base.specs.Files.{Files, bytes_of}
 use Rattle.ncl_stage.specs.Faults.{IsSound}
 use Rattle.ncl_verdict.specs.declared.verdict.Verdict.{Verdict}
@@ -9,8 +9,8 @@ use Rattle.ncl_verdict.proofs.Sound.{judgement-sound}
 use Rattle.nclc.specs.FirstForm.{Form}
 use Rattle.nclc.specs.FormNetlist.{stage_of}
 use Rattle.nclc.specs.VerdictText.{status_of}
-use Rattle.nclc.specs.Command.{Words, Command, check, command_of}
-use Rattle.nclc.specs.Answer.{verdict_on, IsCheckReply, too_long, not_built, judged, Answer, not_understood, replied, SourceState, SinkState, AreHeld, Says, answered, read_failed, no_memory, Tells, whole, cut_short, Ran, IsSoundText, AcceptsSound}
+use Rattle.nclc.specs.Command.{Words, check, command_of}
+use Rattle.nclc.specs.Answer.{verdict_on, IsCheckReply, too_long, not_built, judged, Answer, not_understood, replied, SourceState, SinkState, Says, answered, read_failed, no_memory, Tells, whole, cut_short, Ran, IsSoundText, AcceptsSound}
 use Rattle.nclc.proofs.Ends.{held_is}
 
 -- only the verdict that nothing is wrong has status 0

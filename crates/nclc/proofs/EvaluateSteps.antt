@@ -1,7 +1,7 @@
 -- Tables of the values of nets: what a write leaves, and the steps of an evaluation.
 use Rattle.std.proofs.Common.{◌≡◌, ◌≢◌, ℕ, zero, suc, ◌+◌, ◌<◌, Bool, true, false, not, ◌||◌, ◌&&◌, List, [], ◌∷◌, ◌++◌, length, map, take, drop, get_or, set, replicate, ◌⊎◌, inl, inr, refl, sym, ap, ◌∙◌, subst, arith, append_assoc}
 use Rattle.std.specs.Prelude.{All, Contains, nat_eq}
-use Rattle.std.proofs.lemmas.Bool.{cases_Bool, cases_eq, both_ways, eq-eqb, ne_eqb, false_from_ne_true, eqb-true}
+use Rattle.std.proofs.lemmas.Bool.{cases_eq, both_ways, eq-eqb, ne_eqb, false_from_ne_true, eqb-true}
 use Rattle.std.proofs.lemmas.List.{get_or-set_same, get_or-set_other, length-set, take_more, drop_more, take-append-drop, map-append, append-nil}
 use Rattle.std.proofs.lemmas.List.Folds.{list_any-append}
 use Rattle.std.proofs.lemmas.List.Elements.{All-append, All-contains, All-cons, All-nil, All-head, All-tail}
@@ -16,7 +16,7 @@ use Rattle.ncl_shape.proofs.Members.{Member, here, there, All-from_members, Cont
 use Rattle.ncl_stage.specs.declared.variant.Variant.{Variant}
 use Rattle.ncl_stage.specs.Values.{kept_low, rises, val}
 use Rattle.ncl_stage.proofs.Apart.{Member-append_left, Member-append_right, Member-map, named-within}
-use Rattle.ncl_stage.proofs.ValueLaws.{val-output, val-rail, val-within}
+use Rattle.ncl_stage.proofs.ValueLaws.{val-output, val-rail}
 use Rattle.ncl_stage.proofs.OnePass.{among-from_member}
 use Rattle.nclc.specs.Evaluation.{value_in, nets_of_stage, HasNetsBelow, AgreeAt}
 
@@ -219,17 +219,6 @@ cell_more s is word variant table i d lt bound agree high rise =
         ap (nets_of s.inputs) (take_more s.cells i d lt)
         ∙ ap (λ nets. rail_nets s.inputs ++ nets) (map-append out_of (take i s.cells) (get_or s.cells i d ∷ []))
         ∙ sym (append_assoc (rail_nets s.inputs) (map out_of (take i s.cells)) (out_of (get_or s.cells i d) ∷ []))
-
--- where all nets of a stage have their values, and others are low, all nets have their values
-pub all_agree : (s : StageData) (word : List Bool) (variant : Variant) (table : List Bool) → AgreeAt (nets_of_stage s) (value_in table) (val s word variant) → (net : ℕ) → (among (nets_of_stage s) net ≡ false → value_in table net ≡ false) → value_in table net ≡ val s word variant net
-all_agree s word variant table agree net others =
-    elim (cases_Bool (among (nets_of_stage s) net)) [
-      | inl inside ↦
-          let (x, m, at) = member_from_list_any (nat_eq net) (nets_of_stage s) inside in
-          subst (λ y. value_in table y ≡ val s word variant y) (sym (eqb-true net x at)) (at_member (λ y. value_in table y ≡ val s word variant y) x agree m)
-      | inr outside ↦
-          others outside ∙ sym (false_from_ne_true _ (λ high. both_ways (among (nets_of_stage s) net) outside (among-from_member net (val-within s word variant net high))))
-    ]
 
 -- a table of low values alone
 pub value_in-replicate : (n net : ℕ) → value_in (replicate n false) net ≡ false

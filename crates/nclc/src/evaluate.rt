@@ -1,5 +1,5 @@
 //! Evaluating a stage at a word.
-ghost use Rattle.std.specs.Prelude.{◌≡◌, ◌≢◌, ◌<◌, ◌||◌, ◌&&◌, not, ℕ, false, length, All, IfOk};
+ghost use Rattle.std.specs.Prelude.{◌≡◌, ◌≢◌, ◌<◌, ◌||◌, ◌&&◌, not, ℕ, false, length, All};
 ghost use Rattle.ncl_gates.specs.Gate.{arity_of};
 ghost use Rattle.ncl_netlist.specs.declared.ids.NetId.{NetId};
 ghost use Rattle.ncl_shape.specs.Nets.{among};
@@ -8,32 +8,10 @@ ghost use Rattle.ncl_stage.specs.Values.{holds, kept_low, val};
 ghost use Rattle.nclc.specs.Evaluation.{AgreeAt, HasNetsBelow, nets_of_stage, value_in};
 
 use arrayvec::ArrayVec;
-use ncl_base::{Memory, Word};
+use ncl_base::Word;
 use ncl_netlist::NetId;
 use ncl_shape::{Rails, Stage, StageCell};
 use ncl_stage::Variant;
-use std::alloc::Global;
-
-/// The values of the nets of a stage at a word, under a variant, as a table by the number of the net.
-/// Nets that are no net of the stage are low.
-///
-/// Linear in `nets`, and then as `evaluate_into`. An error is want of memory.
-pub fn evaluate(
-    alloc: Global,
-    stage: &Stage,
-    word: &Word,
-    variant: Variant,
-    nets: usize,
-) -> Result<Vec<bool>, Memory>
-    requires word { length word.now ≡ length stage.now.inputs }
-    requires nets { HasNetsBelow stage.now nets }
-    ensures values { IfOk result (λ table. (net : ℕ) → value_in table.items net ≡ val stage.now word.now variant net) }
-    ensures size { IfOk result (λ table. length table.items ≡ nets) }
-{
-    let mut table = vec![in alloc; false; nets]?;
-    evaluate_into(stage, word, variant, table.as_mut_slice());
-    Ok(table)
-}
 
 /// Writes the values of the nets of a stage at a word, under a variant, into a table by the number of
 /// the net. The values of other nets are left as they are.

@@ -1,0 +1,14 @@
+use Rattle.std.proofs.Common.{◌≢◌}
+use Rattle.ncl_graph.specs.declared.mark.Mark.TheVariants.{New}
+use Rattle.ncl_graph.specs.Search.{Stands, StaysMet, mark_at, work}
+use Rattle.ncl_graph.proofs.search.Search.visit.Given as goal
+
+abbrev pub invariant-loop-place : goal.invariant-loop-place
+invariant-loop-place l = record {
+  search : Stands l.graph l.self;
+  met : StaysMet l.fn.self.marks.items l.self.marks.items;
+  root : mark_at l.self.marks.items l.root ≢ New;
+}
+
+abbrev pub decreases-loop-place : goal.decreases-loop-place
+decreases-loop-place l = work l.self

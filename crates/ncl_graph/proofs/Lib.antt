@@ -1,3 +1,5 @@
 pub mod Lists
 pub mod Paths
 pub mod Searching
+pub mod Reaching
+pub mod Ranking

@@ -1,2 +1,4 @@
 pub mod Graph
 pub mod Search
+pub mod Reach
+pub mod Ranks

@@ -2,9 +2,13 @@
 //! and the first place on a cycle.
 #![tactic(auto)]
 
+mod components;
+mod first_on_cycle;
 mod graph;
 mod mark;
 mod order;
+mod ranks;
+mod reach;
 mod search;
 #[cfg(test)]
 mod tests;

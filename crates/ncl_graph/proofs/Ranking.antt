@@ -1,0 +1,29 @@
+-- Ranks and cycles.
+use Rattle.std.proofs.Common.{ℕ, ◌<◌, ◌≤◌, List, [], length, subst, arith}
+use Rattle.std.specs.List.{All, Contains}
+use Rattle.std.proofs.lemmas.List.{get_or_past}
+use Rattle.std.proofs.lemmas.List.Elements.{All-contains}
+use Rattle.ncl_graph.specs.Graph.{successors, Leads, IsOnCycle}
+use Rattle.ncl_graph.specs.Graph.Leads.{arc, further}
+use Rattle.ncl_graph.specs.Ranks.{rank_of, NeverRises}
+
+-- what is no place has no successor
+no_successor : (g : List (List ℕ)) (i j : ℕ) → length g ≤ i → Contains (successors g i) j → ⊥
+no_successor g i j past c =
+    let none : Contains [] j = subst (λ l. Contains l j) (get_or_past g i [] past) c in
+    omega (arith, none.1)
+
+-- only a place leads anywhere
+pub only_places_lead : (g : List (List ℕ)) (i j : ℕ) → length g ≤ i → Leads g i j → ⊥
+only_places_lead g i j past (arc c) = no_successor g i j past c
+only_places_lead g i j past (further {j = k} c path) = no_successor g i k past c
+
+-- along a path the rank does not rise
+rank_falls : (g : List (List ℕ)) (ranks : List ℕ) → NeverRises g ranks → (i j : ℕ) → Leads g i j → rank_of ranks j ≤ rank_of ranks i
+rank_falls g ranks falls i j (arc c) = falls i j c
+rank_falls g ranks falls i j (further {j = k} c path) = omega (arith, falls i k c, rank_falls g ranks falls k j path)
+
+-- a place all of whose successors have lower ranks lies on no cycle
+pub lower_successors : (g : List (List ℕ)) (ranks : List ℕ) → NeverRises g ranks → (i : ℕ) → All (λ j. rank_of ranks j < rank_of ranks i) (successors g i) → ¬ IsOnCycle g i
+lower_successors g ranks falls i lower (arc c) = omega (arith, All-contains (λ j. rank_of ranks j < rank_of ranks i) (successors g i) i lower c)
+lower_successors g ranks falls i lower (further {j = k} c path) = omega (arith, All-contains (λ j. rank_of ranks j < rank_of ranks i) (successors g i) k lower c, rank_falls g ranks falls k i path)

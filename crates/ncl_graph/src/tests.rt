@@ -33,18 +33,33 @@ fn graph(rt: &(impl Abort + AllocGlobal), lists: &[&[u32]]) -> Result<Graph, Fai
     Ok(Graph::new(Items::from_vec(all)))
 }
 
-/// A chain of 200,000 places, each of which but the last in the direction leads to the next one.
-fn chain(rt: &(impl Abort + AllocGlobal), upward: bool) -> Result<Graph, Fail> {
+/// The place that one of so many places in a chain leads to: the next one, and the last leads to itself where
+/// there is a loop.
+fn next_of(place: u32, places: u32, upward: bool, looped: bool) -> Option<u32> {
+    let next = if upward {
+        place.wrapping_add(1)
+    } else {
+        place.wrapping_sub(1)
+    };
+    if next < places {
+        Some(next)
+    } else if looped {
+        Some(place)
+    } else {
+        None
+    }
+}
+
+/// A chain of 200,000 places, each of which leads to the one above it or to the one below it.
+fn chain(rt: &(impl Abort + AllocGlobal), upward: bool, looped: bool) -> Result<Graph, Fail> {
     let places: u32 = 200_000;
     let mut all = Vec::new(rt.alloc());
     for place in 0..places {
-        let next = if upward {
-            place + 1
-        } else {
-            place.wrapping_sub(1)
+        let successors = match next_of(place, places, upward, looped) {
+            Some(next) => list(rt, &[next], places as usize)?,
+            None => list(rt, &[], places as usize)?,
         };
-        let front = if next < places { 1 } else { 0 };
-        all.push(list(rt, &[next][..front], places as usize)?)?;
+        all.push(successors)?;
     }
     Ok(Graph::new(Items::from_vec(all)))
 }
@@ -129,12 +144,20 @@ fn orders_and_cycles(rt: HostRuntime) -> Result<(), Fail> {
 
 #[test]
 fn long_chains(rt: HostRuntime) -> Result<(), Fail> {
-    for upward in [false, true] {
-        let graph = chain(&rt, upward)?;
+    let cases = [
+        (false, false, None),
+        (true, false, None),
+        (false, true, Some(0)),
+        (true, true, Some(199_999)),
+    ];
+    for (upward, looped, first) in cases {
+        let graph = chain(&rt, upward, looped)?;
         assert!(rt; !graph.is_empty());
-        assert_eq!(rt; graph.first_on_cycle(rt.alloc())?, None);
-        let order = graph.order(rt.alloc())?.ok_or("no order")?;
-        assert!(rt; is_order(&rt, &graph, order.as_slice())?);
+        assert_eq!(rt; graph.first_on_cycle(rt.alloc())?, first);
+        match graph.order(rt.alloc())? {
+            Some(order) => assert!(rt; !looped && is_order(&rt, &graph, order.as_slice())?),
+            None => assert!(rt; looped),
+        }
     }
     Ok(())
 }

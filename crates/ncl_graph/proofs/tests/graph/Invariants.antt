@@ -1,0 +1,9 @@
+use Rattle.std.proofs.Common.{◌≡◌, ◌<◌, length}
+use Rattle.std.specs.List.{All}
+use Rattle.ncl_graph.proofs.tests.graph.Given as goal
+
+abbrev pub invariant-loop-successors : goal.invariant-loop-successors
+invariant-loop-successors g l = record {
+  counted : length l.all.items ≡ l.successors-index;
+  closed : All (All (λ j. j < l.places)) l.all.items;
+}

@@ -3,3 +3,4 @@ pub mod Paths
 pub mod Searching
 pub mod Reaching
 pub mod Ranking
+pub mod Orders

@@ -1,8 +1,8 @@
 -- Lists that grow at the end.
-use Rattle.std.proofs.Common.{◌≡◌, ◌≢◌, ℕ, ◌<◌, ◌≤◌, List, [], ◌∷◌, ◌++◌, length, get_or, ◌⊎◌, inl, inr, refl, ap, subst, arith, length-append}
+use Rattle.std.proofs.Common.{◌≡◌, ◌≢◌, ℕ, ◌+◌, ◌<◌, ◌≤◌, List, [], ◌∷◌, ◌++◌, length, get_or, take, drop, ◌⊎◌, inl, inr, refl, sym, ap, ◌∙◌, subst, arith, length-append}
 use Rattle.std.specs.List.{All, AllPairs, Contains}
 use Rattle.std.proofs.lemmas.Bool.Decides.{Decides-eqb}
-use Rattle.std.proofs.lemmas.List.{get_or_append_left, get_or_push, length_push}
+use Rattle.std.proofs.lemmas.List.{get_or_append_left, get_or_push, length_push, take-append-drop, drop_more}
 use Rattle.std.proofs.lemmas.List.Elements.{All-contains}
 use Rattle.std.proofs.lemmas.Map.Made.{IsDistinct-from_AllPairs, is_member-Decides}
 use Rattle.std.proofs.lemmas.Map.Steps.{length-le_from_distinct_below, le-length_from_below}
@@ -46,3 +46,17 @@ no_more_than xs n once below = length-le_from_distinct_below xs n (IsDistinct-fr
 -- numbers below a number, each once, are as many as it
 pub as_many_as : (xs : List ℕ) (n : ℕ) → AllPairs (λ i j. i ≢ j) xs → All (λ i. i < n) xs → ((i : ℕ) → i < n → Contains xs i) → length xs ≡ n
 as_many_as xs n once below every = omega (arith, no_more_than xs n once below, le-length_from_below xs n (λ i lt. (is_member-Decides Decides-eqb xs i).1 (every i lt)))
+
+-- a list with an element is what stands before that element, it, and what stands after it
+pub split_at : (xs : List ℕ) (x : ℕ) → Contains xs x → (before : List ℕ) × (rest : List ℕ) × (xs ≡ before ++ x ∷ rest)
+split_at xs x (k, lt, at) =
+    (take k xs, drop (k + 1) xs, sym (take-append-drop k xs) ∙ ap (λ l. take k xs ++ l) (drop_more xs k x lt ∙ ap (λ z. z ∷ drop (k + 1) xs) at))
+
+-- a list is empty or has a last element
+pub last_of : (xs : List ℕ) → (xs ≡ []) ⊎ ((front : List ℕ) × (y : ℕ) × (xs ≡ front ++ y ∷ []))
+last_of [] = inl refl
+last_of (x ∷ xs) =
+    elim (last_of xs) [
+      | inl none ↦ inr ([], x, ap (λ l. x ∷ l) none)
+      | inr (front, y, at) ↦ inr (x ∷ front, y, ap (λ l. x ∷ l) at)
+    ]

@@ -145,7 +145,7 @@ pub now_met : (marks : List Mark) (place : ℕ) (m : Mark) → place < length ma
 now_met marks place m inside old e = old (sym (get_or-set_same marks place m New inside) ∙ e)
 
 -- a mark is one of three
-new_from : (m : Mark) → m ≢ Open → m ≢ Done → m ≡ New
+pub new_from : (m : Mark) → m ≢ Open → m ≢ Done → m ≡ New
 new_from New a b = refl
 new_from Open a b = absurd (a refl)
 new_from Done a b = absurd (b refl)

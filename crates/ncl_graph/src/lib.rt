@@ -5,6 +5,7 @@
 mod components;
 mod first_on_cycle;
 mod graph;
+pub mod laws;
 mod mark;
 mod order;
 mod ranks;

@@ -1,8 +1,8 @@
 -- Orders exist exactly where no place lies on a cycle.
-use Rattle.std.proofs.Common.{◌≡◌, ◌≢◌, ℕ, zero, suc, ◌+◌, ◌*◌, ◌<◌, ◌≤◌, List, [], ◌∷◌, ◌++◌, length, get_or, set, replicate, ◌⊎◌, inl, inr, refl, sym, ap, ◌∙◌, subst, arith, append_assoc}
+use Rattle.std.proofs.Common.{◌≡◌, ◌≢◌, ℕ, zero, suc, ◌+◌, ◌*◌, ◌<◌, ◌≤◌, List, [], ◌∷◌, ◌++◌, length, get_or, set, take, drop, replicate, ◌⊎◌, inl, inr, refl, sym, ap, ◌∙◌, subst, arith, append_assoc}
 use Rattle.std.specs.List.{All, Contains}
 use Rattle.std.proofs.lemmas.Bool.{cases_eq, cases_lt}
-use Rattle.std.proofs.lemmas.List.{get_or_past, get_or-replicate, length-replicate, length-append, length_push, get_or_append_left, get_or_at}
+use Rattle.std.proofs.lemmas.List.{get_or_past, get_or-replicate, length-replicate, length-append, length_push, take-append-drop, drop_more, get_or_append_left, get_or_at}
 use Rattle.std.proofs.lemmas.List.Elements.{All-nil, All-cons, All-contains, Contains-append_left}
 use Rattle.ncl_graph.specs.Graph.{successors, IsGraph, Leads, IsOnCycle, IsOrder, StandsAfter}
 use Rattle.ncl_graph.specs.Graph.Leads.{arc, further}
@@ -21,6 +21,10 @@ leads_before g order after i j (further {j = k} c path) before rest e =
     let (front, between, at) = split_at before k (after before i rest e k c) in
     let whole : order ≡ front ++ k ∷ (between ++ i ∷ rest) = e ∙ ap (λ l. l ++ i ∷ rest) at ∙ append_assoc front (k ∷ between) (i ∷ rest) in
     subst (λ l. Contains l j) (sym at) (Contains-append_left front (k ∷ between) j (leads_before g order after k j path front (between ++ i ∷ rest) whole))
+
+-- all that the place at an index of an order leads to by an arc stands below that index
+pub stands_below : (g : List (List ℕ)) (order : List ℕ) → IsOrder g order → (k : ℕ) → k < length order → (j : ℕ) → Contains (successors g (get_or order k 0)) j → Contains (take k order) j
+stands_below g order o k lt j c = o.after (take k order) (get_or order k 0) (drop (k + 1) order) (sym (take-append-drop k order) ∙ ap (λ l. take k order ++ l) (drop_more order k 0 lt)) j c
 
 -- where places have an order, none lies on a cycle
 pub order_excludes_cycles : (g : List (List ℕ)) (order : List ℕ) → IsOrder g order → (i : ℕ) → ¬ IsOnCycle g i

@@ -2,6 +2,7 @@
 use Rattle.std.specs.Prelude.{◌≡◌, ℕ, ◌+◌, ◌⊎◌, Bool, true, false, not, List, length, All, Contains, count_by}
 use Rattle.std.specs.List.{slice_index_or}
 use Rattle.ncl_graph.specs.Graph.{successors, Leads}
+use Rattle.ncl_graph.specs.declared.reach.Reach.{Reach}
 
 -- whether a place was reached
 abbrev pub was_reached : List Bool → ℕ → Bool
@@ -33,3 +34,7 @@ pub record Reaches (list : List ℕ) (reached : List Bool) (waiting : List ℕ) 
   pub still : (i : ℕ) → Contains waiting i → Contains waiting_after i
   pub waits : All (λ i. was_reached reached i ≡ true) waiting → All (λ i. was_reached reached_after i ≡ true) waiting_after
   pub turns : turns reached_after waiting_after ≡ turns reached waiting
+
+-- the walk reached the places of a list as well
+abbrev pub ReachedAll : List ℕ → Reach → Reach → Type 0
+ReachedAll list old new = Reaches list old.reached.items old.waiting.items new.reached.items new.waiting.items

@@ -1,5 +1,5 @@
 -- Where a depth-first search stands.
-use Rattle.std.specs.Prelude.{◌≡◌, ◌≢◌, ℕ, ◌+◌, ◌*◌, ◌<◌, Bool, true, false, List, length, All, AllPairs, Contains, count_by}
+use Rattle.std.specs.Prelude.{◌≡◌, ◌≢◌, ℕ, ◌+◌, ◌*◌, ◌<◌, Bool, true, false, List, [], ◌∷◌, ◌++◌, length, All, AllPairs, Contains, count_by}
 use Rattle.std.specs.List.{slice_index_or}
 use Rattle.ncl_graph.specs.Graph.{successors, Leads, StandsAfter}
 use Rattle.ncl_graph.specs.declared.mark.Mark.{Mark}
@@ -45,6 +45,10 @@ pub record IsSearch (g : List (List ℕ)) (marks : List Mark) (passed path order
 -- the search stands so
 abbrev pub Stands : List (List ℕ) → Search → Type 0
 Stands g s = IsSearch g s.marks.items s.passed.items s.path.items s.order.items
+
+-- the search stands so once a place that was taken from the end of its path is put back there
+abbrev pub StandsAt : List (List ℕ) → Search → ℕ → Type 0
+StandsAt g s place = IsSearch g s.marks.items s.passed.items (s.path.items ++ place ∷ []) s.order.items
 
 -- the most turns that are left: each place that is new opens and closes, and each place of the path closes
 abbrev pub work : Search → ℕ

@@ -10,7 +10,8 @@ use std::alloc::Global;
 /// A search for the components in which any two places lead to each other (Tarjan 1972). It keeps its path
 /// in a list, so that it needs no recursion.
 ///
-/// Nothing is claimed of the components but that each place has one: who needs more looks at them.
+/// The contracts say that each place gets a number and that the search ends. That the numbers are those of
+/// components no contract says: who relies on them tests them.
 #[derive(Drop)]
 pub(crate) struct Components {
     /// For each place that was met, how many were met before it.
@@ -73,7 +74,8 @@ impl Components {
         requires whole { IsWhole self.now }
         requires inside { All (λ i. i < length self.now.numbers.items) successors.now }
         ensures within { result.0 ≤ length successors.now }
-        ensures unmet { result.0 < length successors.now → slice_index_or self.now.numbers.items (slice_index_or successors.now result.0 0) None ≡ None }
+        ensures unmet { result.0 < length successors.now
+            → slice_index_or self.now.numbers.items (slice_index_or successors.now result.0 0) None ≡ None }
     {
         let mut low = lowest;
         for k in from..successors.len() {

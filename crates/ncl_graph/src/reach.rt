@@ -1,7 +1,7 @@
 //! Which places a place leads to.
-ghost use Rattle.std.specs.Prelude.{◌≡◌, ℕ, ◌<◌, ◌++◌, ◌∷◌, [], ◌↔◌, false, length, replicate, IsTrue, IfOk, OnOk};
+ghost use Rattle.std.specs.Prelude.{◌≡◌, ℕ, ◌<◌, ◌∷◌, [], ◌↔◌, length, IsTrue, IfOk, OnOk};
 ghost use Rattle.ncl_graph.specs.Graph.{IsOnCycle, Leads, successors};
-ghost use Rattle.ncl_graph.specs.Reach.{Reaches, was_reached};
+ghost use Rattle.ncl_graph.specs.Reach.{ReachedAll, was_reached};
 
 use crate::graph::Graph;
 use ncl_base::Memory;
@@ -20,7 +20,7 @@ impl Reach {
     /// Reaches a place, which then waits where it was not reached before.
     fn reach(&mut self, place: u32) -> Result<(), Memory>
         requires { place < length self.old.reached.items }
-        ensures { OnOk result (Reaches (place ∷ []) self.old.reached.items self.old.waiting.items self.new.reached.items self.new.waiting.items) }
+        ensures { OnOk result (ReachedAll (place ∷ []) self.old self.new) }
     {
         if !self.reached[place as usize] {
             self.waiting.push(place)?;
@@ -33,7 +33,7 @@ impl Reach {
     fn expand(&mut self, graph: &Graph, place: u32) -> Result<(), Memory>
         requires inside { place < length graph.now }
         requires sized { length self.old.reached.items ≡ length graph.now }
-        ensures { OnOk result (Reaches (successors graph.now place) self.old.reached.items self.old.waiting.items self.new.reached.items self.new.waiting.items) }
+        ensures { OnOk result (ReachedAll (successors graph.now place) self.old self.new) }
     {
         for next in graph.successors(place as usize) {
             self.reach(*next)?;

@@ -3,7 +3,7 @@ ghost use Rattle.std.specs.Prelude.{◌≡◌, ◌≢◌, ℕ, ◌<◌, ◌≤�
 ghost use Rattle.std.specs.Bool.{OnTrue, OnFalse};
 ghost use Rattle.std.specs.List.{slice_index_or};
 ghost use Rattle.ncl_graph.specs.Graph.{IsOnCycle};
-ghost use Rattle.ncl_graph.specs.Search.{IsSearch, Stands, StaysMet, mark_at, work};
+ghost use Rattle.ncl_graph.specs.Search.{Stands, StandsAt, StaysMet, mark_at, work};
 
 use crate::graph::Graph;
 use crate::mark::Mark;
@@ -28,8 +28,10 @@ pub(crate) struct Search {
 fn first_undone(successors: &[u32], marks: &[Mark], from: usize) -> usize
     requires { All (λ j. j < length marks.now) successors.now }
     ensures within { result ≤ length successors.now }
-    ensures done { (k : ℕ) → from ≤ k → k < result → mark_at marks.now (slice_index_or successors.now k 0) ≡ Mark.Done }
-    ensures undone { result < length successors.now → mark_at marks.now (slice_index_or successors.now result 0) ≢ Mark.Done }
+    ensures done { (k : ℕ) → from ≤ k → k < result
+        → mark_at marks.now (slice_index_or successors.now k 0) ≡ Mark.Done }
+    ensures undone { result < length successors.now
+        → mark_at marks.now (slice_index_or successors.now result 0) ≢ Mark.Done }
 {
     for k in from..successors.len() {
         match marks[successors[k] as usize] {
@@ -85,7 +87,7 @@ impl Search {
     /// Goes on at a place that was taken from the end of the path, and says whether no cycle was met. Linear
     /// in the successors that are passed by.
     fn step(&mut self, graph: &Graph, place: u32) -> Result<bool, Memory>
-        requires { IsSearch graph.now self.old.marks.items self.old.passed.items (self.old.path.items ++ place ∷ []) self.old.order.items }
+        requires { StandsAt graph.now self.old place }
         ensures search { IfOk result (λ fine. OnTrue fine (Stands graph.now self.new)) }
         ensures met { IfOk result (λ fine. OnTrue fine (StaysMet self.old.marks.items self.new.marks.items)) }
         ensures nearer { IfOk result (λ fine. OnTrue fine (work self.new ≤ work self.old)) }

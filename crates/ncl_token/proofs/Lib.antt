@@ -1,0 +1,11 @@
+mod Finds
+mod Cuts
+mod Gaps
+mod Pieces
+mod Disjoint
+mod Forms
+mod Prefixes
+mod Closes
+mod Longest
+mod Replies
+mod Telling

@@ -1,0 +1,4 @@
+pub mod Bytes
+pub mod Spaces
+pub mod Tokens
+pub mod Reading

@@ -1,0 +1,1 @@
+//! The laws of the tokens of a text.

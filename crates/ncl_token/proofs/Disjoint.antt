@@ -25,7 +25,7 @@ pub number_not_word : (byte : ℕ) → begins_number byte ≡ true → begins_wo
 number_not_word byte number = grind (arith, nat_tests)
 
 -- what holds of each single byte
-single_all : (P : ℕ → Type 0) (byte : ℕ) → AllByRecursion P (codes "(),;.") → AllByRecursion P (codes "[]{}#=:`") → is_single byte ≡ true → P byte
+pub single_all : (P : ℕ → Type 0) (byte : ℕ) → AllByRecursion P (codes "(),;.") → AllByRecursion P (codes "[]{}#=:`") → is_single byte ≡ true → P byte
 single_all P byte punctuation marks single =
     elim (or_cases (is_among (codes "(),;.") byte) (is_mark byte) single) [
       | inl among ↦ among_all P (codes "(),;.") byte punctuation among

@@ -9,3 +9,9 @@ mod Closes
 mod Longest
 mod Replies
 mod Telling
+mod OneSpace
+mod OneToken
+mod OneBreak
+mod OneList
+mod SomeList
+mod InOrder

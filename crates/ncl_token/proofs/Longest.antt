@@ -8,7 +8,7 @@ use Rattle.ncl_token.specs.declared.token.TokenKind.{TokenKind}
 use Rattle.ncl_token.specs.declared.token.TokenKind.TheVariants.{Word, Escaped, Other}
 use Rattle.ncl_token.specs.Bytes.{is_white, begins_white, begins_word, continues_word, is_graphic, begins_number, continues_number, is_single}
 use Rattle.ncl_token.specs.Tokens.{IsToken, is_word, is_escaped, is_string, is_number, BreaksAt, in_open_comment, in_open_attribute, in_open_string, at_end_of_name, at_white_for_name, at_byte_in_name, at_stray_byte}
-use Rattle.ncl_token.specs.Reading.{BeginsWithToken, IsFirstAt, IsUngapped}
+use Rattle.ncl_token.specs.Fronts.{BeginsWithToken, IsFirstAt, IsUngapped}
 use Rattle.ncl_token.proofs.Cuts.{take_past}
 use Rattle.ncl_token.proofs.Prefixes.{prefix_len-all, prefix_len-stop, list_all-take_prefix, fails_after_prefix}
 use Rattle.ncl_token.proofs.Closes.{closed_once}

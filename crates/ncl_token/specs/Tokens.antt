@@ -71,3 +71,9 @@ pub data AreTokens : ℕ → List ℕ → List Token → Stop → Type 0 where
 -- the tokens of a text
 abbrev pub TokensOf : List ℕ → List Token → Stop → Type 0
 TokensOf bytes tokens stop = AreTokens 0 bytes tokens stop
+
+-- each token begins no sooner than the one before ends, the first no sooner than at the place, and none is
+-- empty
+abbrev pub AreInOrder : ℕ → List Token → Type 0
+AreInOrder place [] = Unit {0}
+AreInOrder place (token ∷ tokens) = (place ≤ token.start) × (token.start < token.end) × AreInOrder token.end tokens

@@ -3,7 +3,8 @@ ghost use Rattle.std.specs.Prelude.{◌≡◌, ◌≤◌, true, false, [], ◌�
 ghost use Rattle.ncl_token.specs.declared.token.TokenKind.TheVariants.{Escaped, Other};
 ghost use Rattle.ncl_token.specs.Bytes.{is_single};
 ghost use Rattle.ncl_token.specs.Tokens.{BreaksAt, IsToken};
-ghost use Rattle.ncl_token.specs.Reading.{BeginsWithToken, IsAnswer, IsUngapped};
+ghost use Rattle.ncl_token.specs.Fronts.{BeginsWithToken, IsUngapped};
+ghost use Rattle.ncl_token.specs.Reading.{IsAnswer};
 
 use crate::bytes::{begins_number, begins_white, begins_word, is_mark};
 use crate::runs::{find, name_len, number_len, word_len};

@@ -3,7 +3,7 @@ ghost use Rattle.std.specs.Prelude.{◌≡◌, ◌≢◌, ℕ, ◌<◌, List, �
 ghost use Rattle.std.specs.List.{prefix_len};
 ghost use Rattle.ncl_token.specs.Bytes.{continues_word as word_test, is_graphic as graphic_test, continues_number as number_test};
 ghost use Rattle.ncl_token.specs.Spaces.{Lacks};
-ghost use Rattle.ncl_token.specs.Reading.{IsFirstAt};
+ghost use Rattle.ncl_token.specs.Fronts.{IsFirstAt};
 
 use crate::bytes::{continues_number, continues_word, is_graphic};
 

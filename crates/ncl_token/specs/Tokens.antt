@@ -9,15 +9,21 @@ use Rattle.ncl_token.specs.Spaces.{Lacks, IsClosed, IsSpace, OpensGap}
 
 -- the bytes are a token of this kind
 pub data IsToken : TokenKind → List ℕ → Type 0 where
+  -- a letter or `_`, and then letters, digits, `_` and `$`
   is_word : {bytes : List ℕ} (first : ℕ) (others : List ℕ) → bytes ≡ first ∷ others → begins_word first ≡ true → list_all continues_word others ≡ true → IsToken Word bytes
+  -- a backslash (92), a name of printing characters other than the blank, and one white space byte
   is_escaped : {bytes : List ℕ} (name : List ℕ) (ending : ℕ) → bytes ≡ 92 ∷ (name ++ ending ∷ []) → 0 < length name → list_all is_graphic name ≡ true → is_white ending ≡ true → IsToken Escaped bytes
+  -- one byte with a kind of its own
   is_left_parenthesis : {bytes : List ℕ} → bytes ≡ codes "(" → IsToken LParen bytes
   is_right_parenthesis : {bytes : List ℕ} → bytes ≡ codes ")" → IsToken RParen bytes
   is_comma : {bytes : List ℕ} → bytes ≡ codes "," → IsToken Comma bytes
   is_semicolon : {bytes : List ℕ} → bytes ≡ codes ";" → IsToken Semi bytes
   is_dot : {bytes : List ℕ} → bytes ≡ codes "." → IsToken Dot bytes
+  -- one of the marks
   is_one_mark : {bytes : List ℕ} (mark : ℕ) → bytes ≡ mark ∷ [] → is_mark mark ≡ true → IsToken Other bytes
+  -- from a quote (34) to the next
   is_string : {bytes : List ℕ} (inside : List ℕ) → bytes ≡ 34 ∷ (inside ++ 34 ∷ []) → IsClosed (34 ∷ []) inside → IsToken Other bytes
+  -- a digit or `'`, and then letters, digits, `_` and `'`
   is_number : {bytes : List ℕ} (first : ℕ) (others : List ℕ) → bytes ≡ first ∷ others → begins_number first ≡ true → list_all continues_number others ≡ true → IsToken Other bytes
 
 -- the first token of what is left: white space, and then a token as long as possible, where no comment
@@ -29,14 +35,20 @@ pub record IsFirstToken (left space : List ℕ) (kind : TokenKind) (span rest : 
   pub is_token : IsToken kind span
   pub longest : (other : TokenKind) (front back : List ℕ) → IsToken other front → span ++ rest ≡ front ++ back → length front ≤ length span
 
--- a text with no white space at its front begins no token, and this is the place in it of the bad byte
+-- a text with no white space at its front begins no token, and this is the place in it of the bad byte,
+-- which is the text's length where the text ends too early
 pub data BreaksAt : List ℕ → ℕ → Type 0 where
+  -- a comment, an attribute or a string without its end breaks at the end of the text
   in_open_comment : {text : List ℕ} {place : ℕ} (inside : List ℕ) → text ≡ codes "/*" ++ inside → Lacks (codes "*/") inside → place ≡ length text → BreaksAt text place
   in_open_attribute : {text : List ℕ} {place : ℕ} (inside : List ℕ) → text ≡ codes "(*" ++ inside → Lacks (codes "*)") inside → place ≡ length text → BreaksAt text place
   in_open_string : {text : List ℕ} {place : ℕ} (inside : List ℕ) → text ≡ 34 ∷ inside → Lacks (34 ∷ []) inside → place ≡ length text → BreaksAt text place
+  -- so does an escaped word that the text's end cuts
   at_end_of_name : {text : List ℕ} {place : ℕ} (name : List ℕ) → text ≡ 92 ∷ name → list_all is_graphic name ≡ true → place ≡ length text → BreaksAt text place
+  -- white space in the place of the name of an escaped word
   at_white_for_name : {text : List ℕ} {place : ℕ} (byte : ℕ) (rest : List ℕ) → text ≡ 92 ∷ byte ∷ rest → is_white byte ≡ true → place ≡ 1 → BreaksAt text place
+  -- a byte that neither goes on with the name nor ends it
   at_byte_in_name : {text : List ℕ} {place : ℕ} (name : List ℕ) (byte : ℕ) (rest : List ℕ) → text ≡ 92 ∷ (name ++ byte ∷ rest) → list_all is_graphic name ≡ true → is_graphic byte ≡ false → is_white byte ≡ false → place ≡ 1 + length name → BreaksAt text place
+  -- a byte that begins nothing
   at_stray_byte : {text : List ℕ} {place : ℕ} (byte : ℕ) (rest : List ℕ) → text ≡ byte ∷ rest → is_white byte ≡ false → begins_token byte ≡ false → (OpensGap text → ⊥) → place ≡ 0 → BreaksAt text place
 
 -- the next token of a text, of which `left` is left from `place` on, and what is left after the token

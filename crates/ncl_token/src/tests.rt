@@ -57,6 +57,24 @@ fn tokens_of_each_kind(rt: HostRuntime) {
     }
 }
 
+/// The example of the document on netlist texts.
+#[test]
+fn tokens_of_a_cell(rt: HostRuntime) {
+    let want = [
+        (Word, 0, 4),
+        (Word, 5, 7),
+        (LParen, 7, 8),
+        (Dot, 8, 9),
+        (Word, 9, 10),
+        (LParen, 10, 11),
+        (Escaped, 11, 17),
+        (RParen, 17, 18),
+        (RParen, 18, 19),
+        (Semi, 19, 20),
+    ];
+    check(&rt, b"TH12 u1(.A(\\x[0] )); // gate", &want, None);
+}
+
 #[test]
 fn white_space_comments_and_attributes(rt: HostRuntime) {
     let cases: [(&[u8], &[(TokenKind, usize, usize)]); 14] = [

@@ -1,0 +1,58 @@
+-- What a part says, by its command.
+use Rattle.std.proofs.Common.{◌≡◌, ℕ, ◌≤◌, Bool, true, false, ◌||◌, List, [], ◌∷◌, ◌++◌, length, map, refl, sym, ap, ◌∙◌, arith, append_assoc, codes, slice_get, unwrap_or}
+use Rattle.std.proofs.lemmas.List.{append-nil, map_push}
+use Rattle.std.specs.Str.{bytes_eq}
+use Rattle.ncl_blif.specs.declared.command.Command.{Command}
+use Rattle.ncl_blif.specs.declared.command.Command.TheVariants.{Model, Inputs, Outputs, Names, End}
+use Rattle.ncl_blif.specs.Commands.{word_of}
+use Rattle.ncl_blif.specs.Line.{LineData}
+use Rattle.ncl_blif.specs.Parts.{PartData, first_word, is_names, is_command}
+use Rattle.std.specs.List.{list_any}
+use Rattle.ncl_blif.specs.LineFaults.{has_twins}
+use Rattle.ncl_blif.specs.Numbered.{is_driven}
+use Rattle.ncl_blif.proofs.Twins.{twins-middle}
+use Rattle.ncl_blif.specs.Named.{NamedModel, NamedCover, drivers_of, later_words, cover_of, inputs_said, outputs_said, covers_said}
+
+-- the model with what a part says added
+abbrev pub with_part : NamedModel → PartData → NamedModel
+with_part model part = record model {
+  inputs = model.inputs ++ inputs_said part;
+  outputs = model.outputs ++ outputs_said part;
+  covers = model.covers ++ covers_said part;
+}
+
+-- what .outputs and .names add
+pub with_part-outputs : (model : NamedModel) (part : PartData) → first_word part.head ≡ codes ".outputs" → with_part model part ≡ record model { outputs = model.outputs ++ map (λ signal. record { line = part.head.number; signal = signal }) (later_words part.head) }
+with_part-outputs model part word = rw (word, append-nil model.inputs, append-nil model.covers)
+
+pub with_part-names : (model : NamedModel) (part : PartData) → first_word part.head ≡ codes ".names" → with_part model part ≡ record model { covers = model.covers ++ cover_of part ∷ [] }
+with_part-names model part word = rw (word, append-nil model.inputs, append-nil model.outputs)
+
+-- a cover's signal stands twice where it has a driver
+pub cover-twins : (model : NamedModel) (cover : NamedCover) → has_twins (drivers_of model) ≡ false → has_twins (drivers_of (record model { covers = model.covers ++ cover ∷ [] })) ≡ is_driven model cover.out
+cover-twins model cover once =
+    let before = drivers_of model in
+    let more : model.inputs ++ map (λ (cover : NamedCover). cover.out) (model.covers ++ cover ∷ []) ≡ before ++ cover.out ∷ [] =
+    ap (λ outs. model.inputs ++ outs) (map_push (λ (cover : NamedCover). cover.out) model.covers cover) ∙ sym (append_assoc model.inputs (map (λ (cover : NamedCover). cover.out) model.covers) (cover.out ∷ [])) in
+    ap has_twins more ∙ twins-middle before [] cover.out ∙ (λ i. list_any (bytes_eq cover.out) (append-nil before i) || has_twins (append-nil before i)) ∙ ap (λ b. list_any (bytes_eq cover.out) before || b) once ∙ or-false (list_any (bytes_eq cover.out) before)
+  where
+    or-false : (b : Bool) → (b || false) ≡ b
+    or-false true = refl
+    or-false false = refl
+
+-- a line with the word of a command is one
+pub command-is : (command : Command) (line : LineData) → first_word line ≡ word_of command → is_command line ≡ true
+command-is Model line word = rw word
+command-is Inputs line word = rw word
+command-is Outputs line word = rw word
+command-is Names line word = rw word
+command-is End line word = rw word
+
+-- a .names line that has not one word has two
+pub names-two : (line : LineData) → is_names line ≡ true → (length line.words ≡ 1 → ⊥) → 2 ≤ length line.words
+names-two line names more = at_least line.words names more
+  where
+    at_least : (words : List (List ℕ)) → bytes_eq (unwrap_or (slice_get words 0) []) (codes ".names") ≡ true → (length words ≡ 1 → ⊥) → 2 ≤ length words
+    at_least [] names more = absurd cc
+    at_least (word ∷ []) names more = absurd (more refl)
+    at_least (word ∷ next ∷ words) names more = omega arith

@@ -1,0 +1,13 @@
+pub mod TextLines
+pub mod TextWords
+pub mod Names
+pub mod RowSteps
+pub mod Places
+pub mod Twins
+pub mod DriverPlaces
+pub mod BodySteps
+pub mod Commands
+pub mod PartSteps
+pub mod WordSizes
+pub mod ModelSizes
+pub mod Sections

@@ -1,0 +1,76 @@
+-- The place of the first of a list that passes a test.
+use Rattle.std.proofs.Common.{◌≡◌, ℕ, suc, ◌+◌, ◌≤◌, Bool, true, false, not, ◌||◌, ltb, cond, List, [], ◌∷◌, ◌++◌, length, refl, sym, ap, ◌∙◌, arith, zero-add, Option, Some, None, inl, inr}
+use Rattle.std.proofs.lemmas.Bool.{lt-ltb, le-ltb, ltb-false, cases_lt}
+use Rattle.std.proofs.lemmas.List.Sums.{prefix_len-le-length}
+use Rattle.std.specs.List.{list_any, position, position_or_len}
+use Rattle.std.specs.Option.{option_or, option_map}
+
+pub place-some : {X : Type 0} (p : X → Bool) (xs : List X) (place : ℕ) → Some place ≡ position p xs → place ≡ position_or_len p xs
+place-some p xs place e = chosen (ltb (position_or_len p xs) (length xs)) (position_or_len p xs) place e
+  where
+    chosen : (test : Bool) (k place : ℕ) → Some place ≡ cond test (Some k) None → place ≡ k
+    chosen true k place e = cc
+    chosen false k place e = absurd cc
+
+pub place-none : {X : Type 0} (p : X → Bool) (xs : List X) → None ≡ position p xs → length xs ≡ position_or_len p xs
+place-none p xs e =
+    let most : position_or_len p xs ≤ length xs = prefix_len-le-length (λ x. not (p x)) xs in
+    let least = ltb-false (position_or_len p xs) (length xs) (not_chosen (ltb (position_or_len p xs) (length xs)) (position_or_len p xs) e) in
+    omega arith
+  where
+    not_chosen : (test : Bool) (k : ℕ) → None ≡ cond test (Some k) None → test ≡ false
+    not_chosen true k e = absurd cc
+    not_chosen false k e = refl
+
+ltb-suc : (a b : ℕ) → ltb (1 + a) (suc b) ≡ ltb a b
+ltb-suc a b = elim (cases_lt a b) [
+  | inl lt ↦ lt-ltb (1 + a) (suc b) (omega arith) ∙ sym (lt-ltb a b lt)
+  | inr le ↦ le-ltb (1 + a) (suc b) (omega arith) ∙ sym (le-ltb a b le)
+]
+
+-- whether one passes is whether the place is within the list
+pub any-place : {X : Type 0} (p : X → Bool) (xs : List X) → list_any p xs ≡ ltb (position_or_len p xs) (length xs)
+any-place p [] = refl
+any-place p (x ∷ xs) = rw (any-place p xs) (either (p x))
+  where
+    either : (b : Bool) → (b || ltb (position_or_len p xs) (length xs)) ≡ ltb (cond (not b) (1 + position_or_len p xs) 0) (suc (length xs))
+    either true = sym (lt-ltb 0 (suc (length xs)) (omega arith))
+    either false = sym (ltb-suc (position_or_len p xs) (length xs))
+
+-- the first of a list is at 0, or the place is one more than in the rest
+pub position-cons : {X : Type 0} (p : X → Bool) (x : X) (xs : List X) → position p (x ∷ xs) ≡ cond (p x) (Some 0) (option_map (λ n. 1 + n) (position p xs))
+position-cons p x xs = either (p x)
+  where
+    within : (test : Bool) (n : ℕ) → cond test (Some (1 + n)) None ≡ option_map (λ n. 1 + n) (cond test (Some n) None)
+    within true n = refl
+    within false n = refl
+
+    either : (b : Bool) → (let place = cond (not b) (1 + position_or_len p xs) 0 in cond (ltb place (suc (length xs))) (Some place) None) ≡ cond b (Some 0) (option_map (λ n. 1 + n) (position p xs))
+    either true = rw (lt-ltb 0 (suc (length xs)) (omega arith))
+    either false = rw (ltb-suc (position_or_len p xs) (length xs)) (within (ltb (position_or_len p xs) (length xs)) (position_or_len p xs))
+
+-- the place with one more at the end
+pub position-push : {X : Type 0} (p : X → Bool) (xs : List X) (x : X) → position p (xs ++ x ∷ []) ≡ option_or (position p xs) (cond (p x) (Some (length xs)) None)
+position-push p [] x = position-cons p x []
+position-push p (y ∷ ys) x =
+    position-cons p y (ys ++ x ∷ []) ∙ ap (λ o. cond (p y) (Some 0) (option_map (λ n. 1 + n) o)) (position-push p ys x)
+    ∙ either (p y) (position p ys) (p x) (length ys) ∙ ap (λ o. option_or o (cond (p x) (Some (suc (length ys))) None)) (sym (position-cons p y ys))
+  where
+    either : (b : Bool) (o : Option ℕ) (c : Bool) (n : ℕ) → cond b (Some 0) (option_map (λ n. 1 + n) (option_or o (cond c (Some n) None))) ≡ option_or (cond b (Some 0) (option_map (λ n. 1 + n) o)) (cond c (Some (suc n)) None)
+    either true o c n = refl
+    either false None true n = ap Some (omega arith)
+    either false None false n = refl
+    either false (Some m) c n = refl
+
+-- the place in two lists one after the other
+pub place-append : {X : Type 0} (p : X → Bool) (xs ys : List X) → position_or_len p (xs ++ ys) ≡ cond (ltb (position_or_len p xs) (length xs)) (position_or_len p xs) (length xs + position_or_len p ys)
+place-append p [] ys = sym (zero-add (position_or_len p ys))
+place-append p (x ∷ xs) ys = rw (place-append p xs ys) (either (p x))
+  where
+    within : (test : Bool) (a n b : ℕ) → 1 + cond test a (n + b) ≡ cond test (1 + a) (suc n + b)
+    within true a n b = refl
+    within false a n b = omega arith
+
+    either : (b : Bool) → cond (not b) (1 + cond (ltb (position_or_len p xs) (length xs)) (position_or_len p xs) (length xs + position_or_len p ys)) 0 ≡ (let place = cond (not b) (1 + position_or_len p xs) 0 in cond (ltb place (suc (length xs))) place (suc (length xs) + position_or_len p ys))
+    either true = rw (lt-ltb 0 (suc (length xs)) (omega arith))
+    either false = rw (ltb-suc (position_or_len p xs) (length xs)) (within (ltb (position_or_len p xs) (length xs)) (position_or_len p xs) (length xs) (position_or_len p ys))

@@ -1,0 +1,11 @@
+use Rattle.std.proofs.Common.{◌+◌, ap, ◌∙◌, not}
+use Rattle.std.proofs.lemmas.List.{take_rest}
+use Rattle.std.specs.List.{prefix_len}
+use Rattle.ncl_blif.specs.Parts.{begins_model}
+use Rattle.ncl_blif.proofs.Sections.{section-cut}
+use Rattle.ncl_blif.proofs.section.section_length.Goals as goal
+
+pub returns-clause-cut : goal.returns-clause-cut
+returns-clause-cut c =
+    let rest = take_rest c.args.parts.now 1 in
+    section-cut c.args.parts.now _ c.requires (ap (λ n. 1 + n) (c.length_before_model.ensures.count ∙ ap (prefix_len (λ part. not (begins_model part))) rest))

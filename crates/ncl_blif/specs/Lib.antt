@@ -1,0 +1,13 @@
+pub mod Line
+pub mod Lines
+pub mod Parts
+pub mod Commands
+pub mod Named
+pub mod Drivers
+pub mod LineFaults
+pub mod Body
+pub mod Model
+pub mod Meaning
+pub mod Numbered
+pub mod Dependence
+pub mod Answer

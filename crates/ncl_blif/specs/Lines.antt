@@ -1,0 +1,56 @@
+-- How a text falls into lines and words (Berkeley BLIF).
+use Rattle.std.specs.Prelude.{ℕ, ◌+◌, ◌-◌, List, [], ◌∷◌, ◌++◌, Bool, false, ◌||◌, ◌==◌, if◌then◌else◌, length, map, take, filter, nat_lt}
+use Rattle.std.specs.List.{slice_split, before_first}
+use Rattle.std.specs.Str.Lines.{lines}
+use Rattle.ncl_blif.specs.Line.{LineData}
+
+-- a line's text with its number, before it falls into words
+pub record NumberedText : Type 0 where
+  pub number : ℕ
+  pub text : List ℕ
+
+-- a line without its comment, which goes from the first # to the line's end
+abbrev pub uncommented : List ℕ → List ℕ
+uncommented text = before_first (λ b. b == 35) text
+
+-- whether the text ends with \
+abbrev pub is_continued : List ℕ → Bool
+is_continued [] = false
+is_continued (b ∷ []) = b == 92
+is_continued (b ∷ c ∷ bs) = is_continued (c ∷ bs)
+
+-- the text with a blank in place of its last byte
+abbrev pub blank_at_end : List ℕ → List ℕ
+blank_at_end text = take (length text - 1) text ++ 32 ∷ []
+
+-- the lines with a text put before the first of them, which gets that text's number
+abbrev pub put_before : NumberedText → List NumberedText → List NumberedText
+put_before part [] = part ∷ []
+put_before part (line ∷ rest) = record { number = part.number; text = part.text ++ line.text } ∷ rest
+
+-- the lines that these make, the first of which has this number: a line that ends with \ goes on in the
+-- next one, with a blank in place of the \
+abbrev pub joined : ℕ → List (List ℕ) → List NumberedText
+joined number [] = []
+joined number (text ∷ texts) =
+    if is_continued text
+    then put_before (record { number = number; text = blank_at_end text }) (joined (number + 1) texts)
+    else record { number = number; text = text } ∷ joined (number + 1) texts
+
+-- whether a byte is a blank or a tab
+abbrev pub is_blank : ℕ → Bool
+is_blank b = b == 32 || b == 9
+
+-- the words of a text: what stands between blanks and tabs and isn't empty
+abbrev pub words_of : List ℕ → List (List ℕ)
+words_of text = filter (λ word. nat_lt 0 (length word)) (slice_split is_blank text)
+
+-- the line as words
+abbrev pub in_words : NumberedText → LineData
+in_words line = record { number = line.number; words = words_of line.text }
+
+-- the lines of a text that have words. Lines end with a line feed, and a carriage return before it is
+-- dropped; lines are counted from 1
+abbrev pub lines_of : List ℕ → List LineData
+lines_of text =
+    filter (λ line. nat_lt 0 (length line.words)) (map in_words (joined 1 (map uncommented (lines text))))

@@ -1,0 +1,21 @@
+//! BLIF (Berkeley Logic Interchange Format) as synthesis tools write it: the reader of a file of models,
+//! and what the models mean.
+#![tactic(auto)]
+
+mod command;
+mod draft;
+mod draft_body;
+mod draft_cover;
+mod drivers;
+mod fault;
+mod line;
+mod model;
+mod part;
+mod piece;
+mod row;
+mod rows;
+mod section;
+mod words;
+
+pub use fault::BlifFault;
+pub use model::{Cover, Lit, Model, Row};

@@ -11,3 +11,12 @@ pub mod PartSteps
 pub mod WordSizes
 pub mod ModelSizes
 pub mod Sections
+pub mod Growing
+pub mod DependenceLaws
+pub mod Anys
+pub mod NumberedLaws
+pub mod FinishLaws
+pub mod ModelFacts
+pub mod RowsFit
+pub mod Counts
+pub mod ReadFacts

@@ -3,19 +3,24 @@
 #![tactic(auto)]
 
 mod command;
+mod dependence;
 mod draft;
 mod draft_body;
 mod draft_cover;
 mod drivers;
 mod fault;
+mod finish;
 mod line;
 mod model;
 mod part;
 mod piece;
+mod reader;
 mod row;
 mod rows;
 mod section;
 mod words;
 
+pub use dependence::dependencies;
 pub use fault::BlifFault;
 pub use model::{Cover, Lit, Model, Row};
+pub use reader::read_blif;

@@ -1,0 +1,93 @@
+-- The faults of a model by names, and those of its graph.
+use Rattle.std.proofs.Common.{◌≡◌, ℕ, ◌<◌, true, List, [], ◌∷◌, length, get_or, Some, sym, ap, ◌∙◌, subst, arith, zero, suc}
+use Rattle.std.specs.Prelude.{Contains}
+use Rattle.std.specs.List.{IsDistinct}
+use Rattle.std.specs.Str.{bytes_eq}
+use Rattle.std.proofs.lemmas.List.{length-map, get_or-map}
+use Rattle.std.proofs.lemmas.Option.{slice_get-get_or, slice_get_within, get_or_from_slice_get}
+use Rattle.ncl_graph.specs.Graph.{Leads, arc, further, successors, IsOnCycle}
+use Rattle.ncl_blif.specs.declared.model.Cover.{Cover}
+use Rattle.ncl_blif.specs.Named.{NamedModel, NamedCover, drivers_of}
+use Rattle.ncl_blif.specs.Numbered.{number_of, numbered_cover, numbered_model}
+use Rattle.ncl_blif.specs.Model.{Depends}
+use Rattle.ncl_blif.specs.Dependence.{dependency_graph}
+use Rattle.std.specs.Option.{option_map}
+use Rattle.ncl_blif.specs.declared.model.Model.{Model}
+use Rattle.ncl_blif.specs.Answer.{IsCyclic, IsFirstCycle}
+use Rattle.ncl_blif.proofs.DependenceLaws.{out_at, Depends-from_Leads, Leads-from_Depends}
+use Rattle.ncl_blif.proofs.NumberedLaws.{OutsDiffer-numbered}
+
+arc_within : (g : List (List ℕ)) (i j : ℕ) → Contains (successors g i) j → i < length g
+arc_within [] i j (k, lt, at) = absurd (omega arith)
+arc_within (js ∷ g) zero j leads = omega arith
+arc_within (js ∷ g) (suc i) j leads = let h = arc_within g i j leads in omega arith
+
+-- a place that leads somewhere is one
+pub leads_within : (g : List (List ℕ)) (i j : ℕ) → Leads g i j → i < length g
+leads_within g i j (arc {j = k} a) = arc_within g i j a
+leads_within g i j (further {j = k} a rest) = arc_within g i k a
+
+-- the graph of a model's covers
+abbrev pub graph_of : NamedModel → List (List ℕ)
+graph_of model = dependency_graph (numbered_model model).covers
+
+abbrev no_cover : NamedCover
+no_cover = record { line = 0; ins = []; out = []; on = true; rows = [] }
+
+abbrev no_numbers : Cover
+no_numbers = record { ins = []; out = 0; on = true; rows = [] }
+
+-- as many places as covers
+pub length-graph_of : (model : NamedModel) → length (graph_of model) ≡ length model.covers
+length-graph_of model = length-map (numbered_model model).covers _ ∙ length-map model.covers (numbered_cover model)
+
+-- what the numbered cover at a place drives
+out_is : (model : NamedModel) (place : ℕ) (d : NamedCover) → place < length model.covers → out_at (numbered_model model).covers place no_numbers ≡ number_of model (get_or model.covers place d).out
+out_is model place d within = ap (λ (cover : Cover). cover.out) (get_or-map (numbered_cover model) model.covers place d no_numbers within)
+
+-- a place on a cycle is that of a cover whose output depends on itself
+pub IsCyclic-from_graph : (model : NamedModel) (place : ℕ) → IsOnCycle (graph_of model) place → IsCyclic model place
+IsCyclic-from_graph model place cycle =
+    let many = length-graph_of model in
+    let inside = leads_within (graph_of model) place place cycle in
+    let within : place < length model.covers = omega arith in
+    let numbered : place < length (numbered_model model).covers = omega (arith, length-map model.covers (numbered_cover model)) in
+    let is = out_is model place no_cover within in
+    let depends = Depends-from_Leads (numbered_model model) place place no_numbers numbered cycle in
+    (get_or model.covers place no_cover, slice_get-get_or model.covers place no_cover within, subst (λ s. Depends (numbered_model model) s s) is depends)
+
+-- and the other way round
+pub IsOnCycle-from_cyclic : (model : NamedModel) → IsDistinct bytes_eq (drivers_of model) → (place : ℕ) → IsCyclic model place → IsOnCycle (graph_of model) place
+IsOnCycle-from_cyclic model differ place (cover, at, depends) =
+    let within : place < length model.covers = slice_get_within model.covers place cover at in
+    let numbered : place < length (numbered_model model).covers = omega (arith, length-map model.covers (numbered_cover model)) in
+    let here : get_or model.covers place cover ≡ cover = get_or_from_slice_get model.covers place cover cover at in
+    let is = out_is model place cover within ∙ ap (λ (c : NamedCover). number_of model c.out) here in
+    Leads-from_Depends (numbered_model model) (OutsDiffer-numbered model differ) _ _ depends place place no_numbers numbered numbered is is
+
+-- the graph that is made of the covers of the model by numbers
+pub graph_is : (draft : NamedModel) (g : List (List ℕ)) (covers : List Cover) (model : Model) → g ≡ dependency_graph covers → covers ≡ model.covers → model ≡ numbered_model draft → g ≡ graph_of draft
+graph_is draft g covers model made read numbered = made ∙ ap dependency_graph (read ∙ ap (λ (m : Model). m.covers) numbered)
+
+-- a graph without a cycle has no cover whose output depends on itself
+pub none_cyclic : (draft : NamedModel) → IsDistinct bytes_eq (drivers_of draft) → (g : List (List ℕ)) → g ≡ graph_of draft
+    → ((i : ℕ) → IsOnCycle g i → ⊥) → (place : ℕ) → IsCyclic draft place → ⊥
+none_cyclic draft differ g is none place cyclic = none place (subst (λ h. IsOnCycle h place) (sym is) (IsOnCycle-from_cyclic draft differ place cyclic))
+
+-- the first place on a cycle is that of the first cover whose output depends on itself
+pub first_cyclic : (draft : NamedModel) → IsDistinct bytes_eq (drivers_of draft) → (g : List (List ℕ)) → g ≡ graph_of draft
+    → (place : ℕ) → IsOnCycle g place → ((j : ℕ) → j < place → IsOnCycle g j → ⊥)
+    → (cover : NamedCover) → cover ≡ get_or draft.covers place cover → IsFirstCycle draft cover.line
+first_cyclic draft differ g is place cycle earlier cover at =
+    let here : IsOnCycle (graph_of draft) place = subst (λ h. IsOnCycle h place) is cycle in
+    let within : place < length draft.covers = omega (arith, leads_within (graph_of draft) place place here, length-graph_of draft) in
+    record {
+      place = place;
+      begins = ap (option_map (λ (c : NamedCover). c.line)) (slice_get-get_or draft.covers place cover within ∙ ap Some (sym at));
+      cyclic = IsCyclic-from_graph draft place here;
+      none_before = λ k lower cyclic. earlier k lower (subst (λ h. IsOnCycle h k) (sym is) (IsOnCycle-from_cyclic draft differ k cyclic));
+    }
+
+-- a place on a cycle is that of a cover
+pub cycle_within : (draft : NamedModel) (g : List (List ℕ)) → g ≡ graph_of draft → (place : ℕ) → IsOnCycle g place → place < length draft.covers
+cycle_within draft g is place cycle = omega (arith, leads_within (graph_of draft) place place (subst (λ h. IsOnCycle h place) is cycle), length-graph_of draft)

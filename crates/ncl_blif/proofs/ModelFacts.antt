@@ -1,0 +1,131 @@
+-- What a model by numbers is, where the model by names has no fault.
+use Rattle.std.proofs.Common.{◌≡◌, ℕ, ◌+◌, ◌-◌, ◌<◌, ◌≤◌, Bool, true, not, List, [], ◌++◌, length, map, get_or, None, sym, ap, ◌∙◌, subst, arith, nat_eq, ⊎_elim}
+use Rattle.std.specs.Prelude.{Contains, All}
+use Rattle.std.specs.List.{IsDistinct, list_any, position_or_len, range_with_len}
+use Rattle.std.specs.Str.{bytes_eq}
+use Rattle.std.proofs.lemmas.Bool.{cases_lt, ne_eqb, false≢true}
+use Rattle.std.proofs.lemmas.List.Sums.{fails_before_first}
+use Rattle.std.proofs.lemmas.List.Folds.{list_any_none}
+use Rattle.std.proofs.lemmas.List.{length-map, get_or-map, length-append, get_or_append_left}
+use Rattle.std.proofs.lemmas.List.Elements.{All-map}
+use Rattle.std.proofs.lemmas.List.FromFn.{get_or-range_with_len, length-range_with_len}
+use Rattle.std.proofs.lemmas.Option.{slice_get-get_or}
+use Rattle.std.proofs.lemmas.Map.Keys.{IsDistinct-from_apart}
+use Rattle.ncl_blif.specs.declared.model.Cover.{Cover}
+use Rattle.ncl_blif.specs.Named.{NamedModel, NamedCover, NamedOutput, drivers_of}
+use Rattle.ncl_blif.specs.Numbered.{is_driven, number_of, numbered_cover, numbered_model}
+use Rattle.ncl_blif.specs.Model.{Depends, signals_of, IsModel, size_of_model, most_size}
+use Rattle.ncl_blif.specs.Answer.{undriven_line, IsCyclic, IsFaultless}
+use Rattle.ncl_blif.proofs.Anys.{each_fails, not_false}
+use Rattle.ncl_blif.proofs.DependenceLaws.{driver_of_dependent}
+use Rattle.ncl_blif.proofs.NumberedLaws.{out-numbered, get_or-append_right, outputs_driven, covers_driven}
+
+abbrev no_cover : NamedCover
+no_cover = record { line = 0; ins = []; out = []; on = true; rows = [] }
+
+abbrev no_numbers : Cover
+no_numbers = record { ins = []; out = 0; on = true; rows = [] }
+
+-- how many signals have a driver
+signals_count : (m : NamedModel) → length (signals_of (numbered_model m)) ≡ length m.inputs + length m.covers
+signals_count m =
+    length-append (range_with_len 0 (length m.inputs)) (map (λ (cover : Cover). cover.out) (map (numbered_cover m) m.covers))
+    ∙ ap (λ n. n + length (map (λ (cover : Cover). cover.out) (map (numbered_cover m) m.covers))) (length-range_with_len 0 (length m.inputs))
+    ∙ ap (λ n. length m.inputs + n) (length-map (map (numbered_cover m) m.covers) (λ (cover : Cover). cover.out) ∙ length-map m.covers (numbered_cover m))
+
+drivers_count : (m : NamedModel) → length (drivers_of m) ≡ length m.inputs + length m.covers
+drivers_count m = length-append m.inputs (map (λ (cover : NamedCover). cover.out) m.covers) ∙ ap (λ n. length m.inputs + n) (length-map m.covers (λ (cover : NamedCover). cover.out))
+
+-- the signals that have a driver are 0, 1, 2 and so on
+signal_at : (m : NamedModel) → IsDistinct bytes_eq (drivers_of m) → (k d : ℕ) → k < length m.inputs + length m.covers → get_or (signals_of (numbered_model m)) k d ≡ k
+signal_at m differ k d within =
+    let firsts = range_with_len 0 (length m.inputs) in
+    let outs = map (λ (cover : Cover). cover.out) (map (numbered_cover m) m.covers) in
+    let n : length firsts ≡ length m.inputs = length-range_with_len 0 (length m.inputs) in
+    ⊎_elim
+    (λ low. let own : 0 + k ≡ k = omega arith in get_or_append_left firsts outs d k (omega arith) ∙ get_or-range_with_len 0 (length m.inputs) k d low ∙ own)
+    (λ high.
+    let j : ℕ = k - length m.inputs in
+    let at : k ≡ length firsts + j = omega arith in
+    let inside : j < length m.covers = omega arith in
+    let many : length (map (numbered_cover m) m.covers) ≡ length m.covers = length-map m.covers (numbered_cover m) in
+    ap (λ i. get_or (firsts ++ outs) i d) at ∙ get_or-append_right firsts outs j d
+    ∙ get_or-map (λ (cover : Cover). cover.out) (map (numbered_cover m) m.covers) j no_numbers d (omega arith)
+    ∙ out-numbered m differ j no_numbers no_cover inside ∙ omega arith)
+    (cases_lt k (length m.inputs))
+
+-- a number below the count of drivers is a signal
+signal_among : (m : NamedModel) → IsDistinct bytes_eq (drivers_of m) → (k : ℕ) → k < length (drivers_of m) → Contains (signals_of (numbered_model m)) k
+signal_among m differ k within =
+    let below : k < length m.inputs + length m.covers = omega (arith, drivers_count m) in
+    (k, omega (arith, signals_count m), signal_at m differ k k below)
+
+-- a test that some element passes finds its place
+place_below : {X : Type 0} (test : X → Bool) (xs : List X) → list_any test xs ≡ true → position_or_len test xs < length xs
+place_below test xs passes =
+    ⊎_elim
+    (λ below. below)
+    (λ past. absurd (false≢true (sym (list_any_none test xs (λ k d within. fails_before_first test xs k d (omega arith))) ∙ passes)))
+    (cases_lt (position_or_len test xs) (length xs))
+
+-- a signal with a driver has a number that is a signal
+driven_among : (m : NamedModel) → IsDistinct bytes_eq (drivers_of m) → (name : List ℕ) → is_driven m name ≡ true → Contains (signals_of (numbered_model m)) (number_of m name)
+driven_among m differ name driven = signal_among m differ (number_of m name) (place_below (bytes_eq name) (drivers_of m) driven)
+
+-- no two numbers are the same
+one_driver_each : (m : NamedModel) → IsDistinct bytes_eq (drivers_of m) → IsDistinct nat_eq (signals_of (numbered_model m))
+one_driver_each m differ = IsDistinct-from_apart nat_eq (signals_of (numbered_model m)) (λ i j d before within.
+    let many = signals_count m in
+    let a : get_or (signals_of (numbered_model m)) i d ≡ i = signal_at m differ i d (omega arith) in
+    let b : get_or (signals_of (numbered_model m)) j d ≡ j = signal_at m differ j d (omega arith) in
+    ap (λ x. nat_eq x (get_or (signals_of (numbered_model m)) j d)) a ∙ ap (nat_eq i) b ∙ ne_eqb i j (λ same. omega arith))
+
+reads_among : (m : NamedModel) → IsDistinct bytes_eq (drivers_of m) → undriven_line m ≡ None
+    → All (λ (cover : Cover). All (λ signal. Contains (signals_of (numbered_model m)) signal) cover.ins) (numbered_model m).covers
+reads_among m differ none =
+    let Among : ℕ → Type 0 = λ signal. Contains (signals_of (numbered_model m)) signal in
+    All-map (λ (cover : Cover). All Among cover.ins) (numbered_cover m) m.covers (λ k d within.
+    let cover = get_or m.covers k d in
+    All-map Among (number_of m) cover.ins (λ j e inside.
+    driven_among m differ (get_or cover.ins j e)
+    (not_false _ (each_fails (λ name. not (is_driven m name)) cover.ins (covers_driven m none k d within) j e inside))))
+
+outputs_among : (m : NamedModel) → IsDistinct bytes_eq (drivers_of m) → undriven_line m ≡ None
+    → All (λ signal. Contains (signals_of (numbered_model m)) signal) (numbered_model m).outputs
+outputs_among m differ none =
+    All-map (λ signal. Contains (signals_of (numbered_model m)) signal) (λ (output : NamedOutput). number_of m output.signal) m.outputs
+    (λ k d within. driven_among m differ (get_or m.outputs k d).signal (outputs_driven m none k d within))
+
+-- no signal depends on itself, where no cover's output does
+acyclic : (m : NamedModel) → ((place : ℕ) → IsCyclic m place → ⊥) → (signal : ℕ) → Depends (numbered_model m) signal signal → ⊥
+acyclic m none signal depends =
+    let (k, inside, is) = driver_of_dependent (numbered_model m) signal signal depends no_numbers in
+    let within : k < length m.covers = omega (arith, length-map m.covers (numbered_cover m)) in
+    let same : signal ≡ number_of m (get_or m.covers k no_cover).out =
+    sym is ∙ ap (λ (cover : Cover). cover.out) (get_or-map (numbered_cover m) m.covers k no_cover no_numbers within) in
+    none k (get_or m.covers k no_cover, slice_get-get_or m.covers k no_cover within, subst (λ s. Depends (numbered_model m) s s) same depends)
+
+-- each row of a model by names has as many literals as its cover reads signals
+abbrev pub RowsFit : NamedModel → Type 0
+RowsFit m = All (λ (cover : NamedCover). All (λ row. length row ≡ length cover.ins) cover.rows) m.covers
+
+rows_fit : (m : NamedModel) → RowsFit m → All (λ (cover : Cover). All (λ row. length row ≡ length cover.ins) cover.rows) (numbered_model m).covers
+rows_fit m fit = All-map (λ (cover : Cover). All (λ row. length row ≡ length cover.ins) cover.rows) (numbered_cover m) m.covers (λ k d within j e inside.
+    fit k d within j e inside ∙ sym (length-map (get_or m.covers k d).ins (number_of m)))
+
+-- a faultless model by names is a model by numbers
+pub IsModel-numbered : (m : NamedModel) → IsDistinct bytes_eq (drivers_of m) → RowsFit m → IsFaultless m → size_of_model (numbered_model m) ≤ most_size → IsModel (numbered_model m)
+IsModel-numbered m differ fit fine small =
+    let inputs : length (range_with_len 0 (length m.inputs)) ≡ length m.inputs = length-range_with_len 0 (length m.inputs) in
+    let outputs : length (numbered_model m).outputs ≡ length m.outputs = length-map m.outputs (λ (output : NamedOutput). number_of m output.signal) in
+    record {
+      has_input = omega (arith, fine.bits.0);
+      has_output = omega (arith, fine.bits.1);
+      inputs_in_order = ap (range_with_len 0) (sym inputs);
+      one_driver = one_driver_each m differ;
+      reads_driven = reads_among m differ fine.driven;
+      outputs_driven = outputs_among m differ fine.driven;
+      no_cycle = acyclic m fine.no_cycle;
+      row_widths = rows_fit m fit;
+      small = small;
+    }

@@ -1,0 +1,12 @@
+use Rattle.std.proofs.Common.{arith}
+use Rattle.std.specs.Ordering.{nat_cmp}
+use Rattle.std.specs.BTreeMap.{get}
+use Rattle.std.proofs.lemmas.Grind.{common_steps}
+use Rattle.ncl_blif.proofs.Growing.{filter_map-more}
+use Rattle.ncl_blif.proofs.dependence.places_of.Goals as goal
+use Rattle.ncl_blif.proofs.dependence.places_of.Goals.{in-Some+in_ok-push, in_default}
+
+pub loop-signal-preserved : goal.loop-signal-preserved
+loop-signal-preserved c =
+    let more = filter_map-more (get nat_cmp c.args.places.now) c.args.signals.now c.loop-signal.signal-index 0 c.loop-signal-test.true in
+    elim c.match-get.branch [ in-Some+in_ok-push w ↦ grind (arith, common_steps) | in_default w ↦ grind (arith, common_steps) ]

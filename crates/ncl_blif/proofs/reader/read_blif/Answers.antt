@@ -1,0 +1,74 @@
+use Rattle.std.proofs.Common.{◌≡◌, false, ◌<◌, length, get_or, map, inl, inr, ⊎_elim, sym, ap, ◌∙◌, subst, arith}
+use Rattle.std.specs.Prelude.{All}
+use Rattle.ncl_blif.specs.LineFaults.{has_twins}
+use Rattle.std.proofs.lemmas.Result.{err_from_is_err_and}
+use Rattle.std.proofs.lemmas.List.Sums.{sum_by_more_le}
+use Rattle.ncl_blif.specs.Named.{NamedModel, drivers_of, size_of_named}
+use Rattle.ncl_blif.specs.Numbered.{numbered_model}
+use Rattle.ncl_blif.specs.Model.{AreModels}
+use Rattle.ncl_blif.specs.Answer.{models_said, IsFaultless, IsFirstModelFault, unjoined_model, line, model, width}
+use Rattle.ncl_blif.proofs.Counts.{models_few}
+use Rattle.ncl_blif.proofs.ModelSizes.{models_said-size}
+use Rattle.ncl_blif.proofs.ReadFacts.{AreModels-said, covers_sized}
+use Rattle.ncl_blif.proofs.reader.read_blif.Goals as goal
+
+pub returns-in_err-drafts-clause-refused : goal.returns-in_err-drafts-clause-refused
+returns-in_err-drafts-clause-refused c =
+    let p = err_from_is_err_and c.from_residual.result c.from_residual.ensures.1 in
+    rw (p.1, p.2) (⊎_elim (λ none. inl none) (λ broken. inr (line _ broken)) c.in_err-drafts.ensures)
+
+pub finish_all-requires-clause-few : goal.finish_all-requires-clause-few
+finish_all-requires-clause-few c =
+    let text = c.args.text.now in
+    omega (arith, ap length (c.deref.ensures.value ∙ c.in_ok-drafts.ensures.1), models_few text)
+
+pub finish_all-requires-clause-few_inputs : goal.finish_all-requires-clause-few_inputs
+finish_all-requires-clause-few_inputs c = λ k d within.
+    let text = c.args.text.now in
+    let is = c.deref.ensures.value ∙ c.in_ok-drafts.ensures.1 in
+    omega (
+      arith,
+      models_said-size text,
+      sum_by_more_le size_of_named (models_said text) k d (subst (λ xs. k < length xs) is within),
+      ap (λ xs. length (get_or xs k d).inputs) is,
+    )
+
+pub finish_all-requires-clause-few_covers : goal.finish_all-requires-clause-few_covers
+finish_all-requires-clause-few_covers c = λ k d within.
+    let text = c.args.text.now in
+    let is = c.deref.ensures.value ∙ c.in_ok-drafts.ensures.1 in
+    omega (
+      arith,
+      models_said-size text,
+      sum_by_more_le size_of_named (models_said text) k d (subst (λ xs. k < length xs) is within),
+      covers_sized (get_or (models_said text) k d).covers,
+      ap (λ xs. length (get_or xs k d).covers) is,
+    )
+
+pub returns-in_err-models-clause-refused : goal.returns-in_err-models-clause-refused
+returns-in_err-models-clause-refused c =
+    let p = err_from_is_err_and c.from_residual-in_err-models.result c.from_residual-in_err-models.ensures.1 in
+    let is = c.deref.ensures.value ∙ c.in_ok-drafts.ensures.1 in
+    rw (p.1, p.2) (⊎_elim (λ none. inl none)
+    (λ broken. inr (model c.in_err-models.field-0.0 c.in_ok-drafts.ensures.0 (subst (λ xs. IsFirstModelFault xs c.in_err-models.field-0.0) is broken))) c.in_err-models.ensures.refused)
+
+pub first_unjoined-requires : goal.first_unjoined-requires
+first_unjoined-requires c =
+    omega (arith, ap length (c.deref-2.ensures.value ∙ c.in_ok-drafts.ensures.1), models_few c.args.text.now)
+
+pub returns-in-Some-clause-refused : goal.returns-in-Some-clause-refused
+returns-in-Some-clause-refused c =
+    let is = c.deref.ensures.value ∙ c.in_ok-drafts.ensures.1 in
+    let again = c.deref-2.ensures.value ∙ c.in_ok-drafts.ensures.1 in
+    inr (width c.in-Some.number c.in_ok-drafts.ensures.0 (subst (All IsFaultless) is c.in_ok-models.ensures.faultless)
+    (ap (unjoined_model 1) (sym again) ∙ sym c.in-Some.ensures))
+
+pub returns-clause-models : goal.returns-clause-models
+returns-clause-models c =
+    let text = c.args.text.now in
+    let is = c.deref.ensures.value ∙ c.in_ok-drafts.ensures.1 in
+    let again = c.deref-2.ensures.value ∙ c.in_ok-drafts.ensures.1 in
+    let models = AreModels-said text (omega arith) c.in_ok-drafts.ensures.0 (subst (All IsFaultless) is c.in_ok-models.ensures.faultless)
+    (subst (All (λ (m : NamedModel). has_twins (drivers_of m) ≡ false)) is c.in_ok-models.ensures.one_driver)
+    (ap (unjoined_model 1) (sym again) ∙ sym c.in_default.ensures) in
+    subst AreModels (sym (c.in_ok-models.ensures.read ∙ ap (map numbered_model) is)) models

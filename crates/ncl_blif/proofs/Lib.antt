@@ -16,7 +16,10 @@ pub mod DependenceLaws
 pub mod Anys
 pub mod NumberedLaws
 pub mod FinishLaws
+pub mod AnswerLaws
 pub mod ModelFacts
 pub mod RowsFit
 pub mod Counts
 pub mod ReadFacts
+pub mod Fitting
+pub mod Composing

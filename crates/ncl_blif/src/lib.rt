@@ -10,6 +10,7 @@ mod draft_cover;
 mod drivers;
 mod fault;
 mod finish;
+pub mod laws;
 mod line;
 mod model;
 mod part;

@@ -1,0 +1,10 @@
+pub mod Selecting
+pub mod LiveRows
+pub mod Settling
+pub mod Folding
+pub mod Walking
+pub mod CoverOrder
+pub mod Marking
+pub mod NewPlaces
+pub mod Pruning
+pub mod Whole

@@ -1,0 +1,237 @@
+-- The network of the nodes that are kept.
+use Rattle.std.proofs.Common.{◌≡◌, ℕ, suc, ◌+◌, ◌<◌, ◌≤◌, Bool, true, false, not, cond, List, [], ◌∷◌, ◌++◌, length, map, get_or, Some, refl, sym, ap, ◌∙◌, subst, arith, ⊎_elim, add-zero, zero-add}
+use Rattle.std.specs.Prelude.{All, Contains, slice_get, sum_by}
+use Rattle.std.specs.Option.{option_map}
+use Rattle.std.proofs.lemmas.Bool.{cases_lt, false≢true}
+use Rattle.std.proofs.lemmas.List.{get_or_default, length-map, get_or-map, get_or_append_left, get_or_push, length_push}
+use Rattle.std.proofs.lemmas.List.Elements.{All-head, All-tail, All-map, All-weaker}
+use Rattle.std.proofs.lemmas.Option.{slice_get-map}
+use Rattle.ncl_blif.specs.Meaning.{cover_value}
+use Rattle.ncl_blif.specs.Model.{most_size}
+use Rattle.ncl_network.specs.declared.network.From3.{From3}
+use Rattle.ncl_network.specs.declared.network.From3.TheVariants.{Input, Node as FromNode, Const}
+use Rattle.ncl_network.specs.declared.network.Signal.{Signal}
+use Rattle.ncl_network.specs.declared.network.Node.{Node}
+use Rattle.ncl_network.specs.declared.network.Network.{Network}
+use Rattle.ncl_network.specs.Network.{source_value, signal_value, node_value, node_values, answer_of, weight_of_rows, weight_of_network, is_constant, IsSource, ReadBefore, ReachesOutput, output, reader, IsNode, IsNetwork}
+use Rattle.ncl_network.specs.Fold.{select}
+use Rattle.ncl_network.specs.Prune.{IsInOrder, IsMarked, is_read, is_kept, new_place, moved_source, moved_signal, moved_node}
+use Rattle.ncl_network.proofs.Selecting.{All-select, sum_by-select-le}
+use Rattle.ncl_network.proofs.Walking.{length-node_values}
+use Rattle.ncl_network.proofs.Marking.{is_read-from, node_reads}
+use Rattle.ncl_network.proofs.NewPlaces.{kept_within, place-kept, place-dropped, place-below, slice_get-select, length-select-place, place_at}
+
+-- the network of the nodes that are kept, where these have these numbers
+abbrev pub pruned : Network → List Bool → (ℕ → ℕ) → Network
+pruned network kept places = record {
+  inputs = network.inputs;
+  nodes = map (moved_node places) (select kept network.nodes);
+  outputs = map (moved_signal places) network.outputs;
+}
+
+-- there is such a source, and where it is a node this is kept
+abbrev IsKeptSource : ℕ → ℕ → List Bool → From3 → Type 0
+IsKeptSource inputs count kept (Input i) = i < inputs
+IsKeptSource inputs count kept (FromNode k) = (k < count) × (is_kept kept k ≡ true)
+IsKeptSource inputs count kept (Const bit) = Unit {0}
+
+-- what is read by something that keeps all that it reads is kept
+all_kept : (inputs count : ℕ) (kept : List Bool) (signals : List Signal) → All (λ signal. IsSource inputs count signal.from) signals → ((k : ℕ) → is_read signals k ≡ true → is_kept kept k ≡ true) → All (λ signal. IsKeptSource inputs count kept signal.from) signals
+all_kept inputs count kept signals all reads i d within =
+    let signal : Signal = get_or signals i d in
+    by_source signal.from refl (all i d within)
+  where
+    by_source : (from : From3) → (get_or signals i d).from ≡ from → IsSource inputs count from → IsKeptSource inputs count kept from
+    by_source (Input j) e there = there
+    by_source (FromNode k) e there = (there, reads k (is_read-from signals (get_or signals i d) k (i, within, get_or_default signals i (get_or signals i d) d within) e))
+    by_source (Const bit) e there = tt
+
+module _ (kept : List Bool) (places : ℕ → ℕ) (numbered : (k : ℕ) → k < length kept → places k ≡ new_place kept k) where
+  -- ---- the order
+
+  moved_exists : (inputs count : ℕ) (from : From3) → IsKeptSource inputs count kept from → IsSource inputs (new_place kept count) (moved_source places from)
+  moved_exists inputs count (Input i) there = there
+  moved_exists inputs count (FromNode k) there =
+      let same = numbered k (kept_within kept k there.1) in
+      let below = place-below kept k count there.1 there.0 in
+      omega arith
+  moved_exists inputs count (Const bit) there = tt
+
+  moved_all : (inputs count : ℕ) (signals : List Signal) → All (λ signal. IsKeptSource inputs count kept signal.from) signals → All (λ signal. IsSource inputs (new_place kept count) signal.from) (map (moved_signal places) signals)
+  moved_all inputs count signals all =
+      All-map (λ signal. IsSource inputs (new_place kept count) signal.from) (moved_signal places) signals
+      (All-weaker (λ signal. IsKeptSource inputs count kept signal.from) (λ signal. IsSource inputs (new_place kept count) (moved_source places signal.from)) (λ signal. moved_exists inputs count signal.from) signals all)
+
+  next_same : (place : ℕ) (b : Bool) (mask : List Bool) → ((i : ℕ) → i < length (b ∷ mask) → get_or (b ∷ mask) i false ≡ is_kept kept (place + i)) → (i : ℕ) → i < length mask → get_or mask i false ≡ is_kept kept ((place + 1) + i)
+  next_same place b mask same i within =
+      let shift : place + suc i ≡ (place + 1) + i = omega arith in
+      same (suc i) (omega arith) ∙ ap (is_kept kept) shift
+
+  next_reads : (inputs place : ℕ) (node : Node) (nodes : List Node) → ((j : ℕ) (other : Node) → slice_get (node ∷ nodes) j ≡ Some other → is_kept kept (place + j) ≡ true → All (λ signal. IsKeptSource inputs (place + j) kept signal.from) other.ins) → (j : ℕ) (other : Node) → slice_get nodes j ≡ Some other → is_kept kept ((place + 1) + j) ≡ true → All (λ signal. IsKeptSource inputs ((place + 1) + j) kept signal.from) other.ins
+  next_reads inputs place node nodes reads j other at mark =
+      let shift : place + suc j ≡ (place + 1) + j = omega arith in
+      subst (λ n. All (λ signal. IsKeptSource inputs n kept signal.from) other.ins) shift (reads (suc j) other at (ap (is_kept kept) shift ∙ mark))
+
+  moved_before : (inputs place : ℕ) (mask : List Bool) (nodes : List Node) → place + length mask ≡ length kept → ((i : ℕ) → i < length mask → get_or mask i false ≡ is_kept kept (place + i)) → ((j : ℕ) (node : Node) → slice_get nodes j ≡ Some node → is_kept kept (place + j) ≡ true → All (λ signal. IsKeptSource inputs (place + j) kept signal.from) node.ins) → ReadBefore inputs (new_place kept place) (map (moved_node places) (select mask nodes))
+  moved_before inputs place [] nodes count same reads = tt
+  moved_before inputs place (b ∷ mask) [] count same reads = tt
+  moved_before inputs place (true ∷ mask) (node ∷ nodes) count same reads =
+      let here : is_kept kept place ≡ true = ap (is_kept kept) (sym (add-zero place)) ∙ sym (same 0 (omega arith)) in
+      let first : All (λ signal. IsKeptSource inputs place kept signal.from) node.ins = subst (λ n. All (λ signal. IsKeptSource inputs n kept signal.from) node.ins) (add-zero place) (reads 0 node refl (sym (same 0 (omega arith)))) in (
+        moved_all inputs place node.ins first,
+        subst (λ n. ReadBefore inputs n (map (moved_node places) (select mask nodes))) (place-kept kept place here)
+            (moved_before inputs (place + 1) mask nodes (omega arith) (next_same place true mask same) (next_reads inputs place node nodes reads)),
+      )
+  moved_before inputs place (false ∷ mask) (node ∷ nodes) count same reads =
+      let here : is_kept kept place ≡ false = ap (is_kept kept) (sym (add-zero place)) ∙ sym (same 0 (omega arith)) in
+      subst (λ n. ReadBefore inputs n (map (moved_node places) (select mask nodes))) (place-dropped kept place (omega arith) here)
+      (moved_before inputs (place + 1) mask nodes (omega arith) (next_same place false mask same) (next_reads inputs place node nodes reads))
+
+  -- ---- the values
+
+  -- what is kept has the bits that it had
+  Agree : List Bool → List Bool → Type 0
+  Agree old new = (length new ≡ new_place kept (length old)) × ((k : ℕ) → k < length old → is_kept kept k ≡ true → get_or new (new_place kept k) false ≡ get_or old k false)
+
+  same_source : (inputs : ℕ) (word old new : List Bool) (from : From3) → Agree old new → IsKeptSource inputs (length old) kept from → source_value word new (moved_source places from) ≡ source_value word old from
+  unfolding Agree
+  same_source inputs word old new (Input i) agree there = refl
+  same_source inputs word old new (FromNode k) agree there =
+      ap (λ n. get_or new n false) (numbered k (kept_within kept k there.1)) ∙ agree.1 k there.0 there.1
+  same_source inputs word old new (Const bit) agree there = refl
+
+  same_signals : (inputs : ℕ) (word old new : List Bool) (signals : List Signal) → Agree old new → All (λ signal. IsKeptSource inputs (length old) kept signal.from) signals → map (signal_value word new) (map (moved_signal places) signals) ≡ map (signal_value word old) signals
+  same_signals inputs word old new [] agree all = refl
+  same_signals inputs word old new (signal ∷ signals) agree all =
+      let first = same_source inputs word old new signal.from agree (All-head (λ signal. IsKeptSource inputs (length old) kept signal.from) signal signals all) in
+      let rest = same_signals inputs word old new signals agree (All-tail (λ signal. IsKeptSource inputs (length old) kept signal.from) signal signals all) in
+      λ i. cond signal.inverted (not (first i)) (first i) ∷ rest i
+
+  Agree-kept : (old new : List Bool) (bit : Bool) → is_kept kept (length old) ≡ true → Agree old new → Agree (old ++ bit ∷ []) (new ++ bit ∷ [])
+  unfolding Agree
+  Agree-kept old new bit here agree = (
+    length_push new bit ∙ ap (λ n. n + 1) agree.0 ∙ sym (place-kept kept (length old) here) ∙ ap (new_place kept) (sym (length_push old bit)),
+    λ k within mark.
+        ⊎_elim
+        (λ before.
+        let below = place-below kept k (length old) mark before in
+        get_or_append_left new (bit ∷ []) false (new_place kept k) (omega (arith, agree.0)) ∙ agree.1 k before mark
+        ∙ sym (get_or_append_left old (bit ∷ []) false k before))
+        (λ after.
+        let last : k ≡ length old = omega (arith, length_push old bit) in
+        ap (λ n. get_or (new ++ bit ∷ []) (new_place kept n) false) last
+        ∙ get_or_push new bit false (new_place kept (length old)) agree.0
+        ∙ sym (get_or_push old bit false (length old) refl) ∙ ap (λ n. get_or (old ++ bit ∷ []) n false) (sym last))
+        (cases_lt k (length old)),
+  )
+
+  Agree-dropped : (old new : List Bool) (bit : Bool) → length old < length kept → is_kept kept (length old) ≡ false → Agree old new → Agree (old ++ bit ∷ []) new
+  unfolding Agree
+  Agree-dropped old new bit inside here agree = (
+    agree.0 ∙ sym (place-dropped kept (length old) inside here) ∙ ap (new_place kept) (sym (length_push old bit)),
+    λ k within mark.
+        ⊎_elim
+        (λ before. agree.1 k before mark ∙ sym (get_or_append_left old (bit ∷ []) false k before))
+        (λ after.
+        let last : k ≡ length old = omega (arith, length_push old bit) in
+        absurd (false≢true (sym here ∙ ap (is_kept kept) (sym last) ∙ mark)))
+        (cases_lt k (length old)),
+  )
+
+  same_values : (inputs place : ℕ) (word : List Bool) (mask : List Bool) (nodes : List Node) (old new : List Bool) → length old ≡ place → length mask ≡ length nodes → place + length mask ≡ length kept → ((i : ℕ) → i < length mask → get_or mask i false ≡ is_kept kept (place + i)) → ((j : ℕ) (node : Node) → slice_get nodes j ≡ Some node → is_kept kept (place + j) ≡ true → All (λ signal. IsKeptSource inputs (place + j) kept signal.from) node.ins) → Agree old new → Agree (node_values word old nodes) (node_values word new (map (moved_node places) (select mask nodes)))
+  same_values inputs place word [] [] old new at lengths count same reads agree = agree
+  same_values inputs place word [] (node ∷ nodes) old new at lengths count same reads agree = absurd (omega arith)
+  same_values inputs place word (b ∷ mask) [] old new at lengths count same reads agree = absurd (omega arith)
+  same_values inputs place word (true ∷ mask) (node ∷ nodes) old new at lengths count same reads agree =
+      let here : is_kept kept place ≡ true = ap (is_kept kept) (sym (add-zero place)) ∙ sym (same 0 (omega arith)) in
+      let first : All (λ signal. IsKeptSource inputs (length old) kept signal.from) node.ins =
+      subst (λ n. All (λ signal. IsKeptSource inputs n kept signal.from) node.ins) (add-zero place ∙ sym at) (reads 0 node refl (sym (same 0 (omega arith)))) in
+      let bit : Bool = node_value word old node in
+      let bits : node_value word new (moved_node places node) ≡ bit = ap (cover_value node.on node.rows) (same_signals inputs word old new node.ins agree first) in
+      let more : Agree (old ++ bit ∷ []) (new ++ node_value word new (moved_node places node) ∷ []) =
+      subst (λ b. Agree (old ++ bit ∷ []) (new ++ b ∷ [])) (sym bits) (Agree-kept old new bit (ap (is_kept kept) at ∙ here) agree) in
+      same_values inputs (place + 1) word mask nodes (old ++ bit ∷ []) (new ++ node_value word new (moved_node places node) ∷ []) (length_push old bit ∙ ap (λ n. n + 1) at) (omega arith) (omega arith) (next_same place true mask same) (next_reads inputs place node nodes reads) more
+  same_values inputs place word (false ∷ mask) (node ∷ nodes) old new at lengths count same reads agree =
+      let here : is_kept kept place ≡ false = ap (is_kept kept) (sym (add-zero place)) ∙ sym (same 0 (omega arith)) in
+      let bit : Bool = node_value word old node in
+      same_values inputs (place + 1) word mask nodes (old ++ bit ∷ []) new (length_push old bit ∙ ap (λ n. n + 1) at) (omega arith) (omega arith) (next_same place false mask same) (next_reads inputs place node nodes reads) (Agree-dropped old new bit (omega arith) (ap (is_kept kept) at ∙ here) agree)
+
+-- ---- the network
+
+weighs_less : (kept : List Bool) (places : ℕ → ℕ) (nodes : List Node) → sum_by (λ node. weight_of_rows node.rows) (map (moved_node places) (select kept nodes)) ≤ sum_by (λ node. weight_of_rows node.rows) nodes
+weighs_less kept places nodes =
+    sum_by-select-le (λ node. weight_of_rows node.rows) (λ node. weight_of_rows node.rows) (moved_node places) (λ node. omega arith) kept nodes
+
+same_constant : (places : ℕ → ℕ) (from : From3) → is_constant (moved_source places from) ≡ is_constant from
+same_constant places (Input i) = refl
+same_constant places (FromNode k) = refl
+same_constant places (Const bit) = refl
+
+IsNode-moved : (places : ℕ → ℕ) (node : Node) → IsNode node → IsNode (moved_node places node)
+IsNode-moved places node is =
+    let width = length-map node.ins (moved_signal places) in
+    record {
+      two_inputs = omega (arith, is.two_inputs);
+      no_constant = All-map (λ signal. is_constant signal.from ≡ false) (moved_signal places) node.ins (All-weaker (λ signal. is_constant signal.from ≡ false) (λ signal. is_constant (moved_source places signal.from) ≡ false) (λ signal e. same_constant places signal.from ∙ e) node.ins is.no_constant);
+      some_row = is.some_row;
+      row_widths = subst (λ n. All (λ row. length row ≡ n) node.rows) (sym width) is.row_widths;
+      no_idle_row = is.no_idle_row;
+    }
+
+Contains-moved : {X Y : Type 0} (f : X → Y) (xs : List X) (x : X) → Contains xs x → Contains (map f xs) (f x)
+Contains-moved f xs x (k, within, at) =
+    (k, omega (arith, length-map xs f), get_or-map f xs k x (f x) within ∙ ap f at)
+
+-- a node that reaches an output is kept
+reaching_kept : (network : Network) (kept : List Bool) (k : ℕ) → IsMarked network kept 0 → ReachesOutput network k → is_kept kept k ≡ true
+reaching_kept network kept k marked (output k' signal among is) =
+    marked.outputs k' (is_read-from network.outputs signal k' among is)
+reaching_kept network kept k marked (reader k' by node signal at among is reach) =
+    marked.reads k' by node (omega arith) at (reaching_kept network kept by marked reach) (is_read-from node.ins signal k' among is)
+
+-- and reaches one afterwards
+still_reaches : (network : Network) (kept : List Bool) (places : ℕ → ℕ) → ((k : ℕ) → k < length kept → places k ≡ new_place kept k) → IsMarked network kept 0 → (k : ℕ) → ReachesOutput network k → ReachesOutput (pruned network kept places) (new_place kept k)
+still_reaches network kept places numbered marked k (output k' signal among is) =
+    let mark = marked.outputs k' (is_read-from network.outputs signal k' among is) in
+    output (new_place kept k') (moved_signal places signal) (Contains-moved (moved_signal places) network.outputs signal among) (ap (moved_source places) is ∙ ap FromNode (numbered k' (kept_within kept k' mark)))
+still_reaches network kept places numbered marked k (reader k' by node signal at among is reach) =
+    let by_mark = reaching_kept network kept by marked reach in
+    let mark = marked.reads k' by node (omega arith) at by_mark (is_read-from node.ins signal k' among is) in
+    reader (new_place kept k') (new_place kept by) (moved_node places node) (moved_signal places signal)
+    (slice_get-map (moved_node places) (select kept network.nodes) (new_place kept by) ∙ ap (option_map (moved_node places)) (slice_get-select kept network.nodes by node by_mark at))
+    (Contains-moved (moved_signal places) node.ins signal among) (ap (moved_source places) is ∙ ap FromNode (numbered k' (kept_within kept k' mark)))
+    (still_reaches network kept places numbered marked by reach)
+
+module _ (network : Network) (kept : List Bool) (places : ℕ → ℕ) (numbered : (k : ℕ) → k < length kept → places k ≡ new_place kept k) (ordered : IsInOrder network) (marked : IsMarked network kept 0) where
+  node_keeps : (j : ℕ) (node : Node) → slice_get network.nodes j ≡ Some node → is_kept kept (0 + j) ≡ true → All (λ signal. IsKeptSource network.inputs (0 + j) kept signal.from) node.ins
+  node_keeps j node at mark =
+      let here : is_kept kept j ≡ true = ap (is_kept kept) (sym (zero-add j)) ∙ mark in
+      subst (λ n. All (λ signal. IsKeptSource network.inputs n kept signal.from) node.ins) (sym (zero-add j))
+      (all_kept network.inputs j kept node.ins (node_reads network j node ordered at) (λ k. marked.reads k j node (omega arith) at here))
+
+  outputs_keep : All (λ signal. IsKeptSource network.inputs (length network.nodes) kept signal.from) network.outputs
+  outputs_keep =
+      all_kept network.inputs (length network.nodes) kept network.outputs ordered.outputs_exist marked.outputs
+
+  pub same_answer : (word : List Bool) → answer_of (pruned network kept places) word ≡ answer_of network word
+  unfolding Agree
+  same_answer word =
+      let agree = same_values kept places numbered network.inputs 0 word kept network.nodes [] [] refl marked.as_many (zero-add (length kept)) (λ i within. ap (is_kept kept) (sym (zero-add i))) node_keeps (refl, λ k within mark. absurd (omega arith)) in
+      let lengths : length (node_values word [] network.nodes) ≡ length network.nodes = omega (arith, length-node_values word [] network.nodes) in
+      same_signals kept places numbered network.inputs word (node_values word [] network.nodes) (node_values word [] (map (moved_node places) (select kept network.nodes))) network.outputs agree (subst (λ n. All (λ signal. IsKeptSource network.inputs n kept signal.from) network.outputs) (sym lengths) outputs_keep)
+
+  pub less_weight : weight_of_network (pruned network kept places) ≤ weight_of_network network
+  less_weight = weighs_less kept places network.nodes
+
+  pub IsNetwork-pruned : All IsNode network.nodes → weight_of_network network ≤ most_size → IsNetwork (pruned network kept places)
+  IsNetwork-pruned each small =
+      let lengths : length (map (moved_node places) (select kept network.nodes)) ≡ new_place kept (length kept) = length-map (select kept network.nodes) (moved_node places) ∙ length-select-place kept network.nodes marked.as_many in
+      record {
+        nodes = All-map IsNode (moved_node places) (select kept network.nodes) (All-weaker IsNode (λ node. IsNode (moved_node places node)) (IsNode-moved places) (select kept network.nodes) (All-select IsNode kept network.nodes each));
+        reads_before = moved_before kept places numbered network.inputs 0 kept network.nodes (zero-add (length kept)) (λ i within. ap (is_kept kept) (sym (zero-add i))) node_keeps;
+        outputs_exist = subst (λ n. All (λ signal. IsSource network.inputs n signal.from) (map (moved_signal places) network.outputs)) (ap (new_place kept) (sym marked.as_many) ∙ sym lengths) (moved_all kept places numbered network.inputs (length network.nodes) network.outputs outputs_keep);
+        reach = λ n below.
+            let (k, mark, is) = place_at kept network.nodes n marked.as_many (omega (arith, length-map (select kept network.nodes) (moved_node places))) in
+            subst (ReachesOutput (pruned network kept places)) is (still_reaches network kept places numbered marked k (marked.reach k mark));
+        small = omega (arith, weighs_less kept places network.nodes);
+      }

@@ -1,0 +1,142 @@
+-- What a cover without constants folds into.
+use Rattle.std.proofs.Common.{◌≡◌, ℕ, ◌<◌, Bool, true, false, not, ◌&&◌, ◌||◌, cond, List, [], ◌∷◌, length, get_or, refl, ap, ◌∙◌, arith, ⊎_elim}
+use Rattle.std.specs.Prelude.{All}
+use Rattle.std.specs.List.{list_any, list_all}
+use Rattle.std.specs.Bool.{beq}
+use Rattle.std.proofs.lemmas.Bool.{and_parts, or_cases, or_left, or_right, or_parts, and_from}
+use Rattle.std.proofs.lemmas.List.Elements.{All-nil, All-cons, All-head, All-tail}
+use Rattle.ncl_blif.specs.Meaning.{lit_matches, row_matches}
+use Rattle.ncl_blif.specs.declared.model.Lit.{Lit}
+use Rattle.ncl_blif.specs.declared.model.Lit.TheVariants.{Zero, One, Dash}
+use Rattle.ncl_network.specs.Network.{is_dash}
+use Rattle.ncl_network.specs.Fold.{two_level, is_one, is_zero}
+
+idle_lit : (lit : Lit) (bit : Bool) → is_dash lit ≡ true → lit_matches lit bit ≡ true
+idle_lit Zero bit e = absurd cc
+idle_lit One bit e = absurd cc
+idle_lit Dash bit e = refl
+
+-- a row of dashes alone matches everything
+idle_row : (bits : List Bool) (row : List Lit) → list_all is_dash row ≡ true → row_matches bits row ≡ true
+idle_row bits [] e = refl
+idle_row [] (lit ∷ row) e = refl
+idle_row (bit ∷ bits) (lit ∷ row) e =
+    let parts = and_parts _ _ e in
+    and_from _ _ (idle_lit lit bit parts.0) (idle_row bits row parts.1)
+
+idle_matches : (bits : List Bool) (rows : List (List Lit)) → list_any (list_all is_dash) rows ≡ true → list_any (row_matches bits) rows ≡ true
+idle_matches bits [] e = absurd cc
+idle_matches bits (row ∷ rows) e =
+    ⊎_elim (λ here. or_left _ _ (idle_row bits row here)) (λ later. or_right _ _ (idle_matches bits rows later)) (or_cases _ _ e)
+
+chosen : (on b : Bool) → b ≡ true → cond on b (not b) ≡ on
+chosen true b e = e
+chosen false b e = ap not e
+
+-- with such a row the value is constant
+pub two_level-idle : (on : Bool) (rows : List (List Lit)) (bits : List Bool) → list_any (list_all is_dash) rows ≡ true → two_level on rows bits ≡ on
+two_level-idle on rows bits e = chosen on (list_any (row_matches bits) rows) (idle_matches bits rows e)
+
+pub two_level-empty : (on : Bool) (bits : List Bool) → two_level on [] bits ≡ not on
+two_level-empty true bits = refl
+two_level-empty false bits = refl
+
+-- where no item passes, each fails
+pub none_passes : {X : Type 0} (test : X → Bool) (xs : List X) → list_any test xs ≡ false → All (λ x. test x ≡ false) xs
+none_passes test [] e = All-nil (λ x. test x ≡ false)
+none_passes test (x ∷ xs) e =
+    let parts = or_parts _ _ e in
+    All-cons (λ x. test x ≡ false) x xs parts.0 (none_passes test xs parts.1)
+
+-- rows without literals are of dashes alone
+pub wide_rows : (width : ℕ) (rows : List (List Lit)) → 0 < length rows → All (λ row. length row ≡ width) rows → list_any (list_all is_dash) rows ≡ false → 0 < width
+wide_rows width [] some widths e = absurd (omega arith)
+wide_rows width ([] ∷ rows) some widths e = absurd cc
+wide_rows width ((lit ∷ lits) ∷ rows) some widths e =
+    let wide = All-head (λ row. length row ≡ width) (lit ∷ lits) rows widths in
+    omega (arith, wide)
+
+-- what rows of one literal, none of them a dash, match
+one_input : (bit : Bool) (rows : List (List Lit)) → All (λ row. length row ≡ 1) rows → list_any (list_all is_dash) rows ≡ false → list_any (row_matches (bit ∷ [])) rows ≡ ((list_any (λ row. is_one (get_or row 0 Dash)) rows && bit) || (list_any (λ row. is_zero (get_or row 0 Dash)) rows && not bit))
+one_input bit [] widths e = refl
+one_input bit ([] ∷ rows) widths e = absurd cc
+one_input bit ((lit ∷ x ∷ lits) ∷ rows) widths e =
+    let wide = All-head (λ row. length row ≡ 1) (lit ∷ x ∷ lits) rows widths in
+    absurd (omega (arith, wide))
+one_input bit ((Dash ∷ []) ∷ rows) widths e = absurd cc
+one_input true ((One ∷ []) ∷ rows) widths e = refl
+one_input false ((One ∷ []) ∷ rows) widths e =
+    one_input false rows (All-tail (λ row. length row ≡ 1) (One ∷ []) rows widths) e
+    ∙ skip _ _
+  where
+    skip : (a b : Bool) → ((a && false) || b) ≡ ((true && false) || b)
+    skip true b = refl
+    skip false b = refl
+one_input true ((Zero ∷ []) ∷ rows) widths e =
+    one_input true rows (All-tail (λ row. length row ≡ 1) (Zero ∷ []) rows widths) e
+    ∙ skip _ _
+  where
+    skip : (a b : Bool) → (a || (b && false)) ≡ (a || (true && false))
+    skip true b = refl
+    skip false true = refl
+    skip false false = refl
+one_input false ((Zero ∷ []) ∷ rows) widths e = last (list_any (λ row. is_one (get_or row 0 Dash)) rows)
+  where
+    last : (a : Bool) → true ≡ ((a && false) || true)
+    last true = refl
+    last false = refl
+
+-- whether some row asks for a 1 in the first column, and for a 0
+abbrev pub ones : List (List Lit) → Bool
+ones rows = list_any (λ row. is_one (get_or row 0 Dash)) rows
+
+abbrev pub zeros : List (List Lit) → Bool
+zeros rows = list_any (λ row. is_zero (get_or row 0 Dash)) rows
+
+asks_some : (rows : List (List Lit)) → 0 < length rows → All (λ row. length row ≡ 1) rows → list_any (list_all is_dash) rows ≡ false → ones rows ≡ false → zeros rows ≡ true
+asks_some [] some widths e none = absurd (omega arith)
+asks_some ([] ∷ rows) some widths e none = absurd cc
+asks_some ((lit ∷ x ∷ lits) ∷ rows) some widths e none =
+    let wide = All-head (λ row. length row ≡ 1) (lit ∷ x ∷ lits) rows widths in
+    absurd (omega (arith, wide))
+asks_some ((Dash ∷ []) ∷ rows) some widths e none = absurd cc
+asks_some ((One ∷ []) ∷ rows) some widths e none = absurd cc
+asks_some ((Zero ∷ []) ∷ rows) some widths e none = refl
+
+-- the value by what is asked
+abbrev asked_value : Bool → Bool → Bool → Bool → Bool
+asked_value on has_one has_zero bit =
+    cond on ((has_one && bit) || (has_zero && not bit)) (not ((has_one && bit) || (has_zero && not bit)))
+
+by_asked : (on bit : Bool) (rows : List (List Lit)) (has_one has_zero : Bool) → All (λ row. length row ≡ 1) rows → list_any (list_all is_dash) rows ≡ false → ones rows ≡ has_one → zeros rows ≡ has_zero → two_level on rows (bit ∷ []) ≡ asked_value on has_one has_zero bit
+by_asked on bit rows has_one has_zero widths e with_one with_zero =
+    ap (λ m. cond on m (not m)) (one_input bit rows widths e)
+    ∙ (λ i. asked_value on (with_one i) (with_zero i) bit)
+
+pub both_asked : (on bit : Bool) (rows : List (List Lit)) → All (λ row. length row ≡ 1) rows → list_any (list_all is_dash) rows ≡ false → ones rows ≡ true → zeros rows ≡ true → two_level on rows (bit ∷ []) ≡ on
+both_asked on bit rows widths e with_one with_zero = by_asked on bit rows true true widths e with_one with_zero ∙ both on bit
+  where
+    both : (on bit : Bool) → asked_value on true true bit ≡ on
+    both true true = refl
+    both true false = refl
+    both false true = refl
+    both false false = refl
+
+pub one_asked : (on bit : Bool) (rows : List (List Lit)) → All (λ row. length row ≡ 1) rows → list_any (list_all is_dash) rows ≡ false → ones rows ≡ true → zeros rows ≡ false → two_level on rows (bit ∷ []) ≡ cond (not (beq true on)) (not bit) bit
+one_asked on bit rows widths e with_one no_zero = by_asked on bit rows true false widths e with_one no_zero ∙ same on bit
+  where
+    same : (on bit : Bool) → asked_value on true false bit ≡ cond (not (beq true on)) (not bit) bit
+    same true true = refl
+    same true false = refl
+    same false true = refl
+    same false false = refl
+
+pub zero_asked : (on bit : Bool) (rows : List (List Lit)) → 0 < length rows → All (λ row. length row ≡ 1) rows → list_any (list_all is_dash) rows ≡ false → ones rows ≡ false → two_level on rows (bit ∷ []) ≡ cond (not (beq false on)) (not bit) bit
+zero_asked on bit rows some widths e no_one =
+    by_asked on bit rows false true widths e no_one (asks_some rows some widths e no_one) ∙ inverse on bit
+  where
+    inverse : (on bit : Bool) → asked_value on false true bit ≡ cond (not (beq false on)) (not bit) bit
+    inverse true true = refl
+    inverse true false = refl
+    inverse false true = refl
+    inverse false false = refl

@@ -1,0 +1,7 @@
+use Rattle.std.proofs.Common.{◌≡◌, ℕ, ◌||◌, take}
+use Rattle.ncl_network.specs.Prune.{is_kept, is_read}
+use Rattle.ncl_network.proofs.mark.mark.Given as goal
+
+abbrev pub invariant-loop-signal : goal.invariant-loop-signal
+invariant-loop-signal l =
+    (k : ℕ) → is_kept l.kept k ≡ (is_kept l.initial.kept k || is_read (take l.signal-index l.signals) k)

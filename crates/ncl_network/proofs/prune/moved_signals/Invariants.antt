@@ -1,0 +1,8 @@
+use Rattle.std.proofs.Common.{◌≡◌, map, take}
+use Rattle.std.specs.List.{slice_index_or}
+use Rattle.ncl_network.specs.Prune.{moved_signal}
+use Rattle.ncl_network.proofs.prune.moved_signals.Given as goal
+
+abbrev pub invariant-loop-signal : goal.invariant-loop-signal
+invariant-loop-signal l =
+    l.found.items ≡ map (moved_signal (λ k. slice_index_or l.places k 0)) (take l.signal-index l.signals)

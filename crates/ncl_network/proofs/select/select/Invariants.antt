@@ -1,0 +1,6 @@
+use Rattle.std.proofs.Common.{◌≡◌, take}
+use Rattle.ncl_network.specs.Fold.{select}
+use Rattle.ncl_network.proofs.select.select.Given as goal
+
+abbrev pub invariant-loop-place : goal.invariant-loop-place
+invariant-loop-place g l = l.kept.items ≡ select (take l.place l.mask) (take l.place l.items)

@@ -1,0 +1,7 @@
+use Rattle.std.proofs.Common.{◌≡◌, take, map}
+use Rattle.ncl_network.specs.Fold.{select}
+use Rattle.ncl_network.proofs.select.select_rows.Given as goal
+
+abbrev pub invariant-loop-place : goal.invariant-loop-place
+invariant-loop-place l =
+    l.kept.items ≡ map (select l.mask) (select (take l.place l.live) (take l.place l.rows))

@@ -1,0 +1,16 @@
+use Rattle.std.proofs.Common.{◌≡◌, ◌++◌, [], ◌∷◌, sym, ◌∙◌, subst, arith}
+use Rattle.std.specs.Prelude.{IsSome}
+use Rattle.std.specs.Ordering.{nat_cmp}
+use Rattle.std.specs.BTreeMap.{get}
+use Rattle.std.proofs.lemmas.Grind.{common_steps}
+use Rattle.ncl_network.proofs.Walking.{found_more}
+use Rattle.ncl_network.proofs.walk.Walk.look_up.Goals as goal
+
+pub unwrap-signal-requires : goal.unwrap-signal-requires
+unwrap-signal-requires c =
+    subst IsSome (sym (c.copied.ensures ∙ c.get.ensures.value)) (c.requires c.loop-name.name-index 0 (omega arith))
+
+pub loop-name-preserved : goal.loop-name-preserved
+loop-name-preserved c =
+    let more : c.push.new.self.items ≡ c.loop-name.found.items ++ c.unwrap-signal.result ∷ [] = grind (arith, common_steps) in
+    found_more (get nat_cmp c.args.self.now.signals) c.args.names.now c.loop-name.name-index c.loop-name.found.items c.push.new.self.items c.unwrap-signal.result (omega arith) c.loop-name.invariant (sym (c.copied.ensures ∙ c.get.ensures.value) ∙ c.unwrap-signal.ensures) more

@@ -1,0 +1,31 @@
+use Rattle.std.proofs.Common.{ℕ, List, [], cond, nat_lt, length, get_or, take, Some, None, sym, ap, ◌∙◌, subst}
+use Rattle.std.specs.Ordering.{nat_cmp}
+use Rattle.std.specs.BTreeMap.{get}
+use Rattle.std.proofs.lemmas.List.{take_more}
+use Rattle.ncl_blif.specs.declared.model.Cover.{Cover}
+use Rattle.ncl_network.specs.Walk.{input_signal, IsWalked}
+use Rattle.ncl_network.proofs.CoverOrder.{IsWalked-none, turn_ready, turn_few, turn_done}
+use Rattle.ncl_network.proofs.walk.walk_covers.Goals as goal
+
+pub loop-place-init : goal.loop-place-init
+loop-place-init c =
+    subst (λ nodes. IsWalked c.args.model.now (get nat_cmp c.in_ok-walk.walk.signals) nodes []) (sym c.in_ok-walk.ensures.nodes)
+    (IsWalked-none c.args.model.now (get nat_cmp c.in_ok-walk.walk.signals) c.requires.model (λ q. c.in_ok-walk.ensures.known q ∙ ap (λ (inputs : List ℕ). cond (nat_lt q (length inputs)) (Some (input_signal q)) None) c.items.ensures))
+
+pub take_cover-requires-clause-known : goal.take_cover-requires-clause-known
+take_cover-requires-clause-known c =
+    let cover : Cover = c.index-covers-place.result in
+    let place : ℕ = get_or c.args.order.now c.loop-place.place-index 0 in
+    turn_ready c.args.model.now c.requires.model c.args.order.now c.requires.order c.loop-place.place-index c.loop-place-test.true (get nat_cmp c.loop-place.walk.signals) c.loop-place.walk.nodes.items cover (c.index-covers-place.is ∙ ap (λ covers. get_or covers place cover) c.items-covers.ensures) c.loop-place.invariant
+
+pub take_cover-requires-clause-few : goal.take_cover-requires-clause-few
+take_cover-requires-clause-few c =
+    turn_few c.args.model.now c.requires.model c.args.order.now c.requires.order c.loop-place.place-index c.loop-place-test.true (get nat_cmp c.loop-place.walk.signals) c.loop-place.walk.nodes.items c.loop-place.invariant
+
+pub loop-place-preserved : goal.loop-place-preserved
+loop-place-preserved c =
+    let cover : Cover = c.index-covers-place.result in
+    let place : ℕ = get_or c.args.order.now c.loop-place.place-index 0 in
+    let at = turn_done c.args.model.now c.requires.model c.args.order.now c.requires.order c.loop-place.place-index c.loop-place-test.true cover (c.index-covers-place.is ∙ ap (λ covers. get_or covers place cover) c.items-covers.ensures) in
+    subst (IsWalked c.args.model.now (get nat_cmp c.take_cover.new.self.signals) c.take_cover.new.self.nodes.items) (sym (take_more c.args.order.now c.loop-place.place-index 0 c.loop-place-test.true))
+    (c.in_ok-take_cover.ensures c.args.model.now (take c.loop-place.place-index c.args.order.now) place at c.loop-place.invariant)

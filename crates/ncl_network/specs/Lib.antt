@@ -1,0 +1,4 @@
+pub mod Network
+pub mod Fold
+pub mod Walk
+pub mod Prune

@@ -1,0 +1,17 @@
+//! Networks of two-level nodes: a model with its constants, inversions and dead inputs folded away.
+#![tactic(auto)]
+
+mod columns;
+mod fault;
+mod fold;
+mod literals;
+mod mark;
+mod network;
+mod prune;
+mod reducing;
+mod select;
+mod walk;
+
+pub use fault::CompileFault;
+pub use network::{From3, Network, Node, Signal};
+pub use reducing::reduce;

@@ -63,7 +63,7 @@ abbrev pub HasSources : ℕ → ℕ → Folded → Type 0
 HasSources inputs count (IntoSignal signal) = IsSource inputs count signal.from
 HasSources inputs count (IntoNode node) = All (λ signal. IsSource inputs count signal.from) node.ins
 
--- how much there is to the rows that are left
+-- the weight of the rows that are left
 abbrev pub weight_of_folded : Folded → ℕ
 weight_of_folded (IntoSignal signal) = 0
 weight_of_folded (IntoNode node) = weight_of_rows node.rows

@@ -36,7 +36,7 @@ node_values word bits (node ∷ rest) = node_values word (bits ++ node_value wor
 abbrev pub answer_of : Network → List Bool → List Bool
 answer_of network word = map (signal_value word (node_values word [] network.nodes)) network.outputs
 
--- how much there is to rows: their literals, and one for each row
+-- the weight of rows: their literals, and one for each row
 abbrev pub weight_of_rows : List (List Lit) → ℕ
 weight_of_rows rows = sum_by (λ row. length row + 1) rows
 
@@ -78,16 +78,21 @@ pub data ReachesOutput (network : Network) : ℕ → Type 0 where
 -- a node that covers fold into: it has two inputs or more, none of them constant, and rows that fit these,
 -- none of dashes alone
 pub record IsNode (node : Node) : Type 0 where
+  -- its inputs
   pub two_inputs : 2 ≤ length node.ins
   pub no_constant : All (λ signal. is_constant signal.from ≡ false) node.ins
+  -- its rows
   pub some_row : 0 < length node.rows
   pub row_widths : All (λ row. length row ≡ length node.ins) node.rows
   pub no_idle_row : All (λ row. list_all is_dash row ≡ false) node.rows
 
 -- a network that models fold into
 pub record IsNetwork (network : Network) : Type 0 where
+  -- its nodes are such nodes, and each reads only inputs that there are and nodes before it
   pub nodes : All IsNode network.nodes
   pub reads_before : ReadBefore network.inputs 0 network.nodes
+  -- there is what its outputs are of, and each node reaches one of them
   pub outputs_exist : All (λ signal. IsSource network.inputs (length network.nodes) signal.from) network.outputs
   pub reach : (k : ℕ) → k < length network.nodes → ReachesOutput network k
+  -- it weighs no more than a file may
   pub small : weight_of_network network ≤ most_size

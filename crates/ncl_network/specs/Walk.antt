@@ -28,7 +28,7 @@ abbrev pub signal_with : List Node → Folded → Signal
 signal_with nodes (IntoSignal signal) = signal
 signal_with nodes (IntoNode node) = node_signal (length nodes)
 
--- how much there is to the rows of the cover at a place
+-- the weight of the rows of the cover at a place
 abbrev pub weight_at : List Cover → ℕ → ℕ
 weight_at covers place = slice_index_or (map (λ cover. weight_of_rows cover.rows) covers) place 0
 

@@ -10,6 +10,8 @@ mod network;
 mod prune;
 mod reducing;
 mod select;
+#[cfg(test)]
+mod tests;
 mod walk;
 
 pub use fault::CompileFault;

@@ -57,7 +57,7 @@ wide_rows width ((lit ∷ lits) ∷ rows) some widths e =
     omega (arith, wide)
 
 -- what rows of one literal, none of them a dash, match
-one_input : (bit : Bool) (rows : List (List Lit)) → All (λ row. length row ≡ 1) rows → list_any (list_all is_dash) rows ≡ false → list_any (row_matches (bit ∷ [])) rows ≡ ((list_any (λ row. is_one (get_or row 0 Dash)) rows && bit) || (list_any (λ row. is_zero (get_or row 0 Dash)) rows && not bit))
+one_input : (bit : Bool) (rows : List (List Lit)) → All (λ row. length row ≡ 1) rows → list_any (list_all is_dash) rows ≡ false → list_any (row_matches (bit ∷ [])) rows ≡ ((list_any (λ lits. is_one (get_or lits 0 Dash)) rows && bit) || (list_any (λ lits. is_zero (get_or lits 0 Dash)) rows && not bit))
 one_input bit [] widths e = refl
 one_input bit ([] ∷ rows) widths e = absurd cc
 one_input bit ((lit ∷ x ∷ lits) ∷ rows) widths e =
@@ -80,7 +80,7 @@ one_input true ((Zero ∷ []) ∷ rows) widths e =
     skip true b = refl
     skip false true = refl
     skip false false = refl
-one_input false ((Zero ∷ []) ∷ rows) widths e = last (list_any (λ row. is_one (get_or row 0 Dash)) rows)
+one_input false ((Zero ∷ []) ∷ rows) widths e = last (list_any (λ lits. is_one (get_or lits 0 Dash)) rows)
   where
     last : (a : Bool) → true ≡ ((a && false) || true)
     last true = refl
@@ -88,10 +88,10 @@ one_input false ((Zero ∷ []) ∷ rows) widths e = last (list_any (λ row. is_o
 
 -- whether some row asks for a 1 in the first column, and for a 0
 abbrev pub ones : List (List Lit) → Bool
-ones rows = list_any (λ row. is_one (get_or row 0 Dash)) rows
+ones rows = list_any (λ lits. is_one (get_or lits 0 Dash)) rows
 
 abbrev pub zeros : List (List Lit) → Bool
-zeros rows = list_any (λ row. is_zero (get_or row 0 Dash)) rows
+zeros rows = list_any (λ lits. is_zero (get_or lits 0 Dash)) rows
 
 asks_some : (rows : List (List Lit)) → 0 < length rows → All (λ row. length row ≡ 1) rows → list_any (list_all is_dash) rows ≡ false → ones rows ≡ false → zeros rows ≡ true
 asks_some [] some widths e none = absurd (omega arith)

@@ -65,7 +65,7 @@ fn has_idle_row(rows: &[Row]) -> bool
 
 /// Whether some row asks for a 1 in the first column. Linear in the rows.
 fn asks_for_one(rows: &[Row]) -> bool
-    ensures { result ≡ list_any (λ row. is_one (slice_index_or row 0 Lit.Dash)) rows.now }
+    ensures { result ≡ list_any (λ lits. is_one (slice_index_or lits 0 Lit.Dash)) rows.now }
 {
     rows.iter().any(|row| match lit_at(row, 0) {
         Lit::One => true,
@@ -75,7 +75,7 @@ fn asks_for_one(rows: &[Row]) -> bool
 
 /// Whether some row asks for a 0 in the first column. Linear in the rows.
 fn asks_for_zero(rows: &[Row]) -> bool
-    ensures { result ≡ list_any (λ row. is_zero (slice_index_or row 0 Lit.Dash)) rows.now }
+    ensures { result ≡ list_any (λ lits. is_zero (slice_index_or lits 0 Lit.Dash)) rows.now }
 {
     rows.iter().any(|row| match lit_at(row, 0) {
         Lit::Zero => true,

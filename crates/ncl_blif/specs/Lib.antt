@@ -11,3 +11,4 @@ pub mod Meaning
 pub mod Numbered
 pub mod Dependence
 pub mod Answer
+pub mod Examples

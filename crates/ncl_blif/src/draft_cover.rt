@@ -136,11 +136,4 @@ impl<'a> DraftCover<'a> {
     {
         &self.rows
     }
-
-    /// The rows, to be kept.
-    pub(crate) fn into_rows(self) -> Items<Row>
-        ensures { result ≡ self.entry.rows }
-    {
-        self.rows
-    }
 }

@@ -8,6 +8,7 @@ mod draft;
 mod draft_body;
 mod draft_cover;
 mod drivers;
+pub mod examples;
 mod fault;
 mod finish;
 pub mod laws;

@@ -2,3 +2,4 @@ pub mod Network
 pub mod Fold
 pub mod Walk
 pub mod Prune
+pub mod Examples

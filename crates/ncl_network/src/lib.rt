@@ -2,6 +2,7 @@
 #![tactic(auto)]
 
 mod columns;
+pub mod examples;
 mod fault;
 mod fold;
 mod literals;

@@ -2,19 +2,20 @@
 use Rattle.std.proofs.Common.{◌≡◌, ◌≢◌, ℕ, zero, suc, ◌+◌, ◌<◌, ◌≤◌, ◌^◌, true, false, cond, ◌==◌, nat_lt, List, [], ◌∷◌, ◌++◌, length, map, get_or, take, drop, Option, Some, None, refl, sym, ap, ◌∙◌, subst, arith, ⊎_elim, zero-add}
 use Rattle.std.specs.Prelude.{All, AllPairs, Contains, IsSome, IfSome, sum, sum_by, slice_get, slice_set}
 use Rattle.std.specs.List.{filter_map}
-use Rattle.std.proofs.lemmas.Bool.{eqb-true, eq-eqb, ltb-true, lt-ltb, cases_lt}
-use Rattle.std.proofs.lemmas.List.{length-take, take-append-drop, drop_more, length-map, get_or-map, get_or_past, get_or_default, get_or-set_other, length-set}
+use Rattle.std.proofs.lemmas.Bool.{eqb-true, eq-eqb, ltb-true, lt-ltb}
+use Rattle.std.proofs.lemmas.List.{length-take, take-append-drop, drop_more, length-map, get_or-map, get_or_default, get_or-set_other, length-set}
 use Rattle.std.proofs.lemmas.List.FromFn.{get_or-range_with_len, get_or-map-range_with_len}
 use Rattle.std.proofs.lemmas.List.Elements.{All-nil, All-head, All-tail, Contains-append_cases}
 use Rattle.std.proofs.lemmas.List.Sums.{sum_by-cons, sum_by-set, sum-map}
 use Rattle.std.proofs.lemmas.Option.{slice_get-get_or}
-use Rattle.ncl_graph.specs.Graph.{Leads, arc, further, successors, IsOnCycle, IsOrder}
+use Rattle.ncl_graph.specs.Graph.{successors, IsOnCycle, IsOrder}
 use Rattle.ncl_blif.specs.Model.{IsModel, signals_of, size_of_model, size_of_rows}
 use Rattle.ncl_blif.specs.Dependence.{driver_place, dependency_graph}
 use Rattle.ncl_blif.specs.declared.model.Lit.{Lit}
 use Rattle.ncl_blif.specs.declared.model.Cover.{Cover}
 use Rattle.ncl_blif.specs.declared.model.Model.{Model}
 use Rattle.ncl_blif.proofs.DependenceLaws.{position_from-passes, position_from-found, Contains-filter_map_of, Depends-from_Leads}
+use Rattle.ncl_blif.proofs.FinishLaws.{leads_within}
 use Rattle.ncl_network.specs.declared.network.Signal.{Signal}
 use Rattle.ncl_network.specs.declared.network.Node.{Node}
 use Rattle.ncl_network.specs.Network.{signal_value, weight_of_rows, weight_of_model, IsSource, IsNode}
@@ -130,19 +131,6 @@ length-order model order ordered =
 pub places-order : (model : Model) (order : List ℕ) → IsOrder (dependency_graph model.covers) order → All (λ i. i < length model.covers) order
 places-order model order ordered =
     subst (λ n. All (λ i. i < n) order) (length-map model.covers (λ cover. filter_map (driver_place model.covers) cover.ins)) ordered.places
-
--- what leads somewhere is a place
-leads_within : (g : List (List ℕ)) (i j : ℕ) → Leads g i j → i < length g
-leads_within g i j (arc among) = within g i j among
-  where
-    within : (g : List (List ℕ)) (i j : ℕ) → Contains (get_or g i []) j → i < length g
-    within g i j among =
-        ⊎_elim (λ lt. lt) (λ past. let (k, lt, at) = subst (λ l. Contains l j) (get_or_past g i [] past) among in absurd (omega arith)) (cases_lt i (length g))
-leads_within g i j (further {j = k} among rest) = within g i k among
-  where
-    within : (g : List (List ℕ)) (i j : ℕ) → Contains (get_or g i []) j → i < length g
-    within g i j among =
-        ⊎_elim (λ lt. lt) (λ past. let (k, lt, at) = subst (λ l. Contains l j) (get_or_past g i [] past) among in absurd (omega arith)) (cases_lt i (length g))
 
 -- the covers of a model have no cycle
 pub no_cycle : (model : Model) → IsModel model → (i : ℕ) → IsOnCycle (dependency_graph model.covers) i → ⊥

@@ -4,6 +4,7 @@ use Rattle.std.specs.Prelude.{All}
 use Rattle.std.specs.List.{list_any, enumerate_from}
 use Rattle.std.proofs.lemmas.Bool.{and_cases, and_parts, not-true, not-false}
 use Rattle.std.proofs.lemmas.List.{length-map, get_or-map, get_or_default}
+use Rattle.std.proofs.lemmas.List.FromFn.{length-enumerate_from}
 use Rattle.std.proofs.lemmas.List.Elements.{All-head, All-tail, All-map, All-weaker}
 use Rattle.ncl_blif.specs.Meaning.{lit_matches, row_matches, cover_value}
 use Rattle.ncl_blif.specs.declared.model.Lit.{Lit}
@@ -21,14 +22,10 @@ live_of signals rows = map (is_live signals) rows
 abbrev pub kept_of : List Signal → List (List Lit) → List Bool
 kept_of signals rows = kept_columns signals rows (live_of signals rows)
 
-length-enumerate : {X : Type 0} (a : ℕ) (xs : List X) → length (enumerate_from a xs) ≡ length xs
-length-enumerate a [] = refl
-length-enumerate a (x ∷ xs) = let rest = length-enumerate (a + 1) xs in omega arith
-
 pub length-kept : (signals : List Signal) (rows : List (List Lit)) (live : List Bool) → length (kept_columns signals rows live) ≡ length signals
 length-kept signals rows live =
     length-map (enumerate_from 0 signals) (λ pair. not (is_constant pair.1.from) && is_asked rows live pair.0)
-    ∙ length-enumerate 0 signals
+    ∙ length-enumerate_from 0 signals
 
 -- the signals that are kept are no constants
 pub kept_no_constant : (signals : List Signal) (rows : List (List Lit)) (live : List Bool) → All (λ signal. is_constant signal.from ≡ false) (select (kept_columns signals rows live) signals)

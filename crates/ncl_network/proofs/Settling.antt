@@ -1,20 +1,16 @@
 -- What a cover without constants folds into.
-use Rattle.std.proofs.Common.{◌≡◌, ℕ, ◌<◌, Bool, true, false, not, ◌&&◌, ◌||◌, cond, List, [], ◌∷◌, length, get_or, refl, ap, ◌∙◌, arith, ⊎_elim}
+use Rattle.std.proofs.Common.{◌≡◌, ◌<◌, Bool, true, false, not, ◌&&◌, ◌||◌, cond, List, [], ◌∷◌, length, get_or, refl, ap, ◌∙◌, arith, ⊎_elim}
 use Rattle.std.specs.Prelude.{All}
 use Rattle.std.specs.List.{list_any, list_all}
 use Rattle.std.specs.Bool.{beq}
-use Rattle.std.proofs.lemmas.Bool.{and_parts, or_cases, or_left, or_right, or_parts, and_from}
-use Rattle.std.proofs.lemmas.List.Elements.{All-nil, All-cons, All-head, All-tail}
-use Rattle.ncl_blif.specs.Meaning.{lit_matches, row_matches}
+use Rattle.std.proofs.lemmas.Bool.{and_parts, or_cases, or_left, or_right, and_from}
+use Rattle.std.proofs.lemmas.List.Elements.{All-head, All-tail}
+use Rattle.ncl_blif.specs.Meaning.{row_matches}
 use Rattle.ncl_blif.specs.declared.model.Lit.{Lit}
 use Rattle.ncl_blif.specs.declared.model.Lit.TheVariants.{Zero, One, Dash}
 use Rattle.ncl_network.specs.Network.{is_dash}
+use Rattle.ncl_network.proofs.LiveRows.{dash_matches}
 use Rattle.ncl_network.specs.Fold.{two_level, is_one, is_zero}
-
-idle_lit : (lit : Lit) (bit : Bool) → is_dash lit ≡ true → lit_matches lit bit ≡ true
-idle_lit Zero bit e = absurd cc
-idle_lit One bit e = absurd cc
-idle_lit Dash bit e = refl
 
 -- a row of dashes alone matches everything
 idle_row : (bits : List Bool) (row : List Lit) → list_all is_dash row ≡ true → row_matches bits row ≡ true
@@ -22,7 +18,7 @@ idle_row bits [] e = refl
 idle_row [] (lit ∷ row) e = refl
 idle_row (bit ∷ bits) (lit ∷ row) e =
     let parts = and_parts _ _ e in
-    and_from _ _ (idle_lit lit bit parts.0) (idle_row bits row parts.1)
+    and_from _ _ (dash_matches lit bit parts.0) (idle_row bits row parts.1)
 
 idle_matches : (bits : List Bool) (rows : List (List Lit)) → list_any (list_all is_dash) rows ≡ true → list_any (row_matches bits) rows ≡ true
 idle_matches bits [] e = absurd cc
@@ -36,25 +32,6 @@ chosen false b e = ap not e
 -- with such a row the value is constant
 pub two_level-idle : (on : Bool) (rows : List (List Lit)) (bits : List Bool) → list_any (list_all is_dash) rows ≡ true → two_level on rows bits ≡ on
 two_level-idle on rows bits e = chosen on (list_any (row_matches bits) rows) (idle_matches bits rows e)
-
-pub two_level-empty : (on : Bool) (bits : List Bool) → two_level on [] bits ≡ not on
-two_level-empty true bits = refl
-two_level-empty false bits = refl
-
--- where no item passes, each fails
-pub none_passes : {X : Type 0} (test : X → Bool) (xs : List X) → list_any test xs ≡ false → All (λ x. test x ≡ false) xs
-none_passes test [] e = All-nil (λ x. test x ≡ false)
-none_passes test (x ∷ xs) e =
-    let parts = or_parts _ _ e in
-    All-cons (λ x. test x ≡ false) x xs parts.0 (none_passes test xs parts.1)
-
--- rows without literals are of dashes alone
-pub wide_rows : (width : ℕ) (rows : List (List Lit)) → 0 < length rows → All (λ row. length row ≡ width) rows → list_any (list_all is_dash) rows ≡ false → 0 < width
-wide_rows width [] some widths e = absurd (omega arith)
-wide_rows width ([] ∷ rows) some widths e = absurd cc
-wide_rows width ((lit ∷ lits) ∷ rows) some widths e =
-    let wide = All-head (λ row. length row ≡ width) (lit ∷ lits) rows widths in
-    omega (arith, wide)
 
 -- what rows of one literal, none of them a dash, match
 one_input : (bit : Bool) (rows : List (List Lit)) → All (λ row. length row ≡ 1) rows → list_any (list_all is_dash) rows ≡ false → list_any (row_matches (bit ∷ [])) rows ≡ ((list_any (λ lits. is_one (get_or lits 0 Dash)) rows && bit) || (list_any (λ lits. is_zero (get_or lits 0 Dash)) rows && not bit))

@@ -1,12 +1,13 @@
 -- A walk over covers, one cover further.
 use Rattle.std.proofs.Common.{◌≡◌, ℕ, ◌+◌, ◌<◌, ◌≤◌, Bool, true, false, not, cond, ◌==◌, List, [], ◌∷◌, ◌++◌, length, map, take, get_or, Option, Some, None, refl, sym, ap, ◌∙◌, subst, arith, ⊎_elim, zero-add, add-zero, ◌⊎◌}
 use Rattle.std.specs.Option.{option_map}
+use Rattle.std.specs.Prelude.{⊤}
 use Rattle.std.specs.Prelude.{All, Contains, IsSome, IfSome, sum_by, slice_get}
 use Rattle.std.proofs.lemmas.Bool.{eqb-true, eq-eqb}
 use Rattle.std.proofs.lemmas.List.{map_push, map_more, get_or_append_left, get_or_push, length_push}
 use Rattle.std.proofs.lemmas.List.Elements.{All-nil, All-cons, All-push, Contains-push_cases}
 use Rattle.std.proofs.lemmas.List.Sums.{sum_by_push}
-use Rattle.std.proofs.lemmas.Option.{same_Some, get_or_from_slice_get, slice_get_within, slice_get-map}
+use Rattle.std.proofs.lemmas.Option.{MatchOption-at_some, IfSome_then, same_Some, get_or_from_slice_get, slice_get_within, slice_get-map}
 use Rattle.ncl_blif.specs.Meaning.{cover_value, Fits}
 use Rattle.ncl_blif.specs.declared.model.Cover.{Cover}
 use Rattle.ncl_blif.specs.declared.model.Model.{Model}
@@ -55,9 +56,6 @@ ReadBefore-push inputs place (first ∷ nodes) node before reads =
 
 -- ---- what is looked up
 
-at_some : {X : Type 0} (o : Option X) (x : X) (P : X → Type 0) → Some x ≡ o → IfSome o P → P x
-at_some o x P e holds = let there : IfSome (Some x) P = subst (λ o. IfSome o P) (sym e) holds in there
-
 -- what holds of all that is known holds of what is looked up
 pub found_all : (known : ℕ → Option Signal) (P : Signal → Type 0) → ((name : ℕ) → IfSome (known name) P) → (names : List ℕ) (found : List Signal) → map Some found ≡ map known names → All P found
 found_all known P holds [] [] e = All-nil P
@@ -66,7 +64,7 @@ found_all known P holds (name ∷ names) [] e = absurd cc
 found_all known P holds (name ∷ names) (signal ∷ found) e =
     let first : Some signal ≡ known name = cc in
     let rest : map Some found ≡ map known names = cc in
-    All-cons P signal found (at_some (known name) signal P first (holds name)) (found_all known P holds names found rest)
+    All-cons P signal found (MatchOption-at_some ⊤ P signal (sym first) (holds name)) (found_all known P holds names found rest)
 
 pub found_bits : (known : ℕ → Option Signal) (value : Signal → Bool) (bits : ℕ → Bool) → ((name : ℕ) → IfSome (known name) (λ signal. value signal ≡ bits name)) → (names : List ℕ) (found : List Signal) → map Some found ≡ map known names → map value found ≡ map bits names
 found_bits known value bits holds [] [] e = refl
@@ -75,7 +73,7 @@ found_bits known value bits holds (name ∷ names) [] e = absurd cc
 found_bits known value bits holds (name ∷ names) (signal ∷ found) e =
     let first : Some signal ≡ known name = cc in
     let rest : map Some found ≡ map known names = cc in
-    let here : value signal ≡ bits name = at_some (known name) signal (λ signal. value signal ≡ bits name) first (holds name) in
+    let here : value signal ≡ bits name = MatchOption-at_some ⊤ (λ signal. value signal ≡ bits name) signal (sym first) (holds name) in
     let there = found_bits known value bits holds names found rest in
     λ i. here i ∷ there i
 
@@ -101,10 +99,6 @@ module _ (known new : ℕ → Option Signal) (out : ℕ) (signal : Signal) (upda
         | true ↦ λ e. subst (λ q. P q signal) (eqb-true out q e) here
         | false ↦ λ e. holds
       ] refl)
-
-weaker_some : {X : Type 0} (o : Option X) (P Q : X → Type 0) → ((x : X) → P x → Q x) → IfSome o P → IfSome o Q
-weaker_some None P Q weaker holds = holds
-weaker_some (Some x) P Q weaker holds = weaker x holds
 
 -- ---- one cover more
 
@@ -185,7 +179,7 @@ IsWalked-more model known new nodes done place cover ins folded at found into up
           (last_or_before done place other there);
       sources = λ name.
           updated known new cover.out signal update (λ name signal. IsSource inputs (length nodes') signal.from) (source-with inputs nodes folded sources) name
-          (weaker_some (known name) (λ signal. IsSource inputs (length nodes) signal.from) (λ signal. IsSource inputs (length nodes') signal.from) (λ s. IsSource-more inputs (length nodes) (length nodes') s.from (more-with inputs nodes folded)) (walked.sources name));
+          (IfSome_then (known name) {P = λ signal. IsSource inputs (length nodes) signal.from} {Q = λ signal. IsSource inputs (length nodes') signal.from} (walked.sources name) (λ s. IsSource-more inputs (length nodes) (length nodes') s.from (more-with inputs nodes folded)));
       values = λ word bits fits name.
           let values : List Bool = node_values word [] nodes in
           let in_bits : map (signal_value word values) ins ≡ map bits cover.ins = found_bits known (signal_value word values) bits (walked.values word bits fits) cover.ins ins found in

@@ -7,7 +7,7 @@ use thiserror::Error;
 /// first part.
 #[derive(Clone, Copy, Debug, PartialEq, Eq, Error)]
 pub enum BlifFault {
-    /// A line is of none of the forms, or stands where it may not. Line 0: the file has no command.
+    /// A line is of none of the forms, or stands where it may not. Line 0: no line has a word.
     #[error("syntax in line {0}")]
     Syntax(u32),
     /// A line begins with a word that is a command of BLIF, but none that is read.

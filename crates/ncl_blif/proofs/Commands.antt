@@ -28,6 +28,10 @@ with_part-outputs model part word = rw (word, append-nil model.inputs, append-ni
 pub with_part-names : (model : NamedModel) (part : PartData) → first_word part.head ≡ codes ".names" → with_part model part ≡ record model { covers = model.covers ++ cover_of part ∷ [] }
 with_part-names model part word = rw (word, append-nil model.inputs, append-nil model.outputs)
 
+pub or-false : (b : Bool) → (b || false) ≡ b
+or-false true = refl
+or-false false = refl
+
 -- a cover's signal stands twice where it has a driver
 pub cover-twins : (model : NamedModel) (cover : NamedCover) → has_twins (drivers_of model) ≡ false → has_twins (drivers_of (record model { covers = model.covers ++ cover ∷ [] })) ≡ is_driven model cover.out
 cover-twins model cover once =
@@ -35,10 +39,6 @@ cover-twins model cover once =
     let more : model.inputs ++ map (λ (cover : NamedCover). cover.out) (model.covers ++ cover ∷ []) ≡ before ++ cover.out ∷ [] =
     ap (λ outs. model.inputs ++ outs) (map_push (λ (cover : NamedCover). cover.out) model.covers cover) ∙ sym (append_assoc model.inputs (map (λ (cover : NamedCover). cover.out) model.covers) (cover.out ∷ [])) in
     ap has_twins more ∙ twins-middle before [] cover.out ∙ (λ i. list_any (bytes_eq cover.out) (append-nil before i) || has_twins (append-nil before i)) ∙ ap (λ b. list_any (bytes_eq cover.out) before || b) once ∙ or-false (list_any (bytes_eq cover.out) before)
-  where
-    or-false : (b : Bool) → (b || false) ≡ b
-    or-false true = refl
-    or-false false = refl
 
 -- a line with the word of a command is one
 pub command-is : (command : Command) (line : LineData) → first_word line ≡ word_of command → is_command line ≡ true

@@ -14,7 +14,7 @@ use Rattle.ncl_blif.specs.Parts.{PartData, first_word, is_names, is_inputs, is_c
 use Rattle.ncl_blif.specs.Named.{NamedModel, NamedCover, later_words, cover_of, cover_out, inputs_said, outputs_said, covers_said, named_model, drivers_of}
 use Rattle.ncl_blif.specs.LineFaults.{has_twins, signals_driven, has_ended, is_malformed, first_part_fault, rows_fault, part_fault}
 use Rattle.ncl_blif.proofs.Twins.{twins-middle}
-use Rattle.ncl_blif.proofs.Commands.{with_part}
+use Rattle.ncl_blif.proofs.Commands.{with_part, or-false}
 
 -- the model that parts say, without its name
 abbrev pub unnamed : List PartData → NamedModel
@@ -102,10 +102,6 @@ fault-rows before part command malformed twins = rw (command, malformed, twins)
 -- whether a model has ended after one more part
 pub ended-more : (before : List PartData) (part : PartData) → has_ended (before ++ part ∷ []) ≡ (has_ended before || is_end part.head)
 ended-more before part = list_any-append (λ (part : PartData). is_end part.head) before (part ∷ []) ∙ ap (λ b. has_ended before || b) (or-false (is_end part.head))
-  where
-    or-false : (b : Bool) → (b || false) ≡ b
-    or-false true = refl
-    or-false false = refl
 
 -- what is said after n of the parts, which broke nothing
 pub record AreTaken (parts : List PartData) (n : ℕ) (model : NamedModel) (ended : Bool) : Type 0 where

@@ -1,5 +1,6 @@
 -- The words of a text in two parts.
 use Rattle.std.proofs.Common.{◌≡◌, ℕ, ◌<◌, Bool, true, false, ltb, cond, List, [], ◌∷◌, ◌++◌, length, filter, refl, ap, ◌∙◌, arith}
+use Rattle.std.proofs.lemmas.List.{append-nil}
 use Rattle.std.proofs.lemmas.List.Elements.{filter-append}
 use Rattle.std.specs.List.{slice_split, onto_first}
 use Rattle.ncl_blif.specs.Lines.{is_blank, words_of}
@@ -31,8 +32,4 @@ pub words_of-append : (a b : List ℕ) → words_of (a ++ 32 ∷ b) ≡ words_of
 words_of-append a b = ap (filter (λ word. ltb 0 (length word))) (split-append is_blank a 32 b refl) ∙ filter-append _ (slice_split is_blank a) (slice_split is_blank b)
 
 pub words_of-end : (a : List ℕ) → words_of (a ++ 32 ∷ []) ≡ words_of a
-words_of-end a = words_of-append a [] ∙ simp append-nil
-  where
-    append-nil : (ws : List (List ℕ)) → ws ++ [] ≡ ws
-    append-nil [] = refl
-    append-nil (w ∷ ws) = ap (λ vs. w ∷ vs) (append-nil ws)
+words_of-end a = words_of-append a [] ∙ append-nil (words_of a)

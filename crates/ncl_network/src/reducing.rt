@@ -47,10 +47,11 @@ fn fold_model(alloc: Global, model: &Model) -> Result<Network, Memory>
     })
 }
 
-/// The network that a model folds into, which gives the same answers. No node of it is a constant, a buffer or
-/// an inverter, reads a constant or has an input that no row asks, and each node reaches an output and stands
-/// after the nodes that it reads. An output may be a constant, an input or the inverse of something.
+/// The network that a model folds into, which gives the same answers. No node of it has fewer than two inputs or
+/// reads a constant, and each node reaches an output and stands after the nodes that it reads. An output may be a
+/// constant, an input or the inverse of something.
 ///
+/// An input that has a dash in every row that is left is dropped: that is tested, and no clause says it.
 /// `n log n` in the model, without recursion. The only error is want of memory.
 pub fn reduce(alloc: Global, model: &Model) -> Result<Network, Memory>
     requires { IsModel model.now }

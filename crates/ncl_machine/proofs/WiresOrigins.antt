@@ -116,6 +116,7 @@ wires_netlist = record {
     ),
   );
   ports_first = refl;
+  in_order = refl;
   net_names = IsDistinct-from_count same_name-equiv wires.nets refl;
   cell_names = IsDistinct-from_count same_name-equiv (map (λ c. c.name) wires.cells) refl;
   few_cells = omega arith;

@@ -1,9 +1,9 @@
 -- What holds of the netlist that parts describe.
-use Rattle.std.proofs.Common.{◌≡◌, ℕ, ◌+◌, ◌-◌, ◌*◌, ◌<◌, ◌≤◌, ◌^◌, Bool, true, false, ◌||◌, List, [], ◌∷◌, ◌++◌, length, map, take, get_or, sym, refl, ap, ◌∙◌, subst, arith, All, EachIndex, slice_index, count_by, nat_eq, Result, Ok, Err}
+use Rattle.std.proofs.Common.{◌≡◌, ℕ, zero, suc, ◌+◌, ◌-◌, ◌*◌, ◌<◌, ◌≤◌, ◌^◌, Bool, true, false, ◌||◌, List, [], ◌∷◌, ◌++◌, length, map, take, get_or, sym, refl, ap, ◌∙◌, subst, arith, All, EachIndex, slice_index, count_by, nat_eq, Result, Ok, Err}
 use Rattle.std.specs.Result.{IsErrAnd, IfErr}
 use Rattle.std.specs.List.{flat_map, list_any}
 use Rattle.std.proofs.lemmas.Option.{slice_get_within}
-use Rattle.std.proofs.lemmas.List.{length-append, length-map, length-take}
+use Rattle.std.proofs.lemmas.List.{length-append, length-map, length-take, map-append}
 use Rattle.std.proofs.lemmas.List.Elements.{All-cons, All-nil, All-from_get_or, All-map, All-take, All-head, All-tail}
 use Rattle.std.proofs.lemmas.List.Folds.{list_any-append, list_any_at}
 use Rattle.std.proofs.lemmas.List.Sums.{fold-append}
@@ -13,12 +13,13 @@ use Rattle.ncl_netlist.specs.declared.parts.Parts.{Parts}
 use Rattle.ncl_netlist.specs.declared.cell.Cell.{Cell}
 use Rattle.ncl_netlist.specs.declared.port.Port.{Port}
 use Rattle.ncl_netlist.specs.Names.{same_name, AllDiffer, once_each, number_of, IsFirstWhere}
-use Rattle.ncl_netlist.specs.Netlist.{drives, CellFits, IsNetlist}
-use Rattle.ncl_netlist.specs.Parts.{HasAllPins, port_names, nets_of, input_names, net_of, cell_of, netlist_of}
+use Rattle.ncl_netlist.specs.declared.ids.NetId.{NetId}
+use Rattle.ncl_netlist.specs.Netlist.{drives, pin_names, CellFits, IsNetlist}
+use Rattle.ncl_netlist.specs.Parts.{HasAllPins, port_names, nets_of, input_names, output_name, net_of, cell_of, netlist_of}
 use Rattle.ncl_netlist.specs.Faults.{HasFewCells, HasOwnCellNames, IsFaultless, IsFaultOf, IsFaultOfCounts, drivers_at}
 use Rattle.ncl_netlist.specs.declared.build_fault.BuildFault.{BuildFault}
 use Rattle.ncl_netlist.specs.declared.build_fault.BuildFault.TheVariants.{TooMany, SameName, TwoDrivers, NoDriver, Memory}
-use Rattle.ncl_netlist.proofs.NameLists.{same_itself, insert_all-none, AllDiffer-once_each, take-once_each, length-insert_all, number_of-lt-length, list_any-once_each}
+use Rattle.ncl_netlist.proofs.NameLists.{same_itself, insert_all-none, AllDiffer-once_each, take-once_each, length-insert_all, number_of-lt-length, list_any-once_each, get_or-number_of}
 use Rattle.ncl_netlist.proofs.Steps.{pins_some, pins_few}
 
 or_true : (b : Bool) → (b || true) ≡ true
@@ -43,6 +44,36 @@ fits nets cell all each =
       inputs = All-map (λ net. net.0 < length nets) (net_of nets) (input_names cell) (All-take (λ x. number_of nets x < length nets) last cell.pins each);
       pins = omega (arith, length-map (input_names cell) (net_of nets), length-take last cell.pins, all);
     }
+
+-- the names of the nets that some names have are these names
+names-of_numbers : (nets xs : List (List ℕ)) → All (λ x. number_of nets x < length nets) xs → map (λ (net : NetId). get_or nets net.0 []) (map (net_of nets) xs) ≡ xs
+names-of_numbers nets [] known = refl
+names-of_numbers nets (x ∷ xs) known =
+    let first = get_or-number_of nets x [] (All-head (λ x. number_of nets x < length nets) x xs known) in
+    let rest = names-of_numbers nets xs (All-tail (λ x. number_of nets x < length nets) x xs known) in
+    λ i. first i ∷ rest i
+
+-- a list is its first k elements and the one after them, where it has no more
+front_and_last : {X : Type 0} (xs : List X) (k : ℕ) (d : X) → length xs ≡ suc k → take k xs ++ get_or xs k d ∷ [] ≡ xs
+front_and_last [] k d many = absurd (omega (arith, many))
+front_and_last (x ∷ []) zero d many = refl
+front_and_last (x ∷ (y ∷ xs)) zero d many = absurd (omega (arith, many))
+front_and_last (x ∷ xs) (suc k) d many = ap (λ l. x ∷ l) (front_and_last xs k d (omega (arith, many)))
+
+-- the names at the pins of a cell whose nets are numbered are the names that it was given
+pin_names-cell_of : (nets : List (List ℕ)) (cell : PartCell) → HasAllPins cell → All (λ x. number_of nets x < length nets) cell.pins → pin_names nets (cell_of nets cell) ≡ cell.pins
+pin_names-cell_of nets cell all known =
+    let some = pins_some cell.kind in
+    let whole = front_and_last cell.pins (length cell.pins - 1) [] (omega (arith, all, some)) in
+    let numbers = map-append (net_of nets) (input_names cell) (output_name cell ∷ []) in
+    ap (map (λ (net : NetId). get_or nets net.0 [])) (sym numbers ∙ ap (map (net_of nets)) whole) ∙ names-of_numbers nets cell.pins known
+
+all_pin_names : (nets : List (List ℕ)) (cells : List PartCell) → All HasAllPins cells → All (λ cell. All (λ x. number_of nets x < length nets) cell.pins) cells → flat_map (pin_names nets) (map (cell_of nets) cells) ≡ flat_map (λ cell. cell.pins) cells
+all_pin_names nets [] all known = refl
+all_pin_names nets (c ∷ cells) all known =
+    let first = pin_names-cell_of nets c (All-head HasAllPins c cells all) (All-head (λ cell. All (λ x. number_of nets x < length nets) cell.pins) c cells known) in
+    let rest = all_pin_names nets cells (All-tail HasAllPins c cells all) (All-tail (λ cell. All (λ x. number_of nets x < length nets) cell.pins) c cells known) in
+    λ i. first i ++ rest i
 
 -- the cells have five pins at most
 length-flat_map-pins : (cells : List PartCell) → All HasAllPins cells → length (flat_map (λ cell. cell.pins) cells) ≤ 5 * length cells
@@ -85,6 +116,7 @@ module _ (parts : Parts) where
     driven = λ net within. omega (arith, faultless.2 net within, faultless.3 net within);
     fits = cells_fit all;
     ports_first = ports_are_first differ;
+    in_order = ap (λ names. once_each (port_names parts ++ names)) (sym (all_pin_names (nets_of parts) parts.cells all (each_net)));
     net_names = AllDiffer-once_each (port_names parts ++ flat_map (λ cell. cell.pins) parts.cells);
     cell_names = subst AllDiffer (names_same parts.cells) faultless.1;
     few_cells = omega (arith, length-map parts.cells (cell_of (nets_of parts)), faultless.0);

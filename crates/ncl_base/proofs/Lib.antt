@@ -1,2 +1,4 @@
 pub mod Written
 pub mod Named
+pub mod Members
+pub mod Lists

@@ -7,7 +7,7 @@ use Rattle.ncl_shape.specs.declared.stage.StageCell.{StageCell}
 use Rattle.ncl_shape.specs.Nets.{Nets, IsBelow, among, put}
 use Rattle.ncl_shape.specs.Stage.{StageData, named_rails}
 use Rattle.ncl_shape.specs.Closure.{pin_values}
-use Rattle.ncl_shape.proofs.Members.{Member-from_Contains}
+use Rattle.ncl_base.proofs.Members.{Member-from_Contains}
 use Rattle.ncl_stage.specs.declared.variant.Variant.TheVariants.{Base}
 use Rattle.ncl_stage.specs.Values.{holds, kept_low, val}
 use Rattle.ncl_stage.proofs.ValueLaws.{holds-grows, val-keeps, val-settled}

@@ -11,7 +11,7 @@ use Rattle.ncl_shape.specs.declared.stage.StageCell.{StageCell}
 use Rattle.ncl_shape.specs.Nets.{Nets, IsBelow, put}
 use Rattle.ncl_shape.specs.Stage.{StageData, IsStage, rail_nets, out_of}
 use Rattle.ncl_shape.specs.Closure.{pin_values}
-use Rattle.ncl_shape.proofs.Members.{Member, here, there, Contains-from_Member, Member-from_Contains, recursion_from_members, slice_get-from_Contains}
+use Rattle.ncl_base.proofs.Members.{Member, here, there, Contains-from_Member, Member-from_Contains, recursion_from_members, slice_get-from_Contains}
 use Rattle.ncl_shape.proofs.ClosureLaws.{set_of-grows}
 use Rattle.ncl_stage.specs.declared.variant.Variant.{Variant}
 use Rattle.ncl_stage.specs.declared.variant.Variant.TheVariants.{Base}

@@ -10,7 +10,7 @@ use Rattle.ncl_shape.specs.declared.rails.Rails.{Rails}
 use Rattle.ncl_shape.specs.declared.stage.StageCell.{StageCell}
 use Rattle.ncl_shape.specs.Nets.{among}
 use Rattle.ncl_shape.specs.Stage.{StageData, IsStage, named_rails, rail_nets, rail_of, nets_of, out_of}
-use Rattle.ncl_shape.proofs.Members.{Member, here, there, Contains-from_Member, Member-from_Contains}
+use Rattle.ncl_base.proofs.Members.{Member, here, there, Contains-from_Member, Member-from_Contains}
 use Rattle.ncl_stage.proofs.Apart.{Member-append_left, Member-append_right, parts-differ, right-differ, named-within}
 
 -- a member of two lists joined is a member of one of them

@@ -21,14 +21,14 @@ use Rattle.ncl_shape.specs.declared.rails.Rails.{Rails}
 use Rattle.ncl_shape.specs.declared.item.Item.TheVariants.{Cell as Fire, Raise, Lower, Take, Ready}
 use Rattle.ncl_shape.specs.Nets.{Nets}
 use Rattle.ncl_shape.specs.Closure.{pin_values, first_pin}
-use Rattle.ncl_shape.specs.Origin.{IsCell, IsRegister, IsAck, OnPin, A, B, IsInputPort, Origin, FromPort, RailOf, AckOf, ComesFrom, port, ack, gate, IsTreeKind, th22, th33, th44}
-use Rattle.ncl_shape.specs.Rules.{ReadsOneBit}
+use Rattle.ncl_origin.specs.Origin.{IsCell, IsRegister, IsAck, OnPin, A, B, IsInputPort, Origin, FromPort, RailOf, AckOf, ComesFrom, port, ack, gate, IsTreeKind, th22, th33, th44}
+use Rattle.ncl_origin.specs.Rules.{ReadsOneBit}
 use Rattle.ncl_shape.specs.Chain.{IsBank}
 use Rattle.ncl_shape.specs.Pipeline.{PipelineData}
 use Rattle.ncl_shape.specs.Shape.{IsBitOf, AreRailsOf, Shape}
-use Rattle.ncl_shape.proofs.Members.{Member, here, Contains-from_Member, Member-from_Contains, slice_get-from_Contains, Contains-from_slice_get}
-use Rattle.ncl_shape.proofs.Drivers.{cell_fits, no_cell_drives_port}
-use Rattle.ncl_shape.proofs.OriginLaws.{sort_of, place_of, pin_of_register, port_origin, register_origin, bank_of_ack, has_origin, ack_of_bank}
+use Rattle.ncl_base.proofs.Members.{Member, here, Contains-from_Member, Member-from_Contains, slice_get-from_Contains, Contains-from_slice_get}
+use Rattle.ncl_origin.proofs.Drivers.{cell_fits, no_cell_drives_port}
+use Rattle.ncl_origin.proofs.OriginLaws.{sort_of, place_of, pin_of_register, port_origin, register_origin, bank_of_ack, has_origin, ack_of_bank}
 use Rattle.ncl_shape.proofs.ChainLaws.{banks_of_chain}
 use Rattle.ncl_shape.proofs.ShapeLaws.{requests, request_at, last_bank}
 use Rattle.ncl_shape.proofs.PinLaws.{some_high-low, all_high-from, first_pin-is}

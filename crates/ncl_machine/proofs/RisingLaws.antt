@@ -8,7 +8,7 @@ use Rattle.ncl_shape.specs.declared.stage.StageCell.{StageCell}
 use Rattle.ncl_shape.specs.Nets.{Nets, IsBelow, put}
 use Rattle.ncl_shape.specs.Stage.{StageData, IsStage, named_rails, out_of}
 use Rattle.ncl_shape.specs.Closure.{pin_values}
-use Rattle.ncl_shape.proofs.Members.{Member, Member-from_Contains, recursion_from_members}
+use Rattle.ncl_base.proofs.Members.{Member, Member-from_Contains, recursion_from_members}
 use Rattle.ncl_shape.proofs.Rounds.{same_from_both}
 use Rattle.ncl_shape.proofs.ClosureLaws.{set_of-grows}
 use Rattle.ncl_stage.specs.declared.variant.Variant.{Variant}

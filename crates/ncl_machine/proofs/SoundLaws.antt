@@ -8,7 +8,7 @@ use Rattle.ncl_shape.specs.declared.rails.Rails.{Rails}
 use Rattle.ncl_shape.specs.declared.stage.StageCell.{StageCell}
 use Rattle.ncl_shape.specs.Nets.{Nets, IsBelow, among}
 use Rattle.ncl_shape.specs.Stage.{StageData, IsStage, named_rails, rail_nets, out_of}
-use Rattle.ncl_shape.proofs.Members.{Member, All-from_members, Contains-from_Member, slice_get-from_Contains}
+use Rattle.ncl_base.proofs.Members.{Member, All-from_members, Contains-from_Member, slice_get-from_Contains}
 use Rattle.ncl_stage.specs.declared.variant.Variant.{Variant}
 use Rattle.ncl_stage.specs.declared.variant.Variant.TheVariants.{Base, Bit, Cell}
 use Rattle.ncl_stage.specs.Values.{both_rails, output_net, kept_low, val}

@@ -5,11 +5,11 @@ use Rattle.ncl_netlist.specs.declared.cell.Cell.{Cell}
 use Rattle.ncl_netlist.specs.Netlist.{NetlistData}
 use Rattle.ncl_shape.specs.Nets.{Nets}
 use Rattle.ncl_shape.specs.Closure.{pin_values, net_of}
-use Rattle.ncl_shape.specs.Origin.{Origin, AckOf, ComesFrom, port, rail, ack, gate}
-use Rattle.ncl_shape.specs.Shape.{IsFree}
-use Rattle.ncl_shape.proofs.Members.{Member, Contains-from_Member, Member-from_Contains}
+use Rattle.ncl_origin.specs.Origin.{Origin, AckOf, ComesFrom, port, rail, ack, gate}
+use Rattle.ncl_origin.specs.Free.{IsFree}
+use Rattle.ncl_base.proofs.Members.{Member, Contains-from_Member, Member-from_Contains}
 use Rattle.ncl_shape.proofs.Rounds.{rounds-each, rounds-settled}
-use Rattle.ncl_shape.proofs.OriginLaws.{sort_of, bank_of_ack}
+use Rattle.ncl_origin.proofs.OriginLaws.{sort_of, bank_of_ack}
 use Rattle.ncl_shape.proofs.PinLaws.{some_high-from, high_net}
 use Rattle.ncl_machine.specs.State.{joins_kind, joins_tree, no_nets, tree_nets}
 

@@ -5,11 +5,11 @@ use Rattle.std.proofs.lemmas.List.Elements.{All-from_recursion, All-contains}
 use Rattle.ncl_gates.specs.Cell.{pins_of}
 use Rattle.ncl_netlist.specs.declared.ids.NetId.{NetId}
 use Rattle.ncl_netlist.specs.declared.cell.Cell.{Cell}
-use Rattle.ncl_shape.specs.Origin.{IsCell, OnPin, A, B, IsInputPort, IsOutputPort, RailOf, AckOf, ComesFrom, rail, ack, HasOnlyOrigin}
+use Rattle.ncl_origin.specs.Origin.{IsCell, OnPin, A, B, IsInputPort, IsOutputPort, RailOf, AckOf, ComesFrom, rail, ack, HasOnlyOrigin}
 use Rattle.ncl_shape.specs.Chain.{IsBank, IsFirstBank, IsLastBank, Follows, end, next, IsChain, IsRoot, HasEnds, HasOne, IsAcknowledged, HasRoots, IsShown, IsHead, IsEnd, IsClosed, OnPinNamed, HasOneRole, IsChained}
 use Rattle.ncl_shape.specs.Examples.{wires, net_id}
 use Rattle.ncl_shape.proofs.ChainLaws.{chain_is_one}
-use Rattle.ncl_shape.proofs.CellTests.{each_of_bank, on_pin_each}
+use Rattle.ncl_origin.proofs.CellTests.{each_of_bank, on_pin_each}
 use Rattle.ncl_machine.proofs.ShortLists.{written, of_pair, of_last}
 use Rattle.ncl_machine.proofs.WiresOrigins.{cell_at, is_cell, of_bank, each_cell, each_register_cell, no_gate, each_output_port, not_input, wires_netlist, origin_of, origin_is, first_acks, last_acks, only_ack_of_last, first_source, wires_free}
 

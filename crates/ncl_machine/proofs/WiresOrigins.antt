@@ -9,13 +9,13 @@ use Rattle.ncl_netlist.specs.declared.ids.NetId.{NetId}
 use Rattle.ncl_netlist.specs.declared.cell.Cell.{Cell}
 use Rattle.ncl_netlist.specs.Netlist.{IsNetlist, CellFits, drivers_of}
 use Rattle.ncl_netlist.proofs.NameLists.{same_name-equiv}
-use Rattle.ncl_shape.specs.Origin.{IsCell, CellAt, IsGate, IsRegister, IsAck, ReadsNet, OnPin, A, B, RST, IsInputPort, IsOutputPort, IsOfBank, AcksBank, Origin, FromPort, RailOf, AckOf, ComesFrom, port, rail, ack, gate, HasOnlyOrigin, HaveSameOrigins}
-use Rattle.ncl_shape.specs.Rules.{IsReadPort, IsPaired, ReadsOneBit, ack_pins, IsFromOneRail, IsFromOneAck, IsRegisterOfOne, IsTied}
+use Rattle.ncl_origin.specs.Origin.{IsCell, CellAt, IsGate, IsRegister, IsAck, ReadsNet, OnPin, A, B, RST, IsInputPort, IsOutputPort, IsOfBank, AcksBank, Origin, FromPort, RailOf, AckOf, ComesFrom, port, rail, ack, gate, HasOnlyOrigin, HaveSameOrigins}
+use Rattle.ncl_origin.specs.Rules.{IsReadPort, IsPaired, ReadsOneBit, ack_pins, IsFromOneRail, IsFromOneAck, IsRegisterOfOne, IsTied}
 use Rattle.ncl_shape.specs.Chain.{IsInputOf}
-use Rattle.ncl_shape.specs.Shape.{IsFree}
+use Rattle.ncl_origin.specs.Free.{IsFree}
 use Rattle.ncl_shape.specs.Examples.{wires, cell}
-use Rattle.ncl_shape.proofs.Members.{Contains-from_slice_get}
-use Rattle.ncl_shape.proofs.CellTests.{each_register, each_of_bank, on_pin_each, same_net}
+use Rattle.ncl_base.proofs.Members.{Contains-from_slice_get}
+use Rattle.ncl_origin.proofs.CellTests.{each_register, each_of_bank, on_pin_each, same_net}
 
 -- ---- cells and ports by place
 

@@ -7,12 +7,12 @@ use Rattle.ncl_netlist.specs.declared.cell.Cell.{Cell}
 use Rattle.ncl_shape.specs.declared.bank.Bank.{Bank}
 use Rattle.ncl_shape.specs.declared.bank.Bit.{Bit}
 use Rattle.ncl_shape.specs.declared.rails.Rails.{Rails}
-use Rattle.ncl_shape.specs.Origin.{CellAt, AcksBank, OnPin, A, ack}
+use Rattle.ncl_origin.specs.Origin.{CellAt, AcksBank, OnPin, A, ack}
 use Rattle.ncl_shape.specs.Stage.{StageData, IsStage, IsInOrder}
 use Rattle.ncl_shape.specs.Shape.{IsBitOf, AreBitsOf, IsBankOf, AreRailsOf, AreInputsOf, IsGateOf, IsStageOf, Shape}
 use Rattle.ncl_shape.specs.Examples.{wires, wires_pipeline, bit, rails, net_id}
-use Rattle.ncl_shape.proofs.Drivers.{same_place}
-use Rattle.ncl_shape.proofs.Members.{Contains-from_slice_get}
+use Rattle.ncl_origin.proofs.Drivers.{same_place}
+use Rattle.ncl_base.proofs.Members.{Contains-from_slice_get}
 use Rattle.ncl_machine.proofs.ShortLists.{written, of_none, of_one, of_two, of_pair, of_last}
 use Rattle.ncl_machine.proofs.WiresOrigins.{cell_at, of_bank, no_gate, wires_netlist, first_acks, last_acks, wires_free}
 use Rattle.ncl_machine.proofs.WiresChain.{chain, root_of, root_is, first_root, last_root, wires_chained}

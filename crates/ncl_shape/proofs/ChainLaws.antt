@@ -4,14 +4,14 @@ use Rattle.std.specs.Prelude.{Contains, slice_get}
 use Rattle.std.proofs.lemmas.Bool.{both_ways}
 use Rattle.ncl_netlist.specs.declared.cell.Cell.{Cell}
 use Rattle.ncl_netlist.specs.Netlist.{NetlistData, IsNetlist}
-use Rattle.ncl_shape.specs.Origin.{OnPin, A, IsOfBank, RailOf, ComesFrom, HaveSameOrigins}
-use Rattle.ncl_shape.specs.Rules.{IsFirstOfBank}
+use Rattle.ncl_origin.specs.Origin.{OnPin, A, IsOfBank, RailOf, ComesFrom, HaveSameOrigins}
+use Rattle.ncl_origin.specs.Rules.{IsFirstOfBank}
 use Rattle.ncl_shape.specs.Chain.{IsBank, IsFirstBank, IsChain, Follows, HasEnds, IsPath, end, next}
-use Rattle.ncl_shape.specs.Shape.{IsFree}
-use Rattle.ncl_shape.proofs.Members.{Member-from_Contains, Contains-from_slice_get, slice_get-from_Contains, first_passing}
-use Rattle.ncl_shape.proofs.Lists.{same_from_places}
-use Rattle.ncl_shape.proofs.OriginLaws.{place_of, pin_of_register, port_origin}
-use Rattle.ncl_shape.proofs.CellTests.{bank_test, of_bank_passes, of_bank-from_test}
+use Rattle.ncl_origin.specs.Free.{IsFree}
+use Rattle.ncl_base.proofs.Members.{Member-from_Contains, Contains-from_slice_get, slice_get-from_Contains, first_passing}
+use Rattle.ncl_base.proofs.Lists.{same_from_places}
+use Rattle.ncl_origin.proofs.OriginLaws.{place_of, pin_of_register, port_origin}
+use Rattle.ncl_origin.proofs.CellTests.{bank_test, of_bank_passes, of_bank-from_test}
 
 -- a list has one head
 pub head_is_one : (banks : List ℕ) (x y : ℕ) → slice_get banks 0 ≡ Some x → slice_get banks 0 ≡ Some y → x ≡ y

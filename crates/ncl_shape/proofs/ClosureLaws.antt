@@ -14,7 +14,7 @@ use Rattle.ncl_netlist.specs.declared.cell.Cell.{Cell}
 use Rattle.ncl_netlist.specs.Netlist.{NetlistData}
 use Rattle.ncl_shape.specs.Nets.{Nets, IsBelow}
 use Rattle.ncl_shape.specs.Closure.{pin_values, first_pin, passes_on, passes, net_of, close}
-use Rattle.ncl_shape.proofs.Members.{All-from_members, Contains-from_Member, recursion_from_members}
+use Rattle.ncl_base.proofs.Members.{All-from_members, Contains-from_Member, recursion_from_members}
 use Rattle.ncl_shape.proofs.Rounds.{IsMonotone, rounds-below, rounds-keep, rounds-below_settled, rounds-support, rounds-settled}
 
 -- where the second nets are high at each input at which the first are, the values at the pins are below

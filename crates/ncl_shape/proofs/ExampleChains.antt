@@ -5,12 +5,12 @@ use Rattle.std.specs.List.{AllByRecursion}
 use Rattle.std.proofs.lemmas.Bool.{eq-eqb}
 use Rattle.ncl_netlist.specs.declared.cell.Cell.{Cell}
 use Rattle.ncl_netlist.specs.Netlist.{NetlistData}
-use Rattle.ncl_shape.specs.Origin.{OnPin, A, B, IsInputPort, RailOf, ComesFrom, rail}
+use Rattle.ncl_origin.specs.Origin.{OnPin, A, B, IsInputPort, RailOf, ComesFrom, rail}
 use Rattle.ncl_shape.specs.Chain.{IsBank, IsInputOf, IsFirstBank, Follows, IsPath, end, next, IsChain, HasChain, InnerRule, BreaksInner}
 use Rattle.ncl_shape.specs.Examples.{three, cut}
-use Rattle.ncl_shape.proofs.OriginLaws.{cell_of_rail}
+use Rattle.ncl_origin.proofs.OriginLaws.{cell_of_rail}
 use Rattle.ncl_shape.proofs.ChainLaws.{head_is_one, head_or_follows}
-use Rattle.ncl_shape.proofs.CellTests.{bank_test, each_passing, each_register, each_of_bank, on_pin_each}
+use Rattle.ncl_origin.proofs.CellTests.{bank_test, each_passing, each_register, each_of_bank, on_pin_each}
 use Rattle.ncl_shape.proofs.WrittenCells.{cell_of, is_cell, of_bank}
 
 -- what holds of both inputs of a bank of one bit holds of each

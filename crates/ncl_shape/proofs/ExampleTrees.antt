@@ -3,11 +3,11 @@ use Rattle.std.proofs.Common.{◌≡◌, ℕ, zero, suc, ◌<◌, Some, inl, inr
 use Rattle.ncl_gates.specs.declared.kind.Kind.TheVariants.{Th22}
 use Rattle.ncl_netlist.specs.declared.cell.Cell.{Cell}
 use Rattle.ncl_netlist.specs.Netlist.{NetlistData}
-use Rattle.ncl_shape.specs.Origin.{IsRegister, ack}
-use Rattle.ncl_shape.specs.Rules.{IsTied}
-use Rattle.ncl_shape.specs.Shape.{AtCell, FailsFirst}
+use Rattle.ncl_origin.specs.Origin.{IsRegister, ack}
+use Rattle.ncl_origin.specs.Rules.{IsTied}
+use Rattle.ncl_origin.specs.Free.{AtCell, FailsFirst}
 use Rattle.ncl_shape.specs.Examples.{bit_left_out}
-use Rattle.ncl_shape.proofs.CellTests.{each_of_bank, each_gate_reading}
+use Rattle.ncl_origin.proofs.CellTests.{each_of_bank, each_gate_reading}
 use Rattle.ncl_shape.proofs.WrittenCells.{cell_of, is_cell, of_bank, at_place}
 
 -- rule 5 says nothing of register cells

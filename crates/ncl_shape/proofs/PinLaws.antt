@@ -7,7 +7,7 @@ use Rattle.ncl_gates.specs.GateLaw.{all_high}
 use Rattle.ncl_netlist.specs.declared.ids.NetId.{NetId}
 use Rattle.ncl_shape.specs.Nets.{Nets}
 use Rattle.ncl_shape.specs.Closure.{pin_values, first_pin}
-use Rattle.ncl_shape.proofs.Members.{Member, here, there}
+use Rattle.ncl_base.proofs.Members.{Member, here, there}
 
 -- some pin is high where the net on it is
 pub some_high-from : (v : Nets) (net : NetId) {ins : List NetId} → Member net ins → v net.0 ≡ true → some_high (pin_values v ins) ≡ true

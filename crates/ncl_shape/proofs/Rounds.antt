@@ -6,7 +6,7 @@ use Rattle.std.specs.Prelude.{nat_eq}
 use Rattle.std.specs.List.{list_any}
 use Rattle.std.proofs.lemmas.Bool.{cases_Bool, or_cases, or_left, or_right, and_parts, and_from, eqb-true, eq-eqb, both_ways, not-true, not_from_false}
 use Rattle.ncl_shape.specs.Nets.{Nets, IsBelow, round, rounds}
-use Rattle.ncl_shape.proofs.Members.{Member, here, there, list_any-from_member, member_from_list_any}
+use Rattle.ncl_base.proofs.Members.{Member, here, there, list_any-from_member, member_from_list_any}
 
 -- 0 for a net that is high, 1 for one that is low
 abbrev low_count : Bool → ℕ

@@ -12,15 +12,15 @@ use Rattle.ncl_shape.specs.declared.bank.Bank.{Bank}
 use Rattle.ncl_shape.specs.declared.bank.Bit.{Bit}
 use Rattle.ncl_shape.specs.declared.rails.Rails.{Rails}
 use Rattle.ncl_shape.specs.declared.stage.StageCell.{StageCell}
-use Rattle.ncl_shape.specs.Origin.{CellAt, OnPin, A, B}
+use Rattle.ncl_origin.specs.Origin.{CellAt, OnPin, A, B}
 use Rattle.ncl_shape.specs.Stage.{StageData}
 use Rattle.ncl_shape.specs.Pipeline.{PipelineData}
 use Rattle.ncl_shape.specs.Shape.{IsBitOf, AreBitsOf, IsBankOf, AreRailsOf, AreInputsOf, IsGateOf, IsStageOf, Shape}
 use Rattle.ncl_shape.specs.SamePipeline.{IsSameStage, IsSamePipeline}
-use Rattle.ncl_shape.proofs.Members.{Member, Contains-from_Member, Member-from_Contains, Contains-from_slice_get, slice_get-from_Contains, slice_get-some}
-use Rattle.ncl_shape.proofs.Lists.{same_from_lengths, AllZip-from_places, AllZip-one, HasKeys, same_increasing, IsPermutation-from_members}
-use Rattle.ncl_shape.proofs.Drivers.{same_place}
-use Rattle.ncl_shape.proofs.CellTests.{same_net}
+use Rattle.ncl_base.proofs.Members.{Member, Contains-from_Member, Member-from_Contains, Contains-from_slice_get, slice_get-from_Contains, slice_get-some}
+use Rattle.ncl_base.proofs.Lists.{same_from_lengths, AllZip-from_places, AllZip-one, HasKeys, same_increasing, IsPermutation-from_members}
+use Rattle.ncl_origin.proofs.Drivers.{same_place}
+use Rattle.ncl_origin.proofs.CellTests.{same_net}
 use Rattle.ncl_shape.proofs.ChainLaws.{chain_is_one}
 
 -- by what some banks are requested

@@ -4,9 +4,9 @@ use Rattle.std.specs.Prelude.{slice_get}
 use Rattle.ncl_gates.specs.declared.cell_kind.CellKind.TheVariants.{Register}
 use Rattle.ncl_netlist.specs.declared.cell.Cell.{Cell}
 use Rattle.ncl_netlist.specs.Netlist.{NetlistData}
-use Rattle.ncl_shape.specs.Origin.{IsCell, OnPin, B, IsOfBank}
+use Rattle.ncl_origin.specs.Origin.{IsCell, OnPin, B, IsOfBank}
 use Rattle.ncl_shape.specs.Examples.{cell}
-use Rattle.ncl_shape.proofs.Members.{Contains-from_slice_get}
+use Rattle.ncl_base.proofs.Members.{Contains-from_slice_get}
 
 -- the cell at a place, or some cell past the end
 abbrev pub cell_of : NetlistData → ℕ → Cell

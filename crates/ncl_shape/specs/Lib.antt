@@ -1,7 +1,8 @@
+pub use Rattle.ncl_origin.specs.Origin
+pub use Rattle.ncl_origin.specs.Rules
+pub use Rattle.ncl_origin.specs.Free
 pub mod Nets
 pub mod Stage
-pub mod Origin
-pub mod Rules
 pub mod Chain
 pub mod Pipeline
 pub mod Shape

@@ -9,11 +9,12 @@ use Rattle.ncl_shape.specs.declared.bank.Bank.{Bank}
 use Rattle.ncl_shape.specs.declared.bank.Bit.{Bit}
 use Rattle.ncl_shape.specs.declared.rails.Rails.{Rails}
 use Rattle.ncl_shape.specs.declared.stage.StageCell.{StageCell}
-use Rattle.ncl_shape.specs.declared.fault.ShapeFault.{ShapeFault}
-use Rattle.ncl_shape.specs.declared.fault.ShapeFault.TheVariants.{UnusedPort, Cycle, Unpaired, Mixed, Loose, NoChain, TooWide, TooLong, Memory}
+use Rattle.ncl_origin.specs.declared.fault.ShapeFault.{ShapeFault}
+use Rattle.ncl_origin.specs.declared.fault.ShapeFault.TheVariants.{UnusedPort, Cycle, Unpaired, Mixed, Loose, NoChain, TooWide, TooLong, Memory}
 use Rattle.ncl_shape.specs.Stage.{StageData, IsStage}
-use Rattle.ncl_shape.specs.Origin.{CellAt, OnPin, A, B, IsOfBank, AcksBank, RailOf, ComesFrom}
-use Rattle.ncl_shape.specs.Rules.{IsReadPort, IsOffCycles, IsPaired, IsUnmixed, IsTied}
+use Rattle.ncl_origin.specs.Origin.{CellAt, OnPin, A, B, IsOfBank, AcksBank, RailOf, ComesFrom}
+use Rattle.ncl_origin.specs.Rules.{IsReadPort, IsOffCycles, IsPaired, IsUnmixed, IsTied}
+use Rattle.ncl_origin.specs.Free.{IsFree, AtCell, FailsFirst}
 use Rattle.ncl_shape.specs.Chain.{IsChain, IsRoot, IsChained, BreaksInner}
 use Rattle.ncl_shape.specs.Pipeline.{PipelineData}
 
@@ -72,14 +73,6 @@ pub record IsStageOf (n : NetlistData) (b next : Bank) (s : StageData) : Type 0 
   pub each : (k : ℕ) (c : StageCell) → slice_get s.cells k ≡ Some c → IsGateOf n b.request.0 c
   pub every : (k : ℕ) (kind : Kind) (c : Cell) → CellAt n k c → c.kind ≡ Gate kind → ComesFrom n c.out.0 (RailOf b.request.0) → (g : StageCell) × Contains s.cells g × (g.cell.0 ≡ k)
 
--- the first five rules, of each port and each cell
-pub record IsFree (n : NetlistData) : Type 0 where
-  pub ports_read : (net : ℕ) → IsReadPort n net
-  pub off_cycles : (k : ℕ) (c : Cell) → CellAt n k c → IsOffCycles n c
-  pub paired : (k : ℕ) (c : Cell) → CellAt n k c → IsPaired n c
-  pub unmixed : (k : ℕ) (c : Cell) → CellAt n k c → IsUnmixed n c
-  pub tied : (k : ℕ) (c : Cell) → CellAt n k c → IsTied n c
-
 -- rule 7: the bank has at most 128 bits
 abbrev pub IsNarrow : NetlistData → ℕ → Type 0
 IsNarrow n bank = (bits : List Bit) → AreBitsOf n bank bits → length bits ≤ 128
@@ -101,15 +94,6 @@ pub record Shape (n : NetlistData) (p : PipelineData) : Type 0 where
   pub inputs : (first : Bank) → slice_get p.banks 0 ≡ Some first → AllZip (AreInputsOf n) first.bits p.inputs
   pub outputs : (k : ℕ) (last : Bank) → k + 1 ≡ length p.banks → slice_get p.banks k ≡ Some last → AllZip (AreRailsOf n) last.bits p.outputs × (p.ki ≡ last.request.0)
   pub ko : (first : Bank) → slice_get p.banks 0 ≡ Some first → p.ko ≡ first.root.0
-
--- the least place, of a port or a cell, at which something fails
-pub record FailsFirst (Holds : ℕ → Type 0) (k : ℕ) : Type 0 where
-  pub fails : Holds k → ⊥
-  pub before : (j : ℕ) → j < k → Holds j
-
--- a rule of cells, at a place
-abbrev pub AtCell : (NetlistData → Cell → Type 0) → NetlistData → ℕ → Type 0
-AtCell Rule n k = (c : Cell) → CellAt n k c → Rule n c
 
 -- the rules by number, from 1
 abbrev pub RuleHolds : NetlistData → ℕ → Type 0

@@ -4,14 +4,13 @@
 
 mod bank;
 pub mod examples;
-mod fault;
 mod item;
 pub mod laws;
 mod rails;
 mod stage;
 
 pub use bank::{Bank, Bit};
-pub use fault::ShapeFault;
 pub use item::Item;
+pub use ncl_origin::ShapeFault;
 pub use rails::Rails;
 pub use stage::{Stage, StageCell};

@@ -5,7 +5,7 @@ use Rattle.std.proofs.lemmas.Bool.{or_cases, both_ways, eqb-true}
 use Rattle.ncl_shape.specs.declared.rails.Rails.{Rails}
 use Rattle.ncl_shape.specs.Nets.{among}
 use Rattle.ncl_shape.specs.Stage.{rail_nets, rail_of, named_rails}
-use Rattle.ncl_shape.proofs.Members.{Member, here, there, Contains-from_Member}
+use Rattle.ncl_base.proofs.Members.{Member, here, there, Contains-from_Member}
 
 pairs_rest : {X : Type 0} (R : X → X → Type 0) (x : X) (xs : List X) → AllPairs R (x ∷ xs) → AllPairs R xs
 pairs_rest R x xs pairs i j d before within = pairs (suc i) (suc j) d (omega arith) (omega arith)

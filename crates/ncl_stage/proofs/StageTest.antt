@@ -9,7 +9,7 @@ use Rattle.ncl_netlist.specs.declared.ids.NetId.{NetId}
 use Rattle.ncl_shape.specs.declared.stage.StageCell.{StageCell}
 use Rattle.ncl_shape.specs.Nets.{among}
 use Rattle.ncl_shape.specs.Stage.{StageData, IsStage, Reads, nets_of, out_of, rail_nets}
-use Rattle.ncl_shape.proofs.Members.{Member, here, there, Contains-from_Member, Member-get_or, All-from_members, list_any-from_member, member_from_list_any}
+use Rattle.ncl_base.proofs.Members.{Member, here, there, Contains-from_Member, Member-get_or, All-from_members, list_any-from_member, member_from_list_any}
 
 -- no two of the keys are equal
 abbrev are_distinct : List ℕ → Bool

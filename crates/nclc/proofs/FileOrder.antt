@@ -7,7 +7,7 @@ use Rattle.std.proofs.lemmas.Option.{slice_get-get_or}
 use Rattle.ncl_shape.specs.declared.stage.StageCell.{StageCell}
 use Rattle.ncl_gates.specs.declared.kind.Kind.TheVariants.{Th12}
 use Rattle.ncl_shape.specs.Stage.{StageData, IsStage}
-use Rattle.ncl_shape.proofs.Members.{Member, here, there}
+use Rattle.ncl_base.proofs.Members.{Member, here, there}
 use Rattle.ncl_stage.specs.Faults.{Orphan}
 use Rattle.ncl_stage.proofs.Apart.{member_cases}
 use Rattle.ncl_verdict.specs.declared.verdict.Verdict.{Verdict}

@@ -12,7 +12,7 @@ use Rattle.ncl_shape.specs.declared.rails.Rails.{Rails}
 use Rattle.ncl_shape.specs.declared.stage.StageCell.{StageCell}
 use Rattle.ncl_shape.specs.Nets.{Nets}
 use Rattle.ncl_shape.specs.Stage.{StageData, IsStage, rail_nets}
-use Rattle.ncl_shape.proofs.Members.{All-from_members}
+use Rattle.ncl_base.proofs.Members.{All-from_members}
 use Rattle.ncl_diagram.specs.Table.{words}
 use Rattle.ncl_stage.specs.declared.variant.Variant.{Variant}
 use Rattle.ncl_stage.specs.declared.variant.Variant.TheVariants as variant

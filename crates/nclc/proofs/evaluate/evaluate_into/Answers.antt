@@ -5,7 +5,7 @@ use Rattle.ncl_netlist.specs.declared.ids.NetId.{NetId}
 use Rattle.ncl_shape.specs.declared.stage.StageCell.{StageCell}
 use Rattle.ncl_shape.specs.Nets.{among}
 use Rattle.ncl_shape.specs.Stage.{StageData, IsStage, rail_nets, nets_of}
-use Rattle.ncl_shape.proofs.Members.{Member}
+use Rattle.ncl_base.proofs.Members.{Member}
 use Rattle.ncl_stage.specs.Values.{kept_low, rises, val}
 use Rattle.nclc.specs.Evaluation.{value_in, nets_of_stage, HasNetsBelow, AgreeAt}
 use Rattle.nclc.proofs.EvaluateSteps.{at_member, no_rail, rails_agree, rails_others, rails_below, reads_below, out-member, cell_more, write_other}

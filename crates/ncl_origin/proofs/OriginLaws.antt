@@ -8,10 +8,10 @@ use Rattle.ncl_gates.specs.declared.cell_kind.CellKind.TheVariants.{Gate, Regist
 use Rattle.ncl_gates.specs.Cell.{pins_of}
 use Rattle.ncl_netlist.specs.declared.cell.Cell.{Cell}
 use Rattle.ncl_netlist.specs.Netlist.{NetlistData, IsNetlist}
-use Rattle.ncl_shape.specs.Origin.{IsCell, CellAt, IsGate, IsRegister, IsAck, ReadsNet, OnPin, B, IsInputPort, IsOfBank, AcksBank, Origin, FromPort, RailOf, AckOf, ComesFrom, port, rail, ack, gate}
-use Rattle.ncl_shape.specs.Shape.{IsFree}
-use Rattle.ncl_shape.proofs.Members.{Contains-from_slice_get, slice_get-from_Contains}
-use Rattle.ncl_shape.proofs.Drivers.{cell_fits, same_driver, no_cell_drives_port, driver_of}
+use Rattle.ncl_origin.specs.Origin.{IsCell, CellAt, IsGate, IsRegister, IsAck, ReadsNet, OnPin, B, IsInputPort, IsOfBank, AcksBank, Origin, FromPort, RailOf, AckOf, ComesFrom, port, rail, ack, gate}
+use Rattle.ncl_origin.specs.Free.{IsFree}
+use Rattle.ncl_base.proofs.Members.{Contains-from_slice_get, slice_get-from_Contains}
+use Rattle.ncl_origin.proofs.Drivers.{cell_fits, same_driver, no_cell_drives_port, driver_of}
 
 sort_of_kind : (k : CellKind) → ((kind : Kind) × (k ≡ Gate kind)) ⊎ ((k ≡ Register) ⊎ (k ≡ Ack))
 sort_of_kind (Gate kind) = inl (kind, refl)

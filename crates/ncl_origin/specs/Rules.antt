@@ -6,7 +6,7 @@ use Rattle.ncl_gates.specs.declared.cell_kind.CellKind.TheVariants.{Gate, Regist
 use Rattle.ncl_netlist.specs.declared.ids.NetId.{NetId}
 use Rattle.ncl_netlist.specs.declared.cell.Cell.{Cell}
 use Rattle.ncl_netlist.specs.Netlist.{NetlistData}
-use Rattle.ncl_shape.specs.Origin.{IsCell, CellAt, IsGate, IsRegister, IsAck, ReadsNet, OnPin, A, B, RST, IsInputPort, IsOutputPort, IsOfBank, RailOf, AckOf, ComesFrom, HasOnlyOrigin, HaveSameOrigins, LeadsTo, IsTreeKind}
+use Rattle.ncl_origin.specs.Origin.{IsCell, CellAt, IsGate, IsRegister, IsAck, ReadsNet, OnPin, A, B, RST, IsInputPort, IsOutputPort, IsOfBank, RailOf, AckOf, ComesFrom, HasOnlyOrigin, HaveSameOrigins, LeadsTo, IsTreeKind}
 
 -- rule 1: some pin reads the input port
 abbrev pub IsReadPort : NetlistData → ℕ → Type 0

@@ -5,7 +5,7 @@ use Rattle.std.specs.List.{AllZip, remove}
 use Rattle.std.specs.List.Sorted.{IsPermutation}
 use Rattle.std.proofs.lemmas.List.{append-nil}
 use Rattle.std.proofs.lemmas.List.Sorted.{IsPermutation-refl, IsPermutation-cons, IsPermutation-trans, IsPermutation-remove, Contains-permutation, length_permutation}
-use Rattle.ncl_shape.proofs.Members.{Member, here, there, Contains-from_Member, Member-from_Contains}
+use Rattle.ncl_base.proofs.Members.{Member, here, there, Contains-from_Member, Member-from_Contains}
 
 -- lists that have the same at each place
 pub same_from_places : {X : Type 0} (xs ys : List X) → ((k : ℕ) (x : X) → slice_get xs k ≡ Some x → slice_get ys k ≡ Some x) → ((k : ℕ) (x : X) → slice_get ys k ≡ Some x → slice_get xs k ≡ Some x) → xs ≡ ys

@@ -10,8 +10,8 @@ use Rattle.ncl_gates.specs.declared.cell_kind.CellKind.TheVariants.{Gate, Regist
 use Rattle.ncl_netlist.specs.declared.ids.NetId.{NetId}
 use Rattle.ncl_netlist.specs.declared.cell.Cell.{Cell}
 use Rattle.ncl_netlist.specs.Netlist.{NetlistData}
-use Rattle.ncl_shape.specs.Origin.{IsCell, IsGate, IsRegister, ReadsNet, OnPin, B, IsOfBank}
-use Rattle.ncl_shape.proofs.Members.{Member-from_Contains, Contains-from_Member, Member-filter, list_any-from_member}
+use Rattle.ncl_origin.specs.Origin.{IsCell, IsGate, IsRegister, ReadsNet, OnPin, B, IsOfBank}
+use Rattle.ncl_base.proofs.Members.{Member-from_Contains, Contains-from_Member, Member-filter, list_any-from_member}
 
 abbrev is_register : CellKind → Bool
 is_register Register = true

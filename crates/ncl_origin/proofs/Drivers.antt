@@ -6,8 +6,8 @@ use Rattle.std.proofs.lemmas.List.Elements.{All-contains}
 use Rattle.ncl_netlist.specs.declared.port.Port.{Port}
 use Rattle.ncl_netlist.specs.declared.cell.Cell.{Cell}
 use Rattle.ncl_netlist.specs.Netlist.{NetlistData, IsNetlist, CellFits, drives, drivers_of}
-use Rattle.ncl_shape.specs.Origin.{IsCell, CellAt, IsInputPort}
-use Rattle.ncl_shape.proofs.Members.{Contains-from_Member, Member-from_Contains, Contains-from_slice_get, slice_get-from_Contains, count_from_member, member_from_count, place_is_one}
+use Rattle.ncl_origin.specs.Origin.{IsCell, CellAt, IsInputPort}
+use Rattle.ncl_base.proofs.Members.{Contains-from_Member, Member-from_Contains, Contains-from_slice_get, slice_get-from_Contains, count_from_member, member_from_count, place_is_one}
 
 -- an input port drives its net
 port_drives : (ports : List Port) (net : ℕ) (port : Port) → slice_get ports net ≡ Some port → port.output ≡ false → get_or (map drives ports) net 0 ≡ 1

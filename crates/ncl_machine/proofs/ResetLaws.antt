@@ -14,7 +14,7 @@ use Rattle.ncl_gates.specs.Cell.{pins_of, next_of_cell}
 use Rattle.ncl_gates.proofs.GateLaws.{set_of-high, next_of-hysteresis}
 use Rattle.ncl_netlist.specs.declared.ids.NetId.{NetId}
 use Rattle.ncl_netlist.specs.declared.cell.Cell.{Cell}
-use Rattle.ncl_netlist.specs.Netlist.{NetlistData, IsNetlist}
+use Rattle.ncl_netlist.specs.Netlist.{NetlistData}
 use Rattle.ncl_shape.specs.declared.bank.Bank.{Bank}
 use Rattle.ncl_shape.specs.declared.bank.Bit.{Bit}
 use Rattle.ncl_shape.specs.declared.rails.Rails.{Rails}
@@ -60,7 +60,7 @@ pins_of_tree kind th22 = refl
 pins_of_tree kind th33 = refl
 pins_of_tree kind th44 = refl
 
-module _ (p : PipelineData) (is : IsNetlist p.netlist) (shape : Shape p.netlist p) where
+module _ (p : PipelineData) (shape : Shape p.netlist p) where
   -- the sink's acknowledge is an input port, and the last bank's request
   ki_is_port : IsInputPort p.netlist p.ki
   ki_is_port =
@@ -100,8 +100,8 @@ module _ (p : PipelineData) (is : IsNetlist p.netlist) (shape : Shape p.netlist 
   pub register_is_low : (c : Cell) → IsCell p.netlist c → IsRegister c → reset_nets p c.out.0 ≡ false
   register_is_low c in_c register =
       else_is_low c.out.0
-      (λ e. no_cell_drives_port p.netlist is c in_c (subst (IsInputPort p.netlist) (sym e) ki_is_port))
-      (λ bank from. let (request, of_bank, is_rail) = register_origin p.netlist is c in_c register c.out.0 (AckOf bank) refl from in absurd cc)
+      (λ e. no_cell_drives_port p.netlist shape.is_netlist c in_c (subst (IsInputPort p.netlist) (sym e) ki_is_port))
+      (λ bank from. let (request, of_bank, is_rail) = register_origin p.netlist shape.is_netlist c in_c register c.out.0 (AckOf bank) refl from in absurd cc)
 
   -- the sink's acknowledge is on pins B, so not on A
   ki_not_on_a : (c : Cell) → IsCell p.netlist c → IsRegister c → OnPin c A p.ki → ⊥
@@ -121,13 +121,13 @@ module _ (p : PipelineData) (is : IsNetlist p.netlist) (shape : Shape p.netlist 
         | inl input ↦
             else_is_low net
             (λ e. ki_not_on_a c in_c register (subst (OnPin c A) e on))
-            (λ bank from. let is_port = port_origin p.netlist is net (AckOf bank) input from in absurd cc)
+            (λ bank from. let is_port = port_origin p.netlist shape.is_netlist net (AckOf bank) input from in absurd cc)
         | inr (request, only) ↦ rail_is_low net request only.only
       ]
 
   register_is_still : (c : Cell) → IsCell p.netlist c → IsRegister c → next_value (reset_nets p) c ≡ reset_nets p c.out.0
   register_is_still c in_c register =
-      let (net, on) = pin_of_register p.netlist is c in_c register A (omega arith) in
+      let (net, on) = pin_of_register p.netlist shape.is_netlist c in_c register A (omega arith) in
       let was : reset_nets p c.out.0 ≡ false = register_is_low c in_c register in
       let low : first_pin (pin_values (reset_nets p) c.ins.items) ≡ false = first_pin-is (reset_nets p) c.ins.items (record { 0 = net }) on ∙ register_input_is_low c in_c register net on in
       ap (λ k. next_of_cell k (pin_values (reset_nets p) c.ins.items) (reset_nets p c.out.0)) register
@@ -152,7 +152,7 @@ module _ (p : PipelineData) (is : IsNetlist p.netlist) (shape : Shape p.netlist 
   ack_is_still c in_c is_ack =
       let (k, at) = place_of p.netlist c in_c in
       let bit : ReadsOneBit p.netlist c = (shape.free.paired k c at).ack is_ack in
-      let pins : length c.ins.items + 1 ≡ length (pins_of c.kind) = (cell_fits p.netlist is c in_c).pins in
+      let pins : length c.ins.items + 1 ≡ length (pins_of c.kind) = (cell_fits p.netlist shape.is_netlist c in_c).pins in
       let three : length (pins_of c.kind) ≡ 3 = ap (λ k. length (pins_of k)) is_ack in
       let (request, acks) = bank_of_ack p.netlist shape.free c in_c is_ack in
       let low : some_high (pin_values (reset_nets p) c.ins.items) ≡ false =
@@ -175,14 +175,14 @@ module _ (p : PipelineData) (is : IsNetlist p.netlist) (shape : Shape p.netlist 
             some_high-low (reset_nets p) c.ins.items (λ net m. rail_is_low net.0 request (λ origin from. only.only origin (gate c in_c (kind, is_gate) (Contains-from_Member net m) from))) in
             gates ∙ (next_of-hysteresis kind).falls (pin_values (reset_nets p) c.ins.items) (reset_nets p c.out.0) low ∙ sym (rail_is_low c.out.0 request only.only)
         | inr (request, only, tree) ↦
-            let fits = cell_fits p.netlist is c in_c in
+            let fits = cell_fits p.netlist shape.is_netlist c in_c in
             let pins : length c.ins.items + 1 ≡ length (pins_of c.kind) = fits.pins in
             let of_kind : length (pins_of c.kind) ≡ length (pins_of (Gate kind)) = ap (λ k. length (pins_of k)) is_gate in
             let arity = pins_of_tree kind tree in
             let values : length (pin_values (reset_nets p) c.ins.items) ≡ length c.ins.items = length-map c.ins.items (λ (net : NetId). reset_nets p net.0) in
             let high = all_high-from (reset_nets p) c.ins.items (λ net m.
             let lt = All-contains (λ (x : NetId). x.0 < length p.netlist.nets) c.ins.items net fits.inputs (Contains-from_Member net m) in
-            let (origin, from) = has_origin p.netlist is shape.free net.0 lt in
+            let (origin, from) = has_origin p.netlist shape.is_netlist shape.free net.0 lt in
             let is_ack = only.only origin (gate c in_c (kind, is_gate) (Contains-from_Member net m) from) in
             ack_is_high net.0 request (subst (ComesFrom p.netlist net.0) is_ack from)) in
             gates
@@ -232,6 +232,6 @@ module _ (p : PipelineData) (is : IsNetlist p.netlist) (shape : Shape p.netlist 
   quiet_at_reset Ready = and_left (not (reset_nets p p.ki)) _ (not_from_true _ ki_is_high)
 
 -- the same of a netlist and its pipeline
-pub quiet_at_reset_of : (n : NetlistData) (p : PipelineData) → IsNetlist n → Shape n p → IsQuiet p (reset p [])
-quiet_at_reset_of n p is shape =
-    quiet_at_reset p (subst IsNetlist (sym shape.netlist) is) (subst (λ m. Shape m p) (sym shape.netlist) shape)
+pub quiet_at_reset_of : (n : NetlistData) (p : PipelineData) → Shape n p → IsQuiet p (reset p [])
+quiet_at_reset_of n p shape =
+    quiet_at_reset p (subst (λ m. Shape m p) (sym shape.netlist) shape)

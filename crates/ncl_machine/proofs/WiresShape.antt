@@ -133,6 +133,7 @@ stage_of = record {
 
 pub wires_shape : Shape wires wires_pipeline
 wires_shape = record {
+  is_netlist = wires_netlist;
   netlist = refl;
   free = wires_free;
   chained = wires_chained;

@@ -27,7 +27,7 @@ pub fn run_prefix()
 
 /// At reset with no word offered nothing can move.
 pub fn still_at_reset()
-    ensures { (n : NetlistData) (p : PipelineData) → IsNetlist n → Shape n p → IsQuiet p (reset p []) }
+    ensures { (n : NetlistData) (p : PipelineData) → Shape n p → IsQuiet p (reset p []) }
 {}
 
 /// A stage at work stays within its values: while a word comes in, and while NULL does, no net is high that

@@ -4,7 +4,7 @@ use Rattle.std.specs.List.{AllZip}
 use Rattle.ncl_gates.specs.declared.kind.Kind.{Kind}
 use Rattle.ncl_gates.specs.declared.cell_kind.CellKind.TheVariants.{Gate}
 use Rattle.ncl_netlist.specs.declared.cell.Cell.{Cell}
-use Rattle.ncl_netlist.specs.Netlist.{NetlistData}
+use Rattle.ncl_netlist.specs.Netlist.{NetlistData, IsNetlist}
 use Rattle.ncl_shape.specs.declared.bank.Bank.{Bank}
 use Rattle.ncl_shape.specs.declared.bank.Bit.{Bit}
 use Rattle.ncl_shape.specs.declared.rails.Rails.{Rails}
@@ -81,8 +81,9 @@ IsNarrow n bank = (bits : List Bit) → AreBitsOf n bank bits → length bits �
 abbrev pub IsShort : NetlistData → Type 0
 IsShort n = (banks : List ℕ) → IsChain n banks → length banks ≤ 256
 
--- the netlist has the shape of a linear pipeline, and this is the pipeline
+-- it is a netlist that has the shape of a linear pipeline, and this is the pipeline
 pub record Shape (n : NetlistData) (p : PipelineData) : Type 0 where
+  pub is_netlist : IsNetlist n
   pub netlist : p.netlist ≡ n
   pub free : IsFree n
   pub chained : IsChained n

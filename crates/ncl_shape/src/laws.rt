@@ -29,12 +29,12 @@ pub fn closure_is_supported()
 
 /// A netlist has the shape of one pipeline, but for the order of the cells of its stages.
 pub fn shape_is_one()
-    ensures { (n : NetlistData) (p q : PipelineData) → IsNetlist n → Shape n p → Shape n q → IsSamePipeline p q }
+    ensures { (n : NetlistData) (p q : PipelineData) → Shape n p → Shape n q → IsSamePipeline p q }
 {}
 
 /// A netlist that has the shape of a pipeline breaks no rule of shape.
 pub fn shape_is_unbroken()
-    ensures { (n : NetlistData) (p : PipelineData) (fault : ShapeFault) → IsNetlist n → Shape n p → Broken n fault → ⊥ }
+    ensures { (n : NetlistData) (p : PipelineData) (fault : ShapeFault) → Shape n p → Broken n fault → ⊥ }
 {}
 
 /// A netlist has at most one fault of shape: the first rule that it breaks, at the first place.

@@ -6,7 +6,7 @@ use Rattle.std.proofs.lemmas.Option.{slice_get_within}
 use Rattle.ncl_shape.specs.declared.item.Item.{Item}
 use Rattle.ncl_shape.specs.Pipeline.{PipelineData}
 use Rattle.ncl_shape.specs.Closure.{function_of}
-use Rattle.ncl_shape.proofs.Members.{slice_get-some}
+use Rattle.ncl_base.proofs.Members.{slice_get-some}
 use Rattle.ncl_machine.specs.State.{reset}
 use Rattle.ncl_machine.specs.Run.{IsRun, after, AreWordsOf}
 use Rattle.ncl_machine.specs.DelayInsensitive.{IsDelayInsensitive, due}
@@ -22,10 +22,9 @@ length-from_places (x ∷ xs) n each =
 -- a run of a delay-insensitive pipeline delivers no more pairs than words are offered
 pub delivered-within : (p : PipelineData) → IsDelayInsensitive p → (offered : List (List Bool)) (items : List Item) → AreWordsOf p offered → IsRun p offered items → length (after p (reset p offered) items).delivered ≤ length offered
 delivered-within p insensitive offered items words run =
-    let safe = insensitive.states offered items words run in
     length-from_places (after p (reset p offered) items).delivered (length offered)
     (λ k pair at.
-    let (word, is_due, carries) = safe.prefix k pair at in
+    let (word, is_due, carries) = insensitive.safe.due offered items words run k pair at in
     let below : k < length (due p offered) = slice_get_within (due p offered) k word is_due in
     let as_many : length (due p offered) ≡ length offered = length-map offered (function_of p) in
     omega (arith, below, as_many))

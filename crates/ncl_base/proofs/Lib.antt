@@ -2,3 +2,4 @@ pub mod Written
 pub mod Named
 pub mod Members
 pub mod Lists
+pub mod Growing

@@ -1,11 +1,14 @@
 -- When two lists are the same: at each place, in increasing order, or but for their order.
-use Rattle.std.proofs.Common.{◌≡◌, ◌≢◌, ℕ, zero, suc, ◌<◌, ◌≤◌, List, [], ◌∷◌, ◌++◌, length, Some, refl, sym, subst, arith, length-append}
+use Rattle.std.proofs.Common.{◌≡◌, ◌≢◌, ℕ, zero, suc, ◌<◌, ◌≤◌, List, [], ◌∷◌, ◌++◌, length, map, get_or, Some, inl, inr, refl, sym, ap, subst, arith, length-append}
 use Rattle.std.specs.Prelude.{AllPairs, slice_get}
 use Rattle.std.specs.List.{AllZip, remove}
 use Rattle.std.specs.List.Sorted.{IsPermutation}
+use Rattle.std.proofs.lemmas.Bool.{cases_lt}
 use Rattle.std.proofs.lemmas.List.{append-nil}
+use Rattle.std.proofs.lemmas.List.Kept.{AllPairs-cons}
 use Rattle.std.proofs.lemmas.List.Sorted.{IsPermutation-refl, IsPermutation-cons, IsPermutation-trans, IsPermutation-remove, Contains-permutation, length_permutation}
-use Rattle.ncl_base.proofs.Members.{Member, here, there, Contains-from_Member, Member-from_Contains}
+use Rattle.std.proofs.lemmas.Option.{slice_get_within, get_or_from_slice_get}
+use Rattle.ncl_base.proofs.Members.{Member, here, there, member_of_map, Contains-from_Member, Member-from_Contains, All-from_members}
 
 -- lists that have the same at each place
 pub same_from_places : {X : Type 0} (xs ys : List X) → ((k : ℕ) (x : X) → slice_get xs k ≡ Some x → slice_get ys k ≡ Some x) → ((k : ℕ) (x : X) → slice_get ys k ≡ Some x → slice_get xs k ≡ Some x) → xs ≡ ys
@@ -34,6 +37,13 @@ AllZip-from_places R [] (y ∷ ys) lengths each = absurd (omega arith)
 AllZip-from_places R (x ∷ xs) [] lengths each = absurd (omega arith)
 AllZip-from_places R (x ∷ xs) (y ∷ ys) lengths each = (each zero x y refl refl, AllZip-from_places R xs ys (omega arith) (λ k. each (suc k)))
 
+-- so of what stands at a place
+pub AllZip-at : {X Y : Type 0} (R : X → Y → Type 0) (xs : List X) (ys : List Y) → AllZip R xs ys → (k : ℕ) (x : X) (d : Y) → slice_get xs k ≡ Some x → R x (get_or ys k d)
+AllZip-at R [] ys zip k x d at = absurd cc
+AllZip-at R (x ∷ xs) [] zip k y d at = absurd zip
+AllZip-at R (x ∷ xs) (z ∷ ys) zip zero y d at = let same : x ≡ y = cc in subst (λ q. R q z) same zip.0
+AllZip-at R (x ∷ xs) (z ∷ ys) zip (suc k) y d at = AllZip-at R xs ys zip.1 k y d at
+
 -- lists that go with one list, by a relation that says which, are the same
 pub AllZip-one : {X Y : Type 0} (R : X → Y → Type 0) (xs : List X) (ys zs : List Y) → ((x : X) (y z : Y) → Member x xs → R x y → R x z → y ≡ z) → AllZip R xs ys → AllZip R xs zs → ys ≡ zs
 AllZip-one R [] [] [] one with_y with_z = refl
@@ -61,6 +71,24 @@ HasKeys {X} key xs ys = (x : X) → Member x xs → (y : X) × Member y ys × (k
 
 abbrev pub AreIncreasing : {X : Type 0} → (X → ℕ) → List X → Type 0
 AreIncreasing {X} key xs = AllPairs (λ (x y : X). key x < key y) xs
+
+-- a key stands at one place of a list in increasing order
+pub increasing_place : {X : Type 0} (key : X → ℕ) (xs : List X) → AreIncreasing key xs → (i j : ℕ) (x y : X) → slice_get xs i ≡ Some x → slice_get xs j ≡ Some y → key x ≡ key y → i ≡ j
+increasing_place key xs up i j x y at_x at_y same =
+    elim (cases_lt i j) [
+      | inl less ↦ let grows = before i j x y at_x at_y less in absurd (omega (arith, grows, same))
+      | inr over ↦ elim (cases_lt j i) [
+        | inl more ↦ let grows = before j i y x at_y at_x more in absurd (omega (arith, grows, same))
+        | inr under ↦ omega (arith, over, under)
+      ]
+    ]
+  where
+    before : (i j : ℕ) (x y : _) → slice_get xs i ≡ Some x → slice_get xs j ≡ Some y → i < j → key x < key y
+    before i j x y at_x at_y less =
+        let grows = up i j x less (slice_get_within xs j y at_y) in
+        let first = ap key (get_or_from_slice_get xs i x x at_x) in
+        let second = ap key (get_or_from_slice_get xs j y x at_y) in
+        omega (arith, grows, first, second)
 
 -- the head of a list in increasing order has no greater key than a member
 head_least : {X : Type 0} (key : X → ℕ) (x : X) (xs : List X) → AreIncreasing key (x ∷ xs) → (y : X) → Member y (x ∷ xs) → key x ≤ key y
@@ -94,6 +122,15 @@ same_increasing key (x ∷ xs) (y ∷ ys) up_x up_y to from one =
 
 abbrev pub Differ : {X : Type 0} → (X → ℕ) → List X → Type 0
 Differ {X} key xs = AllPairs (λ (x y : X). key x ≢ key y) xs
+
+pub differ_of_map : {X : Type 0} (key : X → ℕ) (xs : List X) → Differ key xs → AllPairs (λ a b. a ≢ b) (map key xs)
+differ_of_map key [] differ = λ i j d before within. absurd (omega (arith, within))
+differ_of_map key (x ∷ xs) differ =
+    AllPairs-cons (λ a b. a ≢ b) (key x) (map key xs)
+    (All-from_members (λ b. key x ≢ b) (map key xs) (λ b m.
+    let (y, n, e) = member_of_map key xs b m in
+    subst (λ z. key x ≢ z) e (pairs-head (λ x y. key x ≢ key y) x xs differ y n)))
+    (differ_of_map key xs (pairs-tail (λ x y. key x ≢ key y) x xs differ))
 
 -- where the members of xs differ and are members of ys, these are xs and others
 with_rest : {X : Type 0} (key : X → ℕ) (xs ys : List X) → Differ key xs → ((x : X) → Member x xs → Member x ys) → (rest : List X) × IsPermutation ys (xs ++ rest)

@@ -1,14 +1,40 @@
--- Members of a list, in the form in which proofs go through them: the first, or a member of the rest.
-use Rattle.std.proofs.Common.{◌≡◌, ℕ, zero, suc, ◌+◌, ◌<◌, ◌≤◌, Bool, true, false, cond, List, [], ◌∷◌, length, get_or, Some, inl, inr, refl, sym, ap, subst, ◌∙◌, arith}
+-- The laws of members of a list.
+use Rattle.std.proofs.Common.{◌≡◌, ℕ, zero, suc, ◌+◌, ◌<◌, ◌≤◌, Bool, true, false, cond, List, [], ◌∷◌, ◌++◌, length, map, get_or, Some, ◌⊎◌, inl, inr, refl, sym, ap, subst, ◌∙◌, arith}
 use Rattle.std.specs.Prelude.{Contains, All, slice_get, count_by, filter}
 use Rattle.std.specs.List.{list_any, AllByRecursion}
 use Rattle.std.proofs.lemmas.Bool.{or_cases, or_left, or_right, both_ways, cases_Bool, cond-true, cond-false, cond_both}
 use Rattle.std.proofs.lemmas.List.Sums.{sum_by-cons}
 use Rattle.std.proofs.lemmas.Option.{slice_get_within, slice_get-get_or, get_or_from_slice_get}
+pub use Rattle.ncl_base.specs.Members.{Member, here, there}
 
-pub data Member {X : Type 0} (x : X) : List X → Type 0 where
-  here : {xs : List X} → Member x (x ∷ xs)
-  there : {y : X} {xs : List X} → Member x xs → Member x (y ∷ xs)
+-- a member is the first, or a member of the rest
+pub member_cases : {X : Type 0} (x y : X) (xs : List X) → Member x (y ∷ xs) → (y ≡ x) ⊎ Member x xs
+member_cases x y xs here = inl refl
+member_cases x y xs (there m) = inr m
+
+-- the members of two lists joined
+pub Member-append_right : {X : Type 0} (xs : List X) {ys : List X} (y : X) → Member y ys → Member y (xs ++ ys)
+Member-append_right [] y m = m
+Member-append_right (x ∷ xs) y m = there (Member-append_right xs y m)
+
+pub Member-append_left : {X : Type 0} (x : X) {xs : List X} (ys : List X) → Member x xs → Member x (xs ++ ys)
+Member-append_left x ys (here {xs = xs}) = here
+Member-append_left x ys (there m) = there (Member-append_left x ys m)
+
+pub Member-append_cases : {X : Type 0} (x : X) (xs ys : List X) → Member x (xs ++ ys) → Member x xs ⊎ Member x ys
+Member-append_cases x [] ys m = inr m
+Member-append_cases x (y ∷ xs) ys here = inl here
+Member-append_cases x (y ∷ xs) ys (there m) = elim (Member-append_cases x xs ys m) [ inl some ↦ inl (there some) | inr rest ↦ inr rest ]
+
+-- the values of a function at a list
+pub Member-map : {X Y : Type 0} (f : X → Y) (x : X) {xs : List X} → Member x xs → Member (f x) (map f xs)
+Member-map f x here = here
+Member-map f x (there m) = there (Member-map f x m)
+
+pub member_of_map : {X Y : Type 0} (f : X → Y) (xs : List X) (y : Y) → Member y (map f xs) → (x : X) × Member x xs × (f x ≡ y)
+member_of_map f [] y m = elim m [ ]
+member_of_map f (x ∷ xs) y here = (x, here, refl)
+member_of_map f (x ∷ xs) y (there m) = let (z, n, e) = member_of_map f xs y m in (z, there n, e)
 
 -- what stands at a place is a member
 pub Member-get_or : {X : Type 0} (xs : List X) (place : ℕ) (d : X) → place < length xs → Member (get_or xs place d) xs

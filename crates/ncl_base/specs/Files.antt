@@ -1,5 +1,5 @@
--- Files held by name, counts of faults, and what one read takes or one write adds.
-use Rattle.std.specs.Prelude.{◌≡◌, ℕ, ◌-◌, ◌^◌, ◌<◌, ◌⊎◌, List, [], ◌∷◌, ◌++◌, length, Option, Some, IfSome, if◌then◌else◌}
+-- Files held by name, counts that stand still at their end, and what one read takes or one write adds.
+use Rattle.std.specs.Prelude.{◌≡◌, ℕ, ◌+◌, ◌-◌, ◌^◌, ◌<◌, ◌⊎◌, List, [], ◌∷◌, ◌++◌, length, min, Option, Some, IfSome, if◌then◌else◌}
 use Rattle.std.specs.Str.{bytes_eq}
 
 -- held files, each a name and its bytes. Of two files with one name the first counts
@@ -10,6 +10,10 @@ Files = List (List ℕ × List ℕ)
 abbrev pub bytes_of : Files → List ℕ → List ℕ
 bytes_of [] name = []
 bytes_of (file ∷ files) name = if bytes_eq file.0 name then file.1 else bytes_of files name
+
+-- a count that is raised by so many, and stands still at 2 ^ 64 - 1
+abbrev pub raised : ℕ → ℕ → ℕ
+raised count by = min (count + by) (2 ^ 64 - 1)
 
 -- a count of faults is greater than before, or stands at its end
 abbrev pub Rose : ℕ → ℕ → Type 0

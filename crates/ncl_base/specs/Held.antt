@@ -1,13 +1,13 @@
 -- Sources and sinks in memory as records, and which of their calls fail.
-use Rattle.std.specs.Prelude.{ℕ, ◌+◌, ◌-◌, ◌^◌, ◌==◌, Bool, List, map, min, slice_get, Option, Some, None, []}
+use Rattle.std.specs.Prelude.{ℕ, ◌==◌, Bool, List, map, slice_get, Option, Some, None, []}
 use Rattle.std.specs.List.{list_any}
 use Rattle.std.specs.Str.{bytes_eq}
-use Rattle.ncl_base.specs.Files.{Files}
+use Rattle.ncl_base.specs.Files.{Files, raised}
 use Rattle.ncl_base.specs.declared.mem_file.MemFile.{MemFile}
 
--- a count after one more, which stands still at 2 ^ 64 - 1
+-- a count after one more
 abbrev pub next_count : ℕ → ℕ
-next_count n = min (n + 1) (2 ^ 64 - 1)
+next_count n = raised n 1
 
 -- calls are numbered from 1, and one beyond number 2 ^ 64 - 1 keeps that number: after so many calls,
 -- the next is one of those that fail
@@ -31,16 +31,18 @@ bytes_in (Some file) = file.bytes
 abbrev pub bytes_at : List MemFile → ℕ → List ℕ
 bytes_at files place = bytes_in (slice_get files place)
 
--- held files, and the rest of the one that was begun
+-- held files, and the rest of the one that was begun; the bytes that its reads have given so far
 pub record SteadySourceData : Type 0 where
   pub files : Files
   pub left : List ℕ
+  pub given : ℕ
 
--- held files and the rest of the one that was begun; the most bytes of a read; the numbers of the calls
--- that fail; the calls so far, and how many of them failed
+-- held files and the rest of the one that was begun; the bytes that its reads have given so far, and the
+-- most bytes of a read; the numbers of the calls that fail; the calls so far, and how many of them failed
 pub record MemSourceData : Type 0 where
   pub files : Files
   pub left : List ℕ
+  pub given : ℕ
   pub piece : ℕ
   pub failing : List ℕ
   pub calls : ℕ

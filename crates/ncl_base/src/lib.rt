@@ -25,6 +25,6 @@ pub use memory::Memory;
 pub use name::Name;
 pub use null_sink::NullSink;
 pub use sink::{Sink, SinkFault, deliver};
-pub use source::{Failed, LoadFault, Source, load};
+pub use source::{Failed, LoadFault, MOST_BYTES, Source, load};
 pub use steady_source::SteadySource;
-pub use word::Word;
+pub use word::{MOST_BITS, Word};

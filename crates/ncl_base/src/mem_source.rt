@@ -1,6 +1,6 @@
 //! A source in memory that gives small pieces and fails at chosen calls.
 ghost use Rattle.std.specs.Prelude.{◌≡◌, ℕ, ◌<◌, ◌≤◌, ◌↔◌, ◌++◌, ◌||◌, [], length, take, drop, min, not, Some, true, IsTrue, IsErr, IfSome, IfOk, OnOk, OnErr};
-ghost use Rattle.ncl_base.specs.Files.{bytes_of, Rose};
+ghost use Rattle.ncl_base.specs.Files.{bytes_of, raised, Rose};
 ghost use Rattle.ncl_base.specs.Held.{files_of, has_file, next_count, next_fails};
 
 use crate::calls::Calls;
@@ -29,6 +29,7 @@ impl Model for MemSource {
     ghost view = { λ s. record {
       files = s.held.files;
       left = s.held.left;
+      given = s.held.given;
       piece = s.piece;
       failing = s.calls.failing.items;
       calls = s.calls.made;
@@ -46,6 +47,7 @@ impl MemSource {
         ensures { result ≡ record {
           files = files_of files.items;
           left = [];
+          given = 0;
           piece = piece;
           failing = failing.items;
           calls = 0;
@@ -66,6 +68,8 @@ impl Source for MemSource {
     ghost left = { λ s. Some s.left };
 
     ghost faults = { λ s. s.faults };
+
+    ghost given = { λ s. s.given };
 
     ghost allowed = { λ s name. true };
 
@@ -109,6 +113,7 @@ impl Source for MemSource {
         ensures buffer { IfOk result (λ n. buf.new ≡ take n self.old.left ++ drop n buf.old) }
         ensures taken { IfOk result (λ n. self.new ≡ record self.old {
           left = drop n self.old.left;
+          given = raised self.old.given n;
           calls = next_count self.old.calls;
         }) }
         ensures failed { OnErr result (self.new ≡ record self.old {

@@ -3,11 +3,13 @@ ghost use Rattle.std.specs.Prelude.{◌≡◌, ℕ, ◌<◌, ◌≤◌, List, le
 ghost use Rattle.ncl_base.specs.Files.{Rose, Grew, GrewWithin};
 
 use crate::source::Failed;
+use thiserror::Error;
 
 /// Why `deliver` did not write all bytes.
-#[derive(Clone, Copy, Debug, PartialEq, Eq)]
+#[derive(Clone, Copy, Debug, PartialEq, Eq, Error)]
 pub enum SinkFault {
     /// The sink failed.
+    #[error("the bytes can't be written")]
     Write,
 }
 

@@ -1,6 +1,6 @@
 //! A source that never fails.
 ghost use Rattle.std.specs.Prelude.{◌≡◌, ℕ, ◌<◌, ◌≤◌, ◌++◌, [], length, take, drop, min, nat_lt, Some, true, IsOk, IfOk};
-ghost use Rattle.ncl_base.specs.Files.{bytes_of};
+ghost use Rattle.ncl_base.specs.Files.{bytes_of, raised};
 ghost use Rattle.ncl_base.specs.Held.{files_of, has_file, bytes_at};
 
 use crate::mem_file::MemFile;
@@ -16,6 +16,7 @@ pub struct SteadySource {
     files: Vec<MemFile>,
     file: usize,
     place: usize,
+    given: u64,
 }
 
 impl Model for SteadySource {
@@ -24,17 +25,22 @@ impl Model for SteadySource {
 
     ghost Value = { SteadySourceData };
 
-    ghost view = { λ s. record { files = files_of s.files.items; left = drop s.place (bytes_at s.files.items s.file) } };
+    ghost view = { λ s. record {
+      files = files_of s.files.items;
+      left = drop s.place (bytes_at s.files.items s.file);
+      given = s.given;
+    } };
 }
 
 impl SteadySource {
     /// A source of these files, none of which is begun. Takes no memory.
     pub fn new(files: Vec<MemFile>) -> SteadySource
-        ensures { result ≡ record { files = files_of files.items; left = [] } }
+        ensures { result ≡ record { files = files_of files.items; left = []; given = 0 } }
     {
         SteadySource {
             file: files.len(),
             place: 0,
+            given: 0,
             files,
         }
     }
@@ -55,7 +61,6 @@ impl SteadySource {
     pub(crate) fn close(&mut self)
         ensures { self.new ≡ record self.old { left = [] } }
     {
-        self.place = 0;
         self.file = self.files.len();
     }
 
@@ -65,12 +70,16 @@ impl SteadySource {
     pub(crate) fn take(&mut self, buf: &mut [u8], most: usize) -> usize
         ensures count { result ≡ min (min most (length buf.old)) (length self.old.left) }
         ensures buffer { buf.new ≡ take result self.old.left ++ drop result buf.old }
-        ensures taken { self.new ≡ record self.old { left = drop result self.old.left } }
+        ensures taken { self.new ≡ record self.old {
+          left = drop result self.old.left;
+          given = raised self.old.given result;
+        } }
     {
         let rest = rest_of(content(&self.files, self.file), self.place);
         let count = most.min(buf.len()).min(rest.len());
         buf[..count].copy_from_slice(&rest[..count]);
         self.place += count;
+        self.given = self.given.saturating_add(count as u64);
         count
     }
 }
@@ -117,6 +126,8 @@ impl Source for SteadySource {
 
     ghost faults = { λ s. 0 };
 
+    ghost given = { λ s. s.given };
+
     ghost allowed = { λ s name. true };
 
     /// Begins the first file of the name, by one walk over the files.
@@ -133,7 +144,10 @@ impl Source for SteadySource {
         ensures ok { IsOk result }
         ensures count { IfOk result (λ n. n ≡ min (length buf.old) (length self.old.left)) }
         ensures buffer { IfOk result (λ n. buf.new ≡ take n self.old.left ++ drop n buf.old) }
-        ensures taken { IfOk result (λ n. self.new ≡ record self.old { left = drop n self.old.left }) }
+        ensures taken { IfOk result (λ n. self.new ≡ record self.old {
+          left = drop n self.old.left;
+          given = raised self.old.given n;
+        }) }
     {
         let most = buf.len();
         Ok(self.take(buf, most))

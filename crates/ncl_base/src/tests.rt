@@ -45,6 +45,19 @@ fn loads_in_pieces(rt: HostRuntime) -> Result<(), Fail> {
 }
 
 #[test]
+fn loads_at_most_4096_bytes_at_a_time(rt: HostRuntime) -> Result<(), Fail> {
+    // One call begins the file, two read 4,096 bytes each, and one more finds the end.
+    for (failing, fault) in [(4, Some(LoadFault::Read)), (5, None)] {
+        let mut files = Vec::new(rt.alloc());
+        files.push(file(&rt, "long", vec![in rt.alloc(); 7; 8192]?)?)?;
+        let mut source = MemSource::new(files, 9000, vec![in rt.alloc(); failing]?);
+        let loaded = load(rt.alloc(), &mut source, "long");
+        assert_eq!(rt; loaded.err(), fault, "call {failing} fails");
+    }
+    Ok(())
+}
+
+#[test]
 fn loads_until_the_limit(rt: HostRuntime) -> Result<(), Fail> {
     for (length, fault) in [(16_777_216, None), (16_777_217, Some(LoadFault::TooLong))] {
         let mut files = Vec::new(rt.alloc());

@@ -5,25 +5,26 @@ ghost use Rattle.ncl_base.specs.Words.{IsWordText, text_of};
 use arrayvec::ArrayVec;
 use std::marker::Model;
 
-/// The most bits of a word, and of a bank.
-const MOST_BITS: usize = 128;
+/// The most bits of a word, and so of a bank.
+pub const MOST_BITS: usize = 128;
 
 /// A word of at most 128 bits, the first bit leftmost, which contracts see as the list of its bits.
 ///
 /// No call on a word takes memory.
 #[derive(Clone, Drop, Debug)]
 pub struct Word {
-    bits: ArrayVec<bool, 128>,
+    bits: ArrayVec<bool, MOST_BITS>,
 }
 
 impl Model for Word {
     ghost use Rattle.std.specs.Prelude.{List, Bool, ◌≤◌, length};
+    ghost use Rattle.ncl_base.specs.declared.word.TheConstants.{MOST_BITS};
 
     ghost Value = { List Bool };
 
     ghost view = { λ a. a.bits.items };
 
-    ghost invariant = { λ a. length a.bits.items ≤ 128 };
+    ghost invariant = { λ a. length a.bits.items ≤ MOST_BITS };
 }
 
 impl Word {
@@ -59,7 +60,7 @@ impl Word {
 
     /// Appends a bit.
     pub fn push(&mut self, bit: bool)
-        requires { length self.old < 128 }
+        requires { length self.old < MOST_BITS }
         ensures { self.new ≡ self.old ++ bit ∷ [] }
     {
         self.bits.push(bit);
@@ -68,7 +69,7 @@ impl Word {
     /// The bits in order, of which there are at most 128.
     pub fn bits(&self) -> &[bool]
         ensures bits { result.now ≡ self.now }
-        ensures few { length self.now ≤ 128 }
+        ensures few { length self.now ≤ MOST_BITS }
     {
         self.bits.as_slice()
     }

@@ -4,6 +4,7 @@ use Rattle.std.specs.Prelude.{◌≡◌, ℕ, ◌+◌, ◌<◌, ◌≤◌, ◌^�
 use Rattle.std.specs.List.{flat_map}
 use Rattle.ncl_netlist.specs.declared.port.Port.{Port}
 use Rattle.ncl_netlist.specs.declared.cell.Cell.{Cell}
+use Rattle.ncl_netlist.specs.declared.cell_rules.TheConstants.{MOST_CELLS}
 use Rattle.ncl_gates.specs.Cell.{pins_of}
 use Rattle.ncl_netlist.specs.declared.ids.NetId.{NetId}
 use Rattle.ncl_netlist.specs.Names.{AllDiffer, once_each}
@@ -15,9 +16,9 @@ pub record NetlistData : Type 0 where
   pub nets : List (List ℕ)
   pub cells : List Cell
 
--- the most cells of a netlist
+-- the most cells of a netlist, as in the code
 abbrev pub most_cells : ℕ
-most_cells = 131072
+most_cells = MOST_CELLS
 
 -- how many drivers a port is of its net: an input port is one, an output port is none
 abbrev pub drives : Port → ℕ

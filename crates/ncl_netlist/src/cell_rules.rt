@@ -10,7 +10,7 @@ use ncl_base::{Memory, Name};
 use std::alloc::Global;
 
 /// The most cells of a netlist.
-const MOST_CELLS: usize = 131_072;
+pub const MOST_CELLS: usize = 131_072;
 
 /// The name of the first cell that repeats an earlier cell's name, or `None` where the names differ.
 ///

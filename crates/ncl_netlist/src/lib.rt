@@ -16,6 +16,7 @@ mod tests;
 
 pub use build_fault::BuildFault;
 pub use cell::Cell;
+pub use cell_rules::MOST_CELLS;
 pub use ids::{CellId, NetId};
 pub use netlist::{Netlist, build};
 pub use parts::{NamePair, PartCell, Parts};

@@ -1,6 +1,7 @@
 -- What a call answers: the status and the text that go with the words and the files.
 use Rattle.std.specs.Prelude.{◌≡◌, ◌≢◌, ℕ, ◌<◌, ◌≤◌, ◌⊎◌, List, [], ◌∷◌, length, Option, Some, None, IfSome, codes}
 use Rattle.ncl_base.specs.Files.{Files, bytes_of, Rose, Grew, GrewWithin}
+use Rattle.ncl_base.specs.declared.source.TheConstants.{MOST_BYTES}
 use Rattle.ncl_netlist.specs.Parts.{netlist_of}
 use Rattle.ncl_netlist.specs.Faults.{IsFaultless}
 use Rattle.ncl_stage.specs.Faults.{IsSound}
@@ -23,11 +24,11 @@ verdict_line f = line_of_verdict (netlist_of (parts_of f)) 1 1 (verdict_on f)
 -- what `check` replies to a file's bytes
 pub data IsCheckReply (bytes : List ℕ) : ℕ → List ℕ → Type 0 where
   -- a file has at most 16,777,216 bytes
-  too_long : 16777216 < length bytes → IsCheckReply bytes 3 (line (codes "netlist: too long"))
+  too_long : MOST_BYTES < length bytes → IsCheckReply bytes 3 (line (codes "netlist: too long"))
   -- the bytes are of no form that is built
-  not_built : length bytes ≤ 16777216 → ((f : Form) → IsForm f → bytes ≢ text_of f) → IsCheckReply bytes 3 (line (codes "netlist: form not built"))
+  not_built : length bytes ≤ MOST_BYTES → ((f : Form) → IsForm f → bytes ≢ text_of f) → IsCheckReply bytes 3 (line (codes "netlist: form not built"))
   -- the bytes are the text of a form, whose parts are a netlist, and this is the verdict on it
-  judged : length bytes ≤ 16777216 → (f : Form) → IsForm f → bytes ≡ text_of f → IsFaultless (parts_of f) → IsCheckReply bytes (status_of (verdict_on f)) (verdict_line f)
+  judged : length bytes ≤ MOST_BYTES → (f : Form) → IsForm f → bytes ≡ text_of f → IsFaultless (parts_of f) → IsCheckReply bytes (status_of (verdict_on f)) (verdict_line f)
 
 -- what a command replies where the files are these
 abbrev pub IsReply : Command → Files → ℕ → List ℕ → Type 0

@@ -1,20 +1,20 @@
 //! Files of the system.
-ghost use Rattle.std.specs.Prelude.{◌≤◌, None, true};
-ghost use Rattle.ncl_base.specs.Files.{Rose};
+ghost use Rattle.std.specs.Prelude.{None, true};
 
+use crate::tally::{Tally, read_from};
 use ncl_base::{Failed, Source};
 use std::fs::File;
-use std::io::Read;
 use std::rt::Files;
 
-/// A source of the system's files, of which nothing is told but how many calls have failed.
+/// A source of the system's files, of which nothing is told but how many calls have failed and how
+/// many bytes were read.
 ///
 /// A name is a path. Each call makes at most one call of the system.
 #[derive(Drop)]
 pub struct FileSource<'a, R: Files> {
     rt: &'a R,
     file: Option<R::File>,
-    faults: u64,
+    tally: Tally,
 }
 
 impl<'a, R: Files> FileSource<'a, R> {
@@ -23,17 +23,8 @@ impl<'a, R: Files> FileSource<'a, R> {
         FileSource {
             rt,
             file: None,
-            faults: 0,
+            tally: Tally::new(),
         }
-    }
-
-    /// Counts a call that failed.
-    fn failed(&mut self) -> Failed
-        ensures rose { Rose self.old.faults self.new.faults }
-        ensures kept { self.old.faults ≤ self.new.faults }
-    {
-        self.faults = self.faults.saturating_add(1);
-        Failed
     }
 }
 
@@ -42,28 +33,24 @@ impl<'a, R: Files> Source for FileSource<'a, R> {
 
     ghost left = { λ source. None };
 
-    ghost faults = { λ source. source.faults };
+    ghost faults = { λ source. source.tally.faults };
+
+    ghost given = { λ source. source.tally.given };
 
     ghost allowed = { λ source name. true };
 
     fn begin(&mut self, name: &str) -> Result<(), Failed> {
-        self.file = None;
-        match File::open(self.rt, name) {
-            Ok(file) => {
-                self.file = Some(file);
-                Ok(())
-            }
-            Err(_) => Err(self.failed()),
+        self.file = self.tally.after_open(File::open(self.rt, name));
+        match self.file {
+            Some(_) => Ok(()),
+            None => Err(Failed),
         }
     }
 
     fn read(&mut self, buf: &mut [u8]) -> Result<usize, Failed> {
-        let Some(file) = &mut self.file else {
-            return Err(self.failed());
-        };
-        match file.read(buf) {
-            Ok(n) => Ok(n),
-            Err(_) => Err(self.failed()),
+        match &mut self.file {
+            Some(file) => read_from(&mut self.tally, file, buf),
+            None => Err(self.tally.fail()),
         }
     }
 }

@@ -13,7 +13,7 @@ use crate::form_netlist::netlist_of_form;
 use crate::form_stage::stage_of_form;
 use crate::judge::judge;
 use crate::verdict_text::{status_of, verdict_text};
-use ncl_base::{LoadFault, Memory, Source, load};
+use ncl_base::{LoadFault, MOST_BYTES, Memory, Source, load};
 use std::alloc::Global;
 
 /// A status, and the whole text that belongs to it.
@@ -75,7 +75,7 @@ fn check<S: Source>(alloc: Global, source: &mut S, file: &str) -> Result<Reply, 
 ///
 /// No more bytes are looked at than a text of the form can have.
 fn reply_to(alloc: Global, bytes: &[u8]) -> Result<Reply, Memory>
-    requires { length bytes.now ≤ 16777216 }
+    requires { length bytes.now ≤ MOST_BYTES }
     ensures { IfOk result (Gives (IsCheckReply bytes.now)) }
 {
     match read_form(alloc, bytes) {

@@ -1,8 +1,9 @@
 //! Standard output.
-ghost use Rattle.std.specs.Prelude.{◌≤◌, None};
-ghost use Rattle.ncl_base.specs.Files.{Rose};
+ghost use Rattle.std.specs.Prelude.{None};
 
+use crate::tally::{Tally, write_to};
 use ncl_base::{Failed, Sink};
+use std::io;
 use std::io::Print;
 
 /// A sink that writes to standard output, of which nothing is told but how many calls have failed.
@@ -11,34 +12,25 @@ use std::io::Print;
 #[derive(Drop)]
 pub struct StdoutSink<'a, P: Print> {
     rt: &'a P,
-    faults: u64,
+    tally: Tally,
 }
 
 impl<'a, P: Print> StdoutSink<'a, P> {
     /// A sink to which nothing was written.
     pub fn new(rt: &'a P) -> Self {
-        StdoutSink { rt, faults: 0 }
-    }
-
-    /// Counts a call that failed.
-    fn failed(&mut self) -> Failed
-        ensures rose { Rose self.old.faults self.new.faults }
-        ensures kept { self.old.faults ≤ self.new.faults }
-    {
-        self.faults = self.faults.saturating_add(1);
-        Failed
+        StdoutSink {
+            rt,
+            tally: Tally::new(),
+        }
     }
 }
 
 impl<'a, P: Print> Sink for StdoutSink<'a, P> {
     ghost written = { λ sink. None };
 
-    ghost faults = { λ sink. sink.faults };
+    ghost faults = { λ sink. sink.tally.faults };
 
     fn write(&mut self, piece: &[u8]) -> Result<usize, Failed> {
-        match self.rt.write_some(piece) {
-            Ok(n) if n > 0 => Ok(n),
-            _ => Err(self.failed()),
-        }
+        write_to(&mut self.tally, &mut io::writer(self.rt), piece)
     }
 }

@@ -1,12 +1,13 @@
-use Rattle.std.proofs.Common.{◌≡◌, ℕ, List, ◌++◌, length, drop, Option, Some, None, IfSome, sym, ap, ◌∙◌, arith}
+use Rattle.std.proofs.Common.{◌≡◌, ℕ, ◌+◌, List, ◌++◌, length, drop, Option, Some, None, IfSome, sym, ap, ◌∙◌, arith}
 use Rattle.std.proofs.Math.Seq.{drop-append_seam}
 use Rattle.ncl_base.specs.Files.{Files, bytes_of}
+use Rattle.ncl_base.specs.declared.source.TheConstants.{MOST_BYTES}
 use Rattle.ncl_base.proofs.source.load.Goals as goal
 
 -- what is left of a file is what comes after the bytes that were read
-left_over : (files : Option Files) (left : Option (List ℕ)) (bytes name : List ℕ) → length bytes ≡ 16777217
+left_over : (files : Option Files) (left : Option (List ℕ)) (bytes name : List ℕ) → length bytes ≡ MOST_BYTES + 1
     → IfSome files (λ fs. (rest : List ℕ) × (left ≡ Some rest) × (bytes ++ rest ≡ bytes_of fs name))
-    → IfSome files (λ fs. left ≡ Some (drop 16777217 (bytes_of fs name)))
+    → IfSome files (λ fs. left ≡ Some (drop (MOST_BYTES + 1) (bytes_of fs name)))
 left_over None left bytes name n told = tt
 left_over (Some fs) left bytes name n (rest, is_left, joined) =
     is_left ∙ ap Some (sym (drop-append_seam bytes rest) ∙ ap (λ t. drop (length bytes) t) joined ∙ ap (λ k. drop k (bytes_of fs name)) n)

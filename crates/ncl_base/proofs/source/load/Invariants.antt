@@ -1,16 +1,18 @@
-use Rattle.std.proofs.Common.{◌-◌, ◌≡◌, ◌≤◌, ◌++◌, List, ℕ, Some, IfSome, vec_len}
-use Rattle.ncl_base.specs.Files.{bytes_of}
+use Rattle.std.proofs.Common.{◌+◌, ◌-◌, ◌≡◌, ◌≤◌, ◌⊎◌, ◌++◌, List, ℕ, Some, IfSome, vec_len}
+use Rattle.ncl_base.specs.Files.{bytes_of, raised}
+use Rattle.ncl_base.specs.declared.source.TheConstants.{MOST_BYTES}
 use Rattle.ncl_base.proofs.source.load.Given as goal
 
 -- what was read, and what is left, is the file
 abbrev pub invariant-loop-buffer : goal.invariant-loop-buffer
 invariant-loop-buffer g l = record {
-  within : vec_len l.bytes ≤ 16777217;
+  within : vec_len l.bytes ≤ MOST_BYTES + 1;
   told : IfSome (g.S.Source.files l.fn.source) (λ fs. (rest : List ℕ) × (g.S.Source.left l.source ≡ Some rest) × (l.bytes.items ++ rest ≡ bytes_of fs l.fn.name));
   files : g.S.Source.files l.source ≡ g.S.Source.files l.fn.source;
+  given : ((vec_len l.bytes ≡ 0) × (g.S.Source.given l.source ≡ g.S.Source.given l.fn.source)) ⊎ (g.S.Source.given l.source ≡ raised (g.S.Source.given l.fn.source) (vec_len l.bytes));
   faults : g.S.Source.faults l.fn.source ≤ g.S.Source.faults l.source;
   allowed : g.S.Source.allowed l.source ≡ g.S.Source.allowed l.fn.source;
 }
 
 abbrev pub decreases-loop-buffer : goal.decreases-loop-buffer
-decreases-loop-buffer g l = 16777217 - vec_len l.bytes
+decreases-loop-buffer g l = MOST_BYTES + 1 - vec_len l.bytes

@@ -1,4 +1,5 @@
 use Rattle.std.proofs.Common.{ap, Err, subst}
+use Rattle.ncl_base.specs.declared.source.TheConstants.{MOST_BYTES}
 use Rattle.nclc.specs.Answer.{IsCheckReply, too_long}
 use Rattle.nclc.specs.Replies.{Gives}
 use Rattle.nclc.proofs.Held.{holding, holding_more}
@@ -12,4 +13,4 @@ returns-in-Ok-reply_to-clause-ok g c =
 
 pub returns-in-Err-TooLong-clause-ok : goal.returns-in-Err-TooLong-clause-ok
 returns-in-Err-TooLong-clause-ok g c =
-    holding_more 16777216 _ c.args.file.now (c.in-Err-TooLong.ensures.long (ap Err c.in-Err-TooLong.field-0-is)) (λ bytes. IsCheckReply bytes 3 _) (λ bytes more. too_long more)
+    holding_more MOST_BYTES _ c.args.file.now (c.in-Err-TooLong.ensures.long (ap Err c.in-Err-TooLong.field-0-is)) (λ bytes. IsCheckReply bytes 3 _) (λ bytes more. too_long more)

@@ -1,5 +1,6 @@
 use Rattle.std.proofs.Common.{◌≡◌, ◌≤◌, ℕ, List, length, Result, Ok, Err, IfOk, sym, subst}
 use Rattle.ncl_base.specs.declared.memory.Memory.{Memory}
+use Rattle.ncl_base.specs.declared.source.TheConstants.{MOST_BYTES}
 use Rattle.nclc.specs.FirstForm.{Form, IsForm, text_of}
 use Rattle.nclc.specs.VerdictText.{status_of}
 use Rattle.nclc.specs.Answer.{IsCheckReply, not_built, judged, verdict_on}
@@ -10,7 +11,7 @@ use Rattle.nclc.proofs.Saying.{gives_along}
 use Rattle.nclc.proofs.reply.reply_to.Goals as goal
 
 -- the verdict on a form is the reply to its text
-verdict_is_reply : (bytes : List ℕ) → length bytes ≤ 16777216 → (f : Form) → IsForm f → bytes ≡ text_of f → (status : ℕ) (text : List ℕ) → IsVerdictOn f status text → IsCheckReply bytes status text
+verdict_is_reply : (bytes : List ℕ) → length bytes ≤ MOST_BYTES → (f : Form) → IsForm f → bytes ≡ text_of f → (status : ℕ) (text : List ℕ) → IsVerdictOn f status text → IsCheckReply bytes status text
 verdict_is_reply bytes few f is e status text v =
     subst (λ n. IsCheckReply bytes n text) (sym v.status_is) (subst (IsCheckReply bytes (status_of (verdict_on f))) (sym v.text_is) (judged few f is e v.faultless))
 

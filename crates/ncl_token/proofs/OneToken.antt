@@ -1,7 +1,7 @@
 -- A first token, only white space and a bad byte exclude one another, and there is one of each.
-use Rattle.std.proofs.Common.{◌≡◌, ◌≢◌, ℕ, ◌⊎◌, Bool, true, false, ◌||◌, List, [], ◌∷◌, ◌++◌, get_or, drop, refl, sym, ap, ◌∙◌, subst, inl, inr, arith}
+use Rattle.std.proofs.Common.{◌≡◌, ◌≢◌, ℕ, ◌⊎◌, Bool, true, false, List, [], ◌∷◌, ◌++◌, get_or, drop, refl, sym, ap, ◌∙◌, subst, inl, inr, arith}
 use Rattle.std.specs.Prelude.{codes}
-use Rattle.std.proofs.lemmas.Bool.{both_ways}
+use Rattle.std.proofs.lemmas.Bool.{both_ways, or_left, or_right}
 use Rattle.std.proofs.lemmas.List.{append_assoc}
 use Rattle.ncl_token.specs.declared.token.TokenKind.{TokenKind}
 use Rattle.ncl_token.specs.Bytes.{is_white, begins_token}
@@ -10,14 +10,6 @@ use Rattle.ncl_token.specs.Tokens.{IsToken, is_word, is_escaped, is_left_parenth
 use Rattle.ncl_token.proofs.Disjoint.{white_not_begin}
 use Rattle.ncl_token.proofs.Forms.{mark_single}
 use Rattle.ncl_token.proofs.OneSpace.{NoGap}
-
-or_right : (x y : Bool) → y ≡ true → (x || y) ≡ true
-or_right true y is = refl
-or_right false y is = is
-
-or_left : (x y : Bool) → x ≡ true → (x || y) ≡ true
-or_left true y is = refl
-or_left false y is = absurd cc
 
 -- a token begins with a byte that begins tokens
 pub record HasHead (bytes : List ℕ) : Type 0 where

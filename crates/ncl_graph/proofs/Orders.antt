@@ -2,16 +2,16 @@
 use Rattle.std.proofs.Common.{◌≡◌, ◌≢◌, ℕ, zero, suc, ◌+◌, ◌*◌, ◌<◌, ◌≤◌, List, [], ◌∷◌, ◌++◌, length, get_or, set, take, drop, replicate, ◌⊎◌, inl, inr, refl, sym, ap, ◌∙◌, subst, arith, append_assoc}
 use Rattle.std.specs.List.{All, Contains}
 use Rattle.std.proofs.lemmas.Bool.{cases_eq, cases_lt}
-use Rattle.std.proofs.lemmas.List.{get_or_past, get_or-replicate, length-replicate, length-append, length_push, take-append-drop, drop_more, get_or_append_left, get_or_at}
+use Rattle.std.proofs.lemmas.List.{get_or_past, get_or-replicate, length-replicate, length-append, length_push, get_or_append_left, get_or_at}
 use Rattle.std.proofs.lemmas.List.Elements.{All-nil, All-cons, All-contains, Contains-append_left}
 use Rattle.ncl_graph.specs.Graph.{successors, IsGraph, Leads, IsOnCycle, IsOrder, StandsAfter}
 use Rattle.ncl_graph.specs.Graph.Leads.{arc, further}
 use Rattle.ncl_graph.specs.declared.mark.Mark.{Mark}
 use Rattle.ncl_graph.specs.declared.mark.Mark.TheVariants.{New, Open, Done}
 use Rattle.ncl_graph.specs.Search.{IsSearch, StaysMet, mark_at, new_count}
-use Rattle.ncl_graph.proofs.Lists.{split_at, last_of}
+use Rattle.ncl_base.proofs.Growing.{cut_at, split_at, last_of}
 use Rattle.ncl_graph.proofs.Paths.{successor_inside}
-use Rattle.ncl_graph.proofs.Ranking.{only_places_lead}
+use Rattle.ncl_graph.proofs.Ranking.{leads_within}
 use Rattle.ncl_graph.proofs.Searching.{opens, closes, closes_cycle, path_leads, last_inside, fewer_new, no_more_new, new_from, now_met, StaysMet-set, finishes}
 
 -- where each place of a list stands after those that it leads to, all that a place of it leads to stands before it
@@ -24,21 +24,17 @@ leads_before g order after i j (further {j = k} c path) before rest e =
 
 -- all that the place at an index of an order leads to by an arc stands below that index
 pub stands_below : (g : List (List ℕ)) (order : List ℕ) → IsOrder g order → (k : ℕ) → k < length order → (j : ℕ) → Contains (successors g (get_or order k 0)) j → Contains (take k order) j
-stands_below g order o k lt j c = o.after (take k order) (get_or order k 0) (drop (k + 1) order) (sym (take-append-drop k order) ∙ ap (λ l. take k order ++ l) (drop_more order k 0 lt)) j c
+stands_below g order o k lt j c = o.after (take k order) (get_or order k 0) (drop (k + 1) order) (cut_at order k 0 lt) j c
 
 -- where places have an order, none lies on a cycle
 pub order_excludes_cycles : (g : List (List ℕ)) (order : List ℕ) → IsOrder g order → (i : ℕ) → ¬ IsOnCycle g i
 order_excludes_cycles g order o i on =
-    elim (cases_lt i (length g)) [
-      | inr past ↦ only_places_lead g i i past on
-      | inl inside ↦
-          let (before, rest, at) = split_at order i (o.every i inside) in
-          let (k, lt, here) = leads_before g order o.after i i on before rest at in
-          let far : length before < length order = omega (arith, ap length at, length-append before (i ∷ rest)) in
-          let first : get_or order k i ≡ i = ap (λ l. get_or l k i) at ∙ get_or_append_left before (i ∷ rest) i k lt ∙ here in
-          let second : get_or order (length before) i ≡ i = ap (λ l. get_or l (length before) i) at ∙ get_or_at before i rest i (length before) refl in
-          o.once k (length before) i lt far (first ∙ sym second)
-    ]
+    let (before, rest, at) = split_at order i (o.every i (leads_within g i i on)) in
+    let (k, lt, here) = leads_before g order o.after i i on before rest at in
+    let far : length before < length order = omega (arith, ap length at, length-append before (i ∷ rest)) in
+    let first : get_or order k i ≡ i = ap (λ l. get_or l k i) at ∙ get_or_append_left before (i ∷ rest) i k lt ∙ here in
+    let second : get_or order (length before) i ≡ i = ap (λ l. get_or l (length before) i) at ∙ get_or_at before i rest i (length before) refl in
+    o.once k (length before) i lt far (first ∙ sym second)
 
 -- the mark of a place that is done, or not
 cases_done : (m : Mark) → (m ≡ Done) ⊎ (m ≢ Done)

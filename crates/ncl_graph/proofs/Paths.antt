@@ -6,7 +6,7 @@ use Rattle.std.proofs.lemmas.List.{get_or_past}
 use Rattle.std.proofs.lemmas.List.Elements.{All-contains}
 use Rattle.ncl_graph.specs.Graph.{successors, IsGraph, Leads, StandsAfter}
 use Rattle.ncl_graph.specs.Graph.Leads.{arc, further}
-use Rattle.ncl_graph.proofs.Lists.{split_push}
+use Rattle.ncl_base.proofs.Growing.{split_push}
 
 -- every successor is a place
 pub successor_inside : (g : List (List ℕ)) → IsGraph g → (i j : ℕ) → Contains (successors g i) j → j < length g

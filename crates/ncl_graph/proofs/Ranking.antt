@@ -1,6 +1,7 @@
 -- Ranks and cycles.
-use Rattle.std.proofs.Common.{ℕ, ◌<◌, ◌≤◌, List, [], length, subst, arith}
+use Rattle.std.proofs.Common.{ℕ, ◌<◌, ◌≤◌, List, [], length, inl, inr, subst, arith}
 use Rattle.std.specs.List.{All, Contains}
+use Rattle.std.proofs.lemmas.Bool.{cases_lt}
 use Rattle.std.proofs.lemmas.List.{get_or_past}
 use Rattle.std.proofs.lemmas.List.Elements.{All-contains}
 use Rattle.ncl_graph.specs.Graph.{successors, Leads, IsOnCycle}
@@ -17,6 +18,9 @@ no_successor g i j past c =
 pub only_places_lead : (g : List (List ℕ)) (i j : ℕ) → length g ≤ i → Leads g i j → ⊥
 only_places_lead g i j past (arc c) = no_successor g i j past c
 only_places_lead g i j past (further {j = k} c path) = no_successor g i k past c
+
+pub leads_within : (g : List (List ℕ)) (i j : ℕ) → Leads g i j → i < length g
+leads_within g i j path = elim (cases_lt i (length g)) [ inl inside ↦ inside | inr past ↦ absurd (only_places_lead g i j past path) ]
 
 -- along a path the rank does not rise
 rank_falls : (g : List (List ℕ)) (ranks : List ℕ) → NeverRises g ranks → (i j : ℕ) → Leads g i j → rank_of ranks j ≤ rank_of ranks i

@@ -11,7 +11,7 @@ use Rattle.ncl_graph.specs.Graph.Leads.{arc}
 use Rattle.ncl_graph.specs.declared.mark.Mark.{Mark}
 use Rattle.ncl_graph.specs.declared.mark.Mark.TheVariants.{New, Open, Done}
 use Rattle.ncl_graph.specs.Search.{IsSearch, StaysMet, mark_at, new_count, is_new}
-use Rattle.ncl_graph.proofs.Lists.{pair_last, pair_front, as_many_as}
+use Rattle.ncl_base.proofs.Growing.{pair_last, pair_front, as_many_as}
 use Rattle.ncl_graph.proofs.Paths.{successor_inside, Leads-push, StandsAfter-push}
 
 -- a place that was met is one of those that have a mark

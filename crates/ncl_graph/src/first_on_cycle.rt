@@ -24,21 +24,38 @@ fn is_on_cycle(alloc: Global, graph: &Graph, ranks: &[u32], place: u32) -> Resul
     leads_to_itself(alloc, graph, place)
 }
 
+/// The first place that lies on a cycle, or `None` where no place does.
+///
+/// A place is walked from only where an arc of it stays on its own rank. Where the ranks are those of strongly
+/// connected components, the first such place lies on a cycle, and one walk is enough: tests show this, and no
+/// clause says it.
+fn first_by_ranks(alloc: Global, graph: &Graph) -> Result<Option<u32>, Memory>
+    ensures { IfOk result (λ o. MatchOption o ((i : ℕ) → ¬ IsOnCycle graph.now i)
+        (λ i. IsOnCycle graph.now i × ((j : ℕ) → j < i → ¬ IsOnCycle graph.now j))) }
+{
+    let ranks = falling_ranks(alloc, graph)?;
+    for place in 0..graph.len() as u32 {
+        if is_on_cycle(alloc, graph, ranks.as_slice(), place)? {
+            return Ok(Some(place));
+        }
+    }
+    Ok(None)
+}
+
 impl Graph {
     /// The first place that lies on a cycle, or `None` where no place does.
     ///
-    /// Linear in the places and arcs, without recursion: a place is walked from only where an arc of it stays
-    /// inside its strongly connected component, and the first such place lies on a cycle.
+    /// Where the places have an order, linear in the places and arcs. Where they have none, the strongly connected
+    /// components are looked for, and a walk from one place follows, each linear too. Nothing recurses on the
+    /// number of places.
     pub fn first_on_cycle(&self, alloc: Global) -> Result<Option<u32>, Memory>
         ensures { IfOk result (λ o. MatchOption o ((i : ℕ) → ¬ IsOnCycle self.now i)
             (λ i. IsOnCycle self.now i × ((j : ℕ) → j < i → ¬ IsOnCycle self.now j))) }
     {
-        let ranks = falling_ranks(alloc, self)?;
-        for place in 0..self.len() as u32 {
-            if is_on_cycle(alloc, self, ranks.as_slice(), place)? {
-                return Ok(Some(place));
-            }
+        let order = self.order(alloc)?;
+        if let Some(_) = order {
+            return Ok(None);
         }
-        Ok(None)
+        first_by_ranks(alloc, self)
     }
 }

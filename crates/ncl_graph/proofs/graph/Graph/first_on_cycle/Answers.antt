@@ -1,10 +1,5 @@
-use Rattle.std.proofs.Common.{length, inl, inr, arith}
-use Rattle.std.proofs.lemmas.Bool.{cases_lt}
-use Rattle.ncl_graph.proofs.Ranking.{only_places_lead}
+use Rattle.ncl_graph.proofs.Orders.{order_excludes_cycles}
 use Rattle.ncl_graph.proofs.graph.Graph.first_on_cycle.Goals as goal
 
-pub returns : goal.returns
-returns c i on = elim (cases_lt i (length c.args.self.now)) [
-  | inl inside ↦ c.loop-place.invariant i (omega (arith, inside, c.loop-place-test.false, c.len-place-end.ensures.len)) on
-  | inr past ↦ only_places_lead _ _ _ past on
-]
+pub returns-in-Some : goal.returns-in-Some
+returns-in-Some c = order_excludes_cycles _ _ (rw c.in-Some.is at c.in_ok-order.ensures)

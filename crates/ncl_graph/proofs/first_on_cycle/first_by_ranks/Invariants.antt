@@ -1,6 +1,6 @@
 use Rattle.std.proofs.Common.{ℕ, ◌<◌}
 use Rattle.ncl_graph.specs.Graph.{IsOnCycle}
-use Rattle.ncl_graph.proofs.graph.Graph.first_on_cycle.Given as goal
+use Rattle.ncl_graph.proofs.first_on_cycle.first_by_ranks.Given as goal
 
 abbrev pub invariant-loop-place : goal.invariant-loop-place
-invariant-loop-place l = (i : ℕ) → i < l.place → ¬ IsOnCycle l.self i
+invariant-loop-place l = (i : ℕ) → i < l.place → ¬ IsOnCycle l.graph i

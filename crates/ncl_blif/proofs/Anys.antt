@@ -1,24 +1,17 @@
 -- Tests of some element of a list.
-use Rattle.std.proofs.Common.{◌≡◌, ℕ, ◌<◌, Bool, true, false, not, ◌||◌, List, [], ◌∷◌, length, map, get_or, cond, Some, None, refl, ap, arith, zero, suc}
+use Rattle.std.proofs.Common.{◌≡◌, ℕ, ◌<◌, Bool, true, false, ◌||◌, List, [], ◌∷◌, length, map, get_or, cond, Some, None, refl, ap, arith, zero, suc}
 use Rattle.std.specs.List.{list_any, find}
+use Rattle.std.proofs.lemmas.Bool.{or_parts}
 
 pub list_any-map : {X Y : Type 0} (test : Y → Bool) (f : X → Y) (xs : List X) → list_any test (map f xs) ≡ list_any (λ x. test (f x)) xs
 list_any-map test f [] = refl
 list_any-map test f (x ∷ xs) = ap (λ b. test (f x) || b) (list_any-map test f xs)
 
-pub left_fails : (a b : Bool) → (a || b) ≡ false → (a ≡ false) × (b ≡ false)
-left_fails true b h = absurd cc
-left_fails false b h = (refl, h)
-
 -- where no element passes, each fails
 pub each_fails : {X : Type 0} (test : X → Bool) (xs : List X) → list_any test xs ≡ false → (k : ℕ) (d : X) → k < length xs → test (get_or xs k d) ≡ false
 each_fails test [] h k d within = absurd (omega arith)
-each_fails test (x ∷ xs) h zero d within = (left_fails (test x) (list_any test xs) h).0
-each_fails test (x ∷ xs) h (suc k) d within = each_fails test xs (left_fails (test x) (list_any test xs) h).1 k d (omega arith)
-
-pub not_false : (b : Bool) → not b ≡ false → b ≡ true
-not_false true h = refl
-not_false false h = absurd cc
+each_fails test (x ∷ xs) h zero d within = (or_parts (test x) (list_any test xs) h).0
+each_fails test (x ∷ xs) h (suc k) d within = each_fails test xs (or_parts (test x) (list_any test xs) h).1 k d (omega arith)
 
 at_place : {X : Type 0} (test : X → Bool) (x : X) (xs : List X) (k : ℕ) (d : X) → test x ≡ false
     → ((j : ℕ) (e : X) → j < length xs → test (get_or xs j e) ≡ false) → k < length (x ∷ xs) → test (get_or (x ∷ xs) k d) ≡ false

@@ -1,11 +1,12 @@
 -- What parts say, one input or cover after another.
 use Rattle.std.proofs.Common.{None, ◌≡◌, ℕ, ◌+◌, ◌<◌, Bool, true, false, ◌||◌, cond, List, [], ◌∷◌, ◌++◌, length, map, take, drop, get_or, refl, sym, ap, ◌∙◌, append_assoc, Option, Some}
 use Rattle.std.proofs.lemmas.Bool.{or_left}
-use Rattle.std.proofs.lemmas.List.{map_push, length-map, take-append-drop, drop_more}
+use Rattle.std.proofs.lemmas.List.{map_push, length-map}
 use Rattle.std.proofs.lemmas.List.Folds.{list_any-append}
 use Rattle.std.specs.List.{list_any}
 use Rattle.std.specs.Option.{is_some}
 use Rattle.std.specs.Str.{bytes_eq}
+use Rattle.ncl_base.proofs.Growing.{cut_at}
 use Rattle.ncl_blif.specs.declared.draft_body.DraftBody.{DraftBody}
 use Rattle.ncl_blif.specs.declared.drivers.Driver.{Driver}
 use Rattle.ncl_blif.specs.declared.drivers.Driver.TheVariants.{Input, Cover}
@@ -81,8 +82,7 @@ pub twins-found : (inputs names outs : List (List ℕ)) (n : ℕ) (name : List �
 twins-found inputs names outs n name lt at found =
     let before = inputs ++ take n names in
     let back = drop (n + 1) names ++ outs in
-    let cut : names ≡ take n names ++ name ∷ drop (n + 1) names =
-    sym (take-append-drop n names) ∙ ap (λ more. take n names ++ more) (drop_more names n name lt ∙ ap (λ x. x ∷ drop (n + 1) names) (sym at)) in
+    let cut : names ≡ take n names ++ name ∷ drop (n + 1) names = cut_at names n name lt ∙ ap (λ x. take n names ++ x ∷ drop (n + 1) names) (sym at) in
     let whole : (inputs ++ names) ++ outs ≡ before ++ name ∷ back =
     ap (λ ns. (inputs ++ ns) ++ outs) cut ∙ ap (λ ns. ns ++ outs) (sym (append_assoc inputs (take n names) (name ∷ drop (n + 1) names))) ∙ append_assoc before (name ∷ drop (n + 1) names) outs in
     ap has_twins whole ∙ twins-middle before back name ∙ or_left _ _ (among before outs (drop (n + 1) names) found)

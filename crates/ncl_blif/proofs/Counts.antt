@@ -1,8 +1,9 @@
 -- A text says no more models than it has bytes.
-use Rattle.std.proofs.Common.{ℕ, ◌≤◌, Bool, true, false, not, cond, List, [], ◌∷◌, ◌++◌, length, sym, subst, arith, sum_by}
+use Rattle.std.proofs.Common.{ℕ, ◌≤◌, Bool, true, false, not, cond, List, [], ◌∷◌, ◌++◌, length, sym, subst, arith}
 use Rattle.std.specs.List.{take_while}
 use Rattle.std.proofs.lemmas.List.{length-map}
-use Rattle.std.proofs.lemmas.List.Sums.{sum_by-cons, take_while-cons}
+use Rattle.std.proofs.lemmas.List.Sums.{take_while-cons}
+use Rattle.ncl_base.proofs.Growing.{length-le-sum_by}
 use Rattle.ncl_blif.specs.Line.{LineData}
 use Rattle.ncl_blif.specs.Lines.{lines_of}
 use Rattle.ncl_blif.specs.Parts.{PartData, is_row, begins_model, parts_of, up_to_model, named_sections, unnamed_section, sections_of}
@@ -39,10 +40,6 @@ parts_count (line ∷ rest) =
       | false ↦ omega (arith, parts_count rest)
     ]
 
-lines_count : (rest : List LineData) → length rest ≤ sum_by share rest
-lines_count [] = omega arith
-lines_count (line ∷ rest) = omega (arith, sum_by-cons share line rest, lines_count rest)
-
 -- a text says no more models than it has bytes
 pub models_few : (text : List ℕ) → length (models_said text) ≤ length text
 models_few text =
@@ -51,6 +48,6 @@ models_few text =
       length-map (sections_of (parts_of (lines_of text))) named_model,
       sections_count (parts_of (lines_of text)),
       parts_count (lines_of text),
-      lines_count (lines_of text),
+      length-le-sum_by share (λ line. omega arith) (lines_of text),
       lines_of-size text,
     )

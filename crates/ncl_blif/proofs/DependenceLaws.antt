@@ -1,11 +1,11 @@
 -- The graph of the covers has the paths of the dependencies.
-use Rattle.std.proofs.Common.{◌≡◌, ℕ, ◌+◌, ◌<◌, ◌^◌, Bool, true, false, cond, List, [], ◌∷◌, length, get_or, Option, Some, None, refl, sym, ap, ◌∙◌, subst, arith, ◌==◌, suc, zero}
+use Rattle.std.proofs.Common.{◌≡◌, ℕ, ◌+◌, ◌<◌, ◌^◌, Bool, true, false, cond, List, [], ◌∷◌, length, get_or, Some, refl, sym, ap, ◌∙◌, subst, arith, ◌==◌, suc, zero}
 use Rattle.std.specs.Prelude.{Contains, All}
-use Rattle.std.specs.List.{position_from, filter_map, cons_option}
+use Rattle.std.specs.List.{position_from, filter_map}
 use Rattle.std.proofs.lemmas.Bool.{eqb-true, eq-eqb}
 use Rattle.std.proofs.lemmas.List.{length-map, get_or-map, get_or_default}
 use Rattle.std.proofs.lemmas.List.Elements.{All-map, All-from_recursion, Contains-get_or}
-use Rattle.ncl_blif.proofs.Growing.{All-filter_map}
+use Rattle.ncl_base.proofs.Growing.{position_from-found, All-filter_map, Contains-filter_map, Contains-filter_map_of}
 use Rattle.ncl_blif.specs.declared.model.Cover.{Cover}
 use Rattle.ncl_blif.specs.declared.model.Model.{Model}
 use Rattle.ncl_blif.specs.Model.{Depends, reads, through}
@@ -24,32 +24,6 @@ position_from-passes {X} test i (x ∷ xs) k h =
           (suc n, omega arith, omega arith, passes)
     ] refl h
 
--- where an element passes, a first place is found
-pub position_from-found : {X : Type 0} (test : X → Bool) (i : ℕ) (xs : List X) (j : ℕ) (d : X) → j < length xs → test (get_or xs j d) ≡ true → (k : ℕ) × (position_from test i xs ≡ Some k)
-position_from-found test i [] j d within passes = absurd (omega arith)
-position_from-found test i (x ∷ xs) zero d within passes = (i, ap (λ b. cond b (Some i) (position_from test (i + 1) xs)) passes)
-position_from-found test i (x ∷ xs) (suc j) d within passes =
-    let (k, at) = position_from-found test (i + 1) xs j d (omega arith) passes in
-    elim (test x) as (λ b. (n : ℕ) × (cond b (Some i) (position_from test (i + 1) xs) ≡ Some n)) [ true ↦ (i, refl) | false ↦ (k, at) ]
-
-first_or_later : {X Y : Type 0} (h : X → Option Y) (x : X) (xs : List X) (y z : Y) → h x ≡ Some z
-    → (Contains (filter_map h xs) y → (w : X) × Contains (x ∷ xs) w × (h w ≡ Some y))
-    → Contains (z ∷ filter_map h xs) y → (w : X) × Contains (x ∷ xs) w × (h w ≡ Some y)
-first_or_later h x xs y z e later (zero, lt, at) = (x, (0, omega arith, refl), cc)
-first_or_later h x xs y z e later (suc k, lt, at) = later (k, omega arith, at)
-
--- what a map with gaps gives comes from an element
-pub Contains-filter_map : {X Y : Type 0} (h : X → Option Y) (xs : List X) (y : Y) → Contains (filter_map h xs) y → (x : X) × Contains xs x × (h x ≡ Some y)
-Contains-filter_map h [] y (k, lt, at) = absurd (omega arith)
-Contains-filter_map {X} {Y} h (x ∷ xs) y found =
-    let Source : Type 0 = (z : X) × Contains (x ∷ xs) z × (h z ≡ Some y) in
-    let later : Contains (filter_map h xs) y → Source = λ rest.
-    let (z, (k, lt, at), gives) = Contains-filter_map h xs y rest in (z, (suc k, omega arith, at), gives) in
-    elim (h x) as (λ o. h x ≡ o → Contains (cons_option o (filter_map h xs)) y → Source) [
-      | None ↦ λ e rest. later rest
-      | Some z ↦ λ e rest. first_or_later h x xs y z e later rest
-    ] refl found
-
 -- the covers make a graph
 pub IsGraph-dependency_graph : (covers : List Cover) → length covers < 2 ^ 32 → IsGraph (dependency_graph covers)
 IsGraph-dependency_graph covers few =
@@ -61,16 +35,6 @@ IsGraph-dependency_graph covers few =
     All-from_recursion {X = ℕ} below (filter_map (driver_place covers) ins) (All-filter_map (driver_place covers) below (λ signal place found.
     let (n, at, inside, passes) = position_from-passes (λ cover. cover.out == signal) 0 covers place found in omega arith) ins)) in
     record { few = omega arith; closed = closed }
-
--- what a map with gaps gives of an element is among what it gives
-pub Contains-filter_map_of : {X Y : Type 0} (h : X → Option Y) (xs : List X) (x : X) (y : Y) → Contains xs x → h x ≡ Some y → Contains (filter_map h xs) y
-Contains-filter_map_of h [] x y (k, lt, at) e = absurd (omega arith)
-Contains-filter_map_of {X} {Y} h (w ∷ xs) x y (zero, lt, at) e =
-    let gives : h w ≡ Some y = ap h at ∙ e in
-    subst (λ o. Contains (cons_option o (filter_map h xs)) y) (sym gives) (0, omega arith, refl)
-Contains-filter_map_of {X} {Y} h (w ∷ xs) x y (suc k, lt, at) e =
-    let (n, within, found) = Contains-filter_map_of h xs x y (k, omega arith, at) e in
-    elim (h w) as (λ o. Contains (cons_option o (filter_map h xs)) y) [ None ↦ (n, within, found) | Some z ↦ (suc n, omega arith, found) ]
 
 -- the signal that the cover at a place drives
 abbrev pub out_at : List Cover → ℕ → Cover → ℕ

@@ -7,12 +7,13 @@ use Rattle.std.proofs.lemmas.List.Folds.{list_any-append}
 use Rattle.std.specs.List.{list_any, position, position_or_len}
 use Rattle.std.specs.Option.{option_or, option_map, is_some}
 use Rattle.std.specs.Str.{bytes_eq}
+use Rattle.std.specs.Cmp.Lexicographic.{nat_list_eq_equiv}
 use Rattle.ncl_blif.specs.declared.drivers.Driver.{Driver}
 use Rattle.ncl_blif.specs.declared.drivers.Driver.TheVariants.{Input, Cover}
 use Rattle.ncl_blif.specs.Drivers.{driver_among}
 use Rattle.ncl_blif.specs.LineFaults.{has_twins}
 use Rattle.ncl_blif.proofs.Places.{any-place, position-push, place-append}
-use Rattle.ncl_blif.proofs.Twins.{bytes_eq-comm, twins-middle}
+use Rattle.ncl_blif.proofs.Twins.{twins-middle}
 
 -- whether something drives a signal is whether it is among these
 pub among-tells : (inputs outs : List (List ℕ)) (name : List ℕ) → is_some (driver_among inputs outs name) ≡ list_any (bytes_eq name) (inputs ++ outs)
@@ -36,7 +37,7 @@ other-place name q xs none same = no-place (bytes_eq q) xs (ap (λ x. list_any (
 pub among-input : (inputs outs : List (List ℕ)) (name q : List ℕ) → list_any (bytes_eq name) (inputs ++ outs) ≡ false → driver_among (inputs ++ name ∷ []) outs q ≡ cond (bytes_eq name q) (Some (Input (length inputs))) (driver_among inputs outs q)
 among-input inputs outs name q none =
     let parts = or_parts (list_any (bytes_eq name) inputs) (list_any (bytes_eq name) outs) (sym (list_any-append (bytes_eq name) inputs outs) ∙ none) in
-    rw (position-push (bytes_eq q) inputs name, bytes_eq-comm name q)
+    rw (position-push (bytes_eq q) inputs name, nat_list_eq_equiv.symm name q)
     (turn (bytes_eq q name) (position (bytes_eq q) inputs) (option_map (λ place. Cover place) (position (bytes_eq q) outs)) (length inputs) (other-place name q inputs parts.0))
   where
     turn : (b : Bool) (found : Option ℕ) (other : Option Driver) (n : ℕ) → (b ≡ true → found ≡ None) → option_or (option_map (λ place. Input place) (option_or found (cond b (Some n) None))) other ≡ cond b (Some (Input n)) (option_or (option_map (λ place. Input place) found) other)
@@ -49,7 +50,7 @@ among-input inputs outs name q none =
 pub among-cover : (inputs outs : List (List ℕ)) (name q : List ℕ) → list_any (bytes_eq name) (inputs ++ outs) ≡ false → driver_among inputs (outs ++ name ∷ []) q ≡ cond (bytes_eq name q) (Some (Cover (length outs))) (driver_among inputs outs q)
 among-cover inputs outs name q none =
     let parts = or_parts (list_any (bytes_eq name) inputs) (list_any (bytes_eq name) outs) (sym (list_any-append (bytes_eq name) inputs outs) ∙ none) in
-    rw (position-push (bytes_eq q) outs name, bytes_eq-comm name q)
+    rw (position-push (bytes_eq q) outs name, nat_list_eq_equiv.symm name q)
     (turn (bytes_eq q name) (position (bytes_eq q) inputs) (position (bytes_eq q) outs) (length outs) (other-place name q inputs parts.0) (other-place name q outs parts.1))
   where
     turn : (b : Bool) (input found : Option ℕ) (n : ℕ) → (b ≡ true → input ≡ None) → (b ≡ true → found ≡ None) → option_or (option_map (λ place. Input place) input) (option_map (λ place. Cover place) (option_or found (cond b (Some n) None))) ≡ cond b (Some (Cover n)) (option_or (option_map (λ place. Input place) input) (option_map (λ place. Cover place) found))

@@ -1,41 +1,25 @@
 -- The faults of a model by names, and those of its graph.
-use Rattle.std.proofs.Common.{◌≡◌, ℕ, ◌<◌, true, List, [], ◌∷◌, length, get_or, Some, sym, ap, ◌∙◌, subst, arith, zero, suc}
-use Rattle.std.specs.Prelude.{Contains}
+use Rattle.std.proofs.Common.{◌≡◌, ℕ, ◌<◌, List, length, get_or, Some, sym, ap, ◌∙◌, subst, arith}
 use Rattle.std.specs.List.{IsDistinct}
 use Rattle.std.specs.Str.{bytes_eq}
 use Rattle.std.proofs.lemmas.List.{length-map, get_or-map}
 use Rattle.std.proofs.lemmas.Option.{slice_get-get_or, slice_get_within, get_or_from_slice_get}
-use Rattle.ncl_graph.specs.Graph.{Leads, arc, further, successors, IsOnCycle}
+use Rattle.ncl_graph.specs.Graph.{IsOnCycle}
 use Rattle.ncl_blif.specs.declared.model.Cover.{Cover}
 use Rattle.ncl_blif.specs.Named.{NamedModel, NamedCover, drivers_of}
 use Rattle.ncl_blif.specs.Numbered.{number_of, numbered_cover, numbered_model}
 use Rattle.ncl_blif.specs.Model.{Depends}
 use Rattle.ncl_blif.specs.Dependence.{dependency_graph}
 use Rattle.std.specs.Option.{option_map}
+use Rattle.ncl_graph.proofs.Ranking.{leads_within}
 use Rattle.ncl_blif.specs.declared.model.Model.{Model}
 use Rattle.ncl_blif.specs.Answer.{IsCyclic, IsFirstCycle}
 use Rattle.ncl_blif.proofs.DependenceLaws.{out_at, Depends-from_Leads, Leads-from_Depends}
-use Rattle.ncl_blif.proofs.NumberedLaws.{OutsDiffer-numbered}
-
-arc_within : (g : List (List ℕ)) (i j : ℕ) → Contains (successors g i) j → i < length g
-arc_within [] i j (k, lt, at) = absurd (omega arith)
-arc_within (js ∷ g) zero j leads = omega arith
-arc_within (js ∷ g) (suc i) j leads = let h = arc_within g i j leads in omega arith
-
--- a place that leads somewhere is one
-pub leads_within : (g : List (List ℕ)) (i j : ℕ) → Leads g i j → i < length g
-leads_within g i j (arc {j = k} a) = arc_within g i j a
-leads_within g i j (further {j = k} a rest) = arc_within g i k a
+use Rattle.ncl_blif.proofs.NumberedLaws.{no_cover, no_numbers, OutsDiffer-numbered}
 
 -- the graph of a model's covers
 abbrev pub graph_of : NamedModel → List (List ℕ)
 graph_of model = dependency_graph (numbered_model model).covers
-
-abbrev no_cover : NamedCover
-no_cover = record { line = 0; ins = []; out = []; on = true; rows = [] }
-
-abbrev no_numbers : Cover
-no_numbers = record { ins = []; out = 0; on = true; rows = [] }
 
 -- as many places as covers
 pub length-graph_of : (model : NamedModel) → length (graph_of model) ≡ length model.covers

@@ -1,23 +1,22 @@
 -- Exactly one assignment fits.
-use Rattle.std.proofs.Common.{◌≡◌, ◌≢◌, ℕ, ◌+◌, ◌<◌, ◌≤◌, ◌^◌, ◌⊎◌, Bool, true, false, cond, List, [], ◌∷◌, ◌++◌, length, map, get_or, refl, sym, ap, ◌∙◌, subst, inl, inr, ⊎_elim, arith, nat_eq, sum_by, suc}
+use Rattle.std.proofs.Common.{◌≡◌, ◌≢◌, ℕ, ◌+◌, ◌<◌, ◌^◌, ◌⊎◌, Bool, true, false, cond, List, [], ◌∷◌, ◌++◌, length, map, get_or, refl, sym, ap, ◌∙◌, subst, inl, inr, ⊎_elim, arith, nat_eq, suc}
 use Rattle.std.specs.Prelude.{Contains, All}
 use Rattle.std.specs.List.{range_with_len, filter_map}
 use Rattle.std.proofs.lemmas.Bool.{cases_lt, eq-eqb, ne_eqb, false≢true}
 use Rattle.std.proofs.lemmas.List.{length-map, get_or-map, get_or_default, length-append, append_assoc, append-nil, get_or_append_left}
 use Rattle.std.proofs.lemmas.List.Elements.{All-contains, Contains-get_or, Contains-append_left, Contains-append_right, Contains-append_cases, Contains-push_cases}
-use Rattle.std.proofs.lemmas.List.Sums.{sum_by-cons}
 use Rattle.std.proofs.lemmas.Map.Keys.{apart_from_distinct}
 use Rattle.ncl_graph.specs.Graph.{successors, IsGraph, IsOnCycle, IsOrder}
-use Rattle.ncl_graph.proofs.Lists.{split_at}
+use Rattle.ncl_base.proofs.Growing.{split_at, length-le-sum_by}
+use Rattle.ncl_graph.proofs.Ranking.{leads_within}
 use Rattle.ncl_graph.proofs.Orders as orders
 use Rattle.ncl_blif.specs.declared.model.Cover.{Cover}
 use Rattle.ncl_blif.specs.declared.model.Model.{Model}
-use Rattle.ncl_blif.specs.Model.{signals_of, size_of_rows, IsModel}
+use Rattle.ncl_blif.specs.Model.{signals_of, weight_of_rows, IsModel}
 use Rattle.ncl_blif.specs.Dependence.{driver_place, dependency_graph}
 use Rattle.ncl_blif.specs.Meaning.{cover_value, Fits}
 use Rattle.ncl_blif.proofs.DependenceLaws.{OutsDiffer, out_at, arc_of_reads, Depends-from_Leads, IsGraph-dependency_graph}
 use Rattle.ncl_blif.proofs.NumberedLaws.{get_or-append_right}
-use Rattle.ncl_blif.proofs.FinishLaws.{leads_within}
 
 -- functions that agree on a list give the same
 pub map-agree_on : {X Y : Type 0} (f g : X → Y) (xs : List X) → ((x : X) → Contains xs x → f x ≡ g x) → map f xs ≡ map g xs
@@ -45,11 +44,6 @@ no_cover = record { ins = []; out = 0; on = true; rows = [] }
 -- the places to which a cover leads
 abbrev edges_of : List Cover → Cover → List ℕ
 edges_of covers cover = filter_map (driver_place covers) cover.ins
-
--- covers are no more than their size
-covers_counted : (covers : List Cover) → length covers ≤ sum_by (λ (cover : Cover). 1 + length cover.ins + size_of_rows cover.rows) covers
-covers_counted [] = omega arith
-covers_counted (cover ∷ covers) = omega (arith, sum_by-cons (λ (c : Cover). 1 + length c.ins + size_of_rows c.rows) cover covers, covers_counted covers)
 
 module _ (m : Model) (is : IsModel m) where
   abbrev at : ℕ → Cover
@@ -113,7 +107,7 @@ module _ (m : Model) (is : IsModel m) where
       (Contains-append_cases m.inputs (map (λ (cover : Cover). cover.out) m.covers) signal driven)
 
   few : length m.covers < 2 ^ 32
-  few = omega (arith, covers_counted m.covers, is.small)
+  few = omega (arith, length-le-sum_by (λ (cover : Cover). 1 + length cover.ins + weight_of_rows cover.rows) (λ cover. omega arith) m.covers, is.small)
 
   is_graph : IsGraph (dependency_graph m.covers)
   is_graph = IsGraph-dependency_graph m.covers few

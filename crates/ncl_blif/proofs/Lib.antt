@@ -1,4 +1,5 @@
 pub mod TextLines
+pub mod Counted
 pub mod TextWords
 pub mod Names
 pub mod RowSteps
@@ -11,7 +12,6 @@ pub mod PartSteps
 pub mod WordSizes
 pub mod ModelSizes
 pub mod Sections
-pub mod Growing
 pub mod DependenceLaws
 pub mod Anys
 pub mod NumberedLaws
@@ -23,3 +23,6 @@ pub mod Counts
 pub mod ReadFacts
 pub mod Fitting
 pub mod Composing
+pub mod OneDriver
+pub mod SomeAnswer
+pub mod NeverMemory

@@ -1,11 +1,9 @@
 -- What a model by numbers is, where the model by names has no fault.
-use Rattle.std.proofs.Common.{◌≡◌, ℕ, ◌+◌, ◌-◌, ◌<◌, ◌≤◌, Bool, true, not, List, [], ◌++◌, length, map, get_or, None, sym, ap, ◌∙◌, subst, arith, nat_eq, ⊎_elim}
+use Rattle.std.proofs.Common.{◌≡◌, ℕ, ◌+◌, ◌-◌, ◌<◌, ◌≤◌, true, not, List, ◌++◌, length, map, get_or, None, sym, ap, ◌∙◌, subst, arith, nat_eq, ⊎_elim}
 use Rattle.std.specs.Prelude.{Contains, All}
-use Rattle.std.specs.List.{IsDistinct, list_any, position_or_len, range_with_len}
+use Rattle.std.specs.List.{IsDistinct, range_with_len}
 use Rattle.std.specs.Str.{bytes_eq}
-use Rattle.std.proofs.lemmas.Bool.{cases_lt, ne_eqb, false≢true}
-use Rattle.std.proofs.lemmas.List.Sums.{fails_before_first}
-use Rattle.std.proofs.lemmas.List.Folds.{list_any_none}
+use Rattle.std.proofs.lemmas.Bool.{cases_lt, ne_eqb, ltb-true, not-false}
 use Rattle.std.proofs.lemmas.List.{length-map, get_or-map, length-append, get_or_append_left}
 use Rattle.std.proofs.lemmas.List.Elements.{All-map}
 use Rattle.std.proofs.lemmas.List.FromFn.{get_or-range_with_len, length-range_with_len}
@@ -16,15 +14,10 @@ use Rattle.ncl_blif.specs.Named.{NamedModel, NamedCover, NamedOutput, drivers_of
 use Rattle.ncl_blif.specs.Numbered.{is_driven, number_of, numbered_cover, numbered_model}
 use Rattle.ncl_blif.specs.Model.{Depends, signals_of, IsModel, size_of_model, most_size}
 use Rattle.ncl_blif.specs.Answer.{undriven_line, IsCyclic, IsFaultless}
-use Rattle.ncl_blif.proofs.Anys.{each_fails, not_false}
+use Rattle.ncl_blif.proofs.Anys.{each_fails}
 use Rattle.ncl_blif.proofs.DependenceLaws.{driver_of_dependent}
-use Rattle.ncl_blif.proofs.NumberedLaws.{out-numbered, get_or-append_right, outputs_driven, covers_driven}
-
-abbrev no_cover : NamedCover
-no_cover = record { line = 0; ins = []; out = []; on = true; rows = [] }
-
-abbrev no_numbers : Cover
-no_numbers = record { ins = []; out = 0; on = true; rows = [] }
+use Rattle.ncl_blif.proofs.Places.{any-place}
+use Rattle.ncl_blif.proofs.NumberedLaws.{no_cover, no_numbers, out-numbered, get_or-append_right, outputs_driven, covers_driven}
 
 -- how many signals have a driver
 signals_count : (m : NamedModel) → length (signals_of (numbered_model m)) ≡ length m.inputs + length m.covers
@@ -60,17 +53,9 @@ signal_among m differ k within =
     let below : k < length m.inputs + length m.covers = omega (arith, drivers_count m) in
     (k, omega (arith, signals_count m), signal_at m differ k k below)
 
--- a test that some element passes finds its place
-place_below : {X : Type 0} (test : X → Bool) (xs : List X) → list_any test xs ≡ true → position_or_len test xs < length xs
-place_below test xs passes =
-    ⊎_elim
-    (λ below. below)
-    (λ past. absurd (false≢true (sym (list_any_none test xs (λ k d within. fails_before_first test xs k d (omega arith))) ∙ passes)))
-    (cases_lt (position_or_len test xs) (length xs))
-
 -- a signal with a driver has a number that is a signal
 driven_among : (m : NamedModel) → IsDistinct bytes_eq (drivers_of m) → (name : List ℕ) → is_driven m name ≡ true → Contains (signals_of (numbered_model m)) (number_of m name)
-driven_among m differ name driven = signal_among m differ (number_of m name) (place_below (bytes_eq name) (drivers_of m) driven)
+driven_among m differ name driven = signal_among m differ (number_of m name) (ltb-true _ _ (sym (any-place (bytes_eq name) (drivers_of m)) ∙ driven))
 
 -- no two numbers are the same
 one_driver_each : (m : NamedModel) → IsDistinct bytes_eq (drivers_of m) → IsDistinct nat_eq (signals_of (numbered_model m))
@@ -88,7 +73,7 @@ reads_among m differ none =
     let cover = get_or m.covers k d in
     All-map Among (number_of m) cover.ins (λ j e inside.
     driven_among m differ (get_or cover.ins j e)
-    (not_false _ (each_fails (λ name. not (is_driven m name)) cover.ins (covers_driven m none k d within) j e inside))))
+    (not-false _ (each_fails (λ name. not (is_driven m name)) cover.ins (covers_driven m none k d within) j e inside))))
 
 outputs_among : (m : NamedModel) → IsDistinct bytes_eq (drivers_of m) → undriven_line m ≡ None
     → All (λ signal. Contains (signals_of (numbered_model m)) signal) (numbered_model m).outputs

@@ -9,7 +9,7 @@ use Rattle.ncl_blif.specs.declared.model.Lit.{Lit}
 use Rattle.ncl_blif.specs.Line.{LineData}
 use Rattle.ncl_blif.specs.Lines.{lines_of}
 use Rattle.ncl_blif.specs.Parts.{PartData, first_word, is_row, is_inputs, is_outputs, is_names, parts_of, begins_model, up_to_model, named_sections, unnamed_section, sections_of}
-use Rattle.ncl_blif.specs.Model.{size_of_rows}
+use Rattle.ncl_blif.specs.Model.{weight_of_rows}
 use Rattle.ncl_blif.specs.Named.{NamedCover, NamedOutput, later_words, cover_ins, lit_of, lits_of, pattern_of, cover_of, inputs_said, outputs_said, covers_said, named_model, drivers_of, size_of_named}
 use Rattle.ncl_blif.specs.Answer.{models_said}
 use Rattle.ncl_blif.proofs.WordSizes.{share, lines_of-size}
@@ -28,7 +28,7 @@ output line signal = record { line = line; signal = signal }
 
 -- a cover, the signals that it reads, and its rows
 abbrev cover_size : NamedCover → ℕ
-cover_size cover = 1 + length cover.ins + size_of_rows cover.rows
+cover_size cover = 1 + length cover.ins + weight_of_rows cover.rows
 
 -- the rows before the next part, and the parts, are no more than the lines
 rows-parts : (lines : List LineData) → sum_by share (take_while is_row lines) + parts_share (parts_of lines) ≤ sum_by share lines
@@ -45,10 +45,10 @@ rows-parts (line ∷ lines) =
 pub parts_of-size : (lines : List LineData) → parts_share (parts_of lines) ≤ sum_by share lines
 parts_of-size lines = let all = rows-parts lines in omega arith
 
-rows-size : (rows : List LineData) → size_of_rows (map (λ row. lits_of row.words) rows) ≤ sum_by share rows
+rows-size : (rows : List LineData) → weight_of_rows (map (λ row. lits_of row.words) rows) ≤ sum_by share rows
 rows-size [] = omega arith
 rows-size (row ∷ rows) =
-    let rest : size_of_rows (map (λ row. lits_of row.words) rows) ≤ sum_by share rows = rows-size rows in
+    let rest : weight_of_rows (map (λ row. lits_of row.words) rows) ≤ sum_by share rows = rows-size rows in
     omega (arith, sum_by-cons (λ (lits : List Lit). 1 + length lits) (lits_of row.words) (map (λ row. lits_of row.words) rows), sum_by-cons share row rows, length-map (pattern_of row.words) lit_of)
 
 -- what a part says

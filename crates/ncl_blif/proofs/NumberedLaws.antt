@@ -5,6 +5,7 @@ use Rattle.std.specs.List.{IsDistinct, AllByRecursion, list_any, position_or_len
 use Rattle.std.specs.Option.{option_map}
 use Rattle.std.specs.Str.{bytes_eq}
 use Rattle.std.specs.Cmp.Lexicographic.{nat_list_eq_equiv}
+use Rattle.std.proofs.lemmas.Bool.{or_parts, not-false}
 use Rattle.std.proofs.lemmas.List.{length-map, get_or-map, length-append}
 use Rattle.std.proofs.lemmas.List.Elements.{Contains-get_or, Contains-append_right}
 use Rattle.std.proofs.lemmas.List.Sums.{position_or_len_is}
@@ -16,8 +17,15 @@ use Rattle.ncl_blif.specs.Named.{NamedModel, NamedCover, drivers_of}
 use Rattle.ncl_blif.specs.Numbered.{is_driven, number_of, numbered_cover, numbered_model}
 use Rattle.ncl_blif.specs.Named.{NamedOutput}
 use Rattle.ncl_blif.specs.Answer.{lesser, undriven_line, reads_undriven}
-use Rattle.ncl_blif.proofs.Anys.{find-none, not_false, left_fails}
+use Rattle.ncl_blif.proofs.Anys.{find-none}
 use Rattle.ncl_blif.proofs.DependenceLaws.{OutsDiffer, out_at}
+
+-- what a list of covers gives past its end
+abbrev pub no_cover : NamedCover
+no_cover = record { line = 0; ins = []; out = []; on = true; rows = [] }
+
+abbrev pub no_numbers : Cover
+no_numbers = record { ins = []; out = 0; on = true; rows = [] }
 
 -- the number of a driver is its place
 pub number-driver : (names : List (List ℕ)) → IsDistinct bytes_eq names → (i : ℕ) (d : List ℕ) → i < length names → position_or_len (bytes_eq (get_or names i d)) names ≡ i
@@ -57,8 +65,7 @@ out-numbered model differ k d e within =
 pub OutsDiffer-numbered : (model : NamedModel) → IsDistinct bytes_eq (drivers_of model) → OutsDiffer (numbered_model model).covers
 OutsDiffer-numbered model differ i j d i_in j_in same =
     let many : length (numbered_model model).covers ≡ length model.covers = length-map model.covers (numbered_cover model) in
-    let e : NamedCover = record { line = 0; ins = []; out = []; on = true; rows = [] } in
-    omega (arith, sym (out-numbered model differ i d e (omega arith)) ∙ same ∙ out-numbered model differ j d e (omega arith))
+    omega (arith, sym (out-numbered model differ i d no_cover (omega arith)) ∙ same ∙ out-numbered model differ j d no_cover (omega arith))
 
 -- what a cover drives has a driver
 pub own_driven : (model : NamedModel) (k : ℕ) (d : NamedCover) → k < length model.covers → is_driven model (get_or model.covers k d).out ≡ true
@@ -94,18 +101,18 @@ both_missing model none =
 pub outputs_driven : (model : NamedModel) → undriven_line model ≡ None → All (λ output. is_driven model output.signal ≡ true) model.outputs
 outputs_driven model none k d within =
     let undriven : NamedOutput → Bool = λ output. not (is_driven model output.signal) in
-    not_false (is_driven model (get_or model.outputs k d).signal) (find-none undriven model.outputs (both_missing model none).0 k d within)
+    not-false (is_driven model (get_or model.outputs k d).signal) (find-none undriven model.outputs (both_missing model none).0 k d within)
 
 pub covers_driven : (model : NamedModel) → undriven_line model ≡ None → All (λ cover. reads_undriven model cover ≡ false) model.covers
 covers_driven model none k d within = find-none (reads_undriven model) model.covers (both_missing model none).1 k d within
 
 fails_each : (x : List ℕ) (xs : List (List ℕ)) → list_any (bytes_eq x) xs ≡ false → AllByRecursion (λ y. bytes_eq x y ≡ false) xs
 fails_each x [] h = tt
-fails_each x (y ∷ ys) h = ((left_fails (bytes_eq x y) (list_any (bytes_eq x) ys) h).0, fails_each x ys (left_fails (bytes_eq x y) (list_any (bytes_eq x) ys) h).1)
+fails_each x (y ∷ ys) h = ((or_parts (bytes_eq x y) (list_any (bytes_eq x) ys) h).0, fails_each x ys (or_parts (bytes_eq x y) (list_any (bytes_eq x) ys) h).1)
 
 -- names of which none stands twice differ
 pub twins_differ : (names : List (List ℕ)) → has_twins names ≡ false → IsDistinct bytes_eq names
 twins_differ [] h = IsDistinct-from_apart bytes_eq [] (λ i j d lower within. absurd (omega arith))
 twins_differ (x ∷ xs) h =
-    let (here, later) = left_fails (list_any (bytes_eq x) xs) (has_twins xs) h in
+    let (here, later) = or_parts (list_any (bytes_eq x) xs) (has_twins xs) h in
     IsDistinct-cons bytes_eq x xs (fails_each x xs here) (twins_differ xs later)

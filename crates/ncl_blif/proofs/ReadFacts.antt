@@ -7,17 +7,19 @@ use Rattle.std.proofs.lemmas.List.{length-map, length-append}
 use Rattle.std.proofs.lemmas.List.Elements.{All-map}
 use Rattle.std.proofs.lemmas.List.FromFn.{length-range_with_len}
 use Rattle.std.proofs.lemmas.List.Sums.{sum_by-cons, sum_by_more_le, take_while-cons}
+use Rattle.ncl_base.proofs.Growing.{length-le-sum_by}
 use Rattle.ncl_blif.specs.declared.fault.BlifFault.TheVariants.{Syntax}
 use Rattle.ncl_blif.specs.declared.model.Cover.{Cover}
 use Rattle.ncl_blif.specs.Line.{LineData}
 use Rattle.ncl_blif.specs.Lines.{lines_of}
 use Rattle.ncl_blif.specs.Parts.{PartData, is_row, begins_model, up_to_model, named_sections, unnamed_section, parts_of, sections_of}
-use Rattle.ncl_blif.specs.LineFaults.{has_twins, first_line_fault, first_section_fault}
+use Rattle.ncl_blif.specs.LineFaults.{first_line_fault, first_section_fault}
 use Rattle.ncl_blif.specs.Named.{NamedModel, NamedCover, NamedOutput, drivers_of, named_model, size_of_named}
 use Rattle.ncl_blif.specs.Numbered.{number_of, numbered_cover, numbered_model}
-use Rattle.ncl_blif.specs.Model.{IsModel, AreModels, AreJoined, size_of_model, size_of_rows, most_size}
+use Rattle.ncl_blif.specs.Model.{IsModel, AreModels, AreJoined, size_of_model, weight_of_rows, most_size}
 use Rattle.ncl_blif.specs.Answer.{models_said, IsFaultless, unjoined_model}
 use Rattle.ncl_blif.proofs.NumberedLaws.{twins_differ}
+use Rattle.ncl_blif.proofs.OneDriver.{one_driver_each}
 use Rattle.ncl_blif.proofs.ModelFacts.{IsModel-numbered}
 use Rattle.ncl_blif.proofs.RowsFit.{all_rows_fit}
 use Rattle.ncl_blif.proofs.ModelSizes.{models_said-size}
@@ -30,15 +32,15 @@ sum_by-map f g h same (x ∷ xs) =
 
 -- how much there is to a cover
 abbrev named_cover_size : NamedCover → ℕ
-named_cover_size cover = 1 + length cover.ins + size_of_rows cover.rows
+named_cover_size cover = 1 + length cover.ins + weight_of_rows cover.rows
 
 -- numbers in place of names keep the size
 size-numbered : (m : NamedModel) → size_of_model (numbered_model m) ≡ size_of_named m
 size-numbered m =
     let inputs : length (numbered_model m).inputs ≡ length m.inputs = length-range_with_len 0 (length m.inputs) in
     let outputs : length (numbered_model m).outputs ≡ length m.outputs = length-map m.outputs (λ (output : NamedOutput). number_of m output.signal) in
-    let covers = sum_by-map (λ (cover : Cover). 1 + length cover.ins + size_of_rows cover.rows) named_cover_size (numbered_cover m)
-    (λ cover. ap (λ n. 1 + n + size_of_rows cover.rows) (length-map cover.ins (number_of m))) m.covers in
+    let covers = sum_by-map (λ (cover : Cover). 1 + length cover.ins + weight_of_rows cover.rows) named_cover_size (numbered_cover m)
+    (λ cover. ap (λ n. 1 + n + weight_of_rows cover.rows) (length-map cover.ins (number_of m))) m.covers in
     omega (arith, inputs, outputs, covers)
 
 -- the widths fit
@@ -94,17 +96,17 @@ some_model (line ∷ lines) h =
 
 -- what a text that is read says are models
 pub AreModels-said : (text : List ℕ) → length text ≤ most_size → first_line_fault (lines_of text) ≡ None
-    → All IsFaultless (models_said text) → All (λ (m : NamedModel). has_twins (drivers_of m) ≡ false) (models_said text)
-    → unjoined_model 1 (models_said text) ≡ None → AreModels (map numbered_model (models_said text))
-AreModels-said text short unbroken fine one_driver joined =
+    → All IsFaultless (models_said text) → unjoined_model 1 (models_said text) ≡ None → AreModels (map numbered_model (models_said text))
+AreModels-said text short unbroken fine joined =
     let models = models_said text in
     let whole = sum_by-map size_of_model size_of_named numbered_model size-numbered models in
     let bound = models_said-size text in
     let fit = all_rows_fit (lines_of text) unbroken in
+    let once = one_driver_each (lines_of text) unbroken in
     record {
       some = omega (arith, length-map models numbered_model, some_model (lines_of text) unbroken);
       each = All-map IsModel numbered_model models (λ k d within.
-          IsModel-numbered (get_or models k d) (twins_differ (drivers_of (get_or models k d)) (one_driver k d within)) (fit k d within) (fine k d within)
+          IsModel-numbered (get_or models k d) (twins_differ (drivers_of (get_or models k d)) (once k d within)) (fit k d within) (fine k d within)
           (omega (arith, size-numbered (get_or models k d), sum_by_more_le size_of_named models k d within)));
       joined = joined_numbered 1 models joined;
       small = omega (arith, whole);
@@ -112,8 +114,7 @@ AreModels-said text short unbroken fine one_driver joined =
 
 -- covers are no more than their size
 pub covers_sized : (covers : List NamedCover) → length covers ≤ sum_by named_cover_size covers
-covers_sized [] = omega arith
-covers_sized (cover ∷ covers) = omega (arith, sum_by-cons named_cover_size cover covers, covers_sized covers)
+covers_sized covers = length-le-sum_by named_cover_size (λ cover. omega arith) covers
 
 -- one model has no width that doesn't fit
 pub unjoined_short : (number : ℕ) (models : List NamedModel) → length models ≤ 1 → unjoined_model number models ≡ None

@@ -1,9 +1,9 @@
 -- Where no line is broken, each row has as many literals as its cover reads signals.
-use Rattle.std.proofs.Common.{◌≡◌, ℕ, Bool, true, false, not, ◌&&◌, cond, List, [], ◌∷◌, ◌++◌, length, map, Option, Some, None, refl, ◌∙◌, subst, arith, zero, suc, eqb}
+use Rattle.std.proofs.Common.{◌≡◌, ℕ, Bool, true, false, not, cond, List, [], ◌∷◌, ◌++◌, length, map, Option, Some, None, refl, ◌∙◌, subst, arith, zero, suc, eqb}
 use Rattle.std.specs.Prelude.{All}
 use Rattle.std.specs.List.{flat_map, AllByRecursion}
 use Rattle.std.specs.Option.{option_or}
-use Rattle.std.proofs.lemmas.Bool.{eqb-true}
+use Rattle.std.proofs.lemmas.Bool.{and_parts, eqb-true}
 use Rattle.std.proofs.lemmas.List.{length-map}
 use Rattle.std.proofs.lemmas.List.Elements.{All-from_recursion}
 use Rattle.ncl_blif.specs.declared.fault.BlifFault.TheVariants.{Syntax}
@@ -14,23 +14,15 @@ use Rattle.ncl_blif.specs.Named.{NamedCover, named_model, covers_said, cover_of,
 use Rattle.ncl_blif.specs.LineFaults.{is_row_of, row_fault, first_row_fault, rows_fault, head_fault, part_fault, first_part_fault, first_section_fault, first_line_fault}
 use Rattle.ncl_blif.proofs.ModelFacts.{RowsFit}
 
-both_missing : {X : Type 0} (a b : Option X) → option_or a b ≡ None → (a ≡ None) × (b ≡ None)
+pub both_missing : {X : Type 0} (a b : Option X) → option_or a b ≡ None → (a ≡ None) × (b ≡ None)
 both_missing None b h = (refl, h)
 both_missing (Some x) b h = absurd cc
-
-and_first : (a b : Bool) → (a && b) ≡ true → a ≡ true
-and_first true b h = refl
-and_first false b h = absurd cc
-
-and_second : (a b : Bool) → (a && b) ≡ true → b ≡ true
-and_second true b h = h
-and_second false b h = absurd cc
 
 missing_if_not : {X : Type 0} (b : Bool) (x : X) (rest : Option X) → cond (not b) (Some x) rest ≡ None → b ≡ true
 missing_if_not true x rest h = refl
 missing_if_not false x rest h = absurd cc
 
-fails_then : {X : Type 0} (b : Bool) (x : X) (rest : Option X) → cond b (Some x) rest ≡ None → rest ≡ None
+pub fails_then : {X : Type 0} (b : Bool) (x : X) (rest : Option X) → cond b (Some x) rest ≡ None → rest ≡ None
 fails_then true x rest h = absurd cc
 fails_then false x rest h = h
 
@@ -38,10 +30,10 @@ fails_then false x rest h = h
 row_width : (inputs : ℕ) (words : List (List ℕ)) → is_row_of inputs words ≡ true → length (lits_of words) ≡ inputs
 row_width zero [] h = absurd cc
 row_width zero (w ∷ []) h = refl
-row_width zero (w ∷ v ∷ words) h = absurd (let e = eqb-true (length (w ∷ v ∷ words)) 1 (and_first _ _ h) in omega arith)
+row_width zero (w ∷ v ∷ words) h = absurd (let e = eqb-true (length (w ∷ v ∷ words)) 1 (and_parts _ _ h).0 in omega arith)
 row_width (suc n) words h =
-    let shaped = and_second (eqb (length words) 2) _ (and_first _ _ h) in
-    length-map (pattern_of words) lit_of ∙ eqb-true (length (pattern_of words)) (suc n) (and_first _ _ shaped)
+    let shaped = (and_parts (eqb (length words) 2) _ (and_parts _ _ h).0).1 in
+    length-map (pattern_of words) lit_of ∙ eqb-true (length (pattern_of words)) (suc n) (and_parts _ _ shaped).0
 
 -- rows without a fault have as many literals as there are inputs
 abbrev Wide : ℕ → List Lit → Type 0

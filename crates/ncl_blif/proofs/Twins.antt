@@ -1,20 +1,16 @@
 -- Names that stand twice.
-use Rattle.std.proofs.Common.{◌≡◌, ℕ, Bool, true, false, ◌||◌, List, [], ◌∷◌, ◌++◌, refl, sym}
-use Rattle.std.proofs.lemmas.Bool.Decides.{same_from_decides, Decides-like}
-use Rattle.std.proofs.lemmas.Slice.Eq.{bytes_eq-Decides}
+use Rattle.std.proofs.Common.{◌≡◌, ℕ, Bool, true, false, ◌||◌, List, [], ◌∷◌, ◌++◌, refl}
+use Rattle.std.specs.Cmp.Lexicographic.{nat_list_eq_equiv}
 use Rattle.std.proofs.lemmas.List.Folds.{list_any-append}
 use Rattle.std.specs.List.{list_any}
 use Rattle.std.specs.Str.{bytes_eq}
 use Rattle.ncl_blif.specs.LineFaults.{has_twins}
 
-pub bytes_eq-comm : (xs ys : List ℕ) → bytes_eq xs ys ≡ bytes_eq ys xs
-bytes_eq-comm xs ys = same_from_decides (bytes_eq xs ys) (bytes_eq ys xs) (bytes_eq-Decides xs ys) (Decides-like (bytes_eq ys xs) sym sym (bytes_eq-Decides ys xs))
-
 -- one more name in between: it stands twice where it is among the others
 pub twins-middle : (front back : List (List ℕ)) (name : List ℕ) → has_twins (front ++ name ∷ back) ≡ (list_any (bytes_eq name) (front ++ back) || has_twins (front ++ back))
 twins-middle [] back name = refl
 twins-middle (x ∷ front) back name =
-    rw (twins-middle front back name, list_any-append (bytes_eq x) front (name ∷ back), list_any-append (bytes_eq x) front back, bytes_eq-comm x name)
+    rw (twins-middle front back name, list_any-append (bytes_eq x) front (name ∷ back), list_any-append (bytes_eq x) front back, nat_list_eq_equiv.symm x name)
     (turn (list_any (bytes_eq x) front) (bytes_eq name x) (list_any (bytes_eq x) back) (list_any (bytes_eq name) (front ++ back)) (has_twins (front ++ back)))
   where
     turn : (a b c d e : Bool) → ((a || (b || c)) || (d || e)) ≡ ((b || d) || ((a || c) || e))

@@ -1,11 +1,12 @@
 -- How many words a line has, and how long they are: no more than its text.
-use Rattle.std.proofs.Common.{◌≡◌, ℕ, ◌+◌, ◌-◌, ◌<◌, ◌≤◌, Bool, true, false, eqb, ltb, cond, List, [], ◌∷◌, ◌++◌, length, map, take, filter, get_or, sum_by, max, refl, sym, ap, ◌∙◌, arith, inl, inr, ◌⊎◌}
+use Rattle.std.proofs.Common.{◌≡◌, ℕ, ◌+◌, ◌-◌, ◌<◌, ◌≤◌, Bool, true, false, eqb, ltb, cond, List, [], ◌∷◌, ◌++◌, length, map, take, filter, get_or, sum_by, max, refl, sym, ap, ◌∙◌, arith, inl, inr}
 use Rattle.std.proofs.lemmas.Bool.{ltb-true}
 use Rattle.std.proofs.lemmas.List.{length-append, length-take}
 use Rattle.std.proofs.lemmas.List.Elements.{filter-append}
 use Rattle.std.proofs.lemmas.List.Sums.{sum_by-cons, sum_by_push, length-filter, count_by-le-length}
 use Rattle.std.specs.List.{slice_split, onto_first, position_or_len}
 use Rattle.std.specs.Str.Lines.{lines, lines_of_parts, strip_carriage_return}
+use Rattle.ncl_base.proofs.Growing.{last_of}
 use Rattle.ncl_blif.specs.Line.{LineData}
 use Rattle.ncl_blif.specs.Lines.{NumberedText, uncommented, is_continued, blank_at_end, put_before, joined, is_blank, words_of, in_words, lines_of}
 use Rattle.ncl_blif.specs.Named.{last_word, front_words, pattern_of}
@@ -60,14 +61,6 @@ words-count (x ∷ xs) = step (some_bytes x) refl (words-count xs)
     step true is rest = omega (arith, ltb-true 0 (length x) is, sum_by-cons length x (filter some_bytes xs))
     step false is rest = rest
 
--- a list is empty or has a last item
-pub front-last : {X : Type 0} (xs : List X) → (xs ≡ []) ⊎ ((front : List X) × (last : X) × (xs ≡ front ++ last ∷ []))
-front-last [] = inl refl
-front-last (x ∷ xs) = elim (front-last xs) [
-  | inl none ↦ inr ([], x, ap (λ ys. x ∷ ys) none)
-  | inr found ↦ inr (x ∷ found.0, found.1, ap (λ ys. x ∷ ys) found.2)
-]
-
 -- the last of words isn't empty
 last-some : (front : List (List ℕ)) (last : List ℕ) → filter some_bytes (front ++ last ∷ []) ≡ front ++ last ∷ [] → 0 < length last
 last-some front [] kept =
@@ -77,7 +70,7 @@ last-some front (b ∷ bs) kept = omega arith
 
 -- a row's characters and its value are no longer than its words
 pattern-size : (words : List (List ℕ)) → filter some_bytes words ≡ words → 0 < length words → 1 + length (pattern_of words) ≤ bytes_in words
-pattern-size words kept some = elim (front-last words) [
+pattern-size words kept some = elim (last_of words) [
   | inl none ↦ absurd (omega (arith, ap length none))
   | inr found ↦ by_last found.0 found.1 found.2
 ]
@@ -87,7 +80,7 @@ pattern-size words kept some = elim (front-last words) [
         let bytes : 0 < length last = last-some front last (sym (ap (filter some_bytes) is) ∙ kept ∙ is) in
         let before : pattern_of words ≡ last_word front = ap last_word (ap front_words is ∙ front_words-end front last) in
         let all : bytes_in words ≡ bytes_in front + length last = ap bytes_in is ∙ sum_by_push length front last in
-        elim (front-last front) [
+        elim (last_of front) [
           | inl none ↦ omega (arith, ap length before, ap (λ ws. length (last_word ws)) none)
           | inr found ↦ omega (arith, ap length before, ap (λ ws. length (last_word ws)) found.2, ap length (last_word-end found.0 found.1), ap bytes_in found.2, sum_by_push length found.0 found.1)
         ]

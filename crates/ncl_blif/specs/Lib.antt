@@ -1,5 +1,6 @@
 pub mod Line
 pub mod Lines
+pub mod Counted
 pub mod Parts
 pub mod Commands
 pub mod Named

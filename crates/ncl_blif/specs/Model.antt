@@ -15,15 +15,16 @@ pub data Depends (model : Model) : ℕ → ℕ → Type 0 where
   reads : (cover : Cover) (signal : ℕ) → Contains model.covers cover → Contains cover.ins signal → Depends model cover.out signal
   through : (cover : Cover) (signal other : ℕ) → Contains model.covers cover → Contains cover.ins signal → Depends model signal other → Depends model cover.out other
 
--- how much of a model there is: its inputs, its outputs, its covers, the signals that these read, the rows
--- and their characters
-abbrev pub size_of_rows : List (List Lit) → ℕ
-size_of_rows rows = sum_by (λ row. 1 + length row) rows
+-- the weight of rows: one for each, and their characters
+abbrev pub weight_of_rows : List (List Lit) → ℕ
+weight_of_rows rows = sum_by (λ row. 1 + length row) rows
 
+-- how much of a model there is: its inputs, its outputs, its covers, the signals that these read, and the
+-- weight of the rows
 abbrev pub size_of_model : Model → ℕ
 size_of_model model =
     length model.inputs + length model.outputs
-    + sum_by (λ cover. 1 + length cover.ins + size_of_rows cover.rows) model.covers
+    + sum_by (λ cover. 1 + length cover.ins + weight_of_rows cover.rows) model.covers
 
 -- the most of all models of a file together
 abbrev pub most_size : ℕ

@@ -4,7 +4,7 @@ use Rattle.std.specs.List.{flat_map, last_or}
 use Rattle.std.specs.Str.{bytes_eq}
 use Rattle.ncl_blif.specs.declared.model.Lit.{Lit}
 use Rattle.ncl_blif.specs.declared.model.Lit.TheVariants.{Zero, One, Dash}
-use Rattle.ncl_blif.specs.Model.{size_of_rows}
+use Rattle.ncl_blif.specs.Model.{weight_of_rows}
 use Rattle.ncl_blif.specs.Line.{LineData}
 use Rattle.ncl_blif.specs.Parts.{PartData, is_inputs, is_outputs, is_names, is_model}
 
@@ -107,9 +107,9 @@ named_model parts = record {
 abbrev pub drivers_of : NamedModel → List (List ℕ)
 drivers_of model = model.inputs ++ map (λ cover. cover.out) model.covers
 
--- how much of a model there is: its inputs, its outputs, its covers, the signals that these read, the rows
--- and their characters
+-- how much of a model there is: its inputs, its outputs, its covers, the signals that these read, and the
+-- weight of the rows
 abbrev pub size_of_named : NamedModel → ℕ
 size_of_named model =
     length model.inputs + length model.outputs
-    + sum_by (λ cover. 1 + length cover.ins + size_of_rows cover.rows) model.covers
+    + sum_by (λ cover. 1 + length cover.ins + weight_of_rows cover.rows) model.covers

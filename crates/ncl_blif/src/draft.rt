@@ -13,7 +13,7 @@ use crate::draft_body::DraftBody;
 use crate::draft_cover::{DraftCover, DraftOutput};
 use crate::drivers::Driver;
 use crate::fault::BlifFault;
-use crate::line::{Line, MOST_BYTES, read_lines};
+use crate::line::{Line, MOST_BYTES, counted_lines, read_words};
 use crate::part::{Part, parts};
 use crate::section::section_length;
 use std::alloc::Global;
@@ -29,13 +29,14 @@ pub(crate) struct Draft<'a> {
 impl<'a> Model for Draft<'a> {
     ghost use Rattle.std.specs.Prelude.{◌≤◌, length};
     ghost use Rattle.ncl_blif.specs.Named.{NamedModel, drivers_of};
+    ghost use Rattle.ncl_blif.specs.Model.{most_size};
     ghost use Rattle.ncl_blif.specs.Body.{said_by, IsKept};
 
     ghost Value = { NamedModel };
 
     ghost view = { λ d. record (said_by d.body) { name = d.name.now } };
 
-    ghost invariant = { λ d. IsKept d.body × (length (drivers_of (said_by d.body)) ≤ 16777216) };
+    ghost invariant = { λ d. IsKept d.body × (length (drivers_of (said_by d.body)) ≤ most_size) };
 }
 
 impl<'a> Draft<'a> {
@@ -115,7 +116,7 @@ fn name_of<'a>(parts: &[Part<'_, 'a>]) -> &'a [u8]
 }
 
 /// The second word of a line, or no bytes where it has none.
-fn second_word<'a>(line: &Line<'a>) -> &'a [u8]
+fn second_word<'a>(line: &Line<'_, 'a>) -> &'a [u8]
     ensures { result.now ≡ unwrap_or (slice_get line.now.words 1) [] }
 {
     match line.words().get(1) {
@@ -133,7 +134,8 @@ pub(crate) fn drafts<'a>(alloc: Global, text: &'a [u8]) -> Result<Vec<Draft<'a>>
         (λ drafts. (first_line_fault (lines_of text.now) ≡ None) × (drafts.items ≡ models_said text.now))
         (λ fault. (fault ≡ OutOfMemory) ⊎ (first_line_fault (lines_of text.now) ≡ Some fault)) }
 {
-    let lines = read_lines(alloc, text)?;
+    let (words, counts) = read_words(alloc, text)?;
+    let lines = counted_lines(alloc, &words, counts)?;
     begin(&lines)?;
     let parts = parts(alloc, &lines)?;
     drafts_of(alloc, &parts)

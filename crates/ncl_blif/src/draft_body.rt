@@ -195,7 +195,7 @@ impl<'a> DraftBody<'a> {
 }
 
 /// The words of a line after the first.
-fn later_words<'t, 'a>(head: &'t Line<'a>) -> &'t [&'a [u8]]
+fn later_words<'t, 'a>(head: &Line<'t, 'a>) -> &'t [&'a [u8]]
     requires { 1 ≤ length head.now.words }
     ensures { map (λ word. word.now) result.now ≡ later_words head.now }
 {
@@ -203,7 +203,7 @@ fn later_words<'t, 'a>(head: &'t Line<'a>) -> &'t [&'a [u8]]
 }
 
 /// The signal that a `.names` line of at least two words drives.
-fn signal_driven<'a>(head: &Line<'a>) -> &'a [u8]
+fn signal_driven<'a>(head: &Line<'_, 'a>) -> &'a [u8]
     requires { 2 ≤ length head.now.words }
     ensures { result.now ≡ cover_out head.now }
 {

@@ -1,8 +1,6 @@
 //! A model by names made a model by numbers, or its fault.
 ghost use Rattle.std.specs.Prelude.{◌≡◌, ℕ, ◌<◌, ◌^◌, ◌⊎◌, List, Option, Some, None, length, map, true, false, not, All, IfOk, IfErr, MatchOption, find};
 ghost use Rattle.std.specs.List.{list_any, range_with_len};
-ghost use Rattle.ncl_blif.specs.Named.{drivers_of};
-ghost use Rattle.ncl_blif.specs.LineFaults.{has_twins};
 ghost use Rattle.std.specs.Option.{option_map};
 ghost use Rattle.ncl_blif.specs.declared.fault.BlifFault.TheVariants.{Memory as OutOfMemory};
 ghost use Rattle.ncl_blif.specs.Numbered.{is_driven, number_of, numbered_cover, numbered_model};
@@ -179,8 +177,7 @@ fn by_numbers(alloc: Global, draft: &Draft) -> Result<Model, Memory>
 fn first_cycle(alloc: Global, draft: &Draft, model: &Model) -> Result<Option<u32>, Memory>
     requires numbered { model.now ≡ numbered_model draft.now }
     requires few { length draft.now.covers < 2 ^ 32 }
-    ensures line { IfOk result (λ line. MatchOption line ((place : ℕ) → IsCyclic draft.now place → ⊥) (IsFirstCycle draft.now)) }
-    ensures one_driver { has_twins (drivers_of draft.now) ≡ false }
+    ensures { IfOk result (λ line. MatchOption line ((place : ℕ) → IsCyclic draft.now place → ⊥) (IsFirstCycle draft.now)) }
 {
     let covers = draft.covers();
     let dependencies = dependencies(alloc, model.covers.items())?;
@@ -199,7 +196,6 @@ pub(crate) fn finish(alloc: Global, draft: &Draft, number: u32) -> Result<Model,
     requires few_covers { length draft.now.covers < 2 ^ 32 }
     ensures read { IfOk result (λ model. IsFaultless draft.now × (model ≡ numbered_model draft.now)) }
     ensures refused { IfErr result (λ fault. (fault ≡ OutOfMemory) ⊎ IsModelFault number draft.now fault) }
-    ensures one_driver { IfOk result (λ model. has_twins (drivers_of draft.now) ≡ false) }
 {
     if draft.inputs() == 0 || draft.outputs().is_empty() {
         return Err(BlifFault::NoBits(number));

@@ -1,10 +1,17 @@
 //! The laws of texts and models. Each function states some, and does nothing.
-ghost use Rattle.std.specs.Prelude.{◌≡◌, ℕ, Bool, List, length, All};
+ghost use Rattle.std.specs.Prelude.{◌≡◌, ◌⊎◌, ℕ, Bool, List, length, All};
 ghost use Rattle.ncl_blif.specs.declared.fault.BlifFault.{BlifFault};
+ghost use Rattle.ncl_blif.specs.declared.fault.BlifFault.TheVariants.{Memory as OutOfMemory};
 ghost use Rattle.ncl_blif.specs.declared.model.Model.{Model};
 ghost use Rattle.ncl_blif.specs.Model.{signals_of, IsModel, AreModels};
 ghost use Rattle.ncl_blif.specs.Meaning.{Fits, Computes, width_of};
 ghost use Rattle.ncl_blif.specs.Answer.{IsRead, IsRefused};
+
+/// Each text is read as models, or refused with a fault that isn't want of memory.
+pub fn some_answer()
+    ensures some { (text : List ℕ) → ((models : List Model) × IsRead text models) ⊎ ((fault : BlifFault) × IsRefused text fault) }
+    ensures never_memory { (text : List ℕ) → IsRefused text OutOfMemory → ⊥ }
+{}
 
 /// A text is read as one list of models, or refused with one fault, and not both.
 pub fn one_answer()

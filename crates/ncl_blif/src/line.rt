@@ -1,9 +1,10 @@
 //! The lines of a text, as words.
-ghost use Rattle.std.specs.Prelude.{◌≡◌, ℕ, ◌+◌, ◌^◌, ◌<◌, ◌≤◌, List, ◌∷◌, length, map, IfOk};
+ghost use Rattle.std.specs.Prelude.{◌≡◌, ℕ, ◌+◌, ◌^◌, ◌<◌, ◌≤◌, List, ◌∷◌, ◌++◌, length, map, IfOk};
 ghost use Rattle.std.specs.Str.Lines.{lines};
 ghost use Rattle.ncl_blif.specs.Line.{LineData};
 ghost use Rattle.ncl_blif.specs.Parts.{first_word, is_row};
 ghost use Rattle.ncl_blif.specs.Lines.{lines_of, uncommented, joined, in_words};
+ghost use Rattle.ncl_blif.specs.Counted.{AreCounted};
 
 use crate::piece::{first_piece, without_mark};
 use crate::words::push_words;
@@ -16,21 +17,21 @@ pub const MOST_BYTES: usize = 16_777_216;
 
 /// A line that has words: its number, and the words.
 #[derive(Drop, Debug)]
-pub struct Line<'a> {
+pub struct Line<'t, 'a> {
     number: u32,
-    words: Vec<&'a [u8]>,
+    words: &'t [&'a [u8]],
 }
 
-impl<'a> Model for Line<'a> {
+impl<'t, 'a> Model for Line<'t, 'a> {
     ghost use Rattle.std.specs.Prelude.{map};
     ghost use Rattle.ncl_blif.specs.Line.{LineData};
 
     ghost Value = { LineData };
 
-    ghost view = { λ l. record { number = l.number; words = map (λ word. word.now) l.words.items } };
+    ghost view = { λ l. record { number = l.number; words = map (λ word. word.now) l.words.now } };
 }
 
-impl<'a> Line<'a> {
+impl<'t, 'a> Line<'t, 'a> {
     /// The number of its first part. Lines count from 1.
     pub fn number(&self) -> u32
         ensures { result ≡ self.now.number }
@@ -39,10 +40,10 @@ impl<'a> Line<'a> {
     }
 
     /// Its words, in order.
-    pub fn words(&self) -> &[&'a [u8]]
+    pub fn words(&self) -> &'t [&'a [u8]]
         ensures { map (λ word. word.now) result.now ≡ self.now.words }
     {
-        self.words.as_slice()
+        self.words
     }
 
     /// Its first word, or no bytes where it has no word.
@@ -66,54 +67,90 @@ impl<'a> Line<'a> {
     }
 }
 
-/// The lines of a text that have words, in order.
+/// The number of a line, and how many words it has.
+#[derive(Clone, Copy, Debug)]
+pub(crate) struct Count {
+    number: u32,
+    words: usize,
+}
+
+/// The words of a text, in order, and the count of each line that has words.
 ///
 /// Linear in the text.
-pub fn read_lines(alloc: Global, text: &[u8]) -> Result<Vec<Line<'_>>, Memory>
+pub(crate) fn read_words(alloc: Global, text: &[u8]) -> Result<(Vec<&[u8]>, Vec<Count>), Memory>
     requires { length text.now ≤ MOST_BYTES }
-    ensures { IfOk result (λ lines. lines.items ≡ lines_of text.now) }
+    ensures { IfOk result (λ read. AreCounted (lines_of text.now) (map (λ word. word.now) read.0.items) read.1.items) }
 {
-    let mut lines = Vec::new(alloc);
+    let mut words = Vec::new(alloc);
+    let mut counts = Vec::new(alloc);
     let mut number = 1;
     let mut rest = text;
     while !rest.is_empty() {
-        let (line, next, left) = next_line(alloc, number, rest)?;
-        if !line.words().is_empty() {
-            lines.push(line)?;
+        let before = words.len();
+        let (next, left) = next_line(&mut words, number, rest)?;
+        if words.len() > before {
+            counts.push(Count {
+                number,
+                words: words.len() - before,
+            })?;
         }
         number = next;
         rest = left;
     }
-    Ok(lines)
+    Ok((words, counts))
 }
 
-/// The line that a text begins with, which has this number, the number of the next one, and the rest of
-/// the text after the line.
+/// Puts the words of the line that a text begins with, which has this number, after others. Gives the number
+/// of the next line, and the rest of the text after the line.
 ///
 /// Linear in the line.
 fn next_line<'a>(
-    alloc: Global,
+    words: &mut Vec<&'a [u8]>,
     number: u32,
     text: &'a [u8],
-) -> Result<(Line<'a>, u32, &'a [u8]), Memory>
+) -> Result<(u32, &'a [u8]), Memory>
     requires some { 0 < length text.now }
     requires fits { number + length text.now < 2 ^ 32 }
     ensures { let numbered : ℕ → List ℕ → List LineData = λ n t. map in_words (joined n (map uncommented (lines t))) in
-        IfOk result (λ read. (numbered number text.now ≡ read.0 ∷ numbered read.1 read.2.now)
-        × (read.1 + length read.2.now ≤ number + length text.now) × (length read.2.now < length text.now)) }
+        IfOk result (λ read. (said : List (List ℕ)) × (map (λ word. word.now) words.new.items ≡ map (λ word. word.now) words.old.items ++ said)
+        × (numbered number text.now ≡ record { number = number; words = said } ∷ numbered read.0 read.1.now)
+        × (read.0 + length read.1.now ≤ number + length text.now) × (length read.1.now < length text.now)) }
 {
-    let mut words = Vec::new(alloc);
     let mut next = number;
     let mut rest = text;
     while !rest.is_empty() {
         let (piece, left) = first_piece(rest);
         let (part, is_continued) = without_mark(piece);
-        push_words(&mut words, part)?;
+        push_words(words, part)?;
         next += 1;
         rest = left;
         if !is_continued {
-            return Ok((Line { number, words }, next, rest));
+            return Ok((next, rest));
         }
     }
-    Ok((Line { number, words }, next, rest))
+    Ok((next, rest))
+}
+
+/// The lines that have these words, one line after another, as their counts say.
+///
+/// Linear in the lines.
+pub(crate) fn counted_lines<'t, 'a>(
+    alloc: Global,
+    words: &'t [&'a [u8]],
+    counts: Vec<Count>,
+) -> Result<Vec<Line<'t, 'a>>, Memory>
+    requires { (lines : List LineData) × AreCounted lines (map (λ word. word.now) words.now) counts.items }
+    ensures { (lines : List LineData) → AreCounted lines (map (λ word. word.now) words.now) counts.items → IfOk result (λ made. made.items ≡ lines) }
+{
+    let mut lines = Vec::with_capacity(alloc, counts.len())?;
+    let mut from = 0;
+    for count in counts.as_slice() {
+        let to = from + count.words;
+        lines.push(Line {
+            number: count.number,
+            words: &words[from..to],
+        })?;
+        from = to;
+    }
+    Ok(lines)
 }

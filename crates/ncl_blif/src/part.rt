@@ -11,8 +11,8 @@ use std::marker::Model;
 /// A line that is no row, and the rows that follow it.
 #[derive(Drop, Debug)]
 pub(crate) struct Part<'t, 'a> {
-    head: &'t Line<'a>,
-    rows: &'t [Line<'a>],
+    head: &'t Line<'t, 'a>,
+    rows: &'t [Line<'t, 'a>],
 }
 
 impl<'t, 'a> Model for Part<'t, 'a> {
@@ -25,14 +25,14 @@ impl<'t, 'a> Model for Part<'t, 'a> {
 
 impl<'t, 'a> Part<'t, 'a> {
     /// The line.
-    pub(crate) fn head(&self) -> &'t Line<'a>
+    pub(crate) fn head(&self) -> &'t Line<'t, 'a>
         ensures { result.now ≡ self.now.head }
     {
         self.head
     }
 
     /// The rows, in order.
-    pub(crate) fn rows(&self) -> &'t [Line<'a>]
+    pub(crate) fn rows(&self) -> &'t [Line<'t, 'a>]
         ensures { result.now ≡ self.now.rows }
     {
         self.rows
@@ -44,7 +44,7 @@ impl<'t, 'a> Part<'t, 'a> {
 /// Linear in the lines: each row is looked at twice.
 pub(crate) fn parts<'t, 'a>(
     alloc: Global,
-    lines: &'t [Line<'a>],
+    lines: &'t [Line<'t, 'a>],
 ) -> Result<Vec<Part<'t, 'a>>, Memory>
     ensures { IfOk result (λ parts. parts.items ≡ parts_of lines.now) }
 {
@@ -59,7 +59,7 @@ pub(crate) fn parts<'t, 'a>(
 }
 
 /// The rows that stand before the first line that is none. Linear in these rows.
-fn first_rows<'t, 'a>(lines: &'t [Line<'a>]) -> &'t [Line<'a>]
+fn first_rows<'t, 'a>(lines: &'t [Line<'t, 'a>]) -> &'t [Line<'t, 'a>]
     ensures { result.now ≡ take_while is_row lines.now }
 {
     for (count, line) in lines.iter().enumerate() {

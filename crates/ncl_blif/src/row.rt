@@ -60,7 +60,7 @@ fn read_pattern(alloc: Global, pattern: &[u8]) -> Result<Option<Row>, Memory>
     ensures { IfOk result (λ read. MatchOption read (list_all is_literal pattern.now ≡ false)
         (λ row. (list_all is_literal pattern.now ≡ true) × (row ≡ map lit_of pattern.now))) }
 {
-    let mut lits = Vec::new(alloc);
+    let mut lits = Vec::with_capacity(alloc, pattern.len())?;
     for byte in pattern {
         let Some(lit) = read_lit(*byte) else {
             return Ok(None);

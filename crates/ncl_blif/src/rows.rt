@@ -28,7 +28,7 @@ pub(crate) fn read_rows(
         × (read.0 ≡ map (λ line. lits_of line.words) lines.now) × (read.1 ≡ lists_on lines.now))
         (λ fault. (fault ≡ OutOfMemory) ⊎ (rows_fault head lines.now ≡ Some fault)) }
 {
-    let mut rows = Vec::new(alloc);
+    let mut rows = Vec::with_capacity(alloc, lines.len())?;
     let Some(first) = lines.first() else {
         return Ok((Items::from_vec(rows), true));
     };

@@ -1,5 +1,6 @@
 //! Tests of the reader, on texts and answers that were worked out by hand.
 use crate::fault::BlifFault;
+use crate::line::MOST_BYTES;
 use crate::model::{Cover, Lit, Model};
 use crate::reader::read_blif;
 use std::alloc::{AllocError, Global};
@@ -9,9 +10,16 @@ use std::test::Fail;
 /// The lines that the texts of most tests begin with.
 const HEAD: &str = ".model m\n.inputs a\n.outputs y\n";
 
+/// What `read_blif` answers to a text, which has to be short enough.
+fn read(rt: &(impl Abort + AllocGlobal), text: &str) -> Result<Vec<Model>, BlifFault> {
+    let bytes = text.as_bytes();
+    assert!(rt; bytes.len() <= MOST_BYTES);
+    read_blif(rt.alloc(), bytes)
+}
+
 /// What a text is refused with, if it is refused.
-fn refusal(alloc: Global, text: &str) -> Option<BlifFault> {
-    match read_blif(alloc, text.as_bytes()) {
+fn refusal(rt: &(impl Abort + AllocGlobal), text: &str) -> Option<BlifFault> {
+    match read(rt, text) {
         Ok(_) => None,
         Err(fault) => Some(fault),
     }
@@ -26,7 +34,7 @@ fn try_texts(
     for (rest, wanted) in cases {
         let mut text = String::from_str(rt.alloc(), head)?;
         text.push_str(rest)?;
-        let answer = refusal(rt.alloc(), text.as_str());
+        let answer = refusal(rt, text.as_str());
         assert!(rt; answer == *wanted, "{rest:?}: {answer:?}");
     }
     Ok(())
@@ -37,6 +45,10 @@ fn lines_are_refused(rt: HostRuntime) -> Result<(), Fail> {
     let cases = [
         (".names a y\n1 1\n", None),
         (".latch a y\n", Some(BlifFault::Unsupported(4))),
+        (".subckt inv i=a o=y\n", Some(BlifFault::Unsupported(4))),
+        (".gate inv i=a o=y\n", Some(BlifFault::Unsupported(4))),
+        (".names a y\n.exdc\n", Some(BlifFault::Unsupported(5))),
+        (".conn a y\n", Some(BlifFault::Unsupported(4))),
         ("1 1\n", Some(BlifFault::Syntax(4))),
         (".names a y\n2 1\n", Some(BlifFault::BadRow(5))),
         (".names a y\n1 1\n0 0\n", Some(BlifFault::MixedCover(6))),
@@ -211,7 +223,7 @@ fn all_bits(alloc: Global, model: &Model, word: &[bool]) -> Result<Vec<bool>, Al
 
 #[test]
 fn constants_are_read(rt: HostRuntime) -> Result<(), Fail> {
-    let models = read_blif(rt.alloc(), CONSTANTS.as_bytes())?;
+    let models = read(&rt, CONSTANTS)?;
     assert_eq!(rt; models.len(), 1);
     let model = &models[0];
     assert!(rt;
@@ -229,7 +241,7 @@ fn constants_are_read(rt: HostRuntime) -> Result<(), Fail> {
 
 #[test]
 fn idle_inputs_are_read(rt: HostRuntime) -> Result<(), Fail> {
-    let models = read_blif(rt.alloc(), IDLE.as_bytes())?;
+    let models = read(&rt, IDLE)?;
     assert_eq!(rt; models.len(), 1);
     let model = &models[0];
     assert!(rt; model.outputs.items() == [6, 7].as_slice());
@@ -283,14 +295,14 @@ fn between_loops(alloc: Global, length: u32) -> Result<String, AllocError> {
 
 #[test]
 fn long_texts_take_one_pass(rt: HostRuntime) -> Result<(), Fail> {
-    let models = read_blif(rt.alloc(), chain(rt.alloc(), 16_384)?.as_bytes())?;
+    let models = read(&rt, chain(rt.alloc(), 200_000)?.as_str())?;
     assert_eq!(rt; models.len(), 1);
-    assert!(rt; models[0].covers.items().len() == 16_385);
+    assert!(rt; models[0].covers.items().len() == 200_001);
     let mut rows = String::from_str(rt.alloc(), ".inputs a b\n.outputs y\n.names a b y\n")?;
-    for _row in 0..100_000u32 {
+    for _row in 0..1_000_000u32 {
         rows.push_str("1- 1\n")?;
     }
-    let models = read_blif(rt.alloc(), rows.as_bytes())?;
+    let models = read(&rt, rows.as_str())?;
     assert_eq!(rt; models.len(), 1);
     assert!(rt; models[0].covers.items().len() == 1);
     Ok(())
@@ -298,9 +310,9 @@ fn long_texts_take_one_pass(rt: HostRuntime) -> Result<(), Fail> {
 
 #[test]
 fn no_text_makes_the_first_cycle_slow(rt: HostRuntime) -> Result<(), Fail> {
-    let text = between_loops(rt.alloc(), 20_000)?;
-    let answer = refusal(rt.alloc(), text.as_str());
-    // The chain takes lines 3 to 20,003. A search from each of its covers would take 200,000,000 turns.
-    assert!(rt; answer == Some(BlifFault::Cycle(20_004)));
+    let text = between_loops(rt.alloc(), 200_000)?;
+    let answer = refusal(&rt, text.as_str());
+    // The chain takes lines 3 to 200,003. A search from each of its covers would take 20,000,000,000 turns.
+    assert!(rt; answer == Some(BlifFault::Cycle(200_004)));
     Ok(())
 }

@@ -3,7 +3,7 @@
 use crate::draft::{Draft, drafts};
 use crate::draft_cover::DraftCover;
 use crate::fault::BlifFault;
-use crate::line::{Line, MOST_BYTES, read_lines};
+use crate::line::{Line, MOST_BYTES, counted_lines, read_words};
 use crate::model::Lit;
 use std::alloc::Global;
 use std::process::Abort;
@@ -36,7 +36,8 @@ fn has_words(rt: &impl Abort, line: &Line, words: &[&[u8]]) {
 #[test]
 fn lines(rt: HostRuntime) -> Result<(), Fail> {
     assert!(rt; TEXT.len() <= MOST_BYTES);
-    let lines = read_lines(rt.alloc(), TEXT)?;
+    let (words, counts) = read_words(rt.alloc(), TEXT)?;
+    let lines = counted_lines(rt.alloc(), &words, counts)?;
     assert_eq!(rt; lines.len(), LINES.len());
     for (line, (number, words)) in lines.iter().zip(&LINES) {
         assert_eq!(rt; line.number(), *number);

@@ -1,46 +1,37 @@
 -- The covers of a model in an order in which each stands after those that it reads.
-use Rattle.std.proofs.Common.{◌≡◌, ◌≢◌, ℕ, zero, suc, ◌+◌, ◌<◌, ◌≤◌, ◌^◌, true, false, cond, ◌==◌, nat_lt, List, [], ◌∷◌, ◌++◌, length, map, get_or, take, drop, Option, Some, None, refl, sym, ap, ◌∙◌, subst, arith, ⊎_elim, zero-add}
+use Rattle.std.proofs.Common.{◌≡◌, ◌≢◌, ℕ, zero, suc, ◌+◌, ◌<◌, ◌≤◌, ◌^◌, true, false, cond, ◌==◌, nat_lt, List, [], ◌∷◌, length, map, get_or, take, drop, Option, Some, None, refl, sym, ap, ◌∙◌, subst, arith, ⊎_elim, zero-add}
 use Rattle.std.specs.Prelude.{All, AllPairs, Contains, IsSome, IfSome, sum, sum_by, slice_get, slice_set}
 use Rattle.std.specs.List.{filter_map}
 use Rattle.std.proofs.lemmas.Bool.{eqb-true, eq-eqb, ltb-true, lt-ltb}
-use Rattle.std.proofs.lemmas.List.{length-take, take-append-drop, drop_more, length-map, get_or-map, get_or_default, get_or-set_other, length-set}
+use Rattle.std.proofs.lemmas.List.{length-take, length-map, get_or-map, get_or_default, get_or-set_other, length-set}
 use Rattle.std.proofs.lemmas.List.FromFn.{get_or-range_with_len, get_or-map-range_with_len}
 use Rattle.std.proofs.lemmas.List.Elements.{All-nil, All-head, All-tail, Contains-append_cases}
 use Rattle.std.proofs.lemmas.List.Sums.{sum_by-cons, sum_by-set, sum-map}
 use Rattle.std.proofs.lemmas.Option.{slice_get-get_or}
 use Rattle.ncl_graph.specs.Graph.{successors, IsOnCycle, IsOrder}
-use Rattle.ncl_blif.specs.Model.{IsModel, signals_of, size_of_model, size_of_rows}
+use Rattle.ncl_base.proofs.Growing.{Contains-filter_map_of, cut_at, length-le-sum_by, position_from-found}
+use Rattle.ncl_graph.proofs.Ranking.{leads_within}
+use Rattle.ncl_blif.specs.Model.{IsModel, signals_of, size_of_model, weight_of_rows}
 use Rattle.ncl_blif.specs.Dependence.{driver_place, dependency_graph}
-use Rattle.ncl_blif.specs.declared.model.Lit.{Lit}
 use Rattle.ncl_blif.specs.declared.model.Cover.{Cover}
 use Rattle.ncl_blif.specs.declared.model.Model.{Model}
-use Rattle.ncl_blif.proofs.DependenceLaws.{position_from-passes, position_from-found, Contains-filter_map_of, Depends-from_Leads}
-use Rattle.ncl_blif.proofs.FinishLaws.{leads_within}
+use Rattle.ncl_blif.proofs.DependenceLaws.{position_from-passes, Depends-from_Leads}
 use Rattle.ncl_network.specs.declared.network.Signal.{Signal}
 use Rattle.ncl_network.specs.declared.network.Node.{Node}
-use Rattle.ncl_network.specs.Network.{signal_value, weight_of_rows, weight_of_model, IsSource, IsNode}
+use Rattle.ncl_network.specs.Network.{signal_value, weight_of_model, IsSource, IsNode}
 use Rattle.ncl_network.specs.Walk.{input_signal, weight_at, IsWalked}
 
 -- ---- how much there is
 
-at_least_one : (f : Cover → ℕ) → ((cover : Cover) → 1 ≤ f cover) → (covers : List Cover) → length covers ≤ sum_by f covers
-at_least_one f one [] = omega arith
-at_least_one f one (cover ∷ covers) = omega (arith, sum_by-cons f cover covers, one cover, at_least_one f one covers)
-
 -- a model has no more covers than its size
 pub covers_few : (model : Model) → length model.covers ≤ size_of_model model
 covers_few model =
-    omega (arith, at_least_one (λ cover. 1 + length cover.ins + size_of_rows cover.rows) (λ cover. omega arith) model.covers)
+    omega (arith, length-le-sum_by (λ cover. 1 + length cover.ins + weight_of_rows cover.rows) (λ cover. omega arith) model.covers)
 
-same_weight : (rows : List (List Lit)) → weight_of_rows rows ≡ size_of_rows rows
-same_weight [] = refl
-same_weight (row ∷ rows) =
-    omega (arith, sum_by-cons (λ row. length row + 1) row rows, sum_by-cons (λ row. 1 + length row) row rows, same_weight rows)
-
-covers_weight : (covers : List Cover) → sum_by (λ cover. weight_of_rows cover.rows) covers ≤ sum_by (λ cover. 1 + length cover.ins + size_of_rows cover.rows) covers
+covers_weight : (covers : List Cover) → sum_by (λ cover. weight_of_rows cover.rows) covers ≤ sum_by (λ cover. 1 + length cover.ins + weight_of_rows cover.rows) covers
 covers_weight [] = omega arith
 covers_weight (cover ∷ covers) =
-    omega (arith, sum_by-cons (λ cover. weight_of_rows cover.rows) cover covers, sum_by-cons (λ cover. 1 + length cover.ins + size_of_rows cover.rows) cover covers, same_weight cover.rows, covers_weight covers)
+    omega (arith, sum_by-cons (λ cover. weight_of_rows cover.rows) cover covers, sum_by-cons (λ cover. 1 + length cover.ins + weight_of_rows cover.rows) cover covers, covers_weight covers)
 
 -- its rows weigh no more
 pub weight_small : (model : Model) → weight_of_model model ≤ size_of_model model
@@ -169,17 +160,13 @@ IsWalked-none model known fine is = record {
 
 -- ---- a turn of the walk
 
--- a list is what stands before a place, what stands there, and the rest
-pub split_at : (xs : List ℕ) (i : ℕ) → i < length xs → xs ≡ take i xs ++ get_or xs i 0 ∷ drop (i + 1) xs
-split_at xs i within = sym (take-append-drop i xs) ∙ ap (λ l. take i xs ++ l) (drop_more xs i 0 within)
-
 module _ (model : Model) (fine : IsModel model) (order : List ℕ) (ordered : IsOrder (dependency_graph model.covers) order) (i : ℕ) (turn : i < length order) where
   pub turn_within : get_or order i 0 < length model.covers
   turn_within = places-order model order ordered i 0 turn
 
   pub turn_ready : (known : ℕ → Option Signal) (nodes : List Node) (cover : Cover) → cover ≡ get_or model.covers (get_or order i 0) cover → IsWalked model known nodes (take i order) → All (λ name. IsSome (known name)) cover.ins
   turn_ready known nodes cover at walked =
-      ready model known nodes (take i order) (get_or order i 0) cover fine (ordered.after (take i order) (get_or order i 0) (drop (i + 1) order) (split_at order i turn)) turn_within (sym at) walked
+      ready model known nodes (take i order) (get_or order i 0) cover fine (ordered.after (take i order) (get_or order i 0) (drop (i + 1) order) (cut_at order i 0 turn)) turn_within (sym at) walked
 
   pub turn_few : (known : ℕ → Option Signal) (nodes : List Node) → IsWalked model known nodes (take i order) → length nodes < 2 ^ 32
   turn_few known nodes walked =

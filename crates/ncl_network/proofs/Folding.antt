@@ -11,7 +11,8 @@ use Rattle.ncl_blif.specs.declared.model.Lit.{Lit}
 use Rattle.ncl_blif.specs.declared.model.Lit.TheVariants.{Dash}
 use Rattle.ncl_network.specs.declared.network.From3.TheVariants.{Const}
 use Rattle.ncl_network.specs.declared.network.Signal.{Signal}
-use Rattle.ncl_network.specs.Network.{signal_value, is_constant, is_dash, weight_of_rows}
+use Rattle.ncl_blif.specs.Model.{weight_of_rows}
+use Rattle.ncl_network.specs.Network.{signal_value, is_constant, is_dash}
 use Rattle.ncl_network.specs.Fold.{select, is_live, is_asked, kept_columns, two_level}
 use Rattle.ncl_network.proofs.Selecting.{get_or-test, select-map, length-select, length-select-le, All-select, All-select-test, sum_by-select-le}
 use Rattle.ncl_network.proofs.LiveRows.{constant_value, live_matches, live_are_live, not_asked, live_here, dash_matches, row_matches-select}
@@ -40,7 +41,7 @@ kept_widths mask live signals rows widths =
 -- no more weighs what is left of rows
 pub kept_weight : (mask live : List Bool) (rows : List (List Lit)) → weight_of_rows (map (select mask) (select live rows)) ≤ weight_of_rows rows
 kept_weight mask live rows =
-    sum_by-select-le (λ row. length row + 1) (λ row. length row + 1) (select mask) (λ row. let less = length-select-le mask row in omega arith) live rows
+    sum_by-select-le (λ row. 1 + length row) (λ row. 1 + length row) (select mask) (λ row. let less = length-select-le mask row in omega arith) live rows
 
 agree : {X Y : Type 0} (p : X → Bool) (q : Y → Bool) (h : X → Y) (xs : List X) → All (λ x. p x ≡ q (h x)) xs → list_any p xs ≡ list_any q (map h xs)
 agree p q h [] same = refl

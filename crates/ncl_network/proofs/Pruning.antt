@@ -7,13 +7,13 @@ use Rattle.std.proofs.lemmas.List.{get_or_default, length-map, get_or-map, get_o
 use Rattle.std.proofs.lemmas.List.Elements.{All-head, All-tail, All-map, All-weaker}
 use Rattle.std.proofs.lemmas.Option.{slice_get-map}
 use Rattle.ncl_blif.specs.Meaning.{cover_value}
-use Rattle.ncl_blif.specs.Model.{most_size}
+use Rattle.ncl_blif.specs.Model.{most_size, weight_of_rows}
 use Rattle.ncl_network.specs.declared.network.From3.{From3}
 use Rattle.ncl_network.specs.declared.network.From3.TheVariants.{Input, Node as FromNode, Const}
 use Rattle.ncl_network.specs.declared.network.Signal.{Signal}
 use Rattle.ncl_network.specs.declared.network.Node.{Node}
 use Rattle.ncl_network.specs.declared.network.Network.{Network}
-use Rattle.ncl_network.specs.Network.{source_value, signal_value, node_value, node_values, answer_of, weight_of_rows, weight_of_network, is_constant, IsSource, ReadBefore, ReachesOutput, output, reader, IsNode, IsNetwork}
+use Rattle.ncl_network.specs.Network.{source_value, signal_value, node_value, node_values, answer_of, weight_of_network, is_constant, IsSource, ReadBefore, ReachesOutput, output, reader, IsNode, IsNetwork}
 use Rattle.ncl_network.specs.Fold.{select}
 use Rattle.ncl_network.specs.Prune.{IsInOrder, IsMarked, is_read, is_kept, new_place, moved_source, moved_signal, moved_node}
 use Rattle.ncl_network.proofs.Selecting.{All-select, sum_by-select-le}

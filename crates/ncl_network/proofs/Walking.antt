@@ -17,7 +17,8 @@ use Rattle.ncl_network.specs.declared.network.Signal.{Signal}
 use Rattle.ncl_network.specs.declared.network.Node.{Node}
 use Rattle.ncl_network.specs.declared.fold.Folded.{Folded}
 use Rattle.ncl_network.specs.declared.fold.Folded.TheVariants.{Signal as IntoSignal, Node as IntoNode}
-use Rattle.ncl_network.specs.Network.{source_value, signal_value, node_value, node_values, weight_of_rows, IsSource, ReadBefore, IsNode}
+use Rattle.ncl_blif.specs.Model.{weight_of_rows}
+use Rattle.ncl_network.specs.Network.{source_value, signal_value, node_value, node_values, IsSource, ReadBefore, IsNode}
 use Rattle.ncl_network.specs.Fold.{folded_value, IsFolded, HasSources, weight_of_folded}
 use Rattle.ncl_network.specs.Walk.{nodes_with, signal_with, weight_at, IsWalked}
 

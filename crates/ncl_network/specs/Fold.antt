@@ -7,7 +7,8 @@ use Rattle.ncl_blif.specs.declared.model.Lit.TheVariants.{Zero, One, Dash}
 use Rattle.ncl_network.specs.declared.network.Signal.{Signal}
 use Rattle.ncl_network.specs.declared.fold.Folded.{Folded}
 use Rattle.ncl_network.specs.declared.fold.Folded.TheVariants.{Signal as IntoSignal, Node as IntoNode}
-use Rattle.ncl_network.specs.Network.{signal_value, node_value, is_constant, is_dash, weight_of_rows, IsSource, IsNode}
+use Rattle.ncl_blif.specs.Model.{weight_of_rows}
+use Rattle.ncl_network.specs.Network.{signal_value, node_value, is_constant, is_dash, IsSource, IsNode}
 
 -- the items that a mask keeps
 abbrev pub select : {X : Type 0} → List Bool → List X → List X

@@ -2,7 +2,7 @@
 use Rattle.std.specs.Prelude.{◌≡◌, ℕ, ◌+◌, ◌<◌, ◌≤◌, List, [], ◌∷◌, ◌++◌, Bool, true, false, not, if◌then◌else◌, length, map, sum_by, All, Contains, slice_get, Some}
 use Rattle.std.specs.List.{slice_index_or, list_all}
 use Rattle.ncl_blif.specs.Meaning.{cover_value}
-use Rattle.ncl_blif.specs.Model.{most_size}
+use Rattle.ncl_blif.specs.Model.{most_size, weight_of_rows}
 use Rattle.ncl_blif.specs.declared.model.Lit.{Lit}
 use Rattle.ncl_blif.specs.declared.model.Lit.TheVariants.{Zero, One, Dash}
 use Rattle.ncl_blif.specs.declared.model.Model.{Model}
@@ -36,10 +36,7 @@ node_values word bits (node ∷ rest) = node_values word (bits ++ node_value wor
 abbrev pub answer_of : Network → List Bool → List Bool
 answer_of network word = map (signal_value word (node_values word [] network.nodes)) network.outputs
 
--- the weight of rows: their literals, and one for each row
-abbrev pub weight_of_rows : List (List Lit) → ℕ
-weight_of_rows rows = sum_by (λ row. length row + 1) rows
-
+-- the weight of a network, and that of a model: that of their rows
 abbrev pub weight_of_network : Network → ℕ
 weight_of_network network = sum_by (λ node. weight_of_rows node.rows) network.nodes
 

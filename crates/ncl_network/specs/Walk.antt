@@ -9,7 +9,8 @@ use Rattle.ncl_network.specs.declared.network.Signal.{Signal}
 use Rattle.ncl_network.specs.declared.network.Node.{Node}
 use Rattle.ncl_network.specs.declared.fold.Folded.{Folded}
 use Rattle.ncl_network.specs.declared.fold.Folded.TheVariants.{Signal as IntoSignal, Node as IntoNode}
-use Rattle.ncl_network.specs.Network.{signal_value, node_values, weight_of_rows, IsSource, ReadBefore, IsNode}
+use Rattle.ncl_blif.specs.Model.{weight_of_rows}
+use Rattle.ncl_network.specs.Network.{signal_value, node_values, IsSource, ReadBefore, IsNode}
 
 -- the signal of an input
 abbrev pub input_signal : ℕ → Signal

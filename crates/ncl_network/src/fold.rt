@@ -2,7 +2,8 @@
 ghost use Rattle.std.specs.Prelude.{◌≡◌, ◌≤◌, ◌<◌, ℕ, List, [], ◌∷◌, Bool, false, map, not, if◌then◌else◌, IfOk, length, All};
 ghost use Rattle.std.specs.List.{list_all, list_any, slice_index_or};
 ghost use Rattle.ncl_blif.specs.Meaning.{cover_value};
-ghost use Rattle.ncl_network.specs.Network.{is_dash, is_constant, signal_value, weight_of_rows, IsSource};
+ghost use Rattle.ncl_blif.specs.Model.{weight_of_rows};
+ghost use Rattle.ncl_network.specs.Network.{is_dash, is_constant, signal_value, IsSource};
 ghost use Rattle.ncl_network.specs.Fold.{two_level, folded_value, weight_of_folded, IsFolded, HasSources, is_one, is_zero};
 
 use crate::columns::kept_columns;

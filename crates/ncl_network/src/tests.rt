@@ -1,13 +1,15 @@
 //! Tests of the folding, by texts, words and answers that were worked out by hand.
 use super::*;
-use ncl_blif::{Lit, Row, read_blif};
+use ncl_blif::{Lit, MOST_BYTES, Row, read_blif};
 use std::alloc::AllocError;
 use std::process::Abort;
 use std::test::Fail;
 
 /// The network that the one model of a text folds into.
 fn network(rt: &(impl Abort + AllocGlobal), text: &str) -> Result<Network, Fail> {
-    let models = read_blif(rt.alloc(), text.as_bytes())?;
+    let bytes = text.as_bytes();
+    assert!(rt; bytes.len() <= MOST_BYTES);
+    let models = read_blif(rt.alloc(), bytes)?;
     assert!(rt; models.len() == 1);
     Ok(reduce(rt.alloc(), &models[0])?)
 }
@@ -173,15 +175,15 @@ fn covers_become_nodes(rt: HostRuntime) -> Result<(), Fail> {
 fn a_long_chain_is_folded(rt: HostRuntime) -> Result<(), Fail> {
     // Each cover is the AND of the input and the next cover, and the last is an OR of the inputs.
     let mut text = String::from_str(rt.alloc(), ".inputs a b\n.outputs s0\n")?;
-    for place in 0..16_383 {
+    for place in 0..199_999 {
         let next = place + 1;
         write!(text, ".names a s{next} s{place}\n11 1\n")?;
     }
-    text.push_str(".names a b s16383\n1- 1\n-1 1\n")?;
+    text.push_str(".names a b s199999\n1- 1\n-1 1\n")?;
     try_text(
         &rt,
         text.as_str(),
-        16_384,
+        200_000,
         &[("10", "1"), ("11", "1"), ("01", "0"), ("00", "0")],
     )
 }
@@ -190,7 +192,7 @@ fn a_long_chain_is_folded(rt: HostRuntime) -> Result<(), Fail> {
 fn many_rows_are_folded(rt: HostRuntime) -> Result<(), Fail> {
     // Each row asks for the first input, and every second for the second one too.
     let mut text = String::from_str(rt.alloc(), ".inputs a b c\n.outputs y\n.names a b c y\n")?;
-    for _ in 0..50_000 {
+    for _ in 0..500_000 {
         text.push_str("1-- 0\n11- 0\n")?;
     }
     try_text(

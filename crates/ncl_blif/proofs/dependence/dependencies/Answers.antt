@@ -4,8 +4,7 @@ use Rattle.std.specs.Ordering.{nat_cmp}
 use Rattle.std.specs.BTreeMap.{get}
 use Rattle.std.proofs.lemmas.List.{take_all}
 use Rattle.ncl_graph.specs.Graph.{IsGraph}
-use Rattle.ncl_blif.specs.Dependence.{driver_place, dependency_graph}
-use Rattle.ncl_blif.proofs.Growing.{filter_map-agree, map-agree}
+use Rattle.ncl_blif.specs.Dependence.{dependency_graph}
 use Rattle.ncl_blif.proofs.DependenceLaws.{IsGraph-dependency_graph}
 use Rattle.ncl_blif.proofs.dependence.dependencies.Goals as goal
 
@@ -15,7 +14,7 @@ made c =
     let driver = get nat_cmp c.in_ok-places.places in
     c.from_vec.ensures ∙ c.loop-cover.invariant
     ∙ ap (map (λ cover. filter_map driver cover.ins)) (take_all c.loop-cover.cover-index covers c.loop-cover-test.false)
-    ∙ map-agree _ _ (λ cover. filter_map-agree driver (driver_place covers) c.in_ok-places.ensures cover.ins) covers
+    ∙ (λ i. map (λ cover. filter_map (λ signal. c.in_ok-places.ensures signal i) cover.ins) covers)
 
 pub new-requires : goal.new-requires
 new-requires c = subst IsGraph (sym (made c)) (IsGraph-dependency_graph c.args.covers.now c.requires)

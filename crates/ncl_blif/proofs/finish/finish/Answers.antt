@@ -27,4 +27,4 @@ pub returns-in-Some-2-clause-refused : goal.returns-in-Some-2-clause-refused
 returns-in-Some-2-clause-refused c =
     let some : 0 < length c.outputs.result.now = above_zero _ (sym c.is_empty.ensures ∙ c.if-is_empty.false) in
     let bits : HasBits c.args.draft.now = (omega arith, omega (arith, ap length c.outputs.ensures)) in
-    inr (cycle c.in-Some-2.line bits (sym c.in_default.ensures) (rw c.in-Some-2.is at c.in_ok-line.ensures.line))
+    inr (cycle c.in-Some-2.line bits (sym c.in_default.ensures) (rw c.in-Some-2.is at c.in_ok-line.ensures))

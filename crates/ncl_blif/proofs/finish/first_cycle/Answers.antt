@@ -10,13 +10,13 @@ bounds-covers-place c =
     let found = rw c.in-Some.is at c.in_ok-place.ensures in
     subst (λ xs. c.in-Some.place < length xs) (sym c.covers-covers.ensures.covers) (cycle_within c.args.draft.now _ is c.in-Some.place found.0)
 
-pub returns-in_default-clause-line : goal.returns-in_default-clause-line
-returns-in_default-clause-line c =
+pub returns-in_default : goal.returns-in_default
+returns-in_default c =
     let is = graph_is c.args.draft.now _ c.items.result.now c.args.model.now c.in_ok-dependencies.ensures c.items.ensures c.requires.numbered in
     none_cyclic c.args.draft.now (twins_differ _ c.covers-covers.ensures.one_driver) _ is (rw c.in_default.is at c.in_ok-place.ensures)
 
-pub returns-clause-line : goal.returns-clause-line
-returns-clause-line c =
+pub returns : goal.returns
+returns c =
     let is = graph_is c.args.draft.now _ c.items.result.now c.args.model.now c.in_ok-dependencies.ensures c.items.ensures c.requires.numbered in
     let found = rw c.in-Some.is at c.in_ok-place.ensures in
     let cover = c.index-covers-place.result in

@@ -1,8 +1,9 @@
 use Rattle.std.proofs.Common.{◌≡◌, List, ℕ, Bool, Bor, false, not, map, ap, ◌∙◌, sym, rules}
 use Rattle.std.specs.List.{list_any}
 use Rattle.std.proofs.lemmas.Simd.{map-map}
+use Rattle.std.proofs.lemmas.Bool.{not-false}
 use Rattle.ncl_blif.specs.Numbered.{is_driven, number_of}
-use Rattle.ncl_blif.proofs.Anys.{list_any-map, each_fails, not_false}
+use Rattle.ncl_blif.proofs.Anys.{list_any-map, each_fails}
 use Rattle.ncl_blif.proofs.finish.numbered.Goals as goal
 
 pub numbers_in-requires : goal.numbers_in-requires
@@ -10,7 +11,7 @@ numbers_in-requires c = λ k d within.
     let undriven : List ℕ → Bool = λ name. not (is_driven c.args.draft.now name) in
     let none : list_any (λ (name : Bor (List ℕ)). undriven name.now) c.ins.result.now ≡ false =
     sym (list_any-map undriven (λ (name : Bor (List ℕ)). name.now) c.ins.result.now) ∙ ap (list_any undriven) c.ins.ensures ∙ c.requires.reads in
-    not_false _ (each_fails (λ (name : Bor (List ℕ)). undriven name.now) c.ins.result.now none k d within)
+    not-false _ (each_fails (λ (name : Bor (List ℕ)). undriven name.now) c.ins.result.now none k d within)
 
 pub returns : goal.returns
 returns c =

@@ -1,6 +1,6 @@
 use Rattle.std.proofs.Common.{ℕ, List, Bor}
 use Rattle.ncl_blif.specs.Numbered.{number_of}
-use Rattle.ncl_blif.proofs.Growing.{map_push}
+use Rattle.ncl_base.proofs.Growing.{map_push}
 use Rattle.ncl_blif.proofs.finish.numbers_in.Goals as goal
 
 pub loop-signal-preserved : goal.loop-signal-preserved

@@ -1,9 +1,10 @@
-use Rattle.std.proofs.Common.{length, map}
+use Rattle.std.proofs.Common.{◌≡◌, ℕ, ◌++◌, List, length, map}
 use Rattle.ncl_blif.proofs.TextLines.{IsBegun}
 use Rattle.ncl_blif.proofs.line.next_line.Given as goal
 
 abbrev pub invariant-loop-rest : goal.invariant-loop-rest
-invariant-loop-rest l = IsBegun l.number l.text (map (λ word. word.now) l.words.items) l.next l.rest
+invariant-loop-rest l =
+    (said : List (List ℕ)) × (map (λ word. word.now) l.words.items ≡ map (λ word. word.now) l.initial.words.items ++ said) × IsBegun l.number l.text said l.next l.rest
 
 abbrev pub decreases-loop-rest : goal.decreases-loop-rest
 decreases-loop-rest l = length l.rest

@@ -1,7 +1,5 @@
-use Rattle.std.proofs.Common.{◌≡◌, false, map, take}
+use Rattle.std.proofs.Common.{◌≡◌, map, take}
 use Rattle.std.specs.Prelude.{All}
-use Rattle.ncl_blif.specs.LineFaults.{has_twins}
-use Rattle.ncl_blif.specs.Named.{drivers_of}
 use Rattle.ncl_blif.specs.Numbered.{numbered_model}
 use Rattle.ncl_blif.specs.Answer.{IsFaultless}
 use Rattle.ncl_blif.proofs.reader.finish_all.Given as goal
@@ -10,6 +8,5 @@ use Rattle.ncl_blif.proofs.reader.finish_all.Given as goal
 abbrev pub invariant-loop-place : goal.invariant-loop-place
 invariant-loop-place l = record {
   faultless : All IsFaultless (take l.place l.drafts);
-  one_driver : All (λ draft. has_twins (drivers_of draft) ≡ false) (take l.place l.drafts);
   read : l.models.items ≡ map numbered_model (take l.place l.drafts);
 }

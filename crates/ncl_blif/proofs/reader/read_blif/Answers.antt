@@ -1,9 +1,8 @@
-use Rattle.std.proofs.Common.{◌≡◌, false, ◌<◌, length, get_or, map, inl, inr, ⊎_elim, sym, ap, ◌∙◌, subst, arith}
+use Rattle.std.proofs.Common.{◌<◌, length, get_or, map, inl, inr, ⊎_elim, sym, ap, ◌∙◌, subst, arith}
 use Rattle.std.specs.Prelude.{All}
-use Rattle.ncl_blif.specs.LineFaults.{has_twins}
 use Rattle.std.proofs.lemmas.Result.{err_from_is_err_and}
 use Rattle.std.proofs.lemmas.List.Sums.{sum_by_more_le}
-use Rattle.ncl_blif.specs.Named.{NamedModel, drivers_of, size_of_named}
+use Rattle.ncl_blif.specs.Named.{size_of_named}
 use Rattle.ncl_blif.specs.Numbered.{numbered_model}
 use Rattle.ncl_blif.specs.Model.{AreModels}
 use Rattle.ncl_blif.specs.Answer.{models_said, IsFaultless, IsFirstModelFault, unjoined_model, line, model, width}
@@ -69,6 +68,5 @@ returns-clause-models c =
     let is = c.deref.ensures.value ∙ c.in_ok-drafts.ensures.1 in
     let again = c.deref-2.ensures.value ∙ c.in_ok-drafts.ensures.1 in
     let models = AreModels-said text (omega arith) c.in_ok-drafts.ensures.0 (subst (All IsFaultless) is c.in_ok-models.ensures.faultless)
-    (subst (All (λ (m : NamedModel). has_twins (drivers_of m) ≡ false)) is c.in_ok-models.ensures.one_driver)
     (ap (unjoined_model 1) (sym again) ∙ sym c.in_default.ensures) in
     subst AreModels (sym (c.in_ok-models.ensures.read ∙ ap (map numbered_model) is)) models

@@ -5,7 +5,7 @@ use Rattle.ncl_blif.proofs.rows.read_rows.Goals as goal
 
 pub returns-in_err-row : goal.returns-in_err-row
 returns-in_err-row c = λ head names count.
-    let p = err_from_is_err_and c.from_residual.result c.from_residual.ensures.1 in
+    let p = err_from_is_err_and c.from_residual-in_err-row.result c.from_residual-in_err-row.ensures.1 in
     rw (p.1, p.2) (⊎_elim (λ memory. inl memory)
     (λ bad. inr (rows_fault-is head _ _ names count ∙ read-bad _ _ _ _ _ c.line-item.result c.loop-line.invariant (omega arith) c.line-item.is bad.0 ∙ ap Some (sym bad.1)))
     c.in_err-row.ensures)

@@ -3,7 +3,8 @@ use Rattle.std.specs.Prelude.{All}
 use Rattle.std.proofs.lemmas.Bool.{eqb-false}
 use Rattle.ncl_blif.specs.declared.model.Lit.{Lit}
 use Rattle.ncl_network.specs.declared.network.Signal.{Signal}
-use Rattle.ncl_network.specs.Network.{signal_value, is_constant, IsSource, weight_of_rows}
+use Rattle.ncl_blif.specs.Model.{weight_of_rows}
+use Rattle.ncl_network.specs.Network.{signal_value, is_constant, IsSource}
 use Rattle.ncl_network.specs.Fold.{select, kept_columns, two_level}
 use Rattle.ncl_network.proofs.Selecting.{All-select}
 use Rattle.ncl_network.proofs.Folding.{live_of, kept_of, length-kept, kept_no_constant, kept_widths, kept_weight, folded_rows}

@@ -3,7 +3,8 @@ use Rattle.std.specs.Prelude.{All}
 use Rattle.std.specs.Ordering.{nat_cmp}
 use Rattle.std.specs.BTreeMap.{get}
 use Rattle.ncl_blif.specs.Meaning.{cover_value}
-use Rattle.ncl_network.specs.Network.{signal_value, weight_of_rows, IsSource}
+use Rattle.ncl_blif.specs.Model.{weight_of_rows}
+use Rattle.ncl_network.specs.Network.{signal_value, IsSource}
 use Rattle.ncl_network.specs.Fold.{weight_of_folded}
 use Rattle.ncl_network.specs.Walk.{IsWalked}
 use Rattle.ncl_network.proofs.Walking.{FoldsInto, IsWalked-more}

@@ -1,0 +1,46 @@
+-- Where no line is broken, no signal of a model has two drivers.
+use Rattle.std.proofs.Common.{◌≡◌, Bool, true, false, not, cond, List, [], ◌∷◌, ◌++◌, map, Some, None, refl, sym, ap, ◌∙◌, append_assoc}
+use Rattle.std.specs.Prelude.{All}
+use Rattle.std.specs.List.{flat_map, AllByRecursion}
+use Rattle.std.proofs.lemmas.List.{append-nil}
+use Rattle.std.proofs.lemmas.List.Elements.{All-from_recursion}
+use Rattle.ncl_blif.specs.declared.fault.BlifFault.{BlifFault}
+use Rattle.ncl_blif.specs.Line.{LineData}
+use Rattle.ncl_blif.specs.Parts.{PartData, is_row, is_command, parts_of, sections_of}
+use Rattle.ncl_blif.specs.Named.{NamedModel, drivers_of, named_model}
+use Rattle.ncl_blif.specs.LineFaults.{has_twins, signals_driven, is_malformed, head_fault, rows_fault, part_fault, first_part_fault, first_section_fault, first_line_fault}
+use Rattle.ncl_blif.proofs.RowsFit.{both_missing, fails_then}
+use Rattle.ncl_blif.proofs.PartSteps.{named-same}
+
+-- no signal of a model has two drivers
+abbrev pub OneDriver : NamedModel → Type 0
+OneDriver m = has_twins (drivers_of m) ≡ false
+
+not_true : (b : Bool) (fault : BlifFault) → cond b (Some fault) None ≡ None → b ≡ false
+not_true true fault h = absurd cc
+not_true false fault h = refl
+
+head_once : (before : List PartData) (part : PartData) → head_fault before part ≡ None → has_twins (flat_map signals_driven (before ++ part ∷ [])) ≡ false
+head_once before part h =
+    not_true _ _ (fails_then (is_malformed before part.head) _ _ (fails_then (not (is_command part.head)) _ _ h))
+
+parts_once : (before parts : List PartData) → has_twins (flat_map signals_driven before) ≡ false → first_part_fault before parts ≡ None → has_twins (flat_map signals_driven (before ++ parts)) ≡ false
+parts_once before [] once h = ap (λ ps. has_twins (flat_map signals_driven ps)) (append-nil before) ∙ once
+parts_once before (part ∷ parts) once h =
+    let (here, later) = both_missing (part_fault before part) (first_part_fault (before ++ part ∷ []) parts) h in
+    let head = (both_missing (head_fault before part) (rows_fault part.head part.rows) here).0 in
+    ap (λ ps. has_twins (flat_map signals_driven ps)) (sym (append_assoc before (part ∷ []) parts))
+    ∙ parts_once (before ++ part ∷ []) parts (head_once before part head) later
+
+sections_once : (sections : List (List PartData)) → first_section_fault sections ≡ None → AllByRecursion OneDriver (map named_model sections)
+sections_once [] h = tt
+sections_once (section ∷ sections) h =
+    let (here, later) = both_missing (first_part_fault [] section) (first_section_fault sections) h in
+    (sym (named-same section).twins ∙ parts_once [] section refl here, sections_once sections later)
+
+-- where no line is broken, no signal of a model has two drivers
+pub one_driver_each : (lines : List LineData) → first_line_fault lines ≡ None → All OneDriver (map named_model (sections_of (parts_of lines)))
+one_driver_each [] h = absurd cc
+one_driver_each (first ∷ others) h =
+    let sections = sections_of (parts_of (first ∷ others)) in
+    All-from_recursion OneDriver (map named_model sections) (sections_once sections (fails_then (is_row first) _ _ h))

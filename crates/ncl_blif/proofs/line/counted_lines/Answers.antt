@@ -1,0 +1,39 @@
+use Rattle.std.proofs.Common.{◌≡◌, ◌+◌, ◌-◌, ◌++◌, ◌∷◌, [], map, take, drop, get_or, sym, ap, ◌∙◌, subst, arith}
+use Rattle.std.proofs.lemmas.List.{length-map, take-map, drop-map}
+use Rattle.ncl_blif.specs.Counted.{AreCounted}
+use Rattle.ncl_blif.proofs.Counted.{AreCut, cut-none, cut-fits, cut-more, cut-all, one_counted}
+use Rattle.ncl_blif.proofs.line.counted_lines.Goals as goal
+
+pub loop-count-init : goal.loop-count-init
+loop-count-init c =
+    let (lines, counted) = c.requires in
+    rw (c.as_slice-count-items.ensures.value, c.in_ok-lines.ensures.items) (cut-none _ _ lines counted)
+
+pub overflow_add-to : goal.overflow_add-to
+overflow_add-to c =
+    let fits = cut-fits _ _ _ _ _ (record { number = 0; words = 0 }) c.loop-count.invariant c.loop-count-test.true in
+    omega (arith, fits, length-map c.args.words.now (λ word. word.now))
+
+pub slice_bounds-push-end : goal.slice_bounds-push-end
+slice_bounds-push-end c =
+    let fits = cut-fits _ _ _ _ _ (record { number = 0; words = 0 }) c.loop-count.invariant c.loop-count-test.true in
+    omega (arith, fits, length-map c.args.words.now (λ word. word.now))
+
+pub loop-count-preserved : goal.loop-count-preserved
+loop-count-preserved c =
+    let words = map (λ word. word.now) c.args.words.now in
+    let counts = c.as_slice-count-items.result.now in
+    let count = get_or counts c.loop-count.count-index (record { number = 0; words = 0 }) in
+    let span : c.loop-count.from + count.words - c.loop-count.from ≡ count.words = omega arith in
+    let own : map (λ word. word.now) (take (c.loop-count.from + count.words - c.loop-count.from) (drop c.loop-count.from c.args.words.now)) ≡ take count.words (drop c.loop-count.from words) =
+    ap (λ n. map (λ word. word.now) (take n (drop c.loop-count.from c.args.words.now))) span
+    ∙ sym (take-map (λ word. word.now) count.words (drop c.loop-count.from c.args.words.now)) ∙ sym (ap (take count.words) (drop-map (λ word. word.now) c.loop-count.from c.args.words.now)) in
+    let pushed : c.push.new.self.items ≡ c.loop-count.lines.items ++ record { number = count.number; words = take count.words (drop c.loop-count.from words) } ∷ [] = c.in_ok-push.ensures.items ∙ ap (λ ws. c.loop-count.lines.items ++ record { number = count.number; words = ws } ∷ []) own in
+    subst (AreCut words counts (c.loop-count.count-index + 1) (c.loop-count.from + count.words)) (sym pushed)
+    (cut-more words counts c.loop-count.count-index c.loop-count.from c.loop-count.lines.items (record { number = 0; words = 0 }) c.loop-count.invariant c.loop-count-test.true)
+
+pub returns : goal.returns
+returns c lines counted =
+    let words = map (λ word. word.now) c.args.words.now in
+    let all = subst (AreCounted c.loop-count.lines.items words) c.as_slice-count-items.ensures.value (cut-all words c.as_slice-count-items.result.now _ _ _ c.loop-count.invariant c.loop-count-test.false) in
+    one_counted c.loop-count.lines.items lines words c.args.counts.items all counted

@@ -1,0 +1,6 @@
+use Rattle.std.proofs.Common.{map}
+use Rattle.ncl_blif.proofs.Counted.{AreCut}
+use Rattle.ncl_blif.proofs.line.counted_lines.Given as goal
+
+abbrev pub invariant-loop-count : goal.invariant-loop-count
+invariant-loop-count l = AreCut (map (λ word. word.now) l.words) l.count-items l.count-index l.from l.lines.items

@@ -1,44 +1,21 @@
 -- The nets of a stage differ: a rail is no output of a cell, and two cells have two outputs.
-use Rattle.std.proofs.Common.{◌≡◌, ◌≢◌, ℕ, suc, Bool, true, false, List, [], ◌∷◌, ◌++◌, map, ◌⊎◌, inl, inr, refl, sym, subst, arith}
+use Rattle.std.proofs.Common.{◌≡◌, ◌≢◌, ℕ, Bool, true, false, List, [], ◌∷◌, ◌++◌, map, inl, inr, refl, sym, subst}
 use Rattle.std.specs.Prelude.{AllPairs, nat_eq}
 use Rattle.std.proofs.lemmas.Bool.{or_cases, both_ways, eqb-true}
 use Rattle.ncl_shape.specs.declared.rails.Rails.{Rails}
 use Rattle.ncl_shape.specs.Nets.{among}
 use Rattle.ncl_shape.specs.Stage.{rail_nets, rail_of, named_rails}
-use Rattle.ncl_base.proofs.Members.{Member, here, there, Contains-from_Member}
-
-pairs_rest : {X : Type 0} (R : X → X → Type 0) (x : X) (xs : List X) → AllPairs R (x ∷ xs) → AllPairs R xs
-pairs_rest R x xs pairs i j d before within = pairs (suc i) (suc j) d (omega arith) (omega arith)
-
-pairs_first : {X : Type 0} (R : X → X → Type 0) (x : X) (xs : List X) → AllPairs R (x ∷ xs) → (y : X) → Member y xs → R x y
-pairs_first R x xs pairs y m =
-    let (k, within, at) = Contains-from_Member y m in
-    subst (R x) at (pairs 0 (suc k) y (omega arith) (omega arith))
-
-pub Member-append_right : {X : Type 0} (xs : List X) {ys : List X} (y : X) → Member y ys → Member y (xs ++ ys)
-Member-append_right [] y m = m
-Member-append_right (x ∷ xs) y m = there (Member-append_right xs y m)
-
-pub Member-append_left : {X : Type 0} (x : X) {xs : List X} (ys : List X) → Member x xs → Member x (xs ++ ys)
-Member-append_left x ys (here {xs = xs}) = here
-Member-append_left x ys (there m) = there (Member-append_left x ys m)
-
-pub Member-map : {X Y : Type 0} (f : X → Y) (x : X) {xs : List X} → Member x xs → Member (f x) (map f xs)
-Member-map f x here = here
-Member-map f x (there m) = there (Member-map f x m)
-
-pub member_cases : {X : Type 0} (x y : X) (xs : List X) → Member x (y ∷ xs) → (y ≡ x) ⊎ Member x xs
-member_cases x y xs here = inl refl
-member_cases x y xs (there m) = inr m
+use Rattle.ncl_base.proofs.Members.{Member, here, there, member_cases, Member-append_left, Member-append_right, Member-map}
+use Rattle.ncl_base.proofs.Lists.{pairs-head, pairs-tail}
 
 -- where all of two lists joined differ, nothing stands in both
 pub parts-differ : {X : Type 0} (x : X) {xs : List X} (ys : List X) → AllPairs (λ a b. a ≢ b) (xs ++ ys) → Member x xs → Member x ys → ⊥
-parts-differ x ys differ (here {xs = xs}) m = pairs_first (λ a b. a ≢ b) x (xs ++ ys) differ x (Member-append_right xs x m) refl
-parts-differ x ys differ (there {y = y} {xs = xs} n) m = parts-differ x ys (pairs_rest (λ a b. a ≢ b) y (xs ++ ys) differ) n m
+parts-differ x ys differ (here {xs = xs}) m = pairs-head (λ a b. a ≢ b) x (xs ++ ys) differ x (Member-append_right xs x m) refl
+parts-differ x ys differ (there {y = y} {xs = xs} n) m = parts-differ x ys (pairs-tail (λ a b. a ≢ b) y (xs ++ ys) differ) n m
 
 pub right-differ : {X : Type 0} (xs ys : List X) → AllPairs (λ a b. a ≢ b) (xs ++ ys) → AllPairs (λ a b. a ≢ b) ys
 right-differ [] ys differ = differ
-right-differ (x ∷ xs) ys differ = right-differ xs ys (pairs_rest (λ a b. a ≢ b) x (xs ++ ys) differ)
+right-differ (x ∷ xs) ys differ = right-differ xs ys (pairs-tail (λ a b. a ≢ b) x (xs ++ ys) differ)
 
 -- where the values of a function at a list differ, members with one value are one
 pub same_from_value : {X Y : Type 0} (f : X → Y) (xs : List X) → AllPairs (λ a b. a ≢ b) (map f xs) → (x y : X) → Member x xs → Member y xs → f x ≡ f y → x ≡ y
@@ -48,12 +25,12 @@ same_from_value f (z ∷ xs) differ x y m n e =
       | inl zx ↦
           elim (member_cases y z xs n) [
             | inl zy ↦ cc
-            | inr rest ↦ absurd (pairs_first (λ a b. a ≢ b) (f z) (map f xs) differ (f y) (Member-map f y rest) (let k : f z ≡ f y = cc in k))
+            | inr rest ↦ absurd (pairs-head (λ a b. a ≢ b) (f z) (map f xs) differ (f y) (Member-map f y rest) (let k : f z ≡ f y = cc in k))
           ]
       | inr some ↦
           elim (member_cases y z xs n) [
-            | inl zy ↦ absurd (pairs_first (λ a b. a ≢ b) (f z) (map f xs) differ (f x) (Member-map f x some) (let k : f z ≡ f x = cc in k))
-            | inr rest ↦ same_from_value f xs (pairs_rest (λ a b. a ≢ b) (f z) (map f xs) differ) x y some rest e
+            | inl zy ↦ absurd (pairs-head (λ a b. a ≢ b) (f z) (map f xs) differ (f x) (Member-map f x some) (let k : f z ≡ f x = cc in k))
+            | inr rest ↦ same_from_value f xs (pairs-tail (λ a b. a ≢ b) (f z) (map f xs) differ) x y some rest e
           ]
     ]
 

@@ -4,3 +4,4 @@ pub mod ValueLaws
 pub mod OnePass
 pub mod StageTest
 pub mod ExampleLaws
+pub mod Reordered

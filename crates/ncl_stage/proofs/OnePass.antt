@@ -12,12 +12,11 @@ use Rattle.ncl_shape.specs.declared.stage.StageCell.{StageCell}
 use Rattle.ncl_shape.specs.Nets.{Nets, among, put}
 use Rattle.ncl_shape.specs.Stage.{StageData, IsStage, rail_nets, nets_of, out_of}
 use Rattle.ncl_shape.specs.Closure.{pin_values}
-use Rattle.ncl_base.proofs.Members.{Member, here, list_any-from_member, member_from_list_any, Member-from_Contains}
+use Rattle.ncl_base.proofs.Members.{Member, here, list_any-from_member, member_from_list_any, Member-from_Contains, Member-append_right}
 use Rattle.ncl_shape.proofs.Rounds.{same_from_both}
 use Rattle.ncl_stage.specs.declared.variant.Variant.{Variant}
 use Rattle.ncl_stage.specs.Values.{kept_low, rises, start, val}
 use Rattle.ncl_stage.specs.Pass.{pass}
-use Rattle.ncl_stage.proofs.Apart.{Member-append_right}
 use Rattle.ncl_stage.proofs.ValueLaws.{val-keeps, val-rail, val-output, val-within, start-within}
 
 -- the values where some cells have been evaluated: those of the rails and of the outputs of these cells,

@@ -6,13 +6,13 @@ use Rattle.std.proofs.lemmas.Bool.{and_parts, and_from, false_from_ne_true}
 use Rattle.ncl_shape.specs.declared.stage.StageCell.{StageCell}
 use Rattle.ncl_shape.specs.Nets.{Nets, IsBelow, among}
 use Rattle.ncl_shape.specs.Stage.{StageData, IsStage, named_rails, rail_nets, nets_of, out_of}
-use Rattle.ncl_base.proofs.Members.{Member, All-from_members, Contains-from_Member}
+use Rattle.ncl_base.proofs.Members.{Member, All-from_members, Contains-from_Member, Member-map, Member-append_left, Member-append_right}
 use Rattle.ncl_shape.proofs.Rounds.{IsMonotone, same_from_both, rounds-below, rounds-keep, rounds-support, rounds-settled}
 use Rattle.ncl_shape.proofs.ClosureLaws.{set_of-grows, below_at}
 use Rattle.ncl_stage.specs.declared.variant.Variant.{Variant}
 use Rattle.ncl_stage.specs.declared.variant.Variant.TheVariants.{Base}
 use Rattle.ncl_stage.specs.Values.{holds, kept_low, rises, start, val}
-use Rattle.ncl_stage.proofs.Apart.{parts-differ, right-differ, same_from_value, named-within, Member-map, Member-append_left, Member-append_right}
+use Rattle.ncl_stage.proofs.Apart.{parts-differ, right-differ, same_from_value, named-within}
 
 -- a set function holds where more is high
 pub holds-grows : (v w : Nets) → IsBelow v w → (c : StageCell) → holds v c ≡ true → holds w c ≡ true

@@ -3,8 +3,7 @@ use Rattle.std.proofs.Common.{◌≡◌, Bool, false, cond, List, [], ◌∷◌,
 use Rattle.std.specs.Prelude.{unwrap_or}
 use Rattle.std.specs.List.{find}
 use Rattle.std.proofs.lemmas.Bool.{cases_Bool}
-use Rattle.ncl_base.proofs.Members.{Member, here, there}
-use Rattle.ncl_stage.proofs.Apart.{Member-map, member_cases}
+use Rattle.ncl_base.proofs.Members.{Member, here, there, Member-map, member_cases}
 use Rattle.ncl_verdict.specs.declared.verdict.Verdict.{Verdict}
 use Rattle.ncl_verdict.specs.declared.verdict.Verdict.TheVariants as verdict
 use Rattle.ncl_verdict.specs.Judgement.{first_of}

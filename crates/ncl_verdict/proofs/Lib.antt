@@ -2,3 +2,5 @@ pub mod Computed
 pub mod Firsts
 pub mod Places
 pub mod Sound
+pub mod FileOrder
+pub mod SameJudgement

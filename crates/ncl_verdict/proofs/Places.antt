@@ -3,8 +3,7 @@ use Rattle.std.proofs.Common.{◌≡◌, ℕ, zero, suc, ◌+◌, ◌<◌, ◌�
 use Rattle.std.specs.Prelude.{nat_lt, if◌then◌else◌, slice_get}
 use Rattle.std.specs.List.{range_with_len}
 use Rattle.std.proofs.lemmas.Bool.{cases_eq}
-use Rattle.ncl_base.proofs.Members.{Member, here, there}
-use Rattle.ncl_stage.proofs.Apart.{member_cases, Member-map, Member-append_left, Member-append_right}
+use Rattle.ncl_base.proofs.Members.{Member, here, there, member_cases, Member-map, Member-append_left, Member-append_right}
 use Rattle.ncl_diagram.specs.Table.{words}
 use Rattle.ncl_verdict.specs.Judgement.{below, inserted, ordered_by}
 

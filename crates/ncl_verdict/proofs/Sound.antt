@@ -5,14 +5,13 @@ use Rattle.std.specs.List.{flat_map}
 use Rattle.ncl_shape.specs.declared.rails.Rails.{Rails}
 use Rattle.ncl_shape.specs.declared.stage.StageCell.{StageCell}
 use Rattle.ncl_shape.specs.Stage.{StageData}
-use Rattle.ncl_base.proofs.Members.{Member, here, there, All-from_members}
+use Rattle.ncl_base.proofs.Members.{Member, here, there, All-from_members, member_cases, Member-map, Member-append_left, Member-append_right}
 use Rattle.ncl_diagram.specs.Table.{words}
 use Rattle.ncl_stage.specs.declared.variant.Variant.{Variant}
 use Rattle.ncl_stage.specs.declared.variant.Variant.TheVariants.{Base, Bit, Cell}
 use Rattle.ncl_stage.specs.Values.{val}
 use Rattle.ncl_stage.specs.Faults.{StageFault, BothRails, NoRail, Incomplete, Orphan, shows, holds_at, is_illegal, has_data, all_data, IsSound, IsWordOf}
 use Rattle.ncl_stage.specs.Tables.{count}
-use Rattle.ncl_stage.proofs.Apart.{member_cases, Member-map, Member-append_left, Member-append_right}
 use Rattle.ncl_verdict.specs.declared.verdict.Verdict.{Verdict}
 use Rattle.ncl_verdict.specs.declared.verdict.Verdict.TheVariants as verdict
 use Rattle.ncl_verdict.specs.Judgement.{Bound, Nodes, TenBits, stopped_at, verdict_of, below, file_number, file_order, variants, faults_of, least_word, found, first_of, at_variant, of_stage, judgement}

@@ -12,10 +12,10 @@ use Rattle.ncl_shape.specs.declared.stage.StageCell.{StageCell}
 use Rattle.ncl_shape.specs.Nets.{Nets, among}
 use Rattle.ncl_shape.specs.Stage.{StageData, IsStage, named_rails, rail_nets, rail_of, nets_of, out_of}
 use Rattle.ncl_shape.specs.Closure.{pin_values}
-use Rattle.ncl_base.proofs.Members.{Member, here, there, All-from_members, Contains-from_Member, Member-from_Contains, Member-get_or, member_from_list_any}
+use Rattle.ncl_base.proofs.Members.{Member, here, there, All-from_members, Contains-from_Member, Member-from_Contains, Member-get_or, member_from_list_any, Member-append_left, Member-append_right, Member-map}
 use Rattle.ncl_stage.specs.declared.variant.Variant.{Variant}
 use Rattle.ncl_stage.specs.Values.{kept_low, rises, val}
-use Rattle.ncl_stage.proofs.Apart.{Member-append_left, Member-append_right, Member-map, named-within}
+use Rattle.ncl_stage.proofs.Apart.{named-within}
 use Rattle.ncl_stage.proofs.ValueLaws.{val-output, val-rail}
 use Rattle.ncl_stage.proofs.OnePass.{among-from_member}
 use Rattle.nclc.specs.Evaluation.{value_in, nets_of_stage, HasNetsBelow, AgreeAt}

@@ -1,0 +1,77 @@
+-- The values and the count of a stage do not depend on the order in which its cells are listed.
+use Rattle.std.proofs.Common.{◌≡◌, ℕ, zero, suc, Bool, ◌||◌, ◌&&◌, List, [], ◌∷◌, ◌++◌, map, length, Option, None, Some, refl, sym, ap, ◌∙◌, subst}
+use Rattle.std.proofs.Math.Path.{fun_ext}
+use Rattle.std.specs.Prelude.{slice_get, nat_eq}
+use Rattle.std.specs.List.Sorted.{IsPermutation}
+use Rattle.std.proofs.lemmas.List.Sorted.{list_any-IsPermutation, length_permutation, IsPermutation-map, IsPermutation-append, IsPermutation-append_left, IsPermutation-append_right}
+use Rattle.ncl_shape.specs.declared.stage.StageCell.{StageCell}
+use Rattle.ncl_shape.specs.Nets.{Nets, round, rounds}
+use Rattle.ncl_shape.specs.Stage.{StageData, rail_nets, nets_of, out_of}
+use Rattle.ncl_diagram.specs.Table.{words, table_of}
+use Rattle.ncl_diagram.proofs.BeadLaws.{bead_count-permuted}
+use Rattle.ncl_stage.specs.declared.variant.Variant.{Variant}
+use Rattle.ncl_stage.specs.declared.variant.Variant.TheVariants.{Base, Bit, Cell}
+use Rattle.ncl_stage.specs.Values.{kept_low, output_net, rises, start, val}
+use Rattle.ncl_stage.specs.Tables.{ValuesAt, net_functions, data_functions, data_fronts, all_data_function, orphan_function, question_functions, functions_of, tables_of, count}
+
+-- as many rounds over the same cells in another order
+rounds-permuted : {C : Type 0} (out : C → ℕ) (raises : Nets → C → Bool) (xs ys : List C) → IsPermutation xs ys → (n : ℕ) (v : Nets) → rounds out raises xs n v ≡ rounds out raises ys n v
+rounds-permuted out raises xs ys moved zero v = refl
+rounds-permuted out raises xs ys moved (suc n) v =
+    ap (round out raises xs) (rounds-permuted out raises xs ys moved n v)
+    ∙ fun_ext (λ net. ap (λ b. rounds out raises ys n v net || b) (list_any-IsPermutation (λ cell. nat_eq (out cell) net && raises (rounds out raises ys n v) cell) xs ys moved))
+
+-- the stage with other cells
+abbrev pub with_cells : StageData → List StageCell → StageData
+with_cells s cells = record s { cells = cells }
+
+-- variants of two stages that keep the same low: those of cells are of places at which one cell stands
+pub data IsSameVariant (s t : StageData) : Variant → Variant → Type 0 where
+  base : IsSameVariant s t Base Base
+  bit : (b : ℕ) → IsSameVariant s t (Bit b) (Bit b)
+  cell : (i j : ℕ) → slice_get s.cells i ≡ slice_get t.cells j → IsSameVariant s t (Cell i) (Cell j)
+
+module _ (s : StageData) (ys : List StageCell) (moved : IsPermutation s.cells ys) where
+  abbrev t : StageData
+  t = with_cells s ys
+
+  same_low : (x y : Variant) → IsSameVariant s t x y → kept_low s x ≡ kept_low t y
+  same_low x y base = refl
+  same_low x y (bit b) = refl
+  same_low x y (cell i j same) = ap output_net same
+
+  pub same_values : (x y : Variant) → IsSameVariant s t x y → (word : List Bool) → val s word x ≡ val t word y
+  same_values x y same word =
+      rounds-permuted out_of (rises (kept_low s x)) s.cells ys moved (length s.cells) (start s (kept_low s x) word)
+      ∙ ap (λ n. rounds out_of (rises (kept_low s x)) ys n (start s (kept_low s x) word)) (sym (length_permutation s.cells ys moved))
+      ∙ ap (λ low. rounds out_of (rises low) ys (length ys) (start s low word)) (same_low x y same)
+
+  same_orphan : (o : Option StageCell) (v : ValuesAt) → orphan_function s o v ≡ orphan_function t o v
+  same_orphan None v = refl
+  same_orphan (Some c) v = ap (λ (values : ValuesAt). (λ word. values word c.out.0 && all_data_function s v word) ∷ []) (fun_ext (same_values Base Base base))
+
+  same_questions : (x y : Variant) → IsSameVariant s t x y → (v : ValuesAt) → question_functions s x v ≡ question_functions t y v
+  same_questions x y base v = refl
+  same_questions x y (bit b) v = refl
+  same_questions x y (cell i j same) v = same_orphan (slice_get s.cells i) v ∙ ap (λ o. orphan_function t o v) same
+
+  -- the functions of a variant, but for their order
+  functions-permuted : (x y : Variant) → IsSameVariant s t x y → IsPermutation (functions_of s x) (functions_of t y)
+  functions-permuted x y same =
+      let v : ValuesAt = λ word. val s word x in
+      let values : v ≡ (λ word. val t word y) = fun_ext (same_values x y same) in
+      let nets = IsPermutation-map (λ net. λ word. v word net) (nets_of s.inputs s.cells) (nets_of s.inputs ys)
+      (IsPermutation-append_right (rail_nets s.inputs) (map out_of s.cells) (map out_of ys) (IsPermutation-map out_of s.cells ys moved)) in
+      let with_data = IsPermutation-append_left (data_functions s v) (net_functions s v) (net_functions t v) nets in
+      let with_fronts = IsPermutation-append_left (data_fronts s v) (net_functions s v ++ data_functions s v) (net_functions t v ++ data_functions s v) with_data in
+      subst (λ (w : ValuesAt). IsPermutation (functions_of s x) (net_functions t w ++ data_functions s w ++ data_fronts s w ++ question_functions t y w)) values
+      (subst (λ questions. IsPermutation (functions_of s x) (net_functions t v ++ data_functions s v ++ data_fronts s v ++ questions)) (same_questions x y same v)
+      (IsPermutation-append_left (question_functions s x v) (net_functions s v ++ data_functions s v ++ data_fronts s v) (net_functions t v ++ data_functions s v ++ data_fronts s v) with_fronts))
+
+  tables-permuted : (x y : Variant) → IsSameVariant s t x y → IsPermutation (tables_of s x) (tables_of t y)
+  tables-permuted x y same = IsPermutation-map (table_of (words (length s.inputs))) (functions_of s x) (functions_of t y) (functions-permuted x y same)
+
+  pub same_count : (x y : Variant) → IsSameVariant s t x y → count s x ≡ count t y
+  same_count x y same =
+      bead_count-permuted (length s.inputs) (tables_of s Base ++ tables_of s x) (tables_of t Base ++ tables_of t y)
+      (IsPermutation-append (tables_of s Base) (tables_of t Base) (tables_of s x) (tables_of t y) (tables-permuted Base Base base) (tables-permuted x y same))

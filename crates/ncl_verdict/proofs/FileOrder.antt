@@ -1,0 +1,149 @@
+-- The cells of a stage in the order of the file: each once, whatever the order in which the stage lists them.
+use Rattle.std.proofs.Common.{◌≡◌, ◌≢◌, ℕ, zero, suc, ◌+◌, ◌<◌, Bool, true, false, List, [], ◌∷◌, length, map, get_or, Option, Some, ◌⊎◌, inl, inr, refl, sym, ap, ◌∙◌, subst, arith}
+use Rattle.std.specs.Prelude.{slice_get, nat_lt, if◌then◌else◌}
+use Rattle.std.specs.List.{range_with_len}
+use Rattle.std.specs.List.Sorted.{IsPermutation}
+use Rattle.std.proofs.lemmas.Bool.{ltb-true, ltb-false}
+use Rattle.std.proofs.lemmas.List.FromFn.{length-range_with_len, get_or-range_with_len}
+use Rattle.std.proofs.lemmas.List.Kept.{AllPairs-cons}
+use Rattle.std.proofs.lemmas.List.Sorted.{Contains-permutation, IsPermutation-sym}
+use Rattle.std.proofs.lemmas.Option.{slice_get-get_or, slice_get_within}
+use Rattle.ncl_gates.specs.declared.kind.Kind.TheVariants.{Th12}
+use Rattle.ncl_shape.specs.declared.stage.StageCell.{StageCell}
+use Rattle.ncl_shape.specs.Stage.{StageData, IsStage}
+use Rattle.ncl_base.proofs.Members.{Member, here, there, member_cases, Member-map, member_of_map, All-from_members, Contains-from_Member, Member-from_Contains, Contains-from_slice_get, slice_get-from_Contains, slice_get-some}
+use Rattle.ncl_base.proofs.Lists.{HasKeys, AreIncreasing, Differ, pairs-head, pairs-tail, differ_of_map, same_increasing}
+use Rattle.ncl_stage.proofs.Apart.{same_from_value}
+use Rattle.ncl_verdict.specs.Judgement.{below, cell_number, file_number, file_order, inserted, ordered_by}
+use Rattle.ncl_verdict.proofs.Places.{Member-below, Member-ordered_by}
+
+-- ordering adds no place
+inserted-members : (key : ℕ → ℕ) (place : ℕ) (places : List ℕ) (k : ℕ) → Member k (inserted key place places) → (place ≡ k) ⊎ Member k places
+inserted-members key place [] k m = elim (member_cases k place [] m) [ inl own ↦ inl own | inr n ↦ elim n [ ] ]
+inserted-members key place (other ∷ places) k m = by_test (nat_lt (key place) (key other)) (inserted-members key place places k) m
+  where
+    by_test : (b : Bool) → (Member k (inserted key place places) → (place ≡ k) ⊎ Member k places) → Member k (if b then place ∷ other ∷ places else other ∷ inserted key place places) → (place ≡ k) ⊎ Member k (other ∷ places)
+    by_test true later n = member_cases k place (other ∷ places) n
+    by_test false later n =
+        elim (member_cases k other (inserted key place places) n) [
+          | inl first ↦ inr (subst (λ x. Member k (x ∷ places)) (sym first) here)
+          | inr rest ↦ elim (later rest) [ inl own ↦ inl own | inr old ↦ inr (there old) ]
+        ]
+
+ordered_by-members : (key : ℕ → ℕ) (places : List ℕ) (k : ℕ) → Member k (ordered_by key places) → Member k places
+ordered_by-members key [] k m = elim m [ ]
+ordered_by-members key (place ∷ places) k m =
+    elim (inserted-members key place (ordered_by key places) k m) [
+      | inl own ↦ subst (λ x. Member k (x ∷ places)) (sym own) here
+      | inr n ↦ there (ordered_by-members key places k n)
+    ]
+
+-- places whose keys differ come into increasing order
+inserted-increasing : (key : ℕ → ℕ) (place : ℕ) (places : List ℕ) → AreIncreasing key places → ((k : ℕ) → Member k places → key place ≢ key k) → AreIncreasing key (inserted key place places)
+inserted-increasing key place [] up apart = λ i j d before within. absurd (omega (arith, before, within))
+inserted-increasing key place (other ∷ places) up apart =
+    by_test (nat_lt (key place) (key other)) refl (inserted-increasing key place places (pairs-tail (λ x y. key x < key y) other places up) (λ k m. apart k (there m)))
+  where
+    by_test : (b : Bool) → nat_lt (key place) (key other) ≡ b → AreIncreasing key (inserted key place places) → AreIncreasing key (if b then place ∷ other ∷ places else other ∷ inserted key place places)
+    by_test true is later =
+        let less : key place < key other = ltb-true (key place) (key other) is in
+        AllPairs-cons (λ x y. key x < key y) place (other ∷ places) (All-from_members (λ y. key place < key y) (other ∷ places) (λ y m.
+        elim (member_cases y other places m) [
+          | inl first ↦ subst (λ x. key place < key x) first less
+          | inr n ↦ let more = pairs-head (λ x y. key x < key y) other places up y n in omega (arith, less, more)
+        ])) up
+    by_test false is later =
+        let least = ltb-false (key place) (key other) is in
+        let other_key = apart other here in
+        AllPairs-cons (λ x y. key x < key y) other (inserted key place places) (All-from_members (λ y. key other < key y) (inserted key place places) (λ y m.
+        elim (inserted-members key place places y m) [
+          | inl own ↦ subst (λ x. key other < key x) own (omega (arith, least, other_key))
+          | inr n ↦ pairs-head (λ x y. key x < key y) other places up y n
+        ])) later
+
+ordered_by-increasing : (key : ℕ → ℕ) (places : List ℕ) → Differ key places → AreIncreasing key (ordered_by key places)
+ordered_by-increasing key [] differ = λ i j d before within. absurd (omega (arith, before, within))
+ordered_by-increasing key (place ∷ places) differ =
+    inserted-increasing key place (ordered_by key places) (ordered_by-increasing key places (pairs-tail (λ x y. key x ≢ key y) place places differ))
+    (λ k m. pairs-head (λ x y. key x ≢ key y) place places differ k (ordered_by-members key places k m))
+
+range-members : (from count k : ℕ) → Member k (range_with_len from count) → k < from + count
+range-members from zero k m = elim m [ ]
+range-members from (suc count) k m =
+    elim (member_cases k from (range_with_len (from + 1) count) m) [
+      | inl own ↦ omega arith
+      | inr n ↦ let later = range-members (from + 1) count k n in omega (arith, later)
+    ]
+
+-- the places in the order of the file are those of the stage's cells
+pub file_order-within : (s : StageData) (k : ℕ) → Member k (file_order s) → k < length s.cells
+file_order-within s k m = let lt = range-members 0 (length s.cells) k (ordered_by-members (file_number s) (below (length s.cells)) k m) in omega (arith, lt)
+
+pub Member-file_order : (s : StageData) (k : ℕ) → k < length s.cells → Member k (file_order s)
+Member-file_order s k lt = Member-ordered_by (file_number s) (below (length s.cells)) k (Member-below (length s.cells) k lt)
+
+file_number-at : (s : StageData) (k : ℕ) (d : StageCell) → k < length s.cells → file_number s k ≡ (get_or s.cells k d).cell.0
+file_number-at s k d lt = ap (λ c. (cell_number c).0) (slice_get-get_or s.cells k d lt)
+
+-- cells at different places have different numbers
+numbers_apart : (s : StageData) → IsStage s → (i j : ℕ) → i < j → j < length s.cells → file_number s i ≢ file_number s j
+numbers_apart s is i j less within same =
+    let d : StageCell = record { cell = record { 0 = 0 }; kind = Th12; ins = record { items = [] }; out = record { 0 = 0 } } in
+    is.cells_differ i j d less within (sym (file_number-at s i d (omega arith)) ∙ same ∙ file_number-at s j d within)
+
+pub file_order-increasing : (s : StageData) → IsStage s → AreIncreasing (file_number s) (file_order s)
+file_order-increasing s is =
+    ordered_by-increasing (file_number s) (below (length s.cells)) (λ i j d before within same.
+    let count = length-range_with_len 0 (length s.cells) in
+    let inside : j < length s.cells = omega (arith, within, count) in
+    let first : get_or (below (length s.cells)) i d ≡ i = let at = get_or-range_with_len 0 (length s.cells) i d (omega (arith, before, inside)) in omega (arith, at) in
+    let second : get_or (below (length s.cells)) j d ≡ j = let at = get_or-range_with_len 0 (length s.cells) j d inside in omega (arith, at) in
+    numbers_apart s is i j before inside (ap (file_number s) (sym first) ∙ same ∙ ap (file_number s) second))
+
+-- ---- the cells themselves
+-- the cells in the order of the file
+abbrev pub cells_in_order : StageData → List (Option StageCell)
+cells_in_order s = map (slice_get s.cells) (file_order s)
+
+abbrev number_of : Option StageCell → ℕ
+number_of o = (cell_number o).0
+
+increasing_of_map : {X Y : Type 0} (f : X → Y) (key : Y → ℕ) (xs : List X) → AreIncreasing (λ x. key (f x)) xs → AreIncreasing key (map f xs)
+increasing_of_map f key [] up = λ i j d before within. absurd (omega (arith, before, within))
+increasing_of_map f key (x ∷ xs) up =
+    AllPairs-cons (λ a b. key a < key b) (f x) (map f xs)
+    (All-from_members (λ b. key (f x) < key b) (map f xs) (λ b m.
+    let (y, n, e) = member_of_map f xs b m in
+    subst (λ z. key (f x) < key z) e (pairs-head (λ x y. key (f x) < key (f y)) x xs up y n)))
+    (increasing_of_map f key xs (pairs-tail (λ x y. key (f x) < key (f y)) x xs up))
+
+ordered-from : (s : StageData) (o : Option StageCell) → Member o (cells_in_order s) → (c : StageCell) × (o ≡ Some c) × Member c s.cells
+ordered-from s o m =
+    let (k, in_order, at) = member_of_map (slice_get s.cells) (file_order s) o m in
+    let (c, at_c) = slice_get-some s.cells k (file_order-within s k in_order) in
+    (c, sym at ∙ at_c, Member-from_Contains s.cells c (Contains-from_slice_get s.cells k c at_c))
+
+ordered-has : (s : StageData) (c : StageCell) (k : ℕ) → slice_get s.cells k ≡ Some c → k < length s.cells → Member (Some c) (cells_in_order s)
+ordered-has s c k at lt = subst (λ o. Member o (cells_in_order s)) at (Member-map (slice_get s.cells) k (Member-file_order s k lt))
+
+-- stages with the same cells have them in the same order
+pub same_cells_in_order : (s t : StageData) → IsStage s → IsStage t → IsPermutation s.cells t.cells → cells_in_order s ≡ cells_in_order t
+same_cells_in_order s t is_s is_t moved =
+    same_increasing number_of (cells_in_order s) (cells_in_order t)
+    (increasing_of_map (slice_get s.cells) number_of (file_order s) (file_order-increasing s is_s))
+    (increasing_of_map (slice_get t.cells) number_of (file_order t) (file_order-increasing t is_t))
+    (keys s t moved) (keys t s (IsPermutation-sym s.cells t.cells moved)) one
+  where
+    keys : (s t : StageData) → IsPermutation s.cells t.cells → HasKeys number_of (cells_in_order s) (cells_in_order t)
+    keys s t moved o m =
+        let (c, is_c, in_s) = ordered-from s o m in
+        let (k, at) = slice_get-from_Contains t.cells c (Contains-permutation s.cells t.cells c moved (Contains-from_Member c in_s)) in
+        (Some c, ordered-has t c k at (slice_get_within t.cells k c at), ap number_of is_c)
+
+    one : (x y : Option StageCell) → Member x (cells_in_order s) → Member y (cells_in_order t) → number_of x ≡ number_of y → x ≡ y
+    one x y in_s in_t same =
+        let (c, is_c, c_in) = ordered-from s x in_s in
+        let (d, is_d, d_in) = ordered-from t y in_t in
+        let d_too = Member-from_Contains s.cells d (Contains-permutation t.cells s.cells d (IsPermutation-sym s.cells t.cells moved) (Contains-from_Member d d_in)) in
+        let numbers : c.cell.0 ≡ d.cell.0 = sym (ap number_of is_c) ∙ same ∙ ap number_of is_d in
+        is_c ∙ ap Some (same_from_value (λ (x : StageCell). x.cell.0) s.cells (differ_of_map (λ (x : StageCell). x.cell.0) s.cells is_s.cells_differ) c d c_in d_too numbers) ∙ sym is_d

@@ -1,8 +1,8 @@
 -- Tests of cells that compute: what holds of each cell of a written netlist that passes a test holds of each
 -- cell that is so.
-use Rattle.std.proofs.Common.{◌≡◌, ℕ, Bool, true, false, ◌&&◌, Option, None, Some, refl, ap, subst, ◌∙◌}
+use Rattle.std.proofs.Common.{◌≡◌, ℕ, Bool, true, false, Option, None, Some, refl, ap, subst, ◌∙◌}
 use Rattle.std.specs.Prelude.{filter, slice_get, nat_eq}
-use Rattle.std.specs.List.{list_any, AllByRecursion}
+use Rattle.std.specs.List.{AllByRecursion}
 use Rattle.std.proofs.lemmas.Bool.{and_from, and_parts, both_ways, eq-eqb, eqb-true}
 use Rattle.std.proofs.lemmas.List.Elements.{All-from_recursion, All-contains}
 use Rattle.ncl_gates.specs.declared.cell_kind.CellKind.{CellKind}
@@ -11,31 +11,8 @@ use Rattle.ncl_netlist.specs.declared.ids.NetId.{NetId}
 use Rattle.ncl_netlist.specs.declared.cell.Cell.{Cell}
 use Rattle.ncl_netlist.specs.Netlist.{NetlistData}
 use Rattle.ncl_origin.specs.Origin.{IsCell, IsGate, IsRegister, ReadsNet, OnPin, B, IsOfBank}
-use Rattle.ncl_base.proofs.Members.{Member-from_Contains, Contains-from_Member, Member-filter, list_any-from_member}
-
-abbrev is_register : CellKind → Bool
-is_register Register = true
-is_register (Gate kind) = false
-is_register Ack = false
-
-abbrev is_gate : CellKind → Bool
-is_gate (Gate kind) = true
-is_gate Register = false
-is_gate Ack = false
-
-abbrev has_net : ℕ → Option NetId → Bool
-has_net net None = false
-has_net net (Some id) = nat_eq id.0 net
-
--- the tests
-abbrev pub register_test : Cell → Bool
-register_test c = is_register c.kind
-
-abbrev pub bank_test : ℕ → Cell → Bool
-bank_test request c = is_register c.kind && has_net request (slice_get c.ins.items B)
-
-abbrev pub gate_reads_test : ℕ → Cell → Bool
-gate_reads_test net c = is_gate c.kind && list_any (λ (id : NetId). nat_eq id.0 net) c.ins.items
+use Rattle.ncl_origin.specs.CellTests.{is_register, is_gate, has_net, register_test, bank_test, gate_reads_test}
+use Rattle.ncl_base.proofs.Members.{Member-from_Contains, Contains-from_Member, Member-filter, list_any-from_member, member_from_list_any}
 
 -- what holds of each cell that passes a test
 pub each_passing : (n : NetlistData) (test : Cell → Bool) (P : Cell → Type 0) → AllByRecursion P (filter test n.cells) → (c : Cell) → IsCell n c → test c ≡ true → P c
@@ -71,11 +48,27 @@ of_bank-from_test n request c in_c passes =
     net_is None on = absurd (both_ways false refl on)
     net_is (Some id) on = ap (λ (x : ℕ). Some (record { 0 = x })) (eqb-true id.0 request on)
 
+-- a gate cell that reads a net passes its test
+pub gate_reads_passes : (net : ℕ) (c : Cell) → IsGate c → ReadsNet c net → gate_reads_test net c ≡ true
+gate_reads_passes net c (kind, gate) reads =
+    and_from (is_gate c.kind) _ (ap is_gate gate)
+    (list_any-from_member (λ (id : NetId). nat_eq id.0 net) (record { 0 = net }) (Member-from_Contains c.ins.items (record { 0 = net }) reads) (eq-eqb net net refl))
+
 -- of each gate cell that reads a net
 pub each_gate_reading : (n : NetlistData) (net : ℕ) (P : Cell → Type 0) → AllByRecursion P (filter (gate_reads_test net) n.cells) → (c : Cell) → IsCell n c → IsGate c → ReadsNet c net → P c
-each_gate_reading n net P all c in_c (kind, gate) reads =
-    each_passing n (gate_reads_test net) P all c in_c
-    (and_from (is_gate c.kind) _ (ap is_gate gate) (list_any-from_member (λ (id : NetId). nat_eq id.0 net) (record { 0 = net }) (Member-from_Contains c.ins.items (record { 0 = net }) reads) (eq-eqb net net refl)))
+each_gate_reading n net P all c in_c gate reads = each_passing n (gate_reads_test net) P all c in_c (gate_reads_passes net c gate reads)
+
+-- and what passes that test is a gate cell that reads the net
+pub gate_reads-from_test : (net : ℕ) (c : Cell) → gate_reads_test net c ≡ true → IsGate c × ReadsNet c net
+gate_reads-from_test net c passes =
+    let (is, reads) = and_parts (is_gate c.kind) _ passes in
+    let (x, m, at) = member_from_list_any (λ (id : NetId). nat_eq id.0 net) c.ins.items reads in
+    (kind_of c.kind is, subst (ReadsNet c) (eqb-true x.0 net at) (Contains-from_Member x m))
+  where
+    kind_of : (k : CellKind) → is_gate k ≡ true → (kind : _) × (k ≡ Gate kind)
+    kind_of (Gate kind) is = (kind, refl)
+    kind_of Register is = absurd (both_ways false refl is)
+    kind_of Ack is = absurd (both_ways false refl is)
 
 -- what holds of the net on a pin holds of each net on it
 pub on_pin_each : (c : Cell) (pin x : ℕ) (P : ℕ → Type 0) → OnPin c pin x → P x → (net : ℕ) → OnPin c pin net → P net

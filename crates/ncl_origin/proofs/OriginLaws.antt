@@ -1,14 +1,17 @@
 -- The laws of origins: each net of a netlist has one, and what drives a net says which.
 use Rattle.std.proofs.Common.{◌≡◌, ℕ, ◌+◌, ◌<◌, length, get_or, Some, ◌⊎◌, inl, inr, refl, sym, ap, subst, arith}
 use Rattle.std.specs.Prelude.{slice_get}
-use Rattle.std.proofs.lemmas.Option.{slice_get-get_or}
+use Rattle.std.proofs.lemmas.List.{length-map, length-take}
+use Rattle.std.proofs.lemmas.Option.{slice_get_within, slice_get-get_or}
 use Rattle.ncl_gates.specs.declared.kind.Kind.{Kind}
 use Rattle.ncl_gates.specs.declared.cell_kind.CellKind.{CellKind}
 use Rattle.ncl_gates.specs.declared.cell_kind.CellKind.TheVariants.{Gate, Register, Ack}
 use Rattle.ncl_gates.specs.Cell.{pins_of}
+use Rattle.ncl_netlist.specs.declared.port.Port.{Port}
 use Rattle.ncl_netlist.specs.declared.cell.Cell.{Cell}
 use Rattle.ncl_netlist.specs.Netlist.{NetlistData, IsNetlist}
 use Rattle.ncl_origin.specs.Origin.{IsCell, CellAt, IsGate, IsRegister, IsAck, ReadsNet, OnPin, B, IsInputPort, IsOfBank, AcksBank, Origin, FromPort, RailOf, AckOf, ComesFrom, port, rail, ack, gate}
+use Rattle.ncl_origin.specs.Rules.{IsRequest}
 use Rattle.ncl_origin.specs.Free.{IsFree}
 use Rattle.ncl_base.proofs.Members.{Contains-from_slice_get, slice_get-from_Contains}
 use Rattle.ncl_origin.proofs.Drivers.{cell_fits, same_driver, no_cell_drives_port, driver_of}
@@ -42,6 +45,18 @@ pub bank_of_register : (n : NetlistData) → IsNetlist n → (c : Cell) → IsCe
 bank_of_register n is c in_c register =
     let (request, on) = pin_of_register n is c in_c register B (omega arith) in (request, (in_c, register, on))
 
+-- ports are nets of the netlist, and so is each net with an origin
+port_within : (n : NetlistData) → IsNetlist n → (net : ℕ) → IsInputPort n net → net < length n.nets
+port_within n is net (p, at, input) =
+    let lt : net < length n.ports = slice_get_within n.ports net p at in
+    omega (arith, lt, ap length is.ports_first, length-take (length n.ports) n.nets, length-map n.ports (λ (x : Port). x.name))
+
+pub origin_within : (n : NetlistData) → IsNetlist n → (net : ℕ) (origin : Origin) → ComesFrom n net origin → net < length n.nets
+origin_within n is net origin (port at) = port_within n is net at
+origin_within n is net origin (rail c of_bank) = (cell_fits n is c of_bank.0).output
+origin_within n is net origin (ack c acks) = (cell_fits n is c acks.0).output
+origin_within n is net origin (gate c in_c is_gate reads from) = (cell_fits n is c in_c).output
+
 -- an input port has no other origin
 pub port_origin : (n : NetlistData) → IsNetlist n → (net : ℕ) (origin : Origin) → IsInputPort n net → ComesFrom n net origin → origin ≡ FromPort
 port_origin n is net origin input (port at) = refl
@@ -66,6 +81,23 @@ register_origin n is c in_c register net origin out (gate d in_d is_gate reads f
     let gates : d.kind ≡ Gate is_gate.0 = is_gate.1 in
     absurd cc
 
+-- the output of an acknowledge cell comes from the acknowledge cells of its bank
+pub ack_origin : (n : NetlistData) → IsNetlist n → (c : Cell) → IsCell n c → IsAck c → (net : ℕ) (origin : Origin) → c.out.0 ≡ net → ComesFrom n net origin → (request : ℕ) × AcksBank n request c × (origin ≡ AckOf request)
+ack_origin n is c in_c is_ack net origin out (port at) = absurd (no_cell_drives_port n is c in_c (subst (IsInputPort n) (sym out) at))
+ack_origin n is c in_c is_ack net origin out (rail d of_bank) =
+    let same : c ≡ d = same_driver n is c d in_c of_bank.0 out in
+    let kinds : c.kind ≡ d.kind = ap (λ (x : Cell). x.kind) same in
+    let register : d.kind ≡ Register = of_bank.1 in
+    absurd cc
+ack_origin n is c in_c is_ack net origin out (ack {request = request} d acks) =
+    let same : c ≡ d = same_driver n is c d in_c acks.0 out in
+    (request, subst (AcksBank n request) (sym same) acks, refl)
+ack_origin n is c in_c is_ack net origin out (gate d in_d is_gate reads from) =
+    let same : c ≡ d = same_driver n is c d in_c in_d out in
+    let kinds : c.kind ≡ d.kind = ap (λ (x : Cell). x.kind) same in
+    let gates : d.kind ≡ Gate is_gate.0 = is_gate.1 in
+    absurd cc
+
 -- a net that comes from a bank's rails is the output of a cell
 pub cell_of_rail : (n : NetlistData) (net : ℕ) (origin : Origin) (bank : ℕ) → origin ≡ RailOf bank → ComesFrom n net origin → (c : Cell) × IsCell n c × (c.out.0 ≡ net)
 cell_of_rail n net origin bank e (port at) = absurd cc
@@ -80,6 +112,21 @@ ack_of_bank n net origin bank e (rail c of_bank) = absurd cc
 ack_of_bank n net origin bank e (ack {request = request} c acks) =
     let same : request ≡ bank = cc in (c, subst (λ r. AcksBank n r c) same acks)
 ack_of_bank n net origin bank e (gate {net = input} {origin = from_origin} c in_c is_gate reads from) = ack_of_bank n input from_origin bank e from
+
+-- and there is such a bank
+pub bank_of_rail : (n : NetlistData) (net : ℕ) (origin : Origin) (bank : ℕ) → origin ≡ RailOf bank → ComesFrom n net origin → IsRequest n bank
+bank_of_rail n net origin bank e (port at) = absurd cc
+bank_of_rail n net origin bank e (rail {request = request} c of_bank) =
+    let same : request ≡ bank = cc in (c, subst (λ r. IsOfBank n r c) same of_bank)
+bank_of_rail n net origin bank e (ack c acks) = absurd cc
+bank_of_rail n net origin bank e (gate {net = input} {origin = from_origin} c in_c is_gate reads from) = bank_of_rail n input from_origin bank e from
+
+-- a net that comes from a bank's acknowledge cells is the output of an acknowledge cell or a gate cell
+pub driver_of_ack : (n : NetlistData) (net : ℕ) (origin : Origin) (bank : ℕ) → origin ≡ AckOf bank → ComesFrom n net origin → (c : Cell) × IsCell n c × (c.out.0 ≡ net) × (IsAck c ⊎ IsGate c)
+driver_of_ack n net origin bank e (port at) = absurd cc
+driver_of_ack n net origin bank e (rail c of_bank) = absurd cc
+driver_of_ack n net origin bank e (ack c acks) = (c, acks.0, refl, inl acks.1)
+driver_of_ack n net origin bank e (gate c in_c is_gate reads from) = (c, in_c, refl, inr is_gate)
 
 -- where the first five rules hold, each acknowledge cell is of some bank
 pub bank_of_ack : (n : NetlistData) → IsFree n → (c : Cell) → IsCell n c → IsAck c → (request : ℕ) × AcksBank n request c

@@ -1,3 +1,9 @@
 pub mod Origin
 pub mod Rules
 pub mod Free
+pub mod CellTests
+pub mod Sources
+pub mod GateGraph
+pub mod CellOrder
+pub mod Tables
+pub mod Origins

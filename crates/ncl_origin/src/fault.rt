@@ -1,4 +1,5 @@
 //! Why a netlist has no shape.
+use ncl_base::Memory;
 use ncl_netlist::{CellId, NetId};
 use thiserror::Error;
 
@@ -32,4 +33,15 @@ pub enum ShapeFault {
     /// Memory was refused.
     #[error("out of memory")]
     Memory,
+}
+
+impl From<Memory> for ShapeFault {
+    ghost use Rattle.std.specs.Prelude.{◌≡◌};
+    ghost use Rattle.ncl_origin.specs.declared.fault.ShapeFault.TheVariants.{Memory as OutOfMemory};
+
+    ghost from_gives = { λ _ fault. fault ≡ OutOfMemory };
+
+    fn from(_memory: Memory) -> ShapeFault {
+        ShapeFault::Memory
+    }
 }

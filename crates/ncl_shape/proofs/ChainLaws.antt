@@ -1,17 +1,15 @@
 -- The laws of chains of banks: a netlist has one.
 use Rattle.std.proofs.Common.{◌≡◌, ℕ, zero, suc, List, ◌∷◌, Some, ◌⊎◌, inl, inr, refl, sym, ap, subst, ◌∙◌, arith}
 use Rattle.std.specs.Prelude.{Contains, slice_get}
-use Rattle.std.proofs.lemmas.Bool.{both_ways}
 use Rattle.ncl_netlist.specs.declared.cell.Cell.{Cell}
 use Rattle.ncl_netlist.specs.Netlist.{NetlistData, IsNetlist}
 use Rattle.ncl_origin.specs.Origin.{OnPin, A, IsOfBank, RailOf, ComesFrom, HaveSameOrigins}
-use Rattle.ncl_origin.specs.Rules.{IsFirstOfBank}
 use Rattle.ncl_shape.specs.Chain.{IsBank, IsFirstBank, IsChain, Follows, HasEnds, IsPath, end, next}
 use Rattle.ncl_origin.specs.Free.{IsFree}
-use Rattle.ncl_base.proofs.Members.{Member-from_Contains, Contains-from_slice_get, slice_get-from_Contains, first_passing}
+use Rattle.ncl_base.proofs.Members.{slice_get-from_Contains}
 use Rattle.ncl_base.proofs.Lists.{same_from_places}
+use Rattle.ncl_origin.proofs.FirstRegisters.{first_of_bank}
 use Rattle.ncl_origin.proofs.OriginLaws.{place_of, pin_of_register, port_origin}
-use Rattle.ncl_origin.proofs.CellTests.{bank_test, of_bank_passes, of_bank-from_test}
 
 -- a list has one head
 pub head_is_one : (banks : List ℕ) (x y : ℕ) → slice_get banks 0 ≡ Some x → slice_get banks 0 ≡ Some y → x ≡ y
@@ -43,22 +41,9 @@ pub head_of_path : (n : NetlistData) (banks : List ℕ) → IsPath n banks → (
 head_of_path n banks (end {bank = first}) = (first, refl)
 head_of_path n banks (next {bank = first} follows path) = (first, refl)
 
--- a bank has a first register cell
-pub first_of_bank : (n : NetlistData) (bank : ℕ) (c : Cell) → IsOfBank n bank c → (first : Cell) × IsFirstOfBank n bank first
-first_of_bank n bank c of_bank =
-    let (k, first, at, passes, before) = first_passing (bank_test bank) c (Member-from_Contains n.cells c of_bank.0) (of_bank_passes n bank c of_bank) in (
-      first,
-      record {
-        place = k;
-        at = at;
-        of_bank = of_bank-from_test n bank first (Contains-from_slice_get n.cells k first at) passes;
-        first = λ j other lt at_other of_other. both_ways (bank_test bank other) (before j other lt at_other) (of_bank_passes n bank other of_other);
-      },
-    )
-
 module _ (n : NetlistData) (is : IsNetlist n) (free : IsFree n) where
   -- the A nets of a bank have one set of origins
-  same_rails : (bank : ℕ) (c d : Cell) → IsOfBank n bank c → IsOfBank n bank d → (x y : ℕ) → OnPin c A x → OnPin d A y → (before : ℕ) → ComesFrom n x (RailOf before) → ComesFrom n y (RailOf before)
+  pub same_rails : (bank : ℕ) (c d : Cell) → IsOfBank n bank c → IsOfBank n bank d → (x y : ℕ) → OnPin c A x → OnPin d A y → (before : ℕ) → ComesFrom n x (RailOf before) → ComesFrom n y (RailOf before)
   same_rails bank c d of_c of_d x y on_x on_y before from =
       let (first, is_first) = first_of_bank n bank c of_c in
       let (net, on) = pin_of_register n is first is_first.of_bank.0 is_first.of_bank.1 A (omega arith) in
@@ -69,7 +54,7 @@ module _ (n : NetlistData) (is : IsNetlist n) (free : IsFree n) where
       from_first.from (RailOf before) (to_first.to (RailOf before) from)
 
   -- so a bank follows at most one bank
-  one_before : (bank u w : ℕ) → Follows n u bank → Follows n w bank → u ≡ w
+  pub one_before : (bank u w : ℕ) → Follows n u bank → Follows n w bank → u ≡ w
   one_before bank u w (x, (c, of_c, on_x), from_u) (y, (d, of_d, on_y), from_w) =
       let (k, at) = place_of n d of_d.0 in
       let also_u : ComesFrom n y (RailOf u) = same_rails bank c d of_c of_d x y on_x on_y u from_u in
@@ -82,7 +67,7 @@ module _ (n : NetlistData) (is : IsNetlist n) (free : IsFree n) where
       ]
 
   -- and a bank that reads input ports alone follows none
-  first_follows_none : (first before : ℕ) → IsFirstBank n first → Follows n before first → ⊥
+  pub first_follows_none : (first before : ℕ) → IsFirstBank n first → Follows n before first → ⊥
   first_follows_none first before is_first (net, is_input, from) =
       let is_port = port_origin n is net (RailOf before) (is_first.inputs net is_input) from in absurd cc
 

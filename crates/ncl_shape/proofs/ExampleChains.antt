@@ -10,7 +10,8 @@ use Rattle.ncl_shape.specs.Chain.{IsBank, IsInputOf, IsFirstBank, Follows, IsPat
 use Rattle.ncl_shape.specs.Examples.{three, cut}
 use Rattle.ncl_origin.proofs.OriginLaws.{cell_of_rail}
 use Rattle.ncl_shape.proofs.ChainLaws.{head_is_one, head_or_follows}
-use Rattle.ncl_origin.proofs.CellTests.{bank_test, each_passing, each_register, each_of_bank, on_pin_each}
+use Rattle.ncl_origin.specs.CellTests.{bank_test}
+use Rattle.ncl_origin.proofs.CellTests.{each_passing, each_register, each_of_bank, on_pin_each}
 use Rattle.ncl_shape.proofs.WrittenCells.{cell_of, is_cell, of_bank}
 
 -- what holds of both inputs of a bank of one bit holds of each

@@ -4,6 +4,6 @@ pub mod ChainLaws
 pub mod ShapeLaws
 pub mod FaultLaws
 pub mod PinLaws
-mod WrittenCells
+pub mod WrittenCells
 mod ExampleChains
 mod ExampleTrees

@@ -38,7 +38,7 @@ last_bank n p shape =
     (length p.stages, last, place, at)
 
 -- one cell stands at a place
-same_cell : (n : NetlistData) (i j : ℕ) (c d : Cell) → i ≡ j → CellAt n i c → CellAt n j d → c ≡ d
+pub same_cell : (n : NetlistData) (i j : ℕ) (c d : Cell) → i ≡ j → CellAt n i c → CellAt n j d → c ≡ d
 same_cell n i j c d places at_c at_d = let cells : slice_get n.cells i ≡ slice_get n.cells j = ap (slice_get n.cells) places in cc
 
 -- the rails of a bit are one pair, and so are the nets on pins A of its register cells

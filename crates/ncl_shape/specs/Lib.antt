@@ -9,3 +9,4 @@ pub mod Shape
 pub mod Closure
 pub mod Examples
 pub mod SamePipeline
+pub mod FoundChain

@@ -3,6 +3,7 @@
 #![tactic(auto)]
 
 mod bank;
+mod chain;
 pub mod examples;
 mod item;
 pub mod laws;

@@ -1,0 +1,9 @@
+pub mod RailNets
+pub mod BankBits
+pub mod Numbering
+pub mod EndLaws
+pub mod BetweenBanks
+pub mod BankTrees
+pub mod NetsApart
+pub mod LaidOut
+pub mod StageNumbers

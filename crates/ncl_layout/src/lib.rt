@@ -1,0 +1,4 @@
+//! A pipeline laid out: by number, what each cell and each net of its netlist is for.
+#![tactic(auto)]
+
+pub mod laws;

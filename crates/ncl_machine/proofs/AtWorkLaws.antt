@@ -53,7 +53,7 @@ fire-within s word v c in_s excited below =
     (and_from (not (kept_low s Base c.out.0)) _ refl (holds-grows v (val s word Base) below c (holds-excited v c excited up))))
 
 -- a rail that the word names is high in the values
-named-within_values : (s : StageData) (word : List Bool) (net : ℕ) → Contains (named_rails s.inputs word) net → val s word Base net ≡ true
+pub named-within_values : (s : StageData) (word : List Bool) (net : ℕ) → Contains (named_rails s.inputs word) net → val s word Base net ≡ true
 named-within_values s word net named =
     val-keeps s word Base net
     (and_from (among (named_rails s.inputs word) net) (not (kept_low s Base net)) (among-from_member net (Member-from_Contains (named_rails s.inputs word) net named)) refl)

@@ -38,7 +38,7 @@ unfed-below v w below c = go c.ins.items
         let (first, rest) = or_parts (v net.0) (some_high (pin_values v ins)) low in
         or_from _ _ (false_from_ne_true _ (λ high. both_ways (v net.0) first (below net.0 high))) (go ins rest)
 
-unfed-at : (v : Nets) (net : NetId) (ins : List NetId) → some_high (pin_values v ins) ≡ false → Member net ins → v net.0 ≡ false
+pub unfed-at : (v : Nets) (net : NetId) (ins : List NetId) → some_high (pin_values v ins) ≡ false → Member net ins → v net.0 ≡ false
 unfed-at v net ins low (here {xs = rest}) = (or_parts (v net.0) (some_high (pin_values v rest)) low).0
 unfed-at v net ins low (there {y = y} {xs = rest} m) = unfed-at v net rest (or_parts (v y.0) (some_high (pin_values v rest)) low).1 m
 
@@ -54,13 +54,13 @@ unfed-from_excited false true false down excited = absurd (both_ways false refl 
 unfed-from_excited false false false down excited = absurd (both_ways false refl excited)
 
 -- and there it is excited
-excited-from_unfed : (set high old : Bool) → old ≡ true → set ≡ false → high ≡ false → differ (if set then true else (if high then old else false)) old ≡ true
+pub excited-from_unfed : (set high old : Bool) → old ≡ true → set ≡ false → high ≡ false → differ (if set then true else (if high then old else false)) old ≡ true
 excited-from_unfed true high old up unset low = absurd (both_ways true unset refl)
 excited-from_unfed false true old up unset low = absurd (both_ways true low refl)
 excited-from_unfed false false true up unset low = refl
 excited-from_unfed false false false up unset low = absurd (both_ways false refl up)
 
-next-from_unfed : (v : Nets) (c : StageCell) → IsUnfed v c → next_of_gate v c ≡ false
+pub next-from_unfed : (v : Nets) (c : StageCell) → IsUnfed v c → next_of_gate v c ≡ false
 next-from_unfed v c low =
     ap (λ b. if b then true else (if some_high (pin_values v c.ins.items) then v c.out.0 else false)) (set_of-low c.kind (pin_values v c.ins.items) low)
     ∙ ap (λ b. if b then v c.out.0 else false) low
@@ -82,7 +82,7 @@ drained-excited s word v below drained c m =
     both_ways (holds v c) (set_of-low c.kind (pin_values v c.ins.items) (drained c m high low)) set))
 
 -- one net less, which is no output of a cell but of some that read nothing that is high
-drained-less : (s : StageData) (word : List Bool) (v : Nets) (net : ℕ) → IsDrained s word v → ((c : StageCell) → Member c s.cells → net ≡ out_of c → IsUnfed v c) → IsDrained s word (put v net false)
+pub drained-less : (s : StageData) (word : List Bool) (v : Nets) (net : ℕ) → IsDrained s word v → ((c : StageCell) → Member c s.cells → net ≡ out_of c → IsUnfed v c) → IsDrained s word (put v net false)
 drained-less s word v net drained own c m high low =
     unfed-below v (put v net false) (put-lowered v net) c
     (elim (cases_eq net (out_of c)) [
@@ -90,7 +90,7 @@ drained-less s word v net drained own c m high low =
       | inr apart ↦ drained c m high (sym (put-elsewhere v net (out_of c) false apart) ∙ low)
     ])
 
-rail-apart : (s : StageData) → IsStage s → (net : ℕ) → Contains (rail_nets s.inputs) net → (c : StageCell) → Member c s.cells → net ≢ out_of c
+pub rail-apart : (s : StageData) → IsStage s → (net : ℕ) → Contains (rail_nets s.inputs) net → (c : StageCell) → Member c s.cells → net ≢ out_of c
 rail-apart s is net rail c m e = rail-no_output s is net (Member-from_Contains (rail_nets s.inputs) net rail) c m (sym e)
 
 pub falling-drained : (s : StageData) → IsStage s → (word : List Bool) (v : Nets) → IsFalling s word v → IsDrained s word v
@@ -122,7 +122,7 @@ fallen-within_variant s is word variant v drained free net high low =
     net (val-within s word Base net high) high low
 
 -- each output has a high rail in the values
-data_in_values : (s : StageData) → IsSound s → (word : List Bool) → IsWordOf s word → (r : Rails) → Member r s.outputs → has_data (val s word Base) r ≡ true
+pub data_in_values : (s : StageData) → IsSound s → (word : List Bool) → IsWordOf s word → (r : Rails) → Member r s.outputs → has_data (val s word Base) r ≡ true
 data_in_values s sound word right r m =
     let (output, found) = slice_get-from_Contains s.outputs r (Contains-from_Member r m) in
     true_from_ne_false _ (λ none.
@@ -155,7 +155,7 @@ falling-empty s is sound word right v below drained null net =
 -- ---- undisturbed
 
 -- a cell that is high and reads nothing that is stays excited where one other net falls
-excited-below : (v : Nets) (c : StageCell) (net : ℕ) → net ≢ out_of c → (v (out_of c) ≡ true) × IsUnfed v c → IsExcited (put v net false) c
+pub excited-below : (v : Nets) (c : StageCell) (net : ℕ) → net ≢ out_of c → (v (out_of c) ≡ true) × IsUnfed v c → IsExcited (put v net false) c
 excited-below v c net apart (high, unfed) =
     let low : IsUnfed (put v net false) c = unfed-below v (put v net false) (put-lowered v net) c unfed in
     excited-from_unfed (set_of c.kind (pin_values (put v net false) c.ins.items)) (some_high (pin_values (put v net false) c.ins.items)) (put v net false c.out.0)

@@ -10,14 +10,9 @@ use Rattle.ncl_shape.specs.declared.rails.Rails.{Rails}
 use Rattle.ncl_shape.specs.declared.stage.StageCell.{StageCell}
 use Rattle.ncl_shape.specs.Nets.{among}
 use Rattle.ncl_shape.specs.Stage.{StageData, IsStage, named_rails, rail_nets, rail_of, nets_of, out_of}
-use Rattle.ncl_base.proofs.Members.{Member, here, there, Contains-from_Member, Member-from_Contains}
-use Rattle.ncl_stage.proofs.Apart.{Member-append_left, Member-append_right, parts-differ, right-differ, named-within}
-
--- a member of two lists joined is a member of one of them
-Member-append_cases : {X : Type 0} (x : X) (xs ys : List X) → Member x (xs ++ ys) → Member x xs ⊎ Member x ys
-Member-append_cases x [] ys m = inr m
-Member-append_cases x (y ∷ xs) ys here = inl here
-Member-append_cases x (y ∷ xs) ys (there m) = elim (Member-append_cases x xs ys m) [ inl some ↦ inl (there some) | inr rest ↦ inr rest ]
+use Rattle.ncl_base.proofs.Members.{here, there, Member-append_cases, Contains-from_Member, Member-from_Contains, Member-append_left, Member-append_right}
+use Rattle.ncl_stage.proofs.Apart.{parts-differ, right-differ, named-within}
+use Rattle.ncl_base.specs.Members.{Member}
 
 -- what holds of the rails, and of the output of each cell where it holds of all that the cell reads, holds of
 -- every net of the stage

@@ -1,5 +1,4 @@
 pub mod RunLaws
-pub mod TreeNets
 pub mod ResetLaws
 pub mod AtWorkLaws
 pub mod InOrder
@@ -12,3 +11,48 @@ mod WiresOrigins
 mod ShortLists
 mod WiresChain
 mod WiresShape
+mod WrittenNetlists
+mod IllShapedLaws
+pub mod TruthValues
+pub mod NamedRails
+pub mod StageNets
+pub mod LocalNets
+pub mod Phases
+pub mod WiresSound
+pub mod Numbers
+pub mod Completion
+pub mod Invariant
+pub mod Moves
+pub mod Views
+pub mod StageSteps
+pub mod TreeSteps
+pub mod NextValues
+pub mod KeptStates
+pub mod StepValues
+pub mod Drawing
+pub mod MoveOf
+pub mod ListTests
+pub mod SourceMoves
+pub mod CellNets
+pub mod SinkWords
+pub mod EndSteps
+pub mod Keeping
+pub mod Safety
+pub mod Quiescence
+pub mod Totals
+pub mod NetCount
+pub mod ChangeCounts
+pub mod ChangesRise
+pub mod RunBound
+pub mod MoveNets
+pub mod Persistence
+pub mod EndPersistence
+pub mod WiresPass
+pub mod Composition
+pub mod OfferedWords
+pub mod Start
+pub mod Alternation
+pub mod Headline
+pub mod StepLaws
+pub mod SamePipelineLaws
+mod UnsoundLaws

@@ -47,7 +47,7 @@ waits-from_excited v c = set-from_excited (set_of c.kind (pin_values v c.ins.ite
 pub excited-from_waiting : (v : Nets) (c : StageCell) → v (out_of c) ≡ false → holds v c ≡ true → IsExcited v c
 excited-from_waiting v c = excited-from_set (set_of c.kind (pin_values v c.ins.items)) (some_high (pin_values v c.ins.items)) (v c.out.0)
 
-next-from_set : (v : Nets) (c : StageCell) → holds v c ≡ true → next_of_gate v c ≡ true
+pub next-from_set : (v : Nets) (c : StageCell) → holds v c ≡ true → next_of_gate v c ≡ true
 next-from_set v c = ap (λ b. if b then true else (if some_high (pin_values v c.ins.items) then v c.out.0 else false))
 
 -- ---- rising states
@@ -57,7 +57,7 @@ abbrev pub IsSupported : StageData → Nets → Type 0
 IsSupported s v = (c : StageCell) → Member c s.cells → v (out_of c) ≡ true → holds v c ≡ true
 
 -- a rail that the word names is no output of a cell
-named-no_output : (s : StageData) → IsStage s → (word : List Bool) (net : ℕ) → Contains (named_rails s.inputs word) net → (c : StageCell) → Member c s.cells → net ≢ out_of c
+pub named-no_output : (s : StageData) → IsStage s → (word : List Bool) (net : ℕ) → Contains (named_rails s.inputs word) net → (c : StageCell) → Member c s.cells → net ≢ out_of c
 named-no_output s is word net named c m e =
     rail-no_output s is net (named-within s.inputs word net (among-from_member net (Member-from_Contains (named_rails s.inputs word) net named))) c m (sym e)
 
@@ -102,7 +102,7 @@ rising-all s is sound word right v below supported all net high =
     ]
 
 -- a cell that waits stays excited where one other net rises
-excited-above : (v : Nets) (c : StageCell) (net : ℕ) → net ≢ out_of c → (v (out_of c) ≡ false) × (holds v c ≡ true) → IsExcited (put v net true) c
+pub excited-above : (v : Nets) (c : StageCell) (net : ℕ) → net ≢ out_of c → (v (out_of c) ≡ false) × (holds v c ≡ true) → IsExcited (put v net true) c
 excited-above v c net apart (low, set) =
     excited-from_waiting (put v net true) c (put-elsewhere v net (out_of c) true apart ∙ low) (holds-grows v (put v net true) (put-raised v net) c set)
 

@@ -4,14 +4,14 @@ use Rattle.ncl_stage.specs.Examples.{and_stage}
 use Rattle.ncl_stage.specs.Faults.{StageFault, BothRails, NoRail, Incomplete, Orphan, IsSound, shows}
 
 -- what holds at each pair of bits holds of each word of two
-of_two_bits : (P : List Bool → Type 0) → ((a b : Bool) → P (a ∷ b ∷ [])) → (word : List Bool) → length word ≡ 2 → P word
+pub of_two_bits : (P : List Bool → Type 0) → ((a b : Bool) → P (a ∷ b ∷ [])) → (word : List Bool) → length word ≡ 2 → P word
 of_two_bits P each [] right = absurd (omega arith)
 of_two_bits P each (a ∷ []) right = absurd (omega arith)
 of_two_bits P each (a ∷ b ∷ []) right = each a b
 of_two_bits P each (a ∷ b ∷ c ∷ rest) right = absurd (omega arith)
 
 -- what holds of each pair of bits in turn
-of_each : (P : Bool → Bool → Type 0) → P false false → P false true → P true false → P true true → (a b : Bool) → P a b
+pub of_each : (P : Bool → Bool → Type 0) → P false false → P false true → P true false → P true true → (a b : Bool) → P a b
 of_each P ff ft tf tt false false = ff
 of_each P ff ft tf tt false true = ft
 of_each P ff ft tf tt true false = tf

@@ -1,14 +1,9 @@
 -- Two banks joined by wires are a netlist, and keep the first five rules of shape.
-use Rattle.std.proofs.Common.{◌≡◌, ℕ, zero, suc, ◌+◌, ◌<◌, [], ◌∷◌, length, get_or, map, inl, inr, refl, sym, subst, arith}
-use Rattle.std.specs.List.{AllByRecursion}
+use Rattle.std.proofs.Common.{◌≡◌, ℕ, zero, suc, ◌<◌, [], ◌∷◌, get_or, inl, inr, refl, sym, subst, arith}
 use Rattle.std.proofs.lemmas.List.Elements.{All-from_recursion, All-contains}
-use Rattle.std.proofs.lemmas.Map.Made.{IsDistinct-from_count}
 use Rattle.ncl_gates.specs.declared.cell_kind.CellKind.TheVariants.{Register}
-use Rattle.ncl_gates.specs.Cell.{pins_of}
-use Rattle.ncl_netlist.specs.declared.ids.NetId.{NetId}
 use Rattle.ncl_netlist.specs.declared.cell.Cell.{Cell}
-use Rattle.ncl_netlist.specs.Netlist.{IsNetlist, CellFits, drivers_of}
-use Rattle.ncl_netlist.proofs.NameLists.{same_name-equiv}
+use Rattle.ncl_netlist.specs.Netlist.{IsNetlist}
 use Rattle.ncl_origin.specs.Origin.{IsCell, CellAt, IsGate, IsRegister, IsAck, ReadsNet, OnPin, A, B, RST, IsInputPort, IsOutputPort, IsOfBank, AcksBank, Origin, FromPort, RailOf, AckOf, ComesFrom, port, rail, ack, gate, HasOnlyOrigin, HaveSameOrigins}
 use Rattle.ncl_origin.specs.Rules.{IsReadPort, IsPaired, ReadsOneBit, ack_pins, IsFromOneRail, IsFromOneAck, IsRegisterOfOne, IsTied}
 use Rattle.ncl_shape.specs.Chain.{IsInputOf}
@@ -16,6 +11,7 @@ use Rattle.ncl_origin.specs.Free.{IsFree}
 use Rattle.ncl_shape.specs.Examples.{wires, cell}
 use Rattle.ncl_base.proofs.Members.{Contains-from_slice_get}
 use Rattle.ncl_origin.proofs.CellTests.{each_register, each_of_bank, on_pin_each, same_net}
+use Rattle.ncl_machine.proofs.WrittenNetlists.{netlist_from_tests}
 
 -- ---- cells and ports by place
 
@@ -80,48 +76,8 @@ each_output_port P at4 at5 at6 (suc (suc (suc (suc (suc (suc (suc net))))))) (p,
 
 -- ---- the netlist
 
-driven_once : (net : ℕ) → net < 10 → drivers_of wires net ≡ 1
-driven_once zero lt = refl
-driven_once (suc zero) lt = refl
-driven_once (suc (suc zero)) lt = refl
-driven_once (suc (suc (suc zero))) lt = refl
-driven_once (suc (suc (suc (suc zero)))) lt = refl
-driven_once (suc (suc (suc (suc (suc zero))))) lt = refl
-driven_once (suc (suc (suc (suc (suc (suc zero)))))) lt = refl
-driven_once (suc (suc (suc (suc (suc (suc (suc zero))))))) lt = refl
-driven_once (suc (suc (suc (suc (suc (suc (suc (suc zero)))))))) lt = refl
-driven_once (suc (suc (suc (suc (suc (suc (suc (suc (suc zero))))))))) lt = refl
-driven_once (suc (suc (suc (suc (suc (suc (suc (suc (suc (suc net)))))))))) lt = absurd (omega arith)
-
-cell_fits : (c : Cell) → c.out.0 < 10 → AllByRecursion (λ (net : NetId). net.0 < 10) c.ins.items → length c.ins.items + 1 ≡ length (pins_of c.kind) → CellFits 10 c
-cell_fits c output inputs pins = record { output = output; inputs = All-from_recursion (λ (net : NetId). net.0 < 10) c.ins.items inputs; pins = pins }
-
 pub wires_netlist : IsNetlist wires
-wires_netlist = record {
-  driven = driven_once;
-  fits = All-from_recursion (CellFits 10) wires.cells (
-    cell_fits (cell_at 0) (omega arith) (omega arith, (omega arith, (omega arith, tt))) refl,
-    (
-      cell_fits (cell_at 1) (omega arith) (omega arith, (omega arith, (omega arith, tt))) refl,
-      (
-        cell_fits (cell_at 2) (omega arith) (omega arith, (omega arith, tt)) refl,
-        (
-          cell_fits (cell_at 3) (omega arith) (omega arith, (omega arith, (omega arith, tt))) refl,
-          (
-            cell_fits (cell_at 4) (omega arith) (omega arith, (omega arith, (omega arith, tt))) refl,
-            (cell_fits (cell_at 5) (omega arith) (omega arith, (omega arith, tt)) refl, tt),
-          ),
-        ),
-      ),
-    ),
-  );
-  ports_first = refl;
-  in_order = refl;
-  net_names = IsDistinct-from_count same_name-equiv wires.nets refl;
-  cell_names = IsDistinct-from_count same_name-equiv (map (λ c. c.name) wires.cells) refl;
-  few_cells = omega arith;
-  few_nets = omega arith;
-}
+wires_netlist = netlist_from_tests wires (record { driven = refl; fits = refl; ports_first = refl; in_order = refl; net_names = refl; cell_names = refl; few_cells = omega arith; few_nets = omega arith })
 
 -- ---- where nets come from
 

@@ -1,8 +1,14 @@
--- A worked example: a word goes through two banks joined by wires.
-use Rattle.std.specs.Prelude.{ℕ, true, Bool, List, [], ◌∷◌, take}
+-- Worked examples: a word goes through two banks joined by wires, and through two joined by a chain of gates.
+use Rattle.std.specs.Prelude.{ℕ, true, Bool, List, [], ◌∷◌, take, codes}
+use Rattle.ncl_gates.specs.declared.kind.Kind.TheVariants.{Th22}
+use Rattle.ncl_gates.specs.declared.cell_kind.CellKind.TheVariants.{Gate, Register, Ack}
+use Rattle.ncl_netlist.specs.Netlist.{NetlistData}
+use Rattle.ncl_shape.specs.Stage.{StageData}
+use Rattle.ncl_shape.specs.Pipeline.{PipelineData}
 use Rattle.ncl_shape.specs.declared.item.Item.{Item}
 use Rattle.ncl_shape.specs.declared.item.Item.TheVariants.{Cell, Raise, Lower, Take, Ready}
-use Rattle.ncl_shape.specs.Examples.{wires_pipeline}
+use Rattle.ncl_shape.specs.Examples.{net_id, rails, bit, cell, one_bit_ports, wires_pipeline}
+use Rattle.ncl_stage.specs.Examples.{gate, stage}
 use Rattle.ncl_machine.specs.State.{State, reset}
 use Rattle.ncl_machine.specs.Run.{after}
 
@@ -27,3 +33,56 @@ at_the_end = after wires_pipeline (reset wires_pipeline one_word) through_wires
 -- and the second bank may pass it on
 abbrev pub where_two_may_move : State
 where_two_may_move = after wires_pipeline (reset wires_pipeline one_word) (take 3 through_wires)
+
+-- ---- a chain of four TH22 on rail 1, so that most nets change with the word 1. The nets are x1_0 0, x1_1 1, ki 2,
+-- rst 3, z1_0 4, z1_1 5, ko 6, c 7, p1_0 8, p1_1 9, g1 10, g2 11, g3 12, g4 13
+
+abbrev pub chain : NetlistData
+chain = record {
+  name = codes "chain";
+  ports = one_bit_ports;
+  nets =
+      codes "x1_0" ∷ codes "x1_1" ∷ codes "ki" ∷ codes "rst" ∷ codes "z1_0" ∷ codes "z1_1" ∷ codes "ko" ∷ codes "c"
+      ∷ codes "p1_0" ∷ codes "p1_1" ∷ codes "g1" ∷ codes "g2" ∷ codes "g3" ∷ codes "g4" ∷ [];
+  cells =
+      cell Register (codes "r1_0") (0 ∷ 7 ∷ 3 ∷ []) 8
+      ∷ cell Register (codes "r1_1") (1 ∷ 7 ∷ 3 ∷ []) 9
+      ∷ cell Ack (codes "k1") (8 ∷ 9 ∷ []) 6
+      ∷ cell (Gate Th22) (codes "t1") (9 ∷ 9 ∷ []) 10
+      ∷ cell (Gate Th22) (codes "t2") (10 ∷ 10 ∷ []) 11
+      ∷ cell (Gate Th22) (codes "t3") (11 ∷ 11 ∷ []) 12
+      ∷ cell (Gate Th22) (codes "t4") (12 ∷ 12 ∷ []) 13
+      ∷ cell Register (codes "s1_0") (8 ∷ 2 ∷ 3 ∷ []) 4
+      ∷ cell Register (codes "s1_1") (13 ∷ 2 ∷ 3 ∷ []) 5
+      ∷ cell Ack (codes "d1") (4 ∷ 5 ∷ []) 7
+      ∷ [];
+}
+
+abbrev pub chain_stage : StageData
+chain_stage =
+    stage (rails 8 9 ∷ [])
+    (gate 3 Th22 (9 ∷ 9 ∷ []) 10 ∷ gate 4 Th22 (10 ∷ 10 ∷ []) 11 ∷ gate 5 Th22 (11 ∷ 11 ∷ []) 12 ∷ gate 6 Th22 (12 ∷ 12 ∷ []) 13 ∷ [])
+    (rails 8 13 ∷ [])
+
+abbrev pub chain_pipeline : PipelineData
+chain_pipeline = record {
+  netlist = chain;
+  banks =
+      record { bits = bit 0 1 2 ∷ []; request = net_id 7; root = net_id 6 }
+      ∷ record { bits = bit 7 8 9 ∷ []; request = net_id 2; root = net_id 7 }
+      ∷ [];
+  stages = chain_stage ∷ [];
+  inputs = rails 0 1 ∷ [];
+  outputs = rails 4 5 ∷ [];
+  ki = 2;
+  ko = 6;
+}
+
+-- the word 1 and the NULL after it go through
+abbrev pub through_chain : List Item
+through_chain =
+    Raise 0 ∷ fire 1 ∷ fire 3 ∷ fire 4 ∷ fire 5 ∷ fire 6 ∷ fire 8 ∷ fire 9 ∷ fire 2 ∷ Lower 0 ∷ Take
+    ∷ fire 1 ∷ fire 2 ∷ fire 3 ∷ fire 4 ∷ fire 5 ∷ fire 6 ∷ fire 8 ∷ fire 9 ∷ Ready ∷ []
+
+abbrev pub where_the_chain_rests : State
+where_the_chain_rests = after chain_pipeline (reset chain_pipeline one_word) through_chain

@@ -5,3 +5,7 @@ pub mod AtWork
 pub mod StageLaw
 pub mod DelayInsensitive
 pub mod Examples
+pub mod IllShaped
+pub mod Composition
+pub mod OneChange
+pub mod Unsound

@@ -1,24 +1,29 @@
 //! Worked examples: two banks joined by wires have a shape, a word goes through them, and on its way two
-//! items may happen in either order. The AND of two bits is a sound stage.
-ghost use Rattle.std.specs.Prelude.{◌≡◌, ◌≢◌, true, false, [], ◌∷◌};
+//! items may happen in either order. The AND of two bits is a sound stage. A word that goes through a chain of
+//! gates takes nearly as many steps as the bound on runs allows.
+ghost use Rattle.std.specs.Prelude.{◌≡◌, ◌≢◌, ◌*◌, All, true, false, [], ◌∷◌, length};
 ghost use Rattle.ncl_shape.specs.declared.item.Item.TheVariants.{Lower};
 ghost use Rattle.ncl_netlist.specs.Netlist.{IsNetlist};
 ghost use Rattle.ncl_shape.specs.Examples.{wires, wires_pipeline};
+ghost use Rattle.ncl_shape.specs.Stage.{IsStage};
 ghost use Rattle.ncl_shape.specs.Shape.{Shape};
 ghost use Rattle.ncl_shape.specs.Closure.{function_of};
 ghost use Rattle.ncl_stage.specs.Examples.{and_stage};
 ghost use Rattle.ncl_stage.specs.Faults.{IsSound};
 ghost use Rattle.ncl_machine.specs.Run.{IsRun, IsQuiet, IsPersistent};
 ghost use Rattle.ncl_machine.specs.Steps.{enabled};
-ghost use Rattle.ncl_machine.specs.Examples.{fire, one_word, through_wires, where_two_may_move, at_the_end};
+ghost use Rattle.ncl_machine.specs.DelayInsensitive.{IsDelayInsensitive};
+ghost use Rattle.ncl_machine.specs.Examples.{fire, one_word, through_wires, where_two_may_move, at_the_end, chain, chain_stage, chain_pipeline, through_chain, where_the_chain_rests};
 
 /// A word goes through two banks joined by wires in twelve steps: it is delivered unchanged in
-/// dual-rail form, and then nothing can move.
+/// dual-rail form, and then nothing can move. The bound on runs is twenty steps.
 pub fn word_through_wires()
     ensures run { IsRun wires_pipeline one_word through_wires }
     ensures delivered { at_the_end.delivered ≡ record { rail0 = false ∷ []; rail1 = true ∷ [] } ∷ [] }
     ensures function { function_of wires_pipeline (true ∷ []) ≡ true ∷ [] }
     ensures quiet { IsQuiet wires_pipeline at_the_end }
+    ensures steps { length through_wires ≡ 12 }
+    ensures bound { 2 * length one_word * length wires.nets ≡ 20 }
 {}
 
 /// On the way of that word, after three steps, two items are enabled at once: the source may lower its
@@ -37,8 +42,27 @@ pub fn wires_have_a_shape()
     ensures shape { Shape wires wires_pipeline }
 {}
 
+/// Two banks joined by wires are delay-insensitive: the stage of wires between them is sound.
+pub fn wires_are_delay_insensitive()
+    ensures sound { All IsSound wires_pipeline.stages }
+    ensures insensitive { IsDelayInsensitive wires_pipeline }
+{
+    wires_have_a_shape();
+}
+
 /// The AND of two bits, with a TH22 for rail 1 and a THand0 for rail 0, is a sound stage, as the laws of
 /// rising and falling ask.
 pub fn and_of_two_is_sound()
     ensures { IsSound and_stage }
+{}
+
+/// The bound on runs is nearly reached: one word goes through two banks with a chain of four gates between them
+/// in 20 steps, where twice the words times the nets is 28. The stage is sound, and at the end nothing can move.
+pub fn word_through_a_chain()
+    ensures stage { IsStage chain_stage }
+    ensures sound { IsSound chain_stage }
+    ensures run { IsRun chain_pipeline one_word through_chain }
+    ensures steps { length through_chain ≡ 20 }
+    ensures bound { 2 * length one_word * length chain.nets ≡ 28 }
+    ensures quiet { IsQuiet chain_pipeline where_the_chain_rests }
 {}

@@ -1,19 +1,24 @@
 //! The laws of the firing machine. Each function states some, and does nothing.
-ghost use Rattle.std.specs.Prelude.{◌≡◌, ◌≤◌, List, [], Bool, ◌++◌, length};
+ghost use Rattle.std.specs.Prelude.{◌≡◌, ◌≤◌, ◌*◌, ℕ, true, All, List, [], Bool, ◌++◌, length};
 ghost use Rattle.ncl_shape.specs.declared.item.Item.{Item};
 ghost use Rattle.ncl_netlist.specs.Netlist.{IsNetlist, NetlistData};
 ghost use Rattle.ncl_shape.specs.Nets.{Nets, IsBelow};
 ghost use Rattle.ncl_shape.specs.Stage.{StageData};
 ghost use Rattle.ncl_shape.specs.Pipeline.{PipelineData};
+ghost use Rattle.ncl_shape.specs.Closure.{function_of};
+ghost use Rattle.ncl_shape.specs.SamePipeline.{IsSamePipeline};
 ghost use Rattle.ncl_shape.specs.Shape.{Shape};
 ghost use Rattle.ncl_stage.specs.declared.variant.Variant.TheVariants.{Base};
 ghost use Rattle.ncl_stage.specs.Values.{val};
 ghost use Rattle.ncl_stage.specs.Faults.{IsSound, IsWordOf};
 ghost use Rattle.ncl_machine.specs.State.{State, reset};
-ghost use Rattle.ncl_machine.specs.Run.{AreWordsOf, IsQuiet, IsRun, IsRunFrom, after};
+ghost use Rattle.ncl_machine.specs.Run.{AreWordsOf, IsPersistent, IsQuiet, IsRun, IsRunFrom, after};
+ghost use Rattle.ncl_machine.specs.Steps.{enabled, step};
 ghost use Rattle.ncl_machine.specs.AtWork.{IsRising, IsFalling};
 ghost use Rattle.ncl_machine.specs.StageLaw.{IsRisingSafely, IsFallingSafely};
-ghost use Rattle.ncl_machine.specs.DelayInsensitive.{IsDelayInsensitive};
+ghost use Rattle.ncl_machine.specs.Composition.{composed};
+ghost use Rattle.ncl_machine.specs.OneChange.{ChangesOneNet};
+ghost use Rattle.ncl_machine.specs.DelayInsensitive.{AfterEveryRun, AlternatesWithNull, DeliversInTime, DeliversWhatIsDue, IsDelayInsensitive, IsLegalState, IsSafe, RestsWhereQuiet};
 
 use ncl_shape::Stage;
 
@@ -58,4 +63,50 @@ pub fn falling(stage: &Stage)
 /// A run of a delay-insensitive pipeline delivers no more pairs than words are offered.
 pub fn delivers_no_more()
     ensures { (p : PipelineData) → IsDelayInsensitive p → (offered : List (List Bool)) (items : List Item) → AreWordsOf p offered → IsRun p offered items → length (after p (reset p offered) items).delivered ≤ length offered }
+{}
+
+/// The step of an item that is enabled changes the value of one net, and of no other.
+pub fn step_changes_one_net()
+    ensures { (p : PipelineData) (s : State) (item : Item) → enabled p s item ≡ true → ChangesOneNet s.value (step p s item).value }
+{}
+
+/// In every run of a pipeline of sound stages no item takes another back: what is excited stays excited until
+/// it fires, and what the source or the sink may do it may until it does.
+pub fn persistent()
+    ensures { (n : NetlistData) (p : PipelineData) → Shape n p → All IsSound p.stages → AfterEveryRun p (λ offered s. IsPersistent p s) }
+{}
+
+/// A pipeline of sound stages is safe: besides being persistent, in every run it delivers the first words of
+/// what is due, none of them before it was raised, its outputs are NULL between any two words taken, and no bit
+/// of a bank and no output of a stage is illegal.
+pub fn prefix()
+    ensures due { (n : NetlistData) (p : PipelineData) → Shape n p → All IsSound p.stages → AfterEveryRun p (DeliversWhatIsDue p) }
+    ensures in_time { (n : NetlistData) (p : PipelineData) → Shape n p → All IsSound p.stages → AfterEveryRun p (λ offered s. DeliversInTime s) }
+    ensures alternates { (n : NetlistData) (p : PipelineData) → Shape n p → All IsSound p.stages → AlternatesWithNull p }
+    ensures legal { (n : NetlistData) (p : PipelineData) → Shape n p → All IsSound p.stages → AfterEveryRun p (λ offered s. IsLegalState p s) }
+    ensures safe { (n : NetlistData) (p : PipelineData) → Shape n p → All IsSound p.stages → IsSafe p }
+{}
+
+/// A pipeline of sound stages is delay-insensitive: it is safe, and a run comes to a stop only where all is
+/// delivered, the source is finished and every bank is NULL.
+pub fn quiescent()
+    ensures rests { (n : NetlistData) (p : PipelineData) → Shape n p → All IsSound p.stages → AfterEveryRun p (RestsWhereQuiet p) }
+    ensures insensitive { (n : NetlistData) (p : PipelineData) → Shape n p → All IsSound p.stages → IsDelayInsensitive p }
+{}
+
+/// A run of a pipeline of sound stages has at most twice as many items as words times nets, so every run comes
+/// to a stop.
+pub fn bound()
+    ensures { (n : NetlistData) (p : PipelineData) → Shape n p → All IsSound p.stages → (offered : List (List Bool)) (items : List Item) → AreWordsOf p offered → IsRun p offered items → length items ≤ 2 * length offered * length n.nets }
+{}
+
+/// The function of a pipeline of sound stages is the composition of its stages' functions, in order.
+pub fn composition()
+    ensures { (n : NetlistData) (p : PipelineData) → Shape n p → All IsSound p.stages → (word : List Bool) → length word ≡ length p.inputs → function_of p word ≡ composed p.stages word }
+{}
+
+/// Of two pipelines that are the same but for the order of the gates in their stages, one is delay-insensitive
+/// where the other is.
+pub fn same_pipeline_is_insensitive()
+    ensures { (p : PipelineData) (q : PipelineData) → IsSamePipeline p q → IsDelayInsensitive p → IsDelayInsensitive q }
 {}

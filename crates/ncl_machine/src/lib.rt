@@ -3,8 +3,10 @@
 #![tactic(auto)]
 
 pub mod examples;
+pub mod ill_shaped;
 pub mod laws;
 mod pair;
+pub mod unsound;
 
 pub use ncl_shape::Item;
 pub use pair::Pair;

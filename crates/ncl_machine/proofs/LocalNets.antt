@@ -1,0 +1,80 @@
+-- The values of some nets alone: what a stage, or a tree, sees of the machine.
+use Rattle.std.proofs.Common.{◌≡◌, ℕ, Bool, true, false, ◌&&◌, cond, List, [], ◌∷◌, inl, inr, refl, sym, ap, ◌∙◌, subst}
+use Rattle.std.proofs.Math.Path.{fun_ext}
+use Rattle.std.specs.List.{list_all}
+use Rattle.std.proofs.lemmas.Bool.{and_from, and_parts, cases_eq, eq-eqb, false_from_ne_true}
+use Rattle.ncl_base.proofs.Members.{here, there}
+use Rattle.ncl_netlist.specs.declared.ids.NetId.{NetId}
+use Rattle.ncl_shape.specs.declared.rails.Rails.{Rails}
+use Rattle.ncl_shape.specs.Nets.{Nets, among, put}
+use Rattle.ncl_shape.specs.Closure.{pin_values}
+use Rattle.ncl_layout.specs.Layout.{Layout, stage_nets}
+use Rattle.ncl_stage.proofs.OnePass.{among-from_member}
+use Rattle.ncl_machine.proofs.AtWorkLaws.{put-elsewhere}
+use Rattle.ncl_machine.proofs.NamedRails.{member-from_among}
+use Rattle.ncl_base.specs.Members.{Member}
+
+-- the values of these nets, all others low
+abbrev pub local : List ℕ → Nets → Nets
+local nets v net = among nets net && v net
+
+-- the values of the nets of stage k, and of the tree after it
+abbrev pub in_stage : Layout → Nets → ℕ → Nets
+in_stage l v k = local (stage_nets l k) v
+
+abbrev pub in_tree : Layout → Nets → ℕ → Nets
+in_tree l v k = local (l.tree_nets k) v
+
+-- at a net of theirs they are the machine's
+pub local-at : (nets : List ℕ) (v : Nets) (net : ℕ) → Member net nets → local nets v net ≡ v net
+local-at nets v net m = ap (λ a. a && v net) (among-from_member net m)
+
+-- a net that was changed has the value
+pub put-here : (v : Nets) (net : ℕ) (value : Bool) → put v net value net ≡ value
+put-here v net value = ap (λ b. cond b value (v net)) (eq-eqb net net refl)
+
+-- a net that has the value keeps it
+pub put-keeps : (v : Nets) (net other : ℕ) (value : Bool) → v other ≡ value → put v net value other ≡ value
+put-keeps v net other value has = elim (cases_eq net other) [
+  | inl e ↦ subst (λ x. put v net value x ≡ value) e (put-here v net value)
+  | inr apart ↦ put-elsewhere v net other value apart ∙ has
+]
+
+-- where one of them changes, that is what changes
+pub local-put_here : (nets : List ℕ) (v : Nets) (net : ℕ) (value : Bool) → Member net nets → local nets (put v net value) ≡ put (local nets v) net value
+local-put_here nets v net value m = fun_ext (λ other.
+    elim (cases_eq net other) [
+      | inl e ↦
+          ap (λ b. among nets other && cond b value (v other)) (eq-eqb net other e)
+          ∙ ap (λ a. a && value) (subst (λ x. among nets x ≡ true) e (among-from_member net m))
+          ∙ sym (ap (λ b. cond b value (among nets other && v other)) (eq-eqb net other e))
+      | inr apart ↦ ap (λ x. among nets other && x) (put-elsewhere v net other value apart) ∙ sym (put-elsewhere (local nets v) net other value apart)
+    ])
+
+-- where another changes, nothing does
+pub local-put_other : (nets : List ℕ) (v : Nets) (net : ℕ) (value : Bool) → (Member net nets → ⊥) → local nets (put v net value) ≡ local nets v
+local-put_other nets v net value none = fun_ext (λ other.
+    elim (cases_eq net other) [
+      | inl e ↦
+          let out : among nets other ≡ false =
+          false_from_ne_true _ (λ some. none (subst (λ x. Member x nets) (sym e) (member-from_among other nets some))) in
+          ap (λ a. a && put v net value other) out ∙ sym (ap (λ a. a && v other) out)
+      | inr apart ↦ ap (λ x. among nets other && x) (put-elsewhere v net other value apart)
+    ])
+
+-- a cell that reads these nets alone sees the same on its pins
+pub pins-local : (nets : List ℕ) (v : Nets) (ins : List NetId) → ((x : NetId) → Member x ins → Member x.0 nets)
+    → pin_values (local nets v) ins ≡ pin_values v ins
+pins-local nets v [] each = refl
+pins-local nets v (x ∷ xs) each =
+    let first : local nets v x.0 ≡ v x.0 = local-at nets v x.0 (each x here) in
+    let rest = pins-local nets v xs (λ y m. each y (there m)) in
+    cc
+
+-- a test that bits pass, where it comes out the same of each
+pub all-local : (test : Nets → Rails → Bool) (nets : List ℕ) (v : Nets) (bits : List Rails)
+    → ((r : Rails) → Member r bits → test (local nets v) r ≡ test v r) → list_all (test v) bits ≡ true
+    → list_all (test (local nets v)) bits ≡ true
+all-local test nets v [] same all = refl
+all-local test nets v (x ∷ xs) same all =
+    let (first, rest) = and_parts (test v x) (list_all (test v) xs) all in and_from _ _ (same x here ∙ first) (all-local test nets v xs (λ r m. same r (there m)) rest)

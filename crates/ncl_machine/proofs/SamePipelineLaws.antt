@@ -1,0 +1,122 @@
+-- The machine reads nothing of a pipeline's stages, and what is asked of them is asked of their outputs alone; so
+-- the order of their gates doesn't matter.
+use Rattle.std.proofs.Common.{◌≡◌, Bool, List, [], ◌∷◌, ◌++◌, refl, sym, ap, ◌∙◌, subst}
+use Rattle.std.specs.Prelude.{Contains}
+use Rattle.std.specs.List.{AllZip}
+use Rattle.ncl_base.proofs.Members.{Member, here, there, Member-from_Contains, Contains-from_Member}
+use Rattle.ncl_shape.specs.declared.item.Item.{Item}
+use Rattle.ncl_shape.specs.declared.item.Item.TheVariants.{Cell as Fire, Raise, Lower, Take, Ready}
+use Rattle.ncl_shape.specs.Stage.{StageData}
+use Rattle.ncl_shape.specs.Pipeline.{PipelineData}
+use Rattle.ncl_shape.specs.SamePipeline.{IsSameStage, IsSamePipeline}
+use Rattle.ncl_machine.specs.State.{State, reset}
+use Rattle.ncl_machine.specs.Steps.{enabled, step, is_null}
+use Rattle.ncl_machine.specs.Run.{IsRunFrom, after, IsPersistent}
+use Rattle.ncl_machine.specs.DelayInsensitive.{PassesNull, DeliversWhatIsDue, DeliversInTime, IsLegalState, RestsWhereQuiet, AfterEveryRun, AlternatesWithNull, IsDelayInsensitive}
+
+-- a pipeline with other stages
+abbrev with_stages : PipelineData → List StageData → PipelineData
+with_stages p stages = record p { stages = stages }
+
+module _ (p : PipelineData) (stages : List StageData) where
+  abbrev q : PipelineData
+  q = with_stages p stages
+
+  -- ---- it moves as the pipeline does
+
+  enabled-same : (s : State) (item : Item) → enabled q s item ≡ enabled p s item
+  enabled-same s (Fire i) = refl
+  enabled-same s (Raise b) = refl
+  enabled-same s (Lower b) = refl
+  enabled-same s Take = refl
+  enabled-same s Ready = refl
+
+  step-same : (s : State) (item : Item) → step q s item ≡ step p s item
+  step-same s (Fire i) = refl
+  step-same s (Raise b) = refl
+  step-same s (Lower b) = refl
+  step-same s Take = refl
+  step-same s Ready = refl
+
+  after-same : (items : List Item) (s : State) → after q s items ≡ after p s items
+  after-same [] s = refl
+  after-same (item ∷ items) s = ap (λ t. after q t items) (step-same s item) ∙ after-same items (step p s item)
+
+  run-same : (items : List Item) (s : State) → IsRunFrom q s items → IsRunFrom p s items
+  run-same [] s run = run
+  run-same (item ∷ items) s (on, run) =
+      (sym (enabled-same s item) ∙ on, run-same items (step p s item) (subst (λ t. IsRunFrom q t items) (step-same s item) run))
+
+  -- ---- so its runs have the properties that the pipeline's have
+
+  persistent-same : (s : State) → IsPersistent p s → IsPersistent q s
+  persistent-same s persistent item other apart first second =
+      enabled-same (step q s item) other ∙ ap (λ t. enabled p t other) (step-same s item)
+      ∙ persistent item other apart (sym (enabled-same s item) ∙ first) (sym (enabled-same s other) ∙ second)
+
+  passes-same : (s : State) (items : List Item) → PassesNull p s items → PassesNull q s items
+  passes-same s items passes = record {
+    before = passes.before;
+    rest = passes.rest;
+    split = passes.split;
+    null = ap (λ t. is_null p.outputs t.value) (after-same passes.before s) ∙ passes.null;
+  }
+
+  every_run-same : (P Q : List (List Bool) → State → Type 0) → ((offered : List (List Bool)) (s : State) → P offered s → Q offered s)
+      → AfterEveryRun p P → AfterEveryRun q Q
+  every_run-same P Q more every offered items words run =
+      subst (Q offered) (sym (after-same items (reset p offered)))
+      (more offered (after p (reset p offered) items) (every offered items words (run-same items (reset p offered) run)))
+
+  alternates-same : AlternatesWithNull p → AlternatesWithNull q
+  alternates-same alternates offered xs ys zs words run =
+      subst (λ t. PassesNull q t ys) (sym (step-same (after q (reset p offered) xs) Take ∙ ap (λ t. step p t Take) (after-same xs (reset p offered))))
+      (passes-same _ ys (alternates offered xs ys zs words (run-same (xs ++ Take ∷ (ys ++ Take ∷ zs)) (reset p offered) run)))
+
+  rests-same : (offered : List (List Bool)) (s : State) → RestsWhereQuiet p offered s → RestsWhereQuiet q offered s
+  rests-same offered s rests quiet =
+      let at_rest = rests (λ item. sym (enabled-same s item) ∙ quiet item) in
+      record { delivered = at_rest.delivered; finished = at_rest.finished; null = at_rest.null }
+
+  -- each of its stages has the outputs of one of the pipeline's
+  legal-same : AllZip IsSameStage p.stages stages → (s : State) → IsLegalState p s → IsLegalState q s
+  legal-same same s legal = record {
+    banks = legal.banks;
+    outputs = λ stage r listed in_outputs.
+        let (own, in_stages, outputs) = matching p.stages stages same stage (Member-from_Contains stages stage listed) in
+        legal.outputs own r (Contains-from_Member own in_stages) (subst (λ rs. Contains rs r) (sym outputs) in_outputs);
+  }
+    where
+      matching : (xs ys : List StageData) → AllZip IsSameStage xs ys → (stage : StageData) → Member stage ys
+          → (own : StageData) × Member own xs × (own.outputs ≡ stage.outputs)
+      matching [] [] same stage m = elim m [ ]
+      matching [] (y ∷ ys) same stage m = elim same [ ]
+      matching (x ∷ xs) [] same stage m = elim m [ ]
+      matching (x ∷ xs) (y ∷ ys) (first, rest) stage here = (x, here, first.outputs)
+      matching (x ∷ xs) (y ∷ ys) (first, rest) stage (there m) = let (own, n, outputs) = matching xs ys rest stage m in (own, there n, outputs)
+
+  insensitive-same : AllZip IsSameStage p.stages stages → IsDelayInsensitive p → IsDelayInsensitive q
+  insensitive-same same insensitive = record {
+    safe = record {
+      persistent = every_run-same (λ offered s. IsPersistent p s) (λ offered s. IsPersistent q s) (λ offered s. persistent-same s) insensitive.safe.persistent;
+      due = every_run-same (DeliversWhatIsDue p) (DeliversWhatIsDue q) (λ offered s delivers. delivers) insensitive.safe.due;
+      in_time = every_run-same (λ offered s. DeliversInTime s) (λ offered s. DeliversInTime s) (λ offered s early. early) insensitive.safe.in_time;
+      alternates = alternates-same insensitive.safe.alternates;
+      legal = every_run-same (λ offered s. IsLegalState p s) (λ offered s. IsLegalState q s) (λ offered s. legal-same same s) insensitive.safe.legal;
+    };
+    at_rest = every_run-same (RestsWhereQuiet p) (RestsWhereQuiet q) rests-same insensitive.at_rest;
+  }
+
+-- the other is the one with its own stages
+other-is : (p other : PipelineData) → IsSamePipeline p other → with_stages p other.stages ≡ other
+other-is p other same =
+    ap (λ x. record p { stages = other.stages; netlist = x }) same.netlist
+    ∙ ap (λ x. record p { stages = other.stages; netlist = other.netlist; banks = x }) same.banks
+    ∙ ap (λ x. record p { stages = other.stages; netlist = other.netlist; banks = other.banks; inputs = x }) same.inputs
+    ∙ ap (λ x. record p { stages = other.stages; netlist = other.netlist; banks = other.banks; inputs = other.inputs; outputs = x }) same.outputs
+    ∙ ap (λ x. record p { stages = other.stages; netlist = other.netlist; banks = other.banks; inputs = other.inputs; outputs = other.outputs; ki = x }) same.ki
+    ∙ ap (λ x. record p { stages = other.stages; netlist = other.netlist; banks = other.banks; inputs = other.inputs; outputs = other.outputs; ki = other.ki; ko = x }) same.ko
+
+pub same_is_insensitive : (p : PipelineData) (other : PipelineData) → IsSamePipeline p other → IsDelayInsensitive p → IsDelayInsensitive other
+same_is_insensitive p other same insensitive =
+    subst IsDelayInsensitive (other-is p other same) (insensitive-same p other.stages same.stages insensitive)

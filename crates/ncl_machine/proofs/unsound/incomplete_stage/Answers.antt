@@ -1,0 +1,16 @@
+use Rattle.std.proofs.Common.{refl, arith}
+use Rattle.ncl_stage.proofs.StageTest.{IsStage-from_test}
+use Rattle.ncl_machine.specs.Unsound.{eager_stage, two_zeros, delivers_too_early}
+use Rattle.ncl_machine.proofs.UnsoundLaws.{eager_stage-breaks}
+use Rattle.ncl_machine.proofs.unsound.incomplete_stage.Goals as goal
+
+pub returns-clause-stage : goal.returns-clause-stage
+returns-clause-stage c = IsStage-from_test eager_stage refl
+
+pub returns-clause-breaks : goal.returns-clause-breaks
+returns-clause-breaks c = eager_stage-breaks
+
+pub returns-clause-not_safe : goal.returns-clause-not_safe
+returns-clause-not_safe c = λ safe.
+    let early = safe.in_time two_zeros delivers_too_early (refl, tt) (refl, (refl, (refl, (refl, (refl, tt))))) in
+    omega (arith, early)

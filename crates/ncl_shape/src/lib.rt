@@ -7,11 +7,13 @@ mod chain;
 pub mod examples;
 mod item;
 pub mod laws;
+mod pipeline;
 mod rails;
 mod stage;
 
 pub use bank::{Bank, Bit};
 pub use item::Item;
 pub use ncl_origin::ShapeFault;
+pub use pipeline::Pipeline;
 pub use rails::Rails;
 pub use stage::{Stage, StageCell};

@@ -1,0 +1,135 @@
+//! Linear pipelines.
+ghost use Rattle.std.specs.Prelude.{◌≡◌};
+ghost use Rattle.ncl_shape.specs.Shape.{Shape};
+
+use crate::bank::Bank;
+use crate::rails::Rails;
+use crate::stage::Stage;
+use ncl_base::Items;
+use ncl_netlist::{NetId, Netlist};
+use std::marker::Model;
+
+/// A linear pipeline: a netlist with its banks, each but the last followed by a stage of gate cells.
+///
+/// Only `shape` makes one, of a netlist that has this shape.
+#[derive(Debug, Drop)]
+pub struct Pipeline<'a> {
+    netlist: &'a Netlist,
+    banks: Items<Bank>,
+    stages: Items<Stage>,
+    inputs: Items<Rails>,
+    outputs: Items<Rails>,
+    ki: NetId,
+    ko: NetId,
+}
+
+impl<'a> Model for Pipeline<'a> {
+    ghost use Rattle.ncl_shape.specs.Pipeline.{PipelineData};
+    ghost use Rattle.ncl_shape.specs.Shape.{Shape};
+
+    ghost Value = { PipelineData };
+
+    ghost view = { λ a. record { netlist = a.netlist.now; banks = a.banks; stages = a.stages; inputs = a.inputs; outputs = a.outputs; ki = a.ki.0; ko = a.ko.0 } };
+
+    ghost invariant = { λ a. Shape a.netlist.now (record { netlist = a.netlist.now; banks = a.banks; stages = a.stages; inputs = a.inputs; outputs = a.outputs; ki = a.ki.0; ko = a.ko.0 }) };
+}
+
+/// The parts of a pipeline but its netlist.
+#[derive(Debug, Drop)]
+pub(crate) struct Parts {
+    pub(crate) banks: Items<Bank>,
+    pub(crate) stages: Items<Stage>,
+    pub(crate) inputs: Items<Rails>,
+    pub(crate) outputs: Items<Rails>,
+    pub(crate) ki: NetId,
+    pub(crate) ko: NetId,
+}
+
+impl<'a> Pipeline<'a> {
+    /// The pipeline of a netlist and parts that are its shape. Takes no memory.
+    pub(crate) fn of(netlist: &'a Netlist, parts: Parts) -> Pipeline<'a>
+        requires { Shape netlist.now (record { netlist = netlist.now; banks = parts.banks; stages = parts.stages; inputs = parts.inputs; outputs = parts.outputs; ki = parts.ki.0; ko = parts.ko.0 }) }
+        ensures { Shape netlist.now result }
+    {
+        let Parts {
+            banks,
+            stages,
+            inputs,
+            outputs,
+            ki,
+            ko,
+        } = parts;
+        Pipeline {
+            netlist,
+            banks,
+            stages,
+            inputs,
+            outputs,
+            ki,
+            ko,
+        }
+    }
+
+    /// The netlist.
+    pub fn netlist(&self) -> &'a Netlist
+        ensures netlist { result.now ≡ self.now.netlist }
+        ensures shape { Shape self.now.netlist self.now }
+    {
+        self.netlist
+    }
+
+    /// The banks in the order of the pipeline, of which there are at least one and at most 256.
+    pub fn banks(&self) -> &[Bank]
+        ensures banks { result.now ≡ self.now.banks }
+        ensures shape { Shape self.now.netlist self.now }
+    {
+        self.banks.items()
+    }
+
+    /// The stages, one between each bank and the next.
+    pub fn stages(&self) -> &[Stage]
+        ensures stages { result.now ≡ self.now.stages }
+        ensures shape { Shape self.now.netlist self.now }
+    {
+        self.stages.items()
+    }
+
+    /// The rails that the source drives, one pair for each bit of the first bank.
+    pub fn inputs(&self) -> &[Rails]
+        ensures inputs { result.now ≡ self.now.inputs }
+        ensures shape { Shape self.now.netlist self.now }
+    {
+        self.inputs.items()
+    }
+
+    /// The rails that the sink reads, one pair for each bit of the last bank.
+    pub fn outputs(&self) -> &[Rails]
+        ensures outputs { result.now ≡ self.now.outputs }
+        ensures shape { Shape self.now.netlist self.now }
+    {
+        self.outputs.items()
+    }
+
+    /// The sink's acknowledge, which is the request of the last bank.
+    pub fn ki(&self) -> NetId
+        ensures ki { result.0 ≡ self.now.ki }
+        ensures shape { Shape self.now.netlist self.now }
+    {
+        self.ki
+    }
+
+    /// The acknowledge to the source, which is the root of the first bank.
+    pub fn ko(&self) -> NetId
+        ensures ko { result.0 ≡ self.now.ko }
+        ensures shape { Shape self.now.netlist self.now }
+    {
+        self.ko
+    }
+
+    /// That the netlist has the shape of this pipeline. Costs nothing.
+    pub fn facts(&self)
+        ensures { Shape self.now.netlist self.now }
+    {
+        let _ = &self.netlist;
+    }
+}

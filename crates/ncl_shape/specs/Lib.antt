@@ -10,3 +10,4 @@ pub mod Closure
 pub mod Examples
 pub mod SamePipeline
 pub mod FoundChain
+pub mod FoundParts

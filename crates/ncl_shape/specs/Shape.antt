@@ -1,10 +1,12 @@
 -- The shape of a netlist: the eight rules, the pipeline that they describe, and the first broken rule.
 use Rattle.std.specs.Prelude.{◌≡◌, ℕ, zero, suc, ◌+◌, ◌-◌, ◌<◌, ◌≤◌, List, Contains, length, slice_get, Some, AllPairs, map}
 use Rattle.std.specs.List.{AllZip}
+use Rattle.ncl_base.specs.declared.word.TheConstants.{MOST_BITS}
 use Rattle.ncl_gates.specs.declared.kind.Kind.{Kind}
 use Rattle.ncl_gates.specs.declared.cell_kind.CellKind.TheVariants.{Gate}
 use Rattle.ncl_netlist.specs.declared.cell.Cell.{Cell}
 use Rattle.ncl_netlist.specs.Netlist.{NetlistData, IsNetlist}
+use Rattle.ncl_shape.specs.declared.bank.TheConstants.{MOST_BANKS}
 use Rattle.ncl_shape.specs.declared.bank.Bank.{Bank}
 use Rattle.ncl_shape.specs.declared.bank.Bit.{Bit}
 use Rattle.ncl_shape.specs.declared.rails.Rails.{Rails}
@@ -73,13 +75,13 @@ pub record IsStageOf (n : NetlistData) (b next : Bank) (s : StageData) : Type 0 
   pub each : (k : ℕ) (c : StageCell) → slice_get s.cells k ≡ Some c → IsGateOf n b.request.0 c
   pub every : (k : ℕ) (kind : Kind) (c : Cell) → CellAt n k c → c.kind ≡ Gate kind → ComesFrom n c.out.0 (RailOf b.request.0) → (g : StageCell) × Contains s.cells g × (g.cell.0 ≡ k)
 
--- rule 7: the bank has at most 128 bits
+-- rule 7: the bank has at most 128 bits, as many as a word
 abbrev pub IsNarrow : NetlistData → ℕ → Type 0
-IsNarrow n bank = (bits : List Bit) → AreBitsOf n bank bits → length bits ≤ 128
+IsNarrow n bank = (bits : List Bit) → AreBitsOf n bank bits → length bits ≤ MOST_BITS
 
 -- rule 8: there are at most 256 banks
 abbrev pub IsShort : NetlistData → Type 0
-IsShort n = (banks : List ℕ) → IsChain n banks → length banks ≤ 256
+IsShort n = (banks : List ℕ) → IsChain n banks → length banks ≤ MOST_BANKS
 
 -- it is a netlist that has the shape of a linear pipeline, and this is the pipeline
 pub record Shape (n : NetlistData) (p : PipelineData) : Type 0 where
@@ -88,8 +90,8 @@ pub record Shape (n : NetlistData) (p : PipelineData) : Type 0 where
   pub free : IsFree n
   pub chained : IsChained n
   pub chain : IsChain n (map (λ (b : Bank). b.request.0) p.banks)
-  pub banks : (k : ℕ) (b : Bank) → slice_get p.banks k ≡ Some b → IsBankOf n b.request.0 b × (length b.bits ≤ 128)
-  pub few_banks : length p.banks ≤ 256
+  pub banks : (k : ℕ) (b : Bank) → slice_get p.banks k ≡ Some b → IsBankOf n b.request.0 b × (length b.bits ≤ MOST_BITS)
+  pub few_banks : length p.banks ≤ MOST_BANKS
   pub stages : length p.stages + 1 ≡ length p.banks
   pub each_stage : (k : ℕ) (b next : Bank) (s : StageData) → slice_get p.banks k ≡ Some b → slice_get p.banks (k + 1) ≡ Some next → slice_get p.stages k ≡ Some s → (s.number ≡ k + 1) × IsStageOf n b next s
   pub inputs : (first : Bank) → slice_get p.banks 0 ≡ Some first → AllZip (AreInputsOf n) first.bits p.inputs
@@ -136,3 +138,16 @@ rule_of Memory = 0
 pub record Broken (n : NetlistData) (fault : ShapeFault) : Type 0 where
   pub breaks : BreaksRule n fault
   pub before : (r : ℕ) → r < rule_of fault → RuleHolds n r
+
+-- what is answered where a netlist has no shape: the first rule that it breaks, at its first place. Want of memory
+-- is no fault of the netlist, and may come at all of them
+abbrev pub IsShapeFault : NetlistData → ShapeFault → Type 0
+IsShapeFault n (UnusedPort net) = Broken n (UnusedPort net)
+IsShapeFault n (Cycle cell) = Broken n (Cycle cell)
+IsShapeFault n (Unpaired cell) = Broken n (Unpaired cell)
+IsShapeFault n (Mixed cell) = Broken n (Mixed cell)
+IsShapeFault n (Loose cell) = Broken n (Loose cell)
+IsShapeFault n (NoChain rule) = Broken n (NoChain rule)
+IsShapeFault n (TooWide number) = Broken n (TooWide number)
+IsShapeFault n TooLong = Broken n TooLong
+IsShapeFault n Memory = Unit {0}

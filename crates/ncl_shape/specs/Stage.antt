@@ -1,5 +1,6 @@
 -- A stage: the gate cells between a bank and the next, as Smith and Di 2009 lay out an NCL pipeline.
 use Rattle.std.specs.Prelude.{◌≡◌, ◌≢◌, ℕ, ◌≤◌, List, [], ◌∷◌, ◌++◌, Bool, true, false, length, All, AllPairs, Contains, map}
+use Rattle.ncl_base.specs.declared.word.TheConstants.{MOST_BITS}
 use Rattle.ncl_gates.specs.Gate.{arity_of}
 use Rattle.ncl_shape.specs.declared.rails.Rails.{Rails}
 use Rattle.ncl_shape.specs.declared.stage.StageCell.{StageCell}
@@ -48,9 +49,9 @@ IsInOrder inputs cells =
 -- what holds of each stage
 pub record IsStage (s : StageData) : Type 0 where
   pub some_inputs : 1 ≤ length s.inputs
-  pub few_inputs : length s.inputs ≤ 128
+  pub few_inputs : length s.inputs ≤ MOST_BITS
   pub some_outputs : 1 ≤ length s.outputs
-  pub few_outputs : length s.outputs ≤ 128
+  pub few_outputs : length s.outputs ≤ MOST_BITS
   pub nets_differ : AllPairs (λ x y. x ≢ y) (nets_of s.inputs s.cells)
   pub cells_differ : AllPairs (λ (x y : StageCell). x.cell.0 ≢ y.cell.0) s.cells
   pub arities : All (λ (c : StageCell). length c.ins.items ≡ arity_of c.kind) s.cells

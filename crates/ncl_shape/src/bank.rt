@@ -2,6 +2,9 @@
 use ncl_base::Items;
 use ncl_netlist::{CellId, NetId};
 
+/// The most banks of a pipeline.
+pub const MOST_BANKS: usize = 256;
+
 /// A bit of a bank: the register cells of its rails, and the acknowledge cell that reads them.
 #[derive(Clone, Copy, Debug, Default, PartialEq, Eq)]
 pub struct Bit {

@@ -11,7 +11,7 @@ mod pipeline;
 mod rails;
 mod stage;
 
-pub use bank::{Bank, Bit};
+pub use bank::{Bank, Bit, MOST_BANKS};
 pub use item::Item;
 pub use ncl_origin::ShapeFault;
 pub use pipeline::Pipeline;

@@ -17,4 +17,5 @@ mod tying;
 
 pub use fault::ShapeFault;
 pub use origins::{Origins, find_origins};
+pub use pairing::register_behind;
 pub use source::{Source, same_source};

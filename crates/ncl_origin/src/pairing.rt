@@ -10,7 +10,7 @@ use ncl_gates::CellKind;
 use ncl_netlist::{Cell, CellId, NetId, Netlist};
 
 /// The place and the request of the register cell that drives a net; `None` where no register cell does.
-pub(crate) fn register_behind(
+pub fn register_behind(
     netlist: &Netlist,
     drivers: &[Option<u32>],
     net: NetId,

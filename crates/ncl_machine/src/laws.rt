@@ -20,7 +20,7 @@ ghost use Rattle.ncl_machine.specs.Composition.{composed};
 ghost use Rattle.ncl_machine.specs.OneChange.{ChangesOneNet};
 ghost use Rattle.ncl_machine.specs.DelayInsensitive.{AfterEveryRun, AlternatesWithNull, DeliversInTime, DeliversWhatIsDue, IsDelayInsensitive, IsLegalState, IsSafe, RestsWhereQuiet};
 
-use ncl_shape::Stage;
+use ncl_shape::{Pipeline, Stage};
 
 /// The first items of a run are a run, the others are a run from where those end, and there they lead to
 /// the state that all items lead to.
@@ -72,32 +72,52 @@ pub fn step_changes_one_net()
 
 /// In every run of a pipeline of sound stages no item takes another back: what is excited stays excited until
 /// it fires, and what the source or the sink may do it may until it does.
-pub fn persistent()
-    ensures { (n : NetlistData) (p : PipelineData) → Shape n p → All IsSound p.stages → AfterEveryRun p (λ offered s. IsPersistent p s) }
-{}
+pub fn persistent(pipeline: &Pipeline)
+    requires { All IsSound pipeline.now.stages }
+    ensures { AfterEveryRun pipeline.now (λ offered s. IsPersistent pipeline.now s) }
+{
+    pipeline.facts();
+}
 
 /// A pipeline of sound stages is safe: besides being persistent, in every run it delivers the first words of
 /// what is due, none of them before it was raised, its outputs are NULL between any two words taken, and no bit
 /// of a bank and no output of a stage is illegal.
-pub fn prefix()
-    ensures due { (n : NetlistData) (p : PipelineData) → Shape n p → All IsSound p.stages → AfterEveryRun p (DeliversWhatIsDue p) }
-    ensures in_time { (n : NetlistData) (p : PipelineData) → Shape n p → All IsSound p.stages → AfterEveryRun p (λ offered s. DeliversInTime s) }
-    ensures alternates { (n : NetlistData) (p : PipelineData) → Shape n p → All IsSound p.stages → AlternatesWithNull p }
-    ensures legal { (n : NetlistData) (p : PipelineData) → Shape n p → All IsSound p.stages → AfterEveryRun p (λ offered s. IsLegalState p s) }
-    ensures safe { (n : NetlistData) (p : PipelineData) → Shape n p → All IsSound p.stages → IsSafe p }
-{}
+pub fn prefix(pipeline: &Pipeline)
+    requires { All IsSound pipeline.now.stages }
+    ensures due { AfterEveryRun pipeline.now (DeliversWhatIsDue pipeline.now) }
+    ensures in_time { AfterEveryRun pipeline.now (λ offered s. DeliversInTime s) }
+    ensures alternates { AlternatesWithNull pipeline.now }
+    ensures legal { AfterEveryRun pipeline.now (λ offered s. IsLegalState pipeline.now s) }
+    ensures safe { IsSafe pipeline.now }
+{
+    pipeline.facts();
+}
 
 /// A pipeline of sound stages is delay-insensitive: it is safe, and a run comes to a stop only where all is
 /// delivered, the source is finished and every bank is NULL.
-pub fn quiescent()
-    ensures rests { (n : NetlistData) (p : PipelineData) → Shape n p → All IsSound p.stages → AfterEveryRun p (RestsWhereQuiet p) }
-    ensures insensitive { (n : NetlistData) (p : PipelineData) → Shape n p → All IsSound p.stages → IsDelayInsensitive p }
-{}
+pub fn quiescent(pipeline: &Pipeline)
+    requires { All IsSound pipeline.now.stages }
+    ensures rests { AfterEveryRun pipeline.now (RestsWhereQuiet pipeline.now) }
+    ensures insensitive { IsDelayInsensitive pipeline.now }
+{
+    pipeline.facts();
+}
 
 /// A run of a pipeline of sound stages has at most twice as many items as words times nets, so every run comes
 /// to a stop.
-pub fn bound()
-    ensures { (n : NetlistData) (p : PipelineData) → Shape n p → All IsSound p.stages → (offered : List (List Bool)) (items : List Item) → AreWordsOf p offered → IsRun p offered items → length items ≤ 2 * length offered * length n.nets }
+pub fn bound(pipeline: &Pipeline)
+    requires { All IsSound pipeline.now.stages }
+    ensures { (offered : List (List Bool)) (items : List Item) → AreWordsOf pipeline.now offered → IsRun pipeline.now offered items → length items ≤ 2 * length offered * length pipeline.now.netlist.nets }
+{
+    pipeline.facts();
+}
+
+/// These four laws of any netlist that has the shape of a pipeline, whether or not the program has found it: where
+/// the stages are sound, the pipeline is delay-insensitive, and its runs are bounded.
+pub fn sound_is_insensitive()
+    ensures safe { (n : NetlistData) (p : PipelineData) → Shape n p → All IsSound p.stages → IsSafe p }
+    ensures insensitive { (n : NetlistData) (p : PipelineData) → Shape n p → All IsSound p.stages → IsDelayInsensitive p }
+    ensures bound { (n : NetlistData) (p : PipelineData) → Shape n p → All IsSound p.stages → (offered : List (List Bool)) (items : List Item) → AreWordsOf p offered → IsRun p offered items → length items ≤ 2 * length offered * length n.nets }
 {}
 
 /// The function of a pipeline of sound stages is the composition of its stages' functions, in order.

@@ -59,6 +59,7 @@ pub fn and_of_two_is_sound()
 /// The bound on runs is nearly reached: one word goes through two banks with a chain of four gates between them
 /// in 20 steps, where twice the words times the nets is 28. The stage is sound, and at the end nothing can move.
 pub fn word_through_a_chain()
+    ensures netlist { IsNetlist chain }
     ensures stage { IsStage chain_stage }
     ensures sound { IsSound chain_stage }
     ensures run { IsRun chain_pipeline one_word through_chain }

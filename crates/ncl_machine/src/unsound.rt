@@ -1,6 +1,7 @@
 //! Pipelines whose one stage breaks one condition of soundness each, and keeps the others, and that go wrong. That
 //! their netlists keep the rules of shape is not stated here.
 ghost use Rattle.std.specs.Prelude.{◌≡◌, true, false, [], ◌∷◌, All};
+ghost use Rattle.ncl_netlist.specs.Netlist.{IsNetlist};
 ghost use Rattle.ncl_shape.specs.Stage.{IsStage};
 ghost use Rattle.ncl_stage.specs.Faults.{BothRails, NoRail, Incomplete, Orphan, IsSound};
 ghost use Rattle.ncl_machine.specs.Run.{IsRun, IsQuiet};
@@ -12,6 +13,7 @@ ghost use Rattle.ncl_machine.specs.Unsound.{BreaksOnly, after_run, orphan_stage,
 /// A stage that doesn't need all its inputs: an AND whose output is 0 as soon as one bit is. A word is taken
 /// before the source has raised it all, and so too early.
 pub fn incomplete_stage()
+    ensures netlist { IsNetlist with_eager_and.netlist }
     ensures stage { IsStage eager_stage }
     ensures breaks { BreaksOnly eager_stage (Incomplete 0) }
     ensures run { IsRun with_eager_and two_zeros delivers_too_early }
@@ -22,6 +24,7 @@ pub fn incomplete_stage()
 /// A stage with an orphan, a gate that nothing observes: a word goes through both banks while the gate is still
 /// to rise, and the NULL behind it takes the gate's excitation away.
 pub fn orphan_in_a_stage()
+    ensures netlist { IsNetlist with_orphan.netlist }
     ensures stage { IsStage orphan_stage }
     ensures breaks { BreaksOnly orphan_stage (Orphan 0) }
     ensures run { IsRun with_orphan one_word leaves_a_gate_behind }
@@ -31,6 +34,7 @@ pub fn orphan_in_a_stage()
 
 /// A stage with an output of which both rails rise: what is taken has both, and is no word.
 pub fn both_rails_of_an_output()
+    ensures netlist { IsNetlist with_both_rails.netlist }
     ensures stage { IsStage illegal_stage }
     ensures breaks { BreaksOnly illegal_stage (BothRails 0) }
     ensures run { IsRun with_both_rails one_word delivers_both_rails }
@@ -42,6 +46,7 @@ pub fn both_rails_of_an_output()
 /// A stage with an output of which at some word no rail rises: the word never leaves the first bank. Nothing can
 /// move, and nothing is delivered.
 pub fn no_rail_of_an_output()
+    ensures netlist { IsNetlist with_dead_rail.netlist }
     ensures stage { IsStage dead_stage }
     ensures breaks { BreaksOnly dead_stage (NoRail 0) }
     ensures run { IsRun with_dead_rail one_zero gets_stuck }

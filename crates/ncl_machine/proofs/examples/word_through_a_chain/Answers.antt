@@ -1,12 +1,16 @@
-use Rattle.std.proofs.Common.{◌≡◌, ℕ, zero, suc, Bool, true, false, [], ◌∷◌, refl}
+use Rattle.std.proofs.Common.{◌≡◌, ℕ, zero, suc, Bool, true, false, [], ◌∷◌, refl, arith}
 use Rattle.ncl_shape.specs.declared.item.Item.{Item}
 use Rattle.ncl_shape.specs.declared.item.Item.TheVariants.{Cell, Raise, Lower, Take, Ready}
 use Rattle.ncl_stage.specs.Faults.{StageFault, BothRails, NoRail, Incomplete, Orphan, shows}
 use Rattle.ncl_stage.proofs.StageTest.{IsStage-from_test}
 use Rattle.ncl_machine.specs.Steps.{enabled}
-use Rattle.ncl_machine.specs.Examples.{fire, chain_stage, chain_pipeline, where_the_chain_rests}
+use Rattle.ncl_machine.specs.Examples.{fire, chain, chain_stage, chain_pipeline, where_the_chain_rests}
+use Rattle.ncl_machine.proofs.WrittenNetlists.{netlist_from_tests}
 use Rattle.ncl_machine.proofs.UnsoundLaws.{of_one_bit}
 use Rattle.ncl_machine.proofs.examples.word_through_a_chain.Goals as goal
+
+pub returns-clause-netlist : goal.returns-clause-netlist
+returns-clause-netlist c = netlist_from_tests chain (record { driven = refl; fits = refl; ports_first = refl; in_order = refl; net_names = refl; cell_names = refl; few_cells = omega arith; few_nets = omega arith })
 
 pub returns-clause-stage : goal.returns-clause-stage
 returns-clause-stage c = IsStage-from_test chain_stage refl

@@ -1,10 +1,14 @@
-use Rattle.std.proofs.Common.{◌≡◌, true, false, [], ◌∷◌, not, map, refl, sym, ap, ◌∙◌}
+use Rattle.std.proofs.Common.{◌≡◌, true, false, [], ◌∷◌, not, map, refl, sym, ap, ◌∙◌, arith}
 use Rattle.ncl_stage.proofs.StageTest.{IsStage-from_test}
 use Rattle.ncl_machine.specs.DelayInsensitive.{DeliversWhatIsDue}
 use Rattle.ncl_machine.specs.Examples.{one_word}
 use Rattle.ncl_machine.specs.Unsound.{illegal_stage, with_both_rails, delivers_both_rails, after_run}
+use Rattle.ncl_machine.proofs.WrittenNetlists.{netlist_from_tests}
 use Rattle.ncl_machine.proofs.UnsoundLaws.{illegal_stage-breaks}
 use Rattle.ncl_machine.proofs.unsound.both_rails_of_an_output.Goals as goal
+
+pub returns-clause-netlist : goal.returns-clause-netlist
+returns-clause-netlist c = netlist_from_tests with_both_rails.netlist (record { driven = refl; fits = refl; ports_first = refl; in_order = refl; net_names = refl; cell_names = refl; few_cells = omega arith; few_nets = omega arith })
 
 pub returns-clause-stage : goal.returns-clause-stage
 returns-clause-stage c = IsStage-from_test illegal_stage refl

@@ -1,12 +1,16 @@
-use Rattle.std.proofs.Common.{◌≡◌, ℕ, zero, suc, false, refl}
+use Rattle.std.proofs.Common.{◌≡◌, ℕ, zero, suc, false, refl, arith}
 use Rattle.ncl_stage.proofs.StageTest.{IsStage-from_test}
 use Rattle.ncl_shape.specs.declared.item.Item.TheVariants.{Cell, Raise, Lower, Take, Ready}
 use Rattle.ncl_machine.specs.Steps.{enabled}
 use Rattle.ncl_machine.specs.Run.{IsQuiet}
 use Rattle.ncl_machine.specs.Examples.{fire}
 use Rattle.ncl_machine.specs.Unsound.{dead_stage, with_dead_rail, one_zero, gets_stuck, after_run}
+use Rattle.ncl_machine.proofs.WrittenNetlists.{netlist_from_tests}
 use Rattle.ncl_machine.proofs.UnsoundLaws.{dead_stage-breaks}
 use Rattle.ncl_machine.proofs.unsound.no_rail_of_an_output.Goals as goal
+
+pub returns-clause-netlist : goal.returns-clause-netlist
+returns-clause-netlist c = netlist_from_tests with_dead_rail.netlist (record { driven = refl; fits = refl; ports_first = refl; in_order = refl; net_names = refl; cell_names = refl; few_cells = omega arith; few_nets = omega arith })
 
 pub returns-clause-stage : goal.returns-clause-stage
 returns-clause-stage c = IsStage-from_test dead_stage refl

@@ -1,10 +1,14 @@
-use Rattle.std.proofs.Common.{refl}
+use Rattle.std.proofs.Common.{refl, arith}
 use Rattle.ncl_stage.proofs.StageTest.{IsStage-from_test}
 use Rattle.ncl_machine.specs.Examples.{fire, one_word}
 use Rattle.ncl_machine.specs.Unsound.{orphan_stage, with_orphan, leaves_a_gate_behind}
 use Rattle.ncl_machine.proofs.IllShapedLaws.{taken_back_is_unsafe, cells_differ}
+use Rattle.ncl_machine.proofs.WrittenNetlists.{netlist_from_tests}
 use Rattle.ncl_machine.proofs.UnsoundLaws.{orphan_stage-breaks}
 use Rattle.ncl_machine.proofs.unsound.orphan_in_a_stage.Goals as goal
+
+pub returns-clause-netlist : goal.returns-clause-netlist
+returns-clause-netlist c = netlist_from_tests with_orphan.netlist (record { driven = refl; fits = refl; ports_first = refl; in_order = refl; net_names = refl; cell_names = refl; few_cells = omega arith; few_nets = omega arith })
 
 pub returns-clause-stage : goal.returns-clause-stage
 returns-clause-stage c = IsStage-from_test orphan_stage refl

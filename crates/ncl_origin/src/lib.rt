@@ -19,3 +19,4 @@ pub use fault::ShapeFault;
 pub use origins::{Origins, find_origins};
 pub use pairing::register_behind;
 pub use source::{Source, same_source};
+pub use tying::is_output_port;

@@ -11,3 +11,4 @@ pub mod Examples
 pub mod SamePipeline
 pub mod FoundChain
 pub mod FoundParts
+pub mod ChainSteps

@@ -5,5 +5,8 @@ pub mod ShapeLaws
 pub mod FaultLaws
 pub mod PinLaws
 pub mod WrittenCells
+pub mod Places
+pub mod BankNets
+pub mod BankFeeds
 mod ExampleChains
 mod ExampleTrees

@@ -3,6 +3,7 @@
 #![tactic(auto)]
 
 mod bank;
+mod banks;
 mod chain;
 pub mod examples;
 mod item;

@@ -8,5 +8,6 @@ pub mod WrittenCells
 pub mod Places
 pub mod BankNets
 pub mod BankFeeds
+pub mod OnlyNets
 mod ExampleChains
 mod ExampleTrees

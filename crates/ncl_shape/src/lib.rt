@@ -5,6 +5,7 @@
 mod bank;
 mod banks;
 mod chain;
+mod ends;
 pub mod examples;
 mod item;
 pub mod laws;

@@ -1,0 +1,14 @@
+use Rattle.std.proofs.Common.{◌≡◌, Some, sym, ap, ◌∙◌, subst}
+use Rattle.ncl_origin.specs.declared.source.Source.TheVariants.{Port}
+use Rattle.ncl_shape.specs.ChainSteps.{IsFeedOf}
+use Rattle.ncl_shape.proofs.BankFeeds.{feed_of_first}
+use Rattle.ncl_shape.proofs.ends.is_first_bank.Goals as goal
+
+pub returns : goal.returns
+returns c = (
+  (λ holds. subst (IsFeedOf c.args.netlist.now c.args.bank.0) (c.in-Some.is ∙ ap Some (c.same_source.ensures.0 holds)) c.feed.ensures),
+  λ first.
+      let both : Some c.in-Some.source ≡ Some Port = sym c.in-Some.is ∙ feed_of_first c.args.netlist.now c.requires.origins.drivers.netlist c.requires.free c.args.bank.0 c.feed.result c.feed.ensures first in
+      let same : c.in-Some.source ≡ Port = cc in
+      c.same_source.ensures.1 same,
+)

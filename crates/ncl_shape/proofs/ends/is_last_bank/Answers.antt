@@ -1,0 +1,27 @@
+use Rattle.std.proofs.Common.{is_some, inl, inr, sym, ap, ◌∙◌}
+use Rattle.std.proofs.lemmas.Bool.{both_ways, cases_Bool}
+use Rattle.ncl_origin.proofs.SourceTests.{none_from, some_from, port_of_none, none_of_port}
+use Rattle.ncl_origin.proofs.TreeTests.{request_by_first, first_by_request}
+use Rattle.ncl_shape.proofs.ends.is_last_bank.Goals as goal
+
+pub returns-then-is_some : goal.returns-then-is_some
+returns-then-is_some c = (
+  (λ holds. record {
+    is_bank = request_by_first c.args.netlist.now c.requires.origins.drivers.netlist c.args.bank.0 c.requires.inside c.args.origins.now.firsts.items c.requires.origins.firsts (ap is_some (sym c.first.ensures) ∙ sym c.is_some.ensures ∙ c.if-is_some.true);
+    request = port_of_none c.args.netlist.now c.args.origins.now.drivers.items c.requires.origins.drivers c.args.bank.0 c.requires.inside (sym c.driver.ensures ∙ none_from c.driver.result c.is_none.result c.is_none.ensures holds);
+  }),
+  λ last.
+      let none = none_of_port c.args.netlist.now c.args.origins.now.drivers.items c.requires.origins.drivers c.args.bank.0 last.request in
+      elim (cases_Bool c.is_none.result) [
+        | inl holds ↦ holds
+        | inr fails ↦ absurd (some_from c.driver.result c.is_none.result c.is_none.ensures fails (c.driver.ensures ∙ none))
+      ],
+)
+
+pub returns-else-is_some : goal.returns-else-is_some
+returns-else-is_some c = (
+  (λ holds. absurd (both_ways c.is_some.result c.if-is_some.false holds)),
+  λ last.
+      let some = first_by_request c.args.netlist.now c.requires.origins.drivers.netlist c.args.bank.0 c.requires.inside c.args.origins.now.firsts.items c.requires.origins.firsts last.is_bank in
+      absurd (both_ways c.is_some.result c.if-is_some.false (c.is_some.ensures ∙ ap is_some c.first.ensures ∙ some)),
+)

@@ -9,5 +9,6 @@ pub mod Places
 pub mod BankNets
 pub mod BankFeeds
 pub mod OnlyNets
+pub mod Followers
 mod ExampleChains
 mod ExampleTrees

@@ -10,5 +10,7 @@ pub mod BankNets
 pub mod BankFeeds
 pub mod OnlyNets
 pub mod Followers
+pub mod BankNumbers
+pub mod WalkLaws
 mod ExampleChains
 mod ExampleTrees

@@ -14,6 +14,7 @@ pub mod laws;
 mod pipeline;
 mod rails;
 mod stage;
+mod walking;
 
 pub use bank::{Bank, Bit, MOST_BANKS};
 pub use item::Item;

@@ -1,0 +1,22 @@
+use Rattle.std.proofs.Common.{sym, ◌∙◌, subst}
+use Rattle.std.proofs.lemmas.Bool.{both_ways}
+use Rattle.ncl_shape.specs.Chain.{IsFirstBank}
+use Rattle.ncl_shape.specs.ChainSteps.{AreNumbersOf, AreAllNumbered, numbers_of}
+use Rattle.ncl_shape.proofs.WalkLaws.{numbered_by_chain, chain_of_walk}
+use Rattle.ncl_shape.proofs.walking.banks_in_order.Goals as goal
+
+pub returns-then-not-are_all_numbered : goal.returns-then-not-are_all_numbered
+returns-then-not-are_all_numbered c = λ chain.
+    let n = c.args.netlist.now in
+    let (it, same) = c.requires.first in
+    let numbers = subst (λ banks. AreNumbersOf n (numbers_of banks) c.in_ok-numbers.numbers.items) c.deref.ensures.value c.in_ok-numbers.ensures in
+    let all = numbered_by_chain n c.requires.origins.drivers.netlist c.requires.free c.args.first.0 (λ other first. it.only other first ∙ same) c.requires.unforked (numbers_of c.in_ok-banks.banks.items) c.in_ok-banks.ensures.walk c.in_ok-numbers.numbers.items numbers chain in
+    both_ways c.are_all_numbered.result c.if-not-are_all_numbered.true (c.are_all_numbered.ensures.1 (subst (AreAllNumbered n) (sym c.deref-2.ensures.value) all))
+
+pub returns : goal.returns
+returns c =
+    let n = c.args.netlist.now in
+    let (it, same) = c.requires.first in
+    let numbers = subst (λ banks. AreNumbersOf n (numbers_of banks) c.in_ok-numbers.numbers.items) c.deref.ensures.value c.in_ok-numbers.ensures in
+    let all = subst (AreAllNumbered n) c.deref-2.ensures.value (c.are_all_numbered.ensures.0 c.if-not-are_all_numbered.false) in
+    (chain_of_walk n c.requires.origins.drivers.netlist c.requires.free c.args.first.0 (λ other first. it.only other first ∙ same) c.requires.unforked (numbers_of c.in_ok-banks.banks.items) c.in_ok-banks.ensures.walk c.in_ok-numbers.numbers.items numbers (subst (IsFirstBank n) same it.is) all, numbers)

@@ -10,7 +10,9 @@ pub mod BankNets
 pub mod BankFeeds
 pub mod OnlyNets
 pub mod Followers
+pub mod NetSources
 pub mod BankNumbers
 pub mod WalkLaws
+pub mod AcknowledgeLaws
 mod ExampleChains
 mod ExampleTrees

@@ -2,6 +2,7 @@
 //! firing machine.
 #![tactic(auto)]
 
+mod acknowledging;
 mod bank;
 mod banks;
 mod chain;

@@ -1,0 +1,61 @@
+use Rattle.std.proofs.Common.{◌+◌, ◌-◌, get_or, refl, sym, ap, subst, arith}
+use Rattle.std.proofs.lemmas.Bool.{both_ways}
+use Rattle.std.proofs.lemmas.List.{length-map}
+use Rattle.std.proofs.lemmas.Option.{slice_get_within}
+use Rattle.ncl_netlist.specs.declared.ids.NetId.{NetId}
+use Rattle.ncl_origin.specs.declared.source.Source.TheVariants.{Ack}
+use Rattle.ncl_origin.specs.Origin.{AckOf}
+use Rattle.ncl_origin.specs.Sources.{IsSourceOf}
+use Rattle.ncl_origin.proofs.PinNumbers.{no_net}
+use Rattle.ncl_origin.proofs.SourceSteps.{only_from_source}
+use Rattle.ncl_origin.proofs.Summaries.{named}
+use Rattle.ncl_shape.specs.ChainSteps.{numbers_of}
+use Rattle.ncl_shape.proofs.AcknowledgeLaws.{acknowledged, acknowledged_more, acknowledged_at}
+use Rattle.ncl_shape.proofs.NetSources.{source_of_origin}
+use Rattle.ncl_shape.proofs.BankNets.{chain_within}
+use Rattle.ncl_shape.proofs.acknowledging.is_acknowledged.Goals as goal
+
+pub source-requires : goal.source-requires
+source-requires c =
+    let some = c.loop-next.auto.next in
+    let inside = chain_within c.args.netlist.now c.requires.origins.drivers.netlist c.args.banks.now c.requires.chain (c.loop-next.next - 1) no_net (omega (arith, some, c.loop-next-test.true)) in
+    let sized = c.requires.origins.sources.sized in
+    omega (arith, inside, sized)
+
+pub returns-then-not-same_source : goal.returns-then-not-same_source
+returns-then-not-same_source c = (
+  (λ never. absurd cc),
+  λ acks.
+      let n = c.args.netlist.now in
+      let banks = c.args.banks.now in
+      let i = c.loop-next.next in
+      let is = c.requires.origins.drivers.netlist in
+      let some = c.loop-next.auto.next in
+      let inside = chain_within n is banks c.requires.chain (i - 1) no_net (omega (arith, some, c.loop-next-test.true)) in
+      let is_s = subst (IsSourceOf n (get_or banks (i - 1) no_net).0) (sym c.source.ensures) (c.requires.origins.sources.each (get_or banks (i - 1) no_net).0 inside) in
+      let only = acknowledged_at n banks i no_net acks some c.loop-next-test.true in
+      absurd (both_ways c.same_source.result c.if-not-same_source.true
+      (c.same_source.ensures.1 (source_of_origin n is c.requires.free (get_or banks (i - 1) no_net).0 c.source.result (Ack (get_or banks i no_net)) (AckOf (get_or banks i no_net).0) is_s only.comes refl))),
+)
+
+pub loop-next-preserved : goal.loop-next-preserved
+loop-next-preserved c =
+    let n = c.args.netlist.now in
+    let banks = c.args.banks.now in
+    let i = c.loop-next.next in
+    let is = c.requires.origins.drivers.netlist in
+    let some = c.loop-next.auto.next in
+    let inside = chain_within n is banks c.requires.chain (i - 1) no_net (omega (arith, some, c.loop-next-test.true)) in
+    let is_s = subst (IsSourceOf n (get_or banks (i - 1) no_net).0) (sym c.source.ensures) (c.requires.origins.sources.each (get_or banks (i - 1) no_net).0 inside) in
+    let only = only_from_source n is (get_or banks (i - 1) no_net).0 c.source.result (AckOf (get_or banks i no_net).0) is_s (ap named (c.same_source.ensures.0 c.if-not-same_source.false)) in
+    acknowledged_more n banks i no_net c.loop-next.invariant some c.loop-next-test.true only
+
+pub returns : goal.returns
+returns c = (
+  (λ holds. acknowledged c.args.netlist.now c.requires.origins.drivers.netlist c.requires.free (numbers_of c.args.banks.now) c.requires.chain c.requires.ends
+      (λ k bank next at at_next.
+      let within = slice_get_within (numbers_of c.args.banks.now) (k + 1) next at_next in
+      let as_many = length-map c.args.banks.now (λ (net : NetId). net.0) in
+      c.loop-next.invariant k bank next (omega (arith, within, as_many, c.loop-next-test.false)) at at_next)),
+  λ acks. refl,
+)

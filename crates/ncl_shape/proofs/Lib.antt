@@ -14,5 +14,6 @@ pub mod NetSources
 pub mod BankNumbers
 pub mod WalkLaws
 pub mod AcknowledgeLaws
+pub mod RootLaws
 mod ExampleChains
 mod ExampleTrees

@@ -1,0 +1,52 @@
+use Rattle.std.proofs.Common.{◌+◌, None, get_or, sym, ◌∙◌, subst, arith}
+use Rattle.std.proofs.lemmas.List.{get_or_read}
+use Rattle.std.proofs.lemmas.Option.{slice_get-get_or, MatchOption-at_some, MatchOption-at_none}
+use Rattle.ncl_origin.proofs.PinNumbers.{no_net}
+use Rattle.ncl_shape.specs.Chain.{IsRoot}
+use Rattle.ncl_shape.specs.ChainSteps.{AreOnly, IsOnly, IsOnlyOf}
+use Rattle.ncl_shape.proofs.Places.{no_entry}
+use Rattle.ncl_shape.proofs.BankNets.{chain_within}
+use Rattle.ncl_shape.proofs.RootLaws.{AreOnlyRoots, two_roots, no_root, roots_more, all_rooted}
+use Rattle.ncl_shape.proofs.rooting.find_roots.Goals as goal
+
+pub returns-in_default : goal.returns-in_default
+returns-in_default c =
+    two_roots c.args.netlist.now c.requires.origins.drivers.netlist c.requires.free c.args.banks.now c.requires.chain
+    (MatchOption-at_none _ _ (no_entry c.in_ok-found.field-0 c.in_default.not-Some) c.in_ok-found.ensures)
+
+pub index-requires : goal.index-requires
+index-requires c =
+    let inside = chain_within c.args.netlist.now c.requires.origins.drivers.netlist c.args.banks.now c.requires.chain c.loop-bank.bank-index no_net c.loop-bank-test.true in
+    let are : AreOnly c.args.netlist.now (IsRoot c.args.netlist.now) c.in-Some.found.items = MatchOption-at_some _ _ c.in-Some.found c.in-Some.is c.in_ok-found.ensures in
+    let sized = are.sized in
+    omega (arith, inside, sized)
+
+pub returns-in_default-index : goal.returns-in_default-index
+returns-in_default-index c =
+    let n = c.args.netlist.now in
+    let banks = c.args.banks.now in
+    let i = c.loop-bank.bank-index in
+    let are : AreOnly n (IsRoot n) c.in-Some.found.items = MatchOption-at_some _ _ c.in-Some.found c.in-Some.is c.in_ok-found.ensures in
+    let inside = chain_within n c.requires.origins.drivers.netlist banks c.requires.chain i no_net c.loop-bank-test.true in
+    let sized = are.sized in
+    let read = get_or_read c.in-Some.found.items (get_or banks i no_net).0 c.index.result.now (omega (arith, inside, sized)) c.index.ensures None in
+    no_root n c.requires.origins.drivers.netlist c.requires.free banks c.requires.chain c.in-Some.found.items are i no_net c.loop-bank-test.true (sym read ∙ no_entry c.index.result.now c.in_default-index.not-Some)
+
+pub loop-bank-preserved : goal.loop-bank-preserved
+loop-bank-preserved c =
+    let n = c.args.netlist.now in
+    let banks = c.args.banks.now in
+    let i = c.loop-bank.bank-index in
+    let bank = get_or banks i no_net in
+    let are : AreOnly n (IsRoot n) c.in-Some.found.items = MatchOption-at_some _ _ c.in-Some.found c.in-Some.is c.in_ok-found.ensures in
+    let inside = chain_within n c.requires.origins.drivers.netlist banks c.requires.chain i no_net c.loop-bank-test.true in
+    let sized = are.sized in
+    let read = get_or_read c.in-Some.found.items bank.0 c.index.result.now (omega (arith, inside, sized)) c.index.ensures None in
+    let only : IsOnly (IsRoot n bank.0) c.in-Some-index.root.0 = subst (IsOnlyOf (IsRoot n) bank.0) (sym read ∙ c.in-Some-index.is) (are.each bank.0 inside) in
+    subst (AreOnlyRoots n banks (i + 1)) (sym c.in_ok-push.ensures.items)
+    (roots_more n banks i c.loop-bank.roots.items bank c.in-Some-index.root c.loop-bank.invariant (slice_get-get_or banks i no_net c.loop-bank-test.true) only)
+
+pub returns : goal.returns
+returns c =
+    let few = c.loop-bank.auto.bank-index-end in
+    all_rooted c.args.netlist.now c.requires.origins.drivers.netlist c.requires.free c.args.banks.now c.requires.chain c.requires.acknowledged c.loop-bank.bank-index c.loop-bank.roots.items (omega (arith, few, c.loop-bank-test.false)) c.loop-bank.invariant

@@ -1,0 +1,92 @@
+//! The sixth inner rule: each bank has one root, and that of the first bank is an output port.
+ghost use Rattle.std.specs.Prelude.{◌<◌, ◌↔◌, ◌⊎◌, ℕ, IfOk, IsTrue, MatchOption, length};
+ghost use Rattle.ncl_origin.specs.Free.{IsFree};
+ghost use Rattle.ncl_origin.specs.Origin.{IsOutputPort};
+ghost use Rattle.ncl_origin.specs.Origins.{AreOrigins};
+ghost use Rattle.ncl_origin.specs.Rules.{IsRequest};
+ghost use Rattle.ncl_shape.specs.Chain.{HasRoots, IsAcknowledged, IsChain, IsRoot};
+ghost use Rattle.ncl_shape.specs.ChainSteps.{AreOnly, AreRootsOf, HasMore, numbers_of};
+
+use crate::entries::put_once;
+use ncl_base::Memory;
+use ncl_netlist::{NetId, Netlist};
+use ncl_origin::{Origins, Source, is_output_port};
+use std::alloc::Global;
+
+/// Whether a net is a request or an output port.
+fn is_used(netlist: &Netlist, origins: &Origins, net: NetId) -> bool
+    requires inside { net.0 < length netlist.now.nets }
+    requires origins { AreOrigins netlist.now origins.now }
+    ensures { IsTrue result ↔ (IsRequest netlist.now net.0 ⊎ IsOutputPort netlist.now net.0) }
+{
+    if origins.first(net).is_some() {
+        return true;
+    }
+    is_output_port(netlist, net)
+}
+
+/// The bank of whose tree a net is a root: it comes from the acknowledge cells of that bank alone, and is a request or
+/// an output port.
+fn bank_of_root(netlist: &Netlist, origins: &Origins, net: NetId) -> Option<NetId>
+    requires inside { net.0 < length netlist.now.nets }
+    requires free { IsFree netlist.now }
+    requires origins { AreOrigins netlist.now origins.now }
+    ensures { MatchOption result ((bank : ℕ) → IsRoot netlist.now bank net.0 → ⊥) (λ bank. IsRoot netlist.now bank.0 net.0) }
+{
+    let Source::Ack(bank) = origins.source(net) else {
+        return None;
+    };
+    if !is_used(netlist, origins, net) {
+        return None;
+    }
+    Some(bank)
+}
+
+/// For each bank its only root; `None` where a bank has two. Linear in the nets.
+fn roots_of_banks(
+    alloc: Global,
+    netlist: &Netlist,
+    origins: &Origins,
+) -> Result<Option<Vec<Option<NetId>>>, Memory>
+    requires free { IsFree netlist.now }
+    requires origins { AreOrigins netlist.now origins.now }
+    ensures { IfOk result (λ found. MatchOption found (HasMore (IsRoot netlist.now)) (λ roots. AreOnly netlist.now (IsRoot netlist.now) roots.items)) }
+{
+    let mut roots: Vec<Option<NetId>> = vec![in alloc; None; netlist.nets().len()]?;
+    for net in 0..netlist.nets().len() {
+        let root = NetId(net as u32);
+        if let Some(bank) = bank_of_root(netlist, origins, root) {
+            if !put_once(&mut roots, bank, root) {
+                return Ok(None);
+            }
+        }
+    }
+    Ok(Some(roots))
+}
+
+/// The roots of the banks in their order; `None` where a bank has none, or two. That of the first bank is then an
+/// output port, since no bank stands before that asks for it. Linear in nets and banks.
+pub(crate) fn find_roots(
+    alloc: Global,
+    netlist: &Netlist,
+    origins: &Origins,
+    banks: &[NetId],
+) -> Result<Option<Vec<NetId>>, Memory>
+    requires free { IsFree netlist.now }
+    requires origins { AreOrigins netlist.now origins.now }
+    requires chain { IsChain netlist.now (numbers_of banks.now) }
+    requires acknowledged { IsAcknowledged netlist.now (numbers_of banks.now) }
+    ensures { IfOk result (λ found. MatchOption found (HasRoots netlist.now (numbers_of banks.now) → ⊥) (λ roots. HasRoots netlist.now (numbers_of banks.now) × AreRootsOf netlist.now banks.now roots.items)) }
+{
+    let Some(found) = roots_of_banks(alloc, netlist, origins)? else {
+        return Ok(None);
+    };
+    let mut roots = Vec::new(alloc);
+    for bank in banks {
+        let Some(root) = found[bank.0 as usize] else {
+            return Ok(None);
+        };
+        roots.push(root)?;
+    }
+    Ok(Some(roots))
+}

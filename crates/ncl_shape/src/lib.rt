@@ -14,6 +14,7 @@ mod item;
 pub mod laws;
 mod pipeline;
 mod rails;
+mod roles;
 mod rooting;
 mod stage;
 mod walking;

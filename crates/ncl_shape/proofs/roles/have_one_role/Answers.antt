@@ -1,0 +1,45 @@
+use Rattle.std.proofs.Common.{length, refl, ap, arith, below_more}
+use Rattle.std.proofs.lemmas.Bool.{both_ways}
+use Rattle.std.proofs.lemmas.Option.{slice_get_within}
+use Rattle.ncl_origin.specs.Origin.{IsInputPort}
+use Rattle.ncl_origin.proofs.PortReads.{port_read}
+use Rattle.ncl_shape.specs.Chain.{HasOneRole}
+use Rattle.ncl_shape.proofs.PortRoles.{role_of_counts, no_input}
+use Rattle.ncl_shape.proofs.roles.have_one_role.Goals as goal
+use Rattle.ncl_shape.proofs.roles.have_one_role.Goals.{else-not-port-via-then-not-port+else-not-is_one_role, else-not-port-via-else-not-port}
+
+pub returns-then-not-is_one_role : goal.returns-then-not-is_one_role
+returns-then-not-is_one_role c = (
+  (λ never. absurd cc),
+  λ roles.
+      let n = c.args.netlist.now in
+      let net = c.loop-net.net in
+      let at = port_read n c.ports-port-items.result.now net c.port-item.result c.ports-port-items.ensures.ports c.loop-net-test.true c.port-item.is in
+      let input : IsInputPort n net = (c.port-item.result, at, c.if-not-port.true) in
+      let tells = role_of_counts n c.ports-port-items.ensures.netlist c.requires net input c.in_ok-a.a.items c.in_ok-b.b.items c.in_ok-rst.rst.items c.in_ok-a.ensures c.in_ok-b.ensures c.in_ok-rst.ensures _ _ _ c.index.ensures c.index-then-not-port.ensures c.index-then-not-port-2.ensures in
+      absurd (both_ways c.is_one_role.result c.if-not-is_one_role.true (c.is_one_role.ensures.1 (tells.1 (roles net input)))),
+)
+
+pub loop-net-preserved : goal.loop-net-preserved
+loop-net-preserved c =
+    let n = c.args.netlist.now in
+    let net = c.loop-net.net in
+    let at = port_read n c.ports-port-items.result.now net c.port-item.result c.ports-port-items.ensures.ports c.loop-net-test.true c.port-item.is in
+    below_more (λ net. IsInputPort n net → HasOneRole n net) net c.loop-net.invariant
+    (elim c.else-not-port.branch [
+      | else-not-port-via-then-not-port+else-not-is_one_role w ↦
+          λ input.
+          let tells = role_of_counts n c.ports-port-items.ensures.netlist c.requires net input c.in_ok-a.a.items c.in_ok-b.b.items c.in_ok-rst.rst.items c.in_ok-a.ensures c.in_ok-b.ensures c.in_ok-rst.ensures _ _ _ w.index.ensures w.index-then-not-port.ensures w.index-then-not-port-2.ensures in
+          tells.0 (w.is_one_role.ensures.0 w.if-not-is_one_role.false)
+      | else-not-port-via-else-not-port w ↦ λ input. absurd (no_input n net c.port-item.result at w.if-not-port.false input)
+    ])
+
+pub returns : goal.returns
+returns c = (
+  (λ holds net input.
+      let (p, at, is_input) = input in
+      let within = slice_get_within c.args.netlist.now.ports net p at in
+      let same = ap length c.ports-port-items.ensures.ports in
+      c.loop-net.invariant net (omega (arith, within, same, c.loop-net-test.false)) input),
+  λ roles. refl,
+)

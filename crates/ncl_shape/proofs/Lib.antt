@@ -15,6 +15,7 @@ pub mod BankNumbers
 pub mod WalkLaws
 pub mod AcknowledgeLaws
 pub mod RootLaws
+pub mod ShownNets
 pub mod RegisterPins
 pub mod PortRoles
 mod ExampleChains

@@ -6,6 +6,7 @@ mod acknowledging;
 mod bank;
 mod banks;
 mod chain;
+mod closing;
 mod ends;
 mod entries;
 pub mod examples;

@@ -16,6 +16,8 @@ pub mod WalkLaws
 pub mod AcknowledgeLaws
 pub mod RootLaws
 pub mod ShownNets
+pub mod InnerRules
+pub mod FoundChains
 pub mod RegisterPins
 pub mod PortRoles
 mod ExampleChains

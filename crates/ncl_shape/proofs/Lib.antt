@@ -22,3 +22,13 @@ pub mod RegisterPins
 pub mod PortRoles
 mod ExampleChains
 mod ExampleTrees
+pub mod ZippedLists
+pub mod ChainNumbers
+pub mod BitSteps
+pub mod RailLaws
+pub mod StageSteps
+pub mod BitCells
+pub mod WidthLaws
+pub mod StageLaws
+pub mod StageLists
+pub mod Assembling

@@ -1,0 +1,108 @@
+-- The seventh and the eighth rule of shape, by the bits that were found for each bank of a chain.
+use Rattle.std.proofs.Common.{◌≡◌, ℕ, zero, suc, ◌+◌, ◌-◌, ◌<◌, ◌≤◌, List, [], length, get_or, Some, inl, inr, ap, ◌∙◌, sym, subst, arith}
+use Rattle.std.specs.Prelude.{slice_get}
+use Rattle.std.specs.List.{AllZip}
+use Rattle.std.proofs.lemmas.Bool.{cases_lt}
+use Rattle.std.proofs.lemmas.List.{get_or_past}
+use Rattle.std.proofs.lemmas.Option.{slice_get-get_or}
+use Rattle.ncl_base.specs.declared.word.TheConstants.{MOST_BITS}
+use Rattle.ncl_base.proofs.Members.{slice_get-some}
+use Rattle.ncl_graph.proofs.Lists.{no_more_than}
+use Rattle.ncl_netlist.specs.Netlist.{NetlistData, IsNetlist}
+use Rattle.ncl_origin.specs.declared.fault.ShapeFault.TheVariants.{TooWide, TooLong}
+use Rattle.ncl_origin.specs.Free.{IsFree, FailsFirst}
+use Rattle.ncl_origin.proofs.PinNumbers.{on_pin_within}
+use Rattle.ncl_shape.specs.declared.bank.TheConstants.{MOST_BANKS}
+use Rattle.ncl_shape.specs.declared.bank.Bit.{Bit}
+use Rattle.ncl_shape.specs.Chain.{IsChain, IsChained}
+use Rattle.ncl_shape.specs.Shape.{AreBitsOf, IsNarrow, RuleHolds, Broken}
+use Rattle.ncl_base.proofs.Lists.{AllZip-at}
+use Rattle.ncl_shape.proofs.ChainLaws.{chain_is_one, place_in_chain, banks_of_chain}
+use Rattle.ncl_shape.proofs.ShapeLaws.{bits_are_one}
+use Rattle.ncl_shape.proofs.ZippedLists.{AllZip-length}
+
+module _ (n : NetlistData) (free : IsFree n) where
+  -- the first five rules hold
+  pub rules_before : (q : ℕ) → q < 6 → RuleHolds n q
+  rules_before zero lt = tt
+  rules_before (suc zero) lt = free.ports_read
+  rules_before (suc (suc zero)) lt = free.off_cycles
+  rules_before (suc (suc (suc zero))) lt = free.paired
+  rules_before (suc (suc (suc (suc zero)))) lt = free.unmixed
+  rules_before (suc (suc (suc (suc (suc zero))))) lt = free.tied
+  rules_before (suc (suc (suc (suc (suc (suc q)))))) lt = absurd (omega arith)
+
+  -- and the sixth, where the banks are a chain
+  chained_before : IsChained n → (q : ℕ) → q < 7 → RuleHolds n q
+  chained_before chained q lt =
+      elim (cases_lt q 6) [
+        | inl less ↦ rules_before q less
+        | inr most ↦ let six : 6 ≡ q = omega (arith, lt, most) in subst (RuleHolds n) six chained
+      ]
+
+  narrow_before : IsChained n → RuleHolds n 7 → (q : ℕ) → q < 8 → RuleHolds n q
+  narrow_before chained narrow q lt =
+      elim (cases_lt q 7) [
+        | inl less ↦ chained_before chained q less
+        | inr most ↦ let seven : 7 ≡ q = omega (arith, lt, most) in subst (RuleHolds n) seven narrow
+      ]
+
+module _ (n : NetlistData) (is : IsNetlist n) (free : IsFree n) (chained : IsChained n) (chain : List ℕ) (is_chain : IsChain n chain) where
+  -- the banks of a chain are nets, and differ
+  pub few_requests : length chain ≤ length n.nets
+  few_requests =
+      no_more_than chain (length n.nets)
+      (λ i j d less lt same.
+      let at_i = slice_get-get_or chain i d (omega (arith, less, lt)) in
+      let at_j = slice_get-get_or chain j d lt in
+      let one = place_in_chain n is free chain is_chain i j (get_or chain i d) at_i (at_j ∙ ap Some (sym same)) in
+      omega (arith, one, less))
+      (λ i d lt.
+      let (c, of_bank) = banks_of_chain n chain is_chain i (get_or chain i d) (slice_get-get_or chain i d lt) in
+      on_pin_within n is c of_bank.0 1 (get_or chain i d) of_bank.2)
+
+  -- each chain is the one that was found
+  of_each_chain : (P : List ℕ → Type 0) → P chain → (banks : List ℕ) → IsChain n banks → P banks
+  of_each_chain P holds banks other = subst P (chain_is_one n is free (chained 2) chain banks is_chain other) holds
+
+  -- a bank is narrow where its bits are few
+  is_narrow : (bank : ℕ) (bits : List Bit) → AreBitsOf n bank bits → length bits ≤ MOST_BITS → IsNarrow n bank
+  is_narrow bank bits are few others of_others = subst (λ (l : List Bit). length l ≤ MOST_BITS) (bits_are_one n is bank bits others are of_others) few
+
+  module _ (lists : List (List Bit)) (are : AllZip (AreBitsOf n) chain lists) where
+    bits_at : (k bank : ℕ) → slice_get chain k ≡ Some bank → AreBitsOf n bank (get_or lists k [])
+    bits_at k bank at = AllZip-at (AreBitsOf n) chain lists are k bank [] at
+
+    -- a list of too many bits is that of a bank
+    pub wide_within : (k : ℕ) → (length (get_or lists k []) ≤ MOST_BITS → ⊥) → k < length chain
+    wide_within k wide =
+        elim (cases_lt k (length chain)) [
+          | inl within ↦ within
+          | inr past ↦
+              let lengths = AllZip-length (AreBitsOf n) chain lists are in
+              let none = ap length (get_or_past lists k [] (omega (arith, past, lengths))) in
+              absurd (wide (omega (arith, none)))
+        ]
+
+    -- the first bank of too many bits breaks the seventh rule
+    pub too_wide : (k : ℕ) → FailsFirst (λ j. length (get_or lists j []) ≤ MOST_BITS) k → Broken n (TooWide (k + 1))
+    too_wide k wide =
+        let (bank, at) = slice_get-some chain k (wide_within k wide.fails) in
+        let first : FailsFirst (λ j. (other : ℕ) → slice_get chain j ≡ Some other → IsNarrow n other) k = record {
+          fails = λ narrow. wide.fails (narrow bank at (get_or lists k []) (bits_at k bank at));
+          before = λ j less other at_other. is_narrow other (get_or lists j []) (bits_at j other at_other) (wide.before j less);
+        } in
+        let place : k ≡ k + 1 - 1 = omega arith in
+        record {
+          breaks = (chain, is_chain, omega arith, subst (FailsFirst (λ j. (other : ℕ) → slice_get chain j ≡ Some other → IsNarrow n other)) place first);
+          before = chained_before n free chained;
+        }
+
+    -- where no list has too many the seventh rule holds
+    all_narrow : ((k : ℕ) → length (get_or lists k []) ≤ MOST_BITS) → RuleHolds n 7
+    all_narrow few banks k bank other at =
+        of_each_chain (λ xs. slice_get xs k ≡ Some bank → IsNarrow n bank) (λ at_k. is_narrow bank (get_or lists k []) (bits_at k bank at_k) (few k)) banks other at
+
+    -- and too many banks break the eighth
+    pub too_long : ((k : ℕ) → length (get_or lists k []) ≤ MOST_BITS) → MOST_BANKS < length chain → Broken n TooLong
+    too_long few many = record { breaks = λ short. let less = short chain is_chain in omega (arith, less, many); before = narrow_before n free chained (all_narrow few) }

@@ -1,0 +1,63 @@
+//! The bits of the banks.
+ghost use Rattle.std.specs.Prelude.{◌≡◌, IfOk, map};
+ghost use Rattle.std.specs.List.{AllZip};
+ghost use Rattle.ncl_origin.specs.Origin.{CellAt, IsAck};
+ghost use Rattle.ncl_origin.specs.Free.{IsFree};
+ghost use Rattle.ncl_origin.specs.GateGraph.{AreDrivers};
+ghost use Rattle.ncl_origin.specs.Origins.{AreOrigins};
+ghost use Rattle.ncl_shape.specs.FoundChain.{IsChainOf, requests_of};
+ghost use Rattle.ncl_shape.specs.Shape.{AreBitsOf, IsBitOf};
+
+use crate::bank::Bit;
+use crate::bank_lists::{empty_lists, number_of, put};
+use crate::chain::Chain;
+use ncl_base::Memory;
+use ncl_gates::CellKind;
+use ncl_netlist::{Cell, CellId, NetId, Netlist};
+use ncl_origin::{Origins, register_behind};
+use std::alloc::Global;
+
+/// The bit of the acknowledge cell at a place, and its bank.
+fn bit_of(netlist: &Netlist, drivers: &[Option<u32>], place: u32, cell: &Cell) -> (NetId, Bit)
+    requires at { CellAt netlist.now place cell.now }
+    requires ack { IsAck cell.now }
+    requires drivers { AreDrivers netlist.now drivers.now }
+    requires free { IsFree netlist.now }
+    ensures bit { IsBitOf netlist.now result.0.0 result.1 }
+    ensures place { result.1.ack.0 ≡ place }
+{
+    let Some((zero, bank)) = register_behind(netlist, drivers, cell.ins[0]) else {
+        unreachable!();
+    };
+    let Some((one, _)) = register_behind(netlist, drivers, cell.ins[1]) else {
+        unreachable!();
+    };
+    let bit = Bit {
+        rail0: CellId(zero),
+        rail1: CellId(one),
+        ack: CellId(place),
+    };
+    (bank, bit)
+}
+
+/// The bits of each bank of a chain, in file order. Linear in the cells and banks.
+pub(crate) fn bits_of_banks(
+    alloc: Global,
+    netlist: &Netlist,
+    origins: &Origins,
+    chain: &Chain,
+) -> Result<Vec<Vec<Bit>>, Memory>
+    requires free { IsFree netlist.now }
+    requires origins { AreOrigins netlist.now origins.now }
+    requires chain { IsChainOf netlist.now chain.now }
+    ensures { IfOk result (λ lists. AllZip (AreBitsOf netlist.now) (requests_of chain.now) (map (λ l. l.items) lists.items)) }
+{
+    let mut lists = empty_lists(alloc, chain.banks.len())?;
+    for (place, cell) in netlist.cells().iter().enumerate() {
+        if let CellKind::Ack = cell.kind {
+            let (bank, bit) = bit_of(netlist, &origins.drivers, place as u32, cell);
+            put(&mut lists, number_of(chain, bank), bit)?;
+        }
+    }
+    Ok(lists)
+}

@@ -1,5 +1,5 @@
 -- The graph of the covers has the paths of the dependencies.
-use Rattle.std.proofs.Common.{◌≡◌, ℕ, ◌+◌, ◌<◌, ◌^◌, Bool, true, false, cond, List, [], ◌∷◌, length, get_or, Some, refl, sym, ap, ◌∙◌, subst, arith, ◌==◌, suc, zero}
+use Rattle.std.proofs.Common.{◌≡◌, ℕ, ◌+◌, ◌<◌, ◌^◌, Bool, true, false, cond, List, [], ◌∷◌, length, get_or, Some, refl, sym, ap, ◌∙◌, subst, arith, ◌==◌, suc}
 use Rattle.std.specs.Prelude.{Contains, All}
 use Rattle.std.specs.List.{position_from, filter_map}
 use Rattle.std.proofs.lemmas.Bool.{eqb-true, eq-eqb}

@@ -2,6 +2,7 @@
 use Rattle.std.specs.Prelude.{◌≡◌, ℕ, ◌+◌, ◌<◌, ◌≤◌, List, [], ◌∷◌, ◌++◌, length, map, sum_by, All, Contains}
 use Rattle.std.specs.List.{range_with_len, IsDistinct}
 use Rattle.std.specs.Prelude.{nat_eq}
+use Rattle.ncl_base.specs.declared.source.TheConstants.{MOST_BYTES}
 use Rattle.ncl_blif.specs.declared.model.Lit.{Lit}
 use Rattle.ncl_blif.specs.declared.model.Cover.{Cover}
 use Rattle.ncl_blif.specs.declared.model.Model.{Model}
@@ -28,7 +29,7 @@ size_of_model model =
 
 -- the most of all models of a file together
 abbrev pub most_size : ℕ
-most_size = 16777216
+most_size = MOST_BYTES
 
 -- a model that a text can say
 pub record IsModel (model : Model) : Type 0 where

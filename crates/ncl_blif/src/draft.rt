@@ -13,9 +13,10 @@ use crate::draft_body::DraftBody;
 use crate::draft_cover::{DraftCover, DraftOutput};
 use crate::drivers::Driver;
 use crate::fault::BlifFault;
-use crate::line::{Line, MOST_BYTES, counted_lines, read_words};
+use crate::line::{Line, counted_lines, read_words};
 use crate::part::{Part, parts};
 use crate::section::section_length;
+use ncl_base::MOST_BYTES;
 use std::alloc::Global;
 use std::marker::Model;
 

@@ -12,10 +12,11 @@ use crate::command::Command;
 use crate::draft_cover::{DraftCover, DraftOutput};
 use crate::drivers::{Driver, Drivers};
 use crate::fault::BlifFault;
-use crate::line::{Line, MOST_BYTES};
+use crate::line::Line;
 use crate::part::Part;
 use crate::rows::no_rows;
 use crate::words::front_and_last;
+use ncl_base::MOST_BYTES;
 use std::alloc::Global;
 
 /// The inputs, outputs and covers that parts say, and what drives each signal.

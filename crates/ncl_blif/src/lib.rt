@@ -28,6 +28,5 @@ mod words;
 
 pub use dependence::dependencies;
 pub use fault::BlifFault;
-pub use line::MOST_BYTES;
 pub use model::{Cover, Lit, Model, Row};
 pub use reader::read_blif;

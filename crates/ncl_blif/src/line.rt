@@ -8,12 +8,9 @@ ghost use Rattle.ncl_blif.specs.Counted.{AreCounted};
 
 use crate::piece::{first_piece, without_mark};
 use crate::words::push_words;
-use ncl_base::Memory;
+use ncl_base::{MOST_BYTES, Memory};
 use std::alloc::Global;
 use std::marker::Model;
-
-/// The most bytes of a text that is read, 16,777,216.
-pub const MOST_BYTES: usize = 16_777_216;
 
 /// A line that has words: its number, and the words.
 #[derive(Drop, Debug)]

@@ -8,8 +8,8 @@ ghost use Rattle.ncl_blif.specs.Answer.{IsFaultless, IsFirstModelFault, unjoined
 use crate::draft::{Draft, drafts};
 use crate::fault::BlifFault;
 use crate::finish::finish;
-use crate::line::MOST_BYTES;
 use crate::model::Model;
+use ncl_base::MOST_BYTES;
 use std::alloc::Global;
 
 /// The models of drafts, or the fault of the first that has one.

@@ -1,8 +1,8 @@
 //! Tests of the reader, on texts and answers that were worked out by hand.
 use crate::fault::BlifFault;
-use crate::line::MOST_BYTES;
 use crate::model::{Cover, Lit, Model};
 use crate::reader::read_blif;
+use ncl_base::MOST_BYTES;
 use std::alloc::{AllocError, Global};
 use std::process::Abort;
 use std::test::Fail;

@@ -3,8 +3,9 @@
 use crate::draft::{Draft, drafts};
 use crate::draft_cover::DraftCover;
 use crate::fault::BlifFault;
-use crate::line::{Line, MOST_BYTES, counted_lines, read_words};
+use crate::line::{Line, counted_lines, read_words};
 use crate::model::Lit;
+use ncl_base::MOST_BYTES;
 use std::alloc::Global;
 use std::process::Abort;
 use std::test::*;

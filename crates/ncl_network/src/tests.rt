@@ -1,6 +1,7 @@
 //! Tests of the folding, by texts, words and answers that were worked out by hand.
 use super::*;
-use ncl_blif::{Lit, MOST_BYTES, Row, read_blif};
+use ncl_base::MOST_BYTES;
+use ncl_blif::{Lit, Row, read_blif};
 use std::alloc::AllocError;
 use std::process::Abort;
 use std::test::Fail;

@@ -1,5 +1,6 @@
 use Rattle.std.proofs.Common.{◌≤◌, length, take, subst, sym, ap, inl, inr, ⊎_elim, arith}
 use Rattle.std.proofs.lemmas.Result.{err_from_is_err_and}
+use Rattle.ncl_base.specs.declared.source.TheConstants.{MOST_BYTES}
 use Rattle.ncl_blif.specs.Named.{drivers_of}
 use Rattle.ncl_blif.specs.Body.{said_by}
 use Rattle.ncl_blif.proofs.PartSteps.{taken-more, taken-broken, taken-all, drivers-room}
@@ -34,4 +35,4 @@ returns c =
 pub invariant_of-result : goal.invariant_of-result
 invariant_of-result c =
     let all = taken-all c.args.parts.now _ _ _ c.loop-part.invariant.taken c.loop-part-test.false in
-    (c.loop-part.invariant.kept, subst (λ n. n ≤ 16777216) (sym (ap (λ model. length (drivers_of model)) all.1)) c.requires)
+    (c.loop-part.invariant.kept, subst (λ n. n ≤ MOST_BYTES) (sym (ap (λ model. length (drivers_of model)) all.1)) c.requires)

@@ -1,8 +1,9 @@
 -- The graph of the covers has the paths of the dependencies.
-use Rattle.std.proofs.Common.{◌≡◌, ℕ, ◌+◌, ◌<◌, ◌^◌, Bool, true, false, cond, List, [], ◌∷◌, length, get_or, Some, refl, sym, ap, ◌∙◌, subst, arith, ◌==◌, suc}
+use Rattle.std.proofs.Common.{◌≡◌, ℕ, ◌+◌, ◌<◌, ◌^◌, Bool, true, false, cond, List, [], ◌∷◌, length, map, get_or, Some, refl, sym, ap, ◌∙◌, subst, arith, ◌==◌, suc}
 use Rattle.std.specs.Prelude.{Contains, All}
 use Rattle.std.specs.List.{position_from, filter_map}
 use Rattle.std.proofs.lemmas.Bool.{eqb-true, eq-eqb}
+use Rattle.std.proofs.lemmas.Simd.{map-map}
 use Rattle.std.proofs.lemmas.List.{length-map, get_or-map, get_or_default}
 use Rattle.std.proofs.lemmas.List.Elements.{All-map, All-from_recursion, Contains-get_or}
 use Rattle.ncl_base.proofs.Growing.{position_from-found, All-filter_map, Contains-filter_map, Contains-filter_map_of}
@@ -10,6 +11,7 @@ use Rattle.ncl_blif.specs.declared.model.Cover.{Cover}
 use Rattle.ncl_blif.specs.declared.model.Model.{Model}
 use Rattle.ncl_blif.specs.Model.{Depends, reads, through}
 use Rattle.ncl_blif.specs.Dependence.{driver_place, dependency_graph}
+use Rattle.ncl_blif.specs.Numbered.{without_rows}
 use Rattle.ncl_graph.specs.Graph.{Leads, arc, further, successors, IsGraph}
 
 -- the first place that passes is one, and passes
@@ -23,6 +25,16 @@ position_from-passes {X} test i (x ∷ xs) k h =
           let (n, at, within, passes) = position_from-passes test (i + 1) xs k e in
           (suc n, omega arith, omega arith, passes)
     ] refl h
+
+position_from-map : {X Y : Type 0} (test : Y → Bool) (f : X → Y) (i : ℕ) (xs : List X) → position_from test i (map f xs) ≡ position_from (λ x. test (f x)) i xs
+position_from-map test f i [] = refl
+position_from-map test f i (x ∷ xs) = ap (cond (test (f x)) (Some i)) (position_from-map test f (i + 1) xs)
+
+-- the rows of covers don't matter to their graph
+pub graph-without_rows : (covers : List Cover) → dependency_graph (map without_rows covers) ≡ dependency_graph covers
+graph-without_rows covers =
+    map-map (λ (cover : Cover). filter_map (driver_place (map without_rows covers)) cover.ins) without_rows covers
+    ∙ (λ i. map (λ (cover : Cover). filter_map (λ signal. position_from-map (λ (c : Cover). c.out == signal) without_rows 0 covers i) cover.ins) covers)
 
 -- the covers make a graph
 pub IsGraph-dependency_graph : (covers : List Cover) → length covers < 2 ^ 32 → IsGraph (dependency_graph covers)

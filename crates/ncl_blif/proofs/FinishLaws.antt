@@ -3,18 +3,18 @@ use Rattle.std.proofs.Common.{◌≡◌, ℕ, ◌<◌, List, length, get_or, Som
 use Rattle.std.specs.List.{IsDistinct}
 use Rattle.std.specs.Str.{bytes_eq}
 use Rattle.std.proofs.lemmas.List.{length-map, get_or-map}
+use Rattle.std.proofs.lemmas.Simd.{map-map}
 use Rattle.std.proofs.lemmas.Option.{slice_get-get_or, slice_get_within, get_or_from_slice_get}
 use Rattle.ncl_graph.specs.Graph.{IsOnCycle}
 use Rattle.ncl_blif.specs.declared.model.Cover.{Cover}
 use Rattle.ncl_blif.specs.Named.{NamedModel, NamedCover, drivers_of}
-use Rattle.ncl_blif.specs.Numbered.{number_of, numbered_cover, numbered_model}
+use Rattle.ncl_blif.specs.Numbered.{number_of, numbered_cover, without_rows, rowless_covers, numbered_model}
 use Rattle.ncl_blif.specs.Model.{Depends}
 use Rattle.ncl_blif.specs.Dependence.{dependency_graph}
 use Rattle.std.specs.Option.{option_map}
 use Rattle.ncl_graph.proofs.Ranking.{leads_within}
-use Rattle.ncl_blif.specs.declared.model.Model.{Model}
 use Rattle.ncl_blif.specs.Answer.{IsCyclic, IsFirstCycle}
-use Rattle.ncl_blif.proofs.DependenceLaws.{out_at, Depends-from_Leads, Leads-from_Depends}
+use Rattle.ncl_blif.proofs.DependenceLaws.{out_at, graph-without_rows, Depends-from_Leads, Leads-from_Depends}
 use Rattle.ncl_blif.proofs.NumberedLaws.{no_cover, no_numbers, OutsDiffer-numbered}
 
 -- the graph of a model's covers
@@ -49,9 +49,11 @@ IsOnCycle-from_cyclic model differ place (cover, at, depends) =
     let is = out_is model place cover within ∙ ap (λ (c : NamedCover). number_of model c.out) here in
     Leads-from_Depends (numbered_model model) (OutsDiffer-numbered model differ) _ _ depends place place no_numbers numbered numbered is is
 
--- the graph that is made of the covers of the model by numbers
-pub graph_is : (draft : NamedModel) (g : List (List ℕ)) (covers : List Cover) (model : Model) → g ≡ dependency_graph covers → covers ≡ model.covers → model ≡ numbered_model draft → g ≡ graph_of draft
-graph_is draft g covers model made read numbered = made ∙ ap dependency_graph (read ∙ ap (λ (m : Model). m.covers) numbered)
+-- the graph that is made of the covers by numbers, without their rows
+pub graph_is : (draft : NamedModel) (g : List (List ℕ)) (covers : List Cover) → g ≡ dependency_graph covers → covers ≡ rowless_covers draft → g ≡ graph_of draft
+graph_is draft g covers made numbered =
+    made ∙ ap dependency_graph (numbered ∙ sym (map-map without_rows (numbered_cover draft) draft.covers))
+    ∙ graph-without_rows (numbered_model draft).covers
 
 -- a graph without a cycle has no cover whose output depends on itself
 pub none_cyclic : (draft : NamedModel) → IsDistinct bytes_eq (drivers_of draft) → (g : List (List ℕ)) → g ≡ graph_of draft

@@ -15,6 +15,7 @@ pub mod Sections
 pub mod DependenceLaws
 pub mod Anys
 pub mod NumberedLaws
+pub mod MovedRows
 pub mod FinishLaws
 pub mod AnswerLaws
 pub mod ModelFacts

@@ -1,5 +1,5 @@
 -- A model whose signals go by their names, with numbers in their place.
-use Rattle.std.specs.Prelude.{ℕ, List, Bool, length, map}
+use Rattle.std.specs.Prelude.{ℕ, List, [], Bool, length, map}
 use Rattle.std.specs.List.{list_any, position_or_len, range_with_len}
 use Rattle.std.specs.Str.{bytes_eq}
 use Rattle.ncl_blif.specs.declared.model.Cover.{Cover}
@@ -21,6 +21,14 @@ numbered_cover model cover = record {
   on = cover.on;
   rows = cover.rows;
 }
+
+-- a cover without its rows
+abbrev pub without_rows : Cover → Cover
+without_rows cover = record cover { rows = [] }
+
+-- the covers by numbers, without their rows
+abbrev pub rowless_covers : NamedModel → List Cover
+rowless_covers model = map (λ cover. without_rows (numbered_cover model cover)) model.covers
 
 -- the model with numbers in place of names: the inputs are 0, 1, 2 and so on, and the covers' signals the
 -- numbers after these, in order

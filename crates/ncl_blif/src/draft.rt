@@ -104,6 +104,13 @@ impl<'a> Draft<'a> {
     {
         self.body.covers.as_slice()
     }
+
+    /// Its covers, in order, to be used up. Takes no memory.
+    pub(crate) fn into_covers(self) -> Vec<DraftCover<'a>>
+        ensures { result.items ≡ self.entry.covers }
+    {
+        self.body.covers
+    }
 }
 
 /// The name of the model that parts say: what its `.model` says, or no bytes.

@@ -130,10 +130,10 @@ impl<'a> DraftCover<'a> {
         self.on
     }
 
-    /// The rows.
-    pub(crate) fn rows(&self) -> &Items<Row>
-        ensures { result.now ≡ self.now.rows }
+    /// The rows, which are moved out of it. Takes no memory.
+    pub(crate) fn into_rows(self) -> Items<Row>
+        ensures { result ≡ self.entry.rows }
     {
-        &self.rows
+        self.rows
     }
 }

@@ -3,14 +3,14 @@ ghost use Rattle.std.specs.Prelude.{◌≡◌, ℕ, ◌<◌, ◌^◌, ◌⊎◌,
 ghost use Rattle.std.specs.List.{list_any, range_with_len};
 ghost use Rattle.std.specs.Option.{option_map};
 ghost use Rattle.ncl_blif.specs.declared.fault.BlifFault.TheVariants.{Memory as OutOfMemory};
-ghost use Rattle.ncl_blif.specs.Numbered.{is_driven, number_of, numbered_cover, numbered_model};
+ghost use Rattle.ncl_blif.specs.Numbered.{is_driven, number_of, numbered_cover, without_rows, rowless_covers, numbered_model};
 ghost use Rattle.ncl_blif.specs.Answer.{lesser, reads_undriven, undriven_line, IsCyclic, IsFirstCycle, IsFaultless, IsModelFault};
 
 use crate::dependence::dependencies;
 use crate::draft::Draft;
 use crate::draft_cover::{DraftCover, DraftOutput};
 use crate::fault::BlifFault;
-use crate::model::{Cover, Model, Row};
+use crate::model::{Cover, Model};
 use ncl_base::{Items, Memory, Name};
 use std::alloc::Global;
 
@@ -101,24 +101,17 @@ fn numbers_in(alloc: Global, draft: &Draft, signals: &[&[u8]]) -> Result<Items<u
     Ok(Items::from_vec(numbers))
 }
 
-/// A copy of rows. Linear in their characters.
-fn copy_of(rows: &Items<Row>) -> Result<Items<Row>, Memory>
-    ensures { IfOk result (λ copy. copy ≡ rows.now) }
-{
-    Ok(rows.clone()?)
-}
-
-/// A cover by numbers. A look-up for each signal, and a copy of the rows.
+/// A cover by numbers, without its rows. A look-up for each signal.
 fn numbered(alloc: Global, draft: &Draft, cover: &DraftCover) -> Result<Cover, Memory>
     requires reads { reads_undriven draft.now cover.now ≡ false }
     requires drives { is_driven draft.now cover.now.out ≡ true }
-    ensures { IfOk result (λ made. made ≡ numbered_cover draft.now cover.now) }
+    ensures { IfOk result (λ made. made ≡ without_rows (numbered_cover draft.now cover.now)) }
 {
     Ok(Cover {
         ins: numbers_in(alloc, draft, cover.ins())?,
         out: number_in(draft, cover.out()),
         on: cover.on(),
-        rows: copy_of(cover.rows())?,
+        rows: Items::from_vec(Vec::new(alloc)),
     })
 }
 
@@ -134,16 +127,30 @@ fn numbered_outputs(alloc: Global, draft: &Draft) -> Result<Items<u32>, Memory>
     Ok(Items::from_vec(numbers))
 }
 
-/// The covers by numbers, in order. A look-up for each signal of a cover, and a copy of the rows.
-fn numbered_covers(alloc: Global, draft: &Draft) -> Result<Items<Cover>, Memory>
+/// The covers by numbers, in order, without their rows. A look-up for each signal of a cover.
+fn numbered_covers(alloc: Global, draft: &Draft) -> Result<Vec<Cover>, Memory>
     requires { All (λ cover. reads_undriven draft.now cover ≡ false) draft.now.covers }
-    ensures { IfOk result (λ covers. covers ≡ map (numbered_cover draft.now) draft.now.covers) }
+    ensures { IfOk result (λ covers. covers.items ≡ rowless_covers draft.now) }
 {
-    let mut covers = Vec::new(alloc);
+    let mut covers = Vec::with_capacity(alloc, draft.covers().len())?;
     for cover in draft.covers() {
         covers.push(numbered(alloc, draft, cover)?)?;
     }
-    Ok(Items::from_vec(covers))
+    Ok(covers)
+}
+
+/// The covers by numbers with the rows of the draft, which are moved. Linear in the covers.
+fn with_rows(draft: Draft, covers: Vec<Cover>) -> Items<Cover>
+    requires { covers.items ≡ rowless_covers draft }
+    ensures { result ≡ map (numbered_cover draft.entry) draft.entry.covers }
+{
+    let mut covers = covers;
+    let mut place = 0usize;
+    for cover in draft.into_covers() {
+        covers[place].rows = cover.into_rows();
+        place += 1;
+    }
+    Items::from_vec(covers)
 }
 
 /// The numbers from 0 on, as many as there are inputs. Linear in their number.
@@ -157,30 +164,33 @@ fn first_numbers(alloc: Global, count: u32) -> Result<Items<u32>, Memory>
     Ok(Items::from_vec(numbers))
 }
 
-/// The model by numbers. `n log n` in the signals that it names, and linear in its rows.
-fn by_numbers(alloc: Global, draft: &Draft) -> Result<Model, Memory>
-    requires driven { undriven_line draft.now ≡ None }
-    requires few { length draft.now.inputs < 2 ^ 32 }
-    ensures { IfOk result (λ model. model ≡ numbered_model draft.now) }
+/// The model of a draft and its covers by numbers, which have no rows yet. A look-up for each output, and
+/// linear in the inputs and the covers.
+fn by_numbers(alloc: Global, draft: Draft, covers: Vec<Cover>) -> Result<Model, Memory>
+    requires driven { undriven_line draft ≡ None }
+    requires few { length draft.inputs < 2 ^ 32 }
+    requires covers { covers.items ≡ rowless_covers draft }
+    ensures { IfOk result (λ model. model ≡ numbered_model draft.entry) }
 {
     Ok(Model {
         name: Name::from_bytes(alloc, draft.name())?,
         inputs: first_numbers(alloc, draft.inputs() as u32)?,
-        outputs: numbered_outputs(alloc, draft)?,
-        covers: numbered_covers(alloc, draft)?,
+        outputs: numbered_outputs(alloc, &draft)?,
+        covers: with_rows(draft, covers),
     })
 }
 
-/// The line of the first cover whose output depends on itself, in a draft and its model by numbers.
+/// The line of the first cover whose output depends on itself, in a draft and its covers by numbers, which
+/// need no rows.
 ///
 /// `n log n` in the covers and the signals that they read.
-fn first_cycle(alloc: Global, draft: &Draft, model: &Model) -> Result<Option<u32>, Memory>
-    requires numbered { model.now ≡ numbered_model draft.now }
+fn first_cycle(alloc: Global, draft: &Draft, numbered: &[Cover]) -> Result<Option<u32>, Memory>
+    requires numbered { numbered.now ≡ rowless_covers draft.now }
     requires few { length draft.now.covers < 2 ^ 32 }
     ensures { IfOk result (λ line. MatchOption line ((place : ℕ) → IsCyclic draft.now place → ⊥) (IsFirstCycle draft.now)) }
 {
     let covers = draft.covers();
-    let dependencies = dependencies(alloc, model.covers.items())?;
+    let dependencies = dependencies(alloc, numbered)?;
     let Some(place) = dependencies.first_on_cycle(alloc)? else {
         return Ok(None);
     };
@@ -190,22 +200,22 @@ fn first_cycle(alloc: Global, draft: &Draft, model: &Model) -> Result<Option<u32
 /// The model of a draft, the number of which is given, or its fault: no bits, a signal without a driver,
 /// or a cycle, asked in this order.
 ///
-/// `n log n` in the signals that the draft names, and linear in its rows.
-pub(crate) fn finish(alloc: Global, draft: &Draft, number: u32) -> Result<Model, BlifFault>
-    requires few_inputs { length draft.now.inputs < 2 ^ 32 }
-    requires few_covers { length draft.now.covers < 2 ^ 32 }
-    ensures read { IfOk result (λ model. IsFaultless draft.now × (model ≡ numbered_model draft.now)) }
-    ensures refused { IfErr result (λ fault. (fault ≡ OutOfMemory) ⊎ IsModelFault number draft.now fault) }
+/// `n log n` in the signals that the draft names, and at most linear in its rows, which are moved.
+pub(crate) fn finish(alloc: Global, draft: Draft, number: u32) -> Result<Model, BlifFault>
+    requires few_inputs { length draft.inputs < 2 ^ 32 }
+    requires few_covers { length draft.covers < 2 ^ 32 }
+    ensures read { IfOk result (λ model. IsFaultless draft.entry × (model ≡ numbered_model draft.entry)) }
+    ensures refused { IfErr result (λ fault. (fault ≡ OutOfMemory) ⊎ IsModelFault number draft.entry fault) }
 {
     if draft.inputs() == 0 || draft.outputs().is_empty() {
         return Err(BlifFault::NoBits(number));
     }
-    if let Some(line) = first_undriven(draft) {
+    if let Some(line) = first_undriven(&draft) {
         return Err(BlifFault::Undriven(line));
     }
-    let model = by_numbers(alloc, draft)?;
-    if let Some(line) = first_cycle(alloc, draft, &model)? {
+    let covers = numbered_covers(alloc, &draft)?;
+    if let Some(line) = first_cycle(alloc, &draft, &covers)? {
         return Err(BlifFault::Cycle(line));
     }
-    Ok(model)
+    Ok(by_numbers(alloc, draft, covers)?)
 }

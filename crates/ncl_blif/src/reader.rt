@@ -14,18 +14,20 @@ use std::alloc::Global;
 
 /// The models of drafts, or the fault of the first that has one.
 ///
-/// `n log n` in the signals that the drafts name, and linear in their rows.
-fn finish_all(alloc: Global, drafts: &[Draft]) -> Result<Vec<Model>, BlifFault>
-    requires few { length drafts.now < 2 ^ 32 }
-    requires few_inputs { All (λ draft. length draft.inputs < 2 ^ 32) drafts.now }
-    requires few_covers { All (λ draft. length draft.covers < 2 ^ 32) drafts.now }
-    ensures faultless { IfOk result (λ models. All IsFaultless drafts.now) }
-    ensures read { IfOk result (λ models. models.items ≡ map numbered_model drafts.now) }
-    ensures refused { IfErr result (λ fault. (fault ≡ OutOfMemory) ⊎ IsFirstModelFault drafts.now fault) }
+/// `n log n` in the signals that the drafts name, and at most linear in their rows, which are moved.
+fn finish_all(alloc: Global, drafts: Vec<Draft>) -> Result<Vec<Model>, BlifFault>
+    requires few { length drafts.items < 2 ^ 32 }
+    requires few_inputs { All (λ draft. length draft.inputs < 2 ^ 32) drafts.items }
+    requires few_covers { All (λ draft. length draft.covers < 2 ^ 32) drafts.items }
+    ensures faultless { IfOk result (λ models. All IsFaultless drafts.entry.items) }
+    ensures read { IfOk result (λ models. models.items ≡ map numbered_model drafts.entry.items) }
+    ensures refused { IfErr result (λ fault. (fault ≡ OutOfMemory) ⊎ IsFirstModelFault drafts.entry.items fault) }
 {
     let mut models = Vec::new(alloc);
-    for (place, draft) in drafts.iter().enumerate() {
-        models.push(finish(alloc, draft, place as u32 + 1)?)?;
+    let mut number = 0u32;
+    for draft in drafts {
+        number += 1;
+        models.push(finish(alloc, draft, number)?)?;
     }
     Ok(models)
 }
@@ -57,8 +59,9 @@ pub fn read_blif(alloc: Global, text: &[u8]) -> Result<Vec<Model>, BlifFault>
     ensures refused { IfErr result (λ fault. (fault ≡ OutOfMemory) ⊎ IsRefused text.now fault) }
 {
     let drafts = drafts(alloc, text)?;
-    let models = finish_all(alloc, &drafts)?;
-    if let Some(number) = first_unjoined(&drafts) {
+    let unjoined = first_unjoined(&drafts);
+    let models = finish_all(alloc, drafts)?;
+    if let Some(number) = unjoined {
         return Err(BlifFault::Width(number));
     }
     Ok(models)

@@ -4,7 +4,7 @@ use crate::draft::{Draft, drafts};
 use crate::draft_cover::DraftCover;
 use crate::fault::BlifFault;
 use crate::line::{Line, counted_lines, read_words};
-use crate::model::Lit;
+use crate::model::{Lit, Row};
 use ncl_base::MOST_BYTES;
 use std::alloc::Global;
 use std::process::Abort;
@@ -25,6 +25,13 @@ const LINES: [(u32, &[&[u8]]); 4] = [
 /// A model with an ON-set, an OFF-set and a constant.
 const MODEL: &[u8] =
     b".model m\n.inputs a b\n.names a b y\n1- 1\n01 1\n.names y z\n1 0\n.names k\n.outputs z k\n.end\n";
+
+/// The rows of its covers.
+const ROWS: [&[&[Lit]]; 3] = [
+    &[&[Lit::One, Lit::Dash], &[Lit::Zero, Lit::One]],
+    &[&[Lit::One]],
+    &[],
+];
 
 /// Asserts that a line has these words.
 fn has_words(rt: &impl Abort, line: &Line, words: &[&[u8]]) {
@@ -82,24 +89,29 @@ fn has_head(rt: &impl Abort, cover: &DraftCover, line: u32, ins: usize, out: &[u
     assert_eq!(rt; cover.on(), on);
 }
 
+/// Asserts the rows of a cover.
+fn has_rows(rt: &impl Abort, rows: &[Row], wanted: &[&[Lit]]) {
+    assert_eq!(rt; rows.len(), wanted.len());
+    for (row, lits) in rows.iter().zip(wanted) {
+        assert_eq!(rt; row.items(), *lits);
+    }
+}
+
 #[test]
 fn covers(rt: HostRuntime) -> Result<(), Fail> {
     let models = read_model(&rt, rt.alloc())?;
-    for model in &models {
-        let [y, z, k] = model.covers() else {
+    for model in models {
+        let covers = model.into_covers();
+        let [y, z, k] = covers.as_slice() else {
             assert!(rt; false);
             return Ok(());
         };
         has_head(&rt, y, 3, 2, b"y", true);
         has_head(&rt, z, 6, 1, b"z", false);
         has_head(&rt, k, 8, 0, b"k", true);
-        assert_eq!(rt; k.rows().items().len(), 0);
-        let [first, second] = y.rows().items() else {
-            assert!(rt; false);
-            return Ok(());
-        };
-        assert_eq!(rt; first.items(), [Lit::One, Lit::Dash].as_slice());
-        assert_eq!(rt; second.items(), [Lit::Zero, Lit::One].as_slice());
+        for (place, cover) in covers.into_iter().enumerate() {
+            has_rows(&rt, cover.into_rows().items(), ROWS[place]);
+        }
     }
     Ok(())
 }

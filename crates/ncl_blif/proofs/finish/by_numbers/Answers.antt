@@ -1,8 +1,5 @@
-use Rattle.ncl_blif.proofs.NumberedLaws.{outputs_driven, covers_driven}
+use Rattle.ncl_blif.proofs.NumberedLaws.{outputs_driven}
 use Rattle.ncl_blif.proofs.finish.by_numbers.Goals as goal
 
 pub numbered_outputs-requires : goal.numbered_outputs-requires
-numbered_outputs-requires c = outputs_driven c.args.draft.now c.requires.driven
-
-pub numbered_covers-requires : goal.numbered_covers-requires
-numbered_covers-requires c = covers_driven c.args.draft.now c.requires.driven
+numbered_outputs-requires c = outputs_driven c.args.draft c.requires.driven

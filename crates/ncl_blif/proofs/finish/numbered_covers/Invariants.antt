@@ -1,7 +1,7 @@
 use Rattle.std.proofs.Common.{◌≡◌, map, take}
-use Rattle.ncl_blif.specs.Numbered.{numbered_cover}
+use Rattle.ncl_blif.specs.Numbered.{numbered_cover, without_rows}
 use Rattle.ncl_blif.proofs.finish.numbered_covers.Given as goal
 
--- the covers so far, by numbers
+-- the covers so far, by numbers and without their rows
 abbrev pub invariant-loop-cover : goal.invariant-loop-cover
-invariant-loop-cover l = l.covers.items ≡ map (numbered_cover l.draft) (take l.cover-index l.cover-items)
+invariant-loop-cover l = l.covers.items ≡ map (λ cover. without_rows (numbered_cover l.draft cover)) (take l.cover-index l.cover-items)

@@ -16,15 +16,17 @@ returns-in_err-drafts-clause-refused c =
     let p = err_from_is_err_and c.from_residual.result c.from_residual.ensures.1 in
     rw (p.1, p.2) (⊎_elim (λ none. inl none) (λ broken. inr (line _ broken)) c.in_err-drafts.ensures)
 
+pub first_unjoined-unjoined-requires : goal.first_unjoined-unjoined-requires
+first_unjoined-unjoined-requires c =
+    omega (arith, ap length (c.deref.ensures.value ∙ c.in_ok-drafts.ensures.1), models_few c.args.text.now)
+
 pub finish_all-requires-clause-few : goal.finish_all-requires-clause-few
-finish_all-requires-clause-few c =
-    let text = c.args.text.now in
-    omega (arith, ap length (c.deref.ensures.value ∙ c.in_ok-drafts.ensures.1), models_few text)
+finish_all-requires-clause-few c = omega (arith, ap length c.in_ok-drafts.ensures.1, models_few c.args.text.now)
 
 pub finish_all-requires-clause-few_inputs : goal.finish_all-requires-clause-few_inputs
 finish_all-requires-clause-few_inputs c = λ k d within.
     let text = c.args.text.now in
-    let is = c.deref.ensures.value ∙ c.in_ok-drafts.ensures.1 in
+    let is = c.in_ok-drafts.ensures.1 in
     omega (
       arith,
       models_said-size text,
@@ -35,7 +37,7 @@ finish_all-requires-clause-few_inputs c = λ k d within.
 pub finish_all-requires-clause-few_covers : goal.finish_all-requires-clause-few_covers
 finish_all-requires-clause-few_covers c = λ k d within.
     let text = c.args.text.now in
-    let is = c.deref.ensures.value ∙ c.in_ok-drafts.ensures.1 in
+    let is = c.in_ok-drafts.ensures.1 in
     omega (
       arith,
       models_said-size text,
@@ -47,26 +49,22 @@ finish_all-requires-clause-few_covers c = λ k d within.
 pub returns-in_err-models-clause-refused : goal.returns-in_err-models-clause-refused
 returns-in_err-models-clause-refused c =
     let p = err_from_is_err_and c.from_residual-in_err-models.result c.from_residual-in_err-models.ensures.1 in
-    let is = c.deref.ensures.value ∙ c.in_ok-drafts.ensures.1 in
+    let is = c.in_ok-drafts.ensures.1 in
     rw (p.1, p.2) (⊎_elim (λ none. inl none)
     (λ broken. inr (model c.in_err-models.field-0.0 c.in_ok-drafts.ensures.0 (subst (λ xs. IsFirstModelFault xs c.in_err-models.field-0.0) is broken))) c.in_err-models.ensures.refused)
 
-pub first_unjoined-requires : goal.first_unjoined-requires
-first_unjoined-requires c =
-    omega (arith, ap length (c.deref-2.ensures.value ∙ c.in_ok-drafts.ensures.1), models_few c.args.text.now)
-
 pub returns-in-Some-clause-refused : goal.returns-in-Some-clause-refused
 returns-in-Some-clause-refused c =
-    let is = c.deref.ensures.value ∙ c.in_ok-drafts.ensures.1 in
-    let again = c.deref-2.ensures.value ∙ c.in_ok-drafts.ensures.1 in
+    let is = c.in_ok-drafts.ensures.1 in
+    let lent = c.deref.ensures.value ∙ is in
     inr (width c.in-Some.number c.in_ok-drafts.ensures.0 (subst (All IsFaultless) is c.in_ok-models.ensures.faultless)
-    (ap (unjoined_model 1) (sym again) ∙ sym c.in-Some.ensures))
+    (ap (unjoined_model 1) (sym lent) ∙ sym c.in-Some.ensures))
 
 pub returns-clause-models : goal.returns-clause-models
 returns-clause-models c =
     let text = c.args.text.now in
-    let is = c.deref.ensures.value ∙ c.in_ok-drafts.ensures.1 in
-    let again = c.deref-2.ensures.value ∙ c.in_ok-drafts.ensures.1 in
+    let is = c.in_ok-drafts.ensures.1 in
+    let lent = c.deref.ensures.value ∙ is in
     let models = AreModels-said text (omega arith) c.in_ok-drafts.ensures.0 (subst (All IsFaultless) is c.in_ok-models.ensures.faultless)
-    (ap (unjoined_model 1) (sym again) ∙ sym c.in_default.ensures) in
+    (ap (unjoined_model 1) (sym lent) ∙ sym c.in_default.ensures) in
     subst AreModels (sym (c.in_ok-models.ensures.read ∙ ap (map numbered_model) is)) models

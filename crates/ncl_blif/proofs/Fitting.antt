@@ -3,7 +3,7 @@ use Rattle.std.proofs.Common.{◌≡◌, ◌≢◌, ℕ, ◌+◌, ◌<◌, ◌^�
 use Rattle.std.specs.Prelude.{Contains, All}
 use Rattle.std.specs.List.{range_with_len, filter_map}
 use Rattle.std.proofs.lemmas.Bool.{cases_lt, eq-eqb, ne_eqb, false≢true}
-use Rattle.std.proofs.lemmas.List.{length-map, get_or-map, get_or_default, length-append, append_assoc, append-nil, get_or_append_left}
+use Rattle.std.proofs.lemmas.List.{length-map, get_or-map, get_or_default, length-append, append_assoc, append-nil, get_or_append_left, get_or-append-add}
 use Rattle.std.proofs.lemmas.List.Elements.{All-contains, Contains-get_or, Contains-append_left, Contains-append_right, Contains-append_cases, Contains-push_cases}
 use Rattle.std.proofs.lemmas.Map.Keys.{apart_from_distinct}
 use Rattle.ncl_graph.specs.Graph.{successors, IsGraph, IsOnCycle, IsOrder}
@@ -16,7 +16,6 @@ use Rattle.ncl_blif.specs.Model.{signals_of, weight_of_rows, IsModel}
 use Rattle.ncl_blif.specs.Dependence.{driver_place, dependency_graph}
 use Rattle.ncl_blif.specs.Meaning.{cover_value, Fits}
 use Rattle.ncl_blif.proofs.DependenceLaws.{OutsDiffer, out_at, arc_of_reads, Depends-from_Leads, IsGraph-dependency_graph}
-use Rattle.ncl_blif.proofs.NumberedLaws.{get_or-append_right}
 
 -- functions that agree on a list give the same
 pub map-agree_on : {X Y : Type 0} (f g : X → Y) (xs : List X) → ((x : X) → Contains xs x → f x ≡ g x) → map f xs ≡ map g xs
@@ -65,7 +64,7 @@ module _ (m : Model) (is : IsModel m) where
   signals_many = length-append m.inputs (map (λ (cover : Cover). cover.out) m.covers) ∙ ap (λ n. length m.inputs + n) (length-map m.covers (λ (cover : Cover). cover.out))
 
   out_signal : (i : ℕ) (d : Cover) → i < length m.covers → get_or (signals_of m) (length m.inputs + i) 0 ≡ out_at m.covers i d
-  out_signal i d within = get_or-append_right m.inputs (map (λ (cover : Cover). cover.out) m.covers) i 0 ∙ get_or-map (λ (cover : Cover). cover.out) m.covers i d 0 within
+  out_signal i d within = get_or-append-add m.inputs (map (λ (cover : Cover). cover.out) m.covers) i 0 ∙ get_or-map (λ (cover : Cover). cover.out) m.covers i d 0 within
 
   -- no two covers drive one signal
   pub outs_differ : OutsDiffer m.covers
@@ -171,7 +170,7 @@ module _ (m : Model) (is : IsModel m) where
   not_next before i rest order ordered split k (p, lt, here) same =
       let long : length order ≡ length before + length (i ∷ rest) = ap length split ∙ length-append before (i ∷ rest) in
       let at_p : get_or order p 0 ≡ k = ap (λ xs. get_or xs p 0) split ∙ get_or_append_left before (i ∷ rest) 0 p lt ∙ get_or_default before p 0 k lt ∙ here in
-      let at_i : get_or order (length before + 0) 0 ≡ i = ap (λ xs. get_or xs (length before + 0) 0) split ∙ get_or-append_right before (i ∷ rest) 0 0 in
+      let at_i : get_or order (length before + 0) 0 ≡ i = ap (λ xs. get_or xs (length before + 0) 0) split ∙ get_or-append-add before (i ∷ rest) 0 0 in
       ordered.once p (length before + 0) 0 (omega arith) (omega arith) (at_p ∙ same ∙ sym at_i)
 
   -- what a cover of the front of an order reads is an input, or driven by a cover of the front

@@ -4,7 +4,7 @@ use Rattle.std.specs.Prelude.{Contains, All}
 use Rattle.std.specs.List.{IsDistinct, range_with_len}
 use Rattle.std.specs.Str.{bytes_eq}
 use Rattle.std.proofs.lemmas.Bool.{cases_lt, ne_eqb, ltb-true, not-false}
-use Rattle.std.proofs.lemmas.List.{length-map, get_or-map, length-append, get_or_append_left}
+use Rattle.std.proofs.lemmas.List.{length-map, get_or-map, length-append, get_or_append_left, get_or-append-add}
 use Rattle.std.proofs.lemmas.List.Elements.{All-map}
 use Rattle.std.proofs.lemmas.List.FromFn.{get_or-range_with_len, length-range_with_len}
 use Rattle.std.proofs.lemmas.Option.{slice_get-get_or}
@@ -17,7 +17,7 @@ use Rattle.ncl_blif.specs.Answer.{undriven_line, IsCyclic, IsFaultless}
 use Rattle.ncl_blif.proofs.Anys.{each_fails}
 use Rattle.ncl_blif.proofs.DependenceLaws.{driver_of_dependent}
 use Rattle.ncl_blif.proofs.Places.{any-place}
-use Rattle.ncl_blif.proofs.NumberedLaws.{no_cover, no_numbers, out-numbered, get_or-append_right, outputs_driven, covers_driven}
+use Rattle.ncl_blif.proofs.NumberedLaws.{no_cover, no_numbers, out-numbered, outputs_driven, covers_driven}
 
 -- how many signals have a driver
 signals_count : (m : NamedModel) → length (signals_of (numbered_model m)) ≡ length m.inputs + length m.covers
@@ -42,7 +42,7 @@ signal_at m differ k d within =
     let at : k ≡ length firsts + j = omega arith in
     let inside : j < length m.covers = omega arith in
     let many : length (map (numbered_cover m) m.covers) ≡ length m.covers = length-map m.covers (numbered_cover m) in
-    ap (λ i. get_or (firsts ++ outs) i d) at ∙ get_or-append_right firsts outs j d
+    ap (λ i. get_or (firsts ++ outs) i d) at ∙ get_or-append-add firsts outs j d
     ∙ get_or-map (λ (cover : Cover). cover.out) (map (numbered_cover m) m.covers) j no_numbers d (omega arith)
     ∙ out-numbered m differ j no_numbers no_cover inside ∙ omega arith)
     (cases_lt k (length m.inputs))

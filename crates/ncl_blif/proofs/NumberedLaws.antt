@@ -6,7 +6,7 @@ use Rattle.std.specs.Option.{option_map}
 use Rattle.std.specs.Str.{bytes_eq}
 use Rattle.std.specs.Cmp.Lexicographic.{nat_list_eq_equiv}
 use Rattle.std.proofs.lemmas.Bool.{or_parts, not-false}
-use Rattle.std.proofs.lemmas.List.{length-map, get_or-map, length-append}
+use Rattle.std.proofs.lemmas.List.{length-map, get_or-map, get_or-append-add, length-append}
 use Rattle.std.proofs.lemmas.List.Elements.{Contains-get_or, Contains-append_right}
 use Rattle.std.proofs.lemmas.List.Sums.{position_or_len_is}
 use Rattle.std.proofs.lemmas.Map.Keys.{apart_from_distinct, IsDistinct-cons, IsDistinct-from_apart}
@@ -39,18 +39,12 @@ number-driver names differ i d within =
 abbrev outs : NamedModel → List (List ℕ)
 outs model = map (λ cover. cover.out) model.covers
 
-pub get_or-append_right : {X : Type 0} (xs ys : List X) (k : ℕ) (d : X) → get_or (xs ++ ys) (length xs + k) d ≡ get_or ys k d
-get_or-append_right [] ys k d = ap (λ n. get_or ys n d) (omega arith)
-get_or-append_right (x ∷ xs) ys k d =
-    let e : length (x ∷ xs) + k ≡ suc (length xs + k) = omega arith in
-    ap (λ n. get_or (x ∷ xs ++ ys) n d) e ∙ get_or-append_right xs ys k d
-
 -- the number of what the cover at a place drives stands after those of the inputs
 pub number-out : (model : NamedModel) → IsDistinct bytes_eq (drivers_of model) → (k : ℕ) (d : NamedCover) → k < length model.covers → number_of model (get_or model.covers k d).out ≡ length model.inputs + k
 number-out model differ k d within =
     let drivers = drivers_of model in
     let at : get_or drivers (length model.inputs + k) d.out ≡ (get_or model.covers k d).out =
-    get_or-append_right model.inputs (outs model) k d.out ∙ get_or-map (λ (cover : NamedCover). cover.out) model.covers k d d.out within in
+    get_or-append-add model.inputs (outs model) k d.out ∙ get_or-map (λ (cover : NamedCover). cover.out) model.covers k d d.out within in
     let many : length drivers ≡ length model.inputs + length model.covers =
     length-append model.inputs (outs model) ∙ ap (λ n. length model.inputs + n) (length-map model.covers (λ (cover : NamedCover). cover.out)) in
     ap (λ name. number_of model name) (sym at) ∙ number-driver drivers differ (length model.inputs + k) d.out (omega arith)

@@ -1,9 +1,11 @@
 -- The place of the first of a list that passes a test.
-use Rattle.std.proofs.Common.{◌≡◌, ℕ, suc, ◌+◌, ◌≤◌, Bool, true, false, not, ◌||◌, ltb, cond, List, [], ◌∷◌, ◌++◌, length, refl, sym, ap, ◌∙◌, arith, zero-add, Option, Some, None, inl, inr}
+use Rattle.std.proofs.Common.{◌≡◌, ℕ, suc, ◌+◌, ◌≤◌, Bool, true, false, not, ◌||◌, ltb, cond, List, [], ◌∷◌, ◌++◌, length, refl, sym, ◌∙◌, arith, zero-add, Some, None, inl, inr}
 use Rattle.std.proofs.lemmas.Bool.{lt-ltb, le-ltb, ltb-false, cases_lt}
 use Rattle.std.proofs.lemmas.List.Sums.{prefix_len-le-length}
 use Rattle.std.specs.List.{list_any, position, position_or_len}
-use Rattle.std.specs.Option.{option_or, option_map}
+use Rattle.std.specs.Option.{option_or}
+use Rattle.std.proofs.lemmas.Iterator.Adapters.{position_from-zero}
+use Rattle.ncl_base.proofs.Growing.{position_from-push}
 
 pub place-some : {X : Type 0} (p : X → Bool) (xs : List X) (place : ℕ) → Some place ≡ position p xs → place ≡ position_or_len p xs
 place-some p xs place e = chosen (ltb (position_or_len p xs) (length xs)) (position_or_len p xs) place e
@@ -37,30 +39,11 @@ any-place p (x ∷ xs) = rw (any-place p xs) (either (p x))
     either true = sym (lt-ltb 0 (suc (length xs)) (omega arith))
     either false = sym (ltb-suc (position_or_len p xs) (length xs))
 
--- the first of a list is at 0, or the place is one more than in the rest
-pub position-cons : {X : Type 0} (p : X → Bool) (x : X) (xs : List X) → position p (x ∷ xs) ≡ cond (p x) (Some 0) (option_map (λ n. 1 + n) (position p xs))
-position-cons p x xs = either (p x)
-  where
-    within : (test : Bool) (n : ℕ) → cond test (Some (1 + n)) None ≡ option_map (λ n. 1 + n) (cond test (Some n) None)
-    within true n = refl
-    within false n = refl
-
-    either : (b : Bool) → (let place = cond (not b) (1 + position_or_len p xs) 0 in cond (ltb place (suc (length xs))) (Some place) None) ≡ cond b (Some 0) (option_map (λ n. 1 + n) (position p xs))
-    either true = rw (lt-ltb 0 (suc (length xs)) (omega arith))
-    either false = rw (ltb-suc (position_or_len p xs) (length xs)) (within (ltb (position_or_len p xs) (length xs)) (position_or_len p xs))
-
 -- the place with one more at the end
 pub position-push : {X : Type 0} (p : X → Bool) (xs : List X) (x : X) → position p (xs ++ x ∷ []) ≡ option_or (position p xs) (cond (p x) (Some (length xs)) None)
-position-push p [] x = position-cons p x []
-position-push p (y ∷ ys) x =
-    position-cons p y (ys ++ x ∷ []) ∙ ap (λ o. cond (p y) (Some 0) (option_map (λ n. 1 + n) o)) (position-push p ys x)
-    ∙ either (p y) (position p ys) (p x) (length ys) ∙ ap (λ o. option_or o (cond (p x) (Some (suc (length ys))) None)) (sym (position-cons p y ys))
-  where
-    either : (b : Bool) (o : Option ℕ) (c : Bool) (n : ℕ) → cond b (Some 0) (option_map (λ n. 1 + n) (option_or o (cond c (Some n) None))) ≡ option_or (cond b (Some 0) (option_map (λ n. 1 + n) o)) (cond c (Some (suc n)) None)
-    either true o c n = refl
-    either false None true n = ap Some (omega arith)
-    either false None false n = refl
-    either false (Some m) c n = refl
+position-push p xs x =
+    position_from-zero p (xs ++ x ∷ []) ∙ position_from-push p 0 xs x
+    ∙ (λ i. option_or (sym (position_from-zero p xs) i) (cond (p x) (Some (zero-add (length xs) i)) None))
 
 -- the place in two lists one after the other
 pub place-append : {X : Type 0} (p : X → Bool) (xs ys : List X) → position_or_len p (xs ++ ys) ≡ cond (ltb (position_or_len p xs) (length xs)) (position_or_len p xs) (length xs + position_or_len p ys)

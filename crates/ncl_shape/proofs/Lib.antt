@@ -32,3 +32,4 @@ pub mod WidthLaws
 pub mod StageLaws
 pub mod StageLists
 pub mod Assembling
+pub mod FaultCases

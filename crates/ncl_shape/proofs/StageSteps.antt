@@ -7,8 +7,7 @@ use Rattle.std.proofs.lemmas.Option.{slice_get-get_or, slice_get_within}
 use Rattle.std.proofs.lemmas.List.Quantifiers.{all_pairs_push}
 use Rattle.std.proofs.lemmas.List.Elements.{Contains-append_left, All-contains}
 use Rattle.ncl_base.proofs.Members.{Member-map, Member-append_left, Member-append_right, Contains-from_Member, Member-from_Contains, Contains-from_slice_get, slice_get-from_Contains, All-from_members}
-use Rattle.ncl_base.proofs.Growing.{at_push, from_push, Contains-last}
-use Rattle.ncl_graph.proofs.Lists.{split_push, cut_at}
+use Rattle.ncl_base.proofs.Growing.{at_push, from_push, Contains-last, split_push, cut_at}
 use Rattle.ncl_gates.specs.declared.kind.Kind.{Kind}
 use Rattle.ncl_gates.specs.declared.cell_kind.CellKind.TheVariants.{Gate}
 use Rattle.ncl_netlist.specs.declared.ids.NetId.{NetId}

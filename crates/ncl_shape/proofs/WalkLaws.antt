@@ -6,7 +6,7 @@ use Rattle.std.proofs.lemmas.Option.{slice_get_within, slice_get-get_or}
 use Rattle.std.proofs.lemmas.List.{map-append, length-map, length_push}
 use Rattle.std.proofs.lemmas.List.Elements.{All-push}
 use Rattle.ncl_base.proofs.Members.{Member, member_cases, All-from_members, slice_get-some, slice_get-from_Contains, Contains-from_slice_get}
-use Rattle.ncl_graph.proofs.Lists.{no_more_than}
+use Rattle.ncl_base.proofs.Growing.{no_more_than}
 use Rattle.ncl_netlist.specs.declared.ids.NetId.{NetId}
 use Rattle.ncl_netlist.specs.Netlist.{NetlistData, IsNetlist}
 use Rattle.ncl_origin.specs.Free.{IsFree}

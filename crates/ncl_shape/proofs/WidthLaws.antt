@@ -7,7 +7,7 @@ use Rattle.std.proofs.lemmas.List.{get_or_past}
 use Rattle.std.proofs.lemmas.Option.{slice_get-get_or}
 use Rattle.ncl_base.specs.declared.word.TheConstants.{MOST_BITS}
 use Rattle.ncl_base.proofs.Members.{slice_get-some}
-use Rattle.ncl_graph.proofs.Lists.{no_more_than}
+use Rattle.ncl_base.proofs.Growing.{no_more_than}
 use Rattle.ncl_netlist.specs.Netlist.{NetlistData, IsNetlist}
 use Rattle.ncl_origin.specs.declared.fault.ShapeFault.TheVariants.{TooWide, TooLong}
 use Rattle.ncl_origin.specs.Free.{IsFree, FailsFirst}

@@ -10,7 +10,7 @@ ghost use Rattle.ncl_shape.specs.FoundParts.{AreFewBitsOf, IsFewBitBank};
 ghost use Rattle.ncl_shape.specs.Shape.{IsShapeFault, Shape};
 
 use crate::bank::{Bank, Bit};
-use crate::chain::Chain;
+use crate::chain::{Chain, find_chain};
 use crate::pipeline::{Parts, Pipeline};
 use crate::rail_lists::{inputs_of, rails_of};
 use crate::stage_cells::gates_of_banks;
@@ -97,4 +97,16 @@ fn pipeline_of<'a>(
     let bits = find_bits(alloc, netlist, origins, chain)?;
     let parts = assemble(alloc, netlist, origins, chain, bits)?;
     Ok(Pipeline::of(netlist, parts))
+}
+
+/// The pipeline of a netlist, or the first rule of shape that it breaks, at its first port, cell or bank.
+///
+/// Linear in nets, cells and pins, without recursion.
+pub fn shape(alloc: Global, netlist: &Netlist) -> Result<Pipeline<'_>, ShapeFault>
+    ensures shape { IfOk result (λ p. Shape netlist.now p) }
+    ensures fault { IfErr result (IsShapeFault netlist.now) }
+{
+    let origins = find_origins(alloc, netlist)?;
+    let chain = find_chain(alloc, netlist, &origins)?;
+    pipeline_of(alloc, netlist, &origins, &chain)
 }

@@ -4,16 +4,16 @@
 
 mod acknowledging;
 mod bank;
-mod banks;
 mod bank_lists;
+mod banks;
 mod bits;
 mod chain;
 mod closing;
 mod ends;
 mod entries;
 pub mod examples;
-mod following;
 mod finding;
+mod following;
 mod item;
 pub mod laws;
 mod pipeline;
@@ -22,12 +22,13 @@ mod rails;
 mod roles;
 mod rooting;
 mod stage;
-mod walking;
 mod stage_cells;
 mod staging;
+mod walking;
 mod widths;
 
 pub use bank::{Bank, Bit, MOST_BANKS};
+pub use finding::shape;
 pub use item::Item;
 pub use ncl_origin::ShapeFault;
 pub use pipeline::Pipeline;

@@ -13,6 +13,8 @@ mod ends;
 mod entries;
 pub mod examples;
 mod finding;
+#[cfg(test)]
+mod finding_tests;
 mod following;
 mod item;
 pub mod laws;
@@ -24,6 +26,8 @@ mod rooting;
 mod stage;
 mod stage_cells;
 mod staging;
+#[cfg(test)]
+mod told;
 mod walking;
 mod widths;
 

@@ -28,7 +28,7 @@ IsPath-push n banks (suc k) last x (next {bank = b} {following = c} {banks = oth
 
 module _ (n : NetlistData) (is : IsNetlist n) (free : IsFree n) where
   -- the banks of a chain are nets and differ, so they are no more than the nets
-  chain_is_short : (xs : List ℕ) → IsChain n xs → length xs ≤ length n.nets
+  pub chain_is_short : (xs : List ℕ) → IsChain n xs → length xs ≤ length n.nets
   chain_is_short xs chain =
       no_more_than xs (length n.nets)
       (λ i j d less lt same.

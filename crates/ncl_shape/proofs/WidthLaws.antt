@@ -1,23 +1,20 @@
 -- The seventh and the eighth rule of shape, by the bits that were found for each bank of a chain.
-use Rattle.std.proofs.Common.{◌≡◌, ℕ, zero, suc, ◌+◌, ◌-◌, ◌<◌, ◌≤◌, List, [], length, get_or, Some, inl, inr, ap, ◌∙◌, sym, subst, arith}
+use Rattle.std.proofs.Common.{◌≡◌, ℕ, zero, suc, ◌+◌, ◌-◌, ◌<◌, ◌≤◌, List, [], length, get_or, Some, inl, inr, ap, subst, arith}
 use Rattle.std.specs.Prelude.{slice_get}
 use Rattle.std.specs.List.{AllZip}
 use Rattle.std.proofs.lemmas.Bool.{cases_lt}
 use Rattle.std.proofs.lemmas.List.{get_or_past}
-use Rattle.std.proofs.lemmas.Option.{slice_get-get_or}
 use Rattle.ncl_base.specs.declared.word.TheConstants.{MOST_BITS}
 use Rattle.ncl_base.proofs.Members.{slice_get-some}
-use Rattle.ncl_base.proofs.Growing.{no_more_than}
 use Rattle.ncl_netlist.specs.Netlist.{NetlistData, IsNetlist}
 use Rattle.ncl_origin.specs.declared.fault.ShapeFault.TheVariants.{TooWide, TooLong}
 use Rattle.ncl_origin.specs.Free.{IsFree, FailsFirst}
-use Rattle.ncl_origin.proofs.PinNumbers.{on_pin_within}
 use Rattle.ncl_shape.specs.declared.bank.TheConstants.{MOST_BANKS}
 use Rattle.ncl_shape.specs.declared.bank.Bit.{Bit}
 use Rattle.ncl_shape.specs.Chain.{IsChain, IsChained}
 use Rattle.ncl_shape.specs.Shape.{AreBitsOf, IsNarrow, RuleHolds, Broken}
 use Rattle.ncl_base.proofs.Lists.{AllZip-at}
-use Rattle.ncl_shape.proofs.ChainLaws.{chain_is_one, place_in_chain, banks_of_chain}
+use Rattle.ncl_shape.proofs.InnerRules.{of_each_chain}
 use Rattle.ncl_shape.proofs.ShapeLaws.{bits_are_one}
 use Rattle.ncl_shape.proofs.ZippedLists.{AllZip-length}
 
@@ -48,23 +45,6 @@ module _ (n : NetlistData) (free : IsFree n) where
       ]
 
 module _ (n : NetlistData) (is : IsNetlist n) (free : IsFree n) (chained : IsChained n) (chain : List ℕ) (is_chain : IsChain n chain) where
-  -- the banks of a chain are nets, and differ
-  pub few_requests : length chain ≤ length n.nets
-  few_requests =
-      no_more_than chain (length n.nets)
-      (λ i j d less lt same.
-      let at_i = slice_get-get_or chain i d (omega (arith, less, lt)) in
-      let at_j = slice_get-get_or chain j d lt in
-      let one = place_in_chain n is free chain is_chain i j (get_or chain i d) at_i (at_j ∙ ap Some (sym same)) in
-      omega (arith, one, less))
-      (λ i d lt.
-      let (c, of_bank) = banks_of_chain n chain is_chain i (get_or chain i d) (slice_get-get_or chain i d lt) in
-      on_pin_within n is c of_bank.0 1 (get_or chain i d) of_bank.2)
-
-  -- each chain is the one that was found
-  of_each_chain : (P : List ℕ → Type 0) → P chain → (banks : List ℕ) → IsChain n banks → P banks
-  of_each_chain P holds banks other = subst P (chain_is_one n is free (chained 2) chain banks is_chain other) holds
-
   -- a bank is narrow where its bits are few
   is_narrow : (bank : ℕ) (bits : List Bit) → AreBitsOf n bank bits → length bits ≤ MOST_BITS → IsNarrow n bank
   is_narrow bank bits are few others of_others = subst (λ (l : List Bit). length l ≤ MOST_BITS) (bits_are_one n is bank bits others are of_others) few
@@ -101,7 +81,7 @@ module _ (n : NetlistData) (is : IsNetlist n) (free : IsFree n) (chained : IsCha
     -- where no list has too many the seventh rule holds
     all_narrow : ((k : ℕ) → length (get_or lists k []) ≤ MOST_BITS) → RuleHolds n 7
     all_narrow few banks k bank other at =
-        of_each_chain (λ xs. slice_get xs k ≡ Some bank → IsNarrow n bank) (λ at_k. is_narrow bank (get_or lists k []) (bits_at k bank at_k) (few k)) banks other at
+        of_each_chain n (chained 1) (chained 2) is free (chained 3) chain is_chain (λ xs. slice_get xs k ≡ Some bank → IsNarrow n bank) (λ at_k. is_narrow bank (get_or lists k []) (bits_at k bank at_k) (few k)) banks other at
 
     -- and too many banks break the eighth
     pub too_long : ((k : ℕ) → length (get_or lists k []) ≤ MOST_BITS) → MOST_BANKS < length chain → Broken n TooLong

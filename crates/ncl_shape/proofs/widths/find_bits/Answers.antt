@@ -5,7 +5,8 @@ use Rattle.ncl_shape.specs.FoundChain.{requests_of}
 use Rattle.ncl_shape.specs.FoundParts.{AreFewBitsOf}
 use Rattle.ncl_shape.specs.Shape.{AreBitsOf}
 use Rattle.ncl_shape.proofs.ChainNumbers.{as_many_requests}
-use Rattle.ncl_shape.proofs.WidthLaws.{few_requests, wide_within, too_wide, too_long}
+use Rattle.ncl_shape.proofs.WalkLaws.{chain_is_short}
+use Rattle.ncl_shape.proofs.WidthLaws.{wide_within, too_wide, too_long}
 use Rattle.ncl_shape.proofs.ZippedLists.{AllZip-and}
 use Rattle.ncl_shape.proofs.widths.find_bits.Goals as goal
 
@@ -16,7 +17,7 @@ overflow_cast-result c =
     let chain = c.args.chain.now in
     let are = subst (λ l. AllZip (AreBitsOf n) (requests_of chain) (map (λ v. v.items) l)) (sym c.deref.ensures.value) c.in_ok-bits.ensures in
     let within = wide_within n is c.requires.free c.requires.chained (requests_of chain) c.requires.chain.chain (map (λ v. v.items) c.deref.result.now) are c.in-Some.k c.in-Some.ensures.fails in
-    let few = few_requests n is c.requires.free c.requires.chained (requests_of chain) c.requires.chain.chain in
+    let few = chain_is_short n is c.requires.free (requests_of chain) c.requires.chain.chain in
     omega (arith, within, few, is.few_nets)
 
 pub overflow_add-result : goal.overflow_add-result
@@ -26,7 +27,7 @@ overflow_add-result c =
     let chain = c.args.chain.now in
     let are = subst (λ l. AllZip (AreBitsOf n) (requests_of chain) (map (λ v. v.items) l)) (sym c.deref.ensures.value) c.in_ok-bits.ensures in
     let within = wide_within n is c.requires.free c.requires.chained (requests_of chain) c.requires.chain.chain (map (λ v. v.items) c.deref.result.now) are c.in-Some.k c.in-Some.ensures.fails in
-    let few = few_requests n is c.requires.free c.requires.chained (requests_of chain) c.requires.chain.chain in
+    let few = chain_is_short n is c.requires.free (requests_of chain) c.requires.chain.chain in
     omega (arith, within, few, is.few_nets)
 
 pub returns-in-Some-clause-fault : goal.returns-in-Some-clause-fault

@@ -47,16 +47,42 @@ const TREES: &str =
     TH22N t p0 ki rst z0;TH22N u p1 ki rst z1;TH22N v q0 ki rst w0;TH22N w q1 ki rst w1;\
     TH12B g z0 z1 a;TH12B h w0 w1 b;TH22 n a b c";
 
+/// The AND of two bits between two banks.
+const AND: &str = "in x0 x1 y0 y1 ki rst;out z0 z1 ko;TH22N r x0 c rst p0;TH22N s x1 c rst p1;\
+    TH22N i y0 c rst q0;TH22N j y1 c rst q1;TH12B k p0 p1 e;TH12B l q0 q1 f;TH22 m e f ko;\
+    THand0 g p0 q0 p1 q1 o;TH22 h p1 q1 n;TH22N t o ki rst z0;TH22N u n ki rst z1;TH12B d z0 z1 c";
+
+/// A full adder between two banks.
+const ADDER: &str =
+    "in x0 x1 y0 y1 i0 i1 ki rst;out z0 z1 w0 w1 ko;TH22N r x0 c rst p0;TH22N s x1 c rst p1;\
+    TH22N i y0 c rst q0;TH22N j y1 c rst q1;TH22N v i0 c rst u0;TH22N w i1 c rst u1;\
+    TH12B k p0 p1 e;TH12B l q0 q1 f;TH12B m u0 u1 g;TH33 n e f g ko;TH23 g0 p0 q0 u0 m0;\
+    TH23 g1 p1 q1 u1 m1;TH34w2 g2 m1 p0 q0 u0 n0;TH34w2 g3 m0 p1 q1 u1 n1;TH22N t m0 ki rst z0;\
+    TH22N t1 m1 ki rst z1;TH22N t2 n0 ki rst w0;TH22N t3 n1 ki rst w1;TH12B d z0 z1 a;\
+    TH12B d1 w0 w1 b;TH22 d2 a b c";
+
 /// A netlist, what is changed in it, by `old > new`, and what is answered then. Each unchanged one has a shape, so that
 /// the least change that mends a netlist is to undo one. The last two break two rules.
-const ANSWERS: [(&str, &str, &str, u32); 28] = [
+const ANSWERS: [(&str, &str, &str, u32); 37] = [
     (WIRES, "", "banks", 2),
     (GATES, "", "banks", 2),
     (THREE, "", "banks", 3),
     (TREES, "", "banks", 2),
+    (AND, "", "banks", 2),
+    (ADDER, "", "banks", 2),
+    (WIRES, "N t p0 > N t p1 | N u p1 > N u p0", "banks", 2),
+    (
+        WIRES,
+        "z0 z1 ko > z0 z1 w0 w1 ko | z0 z1 c > z0 z1 e;TH22N v p0 ki rst w0;TH22N w p1 ki rst w1;TH12B b w0 w1 f;TH22 n e f c",
+        "banks",
+        2,
+    ),
+    (TREES, "TH22 m e f > TH33 m e f f", "banks", 2),
     (WIRES, "in x0 > in y x0", "unused port", 0),
     (GATES, "g p0 p1 m > g p0 n m", "cycle", 4),
     (WIRES, "k p0 p1 ko > k p0 p0 ko", "unpaired", 0),
+    (AND, "g p0 q0 p1 > g p0 q0 n | h p1 q1 > h p1 o", "cycle", 7),
+    (WIRES, "TH12B d > TH12 d", "unpaired", 3),
     (
         WIRES,
         "k p0 p1 ko > k p0 z1 ko | d z0 z1 c > d z0 p1 c",
@@ -69,7 +95,9 @@ const ANSWERS: [(&str, &str, &str, u32); 28] = [
     (WIRES, "t p0 ki > t c ki", "mixed", 3),
     (GATES, "h m p0 n > h m p0 n;TH12 over x0 x1 y", "mixed", 6),
     (TREES, "TH22 m > TH12 m", "mixed", 6),
+    (TREES, "TH22 m e f > TH33 m e f c", "mixed", 6),
     (TREES, "m e f ko > m e e ko", "loose", 5),
+    (TREES, "a b c > a b c;TH22 o e f y", "loose", 14),
     ("", "", "no chain", 1),
     (
         THREE,
@@ -248,22 +276,20 @@ fn tree_net(bank: usize, bit: usize, bits: usize) -> Word
     }
 }
 
-/// The register and acknowledge cells of a bit, and the gate that joins it to the completion tree.
-fn write_bit(
+/// The register cells of a bit, and its acknowledge cell with its output.
+fn write_cells(
     alloc: Global,
     text: &mut String,
     bank: usize,
     bit: usize,
-    bits: usize,
+    done: Word,
 ) -> Result<(), Memory>
-    requires bank { bank < 1000 }
-    requires bit { bit < 1000 }
+    requires { bank < 1000 }
 {
     let reset = ("rst", 0, 0);
     let request = ("q", bank + 1, 0);
     let zero = ("w", bank + 1, bit);
     let one = ("v", bank + 1, bit);
-    let done = tree_net(bank, bit, bits);
     write_words(
         alloc,
         text,
@@ -276,13 +302,44 @@ fn write_bit(
         ";TH22N",
         &[("s", bank, bit), ("v", bank, bit), request, reset, one],
     )?;
+    write_words(alloc, text, ";TH12B", &[("a", bank, bit), zero, one, done])
+}
+
+/// The cells of a bit, and the gate that joins it to a completion tree in which each gate joins one bit.
+fn write_bit(
+    alloc: Global,
+    text: &mut String,
+    bank: usize,
+    bit: usize,
+    bits: usize,
+) -> Result<(), Memory>
+    requires bank { bank < 1000 }
+    requires bit { bit < 1000 }
+{
+    let done = tree_net(bank, bit, bits);
     if bit == 0 {
-        return write_words(alloc, text, ";TH12B", &[("a", bank, bit), zero, one, done]);
+        return write_cells(alloc, text, bank, bit, done);
     }
     let own = ("e", bank, bit);
     let before = tree_net(bank, bit - 1, bits);
-    write_words(alloc, text, ";TH12B", &[("a", bank, bit), zero, one, own])?;
+    write_cells(alloc, text, bank, bit, own)?;
     write_words(alloc, text, ";TH22", &[("t", bank, bit), before, own, done])
+}
+
+/// The completion tree of eleven bits, of two TH44 and two TH33.
+fn write_tree_of_eleven(alloc: Global, text: &mut String, bank: usize) -> Result<(), Memory> {
+    let e = |bit: usize| ("e", bank, bit);
+    let h = |place: usize| ("h", bank, place);
+    let k = |place: usize| ("k", bank, place);
+    write_words(alloc, text, ";TH44", &[k(0), e(0), e(1), e(2), e(3), h(0)])?;
+    write_words(alloc, text, ";TH44", &[k(1), e(4), e(5), e(6), e(7), h(1)])?;
+    write_words(alloc, text, ";TH33", &[k(2), e(8), e(9), e(10), h(2)])?;
+    write_words(
+        alloc,
+        text,
+        ";TH33",
+        &[k(3), h(0), h(1), h(2), ("q", bank, 0)],
+    )
 }
 
 /// The rails of all bits of a bank.
@@ -293,22 +350,49 @@ fn write_rails(alloc: Global, text: &mut String, bank: usize, bits: usize) -> Re
     Ok(())
 }
 
+/// The ports of banks of so many bits.
+fn write_ports(alloc: Global, text: &mut String, banks: usize, bits: usize) -> Result<(), Memory> {
+    write_words(alloc, text, "in", &[("rst", 0, 0), ("q", banks, 0)])?;
+    write_rails(alloc, text, 0, bits)?;
+    write_words(alloc, text, ";out", &[("q", 0, 0)])?;
+    write_rails(alloc, text, banks, bits)
+}
+
 /// Banks of so many bits, joined by wires: the rails of bank k and its request have the number k + 1, its root k.
 fn row(alloc: Global, banks: usize, bits: usize) -> Result<String, Memory>
     requires banks { banks < 1000 }
     requires bits { bits < 1000 }
 {
     let mut text = String::new(alloc);
-    write_words(alloc, &mut text, "in", &[("rst", 0, 0), ("q", banks, 0)])?;
-    write_rails(alloc, &mut text, 0, bits)?;
-    write_words(alloc, &mut text, ";out", &[("q", 0, 0)])?;
-    write_rails(alloc, &mut text, banks, bits)?;
+    write_ports(alloc, &mut text, banks, bits)?;
     for bank in 0..banks {
         for bit in 0..bits {
             write_bit(alloc, &mut text, bank, bit, bits)?;
         }
     }
     Ok(text)
+}
+
+/// Two banks of eleven bits, joined by wires.
+fn two_of_eleven(alloc: Global) -> Result<String, Memory> {
+    let mut text = String::new(alloc);
+    write_ports(alloc, &mut text, 2, 11)?;
+    for bank in 0..2 {
+        for bit in 0..11 {
+            write_cells(alloc, &mut text, bank, bit, ("e", bank, bit))?;
+        }
+        write_tree_of_eleven(alloc, &mut text, bank)?;
+    }
+    Ok(text)
+}
+
+#[test]
+fn takes_trees_of_larger_gates(rt: HostRuntime) -> Result<(), Fail> {
+    let alloc = rt.alloc();
+    let n = netlist(&rt, alloc, &two_of_eleven(alloc)?)?;
+    assert_eq!(rt; n.cells().len(), 74);
+    assert_eq!(rt; answer(&shape(alloc, &n)), ("banks", 2));
+    Ok(())
 }
 
 /// Banks and bits, and what is answered: at the most of both, and past one of them or both.
@@ -336,7 +420,7 @@ fn keeps_to_the_most_banks_and_bits(rt: HostRuntime) -> Result<(), Fail> {
 }
 
 /// How many gates stand in the line.
-const LINE: usize = 20_000;
+const LINE: usize = 100_000;
 
 /// Two banks with a line of gates between them on rail 0, in file order or against it. Where it is closed its first
 /// gate reads the output of the last.
@@ -344,7 +428,7 @@ fn line(alloc: Global, against: bool, closed: bool) -> Result<String, Memory> {
     let mut text = changed(
         alloc,
         WIRES,
-        "N t p0 > N t n20000 | rst p0 > rst n0 | k p0 > k n0",
+        "N t p0 > N t n100000 | rst p0 > rst n0 | k p0 > k n0",
     )?;
     for k in 0..LINE {
         let gate = if against { LINE - 1 - k } else { k };

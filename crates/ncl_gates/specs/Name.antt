@@ -1,6 +1,8 @@
 -- The names that cells have in a netlist: those of the gates (Smith and Di 2009), and this library's own
 -- for the register cell and the acknowledge cell.
-use Rattle.std.specs.Prelude.{ℕ, List, codes}
+use Rattle.std.specs.Prelude.{ℕ, List, [], ◌∷◌, Bool, false, ◌&&◌, codes}
+use Rattle.std.specs.List.{list_all}
+use Rattle.std.specs.Char.{is_ascii_uppercase, is_ascii_alphanumeric}
 use Rattle.ncl_gates.specs.declared.kind.Kind.{Kind}
 use Rattle.ncl_gates.specs.declared.kind.Kind.TheVariants.{Th12, Th22, Th13, Th23, Th33, Th23w2, Th33w2, Th14, Th24, Th34, Th44, Th24w2, Th34w2, Th44w2, Th34w3, Th44w3, Th24w22, Th34w22, Th44w22, Th54w22, Th34w32, Th54w32, Th44w322, Th54w322, ThXor0, ThAnd0, Th24comp}
 use Rattle.ncl_gates.specs.declared.cell_kind.CellKind.{CellKind}
@@ -42,3 +44,8 @@ abbrev pub cell_name_of : CellKind → List ℕ
 cell_name_of (Gate kind) = name_of kind
 cell_name_of Register = codes "TH22N"
 cell_name_of Ack = codes "TH12B"
+
+-- a capital letter, and after it letters and digits alone
+abbrev pub is_capital_word : List ℕ → Bool
+is_capital_word [] = false
+is_capital_word (byte ∷ rest) = is_ascii_uppercase byte && list_all is_ascii_alphanumeric rest

@@ -1,8 +1,11 @@
 //! The laws of the gates. Each function states one for all gates, and does nothing.
-ghost use Rattle.std.specs.Prelude.{◌≡◌, List, Bool, true, false, length};
+ghost use Rattle.std.specs.Prelude.{◌≡◌, ◌≤◌, ℕ, List, [], ◌∷◌, ◌++◌, Bool, true, false, length, codes, All, IsTrue};
+ghost use Rattle.std.specs.List.{IsDistinct};
+ghost use Rattle.std.specs.Str.{bytes_eq};
 ghost use Rattle.ncl_gates.specs.declared.kind.Kind.{Kind};
 ghost use Rattle.ncl_gates.specs.declared.kind.Kind.TheVariants.{Th12, Th22, Th13, Th33, Th14, Th44};
 ghost use Rattle.ncl_gates.specs.declared.cell_kind.CellKind.{CellKind};
+ghost use Rattle.ncl_gates.specs.Cell.{pins_of};
 ghost use Rattle.ncl_gates.specs.Gate.{arity_of, set_of, some_high};
 ghost use Rattle.ncl_gates.specs.GateLaw.{
   HasHysteresis,
@@ -12,7 +15,7 @@ ghost use Rattle.ncl_gates.specs.GateLaw.{
   IsMonotone,
   all_high,
 };
-ghost use Rattle.ncl_gates.specs.Name.{cell_name_of, name_of};
+ghost use Rattle.ncl_gates.specs.Name.{cell_name_of, is_capital_word, name_of};
 
 /// Raising inputs never lowers a set function.
 pub fn monotone()
@@ -50,6 +53,21 @@ pub fn disjunctions()
 pub fn names()
     ensures gates { (kind other : Kind) → name_of kind ≡ name_of other → kind ≡ other }
     ensures cells { (cell other : CellKind) → cell_name_of cell ≡ cell_name_of other → cell ≡ other }
+{}
+
+/// The names of cells and of their pins begin with a capital letter, and have letters and digits alone.
+pub fn capital_words()
+    ensures cells { (cell : CellKind) → IsTrue (is_capital_word (cell_name_of cell)) }
+    ensures pins { (cell : CellKind) → All (λ pin. IsTrue (is_capital_word pin)) (pins_of cell) }
+{}
+
+/// A cell has three to five pins, no two of one name, and the last of them is `Z`.
+pub fn pins()
+    ensures some { (cell : CellKind) → 3 ≤ length (pins_of cell) }
+    ensures few { (cell : CellKind) → length (pins_of cell) ≤ 5 }
+    ensures differ { (cell : CellKind) → IsDistinct bytes_eq (pins_of cell) }
+    ensures last { (cell : CellKind) →
+        (inputs : List (List ℕ)) × (pins_of cell ≡ inputs ++ codes "Z" ∷ []) }
 {}
 
 /// Each set function is a sum of at least one product, and each product has pins, all of them the

@@ -7,6 +7,7 @@ use Rattle.std.proofs.lemmas.List.{length-append, length-map, length-take, map-a
 use Rattle.std.proofs.lemmas.List.Elements.{All-cons, All-nil, All-from_get_or, All-map, All-take, All-head, All-tail}
 use Rattle.std.proofs.lemmas.List.Folds.{list_any-append, list_any_at}
 use Rattle.std.proofs.lemmas.List.Sums.{fold-append}
+use Rattle.ncl_gates.proofs.PinLaws.{pins_of-some, pins_of-few}
 use Rattle.indexmap.specs.IndexSet.{insert_key, insert_all}
 use Rattle.ncl_netlist.specs.declared.parts.PartCell.{PartCell}
 use Rattle.ncl_netlist.specs.declared.parts.Parts.{Parts}
@@ -20,7 +21,6 @@ use Rattle.ncl_netlist.specs.Faults.{HasFewCells, HasOwnCellNames, IsFaultless, 
 use Rattle.ncl_netlist.specs.declared.build_fault.BuildFault.{BuildFault}
 use Rattle.ncl_netlist.specs.declared.build_fault.BuildFault.TheVariants.{TooMany, SameName, TwoDrivers, NoDriver, Memory}
 use Rattle.ncl_netlist.proofs.NameLists.{same_itself, insert_all-none, AllDiffer-once_each, take-once_each, length-insert_all, number_of-lt-length, list_any-once_each, get_or-number_of}
-use Rattle.ncl_netlist.proofs.Steps.{pins_some, pins_few}
 
 or_true : (b : Bool) → (b || true) ≡ true
 or_true true = refl
@@ -38,7 +38,7 @@ pins_all P (c ∷ cells) h =
 fits : (nets : List (List ℕ)) (cell : PartCell) → HasAllPins cell → All (λ x. number_of nets x < length nets) cell.pins → CellFits (length nets) (cell_of nets cell)
 fits nets cell all each =
     let last = length cell.pins - 1 in
-    let some = pins_some cell.kind in
+    let some = pins_of-some cell.kind in
     record {
       output = each last [] (omega (arith, all));
       inputs = All-map (λ net. net.0 < length nets) (net_of nets) (input_names cell) (All-take (λ x. number_of nets x < length nets) last cell.pins each);
@@ -63,7 +63,7 @@ front_and_last (x ∷ xs) (suc k) d many = ap (λ l. x ∷ l) (front_and_last xs
 -- the names at the pins of a cell whose nets are numbered are the names that it was given
 pin_names-cell_of : (nets : List (List ℕ)) (cell : PartCell) → HasAllPins cell → All (λ x. number_of nets x < length nets) cell.pins → pin_names nets (cell_of nets cell) ≡ cell.pins
 pin_names-cell_of nets cell all known =
-    let some = pins_some cell.kind in
+    let some = pins_of-some cell.kind in
     let whole = front_and_last cell.pins (length cell.pins - 1) [] (omega (arith, all, some)) in
     let numbers = map-append (net_of nets) (input_names cell) (output_name cell ∷ []) in
     ap (map (λ (net : NetId). get_or nets net.0 [])) (sym numbers ∙ ap (map (net_of nets)) whole) ∙ names-of_numbers nets cell.pins known
@@ -79,7 +79,7 @@ all_pin_names nets (c ∷ cells) all known =
 length-flat_map-pins : (cells : List PartCell) → All HasAllPins cells → length (flat_map (λ cell. cell.pins) cells) ≤ 5 * length cells
 length-flat_map-pins [] all = omega arith
 length-flat_map-pins (c ∷ cells) all =
-    omega (arith, length-append c.pins (flat_map (λ cell. cell.pins) cells), All-head HasAllPins c cells all, pins_few c.kind, length-flat_map-pins cells (All-tail HasAllPins c cells all))
+    omega (arith, length-append c.pins (flat_map (λ cell. cell.pins) cells), All-head HasAllPins c cells all, pins_of-few c.kind, length-flat_map-pins cells (All-tail HasAllPins c cells all))
 
 module _ (parts : Parts) where
   -- each name at a pin is a net

@@ -3,3 +3,4 @@ mod Building
 pub mod NameLists
 pub mod NetlistLaws
 pub mod FaultLaws
+pub mod Said

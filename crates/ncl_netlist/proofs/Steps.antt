@@ -1,17 +1,14 @@
 -- What the loops keep, and their steps.
-use Rattle.std.proofs.Common.{codes, unwrap_or, true≢false, ◌-◌, ◌≡◌, ℕ, ◌+◌, ◌<◌, ◌≤◌, Bool, true, false, not, List, [], ◌∷◌, ◌++◌, length, map, take, filter, slice_get, get_or, Some, sym, refl, ap, ◌∙◌, arith, append_assoc}
+use Rattle.std.proofs.Common.{unwrap_or, true≢false, ◌-◌, ◌≡◌, ℕ, ◌+◌, ◌<◌, ◌≤◌, Bool, true, false, not, List, [], ◌∷◌, ◌++◌, length, map, take, filter, slice_get, get_or, Some, sym, refl, ap, ◌∙◌, arith, append_assoc}
 use Rattle.std.specs.List.{flat_map, list_any}
-use Rattle.std.proofs.lemmas.List.{map-append, flat_map_more, length-append, length-take, get_or-take}
+use Rattle.std.proofs.lemmas.List.{map-append, flat_map_more, length-take, get_or-take}
 use Rattle.std.proofs.lemmas.List.Sums.{fold-append}
 use Rattle.std.proofs.lemmas.List.Folds.{Any-from_list_any}
 use Rattle.std.proofs.lemmas.Map.Keys.{apart_from_distinct}
 use Rattle.std.proofs.lemmas.Option.{slice_get-get_or, slice_get_within, unwrap_or-slice_get}
 use Rattle.indexmap.specs.IndexSet.{insert_key, insert_all}
 use Rattle.arrayvec.specs.ArrayVec.{ArrayVec}
-use Rattle.ncl_gates.specs.Gate.{arity_of}
-use Rattle.ncl_gates.specs.Cell.{pins_of, input_pins}
-use Rattle.ncl_gates.specs.declared.cell_kind.CellKind.{CellKind}
-use Rattle.ncl_gates.specs.declared.cell_kind.CellKind.TheVariants.{Gate, Register, Ack}
+use Rattle.ncl_gates.proofs.PinLaws.{pins_of-few}
 use Rattle.ncl_netlist.specs.declared.ids.NetId.{NetId}
 use Rattle.ncl_netlist.specs.declared.cell.Cell.{Cell}
 use Rattle.ncl_netlist.specs.declared.parts.PartCell.{PartCell}
@@ -49,19 +46,6 @@ flat_map-one (x ∷ xs) = ap (λ l. x ∷ l) (flat_map-one xs)
 
 -- ---- the pins of a cell
 
--- a cell has two to five pins
-pub pins_few : (kind : CellKind) → length (pins_of kind) ≤ 5
-pins_few (Gate kind) =
-    omega (arith, length-append (take (arity_of kind) input_pins) (codes "Z" ∷ []), length-take (arity_of kind) input_pins)
-pins_few Register = omega arith
-pins_few Ack = omega arith
-
-pub pins_some : (kind : CellKind) → 0 < length (pins_of kind)
-pins_some (Gate kind) =
-    omega (arith, length-append (take (arity_of kind) input_pins) (codes "Z" ∷ []))
-pins_some Register = omega arith
-pins_some Ack = omega arith
-
 -- a cell by its inputs and its output
 pub cell_by_pins : (nets : List (List ℕ)) (cell : PartCell) (inputs : List (List ℕ)) (output : List ℕ) (ins : ArrayVec NetId) (out : NetId) → inputs ≡ input_names cell → output ≡ output_name cell → ins.items ≡ map (net_of nets) inputs → out ≡ net_of nets output → ◌≡◌ {A = Cell} (record { kind = cell.kind; name = cell.name; ins = ins; out = out }) (cell_of nets cell)
 cell_by_pins nets cell inputs output ins out i o p q =
@@ -82,7 +66,7 @@ output_by_pop cell pins len output e l o =
 -- the inputs of a cell add at most four names
 pub inputs_few : (cell : PartCell) (keys inputs new : List (List ℕ)) → HasAllPins cell → inputs ≡ input_names cell → new ≡ insert_all same_name keys inputs → length new ≤ length keys + 4
 inputs_few cell keys inputs new all i n =
-    let few = pins_few cell.kind in
+    let few = pins_of-few cell.kind in
     let short : length inputs ≤ 4 = omega (arith, ap length i, length-take (length cell.pins - 1) cell.pins, all) in
     omega (arith, ap length n, length-insert_all keys inputs)
 

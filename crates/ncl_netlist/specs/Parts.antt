@@ -8,7 +8,7 @@ use Rattle.ncl_netlist.specs.declared.cell.Cell.{Cell}
 use Rattle.ncl_netlist.specs.declared.parts.PartCell.{PartCell}
 use Rattle.ncl_netlist.specs.declared.parts.Parts.{Parts}
 use Rattle.ncl_netlist.specs.Names.{once_each, number_of}
-use Rattle.ncl_netlist.specs.Netlist.{NetlistData}
+use Rattle.ncl_netlist.specs.Netlist.{NetlistData, pin_names}
 
 -- the cell has one net for each pin of its kind
 abbrev pub HasAllPins : PartCell → Type 0
@@ -55,4 +55,20 @@ netlist_of parts = record {
   ports = parts.ports;
   nets = nets_of parts;
   cells = map (cell_of (nets_of parts)) parts.cells;
+}
+
+-- the cell, with the names of its nets in place of their numbers
+abbrev pub part_of : List (List ℕ) → Cell → PartCell
+part_of nets cell = record {
+  kind = cell.kind;
+  name = cell.name;
+  pins = pin_names nets cell;
+}
+
+-- the parts that say a netlist: its ports, and each cell with the names of its nets
+abbrev pub parts_said : NetlistData → Parts
+parts_said n = record {
+  «module» = n.name;
+  ports = n.ports;
+  cells = map (part_of n.nets) n.cells;
 }

@@ -7,6 +7,7 @@ mod cell;
 mod cell_rules;
 mod drivers;
 mod ids;
+pub mod laws;
 mod netlist;
 mod numbering;
 mod parts;

@@ -2,7 +2,8 @@ use Rattle.std.proofs.Common.{◌≡◌, [], ◌∷◌, length, arith, sym, ap, 
 use Rattle.std.proofs.lemmas.Option.{same_Some}
 use Rattle.ncl_netlist.specs.Parts.{net_of, output_name}
 use Rattle.ncl_netlist.proofs.NameLists.{length-insert_all}
-use Rattle.ncl_netlist.proofs.Steps.{still_whatever, cell_by_pins, inputs_by_pop, output_by_pop, inputs_few, pins_some}
+use Rattle.ncl_gates.proofs.PinLaws.{pins_of-some}
+use Rattle.ncl_netlist.proofs.Steps.{still_whatever, cell_by_pins, inputs_by_pop, output_by_pop, inputs_few}
 use Rattle.ncl_netlist.proofs.numbering.number_cell.Goals as goal
 
 pub number_net-requires : goal.number_net-requires
@@ -19,7 +20,7 @@ returns-clause-cell c = λ more.
     let inputs = inputs_by_pop cell pins.items c.pop.new.self.items pins.len c.into_vec-inputs.ensures pins.ok.0 c.pop.ensures.rest in
     let output : c.unwrap-output.result ≡ output_name cell =
     output_by_pop cell pins.items pins.len c.unwrap-output.result c.into_vec-inputs.ensures pins.ok.0
-    (same_Some _ _ (sym c.unwrap-output.ensures ∙ c.pop.ensures.value [] (omega (arith, pins_some cell.kind, c.requires.pins, pins.ok.0, ap length c.into_vec-inputs.ensures)))) in
+    (same_Some _ _ (sym c.unwrap-output.ensures ∙ c.pop.ensures.value [] (omega (arith, pins_of-some cell.kind, c.requires.pins, pins.ok.0, ap length c.into_vec-inputs.ensures)))) in
     let ins = still_whatever net_of c.pop.new.self.items c.in_ok-ins.ins.items keys (c.unwrap-output.result ∷ []) more c.in_ok-ins.ensures.nets in
     cell_by_pins _ cell c.pop.new.self.items c.unwrap-output.result c.in_ok-ins.ins c.in_ok-out.out inputs output
     (rw c.in_ok-out.ensures.names ins) (c.in_ok-out.ensures.net more)

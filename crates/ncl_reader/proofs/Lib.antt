@@ -1,0 +1,17 @@
+pub mod Steps
+mod Runs
+mod Grows
+mod Viable
+mod Breaking
+mod Faults
+mod Places
+mod DraftSteps
+mod Among
+mod Ways
+mod Clean
+mod Nets
+pub mod Loop
+mod OneParts
+mod OneAnswer
+pub mod LoopTokens
+mod PartsRead

@@ -1,0 +1,90 @@
+-- The loop over tokens, and what is left of them.
+use Rattle.std.proofs.Common.{◌≡◌, ℕ, List, [], ◌∷◌, ◌++◌, drop, length, refl, sym, subst, append_assoc, Option, Some, None, Ok, Err, Result}
+use Rattle.ncl_netlist.specs.declared.parts.Parts.{Parts}
+use Rattle.ncl_token.specs.declared.token.Token.{Token}
+use Rattle.ncl_token.specs.Spaces.{IsSpace}
+use Rattle.ncl_token.specs.Tokens.{AreTokens, TokensOf, IsNextToken, IsBadByte, Stop, End as at_end, Bad as at_bad, at_end as none_left, at_bad_byte}
+use Rattle.ncl_token.specs.Reading.{IsAnswer}
+use Rattle.ncl_token.proofs.OneList.{list_once}
+use Rattle.ncl_token.proofs.Left.{next_left}
+use Rattle.ncl_reader.specs.declared.place.Place.{Place}
+use Rattle.ncl_reader.specs.declared.place.Place.TheVariants as place
+use Rattle.ncl_reader.specs.declared.net_fault.NetFault.{NetFault}
+use Rattle.ncl_reader.specs.declared.net_fault.NetFault.TheVariants.{Syntax, Memory}
+use Rattle.ncl_token.specs.declared.token.TokenFault.{TokenFault}
+use Rattle.ncl_token.specs.declared.token.TokenFault.TheVariants.{BadByte}
+use Rattle.ncl_reader.specs.declared.draft.Draft.{Draft}
+use Rattle.ncl_reader.specs.Rules.{Breaks}
+use Rattle.ncl_reader.specs.Lexemes.{Placed}
+use Rattle.ncl_reader.specs.Refusals.{IsFaultAt}
+use Rattle.ncl_reader.specs.Reads.{placed_of, stop_of, placed_in, IsLexed, Reads, IsRefused, IsReadFault}
+use Rattle.ncl_reader.specs.Partial.{Partial, spelled, start, place_of}
+use Rattle.ncl_reader.specs.Draft.{HoldsAt, Takes, SaysAt}
+use Rattle.ncl_reader.proofs.Loop.{Stands, stands-first, stands-more, stands-broken, stands-bad, stands-short, stands-whole}
+
+-- the tokens before are read, and these are left
+pub record LoopAt (bytes : List ℕ) (at : ℕ) (here : Place) (draft : Draft) : Type 0 where
+  pub before : List Placed
+  pub left : List Token
+  pub stop : Stop
+  pub are : AreTokens at (drop at bytes) left stop
+  pub lexed : IsLexed bytes (before ++ placed_in bytes left stop)
+  pub stands : Stands before here draft
+
+pub loop-first : (bytes : List ℕ) (draft : Draft) (tokens : List Token) (stop : Stop) → TokensOf bytes tokens stop → HoldsAt place.Module draft start → LoopAt bytes 0 place.Module draft
+loop-first bytes draft tokens stop are holds = record { before = []; left = tokens; stop = stop; are = are; lexed = (tokens, stop, are, refl); stands = stands-first draft holds }
+
+-- the next token stands in front of what is left
+front : (bytes : List ℕ) (before : List Placed) (left others : List Token) (stop : Stop) (token : Token) → left ≡ token ∷ others → IsLexed bytes (before ++ placed_in bytes left stop) → IsLexed bytes (before ++ placed_of bytes token ∷ placed_in bytes others stop)
+front bytes before left others stop token is lexed = subst (λ l. IsLexed bytes (before ++ placed_in bytes l stop)) is lexed
+
+module _ (bytes : List ℕ) (at : ℕ) (here : Place) (draft : Draft) (loop : LoopAt bytes at here draft) where
+  pub loop-more : (after : Place) (new : Draft) (token : Token) → IsNextToken at (drop at bytes) token (drop token.end bytes) → Takes loop.stands.tree (placed_of bytes token).lexeme after new → LoopAt bytes token.end after new
+  loop-more after new token next takes =
+      let (others, is, are) = next_left at (drop at bytes) loop.left loop.stop token (drop token.end bytes) loop.are next in
+      record {
+        before = loop.before ++ placed_of bytes token ∷ [];
+        left = others;
+        stop = loop.stop;
+        are = are;
+        lexed = subst (IsLexed bytes) (sym (append_assoc loop.before (placed_of bytes token ∷ []) (placed_in bytes others loop.stop))) (front bytes loop.before loop.left others loop.stop token is loop.lexed);
+        stands = stands-more loop.before here after draft new loop.stands (placed_of bytes token) takes;
+      }
+
+  pub loop-broken : (token : Token) (fault : NetFault) → IsNextToken at (drop at bytes) token (drop token.end bytes) → Breaks (spelled loop.stands.tree) (placed_of bytes token).lexeme → IsFaultAt (spelled loop.stands.tree) (placed_of bytes token) fault → IsRefused bytes fault
+  loop-broken token fault next breaks is-fault =
+      let (others, is, are) = next_left at (drop at bytes) loop.left loop.stop token (drop token.end bytes) loop.are next in
+      (loop.before ++ placed_of bytes token ∷ placed_in bytes others loop.stop, front bytes loop.before loop.left others loop.stop token is loop.lexed, stands-broken loop.before (placed_in bytes others loop.stop) here draft loop.stands (placed_of bytes token) fault breaks is-fault)
+
+  -- nothing is left but the end, or a bad byte
+  stopped : (stop : Stop) → AreTokens at (drop at bytes) [] stop → IsLexed bytes (loop.before ++ stop_of bytes stop ∷ [])
+  stopped stop ends =
+      let same = list_once at (drop at bytes) loop.left [] loop.stop stop loop.are ends in
+      subst (λ s. IsLexed bytes (loop.before ++ placed_in bytes [] s)) same.1 (subst (λ l. IsLexed bytes (loop.before ++ placed_in bytes l loop.stop)) same.0 loop.lexed)
+
+  pub loop-bad : (bad : ℕ) → IsBadByte at (drop at bytes) bad → IsRefused bytes (Syntax bad)
+  loop-bad bad breaks = (_, stopped (at_bad bad) (at_bad_byte breaks), stands-bad loop.before here draft loop.stands bad)
+
+  pub loop-short : IsSpace (drop at bytes) [] → (place_of loop.stands.tree ≡ place.End → ⊥) → IsRefused bytes (Syntax (length bytes))
+  loop-short space other = (_, stopped at_end (none_left space), stands-short loop.before here draft loop.stands (length bytes) other)
+
+pub loop-whole : (bytes : List ℕ) (at : ℕ) (draft : Draft) (loop : LoopAt bytes at place.End draft) (parts : Parts) → IsSpace (drop at bytes) [] → SaysAt loop.stands.tree parts → Reads bytes parts
+loop-whole bytes at draft loop parts space says = (_, stopped bytes at place.End draft loop at_end (none_left space), stands-whole loop.before draft loop.stands (length bytes) parts says)
+
+-- what an answer says of the text itself
+module _ (bytes b : List ℕ) (at : ℕ) (result : Result (Option Token) TokenFault) (same : b ≡ bytes) (answer : IsAnswer b at result) where
+  pub next-token : (token : Token) → result ≡ Ok (Some token) → IsNextToken at (drop at bytes) token (drop token.end bytes)
+  next-token token is = subst (λ b. IsNextToken at (drop at b) token (drop token.end b)) same (subst (IsAnswer b at) is answer).0
+
+  pub next-space : result ≡ Ok None → IsSpace (drop at bytes) []
+  next-space is = subst (λ b. IsSpace (drop at b) []) same (subst (IsAnswer b at) is answer)
+
+  pub next-bad : (bad : ℕ) → result ≡ Err (BadByte bad) → IsBadByte at (drop at bytes) bad
+  next-bad bad is = subst (λ b. IsBadByte at (drop at b) bad) same (subst (IsAnswer b at) is answer)
+
+pub refused-fault : (bytes : List ℕ) (fault : NetFault) → IsRefused bytes fault → IsReadFault bytes fault
+refused-fault bytes Memory is = tt
+refused-fault bytes fault is = is
+
+pub whole-at : (bytes : List ℕ) (at : ℕ) (here : Place) (draft : Draft) (parts : Parts) → here ≡ place.End → LoopAt bytes at here draft → IsSpace (drop at bytes) [] → ((p : Partial) → HoldsAt place.End draft p → SaysAt p parts) → Reads bytes parts
+whole-at bytes at here draft parts is loop space says = let ends = subst (λ h. LoopAt bytes at h draft) is loop in loop-whole bytes at draft ends parts space (says ends.stands.tree ends.stands.holds)

@@ -1,0 +1,7 @@
+use Rattle.std.proofs.Common.{◌≡◌, List, ℕ, [], map, take, unwrap_or, Contains}
+use Rattle.ncl_reader.specs.Says.{net_on}
+use Rattle.ncl_reader.specs.Instance.{conns_of, pins_in}
+use Rattle.ncl_reader.proofs.instance.Instance.close.Given as goal
+
+abbrev pub invariant-loop-pin : goal.invariant-loop-pin
+invariant-loop-pin l = (l.pins.items ≡ map (λ pin. unwrap_or (net_on (conns_of l.self) pin) []) (map (λ n. n.now) (take l.pin-index l.pin-items))) × ((x : List ℕ) → Contains (map (λ n. n.now) (take l.pin-index l.pin-items)) x → Contains (pins_in (conns_of l.self)) x)

@@ -1,0 +1,15 @@
+pub mod Lexemes
+pub mod Words
+pub mod Grammar
+pub mod Forms
+pub mod Rules
+pub mod Says
+pub mod Whole
+pub mod Refusals
+pub mod Reads
+pub mod Partial
+pub mod Meant
+pub mod Header
+pub mod Instance
+pub mod Draft
+pub mod Faults

@@ -1,0 +1,74 @@
+//! A text read to its end.
+ghost use Rattle.std.specs.Prelude.{◌≡◌, ◌≤◌, IfOk, IfErr, length};
+ghost use Rattle.ncl_token.specs.declared.token.TokenFault.TheVariants.{BadByte};
+ghost use Rattle.ncl_netlist.specs.declared.parts.Parts.{Parts};
+ghost use Rattle.ncl_netlist.specs.Names.{AllDiffer};
+ghost use Rattle.ncl_netlist.specs.Parts.{netlist_of, port_names};
+ghost use Rattle.ncl_netlist.specs.Faults.{IsFaultless};
+ghost use Rattle.ncl_reader.specs.Reads.{Reads, IsReadFault, IsNetFault};
+
+use crate::draft::Draft;
+use crate::lexeme::lexeme_of;
+use crate::net_fault::NetFault;
+use crate::place::Place;
+use crate::refusal::refusal;
+use ncl_base::MOST_BYTES;
+use ncl_netlist::{Netlist, Parts, build};
+use ncl_token::{TokenFault, Tokens};
+use std::alloc::Global;
+
+/// Reads the netlist of a text.
+///
+/// Fails at the first token that breaks the grammar or a rule, with its place and what is wrong; where the
+/// parts that the text says are no netlist; and where memory is refused.
+///
+/// Near linear in the bytes: each is looked at a fixed number of times, each name of the header, and each
+/// name that `input` and `output` declare, is looked up by O(log n) comparisons, and `build` hashes each name
+/// once. Takes memory linear in the bytes: one allocation for each name of a port, a cell and a connection,
+/// and no list of tokens.
+pub fn read_netlist(alloc: Global, bytes: &[u8]) -> Result<Netlist, NetFault>
+    requires { length bytes.now ≤ MOST_BYTES }
+    ensures netlist { IfOk result (λ n. (parts : Parts) × Reads bytes.now parts × IsFaultless parts × (n ≡ netlist_of parts)) }
+    ensures fault { IfErr result (IsNetFault bytes.now) }
+{
+    let parts = read_parts(alloc, bytes)?;
+    Ok(build(alloc, parts)?)
+}
+
+/// The parts that a text says.
+///
+/// Fails at the first token that breaks, and where memory is refused. Costs as `read_netlist` does.
+fn read_parts(alloc: Global, bytes: &[u8]) -> Result<Parts, NetFault>
+    ensures parts { IfOk result (Reads bytes.now) }
+    ensures differ { IfOk result (λ parts. AllDiffer (port_names parts)) }
+    ensures fault { IfErr result (IsReadFault bytes.now) }
+{
+    let mut tokens = Tokens::new(bytes);
+    let mut draft = Draft::new(alloc);
+    let mut place = Place::Module;
+    loop {
+        match tokens.next() {
+            Ok(Some(token)) => {
+                let lexeme = lexeme_of(&tokens, &token);
+                match draft.step(alloc, place, &lexeme)? {
+                    Some(after) => place = after,
+                    None => return Err(refusal(place, &lexeme, token.start)),
+                }
+            }
+            Ok(None) => match place {
+                Place::End => return Ok(draft.into_parts(alloc)?),
+                _ => return Err(NetFault::Syntax(bytes.len())),
+            },
+            Err(fault) => return Err(NetFault::Syntax(bad_place(fault))),
+        }
+    }
+}
+
+/// The place of a bad byte.
+fn bad_place(fault: TokenFault) -> usize
+    ensures { fault ≡ BadByte result }
+{
+    match fault {
+        TokenFault::BadByte(at) => at,
+    }
+}

@@ -1,2 +1,4 @@
-//! Functions of the words of a stage: their tables and beads.
+//! Shared decision diagrams of the functions of a stage, as a space.
 #![tactic(auto)]
+
+pub use ncl_space::{Mark, Ref, Space, SpaceFault};

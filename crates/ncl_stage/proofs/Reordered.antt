@@ -7,8 +7,8 @@ use Rattle.std.proofs.lemmas.List.Sorted.{list_any-IsPermutation, length_permuta
 use Rattle.ncl_shape.specs.declared.stage.StageCell.{StageCell}
 use Rattle.ncl_shape.specs.Nets.{Nets, round, rounds}
 use Rattle.ncl_shape.specs.Stage.{StageData, rail_nets, nets_of, out_of}
-use Rattle.ncl_diagram.specs.Table.{words, table_of}
-use Rattle.ncl_diagram.proofs.BeadLaws.{bead_count-permuted}
+use Rattle.ncl_space.specs.Table.{words, table_of}
+use Rattle.ncl_space.proofs.BeadLaws.{bead_count-permuted}
 use Rattle.ncl_stage.specs.declared.variant.Variant.{Variant}
 use Rattle.ncl_stage.specs.declared.variant.Variant.TheVariants.{Base, Bit, Cell}
 use Rattle.ncl_stage.specs.Values.{kept_low, output_net, rises, start, val}

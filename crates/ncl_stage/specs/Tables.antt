@@ -5,8 +5,8 @@ use Rattle.ncl_shape.specs.declared.rails.Rails.{Rails}
 use Rattle.ncl_shape.specs.declared.stage.StageCell.{StageCell}
 use Rattle.ncl_shape.specs.Nets.{Nets}
 use Rattle.ncl_shape.specs.Stage.{StageData, nets_of}
-use Rattle.ncl_diagram.specs.Table.{words, table_of}
-use Rattle.ncl_diagram.specs.Beads.{bead_count}
+use Rattle.ncl_space.specs.Table.{words, table_of}
+use Rattle.ncl_space.specs.Beads.{bead_count}
 use Rattle.ncl_stage.specs.declared.variant.Variant.{Variant}
 use Rattle.ncl_stage.specs.declared.variant.Variant.TheVariants.{Base, Bit, Cell}
 use Rattle.ncl_stage.specs.Values.{val}

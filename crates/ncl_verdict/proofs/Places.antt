@@ -4,7 +4,7 @@ use Rattle.std.specs.Prelude.{nat_lt, if◌then◌else◌, slice_get}
 use Rattle.std.specs.List.{range_with_len}
 use Rattle.std.proofs.lemmas.Bool.{cases_eq}
 use Rattle.ncl_base.proofs.Members.{Member, here, there, member_cases, Member-map, Member-append_left, Member-append_right}
-use Rattle.ncl_diagram.specs.Table.{words}
+use Rattle.ncl_space.specs.Table.{words}
 use Rattle.ncl_verdict.specs.Judgement.{below, inserted, ordered_by}
 
 Member-range : (from count k : ℕ) → from ≤ k → k < from + count → Member k (range_with_len from count)

@@ -13,7 +13,7 @@ use Rattle.ncl_shape.specs.declared.stage.StageCell.{StageCell}
 use Rattle.ncl_shape.specs.Nets.{Nets}
 use Rattle.ncl_shape.specs.Stage.{StageData, IsStage, rail_nets}
 use Rattle.ncl_base.proofs.Members.{All-from_members}
-use Rattle.ncl_diagram.specs.Table.{words}
+use Rattle.ncl_space.specs.Table.{words}
 use Rattle.ncl_stage.specs.declared.variant.Variant.{Variant}
 use Rattle.ncl_stage.specs.declared.variant.Variant.TheVariants as variant
 use Rattle.ncl_stage.specs.Faults.{StageFault, BothRails, NoRail, Incomplete, Orphan, has_data, is_illegal, all_data, holds_at, shows}

@@ -2,7 +2,7 @@
 ghost use Rattle.std.specs.Prelude.{◌≡◌, ℕ, ◌+◌, ◌<◌, ◌≤◌, [], ◌∷◌, ◌++◌, map, length, All, IfOk, IfSome};
 ghost use Rattle.std.specs.List.{find, list_all};
 ghost use Rattle.ncl_shape.specs.Stage.{StageData, rail_nets};
-ghost use Rattle.ncl_diagram.specs.Table.{words};
+ghost use Rattle.ncl_space.specs.Table.{words};
 ghost use Rattle.ncl_stage.specs.declared.variant.Variant.TheVariants as variant;
 ghost use Rattle.ncl_stage.specs.Faults.{BothRails, NoRail, Incomplete, Orphan, all_data, has_data, shows};
 ghost use Rattle.ncl_stage.specs.Values.{val};

@@ -1,7 +1,7 @@
 use Rattle.std.proofs.Common.{◌≡◌, ℕ, suc, ◌-◌, Bool, true, false, List, [], ◌∷◌, ◌++◌, map, refl, sym, ap, ◌∙◌, arith}
 use Rattle.std.specs.Option.{option_or}
 use Rattle.std.specs.List.{find}
-use Rattle.ncl_diagram.specs.Table.{words}
+use Rattle.ncl_space.specs.Table.{words}
 use Rattle.ncl_stage.specs.Faults.{shows}
 use Rattle.nclc.specs.Judging.{stage_fault}
 use Rattle.nclc.proofs.JudgeSteps.{find_more}

@@ -1,0 +1,3 @@
+pub mod BeadLaws
+pub mod TableLaws
+pub mod SpaceLaws

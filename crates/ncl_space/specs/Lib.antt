@@ -1,0 +1,4 @@
+pub mod Table
+pub mod Beads
+pub mod Functions
+pub mod Space

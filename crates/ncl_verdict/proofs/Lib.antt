@@ -4,3 +4,4 @@ pub mod Places
 pub mod Sound
 pub mod FileOrder
 pub mod SameJudgement
+pub mod NamedCell

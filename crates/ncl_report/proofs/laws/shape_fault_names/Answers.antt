@@ -1,0 +1,5 @@
+use Rattle.ncl_report.proofs.NamedPlaces.{names_place_of}
+use Rattle.ncl_report.proofs.laws.shape_fault_names.Goals as goal
+
+pub returns : goal.returns
+returns c = names_place_of

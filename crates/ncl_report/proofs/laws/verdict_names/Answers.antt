@@ -1,0 +1,5 @@
+use Rattle.ncl_report.proofs.NamedPlaces.{names_cell_of}
+use Rattle.ncl_report.proofs.laws.verdict_names.Goals as goal
+
+pub returns : goal.returns
+returns c = names_cell_of

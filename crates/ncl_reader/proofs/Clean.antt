@@ -1,13 +1,11 @@
 -- Lists of tokens in which no rule is broken.
-use Rattle.std.proofs.Common.{◌≡◌, ℕ, List, [], ◌∷◌, ◌++◌, Option, Some, None, refl, sym, ap, ◌∙◌, append_assoc, subst}
+use Rattle.std.proofs.Common.{◌≡◌, List, [], ◌∷◌, ◌++◌, Option, Some, None, refl, sym, ap, ◌∙◌, subst}
 use Rattle.std.specs.Prelude.{option_and_then}
-use Rattle.std.proofs.lemmas.Option.{same_Some}
-use Rattle.std.proofs.lemmas.List.{append-nil}
-use Rattle.ncl_reader.specs.declared.lexeme.Sign.TheVariants.{Comma}
-use Rattle.ncl_reader.specs.Lexemes.{Lexeme, Name, Mark}
-use Rattle.ncl_reader.specs.Grammar.{Text, text_phrase, with_commas, name_phrase}
+use Rattle.std.proofs.lemmas.Option.{same_Some, none-some}
+use Rattle.ncl_reader.specs.Lexemes.{Lexeme}
+use Rattle.ncl_reader.specs.Grammar.{Text, text_phrase}
 use Rattle.ncl_reader.specs.Rules.{BreaksRule, Breaks, NoneBreaks}
-use Rattle.ncl_reader.specs.Partial.{Partial, start, done, listing, listed, spelled}
+use Rattle.ncl_reader.specs.Partial.{Partial, start, done, spelled}
 use Rattle.ncl_reader.proofs.Steps.{step, run}
 use Rattle.ncl_reader.proofs.Runs.{run-append, run-spelled}
 use Rattle.ncl_reader.proofs.Grows.{grows-run}
@@ -33,17 +31,23 @@ clean-one p q t xs some no_rule clean (b ∷ before) u after r e at breaks =
     let at_q : run q before ≡ Some r = sym (ap (λ s. option_and_then (λ x. run x before) s) some) ∙ ap (λ z. option_and_then (λ x. run x before) (step p z)) same ∙ at in
     clean before u after r rest at_q breaks
 
--- names of a header that are new
-pub clean-listing : (title : List ℕ) (some names : List (List ℕ)) (more : List Lexeme)
-    → ((front : List (List ℕ)) (x : List ℕ) (back : List (List ℕ)) → names ≡ front ++ x ∷ back → BreaksRule (spelled (listing title (some ++ front))) (Name x) → ⊥)
-    → Clean (listing title (some ++ names)) more → Clean (listing title some) (with_commas name_phrase names ++ more)
-clean-listing title some [] more new clean = subst (λ s. Clean (listing title s) more) (append-nil some) clean
-clean-listing title some (x ∷ names) more new clean =
-    clean-one (listing title some) (listed title some x) (Name x) (Mark Comma ∷ (with_commas name_phrase names ++ more)) refl (subst (λ s. BreaksRule (spelled (listing title s)) (Name x) → ⊥) (append-nil some) (new [] x names refl))
-    (clean-one (listed title some x) (listing title (some ++ x ∷ [])) (Mark Comma) (with_commas name_phrase names ++ more) refl (λ none. none)
-    (clean-listing title (some ++ x ∷ []) names more
-    (λ front y back e breaks. new (x ∷ front) y back (ap (λ l. x ∷ l) e) (subst (λ s. BreaksRule (spelled (listing title s)) (Name y)) (append_assoc some (x ∷ []) front) breaks))
-    (subst (λ s. Clean (listing title s) more) (sym (append_assoc some (x ∷ []) names)) clean)))
+-- one token alone
+pub clean-last : (p q : Partial) (t : Lexeme) → step p t ≡ Some q → (BreaksRule (spelled p) t → ⊥) → Clean p (t ∷ [])
+clean-last p q t some no_rule = clean-one p q t [] some no_rule (clean-none q)
+
+-- behind the first token
+behind : (p q : Partial) (t : Lexeme) (xs : List Lexeme) → step p t ≡ Some q → Clean p (t ∷ xs) → Clean q xs
+behind p q t xs some clean before u after r e at =
+    clean (t ∷ before) u after r (ap (λ l. t ∷ l) e) (ap (λ s. option_and_then (λ x. run x before) s) some ∙ at)
+
+-- one list, and then another
+pub clean-append : (p q : Partial) (xs ys : List Lexeme) → run p xs ≡ Some q → Clean p xs → Clean q ys → Clean p (xs ++ ys)
+clean-append p q [] ys e front back = subst (λ r. Clean r ys) (sym (same_Some p q e)) back
+clean-append p q (x ∷ xs) ys e front back = by (step p x) (λ r e clean. clean-append r q xs ys e clean back) refl e
+  where
+    by : (next : Option Partial) → ((r : Partial) → run r xs ≡ Some q → Clean r xs → Clean r (xs ++ ys)) → step p x ≡ next → option_and_then (λ r. run r xs) next ≡ Some q → Clean p (x ∷ (xs ++ ys))
+    by None rec s e = absurd (none-some q e)
+    by (Some r) rec s e = clean-one p r x (xs ++ ys) s (λ breaks. front [] x xs p refl refl breaks) (rec r e (behind p r x xs s front))
 
 -- a derived list in which no rule is broken is one in which no token breaks
 pub unbroken-clean : (text : Text) → Clean start (text_phrase text) → NoneBreaks (text_phrase text)

@@ -9,6 +9,7 @@ mod DraftSteps
 mod Among
 mod Ways
 mod Clean
+mod WholeRules
 mod Nets
 pub mod Loop
 mod OneParts

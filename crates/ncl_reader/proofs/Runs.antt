@@ -20,25 +20,25 @@ run-append p q (x ∷ xs) ys e = by (step p x) (λ r. run-append r q xs ys) e
     by None rec e = absurd cc
     by (Some r) rec e = rec r e
 
-run-listing : (name : List ℕ) (some names : List (List ℕ)) → run (listing name some) (with_commas name_phrase names) ≡ Some (listing name (some ++ names))
+pub run-listing : (name : List ℕ) (some names : List (List ℕ)) → run (listing name some) (with_commas name_phrase names) ≡ Some (listing name (some ++ names))
 run-listing name some [] = ap (λ xs. Some (listing name xs)) (sym (append-nil some))
 run-listing name some (x ∷ names) = run-listing name (some ++ x ∷ []) names ∙ ap (λ xs. Some (listing name xs)) (append_assoc some (x ∷ []) names)
 
-run-declaring : (head : Head) (items : List Item) (way : Way) (some names : List (List ℕ)) → run (inside head items (declaring way some)) (with_commas name_phrase names) ≡ Some (inside head items (declaring way (some ++ names)))
+pub run-declaring : (head : Head) (items : List Item) (way : Way) (some names : List (List ℕ)) → run (inside head items (declaring way some)) (with_commas name_phrase names) ≡ Some (inside head items (declaring way (some ++ names)))
 run-declaring head items way some [] = ap (λ xs. Some (inside head items (declaring way xs))) (sym (append-nil some))
 run-declaring head items way some (x ∷ names) = run-declaring head items way (some ++ x ∷ []) names ∙ ap (λ xs. Some (inside head items (declaring way xs))) (append_assoc some (x ∷ []) names)
 
-run-joining : (head : Head) (items : List Item) (cell name : List ℕ) (some conns : List Conn) → run (inside head items (joining cell name some)) (with_commas conn_phrase conns) ≡ Some (inside head items (joining cell name (some ++ conns)))
+pub run-joining : (head : Head) (items : List Item) (cell name : List ℕ) (some conns : List Conn) → run (inside head items (joining cell name some)) (with_commas conn_phrase conns) ≡ Some (inside head items (joining cell name (some ++ conns)))
 run-joining head items cell name some [] = ap (λ xs. Some (inside head items (joining cell name xs))) (sym (append-nil some))
 run-joining head items cell name some (x ∷ conns) = run-joining head items cell name (some ++ x ∷ []) conns ∙ ap (λ xs. Some (inside head items (joining cell name xs))) (append_assoc some (x ∷ []) conns)
 
-run-listed : (name : List ℕ) (names : Row (List ℕ)) → run (listing name []) (row_phrase name_phrase names) ≡ Some (listed name names.before names.last)
+pub run-listed : (name : List ℕ) (names : Row (List ℕ)) → run (listing name []) (row_phrase name_phrase names) ≡ Some (listed name names.before names.last)
 run-listed name names = run-append (listing name []) (listing name names.before) (with_commas name_phrase names.before) (Name names.last ∷ []) (run-listing name [] names.before)
 
-run-headed : (name : List ℕ) (names : Row (List ℕ)) → run (listing name []) (row_phrase name_phrase names ++ Mark RParen ∷ []) ≡ Some (headed name (Some names))
+pub run-headed : (name : List ℕ) (names : Row (List ℕ)) → run (listing name []) (row_phrase name_phrase names ++ Mark RParen ∷ []) ≡ Some (headed name (Some names))
 run-headed name names = run-append (listing name []) (listed name names.before names.last) (row_phrase name_phrase names) (Mark RParen ∷ []) (run-listed name names)
 
-run-joined : (head : Head) (items : List Item) (cell name : List ℕ) (conns : Row Conn) → run (inside head items (joining cell name [])) (row_phrase conn_phrase conns) ≡ Some (inside head items (joined cell name conns.before conns.last))
+pub run-joined : (head : Head) (items : List Item) (cell name : List ℕ) (conns : Row Conn) → run (inside head items (joining cell name [])) (row_phrase conn_phrase conns) ≡ Some (inside head items (joined cell name conns.before conns.last))
 run-joined head items cell name conns = run-append (inside head items (joining cell name [])) (inside head items (joining cell name conns.before)) (with_commas conn_phrase conns.before) (conn_phrase conns.last) (run-joining head items cell name [] conns.before)
 
 -- a part of an item is what its tokens lead to
@@ -56,7 +56,7 @@ run-part head items (joined cell name conns conn) = run-append _ _ (with_commas 
 run-part head items (closed cell name conns conn) = run-append _ _ (row_phrase conn_phrase (record { before = conns; last = conn })) _ (run-joined head items cell name (record { before = conns; last = conn }))
 
 -- an item leads to the next
-run-item : (head : Head) (items : List Item) (item : Item) → run (at_item head items) (item_phrase item) ≡ Some (at_item head (items ++ item ∷ []))
+pub run-item : (head : Head) (items : List Item) (item : Item) → run (at_item head items) (item_phrase item) ≡ Some (at_item head (items ++ item ∷ []))
 run-item head items (Declares way names) = run-append _ _ (row_phrase name_phrase names) _ (run-part head items (declared way names.before names.last))
 run-item head items (Joins cell name conns) = run-append _ _ (row_phrase conn_phrase conns) _ (run-part head items (joined cell name conns.before conns.last))
 
@@ -65,7 +65,7 @@ run-items head some [] = ap (λ xs. Some (at_item head xs)) (sym (append-nil som
 run-items head some (item ∷ items) =
     run-append _ _ (item_phrase item) _ (run-item head some item) ∙ run-items head (some ++ item ∷ []) items ∙ ap (λ xs. Some (at_item head xs)) (append_assoc some (item ∷ []) items)
 
-run-head : (head : Head) → run start (head_phrase head) ≡ Some (at_item head [])
+pub run-head : (head : Head) → run start (head_phrase head) ≡ Some (at_item head [])
 run-head head = by head.ports refl
   where
     by : (ports : Option (Option (Row (List ℕ)))) → head.ports ≡ ports → run start (head_phrase (record { name = head.name; ports = ports })) ≡ Some (at_item (record { name = head.name; ports = ports }) [])
@@ -73,7 +73,7 @@ run-head head = by head.ports refl
     by (Some None) e = refl
     by (Some (Some names)) e = run-append (listing head.name []) (headed head.name (Some names)) (row_phrase name_phrase names ++ Mark RParen ∷ []) (Mark Semi ∷ []) (run-headed head.name names)
 
-run-body : (head : Head) (items : List Item) → run start (body_phrase head items) ≡ Some (at_item head items)
+pub run-body : (head : Head) (items : List Item) → run start (body_phrase head items) ≡ Some (at_item head items)
 run-body head items = run-append start (at_item head []) (head_phrase head) (flat_map item_phrase items) (run-head head) ∙ run-items head [] items
 
 -- a partial tree is what its tokens lead to

@@ -1,3 +1,4 @@
 pub mod Line
 pub mod VerdictText
 pub mod ShapeText
+pub mod NetText

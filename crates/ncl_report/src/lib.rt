@@ -3,8 +3,12 @@
 
 pub mod laws;
 mod line;
+mod net_faults;
 mod shape_faults;
+#[cfg(test)]
+mod tests;
 mod verdicts;
 
+pub use net_faults::net_text;
 pub use shape_faults::shape_text;
 pub use verdicts::verdict_text;

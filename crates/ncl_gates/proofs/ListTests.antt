@@ -1,5 +1,5 @@
 -- Tests over lists.
-use Rattle.std.proofs.Common.{◌≡◌, List, [], ◌∷◌, Bool, true, false, cond, Some, inl, inr, subst}
+use Rattle.std.proofs.Common.{◌≡◌, List, [], ◌∷◌, Bool, true, false, cond, Some, inl, inr, refl, subst}
 use Rattle.std.specs.List.{list_any, list_all, find}
 use Rattle.std.proofs.lemmas.Bool.{and_parts, and_from, or_cases, or_left, or_right}
 
@@ -24,4 +24,13 @@ find_passes p test (y ∷ ys) x all found = let (here, rest) = and_parts (test y
   where
     by_first : (b : Bool) → test y ≡ true → (find p ys ≡ Some x → test x ≡ true) → cond b (Some y) (find p ys) ≡ Some x → test x ≡ true
     by_first true here later found = let same : y ≡ x = cc in subst (λ z. test z ≡ true) same here
+    by_first false here later found = later found
+
+-- what is found passes the test that it is found by
+pub find_itself : {X : Type 0} (p : X → Bool) (xs : List X) (x : X) → find p xs ≡ Some x → p x ≡ true
+find_itself p [] x found = absurd cc
+find_itself p (y ∷ ys) x found = by_first (p y) refl (find_itself p ys x) found
+  where
+    by_first : (b : Bool) → p y ≡ b → (find p ys ≡ Some x → p x ≡ true) → cond b (Some y) (find p ys) ≡ Some x → p x ≡ true
+    by_first true here later found = let same : y ≡ x = cc in subst (λ z. p z ≡ true) same here
     by_first false here later found = later found

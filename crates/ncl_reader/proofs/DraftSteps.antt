@@ -279,6 +279,15 @@ pin_rule head items kind name conns x stands free_pin (inr (inr (inr breaks))) =
       | inr there ↦ free_pin (subst (λ cs. Contains (map (λ (c : Conn). c.pin) cs) x) (sym same.1) there)
     ]
 
+-- no rule of pins is asked of a name that is no cell's
+pub no_cell_rule : (head : Head) (items : List Item) (cell name : List ℕ) (conns : List Conn) (x : List ℕ) → ((kind : CellKind) → cell_name_of kind ≢ cell) → BreaksRule (spelled (inside head items (dotted cell name conns))) (Name x) → ⊥
+no_cell_rule head items cell name conns x none (inl breaks) = let e : inside head items (dotted cell name conns) ≡ listing breaks.title breaks.names = same_tree (inside head items (dotted cell name conns)) (listing breaks.title breaks.names) breaks.is in absurd cc
+no_cell_rule head items cell name conns x none (inr (inl breaks)) = let e : place.Pin ≡ place.Declared = misdirects_place (inside head items (dotted cell name conns)) x breaks in absurd cc
+no_cell_rule head items cell name conns x none (inr (inr (inl breaks))) = let e : place.Pin ≡ place.Item = no_cell_place (inside head items (dotted cell name conns)) x breaks in absurd cc
+no_cell_rule head items cell name conns x none (inr (inr (inr breaks))) =
+    let same = pin_parts (same_tree (inside head items (dotted cell name conns)) (inside breaks.head breaks.items (dotted (cell_name_of breaks.kind) breaks.name breaks.conns)) breaks.is) in
+    none breaks.kind (sym same.0)
+
 -- an instance that closes
 close_parts : {head top : Head} {items its : List Item} {cell other name second : List ℕ} {conns joins : List Conn} {conn join : Conn} → inside head items (joined cell name conns conn) ≡ inside top its (joined other second joins join) → (cell ≡ other) × (conns ≡ joins) × (conn ≡ join)
 close_parts e = (cc, cc, cc)
@@ -288,6 +297,15 @@ close_free head items kind name conns conn all breaks =
     let same = close_parts (same_tree (inside head items (joined (cell_name_of kind) name conns conn)) (inside breaks.head breaks.items (joined (cell_name_of breaks.kind) breaks.name breaks.conns.before breaks.conns.last)) breaks.is) in
     let one : kind ≡ breaks.kind = cell_name_of-distinct kind breaks.kind same.0 in
     breaks.unjoined (subst (λ c. Contains (map (λ (c : Conn). c.pin) (breaks.conns.before ++ c ∷ [])) breaks.pin) same.2 (subst (λ cs. Contains (map (λ (c : Conn). c.pin) (cs ++ conn ∷ [])) breaks.pin) same.1 (all breaks.pin (subst (λ k. Contains (pins_of k) breaks.pin) (sym one) breaks.stands))))
+
+pub no_cell_close : (head : Head) (items : List Item) (cell name : List ℕ) (conns : List Conn) (conn : Conn) → ((kind : CellKind) → cell_name_of kind ≢ cell) → BreaksRule (spelled (inside head items (joined cell name conns conn))) (Mark RParen) → ⊥
+no_cell_close head items cell name conns conn none breaks =
+    let same = close_parts (same_tree (inside head items (joined cell name conns conn)) (inside breaks.head breaks.items (joined (cell_name_of breaks.kind) breaks.name breaks.conns.before breaks.conns.last)) breaks.is) in
+    none breaks.kind (sym same.0)
+
+-- `endmodule` breaks a rule nowhere but where an item may begin
+pub end_rule : (p : Partial) → place_of p ≢ place.Item → BreaksRule (spelled p) (Word EndModule) → ⊥
+end_rule p other breaks = other (ap place_of (same_tree p (at_item breaks.head breaks.items) breaks.is))
 
 -- behind `endmodule`
 pub others-ended : (head : Head) (items : List Item) (read : Read) → step (ended head items) (meant read) ≡ None

@@ -10,7 +10,10 @@ mod Among
 mod Ways
 mod Clean
 mod WholeRules
+mod SomeFault
+mod SomeAnswer
 mod Nets
+mod Standing
 pub mod Loop
 mod OneParts
 mod OneAnswer

@@ -20,7 +20,8 @@ use Rattle.ncl_reader.specs.Refusals.{IsFaultAt}
 use Rattle.ncl_reader.specs.Reads.{placed_of, stop_of, placed_in, IsLexed, Reads, IsRefused, IsReadFault}
 use Rattle.ncl_reader.specs.Partial.{Partial, spelled, start, place_of}
 use Rattle.ncl_reader.specs.Draft.{HoldsAt, Takes, SaysAt}
-use Rattle.ncl_reader.proofs.Loop.{Stands, stands-first, stands-more, stands-broken, stands-bad, stands-short, stands-whole}
+use Rattle.ncl_reader.proofs.Standing.{stands-first, stands-broken, stands-bad, stands-short}
+use Rattle.ncl_reader.proofs.Loop.{Holds, holds-more, holds-whole}
 
 -- the tokens before are read, and these are left
 pub record LoopAt (bytes : List ℕ) (at : ℕ) (here : Place) (draft : Draft) : Type 0 where
@@ -29,17 +30,17 @@ pub record LoopAt (bytes : List ℕ) (at : ℕ) (here : Place) (draft : Draft) :
   pub stop : Stop
   pub are : AreTokens at (drop at bytes) left stop
   pub lexed : IsLexed bytes (before ++ placed_in bytes left stop)
-  pub stands : Stands before here draft
+  pub kept : Holds before here draft
 
 pub loop-first : (bytes : List ℕ) (draft : Draft) (tokens : List Token) (stop : Stop) → TokensOf bytes tokens stop → HoldsAt place.Module draft start → LoopAt bytes 0 place.Module draft
-loop-first bytes draft tokens stop are holds = record { before = []; left = tokens; stop = stop; are = are; lexed = (tokens, stop, are, refl); stands = stands-first draft holds }
+loop-first bytes draft tokens stop are holds = record { before = []; left = tokens; stop = stop; are = are; lexed = (tokens, stop, are, refl); kept = record { stands = stands-first; holds = holds } }
 
 -- the next token stands in front of what is left
 front : (bytes : List ℕ) (before : List Placed) (left others : List Token) (stop : Stop) (token : Token) → left ≡ token ∷ others → IsLexed bytes (before ++ placed_in bytes left stop) → IsLexed bytes (before ++ placed_of bytes token ∷ placed_in bytes others stop)
 front bytes before left others stop token is lexed = subst (λ l. IsLexed bytes (before ++ placed_in bytes l stop)) is lexed
 
 module _ (bytes : List ℕ) (at : ℕ) (here : Place) (draft : Draft) (loop : LoopAt bytes at here draft) where
-  pub loop-more : (after : Place) (new : Draft) (token : Token) → IsNextToken at (drop at bytes) token (drop token.end bytes) → Takes loop.stands.tree (placed_of bytes token).lexeme after new → LoopAt bytes token.end after new
+  pub loop-more : (after : Place) (new : Draft) (token : Token) → IsNextToken at (drop at bytes) token (drop token.end bytes) → Takes loop.kept.stands.tree (placed_of bytes token).lexeme after new → LoopAt bytes token.end after new
   loop-more after new token next takes =
       let (others, is, are) = next_left at (drop at bytes) loop.left loop.stop token (drop token.end bytes) loop.are next in
       record {
@@ -48,13 +49,13 @@ module _ (bytes : List ℕ) (at : ℕ) (here : Place) (draft : Draft) (loop : Lo
         stop = loop.stop;
         are = are;
         lexed = subst (IsLexed bytes) (sym (append_assoc loop.before (placed_of bytes token ∷ []) (placed_in bytes others loop.stop))) (front bytes loop.before loop.left others loop.stop token is loop.lexed);
-        stands = stands-more loop.before here after draft new loop.stands (placed_of bytes token) takes;
+        kept = holds-more loop.before here after draft new loop.kept (placed_of bytes token) takes;
       }
 
-  pub loop-broken : (token : Token) (fault : NetFault) → IsNextToken at (drop at bytes) token (drop token.end bytes) → Breaks (spelled loop.stands.tree) (placed_of bytes token).lexeme → IsFaultAt (spelled loop.stands.tree) (placed_of bytes token) fault → IsRefused bytes fault
+  pub loop-broken : (token : Token) (fault : NetFault) → IsNextToken at (drop at bytes) token (drop token.end bytes) → Breaks (spelled loop.kept.stands.tree) (placed_of bytes token).lexeme → IsFaultAt (spelled loop.kept.stands.tree) (placed_of bytes token) fault → IsRefused bytes fault
   loop-broken token fault next breaks is-fault =
       let (others, is, are) = next_left at (drop at bytes) loop.left loop.stop token (drop token.end bytes) loop.are next in
-      (loop.before ++ placed_of bytes token ∷ placed_in bytes others loop.stop, front bytes loop.before loop.left others loop.stop token is loop.lexed, stands-broken loop.before (placed_in bytes others loop.stop) here draft loop.stands (placed_of bytes token) fault breaks is-fault)
+      (loop.before ++ placed_of bytes token ∷ placed_in bytes others loop.stop, front bytes loop.before loop.left others loop.stop token is loop.lexed, stands-broken loop.before loop.kept.stands (placed_in bytes others loop.stop) (placed_of bytes token) fault breaks is-fault)
 
   -- nothing is left but the end, or a bad byte
   stopped : (stop : Stop) → AreTokens at (drop at bytes) [] stop → IsLexed bytes (loop.before ++ stop_of bytes stop ∷ [])
@@ -63,13 +64,13 @@ module _ (bytes : List ℕ) (at : ℕ) (here : Place) (draft : Draft) (loop : Lo
       subst (λ s. IsLexed bytes (loop.before ++ placed_in bytes [] s)) same.1 (subst (λ l. IsLexed bytes (loop.before ++ placed_in bytes l loop.stop)) same.0 loop.lexed)
 
   pub loop-bad : (bad : ℕ) → IsBadByte at (drop at bytes) bad → IsRefused bytes (Syntax bad)
-  loop-bad bad breaks = (_, stopped (at_bad bad) (at_bad_byte breaks), stands-bad loop.before here draft loop.stands bad)
+  loop-bad bad breaks = (_, stopped (at_bad bad) (at_bad_byte breaks), stands-bad loop.before loop.kept.stands bad)
 
-  pub loop-short : IsSpace (drop at bytes) [] → (place_of loop.stands.tree ≡ place.End → ⊥) → IsRefused bytes (Syntax (length bytes))
-  loop-short space other = (_, stopped at_end (none_left space), stands-short loop.before here draft loop.stands (length bytes) other)
+  pub loop-short : IsSpace (drop at bytes) [] → (place_of loop.kept.stands.tree ≡ place.End → ⊥) → IsRefused bytes (Syntax (length bytes))
+  loop-short space other = (_, stopped at_end (none_left space), stands-short loop.before loop.kept.stands (length bytes) other)
 
-pub loop-whole : (bytes : List ℕ) (at : ℕ) (draft : Draft) (loop : LoopAt bytes at place.End draft) (parts : Parts) → IsSpace (drop at bytes) [] → SaysAt loop.stands.tree parts → Reads bytes parts
-loop-whole bytes at draft loop parts space says = (_, stopped bytes at place.End draft loop at_end (none_left space), stands-whole loop.before draft loop.stands (length bytes) parts says)
+pub loop-whole : (bytes : List ℕ) (at : ℕ) (draft : Draft) (loop : LoopAt bytes at place.End draft) (parts : Parts) → IsSpace (drop at bytes) [] → SaysAt loop.kept.stands.tree parts → Reads bytes parts
+loop-whole bytes at draft loop parts space says = (_, stopped bytes at place.End draft loop at_end (none_left space), holds-whole loop.before draft loop.kept (length bytes) parts says)
 
 -- what an answer says of the text itself
 module _ (bytes b : List ℕ) (at : ℕ) (result : Result (Option Token) TokenFault) (same : b ≡ bytes) (answer : IsAnswer b at result) where
@@ -87,4 +88,4 @@ refused-fault bytes Memory is = tt
 refused-fault bytes fault is = is
 
 pub whole-at : (bytes : List ℕ) (at : ℕ) (here : Place) (draft : Draft) (parts : Parts) → here ≡ place.End → LoopAt bytes at here draft → IsSpace (drop at bytes) [] → ((p : Partial) → HoldsAt place.End draft p → SaysAt p parts) → Reads bytes parts
-whole-at bytes at here draft parts is loop space says = let ends = subst (λ h. LoopAt bytes at h draft) is loop in loop-whole bytes at draft ends parts space (says ends.stands.tree ends.stands.holds)
+whole-at bytes at here draft parts is loop space says = let ends = subst (λ h. LoopAt bytes at h draft) is loop in loop-whole bytes at draft ends parts space (says ends.kept.stands.tree ends.kept.holds)

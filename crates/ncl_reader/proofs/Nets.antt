@@ -4,7 +4,7 @@ use Rattle.std.specs.List.{find}
 use Rattle.std.specs.Option.{option_map}
 use Rattle.std.specs.Str.{bytes_eq}
 use Rattle.std.proofs.lemmas.Bool.{false≢true}
-use Rattle.std.proofs.lemmas.List.{take_more, map_push, take_all, take-append-drop, map-append, get_or-map}
+use Rattle.std.proofs.lemmas.List.{take_more, map_push, take_all, take-append-drop, map-append, get_or-map, length-map}
 use Rattle.std.proofs.lemmas.List.Elements.{Contains-append_cases}
 use Rattle.ncl_reader.specs.declared.instance.Join.{Join}
 use Rattle.std.proofs.lemmas.Slice.Eq.{bytes_eq-Decides}
@@ -55,16 +55,10 @@ module _ (x : List ℕ) where
       by rec true is = let bad : Some c.net ≡ None = sym (net-here c cs is) ∙ e in absurd cc
       by rec false is = net-there c (cs ++ ds) is ∙ rec (sym (net-there c cs is) ∙ e)
 
-mapped : {X Y : Type 0} (f : X → Y) (xs : List X) → length (map f xs) ≡ length xs
-mapped f [] = refl
-mapped f (x ∷ xs) = omega (arith, mapped f xs)
-
-full : {X : Type 0} (xs : List X) (i : ℕ) → length xs ≤ i → i ≤ length xs → take i xs ≡ xs
-full xs i low high = take_all i xs low
-
-single : (x y : List ℕ) → Contains (y ∷ []) x → y ≡ x
-single x y (zero, lt, e) = e
-single x y (suc k, lt, e) = absurd (omega (arith, lt))
+-- the one element of a list
+pub single : (y x : List ℕ) → Contains (y ∷ []) x → y ≡ x
+single y x (zero, lt, e) = e
+single y x (suc k, lt, e) = absurd (omega (arith, lt))
 
 module _ {X : Type 0} (f : X → List ℕ) (xs ys : List X) (same : ys ≡ xs) (i : ℕ) (d : X) where
   pub taken : i < length ys → map f (take (i + 1) xs) ≡ map f (take i xs) ++ f (get_or ys i d) ∷ []
@@ -74,7 +68,7 @@ module _ {X : Type 0} (f : X → List ℕ) (xs ys : List X) (same : ys ≡ xs) (
   pub among-cases : (x : List ℕ) → i < length ys → Contains (map f (take (i + 1) xs)) x → Contains (map f (take i xs)) x ⊎ (f (get_or ys i d) ≡ x)
   among-cases x lt found = elim (Contains-append_cases (map f (take i xs)) (f (get_or ys i d) ∷ []) x (subst (λ l. Contains l x) (taken lt) found)) [
     | inl before ↦ inl before
-    | inr here ↦ inr (single x (f (get_or ys i d)) here)
+    | inr here ↦ inr (single (f (get_or ys i d)) x here)
   ]
 
   pub among-more : (x : List ℕ) → i < length ys → bytes_eq (f (get_or ys i d)) x ≡ false → (Contains (map f (take i xs)) x → ⊥) → Contains (map f (take (i + 1) xs)) x → ⊥
@@ -84,10 +78,10 @@ module _ {X : Type 0} (f : X → List ℕ) (xs ys : List X) (same : ys ≡ xs) (
   ]
 
   pub among-item : i < length ys → Contains (map f xs) (f (get_or ys i d))
-  among-item lt = subst (λ zs. i < length zs → Contains (map f xs) (f (get_or zs i d))) (sym same) (λ lt. (i, omega (arith, lt, mapped f xs), get_or-map f xs i d (f (get_or xs i d)) lt)) lt
+  among-item lt = subst (λ zs. i < length zs → Contains (map f xs) (f (get_or zs i d))) (sym same) (λ lt. (i, omega (arith, lt, length-map xs f), get_or-map f xs i d (f (get_or xs i d)) lt)) lt
 
 pub all-taken : {X : Type 0} (xs ys : List X) (same : ys ≡ xs) (i : ℕ) → length ys ≤ i → i ≤ length ys → take i xs ≡ xs
-all-taken xs ys same i low high = subst (λ zs. length zs ≤ i → i ≤ length zs → take i xs ≡ xs) (sym same) (full xs i) low high
+all-taken xs ys same i low high = subst (λ zs. length zs ≤ i → i ≤ length zs → take i xs ≡ xs) (sym same) (λ low high. take_all i xs low) low high
 
 pub among-all : {X : Type 0} (f : X → List ℕ) (xs ys : List X) (same : ys ≡ xs) (i : ℕ) (x : List ℕ) → length ys ≤ i → i ≤ length ys → Contains (map f xs) x → Contains (map f (take i xs)) x
 among-all f xs ys same i x low high found = subst (λ zs. Contains (map f zs) x) (sym (all-taken xs ys same i low high)) found

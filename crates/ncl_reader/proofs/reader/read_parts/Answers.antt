@@ -28,8 +28,8 @@ loop-token-preserved c =
     let bs : c.next.new.self.bytes ≡ bytes = ap (λ d. d.bytes) c.next.ensures.after ∙ c.loop-token.invariant.0 in
     let pl : c.next.new.self.place ≡ token.end = ap (λ d. d.place) c.next.ensures.after ∙ ap (place_after c.loop-token.tokens) r in
     let t : meant c.lexeme_of-lexeme.result ≡ (placed_of bytes token).lexeme = c.lexeme_of-lexeme.ensures ∙ ap (λ b. lexeme_of token.kind (name_of token.kind (slice_range b token.start token.end))) bs in
-    let takes : Takes loop.stands.tree (meant c.lexeme_of-lexeme.result) c.in-Some.after c.step.new.self = subst (λ o. TakesOrBreaks loop.stands.tree (meant c.lexeme_of-lexeme.result) o c.step.new.self) c.in-Some.is (c.in_ok-after-in-Ok-Some.ensures loop.stands.tree loop.stands.holds) in
-    (bs, subst (λ p. LoopAt bytes p c.in-Some.after c.step.new.self) (sym pl) (loop-more bytes c.loop-token.tokens.place c.loop-token.place c.loop-token.draft loop c.in-Some.after c.step.new.self token next (subst (λ u. Takes loop.stands.tree u c.in-Some.after c.step.new.self) t takes)))
+    let takes : Takes loop.kept.stands.tree (meant c.lexeme_of-lexeme.result) c.in-Some.after c.step.new.self = subst (λ o. TakesOrBreaks loop.kept.stands.tree (meant c.lexeme_of-lexeme.result) o c.step.new.self) c.in-Some.is (c.in_ok-after-in-Ok-Some.ensures loop.kept.stands.tree loop.kept.holds) in
+    (bs, subst (λ p. LoopAt bytes p c.in-Some.after c.step.new.self) (sym pl) (loop-more bytes c.loop-token.tokens.place c.loop-token.place c.loop-token.draft loop c.in-Some.after c.step.new.self token next (subst (λ u. Takes loop.kept.stands.tree u c.in-Some.after c.step.new.self) t takes)))
 
 pub returns-in-None-clause-fault : goal.returns-in-None-clause-fault
 returns-in-None-clause-fault c =
@@ -40,9 +40,9 @@ returns-in-None-clause-fault c =
     let next = next-token bytes c.loop-token.tokens.bytes c.loop-token.tokens.place c.next.result c.loop-token.invariant.0 c.next.ensures.answer token r in
     let bs : c.next.new.self.bytes ≡ bytes = ap (λ d. d.bytes) c.next.ensures.after ∙ c.loop-token.invariant.0 in
     let t : meant c.lexeme_of-lexeme.result ≡ (placed_of bytes token).lexeme = c.lexeme_of-lexeme.ensures ∙ ap (λ b. lexeme_of token.kind (name_of token.kind (slice_range b token.start token.end))) bs in
-    let breaks : Breaks (spelled loop.stands.tree) (meant c.lexeme_of-lexeme.result) = subst (λ o. TakesOrBreaks loop.stands.tree (meant c.lexeme_of-lexeme.result) o c.step.new.self) c.in-None.is (c.in_ok-after-in-Ok-Some.ensures loop.stands.tree loop.stands.holds) in
-    refused-fault bytes c.refusal.result (loop-broken bytes c.loop-token.tokens.place c.loop-token.place c.loop-token.draft loop token c.refusal.result next (subst (Breaks (spelled loop.stands.tree)) t breaks)
-    (subst (λ u. IsFaultAt (spelled loop.stands.tree) (record { lexeme = u; place = token.start }) c.refusal.result) t (c.refusal.ensures loop.stands.tree (holds-place c.loop-token.place c.loop-token.draft loop.stands.tree loop.stands.holds))))
+    let breaks : Breaks (spelled loop.kept.stands.tree) (meant c.lexeme_of-lexeme.result) = subst (λ o. TakesOrBreaks loop.kept.stands.tree (meant c.lexeme_of-lexeme.result) o c.step.new.self) c.in-None.is (c.in_ok-after-in-Ok-Some.ensures loop.kept.stands.tree loop.kept.holds) in
+    refused-fault bytes c.refusal.result (loop-broken bytes c.loop-token.tokens.place c.loop-token.place c.loop-token.draft loop token c.refusal.result next (subst (Breaks (spelled loop.kept.stands.tree)) t breaks)
+    (subst (λ u. IsFaultAt (spelled loop.kept.stands.tree) (record { lexeme = u; place = token.start }) c.refusal.result) t (c.refusal.ensures loop.kept.stands.tree (holds-place c.loop-token.place c.loop-token.draft loop.kept.stands.tree loop.kept.holds))))
 
 pub returns-in-End-clause-parts : goal.returns-in-End-clause-parts
 returns-in-End-clause-parts c =
@@ -51,14 +51,14 @@ returns-in-End-clause-parts c =
 
 pub returns-in-End-clause-differ : goal.returns-in-End-clause-differ
 returns-in-End-clause-differ c =
-    let stands = c.loop-token.invariant.1.stands in
-    c.in_ok-into_parts-in-End.ensures.differ stands.tree (subst (λ at. HoldsAt at c.loop-token.draft stands.tree) c.in-End.is stands.holds)
+    let kept = c.loop-token.invariant.1.kept in
+    c.in_ok-into_parts-in-End.ensures.differ kept.stands.tree (subst (λ at. HoldsAt at c.loop-token.draft kept.stands.tree) c.in-End.is kept.holds)
 
 pub returns-in_default-clause-fault : goal.returns-in_default-clause-fault
 returns-in_default-clause-fault c =
     let loop = c.loop-token.invariant.1 in
     let space = next-space c.args.bytes.now c.loop-token.tokens.bytes c.loop-token.tokens.place c.next.result c.loop-token.invariant.0 c.next.ensures.answer (c.in-Ok-None.is ∙ ap Ok c.in-Ok-None.field-0-is) in
-    loop-short c.args.bytes.now c.loop-token.tokens.place c.loop-token.place c.loop-token.draft loop space (λ e. c.in_default.not-End (sym (holds-place c.loop-token.place c.loop-token.draft loop.stands.tree loop.stands.holds) ∙ e))
+    loop-short c.args.bytes.now c.loop-token.tokens.place c.loop-token.place c.loop-token.draft loop space (λ e. c.in_default.not-End (sym (holds-place c.loop-token.place c.loop-token.draft loop.kept.stands.tree loop.kept.holds) ∙ e))
 
 pub returns-in-Err-clause-fault : goal.returns-in-Err-clause-fault
 returns-in-Err-clause-fault c = loop-bad c.args.bytes.now c.loop-token.tokens.place c.loop-token.place c.loop-token.draft c.loop-token.invariant.1 c.bad_place.result (next-bad c.args.bytes.now c.loop-token.tokens.bytes c.loop-token.tokens.place c.next.result c.loop-token.invariant.0 c.next.ensures.answer c.bad_place.result (c.in-Err.is ∙ ap Err c.bad_place.ensures))

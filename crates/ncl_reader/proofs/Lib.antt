@@ -9,7 +9,7 @@ mod DraftSteps
 mod Among
 mod Ways
 mod Clean
-mod WholeRules
+pub mod WholeRules
 mod SomeFault
 mod SomeAnswer
 mod Nets

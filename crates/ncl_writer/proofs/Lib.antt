@@ -1,0 +1,11 @@
+mod Opened
+mod Lexing
+mod NameLexes
+mod Rows
+mod Tree
+mod LineLexes
+mod TextLexes
+mod TreeItems
+mod KeptRules
+mod Saying
+mod ReadsBack

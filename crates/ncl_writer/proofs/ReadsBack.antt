@@ -1,0 +1,49 @@
+-- The text of a netlist reads as the parts that say it.
+use Rattle.std.proofs.Common.{◌≡◌, ℕ, List, [], ◌∷◌, ◌++◌, map, refl, sym, ap, ◌∙◌, subst}
+use Rattle.std.proofs.lemmas.List.{map-append}
+use Rattle.ncl_token.specs.declared.token.Token.{Token}
+use Rattle.ncl_token.specs.Tokens.{End as at_end}
+use Rattle.ncl_netlist.specs.declared.parts.Parts.{Parts}
+use Rattle.ncl_netlist.specs.Netlist.{NetlistData, IsNetlist}
+use Rattle.ncl_netlist.specs.Parts.{netlist_of, parts_said}
+use Rattle.ncl_netlist.specs.Faults.{IsFaultless}
+use Rattle.ncl_netlist.proofs.Said.{netlist_of-parts_said, faultless-parts_said}
+use Rattle.ncl_reader.specs.Lexemes.{End, Placed, lexemes}
+use Rattle.ncl_reader.specs.Grammar.{text_phrase}
+use Rattle.ncl_reader.specs.Rules.{NoneBreaks}
+use Rattle.ncl_reader.specs.Reads.{placed_of, stop_of, placed_in, Reads}
+use Rattle.ncl_reader.proofs.WholeRules.{whole_rules}
+use Rattle.ncl_writer.specs.Names.{IsWritable}
+use Rattle.ncl_writer.specs.Text.{text_of}
+use Rattle.ncl_writer.proofs.Lexing.{lexeme_in}
+use Rattle.ncl_writer.proofs.Tree.{tree_of}
+use Rattle.ncl_writer.proofs.TextLexes.{lexes-text, phrases-tree}
+use Rattle.ncl_writer.proofs.KeptRules.{keeps_rules}
+use Rattle.ncl_writer.proofs.Saying.{says_parts}
+
+-- the lexemes of tokens at their places are those of the tokens
+lexemes-placed : (bytes : List ℕ) (tokens : List Token) → lexemes (map (placed_of bytes) tokens) ≡ map (lexeme_in bytes) tokens
+lexemes-placed bytes [] = refl
+lexemes-placed bytes (token ∷ tokens) = ap (λ l. lexeme_in bytes token ∷ l) (lexemes-placed bytes tokens)
+
+pub reads_back : (n : NetlistData) → IsNetlist n → IsWritable n → Reads (text_of n) (parts_said n)
+reads_back n ok may =
+    let lexed = lexes-text n ok may [] in
+    let text : List ℕ = text_of n in
+    let derives : lexemes (placed_in text lexed.tokens at_end) ≡ text_phrase (tree_of n) =
+    map-append (λ (t : Placed). t.lexeme) (map (placed_of text) lexed.tokens) (stop_of text at_end ∷ [])
+    ∙ ap (λ l. l ++ End ∷ []) (lexemes-placed text lexed.tokens ∙ lexed.say) ∙ phrases-tree n ok may in (
+      placed_in text lexed.tokens at_end,
+      (lexed.tokens, at_end, lexed.are, refl),
+      record {
+        text = tree_of n;
+        derives = derives;
+        unbroken = subst NoneBreaks (sym derives) (whole_rules (tree_of n) (keeps_rules n ok));
+        says = says_parts n ok;
+      },
+    )
+
+-- a text that is the netlist's reads as parts that describe it
+pub reads_again : (n : NetlistData) (text : List ℕ) → IsNetlist n → IsWritable n → text ≡ text_of n → (parts : Parts) × Reads text parts × IsFaultless parts × (netlist_of parts ≡ n)
+reads_again n text ok may is =
+    (parts_said n, subst (λ t. Reads t (parts_said n)) (sym is) (reads_back n ok may), faultless-parts_said n ok, netlist_of-parts_said n ok)

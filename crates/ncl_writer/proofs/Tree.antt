@@ -1,0 +1,55 @@
+-- The tree of the text of a netlist.
+use Rattle.std.proofs.Common.{ℕ, List, [], ◌∷◌, ◌++◌, length, map, drop, Some, None, Bool, true, false}
+use Rattle.std.specs.List.{zip}
+use Rattle.ncl_gates.specs.Cell.{pins_of}
+use Rattle.ncl_gates.specs.Name.{cell_name_of}
+use Rattle.ncl_netlist.specs.declared.port.Port.{Port}
+use Rattle.ncl_netlist.specs.declared.cell.Cell.{Cell}
+use Rattle.ncl_netlist.specs.Netlist.{NetlistData, pin_names}
+use Rattle.ncl_reader.specs.declared.keyword.Way.{Way}
+use Rattle.ncl_reader.specs.declared.keyword.Way.TheVariants.{Input, Output, Wire}
+use Rattle.ncl_reader.specs.Grammar.{Row, Conn, Item, Declares, Joins, Ports, Head, Text}
+use Rattle.ncl_writer.proofs.Rows.{row_of}
+
+abbrev pub ports_of : List (List ℕ) → Ports
+ports_of [] = None
+ports_of (x ∷ xs) = Some (Some (row_of x xs))
+
+abbrev pub way_of : Bool → Way
+way_of true = Output
+way_of false = Input
+
+-- a declaration of one name
+abbrev pub declared : Way → List ℕ → Item
+declared way name = Declares way (record { before = []; last = name })
+
+abbrev pub port_item : Port → Item
+port_item port = declared (way_of port.output) port.name
+
+abbrev pub wire_item : List ℕ → Item
+wire_item net = declared Wire net
+
+-- the pins of a cell with their nets
+abbrev pub conns_of : List (List ℕ) → Cell → List Conn
+conns_of nets cell = map (λ (pin, net). record { pin = pin; net = net }) (zip (pins_of cell.kind) (pin_names nets cell))
+
+-- a row of pins, of which each cell has some
+abbrev pub conn_row : List Conn → Row Conn
+conn_row [] = record { before = []; last = record { pin = []; net = [] } }
+conn_row (conn ∷ conns) = row_of conn conns
+
+abbrev pub cell_item : List (List ℕ) → Cell → Item
+cell_item nets cell = Joins (cell_name_of cell.kind) cell.name (conn_row (conns_of nets cell))
+
+-- the nets that are no ports
+abbrev pub wires_of : NetlistData → List (List ℕ)
+wires_of n = drop (length n.ports) n.nets
+
+abbrev pub head_of : NetlistData → Head
+head_of n = record { name = n.name; ports = ports_of (map (λ (port : Port). port.name) n.ports) }
+
+abbrev pub items_of : NetlistData → List Item
+items_of n = map port_item n.ports ++ (map wire_item (wires_of n) ++ map (cell_item n.nets) n.cells)
+
+abbrev pub tree_of : NetlistData → Text
+tree_of n = record { head = head_of n; items = items_of n }

@@ -1,3 +1,4 @@
 pub mod BeadLaws
 pub mod TableLaws
 pub mod SpaceLaws
+pub mod MakingLaws

@@ -2,3 +2,4 @@ pub mod Table
 pub mod Beads
 pub mod Functions
 pub mod Space
+pub mod Making

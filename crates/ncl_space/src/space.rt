@@ -14,8 +14,9 @@ ghost use Rattle.ncl_space.specs.Space.{
   fits,
 };
 
-use ncl_base::Word;
+use ncl_base::{Memory, Word};
 use ncl_gates::Kind;
+use std::alloc::{AllocError, AllocFailed};
 use thiserror::Error;
 
 /// The name of a function in a space, which has a table there as long as it is live.
@@ -41,6 +42,41 @@ pub enum SpaceFault {
     /// There was no memory.
     #[error("out of memory")]
     Memory,
+}
+
+impl From<Memory> for SpaceFault {
+    ghost use Rattle.std.specs.Prelude.{◌≡◌};
+    ghost use Rattle.ncl_space.specs.declared.space.SpaceFault.TheVariants.{Memory as OutOfMemory};
+
+    ghost from_gives = { λ _ fault. fault ≡ OutOfMemory };
+
+    fn from(_memory: Memory) -> Self {
+        SpaceFault::Memory
+    }
+}
+
+impl From<AllocError> for SpaceFault {
+    ghost use Rattle.std.specs.Prelude.{◌≡◌};
+    ghost use Rattle.ncl_space.specs.declared.space.SpaceFault.TheVariants.{Memory as OutOfMemory};
+
+    ghost from_gives = { λ _ fault. fault ≡ OutOfMemory };
+
+    fn from(error: AllocError) -> Self {
+        let _ = error;
+        SpaceFault::Memory
+    }
+}
+
+impl<T: Drop> From<AllocFailed<T>> for SpaceFault {
+    ghost use Rattle.std.specs.Prelude.{◌≡◌};
+    ghost use Rattle.ncl_space.specs.declared.space.SpaceFault.TheVariants.{Memory as OutOfMemory};
+
+    ghost from_gives = { λ _ fault. fault ≡ OutOfMemory };
+
+    fn from(error: AllocFailed<T>) -> Self {
+        let _ = error;
+        SpaceFault::Memory
+    }
 }
 
 /// A space of functions of the words of some number of bits, from 1 to 128.

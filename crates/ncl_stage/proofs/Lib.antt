@@ -5,3 +5,6 @@ pub mod OnePass
 pub mod StageTest
 pub mod ExampleLaws
 pub mod Reordered
+pub mod WiringLaws
+pub mod NetLaws
+pub mod OutputLaws

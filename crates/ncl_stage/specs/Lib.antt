@@ -3,3 +3,5 @@ pub mod Faults
 pub mod Tables
 pub mod Examples
 pub mod Pass
+pub mod Wiring
+pub mod StageTables

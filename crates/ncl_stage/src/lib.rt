@@ -1,7 +1,17 @@
 //! The values of a stage at a word, and the faults that a stage can have.
 #![tactic(auto)]
 
+mod evaluation;
 pub mod laws;
+mod net_values;
+mod nets;
+mod outputs;
 mod variant;
+mod wiring;
 
+pub use evaluation::values;
+pub use net_values::Values;
+pub use nets::net_refs;
+pub use outputs::{all_data, data_fronts, data_tables, least_one, pair_refs};
 pub use variant::Variant;
+pub use wiring::Wiring;

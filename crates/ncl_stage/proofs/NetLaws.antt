@@ -1,0 +1,237 @@
+-- The tables of the nets of a stage, as a space makes them: of rails, of outputs of cells, and of what is
+-- kept low.
+use Rattle.std.proofs.Common.{◌≡◌, ◌≢◌, ℕ, zero, suc, ◌+◌, ◌<◌, Bool, true, false, not, ◌||◌, ◌&&◌, List, [], ◌∷◌, ◌++◌, length, map, take, drop, get_or, inl, inr, refl, sym, ap, ◌∙◌, subst, arith}
+use Rattle.std.specs.Prelude.{All, AllPairs, Contains, nat_eq}
+use Rattle.std.proofs.lemmas.Bool.{cases_eq, cases_lt, eq-eqb, ne_eqb, false_from_ne_true, and_parts}
+use Rattle.std.proofs.lemmas.List.{get_or-map, get_or_append_left, length-map, length-append, map-append, append_assoc, take-append-drop, take_more, drop_more}
+use Rattle.std.proofs.lemmas.List.Elements.{All-head, All-tail, All-nil, All-cons}
+use Rattle.ncl_gates.specs.Gate.{set_of}
+use Rattle.ncl_netlist.specs.declared.ids.NetId.{NetId}
+use Rattle.ncl_shape.specs.declared.rails.Rails.{Rails}
+use Rattle.ncl_shape.specs.declared.stage.StageCell.{StageCell}
+use Rattle.ncl_shape.specs.Nets.{Nets, among}
+use Rattle.ncl_shape.specs.Stage.{StageData, IsStage, named_rails, rail_nets, rail_of, nets_of, out_of}
+use Rattle.ncl_shape.specs.Closure.{pin_values}
+use Rattle.ncl_base.proofs.Members.{Member, here, there, Member-append_cases, member_of_map, Member-get_or}
+use Rattle.ncl_base.proofs.Lists.{pairs-head, pairs-tail}
+use Rattle.ncl_space.specs.Table.{words, table_of}
+use Rattle.ncl_space.specs.Functions.{at, is_value, constant_table, rail_table, gate_table}
+use Rattle.ncl_space.specs.Space.{SpaceData, IsLive}
+use Rattle.ncl_space.specs.Making.{HaveTables}
+use Rattle.ncl_space.specs.declared.space.Ref.{Ref}
+use Rattle.ncl_space.proofs.TableLaws.{table_of-same, at_table}
+use Rattle.ncl_space.proofs.MakingLaws.{have-length, have-at}
+use Rattle.ncl_stage.specs.declared.variant.Variant.{Variant}
+use Rattle.ncl_stage.specs.Values.{holds, kept_low, val}
+use Rattle.ncl_stage.specs.Wiring.{WiringData, IsWiring, place_in, pin_places}
+use Rattle.ncl_stage.specs.StageTables.{net_table, rail_at, ref_at}
+use Rattle.ncl_stage.proofs.Apart.{named-within}
+use Rattle.ncl_stage.proofs.ValueLaws.{val-rail, val-output}
+use Rattle.ncl_stage.proofs.WiringLaws.{zero-member, one-member, place_in-at, rail_nets-append, rail_nets-more}
+
+abbrev AllDiffer : List ℕ → Type 0
+AllDiffer nets = AllPairs (λ x y. x ≢ y) nets
+
+pub rail-member : (rails : List Rails) (i : ℕ) (d : Rails) (value : Bool) → i < length rails → Member (rail_of (get_or rails i d) value) (rail_nets rails)
+rail-member rails i d true lt = one-member rails i d lt
+rail-member rails i d false lt = zero-member rails i d lt
+
+-- the rails of a first bit are no rails of the others
+first-apart : (r : Rails) (nets : List ℕ) → AllDiffer (r.zero.0 ∷ r.one.0 ∷ nets) → (b : Bool) (net : ℕ) → Member net nets → net ≢ rail_of r b
+first-apart r nets differ true net m = λ same. pairs-head (λ x y. x ≢ y) r.one.0 nets (pairs-tail (λ x y. x ≢ y) r.zero.0 (r.one.0 ∷ nets) differ) net m (sym same)
+first-apart r nets differ false net m = λ same. pairs-head (λ x y. x ≢ y) r.zero.0 (r.one.0 ∷ nets) differ net (there m) (sym same)
+
+first-value : (r : Rails) (nets : List ℕ) → AllDiffer (r.zero.0 ∷ r.one.0 ∷ nets) → (value b : Bool) → nat_eq (rail_of r value) (rail_of r b) ≡ is_value value b
+first-value r nets differ true true = eq-eqb r.one.0 r.one.0 refl
+first-value r nets differ false false = eq-eqb r.zero.0 r.zero.0 refl
+first-value r nets differ true false = ne_eqb r.one.0 r.zero.0 (λ same. pairs-head (λ x y. x ≢ y) r.zero.0 (r.one.0 ∷ nets) differ r.one.0 here (sym same))
+first-value r nets differ false true = ne_eqb r.zero.0 r.one.0 (λ same. pairs-head (λ x y. x ≢ y) r.zero.0 (r.one.0 ∷ nets) differ r.one.0 here same)
+
+or_low : (a b : Bool) → b ≡ false → (a || b) ≡ a
+or_low a true e = absurd cc
+or_low true false e = refl
+or_low false false e = refl
+
+low_or : (a b : Bool) → a ≡ false → (a || b) ≡ b
+low_or false b e = refl
+low_or true b e = absurd cc
+
+-- a rail is named where its bit has its value
+pub named-at : (rails : List Rails) → AllDiffer (rail_nets rails) → (word : List Bool) → length word ≡ length rails → (i : ℕ) (d : Rails) → i < length rails → (value : Bool) → among (named_rails rails word) (rail_of (get_or rails i d) value) ≡ is_value value (get_or word i false)
+named-at [] differ word same i d lt value = absurd (omega arith)
+named-at (r ∷ rs) differ [] same i d lt value = absurd (omega arith)
+named-at (r ∷ rs) differ (b ∷ word) same zero d lt value =
+    or_low (nat_eq (rail_of r value) (rail_of r b)) _ (false_from_ne_true _ (λ high. first-apart r (rail_nets rs) differ value (rail_of r value) (named-within rs word (rail_of r value) high) refl))
+    ∙ first-value r (rail_nets rs) differ value b
+named-at (r ∷ rs) differ (b ∷ word) same (suc i) d lt value =
+    low_or (nat_eq (rail_of (get_or rs i d) value) (rail_of r b)) _ (ne_eqb _ _ (first-apart r (rail_nets rs) differ b _ (rail-member rs i d value (omega arith))))
+    ∙ named-at rs (pairs-tail (λ x y. x ≢ y) r.one.0 (rail_nets rs) (pairs-tail (λ x y. x ≢ y) r.zero.0 (r.one.0 ∷ rail_nets rs) differ)) word (omega arith) i d (omega arith) value
+
+left-differ : (xs ys : List ℕ) → AllDiffer (xs ++ ys) → AllDiffer xs
+left-differ xs ys differ = λ i j d before within.
+    let e = get_or_append_left xs ys d i (omega arith) in
+    let f = get_or_append_left xs ys d j within in
+    let n = length-append xs ys in
+    λ same. differ i j d before (omega arith) (e ∙ same ∙ sym f)
+
+and_high : (a b : Bool) → b ≡ false → (a && not b) ≡ a
+and_high a true e = absurd cc
+and_high true false e = refl
+and_high false false e = refl
+
+and_low : (a b : Bool) → b ≡ true → (a && not b) ≡ false
+and_low a false e = absurd cc
+and_low true true e = refl
+and_low false true e = refl
+
+-- what is kept low is low at every word
+pub low-net : (s : StageData) → IsStage s → (variant : Variant) (net : ℕ) → Member net (nets_of s.inputs s.cells) → kept_low s variant net ≡ true → net_table s variant net ≡ constant_table (length s.inputs) false
+low-net s is variant net m low = table_of-same (length s.inputs) (λ word. val s word variant net) (λ word. false) (λ word same.
+    elim (Member-append_cases net (rail_nets s.inputs) (map out_of s.cells) m) [
+      | inl rail ↦ val-rail s is word variant net rail ∙ and_low (among (named_rails s.inputs word) net) (kept_low s variant net) low
+      | inr out ↦ by_cell word (member_of_map out_of s.cells net out)
+    ])
+  where
+    by_cell : (word : List Bool) → (c : StageCell) × Member c s.cells × (out_of c ≡ net) → val s word variant net ≡ false
+    by_cell word (c, m, at) =
+        ap (val s word variant) (sym at) ∙ val-output s is word variant c m
+        ∙ ap (λ b. not b && holds (val s word variant) c) (ap (kept_low s variant) at ∙ low)
+
+-- a rail that isn't
+pub rail-net : (s : StageData) → IsStage s → (variant : Variant) (i : ℕ) (value : Bool) → i < length s.inputs → kept_low s variant (rail_at s i value) ≡ false → rail_table (length s.inputs) i value ≡ net_table s variant (rail_at s i value)
+rail-net s is variant i value lt free =
+    let d : Rails = record { zero = record { 0 = 0 }; one = record { 0 = 0 } } in
+    table_of-same (length s.inputs) (λ word. is_value value (get_or word i false)) (λ word. val s word variant (rail_at s i value)) (λ word same.
+    sym (val-rail s is word variant (rail_at s i value) (rail-member s.inputs i d value lt)
+    ∙ and_high (among (named_rails s.inputs word) (rail_at s i value)) (kept_low s variant (rail_at s i value)) free
+    ∙ named-at s.inputs (left-differ (rail_nets s.inputs) (map out_of s.cells) is.nets_differ) word same i d lt value))
+
+-- the output of a cell that isn't, from what its pins have
+pins-at : (s : StageData) (variant : Variant) (word : List Bool) → length word ≡ length s.inputs → (ins : List NetId) → map (λ table. at table word) (map (λ (net : NetId). net_table s variant net.0) ins) ≡ pin_values (val s word variant) ins
+pins-at s variant word same [] = refl
+pins-at s variant word same (net ∷ ins) =
+    let first = at_table (length s.inputs) (λ w. val s w variant net.0) word same in
+    let rest = pins-at s variant word same ins in
+    λ i. first i ∷ rest i
+
+pub cell-net : (s : StageData) → IsStage s → (variant : Variant) (c : StageCell) → Member c s.cells → kept_low s variant (out_of c) ≡ false → gate_table (length s.inputs) c.kind (map (λ (net : NetId). net_table s variant net.0) c.ins.items) ≡ net_table s variant (out_of c)
+cell-net s is variant c m free = table_of-same (length s.inputs) (λ word. set_of c.kind (map (λ table. at table word) (map (λ (net : NetId). net_table s variant net.0) c.ins.items))) (λ word. val s word variant (out_of c)) (λ word same.
+    ap (set_of c.kind) (pins-at s variant word same c.ins.items)
+    ∙ sym (val-output s is word variant c m ∙ ap (λ b. not b && holds (val s word variant) c) free))
+
+-- a net of a front of the nets has its place in the front
+pub place_in-front : (front rest : List ℕ) → AllDiffer (front ++ rest) → (net : ℕ) → Contains front net → (place_in (front ++ rest) net < length front) × (get_or front (place_in (front ++ rest) net) 0 ≡ net)
+place_in-front front rest differ net (k, lt, at) = (within, sym (get_or_append_left front rest 0 place within) ∙ is.1 0)
+  where
+    whole : Contains (front ++ rest) net
+    whole = (k, omega (arith, length-append front rest), get_or_append_left front rest net k lt ∙ at)
+
+    place : ℕ
+    place = place_in (front ++ rest) net
+
+    is : (place_in (front ++ rest) net < length (front ++ rest)) × ((d : ℕ) → get_or (front ++ rest) (place_in (front ++ rest) net) d ≡ net)
+    is = place_in-at (front ++ rest) net whole
+
+    within : place_in (front ++ rest) net < length front
+    within =
+        elim (cases_lt (place_in (front ++ rest) net) k) [
+          | inl before ↦ omega arith
+          | inr after ↦
+              elim (cases_eq k (place_in (front ++ rest) net)) [
+                | inl same ↦ omega arith
+                | inr other ↦ absurd (differ k (place_in (front ++ rest) net) net (omega arith) is.0 (get_or_append_left front rest net k lt ∙ at ∙ sym (is.1 net)))
+              ]
+        ]
+
+-- the Ref at the place of a net, where Refs have the tables of a front of the nets
+pub front-ref : (space : SpaceData) (f : ℕ → List Bool) (front rest : List ℕ) → AllDiffer (front ++ rest) → (refs : List Ref) → HaveTables space refs (map f front) → (net : ℕ) → Contains front net → (place_in (front ++ rest) net < length refs) × IsLive space (ref_at refs (place_in (front ++ rest) net)) × (space.table (ref_at refs (place_in (front ++ rest) net)) ≡ f net)
+front-ref space f front rest differ refs have net among =
+    let at = place_in-front front rest differ net among in
+    let many : length refs ≡ length front = have-length space refs (map f front) have ∙ length-map front f in
+    let within : place_in (front ++ rest) net < length refs = omega (arith, at.0) in (
+      within,
+      have.live _ (record { place = 0 }) within,
+      have-at space refs (map f front) have (place_in (front ++ rest) net) (record { place = 0 }) [] within
+          ∙ get_or-map f front (place_in (front ++ rest) net) 0 [] at.0 ∙ ap f at.1,
+    )
+
+-- the same of the inputs of a cell
+pub record Shows (space : SpaceData) (f : ℕ → List Bool) (refs : List Ref) (ins : List NetId) (places : List ℕ) : Type 0 where
+  pub within : All (λ place. place < length refs) places
+  pub live : All (IsLive space) (map (ref_at refs) places)
+  pub tables : map space.table (map (ref_at refs) places) ≡ map (λ (net : NetId). f net.0) ins
+
+pub front-refs : (space : SpaceData) (f : ℕ → List Bool) (front rest : List ℕ) → AllDiffer (front ++ rest) → (refs : List Ref) → HaveTables space refs (map f front) → (ins : List NetId) → All (λ (net : NetId). Contains front net.0) ins → Shows space f refs ins (map (λ (net : NetId). place_in (front ++ rest) net.0) ins)
+front-refs space f front rest differ refs have [] among = record { within = All-nil (λ place. place < length refs); live = All-nil (IsLive space); tables = refl }
+front-refs space f front rest differ refs have (net ∷ ins) among =
+    let first = front-ref space f front rest differ refs have net.0 (All-head (λ (net : NetId). Contains front net.0) net ins among) in
+    let others = front-refs space f front rest differ refs have ins (All-tail (λ (net : NetId). Contains front net.0) net ins among) in
+    record {
+      within = All-cons (λ place. place < length refs) _ _ first.0 others.within;
+      live = All-cons (IsLive space) _ _ first.1 others.live;
+      tables = λ i. first.2 i ∷ others.tables i;
+    }
+
+-- the inputs of the cell at a place, where the nets before it have been made
+pub cell-refs : (space : SpaceData) (s : StageData) → IsStage s → (f : ℕ → List Bool) (i : ℕ) (d : StageCell) → i < length s.cells → (refs : List Ref) → HaveTables space refs (map f (nets_of s.inputs (take i s.cells))) → Shows space f refs (get_or s.cells i d).ins.items (pin_places (nets_of s.inputs s.cells) (get_or s.cells i d))
+cell-refs space s is f i d lt refs have =
+    subst (λ nets. Shows space f refs (get_or s.cells i d).ins.items (pin_places nets (get_or s.cells i d))) (sym cut)
+    (front-refs space f (nets_of s.inputs (take i s.cells)) (map out_of (drop i s.cells)) (subst AllDiffer cut is.nets_differ) refs have (get_or s.cells i d).ins.items
+    (is.in_order (take i s.cells) (drop (i + 1) s.cells) (get_or s.cells i d) (sym (take-append-drop i s.cells) ∙ ap (λ l. take i s.cells ++ l) (drop_more s.cells i d lt))))
+  where
+    cut : nets_of s.inputs s.cells ≡ nets_of s.inputs (take i s.cells) ++ map out_of (drop i s.cells)
+    cut =
+        ap (λ cells. rail_nets s.inputs ++ map out_of cells) (sym (take-append-drop i s.cells))
+        ∙ ap (λ nets. rail_nets s.inputs ++ nets) (map-append out_of (take i s.cells) (drop i s.cells))
+        ∙ sym (append_assoc (rail_nets s.inputs) (map out_of (take i s.cells)) (map out_of (drop i s.cells)))
+
+-- what the wiring says of the pins of a cell
+pub pins-of : (s : StageData) (w : WiringData) → IsWiring s w → (i : ℕ) (d : StageCell) → i < length s.cells → get_or w.pins i [] ≡ pin_places (nets_of s.inputs s.cells) (get_or s.cells i d)
+pins-of s w wired i d lt =
+    ap (λ pins. get_or pins i []) wired.pins ∙ get_or-map (pin_places w.nets) s.cells i d [] lt ∙ ap (λ nets. pin_places nets (get_or s.cells i d)) wired.nets
+
+-- the tables of the rails of one bit more, and of all rails cut there
+pub rail-tables-more : (f : ℕ → List Bool) (rails : List Rails) (i : ℕ) (d : Rails) → i < length rails → map f (rail_nets (take (i + 1) rails)) ≡ (map f (rail_nets (take i rails)) ++ f (get_or rails i d).zero.0 ∷ []) ++ f (get_or rails i d).one.0 ∷ []
+rail-tables-more f rails i d lt =
+    let front : List ℕ = rail_nets (take i rails) in
+    let z : ℕ = (get_or rails i d).zero.0 in
+    let o : ℕ = (get_or rails i d).one.0 in
+    ap (map f) (rail_nets-more rails i d lt) ∙ map-append f (front ++ z ∷ []) (o ∷ []) ∙ ap (λ l. l ++ f o ∷ []) (map-append f front (z ∷ []))
+
+pub rail-tables-cut : (f : ℕ → List Bool) (rails : List Rails) (i : ℕ) (d : Rails) → i < length rails → map f (rail_nets rails) ≡ ((map f (rail_nets (take i rails)) ++ f (get_or rails i d).zero.0 ∷ []) ++ f (get_or rails i d).one.0 ∷ []) ++ map f (rail_nets (drop (i + 1) rails))
+rail-tables-cut f rails i d lt =
+    ap (λ l. map f (rail_nets l)) (sym (take-append-drop (i + 1) rails))
+    ∙ ap (map f) (rail_nets-append (take (i + 1) rails) (drop (i + 1) rails))
+    ∙ map-append f (rail_nets (take (i + 1) rails)) (rail_nets (drop (i + 1) rails))
+    ∙ ap (λ l. l ++ map f (rail_nets (drop (i + 1) rails))) (rail-tables-more f rails i d lt)
+
+-- the output of the cell at a place
+abbrev pub out_at : StageData → ℕ → ℕ
+out_at s i = get_or (map out_of s.cells) i 0
+
+pub out_at-is : (s : StageData) (i : ℕ) (d : StageCell) → i < length s.cells → out_at s i ≡ out_of (get_or s.cells i d)
+out_at-is s i d lt = get_or-map out_of s.cells i d 0 lt
+
+take-outs : (cells : List StageCell) (i : ℕ) → map out_of (take i cells) ≡ take i (map out_of cells)
+take-outs [] zero = refl
+take-outs [] (suc i) = refl
+take-outs (c ∷ cells) zero = refl
+take-outs (c ∷ cells) (suc i) = ap (λ l. out_of c ∷ l) (take-outs cells i)
+
+-- the nets with the output of one cell more, and all nets cut there
+nets-more : (s : StageData) (i : ℕ) → i < length s.cells → nets_of s.inputs (take (i + 1) s.cells) ≡ nets_of s.inputs (take i s.cells) ++ out_at s i ∷ []
+nets-more s i lt =
+    ap (λ outs. rail_nets s.inputs ++ outs)
+    (take-outs s.cells (i + 1) ∙ take_more (map out_of s.cells) i 0 (subst (λ n. i < n) (sym (length-map s.cells out_of)) lt) ∙ ap (λ outs. outs ++ out_at s i ∷ []) (sym (take-outs s.cells i)))
+    ∙ sym (append_assoc (rail_nets s.inputs) (map out_of (take i s.cells)) (out_at s i ∷ []))
+
+pub net-tables-more : (f : ℕ → List Bool) (s : StageData) (i : ℕ) → i < length s.cells → map f (nets_of s.inputs (take (i + 1) s.cells)) ≡ map f (nets_of s.inputs (take i s.cells)) ++ f (out_at s i) ∷ []
+net-tables-more f s i lt = ap (map f) (nets-more s i lt) ∙ map-append f (nets_of s.inputs (take i s.cells)) (out_at s i ∷ [])
+
+pub net-tables-cut : (f : ℕ → List Bool) (s : StageData) (i : ℕ) → i < length s.cells → map f (nets_of s.inputs s.cells) ≡ (map f (nets_of s.inputs (take i s.cells)) ++ f (out_at s i) ∷ []) ++ map f (map out_of (drop (i + 1) s.cells))
+net-tables-cut f s i lt =
+    ap (λ cells. map f (rail_nets s.inputs ++ map out_of cells)) (sym (take-append-drop (i + 1) s.cells))
+    ∙ ap (λ outs. map f (rail_nets s.inputs ++ outs)) (map-append out_of (take (i + 1) s.cells) (drop (i + 1) s.cells))
+    ∙ ap (map f) (sym (append_assoc (rail_nets s.inputs) (map out_of (take (i + 1) s.cells)) (map out_of (drop (i + 1) s.cells))))
+    ∙ map-append f (nets_of s.inputs (take (i + 1) s.cells)) (map out_of (drop (i + 1) s.cells))
+    ∙ ap (λ l. l ++ map f (map out_of (drop (i + 1) s.cells))) (net-tables-more f s i lt)

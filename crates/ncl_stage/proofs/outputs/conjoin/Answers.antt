@@ -1,0 +1,13 @@
+use Rattle.std.proofs.Common.{sym, refl, subst}
+use Rattle.std.specs.Option.{option_map}
+use Rattle.ncl_space.specs.Space.{SpaceData, Makes}
+use Rattle.ncl_space.proofs.MakingLaws.{makes-live}
+use Rattle.ncl_stage.specs.StageTables.{conjunction}
+use Rattle.ncl_stage.proofs.outputs.conjoin.Goals as goal
+
+pub returns-in-None-clause-made : goal.returns-in-None-clause-made
+returns-in-None-clause-made g c =
+    let old : SpaceData = g.P.Space.meaning c.args.space.now in
+    let next = c.args.next in
+    subst (λ front. Makes old old next (conjunction old.width (option_map old.table front) (old.table next))) (sym c.in-None.is)
+    (makes-live old next (old.table next) c.requires.space c.requires.next refl)

@@ -1,0 +1,75 @@
+use Rattle.std.proofs.Common.{◌≡◌, ℕ, ◌<◌, ◌≤◌, ◌+◌, ◌^◌, Bool, false, List, [], ◌∷◌, ◌++◌, Err, Option, Some, None, length, get_or, map, take, drop, sym, ◌∙◌, ap, subst, refl, arith}
+use Rattle.std.specs.Prelude.{All}
+use Rattle.std.specs.Option.{option_map}
+use Rattle.std.proofs.lemmas.List.{get_or-map, length-map, take_all}
+use Rattle.ncl_space.specs.Space.{SpaceData, IsLive, IsSpace, Keeps, Makes, fits}
+use Rattle.ncl_space.specs.Making.{MakesAll}
+use Rattle.ncl_space.specs.declared.space.Ref.{Ref}
+use Rattle.ncl_space.proofs.MakingLaws.{Making, making-none, making-next, too_much-next, handed_on}
+use Rattle.ncl_stage.specs.StageTables.{conjunction, front_tables}
+use Rattle.ncl_stage.proofs.OutputLaws.{IsLast, last-live, last-table, conjunction-at, length-front_tables}
+use Rattle.ncl_stage.proofs.outputs.data_fronts.Goals as goal
+
+-- the conjunction that is made next
+turn : (old now : SpaceData) → IsSpace old → (refs : List Ref) → All (IsLive old) refs → (i : ℕ) → i < length refs → (made : List Ref) → Making old now made (take i (front_tables old.width (map old.table refs))) → (last : Option Ref) → IsLast made last → (d : Ref) → get_or (front_tables old.width (map old.table refs)) i [] ≡ conjunction now.width (option_map now.table last) (now.table (get_or refs i d))
+turn old now space refs live i lt made m last is d =
+    let ts : List (List Bool) = map old.table refs in
+    let many : length ts ≡ length refs = length-map refs old.table in
+    let own : now.table (get_or refs i d) ≡ get_or ts i [] = m.kept.tables (get_or refs i d) (live i d lt) ∙ sym (get_or-map old.table refs i d [] lt) in
+    let size : length (get_or ts i []) ≡ 2 ^ old.width = ap length (get_or-map old.table refs i d [] lt) ∙ space.tables (get_or refs i d) (live i d lt) in
+    let so_far = last-table now old.width ts i (omega arith) made m.all.refs_of last is in
+    sym (conjunction-at old.width ts i (omega arith) size) ∙ (λ k. conjunction (sym m.kept.width k) (sym so_far k) (sym own k))
+
+pub loop-next-init : goal.loop-next-init
+loop-next-init g c =
+    let old : SpaceData = g.P.Space.meaning c.args.space.now in
+    record {
+      making = subst (λ items. Making old old items []) (sym c.in_ok-made.ensures.items) (making-none old c.requires.space);
+      last = c.in_ok-made.ensures.items;
+    }
+
+pub conjoin-requires-clause-front : goal.conjoin-requires-clause-front
+conjoin-requires-clause-front g c = λ x e.
+    let is : IsLast c.loop-next.made.items (Some x) = subst (IsLast c.loop-next.made.items) e c.loop-next.invariant.last in
+    last-live (g.P.Space.meaning c.loop-next.space) c.loop-next.made.items x c.loop-next.invariant.making.all.refs_of.live is.0 is.1
+
+pub returns-in_err-front-clause-full : goal.returns-in_err-front-clause-full
+returns-in_err-front-clause-full g c = λ e.
+    let old : SpaceData = g.P.Space.meaning c.args.space.now in
+    let now : SpaceData = g.P.Space.meaning c.loop-next.space in
+    let refs = c.args.refs.now in
+    let i = c.loop-next.next-index in
+    let ts : List (List Bool) = map old.table refs in
+    let many : length (front_tables old.width ts) ≡ length refs = length-front_tables old.width ts ∙ length-map refs old.table in
+    let lt : i < length (front_tables old.width ts) = subst (λ n. i < n) (sym many) c.loop-next-test.true in
+    too_much-next old now (front_tables old.width ts) i c.loop-next.made.items _ lt
+    (turn old now c.requires.space refs c.requires.live i c.loop-next-test.true c.loop-next.made.items c.loop-next.invariant.making c.loop-next.last c.loop-next.invariant.last (record { place = 0 }))
+    c.loop-next.invariant.making
+    (c.in_err-front.ensures.full (ap Err (handed_on c.from_residual-in_err-front.result c.in_err-front.field-0.0 c.from_residual-in_err-front.ensures.1 e)))
+
+pub loop-next-preserved : goal.loop-next-preserved
+loop-next-preserved g c =
+    let old : SpaceData = g.P.Space.meaning c.args.space.now in
+    let now : SpaceData = g.P.Space.meaning c.loop-next.space in
+    let new : SpaceData = g.P.Space.meaning c.conjoin.new.space in
+    let refs = c.args.refs.now in
+    let i = c.loop-next.next-index in
+    let ts : List (List Bool) = map old.table refs in
+    let many : length (front_tables old.width ts) ≡ length refs = length-front_tables old.width ts ∙ length-map refs old.table in
+    let lt : i < length (front_tables old.width ts) = subst (λ n. i < n) (sym many) c.loop-next-test.true in
+    record {
+      making = subst (λ items. Making old new items (take (i + 1) (front_tables old.width ts))) (sym c.in_ok-push.ensures.items)
+          (making-next old now new (front_tables old.width ts) i c.loop-next.made.items c.in_ok-front.front _ lt
+          (turn old now c.requires.space refs c.requires.live i c.loop-next-test.true c.loop-next.made.items c.loop-next.invariant.making c.loop-next.last c.loop-next.invariant.last (record { place = 0 }))
+          c.loop-next.invariant.making c.in_ok-front.ensures.kept c.in_ok-front.ensures.space c.in_ok-front.ensures.made);
+      last = (c.loop-next.made.items, c.in_ok-push.ensures.items);
+    }
+
+pub returns-clause-made : goal.returns-clause-made
+returns-clause-made g c =
+    let old : SpaceData = g.P.Space.meaning c.args.space.now in
+    let ts : List (List Bool) = map old.table c.args.refs.now in
+    let many : length (front_tables old.width ts) ≡ length c.args.refs.now = length-front_tables old.width ts ∙ length-map c.args.refs.now old.table in
+    subst (MakesAll old (g.P.Space.meaning c.loop-next.space) c.loop-next.made.items)
+    (take_all c.loop-next.next-index (front_tables old.width ts) (subst (λ n. n ≤ c.loop-next.next-index) (sym many) c.loop-next-test.false))
+    c.loop-next.invariant.making.all

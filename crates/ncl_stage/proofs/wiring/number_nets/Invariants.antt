@@ -1,0 +1,7 @@
+use Rattle.std.proofs.Common.{◌≡◌, take}
+use Rattle.ncl_shape.specs.Stage.{nets_of}
+use Rattle.ncl_stage.proofs.wiring.number_nets.Given as goal
+
+-- the rails and the outputs of the cells so far are numbered
+abbrev pub invariant-loop-cell : goal.invariant-loop-cell
+invariant-loop-cell l = l.nets.keys ≡ nets_of l.stage.inputs (take l.cell-index l.stage.cells)

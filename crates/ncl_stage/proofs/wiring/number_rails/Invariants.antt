@@ -1,0 +1,7 @@
+use Rattle.std.proofs.Common.{◌≡◌, take}
+use Rattle.ncl_shape.specs.Stage.{rail_nets}
+use Rattle.ncl_stage.proofs.wiring.number_rails.Given as goal
+
+-- the rails of the bits so far are numbered
+abbrev pub invariant-loop-pair : goal.invariant-loop-pair
+invariant-loop-pair l = l.nets.keys ≡ rail_nets (take l.pair-index l.stage.inputs)

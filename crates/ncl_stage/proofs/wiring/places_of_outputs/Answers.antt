@@ -1,0 +1,40 @@
+use Rattle.std.proofs.Common.{◌≡◌, ◌<◌, length, get_or, sym, ◌∙◌, ap, subst}
+use Rattle.std.specs.Prelude.{Contains}
+use Rattle.ncl_base.proofs.Growing.{map_push}
+use Rattle.ncl_shape.specs.declared.rails.Rails.{Rails}
+use Rattle.ncl_shape.specs.Stage.{StageData, nets_of}
+use Rattle.ncl_stage.specs.Wiring.{place_in, rail_places}
+use Rattle.ncl_stage.proofs.WiringLaws.{at_rail}
+use Rattle.ncl_stage.proofs.wiring.places_of_outputs.Goals as goal
+
+pub place_of-requires : goal.place_of-requires
+place_of-requires c =
+    let d : Rails = record { zero = record { 0 = 0 }; one = record { 0 = 0 } } in
+    let s : StageData = c.args.stage.now in
+    let i = c.loop-pair.pair-index in
+    let outputs : c.items-pair-items.result.now ≡ s.outputs = c.items-pair-items.ensures ∙ ap (λ (t : StageData). t.outputs) c.stage.view_is in
+    let within : i < length s.outputs = subst (λ xs. i < length xs) outputs c.loop-pair-test.true in
+    subst (λ xs. Contains c.args.nets.now.keys (get_or xs i d).zero.0) (sym outputs)
+    (subst (λ nets. Contains nets (get_or s.outputs i d).zero.0) (sym c.requires) (at_rail (λ net. Contains (nets_of s.inputs s.cells) net) s.outputs c.facts.ensures.outputs_known i d within).0)
+
+pub place_of-requires-in-loop-pair : goal.place_of-requires-in-loop-pair
+place_of-requires-in-loop-pair c =
+    let d : Rails = record { zero = record { 0 = 0 }; one = record { 0 = 0 } } in
+    let s : StageData = c.args.stage.now in
+    let i = c.loop-pair.pair-index in
+    let outputs : c.items-pair-items.result.now ≡ s.outputs = c.items-pair-items.ensures ∙ ap (λ (t : StageData). t.outputs) c.stage.view_is in
+    let within : i < length s.outputs = subst (λ xs. i < length xs) outputs c.loop-pair-test.true in
+    subst (λ xs. Contains c.args.nets.now.keys (get_or xs i d).one.0) (sym outputs)
+    (subst (λ nets. Contains nets (get_or s.outputs i d).one.0) (sym c.requires) (at_rail (λ net. Contains (nets_of s.inputs s.cells) net) s.outputs c.facts.ensures.outputs_known i d within).1)
+
+pub loop-pair-preserved : goal.loop-pair-preserved
+loop-pair-preserved c =
+    let d : Rails = record { zero = record { 0 = 0 }; one = record { 0 = 0 } } in
+    let s : StageData = c.args.stage.now in
+    let i = c.loop-pair.pair-index in
+    let nets = c.args.nets.now.keys in
+    let outputs : c.items-pair-items.result.now ≡ s.outputs = c.items-pair-items.ensures ∙ ap (λ (t : StageData). t.outputs) c.stage.view_is in
+    let within : i < length s.outputs = subst (λ xs. i < length xs) outputs c.loop-pair-test.true in
+    map_push (rail_places nets) s.outputs i d c.loop-pair.places.items c.push.new.self.items (c.place_of.result, c.place_of-in-loop-pair.result) within c.loop-pair.invariant
+    ((λ k. (c.place_of.ensures k, c.place_of-in-loop-pair.ensures k)) ∙ ap (λ xs. rail_places nets (get_or xs i d)) outputs)
+    c.in_ok-push.ensures.items

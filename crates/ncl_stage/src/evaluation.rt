@@ -1,0 +1,61 @@
+//! The values of a stage in a space.
+ghost use Rattle.std.specs.Prelude.{◌≡◌, IfOk, IsErrOf, OnErr, OnOk, false, length, true};
+ghost use Rattle.ncl_space.specs.Space.{IsSpace, Keeps, Restores, fits, with_tables};
+ghost use Rattle.ncl_stage.specs.StageTables.{AreValues, net_tables};
+
+use crate::net_values::Values;
+use crate::nets::net_refs;
+use crate::variant::Variant;
+use crate::wiring::Wiring;
+use ncl_shape::Stage;
+use ncl_space::{Space, SpaceFault};
+use std::alloc::Global;
+
+/// The functions of all nets of a stage under a variant. It goes over the cells once.
+///
+/// `Full` comes exactly where the beads held with those of all these functions are more than the limit.
+/// After a refusal the space is as it was.
+pub fn values<P: Space>(
+    alloc: Global,
+    space: &mut P,
+    stage: &Stage,
+    variant: Variant,
+) -> Result<Values, SpaceFault>
+    requires { (P.meaning space.old).width ≡ length stage.now.inputs }
+    ensures values { IfOk result (AreValues (P.meaning space.new) stage.now variant) }
+    ensures held { OnOk result ((P.meaning space.new).held ≡ with_tables (P.meaning space.old) (net_tables stage.now variant)) }
+    ensures kept { Keeps (P.meaning space.old) (P.meaning space.new) }
+    ensures back { OnErr result (Restores (P.meaning space.old) (P.meaning space.new)) }
+    ensures space { IsSpace (P.meaning space.new) }
+    ensures full { IsErrOf result SpaceFault.Full → fits (P.meaning space.old) (net_tables stage.now variant) ≡ false }
+    ensures fits { OnOk result (fits (P.meaning space.old) (net_tables stage.now variant) ≡ true) }
+{
+    let start = space.mark();
+    match make_values(alloc, space, stage, variant) {
+        Ok(values) => Ok(values),
+        Err(fault) => {
+            space.release(start);
+            Err(fault)
+        }
+    }
+}
+
+// The same, but what is made before a refusal stays.
+fn make_values<P: Space>(
+    alloc: Global,
+    space: &mut P,
+    stage: &Stage,
+    variant: Variant,
+) -> Result<Values, SpaceFault>
+    requires width { (P.meaning space.old).width ≡ length stage.now.inputs }
+    requires space { IsSpace (P.meaning space.old) }
+    ensures values { IfOk result (AreValues (P.meaning space.new) stage.now variant) }
+    ensures held { OnOk result ((P.meaning space.new).held ≡ with_tables (P.meaning space.old) (net_tables stage.now variant)) }
+    ensures kept { Keeps (P.meaning space.old) (P.meaning space.new) }
+    ensures space { IsSpace (P.meaning space.new) }
+    ensures full { IsErrOf result SpaceFault.Full → fits (P.meaning space.old) (net_tables stage.now variant) ≡ false }
+{
+    let wiring = Wiring::new(alloc, stage)?;
+    let refs = net_refs(alloc, space, stage, &wiring, variant)?;
+    Ok(Values::new(wiring, refs))
+}

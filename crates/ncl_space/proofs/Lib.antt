@@ -2,3 +2,6 @@ pub mod BeadLaws
 pub mod TableLaws
 pub mod SpaceLaws
 pub mod MakingLaws
+pub mod BitLaws
+pub mod RowLaws
+pub mod PlainLaws

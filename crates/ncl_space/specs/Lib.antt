@@ -3,3 +3,5 @@ pub mod Beads
 pub mod Functions
 pub mod Space
 pub mod Making
+pub mod Bits
+pub mod Plain

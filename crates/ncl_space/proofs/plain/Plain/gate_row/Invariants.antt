@@ -1,0 +1,8 @@
+use Rattle.std.proofs.Common.{map}
+use Rattle.ncl_space.specs.Functions.{gate_table}
+use Rattle.ncl_space.specs.Plain.{plain_space}
+use Rattle.ncl_space.proofs.RowLaws.{FillsTo}
+use Rattle.ncl_space.proofs.plain.Plain.gate_row.Given as goal
+
+abbrev pub invariant-loop-j : goal.invariant-loop-j
+invariant-loop-j l = FillsTo l.row.items (gate_table l.fn.self.width l.fn.kind (map (plain_space l.fn.self).table l.fn.ins)) l.j

@@ -1,0 +1,34 @@
+use Rattle.std.proofs.Common.{◌≤◌, ◌+◌, ◌^◌, ◌∙◌, ℕ, List, sym, subst, arith}
+use Rattle.ncl_space.specs.Plain.{AreTables, IsRow, PlainData, row_table, tables_in}
+use Rattle.ncl_space.proofs.RowLaws.{AreTables-push, length-row_table}
+use Rattle.ncl_space.proofs.PlainLaws.{IsPlain-view, IsSpace-kept, IsSpace-plain, IsSpace-pushed, length-view, pushed-view}
+use Rattle.ncl_space.proofs.plain.Plain.push_row.Goals as goal
+
+pub invariant_of-self-2 : goal.invariant_of-self-2
+invariant_of-self-2 c =
+    let row : IsRow c.self.inside.width c.args.row.now = subst (λ (p : PlainData). IsRow p.width c.args.row.now) (sym c.self.view_is) c.requires in
+    let n : ℕ = c.self.inside.width in
+    let room : c.self.inside.count + 3 ≤ 2 ^ 32 = omega arith in
+    subst (λ (words : List ℕ). AreTables n c.self.inside.stride (c.self.inside.count + 1) words) (sym c.in_ok-extend_from_slice.ensures.items)
+    (AreTables-push n c.self.inside.stride c.self.inside.count c.self.inside.words.items c.args.row.now (row_table n c.args.row.now 0) c.self.invariant (length-row_table n c.args.row.now 0) row room)
+
+pub returns-clause-place : goal.returns-clause-place
+returns-clause-place c = omega (arith, length-view c.self.inside.width c.self.inside.count c.self.inside.words.items c.args.self.now c.self.view_is)
+
+pub returns-clause-pushed : goal.returns-clause-pushed
+returns-clause-pushed c =
+    (λ t. record { width = c.self.inside.width; tables = tables_in c.self.inside.width (c.self.inside.count + 1) (c.in_ok-extend_from_slice.ensures.items t) })
+    ∙ pushed-view c.self.inside.width c.self.inside.stride c.self.inside.count c.self.inside.words.items c.args.row.now c.args.self.now c.self.invariant c.self.view_is
+
+pub returns-then-self-clause-space : goal.returns-then-self-clause-space
+returns-then-self-clause-space c = IsSpace-plain c.args.self.now (IsPlain-view _ _ _ _ c.args.self.now c.self.invariant c.self.view_is)
+
+pub returns-in_err-extend_from_slice-clause-space : goal.returns-in_err-extend_from_slice-clause-space
+returns-in_err-extend_from_slice-clause-space c =
+    IsSpace-kept c.args.self.now _ (IsPlain-view _ _ _ _ c.args.self.now c.self.invariant c.self.view_is)
+    ((λ t. record { width = c.self.inside.width; tables = tables_in c.self.inside.width c.self.inside.count (c.in_err-extend_from_slice.ensures.items t) }) ∙ c.self.view_is)
+
+pub returns-clause-space : goal.returns-clause-space
+returns-clause-space c =
+    let p : PlainData = c.args.self.now in
+    IsSpace-pushed p _ (row_table p.width c.args.row.now 0) (IsPlain-view _ _ _ _ p c.self.invariant c.self.view_is) (length-row_table p.width c.args.row.now 0) (returns-clause-pushed c)

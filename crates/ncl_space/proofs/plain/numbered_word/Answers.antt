@@ -1,0 +1,22 @@
+use Rattle.std.proofs.Common.{◌≡◌, ℕ, ◌-◌, ◌<◌, ◌++◌, [], ◌∷◌, false, nat_eq, take, length, sym, ap, ◌∙◌, arith}
+use Rattle.std.proofs.lemmas.List.{take_more}
+use Rattle.std.proofs.lemmas.Nat.Bits.{shr_and_one}
+use Rattle.std.proofs.Math.Seq.{take-length}
+use Rattle.ncl_space.specs.Bits.{word_of}
+use Rattle.ncl_space.proofs.BitLaws.{index-word_of, length-word_of}
+use Rattle.ncl_space.proofs.plain.numbered_word.Goals as goal
+
+pub loop-place-preserved : goal.loop-place-preserved
+loop-place-preserved c =
+    let n : ℕ = c.args.width in
+    let i : ℕ = c.loop-place.place in
+    let below : i < n = omega arith in
+    let bit = ap (λ (b : ℕ). nat_eq b 1) (shr_and_one c.args.number (n - 1 - i)) ∙ sym (index-word_of n c.args.number i below) in
+    c.push.ensures
+    ∙ (λ t. c.loop-place.invariant t ++ bit t ∷ [])
+    ∙ sym (take_more (word_of n c.args.number) i false (omega (arith, length-word_of n c.args.number)))
+
+pub returns : goal.returns
+returns c =
+    let end : c.loop-place.place ≡ length (word_of c.args.width c.args.number) = omega (arith, length-word_of c.args.width c.args.number) in
+    c.loop-place.invariant ∙ ap (λ (i : ℕ). take i (word_of c.args.width c.args.number)) end ∙ take-length (word_of c.args.width c.args.number)

@@ -12,6 +12,10 @@ mod net_fault;
 mod place;
 mod reader;
 mod refusal;
+#[cfg(test)]
+mod speed_tests;
+#[cfg(test)]
+mod tests;
 
 pub use keyword::{Keyword, Way};
 pub use lexeme::Sign;

@@ -16,7 +16,8 @@ at_declared head items way names = body_phrase head items ++ Word (word_of way) 
 
 -- the name of a cell, the name of an instance, and what stands in its parentheses
 abbrev pub in_instance : Head → List Item → List ℕ → List ℕ → List Lexeme → List Lexeme
-in_instance head items cell name inside = body_phrase head items ++ Name cell ∷ Name name ∷ Mark LParen ∷ inside
+in_instance head items cell name inside =
+    body_phrase head items ++ Name cell ∷ Name name ∷ Mark LParen ∷ inside
 
 -- connections, each with a comma
 abbrev pub at_conn : Head → List Item → List ℕ → List ℕ → List Conn → List Lexeme
@@ -24,12 +25,15 @@ at_conn head items cell name conns = in_instance head items cell name (with_comm
 
 -- and a dot
 abbrev pub at_pin : Head → List Item → List ℕ → List ℕ → List Conn → List Lexeme
-at_pin head items cell name conns = in_instance head items cell name (with_commas conn_phrase conns ++ Mark Dot ∷ [])
+at_pin head items cell name conns =
+    in_instance head items cell name (with_commas conn_phrase conns ++ Mark Dot ∷ [])
 
 -- and a pin's name and a parenthesis
 abbrev pub at_net : Head → List Item → List ℕ → List ℕ → List Conn → List ℕ → List Lexeme
-at_net head items cell name conns pin = in_instance head items cell name (with_commas conn_phrase conns ++ Mark Dot ∷ Name pin ∷ Mark LParen ∷ [])
+at_net head items cell name conns pin =
+    in_instance head items cell name (with_commas conn_phrase conns ++ Mark Dot ∷ Name pin ∷ Mark LParen ∷ [])
 
 -- connections, the last without a comma
 abbrev pub at_close : Head → List Item → List ℕ → List ℕ → Row Conn → List Lexeme
-at_close head items cell name conns = in_instance head items cell name (row_phrase conn_phrase conns)
+at_close head items cell name conns =
+    in_instance head items cell name (row_phrase conn_phrase conns)

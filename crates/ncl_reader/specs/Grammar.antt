@@ -1,4 +1,5 @@
--- The grammar: a text is derived by its tree, and each function here is one production.
+-- The grammar of netlist texts, a part of that of structural modules of IEEE 1364-2005 (annex A.1.2, A.2.1 and
+-- A.4.1). A text is derived by its tree, and each function here is the right-hand side of one production.
 use Rattle.std.specs.Prelude.{◌≡◌, ℕ, List, [], ◌∷◌, ◌++◌, Option, Some, None}
 use Rattle.std.specs.List.{flat_map}
 use Rattle.ncl_reader.specs.declared.keyword.Keyword.TheVariants.{Module, EndModule, Way as word_of}
@@ -11,6 +12,7 @@ pub record Row (X : Type 0) : Type 0 where
   pub before : List X
   pub last : X
 
+-- they all
 abbrev pub all_of : {X : Type 0} → Row X → List X
 all_of row = row.before ++ row.last ∷ []
 
@@ -35,6 +37,7 @@ pub record Conn : Type 0 where
 abbrev pub conn_phrase : Conn → List Lexeme
 conn_phrase conn = Mark Dot ∷ Name conn.pin ∷ Mark LParen ∷ Name conn.net ∷ Mark RParen ∷ []
 
+-- a declaration of names, or an instance of a cell with its connections
 pub data Item : Type 0 where
   Declares : Way → Row (List ℕ) → Item
   Joins : (cell name : List ℕ) → Row Conn → Item
@@ -42,20 +45,24 @@ pub data Item : Type 0 where
 -- ( "input" | "output" | "wire" ) names ";"   or   cell name "(" conns ")" ";"
 abbrev pub item_phrase : Item → List Lexeme
 item_phrase (Declares way names) = Word (word_of way) ∷ (row_phrase name_phrase names ++ Mark Semi ∷ [])
-item_phrase (Joins cell name conns) = Name cell ∷ Name name ∷ Mark LParen ∷ (row_phrase conn_phrase conns ++ Mark RParen ∷ Mark Semi ∷ [])
+item_phrase (Joins cell name conns) =
+    Name cell ∷ Name name ∷ Mark LParen ∷ (row_phrase conn_phrase conns ++ Mark RParen ∷ Mark Semi ∷ [])
 
 -- names or none, between parentheses, or no parentheses
 abbrev pub Ports : Type 0
 Ports = Option (Option (Row (List ℕ)))
 
+-- [ names ]
 abbrev pub ports_phrase : Option (Row (List ℕ)) → List Lexeme
 ports_phrase None = []
 ports_phrase (Some names) = row_phrase name_phrase names
 
+-- [ "(" [ names ] ")" ]
 abbrev pub header_phrase : Ports → List Lexeme
 header_phrase None = []
 header_phrase (Some names) = Mark LParen ∷ (ports_phrase names ++ Mark RParen ∷ [])
 
+-- the name of the module and its header
 pub record Head : Type 0 where
   pub name : List ℕ
   pub ports : Ports
@@ -64,6 +71,7 @@ pub record Head : Type 0 where
 abbrev pub head_phrase : Head → List Lexeme
 head_phrase head = Word Module ∷ Name head.name ∷ (header_phrase head.ports ++ Mark Semi ∷ [])
 
+-- a tree of the grammar
 pub record Text : Type 0 where
   pub head : Head
   pub items : List Item

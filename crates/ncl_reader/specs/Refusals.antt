@@ -1,4 +1,5 @@
--- Why a text is refused at its first token that breaks.
+-- Why a text is refused at its first token that breaks. Of a token that breaks, what stands before it and what
+-- it is tell the fault.
 use Rattle.std.specs.Prelude.{◌≡◌, ℕ, List, ◌∷◌, ◌++◌}
 use Rattle.ncl_reader.specs.declared.net_fault.NetFault.{NetFault}
 use Rattle.ncl_reader.specs.declared.net_fault.NetFault.TheVariants.{Syntax, UnknownCell, BadPins, Unsupported}
@@ -15,27 +16,38 @@ abbrev pub IsAtItem : List Lexeme → Type 0
 IsAtItem before = (head : Head) × (items : List Item) × (before ≡ body_phrase head items)
 
 abbrev pub IsAtConn : List Lexeme → Type 0
-IsAtConn before = (head : Head) × (items : List Item) × (cell : List ℕ) × (name : List ℕ) × (conns : List Conn) × (before ≡ at_conn head items cell name conns)
+IsAtConn before =
+    (head : Head) × (items : List Item) × (cell : List ℕ) × (name : List ℕ) × (conns : List Conn)
+    × (before ≡ at_conn head items cell name conns)
 
 abbrev pub IsAtPin : List Lexeme → Type 0
-IsAtPin before = (head : Head) × (items : List Item) × (cell : List ℕ) × (name : List ℕ) × (conns : List Conn) × (before ≡ at_pin head items cell name conns)
+IsAtPin before =
+    (head : Head) × (items : List Item) × (cell : List ℕ) × (name : List ℕ) × (conns : List Conn)
+    × (before ≡ at_pin head items cell name conns)
 
 abbrev pub IsAtNet : List Lexeme → Type 0
-IsAtNet before = (head : Head) × (items : List Item) × (cell : List ℕ) × (name : List ℕ) × (conns : List Conn) × (pin : List ℕ) × (before ≡ at_net head items cell name conns pin)
+IsAtNet before =
+    (head : Head) × (items : List Item) × (cell : List ℕ) × (name : List ℕ) × (conns : List Conn) × (pin : List ℕ)
+    × (before ≡ at_net head items cell name conns pin)
 
 abbrev pub IsAtClose : List Lexeme → Type 0
-IsAtClose before = (head : Head) × (items : List Item) × (cell : List ℕ) × (name : List ℕ) × (conns : Row Conn) × (before ≡ at_close head items cell name conns)
+IsAtClose before =
+    (head : Head) × (items : List Item) × (cell : List ℕ) × (name : List ℕ) × (conns : Row Conn)
+    × (before ≡ at_close head items cell name conns)
 
--- the rules, in their order
+-- where an item may begin, a name that is no cell's
 abbrev pub IsUnknown : List Lexeme → Lexeme → Type 0
 IsUnknown before (Name x) = IsAtItem before
 IsUnknown before t = ⊥
 
+-- a name of a pin that the cell hasn't or that is joined; and a `)` where a pin is missing
 abbrev pub HasBadPins : List Lexeme → Lexeme → Type 0
 HasBadPins before (Name x) = IsAtPin before
 HasBadPins before (Mark RParen) = IsAtClose before
 HasBadPins before t = ⊥
 
+-- what Verilog has and no text of ours: marks, strings and numbers; reserved words, but for an `endmodule`
+-- that comes too early; a connection by position; and a pin without a net
 abbrev pub IsLeftOut : List Lexeme → Lexeme → Type 0
 IsLeftOut before (Mark Other) = Unit {0}
 IsLeftOut before (Word EndModule) = ¬ IsAtItem before
@@ -44,11 +56,13 @@ IsLeftOut before (Name x) = IsAtConn before
 IsLeftOut before (Mark RParen) = IsAtNet before
 IsLeftOut before t = ⊥
 
+-- the fault of a token that breaks, at its place
 abbrev pub IsFaultAt : List Lexeme → Placed → NetFault → Type 0
 IsFaultAt before t (UnknownCell p) = (p ≡ t.place) × IsUnknown before t.lexeme
 IsFaultAt before t (BadPins p) = (p ≡ t.place) × HasBadPins before t.lexeme
 IsFaultAt before t (Unsupported p) = (p ≡ t.place) × IsLeftOut before t.lexeme
-IsFaultAt before t (Syntax p) = (p ≡ t.place) × ¬ IsUnknown before t.lexeme × ¬ HasBadPins before t.lexeme × ¬ IsLeftOut before t.lexeme
+IsFaultAt before t (Syntax p) =
+    (p ≡ t.place) × ¬ IsUnknown before t.lexeme × ¬ HasBadPins before t.lexeme × ¬ IsLeftOut before t.lexeme
 IsFaultAt before t other = ⊥
 
 -- the first token that breaks, and the fault of it

@@ -81,9 +81,10 @@ pub record LeavesPin (before : List Lexeme) : Type 0 where
   pub stands : Contains (pins_of kind) pin
   pub unjoined : ¬ Contains (map (λ (c : Conn). c.pin) (all_of conns)) pin
 
--- the token breaks a rule
+-- the token breaks a rule: which one can be asked, what stands before it tells
 abbrev pub BreaksRule : List Lexeme → Lexeme → Type 0
-BreaksRule before (Name x) = RepeatsPort before x ⊎ (Misdirects before x ⊎ (NamesNoCell before x ⊎ Misjoins before x))
+BreaksRule before (Name x) =
+    RepeatsPort before x ⊎ (Misdirects before x ⊎ (NamesNoCell before x ⊎ Misjoins before x))
 BreaksRule before (Word EndModule) = LeavesPort before
 BreaksRule before (Mark RParen) = LeavesPin before
 BreaksRule before t = ⊥
@@ -94,4 +95,5 @@ Breaks before t = (Begins before × ¬ Begins (before ++ t ∷ [])) ⊎ BreaksRu
 
 -- no token breaks
 abbrev pub NoneBreaks : List Lexeme → Type 0
-NoneBreaks xs = (before : List Lexeme) (t : Lexeme) (after : List Lexeme) → xs ≡ before ++ t ∷ after → ¬ Breaks before t
+NoneBreaks xs =
+    (before : List Lexeme) (t : Lexeme) (after : List Lexeme) → xs ≡ before ++ t ∷ after → ¬ Breaks before t

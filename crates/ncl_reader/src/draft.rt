@@ -4,7 +4,6 @@ ghost use Rattle.ncl_netlist.specs.Names.{AllDiffer};
 ghost use Rattle.ncl_netlist.specs.Parts.{port_names};
 ghost use Rattle.ncl_reader.specs.Draft.{Steps, HoldsAt, SaysAt, output_of};
 ghost use Rattle.ncl_reader.specs.Partial.{Partial, start};
-ghost use Rattle.ncl_reader.specs.declared.place.Place.TheVariants.{Module as PlaceModule, ModuleName as PlaceModuleName, AfterModuleName as PlaceAfterModuleName, FirstPort as PlaceFirstPort, Port as PlacePort, AfterPort as PlaceAfterPort, AfterPorts as PlaceAfterPorts, Item as PlaceItem, Declared as PlaceDeclared, AfterDeclared as PlaceAfterDeclared, InstanceName as PlaceInstanceName, Connections as PlaceConnections, Connection as PlaceConnection, Pin as PlacePin, PinNet as PlacePinNet, Net as PlaceNet, AfterNet as PlaceAfterNet, AfterConnection as PlaceAfterConnection, AfterInstance as PlaceAfterInstance, End as PlaceEnd};
 
 use crate::header::Header;
 use crate::instance::{Instance, Join};
@@ -29,7 +28,7 @@ pub struct Draft<'a> {
 impl<'a> Draft<'a> {
     /// Nothing was read.
     pub fn new(alloc: Global) -> Draft<'a>
-        ensures { HoldsAt PlaceModule result start }
+        ensures { HoldsAt Place.Module result start }
     {
         Draft {
             title: b"",
@@ -80,8 +79,9 @@ impl<'a> Draft<'a> {
 
     /// The parts that a whole text says.
     pub fn into_parts(self, alloc: Global) -> Result<Parts, Memory>
-        ensures says { (p : Partial) → HoldsAt PlaceEnd self.entry p → IfOk result (SaysAt p) }
-        ensures differ { (p : Partial) → HoldsAt PlaceEnd self.entry p → IfOk result (λ parts. AllDiffer (port_names parts)) }
+        ensures says { (p : Partial) → HoldsAt Place.End self.entry p → IfOk result (SaysAt p) }
+        ensures differ { (p : Partial) → HoldsAt Place.End self.entry p
+            → IfOk result (λ parts. AllDiffer (port_names parts)) }
     {
         let Draft {
             title,
@@ -99,7 +99,7 @@ impl<'a> Draft<'a> {
 
     /// In front of the module.
     fn at_module(&self, lexeme: &Lexeme<'a>) -> Option<Place>
-        ensures { Steps PlaceModule self.now lexeme.now (Ok result) self.now }
+        ensures { Steps Place.Module self.now lexeme.now (Ok result) self.now }
     {
         if lexeme.is_word(Keyword::Module) {
             return Some(Place::ModuleName);
@@ -109,7 +109,7 @@ impl<'a> Draft<'a> {
 
     /// At the name of the module.
     fn at_module_name(&mut self, lexeme: &Lexeme<'a>) -> Option<Place>
-        ensures { Steps PlaceModuleName self.old lexeme.now (Ok result) self.new }
+        ensures { Steps Place.ModuleName self.old lexeme.now (Ok result) self.new }
     {
         let Some(name) = lexeme.name() else {
             return None;
@@ -120,7 +120,7 @@ impl<'a> Draft<'a> {
 
     /// At the first name of the header.
     fn at_first_port(&mut self, lexeme: &Lexeme<'a>) -> Result<Option<Place>, Memory>
-        ensures { Steps PlaceFirstPort self.old lexeme.now result self.new }
+        ensures { Steps Place.FirstPort self.old lexeme.now result self.new }
     {
         if lexeme.is_mark(Sign::RParen) {
             return Ok(Some(Place::AfterPorts));
@@ -136,7 +136,7 @@ impl<'a> Draft<'a> {
 
     /// At a name of the header.
     fn at_port(&mut self, lexeme: &Lexeme<'a>) -> Result<Option<Place>, Memory>
-        ensures { Steps PlacePort self.old lexeme.now result self.new }
+        ensures { Steps Place.Port self.old lexeme.now result self.new }
     {
         let Some(name) = lexeme.name() else {
             return Ok(None);
@@ -149,7 +149,7 @@ impl<'a> Draft<'a> {
 
     /// In front of an item.
     fn at_item(&mut self, lexeme: &Lexeme<'a>) -> Option<Place>
-        ensures { Steps PlaceItem self.old lexeme.now (Ok result) self.new }
+        ensures { Steps Place.Item self.old lexeme.now (Ok result) self.new }
     {
         if lexeme.is_word(Keyword::EndModule) {
             if self.header.all_directed() {
@@ -174,7 +174,7 @@ impl<'a> Draft<'a> {
 
     /// At a name of a declaration.
     fn at_declared(&mut self, lexeme: &Lexeme<'a>) -> Result<Option<Place>, Memory>
-        ensures { Steps PlaceDeclared self.old lexeme.now result self.new }
+        ensures { Steps Place.Declared self.old lexeme.now result self.new }
     {
         let Some(name) = lexeme.name() else {
             return Ok(None);
@@ -190,7 +190,7 @@ impl<'a> Draft<'a> {
 
     /// At the name of an instance.
     fn at_instance_name(&mut self, lexeme: &Lexeme<'a>) -> Option<Place>
-        ensures { Steps PlaceInstanceName self.old lexeme.now (Ok result) self.new }
+        ensures { Steps Place.InstanceName self.old lexeme.now (Ok result) self.new }
     {
         let Some(name) = lexeme.name() else {
             return None;
@@ -201,7 +201,7 @@ impl<'a> Draft<'a> {
 
     /// At the name of a pin.
     fn at_pin(&mut self, lexeme: &Lexeme<'a>) -> Option<Place>
-        ensures { Steps PlacePin self.old lexeme.now (Ok result) self.new }
+        ensures { Steps Place.Pin self.old lexeme.now (Ok result) self.new }
     {
         let Some(name) = lexeme.name() else {
             return None;
@@ -215,7 +215,7 @@ impl<'a> Draft<'a> {
 
     /// At the name of a net.
     fn at_net(&mut self, lexeme: &Lexeme<'a>) -> Result<Option<Place>, Memory>
-        ensures { Steps PlaceNet self.old lexeme.now result self.new }
+        ensures { Steps Place.Net self.old lexeme.now result self.new }
     {
         let Some(net) = lexeme.name() else {
             return Ok(None);
@@ -231,7 +231,7 @@ impl<'a> Draft<'a> {
         alloc: Global,
         lexeme: &Lexeme<'a>,
     ) -> Result<Option<Place>, Memory>
-        ensures { Steps PlaceAfterConnection self.old lexeme.now result self.new }
+        ensures { Steps Place.AfterConnection self.old lexeme.now result self.new }
     {
         if lexeme.is_mark(Sign::Comma) {
             return Ok(Some(Place::Connection));
@@ -248,7 +248,7 @@ impl<'a> Draft<'a> {
 
     /// Behind the name of the module.
     fn after_module_name(&self, lexeme: &Lexeme<'a>) -> Option<Place>
-        ensures { Steps PlaceAfterModuleName self.now lexeme.now (Ok result) self.now }
+        ensures { Steps Place.AfterModuleName self.now lexeme.now (Ok result) self.now }
     {
         if lexeme.is_mark(Sign::LParen) {
             return Some(Place::FirstPort);
@@ -261,7 +261,7 @@ impl<'a> Draft<'a> {
 
     /// Behind a name of the header.
     fn after_port(&self, lexeme: &Lexeme<'a>) -> Option<Place>
-        ensures { Steps PlaceAfterPort self.now lexeme.now (Ok result) self.now }
+        ensures { Steps Place.AfterPort self.now lexeme.now (Ok result) self.now }
     {
         if lexeme.is_mark(Sign::Comma) {
             return Some(Place::Port);
@@ -274,7 +274,7 @@ impl<'a> Draft<'a> {
 
     /// Behind the parentheses of the header.
     fn after_ports(&self, lexeme: &Lexeme<'a>) -> Option<Place>
-        ensures { Steps PlaceAfterPorts self.now lexeme.now (Ok result) self.now }
+        ensures { Steps Place.AfterPorts self.now lexeme.now (Ok result) self.now }
     {
         if lexeme.is_mark(Sign::Semi) {
             return Some(Place::Item);
@@ -284,7 +284,7 @@ impl<'a> Draft<'a> {
 
     /// Behind a name of a declaration.
     fn after_declared(&self, lexeme: &Lexeme<'a>) -> Option<Place>
-        ensures { Steps PlaceAfterDeclared self.now lexeme.now (Ok result) self.now }
+        ensures { Steps Place.AfterDeclared self.now lexeme.now (Ok result) self.now }
     {
         if lexeme.is_mark(Sign::Comma) {
             return Some(Place::Declared);
@@ -297,7 +297,7 @@ impl<'a> Draft<'a> {
 
     /// In front of the parentheses of an instance.
     fn at_connections(&self, lexeme: &Lexeme<'a>) -> Option<Place>
-        ensures { Steps PlaceConnections self.now lexeme.now (Ok result) self.now }
+        ensures { Steps Place.Connections self.now lexeme.now (Ok result) self.now }
     {
         if lexeme.is_mark(Sign::LParen) {
             return Some(Place::Connection);
@@ -307,7 +307,7 @@ impl<'a> Draft<'a> {
 
     /// In front of a connection.
     fn at_connection(&self, lexeme: &Lexeme<'a>) -> Option<Place>
-        ensures { Steps PlaceConnection self.now lexeme.now (Ok result) self.now }
+        ensures { Steps Place.Connection self.now lexeme.now (Ok result) self.now }
     {
         if lexeme.is_mark(Sign::Dot) {
             return Some(Place::Pin);
@@ -317,7 +317,7 @@ impl<'a> Draft<'a> {
 
     /// Behind the name of a pin.
     fn at_pin_net(&self, lexeme: &Lexeme<'a>) -> Option<Place>
-        ensures { Steps PlacePinNet self.now lexeme.now (Ok result) self.now }
+        ensures { Steps Place.PinNet self.now lexeme.now (Ok result) self.now }
     {
         if lexeme.is_mark(Sign::LParen) {
             return Some(Place::Net);
@@ -327,7 +327,7 @@ impl<'a> Draft<'a> {
 
     /// Behind the name of a net.
     fn after_net(&self, lexeme: &Lexeme<'a>) -> Option<Place>
-        ensures { Steps PlaceAfterNet self.now lexeme.now (Ok result) self.now }
+        ensures { Steps Place.AfterNet self.now lexeme.now (Ok result) self.now }
     {
         if lexeme.is_mark(Sign::RParen) {
             return Some(Place::AfterConnection);
@@ -337,7 +337,7 @@ impl<'a> Draft<'a> {
 
     /// Behind an instance.
     fn after_instance(&self, lexeme: &Lexeme<'a>) -> Option<Place>
-        ensures { Steps PlaceAfterInstance self.now lexeme.now (Ok result) self.now }
+        ensures { Steps Place.AfterInstance self.now lexeme.now (Ok result) self.now }
     {
         if lexeme.is_mark(Sign::Semi) {
             return Some(Place::Item);

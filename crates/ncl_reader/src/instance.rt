@@ -1,4 +1,4 @@
-//! An instance.
+//! An instance of a cell, as far as it is read.
 ghost use Rattle.std.specs.Prelude.{◌≡◌, IfOk, Contains, MatchOption, None, Some};
 ghost use Rattle.std.specs.Bool.{Decides};
 ghost use Rattle.ncl_reader.specs.Instance.{conns_of, pins_in, MayJoin, Closes};
@@ -18,7 +18,8 @@ pub struct Join<'a> {
     pub net: &'a [u8],
 }
 
-/// What was read of an instance.
+/// What was read of an instance: its cell, its name, the pin that was read last, and the connections, which
+/// are at most as many as the cell has pins.
 #[derive(Debug, Drop)]
 pub struct Instance<'a> {
     pub kind: CellKind,
@@ -41,7 +42,8 @@ impl<'a> Instance<'a> {
         }
     }
 
-    /// The cell, or `None` where a pin isn't joined.
+    /// The cell, or `None` where a pin isn't joined. Looks at each pin and each connection, at most five by five,
+    /// and takes one allocation for each name.
     pub fn close(&self, alloc: Global) -> Result<Option<PartCell>, Memory>
         ensures { IfOk result (λ found. Closes self.now found) }
     {
@@ -61,7 +63,8 @@ impl<'a> Instance<'a> {
 
     /// The net on a pin.
     fn net_on(&self, pin: &[u8]) -> Option<&'a [u8]>
-        ensures { MatchOption result (net_on (conns_of self.now) pin.now ≡ None) (λ net. net_on (conns_of self.now) pin.now ≡ Some net.now) }
+        ensures { MatchOption result (net_on (conns_of self.now) pin.now ≡ None)
+            (λ net. net_on (conns_of self.now) pin.now ≡ Some net.now) }
     {
         for join in &self.joins {
             if join.pin == pin {

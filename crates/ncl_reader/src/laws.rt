@@ -14,14 +14,18 @@ pub fn one_tree()
 
 /// A text has at most one list of parts and at most one fault, and never both.
 pub fn one_answer()
-    ensures parts { (bytes : List ℕ) (parts other : Parts) → Reads bytes parts → Reads bytes other → parts ≡ other }
-    ensures fault { (bytes : List ℕ) (fault other : NetFault) → IsRefused bytes fault → IsRefused bytes other → fault ≡ other }
-    ensures apart { (bytes : List ℕ) (parts : Parts) (fault : NetFault) → Reads bytes parts → IsRefused bytes fault → ⊥ }
+    ensures parts { (bytes : List ℕ) (parts other : Parts)
+        → Reads bytes parts → Reads bytes other → parts ≡ other }
+    ensures fault { (bytes : List ℕ) (fault other : NetFault)
+        → IsRefused bytes fault → IsRefused bytes other → fault ≡ other }
+    ensures apart { (bytes : List ℕ) (parts : Parts) (fault : NetFault)
+        → Reads bytes parts → IsRefused bytes fault → ⊥ }
 {}
 
 /// Each text says parts or is refused.
 pub fn some_answer()
-    ensures { (bytes : List ℕ) → ((parts : Parts) × Reads bytes parts) ⊎ ((fault : NetFault) × IsRefused bytes fault) }
+    ensures { (bytes : List ℕ)
+        → ((parts : Parts) × Reads bytes parts) ⊎ ((fault : NetFault) × IsRefused bytes fault) }
 {}
 
 /// Where a text keeps the rules as a whole, none of its tokens breaks.

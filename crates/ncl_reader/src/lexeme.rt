@@ -56,7 +56,8 @@ impl<'a> Lexeme<'a> {
 
     /// The way that it begins a declaration of.
     pub fn way(&self) -> Option<Way>
-        ensures { MatchOption result ((way : Way) → meant self.now ≢ Word (way_word way)) (λ way. meant self.now ≡ Word (way_word way)) }
+        ensures { MatchOption result ((way : Way) → meant self.now ≢ Word (way_word way))
+            (λ way. meant self.now ≡ Word (way_word way)) }
     {
         match self {
             Lexeme::Word(word) => match word {
@@ -69,7 +70,8 @@ impl<'a> Lexeme<'a> {
 
     /// The name that it is.
     pub fn name(&self) -> Option<&'a [u8]>
-        ensures { MatchOption result ((x : List ℕ) → meant self.now ≢ Name x) (λ name. meant self.now ≡ Name name.now) }
+        ensures { MatchOption result ((x : List ℕ) → meant self.now ≢ Name x)
+            (λ name. meant self.now ≡ Name name.now) }
     {
         match self {
             Lexeme::Name(name) => Some(name),
@@ -81,7 +83,8 @@ impl<'a> Lexeme<'a> {
 /// What a token of a text is to the grammar. Linear in its bytes.
 pub fn lexeme_of<'a>(tokens: &Tokens<'a>, token: &Token) -> Lexeme<'a>
     requires { IsTokenOf tokens.now.bytes token.now }
-    ensures { meant result ≡ lexeme_of token.now.kind (name_of token.now.kind (slice_range tokens.now.bytes token.now.start token.now.end)) }
+    ensures { meant result ≡ lexeme_of token.now.kind
+        (name_of token.now.kind (slice_range tokens.now.bytes token.now.start token.now.end)) }
 {
     let text = tokens.text(token);
     match token.kind {

@@ -28,7 +28,8 @@ use std::alloc::Global;
 /// and no list of tokens.
 pub fn read_netlist(alloc: Global, bytes: &[u8]) -> Result<Netlist, NetFault>
     requires { length bytes.now ≤ MOST_BYTES }
-    ensures netlist { IfOk result (λ n. (parts : Parts) × Reads bytes.now parts × IsFaultless parts × (n ≡ netlist_of parts)) }
+    ensures netlist { IfOk result
+        (λ n. (parts : Parts) × Reads bytes.now parts × IsFaultless parts × (n ≡ netlist_of parts)) }
     ensures fault { IfErr result (IsNetFault bytes.now) }
 {
     let parts = read_parts(alloc, bytes)?;

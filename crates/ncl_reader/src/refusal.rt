@@ -12,9 +12,10 @@ use crate::lexeme::{Lexeme, Sign};
 use crate::net_fault::NetFault;
 use crate::place::Place;
 
-/// The fault of a token at a place where it isn't taken.
+/// The fault of a token that breaks, by the place where it stands. Costs nothing.
 pub fn refusal(place: Place, lexeme: &Lexeme, at: usize) -> NetFault
-    ensures { (p : Partial) → place_of p ≡ place → IsFaultAt (spelled p) (record { lexeme = meant lexeme.now; place = at }) result }
+    ensures { (p : Partial) → place_of p ≡ place
+        → IsFaultAt (spelled p) (record { lexeme = meant lexeme.now; place = at }) result }
 {
     match lexeme {
         Lexeme::Name(_) => of_name(place, at),
@@ -27,7 +28,8 @@ pub fn refusal(place: Place, lexeme: &Lexeme, at: usize) -> NetFault
 
 /// The fault of a name.
 fn of_name(place: Place, at: usize) -> NetFault
-    ensures { (p : Partial) (x : List ℕ) → place_of p ≡ place → IsFaultAt (spelled p) (record { lexeme = Name x; place = at }) result }
+    ensures { (p : Partial) (x : List ℕ) → place_of p ≡ place
+        → IsFaultAt (spelled p) (record { lexeme = Name x; place = at }) result }
 {
     match place {
         Place::Item => NetFault::UnknownCell(at),
@@ -39,7 +41,8 @@ fn of_name(place: Place, at: usize) -> NetFault
 
 /// The fault of a `)`.
 fn of_close(place: Place, at: usize) -> NetFault
-    ensures { (p : Partial) → place_of p ≡ place → IsFaultAt (spelled p) (record { lexeme = Mark RParen; place = at }) result }
+    ensures { (p : Partial) → place_of p ≡ place
+        → IsFaultAt (spelled p) (record { lexeme = Mark RParen; place = at }) result }
 {
     match place {
         Place::AfterConnection => NetFault::BadPins(at),
@@ -50,7 +53,8 @@ fn of_close(place: Place, at: usize) -> NetFault
 
 /// The fault of `endmodule`.
 fn of_end(place: Place, at: usize) -> NetFault
-    ensures { (p : Partial) → place_of p ≡ place → IsFaultAt (spelled p) (record { lexeme = Word EndModule; place = at }) result }
+    ensures { (p : Partial) → place_of p ≡ place
+        → IsFaultAt (spelled p) (record { lexeme = Word EndModule; place = at }) result }
 {
     match place {
         Place::Item => NetFault::Syntax(at),

@@ -2,8 +2,7 @@
 ghost use Rattle.std.specs.Prelude.{◌≡◌, IfOk};
 ghost use Rattle.ncl_report.specs.NetText.{build_line, net_line};
 
-use crate::line::line_of;
-use itoa::Buffer;
+use crate::line::{line_of, numbered_line};
 use ncl_base::Memory;
 use ncl_netlist::BuildFault;
 use ncl_reader::NetFault;
@@ -14,36 +13,11 @@ use std::alloc::Global;
 pub fn net_text(alloc: Global, fault: &NetFault) -> Result<Vec<u8>, Memory>
     ensures { IfOk result (λ text. text.items ≡ net_line fault.now) }
 {
-    let mut digits = Buffer::new();
     match fault {
-        NetFault::Syntax(place) => {
-            line_of(
-                alloc,
-                b"netlist: syntax at ",
-                digits.format(*place).as_bytes(),
-            )
-        }
-        NetFault::UnknownCell(place) => {
-            line_of(
-                alloc,
-                b"netlist: unknown cell at ",
-                digits.format(*place).as_bytes(),
-            )
-        }
-        NetFault::BadPins(place) => {
-            line_of(
-                alloc,
-                b"netlist: bad pins at ",
-                digits.format(*place).as_bytes(),
-            )
-        }
-        NetFault::Unsupported(place) => {
-            line_of(
-                alloc,
-                b"netlist: unsupported at ",
-                digits.format(*place).as_bytes(),
-            )
-        }
+        NetFault::Syntax(place) => numbered_line(alloc, b"netlist: syntax at ", *place),
+        NetFault::UnknownCell(place) => numbered_line(alloc, b"netlist: unknown cell at ", *place),
+        NetFault::BadPins(place) => numbered_line(alloc, b"netlist: bad pins at ", *place),
+        NetFault::Unsupported(place) => numbered_line(alloc, b"netlist: unsupported at ", *place),
         NetFault::Build(fault) => build_text(alloc, fault),
         NetFault::Memory => line_of(alloc, b"out of memory", b""),
     }

@@ -1,11 +1,11 @@
 //! The line that tells why a netlist has no shape.
-ghost use Rattle.std.specs.Prelude.{◌≡◌, IfOk};
+ghost use Rattle.std.specs.Prelude.{◌≡◌, ◌<◌, ◌++◌, IfOk, length};
+ghost use Rattle.ncl_report.specs.Line.{cell_name, line};
 ghost use Rattle.ncl_report.specs.ShapeText.{NamesPlaceOf, shape_line};
 
-use crate::line::line_of;
-use itoa::Buffer;
+use crate::line::{line_of, numbered_line};
 use ncl_base::Memory;
-use ncl_netlist::Netlist;
+use ncl_netlist::{CellId, Netlist};
 use ncl_origin::ShapeFault;
 use std::alloc::Global;
 
@@ -15,56 +15,34 @@ pub fn shape_text(alloc: Global, netlist: &Netlist, fault: &ShapeFault) -> Resul
     requires { NamesPlaceOf netlist.now fault.now }
     ensures { IfOk result (λ text. text.items ≡ shape_line netlist.now fault.now) }
 {
-    let mut digits = Buffer::new();
-    let cells = netlist.cells();
     match *fault {
         ShapeFault::UnusedPort(net) => {
             let name = &netlist.nets()[net.0 as usize];
             line_of(alloc, b"shape: unused port ", name.bytes())
         }
-        ShapeFault::Cycle(cell) => {
-            line_of(
-                alloc,
-                b"shape: cycle at cell ",
-                cells[cell.0 as usize].name.bytes(),
-            )
-        }
-        ShapeFault::Unpaired(cell) => {
-            line_of(
-                alloc,
-                b"shape: unpaired at cell ",
-                cells[cell.0 as usize].name.bytes(),
-            )
-        }
-        ShapeFault::Mixed(cell) => {
-            line_of(
-                alloc,
-                b"shape: mixed at cell ",
-                cells[cell.0 as usize].name.bytes(),
-            )
-        }
-        ShapeFault::Loose(cell) => {
-            line_of(
-                alloc,
-                b"shape: loose at cell ",
-                cells[cell.0 as usize].name.bytes(),
-            )
-        }
+        ShapeFault::Cycle(cell) => cell_line(alloc, b"shape: cycle at cell ", netlist, cell),
+        ShapeFault::Unpaired(cell) => cell_line(alloc, b"shape: unpaired at cell ", netlist, cell),
+        ShapeFault::Mixed(cell) => cell_line(alloc, b"shape: mixed at cell ", netlist, cell),
+        ShapeFault::Loose(cell) => cell_line(alloc, b"shape: loose at cell ", netlist, cell),
         ShapeFault::NoChain(rule) => {
-            line_of(
-                alloc,
-                b"shape: no chain, rule ",
-                digits.format(rule).as_bytes(),
-            )
+            numbered_line(alloc, b"shape: no chain, rule ", usize::from(rule))
         }
-        ShapeFault::TooWide(bank) => {
-            line_of(
-                alloc,
-                b"shape: too wide, bank ",
-                digits.format(bank).as_bytes(),
-            )
-        }
+        ShapeFault::TooWide(bank) => numbered_line(alloc, b"shape: too wide, bank ", bank as usize),
         ShapeFault::TooLong => line_of(alloc, b"shape: too long", b""),
         ShapeFault::Memory => line_of(alloc, b"out of memory", b""),
     }
+}
+
+/// The line of a piece and the name of a cell.
+fn cell_line(
+    alloc: Global,
+    front: &[u8],
+    netlist: &Netlist,
+    cell: CellId,
+) -> Result<Vec<u8>, Memory>
+    requires { cell.0 < length netlist.now.cells }
+    ensures { IfOk result (λ text. text.items ≡ line (front.now ++ cell_name netlist.now cell.0)) }
+{
+    let cell = &netlist.cells()[cell.0 as usize];
+    line_of(alloc, front, cell.name.bytes())
 }

@@ -1,5 +1,5 @@
 -- The lexemes of names and reserved words.
-use Rattle.std.proofs.Common.{◌≡◌, ℕ, ◌-◌, Bool, true, false, not, ◌&&◌, ◌||◌, List, [], ◌∷◌, ◌++◌, length, take, Option, Some, None, refl, ap, ◌∙◌, subst, arith, inl, inr}
+use Rattle.std.proofs.Common.{◌≡◌, ◌<◌, ℕ, ◌-◌, Bool, true, false, not, ◌&&◌, ◌||◌, List, [], ◌∷◌, ◌++◌, length, take, Option, Some, None, refl, ap, ◌∙◌, subst, arith, inl, inr}
 use Rattle.std.specs.Prelude.{◌==◌, codes, is_none, nat_eq, nat_le, if◌then◌else◌}
 use Rattle.std.specs.List.{list_all, list_any}
 use Rattle.std.specs.Str.{bytes_eq}
@@ -8,7 +8,7 @@ use Rattle.std.specs.Char.{is_ascii_uppercase, is_ascii_alphanumeric}
 use Rattle.std.proofs.lemmas.Bool.{and_parts, and_from, or_cases, or_left, or_right, both_ways, eqb-true, leb-true}
 use Rattle.std.proofs.lemmas.List.{length_push, take_at}
 use Rattle.ncl_token.specs.declared.token.TokenKind.TheVariants as token
-use Rattle.ncl_token.specs.Bytes.{begins_word, continues_word}
+use Rattle.ncl_token.specs.Bytes.{begins_word, continues_word, is_graphic}
 use Rattle.ncl_token.specs.Following.{leaves}
 use Rattle.ncl_token.specs.Tokens.{IsToken, is_word, is_escaped}
 use Rattle.ncl_token.specs.Reading.{name_of}
@@ -50,10 +50,15 @@ escaped_name name =
     let count : length (92 ∷ (name ++ 32 ∷ [])) - 1 - 1 ≡ length name = omega (arith, length_push name 32) in
     ap (λ n. take n (name ++ 32 ∷ [])) count ∙ take_at name (32 ∷ []) (length name) refl
 
+writable_parts : (name : List ℕ) → IsWritableName name → (0 < length name) × (list_all is_graphic name ≡ true)
+writable_parts [] may = absurd cc
+writable_parts (byte ∷ rest) may = (omega arith, may)
+
 lexes-escaped : (name rest : List ℕ) (lexemes : List Lexeme) → IsWritableName name → Lexes rest lexemes → Lexes ((92 ∷ (name ++ 32 ∷ [])) ++ rest) (Name name ∷ lexemes)
 lexes-escaped name rest lexemes may lexes =
+    let (some, graphic) = writable_parts name may in
     subst (λ x. Lexes ((92 ∷ (name ++ 32 ∷ [])) ++ rest) (Name x ∷ lexemes)) (escaped_name name)
-    (lexes-token token.Escaped (92 ∷ (name ++ 32 ∷ [])) rest lexemes (is_escaped name 32 refl may.some may.graphic refl) refl lexes)
+    (lexes-token token.Escaped (92 ∷ (name ++ 32 ∷ [])) rest lexemes (is_escaped name 32 refl some graphic refl) refl lexes)
 
 -- a name as it is written
 pub lexes-name : (name rest : List ℕ) (lexemes : List Lexeme) → IsWritableName name → leaves token.Word rest ≡ true → Lexes rest lexemes → Lexes (spelled_name name ++ rest) (Name name ∷ lexemes)

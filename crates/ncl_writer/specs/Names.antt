@@ -1,5 +1,5 @@
 -- Names as a netlist text has them: as they are, or escaped (IEEE 1364-2005, 3.7).
-use Rattle.std.specs.Prelude.{ℕ, ◌<◌, List, [], ◌∷◌, ◌++◌, length, Bool, false, ◌&&◌, IsTrue, All, is_none, if◌then◌else◌, codes}
+use Rattle.std.specs.Prelude.{ℕ, List, [], ◌∷◌, ◌++◌, Bool, false, ◌&&◌, IsTrue, All, is_none, if◌then◌else◌, codes}
 use Rattle.std.specs.List.{list_all}
 use Rattle.ncl_token.specs.Bytes.{begins_word, continues_word, is_graphic}
 use Rattle.ncl_reader.specs.Words.{keyword_of}
@@ -15,10 +15,13 @@ is_plain (byte ∷ rest) = begins_word byte && (list_all continues_word rest && 
 abbrev pub spelled_name : List ℕ → List ℕ
 spelled_name name = if is_plain name then name else codes "\\" ++ (name ++ codes " ")
 
--- the name has a byte, and only printing characters other than the blank
-pub record IsWritableName (name : List ℕ) : Type 0 where
-  pub some : 0 < length name
-  pub graphic : IsTrue (list_all is_graphic name)
+-- whether the name has a byte, and only printing characters other than the blank
+abbrev pub is_writable_name : List ℕ → Bool
+is_writable_name [] = false
+is_writable_name (byte ∷ rest) = list_all is_graphic (byte ∷ rest)
+
+abbrev pub IsWritableName : List ℕ → Type 0
+IsWritableName name = IsTrue (is_writable_name name)
 
 -- the names of the module, of the nets and of the cells can be written
 pub record IsWritable (n : NetlistData) : Type 0 where

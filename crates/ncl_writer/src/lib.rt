@@ -3,6 +3,8 @@
 
 mod name_text;
 mod row_text;
+#[cfg(test)]
+mod tests;
 mod writer;
 
-pub use writer::write_netlist;
+pub use writer::{is_writable, write_netlist};

@@ -1,8 +1,8 @@
 //! Names as a text has them.
 ghost use Rattle.std.specs.Prelude.{◌≡◌, ◌++◌, OnOk};
 ghost use Rattle.std.specs.List.{list_all};
-ghost use Rattle.ncl_token.specs.Bytes.{begins_word as word_begin_test, continues_word as word_test};
-ghost use Rattle.ncl_writer.specs.Names.{is_plain, spelled_name};
+ghost use Rattle.ncl_token.specs.Bytes.{begins_word as word_begin_test, continues_word as word_test, is_graphic as graphic_test};
+ghost use Rattle.ncl_writer.specs.Names.{is_plain, is_writable_name, spelled_name};
 
 use ncl_base::Memory;
 use ncl_reader::Keyword;
@@ -38,6 +38,30 @@ fn all_continue(bytes: &[u8]) -> bool
     ensures { result ≡ list_all word_test bytes.now }
 {
     bytes.iter().all(|byte| continues_word(*byte))
+}
+
+/// Whether a name has a byte, and only bytes from 33 to 126. Linear in the name.
+pub fn is_writable_name(name: &[u8]) -> bool
+    ensures { result ≡ is_writable_name name.now }
+{
+    match name {
+        [_, ..] => all_graphic(name),
+        [] => false,
+    }
+}
+
+/// Whether all bytes are from 33 to 126. Linear in the bytes.
+fn all_graphic(bytes: &[u8]) -> bool
+    ensures { result ≡ list_all graphic_test bytes.now }
+{
+    bytes.iter().all(|byte| is_graphic(*byte))
+}
+
+/// Whether a byte is a printing character other than the blank.
+fn is_graphic(byte: u8) -> bool
+    ensures { result ≡ graphic_test byte }
+{
+    byte.is_ascii_graphic()
 }
 
 /// Whether a word may begin with a byte: a letter or `_`.

@@ -1,5 +1,5 @@
 //! A netlist written as a text.
-ghost use Rattle.std.specs.Prelude.{◌≡◌, ◌++◌, All, IfOk, OnOk, length};
+ghost use Rattle.std.specs.Prelude.{◌≡◌, ◌↔◌, ◌++◌, All, IfOk, IsTrue, OnOk, length};
 ghost use Rattle.std.specs.List.{flat_map};
 ghost use Rattle.ncl_netlist.specs.declared.parts.Parts.{Parts};
 ghost use Rattle.ncl_netlist.specs.Faults.{IsFaultless};
@@ -9,11 +9,27 @@ ghost use Rattle.ncl_reader.specs.Reads.{Reads};
 ghost use Rattle.ncl_writer.specs.Names.{IsWritable};
 ghost use Rattle.ncl_writer.specs.Text.{cell_line, header_line, port_line, text_of, wire_line};
 
-use crate::name_text::push_name;
+use crate::name_text::{is_writable_name, push_name};
 use crate::row_text::{push_pins, push_ports};
 use ncl_base::{Memory, Name};
 use ncl_netlist::{Cell, Netlist, Port};
 use std::alloc::Global;
+
+/// Whether a netlist can be written: each name of its module, nets and cells has a byte, and only bytes from
+/// 33 to 126. Takes no memory. Linear in the names.
+pub fn is_writable(netlist: &Netlist) -> bool
+    ensures { IsTrue result ↔ IsWritable netlist.now }
+{
+    is_writable_name(netlist.module().bytes())
+        && netlist
+            .nets()
+            .iter()
+            .all(|net| is_writable_name(net.bytes()))
+        && netlist
+            .cells()
+            .iter()
+            .all(|cell| is_writable_name(cell.name.bytes()))
+}
 
 /// The text of a netlist, which reads back to the same netlist.
 ///

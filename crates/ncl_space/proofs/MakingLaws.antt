@@ -7,7 +7,7 @@ use Rattle.std.proofs.lemmas.List.{map-append, length-map, take-append-drop, tak
 use Rattle.std.proofs.lemmas.List.Elements.{All-append, All-cons, All-nil, All-head, All-tail}
 use Rattle.ncl_space.specs.Space.{SpaceData, IsSpace, IsLive, Keeps, Makes, with_tables, fits, is_within, Within}
 use Rattle.ncl_space.specs.Beads.{distinct_beads}
-use Rattle.ncl_space.specs.Making.{HaveTables, MakesAll}
+use Rattle.ncl_space.specs.Making.{HaveTables, MakesAll, IsNamed}
 use Rattle.ncl_space.specs.declared.space.Ref.{Ref}
 use Rattle.ncl_space.specs.declared.space.SpaceFault.{SpaceFault}
 use Rattle.ncl_space.specs.declared.space.SpaceFault.TheVariants.{Full}
@@ -119,3 +119,17 @@ pub map-cut : {X : Type 0} (f : X → List Bool) (xs : List X) (place : ℕ) (d 
 map-cut f xs place d within =
     ap (map f) (sym (take-append-drop (place + 1) xs)) ∙ map-append f (take (place + 1) xs) (drop (place + 1) xs)
     ∙ ap (λ l. l ++ map f (drop (place + 1) xs)) (map_more f xs place d within)
+
+-- tables that live Refs have cost nothing
+pub with_tables-live : (s : SpaceData) → IsSpace s → (refs : List Ref) → All (IsLive s) refs → with_tables s (map s.table refs) ≡ s.held
+with_tables-live s space [] live = with_none s
+with_tables-live s space (r ∷ refs) live =
+    let first = makes-live s r (s.table r) space (All-head (IsLive s) r refs live) refl in
+    sym (with_more s s (s.table r ∷ []) (map s.table refs) refl first.held) ∙ with_tables-live s space refs (All-tail (IsLive s) r refs live)
+
+-- each table of a list that Refs have is named
+pub named-all : (s : SpaceData) (refs : List Ref) (shown : List (List Bool)) → HaveTables s refs shown → All (IsNamed s) shown
+named-all s refs shown have = λ place d within.
+    let many = have-length s refs shown have in
+    let none : Ref = record { place = 0 } in
+    (get_or refs place none, have.live place none (omega arith), have-at s refs shown have place none d (omega arith))

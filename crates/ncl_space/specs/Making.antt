@@ -12,3 +12,7 @@ pub record HaveTables (s : SpaceData) (refs : List Ref) (shown : List (List Bool
 pub record MakesAll (old new : SpaceData) (refs : List Ref) (made : List (List Bool)) : Type 0 where
   pub refs_of : HaveTables new refs made
   pub held : new.held ≡ with_tables old made
+
+-- some live Ref has the table
+abbrev pub IsNamed : SpaceData → List Bool → Type 0
+IsNamed s t = (r : Ref) × IsLive s r × (s.table r ≡ t)

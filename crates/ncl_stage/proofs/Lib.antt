@@ -8,3 +8,4 @@ pub mod Reordered
 pub mod WiringLaws
 pub mod NetLaws
 pub mod OutputLaws
+pub mod LeastLaws

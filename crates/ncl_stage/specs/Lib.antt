@@ -5,3 +5,4 @@ pub mod Examples
 pub mod Pass
 pub mod Wiring
 pub mod StageTables
+pub mod LeastWords

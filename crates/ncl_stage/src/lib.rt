@@ -12,6 +12,6 @@ mod wiring;
 pub use evaluation::values;
 pub use net_values::Values;
 pub use nets::net_refs;
-pub use outputs::{all_data, data_fronts, data_tables, least_one, pair_refs};
+pub use outputs::{all_data, data_fronts, data_tables, least_one, least_zero, pair_refs};
 pub use variant::Variant;
 pub use wiring::Wiring;

@@ -161,3 +161,16 @@ pub fn least_one<P: Space>(space: &P, x: Ref) -> Option<Word>
         None
     }
 }
+
+/// The least word at which a function is 0, if there is one. Takes no memory.
+pub fn least_zero<P: Space>(space: &P, x: Ref) -> Option<Word>
+    requires { IsLive (P.meaning space.now) x }
+    ensures { let s = P.meaning space.now in result ≡ least false s.width (s.table x) }
+{
+    let mut word = Word::new();
+    if space.least_zero(x, &mut word) {
+        Some(word)
+    } else {
+        None
+    }
+}

@@ -1,0 +1,28 @@
+-- The faults of a stage in the order in which they are asked, and the least word that shows one.
+use Rattle.std.specs.Prelude.{ℕ, Bool, List, [], ◌∷◌, length, Option, Some, None}
+use Rattle.std.specs.List.{find, flat_map, range_with_len}
+use Rattle.ncl_shape.specs.Stage.{StageData}
+use Rattle.ncl_space.specs.Table.{words}
+use Rattle.ncl_stage.specs.declared.variant.Variant.{Variant}
+use Rattle.ncl_stage.specs.declared.variant.Variant.TheVariants.{Base, Bit, Cell}
+use Rattle.ncl_stage.specs.Faults.{StageFault, BothRails, NoRail, Incomplete, Orphan, shows}
+
+-- the numbers below n
+abbrev pub below : ℕ → List ℕ
+below n = range_with_len 0 n
+
+-- the faults that belong to a variant, in their order
+abbrev pub faults_of : StageData → Variant → List StageFault
+faults_of s Base = flat_map (λ output. BothRails output ∷ NoRail output ∷ []) (below (length s.outputs))
+faults_of s (Bit bit) = Incomplete bit ∷ []
+faults_of s (Cell cell) = Orphan cell ∷ []
+
+-- the least word that shows the fault
+abbrev pub least_word : StageData → StageFault → Option (List Bool)
+least_word s fault = find (λ word. shows s word fault) (words (length s.inputs))
+
+-- the first that is there
+abbrev pub first_of : {X : Type 0} → List (Option X) → Option X
+first_of [] = None
+first_of (None ∷ others) = first_of others
+first_of (Some x ∷ others) = Some x

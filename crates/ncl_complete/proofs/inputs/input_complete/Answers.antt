@@ -1,0 +1,19 @@
+use Rattle.std.proofs.Common.{◌≡◌, ℕ, Bool, true, List, length, sym, ◌∙◌, ap}
+use Rattle.ncl_shape.specs.Stage.{StageData}
+use Rattle.ncl_space.specs.Functions.{least}
+use Rattle.ncl_space.specs.Space.{SpaceData}
+use Rattle.ncl_stage.specs.declared.variant.Variant.TheVariants.{Bit}
+use Rattle.ncl_stage.specs.Faults.{Incomplete}
+use Rattle.ncl_stage.specs.Tables.{all_data_function}
+use Rattle.ncl_stage.proofs.OutputLaws.{values_at}
+use Rattle.ncl_stage.proofs.LeastLaws.{least-shown, incomplete-shown}
+use Rattle.ncl_complete.proofs.inputs.input_complete.Goals as goal
+
+pub returns-in-Ok-clause-word : goal.returns-in-Ok-clause-word
+returns-in-Ok-clause-word g c =
+    let s : StageData = c.args.stage.now in
+    let bit = c.args.bit in
+    let now : SpaceData = g.P.Space.meaning c.all_data.new.space in
+    c.least_one-word.ensures
+    ∙ (λ k. least true ((c.in-Ok.ensures.kept.width ∙ c.requires.width) k) (c.in-Ok.ensures.table k))
+    ∙ least-shown s (Incomplete bit) (all_data_function s (values_at s (Bit bit))) (incomplete-shown s bit c.requires.bit)

@@ -1,0 +1,11 @@
+//! Faults of an output.
+use ncl_base::Word;
+
+/// A fault of an output, which counts from 0, with a word that shows it.
+#[derive(Clone, Debug, Drop)]
+pub enum RailFault {
+    /// Both rails of the output are high.
+    Both(usize, Word),
+    /// No rail of the output is high.
+    Empty(usize, Word),
+}

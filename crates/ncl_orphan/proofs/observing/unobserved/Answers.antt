@@ -1,0 +1,96 @@
+use Rattle.std.proofs.Common.{◌≡◌, ℕ, ◌<◌, Bool, true, false, List, [], ◌∷◌, ◌++◌, Err, Ok, Result, length, get_or, map, sym, ◌∙◌, ap, subst, arith}
+use Rattle.std.specs.Prelude.{Contains, IfOk, OnOk}
+use Rattle.std.proofs.lemmas.Result.{IfOk-weaker, on_ok_weaker}
+use Rattle.ncl_gates.specs.declared.kind.Kind.TheVariants.{Th22}
+use Rattle.ncl_shape.specs.declared.stage.StageCell.{StageCell}
+use Rattle.ncl_shape.specs.Stage.{StageData, nets_of, rail_nets, out_of}
+use Rattle.ncl_base.proofs.Members.{Contains-from_Member, Member-append_right, Member-map, Member-get_or}
+use Rattle.ncl_space.specs.Functions.{gate_table, least}
+use Rattle.ncl_space.specs.Space.{SpaceData, Makes, fits}
+use Rattle.ncl_space.proofs.SpaceLaws.{too_much_by_front}
+use Rattle.ncl_space.proofs.MakingLaws.{fits-along, handed_on}
+use Rattle.ncl_stage.specs.declared.variant.Variant.TheVariants.{Base, Cell}
+use Rattle.ncl_stage.specs.Faults.{Orphan}
+use Rattle.ncl_stage.specs.LeastWords.{least_word}
+use Rattle.ncl_stage.specs.StageTables.{net_table, shared_tables}
+use Rattle.ncl_stage.specs.Tables.{tables_of}
+use Rattle.ncl_orphan.proofs.OrphanLaws.{unobserved_table, cell-tables, unobserved-made, unobserved-least}
+use Rattle.ncl_orphan.proofs.observing.unobserved.Goals as goal
+
+-- a cell of a list that has some
+by_cells : {P : Type 0} (cells : List StageCell) (k : ℕ) → k < length cells → ((d : StageCell) → P) → P
+by_cells [] k lt f = absurd (omega arith)
+by_cells (d ∷ cells) k lt f = f d
+
+pub returns-in_err-all-clause-full : goal.returns-in_err-all-clause-full
+returns-in_err-all-clause-full g c = λ e.
+    let s : StageData = c.args.stage.now in
+    let cell = c.args.cell in
+    let old : SpaceData = g.P.Space.meaning c.args.space.now in
+    by_cells s.cells cell c.requires.cell (λ d.
+    subst (λ tables. fits old tables ≡ false) (sym (cell-tables s cell d c.requires.cell))
+    (too_much_by_front old (shared_tables s (Cell cell)) (unobserved_table s cell (get_or s.cells cell d) ∷ [])
+    (c.in_err-all.ensures.full (ap Err (handed_on c.from_residual.result c.in_err-all.field-0.0 c.from_residual.ensures.1 e)))))
+
+pub of-high-requires : goal.of-high-requires
+of-high-requires g c =
+    let s : StageData = c.args.stage.now in
+    let cell = c.args.cell in
+    let d : StageCell = c.index-items-cell.result in
+    let cells : c.items.result.now ≡ s.cells = c.items.ensures ∙ ap (λ (t : StageData). t.cells) c.stage.view_is in
+    subst (λ xs. Contains c.args.base.now.wiring.nets (get_or xs cell d).out.0) (sym cells)
+    (subst (λ nets. Contains nets (out_of (get_or s.cells cell d))) (sym c.requires.base.wired.nets)
+    (Contains-from_Member (out_of (get_or s.cells cell d)) (Member-append_right (rail_nets s.inputs) (out_of (get_or s.cells cell d)) (Member-map out_of (get_or s.cells cell d) (Member-get_or s.cells cell d c.requires.cell)))))
+
+pub returns-clause-least : goal.returns-clause-least
+returns-clause-least g c =
+    let s : StageData = c.args.stage.now in
+    let cell = c.args.cell in
+    let d : StageCell = c.index-items-cell.result in
+    let old : SpaceData = g.P.Space.meaning c.args.space.now in
+    let mid : SpaceData = g.P.Space.meaning c.all_data.new.space in
+    let high = c.of-high.result in
+    let cells : c.items.result.now ≡ s.cells = c.items.ensures ∙ ap (λ (t : StageData). t.cells) c.stage.view_is in
+    let shown = c.of-high.ensures.shown old s Base c.requires.base in
+    let one : mid.table high ≡ net_table s Base (get_or s.cells cell d).out.0 = c.in_ok-all.ensures.kept.tables high shown.0 ∙ shown.1 ∙ ap (λ xs. net_table s Base (get_or xs cell d).out.0) cells in
+    let last : List Bool = unobserved_table s cell (get_or s.cells cell d) in
+    let is : gate_table mid.width Th22 (mid.table high ∷ mid.table c.in_ok-all.all ∷ []) ≡ last =
+    (λ k. gate_table ((c.in_ok-all.ensures.kept.width ∙ c.requires.width) k) Th22 (one k ∷ c.in_ok-all.ensures.table k ∷ [])) ∙ unobserved-made s cell (get_or s.cells cell d) in
+    IfOk-weaker c.apply.result _ (λ r. least true (length s.inputs) ((g.P.Space.meaning c.apply.new.self).table r) ≡ least_word s (Orphan cell))
+    (λ r made. ap (least true (length s.inputs)) (made.table ∙ is) ∙ unobserved-least s cell d c.requires.cell) c.apply.ensures.made
+
+pub returns-clause-full : goal.returns-clause-full
+returns-clause-full g c = λ e.
+    let s : StageData = c.args.stage.now in
+    let cell = c.args.cell in
+    let d : StageCell = c.index-items-cell.result in
+    let old : SpaceData = g.P.Space.meaning c.args.space.now in
+    let mid : SpaceData = g.P.Space.meaning c.all_data.new.space in
+    let high = c.of-high.result in
+    let cells : c.items.result.now ≡ s.cells = c.items.ensures ∙ ap (λ (t : StageData). t.cells) c.stage.view_is in
+    let shown = c.of-high.ensures.shown old s Base c.requires.base in
+    let one : mid.table high ≡ net_table s Base (get_or s.cells cell d).out.0 = c.in_ok-all.ensures.kept.tables high shown.0 ∙ shown.1 ∙ ap (λ xs. net_table s Base (get_or xs cell d).out.0) cells in
+    let last : List Bool = unobserved_table s cell (get_or s.cells cell d) in
+    let is : gate_table mid.width Th22 (mid.table high ∷ mid.table c.in_ok-all.all ∷ []) ≡ last =
+    (λ k. gate_table ((c.in_ok-all.ensures.kept.width ∙ c.requires.width) k) Th22 (one k ∷ c.in_ok-all.ensures.table k ∷ [])) ∙ unobserved-made s cell (get_or s.cells cell d) in
+    let along : fits mid (last ∷ []) ≡ fits old (tables_of s (Cell cell)) =
+    fits-along old mid (shared_tables s (Cell cell)) (last ∷ []) c.in_ok-all.ensures.kept c.in_ok-all.ensures.held ∙ ap (fits old) (sym (cell-tables s cell d c.requires.cell)) in
+    sym along ∙ ap (λ t. fits mid (t ∷ [])) (sym is) ∙ c.apply.ensures.full e
+
+pub returns-clause-fits : goal.returns-clause-fits
+returns-clause-fits g c =
+    let s : StageData = c.args.stage.now in
+    let cell = c.args.cell in
+    let d : StageCell = c.index-items-cell.result in
+    let old : SpaceData = g.P.Space.meaning c.args.space.now in
+    let mid : SpaceData = g.P.Space.meaning c.all_data.new.space in
+    let high = c.of-high.result in
+    let cells : c.items.result.now ≡ s.cells = c.items.ensures ∙ ap (λ (t : StageData). t.cells) c.stage.view_is in
+    let shown = c.of-high.ensures.shown old s Base c.requires.base in
+    let one : mid.table high ≡ net_table s Base (get_or s.cells cell d).out.0 = c.in_ok-all.ensures.kept.tables high shown.0 ∙ shown.1 ∙ ap (λ xs. net_table s Base (get_or xs cell d).out.0) cells in
+    let last : List Bool = unobserved_table s cell (get_or s.cells cell d) in
+    let is : gate_table mid.width Th22 (mid.table high ∷ mid.table c.in_ok-all.all ∷ []) ≡ last =
+    (λ k. gate_table ((c.in_ok-all.ensures.kept.width ∙ c.requires.width) k) Th22 (one k ∷ c.in_ok-all.ensures.table k ∷ [])) ∙ unobserved-made s cell (get_or s.cells cell d) in
+    let along : fits mid (last ∷ []) ≡ fits old (tables_of s (Cell cell)) =
+    fits-along old mid (shared_tables s (Cell cell)) (last ∷ []) c.in_ok-all.ensures.kept c.in_ok-all.ensures.held ∙ ap (fits old) (sym (cell-tables s cell d c.requires.cell)) in
+    on_ok_weaker c.apply.result (λ e. sym along ∙ ap (λ t. fits mid (t ∷ [])) (sym is) ∙ e) c.apply.ensures.fits

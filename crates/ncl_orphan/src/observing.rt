@@ -1,0 +1,77 @@
+//! Observability.
+ghost use Rattle.std.specs.Prelude.{◌≡◌, ◌<◌, IfOk, IsErrOf, OnOk, false, length, true};
+ghost use Rattle.ncl_space.specs.Functions.{least};
+ghost use Rattle.ncl_space.specs.Space.{IsLive, IsSpace, Keeps, Restores, fits};
+ghost use Rattle.ncl_stage.specs.Faults.{Orphan};
+ghost use Rattle.ncl_stage.specs.LeastWords.{least_word};
+ghost use Rattle.ncl_stage.specs.StageTables.{AreValues};
+ghost use Rattle.ncl_stage.specs.Tables.{tables_of};
+
+use ncl_base::Word;
+use ncl_gates::Kind;
+use ncl_shape::Stage;
+use ncl_space::{Ref, Space, SpaceFault};
+use ncl_stage::{Values, Variant, all_data, least_one};
+use std::alloc::Global;
+
+/// The least word at which a cell is high though all outputs are DATA without it, if there is one. The
+/// cell is a place in the stage's cells, and `base` has the values of the stage under Base.
+///
+/// It goes over the cells once. It makes the functions of all nets without the cell, of the DATA of each
+/// output, of their conjunctions, and of the cell with the last of these, before it looks for a word.
+/// `Full` comes exactly where the beads held with those of all these functions are more than the limit.
+/// Whatever the answer, the space is as it was.
+pub fn orphan<P: Space>(
+    alloc: Global,
+    space: &mut P,
+    stage: &Stage,
+    base: &Values,
+    cell: usize,
+) -> Result<Option<Word>, SpaceFault>
+    requires width { (P.meaning space.old).width ≡ length stage.now.inputs }
+    requires base { AreValues (P.meaning space.old) stage.now Variant.Base base.now }
+    requires cell { cell < length stage.now.cells }
+    ensures word { IfOk result (λ word. word ≡ least_word stage.now (Orphan cell)) }
+    ensures back { Restores (P.meaning space.old) (P.meaning space.new) }
+    ensures space { IsSpace (P.meaning space.new) }
+    ensures full { IsErrOf result SpaceFault.Full → fits (P.meaning space.old) (tables_of stage.now (Variant.Cell cell)) ≡ false }
+    ensures fits { OnOk result (fits (P.meaning space.old) (tables_of stage.now (Variant.Cell cell)) ≡ true) }
+{
+    let start = space.mark();
+    match unobserved(alloc, space, stage, base, cell) {
+        Ok(high) => {
+            let word = least_one(space, high);
+            space.release(start);
+            Ok(word)
+        }
+        Err(fault) => {
+            space.release(start);
+            Err(fault)
+        }
+    }
+}
+
+// That the cell is high, and all outputs are DATA without it. What is made before a refusal stays.
+fn unobserved<P: Space>(
+    alloc: Global,
+    space: &mut P,
+    stage: &Stage,
+    base: &Values,
+    cell: usize,
+) -> Result<Ref, SpaceFault>
+    requires width { (P.meaning space.old).width ≡ length stage.now.inputs }
+    requires base { AreValues (P.meaning space.old) stage.now Variant.Base base.now }
+    requires cell { cell < length stage.now.cells }
+    requires space { IsSpace (P.meaning space.old) }
+    ensures live { IfOk result (IsLive (P.meaning space.new)) }
+    ensures least { IfOk result (λ r. least true (length stage.now.inputs) ((P.meaning space.new).table r) ≡ least_word stage.now (Orphan cell)) }
+    ensures kept { Keeps (P.meaning space.old) (P.meaning space.new) }
+    ensures space { IsSpace (P.meaning space.new) }
+    ensures full { IsErrOf result SpaceFault.Full → fits (P.meaning space.old) (tables_of stage.now (Variant.Cell cell)) ≡ false }
+    ensures fits { OnOk result (fits (P.meaning space.old) (tables_of stage.now (Variant.Cell cell)) ≡ true) }
+{
+    stage.facts();
+    let all = all_data(alloc, space, stage, base.wiring(), Variant::Cell(cell))?;
+    let high = base.of(stage.cells.items()[cell].out);
+    space.apply(Kind::Th22, &[high, all])
+}

@@ -1,14 +1,13 @@
 -- The judgement of a pipeline's stages: the first fault in order, with the least word that shows it.
 use Rattle.std.specs.Prelude.{ℕ, ◌+◌, nat_lt, Bool, List, [], ◌∷◌, ◌++◌, map, length, Option, Some, None, if◌then◌else◌, unwrap_or, option_and_then, slice_get}
-use Rattle.std.specs.List.{find, flat_map, range_with_len}
 use Rattle.ncl_netlist.specs.declared.ids.CellId.{CellId}
 use Rattle.ncl_shape.specs.declared.stage.StageCell.{StageCell}
 use Rattle.ncl_shape.specs.Stage.{StageData}
-use Rattle.ncl_space.specs.Table.{words}
 use Rattle.ncl_stage.specs.declared.variant.Variant.{Variant}
 use Rattle.ncl_stage.specs.declared.variant.Variant.TheVariants.{Base, Bit, Cell}
-use Rattle.ncl_stage.specs.Faults.{StageFault, BothRails, NoRail, Incomplete, Orphan, shows}
+use Rattle.ncl_stage.specs.Faults.{StageFault, BothRails, NoRail, Incomplete, Orphan}
 use Rattle.ncl_stage.specs.Tables.{count}
+pub use Rattle.ncl_stage.specs.LeastWords.{below, faults_of, first_of, least_word}
 use Rattle.ncl_verdict.specs.declared.verdict.Verdict.{Verdict}
 use Rattle.ncl_verdict.specs.declared.verdict.Verdict.TheVariants as verdict
 
@@ -34,10 +33,6 @@ verdict_of s (NoRail output) word = verdict.Empty s.number (output + 1) word
 verdict_of s (Incomplete bit) word = verdict.Incomplete s.number (bit + 1) word
 verdict_of s (Orphan cell) word = verdict.Orphan s.number (cell_number (slice_get s.cells cell)) word
 
--- the numbers below n
-abbrev pub below : ℕ → List ℕ
-below n = range_with_len 0 n
-
 -- a place among places in ascending order of their keys
 abbrev pub inserted : (ℕ → ℕ) → ℕ → List ℕ → List ℕ
 inserted key place [] = place ∷ []
@@ -60,25 +55,9 @@ file_order s = ordered_by (file_number s) (below (length s.cells))
 abbrev pub variants : StageData → List Variant
 variants s = Base ∷ map Bit (below (length s.inputs)) ++ map Cell (file_order s)
 
--- the faults that belong to a variant, in their order
-abbrev pub faults_of : StageData → Variant → List StageFault
-faults_of s Base = flat_map (λ output. BothRails output ∷ NoRail output ∷ []) (below (length s.outputs))
-faults_of s (Bit bit) = Incomplete bit ∷ []
-faults_of s (Cell cell) = Orphan cell ∷ []
-
--- the least word that shows the fault
-abbrev pub least_word : StageData → StageFault → Option (List Bool)
-least_word s fault = find (λ word. shows s word fault) (words (length s.inputs))
-
 -- the verdict of a fault, if some word shows it
 abbrev pub found : StageData → StageFault → Option Verdict
 found s fault = option_and_then (λ word. Some (verdict_of s fault word)) (least_word s fault)
-
--- the first that is there
-abbrev pub first_of : List (Option Verdict) → Option Verdict
-first_of [] = None
-first_of (None ∷ others) = first_of others
-first_of (Some v ∷ others) = Some v
 
 -- what stops the judgement of a stage at a variant, if anything does
 abbrev pub Stop : Type 0

@@ -81,7 +81,7 @@ fn build_text(alloc: Global, fault: &BuildFault) -> Result<Vec<u8>, Memory> {
 }
 
 /// Texts that are read, with their netlists, and texts whose parts are no netlist.
-const READ: [(&str, &str); 22] = [
+const READ: [(&str, &str); 23] = [
     ("module m;endmodule", "m"),
     ("module m();endmodule\n", "m"),
     // white space, comments and attributes
@@ -93,9 +93,10 @@ const READ: [(&str, &str); 22] = [
     // words and escaped names: the name stands between the backslash and the white space
     ("module _m$1;endmodule", "_m$1"),
     (
-        "module m(\\a+b ,\\ab );input ab,\\a+b\t;endmodule",
+        "module m(\\a+b ,\\ab );input ab,\\a+b ;endmodule",
         "m in a+b in ab",
     ),
+    ("module \\m\t;endmodule", "m"),
     // an escaped reserved word is a name, and an escaped name may be a cell or a pin
     ("module \\module ;endmodule", "module"),
     (

@@ -12,10 +12,6 @@ use Rattle.ncl_reader.specs.Grammar.{Conn}
 use Rattle.ncl_reader.specs.Says.{net_on}
 use Rattle.ncl_reader.specs.Instance.{pins_in, conn_of}
 
--- one element more
-pub map-more : {X Y : Type 0} (f : X → Y) (xs : List X) (i : ℕ) (x : X) → i < length xs → x ≡ get_or xs i x → map f (take (i + 1) xs) ≡ map f (take i xs) ++ f x ∷ []
-map-more f xs i x lt is = ap (map f) (take_more xs i x lt) ∙ map_push f (take i xs) (get_or xs i x) ∙ ap (λ y. map f (take i xs) ++ f y ∷ []) (sym is)
-
 find-here : (p : Conn → Bool) (c : Conn) (cs : List Conn) → p c ≡ true → find p (c ∷ cs) ≡ Some c
 find-here p c cs e = rw e refl
 
@@ -71,12 +67,6 @@ module _ {X : Type 0} (f : X → List ℕ) (xs ys : List X) (same : ys ≡ xs) (
     | inr here ↦ inr (single (f (get_or ys i d)) x here)
   ]
 
-  pub among-more : (x : List ℕ) → i < length ys → bytes_eq (f (get_or ys i d)) x ≡ false → (Contains (map f (take i xs)) x → ⊥) → Contains (map f (take (i + 1) xs)) x → ⊥
-  among-more x lt differs none found = elim (among-cases x lt found) [
-    | inl before ↦ none before
-    | inr here ↦ false≢true (sym differs ∙ (bytes_eq-Decides (f (get_or ys i d)) x).1 here)
-  ]
-
   pub among-item : i < length ys → Contains (map f xs) (f (get_or ys i d))
   among-item lt = subst (λ zs. i < length zs → Contains (map f xs) (f (get_or zs i d))) (sym same) (λ lt. (i, omega (arith, lt, length-map xs f), get_or-map f xs i d (f (get_or xs i d)) lt)) lt
 
@@ -85,9 +75,6 @@ all-taken xs ys same i low high = subst (λ zs. length zs ≤ i → i ≤ length
 
 pub among-all : {X : Type 0} (f : X → List ℕ) (xs ys : List X) (same : ys ≡ xs) (i : ℕ) (x : List ℕ) → length ys ≤ i → i ≤ length ys → Contains (map f xs) x → Contains (map f (take i xs)) x
 among-all f xs ys same i x low high found = subst (λ zs. Contains (map f zs) x) (sym (all-taken xs ys same i low high)) found
-
-pub found-item : (ys : List (Bor (List ℕ))) (i : ℕ) (d : Bor (List ℕ)) (x : List ℕ) → i < length ys → bytes_eq (get_or ys i d).now x ≡ true → Contains (map (λ n. n.now) ys) x
-found-item ys i d x lt same = subst (λ z. Contains (map (λ n. n.now) ys) z) ((bytes_eq-Decides (get_or ys i d).now x).0 same) (among-item (λ n. n.now) ys ys refl i d lt)
 
 -- a pin of a cell that is on no net
 pub left-out : (ys : List (Bor (List ℕ))) (i : ℕ) (d : Bor (List ℕ)) (pins : List (List ℕ)) (conns : List Conn) → i < length ys → map (λ n. n.now) ys ≡ pins → net_on conns (get_or ys i d).now ≡ None → (x : List ℕ) × Contains pins x × (Contains (pins_in conns) x → ⊥)

@@ -86,11 +86,6 @@ stuck p t none (rest, (text, is)) =
 pub same_tree : (p q : Partial) → spelled p ≡ spelled q → p ≡ q
 same_tree p q e = same_Some p q (sym (run-spelled p) ∙ ap (run start) e ∙ run-spelled q)
 
--- some partial tree has the tokens
-pub record HasTree (xs : List Lexeme) : Type 0 where
-  pub tree : Partial
-  pub is : xs ≡ spelled tree
-
 -- what is run has a partial tree in between
 pub front_run : (p q : Partial) (xs ys : List Lexeme) → run p (xs ++ ys) ≡ Some q → (r : Partial) × (run p xs ≡ Some r)
 front_run p q [] ys e = (p, refl)
@@ -99,10 +94,3 @@ front_run p q (x ∷ xs) ys e = by (step p x) (λ r. front_run r q xs ys) e
     by : (next : Option Partial) → ((r : Partial) → run r (xs ++ ys) ≡ Some q → (s : Partial) × (run r xs ≡ Some s)) → option_and_then (λ r. run r (xs ++ ys)) next ≡ Some q → (s : Partial) × (option_and_then (λ r. run r xs) next ≡ Some s)
     by None rec e = absurd cc
     by (Some r) rec e = rec r e
-
--- what begins a shaped list has a partial tree
-pub has_tree : (xs : List Lexeme) → Begins xs → HasTree xs
-has_tree xs (rest, (text, is)) =
-    let all = done text.head text.items in
-    let part = front_run start all xs rest (ap (run start) is ∙ run-spelled all) in
-    record { tree = part.0; is = sym (grows-run start part.0 xs part.1) }

@@ -5,7 +5,6 @@ ghost use Rattle.ncl_reader.specs.Instance.{conns_of, pins_in, MayJoin, Closes};
 ghost use Rattle.ncl_reader.specs.Says.{net_on};
 ghost use Rattle.std.specs.Prelude.{map};
 
-use crate::names::is_among;
 use ncl_base::{Items, Memory, Name};
 use ncl_gates::CellKind;
 use ncl_netlist::PartCell;
@@ -33,7 +32,7 @@ impl<'a> Instance<'a> {
     pub fn may_join(&self, pin: &[u8]) -> bool
         ensures { MayJoin result self.now pin.now }
     {
-        if !is_among(self.kind.pins(), pin) {
+        if !self.kind.pins().contains(&pin) {
             return false;
         }
         match self.net_on(pin) {

@@ -4,8 +4,6 @@ ghost use Rattle.std.specs.List.{list_any};
 ghost use Rattle.std.specs.Str.{bytes_eq};
 ghost use Rattle.ncl_reader.specs.Words.{keyword_of, left_out};
 
-use crate::names::is_among;
-
 /// A reserved word.
 #[derive(Clone, Copy, Debug, PartialEq, Eq)]
 pub enum Keyword {
@@ -63,7 +61,7 @@ fn is_same(word: &[u8], other: &[u8]) -> bool
 fn is_left_out(word: &[u8]) -> bool
     ensures { result ≡ list_any (bytes_eq word.now) left_out }
 {
-    is_among(left_out(), word)
+    left_out().contains(&word)
 }
 
 /// The words that begin what no netlist text has.

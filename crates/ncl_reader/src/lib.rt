@@ -7,7 +7,6 @@ mod instance;
 mod keyword;
 pub mod laws;
 mod lexeme;
-mod names;
 mod net_fault;
 mod place;
 mod reader;

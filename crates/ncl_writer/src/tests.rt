@@ -99,6 +99,16 @@ TH22 \\* (.A(\\1 ),.B(\\1 ),.Z(o));
 endmodule
 ";
 
+/// A gate that reads itself, in a module of one port.
+const LOOP: &[u8] = b"module m(z); output z; TH22 g(.A(z),.B(z),.Z(z)); endmodule";
+
+/// The text that is written of it.
+const LOOP_WRITTEN: &str = "module m(z);
+output z;
+TH22 g(.A(z),.B(z),.Z(z));
+endmodule
+";
+
 /// Whether two ports are the same.
 fn is_same_port(port: &Port, other: &Port) -> bool {
     port.name == other.name && port.output == other.output
@@ -126,7 +136,9 @@ fn is_same(netlist: &Netlist, other: &Netlist) -> bool {
 
 #[test]
 fn reads_back_what_was_written(rt: HostRuntime) -> Result<(), Fail> {
-    let cases: [(&[u8], Option<&str>); 4] = [
+    let cases: [(&[u8], Option<&str>); 6] = [
+        (b"module m(); endmodule", Some("module m;\nendmodule\n")),
+        (LOOP, Some(LOOP_WRITTEN)),
         (BANK, Some(WRITTEN)),
         (AND, None),
         (ADDER, None),

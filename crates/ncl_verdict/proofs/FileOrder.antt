@@ -1,12 +1,14 @@
 -- The cells of a stage in the order of the file: each once, whatever the order in which the stage lists them.
-use Rattle.std.proofs.Common.{◌≡◌, ◌≢◌, ℕ, zero, suc, ◌+◌, ◌<◌, Bool, true, false, List, [], ◌∷◌, length, map, get_or, Option, Some, ◌⊎◌, inl, inr, refl, sym, ap, ◌∙◌, subst, arith}
-use Rattle.std.specs.Prelude.{slice_get, nat_lt, if◌then◌else◌}
-use Rattle.std.specs.List.{range_with_len}
-use Rattle.std.specs.List.Sorted.{IsPermutation}
-use Rattle.std.proofs.lemmas.Bool.{ltb-true, ltb-false}
+use Rattle.std.proofs.Common.{◌≡◌, ◌≢◌, ℕ, zero, suc, ◌+◌, ◌<◌, Bool, true, false, List, [], ◌∷◌, ◌++◌, length, map, get_or, Option, Some, ◌⊎◌, inl, inr, refl, sym, ap, ◌∙◌, subst, arith}
+use Rattle.std.specs.Prelude.{All, nat_eq, slice_get, nat_lt, if◌then◌else◌}
+use Rattle.std.specs.List.{range_with_len, IsDistinct}
+use Rattle.std.specs.List.Sorted.{IsPermutation, IsNonDecreasingBy}
+use Rattle.std.proofs.lemmas.Bool.{ltb-true, ltb-false, cases_eq, cases_lt, eq-eqb, ne_eqb, both_ways}
+use Rattle.std.proofs.lemmas.List.{get_or-map, length-map}
+use Rattle.std.proofs.lemmas.Map.Keys.{IsDistinct-from_apart, IsDistinct-IsPermutation, apart_from_distinct}
 use Rattle.std.proofs.lemmas.List.FromFn.{length-range_with_len, get_or-range_with_len}
 use Rattle.std.proofs.lemmas.List.Kept.{AllPairs-cons}
-use Rattle.std.proofs.lemmas.List.Sorted.{Contains-permutation, IsPermutation-sym}
+use Rattle.std.proofs.lemmas.List.Sorted.{All-permutation, Contains-permutation, IsPermutation-sym}
 use Rattle.std.proofs.lemmas.Option.{slice_get-get_or, slice_get_within}
 use Rattle.ncl_gates.specs.declared.kind.Kind.TheVariants.{Th12}
 use Rattle.ncl_shape.specs.declared.stage.StageCell.{StageCell}
@@ -67,7 +69,7 @@ ordered_by-increasing key (place ∷ places) differ =
     inserted-increasing key place (ordered_by key places) (ordered_by-increasing key places (pairs-tail (λ x y. key x ≢ key y) place places differ))
     (λ k m. pairs-head (λ x y. key x ≢ key y) place places differ k (ordered_by-members key places k m))
 
-range-members : (from count k : ℕ) → Member k (range_with_len from count) → k < from + count
+pub range-members : (from count k : ℕ) → Member k (range_with_len from count) → k < from + count
 range-members from zero k m = elim m [ ]
 range-members from (suc count) k m =
     elim (member_cases k from (range_with_len (from + 1) count) m) [
@@ -82,11 +84,11 @@ file_order-within s k m = let lt = range-members 0 (length s.cells) k (ordered_b
 pub Member-file_order : (s : StageData) (k : ℕ) → k < length s.cells → Member k (file_order s)
 Member-file_order s k lt = Member-ordered_by (file_number s) (below (length s.cells)) k (Member-below (length s.cells) k lt)
 
-file_number-at : (s : StageData) (k : ℕ) (d : StageCell) → k < length s.cells → file_number s k ≡ (get_or s.cells k d).cell.0
+pub file_number-at : (s : StageData) (k : ℕ) (d : StageCell) → k < length s.cells → file_number s k ≡ (get_or s.cells k d).cell.0
 file_number-at s k d lt = ap (λ c. (cell_number c).0) (slice_get-get_or s.cells k d lt)
 
 -- cells at different places have different numbers
-numbers_apart : (s : StageData) → IsStage s → (i j : ℕ) → i < j → j < length s.cells → file_number s i ≢ file_number s j
+pub numbers_apart : (s : StageData) → IsStage s → (i j : ℕ) → i < j → j < length s.cells → file_number s i ≢ file_number s j
 numbers_apart s is i j less within same =
     let d : StageCell = record { cell = record { 0 = 0 }; kind = Th12; ins = record { items = [] }; out = record { 0 = 0 } } in
     is.cells_differ i j d less within (sym (file_number-at s i d (omega arith)) ∙ same ∙ file_number-at s j d within)
@@ -147,3 +149,99 @@ same_cells_in_order s t is_s is_t moved =
         let d_too = Member-from_Contains s.cells d (Contains-permutation t.cells s.cells d (IsPermutation-sym s.cells t.cells moved) (Contains-from_Member d d_in)) in
         let numbers : c.cell.0 ≡ d.cell.0 = sym (ap number_of is_c) ∙ same ∙ ap number_of is_d in
         is_c ∙ ap Some (same_from_value (λ (x : StageCell). x.cell.0) s.cells (differ_of_map (λ (x : StageCell). x.cell.0) s.cells is_s.cells_differ) c d c_in d_too numbers) ∙ sym is_d
+
+-- ---- sorting by the numbers
+-- a place with the number of its cell
+abbrev pub numbered : StageData → ℕ → ℕ × ℕ
+numbered s place = (file_number s place, place)
+
+below-at : (n k d : ℕ) → k < n → get_or (below n) k d ≡ k
+below-at n k d lt = let at = get_or-range_with_len 0 n k d lt in omega (arith, at)
+
+numbered-at : (s : StageData) (n k : ℕ) (e : ℕ × ℕ) → k < n → get_or (map (numbered s) (below n)) k e ≡ numbered s k
+numbered-at s n k e lt =
+    get_or-map (numbered s) (below n) k 0 e (omega (arith, length-range_with_len 0 n)) ∙ ap (numbered s) (below-at n k 0 lt)
+
+-- numbers of different cells differ
+numbered-distinct : (s : StageData) → IsStage s → IsDistinct (λ p q. nat_eq p.0 q.0) (map (numbered s) (below (length s.cells)))
+numbered-distinct s is = IsDistinct-from_apart (λ p q. nat_eq p.0 q.0) (map (numbered s) (below (length s.cells))) (λ i j d before within.
+    let many : length (map (numbered s) (below (length s.cells))) ≡ length s.cells = length-map (below (length s.cells)) (numbered s) ∙ length-range_with_len 0 (length s.cells) in
+    let in_j : j < length s.cells = omega arith in
+    let in_i : i < length s.cells = omega arith in
+    (λ k. nat_eq (numbered-at s (length s.cells) i d in_i k).0 (numbered-at s (length s.cells) j d in_j k).0) ∙ ne_eqb (file_number s i) (file_number s j) (numbers_apart s is i j before in_j))
+
+eqb-flips : (x y : ℕ) → nat_eq x y ≡ nat_eq y x
+eqb-flips x y = elim (cases_eq x y) [
+  | inl same ↦ eq-eqb x y same ∙ sym (eq-eqb y x (sym same))
+  | inr other ↦ ne_eqb x y other ∙ sym (ne_eqb y x (λ e. other (sym e)))
+]
+
+-- sorted by their numbers, the places are in the order of the file
+pub sorted-places : (s : StageData) → IsStage s → (ys : List (ℕ × ℕ)) → IsPermutation (map (numbered s) (below (length s.cells))) ys → IsNonDecreasingBy (λ p. p.0) ys → map (λ p. p.1) ys ≡ file_order s
+sorted-places s is ys moved up = same_increasing (file_number s) zs (file_order s) rises (file_order-increasing s is) to from one
+  where
+    xs : List (ℕ × ℕ)
+    xs = map (numbered s) (below (length s.cells))
+
+    zs : List ℕ
+    zs = map (λ (p : ℕ × ℕ). p.1) ys
+
+    own : All (λ p. p.0 ≡ file_number s p.1) ys
+    own = All-permutation (λ p. p.0 ≡ file_number s p.1) xs ys moved (All-from_members (λ p. p.0 ≡ file_number s p.1) xs (λ p m.
+        let (k, n, e) = member_of_map (numbered s) (below (length s.cells)) p m in
+        subst (λ (q : ℕ × ℕ). q.0 ≡ file_number s q.1) e refl))
+
+    apart : IsDistinct (λ p q. nat_eq p.0 q.0) ys
+    apart = IsDistinct-IsPermutation (λ p q. nat_eq p.0 q.0) (λ p q. eqb-flips p.0 q.0) xs ys moved (numbered-distinct s is)
+
+    rises : AreIncreasing (file_number s) zs
+    rises = λ i j d before within.
+        let many : length zs ≡ length ys = length-map ys (λ (p : ℕ × ℕ). p.1) in
+        let in_j : j < length ys = omega arith in
+        let in_i : i < length ys = omega arith in
+        let one_ : file_number s (get_or zs i d) ≡ (get_or ys i (0, d)).0 = ap (file_number s) (get_or-map (λ (p : ℕ × ℕ). p.1) ys i (0, d) d in_i) ∙ sym (own i (0, d) in_i) in
+        let two : file_number s (get_or zs j d) ≡ (get_or ys j (0, d)).0 = ap (file_number s) (get_or-map (λ (p : ℕ × ℕ). p.1) ys j (0, d) d in_j) ∙ sym (own j (0, d) in_j) in
+        let least = up i j (0, d) (omega arith) in_j in
+        let other : (get_or ys i (0, d)).0 ≢ (get_or ys j (0, d)).0 = λ same. both_ways (nat_eq (get_or ys i (0, d)).0 (get_or ys j (0, d)).0) (apart_from_distinct (λ p q. nat_eq p.0 q.0) ys i j (0, d) apart before in_j) (eq-eqb (get_or ys i (0, d)).0 (get_or ys j (0, d)).0 same) in
+        omega (arith, one_, two, least, other)
+
+    place : (x : ℕ) → Member x zs → x < length s.cells
+    place x m =
+        let (p, in_ys, at) = member_of_map (λ (p : ℕ × ℕ). p.1) ys x m in
+        let in_xs = Member-from_Contains xs p (Contains-permutation ys xs p (IsPermutation-sym xs ys moved) (Contains-from_Member p in_ys)) in
+        let (k, n, e) = member_of_map (numbered s) (below (length s.cells)) p in_xs in
+        let lt = range-members 0 (length s.cells) k n in
+        let same : k ≡ x = ap (λ (q : ℕ × ℕ). q.1) e ∙ at in
+        omega (arith, lt, same)
+
+    to : HasKeys (file_number s) zs (file_order s)
+    to x m = (x, Member-file_order s x (place x m), refl)
+
+    from : HasKeys (file_number s) (file_order s) zs
+    from y m =
+        let lt = file_order-within s y m in
+        let in_xs = Member-map (numbered s) y (Member-below (length s.cells) y lt) in
+        let in_ys = Member-from_Contains ys (numbered s y) (Contains-permutation xs ys (numbered s y) moved (Contains-from_Member (numbered s y) in_xs)) in
+        (y, Member-map (λ (p : ℕ × ℕ). p.1) (numbered s y) in_ys, refl)
+
+    one : (x y : ℕ) → Member x zs → Member y (file_order s) → file_number s x ≡ file_number s y → x ≡ y
+    one x y in_x in_y same =
+        elim (cases_eq x y) [
+          | inl e ↦ e
+          | inr other ↦
+              elim (cases_lt x y) [
+                | inl less ↦ absurd (numbers_apart s is x y less (file_order-within s y in_y) same)
+                | inr more ↦ absurd (numbers_apart s is y x (omega arith) (place x in_x) (sym same))
+              ]
+        ]
+
+-- the numbers below one more
+pub below-more : (n : ℕ) → below (n + 1) ≡ below n ++ n ∷ []
+below-more n = from_there 0 n ∙ ap (λ k. below n ++ k ∷ []) (let same : 0 + n ≡ n = omega arith in same)
+  where
+    from_there : (from count : ℕ) → range_with_len from (count + 1) ≡ range_with_len from count ++ (from + count) ∷ []
+    from_there from zero = ap (λ k. k ∷ []) (let same : from ≡ from + 0 = omega arith in same)
+    from_there from (suc count) =
+        let more : suc count + 1 ≡ suc (count + 1) = omega arith in
+        let last : (from + 1) + count ≡ from + suc count = omega arith in
+        ap (range_with_len from) more ∙ ap (λ l. from ∷ l) (from_there (from + 1) count ∙ ap (λ k. range_with_len (from + 1) count ++ k ∷ []) last)

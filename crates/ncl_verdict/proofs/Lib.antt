@@ -5,3 +5,4 @@ pub mod Sound
 pub mod FileOrder
 pub mod SameJudgement
 pub mod NamedCell
+pub mod InSpaceLaws

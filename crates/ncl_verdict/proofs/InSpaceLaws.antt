@@ -1,0 +1,215 @@
+-- What a space answers, as the judgement counts it.
+use Rattle.std.proofs.Common.{◌≡◌, ℕ, zero, suc, ◌+◌, ◌<◌, ◌≤◌, Bool, true, false, List, [], ◌∷◌, ◌++◌, length, map, get_or, Option, Some, None, ◌⊎◌, inl, inr, refl, sym, ap, ◌∙◌, subst, arith}
+use Rattle.std.specs.Prelude.{nat_le, nat_lt, option_and_then, if◌then◌else◌}
+use Rattle.std.specs.List.{flat_map}
+use Rattle.std.specs.Option.{option_map}
+use Rattle.std.specs.FinSet as set
+use Rattle.std.proofs.lemmas.Bool.Decides.{nat_tests}
+use Rattle.std.proofs.lemmas.Bool.{lt-ltb, le-ltb}
+use Rattle.std.proofs.lemmas.List.{append_assoc, map-append}
+use Rattle.ncl_shape.specs.Stage.{StageData}
+use Rattle.ncl_base.proofs.Members.{Member, here, there, Member-append_cases, Member-append_left, Member-append_right, Member-from_Contains, Contains-from_Member, Contains-from_slice_get, slice_get-from_Contains}
+use Rattle.ncl_space.specs.Beads.{Beads, distinct_beads, bead_count}
+use Rattle.ncl_space.specs.Space.{SpaceData, Restores, fits, with_tables, is_within}
+use Rattle.ncl_space.proofs.BeadLaws.{HasMembers, distinct_beads-append, distinct_beads-same}
+use Rattle.ncl_space.proofs.SpaceLaws.{count_of_both, too_much_by_front}
+use Rattle.ncl_space.proofs.MakingLaws.{have-kept}
+use Rattle.ncl_stage.specs.declared.variant.Variant.{Variant}
+use Rattle.ncl_stage.specs.declared.variant.Variant.TheVariants.{Base, Bit, Cell}
+use Rattle.ncl_stage.specs.Faults.{StageFault, BothRails, NoRail, Incomplete, Orphan}
+use Rattle.ncl_stage.specs.LeastWords.{below, faults_of, first_of, least_word}
+use Rattle.ncl_stage.specs.StageTables.{ValuesData, net_tables, function_tables}
+use Rattle.ncl_stage.specs.Tables.{count, data_functions, data_fronts, illegal_functions, tables_of}
+use Rattle.ncl_stage.proofs.OutputLaws.{values_at, shared-tables}
+use Rattle.ncl_stage.proofs.LeastLaws.{tables_of-parts, first_of-append, first_of-one, outputs-grouped, first_below-none, first_below-some}
+use Rattle.ncl_complete.specs.declared.rail_fault.RailFault.{RailFault}
+use Rattle.ncl_complete.specs.declared.rail_fault.RailFault.TheVariants.{Both, Empty}
+use Rattle.ncl_complete.specs.RailFaults.{rail_fault, found_fault, first_rail_fault}
+use Rattle.ncl_verdict.specs.declared.verdict.Verdict.{Verdict}
+use Rattle.ncl_verdict.specs.declared.verdict.Verdict.TheVariants as verdict
+use Rattle.ncl_verdict.specs.Judgement.{Stop, TenBits, at_variant, file_order, found, of_stage, stopped_at, variants, verdict_of}
+use Rattle.ncl_verdict.proofs.FileOrder.{range-members}
+use Rattle.ncl_verdict.specs.InSpace.{IsReady, stopped_within, rail_verdict, output_of}
+
+-- ---- what stops
+over : (limit n : ℕ) → nat_le n limit ≡ false → nat_lt limit n ≡ true
+over limit n e = grind (arith, nat_tests)
+
+not_over : (limit n : ℕ) → nat_le n limit ≡ true → nat_lt limit n ≡ false
+not_over limit n e = grind (arith, nat_tests)
+
+pub stops : (limit : Option ℕ) (s : StageData) (variant : Variant) → is_within limit (count s variant) ≡ false → stopped_within limit s variant ≡ Some (verdict.Limit s.number)
+stops None s variant e = absurd cc
+stops (Some limit) s variant e = ap (λ b. if b then Some (verdict.Limit s.number) else None) (over limit (count s variant) e)
+
+pub goes_on : (limit : Option ℕ) (s : StageData) (variant : Variant) → is_within limit (count s variant) ≡ true → stopped_within limit s variant ≡ None
+goes_on None s variant e = refl
+goes_on (Some limit) s variant e = ap (λ b. if b then Some (verdict.Limit s.number) else None) (not_over limit (count s variant) e)
+
+-- what is said at a variant that is stopped at, and at one that isn't
+pub at-stopped : (stop : Stop) (s : StageData) (variant : Variant) (v : Verdict) → stop s variant ≡ Some v → at_variant stop s variant ≡ Some v
+at-stopped stop s variant v e = ap (λ answer. first_of (answer ∷ map (found s) (faults_of s variant))) e
+
+pub at-asked : (stop : Stop) (s : StageData) (variant : Variant) → stop s variant ≡ None → at_variant stop s variant ≡ first_of (map (found s) (faults_of s variant))
+at-asked stop s variant e = ap (λ answer. first_of (answer ∷ map (found s) (faults_of s variant))) e
+
+-- what is said of a fault by its least word
+pub found-by : (s : StageData) (fault : StageFault) (least : Option (List Bool)) → least_word s fault ≡ least → first_of (found s fault ∷ []) ≡ option_and_then (λ word. Some (verdict_of s fault word)) least
+found-by s fault least e = first_of-one (found s fault) ∙ ap (option_and_then (λ word. Some (verdict_of s fault word))) e
+
+-- ---- counting
+has-members : (ts us : List (List Bool)) → ((t : List Bool) → Member t us → Member t ts) → HasMembers ts us
+has-members ts us each = record {
+  has = λ k t at. slice_get-from_Contains ts t (Contains-from_Member t (each t (Member-from_Contains us t (Contains-from_slice_get us k t at))));
+}
+
+-- the nets are among the tables of Base
+pub base_rest : StageData → List (List Bool)
+base_rest s = function_tables s (data_functions s (values_at s Base)) ++ function_tables s (data_fronts s (values_at s Base)) ++ function_tables s (illegal_functions s (values_at s Base))
+
+pub base-front : (s : StageData) → tables_of s Base ≡ net_tables s Base ++ base_rest s
+unfolding base_rest
+base-front s =
+    let nets = net_tables s Base in
+    let some = function_tables s (data_functions s (values_at s Base)) in
+    let fronts = function_tables s (data_fronts s (values_at s Base)) in
+    let both = function_tables s (illegal_functions s (values_at s Base)) in
+    tables_of-parts s Base ∙ ap (λ l. l ++ both) (shared-tables s Base)
+    ∙ ap (λ l. l ++ both) (append_assoc nets some fronts) ∙ append_assoc nets (some ++ fronts) both
+
+net-in_base : (s : StageData) (t : List Bool) → Member t (net_tables s Base) → Member t (tables_of s Base)
+net-in_base s t m = subst (Member t) (sym (base-front s)) (Member-append_left t (base_rest s) m)
+
+-- the beads of Base are counted once, however often its tables are listed
+twice : (s : StageData) → distinct_beads (length s.inputs) (tables_of s Base ++ tables_of s Base) ≡ distinct_beads (length s.inputs) (tables_of s Base)
+twice s =
+    distinct_beads-same (length s.inputs) (tables_of s Base ++ tables_of s Base) (tables_of s Base)
+    (has-members (tables_of s Base ++ tables_of s Base) (tables_of s Base) (λ t m. Member-append_left t (tables_of s Base) m))
+    (has-members (tables_of s Base) (tables_of s Base ++ tables_of s Base) (λ t m. elim (Member-append_cases t (tables_of s Base) (tables_of s Base) m) [ inl n ↦ n | inr n ↦ n ]))
+
+pub with_nets : (s : StageData) → distinct_beads (length s.inputs) (net_tables s Base ++ tables_of s Base) ≡ distinct_beads (length s.inputs) (tables_of s Base)
+with_nets s =
+    distinct_beads-same (length s.inputs) (net_tables s Base ++ tables_of s Base) (tables_of s Base)
+    (has-members (net_tables s Base ++ tables_of s Base) (tables_of s Base) (λ t m. Member-append_right (net_tables s Base) t m))
+    (has-members (tables_of s Base) (net_tables s Base ++ tables_of s Base) (λ t m. elim (Member-append_cases t (net_tables s Base) (tables_of s Base) m) [ inl n ↦ net-in_base s t n | inr n ↦ n ]))
+
+-- where the beads of Base are held, the tables of a variant fit where its count is within the limit
+pub fits-count : (a : SpaceData) (s : StageData) (variant : Variant) → a.width ≡ length s.inputs → a.held ≡ distinct_beads (length s.inputs) (tables_of s Base) → fits a (tables_of s variant) ≡ is_within a.limit (count s variant)
+fits-count a s variant width held =
+    ap (is_within a.limit) (count_of_both a (tables_of s Base) (tables_of s variant) (held ∙ ap (λ n. distinct_beads n (tables_of s Base)) (sym width)) ∙ ap (λ n. bead_count n (tables_of s Base ++ tables_of s variant)) width)
+
+-- the same at Base, where those of the nets alone are held
+pub fits-base : (a : SpaceData) (s : StageData) → a.width ≡ length s.inputs → a.held ≡ distinct_beads (length s.inputs) (net_tables s Base) → fits a (tables_of s Base) ≡ is_within a.limit (count s Base)
+fits-base a s width held =
+    ap (is_within a.limit) (
+    count_of_both a (net_tables s Base) (tables_of s Base) (held ∙ ap (λ n. distinct_beads n (net_tables s Base)) (sym width))
+    ∙ ap (λ n. bead_count n (net_tables s Base ++ tables_of s Base)) width
+    ∙ ap set.len (with_nets s ∙ sym (twice s)))
+
+-- and where none are held
+pub fits-new : (a : SpaceData) (s : StageData) → a.width ≡ length s.inputs → a.held ≡ set.empty → fits a (tables_of s Base) ≡ is_within a.limit (count s Base)
+fits-new a s width held =
+    ap (is_within a.limit) (
+    count_of_both a [] (tables_of s Base) held ∙ ap (λ n. bead_count n (tables_of s Base)) width ∙ ap set.len (sym (twice s)))
+
+-- what is held after the nets, and after all of Base
+pub held-nets : (a b : SpaceData) (s : StageData) → a.width ≡ length s.inputs → a.held ≡ set.empty → b.held ≡ with_tables a (net_tables s Base) → b.held ≡ distinct_beads (length s.inputs) (net_tables s Base)
+held-nets a b s width held made =
+    made ∙ (λ k. set.union (held k) (distinct_beads (width k) (net_tables s Base))) ∙ sym (distinct_beads-append (length s.inputs) [] (net_tables s Base))
+
+pub held-base : (a b : SpaceData) (s : StageData) → a.width ≡ length s.inputs → a.held ≡ distinct_beads (length s.inputs) (net_tables s Base) → b.held ≡ with_tables a (tables_of s Base) → b.held ≡ distinct_beads (length s.inputs) (tables_of s Base)
+held-base a b s width held made =
+    made ∙ (λ k. set.union (held k) (distinct_beads (width k) (tables_of s Base)))
+    ∙ sym (distinct_beads-append (length s.inputs) (net_tables s Base) (tables_of s Base)) ∙ with_nets s
+
+-- where the nets are too much, Base is
+pub nets-too_much : (a : SpaceData) (s : StageData) → fits a (net_tables s Base) ≡ false → fits a (tables_of s Base) ≡ false
+nets-too_much a s e = ap (fits a) (base-front s) ∙ too_much_by_front a (net_tables s Base) (base_rest s) e
+
+-- a caller that went back leaves the space ready
+pub ready-restored : (a b : SpaceData) (s : StageData) (base : ValuesData) → Restores a b → IsReady a s base → IsReady b s base
+ready-restored a b s base back ready = record {
+  width = back.keeps.width ∙ ready.width;
+  values = record { wired = ready.values.wired; shown = have-kept a b base.refs (net_tables s Base) back.keeps ready.values.shown };
+  held = back.held ∙ ready.held;
+}
+
+-- ---- the faults of the outputs
+-- what is said of them is what is found of them
+answers : (s : StageData) (outputs : List ℕ) → first_of (map (found s) (flat_map (λ k. BothRails k ∷ NoRail k ∷ []) outputs)) ≡ option_map (rail_verdict s) (first_of (map (found_fault s) (flat_map (λ k. BothRails k ∷ NoRail k ∷ []) outputs)))
+answers s [] = refl
+answers s (k ∷ outputs) = by_words (least_word s (BothRails k)) (least_word s (NoRail k)) (map (found s) rest) (map (found_fault s) rest) (answers s outputs)
+  where
+    rest : List StageFault
+    rest = flat_map (λ k. BothRails k ∷ NoRail k ∷ []) outputs
+
+    by_words : (both neither : Option (List Bool)) (said : List (Option Verdict)) (faults : List (Option RailFault)) → first_of said ≡ option_map (rail_verdict s) (first_of faults)
+        → first_of (option_and_then (λ word. Some (verdict_of s (BothRails k) word)) both ∷ option_and_then (λ word. Some (verdict_of s (NoRail k) word)) neither ∷ said)
+        ≡ option_map (rail_verdict s) (first_of (option_and_then (rail_fault (BothRails k)) both ∷ option_and_then (rail_fault (NoRail k)) neither ∷ faults))
+    by_words None None said faults e = e
+    by_words None (Some word) said faults e = refl
+    by_words (Some word) neither said faults e = refl
+
+pub said-of_outputs : (s : StageData) → first_of (map (found s) (faults_of s Base)) ≡ option_map (rail_verdict s) (first_rail_fault s)
+said-of_outputs s = answers s (below (length s.outputs))
+
+-- a fault that is found is of one of the outputs
+within-all : (s : StageData) (bound : ℕ) (outputs : List ℕ) → ((k : ℕ) → Member k outputs → k < bound) → (fault : RailFault) → first_of (map (found_fault s) (flat_map (λ k. BothRails k ∷ NoRail k ∷ []) outputs)) ≡ Some fault → output_of fault < bound
+within-all s bound [] each fault e = absurd cc
+within-all s bound (k ∷ outputs) each fault e = by_words (least_word s (BothRails k)) (least_word s (NoRail k)) (map (found_fault s) (flat_map (λ k. BothRails k ∷ NoRail k ∷ []) outputs)) e (λ f. within-all s bound outputs (λ j m. each j (there m)) fault f)
+  where
+    own : (v : RailFault) → output_of v ≡ k → Some v ≡ Some fault → output_of fault < bound
+    own v at f = let same : v ≡ fault = cc in subst (λ n. n < bound) (sym at ∙ ap output_of same) (each k here)
+
+    by_words : (both neither : Option (List Bool)) (faults : List (Option RailFault)) → first_of (option_and_then (rail_fault (BothRails k)) both ∷ option_and_then (rail_fault (NoRail k)) neither ∷ faults) ≡ Some fault → (first_of faults ≡ Some fault → output_of fault < bound) → output_of fault < bound
+    by_words None None faults f later = later f
+    by_words None (Some word) faults f later = own (Empty k word) refl f
+    by_words (Some word) neither faults f later = own (Both k word) refl f
+
+pub fault-within : (s : StageData) (fault : RailFault) → first_rail_fault s ≡ Some fault → output_of fault < length s.outputs
+fault-within s fault e = within-all s (length s.outputs) (below (length s.outputs)) (λ k m. let lt = range-members 0 (length s.outputs) k m in omega (arith, lt)) fault e
+
+-- ---- the first of answers at the members of a list
+pub first-none_at : {X Y : Type 0} (f : X → Option Y) (xs : List X) → ((k : ℕ) (d : X) → k < length xs → f (get_or xs k d) ≡ None) → first_of (map f xs) ≡ None
+first-none_at f [] none = refl
+first-none_at f (x ∷ xs) none = ap (λ answer. first_of (answer ∷ map f xs)) (none zero x (omega arith)) ∙ first-none_at f xs (λ k d lt. none (suc k) d (omega arith))
+
+pub first-some_at : {X Y : Type 0} (f : X → Option Y) (xs : List X) (i : ℕ) (d : X) (y : Y) → i < length xs → ((k : ℕ) (e : X) → k < i → f (get_or xs k e) ≡ None) → f (get_or xs i d) ≡ Some y → first_of (map f xs) ≡ Some y
+first-some_at f [] i d y lt none is = absurd (omega arith)
+first-some_at f (x ∷ xs) zero d y lt none is = ap (λ answer. first_of (answer ∷ map f xs)) is
+first-some_at f (x ∷ xs) (suc i) d y lt none is = ap (λ answer. first_of (answer ∷ map f xs)) (none zero x (omega arith)) ∙ first-some_at f xs i d y (omega arith) (λ k e before. none (suc k) e (omega arith)) is
+
+pub map_map : {X Y Z : Type 0} (f : Y → Z) (h : X → Y) (xs : List X) → map f (map h xs) ≡ map (λ x. f (h x)) xs
+map_map f h [] = refl
+map_map f h (x ∷ xs) = ap (λ l. f (h x) ∷ l) (map_map f h xs)
+
+-- ---- a stage as a whole
+-- its answers: under Base, without each bit, and without each cell
+pub of_stage-parts : (stop : Stop) (s : StageData) → of_stage stop s ≡ first_of (at_variant stop s Base ∷ first_of (map (at_variant stop s) (map Bit (below (length s.inputs)))) ∷ first_of (map (at_variant stop s) (map Cell (file_order s))) ∷ [])
+of_stage-parts stop s =
+    ap (λ l. first_of (at_variant stop s Base ∷ l)) (map-append (at_variant stop s) (map Bit (below (length s.inputs))) (map Cell (file_order s)))
+    ∙ by_first (at_variant stop s Base) (map (at_variant stop s) (map Bit (below (length s.inputs)))) (map (at_variant stop s) (map Cell (file_order s)))
+  where
+    by_first : (answer : Option Verdict) (bits cells : List (Option Verdict)) → first_of (answer ∷ bits ++ cells) ≡ first_of (answer ∷ first_of bits ∷ first_of cells ∷ [])
+    by_first None bits cells = first_of-append bits cells
+    by_first (Some v) bits cells = refl
+
+-- at most ten bits stop nothing
+not_wide : (s : StageData) (variant : Variant) → length s.inputs ≤ 10 → stopped_within None s variant ≡ stopped_at TenBits s variant
+not_wide s variant few = sym (ap (λ b. if b then Some (verdict.Wide s.number) else None) (le-ltb 10 (length s.inputs) few))
+
+pub of_stage-tables : (s : StageData) → length s.inputs ≤ 10 → of_stage (stopped_within None) s ≡ of_stage (stopped_at TenBits) s
+of_stage-tables s few = ap first_of (each (variants s))
+  where
+    each : (vs : List Variant) → map (at_variant (stopped_within None) s) vs ≡ map (at_variant (stopped_at TenBits) s) vs
+    each [] = refl
+    each (v ∷ vs) =
+        let first = ap (λ answer. first_of (answer ∷ map (found s) (faults_of s v))) (not_wide s v few) in
+        let rest = each vs in
+        λ i. first i ∷ rest i
+
+-- more than ten stop at once
+pub of_stage-wide : (s : StageData) → 10 < length s.inputs → of_stage (stopped_at TenBits) s ≡ Some (verdict.Wide s.number)
+of_stage-wide s many =
+    of_stage-parts (stopped_at TenBits) s
+    ∙ ap (λ b. first_of (first_of ((if b then Some (verdict.Wide s.number) else None) ∷ map (found s) (faults_of s Base)) ∷ first_of (map (at_variant (stopped_at TenBits) s) (map Bit (below (length s.inputs)))) ∷ first_of (map (at_variant (stopped_at TenBits) s) (map Cell (file_order s))) ∷ [])) (lt-ltb 10 (length s.inputs) many)

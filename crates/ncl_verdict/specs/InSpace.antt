@@ -1,0 +1,35 @@
+-- The judgement of a stage in a space: what stops it there, when the variants after Base can be asked, and
+-- what the faults of its outputs say.
+use Rattle.std.specs.Prelude.{◌≡◌, ℕ, ◌+◌, length, Option, Some, None}
+use Rattle.ncl_shape.specs.Stage.{StageData}
+use Rattle.ncl_space.specs.Beads.{distinct_beads}
+use Rattle.ncl_space.specs.Space.{SpaceData}
+use Rattle.ncl_stage.specs.declared.variant.Variant.TheVariants.{Base}
+use Rattle.ncl_stage.specs.StageTables.{AreValues, ValuesData}
+use Rattle.ncl_stage.specs.Tables.{tables_of}
+use Rattle.ncl_complete.specs.declared.rail_fault.RailFault.{RailFault}
+use Rattle.ncl_complete.specs.declared.rail_fault.RailFault.TheVariants.{Both, Empty}
+use Rattle.ncl_verdict.specs.declared.verdict.Verdict.{Verdict}
+use Rattle.ncl_verdict.specs.declared.verdict.Verdict.TheVariants as verdict
+use Rattle.ncl_verdict.specs.Judgement.{Nodes, Stop, stopped_at}
+
+-- what stops the judgement of a stage in a space with this limit
+abbrev pub stopped_within : Option ℕ → Stop
+stopped_within None s variant = None
+stopped_within (Some limit) s variant = stopped_at (Nodes limit) s variant
+
+-- the space has the values of the stage under Base, and holds the beads of all tables of Base
+pub record IsReady (space : SpaceData) (s : StageData) (base : ValuesData) : Type 0 where
+  pub width : space.width ≡ length s.inputs
+  pub values : AreValues space s Base base
+  pub held : space.held ≡ distinct_beads (length s.inputs) (tables_of s Base)
+
+-- the verdict of a fault of an output
+abbrev pub rail_verdict : StageData → RailFault → Verdict
+rail_verdict s (Both output word) = verdict.Both s.number (output + 1) word
+rail_verdict s (Empty output word) = verdict.Empty s.number (output + 1) word
+
+-- its output
+abbrev pub output_of : RailFault → ℕ
+output_of (Both output word) = output
+output_of (Empty output word) = output

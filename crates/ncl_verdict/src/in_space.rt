@@ -1,0 +1,189 @@
+//! The judgement of a stage in a space.
+ghost use Rattle.std.specs.Prelude.{◌≡◌, ◌<◌, IfOk, IfNone, length, map};
+ghost use Rattle.ncl_space.specs.Beads.{distinct_beads};
+ghost use Rattle.ncl_space.specs.Space.{IsNew, Keeps, Restores};
+ghost use Rattle.ncl_stage.specs.LeastWords.{below, first_of};
+ghost use Rattle.ncl_stage.specs.StageTables.{AreValues, net_tables};
+ghost use Rattle.ncl_verdict.specs.InSpace.{IsReady, output_of, rail_verdict, stopped_within};
+ghost use Rattle.ncl_verdict.specs.Judgement.{at_variant, file_order, of_stage};
+
+use crate::file_order::cells_in_file_order;
+use crate::verdict::Verdict;
+use ncl_base::Memory;
+use ncl_complete::{RailFault, input_complete, valid_rails};
+use ncl_orphan::orphan;
+use ncl_shape::Stage;
+use ncl_space::{Space, SpaceFault};
+use ncl_stage::{Values, Variant, values};
+use std::alloc::Global;
+
+/// What is said of a stage that is not sound, or has more nodes than the limit of the space: under Base,
+/// then without each input bit, then without each cell in the order of the file. The space is new.
+///
+/// For each input bit and each cell it goes over the cells once. An error is want of memory.
+pub(crate) fn first_answer<P: Space>(
+    alloc: Global,
+    space: &mut P,
+    stage: &Stage,
+) -> Result<Option<Verdict>, Memory>
+    requires width { (P.meaning space.old).width ≡ length stage.now.inputs }
+    requires new { IsNew (P.meaning space.old) }
+    ensures { IfOk result (λ answer. answer ≡ of_stage (stopped_within (P.meaning space.old).limit) stage.now) }
+{
+    let base = match values(alloc, space, stage, Variant::Base) {
+        Ok(base) => base,
+        Err(fault) => return stopped(stage, fault),
+    };
+    if let Some(verdict) = at_outputs(alloc, space, stage, &base)? {
+        return Ok(Some(verdict));
+    }
+    if let Some(verdict) = at_bits(alloc, space, stage, &base)? {
+        return Ok(Some(verdict));
+    }
+    at_cells(alloc, space, stage, &base)
+}
+
+// What a refusal of the space says: that the limit is passed, if it isn't want of memory.
+fn stopped(stage: &Stage, fault: SpaceFault) -> Result<Option<Verdict>, Memory>
+    ensures { IfOk result (λ answer. (fault ≡ SpaceFault.Full) × (answer ≡ Some (Verdict.Limit stage.now.number))) }
+{
+    match fault {
+        SpaceFault::Full => Ok(Some(Verdict::Limit {
+            stage: stage.number,
+        })),
+        SpaceFault::Memory => Err(Memory),
+    }
+}
+
+// What is said under Base, once the functions of the nets are made.
+fn at_outputs<P: Space>(
+    alloc: Global,
+    space: &mut P,
+    stage: &Stage,
+    base: &Values,
+) -> Result<Option<Verdict>, Memory>
+    requires width { (P.meaning space.old).width ≡ length stage.now.inputs }
+    requires base { AreValues (P.meaning space.old) stage.now Variant.Base base.now }
+    requires held { (P.meaning space.old).held ≡ distinct_beads (length stage.now.inputs) (net_tables stage.now Variant.Base) }
+    ensures answer { IfOk result (λ answer. answer ≡ at_variant (stopped_within (P.meaning space.old).limit) stage.now Variant.Base) }
+    ensures ready { IfOk result (λ answer. IfNone answer (IsReady (P.meaning space.new) stage.now base.now)) }
+    ensures kept { Keeps (P.meaning space.old) (P.meaning space.new) }
+{
+    match valid_rails(alloc, space, stage, base) {
+        Ok(Some(fault)) => Ok(Some(told(stage, fault))),
+        Ok(None) => Ok(None),
+        Err(fault) => stopped(stage, fault),
+    }
+}
+
+// The verdict of a fault of an output.
+fn told(stage: &Stage, fault: RailFault) -> Verdict
+    requires { output_of fault < length stage.now.outputs }
+    ensures { result ≡ rail_verdict stage.now fault }
+{
+    stage.facts();
+    match fault {
+        RailFault::Both(output, word) => Verdict::Both {
+            stage: stage.number,
+            output: output as u32 + 1,
+            word,
+        },
+        RailFault::Empty(output, word) => Verdict::Empty {
+            stage: stage.number,
+            output: output as u32 + 1,
+            word,
+        },
+    }
+}
+
+// The first that is said without an input bit.
+fn at_bits<P: Space>(
+    alloc: Global,
+    space: &mut P,
+    stage: &Stage,
+    base: &Values,
+) -> Result<Option<Verdict>, Memory>
+    requires { IsReady (P.meaning space.old) stage.now base.now }
+    ensures answer { let stop = stopped_within (P.meaning space.old).limit in
+        IfOk result (λ answer. answer ≡ first_of (map (at_variant stop stage.now) (map Variant.Bit (below (length stage.now.inputs))))) }
+    ensures ready { IsReady (P.meaning space.new) stage.now base.now }
+    ensures kept { Keeps (P.meaning space.old) (P.meaning space.new) }
+{
+    for bit in 0..stage.inputs.items().len() {
+        if let Some(verdict) = at_bit(alloc, space, stage, base, bit)? {
+            return Ok(Some(verdict));
+        }
+    }
+    Ok(None)
+}
+
+// What is said without an input bit.
+fn at_bit<P: Space>(
+    alloc: Global,
+    space: &mut P,
+    stage: &Stage,
+    base: &Values,
+    bit: usize,
+) -> Result<Option<Verdict>, Memory>
+    requires ready { IsReady (P.meaning space.old) stage.now base.now }
+    requires bit { bit < length stage.now.inputs }
+    ensures answer { IfOk result (λ answer. answer ≡ at_variant (stopped_within (P.meaning space.old).limit) stage.now (Variant.Bit bit)) }
+    ensures ready { IsReady (P.meaning space.new) stage.now base.now }
+    ensures kept { Keeps (P.meaning space.old) (P.meaning space.new) }
+{
+    stage.facts();
+    match input_complete(alloc, space, stage, base, bit) {
+        Ok(Some(word)) => Ok(Some(Verdict::Incomplete {
+            stage: stage.number,
+            bit: bit as u32 + 1,
+            word,
+        })),
+        Ok(None) => Ok(None),
+        Err(fault) => stopped(stage, fault),
+    }
+}
+
+// The first that is said without a cell, in the order of the file.
+fn at_cells<P: Space>(
+    alloc: Global,
+    space: &mut P,
+    stage: &Stage,
+    base: &Values,
+) -> Result<Option<Verdict>, Memory>
+    requires { IsReady (P.meaning space.old) stage.now base.now }
+    ensures { let stop = stopped_within (P.meaning space.old).limit in
+        IfOk result (λ answer. answer ≡ first_of (map (at_variant stop stage.now) (map Variant.Cell (file_order stage.now)))) }
+{
+    let cells = cells_in_file_order(alloc, stage)?;
+    for cell in cells.as_slice() {
+        if let Some(verdict) = at_cell(alloc, space, stage, base, cell.1)? {
+            return Ok(Some(verdict));
+        }
+    }
+    Ok(None)
+}
+
+// What is said without a cell.
+fn at_cell<P: Space>(
+    alloc: Global,
+    space: &mut P,
+    stage: &Stage,
+    base: &Values,
+    cell: usize,
+) -> Result<Option<Verdict>, Memory>
+    requires ready { IsReady (P.meaning space.old) stage.now base.now }
+    requires cell { cell < length stage.now.cells }
+    ensures answer { IfOk result (λ answer. answer ≡ at_variant (stopped_within (P.meaning space.old).limit) stage.now (Variant.Cell cell)) }
+    ensures ready { IsReady (P.meaning space.new) stage.now base.now }
+    ensures kept { Keeps (P.meaning space.old) (P.meaning space.new) }
+{
+    match orphan(alloc, space, stage, base, cell) {
+        Ok(Some(word)) => Ok(Some(Verdict::Orphan {
+            stage: stage.number,
+            cell: stage.cells.items()[cell].cell,
+            word,
+        })),
+        Ok(None) => Ok(None),
+        Err(fault) => stopped(stage, fault),
+    }
+}

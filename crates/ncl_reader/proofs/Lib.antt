@@ -16,6 +16,6 @@ mod Nets
 mod Standing
 pub mod Loop
 mod OneParts
-mod OneAnswer
+pub mod OneAnswer
 pub mod LoopTokens
 mod PartsRead

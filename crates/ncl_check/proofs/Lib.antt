@@ -1,0 +1,4 @@
+mod Stages
+pub mod OneReply
+pub mod Accepted
+mod Replying

@@ -1,0 +1,21 @@
+-- What an acceptance says.
+use Rattle.std.specs.Prelude.{ℕ, List}
+use Rattle.ncl_netlist.specs.declared.parts.Parts.{Parts}
+use Rattle.ncl_netlist.specs.Parts.{netlist_of}
+use Rattle.ncl_netlist.specs.Faults.{IsFaultless}
+use Rattle.ncl_reader.specs.Reads.{Reads}
+use Rattle.ncl_shape.specs.Pipeline.{PipelineData}
+use Rattle.ncl_shape.specs.Shape.{Shape}
+use Rattle.ncl_machine.specs.DelayInsensitive.{IsDelayInsensitive}
+
+-- the bytes are the text of parts that make a netlist, which has the shape of a pipeline, and the pipeline
+-- is delay-insensitive: from reset, in every order of gate firings, no excited gate loses its excitation,
+-- what is delivered is a first part of the function of the words offered, with NULL between any two, and
+-- where nothing can move, all is delivered
+pub record IsDelayInsensitiveText (bytes : List ℕ) : Type 0 where
+  pub parts : Parts
+  pub reads : Reads bytes parts
+  pub builds : IsFaultless parts
+  pub pipeline : PipelineData
+  pub shape : Shape (netlist_of parts) pipeline
+  pub insensitive : IsDelayInsensitive pipeline

@@ -1,0 +1,58 @@
+-- What `check` replies to the bytes of a file.
+use Rattle.std.specs.Prelude.{◌≢◌, ℕ, ◌<◌, ◌≤◌, List, length, codes}
+use Rattle.ncl_base.specs.declared.source.TheConstants.{MOST_BYTES}
+use Rattle.ncl_netlist.specs.declared.parts.Parts.{Parts}
+use Rattle.ncl_netlist.specs.declared.build_fault.BuildFault.{BuildFault}
+use Rattle.ncl_netlist.specs.declared.build_fault.BuildFault.TheVariants as build
+use Rattle.ncl_netlist.specs.Netlist.{NetlistData, IsNetlist}
+use Rattle.ncl_netlist.specs.Parts.{netlist_of}
+use Rattle.ncl_netlist.specs.Faults.{IsFaultless, IsFaultOf}
+use Rattle.ncl_reader.specs.declared.net_fault.NetFault.{NetFault}
+use Rattle.ncl_reader.specs.declared.net_fault.NetFault.TheVariants.{Build}
+use Rattle.ncl_reader.specs.Reads.{Reads, IsRefused}
+use Rattle.ncl_origin.specs.declared.fault.ShapeFault.{ShapeFault}
+use Rattle.ncl_shape.specs.Pipeline.{PipelineData}
+use Rattle.ncl_shape.specs.Shape.{Shape, Broken}
+use Rattle.ncl_verdict.specs.declared.verdict.Verdict.{Verdict}
+use Rattle.ncl_verdict.specs.declared.verdict.Verdict.TheVariants as verdict
+use Rattle.ncl_verdict.specs.Judgement.{TenBits, judgement}
+use Rattle.ncl_report.specs.Line.{line}
+use Rattle.ncl_report.specs.NetText.{net_line}
+use Rattle.ncl_report.specs.ShapeText.{shape_line}
+use Rattle.ncl_report.specs.VerdictText.{verdict_line}
+use Rattle.ncl_check.specs.declared.reply.Outcome.{Outcome}
+use Rattle.ncl_check.specs.declared.reply.Outcome.TheVariants.{Accepted, Refused, NoPipeline, Unjudged}
+
+-- how a check ends whose judgement is this verdict
+abbrev pub outcome_of : Verdict → Outcome
+outcome_of verdict.Accepted = Accepted
+outcome_of (verdict.Both stage output word) = Refused
+outcome_of (verdict.Empty stage output word) = Refused
+outcome_of (verdict.Incomplete stage bit word) = Refused
+outcome_of (verdict.Orphan stage cell word) = Refused
+outcome_of (verdict.Limit stage) = Unjudged
+outcome_of (verdict.Wide stage) = Unjudged
+
+-- the verdict on a pipeline, whose stages have at most ten input bits or are not judged
+abbrev pub verdict_on : PipelineData → Verdict
+verdict_on p = judgement TenBits p.stages
+
+-- the line that tells it. No limit of nodes is printed while stages are judged by tables of their words
+abbrev pub verdict_text : NetlistData → PipelineData → List ℕ
+verdict_text n p = verdict_line n (length p.stages) 1 (verdict_on p)
+
+-- what `check` replies to a netlist: the first rule of shape that it breaks, or the verdict on its pipeline
+pub data IsNetlistReply (n : NetlistData) : Outcome → List ℕ → Type 0 where
+  shapeless : IsNetlist n → (fault : ShapeFault) → Broken n fault → IsNetlistReply n NoPipeline (shape_line n fault)
+  judged : (p : PipelineData) → Shape n p → IsNetlistReply n (outcome_of (verdict_on p)) (verdict_text n p)
+
+-- what `check` replies to the bytes of a file
+pub data IsCheckReply (bytes : List ℕ) : Outcome → List ℕ → Type 0 where
+  -- a file has at most 16,777,216 bytes
+  too_long : MOST_BYTES < length bytes → IsCheckReply bytes NoPipeline (line (codes "netlist: too long"))
+  -- the text is refused at its first token that breaks
+  unread : length bytes ≤ MOST_BYTES → (fault : NetFault) → IsRefused bytes fault → IsCheckReply bytes NoPipeline (net_line fault)
+  -- the text says parts that are no netlist
+  unbuilt : length bytes ≤ MOST_BYTES → (parts : Parts) → Reads bytes parts → (fault : BuildFault) → fault ≢ build.Memory → IsFaultOf parts fault → IsCheckReply bytes NoPipeline (net_line (Build fault))
+  -- the text says a netlist, and this is the reply to it
+  built : length bytes ≤ MOST_BYTES → (parts : Parts) → Reads bytes parts → IsFaultless parts → (outcome : Outcome) (text : List ℕ) → IsNetlistReply (netlist_of parts) outcome text → IsCheckReply bytes outcome text

@@ -2,16 +2,12 @@
 use Rattle.std.proofs.Common.{◌≡◌, ℕ, List, Option, Some, inl, inr, refl, subst}
 use Rattle.ncl_base.specs.Files.{Files, Grew}
 use Rattle.nclc.specs.Command.{Words}
-use Rattle.nclc.specs.Answer.{Answer, SourceState, SinkState, AreHeld, Says, answered, read_failed, no_memory, Tells, whole, cut_short, Ran, AnswersUnlessFaults, AnswersExactly}
-use Rattle.nclc.proofs.Sameness.{same_answer}
-
--- the held files are the told ones
-pub held_is : (told : Option Files) (held files : Files) → told ≡ Some files → AreHeld told held → held ≡ files
-held_is told held files is same = subst (λ o. AreHeld o held) is same
+use Rattle.nclc.specs.Answer.{Answer, SourceState, SinkState, Says, answered, read_failed, no_memory, Tells, whole, cut_short, Ran, AnswersUnlessFaults, AnswersExactly}
+use Rattle.nclc.proofs.Sameness.{same_status, same_text}
 
 unless_faults : (words : Words) (source source' : SourceState) (sink sink' : SinkState) {said status : ℕ} {text : List ℕ} → Says words source source' said text → Tells sink sink' said text status → AnswersUnlessFaults words source source' sink sink' status
-unless_faults words source source' sink sink' (answered held are said text answer) (whole grew) files is no_read no_write =
-    inr (text, subst (λ fs. Answer words fs said text) (held_is source.files held files is are) answer, grew)
+unless_faults words source source' sink sink' (answered status text answer) (whole grew) files is no_read no_write =
+    inr (text, subst (λ told. Answer words told status text) is answer, grew)
 unless_faults words source source' sink sink' says (cut_short rose grew) files is no_read no_write = absurd (no_write rose)
 unless_faults words source source' sink sink' (read_failed command of named rose) (whole grew) files is no_read no_write = absurd (no_read rose)
 unless_faults words source source' sink sink' no_memory (whole grew) files is no_read no_write = inl refl
@@ -25,10 +21,9 @@ pub answers_unless_faults : (words : Words) (source source' : SourceState) (sink
 answers_unless_faults words source source' sink sink' status ran = unless_faults words source source' sink sink' ran.says ran.tells
 
 exactly : (words : Words) (source source' : SourceState) (sink sink' : SinkState) {said status : ℕ} {text : List ℕ} → Says words source source' said text → Tells sink sink' said text status → AnswersExactly words source sink sink' status
-exactly words source source' sink sink' (answered held are said text answer) (whole grew) files expected wanted is asked =
-    let here : Answer words files said text = subst (λ fs. Answer words fs said text) (held_is source.files held files is are) answer in
-    let same = same_answer words files here asked in
-    inl (same.0, subst (λ t. Grew sink.written t sink'.written) same.1 grew)
+exactly words source source' sink sink' (answered status text answer) (whole grew) files expected wanted is asked =
+    let here : Answer words (Some files) status text = subst (λ told. Answer words told status text) is answer in
+    inl (same_status words files here asked, λ determined. subst (λ t. Grew sink.written t sink'.written) (same_text words files determined here asked) grew)
 exactly words source source' sink sink' says (cut_short rose grew) files expected wanted is asked = inr (inr (inl refl))
 exactly words source source' sink sink' (read_failed command of named rose) (whole grew) files expected wanted is asked = inr (inl refl)
 exactly words source source' sink sink' no_memory (whole grew) files expected wanted is asked = inr (inr (inr refl))

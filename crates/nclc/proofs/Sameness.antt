@@ -1,34 +1,41 @@
--- There is at most one answer for the words and the files.
-use Rattle.std.proofs.Common.{◌≡◌, ℕ, List, Some, None, refl, sym, ap, ◌∙◌, subst, arith}
+-- The words and the files have at most one status, and at most one text where they determine it.
+use Rattle.std.proofs.Common.{◌≡◌, ℕ, List, Option, Some, None, IsTrue, refl, sym, ap, ◌∙◌, subst}
 use Rattle.ncl_base.specs.Files.{Files, bytes_of}
-use Rattle.nclc.specs.VerdictText.{status_of}
-use Rattle.nclc.specs.Command.{Words, Command, check}
-use Rattle.nclc.specs.Answer.{verdict_on, verdict_line, IsCheckReply, too_long, not_built, judged, IsReply, Answer, not_understood, replied}
-use Rattle.nclc.proofs.OneForm.{same_form}
+use Rattle.ncl_check.specs.declared.reply.Outcome.{Outcome}
+use Rattle.ncl_check.specs.Reply.{IsCheckReply}
+use Rattle.ncl_check.proofs.OneReply.{same_reply}
+use Rattle.nclc.specs.Command.{Words, Command, check, command_of}
+use Rattle.nclc.specs.Answer.{status_of, IsFileReply, IsReply, Answer, not_understood, replied, words_determine_text, determines_text}
 
-same_reply : (bytes : List ℕ) {status status' : ℕ} {text text' : List ℕ} → IsCheckReply bytes status text → IsCheckReply bytes status' text' → (status ≡ status') × (text ≡ text')
-same_reply bytes (too_long h) (too_long h') = (refl, refl)
-same_reply bytes (too_long h) (not_built few other) = absurd (omega arith)
-same_reply bytes (too_long h) (judged few f is e built) = absurd (omega arith)
-same_reply bytes (not_built few other) (too_long h) = absurd (omega arith)
-same_reply bytes (not_built few other) (not_built few' other') = (refl, refl)
-same_reply bytes (not_built few other) (judged few' f is e built) = absurd (other f is e)
-same_reply bytes (judged few f is e built) (too_long h) = absurd (omega arith)
-same_reply bytes (judged few f is e built) (not_built few' other) = absurd (other f is e)
-same_reply bytes (judged few f is e built) (judged few' g is' e' built') =
-    let same : f ≡ g = same_form f g is is' (sym e ∙ e') in
-    (ap (λ h. status_of (verdict_on h)) same, ap verdict_line same)
+-- the bytes that both replies are to
+same_file_reply : (files : Files) (file : List ℕ) (status other : ℕ) (text line : List ℕ) → IsFileReply (Some files) file status text → IsFileReply (Some files) file other line → (status ≡ other) × (text ≡ line)
+same_file_reply files file status other text line one two =
+    let bytes : one.bytes ≡ two.bytes = one.given ∙ sym two.given in
+    let same = same_reply two.bytes (subst (λ bytes. IsCheckReply bytes one.outcome text) bytes one.reply) two.reply in
+    (one.ends ∙ ap status_of same.0 ∙ sym two.ends, same.1)
 
-same_command_reply : (command : Command) (files : Files) {status status' : ℕ} {text text' : List ℕ} → IsReply command files status text → IsReply command files status' text' → (status ≡ status') × (text ≡ text')
-same_command_reply (check file) files a b = same_reply (bytes_of files file) a b
+same_command_status : (files : Files) (command : Command) (status other : ℕ) (text line : List ℕ) → IsReply command (Some files) status text → IsReply command (Some files) other line → status ≡ other
+same_command_status files (check file) status other text line one two = (same_file_reply files file status other text line one two).0
 
--- there is one answer for the words and the files
-pub same_answer : (words : Words) (files : Files) {status status' : ℕ} {text text' : List ℕ} → Answer words files status text → Answer words files status' text' → (status ≡ status') × (text ≡ text')
-same_answer words files (not_understood e) (not_understood e') = (refl, refl)
-same_answer words files (not_understood e) (replied command is status text reply) =
-    let differ : None ≡ Some command = sym e ∙ is in cc
-same_answer words files (replied command is status text reply) (not_understood e) =
-    let differ : None ≡ Some command = sym e ∙ is in cc
-same_answer words files (replied command is status text reply) (replied command' is' status' text' reply') =
-    let same : command ≡ command' = let both : Some command ≡ Some command' = sym is ∙ is' in cc in
-    same_command_reply command' files (subst (λ m. IsReply m files status text) same reply) reply'
+same_command_text : (files : Files) (command : Command) → IsTrue (determines_text command) → (status other : ℕ) (text line : List ℕ) → IsReply command (Some files) status text → IsReply command (Some files) other line → text ≡ line
+same_command_text files (check file) determined status other text line one two = (same_file_reply files file status other text line one two).1
+
+module _ (words : Words) (files : Files) where
+  -- two commands that the words give are one
+  one_command : (command named : Command) → command_of words ≡ Some command → command_of words ≡ Some named → command ≡ named
+  one_command command named is is' = let both : Some command ≡ Some named = sym is ∙ is' in cc
+
+  pub same_status : {status other : ℕ} {text line : List ℕ} → Answer words (Some files) status text → Answer words (Some files) other line → status ≡ other
+  same_status (not_understood e) (not_understood e') = refl
+  same_status (not_understood e) (replied command is status text reply) = let differ : None ≡ Some command = sym e ∙ is in cc
+  same_status (replied command is status text reply) (not_understood e) = let differ : None ≡ Some command = sym e ∙ is in cc
+  same_status (replied command is status text reply) (replied command' is' status' text' reply') =
+      same_command_status files command' status status' text text' (subst (λ m. IsReply m (Some files) status text) (one_command command command' is is') reply) reply'
+
+  pub same_text : IsTrue (words_determine_text (command_of words)) → {status other : ℕ} {text line : List ℕ} → Answer words (Some files) status text → Answer words (Some files) other line → text ≡ line
+  same_text determined (not_understood e) (not_understood e') = refl
+  same_text determined (not_understood e) (replied command is status text reply) = let differ : None ≡ Some command = sym e ∙ is in cc
+  same_text determined (replied command is status text reply) (not_understood e) = let differ : None ≡ Some command = sym e ∙ is in cc
+  same_text determined (replied command is status text reply) (replied command' is' status' text' reply') =
+      same_command_text files command' (subst (λ o. IsTrue (words_determine_text o)) is' determined) status status' text text'
+      (subst (λ m. IsReply m (Some files) status text) (one_command command command' is is') reply) reply'

@@ -1,11 +1,3 @@
-pub mod Frame
-pub mod StageLine
-pub mod FirstForm
-pub mod Reading
-pub mod FormNetlist
-pub mod Evaluation
-pub mod Judging
-pub mod VerdictText
 pub mod Command
 pub mod Answer
 pub mod Replies

@@ -2,24 +2,13 @@
 #![tactic(auto)]
 
 mod command;
-mod cursor;
 #[cfg(test)]
 mod edge_tests;
-mod evaluate;
 mod file_source;
-mod first_form;
-mod form_netlist;
-mod form_stage;
-#[cfg(test)]
-mod form_tests;
-mod judge;
-mod label;
 mod reply;
-mod stage_line;
 mod stdout_sink;
 mod tally;
 mod top;
-mod verdict_text;
 mod words;
 
 use file_source::FileSource;

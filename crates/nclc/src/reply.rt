@@ -1,19 +1,13 @@
 //! What a call has to say.
-ghost use Rattle.std.specs.Prelude.{◌≢◌, ◌≤◌, [], length, IfOk, IsTrue, IsErrOf};
+ghost use Rattle.std.specs.Prelude.{◌≡◌, ◌≤◌, ◌≢◌, [], IfOk, IsTrue, IsErrOf};
 ghost use Rattle.ncl_base.specs.Files.{Rose};
 ghost use Rattle.nclc.specs.Command.{AllowsFiles, files_named, check as check_command};
-ghost use Rattle.nclc.specs.Answer.{IsCheckReply};
-ghost use Rattle.nclc.specs.FirstForm.{IsForm};
-ghost use Rattle.nclc.specs.Reading.{form_of};
-ghost use Rattle.nclc.specs.Replies.{command_meant, Gives, AnswersCommand, IsVerdictOn};
+ghost use Rattle.nclc.specs.Answer.{status_of};
+ghost use Rattle.nclc.specs.Replies.{command_meant, AnswersCommand};
 
 use crate::command::Command;
-use crate::first_form::{FirstForm, read_form};
-use crate::form_netlist::netlist_of_form;
-use crate::form_stage::stage_of_form;
-use crate::judge::judge;
-use crate::verdict_text::{status_of, verdict_text};
-use ncl_base::{LoadFault, MOST_BYTES, Memory, Source, load};
+use ncl_base::{LoadFault, Source, load};
+use ncl_check::{Outcome, check};
 use std::alloc::Global;
 
 /// A status, and the whole text that belongs to it.
@@ -46,23 +40,29 @@ pub fn carry_out<S: Source>(
     ensures ok { IfOk result (AnswersCommand (S.files source.old) (command_meant command.entry)) }
     ensures read { IsErrOf result Fault.Read → Rose (S.faults source.old) (S.faults source.new) }
     ensures read_named { IsErrOf result Fault.Read → files_named (command_meant command.entry) ≢ [] }
+    ensures files { S.files source.new ≡ S.files source.old }
+    ensures allowed { S.allowed source.new ≡ S.allowed source.old }
+    ensures faults { S.faults source.old ≤ S.faults source.new }
 {
     match command {
-        Command::Check(file) => check(alloc, source, file),
+        Command::Check(file) => check_file(alloc, source, file),
     }
 }
 
 /// Loads a file and replies to `check` of it.
 ///
-/// Linear in the file's bytes.
-fn check<S: Source>(alloc: Global, source: &mut S, file: &str) -> Result<Reply, Fault>
+/// Costs a pass over the bytes, and the check.
+fn check_file<S: Source>(alloc: Global, source: &mut S, file: &str) -> Result<Reply, Fault>
     requires { IsTrue (S.allowed source.old file.now) }
     ensures ok { IfOk result (AnswersCommand (S.files source.old) (check_command file.now)) }
     ensures read { IsErrOf result Fault.Read → Rose (S.faults source.old) (S.faults source.new) }
+    ensures files { S.files source.new ≡ S.files source.old }
+    ensures allowed { S.allowed source.new ≡ S.allowed source.old }
+    ensures faults { S.faults source.old ≤ S.faults source.new }
 {
     match load(alloc, source, file) {
-        Ok(bytes) => match reply_to(alloc, &bytes) {
-            Ok(reply) => Ok(reply),
+        Ok(bytes) => match check(alloc, &bytes) {
+            Ok(reply) => Ok(Reply::Made(status_of(reply.outcome), reply.text)),
             Err(_) => Err(Fault::Memory),
         },
         Err(LoadFault::TooLong) => Ok(Reply::Fixed(3, b"netlist: too long\n")),
@@ -71,30 +71,14 @@ fn check<S: Source>(alloc: Global, source: &mut S, file: &str) -> Result<Reply, 
     }
 }
 
-/// The reply of `check` to the bytes of a file that is not too long.
-///
-/// No more bytes are looked at than a text of the form can have.
-fn reply_to(alloc: Global, bytes: &[u8]) -> Result<Reply, Memory>
-    requires { length bytes.now ≤ MOST_BYTES }
-    ensures { IfOk result (Gives (IsCheckReply bytes.now)) }
+/// The status of a check that ends so.
+fn status_of(outcome: Outcome) -> u8
+    ensures { result ≡ status_of outcome }
 {
-    match read_form(alloc, bytes) {
-        Ok(Some(form)) => verdict_on(alloc, &form),
-        Ok(None) => Ok(Reply::Fixed(3, b"netlist: form not built\n")),
-        Err(_) => Err(Memory),
+    match outcome {
+        Outcome::Accepted => 0,
+        Outcome::Refused => 1,
+        Outcome::NoPipeline => 3,
+        Outcome::Unjudged => 6,
     }
-}
-
-/// The verdict on a form, told.
-///
-/// The netlist is built of the form's parts, and its one stage is judged by evaluating it.
-fn verdict_on(alloc: Global, form: &FirstForm<'_>) -> Result<Reply, Memory>
-    requires { IsForm (form_of form.now) }
-    ensures { IfOk result (Gives (IsVerdictOn (form_of form.now))) }
-{
-    let netlist = netlist_of_form(alloc, form)?;
-    let stage = stage_of_form(alloc, form)?;
-    let verdict = judge(alloc, &stage, netlist.nets().len())?;
-    let text = verdict_text(alloc, &netlist, 1, &verdict, 1)?;
-    Ok(Reply::Made(status_of(&verdict), text))
 }

@@ -1,7 +1,7 @@
 //! The top call: all that the program does, between a source of files and a sink of bytes.
 ghost use Rattle.std.specs.Prelude.{◌≡◌, ◌≤◌, map};
 ghost use Rattle.nclc.specs.Command.{AllowsNamed};
-ghost use Rattle.nclc.specs.Answer.{Says, Tells, Ran, AnswersUnlessFaults, AnswersExactly, AcceptsSound};
+ghost use Rattle.nclc.specs.Answer.{Says, Tells, Ran, AnswersUnlessFaults, AnswersExactly, AcceptsWhatWorks};
 ghost use Rattle.nclc.specs.Replies.{Gives};
 
 use crate::command::Command;
@@ -13,9 +13,11 @@ use std::thread::Threads;
 /// Answers the words that follow the program's name, and gives the status to end with.
 ///
 /// Reads the files that the words name from the source, makes the whole text, and writes it to the
-/// sink. The status is 0 where a netlist is accepted and 1 where it is refused, 2 where the words are
-/// of no form, 3 where a file can't be judged, 4 where the source failed, 5 where the sink failed and
-/// 7 where memory was refused. Linear in the bytes of the files and of the text.
+/// sink. The status is 0 where a netlist is accepted and 1 where a stage of it has a fault, 2 where the
+/// words are of no form, 3 where a file is no netlist of a pipeline, 4 where the source failed, 5 where the
+/// sink failed, 6 where a stage is too large to be judged and 7 where memory was refused. A netlist that is
+/// accepted works at every gate delay: clause `headline`. Costs what the command costs, and a pass over the
+/// text.
 pub fn run<R: Threads + Sync, S: Source, K: Sink>(
     rt: &R,
     alloc: Global,
@@ -36,14 +38,18 @@ pub fn run<R: Threads + Sync, S: Source, K: Sink>(
         (record { written = K.written sink.old; faults = K.faults sink.old })
         (record { written = K.written sink.new; faults = K.faults sink.new })
         result }
-    ensures sound { AcceptsSound (map (λ word. word.now) words.now)
-        (record { files = S.files source.old; faults = S.faults source.old })
-        result }
     ensures exact { AnswersExactly (map (λ word. word.now) words.now)
         (record { files = S.files source.old; faults = S.faults source.old })
         (record { written = K.written sink.old; faults = K.faults sink.old })
         (record { written = K.written sink.new; faults = K.faults sink.new })
         result }
+    ensures headline { AcceptsWhatWorks (map (λ word. word.now) words.now)
+        (record { files = S.files source.old; faults = S.faults source.old })
+        result }
+    ensures files { S.files source.new ≡ S.files source.old }
+    ensures allowed { S.allowed source.new ≡ S.allowed source.old }
+    ensures source_faults { S.faults source.old ≤ S.faults source.new }
+    ensures sink_faults { K.faults sink.old ≤ K.faults sink.new }
 {
     let _ = rt;
     match answer(alloc, words, source) {
@@ -55,9 +61,12 @@ pub fn run<R: Threads + Sync, S: Source, K: Sink>(
 /// What the words are answered.
 fn answer<S: Source>(alloc: Global, words: &[&str], source: &mut S) -> Reply
     requires { AllowsNamed (S.allowed source.old) (map (λ word. word.now) words.now) }
-    ensures { Gives (Says (map (λ word. word.now) words.now)
+    ensures says { Gives (Says (map (λ word. word.now) words.now)
         (record { files = S.files source.old; faults = S.faults source.old })
         (record { files = S.files source.new; faults = S.faults source.new })) result }
+    ensures files { S.files source.new ≡ S.files source.old }
+    ensures allowed { S.allowed source.new ≡ S.allowed source.old }
+    ensures faults { S.faults source.old ≤ S.faults source.new }
 {
     let Some(command) = Command::parse(words) else {
         return Reply::Fixed(2, b"words not understood\n");
@@ -71,10 +80,11 @@ fn answer<S: Source>(alloc: Global, words: &[&str], source: &mut S) -> Reply
 
 /// Writes a text, and gives its status, or 5 where the sink fails.
 fn tell<K: Sink>(sink: &mut K, said: u8, text: &[u8]) -> u8
-    ensures { Tells
+    ensures tells { Tells
         (record { written = K.written sink.old; faults = K.faults sink.old })
         (record { written = K.written sink.new; faults = K.faults sink.new })
         said text.now result }
+    ensures faults { K.faults sink.old ≤ K.faults sink.new }
 {
     match deliver(sink, text) {
         Ok(()) => said,
@@ -83,6 +93,8 @@ fn tell<K: Sink>(sink: &mut K, said: u8, text: &[u8]) -> u8
 }
 
 #[cfg(test)]
-mod stage_tests;
+mod check_tests;
+#[cfg(test)]
+mod netlists;
 #[cfg(test)]
 mod tests;

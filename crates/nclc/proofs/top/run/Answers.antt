@@ -1,28 +1,28 @@
 use Rattle.std.proofs.Common.{refl}
-use Rattle.nclc.proofs.Acceptance.{accepts_sound}
+use Rattle.nclc.proofs.Acceptance.{accepts_what_works}
 use Rattle.nclc.proofs.Ends.{ran_by, answers_unless_faults, answers_exactly}
 use Rattle.nclc.proofs.top.run.Goals as goal
 
 pub returns-in-Made-clause-complete : goal.returns-in-Made-clause-complete
 returns-in-Made-clause-complete g c =
-    answers_unless_faults _ _ _ _ _ _ (ran_by _ _ _ _ _ _ _ _ _ c.in-Made.ensures c.deref.ensures.value c.tell.ensures)
+    answers_unless_faults _ _ _ _ _ _ (ran_by _ _ _ _ _ _ _ _ _ c.in-Made.ensures.says c.deref.ensures.value c.tell.ensures.tells)
 
 pub returns-in-Made-clause-exact : goal.returns-in-Made-clause-exact
 returns-in-Made-clause-exact g c =
-    answers_exactly _ _ _ _ _ _ (ran_by _ _ _ _ _ _ _ _ _ c.in-Made.ensures c.deref.ensures.value c.tell.ensures)
+    answers_exactly _ _ _ _ _ _ (ran_by _ _ _ _ _ _ _ _ _ c.in-Made.ensures.says c.deref.ensures.value c.tell.ensures.tells)
+
+pub returns-in-Made-clause-headline : goal.returns-in-Made-clause-headline
+returns-in-Made-clause-headline g c =
+    accepts_what_works _ _ _ _ _ _ (ran_by _ _ _ _ _ _ _ _ _ c.in-Made.ensures.says c.deref.ensures.value c.tell.ensures.tells)
 
 pub returns-in-Fixed-clause-complete : goal.returns-in-Fixed-clause-complete
 returns-in-Fixed-clause-complete g c =
-    answers_unless_faults _ _ _ _ _ _ (ran_by _ _ _ _ _ _ _ _ _ c.in-Fixed.ensures refl c.tell-in-Fixed.ensures)
+    answers_unless_faults _ _ _ _ _ _ (ran_by _ _ _ _ _ _ _ _ _ c.in-Fixed.ensures.says refl c.tell-in-Fixed.ensures.tells)
 
 pub returns-in-Fixed-clause-exact : goal.returns-in-Fixed-clause-exact
 returns-in-Fixed-clause-exact g c =
-    answers_exactly _ _ _ _ _ _ (ran_by _ _ _ _ _ _ _ _ _ c.in-Fixed.ensures refl c.tell-in-Fixed.ensures)
+    answers_exactly _ _ _ _ _ _ (ran_by _ _ _ _ _ _ _ _ _ c.in-Fixed.ensures.says refl c.tell-in-Fixed.ensures.tells)
 
-pub returns-in-Made-clause-sound : goal.returns-in-Made-clause-sound
-returns-in-Made-clause-sound g c =
-    accepts_sound _ _ _ _ _ _ (ran_by _ _ _ _ _ _ _ _ _ c.in-Made.ensures c.deref.ensures.value c.tell.ensures)
-
-pub returns-in-Fixed-clause-sound : goal.returns-in-Fixed-clause-sound
-returns-in-Fixed-clause-sound g c =
-    accepts_sound _ _ _ _ _ _ (ran_by _ _ _ _ _ _ _ _ _ c.in-Fixed.ensures refl c.tell-in-Fixed.ensures)
+pub returns-in-Fixed-clause-headline : goal.returns-in-Fixed-clause-headline
+returns-in-Fixed-clause-headline g c =
+    accepts_what_works _ _ _ _ _ _ (ran_by _ _ _ _ _ _ _ _ _ c.in-Fixed.ensures.says refl c.tell-in-Fixed.ensures.tells)

@@ -59,7 +59,7 @@ fn fault_text(alloc: Global, fault: &NetFault) -> Result<Vec<u8>, Memory> {
         NetFault::UnknownCell(at) => format!(in alloc; "unknown cell {at}")?,
         NetFault::BadPins(at) => format!(in alloc; "bad pins {at}")?,
         NetFault::Unsupported(at) => format!(in alloc; "unsupported {at}")?,
-        NetFault::Memory => format!(in alloc; "memory")?,
+        NetFault::Memory => return Err(Memory),
         NetFault::Build(fault) => return build_text(alloc, fault),
     };
     Ok(text.into_bytes())
@@ -72,7 +72,7 @@ fn build_text(alloc: Global, fault: &BuildFault) -> Result<Vec<u8>, Memory> {
         BuildFault::SameName(name) => (b"two cells ", name.bytes()),
         BuildFault::TwoDrivers(name) => (b"two drivers of ", name.bytes()),
         BuildFault::NoDriver(name) => (b"no driver of ", name.bytes()),
-        BuildFault::Memory => (b"memory", b""),
+        BuildFault::Memory => return Err(Memory),
     };
     let mut text: Vec<u8> = Vec::new(alloc);
     text.extend_from_slice(what)?;

@@ -1,0 +1,12 @@
+pub mod BeadTests
+pub mod Canonical
+pub mod Words
+pub mod Growth
+pub mod Step
+pub mod MemoLaws
+pub mod Joining
+pub mod Applying
+pub mod Stops
+pub mod Holding
+pub mod Padding
+pub mod HeldSets

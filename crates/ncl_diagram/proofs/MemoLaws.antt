@@ -1,0 +1,87 @@
+-- The memo of one operation.
+use Rattle.std.proofs.Common.{◌≡◌, ℕ, zero, suc, ◌+◌, ◌<◌, List, [], ◌∷◌, ◌++◌, Bool, true, false, not, if◌then◌else◌, length, slice_get, Some, None, Option, sym, ◌∙◌, ap, refl, arith, subst, ◌⊎◌, inl, inr, nat_eq, ◌&&◌}
+use Rattle.std.proofs.lemmas.Grind.{common_steps}
+use Rattle.std.proofs.lemmas.Bool.{or_parts, and_parts}
+use Rattle.std.proofs.lemmas.Bool.Decides.{nat_tests}
+use Rattle.std.specs.List.{list_any, position_or_len}
+use Rattle.ncl_space.specs.declared.space.Ref.{Ref}
+use Rattle.ncl_diagram.specs.declared.memo.Key.{Key}
+use Rattle.ncl_diagram.specs.declared.nodes.Node.{Node}
+use Rattle.ncl_diagram.specs.Nodes.{is_node, node_at}
+use Rattle.ncl_diagram.specs.Memo.{KeepsKeys, Forgets}
+use Rattle.ncl_diagram.proofs.Canonical.{same_node}
+
+pub none_before : {X : Type 0} (p : X → Bool) (xs : List X) → list_any p xs ≡ false → position_or_len p xs ≡ length xs
+none_before p [] h = refl
+none_before p (x ∷ xs) h = let q = or_parts (p x) (list_any p xs) h in grind (arith, common_steps, q.0, none_before p xs q.1)
+
+pub absent_by_added : (b a : Bool) → a ≡ true → a ≡ not b → b ≡ false
+absent_by_added true a e n = absurd (grind arith)
+absent_by_added false a e n = refl
+
+pub get_push : {X : Type 0} (xs : List X) (x : X) (i : ℕ) → i ≡ length xs → slice_get (xs ++ x ∷ []) i ≡ Some x
+get_push [] x zero e = refl
+get_push [] x (suc i) e = absurd (omega arith)
+get_push (y ∷ xs) x zero e = absurd (omega arith)
+get_push (y ∷ xs) x (suc i) e = get_push xs x i (omega arith)
+
+pub get_kept : {X : Type 0} (xs : List X) (y : X) (i : ℕ) (x : X) → slice_get xs i ≡ Some x → slice_get (xs ++ y ∷ []) i ≡ Some x
+get_kept [] y i x e = absurd (grind arith)
+get_kept (z ∷ xs) y zero x e = e
+get_kept (z ∷ xs) y (suc i) x e = get_kept xs y i x e
+
+-- what is got of a list with one more
+pub get_last : {X : Type 0} (xs : List X) (y : X) (i : ℕ) (x : X) → slice_get (xs ++ y ∷ []) i ≡ Some x → (slice_get xs i ≡ Some x) ⊎ ((i ≡ length xs) × (y ≡ x))
+get_last [] y zero x e = inr (refl, cc)
+get_last [] y (suc i) x e = absurd (grind arith)
+get_last (z ∷ xs) y zero x e = inl e
+get_last (z ∷ xs) y (suc i) x e = more (get_last xs y i x e)
+  where
+    more : (slice_get xs i ≡ Some x) ⊎ ((i ≡ length xs) × (y ≡ x)) → (slice_get (z ∷ xs) (suc i) ≡ Some x) ⊎ ((suc i ≡ suc (length xs)) × (y ≡ x))
+    more (inl g) = inl g
+    more (inr p) = inr (ap suc p.0, p.1)
+
+pub kept_by_push : (b : Bool) (keys more : List Key) (key : Key) → more ≡ (if b then keys else keys ++ key ∷ []) → KeepsKeys keys more
+kept_by_push true keys more key e = record { kept = λ i k g. subst (λ (l : List Key). slice_get l i ≡ Some k) (sym e) g }
+kept_by_push false keys more key e = record { kept = λ i k g. subst (λ (l : List Key). slice_get l i ≡ Some k) (sym e) (get_kept keys key i k g) }
+
+pub short : {X : Type 0} (xs : List X) (i : ℕ) (x : X) → slice_get xs i ≡ Some x → i < length xs
+short [] i x e = absurd (grind arith)
+short (y ∷ xs) zero x e = omega arith
+short (y ∷ xs) (suc i) x e = omega (arith, short xs i x e)
+
+pub forgets_by_push : (b : Bool) (keys more : List Key) (key : Key) (found known : List (Option Ref)) → length keys ≡ length found → b ≡ false → more ≡ (if b then keys else keys ++ key ∷ []) → known ≡ found ++ None ∷ [] → Forgets keys found more known
+forgets_by_push true keys more key found known long none m k = absurd (grind arith)
+forgets_by_push false keys more key found known long none m k = record {
+  was = λ i q r g h.
+      by (get_last keys key i q (subst (λ (l : List Key). slice_get l i ≡ Some q) m g)) (get_last found None i (Some r) (subst (λ (l : List (Option Ref)). slice_get l i ≡ Some (Some r)) k h));
+}
+  where
+    by : {i : ℕ} {q : Key} {r : Ref} → (slice_get keys i ≡ Some q) ⊎ ((i ≡ length keys) × (key ≡ q)) → (slice_get found i ≡ Some (Some r)) ⊎ ((i ≡ length found) × (None ≡ Some r)) → (slice_get keys i ≡ Some q) × (slice_get found i ≡ Some (Some r))
+    by (inl a) (inl b) = (a, b)
+    by (inr p) (inl b) = let s = short found _ _ b in let e = p.0 in absurd (omega arith)
+    by a (inr p) = let e = p.1 in absurd (grind arith)
+
+pub is_node_only : (x y : Node) → is_node x y ≡ true → x ≡ y
+is_node_only x y e =
+    let p = and_parts (nat_eq x.bit y.bit) (nat_eq x.low.place y.low.place && nat_eq x.high.place y.high.place) e in
+    let q = and_parts (nat_eq x.low.place y.low.place) (nat_eq x.high.place y.high.place) p.1 in
+    let a = p.0 in
+    let b = q.0 in
+    let d = q.1 in
+    same_node x y (grind (arith, nat_tests)) (grind (arith, nat_tests)) (grind (arith, nat_tests))
+
+pub is_node_self : (x : Node) → is_node x x ≡ true
+is_node_self x = grind (arith, nat_tests)
+
+pub absent_nodes : (x : Node) (nodes : List Node) → list_any (is_node x) nodes ≡ false → (k : ℕ) → slice_get nodes k ≡ Some x → ⊥
+absent_nodes x [] none k g = absurd (grind arith)
+absent_nodes x (y ∷ nodes) none zero g =
+    let p = (or_parts (is_node x y) (list_any (is_node x) nodes) none).0 in
+    let is : y ≡ x = cc in
+    let t : is_node x y ≡ true = ap (is_node x) is ∙ is_node_self x in
+    absurd (grind arith)
+absent_nodes x (y ∷ nodes) none (suc k) g = absent_nodes x nodes (or_parts (is_node x y) (list_any (is_node x) nodes) none).1 k g
+
+pub node_at_two : (nodes : List Node) (k : ℕ) → node_at nodes (k + 2) ≡ slice_get nodes k
+node_at_two nodes k = let e : k + 2 ≡ suc (suc k) = omega arith in ap (node_at nodes) e

@@ -1,0 +1,3 @@
+pub mod Nodes
+pub mod Memo
+pub mod Holding

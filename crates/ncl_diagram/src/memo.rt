@@ -1,0 +1,63 @@
+//! What one operation has found so far.
+ghost use Rattle.std.specs.Prelude.{◌≡◌, ◌+◌, ◌≤◌, ◌<◌, [], ◌∷◌, ◌++◌, true, false, IfOk, OnOk, OnErr, length, slice_get, Some, set};
+ghost use Rattle.ncl_diagram.specs.Memo.{KeepsKeys, Forgets};
+
+use ncl_space::{Ref, SpaceFault};
+use indexmap::IndexSet;
+
+/// The operands of one operation, filled up with the constant 0.
+#[derive(Clone, Copy, Debug, PartialEq, Eq, Hash)]
+pub struct Key {
+    pub(crate) a: Ref,
+    pub(crate) b: Ref,
+    pub(crate) c: Ref,
+    pub(crate) d: Ref,
+}
+
+/// The keys of one operation, and beside each its answer, where there is one.
+#[derive(Drop)]
+pub struct Memo {
+    pub(crate) keys: IndexSet<Key>,
+    pub(crate) found: Vec<Option<Ref>>,
+}
+
+impl Memo {
+    /// The index of a key, found or put last, and its answer.
+    pub(crate) fn begin(&mut self, key: Key) -> Result<(usize, Option<Ref>), SpaceFault>
+        requires { length self.old.keys.keys ≡ length self.old.found.items }
+        ensures at { IfOk result (λ r. slice_get self.new.keys.keys r.0 ≡ Some key) }
+        ensures known { IfOk result (λ r. slice_get self.new.found.items r.0 ≡ Some r.1) }
+        ensures long { OnOk result (length self.new.keys.keys ≡ length self.new.found.items) }
+        ensures kept { OnOk result (KeepsKeys self.old.keys.keys self.new.keys.keys) }
+        ensures answers { OnOk result (Forgets self.old.keys.keys self.old.found.items self.new.keys.keys self.new.found.items) }
+    {
+        let Ok((at, added)) = self.keys.insert_full(key) else {
+            return Err(SpaceFault::Memory);
+        };
+        if !added {
+            return Ok((at, self.found[at]));
+        }
+        let Ok(()) = self.found.push(None) else {
+            return Err(SpaceFault::Memory);
+        };
+        Ok((at, None))
+    }
+
+    /// Notes the answer of the key at an index.
+    pub(crate) fn note(&mut self, at: usize, answer: Ref)
+        requires { at < length self.old.found.items }
+        ensures keys { self.new.keys.keys ≡ self.old.keys.keys }
+        ensures found { self.new.found.items ≡ set self.old.found.items at (Some answer) }
+    {
+        self.found[at] = Some(answer);
+    }
+
+    /// Nothing is found yet.
+    pub(crate) fn empty(&mut self)
+        ensures keys { self.new.keys.keys ≡ [] }
+        ensures found { self.new.found.items ≡ [] }
+    {
+        self.keys.truncate(0);
+        self.found.truncate(0);
+    }
+}

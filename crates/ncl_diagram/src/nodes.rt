@@ -1,0 +1,95 @@
+//! The node table of a diagram.
+ghost use Rattle.std.specs.Prelude.{ℕ, ◌≡◌, ◌<◌, ◌≤◌, ◌+◌, ◌-◌, [], ◌∷◌, ◌++◌, false, IfOk, OnErr, IsErrOf, length, slice_get, Some, if◌then◌else◌};
+ghost use Rattle.std.specs.List.{list_any};
+ghost use Rattle.ncl_diagram.specs.Nodes.{is_node, node_at, IsCanonical};
+
+use ncl_space::{Ref, SpaceFault};
+use indexmap::IndexSet;
+use std::alloc::Global;
+use std::marker::Model;
+
+/// A node: the bit that it reads, and where it goes on from a 0 and from a 1.
+#[derive(Clone, Copy, Debug, PartialEq, Eq, Hash)]
+pub struct Node {
+    pub(crate) bit: u8,
+    pub(crate) low: Ref,
+    pub(crate) high: Ref,
+}
+
+/// Nodes without doubles, seen as their list.
+#[derive(Drop)]
+pub struct Nodes {
+    set: IndexSet<Node>,
+}
+
+impl Model for Nodes {
+    ghost use Rattle.std.specs.Prelude.{List};
+    ghost use Rattle.ncl_diagram.specs.declared.nodes.Node.{Node};
+
+    ghost Value = { List Node };
+
+    ghost view = { λ a. a.set.keys };
+}
+
+impl Nodes {
+    /// No nodes.
+    pub fn new(alloc: Global) -> Nodes
+        ensures none { result ≡ [] }
+        ensures canonical { (n : ℕ) → IsCanonical n result }
+    {
+        Nodes {
+            set: IndexSet::new(alloc),
+        }
+    }
+
+    /// How many there are.
+    pub fn len(&self) -> usize
+        ensures { result ≡ length self.now }
+    {
+        self.set.len()
+    }
+
+    /// The node at a place; none at the constants.
+    pub(crate) fn read(&self, at: Ref) -> Option<Node>
+        requires { at.place < length self.now + 2 }
+        ensures { result ≡ node_at self.now at.place }
+    {
+        if at.place < 2 {
+            return None;
+        }
+        Some(self.set.as_slice()[at.place as usize - 2])
+    }
+
+    /// The place of the node, found, or added where the limit allows it.
+    pub(crate) fn find_or_add(&mut self, node: Node, limit: u32) -> Result<Ref, SpaceFault>
+        requires { length self.old ≤ limit }
+        ensures at { IfOk result (λ r. node_at self.new r.place ≡ Some node) }
+        ensures added { IfOk result (λ _. self.new ≡ (if list_any (is_node node) self.old then self.old else self.old ++ node ∷ [])) }
+        ensures few { length self.new ≤ limit }
+        ensures err { OnErr result (self.new ≡ self.old) }
+        ensures full { IsErrOf result SpaceFault.Full → length self.old ≡ limit }
+        ensures absent { IsErrOf result SpaceFault.Full → list_any (is_node node) self.old ≡ false }
+    {
+        let count = self.set.len();
+        if count >= limit as usize {
+            let Some(at) = self.set.get_index_of(&node) else {
+                return Err(SpaceFault::Full);
+            };
+            if at >= 4_294_967_294 {
+                return Err(SpaceFault::Memory);
+            }
+            return Ok(Ref {
+                place: at as u32 + 2,
+            });
+        }
+        if count >= 4_294_967_294 {
+            return Err(SpaceFault::Memory);
+        }
+        let Ok((at, _)) = self.set.insert_full(node) else {
+            return Err(SpaceFault::Memory);
+        };
+        Ok(Ref {
+            place: at as u32 + 2,
+        })
+    }
+}

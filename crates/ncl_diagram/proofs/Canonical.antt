@@ -97,7 +97,7 @@ finish n nodes level x y c (inl r) (inr p) f h = absurd (c.reduced r.k r.node r.
 finish n nodes level x y c (inr p) (inl r) f h = absurd (c.reduced r.k r.node r.is (sym r.low ∙ sym f ∙ p.low ∙ sym p.high ∙ h ∙ r.high))
 finish n nodes level x y c (inr p) (inr q) f h = sym p.low ∙ f ∙ q.low
 
-bottom : (n : ℕ) (nodes : List Node) (place : ℕ) → IsCanonical n nodes → n ≤ level_of n nodes place → place < length nodes + 2 → place < 2
+pub bottom : (n : ℕ) (nodes : List Node) (place : ℕ) → IsCanonical n nodes → n ≤ level_of n nodes place → place < length nodes + 2 → place < 2
 bottom n nodes zero c l t = omega arith
 bottom n nodes (suc zero) c l t = omega arith
 bottom n nodes (suc (suc k)) c l t =

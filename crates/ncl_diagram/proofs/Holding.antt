@@ -88,17 +88,22 @@ all_above : (n : ℕ) (nodes : List Node) (ps : List ℕ) → Above n nodes 0 ps
 all_above n nodes [] = tt
 all_above n nodes (p ∷ ps) = (omega arith, all_above n nodes ps)
 
-pub only_added : (n : ℕ) (kind : Kind) (a b : List Node) (ps : List ℕ) → IsCanonical n a → Grown a b → There a ps → AddsBeads n kind (length a) (length b) b ps → (t : List Bool) → Held n b t → Held n a t ⊎ (is_bead (beads_of n (gate_from kind a n 0 ps)) t ≡ true)
-only_added n kind a b ps c g th adds t h = by (in_two h.0 (length a))
+-- what is held was held, or is the bead of a node that came
+pub only_by : (n : ℕ) (a b : List Node) (made : List Bool) → IsCanonical n a → Grown a b → ((k : ℕ) (x : Node) → length a ≤ k → slice_get b k ≡ Some x → is_bead (beads_of n made) (bead_of n b k x) ≡ true) → (t : List Bool) → Held n b t → Held n a t ⊎ (is_bead (beads_of n made) t ≡ true)
+only_by n a b made c g came t h = by (in_two h.0 (length a))
   where
-    by : (h.0 < length a) ⊎ (length a ≤ h.0) → Held n a t ⊎ (is_bead (beads_of n (gate_from kind a n 0 ps)) t ≡ true)
+    by : (h.0 < length a) ⊎ (length a ≤ h.0) → Held n a t ⊎ (is_bead (beads_of n made) t ≡ true)
     by (inl lt) =
         let q = get_there a h.0 lt in
         let x : q.0 ≡ h.1 = some_only q.0 h.1 (sym (g.kept h.0 q.0 q.1) ∙ h.2) in
         inl (h.0, h.1, q.1 ∙ ap (λ (z : Node). Some z) x, sym (bead_grown n a b c g h.0 h.1 lt) ∙ h.3)
-    by (inr le) =
-        let bead = adds h.0 h.1 le (get_within b h.0 h.1 h.2) h.2 n 0 (omega arith) (all_above n b ps) in
-        inr ((λ i. is_bead (beads_of n (sym (gate_grown n kind a b c g n 0 ps th) i)) (sym h.3 i)) ∙ bead)
+    by (inr le) = inr (sym (ap (is_bead (beads_of n made)) h.3) ∙ came h.0 h.1 le h.2)
+
+pub only_added : (n : ℕ) (kind : Kind) (a b : List Node) (ps : List ℕ) → IsCanonical n a → Grown a b → There a ps → AddsBeads n kind (length a) (length b) b ps → (t : List Bool) → Held n b t → Held n a t ⊎ (is_bead (beads_of n (gate_from kind a n 0 ps)) t ≡ true)
+only_added n kind a b ps c g th adds =
+    only_by n a b (gate_from kind a n 0 ps) c g (λ k x le got.
+    ap (λ (u : List Bool). is_bead (beads_of n u) (bead_of n b k x)) (sym (gate_grown n kind a b c g n 0 ps th))
+    ∙ adds k x le (get_within b k x got) got n 0 (omega arith) (all_above n b ps))
 
 pub holds_only : (n : ℕ) (kind : Kind) (a b : List Node) (ps : List ℕ) → IsCanonical n a → Grown a b → There a ps → AddsBeads n kind (length a) (length b) b ps → HoldsOnly n a b (gate_from kind a n 0 ps)
 holds_only n kind a b ps c g th adds = record { kept = held_grown n a b c g; only = only_added n kind a b ps c g th adds }

@@ -10,3 +10,7 @@ pub mod Stops
 pub mod Holding
 pub mod Padding
 pub mod HeldSets
+pub mod Taking
+pub mod DiagramLaws
+pub mod Rails
+pub mod LeastLaws

@@ -66,7 +66,7 @@ gate_twice n kind nodes m level ps lt h =
     let r = all_pass n nodes level true ps lt h in
     gate_halves kind nodes m level ps ∙ (λ i. gate_from kind nodes m (level + 1) (l i) ++ gate_from kind nodes m (level + 1) (r i))
 
-table_twice : (n : ℕ) (nodes : List Node) (m level r : ℕ) → level < n → level + 1 ≤ level_of n nodes r → table_from nodes (suc m) level r ≡ table_from nodes m (level + 1) r ++ table_from nodes m (level + 1) r
+pub table_twice : (n : ℕ) (nodes : List Node) (m level r : ℕ) → level < n → level + 1 ≤ level_of n nodes r → table_from nodes (suc m) level r ≡ table_from nodes m (level + 1) r ++ table_from nodes m (level + 1) r
 table_twice n nodes m level r lt h =
     let l = passes n nodes level false r lt h in
     let q = passes n nodes level true r lt h in

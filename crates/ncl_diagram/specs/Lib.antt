@@ -1,3 +1,5 @@
 pub mod Nodes
 pub mod Memo
 pub mod Holding
+pub mod Diagram
+pub mod Leaves

@@ -27,6 +27,11 @@ node_at nodes zero = None
 node_at nodes (suc zero) = None
 node_at nodes (suc (suc k)) = slice_get nodes k
 
+-- the place of a constant
+abbrev pub constant_place : Bool → ℕ
+constant_place false = 0
+constant_place true = 1
+
 -- where a bit leads from a place
 abbrev pub child : ℕ → Bool → ℕ → Option Node → ℕ
 child level b place None = place

@@ -1,9 +1,11 @@
 //! Shared decision diagrams of the functions of a stage, as a space.
 #![tactic(auto)]
 
+mod diagram;
+mod least;
 mod memo;
 mod nodes;
 mod operation;
 
+pub use diagram::Diagram;
 pub use ncl_space::{Mark, Plain, Ref, Space, SpaceFault};
-pub use operation::{apply, same};

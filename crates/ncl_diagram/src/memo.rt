@@ -4,6 +4,7 @@ ghost use Rattle.ncl_diagram.specs.Memo.{KeepsKeys, Forgets};
 
 use ncl_space::{Ref, SpaceFault};
 use indexmap::IndexSet;
+use std::alloc::Global;
 
 /// The operands of one operation, filled up with the constant 0.
 #[derive(Clone, Copy, Debug, PartialEq, Eq, Hash)]
@@ -22,6 +23,14 @@ pub struct Memo {
 }
 
 impl Memo {
+    /// Nothing is found yet.
+    pub(crate) fn new(alloc: Global) -> Memo {
+        Memo {
+            keys: IndexSet::new(alloc),
+            found: Vec::new(alloc),
+        }
+    }
+
     /// The index of a key, found or put last, and its answer.
     pub(crate) fn begin(&mut self, key: Key) -> Result<(usize, Option<Ref>), SpaceFault>
         requires { length self.old.keys.keys ≡ length self.old.found.items }
@@ -52,7 +61,7 @@ impl Memo {
         self.found[at] = Some(answer);
     }
 
-    /// Nothing is found yet.
+    /// Forgets everything. Linear in the keys.
     pub(crate) fn empty(&mut self)
         ensures keys { self.new.keys.keys ≡ [] }
         ensures found { self.new.found.items ≡ [] }

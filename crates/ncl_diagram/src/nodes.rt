@@ -1,7 +1,7 @@
 //! The node table of a diagram.
-ghost use Rattle.std.specs.Prelude.{ℕ, ◌≡◌, ◌<◌, ◌≤◌, ◌+◌, ◌-◌, [], ◌∷◌, ◌++◌, false, IfOk, OnErr, IsErrOf, length, slice_get, Some, if◌then◌else◌};
+ghost use Rattle.std.specs.Prelude.{ℕ, ◌≡◌, ◌<◌, ◌≤◌, ◌+◌, ◌-◌, [], ◌∷◌, ◌++◌, false, IfOk, OnErr, IsErrOf, length, slice_get, take, Some, if◌then◌else◌};
 ghost use Rattle.std.specs.List.{list_any};
-ghost use Rattle.ncl_diagram.specs.Nodes.{is_node, node_at, IsCanonical};
+ghost use Rattle.ncl_diagram.specs.Nodes.{IsCanonical, constant_place, is_node, node_at};
 
 use ncl_space::{Ref, SpaceFault};
 use indexmap::IndexSet;
@@ -40,6 +40,13 @@ impl Nodes {
         Nodes {
             set: IndexSet::new(alloc),
         }
+    }
+
+    /// Leaves the first nodes alone. Linear in the nodes that go.
+    pub(crate) fn truncate(&mut self, count: usize)
+        ensures { self.new ≡ take count self.old }
+    {
+        self.set.truncate(count);
     }
 
     /// How many there are.
@@ -91,5 +98,14 @@ impl Nodes {
         Ok(Ref {
             place: at as u32 + 2,
         })
+    }
+}
+
+/// The place of a constant.
+pub(crate) fn constant(value: bool) -> Ref
+    ensures { result.place ≡ constant_place value }
+{
+    Ref {
+        place: u32::from(value),
     }
 }

@@ -1,50 +1,47 @@
-//! One operation of a diagram.
-ghost use Rattle.std.specs.Prelude.{◌≡◌, ◌↔◌, IsTrue, slice_index_or, ◌<◌, ◌≤◌, ◌+◌, ◌-◌, [], ◌∷◌, ◌++◌, true, false, map, min, nat_le, nat_eq, IfOk, OnOk, IsErrOf, IfSome, IfNone, OnErr, length, slice_get, Some, None, if◌then◌else◌};
+//! One operation of a diagram: the set function of a gate on functions, from their nodes.
+ghost use Rattle.std.specs.Prelude.{◌≡◌, ◌<◌, ◌≤◌, ◌+◌, ◌-◌, ◌∷◌, [], true, false, not, map, min, nat_le, nat_eq, slice_index_or, IfOk, OnOk, IsErrOf, IfSome, IfNone, OnErr, length};
 ghost use Rattle.std.specs.List.{list_any, list_all};
-ghost use Rattle.ncl_gates.specs.Gate.{arity_of, set_of};
-ghost use Rattle.ncl_diagram.specs.Nodes.{table_from, gate_from, HoldsWith, HoldsOnly, IsTooMuch, IsFilled, bit_or, level_of, child, branch, IsCanonical, Grown, There, Least, Leads, Joins, HasNoRoom, IsAnswer, AddsBeads, Lacks, IsStop, only_one};
-ghost use Rattle.std.specs.FinSet as set;
-ghost use Rattle.ncl_diagram.specs.Holding.{held_of, held_with};
-ghost use Rattle.ncl_space.specs.Functions.{gate_table};
-ghost use Rattle.ncl_diagram.specs.Memo.{places, KeepsKeys, AreAnswers};
+ghost use Rattle.ncl_gates.specs.Gate.{set_of};
+ghost use Rattle.ncl_space.specs.Bits.{is_set};
+ghost use Rattle.ncl_space.specs.Functions.{rail_table};
+ghost use Rattle.ncl_diagram.specs.Leaves.{Leaves};
+ghost use Rattle.ncl_diagram.specs.Memo.{AreAnswers, KeepsKeys, places};
+ghost use Rattle.ncl_diagram.specs.Nodes.{
+  AddsBeads,
+  Grown,
+  HasNoRoom,
+  IsAnswer,
+  IsCanonical,
+  IsFilled,
+  IsStop,
+  Joins,
+  Lacks,
+  Leads,
+  Least,
+  There,
+  bit_or,
+  branch,
+  child,
+  gate_from,
+  level_of,
+  only_one,
+};
 
 use crate::memo::{Key, Memo};
-use crate::nodes::{Node, Nodes};
-use ncl_space::{Ref, SpaceFault};
+use crate::nodes::{Node, Nodes, constant};
 use ncl_gates::Kind;
+use ncl_space::{Ref, SpaceFault, set_values};
 
-// the gate on four bits
-fn set_of_four(kind: Kind, a: bool, b: bool, c: bool, d: bool) -> bool
-    ensures { result ≡ set_of kind (a ∷ b ∷ c ∷ d ∷ []) }
+// What is known of a function without reading its nodes: bit 0 is 0 where it is 0 everywhere, and bit 1 is
+// 1 where it is 1 everywhere.
+fn known_values(at: Ref) -> u64
+    ensures possible { is_set result 0 ≡ not (nat_eq at.place 0) }
+    ensures certain { is_set result 1 ≡ nat_eq at.place 1 }
 {
-    match kind {
-        Kind::Th12 => a | b,
-        Kind::Th22 => a & b,
-        Kind::Th13 => a | b | c,
-        Kind::Th23 => (a & b) | (a & c) | (b & c),
-        Kind::Th33 => a & b & c,
-        Kind::Th23w2 => a | (b & c),
-        Kind::Th33w2 => (a & b) | (a & c),
-        Kind::Th14 => a | b | c | d,
-        Kind::Th24 => (a & b) | (a & c) | (a & d) | (b & c) | (b & d) | (c & d),
-        Kind::Th34 => (a & b & c) | (a & b & d) | (a & c & d) | (b & c & d),
-        Kind::Th44 => a & b & c & d,
-        Kind::Th24w2 => a | (b & c) | (b & d) | (c & d),
-        Kind::Th34w2 => (a & b) | (a & c) | (a & d) | (b & c & d),
-        Kind::Th44w2 => (a & b & c) | (a & b & d) | (a & c & d),
-        Kind::Th34w3 => a | (b & c & d),
-        Kind::Th44w3 => (a & b) | (a & c) | (a & d),
-        Kind::Th24w22 => a | b | (c & d),
-        Kind::Th34w22 => (a & b) | (a & c) | (a & d) | (b & c) | (b & d),
-        Kind::Th44w22 => (a & b) | (a & c & d) | (b & c & d),
-        Kind::Th54w22 => (a & b & c) | (a & b & d),
-        Kind::Th34w32 => a | (b & c) | (b & d),
-        Kind::Th54w32 => (a & b) | (a & c & d),
-        Kind::Th44w322 => (a & b) | (a & c) | (a & d) | (b & c),
-        Kind::Th54w322 => (a & b) | (a & c) | (b & c & d),
-        Kind::ThXor0 => (a & b) | (c & d),
-        Kind::ThAnd0 => (a & b) | (b & c) | (a & d),
-        Kind::Th24comp => (a & c) | (b & c) | (a & d) | (b & d),
+    match at.place {
+        0 => 0b00,
+        1 => 0b11,
+        _ => 0b01,
     }
 }
 
@@ -64,8 +61,8 @@ fn lesser(x: usize, y: usize) -> usize
     if x < y { x } else { y }
 }
 
-// where a bit leads from a place
-fn child(bit: u8, at: Ref, node: Option<Node>, value: bool) -> Ref
+/// Where a bit leads from a place.
+pub(crate) fn child(bit: u8, at: Ref, node: Option<Node>, value: bool) -> Ref
     ensures { result.place ≡ child bit value at.place node }
 {
     let Some(node) = node else {
@@ -180,23 +177,18 @@ fn stop(kind: Kind, key: Key) -> Option<Ref>
     ensures stop { IfSome result (λ r. IsStop kind (places key) r.place) }
     ensures none { IfNone result (list_any (nat_le 2) (places key) ≡ true) }
 {
-    if !set_of_four(
+    let values = set_values(
         kind,
-        key.a.place != 0,
-        key.b.place != 0,
-        key.c.place != 0,
-        key.d.place != 0,
-    ) {
-        return Some(Ref { place: 0 });
+        known_values(key.a),
+        known_values(key.b),
+        known_values(key.c),
+        known_values(key.d),
+    );
+    if values & 1 == 0 {
+        return Some(constant(false));
     }
-    if set_of_four(
-        kind,
-        key.a.place == 1,
-        key.b.place == 1,
-        key.c.place == 1,
-        key.d.place == 1,
-    ) {
-        return Some(Ref { place: 1 });
+    if values & 2 != 0 {
+        return Some(constant(true));
     }
     let one = operand(key);
     let all = is_only(key.a, one) & is_only(key.b, one) & is_only(key.c, one) & is_only(key.d, one);
@@ -268,7 +260,7 @@ fn operand_at(ins: &[Ref], at: usize) -> Ref
 }
 
 // the operands, filled up
-fn key_of(ins: &[Ref]) -> Key
+pub(crate) fn key_of(ins: &[Ref]) -> Key
     requires { length ins.now ≤ 4 }
     ensures { IsFilled (map (λ r. r.place) ins.now) (places result) }
 {
@@ -280,8 +272,8 @@ fn key_of(ins: &[Ref]) -> Key
     }
 }
 
-/// The gate's function of some functions, in a table of nodes that may have so many nodes.
-pub fn apply_to(
+/// The gate's function of some functions. The memo is empty before and after.
+pub(crate) fn apply_key(
     width: usize,
     limit: u32,
     kind: Kind,
@@ -293,17 +285,8 @@ pub fn apply_to(
     requires canonical { IsCanonical width nodes.old }
     requires few { length nodes.old ≤ limit }
     requires there { There nodes.old (places key) }
-    ensures canonical { IsCanonical width nodes.new }
-    ensures grown { Grown nodes.old nodes.new }
-    ensures few { length nodes.new ≤ limit }
-    ensures live { IfOk result (λ r. r.place < length nodes.new + 2) }
-    ensures table { IfOk result (λ r. table_from nodes.new width 0 r.place ≡ gate_from kind nodes.old width 0 (places key)) }
-    ensures holds { OnOk result (HoldsWith width nodes.old nodes.new (gate_from kind nodes.old width 0 (places key))) }
-    ensures only { HoldsOnly width nodes.old nodes.new (gate_from kind nodes.old width 0 (places key)) }
-    ensures full { IsErrOf result SpaceFault.Full → IsTooMuch width nodes.new (gate_from kind nodes.old width 0 (places key)) limit }
-    ensures held { OnOk result (held_of width nodes.new ≡ held_with width nodes.old (gate_from kind nodes.old width 0 (places key))) }
-    ensures fits { OnOk result (nat_le (set.len (held_with width nodes.old (gate_from kind nodes.old width 0 (places key)))) limit ≡ true) }
-    ensures large { IsErrOf result SpaceFault.Full → nat_le (set.len (held_with width nodes.old (gate_from kind nodes.old width 0 (places key)))) limit ≡ false }
+    ensures { Leaves width limit nodes.old nodes.new
+        (gate_from kind nodes.old width 0 (places key)) result }
 {
     memo.empty();
     match apply_at(width, limit, kind, key, nodes, memo) {
@@ -318,43 +301,24 @@ pub fn apply_to(
     }
 }
 
-/// Whether two functions are one.
-pub fn same(width: usize, nodes: &Nodes, x: Ref, y: Ref) -> bool
-    requires canonical { IsCanonical width nodes.now }
-    requires x { x.place < length nodes.now + 2 }
-    requires y { y.place < length nodes.now + 2 }
-    ensures same { IsTrue result ↔ (table_from nodes.now width 0 x.place ≡ table_from nodes.now width 0 y.place) }
-    ensures one { table_from nodes.now width 0 x.place ≡ table_from nodes.now width 0 y.place → x.place ≡ y.place }
-{
-    x.place == y.place
-}
-
-/// The gate's function of these functions.
-pub fn apply(
+/// The function that is 1 where a bit has this value.
+pub(crate) fn rail_node(
     width: usize,
     limit: u32,
-    kind: Kind,
-    ins: &[Ref],
     nodes: &mut Nodes,
-    memo: &mut Memo,
+    bit: usize,
+    value: bool,
 ) -> Result<Ref, SpaceFault>
     requires width { width ≤ 128 }
-    requires arity { length ins.now ≡ arity_of kind }
     requires canonical { IsCanonical width nodes.old }
     requires few { length nodes.old ≤ limit }
-    requires there { There nodes.old (map (λ r. r.place) ins.now) }
-    ensures canonical { IsCanonical width nodes.new }
-    ensures grown { Grown nodes.old nodes.new }
-    ensures few { length nodes.new ≤ limit }
-    ensures live { IfOk result (λ r. r.place < length nodes.new + 2) }
-    ensures table { IfOk result (λ r. table_from nodes.new width 0 r.place ≡ gate_table width kind (map (table_from nodes.old width 0) (map (λ r. r.place) ins.now))) }
-    ensures holds { OnOk result (HoldsWith width nodes.old nodes.new (gate_table width kind (map (table_from nodes.old width 0) (map (λ r. r.place) ins.now)))) }
-    ensures only { HoldsOnly width nodes.old nodes.new (gate_table width kind (map (table_from nodes.old width 0) (map (λ r. r.place) ins.now))) }
-    ensures full { IsErrOf result SpaceFault.Full → IsTooMuch width nodes.new (gate_table width kind (map (table_from nodes.old width 0) (map (λ r. r.place) ins.now))) limit }
-    ensures held { OnOk result (held_of width nodes.new ≡ held_with width nodes.old (gate_table width kind (map (table_from nodes.old width 0) (map (λ r. r.place) ins.now)))) }
-    ensures fits { OnOk result (nat_le (set.len (held_with width nodes.old (gate_table width kind (map (table_from nodes.old width 0) (map (λ r. r.place) ins.now))))) limit ≡ true) }
-    ensures large { IsErrOf result SpaceFault.Full → nat_le (set.len (held_with width nodes.old (gate_table width kind (map (table_from nodes.old width 0) (map (λ r. r.place) ins.now))))) limit ≡ false }
+    requires bit { bit < width }
+    ensures { Leaves width limit nodes.old nodes.new (rail_table width bit value) result }
 {
-    let key = key_of(ins);
-    apply_to(width, limit, kind, key, nodes, memo)
+    let low = constant(!value);
+    let high = constant(value);
+    match join(width, limit, nodes, bit as u8, low, high) {
+        Ok(r) => Ok(r),
+        Err(fault) => Err(fault),
+    }
 }

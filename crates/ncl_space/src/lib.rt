@@ -8,3 +8,4 @@ mod values;
 
 pub use plain::Plain;
 pub use space::{Mark, Ref, Space, SpaceFault};
+pub use values::set_values;

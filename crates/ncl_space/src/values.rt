@@ -8,7 +8,7 @@ use ncl_gates::Kind;
 /// The set function of a gate at 64 values of each of four pins. Pins that the gate doesn't have aren't
 /// read.
 #[tactic(auto, using(crate::proofs::BitLaws::word_bits))]
-pub(crate) fn set_values(kind: Kind, a: u64, b: u64, c: u64, d: u64) -> u64
+pub fn set_values(kind: Kind, a: u64, b: u64, c: u64, d: u64) -> u64
     ensures { (k : ℕ) →
         is_set result k ≡ set_of kind (is_set a k ∷ is_set b k ∷ is_set c k ∷ is_set d k ∷ []) }
 {

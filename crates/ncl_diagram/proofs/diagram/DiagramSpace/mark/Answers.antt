@@ -1,0 +1,10 @@
+use Rattle.std.proofs.Common.{◌≡◌, length, sym, subst, ap, ◌∙◌, arith}
+use Rattle.ncl_diagram.specs.Diagram.{DiagramData, IsDiagram}
+use Rattle.ncl_diagram.proofs.DiagramLaws.{IsSpace-diagram, MarksNow-diagram}
+use Rattle.ncl_diagram.proofs.diagram.DiagramSpace.mark.Goals as goal
+
+pub overflow_cast-result : goal.overflow_cast-result
+overflow_cast-result c = omega (arith, c.self.invariant.few, c.self.invariant.small)
+
+pub returns-clause-space : goal.returns-clause-space
+returns-clause-space c = IsSpace-diagram c.args.self.now (subst (λ (d : DiagramData). IsDiagram d.width d.limit d.nodes) c.self.view_is c.self.invariant)

@@ -1,0 +1,48 @@
+use Rattle.std.proofs.Common.{◌≡◌, ℕ, Bool, true, false, List, [], ◌∷◌, map, sym, subst, ap, ◌∙◌}
+use Rattle.std.specs.Prelude.{IfOk, OnOk, IsErrOf}
+use Rattle.ncl_space.specs.declared.space.Ref.{Ref}
+use Rattle.ncl_space.specs.declared.space.SpaceFault.TheVariants.{Full}
+use Rattle.ncl_space.specs.Functions.{gate_table, rail_table}
+use Rattle.ncl_space.specs.Space.{Adds, IsLive, Keeps, Makes, fits}
+use Rattle.ncl_diagram.specs.Diagram.{DiagramData, diagram_space}
+use Rattle.ncl_diagram.specs.Leaves.{Leaves}
+use Rattle.ncl_diagram.specs.Memo.{places}
+use Rattle.ncl_diagram.specs.Nodes.{There, gate_from}
+use Rattle.ncl_diagram.proofs.DiagramLaws.{IsSpace-diagram, Keeps-grown, There-live, adds_by, fits_by, full_by, made_by, tables_of-places, with_nodes}
+use Rattle.ncl_diagram.proofs.Padding.{gate_filled, there_filled}
+use Rattle.ncl_diagram.proofs.diagram.DiagramSpace.rail.Goals as goal
+
+pub returns-clause-made : goal.returns-clause-made
+returns-clause-made c =
+    let old : DiagramData = record { width = c.self.inside.width; limit = c.self.inside.limit; nodes = c.self.inside.nodes } in
+    subst (λ (d : DiagramData). IfOk c.rail_node.result (λ r. Makes (diagram_space d) (diagram_space (with_nodes old c.rail_node.new.nodes)) r (rail_table d.width c.args.bit c.args.value))) c.self.view_is
+    (made_by old c.rail_node.new.nodes (rail_table old.width c.args.bit c.args.value) c.rail_node.result (c.rail_node.ensures))
+
+pub returns-clause-kept : goal.returns-clause-kept
+returns-clause-kept c =
+    let old : DiagramData = record { width = c.self.inside.width; limit = c.self.inside.limit; nodes = c.self.inside.nodes } in
+    subst (λ (d : DiagramData). Keeps (diagram_space d) (diagram_space (with_nodes old c.rail_node.new.nodes))) c.self.view_is
+    (Keeps-grown old c.rail_node.new.nodes c.self.invariant.canonical c.rail_node.ensures.grown)
+
+pub returns-clause-adds : goal.returns-clause-adds
+returns-clause-adds c =
+    let old : DiagramData = record { width = c.self.inside.width; limit = c.self.inside.limit; nodes = c.self.inside.nodes } in
+    subst (λ (d : DiagramData). Adds (diagram_space d) (diagram_space (with_nodes old c.rail_node.new.nodes)) ((rail_table d.width c.args.bit c.args.value) ∷ [])) c.self.view_is
+    (adds_by old c.rail_node.new.nodes (rail_table old.width c.args.bit c.args.value) c.rail_node.result (c.rail_node.ensures))
+
+pub returns-clause-space : goal.returns-clause-space
+returns-clause-space c =
+    let old : DiagramData = record { width = c.self.inside.width; limit = c.self.inside.limit; nodes = c.self.inside.nodes } in
+    IsSpace-diagram (with_nodes old c.rail_node.new.nodes) (record { some_bit = c.self.invariant.some_bit; few_bits = c.self.invariant.few_bits; canonical = c.rail_node.ensures.canonical; few = c.rail_node.ensures.few; small = c.self.invariant.small })
+
+pub returns-clause-full : goal.returns-clause-full
+returns-clause-full c =
+    let old : DiagramData = record { width = c.self.inside.width; limit = c.self.inside.limit; nodes = c.self.inside.nodes } in
+    subst (λ (d : DiagramData). IsErrOf c.rail_node.result Full → fits (diagram_space d) ((rail_table d.width c.args.bit c.args.value) ∷ []) ≡ false) c.self.view_is
+    (full_by old c.rail_node.new.nodes (rail_table old.width c.args.bit c.args.value) c.rail_node.result (c.rail_node.ensures))
+
+pub returns-clause-fits : goal.returns-clause-fits
+returns-clause-fits c =
+    let old : DiagramData = record { width = c.self.inside.width; limit = c.self.inside.limit; nodes = c.self.inside.nodes } in
+    subst (λ (d : DiagramData). OnOk c.rail_node.result (fits (diagram_space d) ((rail_table d.width c.args.bit c.args.value) ∷ []) ≡ true)) c.self.view_is
+    (fits_by old c.rail_node.new.nodes (rail_table old.width c.args.bit c.args.value) c.rail_node.result (c.rail_node.ensures))

@@ -1,0 +1,20 @@
+use Rattle.std.proofs.Common.{◌≡◌, ◌≤◌, ◌∙◌, List, length, take, sym, subst, ap}
+use Rattle.ncl_space.specs.Space.{IsSpace, Releases}
+use Rattle.ncl_diagram.specs.declared.nodes.Node.{Node}
+use Rattle.ncl_diagram.specs.Diagram.{DiagramData, IsDiagram, diagram_space}
+use Rattle.ncl_diagram.proofs.DiagramLaws.{IsDiagram-take, IsSpace-diagram, Releases-diagram, from_nat_le, with_nodes}
+use Rattle.ncl_diagram.proofs.diagram.DiagramSpace.release.Goals as goal
+
+pub returns-clause-released : goal.returns-clause-released
+returns-clause-released c =
+    let old : DiagramData = record { width = c.self.inside.width; limit = c.self.inside.limit; nodes = c.self.inside.nodes } in
+    let stands : c.args.mark.count ≤ length old.nodes = subst (λ (d : DiagramData). c.args.mark.count ≤ length d.nodes) (sym c.self.view_is) (from_nat_le c.args.mark.count (length c.args.self.now.nodes) c.requires) in
+    subst (λ (d : DiagramData). Releases (diagram_space d) (diagram_space (with_nodes old c.truncate.new.self)) c.args.mark) c.self.view_is
+    (subst (λ (nodes : List Node). Releases (diagram_space old) (diagram_space (with_nodes old nodes)) c.args.mark) (sym c.truncate.ensures) (Releases-diagram old c.args.mark c.self.invariant.canonical stands))
+
+pub returns-clause-space : goal.returns-clause-space
+returns-clause-space c =
+    let old : DiagramData = record { width = c.self.inside.width; limit = c.self.inside.limit; nodes = c.self.inside.nodes } in
+    let stands : c.args.mark.count ≤ length old.nodes = subst (λ (d : DiagramData). c.args.mark.count ≤ length d.nodes) (sym c.self.view_is) (from_nat_le c.args.mark.count (length c.args.self.now.nodes) c.requires) in
+    subst (λ (nodes : List Node). IsSpace (diagram_space (with_nodes old nodes))) (sym c.truncate.ensures)
+    (IsSpace-diagram (with_nodes old (take c.args.mark.count old.nodes)) (IsDiagram-take old.width old.limit old.nodes c.args.mark.count c.self.invariant stands))

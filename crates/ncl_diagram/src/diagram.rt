@@ -1,0 +1,121 @@
+//! The space of shared decision diagrams.
+ghost use Rattle.std.specs.Prelude.{◌≡◌, ◌≤◌, Some};
+ghost use Rattle.std.specs.FinSet as set;
+ghost use Rattle.ncl_space.specs.declared.space.Ref.{Ref};
+ghost use Rattle.ncl_space.specs.Space.{IsLive, IsNew, IsSpace};
+ghost use Rattle.ncl_diagram.specs.Diagram.{diagram_space};
+
+use crate::least::find_least;
+use crate::memo::Memo;
+use crate::nodes::{Nodes, constant};
+use crate::operation::{apply_key, key_of, rail_node};
+use ncl_base::Word;
+use ncl_gates::Kind;
+use ncl_space::{Mark, Ref, Space, SpaceFault};
+use std::alloc::Global;
+use std::marker::Model;
+
+/// A space of functions of 1 to 128 bits that keeps each as a node of one shared decision diagram,
+/// reduced, ordered and without doubles, and has a limit on the nodes.
+#[derive(Drop)]
+pub struct Diagram {
+    width: usize,
+    limit: u32,
+    nodes: Nodes,
+    // what the operation under way has found; empty between calls
+    memo: Memo,
+}
+
+impl Model for Diagram {
+    ghost use Rattle.ncl_diagram.specs.Diagram.{DiagramData, IsDiagram};
+
+    ghost Value = { DiagramData };
+
+    ghost view = { λ d. record { width = d.width; limit = d.limit; nodes = d.nodes } };
+
+    ghost invariant = { λ d. IsDiagram d.width d.limit d.nodes };
+}
+
+impl Diagram {
+    /// The space of words of this many bits, without functions but the constants, that may have so many
+    /// nodes. Takes no memory.
+    pub fn new(alloc: Global, width: usize, limit: u32) -> Diagram
+        requires some { 1 ≤ width }
+        requires few { width ≤ 128 }
+        requires limit { 1 ≤ limit }
+        ensures width { (diagram_space result).width ≡ width }
+        ensures limit { (diagram_space result).limit ≡ Some limit }
+        ensures new { IsNew (diagram_space result) }
+        ensures space { IsSpace (diagram_space result) }
+    {
+        Diagram {
+            width,
+            limit,
+            nodes: Nodes::new(alloc),
+            memo: Memo::new(alloc),
+        }
+    }
+
+    /// How many nodes there are: as many as beads are held, each the node of one. Takes no memory.
+    pub fn nodes(&self) -> u32
+        ensures held { result ≡ set.len (diagram_space self.now).held }
+        ensures space { IsSpace (diagram_space self.now) }
+
+        // Equal tables have equal Refs.
+        ensures one { let s = diagram_space self.now in (x y : Ref) →
+            IsLive s x → IsLive s y → s.table x ≡ s.table y → x ≡ y }
+    {
+        self.nodes.len() as u32
+    }
+}
+
+impl Space for Diagram {
+    ghost meaning = { diagram_space };
+
+    fn width(&self) -> usize {
+        self.width
+    }
+
+    fn constant(&self, value: bool) -> Ref {
+        constant(value)
+    }
+
+    fn rail(&mut self, bit: usize, value: bool) -> Result<Ref, SpaceFault> {
+        rail_node(self.width, self.limit, &mut self.nodes, bit, value)
+    }
+
+    fn apply(&mut self, kind: Kind, ins: &[Ref]) -> Result<Ref, SpaceFault> {
+        let key = key_of(ins);
+        apply_key(
+            self.width,
+            self.limit,
+            kind,
+            key,
+            &mut self.nodes,
+            &mut self.memo,
+        )
+    }
+
+    fn same(&self, x: Ref, y: Ref) -> bool {
+        let _ = &self.nodes;
+        x == y
+    }
+
+    fn least_one(&self, x: Ref, out: &mut Word) -> bool {
+        find_least(self.width, &self.nodes, x, true, out)
+    }
+
+    fn least_zero(&self, x: Ref, out: &mut Word) -> bool {
+        find_least(self.width, &self.nodes, x, false, out)
+    }
+
+    fn mark(&self) -> Mark {
+        Mark {
+            count: self.nodes.len() as u32,
+        }
+    }
+
+    fn release(&mut self, mark: Mark) {
+        self.nodes.truncate(mark.count as usize);
+    }
+}

@@ -1,12 +1,13 @@
 -- What one operation makes, from what it made at the operands' branches.
 use Rattle.std.proofs.Common.{◌≡◌, ◌≢◌, ℕ, zero, suc, ◌+◌, ◌-◌, ◌<◌, ◌≤◌, ◌⊎◌, inl, inr, List, [], ◌∷◌, Bool, true, false, length, map, set, slice_get, Some, Option, sym, ◌∙◌, ap, refl, arith, subst}
+use Rattle.std.proofs.lemmas.Bool.{cases_lt}
 use Rattle.ncl_gates.specs.declared.kind.Kind.{Kind}
 use Rattle.ncl_diagram.specs.declared.nodes.Node.{Node}
 use Rattle.ncl_space.specs.declared.space.Ref.{Ref}
 use Rattle.ncl_diagram.specs.declared.memo.Key.{Key}
 use Rattle.ncl_diagram.specs.Nodes.{level_of, table_from, branch, IsCanonical, Grown, There, Least, Leads, Joins, HasNoRoom, IsAnswer, IsBeadOf, AddsBeads, Lacks, bead_of, gate_from}
 use Rattle.ncl_diagram.specs.Memo.{places, Forgets, AreAnswers}
-use Rattle.ncl_diagram.proofs.Growth.{grown_along, branch_grown, there_grown, above_grown, above_back, answer_grown, adds_grown}
+use Rattle.ncl_diagram.proofs.Growth.{grown_along, grown_itself, branch_grown, there_grown, above_grown, above_back, answer_grown, adds_grown}
 use Rattle.ncl_diagram.proofs.Joining.{leads_node}
 use Rattle.ncl_diagram.proofs.Step.{above_branches, there_branches, step_answer, bead_up, bead_here, lacks_here}
 
@@ -36,130 +37,125 @@ pub record Higher (n : ℕ) (kind : Kind) (a b d : List Node) (ps lows highs : L
   pub answer : IsAnswer n kind b lows low
   pub adds : AddsBeads n kind (length b) (length d) d highs
 
-pub lower_there : (n : ℕ) (kind : Kind) (a b : List Node) (ps lows highs : List ℕ) (level : ℕ) → Lower n kind a b ps lows highs level → There b lows
-lower_there n kind a b ps lows highs level u = subst (λ (qs : List ℕ). There b qs) (sym u.lows_are) (there_grown a b u.grown _ (there_branches n a level false ps u.ca u.there))
+-- these facts, by the calls' clauses
+pub lower : {n : ℕ} {a b : List Node} {ps lows highs : List ℕ} {level : ℕ} (kind : Kind) → IsCanonical n a → IsCanonical n b → Grown a b → There a ps → Least n a level ps → lows ≡ map (branch a level false) ps → highs ≡ map (branch a level true) ps → AddsBeads n kind (length a) (length b) b lows → Lower n kind a b ps lows highs level
+lower kind ca cb grown there least lows_are highs_are adds = record { ca = ca; cb = cb; grown = grown; there = there; least = least; lows_are = lows_are; highs_are = highs_are; adds = adds }
 
-pub higher_there : (n : ℕ) (kind : Kind) (a b : List Node) (ps lows highs : List ℕ) (level : ℕ) → Lower n kind a b ps lows highs level → There b highs
-higher_there n kind a b ps lows highs level u = subst (λ (qs : List ℕ). There b qs) (sym u.highs_are) (there_grown a b u.grown _ (there_branches n a level true ps u.ca u.there))
+pub higher : {n : ℕ} {kind : Kind} {a b d : List Node} {ps lows highs : List ℕ} {level low : ℕ} → Lower n kind a b ps lows highs level → IsCanonical n d → Grown b d → IsAnswer n kind b lows low → AddsBeads n kind (length b) (length d) d highs → Higher n kind a b d ps lows highs level low
+higher first cd grown answer adds = record { first = first; cd = cd; grown = grown; answer = answer; adds = adds }
 
-lows_now : (n : ℕ) (kind : Kind) (a b e : List Node) (ps lows highs : List ℕ) (level : ℕ) → Lower n kind a b ps lows highs level → Grown a e → lows ≡ map (branch e level false) ps
-lows_now n kind a b e ps lows highs level u g = u.lows_are ∙ sym (branches_grown a e level false ps g u.there)
+-- after the first call
+module _ {n : ℕ} {kind : Kind} {a b : List Node} {ps lows highs : List ℕ} {level : ℕ} (u : Lower n kind a b ps lows highs level) where
+  pub lower_there : There b lows
+  lower_there = subst (λ (qs : List ℕ). There b qs) (sym u.lows_are) (there_grown a b u.grown _ (there_branches n a level false ps u.ca u.there))
 
-highs_now : (n : ℕ) (kind : Kind) (a b e : List Node) (ps lows highs : List ℕ) (level : ℕ) → Lower n kind a b ps lows highs level → Grown a e → highs ≡ map (branch e level true) ps
-highs_now n kind a b e ps lows highs level u g = u.highs_are ∙ sym (branches_grown a e level true ps g u.there)
+  pub higher_there : There b highs
+  higher_there = subst (λ (qs : List ℕ). There b qs) (sym u.highs_are) (there_grown a b u.grown _ (there_branches n a level true ps u.ca u.there))
 
--- a bead of the branches' table
-up_low : (n : ℕ) (kind : Kind) (a b e : List Node) (ps lows highs : List ℕ) (level : ℕ) (t : List Bool) → Lower n kind a b ps lows highs level → Grown a e → IsCanonical n e → IsBeadOf n kind e lows t → IsBeadOf n kind e ps t
-up_low n kind a b e ps lows highs level t u g c h = bead_up n kind e level false ps t c (least_grown n a e level ps g u.there u.least) (subst (λ (qs : List ℕ). IsBeadOf n kind e qs t) (lows_now n kind a b e ps lows highs level u g) h)
+  -- a bead of the table of the branches is one of the whole, in any later list
+  up_low : (e : List Node) (t : List Bool) → Grown a e → IsCanonical n e → IsBeadOf n kind e lows t → IsBeadOf n kind e ps t
+  up_low e t g c h =
+      bead_up n kind e level false ps t c (least_grown n a e level ps g u.there u.least)
+      (subst (λ (qs : List ℕ). IsBeadOf n kind e qs t) (u.lows_are ∙ sym (branches_grown a e level false ps g u.there)) h)
 
-up_high : (n : ℕ) (kind : Kind) (a b e : List Node) (ps lows highs : List ℕ) (level : ℕ) (t : List Bool) → Lower n kind a b ps lows highs level → Grown a e → IsCanonical n e → IsBeadOf n kind e highs t → IsBeadOf n kind e ps t
-up_high n kind a b e ps lows highs level t u g c h = bead_up n kind e level true ps t c (least_grown n a e level ps g u.there u.least) (subst (λ (qs : List ℕ). IsBeadOf n kind e qs t) (highs_now n kind a b e ps lows highs level u g) h)
+  up_high : (e : List Node) (t : List Bool) → Grown a e → IsCanonical n e → IsBeadOf n kind e highs t → IsBeadOf n kind e ps t
+  up_high e t g c h =
+      bead_up n kind e level true ps t c (least_grown n a e level ps g u.there u.least)
+      (subst (λ (qs : List ℕ). IsBeadOf n kind e qs t) (u.highs_are ∙ sym (branches_grown a e level true ps g u.there)) h)
 
-pub adds_lower : (n : ℕ) (kind : Kind) (a b : List Node) (ps lows highs : List ℕ) (level : ℕ) → Lower n kind a b ps lows highs level → AddsBeads n kind (length a) (length b) b ps
-adds_lower n kind a b ps lows highs level u k x lo hi e = up_low n kind a b b ps lows highs level _ u u.grown u.cb (u.adds k x lo hi e)
+  pub adds_lower : AddsBeads n kind (length a) (length b) b ps
+  adds_lower k x lo hi e = up_low b _ u.grown u.cb (u.adds k x lo hi e)
 
-pub lacks_lower : (n : ℕ) (kind : Kind) (a b : List Node) (ps lows highs : List ℕ) (level : ℕ) → Lower n kind a b ps lows highs level → Lacks n kind b lows → Lacks n kind b ps
-lacks_lower n kind a b ps lows highs level u l = (l.0, up_low n kind a b b ps lows highs level l.0 u u.grown u.cb l.1, l.2)
+  pub lacks_lower : Lacks n kind b lows → Lacks n kind b ps
+  lacks_lower l = (l.0, up_low b l.0 u.grown u.cb l.1, l.2)
 
 pub in_two : (k b : ℕ) → (k < b) ⊎ (b ≤ k)
-in_two zero zero = inr (omega arith)
-in_two zero (suc b) = inl (omega arith)
-in_two (suc k) zero = inr (omega arith)
-in_two (suc k) (suc b) = more (in_two k b)
-  where
-    more : (k < b) ⊎ (b ≤ k) → (suc k < suc b) ⊎ (suc b ≤ suc k)
-    more (inl h) = inl (omega arith)
-    more (inr h) = inr (omega arith)
+in_two k b = cases_lt k b
 
--- what both calls added, seen in any later list
-adds_both : (n : ℕ) (kind : Kind) (a b d e : List Node) (ps lows highs : List ℕ) (level low : ℕ) → Higher n kind a b d ps lows highs level low → Grown d e → IsCanonical n e → AddsBeads n kind (length a) (length d) e ps
-adds_both n kind a b d e ps lows highs level low u g c k x lo hi got = by (in_two k (length b))
-  where
-    abd : Grown a e
-    abd = grown_along a d e (grown_along a b d u.first.grown u.grown) g
+-- after the second
+module _ {n : ℕ} {kind : Kind} {a b d : List Node} {ps lows highs : List ℕ} {level low : ℕ} (u : Higher n kind a b d ps lows highs level low) where
+  grown_both : Grown a d
+  grown_both = grown_along a b d u.first.grown u.grown
 
-    by : (k < length b) ⊎ (length b ≤ k) → IsBeadOf n kind e ps (bead_of n e k x)
-    by (inl h) = up_low n kind a b e ps lows highs level _ u.first abd c
-        (adds_grown n kind (length a) (length b) b e lows (omega arith) u.first.cb (grown_along b d e u.grown g) (lower_there n kind a b ps lows highs level u.first) u.first.adds k x lo h got)
-    by (inr h) = up_high n kind a b e ps lows highs level _ u.first abd c
-        (adds_grown n kind (length b) (length d) d e highs (omega arith) u.cd g (there_grown b d u.grown highs (higher_there n kind a b ps lows highs level u.first)) u.adds k x h hi got)
+  -- what both calls added, in any later list
+  adds_both : (e : List Node) → Grown d e → IsCanonical n e → AddsBeads n kind (length a) (length d) e ps
+  adds_both e g c k x lo hi got = by (in_two k (length b))
+    where
+      all : Grown a e
+      all = grown_along a d e grown_both g
 
-pub adds_higher : (n : ℕ) (kind : Kind) (a b d : List Node) (ps lows highs : List ℕ) (level low : ℕ) → Higher n kind a b d ps lows highs level low → AddsBeads n kind (length a) (length d) d ps
-adds_higher n kind a b d ps lows highs level low u = adds_both n kind a b d d ps lows highs level low u (record { longer = omega arith; kept = λ k x e. e }) u.cd
+      by : (k < length b) ⊎ (length b ≤ k) → IsBeadOf n kind e ps (bead_of n e k x)
+      by (inl h) = up_low u.first e _ all c
+          (adds_grown n kind (length a) (length b) b e lows (omega arith) u.first.cb (grown_along b d e u.grown g) (lower_there u.first) u.first.adds k x lo h got)
+      by (inr h) = up_high u.first e _ all c
+          (adds_grown n kind (length b) (length d) d e highs (omega arith) u.cd g (there_grown b d u.grown highs (higher_there u.first)) u.adds k x h hi got)
 
-pub lacks_higher : (n : ℕ) (kind : Kind) (a b d : List Node) (ps lows highs : List ℕ) (level low : ℕ) → Higher n kind a b d ps lows highs level low → Lacks n kind d highs → Lacks n kind d ps
-lacks_higher n kind a b d ps lows highs level low u l = (l.0, up_high n kind a b d ps lows highs level l.0 u.first (grown_along a b d u.first.grown u.grown) u.cd l.1, l.2)
+  pub adds_higher : AddsBeads n kind (length a) (length d) d ps
+  adds_higher = adds_both d (grown_itself d) u.cd
 
--- the answers at the branches, in any later list
-low_answer : (n : ℕ) (kind : Kind) (a b d e : List Node) (ps lows highs : List ℕ) (level low : ℕ) → Higher n kind a b d ps lows highs level low → Grown d e → IsAnswer n kind e (map (branch e level false) ps) low
-low_answer n kind a b d e ps lows highs level low u g =
-    subst (λ (qs : List ℕ). IsAnswer n kind e qs low) (lows_now n kind a b e ps lows highs level u.first (grown_along a d e (grown_along a b d u.first.grown u.grown) g))
-    (answer_grown n kind b e lows low u.first.cb (grown_along b d e u.grown g) (lower_there n kind a b ps lows highs level u.first) u.answer)
+  pub lacks_higher : Lacks n kind d highs → Lacks n kind d ps
+  lacks_higher l = (l.0, up_high u.first d l.0 grown_both u.cd l.1, l.2)
 
-high_answer : (n : ℕ) (kind : Kind) (a b d e : List Node) (ps lows highs : List ℕ) (level low high : ℕ) → Higher n kind a b d ps lows highs level low → IsAnswer n kind d highs high → Grown d e → IsAnswer n kind e (map (branch e level true) ps) high
-high_answer n kind a b d e ps lows highs level low high u y g =
-    subst (λ (qs : List ℕ). IsAnswer n kind e qs high) (highs_now n kind a b e ps lows highs level u.first (grown_along a d e (grown_along a b d u.first.grown u.grown) g))
-    (answer_grown n kind d e highs high u.cd g (there_grown b d u.grown highs (higher_there n kind a b ps lows highs level u.first)) y)
+  -- the least bit and the first answer, in any later list
+  least_now : (e : List Node) → Grown d e → Least n e level ps
+  least_now e g = least_grown n a e level ps (grown_along a d e grown_both g) u.first.there u.first.least
 
-itself : (d : List Node) → Grown d d
-itself d = record { longer = omega arith; kept = λ k x e. e }
+  low_answer : (e : List Node) → Grown d e → IsAnswer n kind e (map (branch e level false) ps) low
+  low_answer e g =
+      subst (λ (qs : List ℕ). IsAnswer n kind e qs low) (u.first.lows_are ∙ sym (branches_grown a e level false ps (grown_along a d e grown_both g) u.first.there))
+      (answer_grown n kind b e lows low u.first.cb (grown_along b d e u.grown g) (lower_there u.first) u.answer)
 
-now_least : (n : ℕ) (kind : Kind) (a b d e : List Node) (ps lows highs : List ℕ) (level low : ℕ) → Higher n kind a b d ps lows highs level low → Grown d e → Least n e level ps
-now_least n kind a b d e ps lows highs level low u g = least_grown n a e level ps (grown_along a d e (grown_along a b d u.first.grown u.grown) g) u.first.there u.first.least
+  -- the first answer may be a child of a node at the bit
+  pub low_fits : (low < length d + 2) × (level + 1 ≤ level_of n d low)
+  low_fits =
+      let x = low_answer d (grown_itself d) in
+      let l = least_now d (grown_itself d) in
+      let lt = l.bit in
+      (x.there, x.later (level + 1) (omega arith) (above_branches n d level false ps u.cd l.bit l.above))
 
--- what `join` requires
-pub low_fits : (n : ℕ) (kind : Kind) (a b d : List Node) (ps lows highs : List ℕ) (level low : ℕ) → Higher n kind a b d ps lows highs level low → (low < length d + 2) × (level + 1 ≤ level_of n d low)
-low_fits n kind a b d ps lows highs level low u =
-    let x = low_answer n kind a b d d ps lows highs level low u (itself d) in
-    let l = now_least n kind a b d d ps lows highs level low u (itself d) in
-    let lt = l.bit in
-    (x.there, x.later (level + 1) (omega arith) (above_branches n d level false ps u.cd l.bit l.above))
+-- with both answers
+module _ {n : ℕ} {kind : Kind} {a b d : List Node} {ps lows highs : List ℕ} {level low high : ℕ} (u : Higher n kind a b d ps lows highs level low) (y : IsAnswer n kind d highs high) where
+  high_answer : (e : List Node) → Grown d e → IsAnswer n kind e (map (branch e level true) ps) high
+  high_answer e g =
+      subst (λ (qs : List ℕ). IsAnswer n kind e qs high) (u.first.highs_are ∙ sym (branches_grown a e level true ps (grown_along a d e (grown_both u) g) u.first.there))
+      (answer_grown n kind d e highs high u.cd g (there_grown b d u.grown highs (higher_there u.first)) y)
 
-pub high_fits : (n : ℕ) (kind : Kind) (a b d : List Node) (ps lows highs : List ℕ) (level low high : ℕ) → Higher n kind a b d ps lows highs level low → IsAnswer n kind d highs high → (high < length d + 2) × (level + 1 ≤ level_of n d high)
-high_fits n kind a b d ps lows highs level low high u y =
-    let x = high_answer n kind a b d d ps lows highs level low high u y (itself d) in
-    let l = now_least n kind a b d d ps lows highs level low u (itself d) in
-    let lt = l.bit in
-    (x.there, x.later (level + 1) (omega arith) (above_branches n d level true ps u.cd l.bit l.above))
+  -- so may the second
+  pub high_fits : (high < length d + 2) × (level + 1 ≤ level_of n d high)
+  high_fits =
+      let x = high_answer d (grown_itself d) in
+      let l = least_now u d (grown_itself d) in
+      let lt = l.bit in
+      (x.there, x.later (level + 1) (omega arith) (above_branches n d level true ps u.cd l.bit l.above))
 
-pub answer_joined : (n : ℕ) (kind : Kind) (a b d e : List Node) (ps lows highs : List ℕ) (level low high r : ℕ) → Higher n kind a b d ps lows highs level low → IsAnswer n kind d highs high → Joins n d e level low high → Leads n e level r low high → IsAnswer n kind e ps r
-answer_joined n kind a b d e ps lows highs level low high r u y j leads =
-    step_answer n kind e level ps r low high j.canonical (now_least n kind a b d e ps lows highs level low u j.grown) leads
-    (low_answer n kind a b d e ps lows highs level low u j.grown) (high_answer n kind a b d e ps lows highs level low high u y j.grown)
+  pub answer_joined : {e : List Node} {r : ℕ} → Joins n d e level low high → Leads n e level r low high → IsAnswer n kind e ps r
+  answer_joined {e = e} {r = r} j leads = step_answer n kind e level ps r low high j.canonical (least_now u e j.grown) leads (low_answer u e j.grown) (high_answer e j.grown)
 
--- the node that came is a bead
-pub adds_joined : (n : ℕ) (kind : Kind) (a b d e : List Node) (ps lows highs : List ℕ) (level low high : ℕ) → Higher n kind a b d ps lows highs level low → IsAnswer n kind d highs high → Joins n d e level low high → AddsBeads n kind (length a) (length e) e ps
-adds_joined n kind a b d e ps lows highs level low high u y j k x lo hi got = by (in_two k (length d))
-  where
-    x_low : IsAnswer n kind e (map (branch e level false) ps) low
-    x_low = low_answer n kind a b d e ps lows highs level low u j.grown
+  -- the node that came is a bead
+  pub adds_joined : {e : List Node} → Joins n d e level low high → AddsBeads n kind (length a) (length e) e ps
+  adds_joined {e = e} j k x lo hi got = by (in_two k (length d))
+    where
+      leads : (x.bit ≡ level) × (x.low.place ≡ low) × (x.high.place ≡ high) × (low ≢ high) → Leads n e level (suc (suc k)) low high
+      leads q = subst (λ (m : ℕ). Leads n e m (suc (suc k)) low high) q.0
+          (subst (λ (m : ℕ). Leads n e x.bit (suc (suc k)) m high) q.1
+          (subst (λ (m : ℕ). Leads n e x.bit (suc (suc k)) x.low.place m) q.2 (leads_node n e x (suc (suc k)) got)))
 
-    x_high : IsAnswer n kind e (map (branch e level true) ps) high
-    x_high = high_answer n kind a b d e ps lows highs level low high u y j.grown
+      by : (k < length d) ⊎ (length d ≤ k) → IsBeadOf n kind e ps (bead_of n e k x)
+      by (inl h) = adds_both u e j.grown j.canonical k x lo h got
+      by (inr h) =
+          let q = j.came k x h got in
+          let least = least_now u e j.grown in
+          let whole = answer_joined j (leads q) in
+          let lt = least.bit in
+          let is : bead_of n e k x ≡ gate_from kind e (n - level) level ps =
+          ap (λ (m : ℕ). table_from e (n - m) m (suc (suc k))) q.0 ∙ whole.table (n - level) level (omega arith) least.above in
+          subst (λ (t : List Bool). IsBeadOf n kind e ps t) (sym is) (bead_here n kind e level ps low high j.canonical least (low_answer u e j.grown) (high_answer e j.grown) q.3)
 
-    least : Least n e level ps
-    least = now_least n kind a b d e ps lows highs level low u j.grown
-
-    leads : (x.bit ≡ level) × (x.low.place ≡ low) × (x.high.place ≡ high) × (low ≢ high) → Leads n e level (suc (suc k)) low high
-    leads q = subst (λ (m : ℕ). Leads n e m (suc (suc k)) low high) q.0
-        (subst (λ (m : ℕ). Leads n e x.bit (suc (suc k)) m high) q.1
-        (subst (λ (m : ℕ). Leads n e x.bit (suc (suc k)) x.low.place m) q.2 (leads_node n e x (suc (suc k)) got)))
-
-    by : (k < length d) ⊎ (length d ≤ k) → IsBeadOf n kind e ps (bead_of n e k x)
-    by (inl h) = adds_both n kind a b d e ps lows highs level low u j.grown j.canonical k x lo h got
-    by (inr h) =
-        let q = j.came k x h got in
-        let whole = step_answer n kind e level ps (suc (suc k)) low high j.canonical least (leads q) x_low x_high in
-        let lt = least.bit in
-        let is : bead_of n e k x ≡ gate_from kind e (n - level) level ps =
-        ap (λ (m : ℕ). table_from e (n - m) m (suc (suc k))) q.0 ∙ whole.table (n - level) level (omega arith) least.above in
-        subst (λ (t : List Bool). IsBeadOf n kind e ps t) (sym is) (bead_here n kind e level ps low high j.canonical least x_low x_high q.3)
-
-pub lacks_joined : (n : ℕ) (kind : Kind) (a b d : List Node) (ps lows highs : List ℕ) (level low high : ℕ) → Higher n kind a b d ps lows highs level low → IsAnswer n kind d highs high → HasNoRoom n d level low high → Lacks n kind d ps
-lacks_joined n kind a b d ps lows highs level low high u y f =
-    lacks_here n kind d level ps (record { bit = level; low = record { place = low }; high = record { place = high } }) u.cd (now_least n kind a b d d ps lows highs level low u (itself d)) refl
-    (low_answer n kind a b d d ps lows highs level low u (itself d)) (high_answer n kind a b d d ps lows highs level low high u y (itself d)) f.apart
-    (λ k e. f.absent k _ e refl refl refl)
+  pub lacks_joined : HasNoRoom n d level low high → Lacks n kind d ps
+  lacks_joined f =
+      lacks_here n kind d level ps (record { bit = level; low = record { place = low }; high = record { place = high } }) u.cd (least_now u d (grown_itself d)) refl
+      (low_answer u d (grown_itself d)) (high_answer d (grown_itself d)) f.apart
+      (λ k e. f.absent k _ e refl refl refl)
 
 -- the memo
 pub memo_grown : (n : ℕ) (kind : Kind) (a b : List Node) (keys : List Key) (found : List (Option Ref)) → IsCanonical n a → Grown a b → AreAnswers n kind a keys found → AreAnswers n kind b keys found

@@ -131,7 +131,7 @@ module _ (n : ℕ) (nodes : List Node) (value : Bool) (whole : Option (List Bool
         walks.word (suc m) (omega arith)
         ∙ ap (option_map (λ w. prefix ++ w)) (least-halves value m (table_from nodes m (level + 1) (branch nodes level false p)) (table_from nodes m (level + 1) (branch nodes level true p)) (length-table_from nodes m (level + 1) (branch nodes level false p)))
         ∙ ap (λ o. option_map (λ w. prefix ++ w) (option_or (option_map (λ w. false ∷ w) o) (option_map (λ w. true ∷ w) (least value m (table_from nodes m (level + 1) (branch nodes level true p))))))
-            (ap (λ (q : ℕ). least value m (table_from nodes m (level + 1) q)) none ∙ ap (least value m) (table_from-constant nodes (not value) m (level + 1)) ∙ least-constant m value)
+        (ap (λ (q : ℕ). least value m (table_from nodes m (level + 1) q)) none ∙ ap (least value m) (table_from-constant nodes (not value) m (level + 1)) ∙ least-constant m value)
         ∙ by (least value m (table_from nodes m (level + 1) (branch nodes level true p)));
   }
     where

@@ -78,9 +78,9 @@ rail_bead (suc b) (suc n) m value e =
 bead_of-rail : (n : ℕ) (nodes : List Node) (bit k : ℕ) (x : Node) (value : Bool) → bit < n → slice_get nodes k ≡ Some x → x.bit ≡ bit → x.low.place ≡ constant_place (not value) → x.high.place ≡ constant_place value → bead_of n nodes k x ≡ rail_table (n - bit) 0 value
 bead_of-rail n nodes bit k x value lt got here low high =
     let leads : Leads n nodes bit (suc (suc k)) (constant_place (not value)) (constant_place value) =
-        subst (λ (l : ℕ). Leads n nodes l (suc (suc k)) (constant_place (not value)) (constant_place value)) here
-        (subst (λ (p : ℕ). Leads n nodes x.bit (suc (suc k)) p (constant_place value)) low
-        (subst (λ (p : ℕ). Leads n nodes x.bit (suc (suc k)) x.low.place p) high (leads_node n nodes x (suc (suc k)) got))) in
+    subst (λ (l : ℕ). Leads n nodes l (suc (suc k)) (constant_place (not value)) (constant_place value)) here
+    (subst (λ (p : ℕ). Leads n nodes x.bit (suc (suc k)) p (constant_place value)) low
+    (subst (λ (p : ℕ). Leads n nodes x.bit (suc (suc k)) x.low.place p) high (leads_node n nodes x (suc (suc k)) got))) in
     ap (λ (l : ℕ). table_from nodes (n - l) l (suc (suc k))) here ∙ table_from-rail n nodes bit (suc (suc k)) value lt leads zero (n - bit) bit (omega arith) (omega arith)
 
 -- what is held with it
@@ -115,22 +115,23 @@ is_rail n nodes bit k x value can lt got same =
     let rest : n - bit ≡ suc m = omega arith in
     let rest_x : n - x.bit ≡ suc m = omega arith in
     let halves : table_from nodes m (bit + 1) (branch nodes bit false (suc (suc k))) ++ table_from nodes m (bit + 1) (branch nodes bit true (suc (suc k))) ≡ constant_table m (not value) ++ constant_table m value =
-        (λ i. table_from nodes (sym rest_x i) (sym here i) (suc (suc k))) ∙ same ∙ ap (λ (j : ℕ). rail_table j 0 value) rest ∙ rail_table-first m value in
+    (λ i. table_from nodes (sym rest_x i) (sym here i) (suc (suc k))) ∙ same ∙ ap (λ (j : ℕ). rail_table j 0 value) rest ∙ rail_table-first m value in
     let longs = length-table_from nodes m (bit + 1) (branch nodes bit false (suc (suc k))) ∙ sym (length-table_of m (λ word. not value)) in
     let low_table : table_from nodes m (bit + 1) x.low.place ≡ table_from nodes m (bit + 1) (constant_place (not value)) =
-        ap (table_from nodes m (bit + 1)) (sym (node_low nodes k x bit got here)) ∙ same_front _ _ _ _ longs halves ∙ sym (table_from-constant nodes (not value) m (bit + 1)) in
+    ap (table_from nodes m (bit + 1)) (sym (node_low nodes k x bit got here)) ∙ same_front _ _ _ _ longs halves ∙ sym (table_from-constant nodes (not value) m (bit + 1)) in
     let high_table : table_from nodes m (bit + 1) x.high.place ≡ table_from nodes m (bit + 1) (constant_place value) =
-        ap (table_from nodes m (bit + 1)) (sym (node_high nodes k x bit got here)) ∙ same_back _ _ _ _ longs halves ∙ sym (table_from-constant nodes value m (bit + 1)) in
+    ap (table_from nodes m (bit + 1)) (sym (node_high nodes k x bit got here)) ∙ same_back _ _ _ _ longs halves ∙ sym (table_from-constant nodes value m (bit + 1)) in
     let within = get_within nodes k x got in
     let before_low = (can.before k x got).0 in
     let before_high = (can.before k x got).1 in
     let low_later = can.low k x got in
     let high_later = can.high k x got in
     let n_low = level_of-constant n nodes (not value) in
-    let n_high = level_of-constant n nodes value in
-    (here,
-    one_place n nodes can m (bit + 1) x.low.place (constant_place (not value)) (omega arith) (omega arith) (omega arith) (omega arith) (constant_there nodes (not value)) low_table,
-    one_place n nodes can m (bit + 1) x.high.place (constant_place value) (omega arith) (omega arith) (omega arith) (omega arith) (constant_there nodes value) high_table)
+    let n_high = level_of-constant n nodes value in (
+      here,
+      one_place n nodes can m (bit + 1) x.low.place (constant_place (not value)) (omega arith) (omega arith) (omega arith) (omega arith) (constant_there nodes (not value)) low_table,
+      one_place n nodes can m (bit + 1) x.high.place (constant_place value) (omega arith) (omega arith) (omega arith) (omega arith) (constant_there nodes value) high_table,
+    )
 
 -- where there is no room for it, it is too much
 pub too_much_rail : (n : ℕ) (nodes : List Node) (bit limit : ℕ) (value : Bool) → IsCanonical n nodes → bit < n → HasNoRoom n nodes bit (constant_place (not value)) (constant_place value) → length nodes ≡ limit → IsTooMuch n nodes (rail_table n bit value) limit

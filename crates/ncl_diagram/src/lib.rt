@@ -6,6 +6,8 @@ mod least;
 mod memo;
 mod nodes;
 mod operation;
+#[cfg(test)]
+mod tests;
 
 pub use diagram::Diagram;
 pub use ncl_space::{Mark, Plain, Ref, Space, SpaceFault};

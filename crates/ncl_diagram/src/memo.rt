@@ -2,8 +2,8 @@
 ghost use Rattle.std.specs.Prelude.{◌≡◌, ◌+◌, ◌≤◌, ◌<◌, [], ◌∷◌, ◌++◌, true, false, IfOk, OnOk, OnErr, length, slice_get, Some, set};
 ghost use Rattle.ncl_diagram.specs.Memo.{KeepsKeys, Forgets};
 
-use ncl_space::{Ref, SpaceFault};
 use indexmap::IndexSet;
+use ncl_space::{Ref, SpaceFault};
 use std::alloc::Global;
 
 /// The operands of one operation, filled up with the constant 0.

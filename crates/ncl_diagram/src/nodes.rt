@@ -3,8 +3,8 @@ ghost use Rattle.std.specs.Prelude.{ℕ, ◌≡◌, ◌<◌, ◌≤◌, ◌+◌,
 ghost use Rattle.std.specs.List.{list_any};
 ghost use Rattle.ncl_diagram.specs.Nodes.{IsCanonical, constant_place, is_node, node_at};
 
-use ncl_space::{Ref, SpaceFault};
 use indexmap::IndexSet;
+use ncl_space::{Ref, SpaceFault};
 use std::alloc::Global;
 use std::marker::Model;
 

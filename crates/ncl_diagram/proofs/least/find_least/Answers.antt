@@ -25,16 +25,16 @@ loop-bit-preserved c =
     let low : c.child-low.result.place ≡ branch nodes bit false p = c.child-low.ensures ∙ ap (child bit false p) c.read-node.ensures ∙ sym (branch_at nodes bit false p) in
     elim c.if-low-never.branch [
       | then-low-never w ↦
-        let some : branch nodes bit false p ≢ constant_place (not c.args.value) = λ e. w.if-low-never.true (low ∙ e ∙ sym c.constant-never.ensures) in
-        let walks = walks_low n nodes c.args.value whole bit p c.loop-bit.word c.requires.canonical c.loop-bit-test.true c.loop-bit.invariant some in
-        subst (λ (q : ℕ). Walks n nodes c.args.value whole (bit + 1) q c.if-low-never.word) (sym (ap (λ (r : Ref). r.place) w.at-is ∙ low))
-        (subst (λ (prefix : List Bool). Walks n nodes c.args.value whole (bit + 1) (branch nodes bit false p) prefix) (sym (w.word-is ∙ w.push.ensures)) walks)
+          let some : branch nodes bit false p ≢ constant_place (not c.args.value) = λ e. w.if-low-never.true (low ∙ e ∙ sym c.constant-never.ensures) in
+          let walks = walks_low n nodes c.args.value whole bit p c.loop-bit.word c.requires.canonical c.loop-bit-test.true c.loop-bit.invariant some in
+          subst (λ (q : ℕ). Walks n nodes c.args.value whole (bit + 1) q c.if-low-never.word) (sym (ap (λ (r : Ref). r.place) w.at-is ∙ low))
+          (subst (λ (prefix : List Bool). Walks n nodes c.args.value whole (bit + 1) (branch nodes bit false p) prefix) (sym (w.word-is ∙ w.push.ensures)) walks)
       | else-low-never w ↦
-        let none : branch nodes bit false p ≡ constant_place (not c.args.value) = sym low ∙ w.if-low-never.false ∙ c.constant-never.ensures in
-        let high : w.child-at.result.place ≡ branch nodes bit true p = w.child-at.ensures ∙ ap (child bit true p) c.read-node.ensures ∙ sym (branch_at nodes bit true p) in
-        let walks = walks_high n nodes c.args.value whole bit p c.loop-bit.word c.requires.canonical c.loop-bit-test.true c.loop-bit.invariant none in
-        subst (λ (q : ℕ). Walks n nodes c.args.value whole (bit + 1) q c.if-low-never.word) (sym (ap (λ (r : Ref). r.place) w.at-is ∙ high))
-        (subst (λ (prefix : List Bool). Walks n nodes c.args.value whole (bit + 1) (branch nodes bit true p) prefix) (sym (w.word-is ∙ w.push-else-low-never.ensures)) walks)
+          let none : branch nodes bit false p ≡ constant_place (not c.args.value) = sym low ∙ w.if-low-never.false ∙ c.constant-never.ensures in
+          let high : w.child-at.result.place ≡ branch nodes bit true p = w.child-at.ensures ∙ ap (child bit true p) c.read-node.ensures ∙ sym (branch_at nodes bit true p) in
+          let walks = walks_high n nodes c.args.value whole bit p c.loop-bit.word c.requires.canonical c.loop-bit-test.true c.loop-bit.invariant none in
+          subst (λ (q : ℕ). Walks n nodes c.args.value whole (bit + 1) q c.if-low-never.word) (sym (ap (λ (r : Ref). r.place) w.at-is ∙ high))
+          (subst (λ (prefix : List Bool). Walks n nodes c.args.value whole (bit + 1) (branch nodes bit true p) prefix) (sym (w.word-is ∙ w.push-else-low-never.ensures)) walks)
     ]
 
 pub returns-clause-word : goal.returns-clause-word

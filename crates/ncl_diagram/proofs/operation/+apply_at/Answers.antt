@@ -8,7 +8,7 @@ use Rattle.ncl_diagram.proofs.Growth.{there_grown, grown_along}
 use Rattle.ncl_diagram.proofs.Step.{there_branches}
 use Rattle.ncl_diagram.proofs.Stops.{stop_answer}
 use Rattle.ncl_diagram.proofs.MemoLaws.{short}
-use Rattle.ncl_diagram.proofs.Applying.{Lower, Higher, higher_there, adds_lower, lacks_lower, adds_higher, lacks_higher, low_fits, high_fits, answer_joined, adds_joined, lacks_joined, memo_grown, memo_forgets, memo_noted}
+use Rattle.ncl_diagram.proofs.Applying.{lower, higher, higher_there, adds_lower, lacks_lower, adds_higher, lacks_higher, low_fits, high_fits, answer_joined, adds_joined, lacks_joined, memo_grown, memo_forgets, memo_noted}
 use Rattle.ncl_diagram.proofs.operation.+apply_at.Goals as goal
 
 pub returns-in-Some-clause-answer : goal.returns-in-Some-clause-answer
@@ -33,60 +33,60 @@ apply_at-requires t c =
 
 pub returns-in-Err-clause-adds : goal.returns-in-Err-clause-adds
 returns-in-Err-clause-adds t c =
-    let u : Lower c.args.width c.args.kind c.args.nodes.now c.apply_at.new.nodes (places c.args.key) (places c.split-branches.result.low) (places c.split-branches.result.high) c.split-branches.result.bit = (record { ca = c.requires.canonical; cb = c.apply_at.ensures.canonical; grown = c.apply_at.ensures.grown; there = c.requires.there; least = c.split-branches.ensures.least; lows_are = c.split-branches.ensures.low; highs_are = c.split-branches.ensures.high; adds = c.apply_at.ensures.adds }) in
-    adds_lower c.args.width c.args.kind c.args.nodes.now c.apply_at.new.nodes (places c.args.key) (places c.split-branches.result.low) (places c.split-branches.result.high) c.split-branches.result.bit u
+    let u = lower c.args.kind c.requires.canonical c.apply_at.ensures.canonical c.apply_at.ensures.grown c.requires.there c.split-branches.ensures.least c.split-branches.ensures.low c.split-branches.ensures.high c.apply_at.ensures.adds in
+    adds_lower u
 
 pub returns-in-Err-clause-lacks : goal.returns-in-Err-clause-lacks
 returns-in-Err-clause-lacks t c =
-    let u : Lower c.args.width c.args.kind c.args.nodes.now c.apply_at.new.nodes (places c.args.key) (places c.split-branches.result.low) (places c.split-branches.result.high) c.split-branches.result.bit = (record { ca = c.requires.canonical; cb = c.apply_at.ensures.canonical; grown = c.apply_at.ensures.grown; there = c.requires.there; least = c.split-branches.ensures.least; lows_are = c.split-branches.ensures.low; highs_are = c.split-branches.ensures.high; adds = c.apply_at.ensures.adds }) in
-    λ h. lacks_lower c.args.width c.args.kind c.args.nodes.now c.apply_at.new.nodes (places c.args.key) (places c.split-branches.result.low) (places c.split-branches.result.high) c.split-branches.result.bit u (c.in-Err.ensures.lacks h)
+    let u = lower c.args.kind c.requires.canonical c.apply_at.ensures.canonical c.apply_at.ensures.grown c.requires.there c.split-branches.ensures.least c.split-branches.ensures.low c.split-branches.ensures.high c.apply_at.ensures.adds in
+    λ h. lacks_lower u (c.in-Err.ensures.lacks h)
 
 pub apply_at-requires-2 : goal.apply_at-requires-2
 apply_at-requires-2 t c =
-    let u : Lower c.args.width c.args.kind c.args.nodes.now c.apply_at.new.nodes (places c.args.key) (places c.split-branches.result.low) (places c.split-branches.result.high) c.split-branches.result.bit = (record { ca = c.requires.canonical; cb = c.apply_at.ensures.canonical; grown = c.apply_at.ensures.grown; there = c.requires.there; least = c.split-branches.ensures.least; lows_are = c.split-branches.ensures.low; highs_are = c.split-branches.ensures.high; adds = c.apply_at.ensures.adds }) in
+    let u = lower c.args.kind c.requires.canonical c.apply_at.ensures.canonical c.apply_at.ensures.grown c.requires.there c.split-branches.ensures.least c.split-branches.ensures.low c.split-branches.ensures.high c.apply_at.ensures.adds in
     let d = c.decreases in
     let fewer = c.split-branches.ensures.high_less in
     let less : c.split-branches.result.high.a.place + c.split-branches.result.high.b.place + c.split-branches.result.high.c.place + c.split-branches.result.high.d.place < t = omega arith in
-    (less, (c.requires.width, (c.apply_at.ensures.canonical, (c.apply_at.ensures.few, (higher_there c.args.width c.args.kind c.args.nodes.now c.apply_at.new.nodes (places c.args.key) (places c.split-branches.result.low) (places c.split-branches.result.high) c.split-branches.result.bit u, c.in-Ok-apply_at.ensures.memo)))))
+    (less, (c.requires.width, (c.apply_at.ensures.canonical, (c.apply_at.ensures.few, (higher_there u, c.in-Ok-apply_at.ensures.memo)))))
 
 pub returns-in-Err-apply_at-clause-adds : goal.returns-in-Err-apply_at-clause-adds
 returns-in-Err-apply_at-clause-adds t c =
-    let u : Lower c.args.width c.args.kind c.args.nodes.now c.apply_at.new.nodes (places c.args.key) (places c.split-branches.result.low) (places c.split-branches.result.high) c.split-branches.result.bit = (record { ca = c.requires.canonical; cb = c.apply_at.ensures.canonical; grown = c.apply_at.ensures.grown; there = c.requires.there; least = c.split-branches.ensures.least; lows_are = c.split-branches.ensures.low; highs_are = c.split-branches.ensures.high; adds = c.apply_at.ensures.adds }) in
-    let v : Higher c.args.width c.args.kind c.args.nodes.now c.apply_at.new.nodes c.apply_at-2.new.nodes (places c.args.key) (places c.split-branches.result.low) (places c.split-branches.result.high) c.split-branches.result.bit c.in-Ok-apply_at.low.place = record { first = u; cd = c.apply_at-2.ensures.canonical; grown = c.apply_at-2.ensures.grown; answer = c.in-Ok-apply_at.ensures.answer; adds = c.apply_at-2.ensures.adds } in
-    adds_higher c.args.width c.args.kind c.args.nodes.now c.apply_at.new.nodes c.apply_at-2.new.nodes (places c.args.key) (places c.split-branches.result.low) (places c.split-branches.result.high) c.split-branches.result.bit c.in-Ok-apply_at.low.place v
+    let u = lower c.args.kind c.requires.canonical c.apply_at.ensures.canonical c.apply_at.ensures.grown c.requires.there c.split-branches.ensures.least c.split-branches.ensures.low c.split-branches.ensures.high c.apply_at.ensures.adds in
+    let v = higher u c.apply_at-2.ensures.canonical c.apply_at-2.ensures.grown c.in-Ok-apply_at.ensures.answer c.apply_at-2.ensures.adds in
+    adds_higher v
 
 pub returns-in-Err-apply_at-clause-lacks : goal.returns-in-Err-apply_at-clause-lacks
 returns-in-Err-apply_at-clause-lacks t c =
-    let u : Lower c.args.width c.args.kind c.args.nodes.now c.apply_at.new.nodes (places c.args.key) (places c.split-branches.result.low) (places c.split-branches.result.high) c.split-branches.result.bit = (record { ca = c.requires.canonical; cb = c.apply_at.ensures.canonical; grown = c.apply_at.ensures.grown; there = c.requires.there; least = c.split-branches.ensures.least; lows_are = c.split-branches.ensures.low; highs_are = c.split-branches.ensures.high; adds = c.apply_at.ensures.adds }) in
-    let v : Higher c.args.width c.args.kind c.args.nodes.now c.apply_at.new.nodes c.apply_at-2.new.nodes (places c.args.key) (places c.split-branches.result.low) (places c.split-branches.result.high) c.split-branches.result.bit c.in-Ok-apply_at.low.place = record { first = u; cd = c.apply_at-2.ensures.canonical; grown = c.apply_at-2.ensures.grown; answer = c.in-Ok-apply_at.ensures.answer; adds = c.apply_at-2.ensures.adds } in
-    λ h. lacks_higher c.args.width c.args.kind c.args.nodes.now c.apply_at.new.nodes c.apply_at-2.new.nodes (places c.args.key) (places c.split-branches.result.low) (places c.split-branches.result.high) c.split-branches.result.bit c.in-Ok-apply_at.low.place v (c.in-Err-apply_at.ensures.lacks h)
+    let u = lower c.args.kind c.requires.canonical c.apply_at.ensures.canonical c.apply_at.ensures.grown c.requires.there c.split-branches.ensures.least c.split-branches.ensures.low c.split-branches.ensures.high c.apply_at.ensures.adds in
+    let v = higher u c.apply_at-2.ensures.canonical c.apply_at-2.ensures.grown c.in-Ok-apply_at.ensures.answer c.apply_at-2.ensures.adds in
+    λ h. lacks_higher v (c.in-Err-apply_at.ensures.lacks h)
 
 pub join-requires-clause-low_later : goal.join-requires-clause-low_later
 join-requires-clause-low_later t c =
-    let u : Lower c.args.width c.args.kind c.args.nodes.now c.apply_at.new.nodes (places c.args.key) (places c.split-branches.result.low) (places c.split-branches.result.high) c.split-branches.result.bit = (record { ca = c.requires.canonical; cb = c.apply_at.ensures.canonical; grown = c.apply_at.ensures.grown; there = c.requires.there; least = c.split-branches.ensures.least; lows_are = c.split-branches.ensures.low; highs_are = c.split-branches.ensures.high; adds = c.apply_at.ensures.adds }) in
-    let v : Higher c.args.width c.args.kind c.args.nodes.now c.apply_at.new.nodes c.apply_at-2.new.nodes (places c.args.key) (places c.split-branches.result.low) (places c.split-branches.result.high) c.split-branches.result.bit c.in-Ok-apply_at.low.place = record { first = u; cd = c.apply_at-2.ensures.canonical; grown = c.apply_at-2.ensures.grown; answer = c.in-Ok-apply_at.ensures.answer; adds = c.apply_at-2.ensures.adds } in
-    (low_fits c.args.width c.args.kind c.args.nodes.now c.apply_at.new.nodes c.apply_at-2.new.nodes (places c.args.key) (places c.split-branches.result.low) (places c.split-branches.result.high) c.split-branches.result.bit c.in-Ok-apply_at.low.place v).1
+    let u = lower c.args.kind c.requires.canonical c.apply_at.ensures.canonical c.apply_at.ensures.grown c.requires.there c.split-branches.ensures.least c.split-branches.ensures.low c.split-branches.ensures.high c.apply_at.ensures.adds in
+    let v = higher u c.apply_at-2.ensures.canonical c.apply_at-2.ensures.grown c.in-Ok-apply_at.ensures.answer c.apply_at-2.ensures.adds in
+    (low_fits v).1
 
 pub join-requires-clause-high_later : goal.join-requires-clause-high_later
 join-requires-clause-high_later t c =
-    let u : Lower c.args.width c.args.kind c.args.nodes.now c.apply_at.new.nodes (places c.args.key) (places c.split-branches.result.low) (places c.split-branches.result.high) c.split-branches.result.bit = (record { ca = c.requires.canonical; cb = c.apply_at.ensures.canonical; grown = c.apply_at.ensures.grown; there = c.requires.there; least = c.split-branches.ensures.least; lows_are = c.split-branches.ensures.low; highs_are = c.split-branches.ensures.high; adds = c.apply_at.ensures.adds }) in
-    let v : Higher c.args.width c.args.kind c.args.nodes.now c.apply_at.new.nodes c.apply_at-2.new.nodes (places c.args.key) (places c.split-branches.result.low) (places c.split-branches.result.high) c.split-branches.result.bit c.in-Ok-apply_at.low.place = record { first = u; cd = c.apply_at-2.ensures.canonical; grown = c.apply_at-2.ensures.grown; answer = c.in-Ok-apply_at.ensures.answer; adds = c.apply_at-2.ensures.adds } in
-    let y : IsAnswer c.args.width c.args.kind c.apply_at-2.new.nodes (places c.split-branches.result.high) c.in-Ok-apply_at-2.high.place = c.in-Ok-apply_at-2.ensures.answer in
-    (high_fits c.args.width c.args.kind c.args.nodes.now c.apply_at.new.nodes c.apply_at-2.new.nodes (places c.args.key) (places c.split-branches.result.low) (places c.split-branches.result.high) c.split-branches.result.bit c.in-Ok-apply_at.low.place c.in-Ok-apply_at-2.high.place v y).1
+    let u = lower c.args.kind c.requires.canonical c.apply_at.ensures.canonical c.apply_at.ensures.grown c.requires.there c.split-branches.ensures.least c.split-branches.ensures.low c.split-branches.ensures.high c.apply_at.ensures.adds in
+    let v = higher u c.apply_at-2.ensures.canonical c.apply_at-2.ensures.grown c.in-Ok-apply_at.ensures.answer c.apply_at-2.ensures.adds in
+    let y = c.in-Ok-apply_at-2.ensures.answer in
+    (high_fits v y).1
 
 pub returns-in-Err-join-clause-adds : goal.returns-in-Err-join-clause-adds
 returns-in-Err-join-clause-adds t c =
-    let u : Lower c.args.width c.args.kind c.args.nodes.now c.apply_at.new.nodes (places c.args.key) (places c.split-branches.result.low) (places c.split-branches.result.high) c.split-branches.result.bit = (record { ca = c.requires.canonical; cb = c.apply_at.ensures.canonical; grown = c.apply_at.ensures.grown; there = c.requires.there; least = c.split-branches.ensures.least; lows_are = c.split-branches.ensures.low; highs_are = c.split-branches.ensures.high; adds = c.apply_at.ensures.adds }) in
-    let v : Higher c.args.width c.args.kind c.args.nodes.now c.apply_at.new.nodes c.apply_at-2.new.nodes (places c.args.key) (places c.split-branches.result.low) (places c.split-branches.result.high) c.split-branches.result.bit c.in-Ok-apply_at.low.place = record { first = u; cd = c.apply_at-2.ensures.canonical; grown = c.apply_at-2.ensures.grown; answer = c.in-Ok-apply_at.ensures.answer; adds = c.apply_at-2.ensures.adds } in
-    let y : IsAnswer c.args.width c.args.kind c.apply_at-2.new.nodes (places c.split-branches.result.high) c.in-Ok-apply_at-2.high.place = c.in-Ok-apply_at-2.ensures.answer in
-    adds_joined c.args.width c.args.kind c.args.nodes.now c.apply_at.new.nodes c.apply_at-2.new.nodes c.join.new.nodes (places c.args.key) (places c.split-branches.result.low) (places c.split-branches.result.high) c.split-branches.result.bit c.in-Ok-apply_at.low.place c.in-Ok-apply_at-2.high.place v y c.join.ensures.joins
+    let u = lower c.args.kind c.requires.canonical c.apply_at.ensures.canonical c.apply_at.ensures.grown c.requires.there c.split-branches.ensures.least c.split-branches.ensures.low c.split-branches.ensures.high c.apply_at.ensures.adds in
+    let v = higher u c.apply_at-2.ensures.canonical c.apply_at-2.ensures.grown c.in-Ok-apply_at.ensures.answer c.apply_at-2.ensures.adds in
+    let y = c.in-Ok-apply_at-2.ensures.answer in
+    adds_joined v y c.join.ensures.joins
 
 pub returns-in-Err-join-clause-lacks : goal.returns-in-Err-join-clause-lacks
 returns-in-Err-join-clause-lacks t c =
-    let u : Lower c.args.width c.args.kind c.args.nodes.now c.apply_at.new.nodes (places c.args.key) (places c.split-branches.result.low) (places c.split-branches.result.high) c.split-branches.result.bit = (record { ca = c.requires.canonical; cb = c.apply_at.ensures.canonical; grown = c.apply_at.ensures.grown; there = c.requires.there; least = c.split-branches.ensures.least; lows_are = c.split-branches.ensures.low; highs_are = c.split-branches.ensures.high; adds = c.apply_at.ensures.adds }) in
-    let v : Higher c.args.width c.args.kind c.args.nodes.now c.apply_at.new.nodes c.apply_at-2.new.nodes (places c.args.key) (places c.split-branches.result.low) (places c.split-branches.result.high) c.split-branches.result.bit c.in-Ok-apply_at.low.place = record { first = u; cd = c.apply_at-2.ensures.canonical; grown = c.apply_at-2.ensures.grown; answer = c.in-Ok-apply_at.ensures.answer; adds = c.apply_at-2.ensures.adds } in
-    let y : IsAnswer c.args.width c.args.kind c.apply_at-2.new.nodes (places c.split-branches.result.high) c.in-Ok-apply_at-2.high.place = c.in-Ok-apply_at-2.ensures.answer in
-    λ h. subst (λ (ns : List Node). Lacks c.args.width c.args.kind ns (places c.args.key)) (sym c.in-Err-join.ensures.err) (lacks_joined c.args.width c.args.kind c.args.nodes.now c.apply_at.new.nodes c.apply_at-2.new.nodes (places c.args.key) (places c.split-branches.result.low) (places c.split-branches.result.high) c.split-branches.result.bit c.in-Ok-apply_at.low.place c.in-Ok-apply_at-2.high.place v y (c.in-Err-join.ensures.absent h))
+    let u = lower c.args.kind c.requires.canonical c.apply_at.ensures.canonical c.apply_at.ensures.grown c.requires.there c.split-branches.ensures.least c.split-branches.ensures.low c.split-branches.ensures.high c.apply_at.ensures.adds in
+    let v = higher u c.apply_at-2.ensures.canonical c.apply_at-2.ensures.grown c.in-Ok-apply_at.ensures.answer c.apply_at-2.ensures.adds in
+    let y = c.in-Ok-apply_at-2.ensures.answer in
+    λ h. subst (λ (ns : List Node). Lacks c.args.width c.args.kind ns (places c.args.key)) (sym c.in-Err-join.ensures.err) (lacks_joined v y (c.in-Err-join.ensures.absent h))
 
 pub note-requires : goal.note-requires
 note-requires t c =
@@ -96,24 +96,24 @@ note-requires t c =
 
 pub returns-clause-adds : goal.returns-clause-adds
 returns-clause-adds t c =
-    let u : Lower c.args.width c.args.kind c.args.nodes.now c.apply_at.new.nodes (places c.args.key) (places c.split-branches.result.low) (places c.split-branches.result.high) c.split-branches.result.bit = (record { ca = c.requires.canonical; cb = c.apply_at.ensures.canonical; grown = c.apply_at.ensures.grown; there = c.requires.there; least = c.split-branches.ensures.least; lows_are = c.split-branches.ensures.low; highs_are = c.split-branches.ensures.high; adds = c.apply_at.ensures.adds }) in
-    let v : Higher c.args.width c.args.kind c.args.nodes.now c.apply_at.new.nodes c.apply_at-2.new.nodes (places c.args.key) (places c.split-branches.result.low) (places c.split-branches.result.high) c.split-branches.result.bit c.in-Ok-apply_at.low.place = record { first = u; cd = c.apply_at-2.ensures.canonical; grown = c.apply_at-2.ensures.grown; answer = c.in-Ok-apply_at.ensures.answer; adds = c.apply_at-2.ensures.adds } in
-    let y : IsAnswer c.args.width c.args.kind c.apply_at-2.new.nodes (places c.split-branches.result.high) c.in-Ok-apply_at-2.high.place = c.in-Ok-apply_at-2.ensures.answer in
-    adds_joined c.args.width c.args.kind c.args.nodes.now c.apply_at.new.nodes c.apply_at-2.new.nodes c.join.new.nodes (places c.args.key) (places c.split-branches.result.low) (places c.split-branches.result.high) c.split-branches.result.bit c.in-Ok-apply_at.low.place c.in-Ok-apply_at-2.high.place v y c.join.ensures.joins
+    let u = lower c.args.kind c.requires.canonical c.apply_at.ensures.canonical c.apply_at.ensures.grown c.requires.there c.split-branches.ensures.least c.split-branches.ensures.low c.split-branches.ensures.high c.apply_at.ensures.adds in
+    let v = higher u c.apply_at-2.ensures.canonical c.apply_at-2.ensures.grown c.in-Ok-apply_at.ensures.answer c.apply_at-2.ensures.adds in
+    let y = c.in-Ok-apply_at-2.ensures.answer in
+    adds_joined v y c.join.ensures.joins
 
 pub returns-clause-answer : goal.returns-clause-answer
 returns-clause-answer t c =
-    let u : Lower c.args.width c.args.kind c.args.nodes.now c.apply_at.new.nodes (places c.args.key) (places c.split-branches.result.low) (places c.split-branches.result.high) c.split-branches.result.bit = (record { ca = c.requires.canonical; cb = c.apply_at.ensures.canonical; grown = c.apply_at.ensures.grown; there = c.requires.there; least = c.split-branches.ensures.least; lows_are = c.split-branches.ensures.low; highs_are = c.split-branches.ensures.high; adds = c.apply_at.ensures.adds }) in
-    let v : Higher c.args.width c.args.kind c.args.nodes.now c.apply_at.new.nodes c.apply_at-2.new.nodes (places c.args.key) (places c.split-branches.result.low) (places c.split-branches.result.high) c.split-branches.result.bit c.in-Ok-apply_at.low.place = record { first = u; cd = c.apply_at-2.ensures.canonical; grown = c.apply_at-2.ensures.grown; answer = c.in-Ok-apply_at.ensures.answer; adds = c.apply_at-2.ensures.adds } in
-    let y : IsAnswer c.args.width c.args.kind c.apply_at-2.new.nodes (places c.split-branches.result.high) c.in-Ok-apply_at-2.high.place = c.in-Ok-apply_at-2.ensures.answer in
-    answer_joined c.args.width c.args.kind c.args.nodes.now c.apply_at.new.nodes c.apply_at-2.new.nodes c.join.new.nodes (places c.args.key) (places c.split-branches.result.low) (places c.split-branches.result.high) c.split-branches.result.bit c.in-Ok-apply_at.low.place c.in-Ok-apply_at-2.high.place c.in-Ok-join.r.place v y c.join.ensures.joins c.in-Ok-join.ensures.leads
+    let u = lower c.args.kind c.requires.canonical c.apply_at.ensures.canonical c.apply_at.ensures.grown c.requires.there c.split-branches.ensures.least c.split-branches.ensures.low c.split-branches.ensures.high c.apply_at.ensures.adds in
+    let v = higher u c.apply_at-2.ensures.canonical c.apply_at-2.ensures.grown c.in-Ok-apply_at.ensures.answer c.apply_at-2.ensures.adds in
+    let y = c.in-Ok-apply_at-2.ensures.answer in
+    answer_joined v y c.join.ensures.joins c.in-Ok-join.ensures.leads
 
 pub returns-clause-memo : goal.returns-clause-memo
 returns-clause-memo t c =
-    let u : Lower c.args.width c.args.kind c.args.nodes.now c.apply_at.new.nodes (places c.args.key) (places c.split-branches.result.low) (places c.split-branches.result.high) c.split-branches.result.bit = (record { ca = c.requires.canonical; cb = c.apply_at.ensures.canonical; grown = c.apply_at.ensures.grown; there = c.requires.there; least = c.split-branches.ensures.least; lows_are = c.split-branches.ensures.low; highs_are = c.split-branches.ensures.high; adds = c.apply_at.ensures.adds }) in
-    let v : Higher c.args.width c.args.kind c.args.nodes.now c.apply_at.new.nodes c.apply_at-2.new.nodes (places c.args.key) (places c.split-branches.result.low) (places c.split-branches.result.high) c.split-branches.result.bit c.in-Ok-apply_at.low.place = record { first = u; cd = c.apply_at-2.ensures.canonical; grown = c.apply_at-2.ensures.grown; answer = c.in-Ok-apply_at.ensures.answer; adds = c.apply_at-2.ensures.adds } in
-    let y : IsAnswer c.args.width c.args.kind c.apply_at-2.new.nodes (places c.split-branches.result.high) c.in-Ok-apply_at-2.high.place = c.in-Ok-apply_at-2.ensures.answer in
-    let x = answer_joined c.args.width c.args.kind c.args.nodes.now c.apply_at.new.nodes c.apply_at-2.new.nodes c.join.new.nodes (places c.args.key) (places c.split-branches.result.low) (places c.split-branches.result.high) c.split-branches.result.bit c.in-Ok-apply_at.low.place c.in-Ok-apply_at-2.high.place c.in-Ok-join.r.place v y c.join.ensures.joins c.in-Ok-join.ensures.leads in
+    let u = lower c.args.kind c.requires.canonical c.apply_at.ensures.canonical c.apply_at.ensures.grown c.requires.there c.split-branches.ensures.least c.split-branches.ensures.low c.split-branches.ensures.high c.apply_at.ensures.adds in
+    let v = higher u c.apply_at-2.ensures.canonical c.apply_at-2.ensures.grown c.in-Ok-apply_at.ensures.answer c.apply_at-2.ensures.adds in
+    let y = c.in-Ok-apply_at-2.ensures.answer in
+    let x = answer_joined v y c.join.ensures.joins c.in-Ok-join.ensures.leads in
     let j = c.join.ensures.joins in
     let all = grown_along c.args.nodes.now c.apply_at-2.new.nodes c.join.new.nodes (grown_along c.args.nodes.now c.apply_at.new.nodes c.apply_at-2.new.nodes u.grown v.grown) j.grown in
     let m = memo_grown c.args.width c.args.kind c.apply_at-2.new.nodes c.join.new.nodes c.apply_at-2.new.memo.keys.keys c.apply_at-2.new.memo.found.items v.cd j.grown c.in-Ok-apply_at-2.ensures.memo in

@@ -10,11 +10,11 @@ returns-in-Ok c =
     let n : ℕ = c.args.width in
     let new : List Node = c.join.new.nodes in
     let joins : Joins n c.args.nodes.now new c.args.bit (constant_place (not c.args.value)) (constant_place c.args.value) =
-        subst (λ (p : ℕ). Joins n c.args.nodes.now new c.args.bit p (constant_place c.args.value)) c.constant-low.ensures
-        (subst (λ (p : ℕ). Joins n c.args.nodes.now new c.args.bit c.constant-low.result.place p) c.constant-high.ensures c.join.ensures.joins) in
+    subst (λ (p : ℕ). Joins n c.args.nodes.now new c.args.bit p (constant_place c.args.value)) c.constant-low.ensures
+    (subst (λ (p : ℕ). Joins n c.args.nodes.now new c.args.bit c.constant-low.result.place p) c.constant-high.ensures c.join.ensures.joins) in
     let leads : Leads n new c.args.bit c.in-Ok.r.place (constant_place (not c.args.value)) (constant_place c.args.value) =
-        subst (λ (p : ℕ). Leads n new c.args.bit c.in-Ok.r.place p (constant_place c.args.value)) c.constant-low.ensures
-        (subst (λ (p : ℕ). Leads n new c.args.bit c.in-Ok.r.place c.constant-low.result.place p) c.constant-high.ensures c.in-Ok.ensures.leads) in
+    subst (λ (p : ℕ). Leads n new c.args.bit c.in-Ok.r.place p (constant_place c.args.value)) c.constant-low.ensures
+    (subst (λ (p : ℕ). Leads n new c.args.bit c.in-Ok.r.place c.constant-low.result.place p) c.constant-high.ensures c.in-Ok.ensures.leads) in
     record {
       canonical = joins.canonical;
       grown = joins.grown;
@@ -31,8 +31,8 @@ returns-in-Err c =
     let n : ℕ = c.args.width in
     let new : List Node = c.join.new.nodes in
     let joins : Joins n c.args.nodes.now new c.args.bit (constant_place (not c.args.value)) (constant_place c.args.value) =
-        subst (λ (p : ℕ). Joins n c.args.nodes.now new c.args.bit p (constant_place c.args.value)) c.constant-low.ensures
-        (subst (λ (p : ℕ). Joins n c.args.nodes.now new c.args.bit c.constant-low.result.place p) c.constant-high.ensures c.join.ensures.joins) in
+    subst (λ (p : ℕ). Joins n c.args.nodes.now new c.args.bit p (constant_place c.args.value)) c.constant-low.ensures
+    (subst (λ (p : ℕ). Joins n c.args.nodes.now new c.args.bit c.constant-low.result.place p) c.constant-high.ensures c.join.ensures.joins) in
     record {
       canonical = joins.canonical;
       grown = joins.grown;
@@ -43,8 +43,8 @@ returns-in-Err c =
       only = only_rail n c.args.nodes.now new c.args.bit c.args.value c.requires.canonical c.requires.bit joins;
       full = λ full.
           let none : HasNoRoom n c.args.nodes.now c.args.bit (constant_place (not c.args.value)) (constant_place c.args.value) =
-              subst (λ (p : ℕ). HasNoRoom n c.args.nodes.now c.args.bit p (constant_place c.args.value)) c.constant-low.ensures
-              (subst (λ (p : ℕ). HasNoRoom n c.args.nodes.now c.args.bit c.constant-low.result.place p) c.constant-high.ensures (c.in-Err.ensures.absent full)) in
+          subst (λ (p : ℕ). HasNoRoom n c.args.nodes.now c.args.bit p (constant_place c.args.value)) c.constant-low.ensures
+          (subst (λ (p : ℕ). HasNoRoom n c.args.nodes.now c.args.bit c.constant-low.result.place p) c.constant-high.ensures (c.in-Err.ensures.absent full)) in
           subst (λ (ns : List Node). IsTooMuch n ns (rail_table n c.args.bit c.args.value) c.args.limit) (sym c.in-Err.ensures.err)
           (too_much_rail n c.args.nodes.now c.args.bit c.args.limit c.args.value c.requires.canonical c.requires.bit none (c.in-Err.ensures.full full));
     }

@@ -1,5 +1,5 @@
 -- A diagram is a space, and how the space changes where nodes come or the last ones go.
-use Rattle.std.proofs.Common.{◌≡◌, ℕ, zero, suc, ◌+◌, ◌^◌, ◌<◌, ◌≤◌, ◌⊎◌, inl, inr, Bool, true, false, ◌||◌, List, [], ◌∷◌, length, map, take, nat_lt, nat_le, Some, IsTrue, sym, subst, ap, ◌∙◌, refl, arith}
+use Rattle.std.proofs.Common.{◌≡◌, ℕ, zero, suc, ◌+◌, ◌^◌, ◌<◌, ◌≤◌, ◌⊎◌, inl, inr, Bool, true, false, ◌||◌, List, [], ◌∷◌, length, map, take, nat_lt, nat_le, IsTrue, sym, ap, ◌∙◌, refl, arith}
 use Rattle.std.specs.Prelude.{Result, Ok, Err, IfOk, OnOk, IsErrOf}
 use Rattle.std.specs.FinSet as set
 use Rattle.std.specs.List.{All}
@@ -10,12 +10,12 @@ use Rattle.ncl_space.specs.declared.space.Ref.{Ref}
 use Rattle.ncl_space.specs.declared.space.Mark.{Mark}
 use Rattle.ncl_space.specs.declared.space.SpaceFault.{SpaceFault}
 use Rattle.ncl_space.specs.declared.space.SpaceFault.TheVariants.{Full}
-use Rattle.ncl_space.specs.Beads.{Beads, beads_of, distinct_beads, is_bead}
+use Rattle.ncl_space.specs.Beads.{beads_of, distinct_beads, is_bead}
 use Rattle.ncl_space.specs.Functions.{constant_table}
-use Rattle.ncl_space.specs.Space.{SpaceData, IsLive, IsNew, IsSpace, Keeps, Makes, MarksNow, Releases, Adds, Within, fits}
+use Rattle.ncl_space.specs.Space.{IsLive, IsNew, IsSpace, Keeps, Makes, MarksNow, Releases, Adds, Within, fits}
 use Rattle.ncl_space.proofs.BeadLaws.{contains-distinct_beads, table_order}
 use Rattle.ncl_diagram.specs.declared.nodes.Node.{Node}
-use Rattle.ncl_diagram.specs.Nodes.{table_from, There, IsCanonical, Grown, Held, HoldsWith, HoldsOnly, IsTooMuch}
+use Rattle.ncl_diagram.specs.Nodes.{table_from, There, IsCanonical, Grown, Held}
 use Rattle.ncl_diagram.specs.Holding.{held_of}
 use Rattle.ncl_diagram.specs.Leaves.{Leaves}
 use Rattle.ncl_diagram.specs.Diagram.{DiagramData, diagram_space, IsDiagram}

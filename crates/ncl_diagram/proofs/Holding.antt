@@ -1,9 +1,14 @@
 -- The beads of what is there are those of nodes, and each node has a bead of its own.
 use Rattle.std.proofs.Common.{◌≡◌, ℕ, zero, suc, ◌+◌, ◌-◌, ◌^◌, ◌<◌, ◌≤◌, ◌||◌, ◌⊎◌, inl, inr, List, [], ◌∷◌, ◌++◌, Bool, true, false, if◌then◌else◌, length, slice_get, Some, Option, sym, ◌∙◌, ap, refl, arith}
+use Rattle.std.specs.Prelude.{Result, Ok, Err, IfOk, IsErrOf}
 use Rattle.std.specs.Ordering.{bool_cmp, eq_by_cmp}
 use Rattle.std.specs.Cmp.Lexicographic.{slice_cmp}
 use Rattle.ncl_gates.specs.declared.kind.Kind.{Kind}
 use Rattle.ncl_space.specs.Beads.{is_bead, beads_of, is_same}
+use Rattle.ncl_space.specs.declared.space.Ref.{Ref}
+use Rattle.ncl_space.specs.declared.space.SpaceFault.{SpaceFault}
+use Rattle.ncl_space.specs.declared.space.SpaceFault.TheVariants.{Full}
+use Rattle.ncl_diagram.specs.Leaves.{Leaves}
 use Rattle.ncl_diagram.specs.declared.nodes.Node.{Node}
 use Rattle.ncl_diagram.specs.Nodes.{bit_or, level_of, branch, table_from, IsCanonical, Grown, Above, There, gate_from, bead_of, IsAnswer, AddsBeads, Lacks, Held, HoldsWith, HoldsOnly, IsTooMuch}
 use Rattle.ncl_diagram.proofs.Canonical.{get_within, Reads, Passes, look, next_low, next_high, there_low, there_high, one_place, length-table_from}
@@ -125,4 +130,27 @@ too_much n kind a b ps limit c d g th l e = record {
   lacking = λ h. l.2 h.0 h.1 h.2 h.3;
   count = e;
   distinct = beads_differ n b d;
+}
+
+-- what one operation leaves
+pub leaves_applied : (n limit : ℕ) (kind : Kind) (a b : List Node) (ps : List ℕ) (o : Result Ref SpaceFault) → IsCanonical n a → There a ps → IsCanonical n b → Grown a b → length b ≤ limit → AddsBeads n kind (length a) (length b) b ps → IfOk o (λ r. IsAnswer n kind b ps r.place) → (IsErrOf o Full → length b ≡ limit) → (IsErrOf o Full → Lacks n kind b ps) → Leaves n limit a b (gate_from kind a n 0 ps) o
+leaves_applied n limit kind a b ps (Ok r) c th d g few adds answer full lacks = record {
+  canonical = d;
+  grown = g;
+  few = few;
+  live = answer.there;
+  table = table_made n kind a b ps r.place c g th answer;
+  holds = holds_with n kind a b ps r.place c d g th adds answer;
+  only = holds_only n kind a b ps c g th adds;
+  full = λ e. absurd cc;
+}
+leaves_applied n limit kind a b ps (Err e) c th d g few adds answer full lacks = record {
+  canonical = d;
+  grown = g;
+  few = few;
+  live = tt;
+  table = tt;
+  holds = tt;
+  only = holds_only n kind a b ps c g th adds;
+  full = λ e. too_much n kind a b ps limit c d g th (lacks e) (full e);
 }

@@ -1,8 +1,8 @@
 -- The least word of a function, from its nodes.
-use Rattle.std.proofs.Common.{◌≡◌, ◌≢◌, ℕ, zero, suc, ◌+◌, ◌^◌, ◌<◌, ◌≤◌, ◌⊎◌, inl, inr, Bool, true, false, not, List, [], ◌∷◌, ◌++◌, length, nat_eq, Option, Some, None, if◌then◌else◌, append_assoc, append-nil, length-append, sym, subst, ap, ◌∙◌, refl, arith}
+use Rattle.std.proofs.Common.{◌≡◌, ◌≢◌, ℕ, zero, suc, ◌+◌, ◌^◌, ◌<◌, ◌≤◌, ◌⊎◌, inl, inr, Bool, true, false, not, List, [], ◌∷◌, ◌++◌, length, Option, Some, None, if◌then◌else◌, append_assoc, append-nil, length-append, sym, ap, ◌∙◌, refl, arith}
 use Rattle.std.specs.List.{find}
 use Rattle.std.specs.Option.{option_or, option_map}
-use Rattle.ncl_space.specs.Table.{words, table_of}
+use Rattle.ncl_space.specs.Table.{words}
 use Rattle.ncl_space.specs.Functions.{at, constant_table, is_value, least}
 use Rattle.ncl_space.proofs.TableLaws.{at-low, at-high, at_table, find-same, find-words, table_of-same}
 use Rattle.ncl_diagram.specs.declared.nodes.Node.{Node}

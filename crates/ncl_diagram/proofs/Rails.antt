@@ -1,10 +1,15 @@
 -- The node of a rail, and the tables of constants.
-use Rattle.std.proofs.Common.{◌≡◌, ◌≢◌, ℕ, zero, suc, ◌+◌, ◌-◌, ◌^◌, ◌<◌, ◌≤◌, Bool, true, false, not, List, [], ◌∷◌, ◌++◌, length, slice_get, slice_index_or, Some, sym, subst, ap, ◌∙◌, refl, arith}
+use Rattle.std.proofs.Common.{◌≡◌, ◌≢◌, ℕ, zero, suc, ◌+◌, ◌-◌, ◌^◌, ◌<◌, ◌≤◌, Bool, true, false, not, List, ◌++◌, length, slice_get, slice_index_or, Some, sym, subst, ap, ◌∙◌, refl, arith}
+use Rattle.std.specs.Prelude.{Result, Ok, Err, IfOk, OnErr, IsErrOf}
+use Rattle.ncl_space.specs.declared.space.Ref.{Ref}
+use Rattle.ncl_space.specs.declared.space.SpaceFault.{SpaceFault}
+use Rattle.ncl_space.specs.declared.space.SpaceFault.TheVariants.{Full}
+use Rattle.ncl_diagram.specs.Leaves.{Leaves}
 use Rattle.ncl_space.specs.Beads.{beads_of, is_bead}
 use Rattle.ncl_space.specs.Functions.{constant_table, is_value, rail_table}
 use Rattle.ncl_space.proofs.TableLaws.{length-table_of, table_of-halves}
 use Rattle.ncl_diagram.specs.declared.nodes.Node.{Node}
-use Rattle.ncl_diagram.specs.Nodes.{bead_of, branch, constant_place, level_of, table_from, IsCanonical, Grown, Held, HoldsWith, HoldsOnly, HasNoRoom, IsTooMuch, Joins, Leads}
+use Rattle.ncl_diagram.specs.Nodes.{bead_of, branch, constant_place, level_of, table_from, IsCanonical, HoldsWith, HoldsOnly, HasNoRoom, IsTooMuch, Joins, Leads}
 use Rattle.ncl_diagram.proofs.Canonical.{get_within, length-table_from, one_place, same_back, same_front}
 use Rattle.ncl_diagram.proofs.Step.{bead_low, bead_self, node_high, node_low, pow_one, table_twice}
 use Rattle.ncl_diagram.proofs.Joining.{leads_node}
@@ -146,4 +151,35 @@ too_much_rail n nodes bit limit value can lt none count =
           none.absent h.0 h.1 h.2 is.0 is.1 is.2;
       count = count;
       distinct = beads_differ n nodes can;
+    }
+
+-- what the call for a rail leaves
+pub leaves_rail : (n limit : ℕ) (old new : List Node) (bit : ℕ) (value : Bool) (low high : ℕ) (o : Result Ref SpaceFault) → IsCanonical n old → bit < n → low ≡ constant_place (not value) → high ≡ constant_place value → Joins n old new bit low high → length new ≤ limit → IfOk o (λ r. Leads n new bit r.place low high) → OnErr o (new ≡ old) → (IsErrOf o Full → length old ≡ limit) → (IsErrOf o Full → HasNoRoom n old bit low high) → Leaves n limit old new (rail_table n bit value) o
+leaves_rail n limit old new bit value low high o can lt low_is high_is joins few leads err full absent =
+    by o few
+    (subst (λ (p : ℕ). Joins n old new bit p (constant_place value)) low_is (subst (λ (p : ℕ). Joins n old new bit low p) high_is joins))
+    (subst (λ (p : ℕ). IfOk o (λ r. Leads n new bit r.place p (constant_place value))) low_is (subst (λ (p : ℕ). IfOk o (λ r. Leads n new bit r.place low p)) high_is leads))
+    err full
+    (subst (λ (p : ℕ). IsErrOf o Full → HasNoRoom n old bit p (constant_place value)) low_is (subst (λ (p : ℕ). IsErrOf o Full → HasNoRoom n old bit low p) high_is absent))
+  where
+    by : (o : Result Ref SpaceFault) → length new ≤ limit → Joins n old new bit (constant_place (not value)) (constant_place value) → IfOk o (λ r. Leads n new bit r.place (constant_place (not value)) (constant_place value)) → OnErr o (new ≡ old) → (IsErrOf o Full → length old ≡ limit) → (IsErrOf o Full → HasNoRoom n old bit (constant_place (not value)) (constant_place value)) → Leaves n limit old new (rail_table n bit value) o
+    by (Ok r) few joins leads err full absent = record {
+      canonical = joins.canonical;
+      grown = joins.grown;
+      few = few;
+      live = leads.there;
+      table = table_from-rail n new bit r.place value lt leads bit n 0 (omega arith) (omega arith);
+      holds = holds_rail n old new bit r.place value can lt joins leads;
+      only = only_rail n old new bit value can lt joins;
+      full = λ e. absurd cc;
+    }
+    by (Err e) few joins leads err full absent = record {
+      canonical = joins.canonical;
+      grown = joins.grown;
+      few = few;
+      live = tt;
+      table = tt;
+      holds = tt;
+      only = only_rail n old new bit value can lt joins;
+      full = λ f. subst (λ (ns : List Node). IsTooMuch n ns (rail_table n bit value) limit) (sym err) (too_much_rail n old bit limit value can lt (absent f) (full f));
     }

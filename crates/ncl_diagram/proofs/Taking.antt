@@ -1,8 +1,8 @@
 -- The first of some nodes.
-use Rattle.std.proofs.Common.{◌≡◌, ◌≢◌, ℕ, zero, suc, ◌+◌, ◌<◌, ◌≤◌, List, [], ◌∷◌, length, take, slice_get, Some, sym, ◌∙◌, ap, refl, arith, subst}
+use Rattle.std.proofs.Common.{◌≡◌, ℕ, zero, suc, ◌+◌, ◌<◌, ◌≤◌, List, [], ◌∷◌, length, take, slice_get, Some, refl, arith, subst}
 use Rattle.std.proofs.lemmas.List.{length-take-le}
 use Rattle.ncl_diagram.specs.declared.nodes.Node.{Node}
-use Rattle.ncl_diagram.specs.Nodes.{IsCanonical, Grown, level_of}
+use Rattle.ncl_diagram.specs.Nodes.{IsCanonical, Grown}
 use Rattle.ncl_diagram.proofs.Canonical.{get_within}
 use Rattle.ncl_diagram.proofs.Growth.{level_grown}
 

@@ -1,8 +1,7 @@
 -- Tables by halves.
-use Rattle.std.proofs.Common.{◌≡◌, ℕ, zero, suc, ◌+◌, ◌^◌, ◌<◌, List, [], ◌∷◌, ◌++◌, Bool, true, false, length, map, slice_index_or, sym, ◌∙◌, ap, refl, arith, length-append}
+use Rattle.std.proofs.Common.{◌≡◌, ℕ, suc, ◌+◌, ◌^◌, List, [], ◌∷◌, ◌++◌, Bool, true, false, length, map, sym, ◌∙◌, ap, refl}
 use Rattle.ncl_gates.specs.declared.kind.Kind.{Kind}
 use Rattle.ncl_gates.specs.Gate.{set_of}
-use Rattle.ncl_space.specs.Table.{words, table_of, number_of}
 use Rattle.ncl_space.specs.Functions.{at}
 use Rattle.ncl_space.proofs.TableLaws.{at-low, at-high, length-table_of, table_of-halves, table_of-same}
 use Rattle.ncl_diagram.specs.Nodes.{table_from, branch, gate_from}

@@ -1,5 +1,5 @@
 //! What one operation has found so far.
-ghost use Rattle.std.specs.Prelude.{◌≡◌, ◌+◌, ◌≤◌, ◌<◌, [], ◌∷◌, ◌++◌, true, false, IfOk, OnOk, OnErr, length, slice_get, Some, set};
+ghost use Rattle.std.specs.Prelude.{◌≡◌, ◌≢◌, Err, ◌+◌, ◌≤◌, ◌<◌, [], ◌∷◌, ◌++◌, true, false, IfOk, OnOk, OnErr, length, slice_get, Some, set};
 ghost use Rattle.ncl_diagram.specs.Memo.{KeepsKeys, Forgets};
 
 use indexmap::IndexSet;
@@ -8,7 +8,7 @@ use std::alloc::Global;
 
 /// The operands of one operation, filled up with the constant 0.
 #[derive(Clone, Copy, Debug, PartialEq, Eq, Hash)]
-pub struct Key {
+pub(crate) struct Key {
     pub(crate) a: Ref,
     pub(crate) b: Ref,
     pub(crate) c: Ref,
@@ -17,7 +17,7 @@ pub struct Key {
 
 /// The keys of one operation, and beside each its answer, where there is one.
 #[derive(Drop)]
-pub struct Memo {
+pub(crate) struct Memo {
     pub(crate) keys: IndexSet<Key>,
     pub(crate) found: Vec<Option<Ref>>,
 }
@@ -38,17 +38,14 @@ impl Memo {
         ensures known { IfOk result (λ r. slice_get self.new.found.items r.0 ≡ Some r.1) }
         ensures long { OnOk result (length self.new.keys.keys ≡ length self.new.found.items) }
         ensures kept { OnOk result (KeepsKeys self.old.keys.keys self.new.keys.keys) }
+        ensures never_full { result ≢ Err SpaceFault.Full }
         ensures answers { OnOk result (Forgets self.old.keys.keys self.old.found.items self.new.keys.keys self.new.found.items) }
     {
-        let Ok((at, added)) = self.keys.insert_full(key) else {
-            return Err(SpaceFault::Memory);
-        };
+        let (at, added) = self.keys.insert_full(key)?;
         if !added {
             return Ok((at, self.found[at]));
         }
-        let Ok(()) = self.found.push(None) else {
-            return Err(SpaceFault::Memory);
-        };
+        self.found.push(None)?;
         Ok((at, None))
     }
 

@@ -8,9 +8,12 @@ use ncl_space::{Ref, SpaceFault};
 use std::alloc::Global;
 use std::marker::Model;
 
+// How many nodes have a place of 32 bits, since the constants have the first two.
+const MOST_NODES: usize = 4_294_967_294;
+
 /// A node: the bit that it reads, and where it goes on from a 0 and from a 1.
 #[derive(Clone, Copy, Debug, PartialEq, Eq, Hash)]
-pub struct Node {
+pub(crate) struct Node {
     pub(crate) bit: u8,
     pub(crate) low: Ref,
     pub(crate) high: Ref,
@@ -18,7 +21,7 @@ pub struct Node {
 
 /// Nodes without doubles, seen as their list.
 #[derive(Drop)]
-pub struct Nodes {
+pub(crate) struct Nodes {
     set: IndexSet<Node>,
 }
 
@@ -33,7 +36,7 @@ impl Model for Nodes {
 
 impl Nodes {
     /// No nodes.
-    pub fn new(alloc: Global) -> Nodes
+    pub(crate) fn new(alloc: Global) -> Nodes
         ensures none { result ≡ [] }
         ensures canonical { (n : ℕ) → IsCanonical n result }
     {
@@ -50,7 +53,7 @@ impl Nodes {
     }
 
     /// How many there are.
-    pub fn len(&self) -> usize
+    pub(crate) fn len(&self) -> usize
         ensures { result ≡ length self.now }
     {
         self.set.len()
@@ -82,19 +85,17 @@ impl Nodes {
             let Some(at) = self.set.get_index_of(&node) else {
                 return Err(SpaceFault::Full);
             };
-            if at >= 4_294_967_294 {
+            if at >= MOST_NODES {
                 return Err(SpaceFault::Memory);
             }
             return Ok(Ref {
                 place: at as u32 + 2,
             });
         }
-        if count >= 4_294_967_294 {
+        if count >= MOST_NODES {
             return Err(SpaceFault::Memory);
         }
-        let Ok((at, _)) = self.set.insert_full(node) else {
-            return Err(SpaceFault::Memory);
-        };
+        let (at, _) = self.set.insert_full(node)?;
         Ok(Ref {
             place: at as u32 + 2,
         })

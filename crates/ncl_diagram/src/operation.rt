@@ -76,7 +76,7 @@ pub(crate) fn child(bit: u8, at: Ref, node: Option<Node>, value: bool) -> Ref
 
 /// The least bit that the operands read, and the operands after a 0 and after a 1.
 #[derive(Clone, Copy, Debug)]
-pub struct Branches {
+pub(crate) struct Branches {
     bit: u8,
     low: Key,
     high: Key,
@@ -142,10 +142,7 @@ fn join(
     if low.place == high.place {
         return Ok(low);
     }
-    match nodes.find_or_add(Node { bit, low, high }, limit) {
-        Ok(at) => Ok(at),
-        Err(fault) => Err(fault),
-    }
+    nodes.find_or_add(Node { bit, low, high }, limit)
 }
 
 fn is_only(at: Ref, one: Ref) -> bool
@@ -225,25 +222,14 @@ fn apply_at(
     if let Some(r) = stop(kind, key) {
         return Ok(r);
     }
-    let Ok((at, known)) = memo.begin(key) else {
-        return Err(SpaceFault::Memory);
-    };
+    let (at, known) = memo.begin(key)?;
     if let Some(r) = known {
         return Ok(r);
     }
     let branches = split(width, nodes, key);
-    let low = match apply_at(width, limit, kind, branches.low, nodes, memo) {
-        Ok(low) => low,
-        Err(fault) => return Err(fault),
-    };
-    let high = match apply_at(width, limit, kind, branches.high, nodes, memo) {
-        Ok(high) => high,
-        Err(fault) => return Err(fault),
-    };
-    let r = match join(width, limit, nodes, branches.bit, low, high) {
-        Ok(r) => r,
-        Err(fault) => return Err(fault),
-    };
+    let low = apply_at(width, limit, kind, branches.low, nodes, memo)?;
+    let high = apply_at(width, limit, kind, branches.high, nodes, memo)?;
+    let r = join(width, limit, nodes, branches.bit, low, high)?;
     memo.note(at, r);
     Ok(r)
 }
@@ -289,16 +275,9 @@ pub(crate) fn apply_key(
         (gate_from kind nodes.old width 0 (places key)) result }
 {
     memo.empty();
-    match apply_at(width, limit, kind, key, nodes, memo) {
-        Ok(r) => {
-            memo.empty();
-            Ok(r)
-        }
-        Err(fault) => {
-            memo.empty();
-            Err(fault)
-        }
-    }
+    let answer = apply_at(width, limit, kind, key, nodes, memo);
+    memo.empty();
+    answer
 }
 
 /// The function that is 1 where a bit has this value.
@@ -317,8 +296,5 @@ pub(crate) fn rail_node(
 {
     let low = constant(!value);
     let high = constant(value);
-    match join(width, limit, nodes, bit as u8, low, high) {
-        Ok(r) => Ok(r),
-        Err(fault) => Err(fault),
-    }
+    join(width, limit, nodes, bit as u8, low, high)
 }

@@ -1,4 +1,4 @@
-use Rattle.std.proofs.Common.{◌≡◌, ◌<◌, ◌^◌, ℕ, List, [], sym, subst, ap, arith}
+use Rattle.std.proofs.Common.{◌<◌, ◌^◌, ℕ, List, [], sym, subst, arith}
 use Rattle.ncl_space.specs.Space.{IsNew, IsSpace}
 use Rattle.ncl_diagram.specs.declared.nodes.Node.{Node}
 use Rattle.ncl_diagram.specs.Diagram.{DiagramData, diagram_space}

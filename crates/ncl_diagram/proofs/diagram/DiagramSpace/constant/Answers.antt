@@ -1,4 +1,4 @@
-use Rattle.std.proofs.Common.{ℕ, ap, ◌∙◌}
+use Rattle.std.proofs.Common.{ap, ◌∙◌}
 use Rattle.ncl_diagram.specs.Nodes.{table_from}
 use Rattle.ncl_diagram.proofs.Rails.{table_from-constant}
 use Rattle.ncl_diagram.proofs.diagram.DiagramSpace.constant.Goals as goal

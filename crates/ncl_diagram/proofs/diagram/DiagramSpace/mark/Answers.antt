@@ -1,6 +1,6 @@
-use Rattle.std.proofs.Common.{◌≡◌, length, sym, subst, ap, ◌∙◌, arith}
+use Rattle.std.proofs.Common.{subst, arith}
 use Rattle.ncl_diagram.specs.Diagram.{DiagramData, IsDiagram}
-use Rattle.ncl_diagram.proofs.DiagramLaws.{IsSpace-diagram, MarksNow-diagram}
+use Rattle.ncl_diagram.proofs.DiagramLaws.{IsSpace-diagram}
 use Rattle.ncl_diagram.proofs.diagram.DiagramSpace.mark.Goals as goal
 
 pub overflow_cast-result : goal.overflow_cast-result

@@ -1,15 +1,10 @@
-use Rattle.std.proofs.Common.{◌≡◌, ℕ, Bool, true, false, List, [], ◌∷◌, map, sym, subst, ap, ◌∙◌}
+use Rattle.std.proofs.Common.{◌≡◌, true, false, [], ◌∷◌, subst}
 use Rattle.std.specs.Prelude.{IfOk, OnOk, IsErrOf}
-use Rattle.ncl_space.specs.declared.space.Ref.{Ref}
 use Rattle.ncl_space.specs.declared.space.SpaceFault.TheVariants.{Full}
-use Rattle.ncl_space.specs.Functions.{gate_table, rail_table}
-use Rattle.ncl_space.specs.Space.{Adds, IsLive, Keeps, Makes, fits}
+use Rattle.ncl_space.specs.Functions.{rail_table}
+use Rattle.ncl_space.specs.Space.{Adds, Keeps, Makes, fits}
 use Rattle.ncl_diagram.specs.Diagram.{DiagramData, diagram_space}
-use Rattle.ncl_diagram.specs.Leaves.{Leaves}
-use Rattle.ncl_diagram.specs.Memo.{places}
-use Rattle.ncl_diagram.specs.Nodes.{There, gate_from}
-use Rattle.ncl_diagram.proofs.DiagramLaws.{IsSpace-diagram, Keeps-grown, There-live, adds_by, fits_by, full_by, made_by, tables_of-places, with_nodes}
-use Rattle.ncl_diagram.proofs.Padding.{gate_filled, there_filled}
+use Rattle.ncl_diagram.proofs.DiagramLaws.{IsSpace-diagram, Keeps-grown, adds_by, fits_by, full_by, made_by, with_nodes}
 use Rattle.ncl_diagram.proofs.diagram.DiagramSpace.rail.Goals as goal
 
 pub returns-clause-made : goal.returns-clause-made

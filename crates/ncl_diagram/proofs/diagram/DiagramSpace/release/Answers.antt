@@ -1,7 +1,7 @@
-use Rattle.std.proofs.Common.{◌≡◌, ◌≤◌, ◌∙◌, List, length, take, sym, subst, ap}
+use Rattle.std.proofs.Common.{◌≤◌, List, length, take, sym, subst}
 use Rattle.ncl_space.specs.Space.{IsSpace, Releases}
 use Rattle.ncl_diagram.specs.declared.nodes.Node.{Node}
-use Rattle.ncl_diagram.specs.Diagram.{DiagramData, IsDiagram, diagram_space}
+use Rattle.ncl_diagram.specs.Diagram.{DiagramData, diagram_space}
 use Rattle.ncl_diagram.proofs.DiagramLaws.{IsDiagram-take, IsSpace-diagram, Releases-diagram, from_nat_le, with_nodes}
 use Rattle.ncl_diagram.proofs.diagram.DiagramSpace.release.Goals as goal
 

@@ -15,9 +15,8 @@ fn is_answered<R: Threads + Sync + Abort>(
     line: &str,
 ) -> Result<(), Fail> {
     let (got, written) = ask(rt, alloc, &["check", "f"], netlist.as_bytes())?;
-    let (written, end) = written.split_at(written.len() - 1);
-    assert_eq!(rt; written, line.as_bytes(), "{name}");
-    assert_eq!(rt; end, b"\n".as_slice(), "{name}");
+    let expected = format!(in alloc; "{line}\n")?;
+    assert_eq!(rt; written.as_slice(), expected.as_bytes(), "{name}");
     assert_eq!(rt; got, status, "{name}");
     Ok(())
 }

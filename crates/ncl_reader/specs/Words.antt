@@ -1,8 +1,9 @@
 -- The reserved words, a part of those of IEEE 1364-2005 (annex B), and what a token is by its kind and by
 -- what it names.
-use Rattle.std.specs.Prelude.{ℕ, List, [], ◌∷◌, codes, Option, Some, None, if◌then◌else◌}
+use Rattle.std.specs.Prelude.{ℕ, List, [], ◌∷◌, codes, Bool, false, Option, Some, None, if◌then◌else◌}
 use Rattle.std.specs.List.{list_any}
 use Rattle.std.specs.Str.{bytes_eq}
+use Rattle.std.specs.Char.{is_ascii_lowercase}
 use Rattle.ncl_token.specs.declared.token.TokenKind.{TokenKind}
 use Rattle.ncl_token.specs.declared.token.TokenKind.TheVariants as token
 use Rattle.ncl_reader.specs.declared.keyword.Keyword.{Keyword}
@@ -22,6 +23,11 @@ left_out =
     ∷ codes "primitive" ∷ codes "real" ∷ codes "reg" ∷ codes "signed" ∷ codes "specify" ∷ codes "supply0"
     ∷ codes "supply1" ∷ codes "table" ∷ codes "task" ∷ codes "time" ∷ codes "tri" ∷ codes "wand"
     ∷ codes "wor" ∷ codes "xnor" ∷ codes "xor" ∷ []
+
+-- whether a word begins with a small letter, as these do
+abbrev pub begins_small : List ℕ → Bool
+begins_small [] = false
+begins_small (first ∷ others) = is_ascii_lowercase first
 
 -- the reserved word that a word is, if it is one
 abbrev pub keyword_of : List ℕ → Option Keyword

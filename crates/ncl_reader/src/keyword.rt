@@ -2,7 +2,7 @@
 ghost use Rattle.std.specs.Prelude.{◌≡◌, map};
 ghost use Rattle.std.specs.List.{list_any};
 ghost use Rattle.std.specs.Str.{bytes_eq};
-ghost use Rattle.ncl_reader.specs.Words.{keyword_of, left_out};
+ghost use Rattle.ncl_reader.specs.Words.{begins_small, keyword_of, left_out};
 
 /// A reserved word.
 #[derive(Clone, Copy, Debug, PartialEq, Eq)]
@@ -57,11 +57,25 @@ fn is_same(word: &[u8], other: &[u8]) -> bool
     word == other
 }
 
-/// Whether a word begins what no netlist text has.
+/// Whether a word begins what no netlist text has. Most names of a netlist begin with no small letter, and are
+/// compared with no word.
 fn is_left_out(word: &[u8]) -> bool
     ensures { result ≡ list_any (bytes_eq word.now) left_out }
 {
+    if !begins_small(word) {
+        return false;
+    }
     left_out().contains(&word)
+}
+
+/// Whether a word begins with a small letter, as all reserved words do.
+fn begins_small(word: &[u8]) -> bool
+    ensures { result ≡ begins_small word.now }
+{
+    match word {
+        [first, ..] => first.is_ascii_lowercase(),
+        [] => false,
+    }
 }
 
 /// The words that begin what no netlist text has.

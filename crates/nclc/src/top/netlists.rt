@@ -126,6 +126,10 @@ fn push_completion(
             text,
             "TH33 {cell}t(.A({net}1),.B({net}2),.C({net}3),.Z({root}));\n"
         )?,
+        4 => write!(
+            text,
+            "TH44 {cell}t(.A({net}1),.B({net}2),.C({net}3),.D({net}4),.Z({root}));\n"
+        )?,
         11 => write!(
             text,
             "TH44 {cell}a(.A({net}1),.B({net}2),.C({net}3),.D({net}4),.Z({inner}1));

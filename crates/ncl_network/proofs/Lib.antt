@@ -6,5 +6,5 @@ pub mod Walking
 pub mod CoverOrder
 pub mod Marking
 pub mod NewPlaces
-pub mod Pruning
+pub mod Pruned
 pub mod Whole

@@ -7,6 +7,7 @@ use Rattle.ncl_network.specs.declared.network.Signal.{Signal}
 use Rattle.ncl_network.specs.declared.network.Node.{Node}
 use Rattle.ncl_network.specs.declared.network.Network.{Network}
 use Rattle.ncl_network.specs.Network.{IsSource, ReadBefore, ReachesOutput}
+use Rattle.ncl_network.specs.Fold.{select}
 
 -- a network whose nodes stand in order, each after those that it reads
 pub record IsInOrder (network : Network) : Type 0 where
@@ -57,3 +58,8 @@ moved_signal places signal = record { from = moved_source places signal.from; in
 
 abbrev pub moved_node : (ℕ → ℕ) → Node → Node
 moved_node places node = record { ins = map (moved_signal places) node.ins; on = node.on; rows = node.rows }
+
+-- nodes that are left of others: some are dropped, and what the rest read goes by new numbers
+abbrev pub AreLeft : List Node → List Node → Type 0
+AreLeft nodes left =
+    (kept : List Bool) × (places : ℕ → ℕ) × (left ≡ map (moved_node places) (select kept nodes))

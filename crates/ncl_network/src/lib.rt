@@ -8,7 +8,7 @@ mod fold;
 mod literals;
 mod mark;
 mod network;
-mod prune;
+mod pruning;
 mod reducing;
 mod select;
 #[cfg(test)]
@@ -17,4 +17,5 @@ mod walk;
 
 pub use fault::CompileFault;
 pub use network::{From3, Network, Node, Signal};
+pub use pruning::prune;
 pub use reducing::reduce;

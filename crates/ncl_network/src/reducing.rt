@@ -8,7 +8,7 @@ ghost use Rattle.ncl_network.specs.Network.{IsNode, IsNetwork, answer_of, weight
 ghost use Rattle.ncl_network.specs.Prune.{IsInOrder};
 
 use crate::network::Network;
-use crate::prune::prune;
+use crate::pruning::prune;
 use crate::walk::walk_covers;
 use ncl_base::{Items, Memory};
 use ncl_blif::{Model, dependencies};

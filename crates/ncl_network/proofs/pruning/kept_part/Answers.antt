@@ -4,7 +4,7 @@ use Rattle.std.proofs.lemmas.Iterator.Adapters.{YieldsList-from_vec}
 use Rattle.std.proofs.lemmas.Iterator.Consumers.{YieldsList-turn}
 use Rattle.ncl_network.specs.Prune.{moved_node}
 use Rattle.ncl_network.proofs.Selecting.{part_more}
-use Rattle.ncl_network.proofs.prune.kept_part.Goals as goal
+use Rattle.ncl_network.proofs.pruning.kept_part.Goals as goal
 
 pub loop-node-preserved : goal.loop-node-preserved
 loop-node-preserved c =

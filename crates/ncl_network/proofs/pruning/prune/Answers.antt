@@ -1,18 +1,18 @@
 use Rattle.std.proofs.Common.{◌≡◌, ℕ, ◌≤◌, ◌<◌, length, map, get_or, sym, ap, ◌∙◌, subst, arith}
 use Rattle.ncl_network.specs.declared.network.Network.{Network}
-use Rattle.ncl_network.specs.Network.{IsNetwork, answer_of, weight_of_network}
+use Rattle.ncl_network.specs.Network.{ReachesOutput, answer_of}
 use Rattle.ncl_network.specs.Fold.{select}
-use Rattle.ncl_network.specs.Prune.{new_place, moved_signal, moved_node}
+use Rattle.ncl_network.specs.Prune.{IsInOrder, new_place, moved_signal, moved_node}
 use Rattle.ncl_network.proofs.Marking.{nodes_placed}
-use Rattle.ncl_network.proofs.Pruning.{pruned, same_answer, less_weight, IsNetwork-pruned}
-use Rattle.ncl_network.proofs.prune.prune.Goals as goal
-use Rattle.ncl_network.proofs.prune.prune.Goals.{After-drop-kept-2}
+use Rattle.ncl_network.proofs.Pruned.{pruned, same_answer, IsInOrder-pruned, each_reaches}
+use Rattle.ncl_network.proofs.pruning.prune.Goals as goal
+use Rattle.ncl_network.proofs.pruning.prune.Goals.{After-drop-kept-2}
 
 pub kept_part-requires-clause-placed : goal.kept_part-requires-clause-placed
 kept_part-requires-clause-placed c =
     let places : length c.args.network.nodes ≤ length c.deref-4.result.now =
     omega (arith, ap length c.deref-4.ensures.value, c.in_ok-places.ensures.length, ap length c.deref.ensures.value, c.in_ok-kept.ensures.as_many) in
-    nodes_placed c.args.network c.into_vec.result.items (length c.deref-4.result.now) c.requires.ordered c.into_vec.ensures places
+    nodes_placed c.args.network c.into_vec.result.items (length c.deref-4.result.now) c.requires c.into_vec.ensures places
 
 -- the number of a node among those that are kept
 place_of : After-drop-kept-2 → ℕ → ℕ
@@ -35,16 +35,18 @@ is_pruned c =
     ∙ (λ i. map (moved_node (λ k. get_or (c.deref-4.ensures.value i) k 0)) (select (c.deref-3.ensures.value i) (c.into_vec.ensures i))) in
     λ i. record { inputs = c.args.network.inputs; nodes = nodes i; outputs = outputs i }
 
-pub returns-clause-network : goal.returns-clause-network
-returns-clause-network c =
-    subst IsNetwork (sym (is_pruned c)) (IsNetwork-pruned c.args.network c.in_ok-kept.kept.items (place_of c) (numbered c) c.requires.ordered c.in_ok-kept.ensures c.requires.nodes c.requires.small)
+pub returns-clause-ordered : goal.returns-clause-ordered
+returns-clause-ordered c =
+    subst IsInOrder (sym (is_pruned c)) (IsInOrder-pruned c.args.network c.in_ok-kept.kept.items (place_of c) (numbered c) c.requires c.in_ok-kept.ensures)
+
+pub returns-clause-reach : goal.returns-clause-reach
+returns-clause-reach c =
+    subst (λ n. (k : ℕ) → k < length n.nodes → ReachesOutput n k) (sym (is_pruned c)) (each_reaches c.args.network c.in_ok-kept.kept.items (place_of c) (numbered c) c.requires c.in_ok-kept.ensures)
+
+pub returns-clause-nodes : goal.returns-clause-nodes
+returns-clause-nodes c = (c.in_ok-kept.kept.items, place_of c, ap (λ (n : Network). n.nodes) (is_pruned c))
 
 pub returns-clause-same : goal.returns-clause-same
 returns-clause-same c word =
     ap (λ network. answer_of network word) (is_pruned c)
-    ∙ same_answer c.args.network c.in_ok-kept.kept.items (place_of c) (numbered c) c.requires.ordered c.in_ok-kept.ensures word
-
-pub returns-clause-weight : goal.returns-clause-weight
-returns-clause-weight c =
-    subst (λ network. weight_of_network network ≤ weight_of_network c.args.network) (sym (is_pruned c))
-    (less_weight c.args.network c.in_ok-kept.kept.items (place_of c) (numbered c) c.requires.ordered c.in_ok-kept.ensures)
+    ∙ same_answer c.args.network c.in_ok-kept.kept.items (place_of c) (numbered c) c.requires c.in_ok-kept.ensures word

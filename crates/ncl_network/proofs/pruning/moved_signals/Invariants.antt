@@ -1,7 +1,7 @@
 use Rattle.std.proofs.Common.{◌≡◌, map, take}
 use Rattle.std.specs.List.{slice_index_or}
 use Rattle.ncl_network.specs.Prune.{moved_signal}
-use Rattle.ncl_network.proofs.prune.moved_signals.Given as goal
+use Rattle.ncl_network.proofs.pruning.moved_signals.Given as goal
 
 abbrev pub invariant-loop-signal : goal.invariant-loop-signal
 invariant-loop-signal l =

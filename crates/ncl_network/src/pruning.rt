@@ -1,10 +1,9 @@
 //! A network without the nodes that reach no output.
-ghost use Rattle.std.specs.Prelude.{◌≡◌, ◌<◌, ◌≤◌, ◌^◌, ℕ, List, [], ◌∷◌, ◌++◌, Bool, if◌then◌else◌, map, length, All, IfOk, OnOk};
+ghost use Rattle.std.specs.Prelude.{◌≡◌, ◌<◌, ◌^◌, ℕ, List, [], ◌∷◌, ◌++◌, Bool, if◌then◌else◌, map, length, All, IfOk, OnOk};
 ghost use Rattle.std.specs.List.{slice_index_or};
-ghost use Rattle.ncl_blif.specs.Model.{most_size};
-ghost use Rattle.ncl_network.specs.Network.{IsNode, IsNetwork, answer_of, weight_of_network};
+ghost use Rattle.ncl_network.specs.Network.{ReachesOutput, answer_of};
 ghost use Rattle.ncl_network.specs.Fold.{select};
-ghost use Rattle.ncl_network.specs.Prune.{IsInOrder, IsPlaced, new_place, moved_signal, moved_node};
+ghost use Rattle.ncl_network.specs.Prune.{IsInOrder, IsPlaced, AreLeft, new_place, moved_signal, moved_node};
 
 use crate::mark::kept_nodes;
 use crate::network::{From3, Network, Node, Signal};
@@ -103,16 +102,16 @@ fn kept_part(
     Ok(part)
 }
 
-/// The network without the nodes that reach no output. Linear in the network.
-pub(crate) fn prune(alloc: Global, network: Network) -> Result<Network, Memory>
-    requires ordered { IsInOrder network }
-    requires nodes { All IsNode network.nodes }
-    requires small { weight_of_network network ≤ most_size }
-    ensures network { IfOk result IsNetwork }
+/// The network without the nodes that reach no output: each node that is left reaches one. Linear in the network.
+/// The only error is want of memory.
+pub fn prune(alloc: Global, network: Network) -> Result<Network, Memory>
+    requires { IsInOrder network }
+    ensures ordered { IfOk result IsInOrder }
+    ensures reach { IfOk result (λ n. (k : ℕ) → k < length n.nodes → ReachesOutput n k) }
+    ensures nodes { IfOk result (λ n. AreLeft network.nodes n.nodes) }
     ensures inputs { IfOk result (λ n. n.inputs ≡ network.inputs) }
     ensures outputs { IfOk result (λ n. length n.outputs ≡ length network.outputs) }
     ensures same { IfOk result (λ n. (word : List Bool) → answer_of n word ≡ answer_of network word) }
-    ensures weight { IfOk result (λ n. weight_of_network n ≤ weight_of_network network) }
 {
     let kept = kept_nodes(alloc, &network)?;
     let places = new_places(alloc, &kept)?;

@@ -15,8 +15,8 @@ use Rattle.ncl_network.specs.declared.network.Node.{Node}
 use Rattle.ncl_network.specs.declared.network.Network.{Network}
 use Rattle.ncl_network.specs.Network.{source_value, signal_value, node_value, node_values, answer_of, weight_of_network, is_constant, IsSource, ReadBefore, ReachesOutput, output, reader, IsNode, IsNetwork}
 use Rattle.ncl_network.specs.Fold.{select}
-use Rattle.ncl_network.specs.Prune.{IsInOrder, IsMarked, is_read, is_kept, new_place, moved_source, moved_signal, moved_node}
-use Rattle.ncl_network.proofs.Selecting.{All-select, sum_by-select-le}
+use Rattle.ncl_network.specs.Prune.{IsInOrder, IsMarked, AreLeft, is_read, is_kept, new_place, moved_source, moved_signal, moved_node}
+use Rattle.ncl_network.proofs.Selecting.{All-select, sum_by-select-le, length-select-le}
 use Rattle.ncl_network.proofs.Walking.{length-node_values}
 use Rattle.ncl_network.proofs.Marking.{is_read-from, node_reads}
 use Rattle.ncl_network.proofs.NewPlaces.{kept_within, place-kept, place-dropped, place-below, slice_get-select, length-select-place, place_at}
@@ -158,16 +158,26 @@ module _ (kept : List Bool) (places : ℕ → ℕ) (numbered : (k : ℕ) → k <
 
 -- ---- the network
 
-weighs_less : (kept : List Bool) (places : ℕ → ℕ) (nodes : List Node) → sum_by (λ node. weight_of_rows node.rows) (map (moved_node places) (select kept nodes)) ≤ sum_by (λ node. weight_of_rows node.rows) nodes
-weighs_less kept places nodes =
-    sum_by-select-le (λ node. weight_of_rows node.rows) (λ node. weight_of_rows node.rows) (moved_node places) (λ node. omega arith) kept nodes
+-- what holds of each node, whatever the numbers in it, holds of those that are left
+pub All-left : (P : Node → Type 0) → ((places : ℕ → ℕ) (node : Node) → P node → P (moved_node places node)) → (nodes left : List Node) → AreLeft nodes left → All P nodes → All P left
+All-left P moves nodes left (kept, places, is) all =
+    subst (All P) (sym is) (All-map P (moved_node places) (select kept nodes) (All-weaker P (λ node. P (moved_node places node)) (moves places) (select kept nodes) (All-select P kept nodes all)))
+
+-- a sum over nodes, in which their numbers don't count, is no more over those that are left
+pub sum_by-left : (f : Node → ℕ) → ((places : ℕ → ℕ) (node : Node) → f (moved_node places node) ≤ f node) → (nodes left : List Node) → AreLeft nodes left → sum_by f left ≤ sum_by f nodes
+sum_by-left f less nodes left (kept, places, is) =
+    subst (λ xs. sum_by f xs ≤ sum_by f nodes) (sym is) (sum_by-select-le f f (moved_node places) (less places) kept nodes)
+
+-- the weight of what is left
+pub weighs_less : (nodes left : List Node) → AreLeft nodes left → sum_by (λ node. weight_of_rows node.rows) left ≤ sum_by (λ node. weight_of_rows node.rows) nodes
+weighs_less = sum_by-left (λ node. weight_of_rows node.rows) (λ places node. omega arith)
 
 same_constant : (places : ℕ → ℕ) (from : From3) → is_constant (moved_source places from) ≡ is_constant from
 same_constant places (Input i) = refl
 same_constant places (FromNode k) = refl
 same_constant places (Const bit) = refl
 
-IsNode-moved : (places : ℕ → ℕ) (node : Node) → IsNode node → IsNode (moved_node places node)
+pub IsNode-moved : (places : ℕ → ℕ) (node : Node) → IsNode node → IsNode (moved_node places node)
 IsNode-moved places node is =
     let width = length-map node.ins (moved_signal places) in
     record {
@@ -220,18 +230,28 @@ module _ (network : Network) (kept : List Bool) (places : ℕ → ℕ) (numbered
       let lengths : length (node_values word [] network.nodes) ≡ length network.nodes = omega (arith, length-node_values word [] network.nodes) in
       same_signals kept places numbered network.inputs word (node_values word [] network.nodes) (node_values word [] (map (moved_node places) (select kept network.nodes))) network.outputs agree (subst (λ n. All (λ signal. IsKeptSource network.inputs n kept signal.from) network.outputs) (sym lengths) outputs_keep)
 
-  pub less_weight : weight_of_network (pruned network kept places) ≤ weight_of_network network
-  less_weight = weighs_less kept places network.nodes
+  left_length : length (map (moved_node places) (select kept network.nodes)) ≡ new_place kept (length network.nodes)
+  left_length =
+      length-map (select kept network.nodes) (moved_node places) ∙ length-select-place kept network.nodes marked.as_many ∙ ap (new_place kept) marked.as_many
 
-  pub IsNetwork-pruned : All IsNode network.nodes → weight_of_network network ≤ most_size → IsNetwork (pruned network kept places)
-  IsNetwork-pruned each small =
-      let lengths : length (map (moved_node places) (select kept network.nodes)) ≡ new_place kept (length kept) = length-map (select kept network.nodes) (moved_node places) ∙ length-select-place kept network.nodes marked.as_many in
-      record {
-        nodes = All-map IsNode (moved_node places) (select kept network.nodes) (All-weaker IsNode (λ node. IsNode (moved_node places node)) (IsNode-moved places) (select kept network.nodes) (All-select IsNode kept network.nodes each));
-        reads_before = moved_before kept places numbered network.inputs 0 kept network.nodes (zero-add (length kept)) (λ i within. ap (is_kept kept) (sym (zero-add i))) node_keeps;
-        outputs_exist = subst (λ n. All (λ signal. IsSource network.inputs n signal.from) (map (moved_signal places) network.outputs)) (ap (new_place kept) (sym marked.as_many) ∙ sym lengths) (moved_all kept places numbered network.inputs (length network.nodes) network.outputs outputs_keep);
-        reach = λ n below.
-            let (k, mark, is) = place_at kept network.nodes n marked.as_many (omega (arith, length-map (select kept network.nodes) (moved_node places))) in
-            subst (ReachesOutput (pruned network kept places)) is (still_reaches network kept places numbered marked k (marked.reach k mark));
-        small = omega (arith, weighs_less kept places network.nodes);
-      }
+  pub IsInOrder-pruned : IsInOrder (pruned network kept places)
+  IsInOrder-pruned = record {
+    reads_before = moved_before kept places numbered network.inputs 0 kept network.nodes (zero-add (length kept)) (λ i within. ap (is_kept kept) (sym (zero-add i))) node_keeps;
+    outputs_exist = subst (λ n. All (λ signal. IsSource network.inputs n signal.from) (map (moved_signal places) network.outputs)) (sym left_length) (moved_all kept places numbered network.inputs (length network.nodes) network.outputs outputs_keep);
+    few = omega (arith, length-map (select kept network.nodes) (moved_node places), length-select-le kept network.nodes, ordered.few);
+  }
+
+  pub each_reaches : (k : ℕ) → k < length (pruned network kept places).nodes → ReachesOutput (pruned network kept places) k
+  each_reaches n below =
+      let (k, mark, is) = place_at kept network.nodes n marked.as_many (omega (arith, length-map (select kept network.nodes) (moved_node places))) in
+      subst (ReachesOutput (pruned network kept places)) is (still_reaches network kept places numbered marked k (marked.reach k mark))
+
+-- a network that is ordered, whose nodes are left of nodes that covers fold into
+pub IsNetwork-left : (nodes : List Node) (network : Network) → IsInOrder network → ((k : ℕ) → k < length network.nodes → ReachesOutput network k) → AreLeft nodes network.nodes → All IsNode nodes → sum_by (λ node. weight_of_rows node.rows) nodes ≤ most_size → IsNetwork network
+IsNetwork-left nodes network ordered reach left each small = record {
+  nodes = All-left IsNode IsNode-moved nodes network.nodes left each;
+  reads_before = ordered.reads_before;
+  outputs_exist = ordered.outputs_exist;
+  reach = reach;
+  small = omega (arith, weighs_less nodes network.nodes left);
+}

@@ -5,7 +5,9 @@ use Rattle.std.specs.Option.{option_map}
 use Rattle.std.proofs.lemmas.Bool.{cases_lt, false≢true}
 use Rattle.std.proofs.lemmas.List.{get_or_default, length-map, get_or-map, get_or_append_left, get_or_push, length_push}
 use Rattle.std.proofs.lemmas.List.Elements.{All-head, All-tail, All-map, All-weaker}
+use Rattle.std.proofs.lemmas.List.Sums.{sum_by-cons}
 use Rattle.std.proofs.lemmas.Option.{slice_get-map}
+use Rattle.ncl_base.proofs.Growing.{length-le-sum_by}
 use Rattle.ncl_blif.specs.Meaning.{cover_value}
 use Rattle.ncl_blif.specs.Model.{most_size, weight_of_rows}
 use Rattle.ncl_network.specs.declared.network.From3.{From3}
@@ -13,7 +15,7 @@ use Rattle.ncl_network.specs.declared.network.From3.TheVariants.{Input, Node as 
 use Rattle.ncl_network.specs.declared.network.Signal.{Signal}
 use Rattle.ncl_network.specs.declared.network.Node.{Node}
 use Rattle.ncl_network.specs.declared.network.Network.{Network}
-use Rattle.ncl_network.specs.Network.{source_value, signal_value, node_value, node_values, answer_of, weight_of_network, is_constant, IsSource, ReadBefore, ReachesOutput, output, reader, IsNode, IsNetwork}
+use Rattle.ncl_network.specs.Network.{source_value, signal_value, node_value, node_values, answer_of, is_constant, IsSource, ReadBefore, ReachesOutput, output, reader, IsNode, IsNetwork}
 use Rattle.ncl_network.specs.Fold.{select}
 use Rattle.ncl_network.specs.Prune.{IsInOrder, IsMarked, AreLeft, is_read, is_kept, new_place, moved_source, moved_signal, moved_node}
 use Rattle.ncl_network.proofs.Selecting.{All-select, sum_by-select-le, length-select-le}
@@ -177,12 +179,17 @@ same_constant places (Input i) = refl
 same_constant places (FromNode k) = refl
 same_constant places (Const bit) = refl
 
+-- signals that aren't constant still aren't
+pub moved_constant : (places : ℕ → ℕ) (signals : List Signal) → All (λ signal. is_constant signal.from ≡ false) signals → All (λ signal. is_constant signal.from ≡ false) (map (moved_signal places) signals)
+moved_constant places signals vary =
+    All-map (λ signal. is_constant signal.from ≡ false) (moved_signal places) signals (All-weaker (λ signal. is_constant signal.from ≡ false) (λ signal. is_constant (moved_source places signal.from) ≡ false) (λ signal e. same_constant places signal.from ∙ e) signals vary)
+
 pub IsNode-moved : (places : ℕ → ℕ) (node : Node) → IsNode node → IsNode (moved_node places node)
 IsNode-moved places node is =
     let width = length-map node.ins (moved_signal places) in
     record {
       two_inputs = omega (arith, is.two_inputs);
-      no_constant = All-map (λ signal. is_constant signal.from ≡ false) (moved_signal places) node.ins (All-weaker (λ signal. is_constant signal.from ≡ false) (λ signal. is_constant (moved_source places signal.from) ≡ false) (λ signal e. same_constant places signal.from ∙ e) node.ins is.no_constant);
+      no_constant = moved_constant places node.ins is.no_constant;
       some_row = is.some_row;
       row_widths = subst (λ n. All (λ row. length row ≡ n) node.rows) (sym width) is.row_widths;
       no_idle_row = is.no_idle_row;
@@ -254,4 +261,19 @@ IsNetwork-left nodes network ordered reach left each small = record {
   outputs_exist = ordered.outputs_exist;
   reach = reach;
   small = omega (arith, weighs_less nodes network.nodes left);
+}
+
+-- each node weighs something
+nodes_weigh : (nodes : List Node) → All IsNode nodes → length nodes ≤ sum_by (λ node. weight_of_rows node.rows) nodes
+nodes_weigh [] each = omega arith
+nodes_weigh (node ∷ nodes) each =
+    let is : IsNode node = All-head IsNode node nodes each in
+    omega (arith, sum_by-cons (λ (node : Node). weight_of_rows node.rows) node nodes, length-le-sum_by (λ row. 1 + length row) (λ row. omega arith) node.rows, is.some_row, nodes_weigh nodes (All-tail IsNode node nodes each))
+
+-- a network that models fold into stands in order
+pub IsInOrder-network : (network : Network) → IsNetwork network → IsInOrder network
+IsInOrder-network network is = record {
+  reads_before = is.reads_before;
+  outputs_exist = is.outputs_exist;
+  few = omega (arith, nodes_weigh network.nodes is.nodes, is.small);
 }

@@ -1,0 +1,9 @@
+pub mod Pairs
+pub mod Trees
+pub mod Queue
+pub mod RowLiterals
+pub mod Later
+pub mod Terms
+pub mod Parts
+pub mod Walking
+pub mod Whole

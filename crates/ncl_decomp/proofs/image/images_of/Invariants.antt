@@ -1,0 +1,6 @@
+use Rattle.std.proofs.Common.{◌≡◌, map, take}
+use Rattle.ncl_decomp.specs.Images.{image_of}
+use Rattle.ncl_decomp.proofs.image.images_of.Given as goal
+
+abbrev pub invariant-loop-signal : goal.invariant-loop-signal
+invariant-loop-signal l = l.found.items ≡ map (image_of l.images) (take l.signal-index l.signals)

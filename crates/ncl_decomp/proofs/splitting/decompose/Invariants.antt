@@ -1,0 +1,7 @@
+use Rattle.std.proofs.Common.{take}
+use Rattle.ncl_decomp.specs.Splitting.{AreSplit}
+use Rattle.ncl_decomp.proofs.splitting.decompose.Given as goal
+
+abbrev pub invariant-loop-node : goal.invariant-loop-node
+invariant-loop-node l =
+    AreSplit l.network.inputs (take l.node-index l.node-items) l.nodes.items l.images.items

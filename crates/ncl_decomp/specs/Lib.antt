@@ -1,0 +1,5 @@
+pub mod Split
+pub mod Pairs
+pub mod Rows
+pub mod Images
+pub mod Splitting

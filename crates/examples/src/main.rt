@@ -8,7 +8,7 @@ use std::{env, fs};
 fn main(rt: HostRuntime) -> anyhow::Result<()> {
     for name in env::args(&rt)?.skip(1) {
         let bytes = fs::read(&rt, &name)?;
-        let reply = check(rt.alloc(), &bytes)?;
+        let reply = check(rt.alloc(), &bytes, 100_000)?;
         let line = str::from_utf8(&reply.text).context("a name of another alphabet")?;
         print!(rt; "{name}: {line}")?;
     }

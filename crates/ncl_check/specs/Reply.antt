@@ -15,7 +15,7 @@ use Rattle.ncl_shape.specs.Pipeline.{PipelineData}
 use Rattle.ncl_shape.specs.Shape.{Shape, Broken}
 use Rattle.ncl_verdict.specs.declared.verdict.Verdict.{Verdict}
 use Rattle.ncl_verdict.specs.declared.verdict.Verdict.TheVariants as verdict
-use Rattle.ncl_verdict.specs.Judgement.{TenBits, judgement}
+use Rattle.ncl_verdict.specs.Judgement.{judgement}
 use Rattle.ncl_report.specs.Line.{line}
 use Rattle.ncl_report.specs.NetText.{net_line}
 use Rattle.ncl_report.specs.ShapeText.{shape_line}
@@ -31,28 +31,27 @@ outcome_of (verdict.Empty stage output word) = Refused
 outcome_of (verdict.Incomplete stage bit word) = Refused
 outcome_of (verdict.Orphan stage cell word) = Refused
 outcome_of (verdict.Limit stage) = Unjudged
-outcome_of (verdict.Wide stage) = Unjudged
 
--- the verdict on a pipeline, whose stages have at most ten input bits or are not judged
-abbrev pub verdict_on : PipelineData → Verdict
-verdict_on p = judgement TenBits p.stages
+-- the verdict on a pipeline whose stages may have at most so many nodes
+abbrev pub verdict_on : ℕ → PipelineData → Verdict
+verdict_on limit p = judgement limit p.stages
 
--- the line that tells it. No limit of nodes is printed while stages are judged by tables of their words
-abbrev pub verdict_text : NetlistData → PipelineData → List ℕ
-verdict_text n p = verdict_line n (length p.stages) 1 (verdict_on p)
+-- the line that tells it
+abbrev pub verdict_text : ℕ → NetlistData → PipelineData → List ℕ
+verdict_text limit n p = verdict_line n (length p.stages) limit (verdict_on limit p)
 
 -- what `check` replies to a netlist: the first rule of shape that it breaks, or the verdict on its pipeline
-pub data IsNetlistReply (n : NetlistData) : Outcome → List ℕ → Type 0 where
-  shapeless : IsNetlist n → (fault : ShapeFault) → Broken n fault → IsNetlistReply n NoPipeline (shape_line n fault)
-  judged : (p : PipelineData) → Shape n p → IsNetlistReply n (outcome_of (verdict_on p)) (verdict_text n p)
+pub data IsNetlistReply (limit : ℕ) (n : NetlistData) : Outcome → List ℕ → Type 0 where
+  shapeless : IsNetlist n → (fault : ShapeFault) → Broken n fault → IsNetlistReply limit n NoPipeline (shape_line n fault)
+  judged : (p : PipelineData) → Shape n p → IsNetlistReply limit n (outcome_of (verdict_on limit p)) (verdict_text limit n p)
 
--- what `check` replies to the bytes of a file
-pub data IsCheckReply (bytes : List ℕ) : Outcome → List ℕ → Type 0 where
+-- what `check` replies to the bytes of a file, where a stage may have at most so many nodes
+pub data IsCheckReply (limit : ℕ) (bytes : List ℕ) : Outcome → List ℕ → Type 0 where
   -- a file has at most 16,777,216 bytes
-  too_long : MOST_BYTES < length bytes → IsCheckReply bytes NoPipeline (line (codes "netlist: too long"))
+  too_long : MOST_BYTES < length bytes → IsCheckReply limit bytes NoPipeline (line (codes "netlist: too long"))
   -- the text is refused at its first token that breaks
-  unread : length bytes ≤ MOST_BYTES → (fault : NetFault) → IsRefused bytes fault → IsCheckReply bytes NoPipeline (net_line fault)
+  unread : length bytes ≤ MOST_BYTES → (fault : NetFault) → IsRefused bytes fault → IsCheckReply limit bytes NoPipeline (net_line fault)
   -- the text says parts that are no netlist
-  unbuilt : length bytes ≤ MOST_BYTES → (parts : Parts) → Reads bytes parts → (fault : BuildFault) → fault ≢ build.Memory → IsFaultOf parts fault → IsCheckReply bytes NoPipeline (net_line (Build fault))
+  unbuilt : length bytes ≤ MOST_BYTES → (parts : Parts) → Reads bytes parts → (fault : BuildFault) → fault ≢ build.Memory → IsFaultOf parts fault → IsCheckReply limit bytes NoPipeline (net_line (Build fault))
   -- the text says a netlist, and this is the reply to it
-  built : length bytes ≤ MOST_BYTES → (parts : Parts) → Reads bytes parts → IsFaultless parts → (outcome : Outcome) (text : List ℕ) → IsNetlistReply (netlist_of parts) outcome text → IsCheckReply bytes outcome text
+  built : length bytes ≤ MOST_BYTES → (parts : Parts) → Reads bytes parts → IsFaultless parts → (outcome : Outcome) (text : List ℕ) → IsNetlistReply limit (netlist_of parts) outcome text → IsCheckReply limit bytes outcome text

@@ -1,5 +1,5 @@
 //! The check of a netlist.
-ghost use Rattle.std.specs.Prelude.{◌≡◌, ◌≢◌, IfOk, OnOk};
+ghost use Rattle.std.specs.Prelude.{◌≡◌, ◌≢◌, ◌≤◌, ℕ, IfOk, OnOk};
 ghost use Rattle.ncl_reader.specs.declared.net_fault.NetFault.TheVariants.{Memory as OutOfMemory};
 ghost use Rattle.ncl_shape.specs.Shape.{IsShapeFault};
 ghost use Rattle.ncl_report.specs.NetText.{net_line};
@@ -17,13 +17,15 @@ use ncl_verdict::judge;
 use std::alloc::Global;
 
 /// What `check` replies to the bytes of a file: the first thing that keeps them from being a netlist, the
-/// first rule of shape that the netlist breaks, or the judgement of its pipeline.
+/// first rule of shape that the netlist breaks, or the judgement of its pipeline, each of whose stages may have
+/// at most `limit` nodes of diagrams.
 ///
 /// An acceptance says that the circuit works at every gate delay: clause `headline`. Fails where memory is
 /// refused, and then only. Linear in the bytes and cells but for look-ups of names and the judgement, which
 /// evaluates each stage once for each of its bits and gates.
-pub fn check(alloc: Global, bytes: &[u8]) -> Result<Reply, Memory>
-    ensures reply { IfOk result (λ reply. IsCheckReply bytes.now reply.outcome reply.text.items) }
+pub fn check(alloc: Global, bytes: &[u8], limit: u32) -> Result<Reply, Memory>
+    requires { 1 ≤ limit }
+    ensures reply { IfOk result (λ reply. IsCheckReply limit bytes.now reply.outcome reply.text.items) }
     ensures headline { IfOk result (λ reply. reply.outcome ≡ Accepted → IsDelayInsensitiveText bytes.now) }
 {
     if bytes.len() > MOST_BYTES {
@@ -33,7 +35,7 @@ pub fn check(alloc: Global, bytes: &[u8]) -> Result<Reply, Memory>
         });
     }
     match read_netlist(alloc, bytes) {
-        Ok(netlist) => check_netlist(alloc, &netlist),
+        Ok(netlist) => check_netlist(alloc, &netlist, limit),
         Err(fault) => no_netlist(alloc, fault),
     }
 }
@@ -53,11 +55,12 @@ fn no_netlist(alloc: Global, fault: NetFault) -> Result<Reply, Memory>
 }
 
 /// What `check` replies to a netlist.
-fn check_netlist(alloc: Global, netlist: &Netlist) -> Result<Reply, Memory>
-    ensures { IfOk result (λ reply. IsNetlistReply netlist.now reply.outcome reply.text.items) }
+fn check_netlist(alloc: Global, netlist: &Netlist, limit: u32) -> Result<Reply, Memory>
+    requires { 1 ≤ limit }
+    ensures { IfOk result (λ reply. IsNetlistReply limit netlist.now reply.outcome reply.text.items) }
 {
     match shape(alloc, netlist) {
-        Ok(pipeline) => check_pipeline(alloc, &pipeline),
+        Ok(pipeline) => check_pipeline(alloc, &pipeline, limit),
         Err(fault) => no_shape(alloc, netlist, fault),
     }
 }
@@ -65,7 +68,7 @@ fn check_netlist(alloc: Global, netlist: &Netlist) -> Result<Reply, Memory>
 /// What `check` replies to a netlist that has no shape.
 fn no_shape(alloc: Global, netlist: &Netlist, fault: ShapeFault) -> Result<Reply, Memory>
     requires { IsShapeFault netlist.now fault }
-    ensures { IfOk result (λ reply. IsNetlistReply netlist.now reply.outcome reply.text.items) }
+    ensures { (limit : ℕ) → IfOk result (λ reply. IsNetlistReply limit netlist.now reply.outcome reply.text.items) }
 {
     // The cells come with the facts of a netlist.
     let _ = netlist.cells();
@@ -78,15 +81,15 @@ fn no_shape(alloc: Global, netlist: &Netlist, fault: ShapeFault) -> Result<Reply
     }
 }
 
-/// What `check` replies to a pipeline: its judgement. No limit of nodes is printed while stages are judged by
-/// tables of their words.
-fn check_pipeline(alloc: Global, pipeline: &Pipeline) -> Result<Reply, Memory>
-    ensures { IfOk result (λ reply. IsNetlistReply pipeline.now.netlist reply.outcome reply.text.items) }
+/// What `check` replies to a pipeline: its judgement.
+fn check_pipeline(alloc: Global, pipeline: &Pipeline, limit: u32) -> Result<Reply, Memory>
+    requires { 1 ≤ limit }
+    ensures { IfOk result (λ reply. IsNetlistReply limit pipeline.now.netlist reply.outcome reply.text.items) }
 {
     pipeline.facts();
-    let verdict = judge(alloc, pipeline)?;
+    let verdict = judge(alloc, pipeline, limit)?;
     Ok(Reply {
         outcome: Outcome::of(&verdict),
-        text: verdict_text(alloc, pipeline, &verdict, 1)?,
+        text: verdict_text(alloc, pipeline, &verdict, limit)?,
     })
 }

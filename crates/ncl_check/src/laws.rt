@@ -7,11 +7,11 @@ ghost use Rattle.ncl_check.specs.declared.reply.Outcome.TheVariants.{Accepted};
 
 /// There is at most one reply to the bytes of a file.
 pub fn one_reply()
-    ensures outcome { (bytes : List ℕ) (outcome other : Outcome) (text line : List ℕ) → IsCheckReply bytes outcome text → IsCheckReply bytes other line → outcome ≡ other }
-    ensures text { (bytes : List ℕ) (outcome other : Outcome) (text line : List ℕ) → IsCheckReply bytes outcome text → IsCheckReply bytes other line → text ≡ line }
+    ensures outcome { (limit : ℕ) (bytes : List ℕ) (outcome other : Outcome) (text line : List ℕ) → IsCheckReply limit bytes outcome text → IsCheckReply limit bytes other line → outcome ≡ other }
+    ensures text { (limit : ℕ) (bytes : List ℕ) (outcome other : Outcome) (text line : List ℕ) → IsCheckReply limit bytes outcome text → IsCheckReply limit bytes other line → text ≡ line }
 {}
 
 /// Bytes to which the reply is an acceptance are the text of a netlist that works at every gate delay.
 pub fn accepted_is_insensitive()
-    ensures { (bytes text : List ℕ) → IsCheckReply bytes Accepted text → IsDelayInsensitiveText bytes }
+    ensures { (limit : ℕ) (bytes text : List ℕ) → IsCheckReply limit bytes Accepted text → IsDelayInsensitiveText bytes }
 {}

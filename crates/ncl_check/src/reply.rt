@@ -13,7 +13,7 @@ pub enum Outcome {
     Refused,
     /// The bytes are no netlist, or the netlist has no shape.
     NoPipeline,
-    /// A stage is too large to be judged.
+    /// A stage has more nodes than the limit.
     Unjudged,
 }
 
@@ -34,7 +34,7 @@ impl Outcome {
             Verdict::Accepted => Outcome::Accepted,
             Verdict::Both { .. } | Verdict::Empty { .. } => Outcome::Refused,
             Verdict::Incomplete { .. } | Verdict::Orphan { .. } => Outcome::Refused,
-            Verdict::Limit { .. } | Verdict::Wide { .. } => Outcome::Unjudged,
+            Verdict::Limit { .. } => Outcome::Unjudged,
         }
     }
 }

@@ -12,15 +12,15 @@ use Rattle.ncl_origin.specs.Free.{AtCell, FailsFirst}
 use Rattle.ncl_shape.specs.Pipeline.{PipelineData}
 use Rattle.ncl_shape.specs.Shape.{Shape, IsShapeFault}
 use Rattle.ncl_verdict.specs.declared.verdict.Verdict.{Verdict}
-use Rattle.ncl_verdict.specs.declared.verdict.Verdict.TheVariants.{Accepted, Both, Empty, Incomplete, Orphan, Limit, Wide}
-use Rattle.ncl_verdict.specs.Judgement.{Bound, judgement}
+use Rattle.ncl_verdict.specs.declared.verdict.Verdict.TheVariants.{Accepted, Both, Empty, Incomplete, Orphan, Limit}
+use Rattle.ncl_verdict.specs.Judgement.{judgement}
 use Rattle.ncl_verdict.proofs.NamedCell.{NamesBelow, names_of_pipeline}
 use Rattle.ncl_report.specs.ShapeText.{NamesPlaceOf}
 use Rattle.ncl_report.specs.VerdictText.{NamesCellOf}
 
 -- the verdict on a pipeline names no cell but those of its netlist
-pub names_cell_of : (n : NetlistData) (p : PipelineData) (bound : Bound) → Shape n p → NamesCellOf n (judgement bound p.stages)
-names_cell_of n p bound shape = by (judgement bound p.stages) (names_of_pipeline n p shape bound)
+pub names_cell_of : (n : NetlistData) (p : PipelineData) (limit : ℕ) → Shape n p → NamesCellOf n (judgement limit p.stages)
+names_cell_of n p limit shape = by (judgement limit p.stages) (names_of_pipeline n p shape limit)
   where
     by : (v : Verdict) → NamesBelow (length n.cells) v → NamesCellOf n v
     by (Orphan stage cell word) below = below
@@ -29,7 +29,6 @@ names_cell_of n p bound shape = by (judgement bound p.stages) (names_of_pipeline
     by (Empty stage output word) below = tt
     by (Incomplete stage bit word) below = tt
     by (Limit stage) below = tt
-    by (Wide stage) below = tt
 
 -- a rule of cells fails first at a cell that is there
 cell_within : (n : NetlistData) (Rule : NetlistData → Cell → Type 0) (k : ℕ) → FailsFirst (AtCell Rule n) k → k < length n.cells

@@ -3,7 +3,7 @@ use Rattle.std.specs.Prelude.{ℕ, ◌+◌, ◌<◌, Bool, List, ◌++◌, lengt
 use Rattle.ncl_base.specs.Words.{text_of as word_text}
 use Rattle.ncl_netlist.specs.Netlist.{NetlistData}
 use Rattle.ncl_verdict.specs.declared.verdict.Verdict.{Verdict}
-use Rattle.ncl_verdict.specs.declared.verdict.Verdict.TheVariants.{Accepted, Both, Empty, Incomplete, Orphan, Limit, Wide}
+use Rattle.ncl_verdict.specs.declared.verdict.Verdict.TheVariants.{Accepted, Both, Empty, Incomplete, Orphan, Limit}
 use Rattle.ncl_report.specs.Line.{line, cell_name}
 
 -- the line on a stage with a fault: the fault, the output, bit or cell where it is, and the word that shows it
@@ -23,7 +23,6 @@ verdict_line n stages limit (Incomplete stage bit word) = refusal stage (codes "
 verdict_line n stages limit (Orphan stage cell word) = refusal stage (codes "orphan, cell ") (cell_name n cell.0) word
 verdict_line n stages limit (Limit stage) =
     line (codes "limit stage " ++ decimal stage ++ codes ": more than " ++ decimal limit ++ codes " nodes")
-verdict_line n stages limit (Wide stage) = line (codes "wide stage " ++ decimal stage)
 
 -- a cell that the verdict names is one of the netlist's
 abbrev pub NamesCellOf : NetlistData → Verdict → Type 0

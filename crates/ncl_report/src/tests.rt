@@ -93,7 +93,6 @@ fn tells_verdicts(rt: HostRuntime) -> Result<(), Fail> {
             Verdict::Limit { stage: 7 },
             "limit stage 7: more than 65536 nodes\n",
         ),
-        (Verdict::Wide { stage: 12 }, "wide stage 12\n"),
     ];
     for (verdict, text) in cases {
         let names_cell = names_cell_of(&netlist, &verdict);

@@ -50,7 +50,6 @@ pub fn verdict_text(
             refusal(alloc, *stage, b"orphan, cell ", cell.name.bytes(), word)
         }
         Verdict::Limit { stage } => over_limit(alloc, *stage, limit),
-        Verdict::Wide { stage } => wide(alloc, *stage),
     }
 }
 
@@ -105,17 +104,6 @@ fn over_limit(alloc: Global, stage: u32, limit: u32) -> Result<Vec<u8>, Memory>
     text.extend_from_slice(b": more than ")?;
     text.extend_from_slice(digits.format(limit).as_bytes())?;
     text.extend_from_slice(b" nodes")?;
-    text.extend_from_slice(b"\n")?;
-    Ok(text)
-}
-
-/// The line for a stage with too many input bits.
-fn wide(alloc: Global, stage: u32) -> Result<Vec<u8>, Memory>
-    ensures { IfOk result (λ text. text.items ≡ line (codes "wide stage " ++ decimal stage)) }
-{
-    let mut digits = Buffer::new();
-    let mut text = Vec::from_slice(alloc, b"wide stage ")?;
-    text.extend_from_slice(digits.format(stage).as_bytes())?;
     text.extend_from_slice(b"\n")?;
     Ok(text)
 }

@@ -27,7 +27,7 @@ use Rattle.ncl_complete.specs.declared.rail_fault.RailFault.TheVariants.{Both, E
 use Rattle.ncl_complete.specs.RailFaults.{rail_fault, found_fault, first_rail_fault}
 use Rattle.ncl_verdict.specs.declared.verdict.Verdict.{Verdict}
 use Rattle.ncl_verdict.specs.declared.verdict.Verdict.TheVariants as verdict
-use Rattle.ncl_verdict.specs.Judgement.{Stop, TenBits, at_variant, file_order, found, of_stage, stopped_at, variants, verdict_of}
+use Rattle.ncl_verdict.specs.Judgement.{Stop, at_variant, file_order, found, of_stage, stopped_at, variants, verdict_of}
 use Rattle.ncl_verdict.proofs.FileOrder.{range-members}
 use Rattle.ncl_verdict.specs.InSpace.{IsReady, stopped_within, rail_verdict, output_of}
 
@@ -193,23 +193,3 @@ of_stage-parts stop s =
     by_first : (answer : Option Verdict) (bits cells : List (Option Verdict)) → first_of (answer ∷ bits ++ cells) ≡ first_of (answer ∷ first_of bits ∷ first_of cells ∷ [])
     by_first None bits cells = first_of-append bits cells
     by_first (Some v) bits cells = refl
-
--- at most ten bits stop nothing
-not_wide : (s : StageData) (variant : Variant) → length s.inputs ≤ 10 → stopped_within None s variant ≡ stopped_at TenBits s variant
-not_wide s variant few = sym (ap (λ b. if b then Some (verdict.Wide s.number) else None) (le-ltb 10 (length s.inputs) few))
-
-pub of_stage-tables : (s : StageData) → length s.inputs ≤ 10 → of_stage (stopped_within None) s ≡ of_stage (stopped_at TenBits) s
-of_stage-tables s few = ap first_of (each (variants s))
-  where
-    each : (vs : List Variant) → map (at_variant (stopped_within None) s) vs ≡ map (at_variant (stopped_at TenBits) s) vs
-    each [] = refl
-    each (v ∷ vs) =
-        let first = ap (λ answer. first_of (answer ∷ map (found s) (faults_of s v))) (not_wide s v few) in
-        let rest = each vs in
-        λ i. first i ∷ rest i
-
--- more than ten stop at once
-pub of_stage-wide : (s : StageData) → 10 < length s.inputs → of_stage (stopped_at TenBits) s ≡ Some (verdict.Wide s.number)
-of_stage-wide s many =
-    of_stage-parts (stopped_at TenBits) s
-    ∙ ap (λ b. first_of (first_of ((if b then Some (verdict.Wide s.number) else None) ∷ map (found s) (faults_of s Base)) ∷ first_of (map (at_variant (stopped_at TenBits) s) (map Bit (below (length s.inputs)))) ∷ first_of (map (at_variant (stopped_at TenBits) s) (map Cell (file_order s))) ∷ [])) (lt-ltb 10 (length s.inputs) many)

@@ -14,7 +14,7 @@ use Rattle.ncl_stage.specs.Tables.{count}
 use Rattle.ncl_stage.specs.Faults.{StageFault, BothRails, NoRail, Incomplete, Orphan}
 use Rattle.ncl_verdict.specs.declared.verdict.Verdict.{Verdict}
 use Rattle.ncl_verdict.specs.declared.verdict.Verdict.TheVariants as verdict
-use Rattle.ncl_verdict.specs.Judgement.{Bound, Nodes, TenBits, stopped_at, cell_number, verdict_of, least_word, found, first_of, faults_of, at_variant, of_stage, variants, judgement}
+use Rattle.ncl_verdict.specs.Judgement.{stopped_at, cell_number, verdict_of, least_word, found, first_of, faults_of, at_variant, of_stage, variants, judgement}
 
 -- a cell that the verdict names is one of the first so many
 abbrev pub NamesBelow : ℕ → Verdict → Type 0
@@ -35,7 +35,7 @@ holds_or_else : (P : Verdict → Type 0) (o : Option Verdict) (other : Verdict) 
 holds_or_else P None other h p = p
 holds_or_else P (Some v) other h p = h
 
-module _ (cells : ℕ) (some : 0 < cells) (bound : Bound) where
+module _ (cells : ℕ) (some : 0 < cells) (limit : ℕ) where
   -- ---- one stage
 
   module _ (s : StageData) (within : (k : ℕ) (c : StageCell) → slice_get s.cells k ≡ Some c → c.cell.0 < cells) where
@@ -53,34 +53,29 @@ module _ (cells : ℕ) (some : 0 < cells) (bound : Bound) where
     of_word fault None = tt
     of_word fault (Some word) = of_fault fault word
 
-    of_stop : (b : Bound) (variant : Variant) → IfSome (stopped_at b s variant) (NamesBelow cells)
-    of_stop (Nodes limit) variant = by (nat_lt limit (count s variant))
+    of_stop : (variant : Variant) → IfSome (stopped_at limit s variant) (NamesBelow cells)
+    of_stop variant = by (nat_lt limit (count s variant))
       where
         by : (b : Bool) → IfSome (if b then Some (verdict.Limit s.number) else None) (NamesBelow cells)
         by true = tt
         by false = tt
-    of_stop TenBits variant = by (nat_lt 10 (length s.inputs))
-      where
-        by : (b : Bool) → IfSome (if b then Some (verdict.Wide s.number) else None) (NamesBelow cells)
-        by true = tt
-        by false = tt
 
-    of_variant : (variant : Variant) → IfSome (at_variant (stopped_at bound) s variant) (NamesBelow cells)
+    of_variant : (variant : Variant) → IfSome (at_variant (stopped_at limit) s variant) (NamesBelow cells)
     of_variant variant =
-        holds_of_first (NamesBelow cells) (stopped_at bound s variant ∷ map (found s) (faults_of s variant))
-        (of_stop bound variant, holds_of_each (NamesBelow cells) (found s) (faults_of s variant) (λ k fault at. of_word fault (least_word s fault)))
+        holds_of_first (NamesBelow cells) (stopped_at limit s variant ∷ map (found s) (faults_of s variant))
+        (of_stop variant, holds_of_each (NamesBelow cells) (found s) (faults_of s variant) (λ k fault at. of_word fault (least_word s fault)))
 
-    pub names_of_stage : IfSome (of_stage (stopped_at bound) s) (NamesBelow cells)
+    pub names_of_stage : IfSome (of_stage (stopped_at limit) s) (NamesBelow cells)
     names_of_stage =
-        holds_of_first (NamesBelow cells) (map (at_variant (stopped_at bound) s) (variants s))
-        (holds_of_each (NamesBelow cells) (at_variant (stopped_at bound) s) (variants s) (λ k variant at. of_variant variant))
+        holds_of_first (NamesBelow cells) (map (at_variant (stopped_at limit) s) (variants s))
+        (holds_of_each (NamesBelow cells) (at_variant (stopped_at limit) s) (variants s) (λ k variant at. of_variant variant))
 
   -- ---- the stages of a pipeline
 
-  pub names_of_stages : (stages : List StageData) → ((j : ℕ) (s : StageData) → slice_get stages j ≡ Some s → (k : ℕ) (c : StageCell) → slice_get s.cells k ≡ Some c → c.cell.0 < cells) → NamesBelow cells (judgement bound stages)
+  pub names_of_stages : (stages : List StageData) → ((j : ℕ) (s : StageData) → slice_get stages j ≡ Some s → (k : ℕ) (c : StageCell) → slice_get s.cells k ≡ Some c → c.cell.0 < cells) → NamesBelow cells (judgement limit stages)
   names_of_stages stages within =
-      holds_or_else (NamesBelow cells) (first_of (map (of_stage (stopped_at bound)) stages)) verdict.Accepted
-      (holds_of_first (NamesBelow cells) (map (of_stage (stopped_at bound)) stages) (holds_of_each (NamesBelow cells) (of_stage (stopped_at bound)) stages (λ j s at. names_of_stage s (within j s at))))
+      holds_or_else (NamesBelow cells) (first_of (map (of_stage (stopped_at limit)) stages)) verdict.Accepted
+      (holds_of_first (NamesBelow cells) (map (of_stage (stopped_at limit)) stages) (holds_of_each (NamesBelow cells) (of_stage (stopped_at limit)) stages (λ j s at. names_of_stage s (within j s at))))
       tt
 
 not_there : {X : Type 0} (xs : List X) (k : ℕ) → k < length xs → slice_get xs k ≡ None → ⊥
@@ -107,7 +102,7 @@ stage_cells_within n p shape j s at k c there =
     by (Some b) None here after l m = absurd (not_there p.banks (j + 1) m after)
 
 -- the verdict on a pipeline names no cell but those of its netlist
-pub names_of_pipeline : (n : NetlistData) (p : PipelineData) → Shape n p → (bound : Bound) → NamesBelow (length n.cells) (judgement bound p.stages)
-names_of_pipeline n p shape bound =
+pub names_of_pipeline : (n : NetlistData) (p : PipelineData) → Shape n p → (limit : ℕ) → NamesBelow (length n.cells) (judgement limit p.stages)
+names_of_pipeline n p shape limit =
     let (register, (place, within, at), is) = shape.chained 1 in
-    names_of_stages (length n.cells) (omega arith) bound p.stages (stage_cells_within n p shape)
+    names_of_stages (length n.cells) (omega arith) limit p.stages (stage_cells_within n p shape)

@@ -18,7 +18,7 @@ use Rattle.ncl_stage.specs.Tables.{ValuesAt}
 use Rattle.ncl_stage.proofs.Reordered.{with_cells, IsSameVariant, base, bit, cell, same_values, same_count}
 use Rattle.ncl_verdict.specs.declared.verdict.Verdict.{Verdict}
 use Rattle.ncl_verdict.specs.declared.verdict.Verdict.TheVariants as verdict
-use Rattle.ncl_verdict.specs.Judgement.{Bound, Nodes, TenBits, stopped_at, cell_number, verdict_of, below, file_order, variants, faults_of, found, first_of, at_variant, of_stage, judgement}
+use Rattle.ncl_verdict.specs.Judgement.{stopped_at, cell_number, verdict_of, below, file_order, variants, faults_of, found, first_of, at_variant, of_stage, judgement}
 use Rattle.ncl_verdict.proofs.FileOrder.{cells_in_order, same_cells_in_order}
 
 module _ (s : StageData) (ys : List StageCell) (moved : IsPermutation s.cells ys) where
@@ -63,53 +63,52 @@ module _ (s : StageData) (ys : List StageCell) (moved : IsPermutation s.cells ys
   same_faults x y (bit b) = ap (λ answer. answer ∷ []) (same_incomplete b)
   same_faults x y (cell i j same) = ap (λ answer. answer ∷ []) (same_orphan i j same)
 
-  same_stop : (bound : Bound) (x y : Variant) → IsSameVariant s t x y → stopped_at bound s x ≡ stopped_at bound t y
-  same_stop (Nodes limit) x y same = ap (λ n. if nat_lt limit n then Some (verdict.Limit s.number) else None) (same_count s ys moved x y same)
-  same_stop TenBits x y same = refl
+  same_stop : (limit : ℕ) (x y : Variant) → IsSameVariant s t x y → stopped_at limit s x ≡ stopped_at limit t y
+  same_stop limit x y same = ap (λ n. if nat_lt limit n then Some (verdict.Limit s.number) else None) (same_count s ys moved x y same)
 
-  same_at : (bound : Bound) (x y : Variant) → IsSameVariant s t x y → at_variant (stopped_at bound) s x ≡ at_variant (stopped_at bound) t y
-  same_at bound x y same =
-      ap (λ stop. first_of (stop ∷ map (found s) (faults_of s x))) (same_stop bound x y same)
-      ∙ ap (λ answers. first_of (stopped_at bound t y ∷ answers)) (same_faults x y same)
+  same_at : (limit : ℕ) (x y : Variant) → IsSameVariant s t x y → at_variant (stopped_at limit) s x ≡ at_variant (stopped_at limit) t y
+  same_at limit x y same =
+      ap (λ stop. first_of (stop ∷ map (found s) (faults_of s x))) (same_stop limit x y same)
+      ∙ ap (λ answers. first_of (stopped_at limit t y ∷ answers)) (same_faults x y same)
 
-  same_answers : (bound : Bound) (bits is js : List ℕ) → map (slice_get s.cells) is ≡ map (slice_get ys) js → map (at_variant (stopped_at bound) s) (map Bit bits ++ map Cell is) ≡ map (at_variant (stopped_at bound) t) (map Bit bits ++ map Cell js)
-  same_answers bound [] [] [] cells = refl
-  same_answers bound [] [] (j ∷ js) cells = absurd cc
-  same_answers bound [] (i ∷ is) [] cells = absurd cc
-  same_answers bound [] (i ∷ is) (j ∷ js) cells =
+  same_answers : (limit : ℕ) (bits is js : List ℕ) → map (slice_get s.cells) is ≡ map (slice_get ys) js → map (at_variant (stopped_at limit) s) (map Bit bits ++ map Cell is) ≡ map (at_variant (stopped_at limit) t) (map Bit bits ++ map Cell js)
+  same_answers limit [] [] [] cells = refl
+  same_answers limit [] [] (j ∷ js) cells = absurd cc
+  same_answers limit [] (i ∷ is) [] cells = absurd cc
+  same_answers limit [] (i ∷ is) (j ∷ js) cells =
       let one : slice_get s.cells i ≡ slice_get ys j = cc in
       let others : map (slice_get s.cells) is ≡ map (slice_get ys) js = cc in
-      let first = same_at bound (Cell i) (Cell j) (cell i j one) in
-      let rest = same_answers bound [] is js others in
+      let first = same_at limit (Cell i) (Cell j) (cell i j one) in
+      let rest = same_answers limit [] is js others in
       cc
-  same_answers bound (b ∷ bits) is js cells =
-      let first = same_at bound (Bit b) (Bit b) (bit b) in
-      let rest = same_answers bound bits is js cells in
+  same_answers limit (b ∷ bits) is js cells =
+      let first = same_at limit (Bit b) (Bit b) (bit b) in
+      let rest = same_answers limit bits is js cells in
       cc
 
-  same_of_stage : (bound : Bound) → cells_in_order s ≡ cells_in_order t → of_stage (stopped_at bound) s ≡ of_stage (stopped_at bound) t
-  same_of_stage bound cells =
-      let first = same_at bound Base Base base in
-      let rest = same_answers bound (below (length s.inputs)) (file_order s) (file_order t) cells in
-      let all : map (at_variant (stopped_at bound) s) (variants s) ≡ map (at_variant (stopped_at bound) t) (variants t) = cc in
+  same_of_stage : (limit : ℕ) → cells_in_order s ≡ cells_in_order t → of_stage (stopped_at limit) s ≡ of_stage (stopped_at limit) t
+  same_of_stage limit cells =
+      let first = same_at limit Base Base base in
+      let rest = same_answers limit (below (length s.inputs)) (file_order s) (file_order t) cells in
+      let all : map (at_variant (stopped_at limit) s) (variants s) ≡ map (at_variant (stopped_at limit) t) (variants t) = cc in
       ap first_of all
 
 -- the same stage has the same answer
-same_stage : (bound : Bound) (s t : StageData) → IsStage s → IsStage t → IsSameStage s t → of_stage (stopped_at bound) s ≡ of_stage (stopped_at bound) t
-same_stage bound s t is_s is_t same =
+same_stage : (limit : ℕ) (s t : StageData) → IsStage s → IsStage t → IsSameStage s t → of_stage (stopped_at limit) s ≡ of_stage (stopped_at limit) t
+same_stage limit s t is_s is_t same =
     let other : with_cells s t.cells ≡ t = λ i. record { number = same.number i; inputs = same.inputs i; cells = t.cells; outputs = same.outputs i } in
-    same_of_stage s t.cells same.cells bound (same_cells_in_order s (with_cells s t.cells) is_s (subst IsStage (sym other) is_t) same.cells)
-    ∙ ap (of_stage (stopped_at bound)) other
+    same_of_stage s t.cells same.cells limit (same_cells_in_order s (with_cells s t.cells) is_s (subst IsStage (sym other) is_t) same.cells)
+    ∙ ap (of_stage (stopped_at limit)) other
 
-same_stages : (bound : Bound) (xs ys : List StageData) → All IsStage xs → All IsStage ys → AllZip IsSameStage xs ys → map (of_stage (stopped_at bound)) xs ≡ map (of_stage (stopped_at bound)) ys
-same_stages bound [] [] are_x are_y same = refl
-same_stages bound [] (y ∷ ys) are_x are_y same = absurd same
-same_stages bound (x ∷ xs) [] are_x are_y same = absurd same
-same_stages bound (x ∷ xs) (y ∷ ys) are_x are_y same =
-    let first = same_stage bound x y (are_x 0 x (omega arith)) (are_y 0 y (omega arith)) same.0 in
-    let rest = same_stages bound xs ys (λ k d lt. are_x (suc k) d (omega arith)) (λ k d lt. are_y (suc k) d (omega arith)) same.1 in
+same_stages : (limit : ℕ) (xs ys : List StageData) → All IsStage xs → All IsStage ys → AllZip IsSameStage xs ys → map (of_stage (stopped_at limit)) xs ≡ map (of_stage (stopped_at limit)) ys
+same_stages limit [] [] are_x are_y same = refl
+same_stages limit [] (y ∷ ys) are_x are_y same = absurd same
+same_stages limit (x ∷ xs) [] are_x are_y same = absurd same
+same_stages limit (x ∷ xs) (y ∷ ys) are_x are_y same =
+    let first = same_stage limit x y (are_x 0 x (omega arith)) (are_y 0 y (omega arith)) same.0 in
+    let rest = same_stages limit xs ys (λ k d lt. are_x (suc k) d (omega arith)) (λ k d lt. are_y (suc k) d (omega arith)) same.1 in
     cc
 
 -- and the same pipeline the same judgement
-pub same_judgement : (p q : PipelineData) → All IsStage p.stages → All IsStage q.stages → IsSamePipeline p q → (bound : Bound) → judgement bound p.stages ≡ judgement bound q.stages
-same_judgement p q are_p are_q same bound = ap (λ answers. unwrap_or (first_of answers) verdict.Accepted) (same_stages bound p.stages q.stages are_p are_q same.stages)
+pub same_judgement : (p q : PipelineData) → All IsStage p.stages → All IsStage q.stages → IsSamePipeline p q → (limit : ℕ) → judgement limit p.stages ≡ judgement limit q.stages
+same_judgement p q are_p are_q same limit = ap (λ answers. unwrap_or (first_of answers) verdict.Accepted) (same_stages limit p.stages q.stages are_p are_q same.stages)

@@ -14,7 +14,7 @@ use Rattle.ncl_stage.specs.Faults.{StageFault, BothRails, NoRail, Incomplete, Or
 use Rattle.ncl_stage.specs.Tables.{count}
 use Rattle.ncl_verdict.specs.declared.verdict.Verdict.{Verdict}
 use Rattle.ncl_verdict.specs.declared.verdict.Verdict.TheVariants as verdict
-use Rattle.ncl_verdict.specs.Judgement.{Bound, Nodes, TenBits, stopped_at, verdict_of, below, file_number, file_order, variants, faults_of, least_word, found, first_of, at_variant, of_stage, judgement}
+use Rattle.ncl_verdict.specs.Judgement.{stopped_at, verdict_of, below, file_number, file_order, variants, faults_of, least_word, found, first_of, at_variant, of_stage, judgement}
 use Rattle.ncl_verdict.proofs.Firsts.{first_of-none, none_of, find-none, Refuses, map-refuses, unwrap-refuses}
 use Rattle.ncl_verdict.proofs.Places.{Member-below, Member-ordered_by, Member-words, slice_get-cases}
 
@@ -32,33 +32,28 @@ found-refuses s fault = by_word (least_word s fault)
     by_word None = λ e. absurd cc
     by_word (Some word) = verdict_of-refuses s fault word
 
-stopped_at-refuses : (bound : Bound) (s : StageData) (variant : Variant) → Refuses (stopped_at bound s variant)
-stopped_at-refuses (Nodes limit) s variant = by_test (nat_lt limit (count s variant))
+stopped_at-refuses : (limit : ℕ) (s : StageData) (variant : Variant) → Refuses (stopped_at limit s variant)
+stopped_at-refuses limit s variant = by_test (nat_lt limit (count s variant))
   where
     by_test : (b : Bool) → Refuses (if b then Some (verdict.Limit s.number) else None)
     by_test true = λ e. absurd cc
     by_test false = λ e. absurd cc
-stopped_at-refuses TenBits s variant = by_test (nat_lt 10 (length s.inputs))
-  where
-    by_test : (b : Bool) → Refuses (if b then Some (verdict.Wide s.number) else None)
-    by_test true = λ e. absurd cc
-    by_test false = λ e. absurd cc
 
-at_variant-refuses : (bound : Bound) (s : StageData) (variant : Variant) → Refuses (at_variant (stopped_at bound) s variant)
-at_variant-refuses bound s variant = by_stop (stopped_at bound s variant) (stopped_at-refuses bound s variant)
+at_variant-refuses : (limit : ℕ) (s : StageData) (variant : Variant) → Refuses (at_variant (stopped_at limit) s variant)
+at_variant-refuses limit s variant = by_stop (stopped_at limit s variant) (stopped_at-refuses limit s variant)
   where
     by_stop : (stop : Option Verdict) → Refuses stop → Refuses (first_of (stop ∷ map (found s) (faults_of s variant)))
     by_stop None refuses = map-refuses (found s) (found-refuses s) (faults_of s variant)
     by_stop (Some v) refuses = refuses
 
-of_stage-refuses : (bound : Bound) (s : StageData) → Refuses (of_stage (stopped_at bound) s)
-of_stage-refuses bound s = map-refuses (at_variant (stopped_at bound) s) (at_variant-refuses bound s) (variants s)
+of_stage-refuses : (limit : ℕ) (s : StageData) → Refuses (of_stage (stopped_at limit) s)
+of_stage-refuses limit s = map-refuses (at_variant (stopped_at limit) s) (at_variant-refuses limit s) (variants s)
 
 -- where nothing is found of a stage, nothing is found of a fault at a variant
-found-none : (bound : Bound) (s : StageData) → of_stage (stopped_at bound) s ≡ None → (variant : Variant) → Member variant (variants s) → (fault : StageFault) → Member fault (faults_of s variant) → found s fault ≡ None
-found-none bound s none variant m fault n =
-    let here_none : at_variant (stopped_at bound) s variant ≡ None = none_of (at_variant (stopped_at bound) s) (variants s) none variant m in
-    first_of-none (stopped_at bound s variant ∷ map (found s) (faults_of s variant)) here_none (found s fault) (there (Member-map (found s) fault n))
+found-none : (limit : ℕ) (s : StageData) → of_stage (stopped_at limit) s ≡ None → (variant : Variant) → Member variant (variants s) → (fault : StageFault) → Member fault (faults_of s variant) → found s fault ≡ None
+found-none limit s none variant m fault n =
+    let here_none : at_variant (stopped_at limit) s variant ≡ None = none_of (at_variant (stopped_at limit) s) (variants s) none variant m in
+    first_of-none (stopped_at limit s variant ∷ map (found s) (faults_of s variant)) here_none (found s fault) (there (Member-map (found s) fault n))
 
 -- where nothing is found of a fault, no word shows it
 shows-none : (s : StageData) (fault : StageFault) → found s fault ≡ None → (word : List Bool) → IsWordOf s word → shows s word fault ≡ false
@@ -86,31 +81,31 @@ Member-cell : (s : StageData) (cell : ℕ) → cell < length s.cells → Member 
 Member-cell s cell lt = there (Member-append_right (map Bit (below (length s.inputs))) (Cell cell) (Member-map Cell cell (Member-ordered_by (file_number s) (below (length s.cells)) cell (Member-below (length s.cells) cell lt))))
 
 -- where nothing is found of a stage, it is sound
-of_stage-sound : (bound : Bound) (s : StageData) → of_stage (stopped_at bound) s ≡ None → IsSound s
-of_stage-sound bound s none (BothRails output) word is =
+of_stage-sound : (limit : ℕ) (s : StageData) → of_stage (stopped_at limit) s ≡ None → IsSound s
+of_stage-sound limit s none (BothRails output) word is =
     elim (slice_get-cases s.outputs output) [
       | inl past ↦ ap (holds_at (is_illegal (val s word Base))) past
-      | inr within ↦ shows-none s (BothRails output) (found-none bound s none Base here (BothRails output) (Member-outputs (below (length s.outputs)) output (Member-below (length s.outputs) output within)).0) word is
+      | inr within ↦ shows-none s (BothRails output) (found-none limit s none Base here (BothRails output) (Member-outputs (below (length s.outputs)) output (Member-below (length s.outputs) output within)).0) word is
     ]
-of_stage-sound bound s none (NoRail output) word is =
+of_stage-sound limit s none (NoRail output) word is =
     elim (slice_get-cases s.outputs output) [
       | inl past ↦ ap (holds_at (λ r. not (has_data (val s word Base) r))) past
-      | inr within ↦ shows-none s (NoRail output) (found-none bound s none Base here (NoRail output) (Member-outputs (below (length s.outputs)) output (Member-below (length s.outputs) output within)).1) word is
+      | inr within ↦ shows-none s (NoRail output) (found-none limit s none Base here (NoRail output) (Member-outputs (below (length s.outputs)) output (Member-below (length s.outputs) output within)).1) word is
     ]
-of_stage-sound bound s none (Incomplete bit) word is =
+of_stage-sound limit s none (Incomplete bit) word is =
     elim (slice_get-cases s.inputs bit) [
       | inl past ↦ ap (holds_at (λ (r : Rails). all_data s (val s word (Bit bit)))) past
-      | inr within ↦ shows-none s (Incomplete bit) (found-none bound s none (Bit bit) (Member-bit s bit within) (Incomplete bit) here) word is
+      | inr within ↦ shows-none s (Incomplete bit) (found-none limit s none (Bit bit) (Member-bit s bit within) (Incomplete bit) here) word is
     ]
-of_stage-sound bound s none (Orphan cell) word is =
+of_stage-sound limit s none (Orphan cell) word is =
     elim (slice_get-cases s.cells cell) [
       | inl past ↦ ap (holds_at (λ (c : StageCell). val s word Base c.out.0 && all_data s (val s word (Cell cell)))) past
-      | inr within ↦ shows-none s (Orphan cell) (found-none bound s none (Cell cell) (Member-cell s cell within) (Orphan cell) here) word is
+      | inr within ↦ shows-none s (Orphan cell) (found-none limit s none (Cell cell) (Member-cell s cell within) (Orphan cell) here) word is
     ]
 
 -- the stages of an accepted pipeline are sound
-pub judgement-sound : (bound : Bound) (stages : List StageData) → judgement bound stages ≡ verdict.Accepted → All IsSound stages
-judgement-sound bound stages accepted =
-    let none : first_of (map (of_stage (stopped_at bound)) stages) ≡ None =
-    unwrap-refuses (first_of (map (of_stage (stopped_at bound)) stages)) (map-refuses (of_stage (stopped_at bound)) (of_stage-refuses bound) stages) accepted in
-    All-from_members IsSound stages (λ s m. of_stage-sound bound s (none_of (of_stage (stopped_at bound)) stages none s m))
+pub judgement-sound : (limit : ℕ) (stages : List StageData) → judgement limit stages ≡ verdict.Accepted → All IsSound stages
+judgement-sound limit stages accepted =
+    let none : first_of (map (of_stage (stopped_at limit)) stages) ≡ None =
+    unwrap-refuses (first_of (map (of_stage (stopped_at limit)) stages)) (map-refuses (of_stage (stopped_at limit)) (of_stage-refuses limit) stages) accepted in
+    All-from_members IsSound stages (λ s m. of_stage-sound limit s (none_of (of_stage (stopped_at limit)) stages none s m))

@@ -11,12 +11,12 @@ use Rattle.ncl_complete.specs.declared.rail_fault.RailFault.{RailFault}
 use Rattle.ncl_complete.specs.declared.rail_fault.RailFault.TheVariants.{Both, Empty}
 use Rattle.ncl_verdict.specs.declared.verdict.Verdict.{Verdict}
 use Rattle.ncl_verdict.specs.declared.verdict.Verdict.TheVariants as verdict
-use Rattle.ncl_verdict.specs.Judgement.{Nodes, Stop, stopped_at}
+use Rattle.ncl_verdict.specs.Judgement.{Stop, stopped_at}
 
 -- what stops the judgement of a stage in a space with this limit
 abbrev pub stopped_within : Option ℕ → Stop
 stopped_within None s variant = None
-stopped_within (Some limit) s variant = stopped_at (Nodes limit) s variant
+stopped_within (Some limit) s variant = stopped_at limit s variant
 
 -- the space has the values of the stage under Base, and holds the beads of all tables of Base
 pub record IsReady (space : SpaceData) (s : StageData) (base : ValuesData) : Type 0 where

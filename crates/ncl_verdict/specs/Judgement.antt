@@ -11,15 +11,9 @@ pub use Rattle.ncl_stage.specs.LeastWords.{below, faults_of, first_of, least_wor
 use Rattle.ncl_verdict.specs.declared.verdict.Verdict.{Verdict}
 use Rattle.ncl_verdict.specs.declared.verdict.Verdict.TheVariants as verdict
 
--- what stops the judgement of a stage before its faults are looked for: more nodes at a variant than a
--- limit, or more input bits than can be tried word by word
-pub data Bound : Type 0 where
-  Nodes : ℕ → Bound
-  TenBits : Bound
-
-abbrev pub stopped_at : Bound → StageData → Variant → Option Verdict
-stopped_at (Nodes limit) s variant = if nat_lt limit (count s variant) then Some (verdict.Limit s.number) else None
-stopped_at TenBits s variant = if nat_lt 10 (length s.inputs) then Some (verdict.Wide s.number) else None
+-- what stops the judgement of a stage at a variant, before its faults are looked for: more nodes than the limit
+abbrev pub stopped_at : ℕ → StageData → Variant → Option Verdict
+stopped_at limit s variant = if nat_lt limit (count s variant) then Some (verdict.Limit s.number) else None
 
 -- the number of the cell at a place of the stage
 abbrev pub cell_number : Option StageCell → CellId
@@ -75,6 +69,6 @@ of_stage stop s = first_of (map (at_variant stop s) (variants s))
 abbrev pub judged : Stop → List StageData → Verdict
 judged stop stages = unwrap_or (first_of (map (of_stage stop) stages)) verdict.Accepted
 
--- the judgement of the stages of a pipeline
-abbrev pub judgement : Bound → List StageData → Verdict
-judgement bound stages = judged (stopped_at bound) stages
+-- the judgement of the stages of a pipeline, each with at most so many nodes
+abbrev pub judgement : ℕ → List StageData → Verdict
+judgement limit stages = judged (stopped_at limit) stages

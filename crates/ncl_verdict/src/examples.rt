@@ -3,34 +3,34 @@ ghost use Rattle.std.specs.Prelude.{◌≡◌, true, false, [], ◌∷◌};
 ghost use Rattle.ncl_stage.specs.Examples.{and_stage, eager_and_stage, orphan_and_stage, crossed_stage, dead_rail_stage, adder_stage, sum_stage};
 ghost use Rattle.ncl_stage.specs.Tables.{count};
 ghost use Rattle.ncl_stage.specs.declared.variant.Variant.TheVariants.{Base};
-ghost use Rattle.ncl_verdict.specs.Judgement.{judgement, Nodes, TenBits};
+ghost use Rattle.ncl_verdict.specs.Judgement.{judgement};
 ghost use Rattle.ncl_verdict.specs.declared.verdict.Verdict.TheVariants.{Accepted, Both, Empty, Incomplete, Orphan, Limit};
 
 /// An AND of two bits is accepted with six nodes, and with five it is not judged.
 pub fn and_of_two_bits()
     ensures count { count and_stage Base ≡ 6 }
-    ensures accepted { judgement (Nodes 6) (and_stage ∷ []) ≡ Accepted }
-    ensures limited { judgement (Nodes 5) (and_stage ∷ []) ≡ Limit 1 }
+    ensures accepted { judgement 6 (and_stage ∷ []) ≡ Accepted }
+    ensures limited { judgement 5 (and_stage ∷ []) ≡ Limit 1 }
 {}
 
 /// An output that is DATA before both bits are is not input-complete.
 pub fn eager_and()
-    ensures { judgement TenBits (eager_and_stage ∷ []) ≡ Incomplete 1 1 (false ∷ false ∷ []) }
+    ensures { judgement 100 (eager_and_stage ∷ []) ≡ Incomplete 1 1 (false ∷ false ∷ []) }
 {}
 
 /// A cell that no output observes is an orphan.
 pub fn unobserved_cell()
-    ensures { judgement TenBits (orphan_and_stage ∷ []) ≡ Orphan 1 (record { 0 = 8 }) (true ∷ true ∷ []) }
+    ensures { judgement 100 (orphan_and_stage ∷ []) ≡ Orphan 1 (record { 0 = 8 }) (true ∷ true ∷ []) }
 {}
 
 /// An output of rails of two bits can have both rails high, and one of a dead rail can have none.
 pub fn rails_of_no_bit()
-    ensures crossed { judgement TenBits (crossed_stage ∷ []) ≡ Both 1 1 (true ∷ false ∷ []) }
-    ensures dead { judgement TenBits (dead_rail_stage ∷ []) ≡ Empty 1 1 (false ∷ []) }
+    ensures crossed { judgement 100 (crossed_stage ∷ []) ≡ Both 1 1 (true ∷ false ∷ []) }
+    ensures dead { judgement 100 (dead_rail_stage ∷ []) ≡ Empty 1 1 (false ∷ []) }
 {}
 
 /// A full adder is accepted; with the sum alone its carry is an orphan.
 pub fn full_adder()
-    ensures whole { judgement TenBits (adder_stage ∷ []) ≡ Accepted }
-    ensures sum_alone { judgement TenBits (sum_stage ∷ []) ≡ Orphan 1 (record { 0 = 9 }) (false ∷ false ∷ false ∷ []) }
+    ensures whole { judgement 100 (adder_stage ∷ []) ≡ Accepted }
+    ensures sum_alone { judgement 100 (sum_stage ∷ []) ≡ Orphan 1 (record { 0 = 9 }) (false ∷ false ∷ false ∷ []) }
 {}

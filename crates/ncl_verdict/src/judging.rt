@@ -1,58 +1,50 @@
 //! The judgement of a pipeline's stages.
-ghost use Rattle.std.specs.Prelude.{◌≡◌, ◌≤◌, [], ◌∷◌, IfOk, length};
-ghost use Rattle.ncl_verdict.specs.Judgement.{TenBits, judgement, of_stage, stopped_at};
+ghost use Rattle.std.specs.Prelude.{◌≡◌, ◌≤◌, [], ◌∷◌, IfOk};
+ghost use Rattle.ncl_verdict.specs.Judgement.{judgement, of_stage, stopped_at};
 
 use crate::in_space::first_answer;
 use crate::verdict::Verdict;
 use ncl_base::Memory;
+use ncl_diagram::Diagram;
 use ncl_shape::{Pipeline, Stage};
-use ncl_space::Plain;
 use std::alloc::Global;
 
-/// The most input bits of a stage whose functions are kept as truth tables.
-const MOST_TABLE_BITS: usize = 10;
-
-/// The judgement of one stage: its first fault with the least word that shows it, or that it is sound,
-/// or that it has more than ten input bits. An error is want of memory.
+/// The judgement of one stage with at most `limit` nodes: its first fault with the least word that shows it, or
+/// that it is sound, or that at some variant it has more nodes. An error is want of memory.
 ///
-/// For each input bit and each cell it goes over the cells once, and each cell takes time in proportion
-/// to the words of the inputs, 64 at a time.
-pub fn judge_stage(alloc: Global, stage: &Stage) -> Result<Verdict, Memory>
-    ensures { IfOk result (λ verdict. verdict ≡ judgement TenBits (stage.now ∷ [])) }
+/// For each input bit and each cell it goes over the cells once, each time by one operation on diagrams.
+pub fn judge_stage(alloc: Global, stage: &Stage, limit: u32) -> Result<Verdict, Memory>
+    requires { 1 ≤ limit }
+    ensures { IfOk result (λ verdict. verdict ≡ judgement limit (stage.now ∷ [])) }
 {
-    match refusal(alloc, stage)? {
+    match refusal(alloc, stage, limit)? {
         Some(verdict) => Ok(verdict),
         None => Ok(Verdict::Accepted),
     }
 }
 
-/// The judgement of a pipeline: that of its first stage, in their order, that is not sound or has more
-/// than ten input bits; accepted where there is none. An error is want of memory.
+/// The judgement of a pipeline, each of whose stages may have at most `limit` nodes: that of its first stage, in
+/// their order, that is not sound or has more; accepted where there is none. An error is want of memory.
 ///
 /// The stages are judged one after another, each as by `judge_stage`.
-pub fn judge(alloc: Global, pipeline: &Pipeline) -> Result<Verdict, Memory>
-    ensures { IfOk result (λ verdict. verdict ≡ judgement TenBits pipeline.now.stages) }
+pub fn judge(alloc: Global, pipeline: &Pipeline, limit: u32) -> Result<Verdict, Memory>
+    requires { 1 ≤ limit }
+    ensures { IfOk result (λ verdict. verdict ≡ judgement limit pipeline.now.stages) }
 {
     for stage in pipeline.stages() {
-        if let Some(verdict) = refusal(alloc, stage)? {
+        if let Some(verdict) = refusal(alloc, stage, limit)? {
             return Ok(verdict);
         }
     }
     Ok(Verdict::Accepted)
 }
 
-// What is said of a stage that is not sound, or has too many input bits. The one place that knows which
-// space is taken.
-fn refusal(alloc: Global, stage: &Stage) -> Result<Option<Verdict>, Memory>
-    ensures { IfOk result (λ answer. answer ≡ of_stage (stopped_at TenBits) stage.now) }
+// What is said of a stage that is not sound, or has too many nodes. The one place that knows which space is taken.
+fn refusal(alloc: Global, stage: &Stage, limit: u32) -> Result<Option<Verdict>, Memory>
+    requires { 1 ≤ limit }
+    ensures { IfOk result (λ answer. answer ≡ of_stage (stopped_at limit) stage.now) }
 {
     stage.facts();
-    let bits = stage.inputs.items().len();
-    if bits > MOST_TABLE_BITS {
-        return Ok(Some(Verdict::Wide {
-            stage: stage.number,
-        }));
-    }
-    let mut space = Plain::new(alloc, bits);
+    let mut space = Diagram::new(alloc, stage.inputs.items().len(), limit);
     first_answer(alloc, &mut space, stage)
 }

@@ -1,18 +1,18 @@
 //! What the judgement means.
-ghost use Rattle.std.specs.Prelude.{◌≡◌, List, All};
+ghost use Rattle.std.specs.Prelude.{◌≡◌, ℕ, List, All};
 ghost use Rattle.ncl_shape.specs.Stage.{StageData, IsStage};
 ghost use Rattle.ncl_shape.specs.Pipeline.{PipelineData};
 ghost use Rattle.ncl_shape.specs.SamePipeline.{IsSamePipeline};
 ghost use Rattle.ncl_stage.specs.Faults.{IsSound};
-ghost use Rattle.ncl_verdict.specs.Judgement.{Bound, judgement};
+ghost use Rattle.ncl_verdict.specs.Judgement.{judgement};
 ghost use Rattle.ncl_verdict.specs.declared.verdict.Verdict.TheVariants.{Accepted};
 
 /// Where a pipeline is accepted, no word of the inputs of any of its stages shows any fault.
 pub fn accepted_is_sound()
-    ensures { (bound : Bound) (stages : List StageData) → judgement bound stages ≡ Accepted → All IsSound stages }
+    ensures { (limit : ℕ) (stages : List StageData) → judgement limit stages ≡ Accepted → All IsSound stages }
 {}
 
 /// Pipelines that are the same but for the order of the cells of their stages have one judgement.
 pub fn same_pipeline_same_judgement()
-    ensures { (p q : PipelineData) → All IsStage p.stages → All IsStage q.stages → IsSamePipeline p q → (bound : Bound) → judgement bound p.stages ≡ judgement bound q.stages }
+    ensures { (p q : PipelineData) → All IsStage p.stages → All IsStage q.stages → IsSamePipeline p q → (limit : ℕ) → judgement limit p.stages ≡ judgement limit q.stages }
 {}

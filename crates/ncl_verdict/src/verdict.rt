@@ -36,8 +36,4 @@ pub enum Verdict {
     Limit {
         stage: u32,
     },
-    /// The stage has more than 10 input bits.
-    Wide {
-        stage: u32,
-    },
 }

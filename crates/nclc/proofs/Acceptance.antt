@@ -6,7 +6,7 @@ use Rattle.ncl_check.specs.declared.reply.Outcome.TheVariants.{Accepted, Refused
 use Rattle.ncl_check.specs.Headline.{IsDelayInsensitiveText}
 use Rattle.ncl_check.proofs.Accepted.{text_works}
 use Rattle.nclc.specs.Command.{Words, check, command_of}
-use Rattle.nclc.specs.Answer.{status_of, IsFileReply, Answer, not_understood, replied, SourceState, SinkState, Says, answered, read_failed, no_memory, Tells, whole, cut_short, Ran, AcceptsWhatWorks}
+use Rattle.nclc.specs.Answer.{most_nodes, status_of, IsFileReply, Answer, not_understood, replied, SourceState, SinkState, Says, answered, read_failed, no_memory, Tells, whole, cut_short, Ran, AcceptsWhatWorks}
 
 -- only an acceptance has status 0
 accepted_by_status : (outcome : Outcome) → status_of outcome ≡ 0 → outcome ≡ Accepted
@@ -17,7 +17,7 @@ accepted_by_status Unjudged e = absurd (omega arith)
 
 file_works : (files : Files) (file : List ℕ) {status : ℕ} {text : List ℕ} → IsFileReply (Some files) file status text → status ≡ 0 → IsDelayInsensitiveText (bytes_of files file)
 file_works files file reply e =
-    subst IsDelayInsensitiveText reply.given (text_works reply.bytes reply.reply (accepted_by_status reply.outcome (sym reply.ends ∙ e)))
+    subst IsDelayInsensitiveText reply.given (text_works most_nodes reply.bytes reply.reply (accepted_by_status reply.outcome (sym reply.ends ∙ e)))
 
 answer_works : (words : Words) (files : Files) (file : List ℕ) {status : ℕ} {text : List ℕ} → command_of words ≡ Some (check file) → Answer words (Some files) status text → status ≡ 0 → IsDelayInsensitiveText (bytes_of files file)
 answer_works words files file asked (not_understood none) e = absurd (omega arith)

@@ -5,13 +5,13 @@ use Rattle.ncl_check.specs.declared.reply.Outcome.{Outcome}
 use Rattle.ncl_check.specs.Reply.{IsCheckReply}
 use Rattle.ncl_check.proofs.OneReply.{same_reply}
 use Rattle.nclc.specs.Command.{Words, Command, check, command_of}
-use Rattle.nclc.specs.Answer.{status_of, IsFileReply, IsReply, Answer, not_understood, replied, words_determine_text, determines_text}
+use Rattle.nclc.specs.Answer.{most_nodes, status_of, IsFileReply, IsReply, Answer, not_understood, replied, words_determine_text, determines_text}
 
 -- the bytes that both replies are to
 same_file_reply : (files : Files) (file : List ℕ) (status other : ℕ) (text line : List ℕ) → IsFileReply (Some files) file status text → IsFileReply (Some files) file other line → (status ≡ other) × (text ≡ line)
 same_file_reply files file status other text line one two =
     let bytes : one.bytes ≡ two.bytes = one.given ∙ sym two.given in
-    let same = same_reply two.bytes (subst (λ bytes. IsCheckReply bytes one.outcome text) bytes one.reply) two.reply in
+    let same = same_reply most_nodes two.bytes (subst (λ bytes. IsCheckReply most_nodes bytes one.outcome text) bytes one.reply) two.reply in
     (one.ends ∙ ap status_of same.0 ∙ sym two.ends, same.1)
 
 same_command_status : (files : Files) (command : Command) (status other : ℕ) (text line : List ℕ) → IsReply command (Some files) status text → IsReply command (Some files) other line → status ≡ other

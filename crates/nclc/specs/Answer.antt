@@ -6,6 +6,7 @@ use Rattle.ncl_check.specs.declared.reply.Outcome.{Outcome}
 use Rattle.ncl_check.specs.declared.reply.Outcome.TheVariants.{Accepted, Refused, NoPipeline, Unjudged}
 use Rattle.ncl_check.specs.Reply.{IsCheckReply}
 use Rattle.ncl_check.specs.Headline.{IsDelayInsensitiveText}
+use Rattle.nclc.specs.declared.reply.TheConstants.{MOST_NODES}
 use Rattle.nclc.specs.Command.{Words, Command, check, command_of, files_named}
 
 -- the status of a check that ends so
@@ -20,13 +21,17 @@ status_of Unjudged = 6
 abbrev pub IsGiven : Option Files → List ℕ → List ℕ → Type 0
 IsGiven told name bytes = IfSome told (λ files. bytes ≡ bytes_of files name)
 
+-- the most nodes that a stage may have in a check
+abbrev pub most_nodes : ℕ
+most_nodes = MOST_NODES
+
 -- what `check` replies to a file
 pub record IsFileReply (told : Option Files) (file : List ℕ) (status : ℕ) (text : List ℕ) : Type 0 where
   pub bytes : List ℕ
   pub given : IsGiven told file bytes
   pub outcome : Outcome
   pub ends : status ≡ status_of outcome
-  pub reply : IsCheckReply bytes outcome text
+  pub reply : IsCheckReply most_nodes bytes outcome text
 
 -- what a command replies where the source tells this of its files. Each load of a file gives bytes of its own
 abbrev pub IsReply : Command → Option Files → ℕ → List ℕ → Type 0

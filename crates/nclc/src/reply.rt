@@ -10,6 +10,9 @@ use ncl_base::{LoadFault, Source, load};
 use ncl_check::{Outcome, check};
 use std::alloc::Global;
 
+/// The most nodes that a stage may have in a check.
+pub const MOST_NODES: u32 = 100_000;
+
 /// A status, and the whole text that belongs to it.
 #[derive(Drop, Debug)]
 pub enum Reply {
@@ -61,7 +64,7 @@ fn check_file<S: Source>(alloc: Global, source: &mut S, file: &str) -> Result<Re
     ensures faults { S.faults source.old ≤ S.faults source.new }
 {
     match load(alloc, source, file) {
-        Ok(bytes) => match check(alloc, &bytes) {
+        Ok(bytes) => match check(alloc, &bytes, MOST_NODES) {
             Ok(reply) => Ok(Reply::Made(status_of(reply.outcome), reply.text)),
             Err(_) => Err(Fault::Memory),
         },

@@ -158,8 +158,8 @@ fn pipelines_are_judged(rt: HostRuntime) -> Result<(), Fail> {
                 "p11_0 p11_1",
             ],
             "",
-            6,
-            "wide stage 1",
+            0,
+            "accepted banks=2 stages=1 cells=74",
         ),
     ];
     for (name, bits, outputs, cells, status, line) in cases {

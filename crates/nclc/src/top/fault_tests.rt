@@ -36,12 +36,7 @@ fn the_first_fault_is_told_with_its_least_word(rt: HostRuntime) -> Result<(), Fa
             both_low,
             "no rail, output 1, word 010",
         ),
-        (
-            2,
-            &["y0 y1"],
-            one_eager,
-            "incomplete, bit 1, word 01",
-        ),
+        (2, &["y0 y1"], one_eager, "incomplete, bit 1, word 01"),
         (
             3,
             &["p1_0 p1_1", "p2_0 p2_1", "p3_0 p3_1"],
@@ -54,24 +49,14 @@ fn the_first_fault_is_told_with_its_least_word(rt: HostRuntime) -> Result<(), Fa
             three,
             "orphan, cell u, word 0101",
         ),
-        (
-            2,
-            &["y p1_0"],
-            mixed,
-            "both rails, output 1, word 01",
-        ),
+        (2, &["y p1_0"], mixed, "both rails, output 1, word 01"),
         (
             2,
             &["p1_0 y", "p1_0 p2_1"],
             ones_on_y,
             "no rail, output 1, word 10",
         ),
-        (
-            2,
-            &["p1_0 p1_1"],
-            ones,
-            "incomplete, bit 2, word 00",
-        ),
+        (2, &["p1_0 p1_1"], ones, "incomplete, bit 2, word 00"),
         (
             2,
             &["p1_0 p1_1", "p2_0 p2_1"],

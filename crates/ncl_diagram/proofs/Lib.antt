@@ -14,3 +14,4 @@ pub mod Taking
 pub mod DiagramLaws
 pub mod Rails
 pub mod LeastLaws
+pub mod KeptLaws

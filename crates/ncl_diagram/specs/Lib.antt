@@ -3,3 +3,4 @@ pub mod Memo
 pub mod Holding
 pub mod Diagram
 pub mod Leaves
+pub mod Kept

@@ -5,6 +5,7 @@ ghost use Rattle.ncl_space.specs.declared.space.Ref.{Ref};
 ghost use Rattle.ncl_space.specs.Space.{IsLive, IsNew, IsSpace};
 ghost use Rattle.ncl_diagram.specs.Diagram.{diagram_space};
 
+use crate::answers::Answers;
 use crate::least::find_least;
 use crate::memo::Memo;
 use crate::nodes::{Nodes, constant};
@@ -24,16 +25,19 @@ pub struct Diagram {
     nodes: Nodes,
     // what the operation under way has found; empty between calls
     memo: Memo,
+    // some answers of earlier operations
+    answers: Answers,
 }
 
 impl Model for Diagram {
     ghost use Rattle.ncl_diagram.specs.Diagram.{DiagramData, IsDiagram};
+    ghost use Rattle.ncl_diagram.specs.Kept.{AreKept};
 
     ghost Value = { DiagramData };
 
     ghost view = { λ d. record { width = d.width; limit = d.limit; nodes = d.nodes } };
 
-    ghost invariant = { λ d. IsDiagram d.width d.limit d.nodes };
+    ghost invariant = { λ d. IsDiagram d.width d.limit d.nodes × AreKept d.width d.nodes d.answers };
 }
 
 impl Diagram {
@@ -53,6 +57,7 @@ impl Diagram {
             limit,
             nodes: Nodes::new(alloc),
             memo: Memo::new(alloc),
+            answers: Answers::new(alloc),
         }
     }
 
@@ -93,6 +98,7 @@ impl Space for Diagram {
             key,
             &mut self.nodes,
             &mut self.memo,
+            &mut self.answers,
         )
     }
 
@@ -117,5 +123,6 @@ impl Space for Diagram {
 
     fn release(&mut self, mark: Mark) {
         self.nodes.truncate(mark.count as usize);
+        self.answers.release(mark.count);
     }
 }

@@ -1,6 +1,7 @@
 //! Shared decision diagrams of the functions of a stage, as a space.
 #![tactic(auto)]
 
+mod answers;
 mod diagram;
 mod least;
 mod memo;

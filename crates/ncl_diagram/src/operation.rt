@@ -4,6 +4,7 @@ ghost use Rattle.std.specs.List.{list_any, list_all};
 ghost use Rattle.ncl_gates.specs.Gate.{set_of};
 ghost use Rattle.ncl_space.specs.Bits.{is_set};
 ghost use Rattle.ncl_space.specs.Functions.{rail_table};
+ghost use Rattle.ncl_diagram.specs.Kept.{AreKept};
 ghost use Rattle.ncl_diagram.specs.Leaves.{Leaves};
 ghost use Rattle.ncl_diagram.specs.Memo.{AreAnswers, KeepsKeys, places};
 ghost use Rattle.ncl_diagram.specs.Nodes.{
@@ -27,6 +28,7 @@ ghost use Rattle.ncl_diagram.specs.Nodes.{
   only_one,
 };
 
+use crate::answers::Answers;
 use crate::memo::{Key, Memo};
 use crate::nodes::{Node, Nodes, constant};
 use ncl_gates::Kind;
@@ -203,12 +205,14 @@ fn apply_at(
     key: Key,
     nodes: &mut Nodes,
     memo: &mut Memo,
+    answers: &mut Answers,
 ) -> Result<Ref, SpaceFault>
     requires width { width ≤ 128 }
     requires canonical { IsCanonical width nodes.old }
     requires few { length nodes.old ≤ limit }
     requires there { There nodes.old (places key) }
     requires memo { AreAnswers width kind nodes.old memo.old.keys.keys memo.old.found.items }
+    requires kept { AreKept width nodes.old answers.old }
     ensures canonical { IsCanonical width nodes.new }
     ensures grown { Grown nodes.old nodes.new }
     ensures few { length nodes.new ≤ limit }
@@ -218,8 +222,12 @@ fn apply_at(
     ensures lacks { IsErrOf result SpaceFault.Full → Lacks width kind nodes.new (places key) }
     ensures memo { OnOk result (AreAnswers width kind nodes.new memo.new.keys.keys memo.new.found.items) }
     ensures keys { OnOk result (KeepsKeys memo.old.keys.keys memo.new.keys.keys) }
+    ensures kept { AreKept width nodes.new answers.new }
 {
     if let Some(r) = stop(kind, key) {
+        return Ok(r);
+    }
+    if let Some(r) = answers.find(kind, key) {
         return Ok(r);
     }
     let (at, known) = memo.begin(key)?;
@@ -227,10 +235,11 @@ fn apply_at(
         return Ok(r);
     }
     let branches = split(width, nodes, key);
-    let low = apply_at(width, limit, kind, branches.low, nodes, memo)?;
-    let high = apply_at(width, limit, kind, branches.high, nodes, memo)?;
+    let low = apply_at(width, limit, kind, branches.low, nodes, memo, answers)?;
+    let high = apply_at(width, limit, kind, branches.high, nodes, memo, answers)?;
     let r = join(width, limit, nodes, branches.bit, low, high)?;
     memo.note(at, r);
+    answers.note(kind, key, r);
     Ok(r)
 }
 
@@ -266,16 +275,20 @@ pub(crate) fn apply_key(
     key: Key,
     nodes: &mut Nodes,
     memo: &mut Memo,
+    answers: &mut Answers,
 ) -> Result<Ref, SpaceFault>
     requires width { width ≤ 128 }
     requires canonical { IsCanonical width nodes.old }
     requires few { length nodes.old ≤ limit }
     requires there { There nodes.old (places key) }
-    ensures { Leaves width limit nodes.old nodes.new
+    requires kept { AreKept width nodes.old answers.old }
+    ensures leaves { Leaves width limit nodes.old nodes.new
         (gate_from kind nodes.old width 0 (places key)) result }
+    ensures kept { AreKept width nodes.new answers.new }
 {
     memo.empty();
-    let answer = apply_at(width, limit, kind, key, nodes, memo);
+    answers.grow(nodes.len());
+    let answer = apply_at(width, limit, kind, key, nodes, memo, answers);
     memo.empty();
     answer
 }

@@ -12,6 +12,7 @@ use Rattle.ncl_diagram.proofs.Step.{there_branches}
 use Rattle.ncl_diagram.proofs.Stops.{stop_answer}
 use Rattle.ncl_diagram.proofs.MemoLaws.{short}
 use Rattle.ncl_diagram.proofs.Applying.{lower, higher, higher_there, adds_lower, lacks_lower, adds_higher, lacks_higher, low_fits, high_fits, answer_joined, adds_joined, lacks_joined, memo_grown, memo_forgets, memo_noted}
+use Rattle.ncl_diagram.proofs.KeptLaws.{kept_grown, kept_noted}
 use Rattle.ncl_diagram.proofs.operation.+apply_at.Goals as goal
 
 -- a fault that is passed on is the one that was got
@@ -37,7 +38,7 @@ apply_at-requires t c =
     let fewer = c.split-branches.ensures.low_less in
     let less : c.split-branches.result.low.a.place + c.split-branches.result.low.b.place + c.split-branches.result.low.c.place + c.split-branches.result.low.d.place < t = omega arith in
     let there : There c.args.nodes.now (places c.split-branches.result.low) = subst (λ (qs : List ℕ). There c.args.nodes.now qs) (sym c.split-branches.ensures.low) (there_branches c.args.width c.args.nodes.now c.split-branches.result.bit false (places c.args.key) c.requires.canonical c.requires.there) in
-    (less, (c.requires.width, (c.requires.canonical, (c.requires.few, (there, memo_forgets c.args.width c.args.kind c.args.nodes.now c.args.memo.now.keys.keys c.begin.new.self.keys.keys c.args.memo.now.found.items c.begin.new.self.found.items c.requires.memo c.in_ok-at.ensures.answers c.in_ok-at.ensures.long)))))
+    (less, (c.requires.width, (c.requires.canonical, (c.requires.few, (there, (memo_forgets c.args.width c.args.kind c.args.nodes.now c.args.memo.now.keys.keys c.begin.new.self.keys.keys c.args.memo.now.found.items c.begin.new.self.found.items c.requires.memo c.in_ok-at.ensures.answers c.in_ok-at.ensures.long, c.requires.kept))))))
 
 pub returns-in_err-low-clause-adds : goal.returns-in_err-low-clause-adds
 returns-in_err-low-clause-adds t c =
@@ -55,7 +56,7 @@ apply_at-requires-2 t c =
     let d = c.decreases in
     let fewer = c.split-branches.ensures.high_less in
     let less : c.split-branches.result.high.a.place + c.split-branches.result.high.b.place + c.split-branches.result.high.c.place + c.split-branches.result.high.d.place < t = omega arith in
-    (less, (c.requires.width, (c.apply_at.ensures.canonical, (c.apply_at.ensures.few, (higher_there u, c.in_ok-low.ensures.memo)))))
+    (less, (c.requires.width, (c.apply_at.ensures.canonical, (c.apply_at.ensures.few, (higher_there u, (c.in_ok-low.ensures.memo, c.apply_at.ensures.kept))))))
 
 pub returns-in_err-high-clause-adds : goal.returns-in_err-high-clause-adds
 returns-in_err-high-clause-adds t c =
@@ -128,3 +129,13 @@ returns-clause-memo t c =
     let noted = memo_noted c.args.width c.args.kind c.join.new.nodes c.apply_at-2.new.memo.keys.keys c.apply_at-2.new.memo.found.items c.in_ok-at.at c.args.key c.in_ok-r.r m (c.in_ok-high.ensures.keys.kept c.in_ok-at.at c.args.key (c.in_ok-low.ensures.keys.kept c.in_ok-at.at c.args.key c.in_ok-at.ensures.at)) (there_grown c.args.nodes.now c.join.new.nodes all (places c.args.key) c.requires.there) x in
     subst (λ (fs : List (Option Ref)). AreAnswers c.args.width c.args.kind c.join.new.nodes c.note.new.self.keys.keys fs) (sym c.note.ensures.found)
     (subst (λ (ks : List Key). AreAnswers c.args.width c.args.kind c.join.new.nodes ks (set c.apply_at-2.new.memo.found.items c.in_ok-at.at (Some c.in_ok-r.r))) (sym c.note.ensures.keys) noted)
+
+pub returns-clause-kept : goal.returns-clause-kept
+returns-clause-kept t c =
+    let u = lower c.args.kind c.requires.canonical c.apply_at.ensures.canonical c.apply_at.ensures.grown c.requires.there c.split-branches.ensures.least c.split-branches.ensures.low c.split-branches.ensures.high c.apply_at.ensures.adds in
+    let v = higher u c.apply_at-2.ensures.canonical c.apply_at-2.ensures.grown c.in_ok-low.ensures.answer c.apply_at-2.ensures.adds in
+    let y = c.in_ok-high.ensures.answer in
+    let x = answer_joined v y c.join.ensures.joins c.in_ok-r.ensures.leads in
+    let all = grown_along c.args.nodes.now c.apply_at-2.new.nodes c.join.new.nodes (grown_along c.args.nodes.now c.apply_at.new.nodes c.apply_at-2.new.nodes u.grown v.grown) c.join.ensures.joins.grown in
+    kept_noted c.args.width c.join.new.nodes c.apply_at-2.new.answers c.note-2.new.self c.args.kind c.args.key c.in_ok-r.r c.note-2.ensures.floor c.note-2.ensures.slots (there_grown c.args.nodes.now c.join.new.nodes all (places c.args.key) c.requires.there) x
+    (kept_grown c.args.width c.apply_at-2.new.nodes c.join.new.nodes c.apply_at-2.new.answers v.cd c.join.ensures.joins.grown c.apply_at-2.ensures.kept)

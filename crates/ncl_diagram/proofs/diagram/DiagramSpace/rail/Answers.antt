@@ -5,6 +5,7 @@ use Rattle.ncl_space.specs.Functions.{rail_table}
 use Rattle.ncl_space.specs.Space.{Adds, Keeps, Makes, fits}
 use Rattle.ncl_diagram.specs.Diagram.{DiagramData, diagram_space}
 use Rattle.ncl_diagram.proofs.DiagramLaws.{IsSpace-diagram, Keeps-grown, adds_by, fits_by, full_by, made_by, with_nodes}
+use Rattle.ncl_diagram.proofs.KeptLaws.{kept_grown}
 use Rattle.ncl_diagram.proofs.diagram.DiagramSpace.rail.Goals as goal
 
 pub returns-clause-made : goal.returns-clause-made
@@ -17,7 +18,7 @@ pub returns-clause-kept : goal.returns-clause-kept
 returns-clause-kept c =
     let old : DiagramData = record { width = c.self.inside.width; limit = c.self.inside.limit; nodes = c.self.inside.nodes } in
     subst (λ (d : DiagramData). Keeps (diagram_space d) (diagram_space (with_nodes old c.rail_node.new.nodes))) c.self.view_is
-    (Keeps-grown old c.rail_node.new.nodes c.self.invariant.canonical c.rail_node.ensures.grown)
+    (Keeps-grown old c.rail_node.new.nodes c.self.invariant.0.canonical c.rail_node.ensures.grown)
 
 pub returns-clause-adds : goal.returns-clause-adds
 returns-clause-adds c =
@@ -28,7 +29,7 @@ returns-clause-adds c =
 pub returns-clause-space : goal.returns-clause-space
 returns-clause-space c =
     let old : DiagramData = record { width = c.self.inside.width; limit = c.self.inside.limit; nodes = c.self.inside.nodes } in
-    IsSpace-diagram (with_nodes old c.rail_node.new.nodes) (record { some_bit = c.self.invariant.some_bit; few_bits = c.self.invariant.few_bits; canonical = c.rail_node.ensures.canonical; few = c.rail_node.ensures.few; small = c.self.invariant.small })
+    IsSpace-diagram (with_nodes old c.rail_node.new.nodes) (record { some_bit = c.self.invariant.0.some_bit; few_bits = c.self.invariant.0.few_bits; canonical = c.rail_node.ensures.canonical; few = c.rail_node.ensures.few; small = c.self.invariant.0.small })
 
 pub returns-clause-full : goal.returns-clause-full
 returns-clause-full c =
@@ -41,3 +42,9 @@ returns-clause-fits c =
     let old : DiagramData = record { width = c.self.inside.width; limit = c.self.inside.limit; nodes = c.self.inside.nodes } in
     subst (λ (d : DiagramData). OnOk c.rail_node.result (fits (diagram_space d) ((rail_table d.width c.args.bit c.args.value) ∷ []) ≡ true)) c.self.view_is
     (fits_by old c.rail_node.new.nodes (rail_table old.width c.args.bit c.args.value) c.rail_node.result (c.rail_node.ensures))
+
+pub invariant_of-self : goal.invariant_of-self
+invariant_of-self c = (
+  record { some_bit = c.self.invariant.0.some_bit; few_bits = c.self.invariant.0.few_bits; canonical = c.rail_node.ensures.canonical; few = c.rail_node.ensures.few; small = c.self.invariant.0.small },
+  kept_grown c.self.inside.width c.self.inside.nodes c.rail_node.new.nodes c.self.inside.answers c.self.invariant.0.canonical c.rail_node.ensures.grown c.self.invariant.1,
+)

@@ -5,7 +5,9 @@ use Rattle.ncl_gates.specs.declared.kind.Kind.{Kind}
 use Rattle.ncl_diagram.specs.declared.nodes.Node.{Node}
 use Rattle.ncl_space.specs.declared.space.Ref.{Ref}
 use Rattle.ncl_diagram.specs.declared.memo.Key.{Key}
-use Rattle.ncl_diagram.specs.Nodes.{level_of, table_from, branch, IsCanonical, Grown, There, Least, Leads, Joins, HasNoRoom, IsAnswer, IsBeadOf, AddsBeads, Lacks, bead_of, gate_from}
+use Rattle.ncl_diagram.specs.Nodes.{level_of, table_from, branch, IsCanonical, Grown, bead_of}
+use Rattle.ncl_diagram.specs.Operands.{There, Least, gate_from}
+use Rattle.ncl_diagram.specs.Finding.{Leads, Joins, HasNoRoom, IsAnswer, IsBeadOf, AddsBeads, Lacks}
 use Rattle.ncl_diagram.specs.Memo.{places, Forgets, AreAnswers}
 use Rattle.ncl_diagram.proofs.Growth.{grown_along, grown_itself, branch_grown, there_grown, above_grown, above_back, answer_grown, adds_grown}
 use Rattle.ncl_diagram.proofs.Joining.{leads_node}

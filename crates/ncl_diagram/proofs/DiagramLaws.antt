@@ -15,7 +15,9 @@ use Rattle.ncl_space.specs.Functions.{constant_table}
 use Rattle.ncl_space.specs.Space.{IsLive, IsNew, IsSpace, Keeps, Makes, MarksNow, Releases, Adds, Within, fits}
 use Rattle.ncl_space.proofs.BeadLaws.{contains-distinct_beads, table_order}
 use Rattle.ncl_diagram.specs.declared.nodes.Node.{Node}
-use Rattle.ncl_diagram.specs.Nodes.{table_from, There, IsCanonical, Grown, Held}
+use Rattle.ncl_diagram.specs.Nodes.{table_from, IsCanonical, Grown}
+use Rattle.ncl_diagram.specs.Operands.{There}
+use Rattle.ncl_diagram.specs.Holding.{Held}
 use Rattle.ncl_diagram.specs.Holding.{held_of}
 use Rattle.ncl_diagram.specs.Leaves.{Leaves}
 use Rattle.ncl_diagram.specs.Diagram.{DiagramData, diagram_space, IsDiagram}

@@ -3,7 +3,9 @@ use Rattle.std.proofs.Common.{◌≡◌, ℕ, zero, suc, ◌+◌, ◌-◌, ◌<�
 use Rattle.ncl_gates.specs.declared.kind.Kind.{Kind}
 use Rattle.ncl_space.specs.Functions.{gate_table}
 use Rattle.ncl_space.specs.Beads.{is_bead, beads_of}
-use Rattle.ncl_diagram.specs.Nodes.{bit_or, level_of, child, branch, table_from, IsCanonical, Grown, Above, There, gate_from, bead_of, IsAnswer, IsBeadOf, AddsBeads}
+use Rattle.ncl_diagram.specs.Nodes.{bit_or, level_of, child, branch, table_from, IsCanonical, Grown, bead_of}
+use Rattle.ncl_diagram.specs.Operands.{Above, There, gate_from}
+use Rattle.ncl_diagram.specs.Finding.{IsAnswer, IsBeadOf, AddsBeads}
 use Rattle.ncl_diagram.specs.declared.nodes.Node.{Node}
 
 pub grown_itself : (a : List Node) → Grown a a

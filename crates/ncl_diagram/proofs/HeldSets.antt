@@ -7,7 +7,8 @@ use Rattle.std.specs.Cmp.Lexicographic.{slice_cmp}
 use Rattle.std.specs.FinSet as set
 use Rattle.ncl_space.specs.Beads.{is_bead, Beads, beads_of, distinct_beads}
 use Rattle.ncl_diagram.specs.declared.nodes.Node.{Node}
-use Rattle.ncl_diagram.specs.Nodes.{IsCanonical, bead_of, Held, HoldsWith, HoldsOnly, IsTooMuch}
+use Rattle.ncl_diagram.specs.Nodes.{IsCanonical, bead_of}
+use Rattle.ncl_diagram.specs.Holding.{Held, HoldsWith, HoldsOnly, IsTooMuch}
 use Rattle.ncl_space.specs.Space.{SpaceData}
 use Rattle.std.specs.Prelude.{None}
 use Rattle.ncl_diagram.specs.Holding.{beads_from, held_of}

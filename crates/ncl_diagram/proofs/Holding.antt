@@ -10,7 +10,10 @@ use Rattle.ncl_space.specs.declared.space.SpaceFault.{SpaceFault}
 use Rattle.ncl_space.specs.declared.space.SpaceFault.TheVariants.{Full}
 use Rattle.ncl_diagram.specs.Leaves.{Leaves}
 use Rattle.ncl_diagram.specs.declared.nodes.Node.{Node}
-use Rattle.ncl_diagram.specs.Nodes.{bit_or, level_of, branch, table_from, IsCanonical, Grown, Above, There, gate_from, bead_of, IsAnswer, AddsBeads, Lacks, Held, HoldsWith, HoldsOnly, IsTooMuch}
+use Rattle.ncl_diagram.specs.Nodes.{bit_or, level_of, branch, table_from, IsCanonical, Grown, bead_of}
+use Rattle.ncl_diagram.specs.Operands.{Above, There, gate_from}
+use Rattle.ncl_diagram.specs.Finding.{IsAnswer, AddsBeads, Lacks}
+use Rattle.ncl_diagram.specs.Holding.{Held, HoldsWith, HoldsOnly, IsTooMuch}
 use Rattle.ncl_diagram.proofs.Canonical.{get_within, Reads, Passes, look, next_low, next_high, there_low, there_high, one_place, length-table_from}
 use Rattle.ncl_diagram.proofs.Growth.{get_there, bead_grown, gate_grown}
 use Rattle.ncl_diagram.proofs.Step.{own_bead, beads_step, pow_one}

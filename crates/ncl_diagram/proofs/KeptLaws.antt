@@ -10,7 +10,9 @@ use Rattle.ncl_diagram.specs.declared.answers.Answers.{Answers}
 use Rattle.ncl_diagram.specs.declared.memo.Key.{Key}
 use Rattle.ncl_diagram.specs.declared.nodes.Node.{Node}
 use Rattle.ncl_diagram.specs.Memo.{places}
-use Rattle.ncl_diagram.specs.Nodes.{There, IsAnswer, IsCanonical, Grown}
+use Rattle.ncl_diagram.specs.Nodes.{IsCanonical, Grown}
+use Rattle.ncl_diagram.specs.Operands.{There}
+use Rattle.ncl_diagram.specs.Finding.{IsAnswer}
 use Rattle.ncl_diagram.specs.Kept.{AreKept, Has, HasMore, HasSlots, is_below}
 use Rattle.ncl_diagram.proofs.Growth.{above_grown, answer_grown, gate_grown, level_grown, table_grown, there_grown}
 use Rattle.ncl_diagram.proofs.Taking.{canonical_take, grown_take}

@@ -5,7 +5,8 @@ use Rattle.ncl_gates.specs.declared.kind.Kind.{Kind}
 use Rattle.ncl_gates.specs.Gate.{Pin, set_of, products, place_of}
 use Rattle.ncl_space.specs.Functions.{at}
 use Rattle.ncl_diagram.specs.declared.nodes.Node.{Node}
-use Rattle.ncl_diagram.specs.Nodes.{table_from, gate_from, IsFilled, There}
+use Rattle.ncl_diagram.specs.Nodes.{table_from}
+use Rattle.ncl_diagram.specs.Operands.{gate_from, IsFilled, There}
 use Rattle.ncl_space.proofs.TableLaws.{table_of-same}
 use Rattle.ncl_diagram.proofs.Stops.{at_zero}
 

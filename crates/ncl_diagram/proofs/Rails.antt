@@ -9,7 +9,9 @@ use Rattle.ncl_space.specs.Beads.{beads_of, is_bead}
 use Rattle.ncl_space.specs.Functions.{constant_table, is_value, rail_table}
 use Rattle.ncl_space.proofs.TableLaws.{length-table_of, table_of-halves}
 use Rattle.ncl_diagram.specs.declared.nodes.Node.{Node}
-use Rattle.ncl_diagram.specs.Nodes.{bead_of, branch, constant_place, level_of, table_from, IsCanonical, HoldsWith, HoldsOnly, HasNoRoom, IsTooMuch, Joins, Leads}
+use Rattle.ncl_diagram.specs.Nodes.{bead_of, branch, constant_place, level_of, table_from, IsCanonical}
+use Rattle.ncl_diagram.specs.Finding.{HasNoRoom, Joins, Leads}
+use Rattle.ncl_diagram.specs.Holding.{HoldsWith, HoldsOnly, IsTooMuch}
 use Rattle.ncl_diagram.proofs.Canonical.{get_within, length-table_from, one_place, same_back, same_front}
 use Rattle.ncl_diagram.proofs.Step.{bead_low, bead_self, node_high, node_low, pow_one, table_twice}
 use Rattle.ncl_diagram.proofs.Joining.{leads_node}

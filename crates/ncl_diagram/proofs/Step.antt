@@ -5,7 +5,9 @@ use Rattle.ncl_space.proofs.BeadLaws.{table_ties}
 use Rattle.std.proofs.lemmas.Bool.Decides.{nat_tests}
 use Rattle.ncl_gates.specs.declared.kind.Kind.{Kind}
 use Rattle.ncl_space.specs.Beads.{is_bead, beads_of, is_same}
-use Rattle.ncl_diagram.specs.Nodes.{bit_or, level_of, child, branch, table_from, IsCanonical, Above, There, Least, gate_from, bead_of, IsAnswer, IsBeadOf, Lacks, Leads}
+use Rattle.ncl_diagram.specs.Nodes.{bit_or, level_of, child, branch, table_from, IsCanonical, bead_of}
+use Rattle.ncl_diagram.specs.Operands.{Above, There, Least, gate_from}
+use Rattle.ncl_diagram.specs.Finding.{IsAnswer, IsBeadOf, Lacks, Leads}
 use Rattle.ncl_diagram.specs.declared.nodes.Node.{Node}
 use Rattle.ncl_diagram.proofs.Canonical.{get_within, Reads, Passes, look, next_low, next_high, one_place, same_front, same_back, same_node, length-table_from}
 use Rattle.ncl_diagram.proofs.Growth.{branch_before}

@@ -10,7 +10,9 @@ use Rattle.ncl_gates.proofs.GateLaws.{set_of-monotone}
 use Rattle.ncl_space.specs.Table.{words, table_of}
 use Rattle.ncl_space.specs.Functions.{at}
 use Rattle.ncl_diagram.specs.declared.nodes.Node.{Node}
-use Rattle.ncl_diagram.specs.Nodes.{level_of, branch, table_from, Above, There, IsAnswer, IsStop, only_one}
+use Rattle.ncl_diagram.specs.Nodes.{level_of, branch, table_from}
+use Rattle.ncl_diagram.specs.Operands.{Above, There, IsStop, only_one}
+use Rattle.ncl_diagram.specs.Finding.{IsAnswer}
 use Rattle.ncl_diagram.proofs.Canonical.{length-table_from}
 use Rattle.ncl_space.proofs.TableLaws.{table_of-halves, table_of-same, at-low, at-high}
 

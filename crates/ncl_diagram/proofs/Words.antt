@@ -4,7 +4,8 @@ use Rattle.ncl_gates.specs.declared.kind.Kind.{Kind}
 use Rattle.ncl_gates.specs.Gate.{set_of}
 use Rattle.ncl_space.specs.Functions.{at}
 use Rattle.ncl_space.proofs.TableLaws.{at-low, at-high, length-table_of, table_of-halves, table_of-same}
-use Rattle.ncl_diagram.specs.Nodes.{table_from, branch, gate_from}
+use Rattle.ncl_diagram.specs.Nodes.{table_from, branch}
+use Rattle.ncl_diagram.specs.Operands.{gate_from}
 use Rattle.ncl_diagram.specs.declared.nodes.Node.{Node}
 use Rattle.ncl_diagram.proofs.Canonical.{length-table_from}
 

@@ -8,7 +8,8 @@ use Rattle.ncl_diagram.specs.declared.answers.Answers.{Answers}
 use Rattle.ncl_diagram.specs.declared.memo.Key.{Key}
 use Rattle.ncl_diagram.specs.declared.nodes.Node.{Node}
 use Rattle.ncl_diagram.specs.Memo.{places}
-use Rattle.ncl_diagram.specs.Nodes.{There, IsAnswer}
+use Rattle.ncl_diagram.specs.Operands.{There}
+use Rattle.ncl_diagram.specs.Finding.{IsAnswer}
 
 -- all functions of an answer stand below a place
 abbrev pub is_below : ℕ → Slot → Bool

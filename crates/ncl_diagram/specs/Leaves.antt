@@ -4,7 +4,8 @@ use Rattle.ncl_space.specs.declared.space.Ref.{Ref}
 use Rattle.ncl_space.specs.declared.space.SpaceFault.{SpaceFault}
 use Rattle.ncl_space.specs.declared.space.SpaceFault.TheVariants.{Full}
 use Rattle.ncl_diagram.specs.declared.nodes.Node.{Node}
-use Rattle.ncl_diagram.specs.Nodes.{table_from, IsCanonical, Grown, HoldsWith, HoldsOnly, IsTooMuch}
+use Rattle.ncl_diagram.specs.Nodes.{table_from, IsCanonical, Grown}
+use Rattle.ncl_diagram.specs.Holding.{HoldsWith, HoldsOnly, IsTooMuch}
 
 -- the nodes stay a reduced ordered diagram without doubles and no more than the limit; those that were there
 -- stay, and only beads of the table come. An answer is there and has the table, and then all its beads are

@@ -1,4 +1,6 @@
 pub mod Nodes
+pub mod Operands
+pub mod Finding
 pub mod Memo
 pub mod Holding
 pub mod Diagram

@@ -1,7 +1,8 @@
 -- What one operation has found so far.
 use Rattle.std.specs.Prelude.{◌≡◌, ℕ, List, [], ◌∷◌, Option, Some, slice_get, length}
 use Rattle.ncl_gates.specs.declared.kind.Kind.{Kind}
-use Rattle.ncl_diagram.specs.Nodes.{There, IsAnswer}
+use Rattle.ncl_diagram.specs.Operands.{There}
+use Rattle.ncl_diagram.specs.Finding.{IsAnswer}
 use Rattle.ncl_space.specs.declared.space.Ref.{Ref}
 use Rattle.ncl_diagram.specs.declared.memo.Key.{Key}
 use Rattle.ncl_diagram.specs.declared.nodes.Node.{Node}

@@ -15,7 +15,7 @@ pub(crate) struct Key {
     pub(crate) d: Ref,
 }
 
-/// The keys of one operation, and beside each its answer, where there is one.
+/// The keys that one operation has met, and beside each its answer, where there is one already.
 #[derive(Drop)]
 pub(crate) struct Memo {
     pub(crate) keys: IndexSet<Key>,
@@ -39,7 +39,8 @@ impl Memo {
         ensures long { OnOk result (length self.new.keys.keys ≡ length self.new.found.items) }
         ensures kept { OnOk result (KeepsKeys self.old.keys.keys self.new.keys.keys) }
         ensures never_full { result ≢ Err SpaceFault.Full }
-        ensures answers { OnOk result (Forgets self.old.keys.keys self.old.found.items self.new.keys.keys self.new.found.items) }
+        ensures answers { OnOk result (Forgets self.old.keys.keys self.old.found.items
+            self.new.keys.keys self.new.found.items) }
     {
         let (at, added) = self.keys.insert_full(key)?;
         if !added {

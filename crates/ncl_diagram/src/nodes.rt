@@ -1,4 +1,4 @@
-//! The node table of a diagram.
+//! The table of nodes.
 ghost use Rattle.std.specs.Prelude.{ℕ, ◌≡◌, ◌<◌, ◌≤◌, ◌+◌, ◌-◌, [], ◌∷◌, ◌++◌, false, IfOk, OnErr, IsErrOf, length, slice_get, take, Some, if◌then◌else◌};
 ghost use Rattle.std.specs.List.{list_any};
 ghost use Rattle.ncl_diagram.specs.Nodes.{IsCanonical, constant_place, is_node, node_at};
@@ -74,7 +74,8 @@ impl Nodes {
     pub(crate) fn find_or_add(&mut self, node: Node, limit: u32) -> Result<Ref, SpaceFault>
         requires { length self.old ≤ limit }
         ensures at { IfOk result (λ r. node_at self.new r.place ≡ Some node) }
-        ensures added { IfOk result (λ _. self.new ≡ (if list_any (is_node node) self.old then self.old else self.old ++ node ∷ [])) }
+        ensures added { IfOk result (λ _. self.new ≡
+            (if list_any (is_node node) self.old then self.old else self.old ++ node ∷ [])) }
         ensures few { length self.new ≤ limit }
         ensures err { OnErr result (self.new ≡ self.old) }
         ensures full { IsErrOf result SpaceFault.Full → length self.old ≡ limit }

@@ -7,26 +7,9 @@ ghost use Rattle.ncl_space.specs.Functions.{rail_table};
 ghost use Rattle.ncl_diagram.specs.Kept.{AreKept};
 ghost use Rattle.ncl_diagram.specs.Leaves.{Leaves};
 ghost use Rattle.ncl_diagram.specs.Memo.{AreAnswers, KeepsKeys, places};
-ghost use Rattle.ncl_diagram.specs.Nodes.{
-  AddsBeads,
-  Grown,
-  HasNoRoom,
-  IsAnswer,
-  IsCanonical,
-  IsFilled,
-  IsStop,
-  Joins,
-  Lacks,
-  Leads,
-  Least,
-  There,
-  bit_or,
-  branch,
-  child,
-  gate_from,
-  level_of,
-  only_one,
-};
+ghost use Rattle.ncl_diagram.specs.Nodes.{Grown, IsCanonical, bit_or, branch, child, level_of};
+ghost use Rattle.ncl_diagram.specs.Operands.{IsFilled, IsStop, Least, There, gate_from, only_one};
+ghost use Rattle.ncl_diagram.specs.Finding.{AddsBeads, HasNoRoom, IsAnswer, Joins, Lacks, Leads};
 
 use crate::answers::Answers;
 use crate::memo::{Key, Memo};
@@ -47,7 +30,7 @@ fn known_values(at: Ref) -> u64
     }
 }
 
-// the bit that a place reads; the width at a constant
+// The bit that a node reads; the width at none.
 fn bit_of(width: usize, node: Option<Node>) -> usize
     ensures { result ≡ bit_or width node }
 {
@@ -76,7 +59,7 @@ pub(crate) fn child(bit: u8, at: Ref, node: Option<Node>, value: bool) -> Ref
     if value { node.high } else { node.low }
 }
 
-/// The least bit that the operands read, and the operands after a 0 and after a 1.
+/// The least bit that the operands read, and where they go on from a 0 and from a 1.
 #[derive(Clone, Copy, Debug)]
 pub(crate) struct Branches {
     bit: u8,
@@ -84,6 +67,7 @@ pub(crate) struct Branches {
     high: Key,
 }
 
+// Reads the operands' nodes, at most one each.
 fn split(width: usize, nodes: &Nodes, key: Key) -> Branches
     requires width { width ≤ 128 }
     requires canonical { IsCanonical width nodes.now }
@@ -92,8 +76,12 @@ fn split(width: usize, nodes: &Nodes, key: Key) -> Branches
     ensures least { Least width nodes.now result.bit (places key) }
     ensures low { places result.low ≡ map (branch nodes.now result.bit false) (places key) }
     ensures high { places result.high ≡ map (branch nodes.now result.bit true) (places key) }
-    ensures low_less { result.low.a.place + result.low.b.place + result.low.c.place + result.low.d.place < key.a.place + key.b.place + key.c.place + key.d.place }
-    ensures high_less { result.high.a.place + result.high.b.place + result.high.c.place + result.high.d.place < key.a.place + key.b.place + key.c.place + key.d.place }
+    ensures low_less { let low = result.low in
+        low.a.place + low.b.place + low.c.place + low.d.place
+            < key.a.place + key.b.place + key.c.place + key.d.place }
+    ensures high_less { let high = result.high in
+        high.a.place + high.b.place + high.c.place + high.d.place
+            < key.a.place + key.b.place + key.c.place + key.d.place }
 {
     let a = nodes.read(key.a);
     let b = nodes.read(key.b);
@@ -118,7 +106,7 @@ fn split(width: usize, nodes: &Nodes, key: Key) -> Branches
     Branches { bit, low, high }
 }
 
-// the place that leads to two others: one of them where they are one, else a node
+// The place that leads to two others at a bit: one of them where they are one, else a node.
 fn join(
     width: usize,
     limit: u32,
@@ -153,7 +141,7 @@ fn is_only(at: Ref, one: Ref) -> bool
     at.place == 0 || at.place == 1 || at.place == one.place
 }
 
-// the operand that is no constant, if there is one
+// An operand that is no constant, or a constant where there is none.
 fn operand(key: Key) -> Ref
     ensures among { list_any (nat_eq result.place) (places key) ≡ true }
     ensures some { 2 ≤ result.place → list_any (nat_le 2) (places key) ≡ true }
@@ -171,7 +159,8 @@ fn operand(key: Key) -> Ref
     key.d
 }
 
-// the answer that needs no reading
+// The answer where it needs no reading: raising an operand never lowers a gate, so an operand that isn't
+// known can do no more than 1 and no less than 0.
 fn stop(kind: Kind, key: Key) -> Option<Ref>
     ensures stop { IfSome result (λ r. IsStop kind (places key) r.place) }
     ensures none { IfNone result (list_any (nat_le 2) (places key) ≡ true) }
@@ -197,7 +186,9 @@ fn stop(kind: Kind, key: Key) -> Option<Ref>
     None
 }
 
-// the gate's function of four operands, from the answers at their children
+// The gate's function of four operands, from the answers after a 0 and after a 1 at their least bit. It
+// goes down at least one bit each time, so it is at most as deep as a word is long. Each key that the memo
+// doesn't have yet costs at most four readings and one finding or adding.
 fn apply_at(
     width: usize,
     limit: u32,
@@ -220,7 +211,8 @@ fn apply_at(
     ensures answer { IfOk result (λ r. IsAnswer width kind nodes.new (places key) r.place) }
     ensures full { IsErrOf result SpaceFault.Full → length nodes.new ≡ limit }
     ensures lacks { IsErrOf result SpaceFault.Full → Lacks width kind nodes.new (places key) }
-    ensures memo { OnOk result (AreAnswers width kind nodes.new memo.new.keys.keys memo.new.found.items) }
+    ensures memo { OnOk result
+        (AreAnswers width kind nodes.new memo.new.keys.keys memo.new.found.items) }
     ensures keys { OnOk result (KeepsKeys memo.old.keys.keys memo.new.keys.keys) }
     ensures kept { AreKept width nodes.new answers.new }
 {
@@ -243,7 +235,7 @@ fn apply_at(
     Ok(r)
 }
 
-// an operand, or the constant 0 past the end
+// An operand, or the constant 0 past the end.
 fn operand_at(ins: &[Ref], at: usize) -> Ref
     ensures { result.place ≡ slice_index_or (map (λ r. r.place) ins.now) at 0 }
 {
@@ -254,7 +246,7 @@ fn operand_at(ins: &[Ref], at: usize) -> Ref
     }
 }
 
-// the operands, filled up
+/// The operands, filled up with the constant 0.
 pub(crate) fn key_of(ins: &[Ref]) -> Key
     requires { length ins.now ≤ 4 }
     ensures { IsFilled (map (λ r. r.place) ins.now) (places result) }
@@ -267,7 +259,8 @@ pub(crate) fn key_of(ins: &[Ref]) -> Key
     }
 }
 
-/// The gate's function of some functions. The memo is empty before and after.
+/// The gate's function of some functions. The memo is empty before and after. Its time is the number of keys
+/// that it meets: at most the product, over the operands, of their nodes and the two constants.
 pub(crate) fn apply_key(
     width: usize,
     limit: u32,

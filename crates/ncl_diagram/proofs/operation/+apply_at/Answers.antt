@@ -5,7 +5,8 @@ use Rattle.ncl_space.specs.declared.space.SpaceFault.TheVariants.{Full}
 use Rattle.ncl_diagram.specs.declared.nodes.Node.{Node}
 use Rattle.ncl_space.specs.declared.space.Ref.{Ref}
 use Rattle.ncl_diagram.specs.declared.memo.Key.{Key}
-use Rattle.ncl_diagram.specs.Nodes.{There, Lacks}
+use Rattle.ncl_diagram.specs.Operands.{There}
+use Rattle.ncl_diagram.specs.Finding.{Lacks}
 use Rattle.ncl_diagram.specs.Memo.{places, AreAnswers}
 use Rattle.ncl_diagram.proofs.Growth.{there_grown, grown_along}
 use Rattle.ncl_diagram.proofs.Step.{there_branches}

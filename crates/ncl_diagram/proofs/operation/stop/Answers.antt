@@ -8,7 +8,7 @@ use Rattle.ncl_gates.specs.declared.kind.Kind.{Kind}
 use Rattle.ncl_gates.specs.Gate.{set_of}
 use Rattle.ncl_space.specs.Bits.{is_set}
 use Rattle.ncl_diagram.specs.Memo.{places}
-use Rattle.ncl_diagram.specs.Nodes.{only_one}
+use Rattle.ncl_diagram.specs.Operands.{only_one}
 use Rattle.ncl_diagram.proofs.operation.stop.Goals as goal
 
 -- the gate at four values that are four others

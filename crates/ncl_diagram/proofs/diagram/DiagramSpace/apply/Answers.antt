@@ -7,7 +7,7 @@ use Rattle.ncl_space.specs.Space.{Adds, Keeps, Makes, fits}
 use Rattle.ncl_diagram.specs.Diagram.{DiagramData, diagram_space}
 use Rattle.ncl_diagram.specs.Leaves.{Leaves}
 use Rattle.ncl_diagram.specs.Memo.{places}
-use Rattle.ncl_diagram.specs.Nodes.{There}
+use Rattle.ncl_diagram.specs.Operands.{There}
 use Rattle.ncl_diagram.proofs.DiagramLaws.{IsSpace-diagram, Keeps-grown, There-live, adds_by, fits_by, full_by, made_by, tables_of-places, with_nodes}
 use Rattle.ncl_diagram.proofs.Padding.{gate_filled, there_filled}
 use Rattle.ncl_diagram.proofs.diagram.DiagramSpace.apply.Goals as goal

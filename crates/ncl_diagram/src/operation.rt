@@ -78,10 +78,10 @@ fn split(width: usize, nodes: &Nodes, key: Key) -> Branches
     ensures high { places result.high ≡ map (branch nodes.now result.bit true) (places key) }
     ensures low_less { let low = result.low in
         low.a.place + low.b.place + low.c.place + low.d.place
-            < key.a.place + key.b.place + key.c.place + key.d.place }
+        < key.a.place + key.b.place + key.c.place + key.d.place }
     ensures high_less { let high = result.high in
         high.a.place + high.b.place + high.c.place + high.d.place
-            < key.a.place + key.b.place + key.c.place + key.d.place }
+        < key.a.place + key.b.place + key.c.place + key.d.place }
 {
     let a = nodes.read(key.a);
     let b = nodes.read(key.b);

@@ -1,12 +1,12 @@
 #!/usr/bin/env python3
 """Checks pipelines of growing size, and prints what a cell costs.
 
-    bench/pipelines.py [BITS [STAGES]]
+    bench/pipelines.py [BITS [STAGES [LAYERS]]]
 
-Writes pipelines of STAGES, twice as many and four times as many stages, each of which adds BITS bits with their
-neighbours (a half adder for each pair), checks each with the built program and prints cells, bytes, seconds, and
-cells and bytes a second. Where these stay the same, the time grows in proportion to the netlist. The program is
-crates/nclc/out/nclc; `(cd crates/nclc && rt run -- check data/wires.v)` builds it.
+Writes pipelines of STAGES, twice as many and four times as many stages (at most 255), each of which has LAYERS layers
+of half adders of neighbouring bits of BITS bits. Checks each with the built program and prints cells, bytes, seconds,
+and cells and bytes a second. Where these stay the same, the time grows in proportion to the number of stages. The
+program is crates/nclc/out/nclc; `(cd crates/nclc && rt run -- check data/wires.v)` builds it.
 """
 import pathlib
 import subprocess
@@ -48,8 +48,8 @@ def bank(name, inputs, request, root):
     return cells + tree(name, acks, root), outputs
 
 
-def stage(name, bits):
-    """Half adders of neighbouring bits: of each pair the sum, and of the first also the carry's bits as they are."""
+def layer(name, bits):
+    """Half adders of neighbouring bits: the sum and the carry of each pair, and a last bit without a neighbour as it is."""
     cells, outputs = [], []
     for place in range(0, len(bits) - 1, 2):
         (a0, a1), (b0, b1) = bits[place], bits[place + 1]
@@ -66,11 +66,21 @@ def stage(name, bits):
     return cells, outputs
 
 
-def pipeline(bits, stages):
+def stage(name, bits, layers):
+    """Layers of half adders, each over the bits of the one before, turned by one."""
+    cells = []
+    for number in range(layers):
+        inner, outputs = layer(f"{name}l{number}", bits)
+        cells += inner
+        bits = outputs[1:] + outputs[:1]
+    return cells, bits
+
+
+def pipeline(bits, stages, layers):
     sources = [[f"x{bit}_{rail}" for rail in (0, 1)] for bit in range(bits)]
     cells, last = bank("b0", sources, "c1" if stages else "ki", "ko")
     for number in range(1, stages + 1):
-        inner, outputs = stage(f"g{number}", last)
+        inner, outputs = stage(f"g{number}", last, layers)
         request = "ki" if number == stages else f"c{number + 1}"
         joined, last = bank(f"b{number}", outputs, request, f"c{number}")
         cells += inner + joined
@@ -83,9 +93,10 @@ def pipeline(bits, stages):
 def main():
     bits = int(sys.argv[1]) if len(sys.argv) > 1 else 10
     stages = int(sys.argv[2]) if len(sys.argv) > 2 else 60
+    layers = int(sys.argv[3]) if len(sys.argv) > 3 else 1
     print(f"{'stages':>8}{'cells':>10}{'bytes':>12}{'seconds':>10}{'cells/s':>12}{'bytes/s':>12}")
     for factor in (1, 2, 4):
-        text, cells = pipeline(bits, stages * factor)
+        text, cells = pipeline(bits, stages * factor, layers)
         with tempfile.NamedTemporaryFile("w", suffix=".v") as file:
             file.write(text)
             file.flush()

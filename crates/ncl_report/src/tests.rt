@@ -55,7 +55,7 @@ fn tells_verdicts(rt: HostRuntime) -> Result<(), Fail> {
     let netlist = read_netlist(rt.alloc(), WIRES)?;
     let pipeline = shape(rt.alloc(), &netlist)?;
     let word = Word::parse(b"01").unwrap_or(Word::new());
-    let cases: [(Verdict, &str); 7] = [
+    let cases: [(Verdict, &str); 6] = [
         (Verdict::Accepted, "accepted banks=2 stages=1 cells=6\n"),
         (
             Verdict::Both {

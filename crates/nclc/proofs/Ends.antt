@@ -1,6 +1,6 @@
 -- What follows from how a call ended.
-use Rattle.std.proofs.Common.{◌≡◌, ℕ, List, Option, Some, inl, inr, refl, subst}
-use Rattle.ncl_base.specs.Files.{Files, Grew}
+use Rattle.std.proofs.Common.{◌≡◌, ℕ, List, Some, inl, inr, refl, subst}
+use Rattle.ncl_base.specs.Files.{Grew}
 use Rattle.nclc.specs.Command.{Words}
 use Rattle.nclc.specs.Answer.{Answer, SourceState, SinkState, Says, answered, read_failed, no_memory, Tells, whole, cut_short, Ran, AnswersUnlessFaults, AnswersExactly}
 use Rattle.nclc.proofs.Sameness.{same_status, same_text}

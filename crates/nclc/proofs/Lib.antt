@@ -1,3 +1,6 @@
+mod WordKinds
+mod Options
+mod Numbers
 mod Held
 mod Sameness
 mod Saying

@@ -1,24 +1,23 @@
 -- The words and the files have at most one status, and at most one text where they determine it.
-use Rattle.std.proofs.Common.{◌≡◌, ℕ, List, Option, Some, None, IsTrue, refl, sym, ap, ◌∙◌, subst}
-use Rattle.ncl_base.specs.Files.{Files, bytes_of}
-use Rattle.ncl_check.specs.declared.reply.Outcome.{Outcome}
+use Rattle.std.proofs.Common.{◌≡◌, ℕ, List, Some, None, IsTrue, refl, sym, ap, ◌∙◌, subst}
+use Rattle.ncl_base.specs.Files.{Files}
 use Rattle.ncl_check.specs.Reply.{IsCheckReply}
 use Rattle.ncl_check.proofs.OneReply.{same_reply}
 use Rattle.nclc.specs.Command.{Words, Command, check, command_of}
-use Rattle.nclc.specs.Answer.{most_nodes, status_of, IsFileReply, IsReply, Answer, not_understood, replied, words_determine_text, determines_text}
+use Rattle.nclc.specs.Answer.{status_of, IsFileReply, IsReply, Answer, not_understood, replied, words_determine_text, determines_text}
 
 -- the bytes that both replies are to
-same_file_reply : (files : Files) (file : List ℕ) (status other : ℕ) (text line : List ℕ) → IsFileReply (Some files) file status text → IsFileReply (Some files) file other line → (status ≡ other) × (text ≡ line)
-same_file_reply files file status other text line one two =
+same_file_reply : (files : Files) (file : List ℕ) (limit : ℕ) (status other : ℕ) (text line : List ℕ) → IsFileReply (Some files) file limit status text → IsFileReply (Some files) file limit other line → (status ≡ other) × (text ≡ line)
+same_file_reply files file limit status other text line one two =
     let bytes : one.bytes ≡ two.bytes = one.given ∙ sym two.given in
-    let same = same_reply most_nodes two.bytes (subst (λ bytes. IsCheckReply most_nodes bytes one.outcome text) bytes one.reply) two.reply in
+    let same = same_reply limit two.bytes (subst (λ bytes. IsCheckReply limit bytes one.outcome text) bytes one.reply) two.reply in
     (one.ends ∙ ap status_of same.0 ∙ sym two.ends, same.1)
 
 same_command_status : (files : Files) (command : Command) (status other : ℕ) (text line : List ℕ) → IsReply command (Some files) status text → IsReply command (Some files) other line → status ≡ other
-same_command_status files (check file) status other text line one two = (same_file_reply files file status other text line one two).0
+same_command_status files (check file limit) status other text line one two = (same_file_reply files file limit status other text line one two).0
 
 same_command_text : (files : Files) (command : Command) → IsTrue (determines_text command) → (status other : ℕ) (text line : List ℕ) → IsReply command (Some files) status text → IsReply command (Some files) other line → text ≡ line
-same_command_text files (check file) determined status other text line one two = (same_file_reply files file status other text line one two).1
+same_command_text files (check file limit) determined status other text line one two = (same_file_reply files file limit status other text line one two).1
 
 module _ (words : Words) (files : Files) where
   -- two commands that the words give are one

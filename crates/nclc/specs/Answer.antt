@@ -6,7 +6,6 @@ use Rattle.ncl_check.specs.declared.reply.Outcome.{Outcome}
 use Rattle.ncl_check.specs.declared.reply.Outcome.TheVariants.{Accepted, Refused, NoPipeline, Unjudged}
 use Rattle.ncl_check.specs.Reply.{IsCheckReply}
 use Rattle.ncl_check.specs.Headline.{IsDelayInsensitiveText}
-use Rattle.nclc.specs.declared.reply.TheConstants.{MOST_NODES}
 use Rattle.nclc.specs.Command.{Words, Command, check, command_of, files_named}
 
 -- the status of a check that ends so
@@ -21,21 +20,17 @@ status_of Unjudged = 6
 abbrev pub IsGiven : Option Files → List ℕ → List ℕ → Type 0
 IsGiven told name bytes = IfSome told (λ files. bytes ≡ bytes_of files name)
 
--- the most nodes that a stage may have in a check
-abbrev pub most_nodes : ℕ
-most_nodes = MOST_NODES
-
--- what `check` replies to a file
-pub record IsFileReply (told : Option Files) (file : List ℕ) (status : ℕ) (text : List ℕ) : Type 0 where
+-- what `check` replies to a file, where a stage may have so many nodes
+pub record IsFileReply (told : Option Files) (file : List ℕ) (limit : ℕ) (status : ℕ) (text : List ℕ) : Type 0 where
   pub bytes : List ℕ
   pub given : IsGiven told file bytes
   pub outcome : Outcome
   pub ends : status ≡ status_of outcome
-  pub reply : IsCheckReply most_nodes bytes outcome text
+  pub reply : IsCheckReply limit bytes outcome text
 
 -- what a command replies where the source tells this of its files. Each load of a file gives bytes of its own
 abbrev pub IsReply : Command → Option Files → ℕ → List ℕ → Type 0
-IsReply (check file) told status text = IsFileReply told file status text
+IsReply (check file limit) told status text = IsFileReply told file limit status text
 
 -- what the words are answered where the source tells this of its files and nothing fails
 pub data Answer (words : Words) (told : Option Files) : ℕ → List ℕ → Type 0 where
@@ -46,7 +41,7 @@ pub data Answer (words : Words) (told : Option Files) : ℕ → List ℕ → Typ
 
 -- whether the files determine the text that a command replies, and not its status alone
 abbrev pub determines_text : Command → Bool
-determines_text (check file) = true
+determines_text (check file limit) = true
 
 -- whether the words and the files determine the text: words of no form do
 abbrev pub words_determine_text : Option Command → Bool
@@ -109,5 +104,5 @@ AnswersExactly words source sink sink_after status =
 -- under the file's name are the text of a netlist that is delay-insensitive
 abbrev pub AcceptsWhatWorks : Words → SourceState → ℕ → Type 0
 AcceptsWhatWorks words source status =
-    (files : Files) (file : List ℕ) → source.files ≡ Some files → command_of words ≡ Some (check file)
+    (files : Files) (file : List ℕ) (limit : ℕ) → source.files ≡ Some files → command_of words ≡ Some (check file limit)
     → status ≡ 0 → IsDelayInsensitiveText (bytes_of files file)

@@ -1,3 +1,4 @@
+pub mod Reading
 pub mod Command
 pub mod Answer
 pub mod Replies

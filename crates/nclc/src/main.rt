@@ -5,6 +5,7 @@ mod command;
 #[cfg(test)]
 mod edge_tests;
 mod file_source;
+mod reading;
 mod reply;
 mod stdout_sink;
 mod tally;

@@ -1,7 +1,7 @@
 //! What a call has to say.
 ghost use Rattle.std.specs.Prelude.{◌≡◌, ◌≤◌, ◌≢◌, [], IfOk, IsTrue, IsErrOf};
 ghost use Rattle.ncl_base.specs.Files.{Rose};
-ghost use Rattle.nclc.specs.Command.{AllowsFiles, files_named, check as check_command};
+ghost use Rattle.nclc.specs.Command.{AllowsFiles, HasLimit, files_named, check as check_command};
 ghost use Rattle.nclc.specs.Answer.{status_of};
 ghost use Rattle.nclc.specs.Replies.{command_meant, AnswersCommand};
 
@@ -9,9 +9,6 @@ use crate::command::Command;
 use ncl_base::{LoadFault, Source, load};
 use ncl_check::{Outcome, check};
 use std::alloc::Global;
-
-/// The most nodes that a stage may have in a check.
-pub const MOST_NODES: u32 = 100_000;
 
 /// A status, and the whole text that belongs to it.
 #[derive(Drop, Debug)]
@@ -39,7 +36,8 @@ pub fn carry_out<S: Source>(
     source: &mut S,
     command: Command<'_>,
 ) -> Result<Reply, Fault>
-    requires { AllowsFiles (S.allowed source.old) (command_meant command) }
+    requires allowed { AllowsFiles (S.allowed source.old) (command_meant command) }
+    requires limit { HasLimit (command_meant command) }
     ensures ok { IfOk result (AnswersCommand (S.files source.old) (command_meant command.entry)) }
     ensures read { IsErrOf result Fault.Read → Rose (S.faults source.old) (S.faults source.new) }
     ensures read_named { IsErrOf result Fault.Read → files_named (command_meant command.entry) ≢ [] }
@@ -48,23 +46,29 @@ pub fn carry_out<S: Source>(
     ensures faults { S.faults source.old ≤ S.faults source.new }
 {
     match command {
-        Command::Check(file) => check_file(alloc, source, file),
+        Command::Check(file, limit) => check_file(alloc, source, file, limit),
     }
 }
 
 /// Loads a file and replies to `check` of it.
 ///
 /// Costs a pass over the bytes, and the check.
-fn check_file<S: Source>(alloc: Global, source: &mut S, file: &str) -> Result<Reply, Fault>
-    requires { IsTrue (S.allowed source.old file.now) }
-    ensures ok { IfOk result (AnswersCommand (S.files source.old) (check_command file.now)) }
+fn check_file<S: Source>(
+    alloc: Global,
+    source: &mut S,
+    file: &str,
+    limit: u32,
+) -> Result<Reply, Fault>
+    requires allowed { IsTrue (S.allowed source.old file.now) }
+    requires limit { 1 ≤ limit }
+    ensures ok { IfOk result (AnswersCommand (S.files source.old) (check_command file.now limit)) }
     ensures read { IsErrOf result Fault.Read → Rose (S.faults source.old) (S.faults source.new) }
     ensures files { S.files source.new ≡ S.files source.old }
     ensures allowed { S.allowed source.new ≡ S.allowed source.old }
     ensures faults { S.faults source.old ≤ S.faults source.new }
 {
     match load(alloc, source, file) {
-        Ok(bytes) => match check(alloc, &bytes, MOST_NODES) {
+        Ok(bytes) => match check(alloc, &bytes, limit) {
             Ok(reply) => Ok(Reply::Made(status_of(reply.outcome), reply.text)),
             Err(_) => Err(Fault::Memory),
         },

@@ -68,8 +68,10 @@ fn answer<S: Source>(alloc: Global, words: &[&str], source: &mut S) -> Reply
     ensures allowed { S.allowed source.new ≡ S.allowed source.old }
     ensures faults { S.faults source.old ≤ S.faults source.new }
 {
-    let Some(command) = Command::parse(words) else {
-        return Reply::Fixed(2, b"words not understood\n");
+    let command = match Command::parse(alloc, words) {
+        Ok(Some(command)) => command,
+        Ok(None) => return Reply::Fixed(2, b"words not understood\n"),
+        Err(_) => return Reply::Fixed(7, b"out of memory\n"),
     };
     match carry_out(alloc, source, command) {
         Ok(reply) => reply,

@@ -170,6 +170,24 @@ fn pipelines_are_judged(rt: HostRuntime) -> Result<(), Fail> {
 }
 
 #[test]
+fn limits_are_met_exactly(rt: HostRuntime) -> Result<(), Fail> {
+    let alloc = rt.alloc();
+    let netlist = frame(alloc, 2, &["y0 y1"], AND)?;
+    let cases: [(&str, u8, &str); 3] = [
+        ("6", 0, "accepted banks=2 stages=1 cells=12\n"),
+        ("5", 6, "limit stage 1: more than 5 nodes\n"),
+        ("1", 6, "limit stage 1: more than 1 nodes\n"),
+    ];
+    for (limit, status, line) in cases {
+        let words = ["check", "f", "--limit", limit];
+        let (got, written) = ask(&rt, alloc, &words, netlist.as_bytes())?;
+        assert_eq!(rt; written.as_slice(), line.as_bytes(), "{limit}");
+        assert_eq!(rt; got, status, "{limit}");
+    }
+    Ok(())
+}
+
+#[test]
 fn stages_are_judged_in_order(rt: HostRuntime) -> Result<(), Fail> {
     let alloc = rt.alloc();
     let first = "TH12 u1(.A(p1_0),.B(p1_1),.Z(n1));\n";

@@ -40,7 +40,7 @@ pub fn ask<R: Threads + Sync>(
 #[test]
 fn answers_words_and_files(rt: HostRuntime) -> Result<(), Fail> {
     let netlist = wires(rt.alloc())?;
-    let cases: [(&str, u8, &str); 15] = [
+    let cases: [(&str, u8, &str); 31] = [
         ("check f", 0, ACCEPTED),
         ("check g", 4, READ_FAILED),
         ("check", 2, NOT_UNDERSTOOD),
@@ -56,6 +56,22 @@ fn answers_words_and_files(rt: HostRuntime) -> Result<(), Fail> {
         ("check f --limit 0", 2, NOT_UNDERSTOOD),
         ("check f --limit 5 --limit 5", 2, NOT_UNDERSTOOD),
         ("check --limit=1", 2, NOT_UNDERSTOOD),
+        ("check f --limit 2", 0, ACCEPTED),
+        ("check --limit=2 f", 0, ACCEPTED),
+        ("check --limit 0000002 f", 0, ACCEPTED),
+        ("check --limit 1000000 f", 0, ACCEPTED),
+        ("check f --limit=1", 6, "limit stage 1: more than 1 nodes\n"),
+        ("check f --limit 1000001", 2, NOT_UNDERSTOOD),
+        ("check f --limit 00000002", 2, NOT_UNDERSTOOD),
+        ("check f --limit", 2, NOT_UNDERSTOOD),
+        ("check f --limit=", 2, NOT_UNDERSTOOD),
+        ("check f --limit ", 2, NOT_UNDERSTOOD),
+        ("check f --limit +2", 2, NOT_UNDERSTOOD),
+        ("check f --limit 2x", 2, NOT_UNDERSTOOD),
+        ("check f --limit --limit=2", 2, NOT_UNDERSTOOD),
+        ("check --limit f 2", 2, NOT_UNDERSTOOD),
+        ("check f --limits 2", 2, NOT_UNDERSTOOD),
+        ("check f --limit=2=2", 2, NOT_UNDERSTOOD),
     ];
     for (line, status, text) in cases {
         let words: Vec<&str> = line.split(' ').collect(rt.alloc())?;

@@ -1,6 +1,8 @@
-//! The texts that tell what was found of a netlist: a verdict, or why there is none. Each is one line.
+//! The texts that tell what was found of a netlist or of models: a verdict, or why there is none. Each is one line.
 #![tactic(auto)]
 
+mod blif_faults;
+mod compile_faults;
 pub mod laws;
 mod line;
 mod net_faults;
@@ -9,6 +11,8 @@ mod shape_faults;
 mod tests;
 mod verdicts;
 
+pub use blif_faults::blif_text;
+pub use compile_faults::compile_text;
 pub use net_faults::net_text;
 pub use shape_faults::shape_text;
 pub use verdicts::verdict_text;

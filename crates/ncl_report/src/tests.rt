@@ -5,7 +5,9 @@ ghost use Rattle.ncl_report.specs.VerdictText.{NamesCellOf};
 
 use super::*;
 use ncl_base::{Name, Word};
+use ncl_blif::BlifFault;
 use ncl_netlist::{BuildFault, CellId, NetId, Netlist};
+use ncl_network::CompileFault;
 use ncl_origin::ShapeFault;
 use ncl_reader::{NetFault, read_netlist};
 use ncl_shape::shape;
@@ -161,6 +163,37 @@ fn tells_faults_of_shapes(rt: HostRuntime) -> Result<(), Fail> {
         let names_place = names_place_of(&netlist, &fault);
         assert!(rt; names_place);
         let told = shape_text(rt.alloc(), &netlist, &fault)?;
+        assert_eq!(rt; told.as_slice(), text.as_bytes());
+    }
+    Ok(())
+}
+
+#[test]
+fn tells_faults_of_models(rt: HostRuntime) -> Result<(), Fail> {
+    let cases: [(BlifFault, &str); 10] = [
+        (BlifFault::Syntax(0), "blif: syntax in line 0\n"),
+        (BlifFault::Unsupported(4), "blif: unsupported in line 4\n"),
+        (BlifFault::BadRow(5), "blif: bad row in line 5\n"),
+        (BlifFault::MixedCover(6), "blif: mixed cover in line 6\n"),
+        (BlifFault::TwoDrivers(70), "blif: two drivers in line 70\n"),
+        (BlifFault::Undriven(4), "blif: undriven in line 4\n"),
+        (BlifFault::Cycle(16777216), "blif: cycle in line 16777216\n"),
+        (BlifFault::NoBits(1), "blif: no bits in model 1\n"),
+        (BlifFault::Width(2), "blif: width of model 2\n"),
+        (BlifFault::Memory, "out of memory\n"),
+    ];
+    for (fault, text) in cases {
+        let told = blif_text(rt.alloc(), &fault)?;
+        assert_eq!(rt; told.as_slice(), text.as_bytes());
+    }
+    let cases: [(CompileFault, &str); 4] = [
+        (CompileFault::TooWide(3), "compile: too wide, model 3\n"),
+        (CompileFault::TooLong, "compile: too long\n"),
+        (CompileFault::TooMany, "compile: too many cells\n"),
+        (CompileFault::Memory, "out of memory\n"),
+    ];
+    for (fault, text) in cases {
+        let told = compile_text(rt.alloc(), &fault)?;
         assert_eq!(rt; told.as_slice(), text.as_bytes());
     }
     Ok(())

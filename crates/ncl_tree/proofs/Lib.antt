@@ -1,0 +1,3 @@
+pub mod Queue
+pub mod TreeLaws
+pub mod PartNameLaws

@@ -1,0 +1,4 @@
+pub mod Gates
+pub mod GateTree
+pub mod PartNames
+pub mod NamePairs

@@ -1,0 +1,13 @@
+//! Gates that are added one by one over numbered nets, trees of them, and names for them.
+#![tactic(auto)]
+
+mod gates;
+pub mod laws;
+mod names;
+#[cfg(test)]
+mod tests;
+mod tree;
+
+pub use gates::Gates;
+pub use names::{cell_name, net_name};
+pub use tree::{Family, add_tree};

@@ -1,0 +1,2 @@
+pub mod BankParts
+pub mod BankPlan

@@ -1,0 +1,11 @@
+//! Banks of register cells with their acknowledge cells and completion trees, told by names.
+#![tactic(auto)]
+
+mod cells;
+mod completion;
+mod nets;
+mod parts;
+#[cfg(test)]
+mod tests;
+
+pub use parts::{BankParts, bank_parts};

@@ -1,0 +1,106 @@
+-- The laws of tables.
+use Rattle.std.proofs.Common.{◌≡◌, ℕ, zero, suc, ◌<◌, Bool, true, false, not, cond, List, [], ◌∷◌, length, refl, ap, ◌∙◌, arith}
+use Rattle.std.specs.Bool.{beq}
+use Rattle.std.specs.Prelude.{◌&&◌, ◌||◌}
+use Rattle.std.specs.List.{list_any, list_all, zip}
+use Rattle.std.proofs.lemmas.Bool.{and_parts}
+use Rattle.ncl_blif.specs.Meaning.{lit_matches, row_matches, cover_value}
+use Rattle.ncl_blif.specs.declared.model.Lit.{Lit}
+use Rattle.ncl_template.specs.declared.table.TableRow.{TableRow}
+use Rattle.ncl_template.specs.declared.table.Table.{Table}
+use Rattle.ncl_template.specs.Tables.{bit_at, row_at, inverse_row, inverse_table, column_at, transposed, same_row}
+
+-- ---- the bit of a node
+
+row_matches-zip : (row : List Lit) (word : List Bool) → list_all (λ (pair : Lit × Bool). lit_matches pair.0 pair.1) (zip row word) ≡ row_matches word row
+row_matches-zip [] word = refl
+row_matches-zip (lit ∷ row) [] = refl
+row_matches-zip (lit ∷ row) (bit ∷ word) = ap (λ b. lit_matches lit bit && b) (row_matches-zip row word)
+
+some_matches-rows : (rows : List (List Lit)) (word : List Bool) → list_any (λ (row : List Lit). list_all (λ (pair : Lit × Bool). lit_matches pair.0 pair.1) (zip row word)) rows ≡ list_any (row_matches word) rows
+some_matches-rows [] word = refl
+some_matches-rows (row ∷ rows) word =
+    let first = row_matches-zip row word in
+    let rest = some_matches-rows rows word in
+    λ i. first i || rest i
+
+beq-cond : (b on : Bool) → beq b on ≡ cond on b (not b)
+beq-cond true true = refl
+beq-cond true false = refl
+beq-cond false true = refl
+beq-cond false false = refl
+
+-- what some row gives, compared with what the rows list
+pub cover_value-by_rows : (on : Bool) (rows : List (List Lit)) (word : List Bool) → 0 < length rows → beq (list_any (λ (row : List Lit). list_all (λ (pair : Lit × Bool). lit_matches pair.0 pair.1) (zip row word)) rows) on ≡ cover_value on rows word
+cover_value-by_rows on [] word some = absurd (omega (arith, some))
+cover_value-by_rows on (row ∷ rows) word some = ap (λ b. beq b on) (some_matches-rows (row ∷ rows) word) ∙ beq-cond (list_any (row_matches word) (row ∷ rows)) on
+
+-- ---- rows and columns
+
+pub bit_at-transposed : (table : Table) (i j : ℕ) → bit_at (row_at (transposed table) j) i ≡ bit_at (row_at table i) j
+bit_at-transposed table i zero = column i
+  where
+    column : (i : ℕ) → bit_at (column_at table 0) i ≡ bit_at (row_at table i) 0
+    column zero = refl
+    column (suc zero) = refl
+    column (suc (suc zero)) = refl
+    column (suc (suc (suc i))) = refl
+bit_at-transposed table i (suc zero) = column i
+  where
+    column : (i : ℕ) → bit_at (column_at table 1) i ≡ bit_at (row_at table i) 1
+    column zero = refl
+    column (suc zero) = refl
+    column (suc (suc zero)) = refl
+    column (suc (suc (suc i))) = refl
+bit_at-transposed table i (suc (suc zero)) = column i
+  where
+    column : (i : ℕ) → bit_at (column_at table 2) i ≡ bit_at (row_at table i) 2
+    column zero = refl
+    column (suc zero) = refl
+    column (suc (suc zero)) = refl
+    column (suc (suc (suc i))) = refl
+bit_at-transposed table i (suc (suc (suc j))) = column i
+  where
+    column : (i : ℕ) → bit_at (column_at table 3) i ≡ bit_at (row_at table i) (suc (suc (suc j)))
+    column zero = refl
+    column (suc zero) = refl
+    column (suc (suc zero)) = refl
+    column (suc (suc (suc i))) = refl
+
+pub bit_at-inverse_row : (row : TableRow) (j : ℕ) → bit_at (inverse_row row) j ≡ not (bit_at row j)
+bit_at-inverse_row row zero = refl
+bit_at-inverse_row row (suc zero) = refl
+bit_at-inverse_row row (suc (suc zero)) = refl
+bit_at-inverse_row row (suc (suc (suc j))) = refl
+
+pub bit_at-inverse : (table : Table) (i j : ℕ) → bit_at (row_at (inverse_table table) i) j ≡ not (bit_at (row_at table i) j)
+bit_at-inverse table zero j = bit_at-inverse_row table.at_00 j
+bit_at-inverse table (suc zero) j = bit_at-inverse_row table.at_01 j
+bit_at-inverse table (suc (suc zero)) j = bit_at-inverse_row table.at_10 j
+bit_at-inverse table (suc (suc (suc i))) j = bit_at-inverse_row table.at_11 j
+
+-- ---- rows that are the same
+
+pub beq-true : (a b : Bool) → beq a b ≡ true → a ≡ b
+beq-true true true e = refl
+beq-true true false e = absurd cc
+beq-true false true e = absurd cc
+beq-true false false e = refl
+
+beq_refl : (a : Bool) → beq a a ≡ true
+beq_refl true = refl
+beq_refl false = refl
+
+pub same_row-is : (a b : TableRow) → same_row a b ≡ true → a ≡ b
+same_row-is a b same =
+    let first = and_parts (beq a.at_00 b.at_00) _ same in
+    let second = and_parts (beq a.at_01 b.at_01) _ first.1 in
+    let third = and_parts (beq a.at_10 b.at_10) _ second.1 in
+    let e0 = beq-true a.at_00 b.at_00 first.0 in
+    let e1 = beq-true a.at_01 b.at_01 second.0 in
+    let e2 = beq-true a.at_10 b.at_10 third.0 in
+    let e3 = beq-true a.at_11 b.at_11 third.1 in
+    λ i. record { at_00 = e0 i; at_01 = e1 i; at_10 = e2 i; at_11 = e3 i }
+
+pub same_row-itself : (a : TableRow) → same_row a a ≡ true
+same_row-itself a = λ i. beq_refl a.at_00 i && (beq_refl a.at_01 i && (beq_refl a.at_10 i && beq_refl a.at_11 i))

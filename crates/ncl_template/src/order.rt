@@ -1,0 +1,40 @@
+//! Orders in which the inputs of a node are taken.
+ghost use Rattle.std.specs.Prelude.{◌≡◌, ◌<◌, ◌∷◌, [], Some, slice_get, length};
+ghost use Rattle.ncl_template.specs.Orders.{placed, taken};
+
+use ncl_shape::Rails;
+
+/// Which two of the first three inputs come first.
+#[derive(Clone, Copy, Debug, PartialEq, Eq)]
+pub(crate) enum Order {
+    /// The first and the second.
+    Straight,
+    /// The first and the third.
+    Crossed,
+    /// The second and the third.
+    Turned,
+}
+
+impl Order {
+    /// The bits of the first three inputs, where those that are taken in this order are given.
+    pub(crate) fn placed(self, x: bool, y: bool, z: bool) -> (bool, bool, bool)
+        ensures { result.0 ∷ result.1 ∷ result.2 ∷ [] ≡ placed self (x ∷ y ∷ z ∷ []) }
+    {
+        match self {
+            Order::Straight => (x, y, z),
+            Order::Crossed => (x, z, y),
+            Order::Turned => (z, x, y),
+        }
+    }
+
+    /// The pairs of the first three inputs in this order.
+    pub(crate) fn taken(self, a: Rails, b: Rails, c: Rails) -> (Rails, Rails, Rails)
+        ensures { result.0 ∷ result.1 ∷ result.2 ∷ [] ≡ taken self (a ∷ b ∷ c ∷ []) }
+    {
+        match self {
+            Order::Straight => (a, b, c),
+            Order::Crossed => (a, c, b),
+            Order::Turned => (b, c, a),
+        }
+    }
+}

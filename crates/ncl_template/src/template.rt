@@ -1,0 +1,212 @@
+//! The gates of one node.
+ghost use Rattle.std.specs.Prelude.{◌≡◌, ◌+◌, ◌<◌, ◌^◌, ◌∷◌, [], IfOk, Some, length, slice_get};
+ghost use Rattle.ncl_decomp.specs.Split.{IsNarrow, cost_of_inputs};
+ghost use Rattle.ncl_tree.specs.Gates.{nets_so_far};
+ghost use Rattle.ncl_template.specs.Template.{node_function};
+ghost use Rattle.ncl_template.specs.Tables.{bit_at, number_of, value_of};
+ghost use Rattle.ncl_template.specs.Formed.{AddsTemplate};
+
+use crate::code::{add_code, code_of_rails};
+use crate::gate::add_two_gate;
+use crate::order::Order;
+use crate::rail::add_rails;
+use crate::table::{Table, TableRow, row_of_two, table_of_four, table_of_three};
+use ncl_base::Memory;
+use ncl_network::Node;
+use ncl_shape::Rails;
+use ncl_tree::Gates;
+use std::alloc::Global;
+
+/// Adds the gates of a function of two inputs: one for each rail.
+fn add_two(gates: &mut Gates, values: TableRow, a: Rails, b: Rails) -> Result<Rails, Memory>
+    requires room { nets_so_far gates.old + 2 < 2 ^ 32 }
+    ensures template { IfOk result (AddsTemplate (λ word. bit_at values (number_of word)) (a ∷ b ∷ []) 2 gates.old.cells gates.new.cells) }
+    ensures first { gates.new.first ≡ gates.old.first }
+{
+    let zero = add_two_gate(gates, values.inverse(), a, b)?;
+    let one = add_two_gate(gates, values, a, b)?;
+    Ok(Rails { zero, one })
+}
+
+/// Adds the gates of a function of three inputs: a code over the first two, and the rails over it and the third input.
+fn add_three(
+    alloc: Global,
+    gates: &mut Gates,
+    table: Table,
+    a: Rails,
+    b: Rails,
+    c: Rails,
+) -> Result<Rails, Memory>
+    requires room { nets_so_far gates.old + 24 < 2 ^ 32 }
+    ensures template { IfOk result (AddsTemplate (value_of table) (a ∷ b ∷ c ∷ []) 12 gates.old.cells gates.new.cells) }
+    ensures first { gates.new.first ≡ gates.old.first }
+{
+    let first = add_code(alloc, gates, table, a, b)?;
+    let second = code_of_rails(alloc, c)?;
+    let out = add_rails(alloc, gates, table, &first, &second, a)?;
+    Ok(out)
+}
+
+/// Adds the gates of a function of four inputs: a code over the first two and one over the others, and the rails over
+/// both.
+fn add_four(
+    alloc: Global,
+    gates: &mut Gates,
+    table: Table,
+    a: Rails,
+    b: Rails,
+    c: Rails,
+    d: Rails,
+) -> Result<Rails, Memory>
+    requires room { nets_so_far gates.old + 28 < 2 ^ 32 }
+    ensures template { IfOk result (AddsTemplate (value_of table) (a ∷ b ∷ c ∷ d ∷ []) 22 gates.old.cells gates.new.cells) }
+    ensures first { gates.new.first ≡ gates.old.first }
+{
+    let first = add_code(alloc, gates, table, a, b)?;
+    let second = add_code(alloc, gates, table.transposed(), c, d)?;
+    let out = add_rails(alloc, gates, table, &first, &second, a)?;
+    Ok(out)
+}
+
+/// The pair at a place.
+fn pair(ins: &[Rails], place: usize) -> Rails
+    requires { place < length ins.now }
+    ensures { slice_get ins.now place ≡ Some result }
+{
+    ins[place]
+}
+
+/// Adds the gates of a node of two inputs.
+fn add_of_two(gates: &mut Gates, node: &Node, ins: &[Rails]) -> Result<Rails, Memory>
+    requires some { 0 < length node.now.rows }
+    requires two { length ins.now ≡ 2 }
+    requires room { nets_so_far gates.old + 2 < 2 ^ 32 }
+    ensures template { IfOk result (AddsTemplate (node_function node.now) ins.now 2 gates.old.cells gates.new.cells) }
+    ensures first { gates.new.first ≡ gates.old.first }
+{
+    let a = pair(ins, 0);
+    let b = pair(ins, 1);
+    let values = row_of_two(node);
+    let out = add_two(gates, values, a, b)?;
+    Ok(out)
+}
+
+/// Adds the gates of a node of three inputs, which are taken in this order.
+fn add_of_three(
+    alloc: Global,
+    gates: &mut Gates,
+    node: &Node,
+    ins: &[Rails],
+    order: Order,
+) -> Result<Rails, Memory>
+    requires some { 0 < length node.now.rows }
+    requires three { length ins.now ≡ 3 }
+    requires room { nets_so_far gates.old + 24 < 2 ^ 32 }
+    ensures template { IfOk result (AddsTemplate (node_function node.now) ins.now 12 gates.old.cells gates.new.cells) }
+    ensures first { gates.new.first ≡ gates.old.first }
+{
+    let a = pair(ins, 0);
+    let b = pair(ins, 1);
+    let c = pair(ins, 2);
+    let table = table_of_three(node, order);
+    let pairs = order.taken(a, b, c);
+    let out = add_three(alloc, gates, table, pairs.0, pairs.1, pairs.2)?;
+    Ok(out)
+}
+
+/// Adds the gates of a node of four inputs, which are taken in this order.
+fn add_of_four(
+    alloc: Global,
+    gates: &mut Gates,
+    node: &Node,
+    ins: &[Rails],
+    order: Order,
+) -> Result<Rails, Memory>
+    requires some { 0 < length node.now.rows }
+    requires four { length ins.now ≡ 4 }
+    requires room { nets_so_far gates.old + 28 < 2 ^ 32 }
+    ensures template { IfOk result (AddsTemplate (node_function node.now) ins.now 22 gates.old.cells gates.new.cells) }
+    ensures first { gates.new.first ≡ gates.old.first }
+{
+    let a = pair(ins, 0);
+    let b = pair(ins, 1);
+    let c = pair(ins, 2);
+    let d = pair(ins, 3);
+    let table = table_of_four(node, order);
+    let pairs = order.taken(a, b, c);
+    let out = add_four(alloc, gates, table, pairs.0, pairs.1, pairs.2, d)?;
+    Ok(out)
+}
+
+/// Adds the gates of a node whose inputs are taken in this order.
+fn add_in_order(
+    alloc: Global,
+    gates: &mut Gates,
+    node: &Node,
+    ins: &[Rails],
+    order: Order,
+) -> Result<Rails, Memory>
+    requires narrow { IsNarrow node.now }
+    requires as_many { length ins.now ≡ length node.now.ins }
+    requires room { nets_so_far gates.old + 32 < 2 ^ 32 }
+    ensures template { IfOk result (AddsTemplate (node_function node.now) ins.now (cost_of_inputs (length node.now.ins)) gates.old.cells gates.new.cells) }
+    ensures first { gates.new.first ≡ gates.old.first }
+{
+    if ins.len() == 2 {
+        return add_of_two(gates, node, ins);
+    }
+    if ins.len() == 3 {
+        return add_of_three(alloc, gates, node, ins, order);
+    }
+    add_of_four(alloc, gates, node, ins, order)
+}
+
+/// How many gates a node takes whose inputs are taken in this order.
+fn gates_in_order(alloc: Global, node: &Node, ins: &[Rails], order: Order) -> Result<usize, Memory>
+    requires narrow { IsNarrow node.now }
+    requires as_many { length ins.now ≡ length node.now.ins }
+{
+    let mut gates = Gates::new(alloc, 0);
+    add_in_order(alloc, &mut gates, node, ins, order)?;
+    Ok(gates.cells().len())
+}
+
+/// The order in which a node takes the fewest gates, the first of several: its gates are made in each, and counted.
+fn best_order(alloc: Global, node: &Node, ins: &[Rails]) -> Result<Order, Memory>
+    requires narrow { IsNarrow node.now }
+    requires as_many { length ins.now ≡ length node.now.ins }
+{
+    let mut best = Order::Straight;
+    if ins.len() == 2 {
+        return Ok(best);
+    }
+    let mut fewest = gates_in_order(alloc, node, ins, best)?;
+    for order in [Order::Crossed, Order::Turned] {
+        let count = gates_in_order(alloc, node, ins, order)?;
+        if count < fewest {
+            best = order;
+            fewest = count;
+        }
+    }
+    Ok(best)
+}
+
+/// Adds the gates of a node over the pairs of what it reads, and gives the pair that shows its bit: at most 2 gates
+/// for two inputs, 12 for three and 22 for four. Pairs may be equal, or each other's inverse.
+///
+/// Linear in the rows of the node. The only error is want of memory.
+pub fn add_template(
+    alloc: Global,
+    gates: &mut Gates,
+    node: &Node,
+    ins: &[Rails],
+) -> Result<Rails, Memory>
+    requires narrow { IsNarrow node.now }
+    requires as_many { length ins.now ≡ length node.now.ins }
+    requires room { nets_so_far gates.old + 32 < 2 ^ 32 }
+    ensures template { IfOk result (λ out. AddsTemplate (node_function node.now) ins.now (cost_of_inputs (length node.now.ins)) gates.old.cells gates.new.cells out) }
+    ensures first { gates.new.first ≡ gates.old.first }
+{
+    let order = best_order(alloc, node, ins)?;
+    add_in_order(alloc, gates, node, ins, order)
+}

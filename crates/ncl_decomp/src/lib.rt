@@ -12,5 +12,6 @@ mod tree;
 mod wide;
 
 pub use pair::Joint;
+pub use rows::copied_rows;
 pub use splitting::split;
 pub use tree::join;

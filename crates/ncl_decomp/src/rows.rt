@@ -13,8 +13,8 @@ fn copied_row(alloc: Global, row: &[Lit]) -> Result<Row, Memory>
     Ok(Items::from_vec(copy))
 }
 
-/// A copy of rows. Linear in them.
-pub(crate) fn copied_rows(alloc: Global, rows: &[Row]) -> Result<Items<Row>, Memory>
+/// A copy of rows. Linear in them. The only error is want of memory.
+pub fn copied_rows(alloc: Global, rows: &[Row]) -> Result<Items<Row>, Memory>
     ensures { IfOk result (λ copy. copy ≡ rows.now) }
 {
     let mut copy = Vec::new(alloc);

@@ -1,0 +1,188 @@
+-- What the pairs of a network show that is laid out, and what waits for what.
+use Rattle.std.proofs.Common.{◌≡◌, ℕ, zero, suc, ◌+◌, ◌<◌, Bool, true, false, List, [], ◌∷◌, ◌++◌, length, map, Some, inl, inr, refl, sym, subst, arith}
+use Rattle.std.specs.Prelude.{All, Contains, slice_get}
+use Rattle.std.specs.List.{list_all, slice_index_or}
+use Rattle.std.proofs.lemmas.Bool.{cases_lt}
+use Rattle.std.proofs.lemmas.List.{get_or_append_left, get_or_push, length_push}
+use Rattle.std.proofs.lemmas.List.Elements.{All-head, All-tail}
+use Rattle.std.proofs.lemmas.Option.{get_or_from_slice_get, slice_get_within}
+use Rattle.ncl_base.proofs.Members.{Member, Member-map, Contains-from_Member, Member-from_Contains, Contains-from_slice_get, slice_get-from_Contains, slice_get-some}
+use Rattle.ncl_shape.specs.declared.rails.Rails.{Rails}
+use Rattle.ncl_shape.specs.declared.stage.StageCell.{StageCell}
+use Rattle.ncl_shape.specs.Nets.{Nets, IsBelow}
+use Rattle.ncl_shape.specs.Stage.{out_of}
+use Rattle.ncl_stage.specs.Values.{holds}
+use Rattle.ncl_stage.specs.Faults.{has_data}
+use Rattle.ncl_network.specs.declared.network.From3.{From3}
+use Rattle.ncl_network.specs.declared.network.From3.TheVariants.{Input, Node as FromNode, Const}
+use Rattle.ncl_network.specs.declared.network.Signal.{Signal}
+use Rattle.ncl_network.specs.declared.network.Node.{Node}
+use Rattle.ncl_network.specs.declared.network.Network.{Network}
+use Rattle.ncl_network.specs.Network.{IsSource, ReadBefore, is_constant, source_value, signal_value, node_value, node_values, answer_of}
+use Rattle.ncl_network.proofs.Walking.{IsSource-more}
+use Rattle.ncl_template.specs.Template.{Shows, IsNull, ShowWord, Obeys, IsCase}
+use Rattle.ncl_rails.specs.Complete.{SourceReaches, output, reader, IsComplete}
+use Rattle.ncl_rails.specs.Layout.{AreLaidOut, no_rails, source_pair, signal_pair}
+use Rattle.ncl_rails.proofs.Lists.{at_place, list_all-fails, Member-flat_map, member_from_flat_map}
+use Rattle.ncl_rails.proofs.Showing.{Shows-turned, IsNull-turned, null_has_none}
+
+-- what a node reads is there before it, and so among all
+pub reads_before_at : (inputs place : ℕ) (nodes : List Node) → ReadBefore inputs place nodes → (k : ℕ) (node : Node) → slice_get nodes k ≡ Some node → All (λ (signal : Signal). IsSource inputs (place + k) signal.from) node.ins
+reads_before_at inputs place [] before k node at = absurd cc
+reads_before_at inputs place (first ∷ nodes) before zero node at =
+    let same : first ≡ node = cc in
+    let here : place ≡ place + 0 = omega arith in
+    subst (λ (n : Node). All (λ (signal : Signal). IsSource inputs (place + 0) signal.from) n.ins) same
+    (subst (λ n. All (λ (signal : Signal). IsSource inputs n signal.from) first.ins) here before.0)
+reads_before_at inputs place (first ∷ nodes) before (suc k) node at =
+    let count : (place + 1) + k ≡ place + suc k = omega arith in
+    subst (λ n. All (λ (signal : Signal). IsSource inputs n signal.from) node.ins) count (reads_before_at inputs (place + 1) nodes before.1 k node at)
+
+pub reads_at : (inputs place : ℕ) (nodes : List Node) → ReadBefore inputs place nodes → (k : ℕ) (node : Node) → slice_get nodes k ≡ Some node → All (λ (signal : Signal). IsSource inputs (place + length nodes) signal.from) node.ins
+reads_at inputs place nodes before k node at i d lt =
+    let within : k < length nodes = slice_get_within nodes k node at in
+    IsSource-more inputs (place + k) (place + length nodes) _ (omega (arith, within)) (reads_before_at inputs place nodes before k node at i d lt)
+
+module _ (network : Network) (inputs : List Rails) (cells : List StageCell) (pairs : List Rails) (complete : IsComplete network) (laid : AreLaidOut inputs network.nodes cells pairs) where
+  -- the pairs of the outputs
+  unfoldable pub output_pairs : List Rails
+  output_pairs = map (signal_pair inputs pairs) network.outputs
+
+  -- the gates of a node are cells
+  gate_within : (k : ℕ) (part : List StageCell) → slice_get laid.parts k ≡ Some part → (c : StageCell) → Contains part c → Member c cells
+  gate_within k part at c in_part =
+      subst (Member c) (sym laid.joined)
+      (Member-flat_map (λ (p : List StageCell). p) part c (Member-from_Contains laid.parts part (Contains-from_slice_get laid.parts k part at)) (Member-from_Contains part c in_part))
+
+  varies_at : (k : ℕ) (node : Node) → slice_get network.nodes k ≡ Some node → All (λ (signal : Signal). is_constant signal.from ≡ false) node.ins
+  varies_at k node at =
+      at_place (λ (n : Node). All (λ (signal : Signal). is_constant signal.from ≡ false) n.ins) network.nodes (λ i d lt. (complete.varying.nodes i d lt).no_constant) k node at
+
+  part_at : (k : ℕ) → k < length network.nodes → (part : List StageCell) × (slice_get laid.parts k ≡ Some part)
+  part_at k lt = let count = laid.as_many in slice_get-some laid.parts k (omega (arith, lt, count))
+
+  pair_at : (k : ℕ) → k < length network.nodes → (pair : Rails) × (slice_get pairs k ≡ Some pair)
+  pair_at k lt = let count = laid.pairs_as_many in slice_get-some pairs k (omega (arith, lt, count))
+
+  -- ---- what the pairs show
+
+  module _ (base : Nets) (word : List Bool) (obeys : (c : StageCell) → Member c cells → base (out_of c) ≡ holds base c) (at_inputs : (i : ℕ) → i < network.inputs → Shows base (source_pair inputs pairs (Input i)) (slice_index_or word i false)) where
+    part_obeys : (k : ℕ) (part : List StageCell) → slice_get laid.parts k ≡ Some part → Obeys base part
+    part_obeys k part at = record { each = λ c m. obeys c (gate_within k part at c m) }
+
+    source_shown : (bits : List Bool) (k : ℕ) → ((j : ℕ) → j < k → Shows base (source_pair inputs pairs (FromNode j)) (slice_index_or bits j false)) → (from : From3) → IsSource network.inputs k from → is_constant from ≡ false → Shows base (source_pair inputs pairs from) (source_value word bits from)
+    source_shown bits k before (Input i) there varies = at_inputs i there
+    source_shown bits k before (FromNode j) there varies = before j there
+    source_shown bits k before (Const bit) there varies = absurd cc
+
+    signals_shown : (bits : List Bool) (k : ℕ) → ((j : ℕ) → j < k → Shows base (source_pair inputs pairs (FromNode j)) (slice_index_or bits j false)) → (signals : List Signal) → All (λ (signal : Signal). IsSource network.inputs k signal.from) signals → All (λ (signal : Signal). is_constant signal.from ≡ false) signals → ShowWord base (map (signal_pair inputs pairs) signals) (map (signal_value word bits) signals)
+    signals_shown bits k before [] there varies = tt
+    signals_shown bits k before (signal ∷ signals) there varies =
+        let here_there : IsSource network.inputs k signal.from = All-head (λ (x : Signal). IsSource network.inputs k x.from) signal signals there in
+        let here_varies : is_constant signal.from ≡ false = All-head (λ (x : Signal). is_constant x.from ≡ false) signal signals varies in (
+          Shows-turned base (source_pair inputs pairs signal.from) (source_value word bits signal.from) signal.inverted (source_shown bits k before signal.from here_there here_varies),
+          signals_shown bits k before signals (All-tail (λ (x : Signal). IsSource network.inputs k x.from) signal signals there) (All-tail (λ (x : Signal). is_constant x.from ≡ false) signal signals varies),
+        )
+
+    -- one node more
+    node_shown : (bits : List Bool) (node : Node) → slice_get network.nodes (length bits) ≡ Some node → All (λ (signal : Signal). IsSource network.inputs (length bits) signal.from) node.ins → ((j : ℕ) → j < length bits → Shows base (source_pair inputs pairs (FromNode j)) (slice_index_or bits j false)) → Shows base (source_pair inputs pairs (FromNode (length bits))) (node_value word bits node)
+    node_shown bits node at reads before =
+        let within : length bits < length network.nodes = slice_get_within network.nodes (length bits) node at in
+        let (part, found) = part_at (length bits) within in
+        let (pair, paired) = pair_at (length bits) within in
+        let template = laid.templates (length bits) node part pair at found paired in
+        let shown = template.value base (map (signal_value word bits) node.ins) (part_obeys (length bits) part found) (signals_shown bits (length bits) before node.ins reads (varies_at (length bits) node at)) in
+        subst (λ (p : Rails). Shows base p (node_value word bits node)) (sym (get_or_from_slice_get pairs (length bits) pair no_rails paired)) shown
+
+    walk : (bits : List Bool) (rest : List Node) → ((j : ℕ) (node : Node) → slice_get rest j ≡ Some node → slice_get network.nodes (length bits + j) ≡ Some node) → ReadBefore network.inputs (length bits) rest → ((j : ℕ) → j < length bits → Shows base (source_pair inputs pairs (FromNode j)) (slice_index_or bits j false)) → (j : ℕ) → j < length bits + length rest → Shows base (source_pair inputs pairs (FromNode j)) (slice_index_or (node_values word bits rest) j false)
+    walk bits [] at reads before j lt = before j (omega arith)
+    walk bits (node ∷ rest) at reads before j lt =
+        let bit : Bool = node_value word bits node in
+        let len : length (bits ++ bit ∷ []) ≡ length bits + 1 = length_push bits bit in
+        let none : length bits + 0 ≡ length bits = omega arith in
+        let stands : slice_get network.nodes (length bits) ≡ Some node = subst (λ k. slice_get network.nodes k ≡ Some node) none (at 0 node refl) in
+        let shown = node_shown bits node stands reads.0 before in
+        walk (bits ++ bit ∷ []) rest
+        (λ i n found.
+        let place : length bits + suc i ≡ length (bits ++ bit ∷ []) + i = omega (arith, len) in
+        subst (λ k. slice_get network.nodes k ≡ Some n) place (at (suc i) n found))
+        (subst (λ k. ReadBefore network.inputs k rest) (sym len) reads.1)
+        (λ i within.
+        elim (cases_lt i (length bits)) [
+          | inl old ↦ subst (Shows base (source_pair inputs pairs (FromNode i))) (sym (get_or_append_left bits (bit ∷ []) false i old)) (before i old)
+          | inr new ↦
+              let last : length bits ≡ i = omega (arith, within, len, new) in
+              subst (λ k. Shows base (source_pair inputs pairs (FromNode k)) (slice_index_or (bits ++ bit ∷ []) k false)) last
+              (subst (Shows base (source_pair inputs pairs (FromNode (length bits)))) (sym (get_or_push bits bit false (length bits) refl)) shown)
+        ])
+        j
+        (omega (arith, lt, len))
+
+    -- each node shows its bit
+    nodes_shown : (j : ℕ) → j < length network.nodes → Shows base (source_pair inputs pairs (FromNode j)) (slice_index_or (node_values word [] network.nodes) j false)
+    nodes_shown j lt =
+        walk [] network.nodes
+        (λ i node found. subst (λ k. slice_get network.nodes k ≡ Some node) (let same : i ≡ 0 + i = omega arith in same) found)
+        complete.varying.reads_before
+        (λ i within. absurd (omega arith))
+        j
+        (omega arith)
+
+    -- what a node reads shows a word
+    ins_shown : (k : ℕ) (node : Node) → slice_get network.nodes k ≡ Some node → ShowWord base (map (signal_pair inputs pairs) node.ins) (map (signal_value word (node_values word [] network.nodes)) node.ins)
+    ins_shown k node at =
+        signals_shown (node_values word [] network.nodes) (length network.nodes) nodes_shown node.ins
+        (subst (λ n. All (λ (signal : Signal). IsSource network.inputs n signal.from) node.ins) (let same : 0 + length network.nodes ≡ length network.nodes = omega arith in same) (reads_at network.inputs 0 network.nodes complete.varying.reads_before k node at))
+        (varies_at k node at)
+
+    -- the outputs show the answer
+    pub outputs_shown : ShowWord base output_pairs (answer_of network word)
+    unfolding output_pairs
+    outputs_shown =
+        signals_shown (node_values word [] network.nodes) (length network.nodes) nodes_shown network.outputs complete.varying.outputs_exist complete.varying.no_constant_output
+
+    -- ---- what waits for what
+
+    module _ (v : Nets) (below : IsBelow v base) (supported : (c : StageCell) → Member c cells → v (out_of c) ≡ true → holds v c ≡ true) where
+      node_case : (k : ℕ) (node : Node) (part : List StageCell) → slice_get network.nodes k ≡ Some node → slice_get laid.parts k ≡ Some part → IsCase base v (map (signal_pair inputs pairs) node.ins) part (map (signal_value word (node_values word [] network.nodes)) node.ins)
+      node_case k node part at found = record {
+        obeys = part_obeys k part found;
+        shown = ins_shown k node at;
+        below = below;
+        supported = record { each = λ c m. supported c (gate_within k part found c m) };
+      }
+
+      signal_null : (signal : Signal) (from : From3) → signal.from ≡ from → IsNull v (source_pair inputs pairs from) → IsNull v (signal_pair inputs pairs signal)
+      signal_null signal from is null =
+          IsNull-turned v (source_pair inputs pairs signal.from) signal.inverted (subst (λ f. IsNull v (source_pair inputs pairs f)) (sym is) null)
+
+      -- where a source that reaches an output is NULL, some output is NULL
+      pub null_reaches : (from : From3) → SourceReaches network from → IsNull v (source_pair inputs pairs from) → list_all (has_data v) output_pairs ≡ false
+      unfolding output_pairs
+      null_reaches _ (output from signal in_outputs is) null =
+          list_all-fails (has_data v) (signal_pair inputs pairs signal) (Member-map (signal_pair inputs pairs) signal (Member-from_Contains network.outputs signal in_outputs))
+          (null_has_none v (signal_pair inputs pairs signal) (signal_null signal from is null))
+      null_reaches _ (reader from by node signal at reads is reach) null =
+          let within : by < length network.nodes = slice_get_within network.nodes by node at in
+          let (part, found) = part_at by within in
+          let (pair, paired) = pair_at by within in
+          let template = laid.templates by node part pair at found paired in
+          let out_null =
+          template.needs base v (map (signal_value word (node_values word [] network.nodes)) node.ins) (node_case by node part at found) (signal_pair inputs pairs signal)
+          (Contains-from_Member (signal_pair inputs pairs signal) (Member-map (signal_pair inputs pairs) signal (Member-from_Contains node.ins signal reads)))
+          (signal_null signal from is null) in
+          null_reaches (FromNode by) reach (subst (IsNull v) (sym (get_or_from_slice_get pairs by pair no_rails paired)) out_null)
+
+      -- where a gate that is high in base is low, some output is NULL
+      pub low_gate_reaches : (c : StageCell) → Member c cells → base (out_of c) ≡ true → v (out_of c) ≡ false → list_all (has_data v) output_pairs ≡ false
+      low_gate_reaches c m high low =
+          let (part, in_parts, in_part) = member_from_flat_map (λ (p : List StageCell). p) c laid.parts (subst (Member c) laid.joined m) in
+          let (k, found) = slice_get-from_Contains laid.parts part (Contains-from_Member part in_parts) in
+          let within : k < length laid.parts = slice_get_within laid.parts k part found in
+          let count : length laid.parts ≡ length network.nodes = laid.as_many in
+          let inside : k < length network.nodes = omega (arith, within, count) in
+          let (node, at) = slice_get-some network.nodes k inside in
+          let (pair, paired) = pair_at k inside in
+          let template = laid.templates k node part pair at found paired in
+          let out_null = template.observed base v (map (signal_value word (node_values word [] network.nodes)) node.ins) (node_case k node part at found) c (Contains-from_Member c in_part) high low in
+          null_reaches (FromNode k) (complete.varying.nodes_reach k inside) (subst (IsNull v) (sym (get_or_from_slice_get pairs k pair no_rails paired)) out_null)

@@ -1,0 +1,16 @@
+pub mod Lists
+pub mod Showing
+pub mod InputLaws
+pub mod Reaching
+pub mod Replacing
+pub mod Joining
+pub mod Inputs
+pub mod Composition
+pub mod Laying
+pub mod NetNames
+pub mod GateNames
+pub mod Renaming
+pub mod Numbering
+pub mod Distinct
+pub mod Soundness
+pub mod Whole

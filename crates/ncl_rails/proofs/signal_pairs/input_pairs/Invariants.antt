@@ -1,0 +1,6 @@
+use Rattle.std.proofs.Common.{◌≡◌}
+use Rattle.ncl_rails.specs.Layout.{input_pairs}
+use Rattle.ncl_rails.proofs.signal_pairs.input_pairs.Given as goal
+
+abbrev pub invariant-loop-i : goal.invariant-loop-i
+invariant-loop-i l = l.pairs.items ≡ input_pairs l.i

@@ -1,0 +1,8 @@
+use Rattle.std.proofs.Common.{◌≡◌, ℕ, ◌||◌, false, take}
+use Rattle.std.specs.List.{slice_index_or}
+use Rattle.ncl_rails.specs.Complete.{is_among}
+use Rattle.ncl_rails.proofs.unread.mark.Given as goal
+
+abbrev pub invariant-loop-signal : goal.invariant-loop-signal
+invariant-loop-signal l =
+    (i : ℕ) → slice_index_or l.read i false ≡ (slice_index_or l.initial.read i false || is_among (take l.signal-index l.signals) i)

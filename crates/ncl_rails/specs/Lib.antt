@@ -1,0 +1,5 @@
+pub mod Complete
+pub mod Layout
+pub mod Named
+pub mod Naming
+pub mod StageParts

@@ -1,0 +1,15 @@
+//! Networks as stages of gates: sound, of the same function, and told by names.
+#![tactic(auto)]
+
+mod complete;
+mod constants;
+mod copies;
+mod layout;
+mod naming;
+mod parts;
+mod signal_pairs;
+#[cfg(test)]
+mod tests;
+mod unread;
+
+pub use parts::{StageParts, stage_parts};

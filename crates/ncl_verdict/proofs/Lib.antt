@@ -2,6 +2,7 @@ pub mod Computed
 pub mod Firsts
 pub mod Places
 pub mod Sound
+pub mod Accepting
 pub mod FileOrder
 pub mod SameJudgement
 pub mod NamedCell

@@ -1,0 +1,7 @@
+use Rattle.std.proofs.Common.{◌≡◌, map}
+use Rattle.std.specs.List.{range_with_len}
+use Rattle.ncl_compile.specs.InnerNames.{inner_pair}
+use Rattle.ncl_compile.proofs.naming.inner_pairs.Given as goal
+
+abbrev pub invariant-loop-bit : goal.invariant-loop-bit
+invariant-loop-bit l = l.pairs.items ≡ map (inner_pair l.bank) (range_with_len 0 l.bit)

@@ -1,0 +1,7 @@
+use Rattle.std.proofs.Common.{◌≡◌, ◌-◌, ◌∷◌, [], map}
+use Rattle.std.specs.List.{range_with_len}
+use Rattle.ncl_compile.specs.Ports.{port_pair}
+use Rattle.ncl_compile.proofs.naming.port_pairs.Given as goal
+
+abbrev pub invariant-loop-number : goal.invariant-loop-number
+invariant-loop-number l = l.pairs.items ≡ map (port_pair (l.letter ∷ [])) (range_with_len 1 (l.number - 1))

@@ -1,0 +1,7 @@
+use Rattle.std.proofs.Common.{◌≡◌, ◌++◌}
+use Rattle.std.specs.List.{flat_map}
+use Rattle.ncl_bank.specs.declared.BankParts.{BankParts}
+use Rattle.ncl_compile.proofs.putting.add_banks.Given as goal
+
+abbrev pub invariant-loop-bank : goal.invariant-loop-bank
+invariant-loop-bank l = l.cells.items ≡ l.initial.cells.items ++ flat_map (λ (bank : BankParts). bank.cells) l.yielded

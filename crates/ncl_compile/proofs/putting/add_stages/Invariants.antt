@@ -1,0 +1,7 @@
+use Rattle.std.proofs.Common.{◌≡◌, ◌++◌}
+use Rattle.std.specs.List.{flat_map}
+use Rattle.ncl_rails.specs.declared.StageParts.{StageParts}
+use Rattle.ncl_compile.proofs.putting.add_stages.Given as goal
+
+abbrev pub invariant-loop-stage : goal.invariant-loop-stage
+invariant-loop-stage l = l.cells.items ≡ l.initial.cells.items ++ flat_map (λ (stage : StageParts). stage.cells) l.yielded

@@ -1,0 +1,6 @@
+use Rattle.std.proofs.Common.{◌≡◌, take}
+use Rattle.ncl_blif.specs.Model.{weight_of_rows}
+use Rattle.ncl_compile.proofs.sizing.rows_weight.Given as goal
+
+abbrev pub invariant-loop-row : goal.invariant-loop-row
+invariant-loop-row l = l.weight ≡ weight_of_rows (take l.row-index l.rows)

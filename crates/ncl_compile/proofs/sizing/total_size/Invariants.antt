@@ -1,0 +1,7 @@
+use Rattle.std.proofs.Common.{◌≡◌, ◌+◌, take, length, sum_by}
+use Rattle.ncl_blif.specs.declared.model.Model.{Model}
+use Rattle.ncl_network.specs.Network.{weight_of_model}
+use Rattle.ncl_compile.proofs.sizing.total_size.Given as goal
+
+abbrev pub invariant-loop-model : goal.invariant-loop-model
+invariant-loop-model l = l.size ≡ l.initial.size + sum_by (λ (model : Model). weight_of_model model + length model.inputs) (take l.model-index l.models)

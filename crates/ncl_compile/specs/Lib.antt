@@ -1,0 +1,6 @@
+pub mod Size
+pub mod Ports
+pub mod Compiled
+pub mod InnerNames
+pub mod Pieces
+pub mod Assembled

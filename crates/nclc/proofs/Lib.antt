@@ -2,7 +2,11 @@ mod WordKinds
 mod Options
 mod Numbers
 mod Held
+mod CompileStatus
+mod PlainNames
+mod CompileReplies
 mod Sameness
 mod Saying
 mod Ends
 mod Acceptance
+mod Compiled

@@ -1,10 +1,13 @@
 -- The words and the files have at most one status, and at most one text where they determine it.
-use Rattle.std.proofs.Common.{◌≡◌, ℕ, List, Some, None, IsTrue, refl, sym, ap, ◌∙◌, subst}
+use Rattle.std.proofs.Common.{◌≡◌, ℕ, List, Some, None, IsTrue, false, refl, sym, ap, ◌∙◌, subst}
+use Rattle.std.proofs.lemmas.Bool.{both_ways}
 use Rattle.ncl_base.specs.Files.{Files}
 use Rattle.ncl_check.specs.Reply.{IsCheckReply}
 use Rattle.ncl_check.proofs.OneReply.{same_reply}
-use Rattle.nclc.specs.Command.{Words, Command, check, command_of}
-use Rattle.nclc.specs.Answer.{status_of, IsFileReply, IsReply, Answer, not_understood, replied, words_determine_text, determines_text}
+use Rattle.nclc.specs.Command.{Words, Command, check, compile, command_of}
+use Rattle.nclc.specs.Compiling.{IsCompileReply}
+use Rattle.nclc.proofs.CompileStatus.{same_compile_status}
+use Rattle.nclc.specs.Answer.{status_of, IsFileReply, IsCompiledFile, IsReply, Answer, not_understood, replied, words_determine_text, determines_text}
 
 -- the bytes that both replies are to
 same_file_reply : (files : Files) (file : List ℕ) (limit : ℕ) (status other : ℕ) (text line : List ℕ) → IsFileReply (Some files) file limit status text → IsFileReply (Some files) file limit other line → (status ≡ other) × (text ≡ line)
@@ -15,9 +18,13 @@ same_file_reply files file limit status other text line one two =
 
 same_command_status : (files : Files) (command : Command) (status other : ℕ) (text line : List ℕ) → IsReply command (Some files) status text → IsReply command (Some files) other line → status ≡ other
 same_command_status files (check file limit) status other text line one two = (same_file_reply files file limit status other text line one two).0
+same_command_status files (compile file) status other text line one two =
+    let bytes : one.bytes ≡ two.bytes = one.given ∙ sym two.given in
+    same_compile_status two.bytes (subst (λ bytes. IsCompileReply bytes status text) bytes one.reply) two.reply
 
 same_command_text : (files : Files) (command : Command) → IsTrue (determines_text command) → (status other : ℕ) (text line : List ℕ) → IsReply command (Some files) status text → IsReply command (Some files) other line → text ≡ line
 same_command_text files (check file limit) determined status other text line one two = (same_file_reply files file limit status other text line one two).1
+same_command_text files (compile file) determined status other text line one two = absurd (both_ways false refl determined)
 
 module _ (words : Words) (files : Files) where
   -- two commands that the words give are one

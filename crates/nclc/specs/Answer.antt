@@ -1,12 +1,14 @@
 -- What a call answers: the status and the text that go with the words and the files.
-use Rattle.std.specs.Prelude.{◌≡◌, ◌≢◌, ℕ, ◌⊎◌, Bool, true, List, [], Option, Some, None, IfSome, IsTrue, codes}
+use Rattle.std.specs.Prelude.{◌≡◌, ◌≢◌, ℕ, ◌⊎◌, Bool, true, false, List, [], Option, Some, None, IfSome, IsTrue, codes}
 use Rattle.ncl_base.specs.Files.{Files, bytes_of, Rose, Grew, GrewWithin}
 use Rattle.ncl_report.specs.Line.{line}
+use Rattle.ncl_verdict.specs.Within.{AreWithin}
 use Rattle.ncl_check.specs.declared.reply.Outcome.{Outcome}
 use Rattle.ncl_check.specs.declared.reply.Outcome.TheVariants.{Accepted, Refused, NoPipeline, Unjudged}
 use Rattle.ncl_check.specs.Reply.{IsCheckReply}
 use Rattle.ncl_check.specs.Headline.{IsDelayInsensitiveText}
-use Rattle.nclc.specs.Command.{Words, Command, check, command_of, files_named}
+use Rattle.nclc.specs.Command.{Words, Command, check, compile, command_of, files_named}
+use Rattle.nclc.specs.Compiling.{IsCompileReply}
 
 -- the status of a check that ends so
 abbrev pub status_of : Outcome → ℕ
@@ -28,9 +30,16 @@ pub record IsFileReply (told : Option Files) (file : List ℕ) (limit : ℕ) (st
   pub ends : status ≡ status_of outcome
   pub reply : IsCheckReply limit bytes outcome text
 
+-- what `compile` replies to a file
+pub record IsCompiledFile (told : Option Files) (file : List ℕ) (status : ℕ) (text : List ℕ) : Type 0 where
+  pub bytes : List ℕ
+  pub given : IsGiven told file bytes
+  pub reply : IsCompileReply bytes status text
+
 -- what a command replies where the source tells this of its files. Each load of a file gives bytes of its own
 abbrev pub IsReply : Command → Option Files → ℕ → List ℕ → Type 0
 IsReply (check file limit) told status text = IsFileReply told file limit status text
+IsReply (compile file) told status text = IsCompiledFile told file status text
 
 -- what the words are answered where the source tells this of its files and nothing fails
 pub data Answer (words : Words) (told : Option Files) : ℕ → List ℕ → Type 0 where
@@ -42,6 +51,7 @@ pub data Answer (words : Words) (told : Option Files) : ℕ → List ℕ → Typ
 -- whether the files determine the text that a command replies, and not its status alone
 abbrev pub determines_text : Command → Bool
 determines_text (check file limit) = true
+determines_text (compile file) = false
 
 -- whether the words and the files determine the text: words of no form do
 abbrev pub words_determine_text : Option Command → Bool
@@ -99,6 +109,18 @@ AnswersExactly words source sink sink_after status =
     (files : Files) (expected : ℕ) (text : List ℕ) → source.files ≡ Some files → Answer words (Some files) expected text
     → ((status ≡ expected) × (IsTrue (words_determine_text (command_of words)) → Grew sink.written text sink_after.written))
     ⊎ ((status ≡ 4) ⊎ ((status ≡ 5) ⊎ (status ≡ 7)))
+
+-- the text is that of a netlist that is delay-insensitive; and a check of it, whatever its limit, accepts where all
+-- stages stay within the limit of nodes, and else tells that one passes it
+pub record WorksAndIsAccepted (text : List ℕ) : Type 0 where
+  pub works : IsDelayInsensitiveText text
+  pub check : (limit : ℕ) (outcome : Outcome) (line : List ℕ) → IsCheckReply limit text outcome line → (AreWithin limit works.pipeline.stages × (outcome ≡ Accepted)) ⊎ ((AreWithin limit works.pipeline.stages → ⊥) × (outcome ≡ Unjudged))
+
+-- where the words ask for compiling a file and the status is 0, such a text was written, whatever the source tells
+abbrev pub CompilesWhatWorks : Words → SinkState → SinkState → ℕ → Type 0
+CompilesWhatWorks words sink sink_after status =
+    (file : List ℕ) → command_of words ≡ Some (compile file) → status ≡ 0
+    → (text : List ℕ) × WorksAndIsAccepted text × Grew sink.written text sink_after.written
 
 -- where the words ask for the check of a file, the source tells its files and the status is 0, the bytes
 -- under the file's name are the text of a netlist that is delay-insensitive

@@ -12,6 +12,8 @@ use Rattle.nclc.specs.declared.command.TheConstants.{MOST_NODES, LARGEST_LIMIT}
 pub data Command : Type 0 where
   -- judge the netlist in the named file, where each stage may have so many nodes
   check : List ℕ → ℕ → Command
+  -- compile the models in the named file
+  compile : List ℕ → Command
 
 -- the text has decimal digits alone, one or more, and at most so many
 abbrev pub is_number : ℕ → List ℕ → Bool
@@ -43,22 +45,36 @@ abbrev pub check_of : Reading → Option Command
 check_of reading =
     option_and_then (λ file. option_and_then (λ limit. Some (check file limit)) (limit_of reading.options)) (only_file reading.files)
 
+-- the command, if there are no options
+abbrev pub without_options : List NamedValue → Option Command → Option Command
+without_options [] command = command
+without_options (option ∷ options) command = None
+
+-- compile FILE
+abbrev pub compile_of : Reading → Option Command
+compile_of reading =
+    without_options reading.options (option_and_then (λ file. Some (compile file)) (only_file reading.files))
+
 -- the command of this name with what was read
 abbrev pub form_of : List ℕ → Reading → Option Command
-form_of name reading = if bytes_eq name (codes "check") then check_of reading else None
+form_of name reading =
+    if bytes_eq name (codes "check") then check_of reading
+    else (if bytes_eq name (codes "compile") then compile_of reading else None)
 
 -- the command that the words give, if they are of a form
 abbrev pub command_of : Words → Option Command
 command_of [] = None
 command_of (name ∷ words) = option_and_then (form_of name) (read_words words)
 
--- the limit that a command has is at least 1
+-- the limit that a check has is at least 1
 abbrev pub HasLimit : Command → Type 0
 HasLimit (check file limit) = 1 ≤ limit
+HasLimit (compile file) = Unit {0}
 
 -- the files that a command names
 abbrev pub files_named : Command → List (List ℕ)
 files_named (check file limit) = file ∷ []
+files_named (compile file) = file ∷ []
 
 -- the command's files may be begun
 abbrev pub AllowsFiles : (List ℕ → Bool) → Command → Type 0

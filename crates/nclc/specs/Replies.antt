@@ -1,7 +1,7 @@
 -- What the parts of a call give, as the whole call's relations see it.
 use Rattle.std.specs.Prelude.{ℕ, List, Option, map, option_map}
 use Rattle.ncl_base.specs.Files.{Files}
-use Rattle.nclc.specs.Command.{Command, check}
+use Rattle.nclc.specs.Command.{Command, check, compile}
 use Rattle.nclc.specs.Answer.{IsReply}
 use Rattle.nclc.specs.Reading.{WordKind, Refused, File, Named, Valued, NamedValue, Reading}
 use Rattle.nclc.specs.declared.reading.WordKind.{WordKind as KindRead}
@@ -9,7 +9,7 @@ use Rattle.nclc.specs.declared.reading.WordKind.TheVariants as read
 use Rattle.nclc.specs.declared.reading.NamedValue.{NamedValue as OptionRead}
 use Rattle.nclc.specs.declared.reading.Reading.{Reading as WordsRead}
 use Rattle.nclc.specs.declared.command.Command.{Command as CommandRead}
-use Rattle.nclc.specs.declared.command.Command.TheVariants.{Check}
+use Rattle.nclc.specs.declared.command.Command.TheVariants.{Check, Compile}
 use Rattle.nclc.specs.declared.reply.Reply.{Reply}
 use Rattle.nclc.specs.declared.reply.Reply.TheVariants.{Made, Fixed}
 
@@ -35,6 +35,7 @@ reading_meant reading = record {
 -- a command that was read from words
 abbrev pub command_meant : CommandRead → Command
 command_meant (Check file limit) = check file.now limit
+command_meant (Compile file) = compile file.now
 
 -- the status and the text of a reply stand in a relation
 abbrev pub Gives : (ℕ → List ℕ → Type 0) → Reply → Type 0

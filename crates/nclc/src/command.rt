@@ -2,7 +2,7 @@
 ghost use Rattle.std.specs.Prelude.{◌≡◌, ◌≤◌, map, option_map, IfOk, IfSome};
 ghost use Rattle.std.specs.List.{list_all};
 ghost use Rattle.std.specs.Char.{is_ascii_digit};
-ghost use Rattle.nclc.specs.Command.{command_of, is_number, number_of, limit_of, check_of, HasLimit};
+ghost use Rattle.nclc.specs.Command.{command_of, is_number, number_of, limit_of, check_of, compile_of, HasLimit};
 ghost use Rattle.nclc.specs.Replies.{command_meant, reading_meant, options_meant};
 
 use crate::reading::{NamedValue, Reading};
@@ -20,6 +20,8 @@ pub const LARGEST_LIMIT: u32 = 1_000_000;
 pub enum Command<'a> {
     /// Judge the netlist in this file, where a stage may have so many nodes.
     Check(&'a str, u32),
+    /// Compile the models in this file.
+    Compile(&'a str),
 }
 
 /// Whether a text has decimal digits alone. Linear in the text.
@@ -73,6 +75,17 @@ fn check_form<'a>(reading: &Reading<'a>) -> Option<Command<'a>>
     }
 }
 
+/// `compile FILE`.
+fn compile_form<'a>(reading: &Reading<'a>) -> Option<Command<'a>>
+    ensures command { option_map command_meant result ≡ compile_of (reading_meant reading.now) }
+    ensures limit { IfSome result (λ c. HasLimit (command_meant c)) }
+{
+    match (reading.files.as_slice(), reading.options.as_slice()) {
+        ([file], []) => Some(Command::Compile(*file)),
+        _ => None,
+    }
+}
+
 impl<'a> Command<'a> {
     /// The command of the words, or `None` where they are of no form. Linear in the words. The only error is want
     /// of memory.
@@ -86,9 +99,10 @@ impl<'a> Command<'a> {
         let Some(reading) = Reading::of(alloc, rest)? else {
             return Ok(None);
         };
-        if *name == "check" {
-            return Ok(check_form(&reading));
+        match *name {
+            "check" => Ok(check_form(&reading)),
+            "compile" => Ok(compile_form(&reading)),
+            _ => Ok(None),
         }
-        Ok(None)
     }
 }

@@ -2,6 +2,7 @@
 #![tactic(auto)]
 
 mod command;
+mod compiling;
 #[cfg(test)]
 mod edge_tests;
 mod file_source;

@@ -1,11 +1,12 @@
 //! What a call has to say.
 ghost use Rattle.std.specs.Prelude.{◌≡◌, ◌≤◌, ◌≢◌, [], IfOk, IsTrue, IsErrOf};
 ghost use Rattle.ncl_base.specs.Files.{Rose};
-ghost use Rattle.nclc.specs.Command.{AllowsFiles, HasLimit, files_named, check as check_command};
+ghost use Rattle.nclc.specs.Command.{AllowsFiles, HasLimit, files_named, check as check_command, compile as compile_command};
 ghost use Rattle.nclc.specs.Answer.{status_of};
 ghost use Rattle.nclc.specs.Replies.{command_meant, AnswersCommand};
 
 use crate::command::Command;
+use crate::compiling::compile_bytes;
 use ncl_base::{LoadFault, Source, load};
 use ncl_check::{Outcome, check};
 use std::alloc::Global;
@@ -47,6 +48,7 @@ pub fn carry_out<S: Source>(
 {
     match command {
         Command::Check(file, limit) => check_file(alloc, source, file, limit),
+        Command::Compile(file) => compile_file(alloc, source, file),
     }
 }
 
@@ -73,6 +75,28 @@ fn check_file<S: Source>(
             Err(_) => Err(Fault::Memory),
         },
         Err(LoadFault::TooLong) => Ok(Reply::Fixed(3, b"netlist: too long\n")),
+        Err(LoadFault::Read) => Err(Fault::Read),
+        Err(LoadFault::Memory) => Err(Fault::Memory),
+    }
+}
+
+/// Loads a file and replies to `compile` of it.
+///
+/// Costs a pass over the bytes, and what reading, compiling and writing cost.
+fn compile_file<S: Source>(alloc: Global, source: &mut S, file: &str) -> Result<Reply, Fault>
+    requires { IsTrue (S.allowed source.old file.now) }
+    ensures ok { IfOk result (AnswersCommand (S.files source.old) (compile_command file.now)) }
+    ensures read { IsErrOf result Fault.Read → Rose (S.faults source.old) (S.faults source.new) }
+    ensures files { S.files source.new ≡ S.files source.old }
+    ensures allowed { S.allowed source.new ≡ S.allowed source.old }
+    ensures faults { S.faults source.old ≤ S.faults source.new }
+{
+    match load(alloc, source, file) {
+        Ok(bytes) => match compile_bytes(alloc, &bytes) {
+            Ok((status, text)) => Ok(Reply::Made(status, text)),
+            Err(_) => Err(Fault::Memory),
+        },
+        Err(LoadFault::TooLong) => Ok(Reply::Fixed(3, b"blif: too long\n")),
         Err(LoadFault::Read) => Err(Fault::Read),
         Err(LoadFault::Memory) => Err(Fault::Memory),
     }

@@ -1,7 +1,7 @@
 //! The top call: all that the program does, between a source of files and a sink of bytes.
 ghost use Rattle.std.specs.Prelude.{◌≡◌, ◌≤◌, map};
 ghost use Rattle.nclc.specs.Command.{AllowsNamed};
-ghost use Rattle.nclc.specs.Answer.{Says, Tells, Ran, AnswersUnlessFaults, AnswersExactly, AcceptsWhatWorks};
+ghost use Rattle.nclc.specs.Answer.{Says, Tells, Ran, AnswersUnlessFaults, AnswersExactly, AcceptsWhatWorks, CompilesWhatWorks};
 ghost use Rattle.nclc.specs.Replies.{Gives};
 
 use crate::command::Command;
@@ -13,11 +13,11 @@ use std::thread::Threads;
 /// Answers the words that follow the program's name, and gives the status to end with.
 ///
 /// Reads the files that the words name from the source, makes the whole text, and writes it to the
-/// sink. The status is 0 where a netlist is accepted and 1 where a stage of it has a fault, 2 where the
-/// words are of no form, 3 where a file is no netlist of a pipeline, 4 where the source failed, 5 where the
-/// sink failed, 6 where a stage is too large to be judged and 7 where memory was refused. A netlist that is
-/// accepted works at every gate delay: clause `headline`. Costs what the command costs, and a pass over the
-/// text.
+/// sink. The status is 0 where a netlist is accepted, or models are compiled, and 1 where a stage has a fault, 2
+/// where the words are of no form, 3 where a file is no netlist of a pipeline, or no models that can be compiled, 4
+/// where the source failed, 5 where the sink failed, 6 where a stage is too large to be judged and 7 where memory
+/// was refused. A netlist that is accepted works at every gate delay: clause `headline`. So does one that is
+/// compiled, and `check` accepts it: clause `compiles`. Costs what the command costs, and a pass over the text.
 pub fn run<R: Threads + Sync, S: Source, K: Sink>(
     rt: &R,
     alloc: Global,
@@ -45,6 +45,10 @@ pub fn run<R: Threads + Sync, S: Source, K: Sink>(
         result }
     ensures headline { AcceptsWhatWorks (map (λ word. word.now) words.now)
         (record { files = S.files source.old; faults = S.faults source.old })
+        result }
+    ensures compiles { CompilesWhatWorks (map (λ word. word.now) words.now)
+        (record { written = K.written sink.old; faults = K.faults sink.old })
+        (record { written = K.written sink.new; faults = K.faults sink.new })
         result }
     ensures files { S.files source.new ≡ S.files source.old }
     ensures allowed { S.allowed source.new ≡ S.allowed source.old }

@@ -1,5 +1,6 @@
 use Rattle.std.proofs.Common.{refl}
 use Rattle.nclc.proofs.Acceptance.{accepts_what_works}
+use Rattle.nclc.proofs.Compiled.{compiles_what_works}
 use Rattle.nclc.proofs.Ends.{ran_by, answers_unless_faults, answers_exactly}
 use Rattle.nclc.proofs.top.run.Goals as goal
 
@@ -26,3 +27,11 @@ returns-in-Fixed-clause-exact g c =
 pub returns-in-Fixed-clause-headline : goal.returns-in-Fixed-clause-headline
 returns-in-Fixed-clause-headline g c =
     accepts_what_works _ _ _ _ _ _ (ran_by _ _ _ _ _ _ _ _ _ c.in-Fixed.ensures.says refl c.tell-in-Fixed.ensures.tells)
+
+pub returns-in-Made-clause-compiles : goal.returns-in-Made-clause-compiles
+returns-in-Made-clause-compiles g c =
+    compiles_what_works _ _ _ _ _ _ (ran_by _ _ _ _ _ _ _ _ _ c.in-Made.ensures.says c.deref.ensures.value c.tell.ensures.tells)
+
+pub returns-in-Fixed-clause-compiles : goal.returns-in-Fixed-clause-compiles
+returns-in-Fixed-clause-compiles g c =
+    compiles_what_works _ _ _ _ _ _ (ran_by _ _ _ _ _ _ _ _ _ c.in-Fixed.ensures.says refl c.tell-in-Fixed.ensures.tells)

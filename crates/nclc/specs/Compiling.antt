@@ -1,0 +1,33 @@
+-- What `compile` replies to the bytes of a file.
+use Rattle.std.specs.Prelude.{◌≢◌, ℕ, ◌<◌, ◌≤◌, List, length, codes}
+use Rattle.ncl_base.specs.declared.source.TheConstants.{MOST_BYTES}
+use Rattle.ncl_blif.specs.declared.fault.BlifFault.{BlifFault}
+use Rattle.ncl_blif.specs.declared.model.Model.{Model}
+use Rattle.ncl_blif.specs.Model.{AreModels}
+use Rattle.ncl_blif.specs.Answer.{IsRead, IsRefused}
+use Rattle.ncl_netlist.specs.Netlist.{NetlistData}
+use Rattle.ncl_writer.specs.Text.{text_of}
+use Rattle.ncl_network.specs.declared.fault.CompileFault.{CompileFault}
+use Rattle.ncl_network.specs.declared.fault.CompileFault.TheVariants.{Memory}
+use Rattle.ncl_report.specs.Line.{line}
+use Rattle.ncl_report.specs.BlifText.{blif_line}
+use Rattle.ncl_report.specs.CompileText.{compile_line}
+use Rattle.ncl_compile.specs.Size.{IsCompileFault, CanBeCompiled}
+use Rattle.ncl_compile.specs.Compiled.{Compiled}
+
+-- what `compile` replies to models: a status and a text. The choice of gates is free, so the text of any netlist
+-- that is compiled from the models is right
+pub data IsModelsReply (models : List Model) : ℕ → List ℕ → Type 0 where
+  -- they are too large
+  too_large : (fault : CompileFault) → fault ≢ Memory → IsCompileFault models fault → IsModelsReply models 3 (compile_line fault)
+  -- a netlist that is compiled from them has this text
+  compiled : CanBeCompiled models → (n : NetlistData) → Compiled models n → IsModelsReply models 0 (text_of n)
+
+-- what `compile` replies to the bytes of a file
+pub data IsCompileReply (bytes : List ℕ) : ℕ → List ℕ → Type 0 where
+  -- a file has at most 16,777,216 bytes
+  too_long : MOST_BYTES < length bytes → IsCompileReply bytes 3 (line (codes "blif: too long"))
+  -- the text is refused at its first line or model that breaks
+  unread : length bytes ≤ MOST_BYTES → (fault : BlifFault) → IsRefused bytes fault → IsCompileReply bytes 3 (blif_line fault)
+  -- the text says models, and this is the reply to them
+  modelled : length bytes ≤ MOST_BYTES → (models : List Model) → IsRead bytes models → AreModels models → (status : ℕ) (text : List ℕ) → IsModelsReply models status text → IsCompileReply bytes status text

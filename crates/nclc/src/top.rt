@@ -101,6 +101,8 @@ fn tell<K: Sink>(sink: &mut K, said: u8, text: &[u8]) -> u8
 #[cfg(test)]
 mod check_tests;
 #[cfg(test)]
+mod compile_tests;
+#[cfg(test)]
 mod fault_tests;
 #[cfg(test)]
 mod netlists;

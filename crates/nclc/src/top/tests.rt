@@ -32,7 +32,7 @@ pub fn ask<R: Threads + Sync>(
     bytes: &[u8],
 ) -> Result<(u8, Vec<u8>), Fail> {
     let mut source = MemSource::new(held(alloc, bytes)?, 4096, Vec::new(alloc));
-    let mut sink = MemSink::new(alloc, 100, 100, Vec::new(alloc))?;
+    let mut sink = MemSink::new(alloc, 10_000, 4096, Vec::new(alloc))?;
     let status = run(rt, alloc, words, &mut source, &mut sink);
     Ok((status, sink.bytes().to_vec(alloc)?))
 }

@@ -58,14 +58,6 @@ Obeys-some v all some within obeys = record { each = λ c m. obeys.each c (Conta
 pub IsSupported-some : (v : Nets) (all some : List StageCell) → ((c : StageCell) → Member c some → Member c all) → IsSupported v all → IsSupported v some
 IsSupported-some v all some within supported = record { each = λ c m. supported.each c (Contains-from_Member c (within c (Member-from_Contains some c m))) }
 
-pub IsCase-some : (base v : Nets) (ins : List Rails) (all some : List StageCell) (word : List Bool) → ((c : StageCell) → Member c some → Member c all) → IsCase base v ins all word → IsCase base v ins some word
-IsCase-some base v ins all some word within case = record {
-  obeys = Obeys-some base all some within case.obeys;
-  shown = case.shown;
-  below = case.below;
-  supported = IsSupported-some v all some within case.supported;
-}
-
 -- the nets of leaves that have the values of their words
 nets_value : (v : Nets) (word : List Bool) (leaves : List Leaf) → ((leaf : Leaf) → Member leaf leaves → v leaf.cell.out.0 ≡ leaf.at word) → some_net v (map leaf_net leaves) ≡ list_any (λ (l : Leaf). l.at word) leaves
 nets_value v word [] same = refl

@@ -16,7 +16,7 @@ use Rattle.ncl_template.specs.Tables.{passing_below}
 use Rattle.ncl_template.specs.Codes.{class_net}
 use Rattle.ncl_template.specs.Rails.{class_at, is_one, one_at, rows_with, AddsLeaves, count_below, row_gates, gates_below}
 use Rattle.ncl_template.proofs.PassingBelow.{passing_is, passing_has, Rises, rises_apart, rises_places, passing_rises, count_below-least, length-passing_below}
-use Rattle.ncl_template.proofs.LeafLaws.{AddsLeaves-none, AddsLeaves-same, AddsLeaves-append}
+use Rattle.ncl_template.proofs.LeafLaws.{AddsLeaves-same, AddsLeaves-append}
 use Rattle.ncl_template.proofs.RowLaws.{length-nets, some_column, one_from_class}
 
 -- how many gates some rows take at most
@@ -130,15 +130,6 @@ module _ (table : Table) (first second : List Class) where
     pub within : at ≤ length (rows_with table first second)
     pub few_pairs : length second ≡ 2 → at < length (rows_with table first second) → 2 * length nets ≤ at
     pub few_all : length second ≡ 2 → 2 * length nets ≤ at + 1
-
-  pub AreRowsDone-none : (before : List StageCell) → AreRowsDone before before [] 0
-  AreRowsDone-none before = record {
-    adds = AddsLeaves-none (map class_net first) (map class_net second) before [];
-    few = omega arith;
-    within = omega arith;
-    few_pairs = λ two less. omega arith;
-    few_all = λ two. omega arith;
-  }
 
   module _ (before now : List StageCell) (nets : List NetId) (at : ℕ) (done : AreRowsDone before now nets at) where
     -- there is room for the gates of the next row

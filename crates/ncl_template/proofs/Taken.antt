@@ -93,11 +93,6 @@ taken-fourth Straight a b c d = refl
 taken-fourth Crossed a b c d = refl
 taken-fourth Turned a b c d = refl
 
-pub placed-fourth : {X : Type 0} (order : Order) (a b c d : X) → placed order (a ∷ b ∷ c ∷ []) ++ d ∷ [] ≡ placed order (a ∷ b ∷ c ∷ d ∷ [])
-placed-fourth Straight a b c d = refl
-placed-fourth Crossed a b c d = refl
-placed-fourth Turned a b c d = refl
-
 module _ (order : Order) (f g : List Bool → Bool) (ins : List Rails) (same : (word : List Bool) → length word ≡ length ins → f (taken order word) ≡ g word) (gates : List StageCell) (out : Rails) where
   -- a template over inputs that are taken in an order
   template_taken : IsTemplate f (taken order ins) gates out → IsTemplate g ins gates out

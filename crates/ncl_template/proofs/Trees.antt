@@ -78,12 +78,12 @@ root_value v _ _ _ (more c rest gates root any tree) obeys =
     ∙ ap (λ b. b || some_net v rest) (first_obeys v c gates obeys ∙ any_holds v c any)
     ∙ sym (some_net-append v c.ins.items rest)
 
-pub record AreLow (v : Nets) (gates : List StageCell) (root : NetId) : Type 0 where
+pub record IsTreeLow (v : Nets) (gates : List StageCell) (root : NetId) : Type 0 where
   pub each : (c : StageCell) → Member c gates → v (out_of c) ≡ false
   pub at_root : v root.0 ≡ false
 
 -- where no net of the queue is high, and the gates support the values, all is low
-pub tree_low : (v : Nets) (pending : List NetId) (gates : List StageCell) (root : NetId) → GateTree Any pending gates root → IsSupported v gates → some_net v pending ≡ false → AreLow v gates root
+pub tree_low : (v : Nets) (pending : List NetId) (gates : List StageCell) (root : NetId) → GateTree Any pending gates root → IsSupported v gates → some_net v pending ≡ false → IsTreeLow v gates root
 tree_low v _ _ _ (one net) supported none = record { each = λ c m. elim m [ ]; at_root = (or_parts (v net.0) false none).0 }
 tree_low v _ _ _ (more c rest gates root any tree) supported none =
     let parts = or_parts (some_net v c.ins.items) (some_net v rest) (sym (some_net-append v c.ins.items rest) ∙ none) in

@@ -40,7 +40,7 @@ fn is_first(table: Table, word: usize) -> bool
     ensures { result ≡ is_first_word table word }
 {
     for earlier in 0..word {
-        if table.row(earlier).is_same(table.row(word)) {
+        if table.row(earlier) == table.row(word) {
             return false;
         }
     }
@@ -65,10 +65,10 @@ fn words_with(table: Table, row: TableRow) -> TableRow
     ensures { result ≡ words_with table row }
 {
     TableRow {
-        at_00: table.at_00.is_same(row),
-        at_01: table.at_01.is_same(row),
-        at_10: table.at_10.is_same(row),
-        at_11: table.at_11.is_same(row),
+        at_00: table.at_00 == row,
+        at_01: table.at_01 == row,
+        at_10: table.at_10 == row,
+        at_11: table.at_11 == row,
     }
 }
 

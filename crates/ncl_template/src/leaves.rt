@@ -44,7 +44,8 @@ fn columns(
     first: Class,
     second: &[Class],
 ) -> Result<Vec<NetId>, Memory>
-    ensures { IfOk result (λ nets. nets.items ≡ nets_at second.now (passing_below (λ j. is_one table first (class_at second.now j)) (length second.now))) }
+    ensures { IfOk result (λ nets. nets.items ≡ nets_at second.now
+        (passing_below (λ j. is_one table first (class_at second.now j)) (length second.now))) }
 {
     let mut nets = Vec::new(alloc);
     for class in second {
@@ -86,9 +87,14 @@ fn add_row(
     requires place { place < length first.now }
     requires some { list_any (is_one table (class_at first.now place)) second.now ≡ true }
     requires few { length second.now ≤ 4 }
-    requires room { nets_so_far gates.old + row_gates (one_at table first.now second.now place) (length second.now) < 2 ^ 32 }
-    ensures leaves { OnOk result (AddsLeaves (λ i j. nat_eq i place && one_at table first.now second.now i j) (map class_net first.now) (map class_net second.now) gates.old.cells gates.new.cells leaves.old.items leaves.new.items) }
-    ensures few { OnOk result (length leaves.new.items ≤ length leaves.old.items + row_gates (one_at table first.now second.now place) (length second.now)) }
+    requires room { nets_so_far gates.old
+        + row_gates (one_at table first.now second.now place) (length second.now) < 2 ^ 32 }
+    ensures leaves { OnOk result (AddsLeaves
+        (λ i j. nat_eq i place && one_at table first.now second.now i j)
+        (map class_net first.now) (map class_net second.now)
+        gates.old.cells gates.new.cells leaves.old.items leaves.new.items) }
+    ensures few { OnOk result (length leaves.new.items ≤ length leaves.old.items
+        + row_gates (one_at table first.now second.now place) (length second.now)) }
     ensures first { gates.new.first ≡ gates.old.first }
 {
     let row = class(first, place);
@@ -135,7 +141,10 @@ fn add_square(
     requires within { rows.1 < length first.now }
     requires two { length second.now ≡ 2 }
     requires room { nets_so_far gates.old + 1 < 2 ^ 32 }
-    ensures leaves { OnOk result (AddsLeaves (λ i j. (nat_eq i rows.0 || nat_eq i rows.1) && one_at table first.now second.now i j) (map class_net first.now) (map class_net second.now) gates.old.cells gates.new.cells leaves.old.items leaves.new.items) }
+    ensures leaves { OnOk result (AddsLeaves
+        (λ i j. (nat_eq i rows.0 || nat_eq i rows.1) && one_at table first.now second.now i j)
+        (map class_net first.now) (map class_net second.now)
+        gates.old.cells gates.new.cells leaves.old.items leaves.new.items) }
     ensures one { OnOk result (length leaves.new.items ≡ length leaves.old.items + 1) }
     ensures first { gates.new.first ≡ gates.old.first }
 {
@@ -167,9 +176,13 @@ pub(crate) fn add_leaves(
     second: &[Class],
 ) -> Result<Vec<NetId>, Memory>
     requires few { length second.now ≤ 4 }
-    requires room { nets_so_far gates.old + gates_below (one_at table first.now second.now) (length first.now) (length second.now) < 2 ^ 32 }
-    ensures leaves { IfOk result (λ leaves. AddsLeaves (one_at table first.now second.now) (map class_net first.now) (map class_net second.now) gates.old.cells gates.new.cells [] leaves.items) }
-    ensures few { IfOk result (λ leaves. length leaves.items ≤ gates_below (one_at table first.now second.now) (length first.now) (length second.now)) }
+    requires room { nets_so_far gates.old
+        + gates_below (one_at table first.now second.now) (length first.now) (length second.now) < 2 ^ 32 }
+    ensures leaves { IfOk result (λ leaves. AddsLeaves (one_at table first.now second.now)
+        (map class_net first.now) (map class_net second.now)
+        gates.old.cells gates.new.cells [] leaves.items) }
+    ensures few { IfOk result (λ leaves. length leaves.items
+        ≤ gates_below (one_at table first.now second.now) (length first.now) (length second.now)) }
     ensures few_pairs { IfOk result (λ leaves. length second.now ≡ 2 → 2 * length leaves.items ≤ length first.now + 1) }
     ensures first { gates.new.first ≡ gates.old.first }
 {

@@ -24,8 +24,11 @@ fn add_rail(
     input: Rails,
 ) -> Result<NetId, Memory>
     requires few { length second.now ≤ 4 }
-    requires room { nets_so_far gates.old + 2 * gates_below (one_at table first.now second.now) (length first.now) (length second.now) + 1 < 2 ^ 32 }
-    ensures rail { IfOk result (AddsRail (one_at table first.now second.now) (map class_net first.now) (map class_net second.now) input gates.old.cells gates.new.cells) }
+    requires room { nets_so_far gates.old
+        + 2 * gates_below (one_at table first.now second.now) (length first.now) (length second.now) + 1 < 2 ^ 32 }
+    ensures rail { IfOk result (AddsRail (one_at table first.now second.now)
+        (map class_net first.now) (map class_net second.now)
+        input gates.old.cells gates.new.cells) }
     ensures first { gates.new.first ≡ gates.old.first }
 {
     let leaves = add_leaves(alloc, gates, table, first, second)?;

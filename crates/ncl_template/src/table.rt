@@ -4,7 +4,7 @@ ghost use Rattle.std.specs.List.{list_all, list_any, zip};
 ghost use Rattle.ncl_blif.specs.Meaning.{lit_matches};
 ghost use Rattle.ncl_template.specs.Template.{node_function};
 ghost use Rattle.ncl_template.specs.Orders.{placed};
-ghost use Rattle.ncl_template.specs.Tables.{bit_at, row_at, column_at, inverse_row, inverse_table, transposed, same_row, row_of, short_row, table_of};
+ghost use Rattle.ncl_template.specs.Tables.{bit_at, row_at, column_at, inverse_row, inverse_table, transposed, row_of, short_row, table_of};
 
 use crate::order::Order;
 use ncl_blif::{Lit, Row};
@@ -51,16 +51,6 @@ impl TableRow {
             at_10: !self.at_10,
             at_11: !self.at_11,
         }
-    }
-
-    /// Whether all values are those of another row.
-    pub(crate) fn is_same(self, other: TableRow) -> bool
-        ensures { result ≡ same_row self other }
-    {
-        self.at_00 == other.at_00
-            && self.at_01 == other.at_01
-            && self.at_10 == other.at_10
-            && self.at_11 == other.at_11
     }
 }
 

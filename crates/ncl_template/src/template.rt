@@ -20,7 +20,8 @@ use std::alloc::Global;
 /// Adds the gates of a function of two inputs: one for each rail.
 fn add_two(gates: &mut Gates, values: TableRow, a: Rails, b: Rails) -> Result<Rails, Memory>
     requires room { nets_so_far gates.old + 2 < 2 ^ 32 }
-    ensures template { IfOk result (AddsTemplate (λ word. bit_at values (number_of word)) (a ∷ b ∷ []) 2 gates.old.cells gates.new.cells) }
+    ensures template { IfOk result (AddsTemplate (λ word. bit_at values (number_of word)) (a ∷ b ∷ []) 2
+        gates.old.cells gates.new.cells) }
     ensures first { gates.new.first ≡ gates.old.first }
 {
     let zero = add_two_gate(gates, values.inverse(), a, b)?;
@@ -38,7 +39,8 @@ fn add_three(
     c: Rails,
 ) -> Result<Rails, Memory>
     requires room { nets_so_far gates.old + 24 < 2 ^ 32 }
-    ensures template { IfOk result (AddsTemplate (value_of table) (a ∷ b ∷ c ∷ []) 12 gates.old.cells gates.new.cells) }
+    ensures template { IfOk result (AddsTemplate (value_of table) (a ∷ b ∷ c ∷ []) 12
+        gates.old.cells gates.new.cells) }
     ensures first { gates.new.first ≡ gates.old.first }
 {
     let first = add_code(alloc, gates, table, a, b)?;
@@ -59,7 +61,8 @@ fn add_four(
     d: Rails,
 ) -> Result<Rails, Memory>
     requires room { nets_so_far gates.old + 28 < 2 ^ 32 }
-    ensures template { IfOk result (AddsTemplate (value_of table) (a ∷ b ∷ c ∷ d ∷ []) 22 gates.old.cells gates.new.cells) }
+    ensures template { IfOk result (AddsTemplate (value_of table) (a ∷ b ∷ c ∷ d ∷ []) 22
+        gates.old.cells gates.new.cells) }
     ensures first { gates.new.first ≡ gates.old.first }
 {
     let first = add_code(alloc, gates, table, a, b)?;
@@ -77,11 +80,12 @@ fn pair(ins: &[Rails], place: usize) -> Rails
 }
 
 /// Adds the gates of a node of two inputs.
-fn add_of_two(gates: &mut Gates, node: &Node, ins: &[Rails]) -> Result<Rails, Memory>
+fn add_node_of_two(gates: &mut Gates, node: &Node, ins: &[Rails]) -> Result<Rails, Memory>
     requires some { 0 < length node.now.rows }
     requires two { length ins.now ≡ 2 }
     requires room { nets_so_far gates.old + 2 < 2 ^ 32 }
-    ensures template { IfOk result (AddsTemplate (node_function node.now) ins.now 2 gates.old.cells gates.new.cells) }
+    ensures template { IfOk result (AddsTemplate (node_function node.now) ins.now 2
+        gates.old.cells gates.new.cells) }
     ensures first { gates.new.first ≡ gates.old.first }
 {
     let a = pair(ins, 0);
@@ -92,7 +96,7 @@ fn add_of_two(gates: &mut Gates, node: &Node, ins: &[Rails]) -> Result<Rails, Me
 }
 
 /// Adds the gates of a node of three inputs, which are taken in this order.
-fn add_of_three(
+fn add_node_of_three(
     alloc: Global,
     gates: &mut Gates,
     node: &Node,
@@ -102,7 +106,8 @@ fn add_of_three(
     requires some { 0 < length node.now.rows }
     requires three { length ins.now ≡ 3 }
     requires room { nets_so_far gates.old + 24 < 2 ^ 32 }
-    ensures template { IfOk result (AddsTemplate (node_function node.now) ins.now 12 gates.old.cells gates.new.cells) }
+    ensures template { IfOk result (AddsTemplate (node_function node.now) ins.now 12
+        gates.old.cells gates.new.cells) }
     ensures first { gates.new.first ≡ gates.old.first }
 {
     let a = pair(ins, 0);
@@ -115,7 +120,7 @@ fn add_of_three(
 }
 
 /// Adds the gates of a node of four inputs, which are taken in this order.
-fn add_of_four(
+fn add_node_of_four(
     alloc: Global,
     gates: &mut Gates,
     node: &Node,
@@ -125,7 +130,8 @@ fn add_of_four(
     requires some { 0 < length node.now.rows }
     requires four { length ins.now ≡ 4 }
     requires room { nets_so_far gates.old + 28 < 2 ^ 32 }
-    ensures template { IfOk result (AddsTemplate (node_function node.now) ins.now 22 gates.old.cells gates.new.cells) }
+    ensures template { IfOk result (AddsTemplate (node_function node.now) ins.now 22
+        gates.old.cells gates.new.cells) }
     ensures first { gates.new.first ≡ gates.old.first }
 {
     let a = pair(ins, 0);
@@ -153,12 +159,12 @@ fn add_in_order(
     ensures first { gates.new.first ≡ gates.old.first }
 {
     if ins.len() == 2 {
-        return add_of_two(gates, node, ins);
+        return add_node_of_two(gates, node, ins);
     }
     if ins.len() == 3 {
-        return add_of_three(alloc, gates, node, ins, order);
+        return add_node_of_three(alloc, gates, node, ins, order);
     }
-    add_of_four(alloc, gates, node, ins, order)
+    add_node_of_four(alloc, gates, node, ins, order)
 }
 
 /// How many gates a node takes whose inputs are taken in this order.

@@ -1,6 +1,6 @@
 use Rattle.ncl_template.specs.Template.{node_function}
 use Rattle.ncl_template.proofs.Whole.{AddsTemplate-of_two}
-use Rattle.ncl_template.proofs.template.add_of_two.Goals as goal
+use Rattle.ncl_template.proofs.template.add_node_of_two.Goals as goal
 
 pub returns-clause-template : goal.returns-clause-template
 returns-clause-template c =

@@ -1,15 +1,50 @@
-//! Checks each netlist that it is given the name of, by the library alone, and prints the answers.
+//! Checks each netlist that it is given the name of, compiles each text of BLIF and checks what comes of it, by the
+//! libraries alone, and prints the answers.
 #![tactic(auto)]
 
+ghost use Rattle.std.specs.Prelude.{◌≤◌, length};
+ghost use Rattle.ncl_base.specs.declared.source.TheConstants.{MOST_BYTES};
+
 use anyhow::Context;
+use ncl_base::MOST_BYTES;
+use ncl_blif::read_blif;
 use ncl_check::check;
+use ncl_compile::compile;
+use ncl_report::blif_text;
+use ncl_writer::{is_writable, write_netlist};
+use std::alloc::Global;
 use std::{env, fs};
+
+/// The text of the netlist that a text of BLIF compiles to, or the line that tells why it is refused.
+fn compiled(alloc: Global, bytes: &[u8]) -> anyhow::Result<Result<Vec<u8>, Vec<u8>>>
+    requires { length bytes.now ≤ MOST_BYTES }
+{
+    let models = match read_blif(alloc, bytes) {
+        Ok(models) => models,
+        Err(fault) => return Ok(Err(blif_text(alloc, &fault)?)),
+    };
+    let netlist = compile(alloc, &models)?;
+    anyhow::ensure!(is_writable(&netlist), "a name that can't be written");
+    Ok(Ok(write_netlist(alloc, &netlist)?))
+}
+
+/// The line that is answered to the bytes of a file of this name.
+fn answer(alloc: Global, name: &str, bytes: Vec<u8>) -> anyhow::Result<Vec<u8>> {
+    if !name.ends_with(".blif") {
+        return Ok(check(alloc, &bytes, 100_000)?.text);
+    }
+    anyhow::ensure!(bytes.len() <= MOST_BYTES, "a file that is too long");
+    match compiled(alloc, &bytes)? {
+        Ok(netlist) => Ok(check(alloc, &netlist, 100_000)?.text),
+        Err(line) => Ok(line),
+    }
+}
 
 fn main(rt: HostRuntime) -> anyhow::Result<()> {
     for name in env::args(&rt)?.skip(1) {
         let bytes = fs::read(&rt, &name)?;
-        let reply = check(rt.alloc(), &bytes, 100_000)?;
-        let line = str::from_utf8(&reply.text).context("a name of another alphabet")?;
+        let answer = answer(rt.alloc(), &name, bytes)?;
+        let line = str::from_utf8(&answer).context("a name of another alphabet")?;
         print!(rt; "{name}: {line}")?;
     }
     Ok(())

@@ -1,11 +1,9 @@
 -- The names at the pins of the cells of one bank, and of one stage: what is driven, and what is read.
-use Rattle.std.proofs.Common.{◌≡◌, ◌≢◌, ℕ, zero, suc, ◌+◌, ◌-◌, ◌*◌, ◌<◌, ◌≤◌, Bool, true, false, true≢false, List, [], ◌∷◌, ◌++◌, length, map, take, get_or, Some, inl, inr, ◌⊎◌, refl, sym, ap, ◌∙◌, subst, arith}
-use Rattle.std.specs.Prelude.{All, Contains, slice_get, slice_index_or}
-use Rattle.std.specs.List.{flat_map}
+use Rattle.std.proofs.Common.{◌≡◌, ℕ, zero, suc, ◌+◌, ◌-◌, ◌*◌, true≢false, List, [], ◌∷◌, ◌++◌, length, map, take, get_or, inl, inr, ◌⊎◌, sym, ap, ◌∙◌, subst, arith}
+use Rattle.std.specs.Prelude.{Contains, slice_index_or}
 use Rattle.std.proofs.lemmas.Bool.{cases_Bool}
-use Rattle.std.proofs.lemmas.List.{map-append}
 use Rattle.std.proofs.lemmas.Option.{slice_get_within}
-use Rattle.ncl_base.proofs.Members.{Member, here, there, member_cases, Member-append_left, Member-append_right, Member-append_cases, Member-map, member_of_map, Member-from_Contains, Contains-from_Member, All-from_members, slice_get-some}
+use Rattle.ncl_base.proofs.Members.{Member, here, there, member_cases, Member-append_left, Member-append_right, Member-append_cases, Member-map, member_of_map, Member-from_Contains, Contains-from_Member, slice_get-some}
 use Rattle.ncl_gates.proofs.PinLaws.{pins_of-some}
 use Rattle.ncl_gates.specs.Cell.{pins_of}
 use Rattle.ncl_gates.specs.declared.cell_kind.CellKind.TheVariants.{Register}
@@ -133,8 +131,8 @@ module _ (ins outs : List NamePair) (request rst root prefix : List ℕ) (bank :
 
   module _ (width : ℕ) (long_ins : length ins ≡ width) (long_outs : length outs ≡ width) where
     -- and its rails
-    pub bank_drives : (x : List ℕ) → Member x (pair_names outs) → Member x driven
-    bank_drives x m =
+    pub bank_drives_rails : (x : List ℕ) → Member x (pair_names outs) → Member x driven
+    bank_drives_rails x m =
         let (j, y, at_y, in_pair) = member_of_flat_map pair_list outs x m in
         let within = slice_get_within outs j y at_y in
         let (z, at_z) = slice_get-some ins j (omega (arith, within, long_ins, long_outs)) in
@@ -171,7 +169,7 @@ module _ (ins outs : List NamePair) (request rst root prefix : List ℕ) (bank :
                           | inl third ↦ inr (inr (inl (sym third)))
                           | inr last ↦
                               elim (member_cases x pins.to [] last) [
-                                | inl fourth ↦ inr (inr (inr (bank_drives x (subst (λ z. Member z (pair_names outs)) fourth pins.drives))))
+                                | inl fourth ↦ inr (inr (inr (bank_drives_rails x (subst (λ z. Member z (pair_names outs)) fourth pins.drives))))
                                 | inr none ↦ elim none [ ]
                               ]
                         ]
@@ -182,7 +180,7 @@ module _ (ins outs : List NamePair) (request rst root prefix : List ℕ) (bank :
         of_ack m reads =
             let listed = subst (Member (input_names c)) are.ack_inputs (Member-map input_names c m) in
             let (pair, in_outs, same) = member_of_map pair_list outs (input_names c) listed in
-            bank_drives x (Member-flat_map pair_list pair x in_outs (subst (Member x) (sym same) reads))
+            bank_drives_rails x (Member-flat_map pair_list pair x in_outs (subst (Member x) (sym same) reads))
 
         of_tree : Member c are.tree → Member x (input_names c) → Member x driven
         of_tree m reads =

@@ -67,14 +67,14 @@ length-pairs_driven last bank width =
     (λ is. length-map-range_with_len (port_pair (codes "o")) 1 width) (λ is. length-map-range_with_len (inner_pair bank) 0 width)
 
 pub ports_apart : (letter width : ℕ) → width ≤ 128 → AreApart (pair_names (map (port_pair (letter ∷ [])) (range_with_len 1 width)))
-ports_apart letter width few = numbered_apart (port_pair (letter ∷ [])) 1 width 1000 (omega arith) (λ i j r q lt_i lt_j same. same_port letter i j r q lt_i lt_j same)
+ports_apart letter width few = numbered_apart (port_pair (letter ∷ [])) 1 width 999 (omega arith) (λ i j r q lt_i lt_j same. same_port letter i j r q lt_i lt_j same)
 
-pub inner_apart : (bank width : ℕ) → bank < 1000 → width ≤ 128 → AreApart (pair_names (inner_pairs bank width))
+pub inner_apart : (bank width : ℕ) → bank < 999 → width ≤ 128 → AreApart (pair_names (inner_pairs bank width))
 inner_apart bank width below few =
-    numbered_apart (inner_pair bank) 0 width 1000 (omega arith)
+    numbered_apart (inner_pair bank) 0 width 999 (omega arith)
     (λ i j r q lt_i lt_j same. let (banks, bits, rails) = same_inner bank bank i j r q below below lt_i lt_j same in (bits, rails))
 
-pub driven_apart : (last bank width : ℕ) → bank < 1000 → width ≤ 128 → AreApart (pair_names (pairs_driven last bank width))
+pub driven_apart : (last bank width : ℕ) → bank < 999 → width ≤ 128 → AreApart (pair_names (pairs_driven last bank width))
 driven_apart last bank width below few =
     cond_both (bank == last) (output_pairs width) (inner_pairs bank width) (λ pairs. AreApart (pair_names pairs))
     (λ is. ports_apart 111 width few) (λ is. inner_apart bank width below few)
@@ -89,7 +89,7 @@ second_of [] = 0
 second_of (byte ∷ rest) = first_of rest
 
 -- a root is no request of its bank
-root_no_request : (last bank : ℕ) → last < 1000 → bank ≤ last → request_name last bank ≢ root_name bank
+root_no_request : (last bank : ℕ) → last < 999 → bank ≤ last → request_name last bank ≢ root_name bank
 root_no_request last bank few within =
     cond_both (bank == last) (codes "ki") (root_name (suc bank)) (λ name. name ≢ root_name bank) (λ is. ki_no_root bank) (λ is. next_no_root bank (omega (arith, few, within, eqb-false bank last is)))
   where
@@ -97,13 +97,13 @@ root_no_request last bank few within =
     ki_no_root zero same = let seconds : ◌≡◌ {A = ℕ} 105 111 = ap second_of same in absurd (omega (arith, seconds))
     ki_no_root (suc bank) same = other_first (codes "ki") (root_name (suc bank)) 107 97 refl refl (λ e. absurd (omega (arith, e))) same
 
-    next_no_root : (bank : ℕ) → suc bank < 1000 → root_name (suc bank) ≢ root_name bank
+    next_no_root : (bank : ℕ) → suc bank < 999 → root_name (suc bank) ≢ root_name bank
     next_no_root zero below same = other_first (root_name 1) (root_name zero) 97 107 refl refl (λ e. absurd (omega (arith, e))) same
     next_no_root (suc bank) below same =
         let numbers = same_numbered 97 (suc (suc bank)) (suc bank) [] [] below (omega (arith, below)) (ap (λ l. l ++ []) same) in
         absurd (omega (arith, numbers))
 
-module _ (last bank width : ℕ) (few : width ≤ MOST_BITS) (below : last < 1000) (within : bank ≤ last) where
+module _ (last bank width : ℕ) (few : width ≤ MOST_BITS) (below : last < 999) (within : bank ≤ last) where
   -- the names that a bank is given
   abbrev driven : List (List ℕ)
   driven = pair_names (pairs_driven last bank width)
@@ -200,7 +200,7 @@ module _ (last bank width : ℕ) (few : width ≤ MOST_BITS) (below : last < 100
   }
 
 -- what is asked for a stage
-pub stage_can : (number width : ℕ) (network : Network) → number < 1000 → width ≤ MOST_BITS → 1 ≤ width → network.inputs ≡ width → 1 ≤ length network.outputs → length network.outputs ≤ MOST_BITS → IsSplit network
+pub stage_can : (number width : ℕ) (network : Network) → number < 999 → width ≤ MOST_BITS → 1 ≤ width → network.inputs ≡ width → 1 ≤ length network.outputs → length network.outputs ≤ MOST_BITS → IsSplit network
     → CanBeStage network (inner_pairs number width) (stage_prefix number)
 stage_can number width network below few some wide some_outputs few_outputs is_split = record {
   split = is_split;

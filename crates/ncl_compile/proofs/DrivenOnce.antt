@@ -1,5 +1,5 @@
 -- Where the outputs of cells differ, none is an input port, and each name is one or the other, each net has one driver.
-use Rattle.std.proofs.Common.{◌≡◌, ◌≢◌, ℕ, zero, suc, ◌+◌, ◌<◌, ◌≤◌, Bool, true, false, true≢false, cond, if◌then◌else◌, List, [], ◌∷◌, ◌++◌, length, map, take, get_or, Some, inl, inr, ◌⊎◌, refl, sym, ap, ◌∙◌, subst, count_by, nat_eq, arith}
+use Rattle.std.proofs.Common.{◌≡◌, ◌≢◌, ℕ, zero, suc, ◌+◌, ◌<◌, Bool, true, false, true≢false, cond, if◌then◌else◌, List, [], ◌∷◌, ◌++◌, length, map, take, get_or, Some, inl, inr, ◌⊎◌, refl, sym, ap, ◌∙◌, subst, count_by, nat_eq, arith}
 use Rattle.std.specs.Prelude.{slice_get, slice_index}
 use Rattle.std.specs.List.{flat_map}
 use Rattle.std.proofs.lemmas.Bool.{eq-eqb, eqb-true, cases_Bool, cases_lt, cond-true, cond-false}
@@ -13,7 +13,7 @@ use Rattle.ncl_netlist.specs.declared.cell.Cell.{Cell}
 use Rattle.ncl_netlist.specs.declared.parts.PartCell.{PartCell}
 use Rattle.ncl_netlist.specs.declared.parts.Parts.{Parts}
 use Rattle.ncl_netlist.specs.Faults.{drivers_at}
-use Rattle.ncl_netlist.specs.Names.{AllDiffer, same_name, number_of, once_each}
+use Rattle.ncl_netlist.specs.Names.{AllDiffer, same_name, number_of}
 use Rattle.ncl_netlist.specs.Netlist.{drives}
 use Rattle.ncl_netlist.specs.Parts.{port_names, output_name, nets_of, cell_of}
 use Rattle.ncl_netlist.proofs.NameLists.{equal_names, same_itself, number_of-get_or, get_or-number_of, AllDiffer-once_each, list_any-once_each, take-once_each}

@@ -1,29 +1,17 @@
 -- The names of ports, rails and roots: which differ, and what they begin with.
 use Rattle.std.proofs.Common.{◌≡◌, ◌≢◌, ℕ, zero, suc, ◌+◌, ◌/◌, ◌%◌, ◌^◌, ◌<◌, ◌≤◌, Bool, true, false, List, [], ◌∷◌, ◌++◌, map, inl, inr, refl, sym, ap, ◌∙◌, arith}
-use Rattle.std.specs.Prelude.{AllPairs, decimal}
+use Rattle.std.specs.Prelude.{decimal}
 use Rattle.std.specs.List.{range_with_len}
-use Rattle.std.specs.Cmp.Lexicographic.{bytes_decides}
 use Rattle.std.proofs.lemmas.Fmt.{decimal_is_IsNumeral}
 use Rattle.std.proofs.lemmas.List.{append_assoc, same_from_push}
 use Rattle.std.proofs.lemmas.List.Kept.{AllPairs-cons}
-use Rattle.std.proofs.lemmas.Map.Made.{AllPairs-from_IsDistinct, IsDistinct-from_AllPairs}
 use Rattle.std.specs.Str.Parse.{digits_value}
 use Rattle.ncl_base.proofs.Members.{Member, member_cases, All-from_members}
+pub use Rattle.ncl_bank.proofs.Apart.{AreApart, apart_from_differ, differ_from_apart}
 use Rattle.ncl_netlist.specs.declared.parts.NamePair.{NamePair}
-use Rattle.ncl_netlist.specs.Names.{AllDiffer}
 use Rattle.ncl_tree.specs.NamePairs.{pair_names}
 use Rattle.ncl_compile.specs.Ports.{port_pair}
 use Rattle.ncl_compile.specs.InnerNames.{three_digits, numbered, inner_pair}
-
--- names that differ, two by two
-abbrev pub AreApart : List (List ℕ) → Type 0
-AreApart names = AllPairs (λ x y. x ≢ y) names
-
-pub apart_from_differ : (names : List (List ℕ)) → AllDiffer names → AreApart names
-apart_from_differ = AllPairs-from_IsDistinct bytes_decides
-
-pub differ_from_apart : (names : List (List ℕ)) → AreApart names → AllDiffer names
-differ_from_apart = IsDistinct-from_AllPairs bytes_decides
 
 -- one name more that is none of them
 pub apart_more : (x : List ℕ) (names : List (List ℕ)) → ((y : List ℕ) → Member y names → x ≢ y) → AreApart names → AreApart (x ∷ names)
@@ -41,19 +29,12 @@ other_letter x y a b begins_x begins_y other same =
     let letters : a ≡ b = cc in
     other letters
 
--- three digits tell a number below a thousand
-pub same_three_digits : (a b : ℕ) → a < 1000 → b < 1000 → three_digits a ≡ three_digits b → a ≡ b
-same_three_digits a b a_below b_below same =
-    let hundreds : 48 + a / 100 % 10 ≡ 48 + b / 100 % 10 = cc in
-    let tens : 48 + a / 10 % 10 ≡ 48 + b / 10 % 10 = cc in
-    let ones : 48 + a % 10 ≡ 48 + b % 10 = cc in
-    omega arith
-
-pub same_numbered : (letter a b : ℕ) (rest other : List ℕ) → a < 1000 → b < 1000 → numbered letter a ++ rest ≡ numbered letter b ++ other → a ≡ b
+-- a letter and three digits tell the place
+pub same_numbered : (letter a b : ℕ) (rest other : List ℕ) → a < 999 → b < 999 → numbered letter a ++ rest ≡ numbered letter b ++ other → a ≡ b
 same_numbered letter a b rest other a_below b_below same =
-    let hundreds : 48 + a / 100 % 10 ≡ 48 + b / 100 % 10 = cc in
-    let tens : 48 + a / 10 % 10 ≡ 48 + b / 10 % 10 = cc in
-    let ones : 48 + a % 10 ≡ 48 + b % 10 = cc in
+    let hundreds : 48 + (a + 1) / 100 % 10 ≡ 48 + (b + 1) / 100 % 10 = cc in
+    let tens : 48 + (a + 1) / 10 % 10 ≡ 48 + (b + 1) / 10 % 10 = cc in
+    let ones : 48 + (a + 1) % 10 ≡ 48 + (b + 1) % 10 = cc in
     omega arith
 
 -- the decimal digits of a number tell it
@@ -84,7 +65,7 @@ port_name letter number false = ap (λ l. letter ∷ l) (sym (append_assoc (deci
 pub port_begins : (letter number : ℕ) (r : Bool) → BeginsWith letter (name_at (port_pair (letter ∷ []) number) r)
 port_begins letter number r = record { rest = (decimal number ++ 95 ∷ []) ++ rail_digit r ∷ []; is = port_name letter number r }
 
-pub same_port : (letter a b : ℕ) (r q : Bool) → a < 1000 → b < 1000 → name_at (port_pair (letter ∷ []) a) r ≡ name_at (port_pair (letter ∷ []) b) q → (a ≡ b) × (r ≡ q)
+pub same_port : (letter a b : ℕ) (r q : Bool) → a < 999 → b < 999 → name_at (port_pair (letter ∷ []) a) r ≡ name_at (port_pair (letter ∷ []) b) q → (a ≡ b) × (r ≡ q)
 same_port letter a b r q a_below b_below same =
     let both : letter ∷ ((decimal a ++ 95 ∷ []) ++ rail_digit r ∷ []) ≡ letter ∷ ((decimal b ++ 95 ∷ []) ++ rail_digit q ∷ []) = sym (port_name letter a r) ∙ same ∙ port_name letter b q in
     let tails : (decimal a ++ 95 ∷ []) ++ rail_digit r ∷ [] ≡ (decimal b ++ 95 ∷ []) ++ rail_digit q ∷ [] = cc in
@@ -98,9 +79,9 @@ inner_name bank bit true = refl
 inner_name bank bit false = refl
 
 pub inner_begins : (bank bit : ℕ) (r : Bool) → BeginsWith 119 (name_at (inner_pair bank bit) r)
-inner_begins bank bit r = record { rest = three_digits bank ++ (numbered 98 bit ++ (95 ∷ rail_digit r ∷ [])); is = inner_name bank bit r }
+inner_begins bank bit r = record { rest = three_digits (bank + 1) ++ (numbered 98 bit ++ (95 ∷ rail_digit r ∷ [])); is = inner_name bank bit r }
 
-pub same_inner : (j k a b : ℕ) (r q : Bool) → j < 1000 → k < 1000 → a < 1000 → b < 1000 → name_at (inner_pair j a) r ≡ name_at (inner_pair k b) q → (j ≡ k) × (a ≡ b) × (r ≡ q)
+pub same_inner : (j k a b : ℕ) (r q : Bool) → j < 999 → k < 999 → a < 999 → b < 999 → name_at (inner_pair j a) r ≡ name_at (inner_pair k b) q → (j ≡ k) × (a ≡ b) × (r ≡ q)
 same_inner j k a b r q j_below k_below a_below b_below same =
     let both : numbered 119 j ++ (numbered 98 a ++ (95 ∷ rail_digit r ∷ [])) ≡ numbered 119 k ++ (numbered 98 b ++ (95 ∷ rail_digit q ∷ [])) = sym (inner_name j a r) ∙ same ∙ inner_name k b q in
     let later : numbered 98 a ++ (95 ∷ rail_digit r ∷ []) ≡ numbered 98 b ++ (95 ∷ rail_digit q ∷ []) = cc in

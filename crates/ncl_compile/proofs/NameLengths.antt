@@ -43,7 +43,7 @@ inner_short : (bank bit : ℕ) (r : Bool) → IsShort 11 (name_at (inner_pair ba
 inner_short bank bit true = omega arith
 inner_short bank bit false = omega arith
 
-port_short : (letter number : ℕ) (r : Bool) → number < 1000 → IsShort 6 (name_at (port_pair (letter ∷ []) number) r)
+port_short : (letter number : ℕ) (r : Bool) → number < 999 → IsShort 6 (name_at (port_pair (letter ∷ []) number) r)
 port_short letter number true below =
     let digits = length-decimal-le 3 number (omega arith) (omega (arith, below)) (omega (arith, below)) in
     omega (arith, digits, length-append (decimal number) (codes "_1"))

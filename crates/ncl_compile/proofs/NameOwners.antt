@@ -1,21 +1,20 @@
 -- The bank or stage that a name belongs to: names of different ones differ, as do those of banks, of stages and of inputs.
-use Rattle.std.proofs.Common.{◌≡◌, ◌≢◌, ℕ, zero, suc, ◌+◌, ◌-◌, ◌*◌, ◌/◌, ◌%◌, ◌<◌, ◌≤◌, Bool, true, false, if◌then◌else◌, List, [], ◌∷◌, ◌++◌, Some, inl, inr, ◌⊎◌, refl, sym, ap, ◌∙◌, subst, arith}
+use Rattle.std.proofs.Common.{◌≡◌, ◌≢◌, ℕ, zero, suc, ◌+◌, ◌-◌, ◌*◌, ◌/◌, ◌%◌, ◌<◌, Bool, true, false, if◌then◌else◌, List, [], ◌∷◌, ◌++◌, Some, inl, inr, ◌⊎◌, refl, sym, ap, ◌∙◌, subst, arith}
 use Rattle.std.specs.Prelude.{◌==◌, codes, slice_get}
 use Rattle.std.specs.List.{flat_map}
 use Rattle.std.proofs.lemmas.Bool.{cond_both, eqb-true}
 use Rattle.ncl_base.proofs.Members.{Member}
-use Rattle.ncl_bank.proofs.Apart.{pairs-append}
 use Rattle.ncl_tree.specs.NamePairs.{pair_names}
 use Rattle.ncl_tree.specs.PartNames.{IsPartName}
 use Rattle.ncl_compile.specs.Ports.{port_pair, output_pairs}
 use Rattle.ncl_compile.specs.InnerNames.{numbered, bank_prefix, stage_prefix, inner_pair, inner_pairs, pairs_driven, root_name}
-use Rattle.ncl_compile.proofs.ListPlaces.{member_of_flat_map}
+use Rattle.ncl_compile.proofs.ListPlaces.{member_of_flat_map, pairs-append}
 use Rattle.ncl_compile.proofs.NameLaws.{AreApart, name_at, port_begins, name_of_pairs}
 use Rattle.ncl_compile.proofs.CallLaws.{first_of}
 
--- the number that three digits say
+-- the place whose number three digits say
 abbrev digits_said : List ℕ → ℕ
-digits_said (a ∷ b ∷ c ∷ rest) = (a - 48) * 100 + (b - 48) * 10 + (c - 48)
+digits_said (a ∷ b ∷ c ∷ rest) = (a - 48) * 100 + (b - 48) * 10 + (c - 48) - 1
 digits_said _ = 0
 
 -- the number of the bank or stage that has a name: `o` is of the last, `ko` of the first, others say it
@@ -28,7 +27,7 @@ abbrev pub input_like : List ℕ → ℕ
 input_like [] = 0
 input_like (byte ∷ rest) = if byte == 105 then 1 else if byte == 114 then 1 else if byte == 107 then (if first_of rest == 105 then 1 else 0) else 0
 
-said_digits : (n : ℕ) → n < 1000 → (48 + n / 100 % 10 - 48) * 100 + (48 + n / 10 % 10 - 48) * 10 + (48 + n % 10 - 48) ≡ n
+said_digits : (n : ℕ) → n < 999 → (48 + (n + 1) / 100 % 10 - 48) * 100 + (48 + (n + 1) / 10 % 10 - 48) * 10 + (48 + (n + 1) % 10 - 48) - 1 ≡ n
 said_digits n below = omega arith
 
 -- what a bank of this number drives: its rails, its root, and nets that it names
@@ -57,7 +56,7 @@ module _ (last bank width : ℕ) (P : List ℕ → Type 0) (outputs : (rest : Li
         | inr other ↦ elim other [ inl is_root ↦ subst P (sym is_root) root | inr named ↦ subst P (sym named.is) (own named.rest) ]
       ]
 
-root_owner : (last bank : ℕ) → bank < 1000 → owner_of last (root_name bank) ≡ bank
+root_owner : (last bank : ℕ) → bank < 999 → owner_of last (root_name bank) ≡ bank
 root_owner last zero below = refl
 root_owner last (suc bank) below = said_digits (suc bank) below
 
@@ -70,14 +69,14 @@ root_no_stage zero same = absurd (omega (arith, same))
 root_no_stage (suc bank) same = absurd (omega (arith, same))
 
 -- names of banks and of stages say their numbers
-pub bank_name_owner : (last bank width : ℕ) → bank < 1000 → (x : List ℕ) → IsBankName last bank width x → owner_of last x ≡ bank
+pub bank_name_owner : (last bank width : ℕ) → bank < 999 → (x : List ℕ) → IsBankName last bank width x → owner_of last x ≡ bank
 bank_name_owner last bank width below =
     of_bank_name last bank width (λ x. owner_of last x ≡ bank) (λ rest is. sym is) (λ rest. said_digits bank below) (root_owner last bank below) (λ rest. said_digits bank below)
 
-pub bank_part_owner : (last bank : ℕ) (x : List ℕ) → bank < 1000 → IsPartName (bank_prefix bank) x → owner_of last x ≡ bank
+pub bank_part_owner : (last bank : ℕ) (x : List ℕ) → bank < 999 → IsPartName (bank_prefix bank) x → owner_of last x ≡ bank
 bank_part_owner last bank x below named = ap (owner_of last) named.is ∙ said_digits bank below
 
-pub stage_part_owner : (last stage : ℕ) (x : List ℕ) → stage < 1000 → IsPartName (stage_prefix stage) x → owner_of last x ≡ stage
+pub stage_part_owner : (last stage : ℕ) (x : List ℕ) → stage < 999 → IsPartName (stage_prefix stage) x → owner_of last x ≡ stage
 stage_part_owner last stage x below named = ap (owner_of last) named.is ∙ said_digits stage below
 
 -- those of banks are no names of stages, and neither are names of inputs

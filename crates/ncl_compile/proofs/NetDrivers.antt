@@ -1,13 +1,12 @@
 -- What the nets of a compiled netlist are called: each has the name of a port, or of what a cell drives. So all names are
 -- plain, and no cell has the name of a net.
-use Rattle.std.proofs.Common.{◌≡◌, ℕ, zero, suc, ◌-◌, ◌<◌, ◌≤◌, true, List, [], ◌∷◌, ◌++◌, length, map, get_or, Some, inl, inr, ◌⊎◌, refl, sym, ap, ◌∙◌, subst, arith}
+use Rattle.std.proofs.Common.{◌≡◌, ℕ, ◌<◌, ◌≤◌, true, List, [], ◌∷◌, ◌++◌, length, map, get_or, Some, inl, inr, ◌⊎◌, refl, sym, ap, ◌∙◌, subst, arith}
 use Rattle.std.specs.Prelude.{All, Contains, codes, slice_get, slice_index, ◌==◌}
-use Rattle.std.specs.List.{flat_map, zip, range_with_len}
-use Rattle.std.specs.Cmp.Lexicographic.{bytes_decides}
-use Rattle.std.proofs.lemmas.Bool.{cases_Bool, cond_both, both_ways}
+use Rattle.std.specs.List.{flat_map, range_with_len}
+use Rattle.std.proofs.lemmas.Bool.{cond_both}
 use Rattle.std.proofs.lemmas.Option.{slice_get_within, get_or_from_slice_get}
 use Rattle.ncl_base.specs.declared.word.TheConstants.{MOST_BITS}
-use Rattle.ncl_base.proofs.Members.{Member, here, there, member_cases, Member-append_right, Member-append_cases, Member-map, member_of_map, Member-from_Contains, Contains-from_Member, All-from_members}
+use Rattle.ncl_base.proofs.Members.{Member, member_cases, Member-append_right, Member-append_cases, Member-map, member_of_map, Member-from_Contains, Contains-from_Member, All-from_members}
 use Rattle.ncl_blif.specs.declared.model.Model.{Model}
 use Rattle.ncl_blif.specs.Meaning.{width_of}
 use Rattle.ncl_blif.specs.Model.{AreModels}
@@ -16,14 +15,12 @@ use Rattle.ncl_netlist.specs.declared.port.Port.{Port}
 use Rattle.ncl_netlist.specs.declared.parts.NamePair.{NamePair}
 use Rattle.ncl_netlist.specs.declared.parts.PartCell.{PartCell}
 use Rattle.ncl_netlist.specs.declared.parts.Parts.{Parts}
-use Rattle.ncl_netlist.specs.Names.{same_name}
 use Rattle.ncl_netlist.specs.Netlist.{IsNetlist}
 use Rattle.ncl_netlist.specs.Parts.{HasAllPins, output_name, port_names, cell_of, nets_of, netlist_of}
 use Rattle.ncl_netlist.proofs.NetlistLaws.{driver_of_net, net_of_port}
 use Rattle.ncl_rails.specs.declared.StageParts.{StageParts}
 use Rattle.ncl_bank.specs.declared.BankParts.{BankParts}
-use Rattle.ncl_bank.specs.BankParts.{register_pins, bank_pins, AreBankParts}
-use Rattle.ncl_tree.specs.NamePairs.{pair_list, pair_names}
+use Rattle.ncl_tree.specs.NamePairs.{pair_names}
 use Rattle.ncl_tree.specs.PartNames.{IsPartName}
 use Rattle.ncl_token.specs.Bytes.{is_letter}
 use Rattle.ncl_compile.specs.Size.{widths_of, CanBeCompiled}
@@ -31,52 +28,15 @@ use Rattle.ncl_compile.specs.Compiled.{IsPlain, answer_width}
 use Rattle.ncl_compile.specs.Ports.{port_pair, input_pairs, output_pairs}
 use Rattle.ncl_compile.specs.InnerNames.{numbered, bank_prefix, stage_prefix, inner_pair, inner_pairs, pairs_driven, root_name}
 use Rattle.ncl_compile.specs.Pieces.{IsPutTogether}
-use Rattle.ncl_compile.proofs.ListPlaces.{holds_of, place_of_member, at_of_map, Member-flat_map, member_of_flat_map, member_at}
+use Rattle.ncl_compile.proofs.ListPlaces.{holds_of, place_of_member, at_of_map, member_of_flat_map, member_at}
 use Rattle.ncl_compile.proofs.NameLaws.{same_numbered, name_of_pairs}
 use Rattle.ncl_compile.proofs.CallLaws.{first_of, root_first, port_first, driven_first}
 use Rattle.ncl_compile.proofs.BankWidths.{width_bounds, width_first, model_of_stage}
 use Rattle.ncl_compile.proofs.NumberedNames.{net_number, name_of_number, output_among}
 use Rattle.ncl_compile.proofs.NumberedPorts.{names_in, names_out, names_of_ports_for}
 use Rattle.ncl_compile.proofs.PartPins.{all_pins}
+use Rattle.ncl_compile.proofs.BankNames.{bank_output_cases}
 use Rattle.ncl_compile.proofs.PlainNames.{part_plain, root_plain, inner_plain, port_plain}
-
--- the second of a pair of lists that go together
-zip_second : {X Y : Type 0} (xs : List X) (ys : List Y) (k : ℕ) (p : X × Y) → slice_get (zip xs ys) k ≡ Some p → slice_get ys k ≡ Some p.1
-zip_second [] ys k p at = absurd cc
-zip_second (x ∷ xs) [] k p at = absurd cc
-zip_second (x ∷ xs) (y ∷ ys) zero p at = let same : (x, y) ≡ p = cc in ap (λ q. Some q.1) same
-zip_second (x ∷ xs) (y ∷ ys) (suc k) p at = zip_second xs ys k p at
-
--- what a cell of a bank drives: a rail of the bank, its root, or a net with a name of the bank's own
-pub bank_output : (ins outs : List NamePair) (request rst root prefix : List ℕ) (bank : BankParts) → AreBankParts ins outs request rst root prefix bank → (c : PartCell) → Member c bank.cells
-    → Member (output_name c) (pair_names outs) ⊎ ((output_name c ≡ root) ⊎ IsPartName prefix (output_name c))
-bank_output ins outs request rst root prefix bank are c m =
-    elim (Member-append_cases c are.registers (are.acks ++ are.tree) (subst (Member c) are.cells m)) [
-      | inl register ↦
-          let in_pins : Member c.pins (bank_pins ins outs request rst) = subst (Member c.pins) are.register_pins (Member-map (λ (cell : PartCell). cell.pins) c register) in
-          let (k, pair, at, one) = member_of_flat_map (λ (from, to). register_pins request rst from to) (zip ins outs) c.pins in_pins in
-          inl (of_register pair (member_at outs k pair.1 (zip_second ins outs k pair at)) one)
-      | inr later ↦
-          let driven = Contains-from_Member (output_name c) (Member-map output_name c later) in
-          elim (cases_Bool (same_name (output_name c) root)) [
-            | inl same ↦ inr (inl ((bytes_decides (output_name c) root).0 same))
-            | inr other ↦ inr (inr (are.inner_names (output_name c) driven (λ e. both_ways (same_name (output_name c) root) other ((bytes_decides (output_name c) root).1 e))))
-          ]
-    ]
-  where
-    rail_of : (pair : NamePair) → Member pair outs → (x : List ℕ) → Member x (pair_list pair) → Member x (pair_names outs)
-    rail_of pair in_outs x in_pair = Member-flat_map pair_list pair x in_outs in_pair
-
-    of_register : (pair : NamePair × NamePair) → Member pair.1 outs → Member c.pins (register_pins request rst pair.0 pair.1) → Member (output_name c) (pair_names outs)
-    of_register pair in_outs one =
-        elim (member_cases c.pins (pair.0.zero ∷ request ∷ rst ∷ pair.1.zero ∷ []) ((pair.0.one ∷ request ∷ rst ∷ pair.1.one ∷ []) ∷ []) one) [
-          | inl first ↦ subst (λ x. Member x (pair_names outs)) (ap (λ l. get_or l (length l - 1) []) first) (rail_of pair.1 in_outs pair.1.zero here)
-          | inr rest ↦
-              elim (member_cases c.pins (pair.0.one ∷ request ∷ rst ∷ pair.1.one ∷ []) [] rest) [
-                | inl second ↦ subst (λ x. Member x (pair_names outs)) (ap (λ l. get_or l (length l - 1) []) second) (rail_of pair.1 in_outs pair.1.one (there here))
-                | inr none ↦ elim none [ ]
-              ]
-        ]
 
 module _ (models : List Model) (are : AreModels models) (small : CanBeCompiled models) (parts : Parts) (put : IsPutTogether models parts) where
   -- a cell is of a bank, or of a stage
@@ -85,14 +45,14 @@ module _ (models : List Model) (are : AreModels models) (small : CanBeCompiled m
     pub bank : BankParts
     pub at : slice_get put.banks k ≡ Some bank
     pub inside : Member c bank.cells
-    pub below : k < 1000
+    pub below : k < 999
 
   pub record OfStage (c : PartCell) : Type 0 where
     pub k : ℕ
     pub stage : StageParts
     pub at : slice_get put.stages k ≡ Some stage
     pub inside : Member c stage.cells
-    pub below : k < 1000
+    pub below : k < 999
 
   pub bank_or_stage : (c : PartCell) → Member c parts.cells → OfBank c ⊎ OfStage c
   bank_or_stage c m =
@@ -118,7 +78,7 @@ module _ (models : List Model) (are : AreModels models) (small : CanBeCompiled m
   bank_name c b = holds_of (λ (cell : PartCell). IsPartName (bank_prefix b.k) cell.name) b.bank.cells (put.are_banks.each b.k b.bank b.at).cell_names c b.inside
 
   pub bank_drives : (c : PartCell) (b : OfBank c) → Member (output_name c) (pair_names (outs_of b.k)) ⊎ ((output_name c ≡ root_name b.k) ⊎ IsPartName (bank_prefix b.k) (output_name c))
-  bank_drives c b = bank_output _ _ _ _ _ _ b.bank (put.are_banks.each b.k b.bank b.at) c b.inside
+  bank_drives c b = bank_output_cases _ _ _ _ _ _ b.bank (put.are_banks.each b.k b.bank b.at) (output_name c) (Member-map output_name c b.inside)
 
   -- and a cell of a stage
   pub stage_name : (c : PartCell) (s : OfStage c) → IsPartName (stage_prefix s.k) c.name
@@ -237,7 +197,7 @@ module _ (models : List Model) (are : AreModels models) (small : CanBeCompiled m
     part_first : (letter number : ℕ) (name : List ℕ) → IsPartName (numbered letter number) name → first_of name ≡ letter
     part_first letter number name named = ap first_of named.is
 
-    same_part : (letter j k : ℕ) (name : List ℕ) → j < 1000 → k < 1000 → IsPartName (numbered letter j) name → IsPartName (numbered letter k) name → j ≡ k
+    same_part : (letter j k : ℕ) (name : List ℕ) → j < 999 → k < 999 → IsPartName (numbered letter j) name → IsPartName (numbered letter k) name → j ≡ k
     same_part letter j k name j_below k_below of_j of_k = same_numbered letter j k of_j.rest of_k.rest j_below k_below (sym of_j.is ∙ of_k.is)
 
     -- what a cell of a bank drives begins with `w`, `o`, `k`, `a` or `b`

@@ -1,25 +1,21 @@
 -- Each cell of the parts of a compiled netlist has a net for each pin, and the names of its ports differ.
 use Rattle.std.proofs.Common.{◌≡◌, ◌≢◌, ℕ, ◌*◌, ◌<◌, ◌≤◌, List, [], ◌∷◌, ◌++◌, length, map, drop, inl, inr, refl, sym, ap, ◌∙◌, subst, arith}
 use Rattle.std.specs.Prelude.{All, codes}
-use Rattle.std.specs.List.{flat_map, zip}
+use Rattle.std.specs.List.{flat_map}
 use Rattle.std.proofs.lemmas.List.{length-append, length-map}
 use Rattle.std.proofs.lemmas.List.FromFn.{length-map-range_with_len}
 use Rattle.ncl_base.specs.declared.word.TheConstants.{MOST_BITS}
-use Rattle.ncl_base.proofs.Members.{Member, member_cases, Member-append_cases, Member-map, All-from_members}
+use Rattle.ncl_base.proofs.Members.{Member, member_cases, Member-append_cases, All-from_members}
 use Rattle.ncl_blif.specs.declared.model.Model.{Model}
 use Rattle.ncl_blif.specs.Meaning.{width_of}
 use Rattle.ncl_blif.specs.Model.{AreModels}
-use Rattle.ncl_gates.specs.declared.cell_kind.CellKind.TheVariants.{Register}
-use Rattle.ncl_gates.specs.Cell.{pins_of}
 use Rattle.ncl_netlist.specs.declared.parts.NamePair.{NamePair}
-use Rattle.ncl_netlist.specs.declared.parts.PartCell.{PartCell}
 use Rattle.ncl_netlist.specs.declared.parts.Parts.{Parts}
 use Rattle.ncl_netlist.specs.declared.port.Port.{Port}
 use Rattle.ncl_netlist.specs.Names.{AllDiffer}
 use Rattle.ncl_netlist.specs.Parts.{HasAllPins, port_names}
 use Rattle.ncl_rails.specs.declared.StageParts.{StageParts}
 use Rattle.ncl_bank.specs.declared.BankParts.{BankParts}
-use Rattle.ncl_bank.specs.BankParts.{register_pins, bank_pins, IsTreeCell, AreBankParts}
 use Rattle.ncl_tree.specs.NamePairs.{pair_names}
 use Rattle.ncl_compile.specs.Size.{CanBeCompiled}
 use Rattle.ncl_compile.specs.Compiled.{answer_width}
@@ -29,38 +25,8 @@ use Rattle.ncl_compile.proofs.ListPlaces.{holds_of, member_of_flat_map, pairs-ap
 use Rattle.ncl_compile.proofs.BankWidths.{width_first, width_bounds, model_of_stage}
 use Rattle.ncl_compile.proofs.NameLaws.{AreApart, differ_from_apart, apart_more}
 use Rattle.ncl_compile.proofs.CallLaws.{first_of, other_first, port_first, ports_apart}
+use Rattle.ncl_compile.proofs.BankNames.{bank_all_pins}
 use Rattle.ncl_compile.proofs.NumberedPorts.{names_in, names_out, names_of_ports_for}
-
--- a register cell of a bank has four pins
-four_pins : (request rst : List ℕ) (ins outs : List NamePair) (pins : List (List ℕ)) → Member pins (bank_pins ins outs request rst) → length pins ≡ 4
-four_pins request rst ins outs pins m =
-    let (k, pair, at, in_pins) = member_of_flat_map (λ (from, to). register_pins request rst from to) (zip ins outs) pins m in
-    by pair in_pins
-  where
-    by : (pair : NamePair × NamePair) → Member pins (register_pins request rst pair.0 pair.1) → length pins ≡ 4
-    by pair in_pins =
-        elim (member_cases pins (pair.0.zero ∷ request ∷ rst ∷ pair.1.zero ∷ []) ((pair.0.one ∷ request ∷ rst ∷ pair.1.one ∷ []) ∷ []) in_pins) [
-          | inl first ↦ ap length (sym first)
-          | inr rest ↦
-              elim (member_cases pins (pair.0.one ∷ request ∷ rst ∷ pair.1.one ∷ []) [] rest) [
-                | inl second ↦ ap length (sym second)
-                | inr none ↦ elim none [ ]
-              ]
-        ]
-
-bank_all_pins : (ins outs : List NamePair) (request rst root prefix : List ℕ) (bank : BankParts) → AreBankParts ins outs request rst root prefix bank → (c : PartCell) → Member c bank.cells → HasAllPins c
-bank_all_pins ins outs request rst root prefix bank are c m =
-    elim (Member-append_cases c are.registers (are.acks ++ are.tree) (subst (Member c) are.cells m)) [
-      | inl register ↦
-          let kind = holds_of (λ (cell : PartCell). cell.kind ≡ Register) are.registers are.register_kinds c register in
-          let pins = four_pins request rst ins outs c.pins (subst (Member c.pins) are.register_pins (Member-map (λ (cell : PartCell). cell.pins) c register)) in
-          pins ∙ sym (ap (λ k. length (pins_of k)) kind)
-      | inr later ↦
-          elim (Member-append_cases c are.acks are.tree later) [
-            | inl ack ↦ holds_of HasAllPins are.acks are.ack_pins c ack
-            | inr tree ↦ (holds_of IsTreeCell are.tree are.tree_cells c tree).all_pins
-          ]
-    ]
 
 module _ (models : List Model) (are : AreModels models) (small : CanBeCompiled models) (parts : Parts) (put : IsPutTogether models parts) where
   pub all_pins : All HasAllPins parts.cells

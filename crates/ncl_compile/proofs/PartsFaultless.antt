@@ -1,52 +1,46 @@
 -- Parts that models are put together of break no rule of netlists.
-use Rattle.std.proofs.Common.{◌≡◌, ◌≢◌, ℕ, zero, suc, ◌+◌, ◌*◌, ◌^◌, ◌<◌, ◌≤◌, Bool, true, false, true≢false, List, [], ◌∷◌, ◌++◌, length, map, Some, inl, inr, ◌⊎◌, refl, sym, ap, ◌∙◌, subst, arith}
-use Rattle.std.specs.Prelude.{All, Contains, codes, slice_get, slice_index, ◌==◌}
+use Rattle.std.proofs.Common.{◌≡◌, ◌≢◌, ℕ, zero, suc, ◌<◌, ◌≤◌, Bool, true, false, true≢false, List, [], ◌∷◌, ◌++◌, length, map, Some, inl, inr, ◌⊎◌, refl, sym, ap, ◌∙◌, subst, arith}
+use Rattle.std.specs.Prelude.{Contains, codes, slice_get, slice_index, ◌==◌}
 use Rattle.std.specs.List.{flat_map}
-use Rattle.std.proofs.lemmas.Bool.{eq-eqb, ne_eqb, cond-true, cond-false, cond_both, eqb-true, eqb-false}
-use Rattle.std.proofs.lemmas.List.{length-map, length-append, map-append}
-use Rattle.std.proofs.lemmas.List.FromFn.{length-map-range_with_len}
+use Rattle.std.proofs.lemmas.Bool.{eq-eqb, ne_eqb, cond-true, cond-false, cond_both, eqb-false}
+use Rattle.std.proofs.lemmas.List.{map-append}
 use Rattle.std.proofs.lemmas.Option.{slice_get_within}
-use Rattle.ncl_base.proofs.Members.{Member, here, there, member_cases, Member-append_left, Member-append_right, Member-append_cases, Member-map, member_of_map, Member-from_Contains, slice_get-some, All-from_members}
-use Rattle.ncl_bank.proofs.Apart.{pairs-append}
+use Rattle.ncl_base.proofs.Members.{Member, here, there, member_cases, Member-append_left, Member-append_right, Member-append_cases, Member-map, member_of_map, Member-from_Contains, slice_get-some}
 use Rattle.ncl_blif.specs.declared.model.Model.{Model}
 use Rattle.ncl_blif.specs.Meaning.{width_of}
 use Rattle.ncl_blif.specs.Model.{AreModels}
 use Rattle.ncl_netlist.specs.declared.port.Port.{Port}
-use Rattle.ncl_netlist.specs.declared.parts.NamePair.{NamePair}
 use Rattle.ncl_netlist.specs.declared.parts.PartCell.{PartCell}
 use Rattle.ncl_netlist.specs.declared.parts.Parts.{Parts}
 use Rattle.ncl_netlist.specs.Faults.{IsFaultless, drivers_at}
-use Rattle.ncl_netlist.specs.Names.{AllDiffer}
-use Rattle.ncl_netlist.specs.Parts.{HasAllPins, port_names, output_name, cell_names, nets_of}
+use Rattle.ncl_netlist.specs.Parts.{port_names, output_name, cell_names, nets_of}
 use Rattle.ncl_rails.specs.Naming.{names_known}
 use Rattle.ncl_rails.specs.declared.StageParts.{StageParts}
 use Rattle.ncl_bank.specs.declared.BankParts.{BankParts}
 use Rattle.ncl_tree.specs.NamePairs.{pair_names}
 use Rattle.ncl_tree.specs.PartNames.{IsPartName}
-use Rattle.ncl_compile.specs.Size.{widths_of, compile_size, CanBeCompiled}
+use Rattle.ncl_compile.specs.Size.{widths_of, CanBeCompiled}
 use Rattle.ncl_compile.specs.Compiled.{answer_width}
-use Rattle.ncl_compile.specs.Ports.{port_pair, input_pairs, output_pairs, ports_named, ports_for}
+use Rattle.ncl_compile.specs.Ports.{port_pair, input_pairs, output_pairs, ports_named}
 use Rattle.ncl_compile.specs.InnerNames.{bank_prefix, stage_prefix, inner_pairs, pairs_driven, root_name, request_name}
 use Rattle.ncl_compile.specs.Pieces.{IsStageOfModel, outputs_of, pairs_read, IsPutTogether}
-use Rattle.ncl_compile.proofs.ListPlaces.{holds_of, member_at, Member-flat_map, member_of_flat_map}
-use Rattle.ncl_compile.proofs.NameLaws.{AreApart, apart_from_differ, differ_from_apart, apart_more, name_at, port_begins, name_of_pairs}
-use Rattle.ncl_compile.proofs.CallLaws.{first_of, other_first, port_first, ports_apart}
-use Rattle.ncl_compile.proofs.BankWidths.{width_before, width_first, width_bounds, model_of_stage, stage_of_model}
+use Rattle.ncl_compile.proofs.ListPlaces.{holds_of, member_at, Member-flat_map, member_of_flat_map, pairs-append}
+use Rattle.ncl_compile.proofs.NameLaws.{AreApart, apart_from_differ, differ_from_apart, port_begins, name_of_pairs}
+use Rattle.ncl_compile.proofs.CallLaws.{first_of}
+use Rattle.ncl_compile.proofs.BankWidths.{width_before, model_of_stage, stage_of_model}
 use Rattle.ncl_compile.proofs.NumberedRows.{BankFact}
 use Rattle.ncl_compile.proofs.NumberedPorts.{names_in, names_out, names_of_ports_for}
 use Rattle.ncl_compile.proofs.PartsAssembled.{bank_fact}
 use Rattle.ncl_compile.proofs.NameOwners.{owner_of, input_like, IsBankName, bank_name_owner, bank_part_owner, stage_part_owner, bank_name_first, bank_name_no_input, stage_name_no_input, owned_apart}
-use Rattle.ncl_compile.proofs.BankNames.{bank_all_pins, bank_output_cases, bank_drives_root, bank_drives, bank_pin_cases, stage_pin_cases}
+use Rattle.ncl_compile.proofs.CellCount.{few_cells}
+use Rattle.ncl_compile.proofs.PartPins.{ports_differ}
+use Rattle.ncl_compile.proofs.BankNames.{bank_output_cases, bank_drives_root, bank_drives_rails, bank_pin_cases, stage_pin_cases}
 use Rattle.ncl_compile.proofs.DrivenOnce.{IsInputPort, names_said, driven_once}
 
 -- what a function gives at the elements of parts
 map-flat_map : {X Y Z : Type 0} (f : Y → Z) (parts_of : X → List Y) (xs : List X) → map f (flat_map parts_of xs) ≡ flat_map (λ x. map f (parts_of x)) xs
 map-flat_map f parts_of [] = refl
 map-flat_map f parts_of (x ∷ xs) = map-append f (parts_of x) (flat_map parts_of xs) ∙ ap (λ l. map f (parts_of x) ++ l) (map-flat_map f parts_of xs)
-
-length-pair_names : (pairs : List NamePair) → length (pair_names pairs) ≡ 2 * length pairs
-length-pair_names [] = refl
-length-pair_names (pair ∷ pairs) = let rest = length-pair_names pairs in omega (arith, rest)
 
 -- the names of input ports look like those of inputs
 names_in-like : (width : ℕ) (x : List ℕ) → Member x (names_in width) → input_like x ≡ 1
@@ -61,51 +55,6 @@ names_in-like width x m =
             | inr rest ↦ elim (member_cases x (codes "rst") [] rest) [ inl is_rst ↦ ap input_like (sym is_rst) | inr none ↦ elim none [ ] ]
           ]
     ]
-
--- the names of output ports do not
-names_out-unlike : (width : ℕ) (x : List ℕ) → Member x (names_out width) → input_like x ≡ 0
-names_out-unlike width x m =
-    elim (Member-append_cases x (pair_names (output_pairs width)) (codes "ko" ∷ []) m) [
-      | inl rail ↦
-          let (i, r, from, to, same) = name_of_pairs (port_pair (codes "o")) 1 width x rail in
-          ap input_like (sym same ∙ (port_begins 111 i r).is)
-      | inr rest ↦ elim (member_cases x (codes "ko") [] rest) [ inl is_ko ↦ ap input_like (sym is_ko) | inr none ↦ elim none [ ] ]
-    ]
-
--- so the names of the ports differ
-names_in-apart : (width : ℕ) → width ≤ 128 → AreApart (names_in width)
-names_in-apart width few =
-    pairs-append (λ x y. x ≢ y) (pair_names (input_pairs width)) (codes "ki" ∷ codes "rst" ∷ []) (ports_apart 105 width few)
-    (apart_more (codes "ki") (codes "rst" ∷ []) (λ y m. elim (member_cases y (codes "rst") [] m) [ inl same ↦ other_first (codes "ki") y 107 114 refl (ap first_of (sym same)) (λ e. absurd (omega (arith, e))) | inr none ↦ elim none [ ] ])
-    (apart_more (codes "rst") [] (λ y m. elim m [ ]) (λ i j d before within. absurd (omega (arith, within)))))
-    (λ x y in_pairs in_rest.
-    elim (member_cases y (codes "ki") (codes "rst" ∷ []) in_rest) [
-      | inl same ↦ other_first x y 105 107 (port_first 105 width x in_pairs) (ap first_of (sym same)) (λ e. absurd (omega (arith, e)))
-      | inr more ↦
-          elim (member_cases y (codes "rst") [] more) [
-            | inl same ↦ other_first x y 105 114 (port_first 105 width x in_pairs) (ap first_of (sym same)) (λ e. absurd (omega (arith, e)))
-            | inr none ↦ elim none [ ]
-          ]
-    ])
-
-names_out-apart : (width : ℕ) → width ≤ 128 → AreApart (names_out width)
-names_out-apart width few =
-    pairs-append (λ x y. x ≢ y) (pair_names (output_pairs width)) (codes "ko" ∷ []) (ports_apart 111 width few)
-    (apart_more (codes "ko") [] (λ y m. elim m [ ]) (λ i j d before within. absurd (omega (arith, within))))
-    (λ x y in_pairs in_rest.
-    elim (member_cases y (codes "ko") [] in_rest) [
-      | inl same ↦ other_first x y 111 107 (port_first 111 width x in_pairs) (ap first_of (sym same)) (λ e. absurd (omega (arith, e)))
-      | inr none ↦ elim none [ ]
-    ])
-
-names_of_ports-apart : (inputs outputs : ℕ) → inputs ≤ 128 → outputs ≤ 128 → AreApart (names_in inputs ++ names_out outputs)
-names_of_ports-apart inputs outputs few_inputs few_outputs =
-    pairs-append (λ x y. x ≢ y) (names_in inputs) (names_out outputs) (names_in-apart inputs few_inputs) (names_out-apart outputs few_outputs)
-    (λ x y in_first in_rest same.
-    let like = names_in-like inputs x in_first in
-    let unlike = names_out-unlike outputs y in_rest in
-    let both : input_like x ≡ input_like y = ap input_like same in
-    absurd (omega (arith, like, unlike, both)))
 
 abbrev cells_of_bank : BankParts → List PartCell
 cells_of_bank bank = bank.cells
@@ -130,7 +79,7 @@ module _ (models : List Model) (are : AreModels models) (small : CanBeCompiled m
   width_at k = slice_index (widths_of models) k
 
   -- banks and stages by their numbers
-  few_banks : last < 1000
+  few_banks : last < 999
   few_banks = let few = small.few in omega (arith, few)
 
   bank_within : (k : ℕ) (bank : BankParts) → slice_get banks k ≡ Some bank → k ≤ last
@@ -183,10 +132,12 @@ module _ (models : List Model) (are : AreModels models) (small : CanBeCompiled m
       (λ k bank at. let here = of_banks k bank at in (here.0, λ x m. let own = (here.1 x m).0 in omega (arith, own))))
       (owned_apart names_of_stage (owner_of last) 0 stages
       (λ k stage at.
-      let here = of_stages k stage at in
-      (here.0, λ x m.
-      let own = stage_part_owner last k x (below_limit k (stage_at k stage at).within) (here.1 x m) in
-      omega (arith, own))))
+      let here = of_stages k stage at in (
+        here.0,
+        λ x m.
+            let own = stage_part_owner last k x (below_limit k (stage_at k stage at).within) (here.1 x m) in
+            omega (arith, own),
+      )))
       (λ x y in_banks in_stages same.
       let (k, bank, at, in_bank) = member_of_flat_map names_of_bank banks x in_banks in
       let (j, stage, at_stage, in_stage) = member_of_flat_map names_of_stage stages y in_stages in
@@ -198,7 +149,7 @@ module _ (models : List Model) (are : AreModels models) (small : CanBeCompiled m
       names_of_stage : StageParts → List (List ℕ)
       names_of_stage stage = map f stage.cells
 
-      below_limit : (k : ℕ) → k < last → k < 1000
+      below_limit : (k : ℕ) → k < last → k < 999
       below_limit k lt = omega (arith, lt, few_banks)
 
   -- the names that banks and stages drive
@@ -212,26 +163,30 @@ module _ (models : List Model) (are : AreModels models) (small : CanBeCompiled m
       let (c, in_cells, same) = member_of_map output_name stage.cells x m in
       subst (IsPartName (stage_prefix k)) same (holds_of (λ (cell : PartCell). IsPartName (stage_prefix k) (output_name cell)) stage.cells (stage_at k stage at).is.are.net_names c in_cells)
 
-  bank_below : (k : ℕ) (bank : BankParts) → slice_get banks k ≡ Some bank → k < 1000
+  bank_below : (k : ℕ) (bank : BankParts) → slice_get banks k ≡ Some bank → k < 999
   bank_below k bank at = let within = bank_within k bank at in omega (arith, within, few_banks)
 
   outputs_apart : AreApart (map output_name parts.cells)
   outputs_apart =
       at_cells-apart output_name
-      (λ k bank at.
-      (apart_from_differ (map output_name bank.cells) (fact_of k bank at).are.nets_differ, λ x m.
-      let name = bank_names k bank at x m in
-      (bank_name_owner last k (width_at k) (bank_below k bank at) x name, bank_name_first last k (width_at k) x name)))
+      (λ k bank at. (
+        apart_from_differ (map output_name bank.cells) (fact_of k bank at).are.nets_differ,
+        λ x m.
+            let name = bank_names k bank at x m in
+            (bank_name_owner last k (width_at k) (bank_below k bank at) x name, bank_name_first last k (width_at k) x name),
+      ))
       (λ k stage at. (apart_from_differ (map output_name stage.cells) (stage_at k stage at).is.are.nets_differ, stage_names k stage at))
 
   -- the names of cells
   cells_apart : AreApart (map name_of_cell parts.cells)
   cells_apart =
       at_cells-apart name_of_cell
-      (λ k bank at.
-      (apart_from_differ (map name_of_cell bank.cells) (fact_of k bank at).are.cells_differ, λ x m.
-      let named = bank_cell_names k bank at x m in
-      (bank_part_owner last k x (bank_below k bank at) named, λ same. let clash : ◌≡◌ {A = ℕ} 98 115 = ap first_of (sym named.is) ∙ same in absurd (omega (arith, clash)))))
+      (λ k bank at. (
+        apart_from_differ (map name_of_cell bank.cells) (fact_of k bank at).are.cells_differ,
+        λ x m.
+            let named = bank_cell_names k bank at x m in
+            (bank_part_owner last k x (bank_below k bank at) named, λ same. let clash : ◌≡◌ {A = ℕ} 98 115 = ap first_of (sym named.is) ∙ same in absurd (omega (arith, clash))),
+      ))
       (λ k stage at. (apart_from_differ (map name_of_cell stage.cells) (stage_at k stage at).is.are.cells_differ, stage_cell_names k stage at))
     where
       bank_cell_names : (k : ℕ) (bank : BankParts) → slice_get banks k ≡ Some bank → (x : List ℕ) → Member x (map name_of_cell bank.cells) → IsPartName (bank_prefix k) x
@@ -263,7 +218,7 @@ module _ (models : List Model) (are : AreModels models) (small : CanBeCompiled m
       let (bank, at) = bank_at k within in
       let fact = fact_of k bank at in
       driven_by_bank k bank at x
-      (bank_drives (pairs_read (width_of models) stages k) (pairs_driven last k (width_at k)) (request_name last k) (codes "rst") (root_name k) (bank_prefix k) bank fact.are (width_at k) fact.long_ins fact.long_outs x m)
+      (bank_drives_rails (pairs_read (width_of models) stages k) (pairs_driven last k (width_at k)) (request_name last k) (codes "rst") (root_name k) (bank_prefix k) bank fact.are (width_at k) fact.long_ins fact.long_outs x m)
 
   root_driven : (k : ℕ) → k ≤ last → Member (root_name k) (map output_name parts.cells)
   root_driven k within =
@@ -315,10 +270,10 @@ module _ (models : List Model) (are : AreModels models) (small : CanBeCompiled m
   no_input x m input =
       let (c, in_cells, same) = member_of_map output_name parts.cells x m in
       let unlike : input_like x ≡ 0 =
-          elim (cell_cases c in_cells) [
-            | inl (k, bank, at, in_bank) ↦ bank_name_no_input last k (width_at k) x (bank_names k bank at x (subst (λ z. Member z (map output_name bank.cells)) same (Member-map output_name c in_bank)))
-            | inr (k, stage, at, in_stage) ↦ stage_name_no_input k x (stage_names k stage at x (subst (λ z. Member z (map output_name stage.cells)) same (Member-map output_name c in_stage)))
-          ] in
+      elim (cell_cases c in_cells) [
+        | inl (k, bank, at, in_bank) ↦ bank_name_no_input last k (width_at k) x (bank_names k bank at x (subst (λ z. Member z (map output_name bank.cells)) same (Member-map output_name c in_bank)))
+        | inr (k, stage, at, in_stage) ↦ stage_name_no_input k x (stage_names k stage at x (subst (λ z. Member z (map output_name stage.cells)) same (Member-map output_name c in_stage)))
+      ] in
       let like = input_is x input in
       absurd (omega (arith, unlike, like))
 
@@ -400,49 +355,13 @@ module _ (models : List Model) (are : AreModels models) (small : CanBeCompiled m
             pin_driven x c (member_at parts.cells k c at) in_pins
       ]
 
-  -- what is asked of parts before they are built
-  narrow_inputs : width_of models ≤ 128
-  narrow_inputs =
-      let (some, few) = width_bounds models are small 0 (omega arith) in
-      let first = width_first models are.some in
-      omega (arith, few, first)
-
-  narrow_outputs : answer_width models ≤ 128
-  narrow_outputs = (width_bounds models are small last (omega arith)).1
-
-  pub ports_differ : AllDiffer (port_names parts)
-  ports_differ = differ_from_apart (port_names parts) (subst AreApart (sym port_names_are) (names_of_ports-apart (width_of models) (answer_width models) narrow_inputs narrow_outputs))
-
-  pub length-ports : length parts.ports ≡ 2 * width_of models + 2 + (2 * answer_width models + 1)
-  length-ports =
-      let long = ap length port_names_are in
-      let inputs = length-append (pair_names (input_pairs (width_of models))) (codes "ki" ∷ codes "rst" ∷ []) in
-      let outputs = length-append (pair_names (output_pairs (answer_width models))) (codes "ko" ∷ []) in
-      let both = length-append (names_in (width_of models)) (names_out (answer_width models)) in
-      let of_inputs = length-pair_names (input_pairs (width_of models)) in
-      let of_outputs = length-pair_names (output_pairs (answer_width models)) in
-      let ins = length-map-range_with_len (port_pair (codes "i")) 1 (width_of models) in
-      let outs = length-map-range_with_len (port_pair (codes "o")) 1 (answer_width models) in
-      omega (arith, length-map parts.ports (λ (port : Port). port.name), long, inputs, outputs, both, of_inputs, of_outputs, ins, outs)
-
-  pub few_ports : length parts.ports ≤ 515
-  few_ports = omega (arith, length-ports, narrow_inputs, narrow_outputs)
-
-  pub all_pins : All HasAllPins parts.cells
-  all_pins = All-from_members HasAllPins parts.cells (λ c m.
-      elim (cell_cases c m) [
-        | inl (k, bank, at, in_bank) ↦
-            bank_all_pins (pairs_read (width_of models) stages k) (pairs_driven last k (width_at k)) (request_name last k) (codes "rst") (root_name k) (bank_prefix k) bank (fact_of k bank at).are c in_bank
-        | inr (k, stage, at, in_stage) ↦ holds_of HasAllPins stage.cells (stage_at k stage at).is.are.all_pins c in_stage
-      ])
-
-  -- no rule is broken, where there are as few cells as the size says
-  pub is_faultless : length parts.cells ≤ 8 * compile_size models → IsFaultless parts
-  is_faultless few_cells =
+  -- no rule is broken
+  pub is_faultless : IsFaultless parts
+  is_faultless =
       (few, differ_from_apart (cell_names parts) cells_apart, (λ net within. let one = once net within in omega (arith, one)), λ net within. let one = once net within in omega (arith, one))
     where
       few : length parts.cells ≤ 131072
-      few = let units = small.small in omega (arith, few_cells, units)
+      few = let units = small.small in omega (arith, few_cells models are small parts put, units)
 
       once : (net : ℕ) → net < length (nets_of parts) → drivers_at parts net ≡ 1
-      once = driven_once parts ports_differ outputs_apart no_input name_driven
+      once = driven_once parts (ports_differ models are small parts put) outputs_apart no_input name_driven

@@ -85,10 +85,10 @@ three-digits number =
 -- a letter, a number of three digits, and more
 pub numbered_plain : (letter number : ℕ) (tail : List ℕ) → is_letter letter ≡ true → list_all continues_word tail ≡ true → IsPlain (numbered letter number ++ tail)
 numbered_plain letter number tail is more =
-    let digits = three-digits number in
-    let (first, others) = and_parts (is_digit (48 + number / 100 % 10)) _ digits in
-    word_plain letter (48 + number / 100 % 10) ((48 + number / 10 % 10) ∷ (48 + number % 10) ∷ tail) is first
-    (continues-append ((48 + number / 10 % 10) ∷ (48 + number % 10) ∷ []) tail (digits_continue ((48 + number / 10 % 10) ∷ (48 + number % 10) ∷ []) others) more)
+    let digits = three-digits (number + 1) in
+    let (first, others) = and_parts (is_digit (48 + (number + 1) / 100 % 10)) _ digits in
+    word_plain letter (48 + (number + 1) / 100 % 10) ((48 + (number + 1) / 10 % 10) ∷ (48 + (number + 1) % 10) ∷ tail) is first
+    (continues-append ((48 + (number + 1) / 10 % 10) ∷ (48 + (number + 1) % 10) ∷ []) tail (digits_continue ((48 + (number + 1) / 10 % 10) ∷ (48 + (number + 1) % 10) ∷ []) others) more)
 
 -- a name that is made from a letter and a number
 name_bytes_continue : (xs : List ℕ) → list_all is_name_byte xs ≡ true → list_all continues_word xs ≡ true
@@ -118,8 +118,8 @@ root_plain (suc bank) = numbered_plain 97 (suc bank) [] refl refl
 
 -- an inner rail
 pub inner_plain : (bank bit : ℕ) (r : Bool) → IsPlain (name_at (inner_pair bank bit) r)
-inner_plain bank bit true = numbered_plain 119 bank (numbered 98 bit ++ codes "_1") refl (continues-append (numbered 98 bit) (codes "_1") (and_from (continues_word 98) _ refl (digits_continue (three_digits bit) (three-digits bit))) refl)
-inner_plain bank bit false = numbered_plain 119 bank (numbered 98 bit ++ codes "_0") refl (continues-append (numbered 98 bit) (codes "_0") (and_from (continues_word 98) _ refl (digits_continue (three_digits bit) (three-digits bit))) refl)
+inner_plain bank bit true = numbered_plain 119 bank (numbered 98 bit ++ codes "_1") refl (continues-append (numbered 98 bit) (codes "_1") (and_from (continues_word 98) _ refl (digits_continue (three_digits (bit + 1)) (three-digits (bit + 1)))) refl)
+inner_plain bank bit false = numbered_plain 119 bank (numbered 98 bit ++ codes "_0") refl (continues-append (numbered 98 bit) (codes "_0") (and_from (continues_word 98) _ refl (digits_continue (three_digits (bit + 1)) (three-digits (bit + 1)))) refl)
 
 -- digits, of which there is one
 abbrev AreDigits : List ℕ → Type 0
@@ -143,6 +143,6 @@ letter_digits_plain letter (d ∷ ds) tail is digits more =
     let (first, others) = and_parts (is_digit d) (list_all is_digit ds) digits.0 in
     word_plain letter d (ds ++ tail) is first (continues-append ds tail (digits_continue ds others) more)
 
-pub port_plain : (letter number : ℕ) (r : Bool) → is_letter letter ≡ true → number < 1000 → IsPlain (name_at (port_pair (letter ∷ []) number) r)
+pub port_plain : (letter number : ℕ) (r : Bool) → is_letter letter ≡ true → number < 999 → IsPlain (name_at (port_pair (letter ∷ []) number) r)
 port_plain letter number true is below = letter_digits_plain letter (decimal number) (codes "_1") is (decimal_digits number (omega (arith, below))) refl
 port_plain letter number false is below = letter_digits_plain letter (decimal number) (codes "_0") is (decimal_digits number (omega (arith, below))) refl

@@ -1,6 +1,6 @@
--- The names within a compiled netlist. Banks are counted from 0, and a bank and the stage after it go by one number,
--- which has three digits in all names, so that names ascend as the numbers do. Inner rails begin with `w`, roots with
--- `a`, and what banks and stages name themselves with `b` and `s`.
+-- The names within a compiled netlist. They number banks, stages and bits from 1, in three digits, so that names ascend
+-- as the numbers do; a bank and the stage after it have one number. Inner rails begin with `w`, roots with `a`, and what
+-- banks and stages name themselves with `b` and `s`. Here all places are counted from 0.
 use Rattle.std.specs.Prelude.{ℕ, zero, suc, ◌+◌, ◌/◌, ◌%◌, ◌==◌, List, [], ◌∷◌, ◌++◌, map, codes, if◌then◌else◌}
 use Rattle.std.specs.List.{range_with_len}
 use Rattle.ncl_netlist.specs.declared.parts.NamePair.{NamePair}
@@ -10,9 +10,9 @@ use Rattle.ncl_compile.specs.Ports.{output_pairs}
 abbrev pub three_digits : ℕ → List ℕ
 three_digits number = (48 + number / 100 % 10) ∷ (48 + number / 10 % 10) ∷ (48 + number % 10) ∷ []
 
--- a letter and a number, as `b` and 7 in `b007`
+-- a letter and the number of what stands at a place, as `b001` for the first bank
 abbrev pub numbered : ℕ → ℕ → List ℕ
-numbered letter number = letter ∷ three_digits number
+numbered letter place = letter ∷ three_digits (place + 1)
 
 -- what the names in a bank begin with, and those in the stage after it
 abbrev pub bank_prefix : ℕ → List ℕ
@@ -31,7 +31,7 @@ inner_pair bank bit = record {
 abbrev pub inner_pairs : ℕ → ℕ → List NamePair
 inner_pairs bank width = map (inner_pair bank) (range_with_len 0 width)
 
--- the rails that a bank drives, where this is the number of the last
+-- the rails that a bank drives, where the last bank has the place `last`
 abbrev pub pairs_driven : ℕ → ℕ → ℕ → List NamePair
 pairs_driven last bank width = if bank == last then output_pairs width else inner_pairs bank width
 

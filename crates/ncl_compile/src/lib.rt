@@ -7,5 +7,7 @@ mod naming;
 mod putting;
 mod sizing;
 mod stages;
+#[cfg(test)]
+mod tests;
 
 pub use compiling::compile;

@@ -20,13 +20,14 @@ fn three_digits(number: usize) -> [u8; 3]
     ]
 }
 
-/// A letter and three digits.
-pub fn numbered(alloc: Global, letter: u8, number: usize) -> Result<Vec<u8>, Memory>
-    ensures { IfOk result (λ name. name.items ≡ numbered letter number) }
+/// A letter, and in three digits the number, from 1, of what stands at a place.
+pub fn numbered(alloc: Global, letter: u8, place: usize) -> Result<Vec<u8>, Memory>
+    requires { place < 999 }
+    ensures { IfOk result (λ name. name.items ≡ numbered letter place) }
 {
     let mut bytes = Vec::new(alloc);
     bytes.push(letter)?;
-    bytes.extend_from_slice(&three_digits(number))?;
+    bytes.extend_from_slice(&three_digits(place + 1))?;
     Ok(bytes)
 }
 
@@ -57,7 +58,7 @@ fn port_pair(alloc: Global, letter: u8, number: usize) -> Result<NamePair, Memor
 
 /// The rails of the ports of this letter, from 1. Linear in their number.
 pub fn port_pairs(alloc: Global, letter: u8, width: usize) -> Result<Vec<NamePair>, Memory>
-    requires { width < 2 ^ 32 }
+    requires { width < 999 }
     ensures { IfOk result (λ pairs. pairs.items ≡ map (port_pair (letter ∷ [])) (range_with_len 1 width)) }
 {
     let mut pairs = Vec::new(alloc);
@@ -70,6 +71,8 @@ pub fn port_pairs(alloc: Global, letter: u8, width: usize) -> Result<Vec<NamePai
 
 /// The rails of a bit that a bank keeps.
 fn inner_pair(alloc: Global, bank: usize, bit: usize) -> Result<NamePair, Memory>
+    requires few_banks { bank < 999 }
+    requires few_bits { bit < 999 }
     ensures { IfOk result (λ pair. pair ≡ inner_pair bank bit) }
 {
     let mut stem = numbered(alloc, b'w', bank)?;
@@ -80,6 +83,8 @@ fn inner_pair(alloc: Global, bank: usize, bit: usize) -> Result<NamePair, Memory
 
 /// The rails that a bank keeps. Linear in their number.
 pub fn inner_pairs(alloc: Global, bank: usize, width: usize) -> Result<Vec<NamePair>, Memory>
+    requires few_banks { bank < 999 }
+    requires few_bits { width < 999 }
     ensures { IfOk result (λ pairs. pairs.items ≡ inner_pairs bank width) }
 {
     let mut pairs = Vec::new(alloc);
@@ -90,14 +95,15 @@ pub fn inner_pairs(alloc: Global, bank: usize, width: usize) -> Result<Vec<NameP
     Ok(pairs)
 }
 
-/// The rails that a bank drives, where the last bank has the number `last`. Linear in their number.
+/// The rails that a bank drives, where the last bank has the place `last`. Linear in their number.
 pub fn pairs_driven(
     alloc: Global,
     last: usize,
     bank: usize,
     width: usize,
 ) -> Result<Vec<NamePair>, Memory>
-    requires { width < 2 ^ 32 }
+    requires few_banks { bank < 999 }
+    requires few_bits { width < 999 }
     ensures { IfOk result (λ pairs. pairs.items ≡ pairs_driven last bank width) }
 {
     if bank == last {
@@ -108,6 +114,7 @@ pub fn pairs_driven(
 
 /// The root of a bank.
 pub fn root_name(alloc: Global, bank: usize) -> Result<Name, Memory>
+    requires { bank < 999 }
     ensures { IfOk result (λ name. name ≡ root_name bank) }
 {
     if bank == 0 {
@@ -117,9 +124,9 @@ pub fn root_name(alloc: Global, bank: usize) -> Result<Name, Memory>
     Name::from_bytes(alloc, &name)
 }
 
-/// What requests a bank, where the last bank has the number `last`.
+/// What requests a bank, where the last bank has the place `last`.
 pub fn request_name(alloc: Global, last: usize, bank: usize) -> Result<Name, Memory>
-    requires { bank < 2 ^ 32 }
+    requires { bank < 998 }
     ensures { IfOk result (λ name. name ≡ request_name last bank) }
 {
     if bank == last {

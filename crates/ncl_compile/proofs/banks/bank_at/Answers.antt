@@ -67,3 +67,6 @@ returns c =
     IfOk-weaker c.bank_between-2.result (IsBankBetween c.items.result.now (length models) c.args.number c.width_at-width.result) (IsBankBetween (pairs_read (width_of models) stages c.args.number) (length models) c.args.number (slice_index (widths_of models) c.args.number))
     (λ bank is. subst (λ l. IsBankBetween l (length models) c.args.number (slice_index (widths_of models) c.args.number) bank) (sym read) (subst (λ w. IsBankBetween c.items.result.now (length models) c.args.number w bank) width is))
     c.bank_between-2.ensures
+
+pub port_pairs-requires : goal.port_pairs-requires
+port_pairs-requires c = let bounds = width_bounds c.args.models.now c.requires.are_models c.requires.small c.args.number c.requires.within in let width = c.width_at-width.ensures in omega (arith, bounds.1, width)

@@ -5,7 +5,6 @@ use Rattle.ncl_compile.specs.Compiled.{Compiled}
 use Rattle.ncl_compile.proofs.CompiledParts.{is_compiled}
 use Rattle.ncl_compile.proofs.NetDrivers.{plain_nets, plain_cells, apart}
 use Rattle.ncl_compile.proofs.TextLength.{text_short}
-use Rattle.ncl_compile.proofs.CellCount.{few_cells}
 use Rattle.ncl_compile.proofs.PartsFaultless.{is_faultless}
 use Rattle.ncl_compile.proofs.PartPins.{all_pins, ports_differ, few_ports}
 use Rattle.ncl_compile.proofs.compiling.compile.Goals as goal
@@ -36,5 +35,5 @@ unreachable-requires c =
     let parts = c.in_ok-parts.parts in
     let small = c.in_ok-check_size.ensures.small in
     let put = c.in_ok-parts.ensures in
-    let faultless = is_faultless models c.requires small parts put (few_cells models c.requires small parts put) in
+    let faultless = is_faultless models c.requires small parts put in
     c.in_default.not-Memory (IsFaultOf-excludes parts c.in-Err.fault c.in-Err.ensures.fault faultless)

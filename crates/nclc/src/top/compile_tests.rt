@@ -90,12 +90,47 @@ fn is_accepted<R: Threads + Sync + Abort>(
     Ok(())
 }
 
+/// A model of so many inputs whose output is 1 at the words whose bit of `function` is set, the word 0 first.
+fn table(alloc: Global, inputs: usize, function: usize) -> Result<String, Fail> {
+    let names = if inputs == 2 { "a b" } else { "a b c" };
+    let mut text = format!(in alloc; ".inputs {names}\n.outputs y\n.names {names} y\n")?;
+    for word in 0usize..1 << inputs {
+        if function >> word & 1 == 1 {
+            for bit in 0..inputs {
+                text.push(if word >> bit & 1 == 1 { '1' } else { '0' })?;
+            }
+            text.push_str(" 1\n")?;
+        }
+    }
+    Ok(text)
+}
+
+/// Whether what a text compiles to is accepted.
+fn accepts<R: Threads + Sync>(rt: &R, alloc: Global, text: &str) -> Result<bool, Fail> {
+    let (compiled, netlist) = ask(rt, alloc, &["compile", "f"], text.as_bytes())?;
+    let (checked, written) = ask(rt, alloc, &["check", "f"], &netlist)?;
+    Ok(compiled == 0 && checked == 0 && written.starts_with(b"accepted banks=2 stages=1 "))
+}
+
+#[test]
+fn every_function_of_two_and_three_inputs_is_accepted(rt: HostRuntime) -> Result<(), Fail> {
+    let alloc = rt.alloc();
+    for (inputs, functions) in [(2usize, 16usize), (3, 256)] {
+        for function in 0..functions {
+            let text = table(alloc, inputs, function)?;
+            let accepted = accepts(&rt, alloc, &text)?;
+            assert!(rt; accepted, "{function} of {inputs}");
+        }
+    }
+    Ok(())
+}
+
 #[test]
 fn what_is_compiled_is_accepted(rt: HostRuntime) -> Result<(), Fail> {
     let alloc = rt.alloc();
     let long_chain = chain(alloc, 4000)?;
     let many_rows = rows(alloc, 8191)?;
-    let cases: [(&str, &str, &str); 6] = [
+    let cases: [(&str, &str, &str); 12] = [
         (
             "as Yosys writes",
             AS_YOSYS_WRITES,
@@ -107,6 +142,36 @@ fn what_is_compiled_is_accepted(rt: HostRuntime) -> Result<(), Fail> {
             "two stages",
             TWO_STAGES,
             "accepted banks=3 stages=2 cells=25\n",
+        ),
+        (
+            "a signal and its inverse",
+            ".inputs a b\n.outputs y b\n.names a n\n0 1\n.names a n y\n11 1\n",
+            "accepted banks=2 stages=1 cells=16\n",
+        ),
+        (
+            "a signal that is read twice",
+            ".inputs a b\n.outputs y\n.names a a b y\n11- 1\n--1 1\n",
+            "accepted banks=2 stages=1 cells=14\n",
+        ),
+        (
+            "an input and its inverse as outputs",
+            ".inputs a\n.outputs a n\n.names a n\n0 1\n",
+            "accepted banks=2 stages=1 cells=10\n",
+        ),
+        (
+            "one signal as two outputs",
+            ".inputs a b\n.outputs y y\n.names a b y\n11 1\n",
+            "accepted banks=2 stages=1 cells=16\n",
+        ),
+        (
+            "constants alone",
+            ".inputs a\n.outputs k l\n.names k\n1\n.names l\n",
+            "accepted banks=2 stages=1 cells=12\n",
+        ),
+        (
+            "an input that nothing reads",
+            ".inputs a b\n.outputs a\n",
+            "accepted banks=2 stages=1 cells=12\n",
         ),
         (
             "a long chain",

@@ -35,7 +35,9 @@ fn text_of(
         row.push_str("1")?;
     }
     for _ in 0..models {
-        text.push_str(&format!(in rt.alloc(); ".model m\n.inputs{names}\n.outputs y\n.names{names} y\n")?)?;
+        text.push_str(&format!(in rt.alloc();
+            ".model m\n.inputs{names}\n.outputs y\n.names{names} y\n"
+        )?)?;
         for _ in 0..rows {
             text.push_str(&format!(in rt.alloc(); "{row} 1\n")?)?;
         }
@@ -76,7 +78,11 @@ fn ports_and_cells_are_counted(rt: HostRuntime) -> Result<(), Fail> {
         // two gates join the input that nothing reads
         (".inputs a b\n.outputs y\n.names a y\n1 1\n", 9, 12),
         // a signal that is two outputs
-        (".inputs a\n.outputs y z\n.names a y\n1 1\n.names a z\n0 1\n", 9, 10),
+        (
+            ".inputs a\n.outputs y z\n.names a y\n1 1\n.names a z\n0 1\n",
+            9,
+            10,
+        ),
         // three banks
         (
             ".model f\n.inputs a\n.outputs y\n.names a y\n1 1\n.end\n\

@@ -56,3 +56,13 @@ pub mod Headline
 pub mod StepLaws
 pub mod SamePipelineLaws
 mod UnsoundLaws
+pub mod Counts
+pub mod ValueLists
+pub mod Mates
+pub mod RailPlaces
+pub mod SourceRails
+pub mod SourceCounts
+pub mod ProgramEnds
+pub mod ProgramSteps
+pub mod ResetDrivers
+pub mod SourceStart

@@ -26,7 +26,7 @@ use Rattle.ncl_machine.proofs.OfferedWords.{offered_waves}
 module _ {p : PipelineData} {l : Layout} (is : IsLayoutOf p l) where
   -- ---- the nets that are high at reset are those of the trees
 
-  abbrev OfTree : ℕ → Type 0
+  abbrev pub OfTree : ℕ → Type 0
   OfTree net = (j : ℕ) × (j < l.last) × Member net (l.tree_nets j)
 
   -- a cell that joins drives a net of a tree
@@ -44,12 +44,12 @@ module _ {p : PipelineData} {l : Layout} (is : IsLayoutOf p l) where
           let (j, lt, mj) = each x.0 high in
           absurd (is.apart k j x.0 le (omega (arith, lt)) (inputs-listed (is.is_stage k le) g n x r) mj)
 
-  of-tree : (net : ℕ) → tree_nets p.netlist net ≡ true → OfTree net
+  pub of-tree : (net : ℕ) → tree_nets p.netlist net ≡ true → OfTree net
   of-tree net high =
       rounds-each Cell net_of joins_tree p.netlist.cells OfTree no_nets (λ x low. absurd (both_ways false refl low)) joined (length p.netlist.cells) net high
 
   -- a cell of a tree joins, by what it reads
-  in-trees : (j : ℕ) → j < l.last → (c : Cell) → Member c (l.tree j) → tree_nets p.netlist c.out.0 ≡ true
+  pub in-trees : (j : ℕ) → j < l.last → (c : Cell) → Member c (l.tree j) → tree_nets p.netlist c.out.0 ≡ true
   in-trees j lt =
       up_the_tree is j lt (λ c. tree_nets p.netlist c.out.0 ≡ true)
       (λ c m b within on. settled c m (ap (λ q. joins_kind q (pin_values (tree_nets p.netlist) c.ins.items)) on.ack))

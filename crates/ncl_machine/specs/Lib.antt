@@ -9,3 +9,6 @@ pub mod IllShaped
 pub mod Composition
 pub mod OneChange
 pub mod Unsound
+pub mod Held
+pub mod Tallies
+pub mod ResetValues

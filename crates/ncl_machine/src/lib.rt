@@ -5,8 +5,16 @@
 pub mod examples;
 pub mod ill_shaped;
 pub mod laws;
+mod levels;
 mod pair;
+mod reset;
+mod state;
+#[cfg(test)]
+mod state_tests;
+mod step_fault;
 pub mod unsound;
 
 pub use ncl_shape::Item;
 pub use pair::Pair;
+pub use state::State;
+pub use step_fault::StepFault;

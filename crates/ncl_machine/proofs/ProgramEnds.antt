@@ -1,0 +1,118 @@
+-- The ends of a pipeline that has its shape, as a state keeps them: the rails of its inputs and outputs and its
+-- acknowledges differ and are nets, and no cell drives a rail of the inputs.
+use Rattle.std.proofs.Common.{◌≡◌, ◌≢◌, ℕ, ◌<◌, ◌≤◌, true, false, List, [], ◌∷◌, ◌++◌, map, length, Some, refl, sym, ap, ◌∙◌, subst, arith}
+use Rattle.std.specs.Prelude.{All, AllPairs, Contains, slice_get}
+use Rattle.ncl_base.specs.declared.word.TheConstants.{MOST_BITS}
+use Rattle.ncl_base.proofs.Lists.{pairs-head, pairs-tail}
+use Rattle.ncl_base.proofs.Members.{Member, here, there, All-from_members, Member-append_left, Member-from_Contains}
+use Rattle.std.proofs.lemmas.List.Kept.{AllPairs-cons}
+use Rattle.std.proofs.lemmas.Bool.{and_from, not_from_false, or_from}
+use Rattle.ncl_netlist.specs.declared.cell.Cell.{Cell}
+use Rattle.ncl_shape.specs.declared.rails.Rails.{Rails}
+use Rattle.ncl_shape.specs.Nets.{Nets}
+use Rattle.ncl_shape.specs.Pipeline.{PipelineData}
+use Rattle.ncl_shape.specs.Shape.{Shape}
+use Rattle.ncl_shape.specs.Stage.{rail_nets, out_of}
+use Rattle.ncl_layout.specs.Layout.{Layout, IsLayoutOf}
+use Rattle.ncl_layout.proofs.RailNets.{rail-place}
+use Rattle.ncl_layout.proofs.LaidOut.{laid_out_of}
+use Rattle.ncl_machine.proofs.CellNets.{output-no_source, source-no_ki}
+use Rattle.ncl_machine.specs.State.{reset_nets}
+use Rattle.ncl_machine.specs.Steps.{is_null}
+use Rattle.ncl_machine.proofs.Start.{stage-low}
+use Rattle.ncl_machine.proofs.StageNets.{ki-listed, root-listed}
+
+-- the first of two lists that are joined and differ
+left-differ : (xs ys : List ℕ) → AllPairs (λ x y. x ≢ y) (xs ++ ys) → AllPairs (λ x y. x ≢ y) xs
+left-differ [] ys differ = λ i j d before within. absurd (omega (arith, within))
+left-differ (x ∷ xs) ys differ =
+    AllPairs-cons (λ x y. x ≢ y) x xs
+    (All-from_members (λ y. x ≢ y) xs (λ y m. pairs-head (λ x y. x ≢ y) x (xs ++ ys) differ y (Member-append_left y ys m)))
+    (left-differ xs ys (pairs-tail (λ x y. x ≢ y) x (xs ++ ys) differ))
+
+module _ {p : PipelineData} {l : Layout} (is : IsLayoutOf p l) where
+  sink_rails : (l.stage l.last).inputs ≡ p.outputs
+  sink_rails = sym is.last_wires.1 ∙ is.sink
+
+  input_place : (net : ℕ) → Member net (rail_nets p.inputs) → Member net (rail_nets (l.stage 0).inputs)
+  input_place net m = subst (λ bits. Member net (rail_nets bits)) (sym is.source) m
+
+  no_cell : (i : ℕ) (c : Cell) → slice_get p.netlist.cells i ≡ Some c → Member c.out.0 (rail_nets p.inputs) → ⊥
+  no_cell i c at m =
+      let (b, r, lt, e) = rail-place (l.stage 0).inputs c.out.0 (input_place c.out.0 m) in
+      output-no_source is c (is.part_of i c at) b r lt (sym e)
+
+  no_ki : Member p.ki (rail_nets p.inputs) → ⊥
+  no_ki m =
+      let (b, r, lt, e) = rail-place (l.stage 0).inputs p.ki (input_place p.ki m) in
+      source-no_ki is b r lt (sym e)
+
+  inputs_apart : AllPairs (λ x y. x ≢ y) (rail_nets p.inputs)
+  inputs_apart =
+      subst (λ bits. AllPairs (λ x y. x ≢ y) (rail_nets bits)) is.source
+      (left-differ (rail_nets (l.stage 0).inputs) (map out_of (l.stage 0).cells) (is.is_stage 0 (omega arith)).nets_differ)
+
+  outputs_apart : AllPairs (λ x y. x ≢ y) (rail_nets p.outputs)
+  outputs_apart =
+      subst (λ bits. AllPairs (λ x y. x ≢ y) (rail_nets bits)) sink_rails
+      (left-differ (rail_nets (l.stage l.last).inputs) (map out_of (l.stage l.last).cells) (is.is_stage l.last (omega arith)).nets_differ)
+
+  inputs_within : (net : ℕ) → Member net (rail_nets p.inputs) → net < length p.netlist.nets
+  inputs_within net m = is.stage_within 0 net (omega arith) (Member-append_left net (map out_of (l.stage 0).cells) (input_place net m))
+
+  outputs_within : (net : ℕ) → Member net (rail_nets p.outputs) → net < length p.netlist.nets
+  outputs_within net m =
+      is.stage_within l.last net (omega arith) (Member-append_left net (map out_of (l.stage l.last).cells) (subst (λ bits. Member net (rail_nets bits)) (sym sink_rails) m))
+
+  few_outputs : length p.outputs ≤ MOST_BITS
+  few_outputs = subst (λ (bits : List Rails). length bits ≤ MOST_BITS) is.sink (is.is_stage l.last (omega arith)).few_outputs
+
+  ki_within : p.ki < length p.netlist.nets
+  ki_within = is.tree_within l.last p.ki (omega arith) (ki-listed is)
+
+  ko_within : p.ko < length p.netlist.nets
+  ko_within = subst (λ net. net < length p.netlist.nets) is.ko (is.tree_within 0 (l.root 0) (omega arith) (root-listed is 0 (omega arith)))
+
+  -- at reset the rails of the inputs and outputs are low
+  inputs_low : (net : ℕ) → Member net (rail_nets p.inputs) → reset_nets p net ≡ false
+  inputs_low net m = stage-low is 0 net (omega arith) (Member-append_left net (map out_of (l.stage 0).cells) (input_place net m))
+
+  outputs_low : (net : ℕ) → Member net (rail_nets p.outputs) → reset_nets p net ≡ false
+  outputs_low net m =
+      stage-low is l.last net (omega arith) (Member-append_left net (map out_of (l.stage l.last).cells) (subst (λ bits. Member net (rail_nets bits)) (sym sink_rails) m))
+
+-- bits whose rails are all low are NULL
+all_null : (v : Nets) (bits : List Rails) → ((net : ℕ) → Member net (rail_nets bits) → v net ≡ false) → is_null bits v ≡ true
+all_null v [] low = refl
+all_null v (r ∷ bits) low =
+    and_from _ _ (not_from_false _ (or_from _ _ (low r.zero.0 here) (low r.one.0 (there here)))) (all_null v bits (λ net m. low net (there (there m))))
+
+pub record AreProgramEnds (p : PipelineData) : Type 0 where
+  pub inputs_apart : AllPairs (λ x y. x ≢ y) (rail_nets p.inputs)
+  pub outputs_apart : AllPairs (λ x y. x ≢ y) (rail_nets p.outputs)
+  pub inputs_within : All (λ net. net < length p.netlist.nets) (rail_nets p.inputs)
+  pub outputs_within : All (λ net. net < length p.netlist.nets) (rail_nets p.outputs)
+  pub few_outputs : length p.outputs ≤ MOST_BITS
+  pub ki_apart : Contains (rail_nets p.inputs) p.ki → ⊥
+  pub ki_within : p.ki < length p.netlist.nets
+  pub ko_within : p.ko < length p.netlist.nets
+  pub inputs_low : (net : ℕ) → Member net (rail_nets p.inputs) → reset_nets p net ≡ false
+  pub outputs_null : is_null p.outputs (reset_nets p) ≡ true
+  pub driven : (i : ℕ) (c : Cell) → slice_get p.netlist.cells i ≡ Some c → Contains (rail_nets p.inputs) c.out.0 → ⊥
+
+pub program_ends : (p : PipelineData) → Shape p.netlist p → AreProgramEnds p
+program_ends p shape =
+    let (l, is) = laid_out_of p.netlist p shape in
+    record {
+      inputs_apart = inputs_apart is;
+      outputs_apart = outputs_apart is;
+      inputs_within = All-from_members _ (rail_nets p.inputs) (inputs_within is);
+      outputs_within = All-from_members _ (rail_nets p.outputs) (outputs_within is);
+      few_outputs = few_outputs is;
+      ki_apart = λ some. no_ki is (Member-from_Contains (rail_nets p.inputs) p.ki some);
+      ki_within = ki_within is;
+      ko_within = ko_within is;
+      inputs_low = inputs_low is;
+      outputs_null = all_null (reset_nets p) p.outputs (outputs_low is);
+      driven = λ i c at some. no_cell is i c at (Member-from_Contains (rail_nets p.inputs) c.out.0 some);
+    }

@@ -1,0 +1,147 @@
+-- The count of the rails that the source has raised, as nets change.
+use Rattle.std.proofs.Common.{◌≡◌, ◌≢◌, ℕ, zero, suc, ◌+◌, ◌<◌, ◌≤◌, Bool, true, false, not, List, length, set, None, Some, length-set, inl, inr, refl, sym, ap, ◌∙◌, subst, arith}
+use Rattle.std.specs.Prelude.{All, Contains, slice_get, nat_eq}
+use Rattle.std.specs.List.{list_all}
+use Rattle.std.proofs.lemmas.Bool.{eqb-true, false_from_ne_true}
+use Rattle.std.proofs.lemmas.List.Elements.{All-contains}
+use Rattle.std.proofs.lemmas.Option.{slice_get_within}
+use Rattle.ncl_base.proofs.Members.{Member, All-from_members, Contains-from_Member, Contains-from_slice_get, Member-from_Contains}
+use Rattle.ncl_shape.specs.Nets.{put}
+use Rattle.ncl_shape.specs.Stage.{rail_nets}
+use Rattle.ncl_machine.specs.declared.pair.Pair.{Pair}
+use Rattle.ncl_machine.specs.Steps.{rails_of_word}
+use Rattle.ncl_machine.specs.Held.{Held, value_of}
+use Rattle.ncl_machine.specs.Tallies.{count_of, current_word, other_rails, rails_beside, IsCounted}
+use Rattle.ncl_machine.proofs.AtWorkLaws.{put-elsewhere}
+use Rattle.ncl_machine.proofs.Counts.{count-all, count-few, count-none, count-same, count-some, count-nothing, count-rises, count-falls}
+use Rattle.ncl_machine.proofs.LocalNets.{put-here}
+use Rattle.ncl_machine.proofs.SourceRails.{current-within, beside-within, current-apart, beside-apart, all_rails, length-current}
+use Rattle.ncl_machine.proofs.ValueLists.{value_of-set}
+
+module _ (h : Held) (raised : ℕ) (is : IsCounted h raised) where
+  -- the current word, if there is one, has a bit for each input
+  pub wide : (word : List Bool) → slice_get h.offered h.done ≡ Some word → length word ≡ length h.inputs
+  wide word at = All-contains (λ (w : List Bool). length w ≡ length h.inputs) h.offered word is.words (Contains-from_slice_get h.offered h.done word at)
+
+  module _ (net : ℕ) (value : Bool) (within : net < length h.values) where
+    abbrev new : List Bool
+    new = set h.values net value
+
+    elsewhere : (x : ℕ) → net ≢ x → value_of (set h.values net value) x ≡ value_of h.values x
+    elsewhere x apart = ap (λ v. v x) (value_of-set h.values net value within) ∙ put-elsewhere (value_of h.values) net x value apart
+
+    inside : (x : ℕ) → x < length h.values → x < length (set h.values net value)
+    inside x lt = subst (λ n. x < n) (sym (length-set h.values net value)) lt
+
+    all_inside : All (λ x. x < length (set h.values net value)) (rail_nets h.inputs)
+    all_inside = subst (λ n. All (λ x. x < n) (rail_nets h.inputs)) (sym (length-set h.values net value)) is.within
+
+    -- a net that is no rail of the inputs
+    pub apart-counted : (Contains (rail_nets h.inputs) net → ⊥) → (delivered : List Pair)
+        → IsCounted (record h { values = set h.values net value; delivered = delivered }) raised
+    apart-counted apart delivered = record {
+      words = is.words;
+      apart = is.apart;
+      within = all_inside;
+      ki_apart = is.ki_apart;
+      ki_within = inside h.ki is.ki_within;
+      ko_within = inside h.ko is.ko_within;
+      count = is.count ∙ sym (count-same (value_of h.values) (value_of (set h.values net value)) (current_word h)
+          (λ x m. elsewhere x (off x (current-within h.inputs (slice_get h.offered h.done) x m))));
+      others = All-from_members (λ x. value_of (set h.values net value) x ≡ false) (other_rails h)
+          (λ x m. elsewhere x (off x (beside-within h.inputs (slice_get h.offered h.done) x m)) ∙ All-contains (λ y. value_of h.values y ≡ false) (other_rails h) x is.others (Contains-from_Member x m));
+    }
+      where
+        off : (x : ℕ) → Member x (rail_nets h.inputs) → net ≢ x
+        off x m e = apart (Contains-from_Member net (subst (λ y. Member y (rail_nets h.inputs)) (sym e) m))
+
+    -- a rail of the current word: the others keep their values
+    module _ (named : Contains (current_word h) net) where
+      is_named : Member net (current_word h)
+      is_named = Member-from_Contains (current_word h) net named
+
+      others_low : (x : ℕ) → Member x (other_rails h) → value_of (set h.values net value) x ≡ false
+      others_low x m =
+          elsewhere x (λ e. beside-apart h.inputs is.apart (slice_get h.offered h.done) net is_named (subst (λ y. Member y (other_rails h)) (sym e) m))
+          ∙ All-contains (λ y. value_of h.values y ≡ false) (other_rails h) x is.others (Contains-from_Member x m)
+
+      -- with the count that there is then
+      pub named-counted : (falling : Bool) (count : ℕ) → count ≡ count_of (value_of (set h.values net value)) (current_word h)
+          → IsCounted (record h { values = set h.values net value; falling = falling }) count
+      named-counted falling count so = record {
+        words = is.words;
+        apart = is.apart;
+        within = all_inside;
+        ki_apart = is.ki_apart;
+        ki_within = inside h.ki is.ki_within;
+        ko_within = inside h.ko is.ko_within;
+        count = so;
+        others = All-from_members (λ x. value_of (set h.values net value) x ≡ false) (other_rails h) others_low;
+      }
+
+      -- where none is high, the next word begins
+      all_low : 0 ≡ count_of (value_of (set h.values net value)) (current_word h) → (x : ℕ) → Member x (rail_nets h.inputs) → value_of (set h.values net value) x ≡ false
+      all_low none =
+          all_rails (λ x. value_of (set h.values net value) x ≡ false) h.inputs (slice_get h.offered h.done) wide
+          (λ x m. false_from_ne_true _ (λ high. let some = count-some (value_of (set h.values net value)) (current_word h) x m high in omega (arith, none, some)))
+          others_low
+
+      pub next-counted : 0 ≡ count_of (value_of (set h.values net value)) (current_word h)
+          → IsCounted (record h { values = set h.values net value; falling = false; done = h.done + 1 }) 0
+      next-counted none = record {
+        words = is.words;
+        apart = is.apart;
+        within = all_inside;
+        ki_apart = is.ki_apart;
+        ki_within = inside h.ki is.ki_within;
+        ko_within = inside h.ko is.ko_within;
+        count = sym (count-nothing (value_of (set h.values net value)) _ (λ x m. all_low none x (current-within h.inputs (slice_get h.offered (h.done + 1)) x m)));
+        others = All-from_members (λ x. value_of (set h.values net value) x ≡ false) _
+            (λ x m. all_low none x (beside-within h.inputs (slice_get h.offered (h.done + 1)) x m));
+      }
+
+      -- all are high where the count is that of the inputs, and all are low where it is 0
+      pub all_raised : (count : ℕ) → count ≡ count_of (value_of (set h.values net value)) (current_word h)
+          → nat_eq count (length h.inputs) ≡ list_all (value_of (set h.values net value)) (current_word h)
+      all_raised count so =
+          ap (λ n. nat_eq n (length h.inputs)) so
+          ∙ ap (nat_eq (count_of (value_of (set h.values net value)) (current_word h))) (sym (length-current h.inputs (slice_get h.offered h.done) wide net is_named))
+          ∙ sym (count-all (value_of (set h.values net value)) (current_word h))
+
+      pub all_lowered : (count : ℕ) → count ≡ count_of (value_of (set h.values net value)) (current_word h)
+          → nat_eq count 0 ≡ list_all (λ rail. not (value_of (set h.values net value) rail)) (current_word h)
+      all_lowered count so = ap (λ n. nat_eq n 0) so ∙ sym (count-none (value_of (set h.values net value)) (current_word h))
+
+  -- one more is high where a rail is raised, one less where one is lowered
+  module _ (net : ℕ) (within : net < length h.values) (named : Contains (current_word h) net) where
+    is_one : Member net (current_word h)
+    is_one = Member-from_Contains (current_word h) net named
+
+    pub count_raised : value_of h.values net ≡ false → raised + 1 ≡ count_of (value_of (set h.values net true)) (current_word h)
+    count_raised low =
+        let up = count-rises (value_of h.values) net (current_word h) (current-apart h.inputs is.apart (slice_get h.offered h.done)) is_one low in
+        let same = ap (λ v. count_of v (current_word h)) (value_of-set h.values net true within) in
+        let before = is.count in
+        omega (arith, up, same, before)
+
+    pub count_lowered : value_of h.values net ≡ true → raised ≡ count_of (value_of (set h.values net false)) (current_word h) + 1
+    count_lowered high =
+        let down = count-falls (value_of h.values) net (current_word h) (current-apart h.inputs is.apart (slice_get h.offered h.done)) is_one high in
+        let same = ap (λ v. count_of v (current_word h)) (value_of-set h.values net false within) in
+        let before = is.count in
+        omega (arith, down, same, before)
+
+    -- there are no more than inputs
+    pub few_raised : (v : ℕ → Bool) → count_of v (current_word h) ≤ length h.inputs
+    few_raised v =
+        let few = count-few v (current_word h) in
+        let long = length-current h.inputs (slice_get h.offered h.done) wide net is_one in
+        omega (arith, few, long)
+
+    -- and there is a current word
+    pub word_there : h.done < length h.offered
+    word_there = by_word (slice_get h.offered h.done) refl is_one
+      where
+        by_word : (o : _) → slice_get h.offered h.done ≡ o → Member net (rails_of_word h.inputs o) → h.done < length h.offered
+        by_word None at m = elim m [ ]
+        by_word (Some word) at m = slice_get_within h.offered h.done word at

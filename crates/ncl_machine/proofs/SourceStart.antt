@@ -1,0 +1,45 @@
+-- At reset no rail is raised.
+use Rattle.std.proofs.Common.{◌≡◌, ℕ, ◌<◌, false, List, [], Bool, length, sym, ap, ◌∙◌, subst}
+use Rattle.std.specs.Prelude.{All, Contains, slice_get}
+use Rattle.std.proofs.lemmas.List.Elements.{All-from_recursion}
+use Rattle.ncl_base.proofs.Members.{Member, All-from_members}
+use Rattle.ncl_shape.specs.declared.rails.Rails.{Rails}
+use Rattle.ncl_shape.specs.Pipeline.{PipelineData}
+use Rattle.ncl_shape.specs.Stage.{rail_nets}
+use Rattle.ncl_machine.specs.declared.pair.Pair.{Pair}
+use Rattle.ncl_machine.specs.State.{reset_nets}
+use Rattle.ncl_machine.specs.Run.{AreWordsOf}
+use Rattle.ncl_machine.specs.Steps.{rails_of_word}
+use Rattle.ncl_machine.specs.Held.{Held, value_of}
+use Rattle.ncl_machine.specs.Tallies.{IsCounted, LevelsData, rails_beside}
+use Rattle.ncl_machine.proofs.Counts.{count-nothing}
+use Rattle.ncl_machine.proofs.ProgramEnds.{AreProgramEnds}
+use Rattle.ncl_machine.proofs.SourceRails.{current-within, beside-within}
+
+abbrev pub at_start : PipelineData → List (List Bool) → List Bool → Held
+at_start p words values = record { inputs = p.inputs; outputs = p.outputs; ki = p.ki; ko = p.ko; offered = words; values = values; done = 0; falling = false; delivered = [] }
+
+pub start_counted : (p : PipelineData) → AreProgramEnds p → (words : List (List Bool)) → AreWordsOf p words → (values : List Bool)
+    → length values ≡ length p.netlist.nets → value_of values ≡ reset_nets p → IsCounted (at_start p words values) 0
+start_counted p ends words wide values long are = record {
+  words = All-from_recursion (λ (word : List Bool). length word ≡ length p.inputs) words wide;
+  apart = ends.inputs_apart;
+  within = subst (λ n. All (λ net. net < n) (rail_nets p.inputs)) (sym long) ends.inputs_within;
+  ki_apart = ends.ki_apart;
+  ki_within = subst (λ n. p.ki < n) (sym long) ends.ki_within;
+  ko_within = subst (λ n. p.ko < n) (sym long) ends.ko_within;
+  count = sym (count-nothing (value_of values) (rails_of_word p.inputs (slice_get words 0)) (λ net m. low net (current-within p.inputs (slice_get words 0) net m)));
+  others = All-from_members (λ net. value_of values net ≡ false) (rails_beside p.inputs (slice_get words 0)) (λ net m. low net (beside-within p.inputs (slice_get words 0) net m));
+}
+  where
+    low : (net : ℕ) → Member net (rail_nets p.inputs) → value_of values net ≡ false
+    low net m = ap (λ v. v net) are ∙ ends.inputs_low net m
+
+-- the same by its fields
+pub start_same : (p : PipelineData) (words : List (List Bool)) (values : List Bool) (inputs outputs : List Rails) (d : LevelsData) (ki ko : ℕ) (offered : List (List Bool)) (delivered : List Pair)
+    → inputs ≡ p.inputs → d ≡ (record { values = values; outputs = outputs }) → outputs ≡ p.outputs → ki ≡ p.ki → ko ≡ p.ko → offered ≡ words → delivered ≡ []
+    → at_start p words values ≡ (record { inputs = inputs; outputs = d.outputs; ki = ki; ko = ko; offered = offered; values = d.values; done = 0; falling = false; delivered = delivered })
+start_same p words values inputs outputs d ki ko offered delivered e f g h i j k =
+    let outputs_same : d.outputs ≡ p.outputs = ap (λ (d : LevelsData). d.outputs) f ∙ g in
+    let values_same : d.values ≡ values = ap (λ (d : LevelsData). d.values) f in
+    cc

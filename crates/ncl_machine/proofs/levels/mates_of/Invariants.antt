@@ -1,0 +1,9 @@
+use Rattle.std.proofs.Common.{◌≡◌, ℕ, length, take, get_or, Option, None}
+use Rattle.ncl_machine.specs.Tallies.{mate_in}
+use Rattle.ncl_machine.proofs.levels.mates_of.Given as goal
+
+abbrev pub invariant-loop-bit : goal.invariant-loop-bit
+invariant-loop-bit l = record {
+  as_many : length l.mates.items ≡ l.nets;
+  each : (net : ℕ) → get_or l.mates.items net None ≡ mate_in (take l.bit-index l.bits) net;
+}

@@ -1,0 +1,11 @@
+-- The first of options that is there.
+use Rattle.std.proofs.Common.{◌≡◌, Option, Some, None, refl}
+use Rattle.std.specs.Option.{option_or}
+
+pub option_or-none : {X : Type 0} (o : Option X) → option_or o None ≡ o
+option_or-none None = refl
+option_or-none (Some x) = refl
+
+pub option_or_assoc : {X : Type 0} (o p q : Option X) → option_or (option_or o p) q ≡ option_or o (option_or p q)
+option_or_assoc None p q = refl
+option_or_assoc (Some x) p q = refl

@@ -1,0 +1,83 @@
+-- Delays after one more line.
+use Rattle.std.proofs.Common.{◌≡◌, ℕ, suc, ◌+◌, Bool, true, false, not, ◌||◌, cond, List, [], ◌∷◌, ◌++◌, length, map, set, Option, Some, None, refl, sym, ap, subst, ◌∙◌, arith}
+use Rattle.std.specs.Prelude.{unwrap_or}
+use Rattle.std.specs.List.{list_any, AllByRecursion}
+use Rattle.std.specs.Option.{option_or}
+use Rattle.std.proofs.lemmas.Map.Keys.{IsDistinct-head, IsDistinct-tail}
+use Rattle.std.proofs.lemmas.Simd.{splat_is_map}
+use Rattle.ncl_netlist.specs.Names.{same_name, AllDiffer, number_of}
+use Rattle.ncl_netlist.proofs.NameLists.{equal_names}
+use Rattle.ncl_blif.specs.Lines.{NumberedText}
+use Rattle.ncl_delay.specs.declared.delays.Edges.{Edges}
+use Rattle.ncl_delay.specs.declared.statement.Thing.{Thing}
+use Rattle.ncl_delay.specs.declared.statement.Thing.TheVariants.{Default, Source, Sink, Cell}
+use Rattle.ncl_delay.specs.declared.statement.Statement.{Statement}
+use Rattle.ncl_delay.specs.Delays.{DelaysData}
+use Rattle.ncl_delay.specs.DelayText.{said_in, said_of, same_thing, stated, stated_delays, unit_edges, is_known}
+use Rattle.ncl_delay.proofs.FirstOf.{option_or-none, option_or_assoc}
+use Rattle.ncl_delay.specs.Put.{put, unstated}
+
+-- what is stated of a thing with one more line: what that line says of it, or what was stated
+stated-push : (thing : Thing) (lines : List NumberedText) (line : NumberedText) → stated thing (lines ++ line ∷ []) ≡ option_or (said_of thing (said_in line)) (stated thing lines)
+stated-push thing [] line = sym (option_or-none (said_of thing (said_in line)))
+stated-push thing (first ∷ lines) line =
+    ap (λ o. option_or o (said_of thing (said_in first))) (stated-push thing lines line)
+    ∙ option_or_assoc (said_of thing (said_in line)) (stated thing lines) (said_of thing (said_in first))
+
+-- what a name has once a name got these delays
+abbrev renewed : List ℕ → Edges → (List ℕ → Option Edges) → List ℕ → Option Edges
+renewed name edges before other = option_or (cond (same_name name other) (Some edges) None) (before other)
+
+others_stay : (names : List (List ℕ)) (name : List ℕ) (edges : Edges) (before : List ℕ → Option Edges) → AllByRecursion (λ other. same_name name other ≡ false) names → map (renewed name edges before) names ≡ map before names
+others_stay [] name edges before apart = refl
+others_stay (other ∷ names) name edges before apart =
+    (λ i. option_or (cond (apart.0 i) (Some edges) None) (before other) ∷ others_stay names name edges before apart.1 i)
+
+-- among names that differ, one place is renewed
+renewed-set : (names : List (List ℕ)) (name : List ℕ) (edges : Edges) (before : List ℕ → Option Edges) → AllDiffer names → list_any (same_name name) names ≡ true → map (renewed name edges before) names ≡ set (map before names) (number_of names name) (Some edges)
+renewed-set [] name edges before differ known = cc
+renewed-set (other ∷ names) name edges before differ known = by (same_name name other) refl (renewed-set names name edges before (IsDistinct-tail same_name other names differ))
+  where
+    by : (b : Bool) → same_name name other ≡ b → (list_any (same_name name) names ≡ true → map (renewed name edges before) names ≡ set (map before names) (number_of names name) (Some edges)) → map (renewed name edges before) (other ∷ names) ≡ set (map before (other ∷ names)) (number_of (other ∷ names) name) (Some edges)
+    by true same rest =
+        let apart = subst (λ it. AllByRecursion (λ y. same_name it y ≡ false) names) (sym (equal_names name other same)) (IsDistinct-head same_name other names differ) in
+        let place : number_of (other ∷ names) name ≡ 0 = ap (λ c. cond (not c) (1 + number_of names name) 0) same in
+        (λ i. option_or (cond (same i) (Some edges) None) (before other) ∷ others_stay names name edges before apart i)
+        ∙ sym (ap (λ n. set (map before (other ∷ names)) n (Some edges)) place)
+    by false same rest =
+        let later : list_any (same_name name) names ≡ true = sym (ap (λ c. c || list_any (same_name name) names) same) ∙ known in
+        let one : 1 + number_of names name ≡ suc (number_of names name) = omega arith in
+        let place : number_of (other ∷ names) name ≡ suc (number_of names name) = ap (λ c. cond (not c) (1 + number_of names name) 0) same ∙ one in
+        (λ i. option_or (cond (same i) (Some edges) None) (before other) ∷ rest later i)
+        ∙ sym (ap (λ n. set (map before (other ∷ names)) n (Some edges)) place)
+
+-- what is stated of a thing once another thing got these delays
+abbrev after : Edges → Thing → List NumberedText → Thing → Option Edges
+after edges thing lines of = option_or (cond (same_thing thing of) (Some edges) None) (stated of lines)
+
+abbrev all_after : List (List ℕ) → Edges → Thing → List NumberedText → DelaysData
+all_after names edges thing lines = record {
+  default = unwrap_or (after edges thing lines Default) unit_edges;
+  cells = map (λ name. after edges thing lines (Cell name)) names;
+  source = unwrap_or (after edges thing lines Source) unit_edges;
+  sink = unwrap_or (after edges thing lines Sink) unit_edges;
+}
+
+put-after : (names : List (List ℕ)) (lines : List NumberedText) (edges : Edges) (thing : Thing) → AllDiffer names → is_known names thing ≡ true → put names (stated_delays names lines) edges thing ≡ all_after names edges thing lines
+put-after names lines edges Default differ known = refl
+put-after names lines edges Source differ known = refl
+put-after names lines edges Sink differ known = refl
+put-after names lines edges (Cell name) differ known =
+    (λ i. record (stated_delays names lines) { cells = sym (renewed-set names name edges (λ other. stated (Cell other) lines) differ known) i })
+
+-- what lines state, with one more line that states this
+pub put-stated : (names : List (List ℕ)) (lines : List NumberedText) (line : NumberedText) (s : Statement) → AllDiffer names → said_in line ≡ Some s → is_known names s.thing ≡ true → put names (stated_delays names lines) s.edges s.thing ≡ stated_delays names (lines ++ line ∷ [])
+put-stated names lines line s differ says known =
+    let at : (of : Thing) → stated of (lines ++ line ∷ []) ≡ after s.edges s.thing lines of =
+    λ of. stated-push of lines line ∙ ap (λ o. option_or (said_of of o) (stated of lines)) says in
+    put-after names lines s.edges s.thing differ known
+    ∙ (λ i. record { default = unwrap_or (sym (at Default) i) unit_edges; cells = map (λ name. sym (at (Cell name)) i) names; source = unwrap_or (sym (at Source) i) unit_edges; sink = unwrap_or (sym (at Sink) i) unit_edges })
+
+-- where no line is read, nothing is stated
+pub unstated-stated : (names : List (List ℕ)) → unstated (length names) ≡ stated_delays names []
+unstated-stated names = λ i. record (unstated (length names)) { cells = splat_is_map names (length names) None refl i }

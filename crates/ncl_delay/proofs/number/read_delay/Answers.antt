@@ -1,0 +1,40 @@
+use Rattle.std.proofs.Common.{◌≡◌, ℕ, ◌+◌, ◌^◌, ◌<◌, ◌≤◌, ◌&&◌, List, length, take, get_or, sym, ap, ◌∙◌, arith}
+use Rattle.std.proofs.Math.Nat.{pow-le-pow_right}
+use Rattle.std.proofs.lemmas.List.{length-take-le}
+use Rattle.std.proofs.lemmas.List.Folds.{list_all_more}
+use Rattle.std.proofs.lemmas.Int.Digits.{digits_value-lt, digits_value_more, digits_more}
+use Rattle.std.proofs.lemmas.Str.{digit_value_digit}
+use Rattle.std.specs.Char.{digit_value, is_ascii_digit}
+use Rattle.std.specs.Str.Parse.{AllDigits, digits_value}
+use Rattle.ncl_delay.proofs.number.read_delay.Goals as goal
+
+-- the value of at most six digits of a text
+value_few : (word : List ℕ) (i : ℕ) → i < length word → length word ≤ 7 → AllDigits 10 (take i word) → digits_value 10 (take i word) < 1000000
+value_few word i within few digits =
+    let count : length (take i word) ≡ i = length-take-le i word (omega arith) in
+    let within_few : i ≤ 6 = omega arith in
+    let most : 10 ^ i ≤ 10 ^ 6 = pow-le-pow_right (omega arith) {j = 6} within_few in
+    omega (arith, digits_value-lt 10 (take i word) digits, ap (λ n. 10 ^ n) count, most)
+
+pub overflow_mul-value : goal.overflow_mul-value
+overflow_mul-value c =
+    let few = value_few c.args.word.now c.loop-byte.byte-index c.loop-byte-test.true (omega arith) c.loop-byte.invariant.1 in
+    omega (arith, few, c.loop-byte.invariant.2)
+
+pub overflow_add-value : goal.overflow_add-value
+overflow_add-value c =
+    let few = value_few c.args.word.now c.loop-byte.byte-index c.loop-byte-test.true (omega arith) c.loop-byte.invariant.1 in
+    let digit = c.if-not-is_ascii_digit.ensures {u = tt} in
+    omega (arith, few, c.loop-byte.invariant.2, digit.cases)
+
+pub loop-byte-preserved : goal.loop-byte-preserved
+loop-byte-preserved c =
+    let word = c.args.word.now in
+    let i = c.loop-byte.byte-index in
+    let within = c.loop-byte-test.true in
+    let digit = c.if-not-is_ascii_digit.ensures {u = tt} in
+    let worth : digit_value (get_or word i 0) + 48 ≡ get_or word i 0 = digit_value_digit (get_or word i 0) digit.cases in (
+      list_all_more is_ascii_digit word i 0 within ∙ ap (λ b. b && is_ascii_digit (get_or word i 0)) c.loop-byte.invariant.0 ∙ sym digit.value,
+      digits_more 10 word i within c.loop-byte.invariant.1 digit.bound,
+      omega (arith, c.loop-byte.invariant.2, digits_value_more 10 word i within, c.from.ensures, worth),
+    )

@@ -1,0 +1,118 @@
+-- What a file of delays states, and what breaks its lines.
+use Rattle.std.specs.Prelude.{ℕ, List, [], ◌∷◌, Bool, true, false, ◌&&◌, if◌then◌else◌, Option, Some, None, codes, length, map, nat_le, unwrap_or}
+use Rattle.std.specs.List.{list_all, list_any}
+use Rattle.std.specs.Char.{is_ascii_digit}
+use Rattle.std.specs.Option.{option_or}
+use Rattle.std.specs.Str.{bytes_eq}
+use Rattle.std.specs.Str.Parse.{digits_value}
+use Rattle.ncl_netlist.specs.Names.{same_name}
+use Rattle.ncl_netlist.specs.Netlist.{NetlistData}
+use Rattle.ncl_blif.specs.Lines.{NumberedText, words_of}
+use Rattle.ncl_delay.specs.declared.delays.Edges.{Edges}
+use Rattle.ncl_delay.specs.declared.delays.TheConstants.{MOST_DELAY}
+use Rattle.ncl_delay.specs.declared.number.TheConstants.{MOST_DIGITS}
+use Rattle.ncl_delay.specs.declared.statement.Thing.{Thing}
+use Rattle.ncl_delay.specs.declared.statement.Thing.TheVariants.{Default, Source, Sink, Cell}
+use Rattle.ncl_delay.specs.declared.statement.Statement.{Statement}
+use Rattle.ncl_delay.specs.declared.fault.DelayFault.{DelayFault}
+use Rattle.ncl_delay.specs.declared.fault.DelayFault.TheVariants.{Syntax, UnknownCell}
+use Rattle.ncl_delay.specs.Delays.{DelaysData}
+
+-- the names of the cells, in the order of their numbers
+abbrev pub cell_names : NetlistData → List (List ℕ)
+cell_names n = map (λ cell. cell.name) n.cells
+
+-- whether a word is a delay: 1 to 7 decimal digits with a value of 1 to 1,000,000
+abbrev pub is_delay_text : List ℕ → Bool
+is_delay_text word =
+    nat_le 1 (length word) && nat_le (length word) MOST_DIGITS && list_all is_ascii_digit word
+    && nat_le 1 (digits_value 10 word) && nat_le (digits_value 10 word) MOST_DELAY
+
+-- the delay of a word
+abbrev pub delay_text : List ℕ → Option ℕ
+delay_text word = if is_delay_text word then Some (digits_value 10 word) else None
+
+abbrev pub both_edges : Option ℕ → Option ℕ → Option Edges
+both_edges None fall = None
+both_edges (Some rise) None = None
+both_edges (Some rise) (Some fall) = Some (record { rise = rise; fall = fall })
+
+-- the delays of two words, rising first
+abbrev pub edges_text : List ℕ → List ℕ → Option Edges
+edges_text rise fall = both_edges (delay_text rise) (delay_text fall)
+
+-- the thing that a word stands for
+abbrev pub thing_text : List ℕ → Option Thing
+thing_text word =
+    if bytes_eq word (codes "default") then Some Default
+    else (if bytes_eq word (codes "source") then Some Source
+    else (if bytes_eq word (codes "sink") then Some Sink else None))
+
+-- the cell that a word and a name stand for
+abbrev pub cell_text : List ℕ → List ℕ → Option Thing
+cell_text word name = if bytes_eq word (codes "cell") then Some (Cell name) else None
+
+-- the statement of a thing and its delays, where both are there
+abbrev pub stating : Option Thing → Option Edges → Option Statement
+stating None edges = None
+stating (Some thing) None = None
+stating (Some thing) (Some edges) = Some (record { thing = thing; edges = edges })
+
+-- what the words of a line state: `default R F`, `source R F`, `sink R F` or `cell NAME R F`
+abbrev pub said : List (List ℕ) → Option Statement
+said (word ∷ rise ∷ fall ∷ []) = stating (thing_text word) (edges_text rise fall)
+said (word ∷ name ∷ rise ∷ fall ∷ []) = stating (cell_text word name) (edges_text rise fall)
+said words = None
+
+-- what a line states
+abbrev pub said_in : NumberedText → Option Statement
+said_in line = said (words_of line.text)
+
+-- whether a cell has the name
+abbrev pub is_known : List (List ℕ) → Thing → Bool
+is_known names (Cell name) = list_any (same_name name) names
+is_known names thing = true
+
+-- what breaks a line of this number that states this: it is of none of the forms, or names no cell
+abbrev pub statement_fault : List (List ℕ) → ℕ → Option Statement → Option DelayFault
+statement_fault names number None = Some (Syntax number)
+statement_fault names number (Some s) = if is_known names s.thing then None else Some (UnknownCell number)
+
+abbrev pub line_fault : List (List ℕ) → NumberedText → Option DelayFault
+line_fault names line = statement_fault names line.number (said_in line)
+
+-- what breaks the first broken line, where the cells have these names
+abbrev pub fault_in : List (List ℕ) → List NumberedText → Option DelayFault
+fault_in names [] = None
+fault_in names (line ∷ lines) = option_or (line_fault names line) (fault_in names lines)
+
+-- whether two things are one
+abbrev pub same_thing : Thing → Thing → Bool
+same_thing Default Default = true
+same_thing Source Source = true
+same_thing Sink Sink = true
+same_thing (Cell name) (Cell other) = same_name name other
+same_thing thing other = false
+
+-- what a statement says of a thing
+abbrev pub said_of : Thing → Option Statement → Option Edges
+said_of thing None = None
+said_of thing (Some s) = if same_thing s.thing thing then Some s.edges else None
+
+-- what lines state of a thing: what the last of them says that says something of it
+abbrev pub stated : Thing → List NumberedText → Option Edges
+stated thing [] = None
+stated thing (line ∷ lines) = option_or (stated thing lines) (said_of thing (said_in line))
+
+-- what is never stated is 1
+abbrev pub unit_edges : Edges
+unit_edges = record { rise = 1; fall = 1 }
+
+-- the delays that lines state, where the cells have these names
+abbrev pub stated_delays : List (List ℕ) → List NumberedText → DelaysData
+stated_delays names lines = record {
+  default = unwrap_or (stated Default lines) unit_edges;
+  cells = map (λ name. stated (Cell name) lines) names;
+  source = unwrap_or (stated Source lines) unit_edges;
+  sink = unwrap_or (stated Sink lines) unit_edges;
+}

@@ -1,0 +1,33 @@
+//! Delays as they are written.
+ghost use Rattle.std.specs.Prelude.{◌≡◌, IfSome};
+ghost use Rattle.ncl_delay.specs.Delays.{IsDelay};
+ghost use Rattle.ncl_delay.specs.DelayText.{delay_text};
+
+use crate::delays::MOST_DELAY;
+
+/// The most digits of a delay.
+const MOST_DIGITS: usize = 7;
+
+/// The delay of a word, or `None` where it is none: 1 to 7 decimal digits with a value of 1 to 1,000,000.
+///
+/// Looks at seven bytes at most.
+pub(crate) fn read_delay(word: &[u8]) -> Option<u32>
+    ensures value { result ≡ delay_text word.now }
+    ensures range { IfSome result IsDelay }
+{
+    if word.len() > MOST_DIGITS {
+        return None;
+    }
+    let mut value: u32 = 0;
+    for byte in word {
+        if !byte.is_ascii_digit() {
+            return None;
+        }
+        value = value * 10 + u32::from(*byte - b'0');
+    }
+    if 1 <= value && value <= MOST_DELAY {
+        Some(value)
+    } else {
+        None
+    }
+}

@@ -1,0 +1,145 @@
+//! What a line of a file of delays states.
+ghost use Rattle.std.specs.Prelude.{◌≡◌, IfSome, map, take};
+ghost use Rattle.ncl_delay.specs.Delays.{AreDelays};
+ghost use Rattle.ncl_blif.specs.Lines.{is_blank, words_of};
+ghost use Rattle.ncl_delay.specs.DelayText.{edges_text, thing_text, cell_text, stating, said};
+
+use crate::delays::Edges;
+use crate::number::read_delay;
+use arrayvec::ArrayVec;
+use std::marker::Model;
+
+/// A name as it stands in a text, which contracts see as the list of its bytes.
+#[derive(Debug, Drop)]
+pub(crate) struct Written<'a> {
+    bytes: &'a [u8],
+}
+
+impl<'a> Model for Written<'a> {
+    ghost use Rattle.std.specs.Prelude.{List, ℕ};
+
+    ghost Value = { List ℕ };
+
+    ghost view = { λ a. a.bytes.now };
+}
+
+impl<'a> Written<'a> {
+    /// The bytes.
+    pub(crate) fn bytes(&self) -> &'a [u8]
+        ensures { result.now ≡ self.now }
+    {
+        self.bytes
+    }
+}
+
+/// What a line states the delays of.
+#[derive(Debug, Drop)]
+pub(crate) enum Thing<'a> {
+    /// Each cell without a line.
+    Default,
+    /// The source.
+    Source,
+    /// The sink.
+    Sink,
+    /// The cell of a name.
+    Cell(Written<'a>),
+}
+
+/// What a line states: the delays of a thing.
+#[derive(Debug, Drop)]
+pub(crate) struct Statement<'a> {
+    pub(crate) thing: Thing<'a>,
+    pub(crate) edges: Edges,
+}
+
+/// The most words of a line that are told apart.
+const FEW: usize = 5;
+
+const DEFAULT: &[u8] = b"default";
+
+const SOURCE: &[u8] = b"source";
+
+const SINK: &[u8] = b"sink";
+
+const CELL: &[u8] = b"cell";
+
+/// What a line states, or `None` where it is of none of the forms.
+///
+/// Linear in the line.
+pub(crate) fn said(line: &[u8]) -> Option<Statement<'_>>
+    ensures value { result ≡ said (words_of line.now) }
+    ensures range { IfSome result (λ statement. AreDelays statement.edges) }
+{
+    match first_words(line).as_slice() {
+        [word, rise, fall] => stating(read_thing(word), read_edges(rise, fall)),
+        [word, name, rise, fall] => stating(read_cell(word, name), read_edges(rise, fall)),
+        _ => None,
+    }
+}
+
+/// The statement of these delays for this thing, where both are there.
+fn stating<'a>(thing: Option<Thing<'a>>, edges: Option<Edges>) -> Option<Statement<'a>>
+    requires { IfSome edges AreDelays }
+    ensures value { result ≡ stating thing.entry edges }
+    ensures range { IfSome result (λ statement. AreDelays statement.edges) }
+{
+    let thing = thing?;
+    let edges = edges?;
+    Some(Statement { thing, edges })
+}
+
+/// The first words of a line, five at most. Linear in the line.
+fn first_words(line: &[u8]) -> ArrayVec<&[u8], FEW>
+    ensures { map (λ word. word.now) result.items ≡ take FEW (words_of line.now) }
+{
+    let mut words = ArrayVec::new();
+    for part in line.split(|byte| is_blank(*byte)) {
+        if !part.is_empty() && words.len() < FEW {
+            words.push(part);
+        }
+    }
+    words
+}
+
+/// Whether a byte stands between words: a blank or a tab.
+fn is_blank(byte: u8) -> bool
+    ensures { result ≡ is_blank byte }
+{
+    byte == b' ' || byte == b'\t'
+}
+
+/// The thing that a word stands for, or `None` where it stands for none.
+fn read_thing(word: &[u8]) -> Option<Thing<'static>>
+    ensures { result ≡ thing_text word.now }
+{
+    if word == DEFAULT {
+        return Some(Thing::Default);
+    }
+    if word == SOURCE {
+        return Some(Thing::Source);
+    }
+    if word == SINK {
+        return Some(Thing::Sink);
+    }
+    None
+}
+
+/// The cell of a name, or `None` where the word before the name is not `cell`.
+fn read_cell<'a>(word: &[u8], name: &'a [u8]) -> Option<Thing<'a>>
+    ensures { result ≡ cell_text word.now name.now }
+{
+    if word == CELL {
+        return Some(Thing::Cell(Written { bytes: name }));
+    }
+    None
+}
+
+/// The delays of two words, the first of rising and the second of falling, or `None` where one is none.
+fn read_edges(rise: &[u8], fall: &[u8]) -> Option<Edges>
+    ensures value { result ≡ edges_text rise.now fall.now }
+    ensures range { IfSome result AreDelays }
+{
+    let rise = read_delay(rise)?;
+    let fall = read_delay(fall)?;
+    Some(Edges { rise, fall })
+}

@@ -1,0 +1,26 @@
+use Rattle.std.proofs.Common.{◌≡◌, ◌∙◌, length, ap, sym, take, get_or}
+use Rattle.ncl_machine.specs.Held.{meaning}
+use Rattle.ncl_sim.specs.Queue.{loses, note}
+use Rattle.ncl_sim.proofs.LookLaws.{length-looks, looks-next, least_of-next, note-then, note-else}
+use Rattle.ncl_sim.proofs.looking.look_all.Goals as goal
+use Rattle.ncl_sim.proofs.looking.look_all.Goals.{then-branch, else-branch}
+
+pub look-requires-clause-count : goal.look-requires-clause-count
+look-requires-clause-count c =
+    ap length c.loop-number.invariant.0 ∙ length-looks c.args.pipeline.now c.args.delays.now (meaning c.args.state.now) c.args.time c.args.agenda.now (take c.loop-number.number-index c.args.numbers.now) ∙ c.requires.count
+
+pub loop-number-preserved : goal.loop-number-preserved
+loop-number-preserved c =
+    let p = c.args.pipeline.now in
+    let d = c.args.delays.now in
+    let s = meaning c.args.state.now in
+    let ks = c.args.numbers.now in
+    let i = c.loop-number.number-index in
+    let noted : c.if-branch.lost ≡ note (loses p s c.loop-number.agenda (get_or ks i 0)) c.loop-number.lost (get_or ks i 0) =
+    elim c.if-branch.branch [
+      | then-branch w ↦ note-then _ _ _ _ (sym c.in_ok-look.ensures.lost ∙ w.if-branch.true) (w.lost-is ∙ w.lower-lost.ensures)
+      | else-branch w ↦ note-else _ _ _ _ (sym c.in_ok-look.ensures.lost ∙ w.if-branch.false) w.lost-is
+    ] in (
+      c.in_ok-look.ensures.waits ∙ looks-next p d s c.args.time c.args.agenda.now c.loop-number.agenda ks i c.loop-number.invariant.0 c.loop-number-test.true,
+      least_of-next p d s c.args.time c.args.agenda.now c.loop-number.agenda c.loop-number.lost c.if-branch.lost ks i c.loop-number.invariant.0 c.loop-number-test.true c.loop-number.invariant.1 noted,
+    )

@@ -1,0 +1,21 @@
+use Rattle.std.proofs.Common.{◌∙◌, ap, map}
+use Rattle.ncl_sim.specs.declared.trace.Taken.{Taken}
+use Rattle.ncl_sim.proofs.Quiet.{sound-ends_quiet, sound-delivers}
+use Rattle.ncl_sim.proofs.Stopped.{stopped-takes, stopped-run}
+use Rattle.ncl_sim.proofs.simulator.simulate.Goals as goal
+
+pub delivered-requires-2 : goal.delivered-requires-2
+delivered-requires-2 c =
+    stopped-takes c.args.pipeline.now c.args.delays.now c.finish.new.self c.in_ok-end.end c.in_ok-end.ensures.stopped _ _ c.deref.ensures.value c.delivered.ensures
+
+pub returns-clause-run : goal.returns-clause-run
+returns-clause-run c =
+    stopped-run c.args.pipeline.now c.args.delays.now c.finish.new.self c.in_ok-end.end c.args.words.now _ _ _ _ c.in_ok-end.ensures.stopped
+    (c.in_ok-end.ensures.offered ∙ c.in_ok-run.ensures.offered) c.from_vec.ensures c.deref.ensures.value c.delivered.ensures
+    (ap (map (λ (x : Taken). x.time)) c.from_vec-2.ensures ∙ c.in_ok-taken.ensures.times) (ap (map (λ (x : Taken). x.pair)) c.from_vec-2.ensures ∙ c.in_ok-taken.ensures.pairs)
+
+pub returns-clause-quiet : goal.returns-clause-quiet
+returns-clause-quiet c = λ sound. sound-ends_quiet _ c.args.pipeline.now c.args.delays.now c.args.words.now _ c.facts.ensures sound c.requires.wide (returns-clause-run c)
+
+pub returns-clause-delivered : goal.returns-clause-delivered
+returns-clause-delivered c = λ sound. sound-delivers _ c.args.pipeline.now c.args.delays.now c.args.words.now _ c.facts.ensures sound c.requires.wide (returns-clause-run c)

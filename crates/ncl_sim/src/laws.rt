@@ -1,0 +1,23 @@
+//! The laws of timed runs. Each function states some, and does nothing.
+ghost use Rattle.std.specs.Prelude.{◌≡◌, All, List, Bool};
+ghost use Rattle.ncl_netlist.specs.Netlist.{NetlistData};
+ghost use Rattle.ncl_shape.specs.Pipeline.{PipelineData};
+ghost use Rattle.ncl_shape.specs.Shape.{Shape};
+ghost use Rattle.ncl_stage.specs.Faults.{IsSound};
+ghost use Rattle.ncl_machine.specs.Run.{AreWordsOf};
+ghost use Rattle.ncl_delay.specs.Delays.{DelaysData};
+ghost use Rattle.ncl_sim.specs.TimedRun.{DeliversAll, IsTimedRun, TraceData};
+ghost use Rattle.ncl_sim.specs.declared.trace.End.TheVariants.{Quiet};
+
+/// For each pipeline, delays and words there is exactly one timed run.
+pub fn one_timed_run()
+    ensures some { (p : PipelineData) (d : DelaysData) (offered : List (List Bool)) → (t : TraceData) × IsTimedRun p d offered t }
+    ensures one { (p : PipelineData) (d : DelaysData) (offered : List (List Bool)) (s t : TraceData) → IsTimedRun p d offered s → IsTimedRun p d offered t → s ≡ t }
+{}
+
+/// A pipeline of sound stages runs to its end at all delays: its timed run ends where nothing can move any more,
+/// and every word has been delivered then.
+pub fn sound_run_ends_quiet()
+    ensures quiet { (n : NetlistData) (p : PipelineData) (d : DelaysData) (offered : List (List Bool)) (t : TraceData) → Shape n p → All IsSound p.stages → AreWordsOf p offered → IsTimedRun p d offered t → t.end ≡ Quiet }
+    ensures delivered { (n : NetlistData) (p : PipelineData) (d : DelaysData) (offered : List (List Bool)) (t : TraceData) → Shape n p → All IsSound p.stages → AreWordsOf p offered → IsTimedRun p d offered t → DeliversAll p offered t }
+{}

@@ -15,8 +15,9 @@ use std::alloc::Global;
 /// The least word at which all outputs are DATA though an input bit is NULL, if there is one. The bit
 /// counts from 0, and `base` has the values of the stage under Base.
 ///
-/// It goes over the cells once. It makes the functions of all nets without the bit, of the DATA of each
-/// output and of their conjunctions before it looks for a word. `Full` comes exactly where the beads held
+/// It goes over the cells once, and evaluates only those that a changed net reaches. It makes the functions
+/// of all nets without the bit, of the DATA of each output and of their conjunctions before it looks for a
+/// word. `Full` comes exactly where the beads held
 /// with those of all these functions are more than the limit. Whatever the answer, the space is as it
 /// was.
 pub fn input_complete<P: Space>(
@@ -36,7 +37,7 @@ pub fn input_complete<P: Space>(
     ensures fits { OnOk result (fits (P.meaning space.old) (tables_of stage.now (Variant.Bit bit)) ≡ true) }
 {
     let start = space.mark();
-    match all_data(alloc, space, stage, base.wiring(), Variant::Bit(bit)) {
+    match all_data(alloc, space, stage, base, Variant::Bit(bit)) {
         Ok(all) => {
             let word = least_one(space, all);
             space.release(start);

@@ -2,5 +2,7 @@
 #![tactic(auto)]
 
 mod observing;
+#[cfg(test)]
+mod tests;
 
 pub use observing::orphan;

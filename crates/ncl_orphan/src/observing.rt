@@ -17,8 +17,9 @@ use std::alloc::Global;
 /// The least word at which a cell is high though all outputs are DATA without it, if there is one. The
 /// cell is a place in the stage's cells, and `base` has the values of the stage under Base.
 ///
-/// It goes over the cells once. It makes the functions of all nets without the cell, of the DATA of each
-/// output, of their conjunctions, and of the cell with the last of these, before it looks for a word.
+/// It goes over the cells once, and evaluates only those that a changed net reaches. It makes the functions
+/// of all nets without the cell, of the DATA of each output, of their conjunctions, and of the cell with the
+/// last of these, before it looks for a word.
 /// `Full` comes exactly where the beads held with those of all these functions are more than the limit.
 /// Whatever the answer, the space is as it was.
 pub fn orphan<P: Space>(
@@ -71,7 +72,7 @@ fn unobserved<P: Space>(
     ensures fits { OnOk result (fits (P.meaning space.old) (tables_of stage.now (Variant.Cell cell)) ≡ true) }
 {
     stage.facts();
-    let all = all_data(alloc, space, stage, base.wiring(), Variant::Cell(cell))?;
+    let all = all_data(alloc, space, stage, base, Variant::Cell(cell))?;
     let high = base.of(stage.cells.items()[cell].out);
     space.apply(Kind::Th22, &[high, all])
 }

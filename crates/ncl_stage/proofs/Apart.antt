@@ -5,7 +5,7 @@ use Rattle.std.proofs.lemmas.Bool.{or_cases, both_ways, eqb-true}
 use Rattle.ncl_shape.specs.declared.rails.Rails.{Rails}
 use Rattle.ncl_shape.specs.Nets.{among}
 use Rattle.ncl_shape.specs.Stage.{rail_nets, rail_of, named_rails}
-use Rattle.ncl_base.proofs.Members.{Member, here, there, member_cases, Member-append_left, Member-append_right, Member-map}
+use Rattle.ncl_base.proofs.Members.{Member, here, there, member_cases, Member-append_right, Member-map}
 use Rattle.ncl_base.proofs.Lists.{pairs-head, pairs-tail}
 
 -- where all of two lists joined differ, nothing stands in both

@@ -1,7 +1,7 @@
 -- Least words by tables, and the first of several answers.
 use Rattle.std.proofs.Common.{◌≡◌, ℕ, zero, suc, ◌+◌, ◌<◌, ◌≤◌, Bool, true, false, not, List, [], ◌∷◌, ◌++◌, length, map, get_or, Option, Some, None, inl, inr, refl, sym, ap, ◌∙◌, arith}
 use Rattle.std.specs.Prelude.{slice_get}
-use Rattle.std.specs.List.{find, flat_map, range_with_len}
+use Rattle.std.specs.List.{flat_map, range_with_len}
 use Rattle.std.proofs.lemmas.Bool.{cases_eq}
 use Rattle.std.proofs.lemmas.Option.{slice_get-get_or}
 use Rattle.std.proofs.lemmas.List.{map-append}
@@ -11,8 +11,8 @@ use Rattle.ncl_space.specs.Table.{words, table_of}
 use Rattle.ncl_space.specs.Functions.{least}
 use Rattle.ncl_space.proofs.TableLaws.{find-same, least-table_of, least-zero_table_of}
 use Rattle.ncl_stage.specs.declared.variant.Variant.{Variant}
-use Rattle.ncl_stage.specs.declared.variant.Variant.TheVariants.{Base, Bit, Cell}
-use Rattle.ncl_stage.specs.Faults.{StageFault, BothRails, NoRail, Incomplete, Orphan, has_data, is_illegal, all_data, holds_at, shows}
+use Rattle.ncl_stage.specs.declared.variant.Variant.TheVariants.{Base, Bit}
+use Rattle.ncl_stage.specs.Faults.{StageFault, BothRails, NoRail, Incomplete, has_data, is_illegal, all_data, holds_at, shows}
 use Rattle.ncl_stage.specs.LeastWords.{below, first_of, least_word}
 use Rattle.ncl_stage.specs.StageTables.{function_tables, shared_tables}
 use Rattle.ncl_stage.specs.Tables.{ValuesAt, net_functions, data_functions, data_fronts, question_functions, tables_of}

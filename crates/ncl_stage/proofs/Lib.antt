@@ -7,5 +7,6 @@ pub mod ExampleLaws
 pub mod Reordered
 pub mod WiringLaws
 pub mod NetLaws
+pub mod ChangedLaws
 pub mod OutputLaws
 pub mod LeastLaws

@@ -1,20 +1,19 @@
 -- The tables of the nets of a stage, as a space makes them: of rails, of outputs of cells, and of what is
 -- kept low.
 use Rattle.std.proofs.Common.{◌≡◌, ◌≢◌, ℕ, zero, suc, ◌+◌, ◌<◌, Bool, true, false, not, ◌||◌, ◌&&◌, List, [], ◌∷◌, ◌++◌, length, map, take, drop, get_or, inl, inr, refl, sym, ap, ◌∙◌, subst, arith}
-use Rattle.std.specs.Prelude.{All, AllPairs, Contains, nat_eq}
-use Rattle.std.proofs.lemmas.Bool.{cases_eq, cases_lt, eq-eqb, ne_eqb, false_from_ne_true, and_parts}
+use Rattle.std.specs.Prelude.{All, Contains, nat_eq}
+use Rattle.std.proofs.lemmas.Bool.{cases_eq, cases_lt, eq-eqb, ne_eqb, false_from_ne_true}
 use Rattle.std.proofs.lemmas.List.{get_or-map, get_or_append_left, length-map, length-append, map-append, append_assoc, take-append-drop, take_more, drop_more}
 use Rattle.std.proofs.lemmas.List.Elements.{All-head, All-tail, All-nil, All-cons}
 use Rattle.ncl_gates.specs.Gate.{set_of}
 use Rattle.ncl_netlist.specs.declared.ids.NetId.{NetId}
 use Rattle.ncl_shape.specs.declared.rails.Rails.{Rails}
 use Rattle.ncl_shape.specs.declared.stage.StageCell.{StageCell}
-use Rattle.ncl_shape.specs.Nets.{Nets, among}
+use Rattle.ncl_shape.specs.Nets.{among}
 use Rattle.ncl_shape.specs.Stage.{StageData, IsStage, named_rails, rail_nets, rail_of, nets_of, out_of}
 use Rattle.ncl_shape.specs.Closure.{pin_values}
-use Rattle.ncl_base.proofs.Members.{Member, here, there, Member-append_cases, member_of_map, Member-get_or}
+use Rattle.ncl_base.proofs.Members.{Member, here, there, Member-append_cases, member_of_map}
 use Rattle.ncl_base.proofs.Lists.{pairs-head, pairs-tail}
-use Rattle.ncl_space.specs.Table.{words, table_of}
 use Rattle.ncl_space.specs.Functions.{at, is_value, constant_table, rail_table, gate_table}
 use Rattle.ncl_space.specs.Space.{SpaceData, IsLive}
 use Rattle.ncl_space.specs.Making.{HaveTables}
@@ -27,10 +26,7 @@ use Rattle.ncl_stage.specs.Wiring.{WiringData, IsWiring, place_in, pin_places}
 use Rattle.ncl_stage.specs.StageTables.{net_table, rail_at, ref_at}
 use Rattle.ncl_stage.proofs.Apart.{named-within}
 use Rattle.ncl_stage.proofs.ValueLaws.{val-rail, val-output}
-use Rattle.ncl_stage.proofs.WiringLaws.{zero-member, one-member, place_in-at, rail_nets-append, rail_nets-more}
-
-abbrev AllDiffer : List ℕ → Type 0
-AllDiffer nets = AllPairs (λ x y. x ≢ y) nets
+use Rattle.ncl_stage.proofs.WiringLaws.{AllDiffer, zero-member, one-member, place_in-at, rail_nets-append, rail_nets-more}
 
 pub rail-member : (rails : List Rails) (i : ℕ) (d : Rails) (value : Bool) → i < length rails → Member (rail_of (get_or rails i d) value) (rail_nets rails)
 rail-member rails i d true lt = one-member rails i d lt
@@ -172,18 +168,22 @@ front-refs space f front rest differ refs have (net ∷ ins) among =
       tables = λ i. first.2 i ∷ others.tables i;
     }
 
+-- the nets, cut at the cell at a place
+pub nets-cut : (s : StageData) (i : ℕ) → nets_of s.inputs s.cells ≡ nets_of s.inputs (take i s.cells) ++ map out_of (drop i s.cells)
+nets-cut s i =
+    ap (λ cells. rail_nets s.inputs ++ map out_of cells) (sym (take-append-drop i s.cells))
+    ∙ ap (λ nets. rail_nets s.inputs ++ nets) (map-append out_of (take i s.cells) (drop i s.cells))
+    ∙ sym (append_assoc (rail_nets s.inputs) (map out_of (take i s.cells)) (map out_of (drop i s.cells)))
+
+-- what a cell reads are nets before it
+pub reads-before : (s : StageData) → IsStage s → (i : ℕ) (d : StageCell) → i < length s.cells → All (λ (net : NetId). Contains (nets_of s.inputs (take i s.cells)) net.0) (get_or s.cells i d).ins.items
+reads-before s is i d lt = is.in_order (take i s.cells) (drop (i + 1) s.cells) (get_or s.cells i d) (sym (take-append-drop i s.cells) ∙ ap (λ l. take i s.cells ++ l) (drop_more s.cells i d lt))
+
 -- the inputs of the cell at a place, where the nets before it have been made
 pub cell-refs : (space : SpaceData) (s : StageData) → IsStage s → (f : ℕ → List Bool) (i : ℕ) (d : StageCell) → i < length s.cells → (refs : List Ref) → HaveTables space refs (map f (nets_of s.inputs (take i s.cells))) → Shows space f refs (get_or s.cells i d).ins.items (pin_places (nets_of s.inputs s.cells) (get_or s.cells i d))
 cell-refs space s is f i d lt refs have =
-    subst (λ nets. Shows space f refs (get_or s.cells i d).ins.items (pin_places nets (get_or s.cells i d))) (sym cut)
-    (front-refs space f (nets_of s.inputs (take i s.cells)) (map out_of (drop i s.cells)) (subst AllDiffer cut is.nets_differ) refs have (get_or s.cells i d).ins.items
-    (is.in_order (take i s.cells) (drop (i + 1) s.cells) (get_or s.cells i d) (sym (take-append-drop i s.cells) ∙ ap (λ l. take i s.cells ++ l) (drop_more s.cells i d lt))))
-  where
-    cut : nets_of s.inputs s.cells ≡ nets_of s.inputs (take i s.cells) ++ map out_of (drop i s.cells)
-    cut =
-        ap (λ cells. rail_nets s.inputs ++ map out_of cells) (sym (take-append-drop i s.cells))
-        ∙ ap (λ nets. rail_nets s.inputs ++ nets) (map-append out_of (take i s.cells) (drop i s.cells))
-        ∙ sym (append_assoc (rail_nets s.inputs) (map out_of (take i s.cells)) (map out_of (drop i s.cells)))
+    subst (λ nets. Shows space f refs (get_or s.cells i d).ins.items (pin_places nets (get_or s.cells i d))) (sym (nets-cut s i))
+    (front-refs space f (nets_of s.inputs (take i s.cells)) (map out_of (drop i s.cells)) (subst AllDiffer (nets-cut s i) is.nets_differ) refs have (get_or s.cells i d).ins.items (reads-before s is i d lt))
 
 -- what the wiring says of the pins of a cell
 pub pins-of : (s : StageData) (w : WiringData) → IsWiring s w → (i : ℕ) (d : StageCell) → i < length s.cells → get_or w.pins i [] ≡ pin_places (nets_of s.inputs s.cells) (get_or s.cells i d)

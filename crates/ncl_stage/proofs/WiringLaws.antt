@@ -1,7 +1,6 @@
 -- The places of nets: how they are numbered, and what stands at them.
-use Rattle.std.proofs.Common.{◌≡◌, ◌≢◌, ℕ, ◌+◌, ◌<◌, Bool, true, false, cond, List, [], ◌∷◌, ◌++◌, length, map, take, drop, get_or, zero, suc, Some, None, Option, sym, ◌∙◌, ap, subst, refl, arith, append_assoc}
+use Rattle.std.proofs.Common.{◌≡◌, ◌≢◌, ℕ, ◌+◌, ◌<◌, cond, List, [], ◌∷◌, ◌++◌, length, map, take, drop, get_or, zero, suc, Some, sym, ◌∙◌, ap, subst, refl, arith, append_assoc}
 use Rattle.std.specs.Prelude.{All, AllPairs, Contains, nat_eq, position, unwrap_or}
-use Rattle.std.specs.List.{list_any}
 use Rattle.std.proofs.lemmas.Bool.{false_from_ne_true, eqb-true, eq-eqb}
 use Rattle.std.proofs.lemmas.List.{take-append-drop, take_more, drop_more, map-append}
 use Rattle.std.proofs.lemmas.List.Elements.{All-contains}
@@ -12,12 +11,12 @@ use Rattle.ncl_shape.specs.declared.rails.Rails.{Rails}
 use Rattle.ncl_shape.specs.declared.stage.StageCell.{StageCell}
 use Rattle.ncl_shape.specs.Stage.{StageData, IsStage, rail_nets, nets_of, out_of}
 use Rattle.ncl_netlist.specs.declared.ids.NetId.{NetId}
-use Rattle.ncl_base.proofs.Members.{Member, here, there, Member-append_left, Member-append_right, Member-from_Contains, Contains-from_Member, member_from_list_any}
+use Rattle.ncl_base.proofs.Members.{Member, here, there, Member-append_left, Member-from_Contains, Contains-from_Member, member_from_list_any}
 use Rattle.ncl_base.proofs.Growing.{position_from-found}
 use Rattle.ncl_stage.specs.Wiring.{place_in}
 use Rattle.ncl_stage.proofs.Apart.{parts-differ}
 
-abbrev AllDiffer : List ℕ → Type 0
+abbrev pub AllDiffer : List ℕ → Type 0
 AllDiffer nets = AllPairs (λ x y. x ≢ y) nets
 
 -- a net that is in no front of a list goes last

@@ -5,4 +5,5 @@ pub mod Examples
 pub mod Pass
 pub mod Wiring
 pub mod StageTables
+pub mod Changes
 pub mod LeastWords

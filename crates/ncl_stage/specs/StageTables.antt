@@ -1,5 +1,5 @@
 -- The tables of a stage's nets and of what is asked of its outputs, and the values that a space holds.
-use Rattle.std.specs.Prelude.{◌≡◌, ℕ, Bool, List, [], ◌∷◌, ◌++◌, map, length, Option, Some, None, slice_index_or}
+use Rattle.std.specs.Prelude.{ℕ, Bool, List, [], ◌∷◌, ◌++◌, map, length, Option, Some, None, slice_index_or}
 use Rattle.std.specs.List.{list_all}
 use Rattle.ncl_gates.specs.declared.kind.Kind.{Kind}
 use Rattle.ncl_gates.specs.declared.kind.Kind.TheVariants.{Th22}
@@ -12,7 +12,7 @@ use Rattle.ncl_space.specs.declared.space.Ref.{Ref}
 use Rattle.ncl_stage.specs.declared.variant.Variant.{Variant}
 use Rattle.ncl_stage.specs.Tables.{WordFunction, ValuesAt, fronts, net_functions, data_functions, data_fronts}
 use Rattle.ncl_stage.specs.Values.{val}
-use Rattle.ncl_stage.specs.Wiring.{WiringData, IsWiring, place_in}
+use Rattle.ncl_stage.specs.Wiring.{WiringData, IsWiring}
 
 -- the table of a net under a variant
 abbrev pub net_table : StageData → Variant → ℕ → List Bool

@@ -3,6 +3,7 @@ ghost use Rattle.std.specs.Prelude.{◌≡◌, IfOk, IsErrOf, OnErr, OnOk, false
 ghost use Rattle.ncl_space.specs.Space.{IsSpace, Keeps, Restores, fits, with_tables};
 ghost use Rattle.ncl_stage.specs.StageTables.{AreValues, net_tables};
 
+use crate::changes::net_refs_from;
 use crate::net_values::Values;
 use crate::nets::net_refs;
 use crate::variant::Variant;
@@ -57,5 +58,60 @@ fn make_values<P: Space>(
 {
     let wiring = Wiring::new(alloc, stage)?;
     let refs = net_refs(alloc, space, stage, &wiring, variant)?;
-    Ok(Values::new(wiring, refs))
+    let values = Values::new(alloc, wiring, refs)?;
+    Ok(values)
+}
+
+/// The functions of all nets of a stage under a variant, from those under Base, which `base` has. It goes
+/// over the cells once, and evaluates only those that a changed net reaches.
+///
+/// The places of the nets are shared with `base`. `Full` comes exactly where the beads held with those of
+/// all these functions are more than the limit. After a refusal the space is as it was.
+pub fn revalue<P: Space>(
+    alloc: Global,
+    space: &mut P,
+    stage: &Stage,
+    base: &Values,
+    variant: Variant,
+) -> Result<Values, SpaceFault>
+    requires width { (P.meaning space.old).width ≡ length stage.now.inputs }
+    requires base { AreValues (P.meaning space.old) stage.now Variant.Base base.now }
+    ensures values { IfOk result (AreValues (P.meaning space.new) stage.now variant) }
+    ensures held { OnOk result ((P.meaning space.new).held ≡ with_tables (P.meaning space.old) (net_tables stage.now variant)) }
+    ensures kept { Keeps (P.meaning space.old) (P.meaning space.new) }
+    ensures back { OnErr result (Restores (P.meaning space.old) (P.meaning space.new)) }
+    ensures space { IsSpace (P.meaning space.new) }
+    ensures full { IsErrOf result SpaceFault.Full → fits (P.meaning space.old) (net_tables stage.now variant) ≡ false }
+    ensures fits { OnOk result (fits (P.meaning space.old) (net_tables stage.now variant) ≡ true) }
+{
+    let start = space.mark();
+    match make_values_from(alloc, space, stage, base, variant) {
+        Ok(values) => Ok(values),
+        Err(fault) => {
+            space.release(start);
+            Err(fault)
+        }
+    }
+}
+
+// The same, but what is made before a refusal stays.
+fn make_values_from<P: Space>(
+    alloc: Global,
+    space: &mut P,
+    stage: &Stage,
+    base: &Values,
+    variant: Variant,
+) -> Result<Values, SpaceFault>
+    requires width { (P.meaning space.old).width ≡ length stage.now.inputs }
+    requires base { AreValues (P.meaning space.old) stage.now Variant.Base base.now }
+    requires space { IsSpace (P.meaning space.old) }
+    ensures values { IfOk result (AreValues (P.meaning space.new) stage.now variant) }
+    ensures held { OnOk result ((P.meaning space.new).held ≡ with_tables (P.meaning space.old) (net_tables stage.now variant)) }
+    ensures kept { Keeps (P.meaning space.old) (P.meaning space.new) }
+    ensures space { IsSpace (P.meaning space.new) }
+    ensures full { IsErrOf result SpaceFault.Full → fits (P.meaning space.old) (net_tables stage.now variant) ≡ false }
+{
+    let refs = net_refs_from(alloc, space, stage, base, variant)?;
+    let values = base.with_refs(refs)?;
+    Ok(values)
 }

@@ -1,15 +1,20 @@
 //! The values of a stage at a word, and the faults that a stage can have.
 #![tactic(auto)]
 
+mod changes;
 mod evaluation;
 pub mod laws;
 mod net_values;
 mod nets;
 mod outputs;
+pub mod testing;
+#[cfg(test)]
+mod tests;
 mod variant;
 mod wiring;
 
-pub use evaluation::values;
+pub use changes::net_refs_from;
+pub use evaluation::{revalue, values};
 pub use net_values::Values;
 pub use nets::net_refs;
 pub use outputs::{all_data, data_fronts, data_tables, least_one, least_zero, pair_refs};

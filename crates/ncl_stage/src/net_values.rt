@@ -1,5 +1,5 @@
 //! The functions of the nets of a stage, by their names in a space.
-ghost use Rattle.std.specs.Prelude.{◌≡◌, Contains, length};
+ghost use Rattle.std.specs.Prelude.{◌≡◌, Contains, IfOk, length};
 ghost use Rattle.ncl_shape.specs.Stage.{StageData};
 ghost use Rattle.ncl_space.specs.Space.{IsLive, SpaceData};
 ghost use Rattle.ncl_stage.specs.StageTables.{AreValues, net_table, ref_at};
@@ -7,14 +7,17 @@ ghost use Rattle.ncl_stage.specs.Wiring.{place_in};
 ghost use Rattle.ncl_stage.specs.declared.variant.Variant.{Variant};
 
 use crate::wiring::Wiring;
+use ncl_base::Memory;
 use ncl_netlist::NetId;
 use ncl_space::Ref;
+use std::alloc::Global;
 use std::marker::Model;
+use std::rc::Rc;
 
 /// The functions of the nets of a stage under a variant, by their names in a space.
 #[derive(Drop)]
 pub struct Values {
-    wiring: Wiring,
+    wiring: Rc<Wiring>,
     refs: Vec<Ref>,
 }
 
@@ -24,18 +27,29 @@ impl Model for Values {
 
     ghost Value = { ValuesData };
 
-    ghost view = { λ a. record { wiring = a.wiring; refs = a.refs.items } };
+    ghost view = { λ a. record { wiring = a.wiring.value; refs = a.refs.items } };
 
-    ghost invariant = { λ a. length a.refs.items ≡ length a.wiring.nets };
+    ghost invariant = { λ a. length a.refs.items ≡ length a.wiring.value.nets };
 }
 
 impl Values {
-    /// The values of a wiring and a function for each of its nets. Takes no memory.
-    pub(crate) fn new(wiring: Wiring, refs: Vec<Ref>) -> Values
+    /// The values of a wiring and a function for each of its nets. An error is want of memory.
+    pub(crate) fn new(alloc: Global, wiring: Wiring, refs: Vec<Ref>) -> Result<Values, Memory>
         requires { length refs.items ≡ length wiring.nets }
-        ensures { result ≡ record { wiring = wiring; refs = refs.items } }
+        ensures { IfOk result (λ values. values ≡ record { wiring = wiring; refs = refs.items }) }
     {
-        Values { wiring, refs }
+        let wiring = Rc::new(alloc, wiring)?;
+        Ok(Values { wiring, refs })
+    }
+
+    /// Other functions for the nets of the same wiring, which is shared. Takes no memory; an error is that
+    /// so many values share it that they can't be counted.
+    pub(crate) fn with_refs(&self, refs: Vec<Ref>) -> Result<Values, Memory>
+        requires { length refs.items ≡ length self.now.wiring.nets }
+        ensures { IfOk result (λ values. values ≡ record self.now { refs = refs.items }) }
+    {
+        let wiring = self.wiring.clone()?;
+        Ok(Values { wiring, refs })
     }
 
     /// The function of a net of the stage. Takes no memory.

@@ -98,8 +98,8 @@ fn named_rail(pair: Rails, value: bool) -> NetId
     if value { pair.one } else { pair.zero }
 }
 
-// The function of the output of a cell, from those of the nets before it. Linear in its pins.
-fn cell_ref<P: Space>(
+/// The function of the output of a cell, from those of the nets before it. Linear in its pins.
+pub(crate) fn cell_ref<P: Space>(
     space: &mut P,
     stage: &Stage,
     wiring: &Wiring,

@@ -6,12 +6,12 @@ ghost use Rattle.ncl_space.specs.Functions.{least};
 ghost use Rattle.ncl_space.specs.Making.{MakesAll};
 ghost use Rattle.ncl_space.specs.Space.{IsLive, IsSpace, Keeps, Makes, fits, with_tables};
 ghost use Rattle.ncl_space.specs.Table.{words, table_of};
-ghost use Rattle.ncl_stage.specs.StageTables.{conjunction, front_tables, pair_table, shared_tables};
+ghost use Rattle.ncl_stage.specs.StageTables.{AreValues, conjunction, front_tables, pair_table, shared_tables};
 ghost use Rattle.ncl_stage.specs.Tables.{ValuesAt, all_data_function};
 ghost use Rattle.ncl_stage.specs.Values.{val};
-ghost use Rattle.ncl_stage.specs.Wiring.{IsWiring};
 
-use crate::nets::net_refs;
+use crate::changes::net_refs_from;
+use crate::net_values::Values;
 use crate::variant::Variant;
 use crate::wiring::Wiring;
 use ncl_base::Word;
@@ -119,20 +119,21 @@ fn conjoin<P: Space>(space: &mut P, front: Option<Ref>, next: Ref) -> Result<Ref
     }
 }
 
-/// That all outputs of a stage are DATA under a variant. It makes the functions of all nets, of the DATA
-/// of each output and of their conjunctions.
+/// That all outputs of a stage are DATA under a variant, where `base` has the values of the stage under
+/// Base. It makes the functions of all nets, of the DATA of each output and of their conjunctions.
 ///
-/// Linear in the cells, their pins and the outputs. `Full` comes exactly where the beads held with those
+/// Linear in the cells, their pins and the outputs, and it evaluates only the cells that a changed net
+/// reaches. `Full` comes exactly where the beads held with those
 /// of all these functions are more than the limit. What is made before a refusal stays.
 pub fn all_data<P: Space>(
     alloc: Global,
     space: &mut P,
     stage: &Stage,
-    wiring: &Wiring,
+    base: &Values,
     variant: Variant,
 ) -> Result<Ref, SpaceFault>
     requires width { (P.meaning space.old).width ≡ length stage.now.inputs }
-    requires wiring { IsWiring stage.now wiring.now }
+    requires base { AreValues (P.meaning space.old) stage.now Variant.Base base.now }
     requires space { IsSpace (P.meaning space.old) }
     ensures live { IfOk result (IsLive (P.meaning space.new)) }
     ensures table { let v : ValuesAt = λ word. val stage.now word variant in
@@ -143,8 +144,8 @@ pub fn all_data<P: Space>(
     ensures full { IsErrOf result SpaceFault.Full → fits (P.meaning space.old) (shared_tables stage.now variant) ≡ false }
 {
     stage.facts();
-    let refs = net_refs(alloc, space, stage, wiring, variant)?;
-    let data = data_tables(alloc, space, wiring, refs.as_slice())?;
+    let refs = net_refs_from(alloc, space, stage, base, variant)?;
+    let data = data_tables(alloc, space, base.wiring(), refs.as_slice())?;
     let fronts = data_fronts(alloc, space, data.as_slice())?;
     Ok(*fronts.as_slice().last().unwrap())
 }

@@ -57,6 +57,14 @@ impl Wiring {
         place_of(&self.nets, net)
     }
 
+    /// The net at a place. Takes no memory.
+    pub fn net(&self, place: usize) -> NetId
+        requires { place < length self.now.nets }
+        ensures { result.0 ≡ slice_index_or self.now.nets place 0 }
+    {
+        NetId(*self.nets.get_index(place).unwrap())
+    }
+
     /// The places of the inputs of a cell, in pin order. Takes no memory.
     pub fn pins(&self, cell: usize) -> &[usize]
         requires { cell < length self.now.pins }

@@ -1,4 +1,4 @@
-use Rattle.std.proofs.Common.{◌≡◌, ℕ, ◌-◌, Bool, false, List, [], ◌∷◌, ◌++◌, Err, length, get_or, map, sym, ◌∙◌, ap, subst, arith}
+use Rattle.std.proofs.Common.{◌≡◌, ℕ, ◌-◌, Bool, false, List, [], ◌++◌, Err, length, get_or, map, sym, ◌∙◌, ap, subst, arith}
 use Rattle.std.specs.Prelude.{unwrap_or}
 use Rattle.std.specs.List.{list_all}
 use Rattle.std.specs.Option.{option_map}
@@ -18,7 +18,7 @@ use Rattle.ncl_stage.specs.Faults.{has_data}
 use Rattle.ncl_stage.specs.Tables.{fronts, data_functions, data_fronts}
 use Rattle.ncl_stage.specs.Values.{val}
 use Rattle.ncl_stage.specs.Wiring.{WiringData, IsWiring}
-use Rattle.ncl_stage.specs.StageTables.{net_table, net_tables, function_tables, shared_tables, pair_table, front_tables}
+use Rattle.ncl_stage.specs.StageTables.{net_table, net_tables, function_tables, pair_table, front_tables}
 use Rattle.ncl_stage.proofs.OutputLaws.{values_at, outputs-within, data-tables, front-tables, shared-tables, last-front, length-fronts}
 use Rattle.ncl_stage.proofs.outputs.all_data.Goals as goal
 
@@ -44,18 +44,18 @@ pub data_tables-requires-clause-within : goal.data_tables-requires-clause-within
 data_tables-requires-clause-within g c =
     let s : StageData = c.args.stage.now in
     let refs = c.in_ok-refs.refs.items in
-    let many : length refs ≡ length (nets_of s.inputs s.cells) = have-length (g.P.Space.meaning c.net_refs.new.space) refs (net_tables s c.args.variant) c.in_ok-refs.ensures.made.refs_of ∙ length-map (nets_of s.inputs s.cells) (net_table s c.args.variant) in
-    outputs-within s c.facts.ensures c.args.wiring.now c.requires.wiring (length c.as_slice.result.now) (ap length c.as_slice.ensures.value ∙ many)
+    let many : length refs ≡ length (nets_of s.inputs s.cells) = have-length (g.P.Space.meaning c.net_refs_from.new.space) refs (net_tables s c.args.variant) c.in_ok-refs.ensures.made.refs_of ∙ length-map (nets_of s.inputs s.cells) (net_table s c.args.variant) in
+    outputs-within s c.facts.ensures c.wiring.result.now (subst (IsWiring s) (sym c.wiring.ensures) c.requires.base.wired) (length c.as_slice.result.now) (ap length c.as_slice.ensures.value ∙ many)
 
 pub returns-in_err-data-clause-full : goal.returns-in_err-data-clause-full
 returns-in_err-data-clause-full g c = λ e.
     let s : StageData = c.args.stage.now in
     let variant = c.args.variant in
     let old : SpaceData = g.P.Space.meaning c.args.space.now in
-    let mid : SpaceData = g.P.Space.meaning c.net_refs.new.space in
+    let mid : SpaceData = g.P.Space.meaning c.net_refs_from.new.space in
     let own : List (List Bool) = function_tables s (data_functions s (values_at s variant)) in
     let fronts : List (List Bool) = function_tables s (data_fronts s (values_at s variant)) in
-    let is = of_data s c.facts.ensures c.args.wiring.now c.requires.wiring variant mid (c.in_ok-refs.ensures.kept.width ∙ c.requires.width) c.as_slice.result.now (ap (map mid.table) c.as_slice.ensures.value ∙ c.in_ok-refs.ensures.made.refs_of.tables) in
+    let is = of_data s c.facts.ensures c.wiring.result.now (subst (IsWiring s) (sym c.wiring.ensures) c.requires.base.wired) variant mid (c.in_ok-refs.ensures.kept.width ∙ c.requires.width) c.as_slice.result.now (ap (map mid.table) c.as_slice.ensures.value ∙ c.in_ok-refs.ensures.made.refs_of.tables) in
     subst (λ tables. fits old tables ≡ false) (sym (shared-tables s variant))
     (too_much_by_front old (net_tables s variant ++ own) fronts
     (too_much-after old mid (net_tables s variant) own c.in_ok-refs.ensures.kept c.in_ok-refs.ensures.made.held
@@ -67,11 +67,11 @@ returns-in_err-fronts-clause-full g c = λ e.
     let s : StageData = c.args.stage.now in
     let variant = c.args.variant in
     let old : SpaceData = g.P.Space.meaning c.args.space.now in
-    let mid : SpaceData = g.P.Space.meaning c.net_refs.new.space in
+    let mid : SpaceData = g.P.Space.meaning c.net_refs_from.new.space in
     let now : SpaceData = g.P.Space.meaning c.data_tables.new.space in
     let own : List (List Bool) = function_tables s (data_functions s (values_at s variant)) in
     let fronts : List (List Bool) = function_tables s (data_fronts s (values_at s variant)) in
-    let made = of_data s c.facts.ensures c.args.wiring.now c.requires.wiring variant mid (c.in_ok-refs.ensures.kept.width ∙ c.requires.width) c.as_slice.result.now (ap (map mid.table) c.as_slice.ensures.value ∙ c.in_ok-refs.ensures.made.refs_of.tables) in
+    let made = of_data s c.facts.ensures c.wiring.result.now (subst (IsWiring s) (sym c.wiring.ensures) c.requires.base.wired) variant mid (c.in_ok-refs.ensures.kept.width ∙ c.requires.width) c.as_slice.result.now (ap (map mid.table) c.as_slice.ensures.value ∙ c.in_ok-refs.ensures.made.refs_of.tables) in
     let kept : Keeps old now = keeps_along old mid now c.in_ok-refs.ensures.kept c.in_ok-data.ensures.kept in
     let held : now.held ≡ with_tables old (net_tables s variant ++ own) = held-along old mid now (net_tables s variant) own c.in_ok-refs.ensures.kept c.in_ok-refs.ensures.made.held (c.in_ok-data.ensures.made.held ∙ ap (with_tables mid) made) in
     let is = of_fronts s variant now (kept.width ∙ c.requires.width) c.as_slice-2.result.now (ap (map now.table) c.as_slice-2.ensures.value ∙ c.in_ok-data.ensures.made.refs_of.tables ∙ made) in
@@ -92,10 +92,10 @@ pub unwrap-requires : goal.unwrap-requires
 unwrap-requires g c =
     let s : StageData = c.args.stage.now in
     let variant = c.args.variant in
-    let mid : SpaceData = g.P.Space.meaning c.net_refs.new.space in
+    let mid : SpaceData = g.P.Space.meaning c.net_refs_from.new.space in
     let now : SpaceData = g.P.Space.meaning c.data_tables.new.space in
     let new : SpaceData = g.P.Space.meaning c.data_fronts.new.space in
-    let made = of_data s c.facts.ensures c.args.wiring.now c.requires.wiring variant mid (c.in_ok-refs.ensures.kept.width ∙ c.requires.width) c.as_slice.result.now (ap (map mid.table) c.as_slice.ensures.value ∙ c.in_ok-refs.ensures.made.refs_of.tables) in
+    let made = of_data s c.facts.ensures c.wiring.result.now (subst (IsWiring s) (sym c.wiring.ensures) c.requires.base.wired) variant mid (c.in_ok-refs.ensures.kept.width ∙ c.requires.width) c.as_slice.result.now (ap (map mid.table) c.as_slice.ensures.value ∙ c.in_ok-refs.ensures.made.refs_of.tables) in
     let is = of_fronts s variant now (c.in_ok-data.ensures.kept.width ∙ c.in_ok-refs.ensures.kept.width ∙ c.requires.width) c.as_slice-2.result.now (ap (map now.table) c.as_slice-2.ensures.value ∙ c.in_ok-data.ensures.made.refs_of.tables ∙ made) in
     let many = many-fronts s variant new c.in_ok-fronts.fronts.items (subst (HaveTables new c.in_ok-fronts.fronts.items) is c.in_ok-fronts.ensures.made.refs_of) in
     let some = c.facts.ensures.some_outputs in
@@ -106,11 +106,11 @@ pub returns-clause-table : goal.returns-clause-table
 returns-clause-table g c =
     let s : StageData = c.args.stage.now in
     let variant = c.args.variant in
-    let mid : SpaceData = g.P.Space.meaning c.net_refs.new.space in
+    let mid : SpaceData = g.P.Space.meaning c.net_refs_from.new.space in
     let now : SpaceData = g.P.Space.meaning c.data_tables.new.space in
     let new : SpaceData = g.P.Space.meaning c.data_fronts.new.space in
     let tables : List (List Bool) = function_tables s (data_fronts s (values_at s variant)) in
-    let made = of_data s c.facts.ensures c.args.wiring.now c.requires.wiring variant mid (c.in_ok-refs.ensures.kept.width ∙ c.requires.width) c.as_slice.result.now (ap (map mid.table) c.as_slice.ensures.value ∙ c.in_ok-refs.ensures.made.refs_of.tables) in
+    let made = of_data s c.facts.ensures c.wiring.result.now (subst (IsWiring s) (sym c.wiring.ensures) c.requires.base.wired) variant mid (c.in_ok-refs.ensures.kept.width ∙ c.requires.width) c.as_slice.result.now (ap (map mid.table) c.as_slice.ensures.value ∙ c.in_ok-refs.ensures.made.refs_of.tables) in
     let is = of_fronts s variant now (c.in_ok-data.ensures.kept.width ∙ c.in_ok-refs.ensures.kept.width ∙ c.requires.width) c.as_slice-2.result.now (ap (map now.table) c.as_slice-2.ensures.value ∙ c.in_ok-data.ensures.made.refs_of.tables ∙ made) in
     let refs : List Ref = c.in_ok-fronts.fronts.items in
     let have : HaveTables new refs tables = subst (HaveTables new refs) is c.in_ok-fronts.ensures.made.refs_of in
@@ -129,12 +129,12 @@ returns-clause-held g c =
     let s : StageData = c.args.stage.now in
     let variant = c.args.variant in
     let old : SpaceData = g.P.Space.meaning c.args.space.now in
-    let mid : SpaceData = g.P.Space.meaning c.net_refs.new.space in
+    let mid : SpaceData = g.P.Space.meaning c.net_refs_from.new.space in
     let now : SpaceData = g.P.Space.meaning c.data_tables.new.space in
     let new : SpaceData = g.P.Space.meaning c.data_fronts.new.space in
     let own : List (List Bool) = function_tables s (data_functions s (values_at s variant)) in
     let tables : List (List Bool) = function_tables s (data_fronts s (values_at s variant)) in
-    let made = of_data s c.facts.ensures c.args.wiring.now c.requires.wiring variant mid (c.in_ok-refs.ensures.kept.width ∙ c.requires.width) c.as_slice.result.now (ap (map mid.table) c.as_slice.ensures.value ∙ c.in_ok-refs.ensures.made.refs_of.tables) in
+    let made = of_data s c.facts.ensures c.wiring.result.now (subst (IsWiring s) (sym c.wiring.ensures) c.requires.base.wired) variant mid (c.in_ok-refs.ensures.kept.width ∙ c.requires.width) c.as_slice.result.now (ap (map mid.table) c.as_slice.ensures.value ∙ c.in_ok-refs.ensures.made.refs_of.tables) in
     let kept : Keeps old now = keeps_along old mid now c.in_ok-refs.ensures.kept c.in_ok-data.ensures.kept in
     let held : now.held ≡ with_tables old (net_tables s variant ++ own) = held-along old mid now (net_tables s variant) own c.in_ok-refs.ensures.kept c.in_ok-refs.ensures.made.held (c.in_ok-data.ensures.made.held ∙ ap (with_tables mid) made) in
     let is = of_fronts s variant now (kept.width ∙ c.requires.width) c.as_slice-2.result.now (ap (map now.table) c.as_slice-2.ensures.value ∙ c.in_ok-data.ensures.made.refs_of.tables ∙ made) in

@@ -3,7 +3,7 @@ use Rattle.std.specs.Prelude.{Contains}
 use Rattle.ncl_base.proofs.Growing.{map_push}
 use Rattle.ncl_shape.specs.declared.rails.Rails.{Rails}
 use Rattle.ncl_shape.specs.Stage.{StageData, nets_of}
-use Rattle.ncl_stage.specs.Wiring.{place_in, rail_places}
+use Rattle.ncl_stage.specs.Wiring.{rail_places}
 use Rattle.ncl_stage.proofs.WiringLaws.{at_rail}
 use Rattle.ncl_stage.proofs.wiring.places_of_outputs.Goals as goal
 

@@ -1,0 +1,147 @@
+-- What a variant leaves unchanged, net by net in the order of a stage.
+use Rattle.std.proofs.Common.{◌≡◌, ℕ, zero, suc, ◌+◌, ◌-◌, ◌*◌, ◌<◌, Bool, true, false, not, ◌&&◌, List, [], ◌∷◌, ◌++◌, length, map, take, drop, get_or, inl, inr, refl, sym, ap, ◌∙◌, subst, arith}
+use Rattle.std.specs.Prelude.{All, Contains}
+use Rattle.std.specs.List.{list_any, take-map}
+use Rattle.std.proofs.lemmas.Bool.{cases_lt, or_parts}
+use Rattle.std.proofs.lemmas.List.{get_or-map, get_or_append_left, get_or-append_right, get_or-append-add, length-map, length-append, length-take-le}
+use Rattle.std.proofs.lemmas.List.Elements.{All-head, All-tail, All-nil, All-cons}
+use Rattle.std.proofs.Math.Seq.{take-append-add}
+use Rattle.ncl_gates.specs.declared.kind.Kind.TheVariants.{Th12}
+use Rattle.ncl_netlist.specs.declared.ids.NetId.{NetId}
+use Rattle.ncl_shape.specs.declared.rails.Rails.{Rails}
+use Rattle.ncl_shape.specs.declared.stage.StageCell.{StageCell}
+use Rattle.ncl_shape.specs.Nets.{among}
+use Rattle.ncl_shape.specs.Stage.{StageData, IsStage, named_rails, rail_nets, nets_of, out_of}
+use Rattle.ncl_base.proofs.Members.{Member, Member-get_or}
+use Rattle.ncl_space.specs.Functions.{gate_table}
+use Rattle.ncl_space.specs.Space.{SpaceData, IsLive, Keeps}
+use Rattle.ncl_space.specs.declared.space.Ref.{Ref}
+use Rattle.ncl_space.proofs.MakingLaws.{have-kept, have-at, have-length}
+use Rattle.ncl_space.proofs.TableLaws.{table_of-same}
+use Rattle.ncl_stage.specs.declared.variant.Variant.{Variant}
+use Rattle.ncl_stage.specs.declared.variant.Variant.TheVariants.{Base}
+use Rattle.ncl_stage.specs.Examples.{gate}
+use Rattle.ncl_stage.specs.Changes.{net_at, IsUnchanged, IsUnreached, MarksChanges}
+use Rattle.ncl_stage.specs.StageTables.{ValuesData, AreValues, net_table, net_tables}
+use Rattle.ncl_stage.specs.Values.{val}
+use Rattle.ncl_stage.specs.Wiring.{WiringData, IsWiring, place_in, pin_places}
+use Rattle.ncl_stage.proofs.NetLaws.{cell-net, nets-cut, out_at, out_at-is, pins-of, place_in-front, reads-before}
+use Rattle.ncl_stage.proofs.ValueLaws.{val-rail}
+use Rattle.ncl_stage.proofs.WiringLaws.{AllDiffer, place_in-at, reads-within}
+
+-- a bit has two rails
+rails-length : (bits : List Rails) → length (rail_nets bits) ≡ 2 * length bits
+rails-length [] = refl
+rails-length (r ∷ rs) = let rest = rails-length rs in omega (arith, rest)
+
+pub nets-length : (s : StageData) → length (nets_of s.inputs s.cells) ≡ 2 * length s.inputs + length s.cells
+nets-length s = length-append (rail_nets s.inputs) (map out_of s.cells) ∙ (λ i. rails-length s.inputs i + length-map s.cells out_of i)
+
+-- the net at a place is a rail, or the output of the cell that comes so many places after the rails
+pub net_at-rail : (s : StageData) (place : ℕ) → place < 2 * length s.inputs → Member (net_at s place) (rail_nets s.inputs)
+net_at-rail s place lt =
+    let within : place < length (rail_nets s.inputs) = subst (λ n. place < n) (sym (rails-length s.inputs)) lt in
+    subst (λ net. Member net (rail_nets s.inputs)) (sym (get_or_append_left (rail_nets s.inputs) (map out_of s.cells) 0 place within)) (Member-get_or (rail_nets s.inputs) place 0 within)
+
+pub net_at-cell : (s : StageData) (i : ℕ) → net_at s (2 * length s.inputs + i) ≡ out_at s i
+net_at-cell s i = ap (λ n. get_or (nets_of s.inputs s.cells) (n + i) 0) (sym (rails-length s.inputs)) ∙ get_or-append-add (rail_nets s.inputs) (map out_of s.cells) i 0
+
+-- the nets before the output of a cell
+pub nets-before : (s : StageData) (i : ℕ) → take (2 * length s.inputs + i) (nets_of s.inputs s.cells) ≡ nets_of s.inputs (take i s.cells)
+nets-before s i =
+    ap (λ n. take (n + i) (nets_of s.inputs s.cells)) (sym (rails-length s.inputs))
+    ∙ take-append-add (rail_nets s.inputs) (map out_of s.cells) i
+    ∙ ap (λ outs. rail_nets s.inputs ++ outs) (take-map out_of i s.cells)
+
+pub tables-before : (s : StageData) (variant : Variant) (place i : ℕ) → place ≡ 2 * length s.inputs + i → take place (net_tables s variant) ≡ map (net_table s variant) (nets_of s.inputs (take i s.cells))
+tables-before s variant place i at =
+    take-map (net_table s variant) place (nets_of s.inputs s.cells)
+    ∙ ap (map (net_table s variant)) (ap (λ n. take n (nets_of s.inputs s.cells)) at ∙ nets-before s i)
+
+pub table-at : (s : StageData) (variant : Variant) (place : ℕ) → place < length (nets_of s.inputs s.cells) → get_or (net_tables s variant) place [] ≡ net_table s variant (net_at s place)
+table-at s variant place lt = get_or-map (net_table s variant) (nets_of s.inputs s.cells) place 0 [] lt
+
+-- what a cell reads stands before it
+front-places : (front rest : List ℕ) → AllDiffer (front ++ rest) → (ins : List NetId) → All (λ (net : NetId). Contains front net.0) ins → All (λ place. place < length front) (map (λ (net : NetId). place_in (front ++ rest) net.0) ins)
+front-places front rest differ [] known = All-nil (λ place. place < length front)
+front-places front rest differ (net ∷ ins) known =
+    All-cons (λ place. place < length front) _ _ (place_in-front front rest differ net.0 (All-head (λ (x : NetId). Contains front x.0) net ins known)).0
+    (front-places front rest differ ins (All-tail (λ (x : NetId). Contains front x.0) net ins known))
+
+-- a cell, where a list has none
+abbrev no_cell : StageCell
+no_cell = gate 0 Th12 [] 0
+
+pub pins-before : (s : StageData) → IsStage s → (w : WiringData) → IsWiring s w → (i : ℕ) → i < length s.cells → (place : ℕ) → place ≡ 2 * length s.inputs + i → All (λ p. p < place) (get_or w.pins i [])
+pins-before s is w wired i lt place at =
+    subst (All (λ p. p < place)) (sym (pins-of s w wired i no_cell lt))
+    (subst (λ n. All (λ p. p < n) (pin_places (nets_of s.inputs s.cells) cell)) size
+    (subst (λ nets. All (λ p. p < length front) (pin_places nets cell)) (sym (nets-cut s i))
+    (front-places front (map out_of (drop i s.cells)) (subst AllDiffer (nets-cut s i) is.nets_differ) cell.ins.items (reads-before s is i no_cell lt))))
+  where
+    cell : StageCell
+    cell = get_or s.cells i no_cell
+
+    front : List ℕ
+    front = nets_of s.inputs (take i s.cells)
+
+    size : length front ≡ place
+    size =
+        let many = nets-length s in
+        ap length (sym (nets-before s i)) ∙ length-take-le (2 * length s.inputs + i) (nets_of s.inputs s.cells) (omega (arith, many)) ∙ sym at
+
+-- a rail is unreached
+pub rail-unreached : (s : StageData) → IsStage s → (variant : Variant) (net : ℕ) → Member net (rail_nets s.inputs) → IsUnreached s variant net
+rail-unreached s is variant net m free = table_of-same (length s.inputs) (λ word. val s word variant net) (λ word. val s word Base net) (λ word same.
+    val-rail s is word variant net m ∙ ap (λ low. among (named_rails s.inputs word) net && not low) free ∙ sym (val-rail s is word Base net m))
+
+-- so is the output of a cell where all that it reads is unchanged
+cell-unreached : (s : StageData) → IsStage s → (variant : Variant) (c : StageCell) → Member c s.cells → map (λ (net : NetId). net_table s variant net.0) c.ins.items ≡ map (λ (net : NetId). net_table s Base net.0) c.ins.items → IsUnreached s variant (out_of c)
+cell-unreached s is variant c m pins free = sym (cell-net s is variant c m free) ∙ ap (gate_table (length s.inputs) c.kind) pins ∙ cell-net s is Base c m refl
+
+-- where no mark stands at the places of some nets, they are unchanged
+pins-unchanged : (s : StageData) (variant : Variant) (marks : List Bool) → MarksChanges s variant marks → (ins : List NetId) → All (λ (net : NetId). Contains (nets_of s.inputs s.cells) net.0) ins → list_any (λ place. get_or marks place true) (map (λ (net : NetId). place_in (nets_of s.inputs s.cells) net.0) ins) ≡ false → map (λ (net : NetId). net_table s variant net.0) ins ≡ map (λ (net : NetId). net_table s Base net.0) ins
+pins-unchanged s variant marks marked [] known none = refl
+pins-unchanged s variant marks marked (net ∷ ins) known none =
+    let parts = or_parts (get_or marks (place_in (nets_of s.inputs s.cells) net.0) true) _ none in
+    let at = (place_in-at (nets_of s.inputs s.cells) net.0 (All-head (λ (x : NetId). Contains (nets_of s.inputs s.cells) x.0) net ins known)).1 0 in
+    let first : IsUnchanged s variant net.0 = subst (IsUnchanged s variant) at (marked _ parts.0) in
+    let others = pins-unchanged s variant marks marked ins (All-tail (λ (x : NetId). Contains (nets_of s.inputs s.cells) x.0) net ins known) parts.1 in
+    λ i. first i ∷ others i
+
+pub unmarked-unreached : (s : StageData) → IsStage s → (w : WiringData) → IsWiring s w → (variant : Variant) (marks : List Bool) → MarksChanges s variant marks → (i : ℕ) → i < length s.cells → list_any (λ place. get_or marks place true) (get_or w.pins i []) ≡ false → IsUnreached s variant (out_at s i)
+unmarked-unreached s is w wired variant marks marked i lt none =
+    let cell : StageCell = get_or s.cells i no_cell in
+    subst (IsUnreached s variant) (sym (out_at-is s i no_cell lt))
+    (cell-unreached s is variant cell (Member-get_or s.cells i no_cell lt)
+    (pins-unchanged s variant marks marked cell.ins.items (reads-within s is i no_cell lt)
+    (ap (list_any (λ place. get_or marks place true)) (sym (pins-of s w wired i no_cell lt)) ∙ none)))
+
+-- at first there are no marks
+pub marks-none : (s : StageData) (variant : Variant) → MarksChanges s variant []
+marks-none s variant = λ place none. absurd cc
+
+-- one mark more
+pub marks-more : (s : StageData) (variant : Variant) (marks : List Bool) (mark : Bool) → MarksChanges s variant marks → (mark ≡ false → IsUnchanged s variant (net_at s (length marks))) → MarksChanges s variant (marks ++ mark ∷ [])
+marks-more s variant marks mark marked last = λ place none.
+    elim (cases_lt place (length marks)) [
+      | inl before ↦ marked place (sym (get_or_append_left marks (mark ∷ []) true place before) ∙ none)
+      | inr after ↦
+          let own = at_end (place - length marks) (sym (get_or-append_right marks (mark ∷ []) (length marks) place true refl after) ∙ none) in
+          subst (λ n. IsUnchanged s variant (net_at s n)) (omega (arith, own.0)) (last own.1)
+    ]
+  where
+    at_end : (n : ℕ) → get_or (mark ∷ []) n true ≡ false → (n ≡ 0) × (mark ≡ false)
+    at_end zero none = (refl, none)
+    at_end (suc n) none = absurd cc
+
+-- values stay those of the stage while what is live stays so
+pub values-kept : (old new : SpaceData) (s : StageData) (variant : Variant) (v : ValuesData) → Keeps old new → AreValues old s variant v → AreValues new s variant v
+values-kept old new s variant v kept are = record { wired = are.wired; shown = have-kept old new v.refs (net_tables s variant) kept are.shown }
+
+-- the Ref of the net at a place
+pub value-at : (space : SpaceData) (s : StageData) (variant : Variant) (v : ValuesData) → AreValues space s variant v → (place : ℕ) (d : Ref) → place < length (nets_of s.inputs s.cells) → IsLive space (get_or v.refs place d) × (space.table (get_or v.refs place d) ≡ net_table s variant (net_at s place))
+value-at space s variant v are place d lt =
+    let many : length v.refs ≡ length (nets_of s.inputs s.cells) = have-length space v.refs (net_tables s variant) are.shown ∙ length-map (nets_of s.inputs s.cells) (net_table s variant) in
+    let within : place < length v.refs = omega arith in
+    (are.shown.live place d within, have-at space v.refs (net_tables s variant) are.shown place d [] within ∙ table-at s variant place lt)

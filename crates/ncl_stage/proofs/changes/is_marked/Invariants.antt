@@ -1,0 +1,7 @@
+use Rattle.std.proofs.Common.{◌≡◌, true, false, get_or, take}
+use Rattle.std.specs.List.{list_any}
+use Rattle.ncl_stage.proofs.changes.is_marked.Given as goal
+
+-- no mark stands at the places so far
+abbrev pub invariant-loop-place : goal.invariant-loop-place
+invariant-loop-place l = list_any (λ place. get_or l.marks place true) (take l.place-index l.places) ≡ false

@@ -1,0 +1,51 @@
+use Rattle.std.proofs.Common.{◌≡◌, ℕ, ◌+◌, ◌-◌, ◌*◌, ◌<◌, true, length, get_or, sym, ◌∙◌, ap, subst, arith}
+use Rattle.std.specs.Prelude.{All}
+use Rattle.std.specs.List.{list_any}
+use Rattle.std.proofs.lemmas.List.{length-map}
+use Rattle.ncl_shape.specs.Stage.{StageData}
+use Rattle.ncl_stage.specs.Changes.{IsUnreached, net_at}
+use Rattle.ncl_stage.specs.Wiring.{WiringData, pin_places}
+use Rattle.ncl_stage.proofs.ChangedLaws.{nets-length, net_at-rail, net_at-cell, pins-before, rail-unreached, unmarked-unreached}
+use Rattle.ncl_stage.proofs.changes.reached_cell.Goals as goal
+
+pub returns-then-place-rails-clause-unreached : goal.returns-then-place-rails-clause-unreached
+returns-then-place-rails-clause-unreached c = λ variant marks.
+    let s : StageData = c.args.stage.now in
+    let place = c.args.place in
+    let bits : length c.items.result.now ≡ length s.inputs = ap length (c.items.ensures ∙ ap (λ (t : StageData). t.inputs) c.stage.view_is) in
+    rail-unreached s c.facts.ensures variant (net_at s place) (net_at-rail s place (subst (λ n. place < 2 * n) bits c.if-place-rails.true))
+
+pub pins-requires : goal.pins-requires
+pins-requires c =
+    let s : StageData = c.args.stage.now in
+    let w : WiringData = c.args.wiring.now in
+    let bits : length c.items.result.now ≡ length s.inputs = ap length (c.items.ensures ∙ ap (λ (t : StageData). t.inputs) c.stage.view_is) in
+    let many : length w.pins ≡ length s.cells = ap length c.requires.wiring.pins ∙ length-map s.cells (pin_places w.nets) in
+    let size = nets-length s in
+    let place = c.requires.place in
+    let after = c.if-place-rails.false in
+    omega arith
+
+pub is_marked-requires : goal.is_marked-requires
+is_marked-requires c =
+    let s : StageData = c.args.stage.now in
+    let bits : length c.items.result.now ≡ length s.inputs = ap length (c.items.ensures ∙ ap (λ (t : StageData). t.inputs) c.stage.view_is) in
+    let size = nets-length s in
+    let place = c.requires.place in
+    let after = c.if-place-rails.false in
+    let many = c.requires.many in
+    subst (All (λ p. p < length c.args.changed.now)) (sym c.pins.ensures.pins)
+    (pins-before s c.facts.ensures c.args.wiring.now c.requires.wiring (c.args.place - 2 * length c.items.result.now) (omega arith) (length c.args.changed.now) (omega arith))
+
+pub returns-else-is_marked-clause-unreached : goal.returns-else-is_marked-clause-unreached
+returns-else-is_marked-clause-unreached c = λ variant marks.
+    let s : StageData = c.args.stage.now in
+    let i : ℕ = c.args.place - 2 * length c.items.result.now in
+    let bits : length c.items.result.now ≡ length s.inputs = ap length (c.items.ensures ∙ ap (λ (t : StageData). t.inputs) c.stage.view_is) in
+    let size = nets-length s in
+    let place = c.requires.place in
+    let after = c.if-place-rails.false in
+    let at : c.args.place ≡ 2 * length s.inputs + i = omega arith in
+    subst (IsUnreached s variant) (sym (ap (net_at s) at ∙ net_at-cell s i))
+    (unmarked-unreached s c.facts.ensures c.args.wiring.now c.requires.wiring variant c.args.changed.now marks i (omega arith)
+    (ap (list_any (λ p. get_or c.args.changed.now p true)) (sym c.pins.ensures.pins) ∙ sym c.is_marked.ensures ∙ c.if-is_marked.false))

@@ -1,0 +1,126 @@
+//! The functions of the nets of a stage under a variant, from those under Base.
+ghost use Rattle.std.specs.Prelude.{◌≡◌, ◌<◌, ◌+◌, ◌*◌, [], ◌∷◌, false, true, All, IfNone, IfOk, IfSome, IsErrOf, length, slice_index_or, take};
+ghost use Rattle.std.specs.List.{list_any};
+ghost use Rattle.ncl_shape.specs.Stage.{nets_of};
+ghost use Rattle.ncl_space.specs.Making.{HaveTables, MakesAll};
+ghost use Rattle.ncl_space.specs.Space.{IsSpace, Keeps, Makes, fits};
+ghost use Rattle.ncl_stage.specs.Changes.{IsUnreached, MarksChanges, net_at};
+ghost use Rattle.ncl_stage.specs.StageTables.{AreValues, net_table, net_tables};
+ghost use Rattle.ncl_stage.specs.Wiring.{IsWiring};
+
+use crate::net_values::Values;
+use crate::nets::cell_ref;
+use crate::variant::{Variant, is_kept_low};
+use crate::wiring::Wiring;
+use ncl_shape::Stage;
+use ncl_space::{Ref, Space, SpaceFault};
+use std::alloc::Global;
+
+/// The functions of all nets of a stage under a variant, from those under Base, which `base` has: of the
+/// rails of its inputs, and then of the outputs of its cells.
+///
+/// Linear in the cells and their pins, and it asks the space for one function for each cell that a changed
+/// net reaches. A net has changed where its function isn't that of Base. Every other net keeps the name
+/// that `base` has, or that of the constant 0 where the variant keeps it low. `Full` comes exactly where
+/// the beads held with those of all these functions are more than the limit. What is made before a refusal
+/// stays.
+pub fn net_refs_from<P: Space>(
+    alloc: Global,
+    space: &mut P,
+    stage: &Stage,
+    base: &Values,
+    variant: Variant,
+) -> Result<Vec<Ref>, SpaceFault>
+    requires width { (P.meaning space.old).width ≡ length stage.now.inputs }
+    requires base { AreValues (P.meaning space.old) stage.now Variant.Base base.now }
+    requires space { IsSpace (P.meaning space.old) }
+    ensures made { IfOk result (λ refs. MakesAll (P.meaning space.old) (P.meaning space.new) refs.items (net_tables stage.now variant)) }
+    ensures kept { Keeps (P.meaning space.old) (P.meaning space.new) }
+    ensures space { IsSpace (P.meaning space.new) }
+    ensures full { IsErrOf result SpaceFault.Full → fits (P.meaning space.old) (net_tables stage.now variant) ≡ false }
+{
+    let mut refs = Vec::with_capacity(alloc, base.refs().len())?;
+    let mut changed = Vec::with_capacity(alloc, base.refs().len())?;
+    for place in 0..base.refs().len() {
+        let made = ref_from(
+            space,
+            stage,
+            base,
+            variant,
+            place,
+            refs.as_slice(),
+            changed.as_slice(),
+        )?;
+        changed.push(!space.same(made, base.refs()[place]))?;
+        refs.push(made)?;
+    }
+    Ok(refs)
+}
+
+// The function of the net at a place, from those of the nets before it, with marks for those that have
+// changed. Linear in the pins of its cell.
+fn ref_from<P: Space>(
+    space: &mut P,
+    stage: &Stage,
+    base: &Values,
+    variant: Variant,
+    place: usize,
+    refs: &[Ref],
+    changed: &[bool],
+) -> Result<Ref, SpaceFault>
+    requires width { (P.meaning space.old).width ≡ length stage.now.inputs }
+    requires base { AreValues (P.meaning space.old) stage.now Variant.Base base.now }
+    requires place { place < length (nets_of stage.now.inputs stage.now.cells) }
+    requires space { IsSpace (P.meaning space.old) }
+    requires refs { HaveTables (P.meaning space.old) refs.now (take place (net_tables stage.now variant)) }
+    requires many { length changed.now ≡ place }
+    requires changed { MarksChanges stage.now variant changed.now }
+    ensures made { IfOk result (λ r. Makes (P.meaning space.old) (P.meaning space.new) r (net_table stage.now variant (net_at stage.now place))) }
+    ensures kept { Keeps (P.meaning space.old) (P.meaning space.new) }
+    ensures space { IsSpace (P.meaning space.new) }
+    ensures full { IsErrOf result SpaceFault.Full → fits (P.meaning space.old) (net_table stage.now variant (net_at stage.now place) ∷ []) ≡ false }
+{
+    stage.facts();
+    let wiring = base.wiring();
+    if let Some(cell) = reached_cell(stage, wiring, place, changed) {
+        return cell_ref(space, stage, wiring, variant, cell, refs);
+    }
+    if is_kept_low(stage, variant, wiring.net(place)) {
+        return Ok(space.constant(false));
+    }
+    Ok(base.refs()[place])
+}
+
+// The cell whose output is the net at a place, where a net that it reads has changed. Linear in its pins.
+fn reached_cell(stage: &Stage, wiring: &Wiring, place: usize, changed: &[bool]) -> Option<usize>
+    requires wiring { IsWiring stage.now wiring.now }
+    requires place { place < length (nets_of stage.now.inputs stage.now.cells) }
+    requires many { length changed.now ≡ place }
+    ensures reached { IfSome result (λ cell. (cell < length stage.now.cells) × (place ≡ 2 * length stage.now.inputs + cell)) }
+    ensures unreached { (variant : Variant) → MarksChanges stage.now variant changed.now → IfNone result (IsUnreached stage.now variant (net_at stage.now place)) }
+{
+    stage.facts();
+    let rails = 2 * stage.inputs.items().len();
+    if place < rails {
+        return None;
+    }
+    let cell = place - rails;
+    if is_marked(changed, wiring.pins(cell)) {
+        Some(cell)
+    } else {
+        None
+    }
+}
+
+// Whether a mark stands at one of the places. Linear in the places.
+fn is_marked(marks: &[bool], places: &[usize]) -> bool
+    requires { All (λ place. place < length marks.now) places.now }
+    ensures { result ≡ list_any (λ place. slice_index_or marks.now place true) places.now }
+{
+    for place in places {
+        if marks[*place] {
+            return true;
+        }
+    }
+    false
+}

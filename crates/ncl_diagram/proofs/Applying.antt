@@ -11,12 +11,12 @@ use Rattle.ncl_diagram.specs.Finding.{Leads, Joins, HasNoRoom, IsAnswer, IsBeadO
 use Rattle.ncl_diagram.specs.Memo.{places, Forgets, AreAnswers}
 use Rattle.ncl_diagram.proofs.Growth.{grown_along, grown_itself, branch_grown, there_grown, above_grown, above_back, answer_grown, adds_grown}
 use Rattle.ncl_diagram.proofs.Joining.{leads_node}
-use Rattle.ncl_diagram.proofs.Step.{above_branches, there_branches, step_answer, bead_up, bead_here, lacks_here}
+use Rattle.ncl_diagram.proofs.Step.{above_branches, there_after, step_answer, bead_up, bead_here, lacks_here}
 
 pub least_grown : (n : ℕ) (a b : List Node) (level : ℕ) (ps : List ℕ) → Grown a b → There a ps → Least n a level ps → Least n b level ps
 least_grown n a b level ps g t l = record { bit = l.bit; above = above_grown n a b g level ps t l.above; least = λ k h. l.least k (above_back n a b g k ps t h) }
 
-branches_grown : (a b : List Node) (level : ℕ) (v : Bool) (ps : List ℕ) → Grown a b → There a ps → map (branch b level v) ps ≡ map (branch a level v) ps
+pub branches_grown : (a b : List Node) (level : ℕ) (v : Bool) (ps : List ℕ) → Grown a b → There a ps → map (branch b level v) ps ≡ map (branch a level v) ps
 branches_grown a b level v [] g t = refl
 branches_grown a b level v (p ∷ ps) g t = let h = branch_grown a b g level v p t.0 in let r = branches_grown a b level v ps g t.1 in λ i. h i ∷ r i
 
@@ -49,10 +49,10 @@ higher first cd grown answer adds = record { first = first; cd = cd; grown = gro
 -- after the first call
 module _ {n : ℕ} {kind : Kind} {a b : List Node} {ps lows highs : List ℕ} {level : ℕ} (u : Lower n kind a b ps lows highs level) where
   pub lower_there : There b lows
-  lower_there = subst (λ (qs : List ℕ). There b qs) (sym u.lows_are) (there_grown a b u.grown _ (there_branches n a level false ps u.ca u.there))
+  lower_there = there_grown a b u.grown lows (there_after n a level false ps lows u.ca u.lows_are u.there)
 
   pub higher_there : There b highs
-  higher_there = subst (λ (qs : List ℕ). There b qs) (sym u.highs_are) (there_grown a b u.grown _ (there_branches n a level true ps u.ca u.there))
+  higher_there = there_grown a b u.grown highs (there_after n a level true ps highs u.ca u.highs_are u.there)
 
   -- a bead of the table of the branches is one of the whole, in any later list
   up_low : (e : List Node) (t : List Bool) → Grown a e → IsCanonical n e → IsBeadOf n kind e lows t → IsBeadOf n kind e ps t
@@ -174,7 +174,7 @@ memo_forgets n kind a keys more found known m f long = record {
   answer = λ i key r e h. let w = f.was i key r e h in m.answer i key r w.0 w.1;
 }
 
-get_set : {X : Type 0} (xs : List X) (at i : ℕ) (v x : X) → slice_get (set xs at v) i ≡ Some x → (slice_get xs i ≡ Some x) ⊎ ((i ≡ at) × (v ≡ x))
+pub get_set : {X : Type 0} (xs : List X) (at i : ℕ) (v x : X) → slice_get (set xs at v) i ≡ Some x → (slice_get xs i ≡ Some x) ⊎ ((i ≡ at) × (v ≡ x))
 get_set [] at i v x e = inl e
 get_set (y ∷ xs) zero zero v x e = inr (refl, cc)
 get_set (y ∷ xs) zero (suc i) v x e = inl e

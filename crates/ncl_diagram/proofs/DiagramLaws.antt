@@ -1,5 +1,5 @@
 -- A diagram is a space, and how the space changes where nodes come or the last ones go.
-use Rattle.std.proofs.Common.{◌≡◌, ℕ, zero, suc, ◌+◌, ◌^◌, ◌<◌, ◌≤◌, ◌⊎◌, inl, inr, Bool, true, false, ◌||◌, List, [], ◌∷◌, length, map, take, nat_lt, nat_le, IsTrue, sym, ap, ◌∙◌, refl, arith}
+use Rattle.std.proofs.Common.{◌≡◌, ℕ, zero, suc, ◌+◌, ◌*◌, ◌^◌, ◌<◌, ◌≤◌, ◌⊎◌, inl, inr, Bool, true, false, ◌||◌, List, [], ◌∷◌, length, map, take, nat_lt, nat_le, IsTrue, sym, ap, ◌∙◌, refl, arith}
 use Rattle.std.specs.Prelude.{Result, Ok, Err, IfOk, OnOk, IsErrOf}
 use Rattle.std.specs.FinSet as set
 use Rattle.std.specs.List.{All}
@@ -10,7 +10,7 @@ use Rattle.ncl_space.specs.declared.space.Ref.{Ref}
 use Rattle.ncl_space.specs.declared.space.Mark.{Mark}
 use Rattle.ncl_space.specs.declared.space.SpaceFault.{SpaceFault}
 use Rattle.ncl_space.specs.declared.space.SpaceFault.TheVariants.{Full}
-use Rattle.ncl_space.specs.Beads.{beads_of, distinct_beads, is_bead}
+use Rattle.ncl_space.specs.Beads.{bead_count, beads_of, distinct_beads, is_bead}
 use Rattle.ncl_space.specs.Functions.{constant_table}
 use Rattle.ncl_space.specs.Space.{IsLive, IsNew, IsSpace, Keeps, Makes, MarksNow, Releases, Adds, Within, fits}
 use Rattle.ncl_space.proofs.BeadLaws.{contains-distinct_beads, table_order}
@@ -21,6 +21,7 @@ use Rattle.ncl_diagram.specs.Holding.{Held}
 use Rattle.ncl_diagram.specs.Holding.{held_of}
 use Rattle.ncl_diagram.specs.Leaves.{Leaves}
 use Rattle.ncl_diagram.specs.Diagram.{DiagramData, diagram_space, IsDiagram}
+use Rattle.ncl_diagram.specs.Steps.{operand_bound, product}
 use Rattle.ncl_diagram.proofs.Canonical.{length-table_from, one_place}
 use Rattle.ncl_diagram.proofs.Growth.{table_grown}
 use Rattle.ncl_diagram.proofs.Holding.{beads_held, held_grown}
@@ -191,3 +192,8 @@ tables_of-places d (r ∷ ins) = ap (λ (ts : List (List Bool)). table_from d.no
 pub There-live : (d : DiagramData) (ins : List Ref) → All (IsLive (diagram_space d)) ins → There d.nodes (map (λ (r : Ref). r.place) ins)
 There-live d [] live = tt
 There-live d (r ∷ ins) live = (from_nat_lt r.place (length d.nodes + 2) (live 0 r (omega arith)), There-live d ins (λ k e lt. live (suc k) e (omega arith)))
+
+-- the bound on steps is that of their places
+pub bound_of-places : (d : DiagramData) (ins : List Ref) → product (map (λ p. bead_count d.width (table_from d.nodes d.width 0 p ∷ []) + 2) (map (λ (r : Ref). r.place) ins)) ≡ operand_bound (diagram_space d) ins
+bound_of-places d [] = refl
+bound_of-places d (r ∷ ins) = ap (λ (n : ℕ). (bead_count d.width (table_from d.nodes d.width 0 r.place ∷ []) + 2) * n) (bound_of-places d ins)

@@ -15,3 +15,5 @@ pub mod DiagramLaws
 pub mod Rails
 pub mod LeastLaws
 pub mod KeptLaws
+pub mod Reaching
+pub mod Counting

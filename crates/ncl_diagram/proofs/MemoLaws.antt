@@ -8,7 +8,7 @@ use Rattle.ncl_space.specs.declared.space.Ref.{Ref}
 use Rattle.ncl_diagram.specs.declared.memo.Key.{Key}
 use Rattle.ncl_diagram.specs.declared.nodes.Node.{Node}
 use Rattle.ncl_diagram.specs.Nodes.{is_node, node_at}
-use Rattle.ncl_diagram.specs.Memo.{KeepsKeys, Forgets}
+use Rattle.ncl_diagram.specs.Memo.{KeepsKeys, Forgets, is_key}
 use Rattle.ncl_diagram.proofs.Canonical.{same_node}
 
 pub none_before : {X : Type 0} (p : X → Bool) (xs : List X) → list_any p xs ≡ false → position_or_len p xs ≡ length xs
@@ -18,6 +18,10 @@ none_before p (x ∷ xs) h = let q = or_parts (p x) (list_any p xs) h in grind (
 pub absent_by_added : (b a : Bool) → a ≡ true → a ≡ not b → b ≡ false
 absent_by_added true a e n = absurd (grind arith)
 absent_by_added false a e n = refl
+
+pub present_by_added : (b a : Bool) → a ≡ false → a ≡ not b → b ≡ true
+present_by_added true a e n = refl
+present_by_added false a e n = absurd (grind arith)
 
 pub get_push : {X : Type 0} (xs : List X) (x : X) (i : ℕ) → i ≡ length xs → slice_get (xs ++ x ∷ []) i ≡ Some x
 get_push [] x zero e = refl
@@ -44,6 +48,29 @@ get_last (z ∷ xs) y (suc i) x e = more (get_last xs y i x e)
 pub kept_by_push : (b : Bool) (keys more : List Key) (key : Key) → more ≡ (if b then keys else keys ++ key ∷ []) → KeepsKeys keys more
 kept_by_push true keys more key e = record { kept = λ i k g. subst (λ (l : List Key). slice_get l i ≡ Some k) (sym e) g }
 kept_by_push false keys more key e = record { kept = λ i k g. subst (λ (l : List Key). slice_get l i ≡ Some k) (sym e) (get_kept keys key i k g) }
+
+-- a key that is there isn't put again
+pub none_put : (b : Bool) (keys more : List Key) (key : Key) → b ≡ true → more ≡ (if b then keys else keys ++ key ∷ []) → more ≡ keys
+none_put true keys more key h e = e
+none_put false keys more key h e = absurd (grind arith)
+
+-- one that isn't there is put last
+pub put_last : (b : Bool) (keys more : List Key) (key : Key) → b ≡ false → more ≡ (if b then keys else keys ++ key ∷ []) → more ≡ keys ++ key ∷ []
+put_last true keys more key h e = absurd (grind arith)
+put_last false keys more key h e = e
+
+pub is_key_only : (x y : Key) → is_key x y ≡ true → x ≡ y
+is_key_only x y e =
+    let p = and_parts (nat_eq x.a.place y.a.place) (nat_eq x.b.place y.b.place && (nat_eq x.c.place y.c.place && nat_eq x.d.place y.d.place)) e in
+    let q = and_parts (nat_eq x.b.place y.b.place) (nat_eq x.c.place y.c.place && nat_eq x.d.place y.d.place) p.1 in
+    let r = and_parts (nat_eq x.c.place y.c.place) (nat_eq x.d.place y.d.place) q.1 in
+    same (one _ _ p.0) (one _ _ q.0) (one _ _ r.0) (one _ _ r.1)
+  where
+    one : (i j : ℕ) → nat_eq i j ≡ true → i ≡ j
+    one i j h = grind (arith, nat_tests)
+
+    same : x.a.place ≡ y.a.place → x.b.place ≡ y.b.place → x.c.place ≡ y.c.place → x.d.place ≡ y.d.place → x ≡ y
+    same a b c d = λ i. record { a = record { place = a i }; b = record { place = b i }; c = record { place = c i }; d = record { place = d i } }
 
 pub short : {X : Type 0} (xs : List X) (i : ℕ) (x : X) → slice_get xs i ≡ Some x → i < length xs
 short [] i x e = absurd (grind arith)

@@ -36,7 +36,7 @@ passes n nodes level v p lt later = by_look v (look n nodes level p lt (omega ar
     by_look false (inr q) = q.low
     by_look true (inr q) = q.high
 
-next_level : (n : ℕ) (nodes : List Node) (level : ℕ) (v : Bool) (p : ℕ) → IsCanonical n nodes → level < n → level ≤ level_of n nodes p → level + 1 ≤ level_of n nodes (branch nodes level v p)
+pub next_level : (n : ℕ) (nodes : List Node) (level : ℕ) (v : Bool) (p : ℕ) → IsCanonical n nodes → level < n → level ≤ level_of n nodes p → level + 1 ≤ level_of n nodes (branch nodes level v p)
 next_level n nodes level false p c lt le = next_low n nodes level p c (look n nodes level p lt le)
 next_level n nodes level true p c lt le = next_high n nodes level p c (look n nodes level p lt le)
 
@@ -47,6 +47,10 @@ above_branches n nodes level v (p ∷ ps) c lt h = (next_level n nodes level v p
 pub there_branches : (n : ℕ) (nodes : List Node) (level : ℕ) (v : Bool) (ps : List ℕ) → IsCanonical n nodes → There nodes ps → There nodes (map (branch nodes level v) ps)
 there_branches n nodes level v [] c h = h
 there_branches n nodes level v (p ∷ ps) c h = (let t = h.0 in let b = branch_before n nodes c level v p t in omega arith, there_branches n nodes level v ps c h.1)
+
+-- the operands after a branch are there
+pub there_after : (n : ℕ) (nodes : List Node) (level : ℕ) (v : Bool) (ps qs : List ℕ) → IsCanonical n nodes → qs ≡ map (branch nodes level v) ps → There nodes ps → There nodes qs
+there_after n nodes level v ps qs c e there = subst (λ (rs : List ℕ). There nodes rs) (sym e) (there_branches n nodes level v ps c there)
 
 above_less : (n : ℕ) (nodes : List Node) (l level : ℕ) (ps : List ℕ) → l ≤ level → Above n nodes level ps → Above n nodes l ps
 above_less n nodes l level [] le h = h

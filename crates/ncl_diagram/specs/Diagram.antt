@@ -1,6 +1,9 @@
 -- A space of shared decision diagrams: its nodes, in the order in which they came.
-use Rattle.std.specs.Prelude.{ℕ, ◌+◌, ◌^◌, ◌<◌, ◌≤◌, List, length, take, Some, nat_lt, nat_le}
-use Rattle.ncl_space.specs.Space.{SpaceData}
+use Rattle.std.specs.Prelude.{◌≡◌, ℕ, ◌+◌, ◌^◌, ◌<◌, ◌≤◌, Bool, true, false, List, [], ◌∷◌, length, take, Some, nat_lt, nat_le, Result, IfOk, OnOk, IsErrOf}
+use Rattle.ncl_space.specs.declared.space.Ref.{Ref}
+use Rattle.ncl_space.specs.declared.space.SpaceFault.{SpaceFault}
+use Rattle.ncl_space.specs.declared.space.SpaceFault.TheVariants.{Full}
+use Rattle.ncl_space.specs.Space.{Adds, IsSpace, Keeps, Makes, SpaceData, fits}
 use Rattle.ncl_diagram.specs.declared.nodes.Node.{Node}
 use Rattle.ncl_diagram.specs.Nodes.{IsCanonical, table_from}
 use Rattle.ncl_diagram.specs.Holding.{held_of}
@@ -33,3 +36,12 @@ pub record IsDiagram (n limit : ℕ) (nodes : List Node) : Type 0 where
   pub canonical : IsCanonical n nodes
   pub few : length nodes ≤ limit
   pub small : limit < 2 ^ 32
+
+-- what a call leaves that was asked for a function of some table, as a space says it
+pub record Applies (old new : SpaceData) (made : List Bool) (result : Result Ref SpaceFault) : Type 0 where
+  pub answer : IfOk result (λ r. Makes old new r made)
+  pub kept : Keeps old new
+  pub adds : Adds old new (made ∷ [])
+  pub space : IsSpace new
+  pub full : IsErrOf result Full → fits old (made ∷ []) ≡ false
+  pub fit : OnOk result (fits old (made ∷ []) ≡ true)

@@ -6,3 +6,4 @@ pub mod Holding
 pub mod Diagram
 pub mod Leaves
 pub mod Kept
+pub mod Steps

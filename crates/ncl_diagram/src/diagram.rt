@@ -1,20 +1,25 @@
 //! The space of shared decision diagrams.
-ghost use Rattle.std.specs.Prelude.{◌≡◌, ◌≤◌, Some};
+ghost use Rattle.std.specs.Prelude.{◌≡◌, ◌<◌, ◌≤◌, ◌+◌, ◌*◌, [], ◌∷◌, true, false, IfOk, OnOk, IsErrOf, length, map, All, Some};
 ghost use Rattle.std.specs.FinSet as set;
+ghost use Rattle.ncl_gates.specs.Gate.{arity_of};
 ghost use Rattle.ncl_space.specs.declared.space.Ref.{Ref};
-ghost use Rattle.ncl_space.specs.Space.{IsLive, IsNew, IsSpace};
-ghost use Rattle.ncl_diagram.specs.Diagram.{diagram_space};
+ghost use Rattle.ncl_space.specs.Functions.{gate_table};
+ghost use Rattle.ncl_space.specs.Space.{Adds, IsLive, IsNew, IsSpace, Keeps, Makes, fits};
+ghost use Rattle.ncl_diagram.specs.Diagram.{Applies, diagram_space};
+ghost use Rattle.ncl_diagram.specs.Steps.{operand_bound};
 
 use crate::answers::Answers;
 use crate::least::find_least;
 use crate::memo::Memo;
 use crate::nodes::{Nodes, constant};
 use crate::operation::{apply_key, key_of, rail_node};
+use crate::steps::Steps;
 use ncl_base::Word;
 use ncl_gates::Kind;
 use ncl_space::{Mark, Ref, Space, SpaceFault};
 use std::alloc::Global;
-use std::marker::Model;
+use std::marker::{Brand, Model};
+use std::sync::ledger::{Blank, Ledger};
 
 /// A space of functions of 1 to 128 bits that keeps each as a node of one shared decision diagram,
 /// reduced, ordered and without doubles, and has a limit on the nodes.
@@ -72,6 +77,67 @@ impl Diagram {
     {
         self.nodes.len() as u32
     }
+
+    /// `apply` with a count of its steps: each reads a node, or finds or adds one. It takes at most five times
+    /// as many as the product, over the functions at the gate's inputs, of the number of beads and two.
+    pub fn apply_steps<L: Ledger>(
+        &mut self,
+        kind: Kind,
+        ins: &[Ref],
+        steps: &mut Steps<L>,
+    ) -> Result<Ref, SpaceFault>
+        requires arity { length ins.now ≡ arity_of kind }
+        requires live { All (IsLive (diagram_space self.old)) ins.now }
+        ensures made { let s = diagram_space self.old in
+            let t = gate_table s.width kind (map s.table ins.now) in
+            IfOk result (λ r. Makes s (diagram_space self.new) r t) }
+        ensures kept { Keeps (diagram_space self.old) (diagram_space self.new) }
+        ensures adds { let s = diagram_space self.old in
+            let t = gate_table s.width kind (map s.table ins.now) in
+            Adds s (diagram_space self.new) (t ∷ []) }
+        ensures space { IsSpace (diagram_space self.new) }
+        ensures full { let s = diagram_space self.old in
+            let t = gate_table s.width kind (map s.table ins.now) in
+            IsErrOf result SpaceFault.Full → fits s (t ∷ []) ≡ false }
+        ensures fits { let s = diagram_space self.old in
+            let t = gate_table s.width kind (map s.table ins.now) in
+            OnOk result (fits s (t ∷ []) ≡ true) }
+
+        // How many steps it takes, whatever it answers: no more than the bound, and one for each bead that comes.
+        ensures steps { steps.new ≤ steps.old + 5 * operand_bound (diagram_space self.old) ins.now }
+        ensures came { set.len (diagram_space self.new).held + steps.old
+            ≤ set.len (diagram_space self.old).held + steps.new }
+    {
+        let key = key_of(ins);
+        apply_key(
+            self.width,
+            self.limit,
+            kind,
+            key,
+            &mut self.nodes,
+            &mut self.memo,
+            &mut self.answers,
+            steps,
+        )
+    }
+}
+
+// `apply_steps` with a count that nobody reads.
+fn apply_uncounted<L: Ledger>(
+    diagram: &mut Diagram,
+    kind: Kind,
+    ins: &[Ref],
+    blank: Blank,
+) -> Result<Ref, SpaceFault>
+    requires name { blank.name ≡ L.name }
+    requires parts { blank.parts ≡ L.parts }
+    requires some { 0 < blank.parts }
+    requires arity { length ins.now ≡ arity_of kind }
+    requires live { All (IsLive (diagram_space diagram.old)) ins.now }
+    ensures { let s = diagram_space diagram.old in
+        Applies s (diagram_space diagram.new) (gate_table s.width kind (map s.table ins.now)) result }
+{
+    diagram.apply_steps(kind, ins, &mut Steps::<L>::new(blank))
 }
 
 impl Space for Diagram {
@@ -86,20 +152,12 @@ impl Space for Diagram {
     }
 
     fn rail(&mut self, bit: usize, value: bool) -> Result<Ref, SpaceFault> {
-        rail_node(self.width, self.limit, &mut self.nodes, bit, value)
+        let blank = Blank::new(1);
+        rail_node::<Brand>(self.width, self.limit, &mut self.nodes, bit, value, blank)
     }
 
     fn apply(&mut self, kind: Kind, ins: &[Ref]) -> Result<Ref, SpaceFault> {
-        let key = key_of(ins);
-        apply_key(
-            self.width,
-            self.limit,
-            kind,
-            key,
-            &mut self.nodes,
-            &mut self.memo,
-            &mut self.answers,
-        )
+        apply_uncounted::<Brand>(self, kind, ins, Blank::new(1))
     }
 
     fn same(&self, x: Ref, y: Ref) -> bool {
@@ -108,11 +166,11 @@ impl Space for Diagram {
     }
 
     fn least_one(&self, x: Ref, out: &mut Word) -> bool {
-        find_least(self.width, &self.nodes, x, true, out)
+        find_least::<Brand>(self.width, &self.nodes, x, true, out, Blank::new(1))
     }
 
     fn least_zero(&self, x: Ref, out: &mut Word) -> bool {
-        find_least(self.width, &self.nodes, x, false, out)
+        find_least::<Brand>(self.width, &self.nodes, x, false, out, Blank::new(1))
     }
 
     fn mark(&self) -> Mark {

@@ -7,8 +7,10 @@ mod least;
 mod memo;
 mod nodes;
 mod operation;
+mod steps;
 #[cfg(test)]
 mod tests;
 
 pub use diagram::Diagram;
 pub use ncl_space::{Mark, Plain, Ref, Space, SpaceFault};
+pub use steps::Steps;

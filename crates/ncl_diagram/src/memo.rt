@@ -1,6 +1,7 @@
 //! What one operation has found so far.
 ghost use Rattle.std.specs.Prelude.{◌≡◌, ◌≢◌, Err, ◌+◌, ◌≤◌, ◌<◌, [], ◌∷◌, ◌++◌, true, false, IfOk, OnOk, OnErr, length, slice_get, Some, set};
-ghost use Rattle.ncl_diagram.specs.Memo.{KeepsKeys, Forgets};
+ghost use Rattle.std.specs.List.{IsDistinct};
+ghost use Rattle.ncl_diagram.specs.Memo.{Begins, Forgets, KeepsKeys, MayAdd, is_key};
 
 use indexmap::IndexSet;
 use ncl_space::{Ref, SpaceFault};
@@ -41,6 +42,9 @@ impl Memo {
         ensures never_full { result ≢ Err SpaceFault.Full }
         ensures answers { OnOk result (Forgets self.old.keys.keys self.old.found.items
             self.new.keys.keys self.new.found.items) }
+        ensures begins { IfOk result (Begins self.old.keys.keys self.old.found.items
+            self.new.keys.keys self.new.found.items key) }
+        ensures may { MayAdd self.old.keys.keys self.new.keys.keys key }
     {
         let (at, added) = self.keys.insert_full(key)?;
         if !added {
@@ -59,11 +63,13 @@ impl Memo {
         self.found[at] = Some(answer);
     }
 
-    /// Forgets everything. Linear in the keys.
+    /// Forgets everything. Linear in the keys, of which no two were one.
     pub(crate) fn empty(&mut self)
         ensures keys { self.new.keys.keys ≡ [] }
         ensures found { self.new.found.items ≡ [] }
+        ensures distinct { IsDistinct is_key self.old.keys.keys }
     {
+        let _ = self.keys.len();
         self.keys.truncate(0);
         self.found.truncate(0);
     }

@@ -3,10 +3,12 @@ ghost use Rattle.std.specs.Prelude.{ℕ, ◌≡◌, ◌<◌, ◌≤◌, ◌+◌,
 ghost use Rattle.std.specs.List.{list_any};
 ghost use Rattle.ncl_diagram.specs.Nodes.{IsCanonical, constant_place, is_node, node_at};
 
+use crate::steps::Steps;
 use indexmap::IndexSet;
 use ncl_space::{Ref, SpaceFault};
 use std::alloc::Global;
 use std::marker::Model;
+use std::sync::ledger::Ledger;
 
 // How many nodes have a place of 32 bits, since the constants have the first two.
 const MOST_NODES: usize = 4_294_967_294;
@@ -59,28 +61,38 @@ impl Nodes {
         self.set.len()
     }
 
-    /// The node at a place; none at the constants.
-    pub(crate) fn read(&self, at: Ref) -> Option<Node>
+    /// The node at a place; none at the constants. One step.
+    pub(crate) fn read<L: Ledger>(&self, at: Ref, count: &mut Steps<L>) -> Option<Node>
         requires { at.place < length self.now + 2 }
-        ensures { result ≡ node_at self.now at.place }
+        ensures node { result ≡ node_at self.now at.place }
+        ensures steps { count.new ≡ count.old + 1 }
     {
+        count.tick();
         if at.place < 2 {
             return None;
         }
         Some(self.set.as_slice()[at.place as usize - 2])
     }
 
-    /// The place of the node, found, or added where the limit allows it.
-    pub(crate) fn find_or_add(&mut self, node: Node, limit: u32) -> Result<Ref, SpaceFault>
+    /// The place of the node, found, or added where the limit allows it. One step.
+    pub(crate) fn find_or_add<L: Ledger>(
+        &mut self,
+        node: Node,
+        limit: u32,
+        steps: &mut Steps<L>,
+    ) -> Result<Ref, SpaceFault>
         requires { length self.old ≤ limit }
+        ensures steps { steps.new ≡ steps.old + 1 }
         ensures at { IfOk result (λ r. node_at self.new r.place ≡ Some node) }
         ensures added { IfOk result (λ _. self.new ≡
             (if list_any (is_node node) self.old then self.old else self.old ++ node ∷ [])) }
         ensures few { length self.new ≤ limit }
+        ensures one { length self.new ≤ length self.old + 1 }
         ensures err { OnErr result (self.new ≡ self.old) }
         ensures full { IsErrOf result SpaceFault.Full → length self.old ≡ limit }
         ensures absent { IsErrOf result SpaceFault.Full → list_any (is_node node) self.old ≡ false }
     {
+        steps.tick();
         let count = self.set.len();
         if count >= limit as usize {
             let Some(at) = self.set.get_index_of(&node) else {

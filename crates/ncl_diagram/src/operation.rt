@@ -1,21 +1,24 @@
 //! One operation of a diagram: the set function of a gate on functions, from their nodes.
-ghost use Rattle.std.specs.Prelude.{◌≡◌, ◌<◌, ◌≤◌, ◌+◌, ◌-◌, ◌∷◌, [], true, false, not, map, min, nat_le, nat_eq, slice_index_or, IfOk, OnOk, IsErrOf, IfSome, IfNone, OnErr, length};
+ghost use Rattle.std.specs.Prelude.{◌≡◌, ◌<◌, ◌≤◌, ◌+◌, ◌*◌, ◌-◌, ◌∷◌, [], true, false, not, map, min, nat_le, nat_eq, slice_index_or, IfOk, OnOk, IsErrOf, IfSome, IfNone, OnErr, length};
 ghost use Rattle.std.specs.List.{list_any, list_all};
 ghost use Rattle.ncl_gates.specs.Gate.{set_of};
 ghost use Rattle.ncl_space.specs.Bits.{is_set};
 ghost use Rattle.ncl_space.specs.Functions.{rail_table};
 ghost use Rattle.ncl_diagram.specs.Kept.{AreKept};
 ghost use Rattle.ncl_diagram.specs.Leaves.{Leaves};
-ghost use Rattle.ncl_diagram.specs.Memo.{AreAnswers, KeepsKeys, places};
+ghost use Rattle.ncl_diagram.specs.Memo.{AreAnswers, AreLarger, KeepsKeys, Settles, places, size_of};
 ghost use Rattle.ncl_diagram.specs.Nodes.{Grown, IsCanonical, bit_or, branch, child, level_of};
 ghost use Rattle.ncl_diagram.specs.Operands.{IsFilled, IsStop, Least, There, gate_from, only_one};
 ghost use Rattle.ncl_diagram.specs.Finding.{AddsBeads, HasNoRoom, IsAnswer, Joins, Lacks, Leads};
+ghost use Rattle.ncl_diagram.specs.Steps.{AddsKeys, product, reach_of};
 
 use crate::answers::Answers;
 use crate::memo::{Key, Memo};
 use crate::nodes::{Node, Nodes, constant};
+use crate::steps::Steps;
 use ncl_gates::Kind;
 use ncl_space::{Ref, SpaceFault, set_values};
+use std::sync::ledger::{Blank, Ledger};
 
 // What is known of a function without reading its nodes: bit 0 is 0 where it is 0 everywhere, and bit 1 is
 // 1 where it is 1 everywhere.
@@ -67,8 +70,8 @@ pub(crate) struct Branches {
     high: Key,
 }
 
-// Reads the operands' nodes, at most one each.
-fn split(width: usize, nodes: &Nodes, key: Key) -> Branches
+// Reads the operands' nodes.
+fn split<L: Ledger>(width: usize, nodes: &Nodes, key: Key, steps: &mut Steps<L>) -> Branches
     requires width { width ≤ 128 }
     requires canonical { IsCanonical width nodes.now }
     requires there { There nodes.now (places key) }
@@ -76,17 +79,14 @@ fn split(width: usize, nodes: &Nodes, key: Key) -> Branches
     ensures least { Least width nodes.now result.bit (places key) }
     ensures low { places result.low ≡ map (branch nodes.now result.bit false) (places key) }
     ensures high { places result.high ≡ map (branch nodes.now result.bit true) (places key) }
-    ensures low_less { let low = result.low in
-        low.a.place + low.b.place + low.c.place + low.d.place
-        < key.a.place + key.b.place + key.c.place + key.d.place }
-    ensures high_less { let high = result.high in
-        high.a.place + high.b.place + high.c.place + high.d.place
-        < key.a.place + key.b.place + key.c.place + key.d.place }
+    ensures low_less { size_of result.low < size_of key }
+    ensures high_less { size_of result.high < size_of key }
+    ensures steps { steps.new ≡ steps.old + 4 }
 {
-    let a = nodes.read(key.a);
-    let b = nodes.read(key.b);
-    let c = nodes.read(key.c);
-    let d = nodes.read(key.d);
+    let a = nodes.read(key.a, steps);
+    let b = nodes.read(key.b, steps);
+    let c = nodes.read(key.c, steps);
+    let d = nodes.read(key.d, steps);
     let first = lesser(bit_of(width, a), bit_of(width, b));
     let second = lesser(bit_of(width, c), bit_of(width, d));
     let least = lesser(first, second);
@@ -107,13 +107,14 @@ fn split(width: usize, nodes: &Nodes, key: Key) -> Branches
 }
 
 // The place that leads to two others at a bit: one of them where they are one, else a node.
-fn join(
+fn join<L: Ledger>(
     width: usize,
     limit: u32,
     nodes: &mut Nodes,
     bit: u8,
     low: Ref,
     high: Ref,
+    steps: &mut Steps<L>,
 ) -> Result<Ref, SpaceFault>
     requires canonical { IsCanonical width nodes.old }
     requires few { length nodes.old ≤ limit }
@@ -128,11 +129,13 @@ fn join(
     ensures err { OnErr result (nodes.new ≡ nodes.old) }
     ensures full { IsErrOf result SpaceFault.Full → length nodes.old ≡ limit }
     ensures absent { IsErrOf result SpaceFault.Full → HasNoRoom width nodes.old bit low.place high.place }
+    ensures steps { steps.new ≤ steps.old + 1 }
+    ensures came { length nodes.new + steps.old ≤ length nodes.old + steps.new }
 {
     if low.place == high.place {
         return Ok(low);
     }
-    nodes.find_or_add(Node { bit, low, high }, limit)
+    nodes.find_or_add(Node { bit, low, high }, limit, steps)
 }
 
 fn is_only(at: Ref, one: Ref) -> bool
@@ -189,7 +192,7 @@ fn stop(kind: Kind, key: Key) -> Option<Ref>
 // The gate's function of four operands, from the answers after a 0 and after a 1 at their least bit. It
 // goes down at least one bit each time, so it is at most as deep as a word is long. Each key that the memo
 // doesn't have yet costs at most four readings and one finding or adding.
-fn apply_at(
+fn apply_at<L: Ledger>(
     width: usize,
     limit: u32,
     kind: Kind,
@@ -197,6 +200,7 @@ fn apply_at(
     nodes: &mut Nodes,
     memo: &mut Memo,
     answers: &mut Answers,
+    steps: &mut Steps<L>,
 ) -> Result<Ref, SpaceFault>
     requires width { width ≤ 128 }
     requires canonical { IsCanonical width nodes.old }
@@ -204,6 +208,7 @@ fn apply_at(
     requires there { There nodes.old (places key) }
     requires memo { AreAnswers width kind nodes.old memo.old.keys.keys memo.old.found.items }
     requires kept { AreKept width nodes.old answers.old }
+    requires larger { AreLarger (size_of key) memo.old.keys.keys memo.old.found.items }
     ensures canonical { IsCanonical width nodes.new }
     ensures grown { Grown nodes.old nodes.new }
     ensures few { length nodes.new ≤ limit }
@@ -215,6 +220,12 @@ fn apply_at(
         (AreAnswers width kind nodes.new memo.new.keys.keys memo.new.found.items) }
     ensures keys { OnOk result (KeepsKeys memo.old.keys.keys memo.new.keys.keys) }
     ensures kept { AreKept width nodes.new answers.new }
+    ensures settles { OnOk result (Settles memo.old.keys.keys memo.old.found.items
+        memo.new.keys.keys memo.new.found.items) }
+    ensures reached { AddsKeys nodes.new memo.old.keys.keys memo.new.keys.keys key }
+    ensures steps { steps.new + 5 * length memo.old.keys.keys
+        ≤ steps.old + 5 * length memo.new.keys.keys }
+    ensures came { length nodes.new + steps.old ≤ length nodes.old + steps.new }
 {
     if let Some(r) = stop(kind, key) {
         return Ok(r);
@@ -226,10 +237,28 @@ fn apply_at(
     if let Some(r) = known {
         return Ok(r);
     }
-    let branches = split(width, nodes, key);
-    let low = apply_at(width, limit, kind, branches.low, nodes, memo, answers)?;
-    let high = apply_at(width, limit, kind, branches.high, nodes, memo, answers)?;
-    let r = join(width, limit, nodes, branches.bit, low, high)?;
+    let branches = split(width, nodes, key, steps);
+    let low = apply_at(
+        width,
+        limit,
+        kind,
+        branches.low,
+        nodes,
+        memo,
+        answers,
+        steps,
+    )?;
+    let high = apply_at(
+        width,
+        limit,
+        kind,
+        branches.high,
+        nodes,
+        memo,
+        answers,
+        steps,
+    )?;
+    let r = join(width, limit, nodes, branches.bit, low, high, steps)?;
     memo.note(at, r);
     answers.note(kind, key, r);
     Ok(r)
@@ -261,7 +290,7 @@ pub(crate) fn key_of(ins: &[Ref]) -> Key
 
 /// The gate's function of some functions. The memo is empty before and after. Its time is the number of keys
 /// that it meets: at most the product, over the operands, of their nodes and the two constants.
-pub(crate) fn apply_key(
+pub(crate) fn apply_key<L: Ledger>(
     width: usize,
     limit: u32,
     kind: Kind,
@@ -269,6 +298,7 @@ pub(crate) fn apply_key(
     nodes: &mut Nodes,
     memo: &mut Memo,
     answers: &mut Answers,
+    steps: &mut Steps<L>,
 ) -> Result<Ref, SpaceFault>
     requires width { width ≤ 128 }
     requires canonical { IsCanonical width nodes.old }
@@ -278,29 +308,36 @@ pub(crate) fn apply_key(
     ensures leaves { Leaves width limit nodes.old nodes.new
         (gate_from kind nodes.old width 0 (places key)) result }
     ensures kept { AreKept width nodes.new answers.new }
+    ensures steps { steps.new ≤ steps.old + 5 * product (map (reach_of width nodes.old) (places key)) }
+    ensures came { length nodes.new + steps.old ≤ length nodes.old + steps.new }
 {
     memo.empty();
     answers.grow(nodes.len());
-    let answer = apply_at(width, limit, kind, key, nodes, memo, answers);
+    let answer = apply_at(width, limit, kind, key, nodes, memo, answers, steps);
     memo.empty();
     answer
 }
 
 /// The function that is 1 where a bit has this value.
-pub(crate) fn rail_node(
+pub(crate) fn rail_node<L: Ledger>(
     width: usize,
     limit: u32,
     nodes: &mut Nodes,
     bit: usize,
     value: bool,
+    blank: Blank,
 ) -> Result<Ref, SpaceFault>
     requires width { width ≤ 128 }
     requires canonical { IsCanonical width nodes.old }
     requires few { length nodes.old ≤ limit }
     requires bit { bit < width }
+    requires name { blank.name ≡ L.name }
+    requires parts { blank.parts ≡ L.parts }
+    requires some { 0 < blank.parts }
     ensures { Leaves width limit nodes.old nodes.new (rail_table width bit value) result }
 {
     let low = constant(!value);
     let high = constant(value);
-    join(width, limit, nodes, bit as u8, low, high)
+    let mut steps = Steps::<L>::new(blank);
+    join(width, limit, nodes, bit as u8, low, high, &mut steps)
 }

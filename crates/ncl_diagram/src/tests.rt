@@ -1,10 +1,13 @@
 //! Tests of diagrams beside truth tables, and of how many nodes there are.
-ghost use Rattle.std.specs.Prelude.{◌≡◌, ◌≤◌, IfOk};
+ghost use Rattle.std.specs.Prelude.{◌≡◌, ◌<◌, ◌≤◌, ◌+◌, IfOk, OnOk};
 ghost use Rattle.ncl_space.specs.Space.{IsLive, IsSpace, Keeps};
 
-use crate::{Diagram, Plain, Ref, Space, SpaceFault};
+use crate::{Diagram, Plain, Ref, Space, SpaceFault, Steps};
 use ncl_base::Word;
 use ncl_gates::Kind;
+use std::alloc::Global;
+use std::marker::Brand;
+use std::sync::ledger::{Blank, Ledger};
 use std::test::Fail;
 
 const GATES: [Kind; 27] = [
@@ -181,5 +184,33 @@ fn words_of_128_bits(rt: HostRuntime) -> Result<(), Fail> {
 
     // a node for each bit, and one for each pair of a front of the word and a bit of it but the last
     assert_eq!(rt; diagram.nodes(), 128 + 128 * 127 / 2);
+    Ok(())
+}
+
+// How many nodes there are with the conjunction of both bits of a word. It takes a step at least, and at most
+// 5 * 3 * 3 steps, since each operand has one bead.
+fn nodes_of_both<L: Ledger>(alloc: Global, steps: &mut Steps<L>) -> Result<u32, SpaceFault>
+    ensures some { OnOk result (steps.old < steps.new) }
+    ensures few { steps.new ≤ steps.old + 45 }
+{
+    let mut diagram = Diagram::new(alloc, 2, 3);
+    let a = diagram.rail(0, true)?;
+    let b = diagram.rail(1, true)?;
+    diagram.apply_steps(Kind::Th22, &[a, b], steps)?;
+    Ok(diagram.nodes())
+}
+
+fn uncounted_nodes_of_both<L: Ledger>(alloc: Global, blank: Blank) -> Result<u32, SpaceFault>
+    requires name { blank.name ≡ L.name }
+    requires parts { blank.parts ≡ L.parts }
+    requires some { 0 < blank.parts }
+{
+    nodes_of_both(alloc, &mut Steps::<L>::new(blank))
+}
+
+#[test]
+fn steps_of_a_conjunction(rt: HostRuntime) -> Result<(), Fail> {
+    let nodes = uncounted_nodes_of_both::<Brand>(rt.alloc(), Blank::new(1))?;
+    assert_eq!(rt; nodes, 3);
     Ok(())
 }

@@ -7,3 +7,4 @@ pub mod FileOrder
 pub mod SameJudgement
 pub mod NamedCell
 pub mod InSpaceLaws
+pub mod Split

@@ -46,7 +46,7 @@ at_variant-refuses limit s variant = by_stop (stopped_at limit s variant) (stopp
     by_stop None refuses = map-refuses (found s) (found-refuses s) (faults_of s variant)
     by_stop (Some v) refuses = refuses
 
-of_stage-refuses : (limit : ℕ) (s : StageData) → Refuses (of_stage (stopped_at limit) s)
+pub of_stage-refuses : (limit : ℕ) (s : StageData) → Refuses (of_stage (stopped_at limit) s)
 of_stage-refuses limit s = map-refuses (at_variant (stopped_at limit) s) (at_variant-refuses limit s) (variants s)
 
 -- where nothing is found of a stage, nothing is found of a fault at a variant

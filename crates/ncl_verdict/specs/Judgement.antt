@@ -1,5 +1,5 @@
 -- The judgement of a pipeline's stages: the first fault in order, with the least word that shows it.
-use Rattle.std.specs.Prelude.{ℕ, ◌+◌, nat_lt, Bool, List, [], ◌∷◌, ◌++◌, map, length, Option, Some, None, if◌then◌else◌, unwrap_or, option_and_then, slice_get}
+use Rattle.std.specs.Prelude.{◌≡◌, ℕ, ◌+◌, nat_lt, Bool, List, [], ◌∷◌, ◌++◌, map, length, Option, Some, None, IfSome, if◌then◌else◌, unwrap_or, option_and_then, slice_get}
 use Rattle.ncl_netlist.specs.declared.ids.CellId.{CellId}
 use Rattle.ncl_shape.specs.declared.stage.StageCell.{StageCell}
 use Rattle.ncl_shape.specs.Stage.{StageData}
@@ -72,3 +72,7 @@ judged stop stages = unwrap_or (first_of (map (of_stage stop) stages)) verdict.A
 -- the judgement of the stages of a pipeline, each with at most so many nodes
 abbrev pub judgement : ℕ → List StageData → Verdict
 judgement limit stages = judged (stopped_at limit) stages
+
+-- an answer to some stages, if there is one, is their judgement
+abbrev pub Answers : ℕ → List StageData → Option Verdict → Type 0
+Answers limit stages answer = IfSome answer (λ v. v ≡ judgement limit stages)

@@ -18,10 +18,12 @@ use ncl_stage::{Values, Variant, values};
 use std::alloc::Global;
 
 /// What is said of a stage that is not sound, or has more nodes than the limit of the space: under Base,
-/// then without each input bit, then without each cell in the order of the file. The space is new.
+/// then without each input bit, then without each cell in the order of the file. The space is new, and of the width
+/// of the stage's input.
 ///
-/// For each input bit and each cell it goes over the cells once. An error is want of memory.
-pub(crate) fn first_answer<P: Space>(
+/// It asks any space, so that two of them can be compared; `judge_stage` asks diagrams. For each input bit and each
+/// cell it goes over the cells once. An error is want of memory.
+pub fn first_answer<P: Space>(
     alloc: Global,
     space: &mut P,
     stage: &Stage,

@@ -6,7 +6,10 @@ mod file_order;
 mod in_space;
 mod judging;
 pub mod laws;
+mod parallel;
 mod verdict;
 
+pub use in_space::first_answer;
 pub use judging::{judge, judge_stage};
+pub use parallel::{Judge, Stages, judge_par};
 pub use verdict::Verdict;

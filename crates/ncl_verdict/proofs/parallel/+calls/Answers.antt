@@ -1,0 +1,14 @@
+use Rattle.std.proofs.Common.{◌++◌, IfOk, ◌∙◌, subst}
+use Rattle.std.proofs.lemmas.List.{take-append-drop}
+use Rattle.std.proofs.lemmas.Result.{IfOk-at_ok}
+use Rattle.ncl_verdict.specs.Judgement.{Answers}
+use Rattle.ncl_verdict.proofs.parallel.+calls.Goals as goal
+
+pub returns-in-Some : goal.returns-in-Some
+returns-in-Some g t c =
+    let front = c.split_at.result.0.now in
+    let back = c.split_at.result.1.now in
+    let limit = c.args.limit in
+    subst (λ stages. IfOk c.with_later.result (Answers limit stages))
+    ((λ i. c.split_at.ensures.front i ++ c.split_at.ensures.back i) ∙ take-append-drop _ c.args.stages.now)
+    (c.with_later.ensures limit front back (subst (Answers limit front) c.in-Some.is (IfOk-at_ok (Answers limit front) c.in_ok-verdict.was c.join-first.ensures.first)) c.join-first.ensures.second)

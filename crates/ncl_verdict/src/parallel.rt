@@ -1,0 +1,161 @@
+//! The judgement of a pipeline's stages by several threads.
+ghost use Rattle.std.specs.Prelude.{◌≡◌, ◌+◌, ◌<◌, ◌≤◌, ◌^◌, ◌++◌, ℕ, List, [], ◌∷◌, IfOk, length};
+ghost use Rattle.std.specs.Thread.{IsSync};
+ghost use Rattle.ncl_shape.specs.Stage.{StageData};
+ghost use Rattle.ncl_verdict.specs.Judgement.{judgement, Answers};
+
+use crate::judging::judge_stage;
+use crate::verdict::Verdict;
+use ncl_base::Memory;
+use ncl_shape::{Pipeline, Stage};
+use std::alloc::Global;
+use std::sync::atomic::{AtomicUsize, Ordering};
+use std::thread::{Threads, join};
+
+/// What judges one stage.
+pub trait Judge {
+    /// The judgement of a stage that may have at most `limit` nodes. An error is want of memory.
+    fn judge_one(&self, alloc: Global, stage: &Stage, limit: u32) -> Result<Verdict, Memory>
+        requires { 1 ≤ limit }
+        ensures { IfOk result (λ verdict. verdict ≡ judgement limit (stage.now ∷ [])) };
+}
+
+/// Judges each stage by `judge_stage`.
+#[derive(Clone, Copy, Debug)]
+pub struct Stages;
+
+impl Judge for Stages {
+    fn judge_one(&self, alloc: Global, stage: &Stage, limit: u32) -> Result<Verdict, Memory> {
+        judge_stage(alloc, stage, limit)
+    }
+}
+
+/// The judgement of a pipeline, each of whose stages may have at most `limit` nodes, by at most `parts` threads: that
+/// of its first stage, in their order, that is not sound or has more nodes; accepted where there is none. It is the
+/// answer of `judge`. An error is want of memory.
+///
+/// The stages are split in halves, each judged by a thread of its own where one can be started, until there are `parts`
+/// runs of them. A stage that comes after one that is known to be refused is not begun any more; one that is being
+/// judged is judged to its end.
+pub fn judge_par<R: Threads + Sync, J: Judge + Sync>(
+    rt: &R,
+    alloc: Global,
+    judge: &J,
+    pipeline: &Pipeline,
+    limit: u32,
+    parts: u32,
+) -> Result<Verdict, Memory>
+    requires limit { 1 ≤ limit }
+    requires parts { (1 ≤ parts) × (parts ≤ 16) }
+    ensures { IfOk result (λ verdict. verdict ≡ judgement limit pipeline.now.stages) }
+{
+    let stages = pipeline.stages();
+    let refused = AtomicUsize::new(usize::MAX);
+    match judge_halves(rt, alloc, judge, stages, 0, &refused, limit, parts)? {
+        Some(verdict) => Ok(verdict),
+        None => judge_each(alloc, judge, stages, limit),
+    }
+}
+
+/// The judgement of some stages, the first of which stands at a place of the pipeline, by at most so many threads; none
+/// where a stage before some of them is known to be refused.
+#[cycle(calls)]
+fn judge_halves<R: Threads + Sync, J: Judge + Sync>(
+    rt: &R,
+    alloc: Global,
+    judge: &J,
+    stages: &[Stage],
+    place: usize,
+    refused: &AtomicUsize,
+    limit: u32,
+    parts: u32,
+) -> Result<Option<Verdict>, Memory>
+    requires limit { 1 ≤ limit }
+    requires room { place + length stages.now < 2 ^ 64 }
+    ensures { IfOk result (Answers limit stages.now) }
+{
+    if parts < 2 || stages.len() < 2 {
+        return judge_run(alloc, judge, stages, place, refused, limit);
+    }
+    let (front, back) = stages.split_at(stages.len() / 2);
+    let middle = place + front.len();
+    let few = parts / 2;
+    let many = parts - few;
+    let (first, second) = join(
+        rt,
+        || -> Result<Option<Verdict>, Memory>
+            requires { IsSync R.row × IsSync J.row × (1 ≤ limit) × (place + length front.now < 2 ^ 64) }
+            ensures { IfOk result (Answers limit front.entry.now) }
+        { judge_halves(rt, alloc, judge, front, place, refused, limit, few) },
+        || -> Result<Option<Verdict>, Memory>
+            requires { IsSync R.row × IsSync J.row × (1 ≤ limit) × (middle + length back.now < 2 ^ 64) }
+            ensures { IfOk result (Answers limit back.entry.now) }
+        { judge_halves(rt, alloc, judge, back, middle, refused, limit, many) },
+    );
+    match first? {
+        Some(verdict) => with_later(verdict, second),
+        None => Ok(None),
+    }
+}
+
+/// The judgement of stages by that of the first of them and the answer to those after.
+fn with_later(
+    first: Verdict,
+    later: Result<Option<Verdict>, Memory>,
+) -> Result<Option<Verdict>, Memory>
+    ensures { (limit : ℕ) (front back : List StageData) → first ≡ judgement limit front → IfOk later (Answers limit back)
+        → IfOk result (Answers limit (front ++ back)) }
+{
+    match first {
+        Verdict::Accepted => later,
+        verdict => Ok(Some(verdict)),
+    }
+}
+
+/// The judgement of some stages one after another, the first of which stands at a place of the pipeline; none where a
+/// stage before one of them is known to be refused. It notes the place of the first that it finds refused.
+fn judge_run<J: Judge>(
+    alloc: Global,
+    judge: &J,
+    stages: &[Stage],
+    place: usize,
+    refused: &AtomicUsize,
+    limit: u32,
+) -> Result<Option<Verdict>, Memory>
+    requires limit { 1 ≤ limit }
+    requires room { place + length stages.now < 2 ^ 64 }
+    ensures { IfOk result (Answers limit stages.now) }
+{
+    for (number, stage) in stages.iter().enumerate() {
+        if refused.load(Ordering::SeqCst) < place + number {
+            return Ok(None);
+        }
+        match judge.judge_one(alloc, stage, limit)? {
+            Verdict::Accepted => {}
+            verdict => {
+                refused.fetch_min(place + number, Ordering::SeqCst);
+                return Ok(Some(verdict));
+            }
+        }
+    }
+    Ok(Some(Verdict::Accepted))
+}
+
+/// The judgement of some stages one after another.
+fn judge_each<J: Judge>(
+    alloc: Global,
+    judge: &J,
+    stages: &[Stage],
+    limit: u32,
+) -> Result<Verdict, Memory>
+    requires { 1 ≤ limit }
+    ensures { IfOk result (λ verdict. verdict ≡ judgement limit stages.now) }
+{
+    for stage in stages {
+        match judge.judge_one(alloc, stage, limit)? {
+            Verdict::Accepted => {}
+            verdict => return Ok(verdict),
+        }
+    }
+    Ok(Verdict::Accepted)
+}

@@ -19,3 +19,5 @@ pub mod Turning
 pub mod TouchedLaws
 pub mod Deliveries
 pub mod Stopped
+pub mod SameRuns
+pub mod HazardRange

@@ -1,0 +1,12 @@
+mod FormRules
+mod ClapWords
+mod ClapRows
+mod ClapEnds
+mod ClapFinds
+mod ClapSteps
+mod FormReads
+mod RefusedWords
+mod Numbers
+mod WordKinds
+mod CommandRules
+mod FormValues

@@ -1,0 +1,121 @@
+-- Commands, and how words give them.
+use Rattle.std.specs.Prelude.{ℕ, ◌≤◌, Bool, true, false, List, [], ◌∷◌, Option, Some, None, if◌then◌else◌, ◌&&◌, nat_le, option_and_then, length, All, IfSome, IsTrue, codes}
+use Rattle.std.specs.List.{list_all}
+use Rattle.std.specs.Char.{is_ascii_digit}
+use Rattle.std.specs.Str.{bytes_eq}
+use Rattle.std.specs.Str.Parse.{digits_value}
+use Rattle.ncl_words.specs.Reading.{Text, Form, FormOption, Values, values_of}
+pub use Rattle.ncl_words.specs.Reading.{Words}
+use Rattle.ncl_words.specs.declared.command.TheConstants.{MOST_NODES, LARGEST_LIMIT, MOST_DEMO_BITS}
+
+-- what the program can be asked to do
+pub data Command : Type 0 where
+  -- judge the netlist in the named file, where each stage may have so many nodes
+  check : Text → ℕ → Command
+  -- compile the models in the named file
+  compile : Text → Command
+  -- simulate the netlist in the first file, under the delays in the second, on the words in the third
+  sim : Text → Text → Text → Command
+  -- make, judge and simulate the adder of so many bits
+  demo : ℕ → Command
+
+-- the text has decimal digits alone, one or more, and at most so many
+abbrev pub is_number : ℕ → Text → Bool
+is_number most text = nat_le 1 (length text) && (nat_le (length text) most && list_all is_ascii_digit text)
+
+-- the number that they say
+abbrev pub number_of : ℕ → Text → Option ℕ
+number_of most text = if is_number most text then Some (digits_value 10 text) else None
+
+-- a number from 1 to `most`
+abbrev pub within : ℕ → ℕ → Option ℕ
+within most number = if nat_le 1 number && nat_le number most then Some number else None
+
+-- a number from 1 to `most`, in at most so many decimal digits
+abbrev pub counted : ℕ → ℕ → Text → Option ℕ
+counted digits most text = option_and_then (within most) (number_of digits text)
+
+-- the limit of nodes, or the usual one where none is given
+abbrev pub limit_of : Option Text → Option ℕ
+limit_of None = Some MOST_NODES
+limit_of (Some text) = counted 7 LARGEST_LIMIT text
+
+-- an option that may be given, and one that must be
+abbrev pub optional : Text → FormOption
+optional name = record { name = name; is_needed = false }
+
+abbrev pub needed : Text → FormOption
+needed name = record { name = name; is_needed = true }
+
+-- check FILE [--limit N]
+abbrev pub check_form : Form
+check_form = record { place = codes "file"; options = optional (codes "limit") ∷ [] }
+
+abbrev pub check_of : Values → Option Command
+check_of values =
+    option_and_then (λ file. option_and_then (λ limit. Some (check file limit)) (limit_of (values (codes "limit")))) (values (codes "file"))
+
+-- compile FILE
+abbrev pub compile_form : Form
+compile_form = record { place = codes "file"; options = [] }
+
+abbrev pub compile_of : Values → Option Command
+compile_of values = option_and_then (λ file. Some (compile file)) (values (codes "file"))
+
+-- sim FILE --delays FILE --words FILE
+abbrev pub sim_form : Form
+sim_form = record { place = codes "netlist"; options = needed (codes "delays") ∷ needed (codes "words") ∷ [] }
+
+abbrev pub sim_of : Values → Option Command
+sim_of values =
+    option_and_then (λ netlist. option_and_then (λ delays. option_and_then (λ words. Some (sim netlist delays words))
+    (values (codes "words"))) (values (codes "delays"))) (values (codes "netlist"))
+
+-- demo N
+abbrev pub demo_form : Form
+demo_form = record { place = codes "bits"; options = [] }
+
+abbrev pub demo_of : Values → Option Command
+demo_of values = option_and_then (λ text. option_and_then (λ bits. Some (demo bits)) (counted 2 MOST_DEMO_BITS text)) (values (codes "bits"))
+
+-- the command of this name with the words after it
+abbrev pub form_of : Text → Words → Option Command
+form_of name words =
+    if bytes_eq name (codes "check") then option_and_then check_of (values_of check_form words)
+    else (if bytes_eq name (codes "compile") then option_and_then compile_of (values_of compile_form words)
+    else (if bytes_eq name (codes "sim") then option_and_then sim_of (values_of sim_form words)
+    else (if bytes_eq name (codes "demo") then option_and_then demo_of (values_of demo_form words) else None)))
+
+-- the command that the words give, if they are of a form
+abbrev pub command_of : Words → Option Command
+command_of [] = None
+command_of (name ∷ words) = form_of name words
+
+-- the limit that a check has is at least 1
+abbrev pub HasLimit : Command → Type 0
+HasLimit (check file limit) = 1 ≤ limit
+HasLimit (compile file) = Unit {0}
+HasLimit (sim netlist delays words) = Unit {0}
+HasLimit (demo bits) = Unit {0}
+
+-- the adder that a demo makes has 1 to 32 bits
+abbrev pub HasBits : Command → Type 0
+HasBits (check file limit) = Unit {0}
+HasBits (compile file) = Unit {0}
+HasBits (sim netlist delays words) = Unit {0}
+HasBits (demo bits) = (1 ≤ bits) × (bits ≤ 32)
+
+-- the files that a command names
+abbrev pub files_named : Command → List Text
+files_named (check file limit) = file ∷ []
+files_named (compile file) = file ∷ []
+files_named (sim netlist delays words) = netlist ∷ delays ∷ words ∷ []
+files_named (demo bits) = []
+
+-- the command's files may be begun
+abbrev pub AllowsFiles : (Text → Bool) → Command → Type 0
+AllowsFiles allowed command = All (λ file. IsTrue (allowed file)) (files_named command)
+
+-- where the words are of a form, the files that they name may be begun
+abbrev pub AllowsNamed : (Text → Bool) → Words → Type 0
+AllowsNamed allowed words = IfSome (command_of words) (AllowsFiles allowed)

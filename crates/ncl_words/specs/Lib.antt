@@ -1,0 +1,4 @@
+pub mod Reading
+pub mod Command
+pub mod Rules
+pub mod Meaning

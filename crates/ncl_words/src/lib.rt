@@ -1,0 +1,10 @@
+//! The words that nclc is called with, read with `clap` as a command.
+#![tactic(auto)]
+
+mod command;
+mod form;
+mod number;
+#[cfg(test)]
+mod tests;
+
+pub use command::{Command, LARGEST_LIMIT, MOST_DEMO_BITS, MOST_NODES};

@@ -1,0 +1,214 @@
+//! Words and the commands that they give.
+
+use super::*;
+use std::alloc::Global;
+use std::test::*;
+
+/// Words with one space between two, and the check that they give.
+const CHECKS: [(&str, &str); 12] = [
+    ("check f", "Some(Check { file: \"f\", limit: 100000 })"),
+    ("check +5", "Some(Check { file: \"+5\", limit: 100000 })"),
+    (
+        "check help",
+        "Some(Check { file: \"help\", limit: 100000 })",
+    ),
+    (
+        "check x=--y",
+        "Some(Check { file: \"x=--y\", limit: 100000 })",
+    ),
+    (
+        "check limit",
+        "Some(Check { file: \"limit\", limit: 100000 })",
+    ),
+    ("check f --limit 5", "Some(Check { file: \"f\", limit: 5 })"),
+    ("check --limit 5 f", "Some(Check { file: \"f\", limit: 5 })"),
+    ("check f --limit=5", "Some(Check { file: \"f\", limit: 5 })"),
+    ("check --limit=5 f", "Some(Check { file: \"f\", limit: 5 })"),
+    ("check f --limit 1", "Some(Check { file: \"f\", limit: 1 })"),
+    (
+        "check f --limit 1000000",
+        "Some(Check { file: \"f\", limit: 1000000 })",
+    ),
+    (
+        "check f --limit 0000001",
+        "Some(Check { file: \"f\", limit: 1 })",
+    ),
+];
+
+/// The same of the other commands.
+const OTHERS: [(&str, &str); 14] = [
+    ("compile f", "Some(Compile { file: \"f\" })"),
+    (
+        "sim f --delays d --words w",
+        "Some(Sim { netlist: \"f\", delays: \"d\", words: \"w\" })",
+    ),
+    (
+        "sim f --words w --delays d",
+        "Some(Sim { netlist: \"f\", delays: \"d\", words: \"w\" })",
+    ),
+    (
+        "sim --delays d f --words w",
+        "Some(Sim { netlist: \"f\", delays: \"d\", words: \"w\" })",
+    ),
+    (
+        "sim --words=w f --delays=d",
+        "Some(Sim { netlist: \"f\", delays: \"d\", words: \"w\" })",
+    ),
+    (
+        "sim --delays d --words=w f",
+        "Some(Sim { netlist: \"f\", delays: \"d\", words: \"w\" })",
+    ),
+    (
+        "sim --words w --delays=d f",
+        "Some(Sim { netlist: \"f\", delays: \"d\", words: \"w\" })",
+    ),
+    (
+        "sim f --delays=d --words=w",
+        "Some(Sim { netlist: \"f\", delays: \"d\", words: \"w\" })",
+    ),
+    (
+        "sim f --delays a=b --words=--w",
+        "Some(Sim { netlist: \"f\", delays: \"a=b\", words: \"--w\" })",
+    ),
+    (
+        "sim f --delays f --words f",
+        "Some(Sim { netlist: \"f\", delays: \"f\", words: \"f\" })",
+    ),
+    ("demo 1", "Some(Demo { bits: 1 })"),
+    ("demo 32", "Some(Demo { bits: 32 })"),
+    ("demo 07", "Some(Demo { bits: 7 })"),
+    ("demo 4", "Some(Demo { bits: 4 })"),
+];
+
+/// Words that look like a check, and give no command.
+const NO_CHECKS: [&str; 18] = [
+    "",
+    "check",
+    "chek f",
+    "f check",
+    "check f g",
+    "check --limit 5",
+    "check f --limit 0",
+    "check f --limit 1000001",
+    "check f --limit 00000001",
+    "check f --limit",
+    "check f --limit=",
+    "check f --limit ",
+    "check f --limit +5",
+    "check f --limit -5",
+    "check f --limit=-5",
+    "check f --limit 5x",
+    "check f --limit=5=5",
+    "check f --limits 5",
+];
+
+/// Further words that give no command.
+const NOTHING: [&str; 19] = [
+    "check f --lim 5",
+    "check f --file g",
+    "check --file=f",
+    "check -x f",
+    "check - f",
+    "check f -l 5",
+    "check -- f",
+    "check f --",
+    "check f --=5",
+    "check f ",
+    "check --help",
+    "check f --version",
+    "check f --limit 5 --limit 5",
+    "check f --limit 5 --limit=5",
+    "check f --limit=5 --limit 5",
+    "check f --limit=5 --limit=5",
+    "check f --limit --limit=5",
+    "check --limit f 5",
+    "check f --delays d",
+];
+
+/// Words that look like another command, and give none.
+const NO_OTHERS: [&str; 29] = [
+    "compile",
+    "compile f g",
+    "compile f --limit 5",
+    "compile f --limit=5",
+    "compile --delays d",
+    "sim f",
+    "sim f --delays d",
+    "sim f --words w",
+    "sim --delays d --words w",
+    "sim f g --delays d --words w",
+    "sim f --delays --words w",
+    "sim f --delays d --words",
+    "sim f --delays= --words w",
+    "sim f --delays d --words w --limit 5",
+    "sim f --delays d --delays e --words w",
+    "sim f --delays d --words w --words=w",
+    "sim f d w",
+    "demo",
+    "demo 0",
+    "demo 00",
+    "demo 33",
+    "demo 007",
+    "demo 4 4",
+    "demo +4",
+    "demo -4",
+    "demo f",
+    "demo --bits 4",
+    "demo --bits=4",
+    "demo 4 --limit 5",
+];
+
+/// The command that words give, as a text.
+fn told(alloc: Global, line: &str) -> Result<String, Fail> {
+    let words: Vec<&str> = line.split(' ').collect(alloc)?;
+    let got = Command::parse(alloc, &words)?;
+    let told = format!(in alloc; "{got:?}")?;
+    Ok(told)
+}
+
+#[test]
+fn words_give_checks(rt: HostRuntime) -> Result<(), Fail> {
+    for (line, expected) in CHECKS {
+        let told = told(rt.alloc(), line)?;
+        assert_eq!(rt; told.as_str(), expected, "{line}");
+    }
+    Ok(())
+}
+
+#[test]
+fn words_give_other_commands(rt: HostRuntime) -> Result<(), Fail> {
+    for (line, expected) in OTHERS {
+        let told = told(rt.alloc(), line)?;
+        assert_eq!(rt; told.as_str(), expected, "{line}");
+    }
+    Ok(())
+}
+
+#[test]
+fn words_give_no_check(rt: HostRuntime) -> Result<(), Fail> {
+    for line in NO_CHECKS {
+        let told = told(rt.alloc(), line)?;
+        assert_eq!(rt; told.as_str(), "None", "{line}");
+    }
+    Ok(())
+}
+
+#[test]
+fn words_give_nothing(rt: HostRuntime) -> Result<(), Fail> {
+    for line in NOTHING {
+        let told = told(rt.alloc(), line)?;
+        assert_eq!(rt; told.as_str(), "None", "{line}");
+    }
+    let got = Command::parse(rt.alloc(), &[])?;
+    assert!(rt; got.is_none(), "no words");
+    Ok(())
+}
+
+#[test]
+fn words_give_no_other_command(rt: HostRuntime) -> Result<(), Fail> {
+    for line in NO_OTHERS {
+        let told = told(rt.alloc(), line)?;
+        assert_eq!(rt; told.as_str(), "None", "{line}");
+    }
+    Ok(())
+}

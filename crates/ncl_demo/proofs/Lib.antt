@@ -1,0 +1,5 @@
+pub mod Ranges
+pub mod Values
+pub mod Staging
+pub mod Joining
+pub mod Carrying

@@ -1,0 +1,11 @@
+use Rattle.std.proofs.Common.{◌≡◌, ◌*◌, map, length}
+use Rattle.std.specs.Prelude.{All}
+use Rattle.std.specs.List.{range_with_len}
+use Rattle.ncl_demo.specs.Offered.{demo_word}
+use Rattle.ncl_demo.proofs.words.demo_words.Given as goal
+
+abbrev pub invariant-loop-place : goal.invariant-loop-place
+invariant-loop-place l = record {
+  words : l.words.items ≡ map (demo_word l.bits) (range_with_len 0 l.place);
+  wide : All (λ word. length word ≡ 2 * l.bits) l.words.items;
+}

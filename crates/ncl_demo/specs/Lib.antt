@@ -1,0 +1,4 @@
+pub mod Adding
+pub mod Covers
+pub mod Adder
+pub mod Offered

@@ -1,0 +1,12 @@
+//! The demo: an adder of 1 to 32 bits as models, one for each bit, and eight words that are offered to it.
+#![tactic(auto)]
+
+mod covers;
+pub mod laws;
+mod models;
+#[cfg(test)]
+mod tests;
+mod words;
+
+pub use models::demo_models;
+pub use words::demo_words;

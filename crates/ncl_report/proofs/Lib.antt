@@ -1,1 +1,2 @@
 pub mod NamedPlaces
+mod Zipping

@@ -4,3 +4,6 @@ pub mod ShapeText
 pub mod NetText
 pub mod BlifText
 pub mod CompileText
+pub mod DelayText
+pub mod TraceText
+pub mod DemoText

@@ -109,7 +109,7 @@ fn over_limit(alloc: Global, stage: u32, limit: u32) -> Result<Vec<u8>, Memory>
 }
 
 /// Appends a word, its first bit leftmost. Linear in its bits.
-fn push_word(text: &mut Vec<u8>, word: &Word) -> Result<(), Memory>
+pub(crate) fn push_word(text: &mut Vec<u8>, word: &Word) -> Result<(), Memory>
     ensures { OnOk result (text.new.items ≡ text.old.items ++ word_text word.now) }
 {
     for bit in word.bits() {

@@ -11,8 +11,10 @@ use ncl_blif::read_blif;
 use ncl_check::check;
 use ncl_compile::compile;
 use ncl_report::blif_text;
+use ncl_verdict::Stages;
 use ncl_writer::{is_writable, write_netlist};
 use std::alloc::Global;
+use std::thread::Threads;
 use std::{env, fs};
 
 /// The text of the netlist that a text of BLIF compiles to, or the line that tells why it is refused.
@@ -29,13 +31,18 @@ fn compiled(alloc: Global, bytes: &[u8]) -> anyhow::Result<Result<Vec<u8>, Vec<u
 }
 
 /// The line that is answered to the bytes of a file of this name.
-fn answer(alloc: Global, name: &str, bytes: Vec<u8>) -> anyhow::Result<Vec<u8>> {
+fn answer<R: Threads + Sync>(
+    rt: &R,
+    alloc: Global,
+    name: &str,
+    bytes: Vec<u8>,
+) -> anyhow::Result<Vec<u8>> {
     if !name.ends_with(".blif") {
-        return Ok(check(alloc, &bytes, 100_000)?.text);
+        return Ok(check(rt, alloc, &Stages, &bytes, 100_000)?.text);
     }
     anyhow::ensure!(bytes.len() <= MOST_BYTES, "a file that is too long");
     match compiled(alloc, &bytes)? {
-        Ok(netlist) => Ok(check(alloc, &netlist, 100_000)?.text),
+        Ok(netlist) => Ok(check(rt, alloc, &Stages, &netlist, 100_000)?.text),
         Err(line) => Ok(line),
     }
 }
@@ -43,7 +50,7 @@ fn answer(alloc: Global, name: &str, bytes: Vec<u8>) -> anyhow::Result<Vec<u8>> 
 fn main(rt: HostRuntime) -> anyhow::Result<()> {
     for name in env::args(&rt)?.skip(1) {
         let bytes = fs::read(&rt, &name)?;
-        let answer = answer(rt.alloc(), &name, bytes)?;
+        let answer = answer(&rt, rt.alloc(), &name, bytes)?;
         let line = str::from_utf8(&answer).context("a name of another alphabet")?;
         print!(rt; "{name}: {line}")?;
     }

@@ -1,4 +1,5 @@
 mod Stages
 pub mod OneReply
 pub mod Accepted
-mod Replying
+pub mod Refusing
+pub mod Replying

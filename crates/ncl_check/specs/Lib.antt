@@ -1,2 +1,4 @@
+pub mod Text
+pub mod Refusals
 pub mod Reply
 pub mod Headline

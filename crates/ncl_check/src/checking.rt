@@ -1,93 +1,80 @@
 //! The check of a netlist.
-ghost use Rattle.std.specs.Prelude.{◌≡◌, ◌≢◌, ◌≤◌, ℕ, IfOk, OnOk};
-ghost use Rattle.ncl_reader.specs.declared.net_fault.NetFault.TheVariants.{Memory as OutOfMemory};
-ghost use Rattle.ncl_shape.specs.Shape.{IsShapeFault};
-ghost use Rattle.ncl_report.specs.NetText.{net_line};
-ghost use Rattle.ncl_check.specs.Reply.{IsCheckReply, IsNetlistReply};
+ghost use Rattle.std.specs.Prelude.{◌≡◌, ◌≤◌, ℕ, List, IfOk};
+ghost use Rattle.ncl_check.specs.Text.{IsRefusedText};
+ghost use Rattle.ncl_check.specs.Refusals.{Tells};
+ghost use Rattle.ncl_check.specs.Reply.{IsCheckReply, outcome_of, verdict_on, verdict_text};
 ghost use Rattle.ncl_check.specs.Headline.{IsDelayInsensitiveText};
 ghost use Rattle.ncl_check.specs.declared.reply.Outcome.TheVariants.{Accepted, NoPipeline};
 
 use crate::reply::{Outcome, Reply};
-use ncl_base::{MOST_BYTES, Memory};
-use ncl_netlist::Netlist;
-use ncl_reader::{NetFault, read_netlist};
-use ncl_report::{net_text, shape_text, verdict_text};
-use ncl_shape::{Pipeline, ShapeFault, shape};
-use ncl_verdict::judge;
+use crate::text::{Refusal, netlist_in, pipeline_in};
+use ncl_base::Memory;
+use ncl_report::verdict_text;
+use ncl_shape::Pipeline;
+use ncl_verdict::{Judge, judge_par};
 use std::alloc::Global;
+use std::thread::Threads;
+
+/// The most threads that judge stages of one pipeline.
+pub const PARTS: u32 = 4;
 
 /// What `check` replies to the bytes of a file: the first thing that keeps them from being a netlist, the
 /// first rule of shape that the netlist breaks, or the judgement of its pipeline, each of whose stages may have
 /// at most `limit` nodes of diagrams.
 ///
 /// An acceptance says that the circuit works at every gate delay: clause `headline`. Fails where memory is
-/// refused, and then only. Linear in the bytes and cells but for look-ups of names and the judgement, which
-/// evaluates each stage once for each of its bits and gates.
-pub fn check(alloc: Global, bytes: &[u8], limit: u32) -> Result<Reply, Memory>
+/// refused, and then only. Linear in the bytes and cells but for look-ups of names and the judgement, which goes
+/// through each stage once, and again from each of its bits and gates on. The stages are judged by up to four threads.
+pub fn check<R: Threads + Sync, J: Judge + Sync>(
+    rt: &R,
+    alloc: Global,
+    judge: &J,
+    bytes: &[u8],
+    limit: u32,
+) -> Result<Reply, Memory>
     requires { 1 ≤ limit }
     ensures reply { IfOk result (λ reply. IsCheckReply limit bytes.now reply.outcome reply.text.items) }
     ensures headline { IfOk result (λ reply. reply.outcome ≡ Accepted → IsDelayInsensitiveText bytes.now) }
 {
-    if bytes.len() > MOST_BYTES {
-        return Ok(Reply {
-            outcome: Outcome::NoPipeline,
-            text: Vec::from_slice(alloc, b"netlist: too long\n")?,
-        });
-    }
-    match read_netlist(alloc, bytes) {
-        Ok(netlist) => check_netlist(alloc, &netlist, limit),
-        Err(fault) => no_netlist(alloc, fault),
-    }
+    let netlist = match netlist_in(alloc, bytes) {
+        Ok(netlist) => netlist,
+        Err(refusal) => return refused(refusal),
+    };
+    let pipeline = match pipeline_in(alloc, &netlist) {
+        Ok(pipeline) => pipeline,
+        Err(refusal) => return refused(refusal),
+    };
+    judged(rt, alloc, judge, &pipeline, limit)
 }
 
-/// What `check` replies to a text that is no netlist.
-fn no_netlist(alloc: Global, fault: NetFault) -> Result<Reply, Memory>
-    ensures reply { IfOk result (λ reply. (reply.outcome ≡ NoPipeline) × (reply.text.items ≡ net_line fault)) }
-    ensures memory { OnOk result (fault ≢ OutOfMemory) }
+/// The reply to bytes that are the text of no pipeline.
+fn refused(refusal: Refusal) -> Result<Reply, Memory>
+    ensures outcome { IfOk result (λ reply. reply.outcome ≡ NoPipeline) }
+    ensures text { (bytes : List ℕ) → Tells (IsRefusedText bytes) refusal → IfOk result (λ reply. IsRefusedText bytes reply.text.items) }
 {
-    match fault {
-        NetFault::Memory => Err(Memory),
-        fault => Ok(Reply {
+    match refusal {
+        Refusal::Told(text) => Ok(Reply {
             outcome: Outcome::NoPipeline,
-            text: net_text(alloc, &fault)?,
+            text,
         }),
+        Refusal::Memory => Err(Memory),
     }
 }
 
-/// What `check` replies to a netlist.
-fn check_netlist(alloc: Global, netlist: &Netlist, limit: u32) -> Result<Reply, Memory>
+/// The reply to a pipeline: its judgement.
+fn judged<R: Threads + Sync, J: Judge + Sync>(
+    rt: &R,
+    alloc: Global,
+    judge: &J,
+    pipeline: &Pipeline,
+    limit: u32,
+) -> Result<Reply, Memory>
     requires { 1 ≤ limit }
-    ensures { IfOk result (λ reply. IsNetlistReply limit netlist.now reply.outcome reply.text.items) }
-{
-    match shape(alloc, netlist) {
-        Ok(pipeline) => check_pipeline(alloc, &pipeline, limit),
-        Err(fault) => no_shape(alloc, netlist, fault),
-    }
-}
-
-/// What `check` replies to a netlist that has no shape.
-fn no_shape(alloc: Global, netlist: &Netlist, fault: ShapeFault) -> Result<Reply, Memory>
-    requires { IsShapeFault netlist.now fault }
-    ensures { (limit : ℕ) → IfOk result (λ reply. IsNetlistReply limit netlist.now reply.outcome reply.text.items) }
-{
-    // The cells come with the facts of a netlist.
-    let _ = netlist.cells();
-    match fault {
-        ShapeFault::Memory => Err(Memory),
-        fault => Ok(Reply {
-            outcome: Outcome::NoPipeline,
-            text: shape_text(alloc, netlist, &fault)?,
-        }),
-    }
-}
-
-/// What `check` replies to a pipeline: its judgement.
-fn check_pipeline(alloc: Global, pipeline: &Pipeline, limit: u32) -> Result<Reply, Memory>
-    requires { 1 ≤ limit }
-    ensures { IfOk result (λ reply. IsNetlistReply limit pipeline.now.netlist reply.outcome reply.text.items) }
+    ensures outcome { IfOk result (λ reply. reply.outcome ≡ outcome_of (verdict_on limit pipeline.now)) }
+    ensures text { IfOk result (λ reply. reply.text.items ≡ verdict_text limit pipeline.now) }
 {
     pipeline.facts();
-    let verdict = judge(alloc, pipeline, limit)?;
+    let verdict = judge_par(rt, alloc, judge, pipeline, limit, PARTS)?;
     Ok(Reply {
         outcome: Outcome::of(&verdict),
         text: verdict_text(alloc, pipeline, &verdict, limit)?,

@@ -4,6 +4,8 @@
 mod checking;
 pub mod laws;
 mod reply;
+mod text;
 
-pub use checking::check;
+pub use checking::{PARTS, check};
 pub use reply::{Outcome, Reply};
+pub use text::{Refusal, netlist_in, pipeline_in};

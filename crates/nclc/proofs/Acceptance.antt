@@ -5,7 +5,7 @@ use Rattle.ncl_check.specs.declared.reply.Outcome.{Outcome}
 use Rattle.ncl_check.specs.declared.reply.Outcome.TheVariants.{Accepted, Refused, NoPipeline, Unjudged}
 use Rattle.ncl_check.specs.Headline.{IsDelayInsensitiveText}
 use Rattle.ncl_check.proofs.Accepted.{text_works}
-use Rattle.nclc.specs.Command.{Words, Command, check, compile, command_of}
+use Rattle.ncl_words.specs.Command.{Words, Command, check, compile, sim, demo, command_of}
 use Rattle.nclc.specs.Answer.{status_of, IsFileReply, Answer, not_understood, replied, SourceState, SinkState, Says, answered, read_failed, no_memory, Tells, whole, cut_short, Ran, AcceptsWhatWorks}
 
 -- only an acceptance has status 0
@@ -24,6 +24,8 @@ abbrev IsNoCheck : Option Command → Type 0
 IsNoCheck None = Unit {0}
 IsNoCheck (Some (check file limit)) = ⊥
 IsNoCheck (Some (compile file)) = Unit {0}
+IsNoCheck (Some (sim netlist delays offers)) = Unit {0}
+IsNoCheck (Some (demo bits)) = Unit {0}
 
 answer_works : (words : Words) (files : Files) (file : List ℕ) (limit : ℕ) {status : ℕ} {text : List ℕ} → command_of words ≡ Some (check file limit) → Answer words (Some files) status text → status ≡ 0 → IsDelayInsensitiveText (bytes_of files file)
 answer_works words files file limit asked (not_understood none) e = absurd (omega arith)
@@ -31,6 +33,10 @@ answer_works words files file limit asked (replied (check named number) is statu
     let same : named ≡ file = let both : Some (check named number) ≡ Some (check file limit) = sym is ∙ asked in cc in
     subst (λ name. IsDelayInsensitiveText (bytes_of files name)) same (file_works files named number reply e)
 answer_works words files file limit asked (replied (compile named) is status text reply) e =
+    absurd (subst IsNoCheck (sym is ∙ asked) tt)
+answer_works words files file limit asked (replied (sim netlist delays offers) is status text reply) e =
+    absurd (subst IsNoCheck (sym is ∙ asked) tt)
+answer_works words files file limit asked (replied (demo bits) is status text reply) e =
     absurd (subst IsNoCheck (sym is ∙ asked) tt)
 
 end_works : (words : Words) (source source' : SourceState) (sink sink' : SinkState) {said status : ℕ} {text : List ℕ} → Says words source source' said text → Tells sink sink' said text status → AcceptsWhatWorks words source status

@@ -1,6 +1,6 @@
 -- How a call comes to say a text.
 use Rattle.std.proofs.Common.{◌≡◌, Some}
-use Rattle.nclc.specs.Command.{Words, Command, command_of}
+use Rattle.ncl_words.specs.Command.{Words, Command, command_of}
 use Rattle.nclc.specs.Answer.{replied, SourceState, Says, answered}
 use Rattle.nclc.specs.Replies.{Gives, AnswersCommand}
 use Rattle.nclc.specs.declared.reply.Reply.{Reply}

@@ -1,5 +1,5 @@
 -- What a call answers: the status and the text that go with the words and the files.
-use Rattle.std.specs.Prelude.{◌≡◌, ◌≢◌, ℕ, ◌⊎◌, Bool, true, false, List, [], Option, Some, None, IfSome, IsTrue, codes}
+use Rattle.std.specs.Prelude.{◌≡◌, ◌≢◌, ℕ, ◌⊎◌, Bool, true, false, List, [], length, All, Option, Some, None, IsTrue, codes}
 use Rattle.ncl_base.specs.Files.{Files, bytes_of, Rose, Grew, GrewWithin}
 use Rattle.ncl_report.specs.Line.{line}
 use Rattle.ncl_verdict.specs.Within.{AreWithin}
@@ -7,8 +7,18 @@ use Rattle.ncl_check.specs.declared.reply.Outcome.{Outcome}
 use Rattle.ncl_check.specs.declared.reply.Outcome.TheVariants.{Accepted, Refused, NoPipeline, Unjudged}
 use Rattle.ncl_check.specs.Reply.{IsCheckReply}
 use Rattle.ncl_check.specs.Headline.{IsDelayInsensitiveText}
-use Rattle.nclc.specs.Command.{Words, Command, check, compile, command_of, files_named}
+use Rattle.ncl_stage.specs.Faults.{IsSound}
+use Rattle.ncl_shape.specs.Pipeline.{PipelineData}
+use Rattle.ncl_delay.specs.Delays.{DelaysData}
+use Rattle.ncl_sim.specs.declared.trace.End.TheVariants.{Quiet}
+use Rattle.ncl_sim.specs.TimedRun.{TraceData, IsTimedRun, DeliversAll}
+use Rattle.ncl_report.specs.TraceText.{trace_lines}
+use Rattle.ncl_check.specs.Text.{IsPipelineText}
+use Rattle.ncl_words.specs.Command.{Words, Command, check, compile, sim, demo, command_of, files_named}
 use Rattle.nclc.specs.Compiling.{IsCompileReply}
+use Rattle.nclc.specs.Demonstrating.{IsDemoReply}
+use Rattle.nclc.specs.Given.{IsGiven}
+use Rattle.nclc.specs.Simulating.{AreDelaysText, AreWordsText, IsSimReply}
 
 -- the status of a check that ends so
 abbrev pub status_of : Outcome → ℕ
@@ -16,11 +26,6 @@ status_of Accepted = 0
 status_of Refused = 1
 status_of NoPipeline = 3
 status_of Unjudged = 6
-
--- bytes that a load of the named file can give: those that are held under the name, where the source
--- tells its files, and any where it tells nothing
-abbrev pub IsGiven : Option Files → List ℕ → List ℕ → Type 0
-IsGiven told name bytes = IfSome told (λ files. bytes ≡ bytes_of files name)
 
 -- what `check` replies to a file, where a stage may have so many nodes
 pub record IsFileReply (told : Option Files) (file : List ℕ) (limit : ℕ) (status : ℕ) (text : List ℕ) : Type 0 where
@@ -40,6 +45,8 @@ pub record IsCompiledFile (told : Option Files) (file : List ℕ) (status : ℕ)
 abbrev pub IsReply : Command → Option Files → ℕ → List ℕ → Type 0
 IsReply (check file limit) told status text = IsFileReply told file limit status text
 IsReply (compile file) told status text = IsCompiledFile told file status text
+IsReply (sim netlist delays words) told status text = IsSimReply told netlist delays words status text
+IsReply (demo bits) told status text = IsDemoReply bits status text
 
 -- what the words are answered where the source tells this of its files and nothing fails
 pub data Answer (words : Words) (told : Option Files) : ℕ → List ℕ → Type 0 where
@@ -52,11 +59,25 @@ pub data Answer (words : Words) (told : Option Files) : ℕ → List ℕ → Typ
 abbrev pub determines_text : Command → Bool
 determines_text (check file limit) = true
 determines_text (compile file) = false
+determines_text (sim netlist delays words) = true
+determines_text (demo bits) = false
+
+-- whether the files determine the status: the netlist of a demo is one of many, of which some could pass the limit
+abbrev pub determines_status : Command → Bool
+determines_status (check file limit) = true
+determines_status (compile file) = true
+determines_status (sim netlist delays words) = true
+determines_status (demo bits) = false
 
 -- whether the words and the files determine the text: words of no form do
 abbrev pub words_determine_text : Option Command → Bool
 words_determine_text None = true
 words_determine_text (Some command) = determines_text command
+
+-- whether they determine the status: words of no form do
+abbrev pub words_determine_status : Option Command → Bool
+words_determine_status None = true
+words_determine_status (Some command) = determines_status command
 
 -- what a source tells at one moment: the files that it holds, and how many of its calls have failed
 pub record SourceState : Type 0 where
@@ -101,12 +122,13 @@ AnswersUnlessFaults words source source_after sink sink_after status =
     → ¬ Rose source.faults source_after.faults → ¬ Rose sink.faults sink_after.faults
     → (status ≡ 7) ⊎ ((text : List ℕ) × Answer words (Some files) status text × Grew sink.written text sink_after.written)
 
--- whatever the words are answered where the source holds these files, the call ends with that status,
--- and writes that text where the words and the files determine it, unless it is kept from it by the
+-- whatever the words are answered where the source holds these files, the call ends with that status where the words
+-- and the files determine it, and writes that text where they determine that too, unless it is kept from it by the
 -- source (4), the sink (5) or want of memory (7)
 abbrev pub AnswersExactly : Words → SourceState → SinkState → SinkState → ℕ → Type 0
 AnswersExactly words source sink sink_after status =
     (files : Files) (expected : ℕ) (text : List ℕ) → source.files ≡ Some files → Answer words (Some files) expected text
+    → IsTrue (words_determine_status (command_of words))
     → ((status ≡ expected) × (IsTrue (words_determine_text (command_of words)) → Grew sink.written text sink_after.written))
     ⊎ ((status ≡ 4) ⊎ ((status ≡ 5) ⊎ (status ≡ 7)))
 
@@ -128,3 +150,23 @@ abbrev pub AcceptsWhatWorks : Words → SourceState → ℕ → Type 0
 AcceptsWhatWorks words source status =
     (files : Files) (file : List ℕ) (limit : ℕ) → source.files ≡ Some files → command_of words ≡ Some (check file limit)
     → status ≡ 0 → IsDelayInsensitiveText (bytes_of files file)
+
+-- the run of the pipeline with these delays over some words ends where nothing can move any more, every word has been
+-- delivered by the pipeline's function, and its lines were written
+pub record RunsThrough (p : PipelineData) (d : DelaysData) (offered : List (List Bool)) (sink sink_after : SinkState) : Type 0 where
+  pub trace : TraceData
+  pub run : IsTimedRun p d offered trace
+  pub quiet : trace.end ≡ Quiet
+  pub delivers : DeliversAll p offered trace
+  pub written : Grew sink.written (trace_lines p trace (length offered)) sink_after.written
+
+-- where the words ask for a simulation, the source tells its files, the netlist is one of a pipeline of sound stages, and
+-- the delays and the words are read, the status is 0 and the pipeline runs through at those delays, unless the call is
+-- kept from it by the source (4), the sink (5) or want of memory (7)
+abbrev pub SimulatesWhatWorks : Words → SourceState → SinkState → SinkState → ℕ → Type 0
+SimulatesWhatWorks words source sink sink_after status =
+    (files : Files) (netlist delays offers : List ℕ) → source.files ≡ Some files → command_of words ≡ Some (sim netlist delays offers)
+    → (p : PipelineData) → IsPipelineText (bytes_of files netlist) p → All IsSound p.stages
+    → (d : DelaysData) → AreDelaysText p.netlist (bytes_of files delays) d
+    → (offered : List (List Bool)) → AreWordsText (length p.inputs) (bytes_of files offers) offered
+    → ((status ≡ 0) × RunsThrough p d offered sink sink_after) ⊎ ((status ≡ 4) ⊎ ((status ≡ 5) ⊎ (status ≡ 7)))

@@ -1,5 +1,6 @@
-pub mod Reading
-pub mod Command
+pub mod Given
 pub mod Compiling
+pub mod Simulating
+pub mod Demonstrating
 pub mod Answer
 pub mod Replies

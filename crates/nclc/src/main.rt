@@ -1,13 +1,14 @@
 //! nclc: judges netlists of pipelines in NULL Convention Logic.
 #![tactic(auto)]
 
-mod command;
 mod compiling;
+mod demonstrating;
 #[cfg(test)]
 mod edge_tests;
 mod file_source;
-mod reading;
+mod loading;
 mod reply;
+mod simulating;
 mod stdout_sink;
 mod tally;
 mod top;

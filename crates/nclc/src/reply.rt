@@ -1,15 +1,21 @@
 //! What a call has to say.
 ghost use Rattle.std.specs.Prelude.{◌≡◌, ◌≤◌, ◌≢◌, [], IfOk, IsTrue, IsErrOf};
 ghost use Rattle.ncl_base.specs.Files.{Rose};
-ghost use Rattle.nclc.specs.Command.{AllowsFiles, HasLimit, files_named, check as check_command, compile as compile_command};
+ghost use Rattle.ncl_words.specs.Command.{AllowsFiles, HasBits, HasLimit, files_named, check as check_command, compile as compile_command};
+ghost use Rattle.ncl_words.specs.Meaning.{command_meant};
 ghost use Rattle.nclc.specs.Answer.{status_of};
-ghost use Rattle.nclc.specs.Replies.{command_meant, AnswersCommand};
+ghost use Rattle.nclc.specs.Replies.{AnswersCommand};
 
-use crate::command::Command;
 use crate::compiling::compile_bytes;
-use ncl_base::{LoadFault, Source, load};
+use crate::demonstrating::demonstrate;
+use crate::loading::load_file;
+use crate::simulating::sim_files;
+use ncl_base::{Memory, Source};
 use ncl_check::{Outcome, check};
+use ncl_verdict::Judge;
+use ncl_words::Command;
 use std::alloc::Global;
+use std::thread::Threads;
 
 /// A status, and the whole text that belongs to it.
 #[derive(Drop, Debug)]
@@ -29,16 +35,30 @@ pub enum Fault {
     Memory,
 }
 
+impl From<Memory> for Fault {
+    ghost use Rattle.std.specs.Prelude.{◌≡◌};
+    ghost use Rattle.nclc.specs.declared.reply.Fault.TheVariants.{Memory as OutOfMemory};
+
+    ghost from_gives = { λ _ fault. fault ≡ OutOfMemory };
+
+    fn from(_memory: Memory) -> Fault {
+        Fault::Memory
+    }
+}
+
 /// Carries out a command and gives its reply.
 ///
 /// Reads each file that the command names from the source.
-pub fn carry_out<S: Source>(
+pub fn carry_out<R: Threads + Sync, S: Source, J: Judge + Sync>(
+    rt: &R,
     alloc: Global,
     source: &mut S,
+    judge: &J,
     command: Command<'_>,
 ) -> Result<Reply, Fault>
     requires allowed { AllowsFiles (S.allowed source.old) (command_meant command) }
     requires limit { HasLimit (command_meant command) }
+    requires bits { HasBits (command_meant command) }
     ensures ok { IfOk result (AnswersCommand (S.files source.old) (command_meant command.entry)) }
     ensures read { IsErrOf result Fault.Read → Rose (S.faults source.old) (S.faults source.new) }
     ensures read_named { IsErrOf result Fault.Read → files_named (command_meant command.entry) ≢ [] }
@@ -47,17 +67,25 @@ pub fn carry_out<S: Source>(
     ensures faults { S.faults source.old ≤ S.faults source.new }
 {
     match command {
-        Command::Check(file, limit) => check_file(alloc, source, file, limit),
-        Command::Compile(file) => compile_file(alloc, source, file),
+        Command::Check { file, limit } => check_file(rt, alloc, source, judge, file, limit),
+        Command::Compile { file } => compile_file(alloc, source, file),
+        Command::Sim {
+            netlist,
+            delays,
+            words,
+        } => sim_files(alloc, source, netlist, delays, words),
+        Command::Demo { bits } => demonstrate(rt, alloc, judge, bits),
     }
 }
 
 /// Loads a file and replies to `check` of it.
 ///
 /// Costs a pass over the bytes, and the check.
-fn check_file<S: Source>(
+fn check_file<R: Threads + Sync, S: Source, J: Judge + Sync>(
+    rt: &R,
     alloc: Global,
     source: &mut S,
+    judge: &J,
     file: &str,
     limit: u32,
 ) -> Result<Reply, Fault>
@@ -69,15 +97,12 @@ fn check_file<S: Source>(
     ensures allowed { S.allowed source.new ≡ S.allowed source.old }
     ensures faults { S.faults source.old ≤ S.faults source.new }
 {
-    match load(alloc, source, file) {
-        Ok(bytes) => match check(alloc, &bytes, limit) {
-            Ok(reply) => Ok(Reply::Made(status_of(reply.outcome), reply.text)),
-            Err(_) => Err(Fault::Memory),
-        },
-        Err(LoadFault::TooLong) => Ok(Reply::Fixed(3, b"netlist: too long\n")),
-        Err(LoadFault::Read) => Err(Fault::Read),
-        Err(LoadFault::Memory) => Err(Fault::Memory),
-    }
+    let bytes = match load_file(alloc, source, file)? {
+        Some(bytes) => bytes,
+        None => return Ok(Reply::Fixed(3, b"netlist: too long\n")),
+    };
+    let reply = check(rt, alloc, judge, &bytes, limit)?;
+    Ok(Reply::Made(status_of(reply.outcome), reply.text))
 }
 
 /// Loads a file and replies to `compile` of it.
@@ -91,15 +116,12 @@ fn compile_file<S: Source>(alloc: Global, source: &mut S, file: &str) -> Result<
     ensures allowed { S.allowed source.new ≡ S.allowed source.old }
     ensures faults { S.faults source.old ≤ S.faults source.new }
 {
-    match load(alloc, source, file) {
-        Ok(bytes) => match compile_bytes(alloc, &bytes) {
-            Ok((status, text)) => Ok(Reply::Made(status, text)),
-            Err(_) => Err(Fault::Memory),
-        },
-        Err(LoadFault::TooLong) => Ok(Reply::Fixed(3, b"blif: too long\n")),
-        Err(LoadFault::Read) => Err(Fault::Read),
-        Err(LoadFault::Memory) => Err(Fault::Memory),
-    }
+    let bytes = match load_file(alloc, source, file)? {
+        Some(bytes) => bytes,
+        None => return Ok(Reply::Fixed(3, b"blif: too long\n")),
+    };
+    let (status, text) = compile_bytes(alloc, &bytes)?;
+    Ok(Reply::Made(status, text))
 }
 
 /// The status of a check that ends so.

@@ -1,5 +1,6 @@
 //! What `check` answers to whole netlists.
 use super::netlists::{ADDER, AND, AS_YOSYS_WRITES, ONE_BANK, frame, three_banks};
+use super::space_tests::judged_alike;
 use super::tests::ask;
 use super::*;
 use std::process::Abort;
@@ -28,7 +29,7 @@ fn pipelines_are_judged(rt: HostRuntime) -> Result<(), Fail> {
     let eager = "TH22 g1(.A(p1_1),.B(p2_1),.Z(y1));\nTH12 g0(.A(p1_0),.B(p2_0),.Z(y0));\n";
     let dead = "TH22 g(.A(p1_0),.B(p1_1),.Z(y));\n";
     let loose = "TH12 u1(.A(p1_0),.B(p1_1),.Z(n1));\n";
-    let cases: [(&str, usize, &[&str], &str, u8, &str); 15] = [
+    let cases: [(&str, usize, &[&str], &str, u8, &str); 14] = [
         (
             "wires",
             1,
@@ -141,48 +142,11 @@ fn pipelines_are_judged(rt: HostRuntime) -> Result<(), Fail> {
             1,
             "refused stage 1: both rails, output 1, word 1",
         ),
-        (
-            "eleven bits",
-            11,
-            &[
-                "p1_0 p1_1",
-                "p2_0 p2_1",
-                "p3_0 p3_1",
-                "p4_0 p4_1",
-                "p5_0 p5_1",
-                "p6_0 p6_1",
-                "p7_0 p7_1",
-                "p8_0 p8_1",
-                "p9_0 p9_1",
-                "p10_0 p10_1",
-                "p11_0 p11_1",
-            ],
-            "",
-            0,
-            "accepted banks=2 stages=1 cells=74",
-        ),
     ];
     for (name, bits, outputs, cells, status, line) in cases {
         let netlist = frame(alloc, bits, outputs, cells)?;
         is_answered(&rt, alloc, name, &netlist, status, line)?;
-    }
-    Ok(())
-}
-
-#[test]
-fn limits_are_met_exactly(rt: HostRuntime) -> Result<(), Fail> {
-    let alloc = rt.alloc();
-    let netlist = frame(alloc, 2, &["y0 y1"], AND)?;
-    let cases: [(&str, u8, &str); 3] = [
-        ("6", 0, "accepted banks=2 stages=1 cells=12\n"),
-        ("5", 6, "limit stage 1: more than 5 nodes\n"),
-        ("1", 6, "limit stage 1: more than 1 nodes\n"),
-    ];
-    for (limit, status, line) in cases {
-        let words = ["check", "f", "--limit", limit];
-        let (got, written) = ask(&rt, alloc, &words, netlist.as_bytes())?;
-        assert_eq!(rt; written.as_slice(), line.as_bytes(), "{limit}");
-        assert_eq!(rt; got, status, "{limit}");
+        judged_alike(&rt, alloc, &netlist)?;
     }
     Ok(())
 }

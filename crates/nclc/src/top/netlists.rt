@@ -1,4 +1,7 @@
 //! Netlist texts for tests.
+use ncl_base::MOST_BYTES;
+use ncl_netlist::Netlist;
+use ncl_reader::read_netlist;
 use std::alloc::Global;
 use std::fmt::Write;
 use std::test::Fail;
@@ -112,35 +115,46 @@ fn push_rails(text: &mut String, name: &str, bits: usize) -> Result<(), Fail> {
     Ok(())
 }
 
-/// The cells that join the acknowledges `NET1`, `NET2` and so on of a bank to its root, none for one bit. Their
-/// names begin with `cell`, and the nets between them with `inner`.
+/// The pins `.A(NET),.B(NET)` and so on of a gate that reads these nets, and its output.
+fn push_pins(text: &mut String, nets: &[String], out: &str) -> Result<(), Fail> {
+    for (pin, net) in ["A", "B", "C", "D"].iter().zip(nets) {
+        write!(text, ".{pin}({net}),")?;
+    }
+    write!(text, ".Z({out}));\n")?;
+    Ok(())
+}
+
+/// The cells that join the acknowledges `NET1`, `NET2` and so on of a bank to its root, none for one bit: each takes the
+/// first four nets of a queue, and what it drives joins the end. Their names begin with `cell`, and the nets between
+/// them with `inner`.
 fn push_completion(
+    alloc: Global,
     text: &mut String,
     [cell, net, inner]: [&str; 3],
     bits: usize,
     root: &str,
 ) -> Result<(), Fail> {
-    match bits {
-        2 => write!(text, "TH22 {cell}t(.A({net}1),.B({net}2),.Z({root}));\n")?,
-        3 => write!(
-            text,
-            "TH33 {cell}t(.A({net}1),.B({net}2),.C({net}3),.Z({root}));\n"
-        )?,
-        4 => write!(
-            text,
-            "TH44 {cell}t(.A({net}1),.B({net}2),.C({net}3),.D({net}4),.Z({root}));\n"
-        )?,
-        11 => write!(
-            text,
-            "TH44 {cell}a(.A({net}1),.B({net}2),.C({net}3),.D({net}4),.Z({inner}1));
-TH44 {cell}b(.A({net}5),.B({net}6),.C({net}7),.D({net}8),.Z({inner}2));
-TH33 {cell}c(.A({net}9),.B({net}10),.C({net}11),.Z({inner}3));
-TH33 {cell}t(.A({inner}1),.B({inner}2),.C({inner}3),.Z({root}));
-"
-        )?,
-        _ => {}
+    let mut nets: Vec<String> = Vec::new(alloc);
+    for bit in 1..=bits {
+        nets.push(format!(in alloc; "{net}{bit}")?)?;
     }
-    Ok(())
+    for gate in 1..=bits {
+        if nets.len() < 5 {
+            break;
+        }
+        let out = format!(in alloc; "{inner}{gate}")?;
+        write!(text, "TH44 {cell}t{gate}(")?;
+        push_pins(text, &nets[..4], &out)?;
+        nets.drain(..4);
+        nets.push(out)?;
+    }
+    match nets.len() {
+        2 => write!(text, "TH22 {cell}t(")?,
+        3 => write!(text, "TH33 {cell}t(")?,
+        4 => write!(text, "TH44 {cell}t(")?,
+        _ => return Ok(()),
+    }
+    push_pins(text, &nets, root)
 }
 
 /// The register and acknowledge cells of a bank: of each bit the names of its two A nets, then the request, and
@@ -197,10 +211,31 @@ pub fn frame(alloc: Global, bits: usize, outputs: &[&str], cells: &str) -> Resul
     push_rails(&mut text, "z", outputs.len())?;
     text.push_str("ko;\n")?;
     push_bank(&mut text, &inputs, "c", ["r", "p", "k", "e"], "ko")?;
-    push_completion(&mut text, ["k", "e", "h"], bits, "ko")?;
+    push_completion(alloc, &mut text, ["k", "e", "h"], bits, "ko")?;
     text.push_str(cells)?;
     push_bank(&mut text, outputs, "ki", ["s", "z", "d", "f"], "c")?;
-    push_completion(&mut text, ["d", "f", "l"], outputs.len(), "c")?;
+    push_completion(alloc, &mut text, ["d", "f", "l"], outputs.len(), "c")?;
     text.push_str("endmodule\n")?;
     Ok(text)
+}
+
+/// The netlist of a text.
+pub fn netlist_of(alloc: Global, text: &str) -> Result<Netlist, Fail> {
+    if text.len() > MOST_BYTES {
+        return Err(Fail::new("too long"));
+    }
+    Ok(read_netlist(alloc, text.as_bytes())?)
+}
+
+/// Two banks of so many bits, joined by wires.
+pub fn wires(alloc: Global, bits: usize) -> Result<String, Fail> {
+    let mut pairs: Vec<String> = Vec::new(alloc);
+    for bit in 1..=bits {
+        pairs.push(format!(in alloc; "p{bit}_0 p{bit}_1")?)?;
+    }
+    let mut outputs: Vec<&str> = Vec::new(alloc);
+    for pair in &pairs {
+        outputs.push(pair.as_str())?;
+    }
+    frame(alloc, bits, &outputs, "")
 }

@@ -1,4 +1,6 @@
-use super::netlists::frame;
+ghost use Rattle.std.specs.Prelude.{◌≢◌};
+
+use super::netlists::wires;
 use super::*;
 use ncl_base::{Items, MemFile, MemSink, MemSource, Name, NullSink, SteadySource};
 use std::test::Fail;
@@ -9,19 +11,16 @@ const READ_FAILED: &str = "read failed\n";
 
 const NOT_UNDERSTOOD: &str = "words not understood\n";
 
-/// Two banks of one bit, joined by wires.
-fn wires(alloc: Global) -> Result<String, Fail> {
-    frame(alloc, 1, &["p1_0 p1_1"], "")
-}
-
-/// The one file `f` with these bytes.
-fn held(alloc: Global, bytes: &[u8]) -> Result<Vec<MemFile>, Fail> {
-    let mut files = Vec::new(alloc);
-    files.push(MemFile {
-        name: Name::from_bytes(alloc, b"f")?,
-        bytes: Items::from_vec(bytes.to_vec(alloc)?),
-    })?;
-    Ok(files)
+/// Files with these names and bytes.
+pub fn held(alloc: Global, files: &[(&str, &[u8])]) -> Result<Vec<MemFile>, Fail> {
+    let mut held = Vec::new(alloc);
+    for (name, bytes) in files {
+        held.push(MemFile {
+            name: Name::from_bytes(alloc, name.as_bytes())?,
+            bytes: Items::from_vec(bytes.to_vec(alloc)?),
+        })?;
+    }
+    Ok(held)
 }
 
 /// The status of these words, and what was written, where the file `f` has these bytes.
@@ -31,7 +30,17 @@ pub fn ask<R: Threads + Sync>(
     words: &[&str],
     bytes: &[u8],
 ) -> Result<(u8, Vec<u8>), Fail> {
-    let mut source = MemSource::new(held(alloc, bytes)?, 4096, Vec::new(alloc));
+    ask_of(rt, alloc, words, &[("f", bytes)])
+}
+
+/// The status of these words, and what was written, where these files are held.
+pub fn ask_of<R: Threads + Sync>(
+    rt: &R,
+    alloc: Global,
+    words: &[&str],
+    files: &[(&str, &[u8])],
+) -> Result<(u8, Vec<u8>), Fail> {
+    let mut source = MemSource::new(held(alloc, files)?, 4096, Vec::new(alloc));
     let mut sink = MemSink::new(alloc, 10_000, 4096, Vec::new(alloc))?;
     let status = run(rt, alloc, words, &mut source, &mut sink);
     Ok((status, sink.bytes().to_vec(alloc)?))
@@ -39,7 +48,7 @@ pub fn ask<R: Threads + Sync>(
 
 #[test]
 fn answers_words_and_files(rt: HostRuntime) -> Result<(), Fail> {
-    let netlist = wires(rt.alloc())?;
+    let netlist = wires(rt.alloc(), 1)?;
     let cases: [(&str, u8, &str); 31] = [
         ("check f", 0, ACCEPTED),
         ("check g", 4, READ_FAILED),
@@ -110,8 +119,8 @@ fn edges_that_fail_are_told(rt: HostRuntime) -> Result<(), Fail> {
         (3, 10, 2, 5, "read fai"),
     ];
     for (read, room, write, status, text) in cases {
-        let netlist = wires(rt.alloc())?;
-        let files = held(rt.alloc(), netlist.as_bytes())?;
+        let netlist = wires(rt.alloc(), 1)?;
+        let files = held(rt.alloc(), &[("f", netlist.as_bytes())])?;
         let mut source = MemSource::new(files, 64, vec![in rt.alloc(); read]?);
         let mut sink = MemSink::new(rt.alloc(), room, 8, vec![in rt.alloc(); write]?)?;
         let got = run(&rt, rt.alloc(), &["check", "f"], &mut source, &mut sink);
@@ -121,13 +130,25 @@ fn edges_that_fail_are_told(rt: HostRuntime) -> Result<(), Fail> {
     Ok(())
 }
 
+/// The status where neither the source nor the sink can fail.
+fn steady_status<R: Threads + Sync>(
+    rt: &R,
+    alloc: Global,
+    words: &[&str],
+    source: &mut SteadySource,
+) -> u8
+    ensures read { result ≢ 4 }
+    ensures write { result ≢ 5 }
+{
+    run(rt, alloc, words, source, &mut NullSink::new())
+}
+
 #[test]
 fn an_absent_file_of_a_steady_source_is_empty(rt: HostRuntime) -> Result<(), Fail> {
-    let netlist = wires(rt.alloc())?;
-    let mut source = SteadySource::new(held(rt.alloc(), netlist.as_bytes())?);
+    let netlist = wires(rt.alloc(), 1)?;
+    let mut source = SteadySource::new(held(rt.alloc(), &[("f", netlist.as_bytes())])?);
     for (file, status) in [("f", 0), ("absent", 3), ("f", 0)] {
-        let words = ["check", file];
-        let got = run(&rt, rt.alloc(), &words, &mut source, &mut NullSink::new());
+        let got = steady_status(&rt, rt.alloc(), &["check", file], &mut source);
         assert_eq!(rt; got, status, "{file}");
     }
     Ok(())
@@ -140,7 +161,7 @@ fn a_file_has_at_most_16777216_bytes(rt: HostRuntime) -> Result<(), Fail> {
         (16_777_217, "netlist: too long\n"),
     ] {
         let bytes = vec![in rt.alloc(); b' '; length]?;
-        let mut source = SteadySource::new(held(rt.alloc(), &bytes)?);
+        let mut source = SteadySource::new(held(rt.alloc(), &[("f", bytes.as_slice())])?);
         let mut sink = MemSink::new(rt.alloc(), 100, 100, Vec::new(rt.alloc()))?;
         let got = run(&rt, rt.alloc(), &["check", "f"], &mut source, &mut sink);
         assert_eq!(rt; got, 3, "{length} spaces");

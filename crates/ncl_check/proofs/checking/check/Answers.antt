@@ -1,22 +1,24 @@
-use Rattle.std.proofs.Common.{arith, sym, subst}
-use Rattle.ncl_check.specs.declared.reply.Outcome.TheVariants.{NoPipeline}
-use Rattle.ncl_check.specs.Reply.{IsCheckReply, too_long}
-use Rattle.ncl_check.proofs.Replying.{refusal_reply, netlist_reply, reply_works}
+use Rattle.ncl_check.specs.Text.{IsRefusedText, IsShapeless, shapeless}
+use Rattle.ncl_check.proofs.Refusing.{Tells-weaker}
+use Rattle.ncl_check.proofs.Replying.{pipeline_text, refused_reply, judged_reply, reply_works}
 use Rattle.ncl_check.proofs.checking.check.Goals as goal
 
-pub returns-then-bytes-gt-MOST_BYTES-clause-reply : goal.returns-then-bytes-gt-MOST_BYTES-clause-reply
-returns-then-bytes-gt-MOST_BYTES-clause-reply c =
-    subst (IsCheckReply c.args.limit c.args.bytes.now NoPipeline) (sym c.in_ok-from_slice.ensures.items) (too_long (omega arith))
-
-pub returns-in-Ok-clause-reply : goal.returns-in-Ok-clause-reply
-returns-in-Ok-clause-reply c =
-    netlist_reply c.args.limit c.args.bytes.now (omega arith) c.in-Ok.netlist c.in-Ok.ensures.netlist c.check_netlist.result c.check_netlist.ensures
-
-pub returns-in-Ok-clause-headline : goal.returns-in-Ok-clause-headline
-returns-in-Ok-clause-headline c =
-    reply_works c.args.limit c.args.bytes.now c.check_netlist.result
-    (netlist_reply c.args.limit c.args.bytes.now (omega arith) c.in-Ok.netlist c.in-Ok.ensures.netlist c.check_netlist.result c.check_netlist.ensures)
-
 pub returns-in-Err-clause-reply : goal.returns-in-Err-clause-reply
-returns-in-Err-clause-reply c =
-    refusal_reply c.args.limit c.args.bytes.now (omega arith) c.in-Err.fault c.in-Err.ensures.fault c.no_netlist.result c.no_netlist.ensures.reply c.no_netlist.ensures.memory
+returns-in-Err-clause-reply g c =
+    refused_reply c.args.limit c.args.bytes.now c.refused.result c.refused.ensures.outcome (c.refused.ensures.text c.args.bytes.now c.in-Err.ensures.refused)
+
+pub returns-in-Err-pipeline_in-clause-reply : goal.returns-in-Err-pipeline_in-clause-reply
+returns-in-Err-pipeline_in-clause-reply g c =
+    let bytes = c.args.bytes.now in
+    let n = c.in-Ok.netlist in
+    let none = Tells-weaker (IsShapeless n) (IsRefusedText bytes) (shapeless n c.in-Ok.ensures.netlist) c.in-Err-pipeline_in.refusal c.in-Err-pipeline_in.ensures.refused in
+    refused_reply c.args.limit bytes c.refused-in-Err-pipeline_in.result c.refused-in-Err-pipeline_in.ensures.outcome (c.refused-in-Err-pipeline_in.ensures.text bytes none)
+
+pub returns-clause-reply : goal.returns-clause-reply
+returns-clause-reply g c =
+    judged_reply c.args.limit c.args.bytes.now c.in-Ok-pipeline_in.pipeline
+    (pipeline_text c.args.bytes.now c.in-Ok.netlist c.in-Ok-pipeline_in.pipeline c.in-Ok.ensures.netlist c.in-Ok-pipeline_in.ensures.pipeline)
+    c.judged.result c.judged.ensures.outcome c.judged.ensures.text
+
+pub returns-clause-headline : goal.returns-clause-headline
+returns-clause-headline g c = reply_works c.args.limit c.args.bytes.now c.judged.result (returns-clause-reply g c)

@@ -1,4 +1,4 @@
-use Rattle.std.proofs.Common.{sym, subst, ◌∙◌}
+use Rattle.std.proofs.Common.{sym, subst}
 use Rattle.nclc.specs.Compiling.{IsModelsReply, too_large, compiled}
 use Rattle.nclc.proofs.PlainNames.{writable}
 use Rattle.nclc.proofs.compiling.compile_models.Goals as goal

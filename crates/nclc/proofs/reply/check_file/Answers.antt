@@ -1,10 +1,21 @@
-use Rattle.std.proofs.Common.{Err, ap, refl}
-use Rattle.ncl_base.specs.declared.source.TheConstants.{MOST_BYTES}
-use Rattle.ncl_check.specs.Reply.{too_long}
-use Rattle.nclc.proofs.Held.{given_more}
+use Rattle.std.proofs.Common.{refl, subst}
+use Rattle.ncl_check.specs.Reply.{IsCheckReply, refused}
+use Rattle.ncl_check.specs.Text.{too_long}
+use Rattle.nclc.proofs.SimReplies.{some_told, none_told}
 use Rattle.nclc.proofs.reply.check_file.Goals as goal
 
-pub returns-in-Err-TooLong-clause-ok : goal.returns-in-Err-TooLong-clause-ok
-returns-in-Err-TooLong-clause-ok g c =
-    let (bytes, more, given) = given_more MOST_BYTES _ c.args.file.now (c.in-Err-TooLong.ensures.long (ap Err c.in-Err-TooLong.field-0-is)) in
-    record { bytes = bytes; given = given; outcome = _; ends = refl; reply = too_long more }
+pub returns-in-None-clause-ok : goal.returns-in-None-clause-ok
+returns-in-None-clause-ok g c =
+    let long = none_told _ _ c.in_ok-bytes.field-0 c.in_ok-bytes.ensures.bytes c.in-None.is in
+    record { bytes = long.bytes; given = long.given; outcome = _; ends = refl; reply = refused _ (too_long long.many) }
+
+pub returns-clause-ok : goal.returns-clause-ok
+returns-clause-ok g c =
+    let reply = c.in_ok-reply.reply in
+    record {
+      bytes = c.in-Some.bytes.items;
+      given = some_told _ _ c.in_ok-bytes.field-0 c.in-Some.bytes c.in_ok-bytes.ensures.bytes c.in-Some.is;
+      outcome = reply.outcome;
+      ends = c.status_of.ensures;
+      reply = subst (λ bytes. IsCheckReply c.args.limit bytes reply.outcome reply.text.items) c.deref.ensures.value c.in_ok-reply.ensures.reply;
+    }

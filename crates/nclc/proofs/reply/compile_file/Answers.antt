@@ -1,10 +1,8 @@
-use Rattle.std.proofs.Common.{Err, ap}
-use Rattle.ncl_base.specs.declared.source.TheConstants.{MOST_BYTES}
 use Rattle.nclc.specs.Compiling.{too_long}
-use Rattle.nclc.proofs.Held.{given_more}
+use Rattle.nclc.proofs.SimReplies.{none_told}
 use Rattle.nclc.proofs.reply.compile_file.Goals as goal
 
-pub returns-in-Err-TooLong-clause-ok : goal.returns-in-Err-TooLong-clause-ok
-returns-in-Err-TooLong-clause-ok g c =
-    let (bytes, more, given) = given_more MOST_BYTES _ c.args.file.now (c.in-Err-TooLong.ensures.long (ap Err c.in-Err-TooLong.field-0-is)) in
-    record { bytes = bytes; given = given; reply = too_long more }
+pub returns-in-None-clause-ok : goal.returns-in-None-clause-ok
+returns-in-None-clause-ok g c =
+    let long = none_told _ _ c.in_ok-bytes.field-0 c.in_ok-bytes.ensures.bytes c.in-None.is in
+    record { bytes = long.bytes; given = long.given; reply = too_long long.many }

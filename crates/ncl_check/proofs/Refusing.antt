@@ -1,0 +1,42 @@
+-- What refusals tell.
+use Rattle.std.proofs.Common.{◌≡◌, ◌≢◌, ◌≤◌, ℕ, List, length, refl}
+use Rattle.ncl_base.specs.declared.source.TheConstants.{MOST_BYTES}
+use Rattle.ncl_netlist.specs.Netlist.{NetlistData, IsNetlist}
+use Rattle.ncl_reader.specs.declared.net_fault.NetFault.{NetFault}
+use Rattle.ncl_reader.specs.declared.net_fault.NetFault.TheVariants as net
+use Rattle.ncl_reader.specs.Reads.{IsNetFault}
+use Rattle.ncl_origin.specs.declared.fault.ShapeFault.{ShapeFault}
+use Rattle.ncl_origin.specs.declared.fault.ShapeFault.TheVariants.{UnusedPort, Cycle, Unpaired, Mixed, Loose, NoChain, TooWide, TooLong, Memory}
+use Rattle.ncl_shape.specs.Shape.{IsShapeFault}
+use Rattle.ncl_report.specs.NetText.{net_line}
+use Rattle.ncl_report.specs.ShapeText.{shape_line}
+use Rattle.ncl_check.specs.Text.{IsShapeless, IsRefusedText, unread, unbuilt}
+use Rattle.ncl_check.specs.Refusals.{Tells}
+use Rattle.ncl_check.specs.declared.text.Refusal.{Refusal}
+use Rattle.ncl_check.specs.declared.text.Refusal.TheVariants as refusal
+
+-- what tells one thing tells what follows from it
+pub Tells-weaker : (kind other : List ℕ → Type 0) → ((text : List ℕ) → kind text → other text) → (r : Refusal) → Tells kind r → Tells other r
+Tells-weaker kind other follows (refusal.Told text) h = follows text.items h
+Tells-weaker kind other follows refusal.Memory h = tt
+
+-- the first rule of shape that a netlist breaks is told
+pub shape_told : (n : NetlistData) → IsNetlist n → (fault : ShapeFault) → fault ≢ Memory → IsShapeFault n fault → IsShapeless n (shape_line n fault)
+shape_told n is (UnusedPort net) own broken = record { is_netlist = is; fault = UnusedPort net; broken = broken; told = refl }
+shape_told n is (Cycle cell) own broken = record { is_netlist = is; fault = Cycle cell; broken = broken; told = refl }
+shape_told n is (Unpaired cell) own broken = record { is_netlist = is; fault = Unpaired cell; broken = broken; told = refl }
+shape_told n is (Mixed cell) own broken = record { is_netlist = is; fault = Mixed cell; broken = broken; told = refl }
+shape_told n is (Loose cell) own broken = record { is_netlist = is; fault = Loose cell; broken = broken; told = refl }
+shape_told n is (NoChain rule) own broken = record { is_netlist = is; fault = NoChain rule; broken = broken; told = refl }
+shape_told n is (TooWide number) own broken = record { is_netlist = is; fault = TooWide number; broken = broken; told = refl }
+shape_told n is TooLong own broken = record { is_netlist = is; fault = TooLong; broken = broken; told = refl }
+shape_told n is Memory own broken = absurd (own refl)
+
+-- why a text is no netlist is told
+pub fault_told : (bytes : List ℕ) → length bytes ≤ MOST_BYTES → (fault : NetFault) → fault ≢ net.Memory → IsNetFault bytes fault → IsRefusedText bytes (net_line fault)
+fault_told bytes few (net.Syntax place) own is = unread few (net.Syntax place) is
+fault_told bytes few (net.UnknownCell place) own is = unread few (net.UnknownCell place) is
+fault_told bytes few (net.BadPins place) own is = unread few (net.BadPins place) is
+fault_told bytes few (net.Unsupported place) own is = unread few (net.Unsupported place) is
+fault_told bytes few (net.Build fault) own (not_memory, parts, reads, is) = unbuilt few parts reads fault not_memory is
+fault_told bytes few net.Memory own is = absurd (own refl)

@@ -1,0 +1,96 @@
+//! The bytes of a file, as the text of a pipeline.
+ghost use Rattle.std.specs.Prelude.{◌≡◌, ◌≢◌, ℕ, List, IfOk, IfErr, codes};
+ghost use Rattle.ncl_reader.specs.declared.net_fault.NetFault.TheVariants.{Memory as OutOfMemory};
+ghost use Rattle.ncl_shape.specs.Shape.{Shape, IsShapeFault};
+ghost use Rattle.ncl_report.specs.Line.{line};
+ghost use Rattle.ncl_report.specs.NetText.{net_line};
+ghost use Rattle.ncl_check.specs.Text.{IsNetlistText, IsRefusedText, IsShapeless};
+ghost use Rattle.ncl_check.specs.Refusals.{Tells};
+
+use ncl_base::{MOST_BYTES, Memory};
+use ncl_netlist::Netlist;
+use ncl_reader::{NetFault, read_netlist};
+use ncl_report::{net_text, shape_text};
+use ncl_shape::{Pipeline, ShapeFault, shape};
+use std::alloc::Global;
+
+/// Why bytes are the text of no pipeline.
+#[derive(Debug, Drop)]
+pub enum Refusal {
+    /// This line tells it.
+    Told(Vec<u8>),
+    /// Memory was refused.
+    Memory,
+}
+
+/// The netlist of which the bytes are the text, or the line that tells the first thing that keeps them from being one.
+///
+/// Costs as reading does: near linear in the bytes.
+pub fn netlist_in(alloc: Global, bytes: &[u8]) -> Result<Netlist, Refusal>
+    ensures netlist { IfOk result (λ n. IsNetlistText bytes.now n) }
+    ensures refused { IfErr result (Tells (IsRefusedText bytes.now)) }
+{
+    if bytes.len() > MOST_BYTES {
+        return Err(too_long(alloc));
+    }
+    match read_netlist(alloc, bytes) {
+        Ok(netlist) => Ok(netlist),
+        Err(fault) => Err(unread(alloc, fault)),
+    }
+}
+
+/// The pipeline whose shape a netlist has, or the line that tells the first rule of shape that it breaks.
+///
+/// Costs as finding the shape does: near linear in the cells.
+pub fn pipeline_in<'a>(alloc: Global, netlist: &'a Netlist) -> Result<Pipeline<'a>, Refusal>
+    ensures pipeline { IfOk result (λ p. Shape netlist.now p) }
+    ensures refused { IfErr result (Tells (IsShapeless netlist.now)) }
+{
+    match shape(alloc, netlist) {
+        Ok(pipeline) => Ok(pipeline),
+        Err(fault) => Err(no_shape(alloc, netlist, fault)),
+    }
+}
+
+/// The line that was made.
+fn told(made: Result<Vec<u8>, Memory>) -> Refusal
+    ensures { (line : List ℕ) → IfOk made (λ text. text.items ≡ line) → Tells (λ text. text ≡ line) result }
+{
+    match made {
+        Ok(text) => Refusal::Told(text),
+        Err(Memory) => Refusal::Memory,
+    }
+}
+
+/// The line for more bytes than are read.
+fn too_long(alloc: Global) -> Refusal
+    ensures { Tells (λ text. text ≡ line (codes "netlist: too long")) result }
+{
+    match Vec::from_slice(alloc, b"netlist: too long\n") {
+        Ok(text) => Refusal::Told(text),
+        Err(_) => Refusal::Memory,
+    }
+}
+
+/// The line for a text that is no netlist.
+fn unread(alloc: Global, fault: NetFault) -> Refusal
+    ensures { Tells (λ text. (fault ≢ OutOfMemory) × (text ≡ net_line fault)) result }
+{
+    match fault {
+        NetFault::Memory => Refusal::Memory,
+        fault => told(net_text(alloc, &fault)),
+    }
+}
+
+/// The line for a netlist that has no shape.
+fn no_shape(alloc: Global, netlist: &Netlist, fault: ShapeFault) -> Refusal
+    requires { IsShapeFault netlist.now fault }
+    ensures { Tells (IsShapeless netlist.now) result }
+{
+    // The cells come with the facts of a netlist.
+    let _ = netlist.cells();
+    match fault {
+        ShapeFault::Memory => Refusal::Memory,
+        fault => told(shape_text(alloc, netlist, &fault)),
+    }
+}

@@ -1,0 +1,213 @@
+#!/usr/bin/env python3
+"""Hands files to the program that were made to harm it, and prints the answer, seconds and memory.
+
+    bench/hostile.py PROGRAM [WORD]
+
+PROGRAM is the built nclc. Most files are as long as a file may be, 16 MiB; the others have as many cells as a netlist may
+have, or chains of as many gates. With WORD only the kinds are tried whose name has it. A run is stopped after a minute.
+"""
+import os
+import subprocess
+import sys
+import tempfile
+import threading
+import time
+
+MOST_BYTES = 16 << 20
+MOST_CELLS = 131_072
+SECONDS = 60
+
+# Two banks of one bit, with cells between them, and the nets of the rails of the output.
+FRONT = """module t(x1_0,x1_1,ki,rst,z1_0,z1_1,ko);
+input x1_0,x1_1,ki,rst;
+output z1_0,z1_1,ko;
+TH22N r1_0(.A(x1_0),.B(c),.RST(rst),.Z(p1_0));
+TH22N r1_1(.A(x1_1),.B(c),.RST(rst),.Z(p1_1));
+TH12B k1(.A(p1_0),.B(p1_1),.Z(ko));
+"""
+BACK = """TH22N s1_0(.A({}),.B(ki),.RST(rst),.Z(z1_0));
+TH22N s1_1(.A(p1_1),.B(ki),.RST(rst),.Z(z1_1));
+TH12B d1(.A(z1_0),.B(z1_1),.Z(c));
+endmodule
+"""
+MODEL = ".model m\n.inputs a\n.outputs y\n"
+
+
+def filled(front, piece, back=""):
+    """The front, as many equal pieces as fit, and the back."""
+    left = (MOST_BYTES - len(front) - len(back)) // len(piece)
+    yield front
+    while left:
+        count = min(left, 10_000)
+        yield piece * count
+        left -= count
+    yield back
+
+
+def numbered(front, line, back=""):
+    """The front, as many lines with a number as fit, and the back."""
+    yield front
+    left, number = MOST_BYTES - len(front) - len(back), 0
+    while True:
+        text = line.format(number, number + 1)
+        left -= len(text)
+        if left < 0:
+            break
+        yield text
+        number += 1
+    yield back
+
+
+def gates(count, line, order=1):
+    """Gates between two banks, in the order of their numbers or against it."""
+    yield FRONT
+    for number in range(count)[::order]:
+        yield line.format(number, number + 1)
+    yield f"TH12 g{count}(.A(p1_0),.B(p1_0),.Z(n{count}));\n" + BACK.format("n0")
+
+
+def one_bank():
+    """One bank, of all the register cells that a netlist has room for beside their completion tree."""
+    rails = MOST_CELLS * 3 // 5 // 2 * 2
+    ins, outs = ",".join(f"a{i}" for i in range(rails)), ",".join(f"z{i}" for i in range(rails))
+    yield f"module t({ins},ki,rst,{outs},ko);\ninput {ins},ki,rst;\noutput {outs},ko;\n"
+    for i in range(rails):
+        yield f"TH22N r{i}(.A(a{i}),.B(ki),.RST(rst),.Z(z{i}));\n"
+    for i in range(0, rails, 2):
+        yield f"TH12B k{i}(.A(z{i}),.B(z{i + 1}),.Z(e{i // 2}));\n"
+    first, last = 0, rails // 2
+    while last - first > 4:
+        a, b, c, d = range(first, first + 4)
+        yield f"TH44 t{last}(.A(e{a}),.B(e{b}),.C(e{c}),.D(e{d}),.Z(e{last}));\n"
+        first, last = first + 4, last + 1
+    kind = {2: "TH22", 3: "TH33", 4: "TH44"}[last - first]
+    pins = "".join(f".{pin}(e{net})," for pin, net in zip("ABCD", range(first, last)))
+    yield f"{kind} t{last}({pins}.Z(ko));\nendmodule\n"
+
+
+def many_banks():
+    """Banks of one bit, one after another."""
+    count = MOST_CELLS // 3
+    yield f"module t(v0_0,v0_1,ki,rst,v{count}_0,v{count}_1,e0);\n"
+    yield f"input v0_0,v0_1,ki,rst;\noutput v{count}_0,v{count}_1,e0;\n"
+    for i in range(count):
+        request = "ki" if i + 1 == count else f"e{i + 1}"
+        for rail in "01":
+            yield f"TH22N r{i}_{rail}(.A(v{i}_{rail}),.B({request}),.RST(rst),.Z(v{i + 1}_{rail}));\n"
+        yield f"TH12B k{i}(.A(v{i + 1}_0),.B(v{i + 1}_1),.Z(e{i}));\n"
+    yield "endmodule\n"
+
+
+def wires():
+    return [FRONT + BACK.format("p1_0")]
+
+
+def covers(count, order=1, last="a"):
+    """Buffers one after another from `y` back to the input, or to a signal that makes them a cycle."""
+    yield MODEL.replace(".outputs y", ".outputs n0")
+    for number in range(count)[::order]:
+        yield f".names n{number + 1} n{number}\n1 1\n"
+    yield f".names {last} n{count}\n1 1\n.end\n"
+
+
+NETLISTS = {
+    "one name": filled("module ", "a"),
+    "one escaped name": filled("module \\", "a"),
+    "one comment": filled("/*", "*"),
+    "one comment of a line": filled("//", "/"),
+    "one attribute": filled('(* a = "', "a", '" *)'),
+    "many attributes": filled("", "(* a *)"),
+    "blanks": filled("", " "),
+    "line feeds": filled("", "\n"),
+    "header names": numbered("module m(a", ",a{0}"),
+    "nets": numbered("module m;\n", "wire w{0};\n"),
+    "cells in one line": numbered("module m(a);input a;", "TH22 g{0}(.A(a),.B(a),.Z(n{0}));"),
+    "one bank": one_bank(),
+    "banks of one bit": many_banks(),
+    "one net on every pin": gates(100_000, "TH44 g{0}(.A(p1_0),.B(p1_0),.C(p1_0),.D(p1_0),.Z(n{0}));\n"),
+    "a chain of 10,000 gates": gates(10_000, "TH12 g{0}(.A(n{1}),.B(n{1}),.Z(n{0}));\n"),
+    "a chain of 100,000 gates": gates(100_000, "TH12 g{0}(.A(n{1}),.B(n{1}),.Z(n{0}));\n"),
+    "the chain in order": gates(100_000, "TH12 g{0}(.A(n{1}),.B(n{1}),.Z(n{0}));\n", -1),
+    "a cycle of 100,000 gates": gates(100_000, "TH22 g{0}(.A(n{1}),.B(n0),.Z(n{0}));\n"),
+}
+MODELS = {
+    "one signal": filled(".inputs ", "a"),
+    "one long line": filled(".inputs", " a"),
+    "signals": numbered(".inputs", " a{0}"),
+    "continued lines": filled(".inputs a", "\\\n"),
+    "comments": filled("", "#\n"),
+    "rows": filled(MODEL + ".names a y\n", "1 1\n"),
+    "covers": numbered(MODEL, ".names a n{0}\n1 1\n"),
+    "models": filled("", ".model m\n.inputs a\n.outputs y\n.names a y\n1 1\n.end\n"),
+    "a chain of covers": covers(4_000),
+    "a long chain of covers": covers(300_000),
+    "that chain in order": covers(300_000, -1),
+    "a cycle of covers": covers(300_000, last="n0"),
+}
+
+
+def lines():
+    """Files for a simulation, as its delays or as its words."""
+    return {
+        "blanks": filled("", " "),
+        "line feeds": filled("", "\n"),
+        "comments": filled("", "#\n"),
+        "one word": filled("", "1"),
+        "words": filled("", "1\n"),
+        "delays": filled("", "cell r1_0 1 1\n"),
+        "unknown cells": numbered("", "cell r{0} 1 1\n"),
+    }
+
+
+def write(folder, name, pieces):
+    """Writes a file, and gives its path and its size."""
+    path = os.path.join(folder, name)
+    with open(path, "w") as file:
+        file.writelines(pieces)
+    return path, os.path.getsize(path)
+
+
+def measured(words):
+    """The status, the first line, the seconds and the kilobytes of a run, which is stopped after a while."""
+    start = time.perf_counter()
+    child = subprocess.Popen(words, stdout=subprocess.PIPE)
+    stop = threading.Timer(SECONDS, child.kill)
+    stop.start()
+    line = child.stdout.readline(200).decode(errors="replace").strip()
+    while child.stdout.read(1 << 16):
+        pass
+    _, status, used = os.wait4(child.pid, 0)
+    stop.cancel()
+    child.returncode = os.waitstatus_to_exitcode(status)
+    return child.returncode, line, time.perf_counter() - start, used.ru_maxrss
+
+
+def row(kind, size, answer):
+    status, line, seconds, kilobytes = answer
+    took = f"{seconds:8.2f}" if status >= 0 else f"{'>' + str(SECONDS):>8}"
+    each = f"{kilobytes * 1024 / size:8.1f}" if size >= 1 << 20 else " " * 8
+    print(f"{kind:<34}{size:>10}{took}{kilobytes / 1000:>8.0f}{each}{status:>4}  {line[:60]}", flush=True)
+
+
+def main():
+    program, word = sys.argv[1], sys.argv[2] if len(sys.argv) > 2 else ""
+    print(f"{'kind':<34}{'bytes':>10}{'seconds':>8}{'MB':>8}{'a byte':>8}{'':>4}  answer")
+    with tempfile.TemporaryDirectory() as folder:
+        netlist, _ = write(folder, "wires.v", wires())
+        empty, _ = write(folder, "empty", [])
+        forms = [
+            ("check", NETLISTS, lambda file: ["check", file]),
+            ("compile", MODELS, lambda file: ["compile", file]),
+            ("delays", lines(), lambda file: ["sim", netlist, "--delays", file, "--words", empty]),
+            ("words", lines(), lambda file: ["sim", netlist, "--delays", empty, "--words", file]),
+        ]
+        for form, kinds, words in forms:
+            for kind, pieces in kinds.items():
+                if word not in f"{form}: {kind}":
+                    continue
+                file, size = write(folder, "hostile", pieces)
+                row(f"{form}: {kind}", size, measured([program, *words(file)]))
+
+
+if __name__ == "__main__":
+    main()

@@ -2,7 +2,7 @@
 use super::netlists::{netlist_of, three_banks};
 use super::tests::held;
 use super::*;
-use ncl_base::{MemSink, Memory, SteadySource};
+use ncl_base::{Memory, NullSink, SteadySource};
 use ncl_shape::{Stage, shape};
 use ncl_verdict::{Judge, Verdict, judge_par, judge_stage};
 use std::sync::atomic::{AtomicBool, AtomicUsize, Ordering};
@@ -63,11 +63,16 @@ fn two_stages_are_judged_at_one_time(rt: HostRuntime) -> Result<(), Fail> {
     assert!(rt; matches!(&verdict, Verdict::Accepted));
     let met = judge.met.load(Ordering::SeqCst);
     assert_eq!(rt; met, 2);
+    Ok(())
+}
 
-    let judge = Meeting::new();
+#[test]
+fn the_program_judges_two_stages_at_one_time(rt: HostRuntime) -> Result<(), Fail> {
+    let text = three_banks(rt.alloc(), "", "")?;
     let mut source = SteadySource::new(held(rt.alloc(), &[("f", text.as_bytes())])?);
-    let mut sink = MemSink::new(rt.alloc(), 100, 100, Vec::new(rt.alloc()))?;
+    let judge = Meeting::new();
     let words = ["check", "f"];
+    let mut sink = NullSink::new();
     let status = run_by(&rt, rt.alloc(), &words, &mut source, &mut sink, &judge);
     assert_eq!(rt; status, 0);
     let met = judge.met.load(Ordering::SeqCst);

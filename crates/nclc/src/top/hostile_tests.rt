@@ -1,4 +1,5 @@
 //! Files and devices that mean no good.
+use super::compile_tests::AS_YOSYS_WRITES;
 use super::netlists::{AND, frame};
 use super::tests::{ask, held};
 use super::*;
@@ -55,12 +56,11 @@ fn hostile_files_are_answered(rt: HostRuntime) -> Result<(), Fail> {
     let wires = frame(rt.alloc(), 1, &["p1_0 p1_1"], "")?;
     let open = format!(in rt.alloc(); "{wires}/*")?;
     let end = format!(in rt.alloc(); "netlist: syntax at {}\n", open.len())?;
-    let model = ".model m\n.inputs a\n.outputs y\n.names a y\n1 1\n";
     let cases: [(&str, &str, u8, &str); 5] = [
         ("check", &long, 0, "accepted banks=2 stages=1 cells=2006\n"),
         ("check", &open, 3, &end),
         ("check", "\0", 3, "netlist: syntax at 0\n"),
-        ("check", model, 3, "netlist: unsupported at 0\n"),
+        ("check", AS_YOSYS_WRITES, 3, "netlist: unsupported at 0\n"),
         ("compile", &wires, 3, "blif: syntax in line 1\n"),
     ];
     for (command, file, status, text) in cases {

@@ -1,6 +1,6 @@
 -- The reserved words, a part of those of IEEE 1364-2005 (annex B), and what a token is by its kind and by
 -- what it names.
-use Rattle.std.specs.Prelude.{ℕ, List, [], ◌∷◌, codes, Bool, false, Option, Some, None, if◌then◌else◌}
+use Rattle.std.specs.Prelude.{ℕ, ◌-◌, ◌&&◌, ◌||◌, List, [], ◌∷◌, codes, Bool, false, Option, Some, None, if◌then◌else◌, length, slice_get}
 use Rattle.std.specs.List.{list_any}
 use Rattle.std.specs.Str.{bytes_eq}
 use Rattle.std.specs.Char.{is_ascii_lowercase}
@@ -29,6 +29,19 @@ abbrev pub begins_small : List ℕ → Bool
 begins_small [] = false
 begins_small (first ∷ others) = is_ascii_lowercase first
 
+-- a small letter, if there is a byte
+abbrev pub is_small : Option ℕ → Bool
+is_small None = false
+is_small (Some byte) = is_ascii_lowercase byte
+
+-- whether a word ends with a small letter
+abbrev pub ends_small : List ℕ → Bool
+ends_small x = is_small (slice_get x (length x - 1))
+
+-- whether a word begins and ends with a small letter, as the reserved words do, or is one of the two that end with a digit
+abbrev pub may_be_reserved : List ℕ → Bool
+may_be_reserved x = begins_small x && (ends_small x || (bytes_eq x (codes "supply0") || bytes_eq x (codes "supply1")))
+
 -- the reserved word that a word is, if it is one
 abbrev pub keyword_of : List ℕ → Option Keyword
 keyword_of x =
@@ -52,4 +65,9 @@ lexeme_of token.RParen x = Mark RParen
 lexeme_of token.Comma x = Mark Comma
 lexeme_of token.Semi x = Mark Semi
 lexeme_of token.Dot x = Mark Dot
+-- brackets, colons and numbers stand nowhere in the grammar
+lexeme_of token.LBracket x = Mark Other
+lexeme_of token.RBracket x = Mark Other
+lexeme_of token.Colon x = Mark Other
+lexeme_of token.Number x = Mark Other
 lexeme_of token.Other x = Mark Other

@@ -436,3 +436,20 @@ fn refuses_by_the_rules(rt: HostRuntime) -> Result<(), Fail> {
     }
     Ok(())
 }
+
+#[test]
+fn faults_are_told(rt: HostRuntime) -> Result<(), Fail> {
+    let cases = [
+        (NetFault::Syntax(1), "syntax error at byte 1"),
+        (NetFault::UnknownCell(2), "unknown cell at byte 2"),
+        (NetFault::BadPins(3), "bad pins at byte 3"),
+        (NetFault::Unsupported(4), "unsupported at byte 4"),
+        (NetFault::Build(BuildFault::TooMany), "no netlist"),
+        (NetFault::Memory, "out of memory"),
+    ];
+    for (fault, text) in cases {
+        let told = format!(in rt.alloc(); "{fault}")?;
+        assert_eq!(rt; told.as_str(), text);
+    }
+    Ok(())
+}

@@ -1,5 +1,7 @@
 //! Texts and their tokens.
-use crate::TokenKind::{Comma, Dot, Escaped, LParen, Other, RParen, Semi, Word};
+use crate::TokenKind::{
+    Colon, Comma, Dot, Escaped, LBracket, LParen, Number, Other, RBracket, RParen, Semi, Word,
+};
 use crate::{Token, TokenFault, TokenKind, Tokens};
 use std::process::Abort;
 use std::test::Fail;
@@ -25,7 +27,7 @@ fn check(rt: &impl Abort, text: &[u8], want: &[(TokenKind, usize, usize)], bad: 
 
 #[test]
 fn tokens_of_each_kind(rt: HostRuntime) {
-    let cases: [(&[u8], &[(TokenKind, usize, usize)]); 10] = [
+    let cases: [(&[u8], &[(TokenKind, usize, usize)]); 12] = [
         (b"", &[]),
         (b"_a$1 B9", &[(Word, 0, 4), (Word, 5, 7)]),
         (
@@ -34,12 +36,37 @@ fn tokens_of_each_kind(rt: HostRuntime) {
         ),
         (b",;.", &[(Comma, 0, 1), (Semi, 1, 2), (Dot, 2, 3)]),
         (
-            b"[]{}",
-            &[(Other, 0, 1), (Other, 1, 2), (Other, 2, 3), (Other, 3, 4)],
+            b"[]:{}",
+            &[
+                (LBracket, 0, 1),
+                (RBracket, 1, 2),
+                (Colon, 2, 3),
+                (Other, 3, 4),
+                (Other, 4, 5),
+            ],
+        ),
+        (b"#=`", &[(Other, 0, 1), (Other, 1, 2), (Other, 2, 3)]),
+        (
+            b"a[007:1]",
+            &[
+                (Word, 0, 1),
+                (LBracket, 1, 2),
+                (Number, 2, 5),
+                (Colon, 5, 6),
+                (Number, 6, 7),
+                (RBracket, 7, 8),
+            ],
         ),
         (
-            b"#=:`",
-            &[(Other, 0, 1), (Other, 1, 2), (Other, 2, 3), (Other, 3, 4)],
+            b"12 1_2 1a '1 1' 99999999999999999999",
+            &[
+                (Number, 0, 2),
+                (Other, 3, 6),
+                (Other, 7, 9),
+                (Other, 10, 12),
+                (Other, 13, 15),
+                (Number, 16, 36),
+            ],
         ),
         (b"\\a+b$ x", &[(Escaped, 0, 6), (Word, 6, 7)]),
         (b"\\~!\n", &[(Escaped, 0, 4)]),
@@ -133,10 +160,11 @@ fn bad_bytes(rt: HostRuntime) {
 
 #[test]
 fn bad_bytes_after_tokens(rt: HostRuntime) {
-    let cases: [(&[u8], &[(TokenKind, usize, usize)], usize); 6] = [
+    let cases: [(&[u8], &[(TokenKind, usize, usize)], usize); 7] = [
         (b"a /*", &[(Word, 0, 1)], 4),
         (b"a/", &[(Word, 0, 1)], 1),
         (b"1a$", &[(Other, 0, 2)], 2),
+        (b"12$", &[(Number, 0, 2)], 2),
         (b"( *a)", &[(LParen, 0, 1)], 2),
         (b"a\"\n", &[(Word, 0, 1)], 3),
         (b"\\a b\x00", &[(Escaped, 0, 3), (Word, 3, 4)], 4),
@@ -203,5 +231,12 @@ fn the_end_is_found_once(rt: HostRuntime) -> Result<(), Fail> {
     for _ in 0..100_000 {
         assert_eq!(rt; tokens.next(), Ok(None));
     }
+    Ok(())
+}
+
+#[test]
+fn a_bad_byte_is_told(rt: HostRuntime) -> Result<(), Fail> {
+    let told = format!(in rt.alloc(); "{}", TokenFault::BadByte(7))?;
+    assert_eq!(rt; told.as_str(), "no token at byte 7");
     Ok(())
 }

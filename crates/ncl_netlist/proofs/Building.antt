@@ -120,6 +120,7 @@ module _ (parts : Parts) where
     net_names = AllDiffer-once_each (port_names parts ++ flat_map (λ cell. cell.pins) parts.cells);
     cell_names = subst AllDiffer (names_same parts.cells) faultless.1;
     few_cells = omega (arith, length-map parts.cells (cell_of (nets_of parts)), faultless.0);
+    few_ports = ports;
     few_nets = nets_few ports all faultless.0;
   }
     where

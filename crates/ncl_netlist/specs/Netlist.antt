@@ -56,5 +56,7 @@ pub record IsNetlist (n : NetlistData) : Type 0 where
   pub net_names : AllDiffer n.nets
   pub cell_names : AllDiffer (map (λ cell. cell.name) n.cells)
   pub few_cells : length n.cells ≤ most_cells
+  -- so few ports that the parts which say the netlist can be built again
+  pub few_ports : length n.ports < 2 ^ 31
   -- a number of a net fits a `NetId`
   pub few_nets : length n.nets < 2 ^ 32

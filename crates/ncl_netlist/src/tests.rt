@@ -256,3 +256,28 @@ fn builds_as_many_cells_as_allowed(rt: HostRuntime) -> Result<(), Fail> {
     );
     Ok(())
 }
+
+#[test]
+fn faults_are_told(rt: HostRuntime) -> Result<(), Fail> {
+    let cases = [
+        (BuildFault::TooMany, "too many cells"),
+        (
+            BuildFault::SameName(name(rt.alloc(), "a")?),
+            "two cells have one name",
+        ),
+        (
+            BuildFault::TwoDrivers(name(rt.alloc(), "a")?),
+            "a net has two drivers",
+        ),
+        (
+            BuildFault::NoDriver(name(rt.alloc(), "a")?),
+            "a net has no driver",
+        ),
+        (BuildFault::Memory, "out of memory"),
+    ];
+    for (fault, text) in cases {
+        let told = format!(in rt.alloc(); "{fault}")?;
+        assert_eq!(rt; told.as_str(), text);
+    }
+    Ok(())
+}

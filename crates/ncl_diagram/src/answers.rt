@@ -1,6 +1,6 @@
 //! Answers of earlier operations, of which some are kept.
-ghost use Rattle.std.specs.Prelude.{◌≡◌, ◌<◌, ◌≤◌, ◌+◌, [], None, IfSome, length};
-ghost use Rattle.ncl_diagram.specs.Kept.{HasSlots, HasMore, IsKept, is_below};
+ghost use Rattle.std.specs.Prelude.{◌≡◌, ◌≤◌, ◌+◌, [], IfSome, length};
+ghost use Rattle.ncl_diagram.specs.declared.answers.TheConstants.{MOST_SLOTS};
 
 use crate::memo::Key;
 use ncl_gates::Kind;
@@ -15,12 +15,31 @@ const MOST_SLOTS: usize = 1 << 18;
 /// The answer of an operation.
 #[derive(Clone, Copy, Debug)]
 pub(crate) struct Slot {
-    kind: Kind,
     key: Key,
     found: Ref,
+    kind: Kind,
 }
 
 impl Slot {
+    ghost use Rattle.ncl_diagram.specs.Kept.{is_below};
+
+    // What stands in a slot that has no answer: its function stands below no place.
+    fn blank() -> Slot
+        ensures { result.found.place ≡ u32.MAX }
+    {
+        let none = Ref { place: 0 };
+        Slot {
+            key: Key {
+                a: none,
+                b: none,
+                c: none,
+                d: none,
+            },
+            found: Ref { place: u32::MAX },
+            kind: Kind::Th12,
+        }
+    }
+
     // Whether all its functions stand below a place.
     fn is_below(&self, floor: u32) -> bool
         ensures { result ≡ is_below floor self.now }
@@ -36,14 +55,24 @@ impl Slot {
 /// Some answers, each in the slot of its key, where a later one takes the place of an earlier one.
 ///
 /// A slot counts while all its functions stand below the floor, the lowest place that was ever free again
-/// after a release: what stands there has stood since the answer was found.
+/// after a release: what stands there has stood since the answer was found. A slot without an answer has a
+/// function that stands below no place, so it never counts. However many nodes there are, there are at most
+/// 262,144 slots.
 #[derive(Drop)]
 pub(crate) struct Answers {
-    pub(crate) slots: Vec<Option<Slot>>,
+    pub(crate) slots: Vec<Slot>,
     pub(crate) floor: u32,
+    ghost few: { length slots.items ≤ MOST_SLOTS },
+}
+
+// One product of two places, and of what is mixed into them.
+fn mixed(x: Ref, y: Ref, by: u64) -> u64 {
+    ((x.place as u64) << 32 | y.place as u64).wrapping_mul(by)
 }
 
 impl Answers {
+    ghost use Rattle.ncl_diagram.specs.Kept.{HasSlots, HasMore, IsKept};
+
     /// No answers. Takes no memory.
     pub(crate) fn new(alloc: Global) -> Answers
         ensures { result.slots.items ≡ [] }
@@ -54,28 +83,23 @@ impl Answers {
         }
     }
 
-    // The slot of a key, by a hash of it; None where there are no slots.
-    fn slot_of(&self, kind: Kind, key: Key) -> Option<usize>
-        ensures { IfSome result (λ at. at < length self.now.slots.items) }
-    {
-        let count = self.slots.len();
-        if count == 0 {
-            return None;
-        }
-        let mut hash = kind as u8 as u64;
-        for place in [key.a.place, key.b.place, key.c.place, key.d.place] {
-            hash = (hash ^ place as u64).wrapping_mul(0x9e37_79b9_7f4a_7c15);
-            hash ^= hash >> 32;
-        }
-        Some(hash as usize & (count - 1))
+    /// The slot of a key, by a hash of it. The two products don't wait for each other.
+    pub(crate) fn slot_of(&self, kind: Kind, key: Key) -> usize {
+        let first = mixed(key.a, key.b, 0x9e37_79b9_7f4a_7c15);
+        let second = mixed(key.c, key.d, 0xc2b2_ae3d_27d4_eb4f);
+        let both = first ^ (second >> 29) ^ second.wrapping_add(kind as u8 as u64);
+        let hash = both ^ (both >> 32);
+        hash as usize & self.slots.len().saturating_sub(1)
     }
 
-    /// The answer of a key, where it is kept.
-    pub(crate) fn find(&self, kind: Kind, key: Key) -> Option<Ref>
+    /// The answer of a key, where its slot has it.
+    pub(crate) fn find(&self, at: usize, kind: Kind, key: Key) -> Option<Ref>
         ensures { IfSome result (IsKept self.now kind key) }
     {
-        let at = self.slot_of(kind, key)?;
-        let slot = self.slots[at]?;
+        if at >= self.slots.len() {
+            return None;
+        }
+        let slot = self.slots[at];
         if slot.kind == kind && slot.key == key && slot.is_below(self.floor) {
             Some(slot.found)
         } else {
@@ -83,16 +107,14 @@ impl Answers {
         }
     }
 
-    /// Keeps the answer of a key, in place of what its slot has.
-    pub(crate) fn note(&mut self, kind: Kind, key: Key, found: Ref)
+    /// Keeps the answer of a key, in place of what a slot has.
+    pub(crate) fn note(&mut self, at: usize, kind: Kind, key: Key, found: Ref)
         ensures floor { self.new.floor ≡ self.old.floor }
         ensures slots { HasMore self.old self.new kind key found }
     {
-        let slot = Slot { kind, key, found };
-        if let Some(at) = self.slot_of(kind, key) {
-            if slot.is_below(self.floor) {
-                self.slots[at] = Some(slot);
-            }
+        let slot = Slot { key, found, kind };
+        if at < self.slots.len() && slot.is_below(self.floor) {
+            self.slots[at] = slot;
         }
     }
 
@@ -106,9 +128,9 @@ impl Answers {
         if count >= MOST_SLOTS || nodes < FIRST_SLOTS / 4 || nodes < count / 4 {
             return;
         }
-        let more = if count == 0 { FIRST_SLOTS } else { 2 * count };
+        let more = (2 * count).clamp(FIRST_SLOTS, MOST_SLOTS);
         self.slots.truncate(0);
-        let _ = self.slots.resize(more, None);
+        let _ = self.slots.resize(more, Slot::blank());
     }
 
     /// Nodes from so many on go.

@@ -1,5 +1,6 @@
 //! Tests of diagrams beside truth tables, and of how many nodes there are.
 ghost use Rattle.std.specs.Prelude.{◌≡◌, ◌<◌, ◌≤◌, ◌+◌, IfOk, OnOk};
+ghost use Rattle.ncl_gates.specs.Gate.{arity_of};
 ghost use Rattle.ncl_space.specs.Space.{IsLive, IsSpace, Keeps};
 
 use crate::{Diagram, Plain, Ref, Space, SpaceFault, Steps};
@@ -184,6 +185,45 @@ fn words_of_128_bits(rt: HostRuntime) -> Result<(), Fail> {
 
     // a node for each bit, and one for each pair of a front of the word and a bit of it but the last
     assert_eq!(rt; diagram.nodes(), 128 + 128 * 127 / 2);
+    Ok(())
+}
+
+// A function of all bits of a word, in any space: the gate of what the bits so far give, of a bit and of the next.
+fn chain<P: Space>(space: &mut P, kind: Kind) -> Result<Ref, SpaceFault>
+    requires arity { arity_of kind ≡ 3 }
+    requires some { 1 ≤ (P.meaning space.old).width }
+    ensures live { IfOk result (IsLive (P.meaning space.new)) }
+    ensures kept { Keeps (P.meaning space.old) (P.meaning space.new) }
+{
+    let mut last = space.rail(0, true)?;
+    for bit in 1..space.width() {
+        let before = space.rail(bit - 1, true)?;
+        let next = space.rail(bit, true)?;
+        last = space.apply(kind, &[last, before, next])?;
+    }
+    Ok(last)
+}
+
+// Three gates of three functions of all bits, made so many times by turns.
+fn repeated<P: Space>(space: &mut P, times: usize) -> Result<(), SpaceFault>
+    requires { 1 ≤ (P.meaning space.old).width }
+{
+    let f = chain(space, Kind::Th23)?;
+    let g = chain(space, Kind::Th33w2)?;
+    let h = chain(space, Kind::Th23w2)?;
+    for _ in 0..times {
+        space.apply(Kind::Th13, &[f, g, h])?;
+        space.apply(Kind::Th23, &[f, g, h])?;
+        space.apply(Kind::Th33, &[f, g, h])?;
+    }
+    Ok(())
+}
+
+#[test]
+fn operations_are_repeated_without_a_step(rt: HostRuntime) -> Result<(), Fail> {
+    // Each of these goes through thousands of nodes where its answer isn't kept, and would take minutes.
+    let mut diagram = Diagram::new(rt.alloc(), 128, 1_000_000);
+    repeated(&mut diagram, 1_000_000)?;
     Ok(())
 }
 

@@ -1,5 +1,5 @@
 -- Orders in which the inputs of a node are taken.
-use Rattle.std.specs.Prelude.{List, [], ◌∷◌}
+use Rattle.std.specs.Prelude.{ℕ, List, [], ◌∷◌}
 use Rattle.ncl_template.specs.declared.order.Order.{Order}
 use Rattle.ncl_template.specs.declared.order.Order.TheVariants.{Straight, Crossed, Turned}
 
@@ -20,3 +20,9 @@ placed order (x ∷ y ∷ []) = x ∷ y ∷ []
 placed Straight (x ∷ y ∷ z ∷ rest) = x ∷ y ∷ z ∷ rest
 placed Crossed (x ∷ y ∷ z ∷ rest) = x ∷ z ∷ y ∷ rest
 placed Turned (x ∷ y ∷ z ∷ rest) = z ∷ x ∷ y ∷ rest
+
+-- the count that belongs to an order, of three that belong to the three orders
+abbrev pub count_of : ℕ → ℕ → ℕ → Order → ℕ
+count_of straight crossed turned Straight = straight
+count_of straight crossed turned Crossed = crossed
+count_of straight crossed turned Turned = turned

@@ -1,6 +1,7 @@
 //! Orders in which the inputs of a node are taken.
-ghost use Rattle.std.specs.Prelude.{◌≡◌, ◌<◌, ◌∷◌, [], Some, slice_get, length};
-ghost use Rattle.ncl_template.specs.Orders.{placed, taken};
+ghost use Rattle.std.specs.Prelude.{◌≡◌, ◌≤◌, ◌∷◌, []};
+ghost use Rattle.ncl_template.specs.declared.order.Order.{Order};
+ghost use Rattle.ncl_template.specs.Orders.{count_of, placed, taken};
 
 use ncl_shape::Rails;
 
@@ -16,6 +17,20 @@ pub(crate) enum Order {
 }
 
 impl Order {
+    /// The order to which the least of three counts belongs, the first of several.
+    pub(crate) fn of_least(straight: usize, crossed: usize, turned: usize) -> Order
+        ensures { (other : Order) →
+            count_of straight crossed turned result ≤ count_of straight crossed turned other }
+    {
+        if straight <= crossed && straight <= turned {
+            Order::Straight
+        } else if crossed <= turned {
+            Order::Crossed
+        } else {
+            Order::Turned
+        }
+    }
+
     /// The bits of the first three inputs, where those that are taken in this order are given.
     pub(crate) fn placed(self, x: bool, y: bool, z: bool) -> (bool, bool, bool)
         ensures { result.0 ∷ result.1 ∷ result.2 ∷ [] ≡ placed self (x ∷ y ∷ z ∷ []) }

@@ -1,5 +1,5 @@
 //! The gates of one node.
-ghost use Rattle.std.specs.Prelude.{◌≡◌, ◌+◌, ◌<◌, ◌^◌, ◌∷◌, [], IfOk, Some, length, slice_get};
+ghost use Rattle.std.specs.Prelude.{◌≡◌, ◌+◌, ◌<◌, ◌≤◌, ◌^◌, ◌∷◌, [], IfOk, Some, length, slice_get};
 ghost use Rattle.ncl_decomp.specs.Split.{IsNarrow, cost_of_inputs};
 ghost use Rattle.ncl_tree.specs.Gates.{nets_so_far};
 ghost use Rattle.ncl_template.specs.Template.{node_function};
@@ -171,6 +171,7 @@ fn add_in_order(
 fn gates_in_order(alloc: Global, node: &Node, ins: &[Rails], order: Order) -> Result<usize, Memory>
     requires narrow { IsNarrow node.now }
     requires as_many { length ins.now ≡ length node.now.ins }
+    ensures { IfOk result (λ count. count ≤ cost_of_inputs (length node.now.ins)) }
 {
     let mut gates = Gates::new(alloc, 0);
     add_in_order(alloc, &mut gates, node, ins, order)?;
@@ -182,19 +183,13 @@ fn best_order(alloc: Global, node: &Node, ins: &[Rails]) -> Result<Order, Memory
     requires narrow { IsNarrow node.now }
     requires as_many { length ins.now ≡ length node.now.ins }
 {
-    let mut best = Order::Straight;
     if ins.len() == 2 {
-        return Ok(best);
+        return Ok(Order::Straight);
     }
-    let mut fewest = gates_in_order(alloc, node, ins, best)?;
-    for order in [Order::Crossed, Order::Turned] {
-        let count = gates_in_order(alloc, node, ins, order)?;
-        if count < fewest {
-            best = order;
-            fewest = count;
-        }
-    }
-    Ok(best)
+    let straight = gates_in_order(alloc, node, ins, Order::Straight)?;
+    let crossed = gates_in_order(alloc, node, ins, Order::Crossed)?;
+    let turned = gates_in_order(alloc, node, ins, Order::Turned)?;
+    Ok(Order::of_least(straight, crossed, turned))
 }
 
 /// Adds the gates of a node over the pairs of what it reads, and gives the pair that shows its bit: at most 2 gates

@@ -218,7 +218,15 @@ fn try_function(
 ) -> Result<usize, Fail> {
     let of_two = ["00", "01", "10", "11"];
     let of_three = ["000", "001", "010", "011", "100", "101", "110", "111"];
-    let words: &[&str] = if inputs == 2 { &of_two } else { &of_three };
+    let of_four = [
+        "0000", "0001", "0010", "0011", "0100", "0101", "0110", "0111", "1000", "1001", "1010",
+        "1011", "1100", "1101", "1110", "1111",
+    ];
+    let words: &[&str] = match inputs {
+        2 => &of_two,
+        3 => &of_three,
+        _ => &of_four,
+    };
     let mut rows = Vec::new(rt.alloc());
     let mut bits = Vec::new(rt.alloc());
     let mut left = number;
@@ -232,10 +240,19 @@ fn try_function(
     }
     let on = !rows.is_empty();
     if !on {
-        rows.push(if inputs == 2 { "--" } else { "---" })?;
+        rows.push(match inputs {
+            2 => "--",
+            3 => "---",
+            _ => "----",
+        })?;
     }
     let node = node_of(rt, &rows, on)?;
-    let ins = pairs(rt, if inputs == 2 { "01" } else { "012" })?;
+    let names = match inputs {
+        2 => "01",
+        3 => "012",
+        _ => "0123",
+    };
+    let ins = pairs(rt, names)?;
     try_node(rt, &node, &ins, inputs, &bits)
 }
 
@@ -251,5 +268,22 @@ fn all_functions_of_two_and_three_inputs(rt: HostRuntime) -> Result<(), Fail> {
         sum = sum.saturating_add(count);
     }
     assert_eq!(rt; sum, 1168);
+    Ok(())
+}
+
+#[test]
+fn functions_of_four_inputs(rt: HostRuntime) -> Result<(), Fail> {
+    // Two conjunctions of two inputs each, which only one order keeps together: in the others it takes more gates.
+    for number in [0xf888, 0xeca0, 0xeac0] {
+        assert_eq!(rt; try_function(&rt, 4, number)?, 6, "function {number}");
+    }
+    let mut sum = 0usize;
+    for step in 0..256 {
+        let number = step * 40_503 % 65_536;
+        let count = try_function(&rt, 4, number)?;
+        assert!(rt; count <= 22, "function {number}");
+        sum = sum.saturating_add(count);
+    }
+    assert_eq!(rt; sum, 3727);
     Ok(())
 }

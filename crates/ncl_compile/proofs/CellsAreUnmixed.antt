@@ -1,12 +1,16 @@
 -- What each cell of an assembled netlist reads has one origin.
-use Rattle.std.proofs.Common.{◌≡◌, ℕ, zero, suc, map, inl, inr, sym, subst}
+use Rattle.std.proofs.Common.{◌≡◌, ℕ, zero, suc, true, false, map, inl, inr, sym, ap, subst}
+use Rattle.std.proofs.lemmas.Bool.{both_ways, false_from_ne_true}
+use Rattle.ncl_gates.specs.Cell.{is_data_register}
+use Rattle.ncl_gates.proofs.RegisterLaws.{data_is_register}
+use Rattle.ncl_origin.proofs.OriginLaws.{place_of}
 use Rattle.ncl_base.proofs.Members.{Member, Member-append_right, Member-map}
 use Rattle.ncl_gates.specs.declared.kind.Kind.{Kind}
 use Rattle.ncl_gates.specs.declared.cell_kind.CellKind.TheVariants.{Gate}
 use Rattle.ncl_netlist.specs.declared.cell.Cell.{Cell}
 use Rattle.ncl_netlist.specs.declared.ids.NetId.{NetId}
 use Rattle.ncl_netlist.specs.Netlist.{NetlistData}
-use Rattle.ncl_origin.specs.Origin.{CellAt, IsRegister, B, RST, IsInputPort, IsOfBank, Origin, FromPort, RailOf, AckOf, ComesFrom, HasOnlyOrigin, HaveSameOrigins, IsTreeKind}
+use Rattle.ncl_origin.specs.Origin.{CellAt, IsCell, IsRegister, B, RST, IsInputPort, IsOfBank, IsDataBank, Origin, FromPort, RailOf, AckOf, ComesFrom, HasOnlyOrigin, HaveSameOrigins, IsTreeKind}
 use Rattle.ncl_origin.specs.Rules.{IsFromOneRail, IsFromOneAck, IsGateOfOne, IsRegisterOfOne, IsUnmixed}
 use Rattle.ncl_origin.proofs.CellTests.{same_net}
 use Rattle.ncl_shape.specs.declared.stage.StageCell.{StageCell}
@@ -87,5 +91,19 @@ module _ (n : NetlistData) (p : PipelineData) (is : IsAssembled n p) where
             read_alike r.k r.bank r.at_bank net first_net (read_by_bank n p is i c r net on) (read_at n p is r.k r.bank r.at_bank first of_bank first_net on_first);
       }
 
+  -- no cell is reset to 1
+  pub no_data_cell : (c : Cell) → IsCell n c → is_data_register c.kind ≡ false
+  no_data_cell c in_cells = false_from_ne_true (is_data_register c.kind) plain
+    where
+      plain : is_data_register c.kind ≡ true → ⊥
+      plain data_is =
+          let (i, at) = place_of n c in_cells in
+          let r = register_role n p is i c at (data_is_register c.kind data_is) in
+          both_ways (is_data_register c.kind) (ap is_data_register r.on.kind) data_is
+
+  -- so no bank is reset to DATA
+  pub no_data_bank : (request : ℕ) → IsDataBank n request → ⊥
+  no_data_bank request (c, of_bank, data_is) = both_ways (is_data_register c.kind) (no_data_cell c of_bank.0) data_is
+
   pub unmixed : (k : ℕ) (c : Cell) → CellAt n k c → IsUnmixed n c
-  unmixed k c at = record { gate = gate_of_one k c at; register = register_of_one k c at }
+  unmixed k c at = record { gate = gate_of_one k c at; register = register_of_one k c at; ack = λ is_ack request acks data_is. absurd (no_data_bank request data_is) }

@@ -1,13 +1,14 @@
 -- A netlist of parts that models are put together of is compiled from them.
-use Rattle.std.proofs.Common.{◌≡◌, ℕ, ◌≤◌, List, [], ◌∷◌, ◌++◌, length, map, refl, sym, ap, ◌∙◌, subst, arith}
+use Rattle.std.proofs.Common.{◌≡◌, ℕ, false, ◌≤◌, List, [], ◌∷◌, ◌++◌, length, map, refl, sym, ap, ◌∙◌, subst, arith}
 use Rattle.std.specs.Prelude.{All, Contains, codes}
 use Rattle.std.proofs.lemmas.List.{length-map}
 use Rattle.std.proofs.lemmas.List.FromFn.{length-map-range_with_len}
 use Rattle.ncl_base.specs.declared.source.TheConstants.{MOST_BYTES}
-use Rattle.ncl_base.proofs.Members.{Member, here, there, Member-append_left, Member-append_right}
+use Rattle.ncl_base.proofs.Members.{Member, here, there, Member-append_left, Member-append_right, Contains-from_Member, All-from_members}
 use Rattle.ncl_blif.specs.declared.model.Model.{Model}
 use Rattle.ncl_blif.specs.Meaning.{width_of}
 use Rattle.ncl_blif.specs.Model.{AreModels}
+use Rattle.ncl_gates.specs.Cell.{is_data_register}
 use Rattle.ncl_netlist.specs.declared.cell.Cell.{Cell}
 use Rattle.ncl_netlist.specs.declared.port.Port.{Port}
 use Rattle.ncl_netlist.specs.declared.parts.NamePair.{NamePair}
@@ -26,6 +27,7 @@ use Rattle.ncl_compile.specs.Ports.{port_pair, input_pairs, output_pairs, names_
 use Rattle.ncl_compile.specs.Pieces.{IsPutTogether}
 use Rattle.ncl_compile.proofs.AssembledShape.{Shape-from_assembled}
 use Rattle.ncl_compile.proofs.CellCount.{few_cells}
+use Rattle.ncl_compile.proofs.CellsAreUnmixed.{no_data_cell}
 use Rattle.ncl_compile.proofs.Numbering.{pipeline_of}
 use Rattle.ncl_compile.proofs.NumberedNames.{net_number, pins_of_parts, name_of_number}
 use Rattle.ncl_compile.proofs.NumberedPorts.{names_in, names_out, names_of_ports_for}
@@ -72,6 +74,9 @@ module _ (models : List Model) (are : AreModels models) (small : CanBeCompiled m
       function = λ word answer width computes.
           function-computes (netlist_of parts) pipeline shape (are_sound models are small parts put) models (compute_models models are small parts put) word answer
           (width ∙ sym (length-map (input_pairs (width_of models)) (named_pair (net_number parts)) ∙ length-map-range_with_len (port_pair (codes "i")) 1 (width_of models))) computes;
+      no_data = All-from_members (λ (cell : Cell). is_data_register cell.kind ≡ false) (map (cell_of (nets_of parts)) parts.cells)
+          (λ cell m. no_data_cell (netlist_of parts) pipeline (is_assembled models are small parts put is) cell (Contains-from_Member cell m));
+      title = put.title;
       ports = put.ports;
       inputs = names_back parts (input_pairs (width_of models)) (λ x m. input_occurs x (Member-append_left x (codes "ki" ∷ codes "rst" ∷ []) m));
       outputs = names_back parts (output_pairs (answer_width models)) (λ x m. output_occurs x (Member-append_left x (codes "ko" ∷ []) m));

@@ -43,3 +43,4 @@ pub mod NameLengths
 pub mod NetsOfCells
 pub mod TextLines
 pub mod TextLength
+pub mod NoWordsHeld

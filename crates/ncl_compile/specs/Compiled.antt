@@ -1,9 +1,10 @@
 -- What it is for a netlist to be compiled from models.
-use Rattle.std.specs.Prelude.{◌≡◌, ℕ, ◌*◌, ◌≤◌, List, [], Bool, IsTrue, All, Contains, length, map, codes, slice_index_or}
+use Rattle.std.specs.Prelude.{◌≡◌, ℕ, ◌*◌, ◌≤◌, List, [], Bool, false, IsTrue, All, Contains, length, map, codes, slice_index_or}
 use Rattle.std.specs.List.{AllZip}
 use Rattle.ncl_base.specs.declared.source.TheConstants.{MOST_BYTES}
 use Rattle.ncl_blif.specs.declared.model.Model.{Model}
 use Rattle.ncl_blif.specs.Meaning.{Gives, Computes, width_of}
+use Rattle.ncl_gates.specs.Cell.{is_data_register}
 use Rattle.ncl_netlist.specs.declared.cell.Cell.{Cell}
 use Rattle.ncl_netlist.specs.Netlist.{NetlistData}
 use Rattle.ncl_shape.specs.declared.rails.Rails.{Rails}
@@ -43,7 +44,10 @@ pub record Compiled (models : List Model) (n : NetlistData) : Type 0 where
   pub stages : AllZip ComputesModel models pipeline.stages
   pub sound : All IsSound pipeline.stages
   pub function : (word answer : List Bool) → length word ≡ width_of models → Computes models word answer → function_of pipeline word ≡ answer
-  -- its ports, and what they are for
+  -- no cell of it is reset to 1, so no bank holds a word at reset
+  pub no_data : All (λ (cell : Cell). is_data_register cell.kind ≡ false) n.cells
+  -- its name, its ports, and what these are for
+  pub title : n.name ≡ codes "top"
   pub ports : n.ports ≡ ports_for (width_of models) (answer_width models)
   pub inputs : map (names_of_rails n) pipeline.inputs ≡ input_pairs (width_of models)
   pub outputs : map (names_of_rails n) pipeline.outputs ≡ output_pairs (answer_width models)

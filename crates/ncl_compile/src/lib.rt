@@ -3,6 +3,7 @@
 
 mod banks;
 mod compiling;
+pub mod laws;
 mod naming;
 mod putting;
 mod sizing;

@@ -1,4 +1,5 @@
-//! The 27 threshold gates of NULL Convention Logic, and the register and acknowledge cells.
+//! The 30 cells of a netlist: the 27 threshold gates of NULL Convention Logic, two register cells and an
+//! acknowledge cell.
 #![tactic(auto)]
 
 mod cell_kind;

@@ -1,14 +1,14 @@
 -- How many elements of a list pass a test: none or all of them, and what a change of one element makes of it.
-use Rattle.std.proofs.Common.{◌≡◌, ◌≢◌, ℕ, zero, suc, ◌+◌, ◌≤◌, Bool, true, false, not, ◌&&◌, List, [], ◌∷◌, length, inl, inr, refl, sym, ap, ◌∙◌, subst, arith}
-use Rattle.std.specs.Prelude.{nat_eq, if◌then◌else◌, AllPairs}
+use Rattle.std.proofs.Common.{◌≡◌, ◌≢◌, ℕ, suc, ◌+◌, ◌≤◌, Bool, true, false, not, ◌&&◌, List, [], ◌∷◌, length, inl, inr, refl, sym, ap, ◌∙◌, subst, arith}
+use Rattle.std.specs.Prelude.{nat_eq, AllPairs}
 use Rattle.std.specs.List.{list_all}
-use Rattle.std.proofs.lemmas.Bool.{both_ways, cases_eq, eq-eqb, ne_eqb}
+use Rattle.std.proofs.lemmas.Bool.{cases_eq, eq-eqb, ne_eqb}
 use Rattle.ncl_base.proofs.Lists.{pairs-head, pairs-tail}
 use Rattle.ncl_base.proofs.Members.{Member, here, there}
 use Rattle.ncl_shape.specs.Nets.{Nets, put}
 use Rattle.ncl_machine.specs.Tallies.{count_of}
 use Rattle.ncl_machine.proofs.AtWorkLaws.{put-elsewhere}
-use Rattle.ncl_machine.proofs.LocalNets.{put-here, put-keeps}
+use Rattle.ncl_machine.proofs.LocalNets.{put-here}
 use Rattle.ncl_machine.proofs.Numbers.{one_if}
 
 pub count-few : {X : Type 0} (test : X → Bool) (xs : List X) → count_of test xs ≤ length xs

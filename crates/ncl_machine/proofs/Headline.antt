@@ -1,41 +1,42 @@
 -- The headline: a pipeline of the shape, whose stages are sound, is delay-insensitive, and its runs are bounded.
-use Rattle.std.proofs.Common.{◌≡◌, ℕ, zero, suc, ◌+◌, ◌*◌, ◌<◌, ◌≤◌, Bool, true, false, ◌&&◌, List, [], ◌∷◌, length, get_or, Some, inl, inr, sym, ap, subst, ◌∙◌, arith}
-use Rattle.std.specs.Prelude.{All, slice_get}
-use Rattle.std.specs.Option.{option_map}
+use Rattle.std.proofs.Common.{◌≡◌, ℕ, suc, ◌+◌, ◌*◌, ◌<◌, ◌≤◌, Bool, true, false, ◌&&◌, List, length, inl, inr, sym, ap, subst, ◌∙◌, arith}
+use Rattle.std.specs.Prelude.{All}
 use Rattle.std.proofs.Math.Nat.{mul-le-mul_left}
-use Rattle.std.proofs.lemmas.List.{length-map}
 use Rattle.std.proofs.lemmas.List.Elements.{All-contains}
-use Rattle.std.proofs.lemmas.Option.{slice_get_within, slice_get-map, get_or_from_slice_get}
-use Rattle.ncl_base.proofs.Members.{Member, Member-from_Contains, slice_get-some}
+use Rattle.std.proofs.lemmas.Option.{slice_get_within}
+use Rattle.ncl_base.proofs.Members.{Member, Member-from_Contains}
 use Rattle.ncl_netlist.specs.Netlist.{NetlistData}
 use Rattle.ncl_shape.specs.declared.item.Item.{Item}
 use Rattle.ncl_shape.specs.Stage.{StageData}
 use Rattle.ncl_shape.specs.Closure.{function_of}
+use Rattle.ncl_shape.specs.Held.{data_banks}
 use Rattle.ncl_shape.specs.Pipeline.{PipelineData}
 use Rattle.ncl_shape.specs.Shape.{Shape}
-use Rattle.ncl_layout.specs.Layout.{Layout, IsLayoutOf, width, in_rail}
+use Rattle.ncl_layout.specs.Layout.{Layout, IsLayoutOf, in_rail}
 use Rattle.ncl_layout.proofs.RailNets.{rail-within}
 use Rattle.ncl_layout.proofs.LaidOut.{laid_out}
 use Rattle.ncl_stage.specs.Faults.{IsSound}
 use Rattle.ncl_machine.specs.State.{State, reset}
 use Rattle.ncl_machine.specs.Run.{IsRun, after, AreWordsOf, IsPersistent}
 use Rattle.ncl_machine.specs.Composition.{composed}
-use Rattle.ncl_machine.specs.DelayInsensitive.{Carries, due, AfterEveryRun, DeliversWhatIsDue, DeliversInTime, IsLegalState, RestsWhereQuiet, IsSafe, IsDelayInsensitive}
+use Rattle.ncl_machine.specs.DelayInsensitive.{Carries, AfterEveryRun, DeliversWhatIsDue, DeliversInTime, IsLegalState, RestsWhereQuiet, IsSafe, IsDelayInsensitive}
 use Rattle.ncl_machine.proofs.WiresSound.{wires_sound}
 use Rattle.ncl_machine.proofs.Numbers.{one_if}
 use Rattle.ncl_machine.proofs.Invariant.{IsSetting, IsKept}
 use Rattle.ncl_machine.proofs.Keeping.{run-kept}
 use Rattle.ncl_machine.proofs.EndPersistence.{kept-persistent}
-use Rattle.ncl_machine.proofs.Composition.{word_at, function-is, function-is_composition}
+use Rattle.ncl_machine.proofs.Composition.{function-is_composition}
 use Rattle.ncl_layout.proofs.StageNumbers.{wires_or_stage, stage_of}
-use Rattle.ncl_machine.proofs.OfferedWords.{zeros, offered_waves, offered_waves-are}
+use Rattle.ncl_machine.proofs.HeldCounts.{held_in_all, held-count}
+use Rattle.ncl_machine.proofs.OfferedWords.{waves_of, waves-are}
+use Rattle.ncl_machine.proofs.HeldDue.{word-due, due-length}
 use Rattle.ncl_machine.proofs.KeptStates.{legal_output}
 use Rattle.ncl_machine.proofs.Safety.{in_time, within_due, legal_bit}
 use Rattle.ncl_machine.proofs.Quiescence.{source_done, all_low, all_delivered}
 use Rattle.ncl_machine.proofs.NetCount.{nets_below, few_nets}
 use Rattle.ncl_machine.proofs.ChangeCounts.{changes}
 use Rattle.ncl_machine.proofs.RunBound.{run-within}
-use Rattle.ncl_machine.proofs.Start.{reset-kept}
+use Rattle.ncl_machine.proofs.StartKept.{reset-kept}
 use Rattle.ncl_machine.proofs.Alternation.{alternates}
 
 -- the stages of the layout are sound: those of the pipeline, and the wires at its ends
@@ -46,30 +47,22 @@ all_sound p l is sound k le =
       | inr wires ↦ wires_sound (l.stage k) (is.is_stage k le) wires.0 wires.1
     ]
 
--- each word offered has the width of the inputs
-of_each : (p : PipelineData) (offered : List (List Bool)) → AreWordsOf p offered → (i : ℕ) (word : List Bool)
-    → slice_get offered i ≡ Some word → length word ≡ length p.inputs
-of_each p [] all i word at = absurd cc
-of_each p (first ∷ offered) all zero word at = let e : first ≡ word = cc in subst (λ z. length z ≡ length p.inputs) e all.0
-of_each p (first ∷ offered) all (suc i) word at = of_each p offered all.1 i word at
-
 -- ---- what the invariant says in the words of the definitions
 
-module _ {p : PipelineData} {l : Layout} {offered : List (List Bool)} (set : IsSetting p l (offered_waves l offered) offered) {s : State} (k : IsKept l (offered_waves l offered) offered s) where
-  -- the pairs are the function's values at the words offered
+module _ {p : PipelineData} {l : Layout} {offered : List (List Bool)} (set : IsSetting p l (waves_of l offered) offered) {s : State} (k : IsKept l (waves_of l offered) offered s) where
+  -- the pairs are the words that are due
   delivers : DeliversWhatIsDue p offered s
   delivers i pair at =
-      let within : length s.delivered ≤ 0 + length offered = within_due set k in
+      let within : length s.delivered ≤ held_in_all l + length offered = within_due set k in
       let lt : i < length s.delivered = slice_get_within s.delivered i pair at in
-      let (word, at_word) = slice_get-some offered i (omega (arith, within, lt)) in
-      let same : get_or offered i (zeros (width l 0)) ≡ word = get_or_from_slice_get offered i word (zeros (width l 0)) at_word in (
-        function_of p word,
-        slice_get-map (function_of p) offered i ∙ ap (option_map (function_of p)) at_word,
-        subst (λ x. Carries x pair) (ap (λ x. word_at l x (suc l.last)) same ∙ sym (function-is set.layout set.sound word (of_each p offered set.words i word at_word))) (k.ends.carried i pair at),
-      )
+      let (word, at_word, same) = word-due set.layout set.sound offered set.words i (omega (arith, within, lt)) in
+      (word, at_word, subst (λ x. Carries x pair) (sym same) (k.ends.carried i pair at))
 
-  is_in_time : DeliversInTime s
-  is_in_time = let most : length s.delivered ≤ 0 + s.done + one_if s.falling = in_time set k in omega (arith, most)
+  is_in_time : DeliversInTime p s
+  is_in_time =
+      let most : length s.delivered ≤ held_in_all l + s.done + one_if s.falling = in_time set k in
+      let count = held-count set.layout in
+      omega (arith, most, count)
 
   is_legal : IsLegalState p s
   is_legal = record {
@@ -85,8 +78,8 @@ module _ {p : PipelineData} {l : Layout} {offered : List (List Bool)} (set : IsS
 
   rests : RestsWhereQuiet p offered s
   rests quiet =
-      let count : length s.delivered ≡ 0 + length offered = all_delivered set k quiet in
-      let all : length (due p offered) ≡ length offered = length-map offered (function_of p) in
+      let count : length s.delivered ≡ held_in_all l + length offered = all_delivered set k quiet in
+      let all = due-length set.layout set.sound offered set.words in
       record {
         delivered = omega (arith, count, all);
         finished = (source_done set k quiet).0;
@@ -102,18 +95,18 @@ module _ {p : PipelineData} {l : Layout} {offered : List (List Bool)} (set : IsS
 
 module _ (p : PipelineData) (shape : Shape p.netlist p) (sound : All IsSound p.stages) where
   -- what the invariant stands on
-  setting : (offered : List (List Bool)) → AreWordsOf p offered → (l : Layout) → IsLayoutOf p l → IsSetting p l (offered_waves l offered) offered
+  setting : (offered : List (List Bool)) → AreWordsOf p offered → (l : Layout) → IsLayoutOf p l → IsSetting p l (waves_of l offered) offered
   setting offered words l is = record {
     netlist = shape.is_netlist;
     layout = is;
     sound = all_sound p l is sound;
     words = words;
-    waves = offered_waves-are is (all_sound p l is sound) offered words;
+    waves = waves-are is offered words;
   }
 
   -- what holds wherever the invariant does holds after every run
   every_run : (P : List (List Bool) → State → Type 0)
-      → ((l : Layout) (offered : List (List Bool)) → IsSetting p l (offered_waves l offered) offered → (s : State) → IsKept l (offered_waves l offered) offered s → P offered s)
+      → ((l : Layout) (offered : List (List Bool)) → IsSetting p l (waves_of l offered) offered → (s : State) → IsKept l (waves_of l offered) offered s → P offered s)
       → AfterEveryRun p P
   every_run P holds offered items words run =
       let (l, is) = laid_out p shape in
@@ -124,7 +117,7 @@ module _ (p : PipelineData) (shape : Shape p.netlist p) (sound : All IsSound p.s
   own_safe = record {
     persistent = every_run (λ offered s. IsPersistent p s) (λ l offered set s k. kept-persistent set k);
     due = every_run (DeliversWhatIsDue p) (λ l offered set s k. delivers set k);
-    in_time = every_run (λ offered s. DeliversInTime s) (λ l offered set s k. is_in_time set k);
+    in_time = every_run (λ offered s. DeliversInTime p s) (λ l offered set s k. is_in_time set k);
     alternates = alternates p shape;
     legal = every_run (λ offered s. IsLegalState p s) (λ l offered set s k. is_legal set k);
   }
@@ -133,17 +126,16 @@ module _ (p : PipelineData) (shape : Shape p.netlist p) (sound : All IsSound p.s
   own_rest = every_run (RestsWhereQuiet p) (λ l offered set s k. rests set k)
 
   own_bound : (offered : List (List Bool)) (items : List Item) → AreWordsOf p offered → IsRun p offered items
-      → length items ≤ 2 * length offered * length p.netlist.nets
+      → length items ≤ 2 * (data_banks p.banks + length offered) * length p.netlist.nets
   own_bound offered items words run =
       let (l, is) = laid_out p shape in
       let set = setting offered words l is in
       let k = reset-kept is offered in
-      let within : changes l (reset p offered).value k.numbers + length items ≤ 2 * (0 + length offered) * nets_below l (suc l.last) = run-within set items k run in
-      let none : 0 + length offered ≡ length offered = omega arith in
-      let some : length items ≤ 2 * length offered * nets_below l (suc l.last) =
-      subst (λ n. length items ≤ 2 * n * nets_below l (suc l.last)) none (omega (arith, within)) in
-      let more : 2 * length offered * nets_below l (suc l.last) ≤ 2 * length offered * length p.netlist.nets =
-      mul-le-mul_left (2 * length offered) (few_nets is) in
+      let within : changes l (reset p offered).value k.numbers + length items ≤ 2 * (held_in_all l + length offered) * nets_below l (suc l.last) = run-within set items k run in
+      let some : length items ≤ 2 * (data_banks p.banks + length offered) * nets_below l (suc l.last) =
+      subst (λ n. length items ≤ 2 * (n + length offered) * nets_below l (suc l.last)) (held-count is) (omega (arith, within)) in
+      let more : 2 * (data_banks p.banks + length offered) * nets_below l (suc l.last) ≤ 2 * (data_banks p.banks + length offered) * length p.netlist.nets =
+      mul-le-mul_left (2 * (data_banks p.banks + length offered)) (few_nets is) in
       omega (arith, some, more)
 
   own_function : (word : List Bool) → length word ≡ length p.inputs → function_of p word ≡ composed p.stages word
@@ -165,9 +157,9 @@ module _ (n : NetlistData) (p : PipelineData) (shape : Shape n p) (sound : All I
   delay_insensitive = record { safe = safe; at_rest = rests_where_quiet }
 
   pub run_bound : (offered : List (List Bool)) (items : List Item) → AreWordsOf p offered → IsRun p offered items
-      → length items ≤ 2 * length offered * length n.nets
+      → length items ≤ 2 * (data_banks p.banks + length offered) * length n.nets
   run_bound offered items words run =
-      subst (λ (m : NetlistData). length items ≤ 2 * length offered * length m.nets) shape.netlist (own_bound p own_shape sound offered items words run)
+      subst (λ (m : NetlistData). length items ≤ 2 * (data_banks p.banks + length offered) * length m.nets) shape.netlist (own_bound p own_shape sound offered items words run)
 
   pub is_composition : (word : List Bool) → length word ≡ length p.inputs → function_of p word ≡ composed p.stages word
   is_composition = own_function p own_shape sound

@@ -63,10 +63,10 @@ roots_are_two one =
 
 -- but for the one with two drivers they are netlists
 pub bit_left_out_netlist : IsNetlist bit_left_out
-bit_left_out_netlist = netlist_from_tests bit_left_out (record { driven = refl; fits = refl; ports_first = refl; in_order = refl; net_names = refl; cell_names = refl; few_cells = omega arith; few_nets = omega arith })
+bit_left_out_netlist = netlist_from_tests bit_left_out (record { driven = refl; fits = refl; ports_first = refl; in_order = refl; net_names = refl; cell_names = refl; few_cells = omega arith; few_nets = omega arith; few_ports = omega arith })
 
 pub th12_netlist : IsNetlist with_th12.netlist
-th12_netlist = netlist_from_tests with_th12.netlist (record { driven = refl; fits = refl; ports_first = refl; in_order = refl; net_names = refl; cell_names = refl; few_cells = omega arith; few_nets = omega arith })
+th12_netlist = netlist_from_tests with_th12.netlist (record { driven = refl; fits = refl; ports_first = refl; in_order = refl; net_names = refl; cell_names = refl; few_cells = omega arith; few_nets = omega arith; few_ports = omega arith })
 
 pub two_roots_netlist : IsNetlist two_roots
-two_roots_netlist = netlist_from_tests two_roots (record { driven = refl; fits = refl; ports_first = refl; in_order = refl; net_names = refl; cell_names = refl; few_cells = omega arith; few_nets = omega arith })
+two_roots_netlist = netlist_from_tests two_roots (record { driven = refl; fits = refl; ports_first = refl; in_order = refl; net_names = refl; cell_names = refl; few_cells = omega arith; few_nets = omega arith; few_ports = omega arith })

@@ -49,13 +49,18 @@ pub mod Persistence
 pub mod EndPersistence
 pub mod WiresPass
 pub mod Composition
+pub mod HeldCounts
 pub mod OfferedWords
+pub mod HeldDue
+pub mod StartKept
 pub mod Start
+pub mod ResetNets
 pub mod Alternation
 pub mod Headline
 pub mod StepLaws
 pub mod SamePipelineLaws
 mod UnsoundLaws
+mod CountSteps
 pub mod Counts
 pub mod ValueLists
 pub mod Mates

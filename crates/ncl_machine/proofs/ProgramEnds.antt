@@ -1,15 +1,14 @@
 -- The ends of a pipeline that has its shape, as a state keeps them: the rails of its inputs and outputs and its
 -- acknowledges differ and are nets, and no cell drives a rail of the inputs.
-use Rattle.std.proofs.Common.{◌≡◌, ◌≢◌, ℕ, ◌<◌, ◌≤◌, true, false, List, [], ◌∷◌, ◌++◌, map, length, Some, refl, sym, ap, ◌∙◌, subst, arith}
+use Rattle.std.proofs.Common.{◌≡◌, ◌≢◌, ℕ, suc, ◌<◌, ◌≤◌, false, List, [], ◌∷◌, ◌++◌, map, length, Some, sym, ◌∙◌, subst, arith}
 use Rattle.std.specs.Prelude.{All, AllPairs, Contains, slice_get}
 use Rattle.ncl_base.specs.declared.word.TheConstants.{MOST_BITS}
 use Rattle.ncl_base.proofs.Lists.{pairs-head, pairs-tail}
-use Rattle.ncl_base.proofs.Members.{Member, here, there, All-from_members, Member-append_left, Member-from_Contains}
+use Rattle.ncl_base.proofs.Members.{Member, All-from_members, Member-append_left, Member-from_Contains}
 use Rattle.std.proofs.lemmas.List.Kept.{AllPairs-cons}
-use Rattle.std.proofs.lemmas.Bool.{and_from, not_from_false, or_from}
+use Rattle.std.proofs.lemmas.Bool.{false_from_ne_true}
 use Rattle.ncl_netlist.specs.declared.cell.Cell.{Cell}
 use Rattle.ncl_shape.specs.declared.rails.Rails.{Rails}
-use Rattle.ncl_shape.specs.Nets.{Nets}
 use Rattle.ncl_shape.specs.Pipeline.{PipelineData}
 use Rattle.ncl_shape.specs.Shape.{Shape}
 use Rattle.ncl_shape.specs.Stage.{rail_nets, out_of}
@@ -18,8 +17,7 @@ use Rattle.ncl_layout.proofs.RailNets.{rail-place}
 use Rattle.ncl_layout.proofs.LaidOut.{laid_out_of}
 use Rattle.ncl_machine.proofs.CellNets.{output-no_source, source-no_ki}
 use Rattle.ncl_machine.specs.State.{reset_nets}
-use Rattle.ncl_machine.specs.Steps.{is_null}
-use Rattle.ncl_machine.proofs.Start.{stage-low}
+use Rattle.ncl_machine.proofs.Start.{stage-value, held-net, held-net_listed}
 use Rattle.ncl_machine.proofs.StageNets.{ki-listed, root-listed}
 
 -- the first of two lists that are joined and differ
@@ -73,19 +71,15 @@ module _ {p : PipelineData} {l : Layout} (is : IsLayoutOf p l) where
   ko_within : p.ko < length p.netlist.nets
   ko_within = subst (λ net. net < length p.netlist.nets) is.ko (is.tree_within 0 (l.root 0) (omega arith) (root-listed is 0 (omega arith)))
 
-  -- at reset the rails of the inputs and outputs are low
+  -- at reset the rails of the inputs are low: no bank drives them
   inputs_low : (net : ℕ) → Member net (rail_nets p.inputs) → reset_nets p net ≡ false
-  inputs_low net m = stage-low is 0 net (omega arith) (Member-append_left net (map out_of (l.stage 0).cells) (input_place net m))
-
-  outputs_low : (net : ℕ) → Member net (rail_nets p.outputs) → reset_nets p net ≡ false
-  outputs_low net m =
-      stage-low is l.last net (omega arith) (Member-append_left net (map out_of (l.stage l.last).cells) (subst (λ bits. Member net (rail_nets bits)) (sym sink_rails) m))
-
--- bits whose rails are all low are NULL
-all_null : (v : Nets) (bits : List Rails) → ((net : ℕ) → Member net (rail_nets bits) → v net ≡ false) → is_null bits v ≡ true
-all_null v [] low = refl
-all_null v (r ∷ bits) low =
-    and_from _ _ (not_from_false _ (or_from _ _ (low r.zero.0 here) (low r.one.0 (there here)))) (all_null v bits (λ net m. low net (there (there m))))
+  inputs_low net m =
+      let listed = Member-append_left net (map out_of (l.stage 0).cells) (input_place net m) in
+      stage-value is 0 net (omega arith) listed
+      ∙ false_from_ne_true _ (λ high.
+      let h = held-net is net high in
+      let banks = is.stages_apart (suc h.bank) 0 net h.within (omega arith) (held-net_listed is net h) listed in
+      absurd (omega (arith, banks)))
 
 pub record AreProgramEnds (p : PipelineData) : Type 0 where
   pub inputs_apart : AllPairs (λ x y. x ≢ y) (rail_nets p.inputs)
@@ -97,7 +91,6 @@ pub record AreProgramEnds (p : PipelineData) : Type 0 where
   pub ki_within : p.ki < length p.netlist.nets
   pub ko_within : p.ko < length p.netlist.nets
   pub inputs_low : (net : ℕ) → Member net (rail_nets p.inputs) → reset_nets p net ≡ false
-  pub outputs_null : is_null p.outputs (reset_nets p) ≡ true
   pub driven : (i : ℕ) (c : Cell) → slice_get p.netlist.cells i ≡ Some c → Contains (rail_nets p.inputs) c.out.0 → ⊥
 
 pub program_ends : (p : PipelineData) → Shape p.netlist p → AreProgramEnds p
@@ -113,6 +106,5 @@ program_ends p shape =
       ki_within = ki_within is;
       ko_within = ko_within is;
       inputs_low = inputs_low is;
-      outputs_null = all_null (reset_nets p) p.outputs (outputs_low is);
       driven = λ i c at some. no_cell is i c at (Member-from_Contains (rail_nets p.inputs) c.out.0 some);
     }

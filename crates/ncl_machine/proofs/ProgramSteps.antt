@@ -6,16 +6,14 @@ use Rattle.std.proofs.lemmas.Bool.{and_parts, both_ways}
 use Rattle.ncl_base.proofs.Members.{Contains-from_slice_get}
 use Rattle.ncl_netlist.specs.declared.cell.Cell.{Cell}
 use Rattle.ncl_netlist.specs.declared.ids.CellId.{CellId}
-use Rattle.ncl_shape.specs.declared.item.Item.{Item}
-use Rattle.ncl_shape.specs.declared.item.Item.TheVariants.{Cell as Fire, Raise, Lower, Take, Ready}
+use Rattle.ncl_shape.specs.declared.item.Item.TheVariants.{Cell as Fire, Raise, Lower}
 use Rattle.ncl_shape.specs.Nets.{put}
 use Rattle.ncl_shape.specs.Stage.{rail_nets}
 use Rattle.ncl_shape.specs.Pipeline.{PipelineData}
-use Rattle.ncl_machine.specs.State.{State}
 use Rattle.ncl_machine.specs.Steps.{current_rails, rails_of_word, enabled, step, fired, is_excited, next_value, has_value, put_at, after_raise, after_lower}
 use Rattle.ncl_machine.specs.OneChange.{net_of_step, out_at}
 use Rattle.ncl_machine.specs.Held.{Held, IsFor, meaning, value_of}
-use Rattle.ncl_machine.specs.Tallies.{current_word, raised_from, lowered_from, taken_from}
+use Rattle.ncl_machine.specs.Tallies.{current_word, raised_from, lowered_from}
 use Rattle.ncl_machine.proofs.ProgramEnds.{AreProgramEnds}
 use Rattle.ncl_machine.proofs.TruthValues.{not-from_differ}
 use Rattle.ncl_machine.proofs.ValueLists.{value_of-set}

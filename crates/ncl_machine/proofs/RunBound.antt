@@ -1,5 +1,5 @@
 -- The bound on runs: no net changes more often than the waves of all words go by.
-use Rattle.std.proofs.Common.{◌≡◌, ℕ, zero, suc, ◌+◌, ◌*◌, ◌<◌, ◌≤◌, Bool, true, false, not, List, [], ◌∷◌, length, map, inl, inr, refl, sym, ap, ◌∙◌, subst, arith, length-append, mul-add, mul_assoc, mul_comm}
+use Rattle.std.proofs.Common.{◌≡◌, ℕ, zero, suc, ◌+◌, ◌*◌, ◌<◌, ◌≤◌, Bool, true, false, not, List, [], ◌∷◌, length, map, inl, inr, sym, ap, ◌∙◌, subst, arith, length-append, mul-add, mul_assoc, mul_comm}
 use Rattle.std.specs.Prelude.{sum_by}
 use Rattle.std.proofs.Math.Bool.{not-not}
 use Rattle.std.proofs.lemmas.Bool.{both_ways, cases_lt, false_from_ne_true, not_from_true}
@@ -7,12 +7,12 @@ use Rattle.std.proofs.lemmas.List.{length-map}
 use Rattle.std.proofs.lemmas.List.Elements.{All-from_get_or}
 use Rattle.std.proofs.lemmas.List.Sums.{sum_by-le}
 use Rattle.ncl_base.proofs.Members.{Member, All-from_members, member_cases, member_of_map}
-use Rattle.ncl_shape.specs.declared.rails.Rails.{Rails}
 use Rattle.ncl_shape.specs.declared.stage.StageCell.{StageCell}
 use Rattle.ncl_shape.specs.declared.item.Item.{Item}
 use Rattle.ncl_shape.specs.Stage.{out_of, rail_nets}
 use Rattle.ncl_shape.specs.Closure.{net_of}
 use Rattle.ncl_shape.specs.Pipeline.{PipelineData}
+use Rattle.ncl_shape.proofs.RailLaws.{rails-length}
 use Rattle.ncl_layout.specs.Layout.{no_rails, Layout, width, stage_nets, out_rail}
 use Rattle.ncl_layout.proofs.RailNets.{rail-place}
 use Rattle.ncl_stage.specs.Faults.{has_data}
@@ -33,10 +33,6 @@ use Rattle.ncl_machine.proofs.Keeping.{step-kept}
 use Rattle.ncl_machine.proofs.NetCount.{nets_below}
 use Rattle.ncl_machine.proofs.ChangeCounts.{agree, agree-old, times, rail_changes, gate_changes, tree_changes, changes_at, changes_below, changes}
 use Rattle.ncl_machine.proofs.ChangesRise.{changes-rise}
-
-rails-length : (bits : List Rails) → length (rail_nets bits) ≡ 2 * length bits
-rails-length [] = refl
-rails-length (r ∷ rs) = let rest = rails-length rs in omega (arith, rest)
 
 module _ {p : PipelineData} {l : Layout} {w : Waves} {offered : List (List Bool)} (set : IsSetting p l w offered) where
   module _ {s : State} (k : IsKept l w offered s) where

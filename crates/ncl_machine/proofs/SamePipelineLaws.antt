@@ -1,48 +1,51 @@
 -- The machine reads nothing of a pipeline's stages, and what is asked of them is asked of their outputs alone; so
 -- the order of their gates doesn't matter.
-use Rattle.std.proofs.Common.{◌≡◌, Bool, List, [], ◌∷◌, ◌++◌, refl, sym, ap, ◌∙◌, subst}
-use Rattle.std.specs.Prelude.{Contains}
+use Rattle.std.proofs.Common.{◌≡◌, Bool, if◌then◌else◌, List, [], ◌∷◌, ◌++◌, length, map, refl, sym, ap, ◌∙◌, subst}
+use Rattle.std.specs.Prelude.{Contains, slice_get}
 use Rattle.std.specs.List.{AllZip}
 use Rattle.ncl_base.proofs.Members.{Member, here, there, Member-from_Contains, Contains-from_Member}
 use Rattle.ncl_shape.specs.declared.item.Item.{Item}
 use Rattle.ncl_shape.specs.declared.item.Item.TheVariants.{Cell as Fire, Raise, Lower, Take, Ready}
 use Rattle.ncl_shape.specs.Stage.{StageData}
 use Rattle.ncl_shape.specs.Pipeline.{PipelineData}
+use Rattle.ncl_shape.specs.declared.bank.Bank.{Bank}
+use Rattle.ncl_shape.specs.Closure.{function_of, function_at}
+use Rattle.ncl_shape.specs.Held.{is_data_bank}
 use Rattle.ncl_shape.specs.SamePipeline.{IsSameStage, IsSamePipeline}
 use Rattle.ncl_machine.specs.State.{State, reset}
 use Rattle.ncl_machine.specs.Steps.{enabled, step, is_null}
 use Rattle.ncl_machine.specs.Run.{IsRunFrom, after, IsPersistent}
-use Rattle.ncl_machine.specs.DelayInsensitive.{PassesNull, DeliversWhatIsDue, DeliversInTime, IsLegalState, RestsWhereQuiet, AfterEveryRun, AlternatesWithNull, IsDelayInsensitive}
+use Rattle.ncl_machine.specs.DelayInsensitive.{held_words, due, PassesNull, DeliversWhatIsDue, DeliversInTime, IsLegalState, RestsWhereQuiet, AfterEveryRun, AlternatesWithNull, IsDelayInsensitive}
 
 -- a pipeline with other stages
-abbrev with_stages : PipelineData → List StageData → PipelineData
+abbrev pub with_stages : PipelineData → List StageData → PipelineData
 with_stages p stages = record p { stages = stages }
 
 module _ (p : PipelineData) (stages : List StageData) where
-  abbrev q : PipelineData
+  abbrev pub q : PipelineData
   q = with_stages p stages
 
   -- ---- it moves as the pipeline does
 
-  enabled-same : (s : State) (item : Item) → enabled q s item ≡ enabled p s item
+  pub enabled-same : (s : State) (item : Item) → enabled q s item ≡ enabled p s item
   enabled-same s (Fire i) = refl
   enabled-same s (Raise b) = refl
   enabled-same s (Lower b) = refl
   enabled-same s Take = refl
   enabled-same s Ready = refl
 
-  step-same : (s : State) (item : Item) → step q s item ≡ step p s item
+  pub step-same : (s : State) (item : Item) → step q s item ≡ step p s item
   step-same s (Fire i) = refl
   step-same s (Raise b) = refl
   step-same s (Lower b) = refl
   step-same s Take = refl
   step-same s Ready = refl
 
-  after-same : (items : List Item) (s : State) → after q s items ≡ after p s items
+  pub after-same : (items : List Item) (s : State) → after q s items ≡ after p s items
   after-same [] s = refl
   after-same (item ∷ items) s = ap (λ t. after q t items) (step-same s item) ∙ after-same items (step p s item)
 
-  run-same : (items : List Item) (s : State) → IsRunFrom q s items → IsRunFrom p s items
+  pub run-same : (items : List Item) (s : State) → IsRunFrom q s items → IsRunFrom p s items
   run-same [] s run = run
   run-same (item ∷ items) s (on, run) =
       (sym (enabled-same s item) ∙ on, run-same items (step p s item) (subst (λ t. IsRunFrom q t items) (step-same s item) run))
@@ -73,10 +76,18 @@ module _ (p : PipelineData) (stages : List StageData) where
       subst (λ t. PassesNull q t ys) (sym (step-same (after q (reset p offered) xs) Take ∙ ap (λ t. step p t Take) (after-same xs (reset p offered))))
       (passes-same _ ys (alternates offered xs ys zs words (run-same (xs ++ Take ∷ (ys ++ Take ∷ zs)) (reset p offered) run)))
 
+  -- the same words are due
+  held-same : (banks : List Bank) → held_words q banks ≡ held_words p banks
+  held-same [] = refl
+  held-same (b ∷ banks) = ap (λ words. words ++ (if is_data_bank b then function_at p b.request.0 ∷ [] else [])) (held-same banks)
+
+  pub due-same : (offered : List (List Bool)) → due q offered ≡ due p offered
+  due-same offered = ap (λ words. words ++ map (function_of p) offered) (held-same p.banks)
+
   rests-same : (offered : List (List Bool)) (s : State) → RestsWhereQuiet p offered s → RestsWhereQuiet q offered s
   rests-same offered s rests quiet =
       let at_rest = rests (λ item. sym (enabled-same s item) ∙ quiet item) in
-      record { delivered = at_rest.delivered; finished = at_rest.finished; null = at_rest.null }
+      record { delivered = at_rest.delivered ∙ ap length (sym (due-same offered)); finished = at_rest.finished; null = at_rest.null }
 
   -- each of its stages has the outputs of one of the pipeline's
   legal-same : AllZip IsSameStage p.stages stages → (s : State) → IsLegalState p s → IsLegalState q s
@@ -99,8 +110,8 @@ module _ (p : PipelineData) (stages : List StageData) where
   insensitive-same same insensitive = record {
     safe = record {
       persistent = every_run-same (λ offered s. IsPersistent p s) (λ offered s. IsPersistent q s) (λ offered s. persistent-same s) insensitive.safe.persistent;
-      due = every_run-same (DeliversWhatIsDue p) (DeliversWhatIsDue q) (λ offered s delivers. delivers) insensitive.safe.due;
-      in_time = every_run-same (λ offered s. DeliversInTime s) (λ offered s. DeliversInTime s) (λ offered s early. early) insensitive.safe.in_time;
+      due = every_run-same (DeliversWhatIsDue p) (DeliversWhatIsDue q) (λ offered s delivers k pair at. let (word, is_due, carries) = delivers k pair at in (word, ap (λ words. slice_get words k) (due-same offered) ∙ is_due, carries)) insensitive.safe.due;
+      in_time = every_run-same (λ offered s. DeliversInTime p s) (λ offered s. DeliversInTime q s) (λ offered s early. early) insensitive.safe.in_time;
       alternates = alternates-same insensitive.safe.alternates;
       legal = every_run-same (λ offered s. IsLegalState p s) (λ offered s. IsLegalState q s) (λ offered s. legal-same same s) insensitive.safe.legal;
     };
@@ -108,7 +119,7 @@ module _ (p : PipelineData) (stages : List StageData) where
   }
 
 -- the other is the one with its own stages
-other-is : (p other : PipelineData) → IsSamePipeline p other → with_stages p other.stages ≡ other
+pub other-is : (p other : PipelineData) → IsSamePipeline p other → with_stages p other.stages ≡ other
 other-is p other same =
     ap (λ x. record p { stages = other.stages; netlist = x }) same.netlist
     ∙ ap (λ x. record p { stages = other.stages; netlist = other.netlist; banks = x }) same.banks

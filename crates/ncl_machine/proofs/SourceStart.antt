@@ -1,10 +1,11 @@
 -- At reset no rail is raised.
-use Rattle.std.proofs.Common.{◌≡◌, ℕ, ◌<◌, false, List, [], Bool, length, sym, ap, ◌∙◌, subst}
-use Rattle.std.specs.Prelude.{All, Contains, slice_get}
+use Rattle.std.proofs.Common.{◌≡◌, ℕ, ◌+◌, ◌<◌, false, List, [], Bool, length, sym, ap, ◌∙◌, subst}
+use Rattle.std.specs.Prelude.{All, slice_get}
 use Rattle.std.proofs.lemmas.List.Elements.{All-from_recursion}
 use Rattle.ncl_base.proofs.Members.{Member, All-from_members}
 use Rattle.ncl_shape.specs.declared.rails.Rails.{Rails}
 use Rattle.ncl_shape.specs.Pipeline.{PipelineData}
+use Rattle.ncl_shape.specs.Held.{data_banks}
 use Rattle.ncl_shape.specs.Stage.{rail_nets}
 use Rattle.ncl_machine.specs.declared.pair.Pair.{Pair}
 use Rattle.ncl_machine.specs.State.{reset_nets}
@@ -17,7 +18,7 @@ use Rattle.ncl_machine.proofs.ProgramEnds.{AreProgramEnds}
 use Rattle.ncl_machine.proofs.SourceRails.{current-within, beside-within}
 
 abbrev pub at_start : PipelineData → List (List Bool) → List Bool → Held
-at_start p words values = record { inputs = p.inputs; outputs = p.outputs; ki = p.ki; ko = p.ko; offered = words; values = values; done = 0; falling = false; delivered = [] }
+at_start p words values = record { inputs = p.inputs; outputs = p.outputs; ki = p.ki; ko = p.ko; offered = words; due = data_banks p.banks + length words; values = values; done = 0; falling = false; delivered = [] }
 
 pub start_counted : (p : PipelineData) → AreProgramEnds p → (words : List (List Bool)) → AreWordsOf p words → (values : List Bool)
     → length values ≡ length p.netlist.nets → value_of values ≡ reset_nets p → IsCounted (at_start p words values) 0
@@ -36,10 +37,10 @@ start_counted p ends words wide values long are = record {
     low net m = ap (λ v. v net) are ∙ ends.inputs_low net m
 
 -- the same by its fields
-pub start_same : (p : PipelineData) (words : List (List Bool)) (values : List Bool) (inputs outputs : List Rails) (d : LevelsData) (ki ko : ℕ) (offered : List (List Bool)) (delivered : List Pair)
-    → inputs ≡ p.inputs → d ≡ (record { values = values; outputs = outputs }) → outputs ≡ p.outputs → ki ≡ p.ki → ko ≡ p.ko → offered ≡ words → delivered ≡ []
-    → at_start p words values ≡ (record { inputs = inputs; outputs = d.outputs; ki = ki; ko = ko; offered = offered; values = d.values; done = 0; falling = false; delivered = delivered })
-start_same p words values inputs outputs d ki ko offered delivered e f g h i j k =
+pub start_same : (p : PipelineData) (words : List (List Bool)) (values : List Bool) (inputs outputs : List Rails) (d : LevelsData) (ki ko : ℕ) (offered : List (List Bool)) (due : ℕ) (delivered : List Pair)
+    → inputs ≡ p.inputs → d ≡ (record { values = values; outputs = outputs }) → outputs ≡ p.outputs → ki ≡ p.ki → ko ≡ p.ko → offered ≡ words → due ≡ data_banks p.banks + length words → delivered ≡ []
+    → at_start p words values ≡ (record { inputs = inputs; outputs = d.outputs; ki = ki; ko = ko; offered = offered; due = due; values = d.values; done = 0; falling = false; delivered = delivered })
+start_same p words values inputs outputs d ki ko offered due delivered e f g h i j m k =
     let outputs_same : d.outputs ≡ p.outputs = ap (λ (d : LevelsData). d.outputs) f ∙ g in
     let values_same : d.values ≡ values = ap (λ (d : LevelsData). d.values) f in
     cc

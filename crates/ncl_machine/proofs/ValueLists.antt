@@ -1,5 +1,5 @@
 -- Values as a list and as a function.
-use Rattle.std.proofs.Common.{◌≡◌, ℕ, ◌<◌, Bool, false, cond, List, set, length, inl, inr, subst, refl, sym, ap, ◌∙◌, arith, get_or-set_same, get_or-set_other}
+use Rattle.std.proofs.Common.{◌≡◌, ℕ, ◌<◌, Bool, false, cond, List, set, length, inl, inr, subst, refl, sym, ap, ◌∙◌, get_or-set_same, get_or-set_other}
 use Rattle.std.proofs.Math.Path.{fun_ext}
 use Rattle.std.proofs.lemmas.Bool.{cases_eq, eq-eqb, ne_eqb}
 use Rattle.ncl_shape.specs.Nets.{put}

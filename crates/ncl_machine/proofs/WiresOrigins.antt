@@ -1,10 +1,12 @@
 -- Two banks joined by wires are a netlist, and keep the first five rules of shape.
-use Rattle.std.proofs.Common.{◌≡◌, ℕ, zero, suc, ◌<◌, [], ◌∷◌, get_or, inl, inr, refl, sym, subst, arith}
+use Rattle.std.proofs.Common.{◌≡◌, ℕ, zero, suc, ◌<◌, false, [], ◌∷◌, get_or, inl, inr, refl, sym, subst, arith}
+use Rattle.std.proofs.lemmas.Bool.{both_ways}
 use Rattle.std.proofs.lemmas.List.Elements.{All-from_recursion, All-contains}
+use Rattle.ncl_gates.proofs.RegisterLaws.{register_no_ack, register_no_gate}
 use Rattle.ncl_gates.specs.declared.cell_kind.CellKind.TheVariants.{Register}
 use Rattle.ncl_netlist.specs.declared.cell.Cell.{Cell}
 use Rattle.ncl_netlist.specs.Netlist.{IsNetlist}
-use Rattle.ncl_origin.specs.Origin.{IsCell, CellAt, IsGate, IsRegister, IsAck, ReadsNet, OnPin, A, B, RST, IsInputPort, IsOutputPort, IsOfBank, AcksBank, Origin, FromPort, RailOf, AckOf, ComesFrom, port, rail, ack, gate, HasOnlyOrigin, HaveSameOrigins}
+use Rattle.ncl_origin.specs.Origin.{IsCell, CellAt, IsGate, IsRegister, IsAck, ReadsNet, OnPin, A, B, RST, IsInputPort, IsOutputPort, IsOfBank, IsDataRegister, IsDataBank, AcksBank, Origin, FromPort, RailOf, AckOf, ComesFrom, port, rail, ack, gate, HasOnlyOrigin, HaveSameOrigins}
 use Rattle.ncl_origin.specs.Rules.{IsReadPort, IsPaired, ReadsOneBit, ack_pins, IsFromOneRail, IsFromOneAck, IsRegisterOfOne, IsTied}
 use Rattle.ncl_shape.specs.Chain.{IsInputOf}
 use Rattle.ncl_origin.specs.Free.{IsFree}
@@ -36,13 +38,13 @@ each_register_cell P at0 at1 at3 at4 = each_register wires P (at0, (at1, (at3, (
 
 -- no cell is a gate
 no_register_is_gate : (c : Cell) → IsRegister c → IsGate c → ⊥
-no_register_is_gate c register (kind, is_gate) = absurd cc
+no_register_is_gate c register (kind, is_gate) = register_no_gate c.kind register kind is_gate
 
 no_ack_is_gate : (c : Cell) → IsAck c → IsGate c → ⊥
 no_ack_is_gate c is_ack (kind, is_gate) = absurd cc
 
 no_register_is_ack : (c : Cell) → IsRegister c → IsAck c → ⊥
-no_register_is_ack c register is_ack = absurd cc
+no_register_is_ack c register is_ack = register_no_ack c.kind register is_ack
 
 pub no_gate : (c : Cell) → IsCell wires c → IsGate c → ⊥
 no_gate = each_cell (λ c. IsGate c → ⊥)
@@ -77,7 +79,7 @@ each_output_port P at4 at5 at6 (suc (suc (suc (suc (suc (suc (suc net))))))) (p,
 -- ---- the netlist
 
 pub wires_netlist : IsNetlist wires
-wires_netlist = netlist_from_tests wires (record { driven = refl; fits = refl; ports_first = refl; in_order = refl; net_names = refl; cell_names = refl; few_cells = omega arith; few_nets = omega arith })
+wires_netlist = netlist_from_tests wires (record { driven = refl; fits = refl; ports_first = refl; in_order = refl; net_names = refl; cell_names = refl; few_cells = omega arith; few_nets = omega arith; few_ports = omega arith })
 
 -- ---- where nets come from
 
@@ -181,10 +183,10 @@ paired_ack : (k : ℕ) → IsAck (cell_at k) → ReadsOneBit wires (cell_at k) �
 paired_ack k is_ack reads = record { register = λ is. absurd (no_register_is_ack (cell_at k) is is_ack); ack = λ is. reads }
 
 first_bit : ReadsOneBit wires (cell_at 2)
-first_bit = record { request = 7; zero = cell_at 0; one = cell_at 1; zero_of = of_bank 0 7 refl refl refl; one_of = of_bank 1 7 refl refl refl; on_a = refl; on_b = refl; differ = λ e. omega (arith, e) }
+first_bit = record { request = 7; zero = cell_at 0; one = cell_at 1; zero_of = of_bank 0 7 refl refl refl; one_of = of_bank 1 7 refl refl refl; on_a = refl; on_b = refl; differ = λ e. omega (arith, e); few_data = refl }
 
 last_bit : ReadsOneBit wires (cell_at 5)
-last_bit = record { request = 2; zero = cell_at 3; one = cell_at 4; zero_of = of_bank 3 2 refl refl refl; one_of = of_bank 4 2 refl refl refl; on_a = refl; on_b = refl; differ = λ e. omega (arith, e) }
+last_bit = record { request = 2; zero = cell_at 3; one = cell_at 4; zero_of = of_bank 3 2 refl refl refl; one_of = of_bank 4 2 refl refl refl; on_a = refl; on_b = refl; differ = λ e. omega (arith, e); few_data = refl }
 
 each_paired : (c : Cell) → IsCell wires c → IsPaired wires c
 each_paired = each_cell (IsPaired wires)
@@ -219,6 +221,15 @@ each_tied = each_cell (IsTied wires)
     (register_tied (cell_at 0) refl) (register_tied (cell_at 1) refl) (λ request sort from. inr (inr (_, refl, refl)))
     (register_tied (cell_at 3) refl) (register_tied (cell_at 4) refl) (λ request sort from. inr (inl (cell_at 0, of_bank 0 7 refl refl refl)))
 
+-- no cell is reset to 1
+no_data : (c : Cell) → IsCell wires c → IsDataRegister c → ⊥
+no_data = each_cell (λ c. IsDataRegister c → ⊥)
+    (λ data_is. both_ways false refl data_is) (λ data_is. both_ways false refl data_is) (λ data_is. both_ways false refl data_is) (λ data_is. both_ways false refl data_is)
+    (λ data_is. both_ways false refl data_is) (λ data_is. both_ways false refl data_is)
+
+pub no_data_bank : (request : ℕ) → IsDataBank wires request → ⊥
+no_data_bank request (c, of_bank, data_is) = no_data c of_bank.0 data_is
+
 pub wires_free : IsFree wires
 wires_free = record {
   ports_read = read_port;
@@ -227,6 +238,7 @@ wires_free = record {
   unmixed = λ k c at. record {
     gate = λ kind is. absurd (no_gate c (in_wires k c at) (kind, is));
     register = each_register_of_one c (in_wires k c at);
+    ack = λ is_ack request acks data_is. absurd (no_data_bank request data_is);
   };
   tied = λ k c at. each_tied c (in_wires k c at);
 }

@@ -38,6 +38,7 @@ pub record PassesTests (n : NetlistData) : Type 0 where
   pub cell_names : distinct_count same_name (map (λ cell. cell.name) n.cells) ≡ length (map (λ cell. cell.name) n.cells)
   pub few_cells : length n.cells ≤ most_cells
   pub few_nets : length n.nets < 2 ^ 32
+  pub few_ports : length n.ports < 2 ^ 31
 
 pub netlist_from_tests : (n : NetlistData) → PassesTests n → IsNetlist n
 netlist_from_tests n tests = record {
@@ -49,6 +50,7 @@ netlist_from_tests n tests = record {
   cell_names = IsDistinct-from_count same_name-equiv (map (λ cell. cell.name) n.cells) tests.cell_names;
   few_cells = tests.few_cells;
   few_nets = tests.few_nets;
+  few_ports = tests.few_ports;
 }
   where
     place : (net : ℕ) → net < length n.nets → Contains (range_with_len 0 (length n.nets)) net

@@ -12,3 +12,4 @@ pub mod Unsound
 pub mod Held
 pub mod Tallies
 pub mod ResetValues
+pub mod ResetLaw

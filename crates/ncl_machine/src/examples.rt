@@ -1,19 +1,21 @@
 //! Worked examples: two banks joined by wires have a shape, a word goes through them, and on its way two
 //! items may happen in either order. The AND of two bits is a sound stage. A word that goes through a chain of
-//! gates takes nearly as many steps as the bound on runs allows.
-ghost use Rattle.std.specs.Prelude.{◌≡◌, ◌≢◌, ◌*◌, All, true, false, [], ◌∷◌, length};
+//! gates takes nearly as many steps as the bound on runs allows. A word that a bank holds at reset is delivered
+//! before the one that is offered.
+ghost use Rattle.std.specs.Prelude.{◌≡◌, ◌≢◌, ◌+◌, ◌*◌, All, true, false, [], ◌∷◌, length};
 ghost use Rattle.ncl_shape.specs.declared.item.Item.TheVariants.{Lower};
 ghost use Rattle.ncl_netlist.specs.Netlist.{IsNetlist};
 ghost use Rattle.ncl_shape.specs.Examples.{wires, wires_pipeline};
 ghost use Rattle.ncl_shape.specs.Stage.{IsStage};
 ghost use Rattle.ncl_shape.specs.Shape.{Shape};
 ghost use Rattle.ncl_shape.specs.Closure.{function_of};
+ghost use Rattle.ncl_shape.specs.Held.{data_banks};
 ghost use Rattle.ncl_stage.specs.Examples.{and_stage};
 ghost use Rattle.ncl_stage.specs.Faults.{IsSound};
 ghost use Rattle.ncl_machine.specs.Run.{IsRun, IsQuiet, IsPersistent};
 ghost use Rattle.ncl_machine.specs.Steps.{enabled};
-ghost use Rattle.ncl_machine.specs.DelayInsensitive.{IsDelayInsensitive};
-ghost use Rattle.ncl_machine.specs.Examples.{fire, one_word, through_wires, where_two_may_move, at_the_end, chain, chain_stage, chain_pipeline, through_chain, where_the_chain_rests};
+ghost use Rattle.ncl_machine.specs.DelayInsensitive.{IsDelayInsensitive, due};
+ghost use Rattle.ncl_machine.specs.Examples.{fire, one_word, through_wires, where_two_may_move, at_the_end, chain, chain_stage, chain_pipeline, through_chain, where_the_chain_rests, holding, holding_pipeline, zero_word, through_holding, where_holding_rests};
 
 /// A word goes through two banks joined by wires in twelve steps: it is delivered unchanged in
 /// dual-rail form, and then nothing can move. The bound on runs is twenty steps.
@@ -66,4 +68,15 @@ pub fn word_through_a_chain()
     ensures steps { length through_chain ≡ 20 }
     ensures bound { 2 * length one_word * length chain.nets ≡ 28 }
     ensures quiet { IsQuiet chain_pipeline where_the_chain_rests }
+{}
+
+/// Where the second of three banks joined by wires holds the word 1 at reset and the word 0 is offered, these two are
+/// due in this order, and so they are delivered, in 24 steps, after which nothing can move. The bound on runs is 52.
+pub fn held_word_goes_first()
+    ensures due { due holding_pipeline zero_word ≡ (true ∷ []) ∷ (false ∷ []) ∷ [] }
+    ensures run { IsRun holding_pipeline zero_word through_holding }
+    ensures delivered { where_holding_rests.delivered ≡ record { rail0 = false ∷ []; rail1 = true ∷ [] } ∷ record { rail0 = true ∷ []; rail1 = false ∷ [] } ∷ [] }
+    ensures quiet { IsQuiet holding_pipeline where_holding_rests }
+    ensures steps { length through_holding ≡ 24 }
+    ensures bound { 2 * (data_banks holding_pipeline.banks + length zero_word) * length holding.nets ≡ 52 }
 {}

@@ -1,17 +1,21 @@
 //! The laws of the firing machine. Each function states some, and does nothing.
-ghost use Rattle.std.specs.Prelude.{◌≡◌, ◌≤◌, ◌*◌, ℕ, true, All, List, [], Bool, ◌++◌, length};
+ghost use Rattle.std.specs.Prelude.{◌≡◌, ◌↔◌, ◌+◌, ◌≤◌, ◌*◌, ℕ, true, All, Contains, List, [], Bool, ◌++◌, length};
 ghost use Rattle.ncl_shape.specs.declared.item.Item.{Item};
 ghost use Rattle.ncl_netlist.specs.Netlist.{IsNetlist, NetlistData};
+ghost use Rattle.ncl_origin.specs.Origin.{IsDataBank};
+ghost use Rattle.ncl_shape.specs.declared.bank.Bank.{Bank};
 ghost use Rattle.ncl_shape.specs.Nets.{Nets, IsBelow};
 ghost use Rattle.ncl_shape.specs.Stage.{StageData};
 ghost use Rattle.ncl_shape.specs.Pipeline.{PipelineData};
 ghost use Rattle.ncl_shape.specs.Closure.{function_of};
+ghost use Rattle.ncl_shape.specs.Held.{data_banks, is_data_bank};
 ghost use Rattle.ncl_shape.specs.SamePipeline.{IsSamePipeline};
 ghost use Rattle.ncl_shape.specs.Shape.{Shape};
 ghost use Rattle.ncl_stage.specs.declared.variant.Variant.TheVariants.{Base};
 ghost use Rattle.ncl_stage.specs.Values.{val};
 ghost use Rattle.ncl_stage.specs.Faults.{IsSound, IsWordOf};
-ghost use Rattle.ncl_machine.specs.State.{State, reset};
+ghost use Rattle.ncl_machine.specs.State.{State, reset, reset_nets};
+ghost use Rattle.ncl_machine.specs.ResetLaw.{IsReset};
 ghost use Rattle.ncl_machine.specs.Run.{AreWordsOf, IsPersistent, IsQuiet, IsRun, IsRunFrom, after};
 ghost use Rattle.ncl_machine.specs.Steps.{enabled, step};
 ghost use Rattle.ncl_machine.specs.AtWork.{IsRising, IsFalling};
@@ -30,9 +34,21 @@ pub fn run_prefix()
     ensures state { (p : PipelineData) (s : State) (xs ys : List Item) → after p s (xs ++ ys) ≡ after p (after p s xs) ys }
 {}
 
-/// At reset with no word offered nothing can move.
+/// At reset the sink's acknowledge is high, the output of each register cell that is reset to 1, and of the acknowledge
+/// and completion cells those of the banks that are not reset to DATA: each bank that holds no word asks for one.
+pub fn high_at_reset()
+    ensures { (n : NetlistData) (p : PipelineData) → Shape n p → IsReset p (reset_nets p) }
+{}
+
+/// A bank of a pipeline is counted as one that is reset to DATA, by the values to which its bits are reset, exactly where
+/// it has a register cell that is reset to 1.
+pub fn data_banks_by_cells()
+    ensures { (n : NetlistData) (p : PipelineData) → Shape n p → (b : Bank) → Contains p.banks b → (is_data_bank b ≡ true) ↔ IsDataBank n b.request.0 }
+{}
+
+/// At reset with no word offered nothing can move, where no bank is reset to DATA.
 pub fn still_at_reset()
-    ensures { (n : NetlistData) (p : PipelineData) → Shape n p → IsQuiet p (reset p []) }
+    ensures { (n : NetlistData) (p : PipelineData) → Shape n p → data_banks p.banks ≡ 0 → IsQuiet p (reset p []) }
 {}
 
 /// A stage at work stays within its values: while a word comes in, and while NULL does, no net is high that
@@ -60,9 +76,9 @@ pub fn falling(stage: &Stage)
     stage.facts();
 }
 
-/// A run of a delay-insensitive pipeline delivers no more pairs than words are offered.
+/// A run of a delay-insensitive pipeline delivers no more pairs than words are held at reset and offered.
 pub fn delivers_no_more()
-    ensures { (p : PipelineData) → IsDelayInsensitive p → (offered : List (List Bool)) (items : List Item) → AreWordsOf p offered → IsRun p offered items → length (after p (reset p offered) items).delivered ≤ length offered }
+    ensures { (p : PipelineData) → IsDelayInsensitive p → (offered : List (List Bool)) (items : List Item) → AreWordsOf p offered → IsRun p offered items → length (after p (reset p offered) items).delivered ≤ data_banks p.banks + length offered }
 {}
 
 /// The step of an item that is enabled changes the value of one net, and of no other.
@@ -80,12 +96,12 @@ pub fn persistent(pipeline: &Pipeline)
 }
 
 /// A pipeline of sound stages is safe: besides being persistent, in every run it delivers the first words of
-/// what is due, none of them before it was raised, its outputs are NULL between any two words taken, and no bit
-/// of a bank and no output of a stage is illegal.
+/// what is due, none of those offered before it was raised, its outputs are NULL between any two words taken, and
+/// no bit of a bank and no output of a stage is illegal.
 pub fn prefix(pipeline: &Pipeline)
     requires { All IsSound pipeline.now.stages }
     ensures due { AfterEveryRun pipeline.now (DeliversWhatIsDue pipeline.now) }
-    ensures in_time { AfterEveryRun pipeline.now (λ offered s. DeliversInTime s) }
+    ensures in_time { AfterEveryRun pipeline.now (λ offered s. DeliversInTime pipeline.now s) }
     ensures alternates { AlternatesWithNull pipeline.now }
     ensures legal { AfterEveryRun pipeline.now (λ offered s. IsLegalState pipeline.now s) }
     ensures safe { IsSafe pipeline.now }
@@ -103,11 +119,11 @@ pub fn quiescent(pipeline: &Pipeline)
     pipeline.facts();
 }
 
-/// A run of a pipeline of sound stages has at most twice as many items as words times nets, so every run comes
-/// to a stop.
+/// A run of a pipeline of sound stages has at most twice as many items as words times nets, those held at reset
+/// and those offered, so every run comes to a stop.
 pub fn bound(pipeline: &Pipeline)
     requires { All IsSound pipeline.now.stages }
-    ensures { (offered : List (List Bool)) (items : List Item) → AreWordsOf pipeline.now offered → IsRun pipeline.now offered items → length items ≤ 2 * length offered * length pipeline.now.netlist.nets }
+    ensures { (offered : List (List Bool)) (items : List Item) → AreWordsOf pipeline.now offered → IsRun pipeline.now offered items → length items ≤ 2 * (data_banks pipeline.now.banks + length offered) * length pipeline.now.netlist.nets }
 {
     pipeline.facts();
 }
@@ -117,7 +133,7 @@ pub fn bound(pipeline: &Pipeline)
 pub fn sound_is_insensitive()
     ensures safe { (n : NetlistData) (p : PipelineData) → Shape n p → All IsSound p.stages → IsSafe p }
     ensures insensitive { (n : NetlistData) (p : PipelineData) → Shape n p → All IsSound p.stages → IsDelayInsensitive p }
-    ensures bound { (n : NetlistData) (p : PipelineData) → Shape n p → All IsSound p.stages → (offered : List (List Bool)) (items : List Item) → AreWordsOf p offered → IsRun p offered items → length items ≤ 2 * length offered * length n.nets }
+    ensures bound { (n : NetlistData) (p : PipelineData) → Shape n p → All IsSound p.stages → (offered : List (List Bool)) (items : List Item) → AreWordsOf p offered → IsRun p offered items → length items ≤ 2 * (data_banks p.banks + length offered) * length n.nets }
 {}
 
 /// The function of a pipeline of sound stages is the composition of its stages' functions, in order.

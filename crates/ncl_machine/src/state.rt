@@ -1,8 +1,9 @@
 //! The firing machine as a program.
-ghost use Rattle.std.specs.Prelude.{◌≡◌, ◌<◌, ◌≤◌, ◌↔◌, ◌++◌, ◌∷◌, [], ℕ, Bool, true, false, not, length, set, slice_get, Some, None, Err, Ok, IsTrue, IfOk, IfSome, IfNone, OnOk, OnErr, Contains};
+ghost use Rattle.std.specs.Prelude.{◌≡◌, ◌+◌, ◌<◌, ◌≤◌, ◌↔◌, ◌++◌, ◌∷◌, [], ℕ, Bool, true, false, not, length, set, slice_get, Some, None, Err, Ok, IsTrue, IfOk, IfSome, IfNone, OnOk, OnErr, Contains};
 ghost use Rattle.ncl_shape.specs.declared.item.Item.TheVariants.{Cell as Fire, Raise, Lower, Take, Ready};
 ghost use Rattle.ncl_netlist.specs.declared.ids.CellId.{CellId};
 ghost use Rattle.ncl_netlist.specs.Netlist.{CellFits};
+ghost use Rattle.ncl_shape.specs.Held.{data_banks};
 ghost use Rattle.ncl_shape.specs.Stage.{rail_nets, rail_of};
 ghost use Rattle.ncl_machine.specs.declared.step_fault.StepFault.TheVariants.{NotEnabled, Memory as OutOfMemory};
 ghost use Rattle.ncl_machine.specs.State.{reset};
@@ -33,6 +34,8 @@ pub struct State {
     ki: NetId,
     ko: NetId,
     offered: Vec<Word>,
+    /// How many words are due: those held at reset and those offered.
+    due: usize,
     levels: Levels,
     /// How many words have been raised and lowered again.
     done: usize,
@@ -43,15 +46,15 @@ pub struct State {
 }
 
 impl Model for State {
-    ghost use Rattle.std.specs.Prelude.{◌≤◌, length, vec_capacity};
+    ghost use Rattle.std.specs.Prelude.{◌≤◌, vec_capacity};
     ghost use Rattle.ncl_machine.specs.Held.{Held};
     ghost use Rattle.ncl_machine.specs.Tallies.{IsCounted};
 
     ghost Value = { Held };
 
-    ghost view = { λ a. record { inputs = a.inputs.items; outputs = a.levels.outputs; ki = a.ki.0; ko = a.ko.0; offered = a.offered.items; values = a.levels.values; done = a.done; falling = a.falling; delivered = a.delivered.items } };
+    ghost view = { λ a. record { inputs = a.inputs.items; outputs = a.levels.outputs; ki = a.ki.0; ko = a.ko.0; offered = a.offered.items; due = a.due; values = a.levels.values; done = a.done; falling = a.falling; delivered = a.delivered.items } };
 
-    ghost invariant = { λ a. IsCounted (record { inputs = a.inputs.items; outputs = a.levels.outputs; ki = a.ki.0; ko = a.ko.0; offered = a.offered.items; values = a.levels.values; done = a.done; falling = a.falling; delivered = a.delivered.items }) a.raised × (length a.offered.items ≤ vec_capacity a.delivered) };
+    ghost invariant = { λ a. IsCounted (record { inputs = a.inputs.items; outputs = a.levels.outputs; ki = a.ki.0; ko = a.ko.0; offered = a.offered.items; due = a.due; values = a.levels.values; done = a.done; falling = a.falling; delivered = a.delivered.items }) a.raised × (a.due ≤ vec_capacity a.delivered) };
 }
 
 /// The words, copied. Linear in their bits.
@@ -76,7 +79,8 @@ impl State {
     /// The state of a pipeline at reset with some words offered, each of the width of the first bank. Fails where memory
     /// is refused.
     ///
-    /// Linear in nets, cells and the bits of the words. Reserves room for as many delivered words as are offered.
+    /// Linear in nets, cells and the bits of the words. Reserves room for as many delivered words as are held at reset and
+    /// offered.
     pub fn new(alloc: Global, pipeline: &Pipeline, words: &[Word]) -> Result<State, Memory>
         requires { AreWordsOf pipeline.now words.now }
         ensures made { IfOk result (λ state. IsFor pipeline.now state) }
@@ -86,12 +90,14 @@ impl State {
         let levels = Levels::new(alloc, values, pipeline.outputs())?;
         let inputs = Vec::from_slice(alloc, pipeline.inputs())?;
         let offered = copied(alloc, words)?;
-        let delivered = Vec::with_capacity(alloc, words.len())?;
+        let due = pipeline.data_banks() + words.len();
+        let delivered = Vec::with_capacity(alloc, due)?;
         Ok(State {
             inputs,
             ki: pipeline.ki(),
             ko: pipeline.ko(),
             offered,
+            due,
             levels,
             done: 0,
             falling: false,
@@ -238,12 +244,12 @@ impl State {
         }
     }
 
-    /// Takes the word at the outputs. Takes memory only where as many words have been delivered as were offered.
+    /// Takes the word at the outputs. Takes memory only where as many words have been delivered as are due.
     fn take(&mut self) -> Result<(), Memory>
         requires { value_of self.old.values self.old.ki ≡ true }
         ensures taken { OnOk result (self.new ≡ taken_from self.old) }
         ensures refused { OnErr result (self.new ≡ self.old) }
-        ensures full { OnErr result (length self.old.offered ≤ length self.old.delivered) }
+        ensures full { OnErr result (self.old.due ≤ length self.old.delivered) }
     {
         self.delivered.push(self.levels.pair())?;
         self.levels.put(self.ki, false);
@@ -251,7 +257,7 @@ impl State {
     }
 
     /// Makes the step of an item. The cell, or the bit, is one of the pipeline. Fails where the item isn't enabled, and at
-    /// `Take` where memory is refused and as many words have been delivered as were offered; then nothing has changed.
+    /// `Take` where memory is refused and as many words have been delivered as are due; then nothing has changed.
     ///
     /// Takes the time of the cell's own pins, but `Take` takes that of the outputs.
     pub fn step(&mut self, pipeline: &Pipeline, item: Item) -> Result<(), StepFault>
@@ -261,7 +267,7 @@ impl State {
         ensures done { OnOk result (meaning self.new ≡ step pipeline.now (meaning self.old) item) }
         ensures refused { OnErr result (self.new ≡ self.old) }
         ensures not_enabled { (result ≡ Err NotEnabled) ↔ (enabled pipeline.now (meaning self.old) item ≡ false) }
-        ensures memory { result ≡ Err OutOfMemory → (item ≡ Take) × (length self.old.offered ≤ length self.old.delivered) }
+        ensures memory { result ≡ Err OutOfMemory → (item ≡ Take) × (data_banks pipeline.now.banks + length self.old.offered ≤ length self.old.delivered) }
     {
         if !self.enabled(pipeline, item) {
             return Err(StepFault::NotEnabled);

@@ -1,4 +1,5 @@
-//! A word is driven by hand through a netlist that isn't sound: its one output has a rail of each of two bits.
+//! Words are driven by hand: through a netlist that isn't sound, whose one output has a rail of each of two bits, and
+//! through two in which a bank holds a word at reset.
 ghost use Rattle.std.specs.Prelude.{IfOk, IsTrue};
 ghost use Rattle.ncl_machine.specs.Held.{InRange, IsFor};
 
@@ -143,5 +144,85 @@ fn a_word_is_taken_twice(rt: HostRuntime) -> Result<(), Fail> {
     assert_eq!(rt; state.delivered().len(), 2);
     assert!(rt; has(state.delivered().first(), true, false));
     assert!(rt; has(state.delivered().last(), false, true));
+    Ok(())
+}
+
+/// Three banks of one bit, of which the second holds the word 1.
+const HOLDING: &str = "
+module three (x1_0, x1_1, ki, rst, z0, z1, ko);
+  input x1_0, x1_1, ki, rst;
+  output z0, z1, ko;
+  TH22N r1_0 (.A(x1_0), .B(c1), .RST(rst), .Z(p0));
+  TH22N r1_1 (.A(x1_1), .B(c1), .RST(rst), .Z(p1));
+  TH12B k1 (.A(p0), .B(p1), .Z(ko));
+  TH22N q1_0 (.A(p0), .B(c2), .RST(rst), .Z(q0));
+  TH22D q1_1 (.A(p1), .B(c2), .RST(rst), .Z(q1));
+  TH12B h1 (.A(q0), .B(q1), .Z(c1));
+  TH22N s1_0 (.A(q0), .B(ki), .RST(rst), .Z(z0));
+  TH22N s1_1 (.A(q1), .B(ki), .RST(rst), .Z(z1));
+  TH12B d1 (.A(z0), .B(z1), .Z(c2));
+endmodule";
+
+/// The word that is held is taken, and after it the one that is offered.
+const HELD_FIRST: [Item; 14] = [
+    Item::Cell(CellId(7)),
+    Item::Take,
+    Item::Cell(CellId(8)),
+    Item::Raise(0),
+    Item::Cell(CellId(4)),
+    Item::Cell(CellId(5)),
+    Item::Cell(CellId(0)),
+    Item::Cell(CellId(2)),
+    Item::Cell(CellId(7)),
+    Item::Ready,
+    Item::Cell(CellId(8)),
+    Item::Cell(CellId(3)),
+    Item::Cell(CellId(6)),
+    Item::Take,
+];
+
+#[test]
+fn a_held_word_is_taken_first(rt: HostRuntime) -> Result<(), Fail> {
+    let alloc = rt.alloc();
+    let netlist = read(&rt, alloc, HOLDING)?;
+    let pipeline = shape(alloc, &netlist)?;
+    assert_eq!(rt; pipeline.data_banks(), 1);
+    let mut state = start(&rt, alloc, &pipeline, b"0")?;
+    assert!(rt; !state.quiet(&pipeline));
+    drive(&rt, &mut state, &pipeline, &HELD_FIRST)?;
+    assert_eq!(rt; state.delivered().len(), 2);
+    assert!(rt; has(state.delivered().first(), false, true));
+    assert!(rt; has(state.delivered().last(), true, false));
+    Ok(())
+}
+
+/// Two banks of one bit, of which the last holds the word 0.
+const HOLDING_LAST: &str = "
+module two (x1_0, x1_1, ki, rst, z0, z1, ko);
+  input x1_0, x1_1, ki, rst;
+  output z0, z1, ko;
+  TH22N r1_0 (.A(x1_0), .B(c), .RST(rst), .Z(p0));
+  TH22N r1_1 (.A(x1_1), .B(c), .RST(rst), .Z(p1));
+  TH12B k1 (.A(p0), .B(p1), .Z(ko));
+  TH22D s1_0 (.A(p0), .B(ki), .RST(rst), .Z(z0));
+  TH22N s1_1 (.A(p1), .B(ki), .RST(rst), .Z(z1));
+  TH12B d1 (.A(z0), .B(z1), .Z(c));
+endmodule";
+
+/// The NULL after that word.
+const NULL_AFTER: [Item; 3] = [Item::Cell(CellId(3)), Item::Cell(CellId(5)), Item::Ready];
+
+#[test]
+fn a_word_of_the_last_bank_is_taken_at_once(rt: HostRuntime) -> Result<(), Fail> {
+    let alloc = rt.alloc();
+    let netlist = read(&rt, alloc, HOLDING_LAST)?;
+    let pipeline = shape(alloc, &netlist)?;
+    let mut state = State::new(alloc, &pipeline, &[])?;
+    drive(&rt, &mut state, &pipeline, &[Item::Take])?;
+    assert!(rt; refuses(&rt, &mut state, &pipeline, Item::Take));
+    drive(&rt, &mut state, &pipeline, &NULL_AFTER)?;
+    assert!(rt; state.quiet(&pipeline));
+    assert_eq!(rt; state.delivered().len(), 1);
+    assert!(rt; has(state.delivered().first(), true, false));
     Ok(())
 }

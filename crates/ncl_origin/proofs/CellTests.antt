@@ -6,12 +6,14 @@ use Rattle.std.specs.List.{AllByRecursion}
 use Rattle.std.proofs.lemmas.Bool.{and_from, and_parts, both_ways, eq-eqb, eqb-true}
 use Rattle.std.proofs.lemmas.List.Elements.{All-from_recursion, All-contains}
 use Rattle.ncl_gates.specs.declared.cell_kind.CellKind.{CellKind}
-use Rattle.ncl_gates.specs.declared.cell_kind.CellKind.TheVariants.{Gate, Register, Ack}
+use Rattle.ncl_gates.specs.declared.cell_kind.CellKind.TheVariants.{Gate, Register, RegisterData, Ack}
+use Rattle.ncl_gates.specs.Cell.{is_register, is_data_register}
+use Rattle.ncl_gates.proofs.RegisterLaws.{data_is_register}
 use Rattle.ncl_netlist.specs.declared.ids.NetId.{NetId}
 use Rattle.ncl_netlist.specs.declared.cell.Cell.{Cell}
 use Rattle.ncl_netlist.specs.Netlist.{NetlistData}
-use Rattle.ncl_origin.specs.Origin.{IsCell, IsGate, IsRegister, ReadsNet, OnPin, B, IsOfBank}
-use Rattle.ncl_origin.specs.CellTests.{is_register, is_gate, has_net, register_test, bank_test, gate_reads_test}
+use Rattle.ncl_origin.specs.Origin.{IsCell, IsGate, IsRegister, ReadsNet, OnPin, B, IsOfBank, IsDataRegister}
+use Rattle.ncl_origin.specs.CellTests.{is_gate, has_net, register_test, bank_test, data_test, gate_reads_test}
 use Rattle.ncl_base.proofs.Members.{Member-from_Contains, Contains-from_Member, Member-filter, list_any-from_member, member_from_list_any}
 
 -- what holds of each cell that passes a test
@@ -22,31 +24,37 @@ each_passing n test P all c in_c passes =
 
 -- of each register cell
 pub each_register : (n : NetlistData) (P : Cell → Type 0) → AllByRecursion P (filter register_test n.cells) → (c : Cell) → IsCell n c → IsRegister c → P c
-each_register n P all c in_c register = each_passing n register_test P all c in_c (ap is_register register)
+each_register n P all c in_c register = each_passing n register_test P all c in_c register
 
 -- a register cell of a bank passes its test
 pub of_bank_passes : (n : NetlistData) (request : ℕ) (c : Cell) → IsOfBank n request c → bank_test request c ≡ true
 of_bank_passes n request c (in_c, register, on) =
-    and_from (is_register c.kind) _ (ap is_register register) (ap (has_net request) on ∙ eq-eqb request request refl)
+    and_from (is_register c.kind) _ register (ap (has_net request) on ∙ eq-eqb request request refl)
 
 -- of each register cell of a bank
 pub each_of_bank : (n : NetlistData) (request : ℕ) (P : Cell → Type 0) → AllByRecursion P (filter (bank_test request) n.cells) → (c : Cell) → IsOfBank n request c → P c
 each_of_bank n request P all c of_bank = each_passing n (bank_test request) P all c of_bank.0 (of_bank_passes n request c of_bank)
 
+net_is : (request : ℕ) (o : Option NetId) → has_net request o ≡ true → o ≡ Some (record { 0 = request })
+net_is request None on = absurd (both_ways false refl on)
+net_is request (Some id) on = ap (λ (x : ℕ). Some (record { 0 = x })) (eqb-true id.0 request on)
+
 -- and what passes that test in the netlist is of the bank
 pub of_bank-from_test : (n : NetlistData) (request : ℕ) (c : Cell) → IsCell n c → bank_test request c ≡ true → IsOfBank n request c
 of_bank-from_test n request c in_c passes =
     let (is, on) = and_parts (is_register c.kind) _ passes in
-    (in_c, kind_is c.kind is, net_is (slice_get c.ins.items B) on)
-  where
-    kind_is : (k : CellKind) → is_register k ≡ true → k ≡ Register
-    kind_is Register is = refl
-    kind_is (Gate kind) is = absurd (both_ways false refl is)
-    kind_is Ack is = absurd (both_ways false refl is)
+    (in_c, is, net_is request (slice_get c.ins.items B) on)
 
-    net_is : (o : Option NetId) → has_net request o ≡ true → o ≡ Some (record { 0 = request })
-    net_is None on = absurd (both_ways false refl on)
-    net_is (Some id) on = ap (λ (x : ℕ). Some (record { 0 = x })) (eqb-true id.0 request on)
+-- a register cell of a bank that is reset to 1 passes its test
+pub data_passes : (n : NetlistData) (request : ℕ) (c : Cell) → IsOfBank n request c → IsDataRegister c → data_test request c ≡ true
+data_passes n request c of_bank data_is =
+    and_from (is_data_register c.kind) _ data_is (ap (has_net request) of_bank.2 ∙ eq-eqb request request refl)
+
+-- and what passes that test is such a cell
+pub data-from_test : (n : NetlistData) (request : ℕ) (c : Cell) → IsCell n c → data_test request c ≡ true → IsOfBank n request c × IsDataRegister c
+data-from_test n request c in_c passes =
+    let (is, on) = and_parts (is_data_register c.kind) _ passes in
+    ((in_c, data_is_register c.kind is, net_is request (slice_get c.ins.items B) on), is)
 
 -- a gate cell that reads a net passes its test
 pub gate_reads_passes : (net : ℕ) (c : Cell) → IsGate c → ReadsNet c net → gate_reads_test net c ≡ true
@@ -68,6 +76,7 @@ gate_reads-from_test net c passes =
     kind_of : (k : CellKind) → is_gate k ≡ true → (kind : _) × (k ≡ Gate kind)
     kind_of (Gate kind) is = (kind, refl)
     kind_of Register is = absurd (both_ways false refl is)
+    kind_of RegisterData is = absurd (both_ways false refl is)
     kind_of Ack is = absurd (both_ways false refl is)
 
 -- what holds of the net on a pin holds of each net on it

@@ -2,7 +2,8 @@
 use Rattle.std.specs.Prelude.{◌≡◌, ℕ, true, false, Contains, Some, slice_get}
 use Rattle.ncl_gates.specs.declared.kind.Kind.{Kind}
 use Rattle.ncl_gates.specs.declared.kind.Kind.TheVariants.{Th22, Th33, Th44}
-use Rattle.ncl_gates.specs.declared.cell_kind.CellKind.TheVariants.{Gate, Register, Ack}
+use Rattle.ncl_gates.specs.declared.cell_kind.CellKind.TheVariants.{Gate, Ack}
+use Rattle.ncl_gates.specs.Cell.{is_register, is_data_register}
 use Rattle.ncl_netlist.specs.declared.port.Port.{Port}
 use Rattle.ncl_netlist.specs.declared.cell.Cell.{Cell}
 use Rattle.ncl_netlist.specs.Netlist.{NetlistData}
@@ -15,12 +16,15 @@ IsCell n c = Contains n.cells c
 abbrev pub CellAt : NetlistData → ℕ → Cell → Type 0
 CellAt n k c = slice_get n.cells k ≡ Some c
 
--- the three sorts of cells
+-- the sorts of cells: a gate cell, a register cell of either kind, one that is reset to 1, and an acknowledge cell
 abbrev pub IsGate : Cell → Type 0
 IsGate c = (kind : Kind) × (c.kind ≡ Gate kind)
 
 abbrev pub IsRegister : Cell → Type 0
-IsRegister c = c.kind ≡ Register
+IsRegister c = is_register c.kind ≡ true
+
+abbrev pub IsDataRegister : Cell → Type 0
+IsDataRegister c = is_data_register c.kind ≡ true
 
 abbrev pub IsAck : Cell → Type 0
 IsAck c = c.kind ≡ Ack
@@ -53,6 +57,10 @@ IsOutputPort n net = (p : Port) × (slice_get n.ports net ≡ Some p) × (p.outp
 -- a bank is the set of register cells with one net on B, its request, and it is named by that net
 abbrev pub IsOfBank : NetlistData → ℕ → Cell → Type 0
 IsOfBank n request c = IsCell n c × IsRegister c × OnPin c B request
+
+-- a DATA bank: one that is reset to DATA, since some cell of it is reset to 1
+abbrev pub IsDataBank : NetlistData → ℕ → Type 0
+IsDataBank n request = (c : Cell) × IsOfBank n request c × IsDataRegister c
 
 -- an acknowledge cell is of the bank of the register cell that drives its pin A
 abbrev pub AcksBank : NetlistData → ℕ → Cell → Type 0

@@ -1,12 +1,13 @@
-//! The fourth rule of shape: what a cell reads has one origin.
+//! The fourth rule of shape: what a cell reads has one origin, and a bank is reset to DATA in all its bits or in none.
 ghost use Rattle.std.specs.Prelude.{◌≡◌, ℕ, ◌<◌, ◌↔◌, IsTrue, MatchOption, length};
 ghost use Rattle.ncl_gates.specs.declared.cell_kind.CellKind.TheVariants.{Gate};
-ghost use Rattle.ncl_origin.specs.Origin.{IsCell, IsInputPort, IsRegister, IsTreeKind};
-ghost use Rattle.ncl_origin.specs.Rules.{IsFromOneAck, IsFromOneRail, IsGateOfOne, IsRegisterOfOne, IsUnmixed};
+ghost use Rattle.ncl_origin.specs.Origin.{IsAck, IsCell, IsInputPort, IsRegister, IsTreeKind};
+ghost use Rattle.ncl_origin.specs.Rules.{IsAckOfOne, IsFromOneAck, IsFromOneRail, IsGateOfOne, IsRegisterOfOne, IsUnmixed, ReadsData};
 ghost use Rattle.ncl_origin.specs.Free.{AtCell, FailsFirst};
 ghost use Rattle.ncl_origin.specs.Origins.{AreOrigins, IsAsFirst};
 
 use crate::origins::Origins;
+use crate::pairing::{is_data_behind, register_behind};
 use crate::source::{Source, same_source};
 use ncl_gates::{CellKind, Kind};
 use ncl_netlist::{Cell, CellId, NetId, Netlist};
@@ -86,7 +87,37 @@ fn is_register_of_one(netlist: &Netlist, origins: &Origins, cell: &Cell) -> bool
     is_as_first(netlist, origins, cell)
 }
 
-/// Whether what a cell reads has one origin. An acknowledge cell reads one bit by the third rule.
+/// Whether an acknowledge cell reads a register cell that is reset to 1.
+fn reads_data(netlist: &Netlist, origins: &Origins, cell: &Cell) -> bool
+    requires in_netlist { IsCell netlist.now cell.now }
+    requires ack { IsAck cell.now }
+    requires origins { AreOrigins netlist.now origins.now }
+    ensures { IsTrue result ↔ ReadsData netlist.now cell.now }
+{
+    if is_data_behind(netlist, &origins.drivers, cell.ins[0]) {
+        return true;
+    }
+    is_data_behind(netlist, &origins.drivers, cell.ins[1])
+}
+
+/// Whether an acknowledge cell reads a register cell that is reset to 1, or is of a bank that is not reset to DATA.
+fn is_ack_of_one(netlist: &Netlist, origins: &Origins, cell: &Cell) -> bool
+    requires in_netlist { IsCell netlist.now cell.now }
+    requires ack { IsAck cell.now }
+    requires origins { AreOrigins netlist.now origins.now }
+    ensures { IsTrue result ↔ IsAckOfOne netlist.now cell.now }
+{
+    let Some((_, bank)) = register_behind(netlist, &origins.drivers, cell.ins[0]) else {
+        return true;
+    };
+    if !origins.is_data_bank(bank) {
+        return true;
+    }
+    reads_data(netlist, origins, cell)
+}
+
+/// Whether what a gate or register cell reads has one origin, and whether an acknowledge cell of a bank that is reset
+/// to DATA reads a cell that is reset to 1.
 fn is_unmixed(netlist: &Netlist, origins: &Origins, cell: &Cell) -> bool
     requires in_netlist { IsCell netlist.now cell.now }
     requires origins { AreOrigins netlist.now origins.now }
@@ -94,12 +125,12 @@ fn is_unmixed(netlist: &Netlist, origins: &Origins, cell: &Cell) -> bool
 {
     match cell.kind {
         CellKind::Gate(kind) => is_gate_of_one(netlist, origins, cell, kind),
-        CellKind::Register => is_register_of_one(netlist, origins, cell),
-        CellKind::Ack => true,
+        CellKind::Register | CellKind::RegisterData => is_register_of_one(netlist, origins, cell),
+        CellKind::Ack => is_ack_of_one(netlist, origins, cell),
     }
 }
 
-/// The first cell that mixes origins. Linear in the cells.
+/// The first cell that breaks the rule. Linear in the cells.
 pub(crate) fn first_mixed(netlist: &Netlist, origins: &Origins) -> Option<CellId>
     requires { AreOrigins netlist.now origins.now }
     ensures { MatchOption result ((k : ℕ) → AtCell IsUnmixed netlist.now k) (λ c. FailsFirst (AtCell IsUnmixed netlist.now) c.0) }

@@ -1,5 +1,6 @@
 //! The first five rules of shape, and what they leave known.
-ghost use Rattle.std.specs.Prelude.{◌≡◌, ◌<◌, IfErr, IfOk, OnOk, length};
+ghost use Rattle.std.specs.Prelude.{◌≡◌, ◌<◌, false, IfErr, IfOk, OnOk, length};
+ghost use Rattle.std.specs.List.{slice_index_or};
 ghost use Rattle.ncl_origin.specs.Free.{IsFree};
 ghost use Rattle.ncl_origin.specs.GateGraph.{AreDrivers, driver_at};
 ghost use Rattle.ncl_origin.specs.Sources.{source_at};
@@ -8,6 +9,7 @@ ghost use Rattle.ncl_origin.specs.CellOrder.{IsCellOrder};
 ghost use Rattle.ncl_origin.specs.Origins.{AreOffCycles, AreOrigins, ArePaired, IsCellFault, IsOrderFault};
 
 use crate::ack_pins::ack_pins;
+use crate::data_banks::data_banks;
 use crate::driver_table::drivers;
 use crate::fault::ShapeFault;
 use crate::first_registers::first_registers;
@@ -30,6 +32,8 @@ pub struct Origins {
     pub drivers: Vec<Option<u32>>,
     /// The place of the first register cell that has the net on B; `None` where the net is no request.
     pub firsts: Vec<Option<u32>>,
+    /// Whether the net is the request of a bank that is reset to DATA.
+    pub data_banks: Vec<bool>,
     /// All cells, each gate cell after those that drive its pins.
     pub order: Vec<u32>,
     /// Where the net comes from.
@@ -59,6 +63,22 @@ impl Origins {
         ensures { result ≡ first_at self.now.firsts.items request.0 }
     {
         self.firsts[request.0 as usize]
+    }
+
+    /// All cells by their places, each gate cell after those that drive its pins: of `find_origins` it is an order as
+    /// `IsCellOrder` of the netlist says, with each cell once.
+    pub fn order(&self) -> &[u32]
+        ensures { result.now ≡ self.now.order.items }
+    {
+        &self.order
+    }
+
+    /// Whether a net is the request of a bank that is reset to DATA.
+    pub fn is_data_bank(&self, request: NetId) -> bool
+        requires { request.0 < length self.now.data_banks.items }
+        ensures { result ≡ slice_index_or self.now.data_banks.items request.0 false }
+    {
+        self.data_banks[request.0 as usize]
     }
 }
 
@@ -97,10 +117,12 @@ fn tables(
     ensures { IfOk result (AreOrigins netlist.now) }
 {
     let firsts = first_registers(alloc, netlist)?;
+    let data_banks = data_banks(alloc, netlist)?;
     let sources = net_sources(alloc, netlist, &drivers, &order)?;
     Ok(Origins {
         drivers,
         firsts,
+        data_banks,
         order,
         sources,
     })

@@ -1,2 +1,3 @@
 pub mod NamedPlaces
 mod Zipping
+pub mod NamedItems

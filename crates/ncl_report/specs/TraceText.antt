@@ -43,30 +43,30 @@ who n (Lower bit) = codes "source bit " ++ decimal (bit + 1)
 who n Take = codes "sink"
 who n Ready = codes "sink"
 
--- a run that ends where nothing can move has stalled where not as many words were delivered as offered
+-- a run that ends where nothing can move has stalled where not as many words were delivered as are due
 abbrev pub quiet_word : Bool → List ℕ
 quiet_word true = codes "quiet"
 quiet_word false = codes "stalled"
 
--- how a run ends, and at what time; whether as many words were delivered as offered
+-- how a run ends, and at what time; whether as many words were delivered as are due
 abbrev pub end_words : NetlistData → End → ℕ → Bool → List ℕ
 end_words n Quiet last all = quiet_word all ++ codes " at " ++ decimal last ++ codes " after "
 end_words n (Hazard item time) last all = codes "hazard at " ++ decimal time ++ codes ": " ++ who n item ++ codes ", after "
 end_words n Over last all = codes "over after "
 
--- how many steps there were, and how many words of those offered were delivered
+-- how many steps there were, and how many words of those due were delivered
 abbrev pub counts : ℕ → ℕ → ℕ → List ℕ
-counts steps delivered offered =
-    decimal steps ++ codes " steps, delivered " ++ decimal delivered ++ codes " of " ++ decimal offered
+counts steps delivered due =
+    decimal steps ++ codes " steps, delivered " ++ decimal delivered ++ codes " of " ++ decimal due
 
--- the line that tells how a run over so many words ends
+-- the line that tells how a run ends in which so many words are due
 abbrev pub end_line : PipelineData → TraceData → ℕ → List ℕ
-end_line p t offered =
-    line (end_words p.netlist t.end (last_time 0 t.steps) (length t.delivered == offered) ++ counts (length t.steps) (length t.delivered) offered)
+end_line p t due =
+    line (end_words p.netlist t.end (last_time 0 t.steps) (length t.delivered == due) ++ counts (length t.steps) (length t.delivered) due)
 
--- the lines that tell a run over so many words: one for each word that was delivered, and one for the end
+-- the lines that tell a run in which so many words are due: one for each word that was delivered, and one for the end
 abbrev pub trace_lines : PipelineData → TraceData → ℕ → List ℕ
-trace_lines p t offered = taken_lines 1 t.delivered ++ end_line p t offered
+trace_lines p t due = taken_lines 1 t.delivered ++ end_line p t due
 
 -- an item that was lost is one of the pipeline's
 abbrev pub NamesItemOf : PipelineData → End → Type 0

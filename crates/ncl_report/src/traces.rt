@@ -13,32 +13,32 @@ use ncl_shape::Pipeline;
 use ncl_sim::{End, Taken, Trace};
 use std::alloc::Global;
 
-/// The lines that tell a run over so many words: a line for each word that was delivered, with its time and its bits, and
-/// a line for the end, with its time, the number of steps and how many words were delivered. Fails where memory is
-/// refused. Linear in the lines.
+/// The lines that tell a run in which so many words are due: a line for each word that was delivered, with its time and
+/// its bits, and a line for the end, with its time, the number of steps and how many words were delivered. Fails where
+/// memory is refused. Linear in the lines.
 pub fn trace_text(
     alloc: Global,
     pipeline: &Pipeline<'_>,
     trace: &Trace,
-    offered: usize,
+    due: usize,
 ) -> Result<Vec<u8>, Memory>
     requires { NamesItemOf pipeline.now trace.now.end }
-    ensures { IfOk result (λ text. text.items ≡ trace_lines pipeline.now trace.now offered) }
+    ensures { IfOk result (λ text. text.items ≡ trace_lines pipeline.now trace.now due) }
 {
     let mut text = taken_text(alloc, trace.delivered.items())?;
-    push_end_line(&mut text, pipeline, trace, offered)?;
+    push_end_line(&mut text, pipeline, trace, due)?;
     Ok(text)
 }
 
-/// Appends the line that tells how a run over so many words ends. Linear in the line.
+/// Appends the line that tells how a run ends in which so many words are due. Linear in the line.
 pub(crate) fn push_end_line(
     text: &mut Vec<u8>,
     pipeline: &Pipeline<'_>,
     trace: &Trace,
-    offered: usize,
+    due: usize,
 ) -> Result<(), Memory>
     requires { NamesItemOf pipeline.now trace.now.end }
-    ensures { OnOk result (text.new.items ≡ text.old.items ++ end_line pipeline.now trace.now offered) }
+    ensures { OnOk result (text.new.items ≡ text.old.items ++ end_line pipeline.now trace.now due) }
 {
     let steps = trace.steps.items();
     let delivered = trace.delivered.items().len();
@@ -47,9 +47,9 @@ pub(crate) fn push_end_line(
         pipeline,
         trace.end,
         last_time(steps),
-        delivered == offered,
+        delivered == due,
     )?;
-    push_counts(text, steps.len(), delivered, offered)?;
+    push_counts(text, steps.len(), delivered, due)?;
     text.extend_from_slice(b"\n")?;
     Ok(())
 }
@@ -193,18 +193,13 @@ fn push_who(text: &mut Vec<u8>, pipeline: &Pipeline<'_>, item: Item) -> Result<(
 }
 
 /// Appends the counts of a run.
-fn push_counts(
-    text: &mut Vec<u8>,
-    steps: usize,
-    delivered: usize,
-    offered: usize,
-) -> Result<(), Memory>
-    ensures { OnOk result (text.new.items ≡ text.old.items ++ counts steps delivered offered) }
+fn push_counts(text: &mut Vec<u8>, steps: usize, delivered: usize, due: usize) -> Result<(), Memory>
+    ensures { OnOk result (text.new.items ≡ text.old.items ++ counts steps delivered due) }
 {
     push_number(text, steps as u64)?;
     text.extend_from_slice(b" steps, delivered ")?;
     push_number(text, delivered as u64)?;
     text.extend_from_slice(b" of ")?;
-    push_number(text, offered as u64)?;
+    push_number(text, due as u64)?;
     Ok(())
 }

@@ -1,5 +1,5 @@
--- The rails of a bank: each of its register cells drives one, and they differ.
-use Rattle.std.proofs.Common.{◌≡◌, ◌≢◌, ℕ, ◌<◌, ◌≤◌, List, [], ◌∷◌, length, inl, inr, ◌⊎◌, refl, sym, ap, ◌∙◌, subst, arith}
+-- The rails of a bank: two for each bit, of which each of its register cells drives one, and they differ.
+use Rattle.std.proofs.Common.{◌≡◌, ◌≢◌, ℕ, ◌*◌, ◌<◌, ◌≤◌, List, [], ◌∷◌, length, inl, inr, ◌⊎◌, refl, sym, ap, ◌∙◌, subst, arith}
 use Rattle.std.specs.Prelude.{AllPairs, Contains}
 use Rattle.std.specs.List.{AllZip}
 use Rattle.std.proofs.lemmas.List.Kept.{AllPairs-cons}
@@ -24,6 +24,11 @@ use Rattle.ncl_shape.proofs.ZippedLists.{AllZip-find, AllZip-found}
 -- a net is one of two rails
 abbrev pub IsRail : Rails → ℕ → Type 0
 IsRail r net = (r.zero.0 ≡ net) ⊎ (r.one.0 ≡ net)
+
+-- bits have two rails each
+pub rails-length : (bits : List Rails) → length (rail_nets bits) ≡ 2 * length bits
+rails-length [] = refl
+rails-length (r ∷ rs) = let rest = rails-length rs in omega (arith, rest)
 
 -- both rails of each bit are among the nets of the rails, and no others
 rail_zero : (r : Rails) {rails : List Rails} → Member r rails → Member r.zero.0 (rail_nets rails)

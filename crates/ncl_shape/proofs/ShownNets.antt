@@ -5,7 +5,7 @@ use Rattle.std.proofs.lemmas.Bool.{both_ways, cases_eq, eq-eqb, ne_eqb}
 use Rattle.std.proofs.lemmas.List.{length-map}
 use Rattle.std.proofs.lemmas.Option.{slice_get_within, slice_get-get_or}
 use Rattle.ncl_base.proofs.Members.{Contains-from_slice_get}
-use Rattle.ncl_gates.specs.declared.cell_kind.CellKind.TheVariants.{Gate, Register}
+use Rattle.ncl_gates.proofs.RegisterLaws.{register_no_gate}
 use Rattle.ncl_netlist.specs.declared.ids.NetId.{NetId}
 use Rattle.ncl_netlist.specs.declared.cell.Cell.{Cell}
 use Rattle.ncl_netlist.specs.Netlist.{NetlistData, IsNetlist}
@@ -36,9 +36,7 @@ module _ (n : NetlistData) (is : IsNetlist n) (first last root : ℕ) (is_root :
     ];
     no_gate = λ c in_c gate from.
         let (kind, is_gate) = gate in
-        let register : c.kind ≡ Register = (cells c in_c from).0 in
-        let clash : Gate kind ≡ Register = sym is_gate ∙ register in
-        absurd cc;
+        register_no_gate c.kind (cells c in_c from).0 kind is_gate;
   }
 
   -- and where it is closed each cell and each port is

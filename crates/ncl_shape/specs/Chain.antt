@@ -3,7 +3,7 @@ use Rattle.std.specs.Prelude.{◌≡◌, ℕ, zero, suc, ◌+◌, ◌<◌, ◌�
 use Rattle.ncl_gates.specs.Cell.{pins_of}
 use Rattle.ncl_netlist.specs.declared.cell.Cell.{Cell}
 use Rattle.ncl_netlist.specs.Netlist.{NetlistData}
-use Rattle.ncl_origin.specs.Origin.{IsCell, IsGate, IsRegister, OnPin, A, IsInputPort, IsOutputPort, IsOfBank, RailOf, AckOf, ComesFrom, HasOnlyOrigin}
+use Rattle.ncl_origin.specs.Origin.{IsCell, IsGate, IsRegister, OnPin, A, IsInputPort, IsOutputPort, IsOfBank, IsDataBank, RailOf, AckOf, ComesFrom, HasOnlyOrigin}
 use Rattle.ncl_origin.specs.Rules.{IsRequest}
 
 -- a bank, named by its request
@@ -100,6 +100,10 @@ pub record HasOneRole (n : NetlistData) (net : ℕ) : Type 0 where
   pub one_name : (c d : Cell) (x y : List ℕ) → IsCell n c → IsCell n d → OnPinNamed c x net → OnPinNamed d y net → x ≡ y
   pub one_rail : (c d : Cell) → IsCell n c → IsCell n d → OnPin c A net → OnPin d A net → c ≡ d
 
+-- inner rule 9: no bank that is reset to DATA is followed by one, since between two words there has to be a NULL
+abbrev pub IsDataApart : NetlistData → Type 0
+IsDataApart n = (bank next : ℕ) → Follows n bank next → IsDataBank n bank → IsDataBank n next → ⊥
+
 -- the first and the last bank of a chain
 abbrev pub IsHead : List ℕ → ℕ → Type 0
 IsHead banks bank = slice_get banks 0 ≡ Some bank
@@ -107,7 +111,7 @@ IsHead banks bank = slice_get banks 0 ≡ Some bank
 abbrev pub IsEnd : List ℕ → ℕ → Type 0
 IsEnd banks bank = (k : ℕ) × (k + 1 ≡ length banks) × (slice_get banks k ≡ Some bank)
 
--- the inner rules by number, from 1. Those from the fifth on speak of the chain, which the fourth gives
+-- the inner rules by number, from 1. Those from the fifth to the seventh speak of the chain, which the fourth gives
 abbrev pub InnerRule : NetlistData → ℕ → Type 0
 InnerRule n zero = Unit {0}
 InnerRule n (suc zero) = HasRegister n
@@ -117,7 +121,8 @@ InnerRule n (suc (suc (suc (suc zero)))) = HasChain n
 InnerRule n (suc (suc (suc (suc (suc zero))))) = (banks : List ℕ) → IsChain n banks → IsAcknowledged n banks
 InnerRule n (suc (suc (suc (suc (suc (suc zero)))))) = (banks : List ℕ) → IsChain n banks → HasRoots n banks
 InnerRule n (suc (suc (suc (suc (suc (suc (suc zero))))))) = (banks : List ℕ) (first last : ℕ) → IsChain n banks → IsHead banks first → IsEnd banks last → IsClosed n first last
-InnerRule n (suc (suc (suc (suc (suc (suc (suc (suc r)))))))) = (net : ℕ) → IsInputPort n net → HasOneRole n net
+InnerRule n (suc (suc (suc (suc (suc (suc (suc (suc zero)))))))) = (net : ℕ) → IsInputPort n net → HasOneRole n net
+InnerRule n (suc (suc (suc (suc (suc (suc (suc (suc (suc r))))))))) = IsDataApart n
 
 -- the banks form a chain by all inner rules
 abbrev pub IsChained : NetlistData → Type 0
@@ -125,6 +130,6 @@ IsChained n = (r : ℕ) → InnerRule n r
 
 -- the least inner rule that fails
 pub record BreaksInner (n : NetlistData) (r : ℕ) : Type 0 where
-  pub known : r ≤ 8
+  pub known : r ≤ 9
   pub broken : InnerRule n r → ⊥
   pub before : (q : ℕ) → q < r → InnerRule n q

@@ -5,12 +5,14 @@ use ncl_netlist::{CellId, NetId};
 /// The most banks of a pipeline.
 pub const MOST_BANKS: usize = 256;
 
-/// A bit of a bank: the register cells of its rails, and the acknowledge cell that reads them.
+/// A bit of a bank: the register cells of its rails, the acknowledge cell that reads them, and the value to which it is
+/// reset, `None` where that is NULL.
 #[derive(Clone, Copy, Debug, Default, PartialEq, Eq)]
 pub struct Bit {
     pub rail0: CellId,
     pub rail1: CellId,
     pub ack: CellId,
+    pub start: Option<bool>,
 }
 
 /// A register bank: its bits, its request (the net on the B pins of its register cells) and its root

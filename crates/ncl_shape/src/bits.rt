@@ -1,11 +1,12 @@
 //! The bits of the banks.
-ghost use Rattle.std.specs.Prelude.{◌≡◌, IfOk, map};
+ghost use Rattle.std.specs.Prelude.{◌≡◌, ◌<◌, IfOk, length, map};
 ghost use Rattle.std.specs.List.{AllZip};
 ghost use Rattle.ncl_origin.specs.Origin.{CellAt, IsAck};
 ghost use Rattle.ncl_origin.specs.Free.{IsFree};
 ghost use Rattle.ncl_origin.specs.GateGraph.{AreDrivers};
 ghost use Rattle.ncl_origin.specs.Origins.{AreOrigins};
 ghost use Rattle.ncl_shape.specs.FoundChain.{IsChainOf, requests_of};
+ghost use Rattle.ncl_shape.specs.FoundParts.{IsStart};
 ghost use Rattle.ncl_shape.specs.Shape.{AreBitsOf, IsBitOf};
 
 use crate::bank::Bit;
@@ -14,8 +15,24 @@ use crate::chain::Chain;
 use ncl_base::Memory;
 use ncl_gates::CellKind;
 use ncl_netlist::{Cell, CellId, NetId, Netlist};
-use ncl_origin::{Origins, register_behind};
+use ncl_origin::{Origins, is_data_behind, register_behind};
 use std::alloc::Global;
+
+/// The value to which the bit is reset whose rails are two nets; `None` for NULL.
+fn reset_value(netlist: &Netlist, drivers: &[Option<u32>], low: NetId, high: NetId) -> Option<bool>
+    requires drivers { AreDrivers netlist.now drivers.now }
+    requires low { low.0 < length netlist.now.nets }
+    requires high { high.0 < length netlist.now.nets }
+    ensures { IsStart netlist.now low.0 high.0 result }
+{
+    if is_data_behind(netlist, drivers, high) {
+        return Some(true);
+    }
+    if is_data_behind(netlist, drivers, low) {
+        return Some(false);
+    }
+    None
+}
 
 /// The bit of the acknowledge cell at a place, and its bank.
 fn bit_of(netlist: &Netlist, drivers: &[Option<u32>], place: u32, cell: &Cell) -> (NetId, Bit)
@@ -36,6 +53,7 @@ fn bit_of(netlist: &Netlist, drivers: &[Option<u32>], place: u32, cell: &Cell) -
         rail0: CellId(zero),
         rail1: CellId(one),
         ack: CellId(place),
+        start: reset_value(netlist, drivers, cell.ins[0], cell.ins[1]),
     };
     (bank, bit)
 }

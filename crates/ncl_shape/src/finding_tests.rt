@@ -63,7 +63,7 @@ const ADDER: &str =
 
 /// A netlist, what is changed in it, by `old > new`, and what is answered then. Each unchanged one has a shape, so that
 /// the least change that mends a netlist is to undo one. The last two break two rules.
-const ANSWERS: [(&str, &str, &str, u32); 37] = [
+const ANSWERS: [(&str, &str, &str, u32); 43] = [
     (WIRES, "", "banks", 2),
     (GATES, "", "banks", 2),
     (THREE, "", "banks", 3),
@@ -78,6 +78,8 @@ const ANSWERS: [(&str, &str, &str, u32); 37] = [
         2,
     ),
     (TREES, "TH22 m e f > TH33 m e f f", "banks", 2),
+    (THREE, "TH22N v > TH22D v", "banks", 3),
+    (THREE, "TH22N s > TH22D s | TH22N u > TH22D u", "banks", 3),
     (WIRES, "in x0 > in y x0", "unused port", 0),
     (GATES, "g p0 p1 m > g p0 n m", "cycle", 4),
     (WIRES, "k p0 p1 ko > k p0 p0 ko", "unpaired", 0),
@@ -89,7 +91,14 @@ const ANSWERS: [(&str, &str, &str, u32); 37] = [
         "unpaired",
         2,
     ),
+    (
+        THREE,
+        "TH22N q > TH22D q | TH22N v > TH22D v",
+        "unpaired",
+        5,
+    ),
     (GATES, "g p0 p1 m > g p0 c m", "mixed", 3),
+    (TREES, "TH22N s > TH22D s", "mixed", 5),
     (THREE, "u v1 > u p1", "mixed", 7),
     (WIRES, "t p0 ki rst > t p0 ki c", "mixed", 3),
     (WIRES, "t p0 ki > t c ki", "mixed", 3),
@@ -119,6 +128,18 @@ const ANSWERS: [(&str, &str, &str, u32); 37] = [
     (WIRES, "z1 c > z1 c;TH12 g z0 z1 m", "no chain", 7),
     (WIRES, "in x0 x1 > in x1 | r x0 > r rst", "no chain", 8),
     (WIRES, "in x0 x1 > in x1 | r x0 > r x1", "no chain", 8),
+    (
+        WIRES,
+        "TH22N r > TH22D r | TH22N u > TH22D u",
+        "no chain",
+        9,
+    ),
+    (
+        THREE,
+        "TH22N v > TH22D v | TH22N t > TH22D t",
+        "no chain",
+        9,
+    ),
     (
         GATES,
         "in x0 > in y x0 | g p0 p1 m > g p0 n m",
@@ -154,20 +175,20 @@ fn names_the_first_broken_rule(rt: HostRuntime) -> Result<(), Fail> {
     Ok(())
 }
 
-/// Three banks of two, two and one bits, with gates in both stages, in no order.
+/// Three banks of two, two and one bits, with gates in both stages, in no order. The second bank is reset to DATA.
 const SHUFFLED: &str =
     "in x0 x1 y0 y1 ki rst;out z0 z1 ko;TH12B a2 q0 q1 e2;TH12 h1 v0 u0 w1;TH22N t2 w1 ki rst z1;\
     TH12B b1 v0 v1 f1;TH12 g1 p0 q0 m1;TH22N s4 q1 d rst u1;TH12B c1 z0 z1 d;\
-    TH22N t1 w2 ki rst z0;TH22 m e1 e2 ko;TH23w2 h2 w1 v1 u1 w2;TH22N s3 m2 d rst u0;\
+    TH22N t1 w2 ki rst z0;TH22 m e1 e2 ko;TH23w2 h2 w1 v1 u1 w2;TH22D s3 m2 d rst u0;\
     TH12B b2 u0 u1 f2;TH22 g2 m1 q1 m2;TH22N r1 x0 c rst p0;TH33 g3 m2 p1 m1 m3;\
     TH22N s1 m4 d rst v0;TH22N r4 y1 c rst q1;TH22 n f1 f2 c;TH22N r3 y0 c rst q0;\
-    TH22N r2 x1 c rst p1;TH22N s2 m3 d rst v1;TH12B a1 p0 p1 e1;THxor0 g4 p0 q1 p1 m3 m4";
+    TH22N r2 x1 c rst p1;TH22D s2 m3 d rst v1;TH12B a1 p0 p1 e1;THxor0 g4 p0 q1 p1 m3 m4";
 
-/// Its banks, each with request, root and the places of the cells of its bits; its stages, each with its rails and its
-/// cells; its inputs, outputs and acknowledges.
-const SHUFFLED_SHAPE: &str = "bank 25 8 18-16-0 13-19-21; \
-    bank 19 25 15-20-3 10-5-11; \
-    bank 4 19 7-2-6; \
+/// Its banks, each with request, root, and for each bit the places of its cells and the value to which it is reset; its
+/// stages, each with its rails and its cells; its inputs, outputs and acknowledges.
+const SHUFFLED_SHAPE: &str = "bank 25 8 18-16-0 NULL 13-19-21 NULL; \
+    bank 19 25 15-20-3 1 10-5-11 0; \
+    bank 4 19 7-2-6 NULL; \
     stage 1; \
     in 9-10 17-26; \
     4 TH12 17 9 18; \
@@ -202,8 +223,21 @@ fn write_banks(alloc: Global, text: &mut String, banks: &[Bank]) -> Result<(), M
     for bank in banks {
         text.push_str(format!(in alloc; "bank {} {}", bank.request.0, bank.root.0)?.as_str())?;
         for bit in bank.bits.items() {
-            let Bit { rail0, rail1, ack } = *bit;
-            text.push_str(format!(in alloc; " {}-{}-{}", rail0.0, rail1.0, ack.0)?.as_str())?;
+            let Bit {
+                rail0,
+                rail1,
+                ack,
+                start,
+            } = *bit;
+            let value = match start {
+                None => "NULL",
+                Some(false) => "0",
+                Some(true) => "1",
+            };
+            text.push_str(format!(in alloc;
+                " {}-{}-{} {value}",
+                rail0.0, rail1.0, ack.0
+            )?.as_str())?;
         }
         text.push_str("; ")?;
     }

@@ -1,6 +1,7 @@
 //! Linear pipelines.
 ghost use Rattle.std.specs.Prelude.{◌≡◌};
 ghost use Rattle.ncl_shape.specs.Shape.{Shape};
+ghost use Rattle.ncl_shape.specs.Held.{data_banks, is_data_bank};
 
 use crate::bank::Bank;
 use crate::rails::Rails;
@@ -45,11 +46,19 @@ pub(crate) struct Parts {
     pub(crate) ko: NetId,
 }
 
+/// Whether a bank is reset to DATA. Linear in its bits.
+fn is_data_bank(bank: &Bank) -> bool
+    ensures { result ≡ is_data_bank bank.now }
+{
+    bank.bits.items().iter().any(|bit| bit.start.is_some())
+}
+
 impl<'a> Pipeline<'a> {
     /// The pipeline of a netlist and parts that are its shape. Takes no memory.
     pub(crate) fn of(netlist: &'a Netlist, parts: Parts) -> Pipeline<'a>
         requires { Shape netlist.now (record { netlist = netlist.now; banks = parts.banks; stages = parts.stages; inputs = parts.inputs; outputs = parts.outputs; ki = parts.ki.0; ko = parts.ko.0 }) }
-        ensures { Shape netlist.now result }
+        ensures parts { result ≡ record { netlist = netlist.now; banks = parts.banks; stages = parts.stages; inputs = parts.inputs; outputs = parts.outputs; ki = parts.ki.0; ko = parts.ko.0 } }
+        ensures shape { Shape netlist.now result }
     {
         let Parts {
             banks,
@@ -124,6 +133,19 @@ impl<'a> Pipeline<'a> {
         ensures shape { Shape self.now.netlist self.now }
     {
         self.ko
+    }
+
+    /// How many banks are reset to DATA, each of which holds a word at reset. Linear in the bits of the banks.
+    pub fn data_banks(&self) -> usize
+        ensures { result ≡ data_banks self.now.banks }
+    {
+        let mut count = 0;
+        for bank in self.banks() {
+            if is_data_bank(bank) {
+                count += 1;
+            }
+        }
+        count
     }
 
     /// That the netlist has the shape of this pipeline. Costs nothing.

@@ -14,6 +14,7 @@ pub mod ShapeEnds
 pub mod QueueLaws
 pub mod LookLaws
 pub mod Start
+pub mod WordsDue
 pub mod Quiet
 pub mod Turning
 pub mod TouchedLaws

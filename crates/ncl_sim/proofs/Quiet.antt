@@ -13,19 +13,19 @@ use Rattle.std.specs.Prelude.{All, slice_get}
 use Rattle.std.specs.Option.{option_map}
 use Rattle.std.proofs.lemmas.Option.{slice_get-map}
 use Rattle.ncl_netlist.specs.Netlist.{NetlistData}
-use Rattle.ncl_shape.specs.Closure.{function_of}
 use Rattle.ncl_shape.specs.Shape.{Shape}
 use Rattle.ncl_stage.specs.Faults.{IsSound}
 use Rattle.ncl_machine.specs.DelayInsensitive.{IsAtRest}
 use Rattle.ncl_machine.proofs.Headline.{rests_where_quiet, run_bound, safe}
 use Rattle.ncl_sim.specs.declared.trace.Taken.{Taken}
-use Rattle.ncl_sim.specs.TimedRun.{DeliversAll, Ends, IsLost, IsNext, IsTimedRun, TraceData, items_in, lost, most_steps, over, quiet, state_after}
+use Rattle.ncl_sim.specs.TimedRun.{DeliversAll, Ends, IsLost, IsNext, IsTimedRun, TraceData, items_in, lost, most_steps, over, quiet, state_after, words_due}
 use Rattle.ncl_sim.specs.declared.trace.End.{End}
 use Rattle.ncl_sim.specs.declared.trace.End.TheVariants.{Quiet}
 use Rattle.ncl_delay.specs.declared.fired.Fired.{Fired}
 use Rattle.ncl_sim.proofs.Existence.{run-more}
 use Rattle.ncl_sim.proofs.Looks.{state-more}
 use Rattle.ncl_sim.proofs.Oneness.{enabled_from_due}
+use Rattle.ncl_sim.proofs.WordsDue.{due-length}
 
 run-prefix_is : (p : PipelineData) (offered : List (List Bool)) (steps : List Fired) (last : Fired) → IsRun p offered (items_in (steps ++ last ∷ [])) → IsRun p offered (items_in steps)
 run-prefix_is p offered steps last run = prefix (reset p offered) steps run
@@ -61,7 +61,7 @@ ends_quiet p d offered t persistent bound is = by_end t.end is.ends
 pub sound-ends_quiet : (n : NetlistData) (p : PipelineData) (d : DelaysData) (offered : List (List Bool)) (t : TraceData) → Shape n p → All IsSound p.stages → AreWordsOf p offered → IsTimedRun p d offered t → t.end ≡ Quiet
 sound-ends_quiet n p d offered t shape sound words is =
     ends_quiet p d offered t (λ items run. (safe n p shape sound).persistent offered items words run)
-    (λ items run. subst (λ (m : NetlistData). length items ≤ 2 * length offered * length m.nets) (sym shape.netlist) (run_bound n p shape sound offered items words run))
+    (λ items run. subst (λ (m : NetlistData). length items ≤ 2 * words_due p offered * length m.nets) (sym shape.netlist) (run_bound n p shape sound offered items words run))
     is
 
 -- and where it does, it is at rest
@@ -70,7 +70,7 @@ sound-delivers n p d offered t shape sound words is =
     let still : IsQuiet p (state_after p offered t.steps) = quiet_at t.end (sound-ends_quiet n p d offered t shape sound words is) is.ends in
     let rest : IsAtRest p offered (state_after p offered t.steps) = rests_where_quiet n p shape sound offered (items_in t.steps) words is.run still in
     record {
-      as_many = sym (length-map t.delivered (λ (x : Taken). x.pair)) ∙ ap length is.pairs ∙ rest.delivered ∙ length-map offered (function_of p);
+      as_many = sym (length-map t.delivered (λ (x : Taken). x.pair)) ∙ ap length is.pairs ∙ rest.delivered ∙ due-length p offered;
       each = λ k taken at.
           (safe n p shape sound).due offered (items_in t.steps) words is.run k taken.pair
           (ap (λ pairs. slice_get pairs k) (sym is.pairs) ∙ slice_get-map (λ (x : Taken). x.pair) t.delivered k ∙ ap (option_map (λ (x : Taken). x.pair)) at);

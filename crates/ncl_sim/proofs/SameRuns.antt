@@ -12,35 +12,18 @@ use Rattle.ncl_shape.proofs.ShapeLaws.{shape_is_one}
 use Rattle.ncl_machine.specs.State.{State, reset}
 use Rattle.ncl_machine.specs.Steps.{enabled, step}
 use Rattle.ncl_machine.specs.Run.{IsRunFrom, after}
+use Rattle.ncl_machine.proofs.SamePipelineLaws.{with_stages, enabled-same, step-same, after-same, run-same, other-is}
 use Rattle.ncl_delay.specs.Delays.{DelaysData, delay_of}
 use Rattle.ncl_delay.specs.declared.fired.Fired.{Fired}
 use Rattle.ncl_sim.specs.Numbers.{number_of, rises}
 use Rattle.ncl_sim.specs.TimedRun.{ComesFirst, Ends, IsLost, IsNext, IsTimedRun, LosesNone, TraceData, due_after, due_along, due_from, due_next, due_step, items_in, lost, over, quiet, state_after}
 use Rattle.ncl_sim.specs.declared.trace.End.{End}
 
--- a pipeline with other stages
-abbrev with_stages : PipelineData → List StageData → PipelineData
-with_stages p stages = record p { stages = stages }
-
 module _ (p : PipelineData) (stages : List StageData) where
   abbrev q : PipelineData
   q = with_stages p stages
 
-  -- ---- its items do what the pipeline's do
-
-  enabled-same : (s : State) (item : Item) → enabled q s item ≡ enabled p s item
-  enabled-same s (Fire cell) = refl
-  enabled-same s (Raise bit) = refl
-  enabled-same s (Lower bit) = refl
-  enabled-same s Take = refl
-  enabled-same s Ready = refl
-
-  step-same : (s : State) (item : Item) → step q s item ≡ step p s item
-  step-same s (Fire cell) = refl
-  step-same s (Raise bit) = refl
-  step-same s (Lower bit) = refl
-  step-same s Take = refl
-  step-same s Ready = refl
+  -- ---- its items have the numbers and the directions of the pipeline's
 
   number-same : (item : Item) → number_of q item ≡ number_of p item
   number-same (Fire cell) = refl
@@ -58,20 +41,11 @@ module _ (p : PipelineData) (stages : List StageData) where
 
   -- ---- so they lead to the same states
 
-  after-same : (items : List Item) (s : State) → after q s items ≡ after p s items
-  after-same [] s = refl
-  after-same (item ∷ items) s = ap (λ t. after q t items) (step-same s item) ∙ after-same items (step p s item)
-
   state-same : (offered : List (List Bool)) (steps : List Fired) → state_after q offered steps ≡ state_after p offered steps
-  state-same offered steps = after-same (items_in steps) (reset p offered)
+  state-same offered steps = after-same p stages (items_in steps) (reset p offered)
 
   enabled_after-same : (offered : List (List Bool)) (steps : List Fired) (item : Item) → enabled q (state_after q offered steps) item ≡ enabled p (state_after p offered steps) item
-  enabled_after-same offered steps item = enabled-same (state_after q offered steps) item ∙ ap (λ s. enabled p s item) (state-same offered steps)
-
-  run-same : (items : List Item) (s : State) → IsRunFrom p s items → IsRunFrom q s items
-  run-same [] s run = tt
-  run-same (item ∷ items) s (on, run) =
-      (enabled-same s item ∙ on, subst (λ t. IsRunFrom q t items) (sym (step-same s item)) (run-same items (step p s item) run))
+  enabled_after-same offered steps item = enabled-same p stages (state_after q offered steps) item ∙ ap (λ s. enabled p s item) (state-same offered steps)
 
   -- ---- and are due at the same times
 
@@ -88,19 +62,19 @@ module _ (p : PipelineData) (stages : List StageData) where
       let due : due_next q d s item (number_of q f.item == number_of q item) f.time before ≡ due_next p d s item (number_of p f.item == number_of p item) f.time before =
       next_due-same d s item (number_of q f.item == number_of q item) f.time before
       ∙ (λ i. due_next p d s item (number-same f.item i == number-same item i) f.time before) in
-      λ i. if enabled-same s item i then due i else None
+      λ i. if enabled-same p stages s item i then due i else None
 
   along-same : (d : DelaysData) (item : Item) (s : State) (before : Option ℕ) (steps : List Fired) → due_along q d item s before steps ≡ due_along p d item s before steps
   along-same d item s before [] = refl
   along-same d item s before (f ∷ steps) =
-      ap (λ t. due_along q d item t (due_step q d t f item before) steps) (step-same s f.item)
+      ap (λ t. due_along q d item t (due_step q d t f item before) steps) (step-same p stages s f.item)
       ∙ ap (λ due. due_along q d item (step p s f.item) due steps) (step_due-same d (step p s f.item) f item before)
       ∙ along-same d item (step p s f.item) (due_step p d (step p s f.item) f item before) steps
 
   due-same : (d : DelaysData) (offered : List (List Bool)) (steps : List Fired) (item : Item) → due_after q d offered steps item ≡ due_after p d offered steps item
   due-same d offered steps item =
       ap (λ due. due_along q d item (reset p offered) due steps)
-      (λ i. if enabled-same (reset p offered) item i then from-same d (reset p offered) item 0 i else None)
+      (λ i. if enabled-same p stages (reset p offered) item i then from-same d (reset p offered) item 0 i else None)
       ∙ along-same d item (reset p offered) (if enabled p (reset p offered) item then due_from p d (reset p offered) item 0 else None) steps
 
   -- ---- so the same entry is next, and the same items are lost
@@ -147,7 +121,7 @@ ends-same p stages offered steps end (over none many item on) =
 
 timed-same : (p : PipelineData) (stages : List StageData) (d : DelaysData) (offered : List (List Bool)) (t : TraceData) → IsTimedRun p d offered t → IsTimedRun (with_stages p stages) d offered t
 timed-same p stages d offered t is = record {
-  run = run-same p stages (items_in t.steps) (reset p offered) is.run;
+  run = run-same (with_stages p stages) p.stages (items_in t.steps) (reset p offered) is.run;
   next = λ before rest f at. next-same p stages d offered before f (is.next before rest f at);
   goes_on = λ before rest f end at ends. is.goes_on before rest f end at (ends-same (with_stages p stages) p.stages offered before end ends);
   ends = ends-same p stages offered t.steps t.end is.ends;
@@ -159,6 +133,4 @@ timed-same p stages d offered t is = record {
 pub same_runs : (n : NetlistData) (p : PipelineData) (q : PipelineData) (d : DelaysData) (offered : List (List Bool)) (t : TraceData) → Shape n p → Shape n q → IsTimedRun p d offered t → IsTimedRun q d offered t
 same_runs n p q d offered t shape_p shape_q is =
     let same : IsSamePipeline p q = shape_is_one n shape_p.is_netlist p q shape_p shape_q in
-    subst (λ (r : PipelineData). IsTimedRun r d offered t)
-    (λ i. record { netlist = same.netlist i; banks = same.banks i; stages = q.stages; inputs = same.inputs i; outputs = same.outputs i; ki = same.ki i; ko = same.ko i })
-    (timed-same p q.stages d offered t is)
+    subst (λ (r : PipelineData). IsTimedRun r d offered t) (other-is p q same) (timed-same p q.stages d offered t is)

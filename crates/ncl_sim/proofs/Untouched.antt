@@ -3,7 +3,7 @@ use Rattle.std.proofs.Common.{◌≡◌, ℕ, Bool, true, false, cond, List, [],
 use Rattle.std.proofs.lemmas.Bool.{eq-eqb, ne_eqb}
 use Rattle.ncl_gates.specs.declared.kind.Kind.TheVariants.{Th22}
 use Rattle.ncl_gates.specs.declared.cell_kind.CellKind.{CellKind}
-use Rattle.ncl_gates.specs.declared.cell_kind.CellKind.TheVariants.{Gate, Register, Ack}
+use Rattle.ncl_gates.specs.declared.cell_kind.CellKind.TheVariants.{Gate, Register, RegisterData, Ack}
 use Rattle.ncl_gates.specs.Gate.{set_of, some_high}
 use Rattle.ncl_gates.specs.Cell.{next_of_cell}
 use Rattle.ncl_netlist.specs.declared.ids.NetId.{NetId}
@@ -46,6 +46,7 @@ settled false false old = refl
 settles : (kind : CellKind) (ins : List Bool) (old : Bool) → next_of_cell kind ins (next_of_cell kind ins old) ≡ next_of_cell kind ins old
 settles (Gate kind) ins old = settled (set_of kind ins) (some_high ins) old
 settles Register ins old = settled (set_of Th22 (take 2 ins)) (some_high (take 2 ins)) old
+settles RegisterData ins old = settled (set_of Th22 (take 2 ins)) (some_high (take 2 ins)) old
 settles Ack ins old = refl
 
 -- a cell that has stepped and doesn't read its own output isn't excited

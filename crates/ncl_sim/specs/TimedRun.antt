@@ -3,10 +3,11 @@ use Rattle.std.specs.Prelude.{◌≡◌, ◌≢◌, ◌⊎◌, ℕ, ◌+◌, ◌
 use Rattle.ncl_shape.specs.declared.item.Item.{Item}
 use Rattle.ncl_shape.specs.declared.item.Item.TheVariants.{Take}
 use Rattle.ncl_shape.specs.Pipeline.{PipelineData}
+use Rattle.ncl_shape.specs.Held.{data_banks}
 use Rattle.ncl_machine.specs.State.{State, reset}
 use Rattle.ncl_machine.specs.Steps.{enabled, step}
 use Rattle.ncl_machine.specs.Run.{IsRun, IsQuiet, after}
-use Rattle.ncl_machine.specs.DelayInsensitive.{Carries, due as words_due}
+use Rattle.ncl_machine.specs.DelayInsensitive.{Carries, due as all_due}
 use Rattle.ncl_delay.specs.Delays.{DelaysData, delay_of}
 use Rattle.ncl_sim.specs.Numbers.{number_of, rises}
 use Rattle.ncl_delay.specs.declared.fired.Fired.{Fired}
@@ -71,9 +72,13 @@ pub record IsLost (p : PipelineData) (offered : List (List Bool)) (steps : List 
 abbrev pub LosesNone : PipelineData → List (List Bool) → List Fired → Type 0
 LosesNone p offered steps = (item : Item) → IsLost p offered steps item → ⊥
 
--- the most steps of a run
+-- how many words are due: those that banks hold at reset, one for each that is reset to DATA, and those offered
+abbrev pub words_due : PipelineData → List (List Bool) → ℕ
+words_due p offered = data_banks p.banks + length offered
+
+-- the most steps of a run: two of each net for each word that is due
 abbrev pub most_steps : PipelineData → List (List Bool) → ℕ
-most_steps p offered = 2 * length offered * length p.netlist.nets
+most_steps p offered = 2 * words_due p offered * length p.netlist.nets
 
 -- a run ends after these steps
 pub data Ends (p : PipelineData) (offered : List (List Bool)) (steps : List Fired) : End → Type 0 where
@@ -104,5 +109,5 @@ pub record IsTimedRun (p : PipelineData) (d : DelaysData) (offered : List (List 
 
 -- every word that is due is delivered, in order and in dual-rail form
 pub record DeliversAll (p : PipelineData) (offered : List (List Bool)) (t : TraceData) : Type 0 where
-  pub as_many : length t.delivered ≡ length offered
-  pub each : (k : ℕ) (taken : Taken) → slice_get t.delivered k ≡ Some taken → (word : List Bool) × (slice_get (words_due p offered) k ≡ Some word) × Carries word taken.pair
+  pub as_many : length t.delivered ≡ words_due p offered
+  pub each : (k : ℕ) (taken : Taken) → slice_get t.delivered k ≡ Some taken → (word : List Bool) × (slice_get (all_due p offered) k ≡ Some word) × Carries word taken.pair

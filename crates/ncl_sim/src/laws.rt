@@ -18,7 +18,7 @@ pub fn one_timed_run()
 {}
 
 /// A pipeline of sound stages runs to its end at all delays: its timed run ends where nothing can move any more,
-/// and every word has been delivered then.
+/// and every word that is due has been delivered then.
 pub fn sound_run_ends_quiet()
     ensures quiet { (n : NetlistData) (p : PipelineData) (d : DelaysData) (offered : List (List Bool)) (t : TraceData) → Shape n p → All IsSound p.stages → AreWordsOf p offered → IsTimedRun p d offered t → t.end ≡ Quiet }
     ensures delivered { (n : NetlistData) (p : PipelineData) (d : DelaysData) (offered : List (List Bool)) (t : TraceData) → Shape n p → All IsSound p.stages → AreWordsOf p offered → IsTimedRun p d offered t → DeliversAll p offered t }

@@ -115,7 +115,7 @@ impl Run {
         requires touched { HasTouched pipeline.now touched.now }
         requires under_way { IsUnderWay pipeline.now delays.now self.old }
         requires most { most ≡ most_steps pipeline.now self.old.state.offered }
-        requires few { most ≤ 2 ^ 42 }
+        requires few { most ≤ 2 ^ 43 }
         requires begun { length self.old.steps.items ≤ most }
         ensures stopped { IfOk result (IsStopped pipeline.now delays.now self.new) }
         ensures offered { OnOk result (self.new.state.offered ≡ self.old.state.offered) }

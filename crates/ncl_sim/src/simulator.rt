@@ -49,10 +49,11 @@ fn delivered(alloc: Global, steps: &[Fired], pairs: &[Pair]) -> Result<Vec<Taken
 /// enabled for its delay, and of those that are due at one time the one of the least number first.
 ///
 /// Answers the steps, what was delivered and how the run ends. Fails where memory is refused. A pipeline of sound stages
-/// ends quiet, with every word delivered, at any delays.
+/// ends quiet, with every word delivered that is due, at any delays: those that its banks hold at reset, the last bank's
+/// first, and then those offered.
 ///
-/// It takes memory for the steps, of which there are at most twice as many as words times nets, and each step takes the
-/// time of what reads its net, and the logarithm of how many items wait.
+/// It takes memory for the steps, of which there are at most twice as many as words due times nets, and each step takes
+/// the time of what reads its net, and the logarithm of how many items wait.
 pub fn simulate(
     alloc: Global,
     pipeline: &Pipeline,
@@ -69,7 +70,8 @@ pub fn simulate(
     let touched = touched_of(alloc, pipeline)?;
     let mut run = Run::begin(alloc, pipeline, delays, words)?;
     let nets = pipeline.netlist().nets().len();
-    let most = 2 * words.len() as u64 * nets as u64;
+    let due = pipeline.data_banks() + words.len();
+    let most = 2 * due as u64 * nets as u64;
     let end = run.finish(pipeline, delays, &touched, most)?;
     let taken = delivered(alloc, &run.steps, run.state.delivered())?;
     let Run {

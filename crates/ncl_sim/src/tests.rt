@@ -81,22 +81,6 @@ TH22 dt(.A(f1),.B(f2),.Z(c));
 endmodule
 ";
 
-/// Three banks of one bit.
-const THREE: &str = "module t(x1_0,x1_1,ki,rst,z1_0,z1_1,ko);
-input x1_0,x1_1,ki,rst;
-output z1_0,z1_1,ko;
-TH22N r1_0(.A(x1_0),.B(c1),.RST(rst),.Z(p1_0));
-TH22N r1_1(.A(x1_1),.B(c1),.RST(rst),.Z(p1_1));
-TH12B k1(.A(p1_0),.B(p1_1),.Z(ko));
-TH22N q1_0(.A(p1_0),.B(c2),.RST(rst),.Z(v1_0));
-TH22N q1_1(.A(p1_1),.B(c2),.RST(rst),.Z(v1_1));
-TH12B h1(.A(v1_0),.B(v1_1),.Z(c1));
-TH22N s1_0(.A(v1_0),.B(ki),.RST(rst),.Z(z1_0));
-TH22N s1_1(.A(v1_1),.B(ki),.RST(rst),.Z(z1_1));
-TH12B d1(.A(z1_0),.B(z1_1),.Z(c2));
-endmodule
-";
-
 /// A first bank, the cells of a stage, the nets of its output, delays and words, and what the run is to be: what is
 /// delivered, how it ends, the time of the last step, and the count of steps.
 struct Row {
@@ -373,18 +357,41 @@ fn thrown(alloc: Global, seed: u64, cells: &[&str]) -> Result<String, Memory> {
     Ok(text)
 }
 
+/// Three banks of one bit, with these register cells for rail 0 of the first and rail 1 of the last.
+fn three_banks(alloc: Global, first: &str, last: &str) -> Result<String, Memory> {
+    let mut text = String::new(alloc);
+    text.push_str("module t(x1_0,x1_1,ki,rst,z1_0,z1_1,ko);\n")?;
+    text.push_str("input x1_0,x1_1,ki,rst;\noutput z1_0,z1_1,ko;\n")?;
+    text.push_str(&format!(in alloc; "{first} r1_0(.A(x1_0),.B(c1),.RST(rst),.Z(p1_0));\n")?)?;
+    text.push_str("TH22N r1_1(.A(x1_1),.B(c1),.RST(rst),.Z(p1_1));\n")?;
+    text.push_str("TH12B k1(.A(p1_0),.B(p1_1),.Z(ko));\n")?;
+    text.push_str("TH22N q1_0(.A(p1_0),.B(c2),.RST(rst),.Z(v1_0));\n")?;
+    text.push_str("TH22N q1_1(.A(p1_1),.B(c2),.RST(rst),.Z(v1_1));\n")?;
+    text.push_str("TH12B h1(.A(v1_0),.B(v1_1),.Z(c1));\n")?;
+    text.push_str("TH22N s1_0(.A(v1_0),.B(ki),.RST(rst),.Z(z1_0));\n")?;
+    text.push_str(&format!(in alloc; "{last} s1_1(.A(v1_1),.B(ki),.RST(rst),.Z(z1_1));\n")?)?;
+    text.push_str("TH12B d1(.A(z1_0),.B(z1_1),.Z(c2));\nendmodule\n")?;
+    Ok(text)
+}
+
+/// The kinds of two register cells, and the words that are due: those held at reset, the last bank's first, and those
+/// offered.
+const HELD_AND_OFFERED: [(&str, &str, &str); 2] = [
+    ("TH22N", "TH22N", "1 0 0 1 "),
+    ("TH22D", "TH22D", "1 0 1 0 0 1 "),
+];
+
 #[test]
-fn delivers_the_same_words_at_all_delays(rt: HostRuntime) -> Result<(), Fail> {
+fn delivers_the_words_due_at_all_delays(rt: HostRuntime) -> Result<(), Fail> {
     let alloc = rt.alloc();
-    for seed in 0..1000 {
-        let delays = thrown(alloc, seed, &OF_THREE)?;
-        let trace = run(alloc, THREE, delays.as_bytes(), b"1\n0\n0\n1\n")?;
-        assert_eq!(rt;
-            without_times(alloc, &trace)?.as_str(),
-            "1 0 0 1 ",
-            "at {seed}"
-        );
-        assert_eq!(rt; trace.end, End::Quiet, "at {seed}");
+    for (first, last, due) in HELD_AND_OFFERED {
+        let netlist = three_banks(alloc, first, last)?;
+        for seed in 0..1000 {
+            let delays = thrown(alloc, seed, &OF_THREE)?;
+            let trace = run(alloc, &netlist, delays.as_bytes(), b"1\n0\n0\n1\n")?;
+            assert_eq!(rt; without_times(alloc, &trace)?.as_str(), due, "at {seed}");
+            assert_eq!(rt; trace.end, End::Quiet, "at {seed}");
+        }
     }
     Ok(())
 }

@@ -10,7 +10,7 @@ use Rattle.ncl_machine.proofs.UnsoundLaws.{of_one_bit}
 use Rattle.ncl_machine.proofs.examples.word_through_a_chain.Goals as goal
 
 pub returns-clause-netlist : goal.returns-clause-netlist
-returns-clause-netlist c = netlist_from_tests chain (record { driven = refl; fits = refl; ports_first = refl; in_order = refl; net_names = refl; cell_names = refl; few_cells = omega arith; few_nets = omega arith })
+returns-clause-netlist c = netlist_from_tests chain (record { driven = refl; fits = refl; ports_first = refl; in_order = refl; net_names = refl; cell_names = refl; few_cells = omega arith; few_nets = omega arith; few_ports = omega arith })
 
 pub returns-clause-stage : goal.returns-clause-stage
 returns-clause-stage c = IsStage-from_test chain_stage refl

@@ -1,4 +1,4 @@
-use Rattle.std.proofs.Common.{◌≡◌, ℕ, length, take, get_or, Option, None}
+use Rattle.std.proofs.Common.{◌≡◌, ℕ, length, take, get_or, None}
 use Rattle.ncl_machine.specs.Tallies.{mate_in}
 use Rattle.ncl_machine.proofs.levels.mates_of.Given as goal
 

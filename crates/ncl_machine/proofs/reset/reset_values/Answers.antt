@@ -1,4 +1,4 @@
-use Rattle.std.proofs.Common.{length, drop, sym, ap, ◌∙◌, arith}
+use Rattle.std.proofs.Common.{length, drop, ap, ◌∙◌, arith}
 use Rattle.std.proofs.lemmas.List.{take_at}
 use Rattle.ncl_machine.specs.Held.{value_of}
 use Rattle.ncl_machine.proofs.reset.reset_values.Goals as goal

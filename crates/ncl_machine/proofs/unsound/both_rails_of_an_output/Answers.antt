@@ -8,7 +8,7 @@ use Rattle.ncl_machine.proofs.UnsoundLaws.{illegal_stage-breaks}
 use Rattle.ncl_machine.proofs.unsound.both_rails_of_an_output.Goals as goal
 
 pub returns-clause-netlist : goal.returns-clause-netlist
-returns-clause-netlist c = netlist_from_tests with_both_rails.netlist (record { driven = refl; fits = refl; ports_first = refl; in_order = refl; net_names = refl; cell_names = refl; few_cells = omega arith; few_nets = omega arith })
+returns-clause-netlist c = netlist_from_tests with_both_rails.netlist (record { driven = refl; fits = refl; ports_first = refl; in_order = refl; net_names = refl; cell_names = refl; few_cells = omega arith; few_nets = omega arith; few_ports = omega arith })
 
 pub returns-clause-stage : goal.returns-clause-stage
 returns-clause-stage c = IsStage-from_test illegal_stage refl

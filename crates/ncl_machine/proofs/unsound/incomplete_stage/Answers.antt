@@ -6,7 +6,7 @@ use Rattle.ncl_machine.proofs.UnsoundLaws.{eager_stage-breaks}
 use Rattle.ncl_machine.proofs.unsound.incomplete_stage.Goals as goal
 
 pub returns-clause-netlist : goal.returns-clause-netlist
-returns-clause-netlist c = netlist_from_tests with_eager_and.netlist (record { driven = refl; fits = refl; ports_first = refl; in_order = refl; net_names = refl; cell_names = refl; few_cells = omega arith; few_nets = omega arith })
+returns-clause-netlist c = netlist_from_tests with_eager_and.netlist (record { driven = refl; fits = refl; ports_first = refl; in_order = refl; net_names = refl; cell_names = refl; few_cells = omega arith; few_nets = omega arith; few_ports = omega arith })
 
 pub returns-clause-stage : goal.returns-clause-stage
 returns-clause-stage c = IsStage-from_test eager_stage refl

@@ -10,7 +10,7 @@ use Rattle.ncl_machine.proofs.UnsoundLaws.{dead_stage-breaks}
 use Rattle.ncl_machine.proofs.unsound.no_rail_of_an_output.Goals as goal
 
 pub returns-clause-netlist : goal.returns-clause-netlist
-returns-clause-netlist c = netlist_from_tests with_dead_rail.netlist (record { driven = refl; fits = refl; ports_first = refl; in_order = refl; net_names = refl; cell_names = refl; few_cells = omega arith; few_nets = omega arith })
+returns-clause-netlist c = netlist_from_tests with_dead_rail.netlist (record { driven = refl; fits = refl; ports_first = refl; in_order = refl; net_names = refl; cell_names = refl; few_cells = omega arith; few_nets = omega arith; few_ports = omega arith })
 
 pub returns-clause-stage : goal.returns-clause-stage
 returns-clause-stage c = IsStage-from_test dead_stage refl

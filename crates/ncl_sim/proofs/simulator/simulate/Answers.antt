@@ -1,8 +1,24 @@
-use Rattle.std.proofs.Common.{◌∙◌, ap, map}
+use Rattle.std.proofs.Common.{◌∙◌, ◌+◌, ap, map, length, arith}
 use Rattle.ncl_sim.specs.declared.trace.Taken.{Taken}
 use Rattle.ncl_sim.proofs.Quiet.{sound-ends_quiet, sound-delivers}
+use Rattle.ncl_sim.proofs.WordsDue.{few_due, few_steps}
 use Rattle.ncl_sim.proofs.Stopped.{stopped-takes, stopped-run}
 use Rattle.ncl_sim.proofs.simulator.simulate.Goals as goal
+
+pub finish-requires-clause-few : goal.finish-requires-clause-few
+finish-requires-clause-few c =
+    few_steps (c.data_banks.result + length c.args.words.now) (length c.nets-nets.result.now)
+    (omega (arith, few_due _ c.args.pipeline.now c.args.words.now c.facts.ensures, c.data_banks.ensures, c.requires.few))
+    (omega (arith, c.nets-nets.ensures.netlist.few_nets, ap length c.nets-nets.ensures.nets))
+
+pub overflow_mul-most-2 : goal.overflow_mul-most-2
+overflow_mul-most-2 c =
+    omega (
+      arith,
+      few_steps (c.data_banks.result + length c.args.words.now) (length c.nets-nets.result.now)
+          (omega (arith, few_due _ c.args.pipeline.now c.args.words.now c.facts.ensures, c.data_banks.ensures, c.requires.few))
+          (omega (arith, c.nets-nets.ensures.netlist.few_nets, ap length c.nets-nets.ensures.nets)),
+    )
 
 pub delivered-requires-2 : goal.delivered-requires-2
 delivered-requires-2 c =

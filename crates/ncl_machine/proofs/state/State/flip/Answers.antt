@@ -1,7 +1,7 @@
-use Rattle.std.proofs.Common.{◌≡◌, ◌<◌, ◌≤◌, not, length, sym, ap, ◌∙◌, subst}
+use Rattle.std.proofs.Common.{◌<◌, ◌≤◌, not, length, sym, subst}
 use Rattle.std.specs.Prelude.{Contains, vec_capacity}
 use Rattle.ncl_shape.specs.Stage.{rail_nets}
-use Rattle.ncl_machine.specs.Held.{Held, value_of}
+use Rattle.ncl_machine.specs.Held.{Held}
 use Rattle.ncl_machine.specs.Tallies.{LevelsData, IsCounted}
 use Rattle.ncl_machine.specs.contracts.state.State.{the_view}
 use Rattle.ncl_machine.proofs.SourceCounts.{apart-counted}
@@ -12,6 +12,6 @@ invariant_of-self c =
     let h : Held = the_view c.self.inside in
     let within = subst (λ (h : Held). c.args.net.0 < length h.values) (sym c.self.view_is) c.requires.within in
     let apart = subst (λ (h : Held). Contains (rail_nets h.inputs) c.args.net.0 → ⊥) (sym c.self.view_is) c.requires.apart in
-    subst (λ (d : LevelsData). IsCounted (record h { outputs = d.outputs; values = d.values }) c.self.inside.raised × (length c.self.inside.offered.items ≤ vec_capacity c.self.inside.delivered))
+    subst (λ (d : LevelsData). IsCounted (record h { outputs = d.outputs; values = d.values }) c.self.inside.raised × (c.self.inside.due ≤ vec_capacity c.self.inside.delivered))
     (sym c.put.ensures)
     (apart-counted h c.self.inside.raised c.self.invariant.0 c.args.net.0 (not c.value-value.result) within apart h.delivered, c.self.invariant.1)

@@ -1,4 +1,4 @@
-use Rattle.std.proofs.Common.{◌≡◌, take, ap, ◌∙◌, subst}
+use Rattle.std.proofs.Common.{◌≡◌, ap, ◌∙◌}
 use Rattle.std.proofs.lemmas.List.{take_all}
 use Rattle.ncl_gates.specs.Cell.{next_of_cell}
 use Rattle.ncl_shape.specs.Closure.{pin_values}

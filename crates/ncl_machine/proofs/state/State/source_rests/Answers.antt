@@ -1,4 +1,4 @@
-use Rattle.std.proofs.Common.{◌≡◌, ℕ, ◌<◌, ◌≤◌, Bool, true, false, not, ◌&&◌, length, List, Option, None, Some, inl, inr, refl, ap, ◌∙◌, sym, subst, arith}
+use Rattle.std.proofs.Common.{◌≡◌, ℕ, ◌≤◌, Bool, true, false, not, ◌&&◌, length, List, Option, None, Some, inl, inr, refl, ap, sym, subst, arith}
 use Rattle.std.specs.Prelude.{slice_get}
 use Rattle.std.proofs.lemmas.Bool.{and_right, cases_lt}
 use Rattle.ncl_shape.specs.declared.rails.Rails.{Rails}
@@ -6,7 +6,7 @@ use Rattle.ncl_shape.specs.declared.item.Item.TheVariants.{Raise, Lower}
 use Rattle.ncl_shape.specs.Pipeline.{PipelineData}
 use Rattle.ncl_machine.specs.State.{State}
 use Rattle.ncl_machine.specs.Held.{Held, meaning}
-use Rattle.ncl_machine.specs.Steps.{current_rails, enabled, has_value, rails_of_word}
+use Rattle.ncl_machine.specs.Steps.{enabled, has_value, rails_of_word}
 use Rattle.ncl_machine.proofs.NamedRails.{named-past}
 use Rattle.ncl_machine.proofs.state.State.source_rests.Goals as goal
 

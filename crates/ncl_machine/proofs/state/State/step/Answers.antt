@@ -1,12 +1,11 @@
-use Rattle.std.proofs.Common.{◌≡◌, ◌<◌, true, length, IfSome, sym, ap, ◌∙◌, subst}
+use Rattle.std.proofs.Common.{◌≡◌, ◌<◌, true, IfSome, sym, ap, ◌∙◌, subst}
 use Rattle.std.specs.Prelude.{Contains}
-use Rattle.ncl_shape.specs.declared.item.Item.{Item}
 use Rattle.ncl_shape.specs.Stage.{rail_nets}
 use Rattle.ncl_machine.specs.Steps.{enabled, step}
 use Rattle.ncl_machine.specs.OneChange.{net_of_step}
-use Rattle.ncl_machine.specs.Held.{Held, meaning}
+use Rattle.ncl_machine.specs.Held.{meaning}
 use Rattle.ncl_machine.proofs.ProgramEnds.{program_ends}
-use Rattle.ncl_machine.proofs.ProgramSteps.{cell_apart, cell_done, raise_named, lower_named, raise_done, lower_done}
+use Rattle.ncl_machine.proofs.ProgramSteps.{cell_apart, cell_done, raise_named, lower_named}
 use Rattle.ncl_machine.proofs.state.State.step.Goals as goal
 
 pub flip-requires-clause-apart : goal.flip-requires-clause-apart

@@ -256,6 +256,34 @@ impl State {
         Ok(())
     }
 
+    /// Makes the step of an item that is enabled, and tells the net that it changes. The cell, or the bit, is one of the
+    /// pipeline. Fails only at `Take`, where memory is refused and as many words have been delivered as are due; then
+    /// nothing has changed.
+    ///
+    /// Takes constant time, but `Take` takes that of the outputs.
+    pub fn fire(&mut self, pipeline: &Pipeline, item: Item) -> Result<NetId, Memory>
+        requires made { IsFor pipeline.now self.old }
+        requires within { InRange pipeline.now item }
+        requires can { enabled pipeline.now (meaning self.old) item ≡ true }
+        ensures kept { IsFor pipeline.now self.new }
+        ensures done { OnOk result (meaning self.new ≡ step pipeline.now (meaning self.old) item) }
+        ensures refused { OnErr result (self.new ≡ self.old) }
+        ensures memory { OnErr result ((item ≡ Take) × (data_banks pipeline.now.banks + length self.old.offered ≤ length self.old.delivered)) }
+        ensures net { IfOk result (λ net. IfSome (net_of_step pipeline.now (meaning self.old) item) (λ changed. net.0 ≡ changed)) }
+        ensures within { IfOk result (λ net. net.0 < length pipeline.now.netlist.nets) }
+    {
+        pipeline.facts();
+        let net = self.net(pipeline, item);
+        match item {
+            Item::Cell(_) => self.flip(net),
+            Item::Raise(_) => self.raise(net),
+            Item::Lower(_) => self.lower(net),
+            Item::Take => self.take()?,
+            Item::Ready => self.flip(net),
+        }
+        Ok(net)
+    }
+
     /// Makes the step of an item. The cell, or the bit, is one of the pipeline. Fails where the item isn't enabled, and at
     /// `Take` where memory is refused and as many words have been delivered as are due; then nothing has changed.
     ///
@@ -272,16 +300,10 @@ impl State {
         if !self.enabled(pipeline, item) {
             return Err(StepFault::NotEnabled);
         }
-        pipeline.facts();
-        let net = self.net(pipeline, item);
-        match item {
-            Item::Cell(_) => self.flip(net),
-            Item::Raise(_) => self.raise(net),
-            Item::Lower(_) => self.lower(net),
-            Item::Take => self.take()?,
-            Item::Ready => self.flip(net),
+        match self.fire(pipeline, item) {
+            Ok(_) => Ok(()),
+            Err(_) => Err(StepFault::Memory),
         }
-        Ok(())
     }
 
     /// Whether no cell is excited.

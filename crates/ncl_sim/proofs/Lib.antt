@@ -1,6 +1,7 @@
 pub mod Dues
 pub mod Untouched
 pub mod Candidates
+pub mod Cuts
 pub mod Oneness
 pub mod Search
 pub mod Existence

@@ -53,6 +53,7 @@ impl Run {
     fn fire(&mut self, pipeline: &Pipeline, time: u64, number: u32) -> Result<NetId, Memory>
         requires made { IsFor pipeline.now self.old.state }
         requires within { number < number_count pipeline.now }
+        requires can { enabled pipeline.now (meaning self.old.state) (candidate pipeline.now (meaning self.old.state) number) ≡ true }
         ensures made { OnOk result (IsFor pipeline.now self.new.state) }
         ensures state { OnOk result (meaning self.new.state ≡ step pipeline.now (meaning self.old.state) (candidate pipeline.now (meaning self.old.state) number)) }
         ensures steps { OnOk result (self.new.steps.items ≡ self.old.steps.items ++ record { time = time; item = candidate pipeline.now (meaning self.old.state) number } ∷ []) }
@@ -61,11 +62,7 @@ impl Run {
         ensures within { IfOk result (λ net. net.0 < length pipeline.now.netlist.nets) }
     {
         let item = candidate(pipeline, &self.state, number);
-        let net = self.state.net(pipeline, item);
-        // What is due is enabled, so memory alone can be refused.
-        let Ok(()) = self.state.step(pipeline, item) else {
-            return Err(Memory);
-        };
+        let net = self.state.fire(pipeline, item)?;
         self.steps.push(Fired { time, item })?;
         Ok(net)
     }

@@ -2,9 +2,9 @@
 ghost use Rattle.std.specs.Prelude.{◌≡◌, ◌<◌, IfOk, IsErrOf, OnOk, false, length, true};
 ghost use Rattle.ncl_space.specs.Space.{IsSpace, Restores, fits};
 ghost use Rattle.ncl_stage.specs.Faults.{Incomplete};
-ghost use Rattle.ncl_stage.specs.LeastWords.{least_word};
+ghost use Rattle.ncl_stage.specs.LeastWords.{least_word_by};
 ghost use Rattle.ncl_stage.specs.StageTables.{AreValues};
-ghost use Rattle.ncl_stage.specs.Tables.{tables_of};
+ghost use Rattle.ncl_stage.specs.Tables.{tables_by};
 
 use ncl_base::Word;
 use ncl_shape::Stage;
@@ -12,14 +12,14 @@ use ncl_space::{Space, SpaceFault};
 use ncl_stage::{Values, Variant, all_data, least_one};
 use std::alloc::Global;
 
-/// The least word at which all outputs are DATA though an input bit is NULL, if there is one. The bit
-/// counts from 0, and `base` has the values of the stage under Base.
+/// The least word at which all outputs are DATA though an input bit is NULL, if there is one: the least in the order of
+/// `base`, which has the values of the stage under Base. The bit counts from 0, and the word has the bits of the bank in
+/// their order.
 ///
 /// It goes over the cells once, and evaluates only those that a changed net reaches. It makes the functions
 /// of all nets without the bit, of the DATA of each output and of their conjunctions before it looks for a
-/// word. `Full` comes exactly where the beads held
-/// with those of all these functions are more than the limit. Whatever the answer, the space is as it
-/// was.
+/// word. `Full` comes exactly where the beads held with those of all these functions are more than the limit. Whatever
+/// the answer, the space is as it was.
 pub fn input_complete<P: Space>(
     alloc: Global,
     space: &mut P,
@@ -30,16 +30,16 @@ pub fn input_complete<P: Space>(
     requires width { (P.meaning space.old).width ≡ length stage.now.inputs }
     requires base { AreValues (P.meaning space.old) stage.now Variant.Base base.now }
     requires bit { bit < length stage.now.inputs }
-    ensures word { IfOk result (λ word. word ≡ least_word stage.now (Incomplete bit)) }
+    ensures word { IfOk result (λ word. word ≡ least_word_by base.now.wiring.order stage.now (Incomplete bit)) }
     ensures back { Restores (P.meaning space.old) (P.meaning space.new) }
     ensures space { IsSpace (P.meaning space.new) }
-    ensures full { IsErrOf result SpaceFault.Full → fits (P.meaning space.old) (tables_of stage.now (Variant.Bit bit)) ≡ false }
-    ensures fits { OnOk result (fits (P.meaning space.old) (tables_of stage.now (Variant.Bit bit)) ≡ true) }
+    ensures full { IsErrOf result SpaceFault.Full → fits (P.meaning space.old) (tables_by base.now.wiring.order stage.now (Variant.Bit bit)) ≡ false }
+    ensures fits { OnOk result (fits (P.meaning space.old) (tables_by base.now.wiring.order stage.now (Variant.Bit bit)) ≡ true) }
 {
     let start = space.mark();
     match all_data(alloc, space, stage, base, Variant::Bit(bit)) {
         Ok(all) => {
-            let word = least_one(space, all);
+            let word = least_one(space, base.order(), all);
             space.release(start);
             Ok(word)
         }

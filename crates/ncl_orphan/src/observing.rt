@@ -1,11 +1,13 @@
 //! Observability.
 ghost use Rattle.std.specs.Prelude.{◌≡◌, ◌<◌, IfOk, IsErrOf, OnOk, false, length, true};
+ghost use Rattle.std.specs.Option.{option_map};
 ghost use Rattle.ncl_space.specs.Functions.{least};
 ghost use Rattle.ncl_space.specs.Space.{IsLive, IsSpace, Keeps, Restores, fits};
+ghost use Rattle.ncl_stage.specs.BitOrder.{placed};
 ghost use Rattle.ncl_stage.specs.Faults.{Orphan};
-ghost use Rattle.ncl_stage.specs.LeastWords.{least_word};
+ghost use Rattle.ncl_stage.specs.LeastWords.{least_word_by};
 ghost use Rattle.ncl_stage.specs.StageTables.{AreValues};
-ghost use Rattle.ncl_stage.specs.Tables.{tables_of};
+ghost use Rattle.ncl_stage.specs.Tables.{tables_by};
 
 use ncl_base::Word;
 use ncl_gates::Kind;
@@ -14,8 +16,9 @@ use ncl_space::{Ref, Space, SpaceFault};
 use ncl_stage::{Values, Variant, all_data, least_one};
 use std::alloc::Global;
 
-/// The least word at which a cell is high though all outputs are DATA without it, if there is one. The
-/// cell is a place in the stage's cells, and `base` has the values of the stage under Base.
+/// The least word at which a cell is high though all outputs are DATA without it, if there is one: the least in the
+/// order of `base`, which has the values of the stage under Base. The cell is a place in the stage's cells, and the word
+/// has the bits of the bank in their order.
 ///
 /// It goes over the cells once, and evaluates only those that a changed net reaches. It makes the functions
 /// of all nets without the cell, of the DATA of each output, of their conjunctions, and of the cell with the
@@ -32,16 +35,16 @@ pub fn orphan<P: Space>(
     requires width { (P.meaning space.old).width ≡ length stage.now.inputs }
     requires base { AreValues (P.meaning space.old) stage.now Variant.Base base.now }
     requires cell { cell < length stage.now.cells }
-    ensures word { IfOk result (λ word. word ≡ least_word stage.now (Orphan cell)) }
+    ensures word { IfOk result (λ word. word ≡ least_word_by base.now.wiring.order stage.now (Orphan cell)) }
     ensures back { Restores (P.meaning space.old) (P.meaning space.new) }
     ensures space { IsSpace (P.meaning space.new) }
-    ensures full { IsErrOf result SpaceFault.Full → fits (P.meaning space.old) (tables_of stage.now (Variant.Cell cell)) ≡ false }
-    ensures fits { OnOk result (fits (P.meaning space.old) (tables_of stage.now (Variant.Cell cell)) ≡ true) }
+    ensures full { IsErrOf result SpaceFault.Full → fits (P.meaning space.old) (tables_by base.now.wiring.order stage.now (Variant.Cell cell)) ≡ false }
+    ensures fits { OnOk result (fits (P.meaning space.old) (tables_by base.now.wiring.order stage.now (Variant.Cell cell)) ≡ true) }
 {
     let start = space.mark();
     match unobserved(alloc, space, stage, base, cell) {
         Ok(high) => {
-            let word = least_one(space, high);
+            let word = least_one(space, base.order(), high);
             space.release(start);
             Ok(word)
         }
@@ -65,11 +68,11 @@ fn unobserved<P: Space>(
     requires cell { cell < length stage.now.cells }
     requires space { IsSpace (P.meaning space.old) }
     ensures live { IfOk result (IsLive (P.meaning space.new)) }
-    ensures least { IfOk result (λ r. least true (length stage.now.inputs) ((P.meaning space.new).table r) ≡ least_word stage.now (Orphan cell)) }
+    ensures least { IfOk result (λ r. option_map (placed base.now.wiring.order) (least true (length stage.now.inputs) ((P.meaning space.new).table r)) ≡ least_word_by base.now.wiring.order stage.now (Orphan cell)) }
     ensures kept { Keeps (P.meaning space.old) (P.meaning space.new) }
     ensures space { IsSpace (P.meaning space.new) }
-    ensures full { IsErrOf result SpaceFault.Full → fits (P.meaning space.old) (tables_of stage.now (Variant.Cell cell)) ≡ false }
-    ensures fits { OnOk result (fits (P.meaning space.old) (tables_of stage.now (Variant.Cell cell)) ≡ true) }
+    ensures full { IsErrOf result SpaceFault.Full → fits (P.meaning space.old) (tables_by base.now.wiring.order stage.now (Variant.Cell cell)) ≡ false }
+    ensures fits { OnOk result (fits (P.meaning space.old) (tables_by base.now.wiring.order stage.now (Variant.Cell cell)) ≡ true) }
 {
     stage.facts();
     let all = all_data(alloc, space, stage, base, Variant::Cell(cell))?;

@@ -1,9 +1,9 @@
 -- What a variant leaves unchanged, net by net in the order of a stage.
-use Rattle.std.proofs.Common.{◌≡◌, ℕ, zero, suc, ◌+◌, ◌-◌, ◌*◌, ◌<◌, Bool, true, false, not, ◌&&◌, List, [], ◌∷◌, ◌++◌, length, map, take, drop, get_or, inl, inr, refl, sym, ap, ◌∙◌, subst, arith}
-use Rattle.std.specs.Prelude.{All, Contains}
+use Rattle.std.proofs.Common.{◌≡◌, ℕ, zero, suc, ◌+◌, ◌*◌, ◌<◌, Bool, true, false, not, ◌&&◌, List, [], ◌∷◌, ◌++◌, length, map, take, drop, get_or, inl, inr, refl, sym, ap, ◌∙◌, subst, arith}
+use Rattle.std.specs.Prelude.{All, Contains, ◌↔◌}
 use Rattle.std.specs.List.{list_any, take-map}
 use Rattle.std.proofs.lemmas.Bool.{cases_lt, or_parts}
-use Rattle.std.proofs.lemmas.List.{get_or-map, get_or_append_left, get_or-append_right, get_or-append-add, length-map, length-append, length-take-le}
+use Rattle.std.proofs.lemmas.List.{get_or-map, get_or_append_left, get_or_push, get_or-append-add, length-map, length-append, length-take-le}
 use Rattle.std.proofs.lemmas.List.Elements.{All-head, All-tail, All-nil, All-cons}
 use Rattle.std.proofs.Math.Seq.{take-append-add}
 use Rattle.ncl_gates.specs.declared.kind.Kind.TheVariants.{Th12}
@@ -17,20 +17,22 @@ use Rattle.ncl_space.specs.Functions.{gate_table}
 use Rattle.ncl_space.specs.Space.{SpaceData, IsLive, Keeps}
 use Rattle.ncl_space.specs.declared.space.Ref.{Ref}
 use Rattle.ncl_space.proofs.MakingLaws.{have-kept, have-at, have-length}
-use Rattle.ncl_space.proofs.TableLaws.{table_of-same}
+use Rattle.ncl_stage.specs.BitOrder.{IsOrderOf, words_by}
+use Rattle.ncl_stage.proofs.OrderedTables.{table-any}
 use Rattle.ncl_stage.specs.declared.variant.Variant.{Variant}
 use Rattle.ncl_stage.specs.declared.variant.Variant.TheVariants.{Base}
 use Rattle.ncl_stage.specs.Examples.{gate}
 use Rattle.ncl_stage.specs.Changes.{net_at, IsUnchanged, IsUnreached, MarksChanges}
-use Rattle.ncl_stage.specs.StageTables.{ValuesData, AreValues, net_table, net_tables}
+use Rattle.ncl_stage.specs.StageTables.{ValuesData, AreValues, net_table_by, net_tables_by}
 use Rattle.ncl_stage.specs.Values.{val}
 use Rattle.ncl_stage.specs.Wiring.{WiringData, IsWiring, place_in, pin_places}
 use Rattle.ncl_stage.proofs.NetLaws.{cell-net, nets-cut, out_at, out_at-is, pins-of, place_in-front, reads-before}
 use Rattle.ncl_stage.proofs.ValueLaws.{val-rail}
-use Rattle.ncl_stage.proofs.WiringLaws.{AllDiffer, place_in-at, reads-within}
+use Rattle.ncl_stage.proofs.PlaceLaws.{place_in-at}
+use Rattle.ncl_stage.proofs.WiringLaws.{AllDiffer, reads-within}
 
 -- a bit has two rails
-rails-length : (bits : List Rails) → length (rail_nets bits) ≡ 2 * length bits
+pub rails-length : (bits : List Rails) → length (rail_nets bits) ≡ 2 * length bits
 rails-length [] = refl
 rails-length (r ∷ rs) = let rest = rails-length rs in omega (arith, rest)
 
@@ -53,13 +55,13 @@ nets-before s i =
     ∙ take-append-add (rail_nets s.inputs) (map out_of s.cells) i
     ∙ ap (λ outs. rail_nets s.inputs ++ outs) (take-map out_of i s.cells)
 
-pub tables-before : (s : StageData) (variant : Variant) (place i : ℕ) → place ≡ 2 * length s.inputs + i → take place (net_tables s variant) ≡ map (net_table s variant) (nets_of s.inputs (take i s.cells))
-tables-before s variant place i at =
-    take-map (net_table s variant) place (nets_of s.inputs s.cells)
-    ∙ ap (map (net_table s variant)) (ap (λ n. take n (nets_of s.inputs s.cells)) at ∙ nets-before s i)
+pub tables-before : (s : StageData) (order : List ℕ) (variant : Variant) (place i : ℕ) → place ≡ 2 * length s.inputs + i → take place (net_tables_by order s variant) ≡ map (net_table_by order s variant) (nets_of s.inputs (take i s.cells))
+tables-before s order variant place i at =
+    take-map (net_table_by order s variant) place (nets_of s.inputs s.cells)
+    ∙ ap (map (net_table_by order s variant)) (ap (λ n. take n (nets_of s.inputs s.cells)) at ∙ nets-before s i)
 
-pub table-at : (s : StageData) (variant : Variant) (place : ℕ) → place < length (nets_of s.inputs s.cells) → get_or (net_tables s variant) place [] ≡ net_table s variant (net_at s place)
-table-at s variant place lt = get_or-map (net_table s variant) (nets_of s.inputs s.cells) place 0 [] lt
+pub table-at : (s : StageData) (order : List ℕ) (variant : Variant) (place : ℕ) → place < length (nets_of s.inputs s.cells) → get_or (net_tables_by order s variant) place [] ≡ net_table_by order s variant (net_at s place)
+table-at s order variant place lt = get_or-map (net_table_by order s variant) (nets_of s.inputs s.cells) place 0 [] lt
 
 -- what a cell reads stands before it
 front-places : (front rest : List ℕ) → AllDiffer (front ++ rest) → (ins : List NetId) → All (λ (net : NetId). Contains front net.0) ins → All (λ place. place < length front) (map (λ (net : NetId). place_in (front ++ rest) net.0) ins)
@@ -91,57 +93,61 @@ pins-before s is w wired i lt place at =
         ap length (sym (nets-before s i)) ∙ length-take-le (2 * length s.inputs + i) (nets_of s.inputs s.cells) (omega (arith, many)) ∙ sym at
 
 -- a rail is unreached
-pub rail-unreached : (s : StageData) → IsStage s → (variant : Variant) (net : ℕ) → Member net (rail_nets s.inputs) → IsUnreached s variant net
-rail-unreached s is variant net m free = table_of-same (length s.inputs) (λ word. val s word variant net) (λ word. val s word Base net) (λ word same.
+pub rail-unreached : (s : StageData) (order : List ℕ) → IsStage s → (variant : Variant) (net : ℕ) → Member net (rail_nets s.inputs) → IsUnreached order s variant net
+rail-unreached s order is variant net m free = table-any (words_by order) (λ word. val s word variant net) (λ word. val s word Base net) (λ word.
     val-rail s is word variant net m ∙ ap (λ low. among (named_rails s.inputs word) net && not low) free ∙ sym (val-rail s is word Base net m))
 
 -- so is the output of a cell where all that it reads is unchanged
-cell-unreached : (s : StageData) → IsStage s → (variant : Variant) (c : StageCell) → Member c s.cells → map (λ (net : NetId). net_table s variant net.0) c.ins.items ≡ map (λ (net : NetId). net_table s Base net.0) c.ins.items → IsUnreached s variant (out_of c)
-cell-unreached s is variant c m pins free = sym (cell-net s is variant c m free) ∙ ap (gate_table (length s.inputs) c.kind) pins ∙ cell-net s is Base c m refl
+cell-unreached : (s : StageData) (order : List ℕ) (ordered : IsOrderOf (length s.inputs) order) → IsStage s → (variant : Variant) (c : StageCell) → Member c s.cells → map (λ (net : NetId). net_table_by order s variant net.0) c.ins.items ≡ map (λ (net : NetId). net_table_by order s Base net.0) c.ins.items → IsUnreached order s variant (out_of c)
+cell-unreached s order ordered is variant c m pins free = sym (cell-net s order ordered is variant c m free) ∙ ap (gate_table (length s.inputs) c.kind) pins ∙ cell-net s order ordered is Base c m refl
+
+-- where a mark is read as none, it is one of the marks
+mark-within : (marks : List Bool) (place : ℕ) → get_or marks place true ≡ false → place < length marks
+mark-within [] place none = absurd cc
+mark-within (mark ∷ marks) zero none = omega arith
+mark-within (mark ∷ marks) (suc place) none = let rest = mark-within marks place none in omega arith
 
 -- where no mark stands at the places of some nets, they are unchanged
-pins-unchanged : (s : StageData) (variant : Variant) (marks : List Bool) → MarksChanges s variant marks → (ins : List NetId) → All (λ (net : NetId). Contains (nets_of s.inputs s.cells) net.0) ins → list_any (λ place. get_or marks place true) (map (λ (net : NetId). place_in (nets_of s.inputs s.cells) net.0) ins) ≡ false → map (λ (net : NetId). net_table s variant net.0) ins ≡ map (λ (net : NetId). net_table s Base net.0) ins
-pins-unchanged s variant marks marked [] known none = refl
-pins-unchanged s variant marks marked (net ∷ ins) known none =
+pins-unchanged : (s : StageData) (order : List ℕ) (variant : Variant) (marks : List Bool) → MarksChanges order s variant marks → (ins : List NetId) → All (λ (net : NetId). Contains (nets_of s.inputs s.cells) net.0) ins → list_any (λ place. get_or marks place true) (map (λ (net : NetId). place_in (nets_of s.inputs s.cells) net.0) ins) ≡ false → map (λ (net : NetId). net_table_by order s variant net.0) ins ≡ map (λ (net : NetId). net_table_by order s Base net.0) ins
+pins-unchanged s order variant marks marked [] known none = refl
+pins-unchanged s order variant marks marked (net ∷ ins) known none =
     let parts = or_parts (get_or marks (place_in (nets_of s.inputs s.cells) net.0) true) _ none in
     let at = (place_in-at (nets_of s.inputs s.cells) net.0 (All-head (λ (x : NetId). Contains (nets_of s.inputs s.cells) x.0) net ins known)).1 0 in
-    let first : IsUnchanged s variant net.0 = subst (IsUnchanged s variant) at (marked _ parts.0) in
-    let others = pins-unchanged s variant marks marked ins (All-tail (λ (x : NetId). Contains (nets_of s.inputs s.cells) x.0) net ins known) parts.1 in
+    let first : IsUnchanged order s variant net.0 = subst (IsUnchanged order s variant) at ((marked _ (mark-within marks _ parts.0)).0 parts.0) in
+    let others = pins-unchanged s order variant marks marked ins (All-tail (λ (x : NetId). Contains (nets_of s.inputs s.cells) x.0) net ins known) parts.1 in
     λ i. first i ∷ others i
 
-pub unmarked-unreached : (s : StageData) → IsStage s → (w : WiringData) → IsWiring s w → (variant : Variant) (marks : List Bool) → MarksChanges s variant marks → (i : ℕ) → i < length s.cells → list_any (λ place. get_or marks place true) (get_or w.pins i []) ≡ false → IsUnreached s variant (out_at s i)
-unmarked-unreached s is w wired variant marks marked i lt none =
+pub unmarked-unreached : (s : StageData) (order : List ℕ) (ordered : IsOrderOf (length s.inputs) order) → IsStage s → (w : WiringData) → IsWiring s w → (variant : Variant) (marks : List Bool) → MarksChanges order s variant marks → (i : ℕ) → i < length s.cells → list_any (λ place. get_or marks place true) (get_or w.pins i []) ≡ false → IsUnreached order s variant (out_at s i)
+unmarked-unreached s order ordered is w wired variant marks marked i lt none =
     let cell : StageCell = get_or s.cells i no_cell in
-    subst (IsUnreached s variant) (sym (out_at-is s i no_cell lt))
-    (cell-unreached s is variant cell (Member-get_or s.cells i no_cell lt)
-    (pins-unchanged s variant marks marked cell.ins.items (reads-within s is i no_cell lt)
+    subst (IsUnreached order s variant) (sym (out_at-is s i no_cell lt))
+    (cell-unreached s order ordered is variant cell (Member-get_or s.cells i no_cell lt)
+    (pins-unchanged s order variant marks marked cell.ins.items (reads-within s is i no_cell lt)
     (ap (list_any (λ place. get_or marks place true)) (sym (pins-of s w wired i no_cell lt)) ∙ none)))
 
 -- at first there are no marks
-pub marks-none : (s : StageData) (variant : Variant) → MarksChanges s variant []
-marks-none s variant = λ place none. absurd cc
+pub marks-none : (s : StageData) (order : List ℕ) (variant : Variant) → MarksChanges order s variant []
+marks-none s order variant = λ place within. absurd (omega arith)
 
 -- one mark more
-pub marks-more : (s : StageData) (variant : Variant) (marks : List Bool) (mark : Bool) → MarksChanges s variant marks → (mark ≡ false → IsUnchanged s variant (net_at s (length marks))) → MarksChanges s variant (marks ++ mark ∷ [])
-marks-more s variant marks mark marked last = λ place none.
+pub marks-more : (s : StageData) (order : List ℕ) (variant : Variant) (marks : List Bool) (mark : Bool) → MarksChanges order s variant marks → (mark ≡ false) ↔ IsUnchanged order s variant (net_at s (length marks)) → MarksChanges order s variant (marks ++ mark ∷ [])
+marks-more s order variant marks mark marked last = λ place within.
     elim (cases_lt place (length marks)) [
-      | inl before ↦ marked place (sym (get_or_append_left marks (mark ∷ []) true place before) ∙ none)
+      | inl before ↦ subst (λ b. (b ≡ false) ↔ IsUnchanged order s variant (net_at s place)) (sym (get_or_append_left marks (mark ∷ []) true place before)) (marked place before)
       | inr after ↦
-          let own = at_end (place - length marks) (sym (get_or-append_right marks (mark ∷ []) (length marks) place true refl after) ∙ none) in
-          subst (λ n. IsUnchanged s variant (net_at s n)) (omega (arith, own.0)) (last own.1)
+          let grown = length-append marks (mark ∷ []) in
+          let at : length marks ≡ place = omega arith in
+          subst (λ n. (get_or (marks ++ mark ∷ []) n true ≡ false) ↔ IsUnchanged order s variant (net_at s n)) at
+          (subst (λ b. (b ≡ false) ↔ IsUnchanged order s variant (net_at s (length marks))) (sym (get_or_push marks mark true (length marks) refl)) last)
     ]
-  where
-    at_end : (n : ℕ) → get_or (mark ∷ []) n true ≡ false → (n ≡ 0) × (mark ≡ false)
-    at_end zero none = (refl, none)
-    at_end (suc n) none = absurd cc
 
 -- values stay those of the stage while what is live stays so
 pub values-kept : (old new : SpaceData) (s : StageData) (variant : Variant) (v : ValuesData) → Keeps old new → AreValues old s variant v → AreValues new s variant v
-values-kept old new s variant v kept are = record { wired = are.wired; shown = have-kept old new v.refs (net_tables s variant) kept are.shown }
+values-kept old new s variant v kept are = record { wired = are.wired; shown = have-kept old new v.refs (net_tables_by v.wiring.order s variant) kept are.shown }
 
 -- the Ref of the net at a place
-pub value-at : (space : SpaceData) (s : StageData) (variant : Variant) (v : ValuesData) → AreValues space s variant v → (place : ℕ) (d : Ref) → place < length (nets_of s.inputs s.cells) → IsLive space (get_or v.refs place d) × (space.table (get_or v.refs place d) ≡ net_table s variant (net_at s place))
+pub value-at : (space : SpaceData) (s : StageData) (variant : Variant) (v : ValuesData) → AreValues space s variant v → (place : ℕ) (d : Ref) → place < length (nets_of s.inputs s.cells) → IsLive space (get_or v.refs place d) × (space.table (get_or v.refs place d) ≡ net_table_by v.wiring.order s variant (net_at s place))
 value-at space s variant v are place d lt =
-    let many : length v.refs ≡ length (nets_of s.inputs s.cells) = have-length space v.refs (net_tables s variant) are.shown ∙ length-map (nets_of s.inputs s.cells) (net_table s variant) in
+    let many : length v.refs ≡ length (nets_of s.inputs s.cells) = have-length space v.refs (net_tables_by v.wiring.order s variant) are.shown ∙ length-map (nets_of s.inputs s.cells) (net_table_by v.wiring.order s variant) in
     let within : place < length v.refs = omega arith in
-    (are.shown.live place d within, have-at space v.refs (net_tables s variant) are.shown place d [] within ∙ table-at s variant place lt)
+    (are.shown.live place d within, have-at space v.refs (net_tables_by v.wiring.order s variant) are.shown place d [] within ∙ table-at s v.wiring.order variant place lt)

@@ -1,33 +1,40 @@
 -- Least words by tables, and the first of several answers.
-use Rattle.std.proofs.Common.{◌≡◌, ℕ, zero, suc, ◌+◌, ◌<◌, ◌≤◌, Bool, true, false, not, List, [], ◌∷◌, ◌++◌, length, map, get_or, Option, Some, None, inl, inr, refl, sym, ap, ◌∙◌, arith}
+use Rattle.std.proofs.Common.{◌≡◌, ℕ, zero, suc, ◌+◌, ◌<◌, ◌≤◌, Bool, true, false, not, cond, List, [], ◌∷◌, ◌++◌, length, map, get_or, Option, Some, None, inl, inr, refl, sym, ap, ◌∙◌, arith}
 use Rattle.std.specs.Prelude.{slice_get}
-use Rattle.std.specs.List.{flat_map, range_with_len}
+use Rattle.std.specs.List.{find, flat_map, range_with_len}
+use Rattle.std.specs.Option.{option_map}
 use Rattle.std.proofs.lemmas.Bool.{cases_eq}
 use Rattle.std.proofs.lemmas.Option.{slice_get-get_or}
 use Rattle.std.proofs.lemmas.List.{map-append}
 use Rattle.ncl_shape.specs.declared.rails.Rails.{Rails}
 use Rattle.ncl_shape.specs.Stage.{StageData}
-use Rattle.ncl_space.specs.Table.{words, table_of}
+use Rattle.ncl_space.specs.Table.{table_of}
 use Rattle.ncl_space.specs.Functions.{least}
-use Rattle.ncl_space.proofs.TableLaws.{find-same, least-table_of, least-zero_table_of}
 use Rattle.ncl_stage.specs.declared.variant.Variant.{Variant}
 use Rattle.ncl_stage.specs.declared.variant.Variant.TheVariants.{Base, Bit}
+use Rattle.ncl_stage.specs.BitOrder.{IsOrderOf, placed, words_by}
 use Rattle.ncl_stage.specs.Faults.{StageFault, BothRails, NoRail, Incomplete, has_data, is_illegal, all_data, holds_at, shows}
-use Rattle.ncl_stage.specs.LeastWords.{below, first_of, least_word}
-use Rattle.ncl_stage.specs.StageTables.{function_tables, shared_tables}
-use Rattle.ncl_stage.specs.Tables.{ValuesAt, net_functions, data_functions, data_fronts, question_functions, tables_of}
+use Rattle.ncl_stage.specs.LeastWords.{below, first_of, least_word_by}
+use Rattle.ncl_stage.specs.StageTables.{shared_tables_by}
+use Rattle.ncl_stage.specs.Tables.{ValuesAt, net_functions, data_functions, data_fronts, function_tables_by, question_functions, tables_by}
 use Rattle.ncl_stage.specs.Values.{val}
+use Rattle.ncl_stage.proofs.OrderedTables.{ordered-one, ordered-zero}
 use Rattle.ncl_stage.proofs.OutputLaws.{values_at}
 
 holds_at-within : {X : Type 0} (test : X → Bool) (xs : List X) (k : ℕ) (d : X) → k < length xs → holds_at test (slice_get xs k) ≡ test (get_or xs k d)
 holds_at-within test xs k d lt = ap (holds_at test) (slice_get-get_or xs k d lt)
 
--- the least word of a table of a function that tells where a fault is shown
-pub least-shown : (s : StageData) (fault : StageFault) (f : List Bool → Bool) → ((word : List Bool) → f word ≡ shows s word fault) → least true (length s.inputs) (table_of (words (length s.inputs)) f) ≡ least_word s fault
-least-shown s fault f same = least-table_of (length s.inputs) f ∙ find-same (length s.inputs) f (λ word. shows s word fault) (λ word e. same word)
+-- tests that agree find the same
+find-any : (f g : List Bool → Bool) → ((word : List Bool) → f word ≡ g word) → (ws : List (List Bool)) → find f ws ≡ find g ws
+find-any f g same [] = refl
+find-any f g same (w ∷ ws) = let first = same w in let rest = find-any f g same ws in λ k. cond (first k) (Some w) (rest k)
 
-pub least-hidden : (s : StageData) (fault : StageFault) (f : List Bool → Bool) → ((word : List Bool) → not (f word) ≡ shows s word fault) → least false (length s.inputs) (table_of (words (length s.inputs)) f) ≡ least_word s fault
-least-hidden s fault f same = least-zero_table_of (length s.inputs) f ∙ find-same (length s.inputs) (λ word. not (f word)) (λ word. shows s word fault) (λ word e. same word)
+-- the least word of a table of a function that tells where a fault is shown
+pub least-shown : (s : StageData) (order : List ℕ) (ordered : IsOrderOf (length s.inputs) order) (fault : StageFault) (f : List Bool → Bool) → ((word : List Bool) → f word ≡ shows s word fault) → option_map (placed order) (least true (length s.inputs) (table_of (words_by order) f)) ≡ least_word_by order s fault
+least-shown s order ordered fault f same = ordered-one (length s.inputs) order ordered f ∙ find-any f (λ word. shows s word fault) same (words_by order)
+
+pub least-hidden : (s : StageData) (order : List ℕ) (ordered : IsOrderOf (length s.inputs) order) (fault : StageFault) (f : List Bool → Bool) → ((word : List Bool) → not (f word) ≡ shows s word fault) → option_map (placed order) (least false (length s.inputs) (table_of (words_by order) f)) ≡ least_word_by order s fault
+least-hidden s order ordered fault f same = ordered-zero (length s.inputs) order ordered f ∙ find-any (λ word. not (f word)) (λ word. shows s word fault) same (words_by order)
 
 pub both-shown : (s : StageData) (output : ℕ) (d : Rails) → output < length s.outputs → (word : List Bool) → is_illegal (val s word Base) (get_or s.outputs output d) ≡ shows s word (BothRails output)
 both-shown s output d lt word = sym (holds_at-within (is_illegal (val s word Base)) s.outputs output d lt)
@@ -40,10 +47,10 @@ incomplete-shown s bit lt word =
     sym (holds_at-within (λ (r : Rails). all_data s (val s word (Bit bit))) s.inputs bit (record { zero = record { 0 = 0 }; one = record { 0 = 0 } }) lt)
 
 -- the tables of a variant, those that each has and those that it asks besides
-pub tables_of-parts : (s : StageData) (variant : Variant) → tables_of s variant ≡ shared_tables s variant ++ function_tables s (question_functions s variant (values_at s variant))
-tables_of-parts s variant =
+pub tables_of-parts : (s : StageData) (order : List ℕ) (variant : Variant) → tables_by order s variant ≡ shared_tables_by order s variant ++ function_tables_by order (question_functions s variant (values_at s variant))
+tables_of-parts s order variant =
     let v : ValuesAt = values_at s variant in
-    map-append (table_of (words (length s.inputs))) (net_functions s v ++ data_functions s v ++ data_fronts s v) (question_functions s variant v)
+    map-append (table_of (words_by order)) (net_functions s v ++ data_functions s v ++ data_fronts s v) (question_functions s variant v)
 
 -- the first of two lists of answers, one after the other
 pub first_of-append : {X : Type 0} (xs ys : List (Option X)) → first_of (xs ++ ys) ≡ first_of (first_of xs ∷ first_of ys ∷ [])

@@ -18,15 +18,18 @@ use Rattle.ncl_space.specs.Functions.{at, is_value, constant_table, rail_table, 
 use Rattle.ncl_space.specs.Space.{SpaceData, IsLive}
 use Rattle.ncl_space.specs.Making.{HaveTables}
 use Rattle.ncl_space.specs.declared.space.Ref.{Ref}
-use Rattle.ncl_space.proofs.TableLaws.{table_of-same, at_table}
 use Rattle.ncl_space.proofs.MakingLaws.{have-length, have-at}
 use Rattle.ncl_stage.specs.declared.variant.Variant.{Variant}
+use Rattle.ncl_stage.specs.BitOrder.{IsOrderOf, placed}
 use Rattle.ncl_stage.specs.Values.{holds, kept_low, val}
 use Rattle.ncl_stage.specs.Wiring.{WiringData, IsWiring, place_in, pin_places}
-use Rattle.ncl_stage.specs.StageTables.{net_table, rail_at, ref_at}
+use Rattle.ncl_stage.specs.StageTables.{net_table_by, rail_at, ref_at}
 use Rattle.ncl_stage.proofs.Apart.{named-within}
+use Rattle.ncl_stage.proofs.OrderLaws.{placed-at}
+use Rattle.ncl_stage.proofs.OrderedTables.{ordered-at, ordered-same, placed-length}
 use Rattle.ncl_stage.proofs.ValueLaws.{val-rail, val-output}
-use Rattle.ncl_stage.proofs.WiringLaws.{AllDiffer, zero-member, one-member, place_in-at, rail_nets-append, rail_nets-more}
+use Rattle.ncl_stage.proofs.PlaceLaws.{place_in-at}
+use Rattle.ncl_stage.proofs.WiringLaws.{AllDiffer, zero-member, one-member, rail_nets-append, rail_nets-more}
 
 pub rail-member : (rails : List Rails) (i : ℕ) (d : Rails) (value : Bool) → i < length rails → Member (rail_of (get_or rails i d) value) (rail_nets rails)
 rail-member rails i d true lt = one-member rails i d lt
@@ -63,7 +66,7 @@ named-at (r ∷ rs) differ (b ∷ word) same (suc i) d lt value =
     low_or (nat_eq (rail_of (get_or rs i d) value) (rail_of r b)) _ (ne_eqb _ _ (first-apart r (rail_nets rs) differ b _ (rail-member rs i d value (omega arith))))
     ∙ named-at rs (pairs-tail (λ x y. x ≢ y) r.one.0 (rail_nets rs) (pairs-tail (λ x y. x ≢ y) r.zero.0 (r.one.0 ∷ rail_nets rs) differ)) word (omega arith) i d (omega arith) value
 
-left-differ : (xs ys : List ℕ) → AllDiffer (xs ++ ys) → AllDiffer xs
+pub left-differ : (xs ys : List ℕ) → AllDiffer (xs ++ ys) → AllDiffer xs
 left-differ xs ys differ = λ i j d before within.
     let e = get_or_append_left xs ys d i (omega arith) in
     let f = get_or_append_left xs ys d j within in
@@ -81,39 +84,43 @@ and_low true true e = refl
 and_low false true e = refl
 
 -- what is kept low is low at every word
-pub low-net : (s : StageData) → IsStage s → (variant : Variant) (net : ℕ) → Member net (nets_of s.inputs s.cells) → kept_low s variant net ≡ true → net_table s variant net ≡ constant_table (length s.inputs) false
-low-net s is variant net m low = table_of-same (length s.inputs) (λ word. val s word variant net) (λ word. false) (λ word same.
-    elim (Member-append_cases net (rail_nets s.inputs) (map out_of s.cells) m) [
-      | inl rail ↦ val-rail s is word variant net rail ∙ and_low (among (named_rails s.inputs word) net) (kept_low s variant net) low
-      | inr out ↦ by_cell word (member_of_map out_of s.cells net out)
-    ])
+pub low-net : (s : StageData) (order : List ℕ) (ordered : IsOrderOf (length s.inputs) order) → IsStage s → (variant : Variant) (net : ℕ) → Member net (nets_of s.inputs s.cells) → kept_low s variant net ≡ true → net_table_by order s variant net ≡ constant_table (length s.inputs) false
+low-net s order ordered is variant net m low = sym (ordered-same (length s.inputs) order ordered (λ word. false) (λ word. val s word variant net) (λ word same. sym (by_net (placed order word))))
   where
     by_cell : (word : List Bool) → (c : StageCell) × Member c s.cells × (out_of c ≡ net) → val s word variant net ≡ false
     by_cell word (c, m, at) =
         ap (val s word variant) (sym at) ∙ val-output s is word variant c m
         ∙ ap (λ b. not b && holds (val s word variant) c) (ap (kept_low s variant) at ∙ low)
 
+    by_net : (word : List Bool) → val s word variant net ≡ false
+    by_net word = elim (Member-append_cases net (rail_nets s.inputs) (map out_of s.cells) m) [
+      | inl rail ↦ val-rail s is word variant net rail ∙ and_low (among (named_rails s.inputs word) net) (kept_low s variant net) low
+      | inr out ↦ by_cell word (member_of_map out_of s.cells net out)
+    ]
+
 -- a rail that isn't
-pub rail-net : (s : StageData) → IsStage s → (variant : Variant) (i : ℕ) (value : Bool) → i < length s.inputs → kept_low s variant (rail_at s i value) ≡ false → rail_table (length s.inputs) i value ≡ net_table s variant (rail_at s i value)
-rail-net s is variant i value lt free =
+pub rail-net : (s : StageData) (order : List ℕ) (ordered : IsOrderOf (length s.inputs) order) → IsStage s → (variant : Variant) (i : ℕ) (value : Bool) → i < length s.inputs → kept_low s variant (rail_at s i value) ≡ false → rail_table (length s.inputs) (place_in order i) value ≡ net_table_by order s variant (rail_at s i value)
+rail-net s order ordered is variant i value lt free =
     let d : Rails = record { zero = record { 0 = 0 }; one = record { 0 = 0 } } in
-    table_of-same (length s.inputs) (λ word. is_value value (get_or word i false)) (λ word. val s word variant (rail_at s i value)) (λ word same.
-    sym (val-rail s is word variant (rail_at s i value) (rail-member s.inputs i d value lt)
-    ∙ and_high (among (named_rails s.inputs word) (rail_at s i value)) (kept_low s variant (rail_at s i value)) free
-    ∙ named-at s.inputs (left-differ (rail_nets s.inputs) (map out_of s.cells) is.nets_differ) word same i d lt value))
+    let many = ordered.many in
+    ordered-same (length s.inputs) order ordered (λ word. is_value value (get_or word (place_in order i) false)) (λ word. val s word variant (rail_at s i value)) (λ word same.
+    sym (val-rail s is (placed order word) variant (rail_at s i value) (rail-member s.inputs i d value lt)
+    ∙ and_high (among (named_rails s.inputs (placed order word)) (rail_at s i value)) (kept_low s variant (rail_at s i value)) free
+    ∙ named-at s.inputs (left-differ (rail_nets s.inputs) (map out_of s.cells) is.nets_differ) (placed order word) (placed-length (length s.inputs) order ordered word) i d lt value
+    ∙ ap (is_value value) (placed-at order word i (omega arith))))
 
 -- the output of a cell that isn't, from what its pins have
-pins-at : (s : StageData) (variant : Variant) (word : List Bool) → length word ≡ length s.inputs → (ins : List NetId) → map (λ table. at table word) (map (λ (net : NetId). net_table s variant net.0) ins) ≡ pin_values (val s word variant) ins
-pins-at s variant word same [] = refl
-pins-at s variant word same (net ∷ ins) =
-    let first = at_table (length s.inputs) (λ w. val s w variant net.0) word same in
-    let rest = pins-at s variant word same ins in
+pins-at : (s : StageData) (order : List ℕ) (ordered : IsOrderOf (length s.inputs) order) (variant : Variant) (word : List Bool) → length word ≡ length s.inputs → (ins : List NetId) → map (λ table. at table word) (map (λ (net : NetId). net_table_by order s variant net.0) ins) ≡ pin_values (val s (placed order word) variant) ins
+pins-at s order ordered variant word same [] = refl
+pins-at s order ordered variant word same (net ∷ ins) =
+    let first = ordered-at (length s.inputs) order ordered (λ w. val s w variant net.0) word same in
+    let rest = pins-at s order ordered variant word same ins in
     λ i. first i ∷ rest i
 
-pub cell-net : (s : StageData) → IsStage s → (variant : Variant) (c : StageCell) → Member c s.cells → kept_low s variant (out_of c) ≡ false → gate_table (length s.inputs) c.kind (map (λ (net : NetId). net_table s variant net.0) c.ins.items) ≡ net_table s variant (out_of c)
-cell-net s is variant c m free = table_of-same (length s.inputs) (λ word. set_of c.kind (map (λ table. at table word) (map (λ (net : NetId). net_table s variant net.0) c.ins.items))) (λ word. val s word variant (out_of c)) (λ word same.
-    ap (set_of c.kind) (pins-at s variant word same c.ins.items)
-    ∙ sym (val-output s is word variant c m ∙ ap (λ b. not b && holds (val s word variant) c) free))
+pub cell-net : (s : StageData) (order : List ℕ) (ordered : IsOrderOf (length s.inputs) order) → IsStage s → (variant : Variant) (c : StageCell) → Member c s.cells → kept_low s variant (out_of c) ≡ false → gate_table (length s.inputs) c.kind (map (λ (net : NetId). net_table_by order s variant net.0) c.ins.items) ≡ net_table_by order s variant (out_of c)
+cell-net s order ordered is variant c m free = ordered-same (length s.inputs) order ordered (λ word. set_of c.kind (map (λ table. at table word) (map (λ (net : NetId). net_table_by order s variant net.0) c.ins.items))) (λ word. val s word variant (out_of c)) (λ word same.
+    ap (set_of c.kind) (pins-at s order ordered variant word same c.ins.items)
+    ∙ sym (val-output s is (placed order word) variant c m ∙ ap (λ b. not b && holds (val s (placed order word) variant) c) free))
 
 -- a net of a front of the nets has its place in the front
 pub place_in-front : (front rest : List ℕ) → AllDiffer (front ++ rest) → (net : ℕ) → Contains front net → (place_in (front ++ rest) net < length front) × (get_or front (place_in (front ++ rest) net) 0 ≡ net)

@@ -20,12 +20,15 @@ use Rattle.ncl_space.specs.declared.space.Ref.{Ref}
 use Rattle.ncl_space.proofs.TableLaws.{pow_suc, table_of-same, table_of-halves, at_table, at-low, at-high}
 use Rattle.ncl_space.proofs.MakingLaws.{have-length, have-at}
 use Rattle.ncl_stage.specs.declared.variant.Variant.{Variant}
+use Rattle.ncl_stage.specs.BitOrder.{IsOrderOf, placed, words_by}
 use Rattle.ncl_stage.specs.Faults.{has_data, is_illegal}
-use Rattle.ncl_stage.specs.Tables.{ValuesAt, fronts, net_functions, data_functions, data_fronts, illegal_functions, all_data_function}
+use Rattle.ncl_stage.specs.Tables.{ValuesAt, fronts, net_functions, data_functions, data_fronts, function_tables_by, illegal_functions, all_data_function}
 use Rattle.ncl_stage.specs.Values.{val}
 use Rattle.ncl_stage.specs.Wiring.{WiringData, IsWiring, place_in, rail_places}
-use Rattle.ncl_stage.specs.StageTables.{net_table, net_tables, function_tables, shared_tables, pair_table, all_table, conjunction, front_tables}
-use Rattle.ncl_stage.proofs.WiringLaws.{place_in-at, at_rail}
+use Rattle.ncl_stage.specs.StageTables.{net_table_by, net_tables_by, shared_tables_by, pair_table, all_table, conjunction, front_tables}
+use Rattle.ncl_stage.proofs.OrderedTables.{ordered-at, ordered-same}
+use Rattle.ncl_stage.proofs.PlaceLaws.{place_in-at}
+use Rattle.ncl_stage.proofs.WiringLaws.{at_rail}
 
 -- a table is that of its values
 pub table_of-at : (n : ℕ) (t : List Bool) → length t ≡ 2 ^ n → table_of (words n) (at t) ≡ t
@@ -182,28 +185,28 @@ outputs-within s is w wired many e =
     ))
 
 -- a gate on the rails of each output, by the functions of the words
-pub pair-tables : (kind : Kind) (join : Bool → Bool → Bool) → ((a b : Bool) → set_of kind (a ∷ b ∷ []) ≡ join a b) → (s : StageData) → IsStage s → (w : WiringData) → IsWiring s w → (variant : Variant) → map (pair_table (length s.inputs) kind (net_tables s variant)) w.outputs ≡ map (λ (r : Rails). table_of (words (length s.inputs)) (λ word. join (val s word variant r.zero.0) (val s word variant r.one.0))) s.outputs
-pair-tables kind join is_join s is w wired variant =
-    ap (map (pair_table (length s.inputs) kind (net_tables s variant))) (wired.outputs ∙ ap (λ nets. map (rail_places nets) s.outputs) wired.nets)
+pub pair-tables : (kind : Kind) (join : Bool → Bool → Bool) → ((a b : Bool) → set_of kind (a ∷ b ∷ []) ≡ join a b) → (s : StageData) (order : List ℕ) (ordered : IsOrderOf (length s.inputs) order) → IsStage s → (w : WiringData) → IsWiring s w → (variant : Variant) → map (pair_table (length s.inputs) kind (net_tables_by order s variant)) w.outputs ≡ map (λ (r : Rails). table_of (words_by order) (λ word. join (val s word variant r.zero.0) (val s word variant r.one.0))) s.outputs
+pair-tables kind join is_join s order ordered is w wired variant =
+    ap (map (pair_table (length s.inputs) kind (net_tables_by order s variant))) (wired.outputs ∙ ap (λ nets. map (rail_places nets) s.outputs) wired.nets)
     ∙ over s.outputs is.outputs_known
   where
-    net : (x : ℕ) → Contains (nets_of s.inputs s.cells) x → get_or (net_tables s variant) (place_in (nets_of s.inputs s.cells) x) [] ≡ net_table s variant x
+    net : (x : ℕ) → Contains (nets_of s.inputs s.cells) x → get_or (net_tables_by order s variant) (place_in (nets_of s.inputs s.cells) x) [] ≡ net_table_by order s variant x
     net x among =
         let at = place_in-at (nets_of s.inputs s.cells) x among in
-        get_or-map (net_table s variant) (nets_of s.inputs s.cells) (place_in (nets_of s.inputs s.cells) x) 0 [] at.0 ∙ ap (net_table s variant) (at.1 0)
+        get_or-map (net_table_by order s variant) (nets_of s.inputs s.cells) (place_in (nets_of s.inputs s.cells) x) 0 [] at.0 ∙ ap (net_table_by order s variant) (at.1 0)
 
-    over : (outputs : List Rails) → All (λ x. Contains (nets_of s.inputs s.cells) x) (rail_nets outputs) → map (pair_table (length s.inputs) kind (net_tables s variant)) (map (rail_places (nets_of s.inputs s.cells)) outputs) ≡ map (λ (r : Rails). table_of (words (length s.inputs)) (λ word. join (val s word variant r.zero.0) (val s word variant r.one.0))) outputs
+    over : (outputs : List Rails) → All (λ x. Contains (nets_of s.inputs s.cells) x) (rail_nets outputs) → map (pair_table (length s.inputs) kind (net_tables_by order s variant)) (map (rail_places (nets_of s.inputs s.cells)) outputs) ≡ map (λ (r : Rails). table_of (words_by order) (λ word. join (val s word variant r.zero.0) (val s word variant r.one.0))) outputs
     over [] known = refl
     over (r ∷ rs) known =
         let z = net r.zero.0 (All-head (λ x. Contains (nets_of s.inputs s.cells) x) r.zero.0 (r.one.0 ∷ rail_nets rs) known) in
         let later = All-tail (λ x. Contains (nets_of s.inputs s.cells) x) r.zero.0 (r.one.0 ∷ rail_nets rs) known in
         let o = net r.one.0 (All-head (λ x. Contains (nets_of s.inputs s.cells) x) r.one.0 (rail_nets rs) later) in
         let rest = over rs (All-tail (λ x. Contains (nets_of s.inputs s.cells) x) r.one.0 (rail_nets rs) later) in
-        let first : pair_table (length s.inputs) kind (net_tables s variant) (rail_places (nets_of s.inputs s.cells) r) ≡ table_of (words (length s.inputs)) (λ word. join (val s word variant r.zero.0) (val s word variant r.one.0)) =
+        let first : pair_table (length s.inputs) kind (net_tables_by order s variant) (rail_places (nets_of s.inputs s.cells) r) ≡ table_of (words_by order) (λ word. join (val s word variant r.zero.0) (val s word variant r.one.0)) =
         (λ i. gate_table (length s.inputs) kind (z i ∷ o i ∷ []))
-        ∙ table_of-same (length s.inputs) (λ word. set_of kind (at (net_table s variant r.zero.0) word ∷ at (net_table s variant r.one.0) word ∷ [])) (λ word. join (val s word variant r.zero.0) (val s word variant r.one.0)) (λ word same.
-        is_join (at (net_table s variant r.zero.0) word) (at (net_table s variant r.one.0) word)
-        ∙ (λ i. join (at_table (length s.inputs) (λ v. val s v variant r.zero.0) word same i) (at_table (length s.inputs) (λ v. val s v variant r.one.0) word same i))) in
+        ∙ ordered-same (length s.inputs) order ordered (λ word. set_of kind (at (net_table_by order s variant r.zero.0) word ∷ at (net_table_by order s variant r.one.0) word ∷ [])) (λ word. join (val s word variant r.zero.0) (val s word variant r.one.0)) (λ word same.
+        is_join (at (net_table_by order s variant r.zero.0) word) (at (net_table_by order s variant r.one.0) word)
+        ∙ (λ i. join (ordered-at (length s.inputs) order ordered (λ v. val s v variant r.zero.0) word same i) (ordered-at (length s.inputs) order ordered (λ v. val s v variant r.one.0) word same i))) in
         λ i. first i ∷ rest i
 
 map_map : {X Y Z : Type 0} (f : Y → Z) (h : X → Y) (xs : List X) → map f (map h xs) ≡ map (λ x. f (h x)) xs
@@ -214,66 +217,66 @@ map_map f h (x ∷ xs) = ap (λ l. f (h x) ∷ l) (map_map f h xs)
 abbrev pub values_at : StageData → Variant → ValuesAt
 values_at s variant word = val s word variant
 
-pub net-tables : (s : StageData) (variant : Variant) → function_tables s (net_functions s (values_at s variant)) ≡ net_tables s variant
-net-tables s variant = map_map (table_of (words (length s.inputs))) (λ net. λ word. val s word variant net) (nets_of s.inputs s.cells)
+pub net-tables : (s : StageData) (order : List ℕ) (variant : Variant) → function_tables_by order (net_functions s (values_at s variant)) ≡ net_tables_by order s variant
+net-tables s order variant = map_map (table_of (words_by order)) (λ net. λ word. val s word variant net) (nets_of s.inputs s.cells)
 
-pub data-tables : (s : StageData) → IsStage s → (w : WiringData) → IsWiring s w → (variant : Variant) → map (pair_table (length s.inputs) Th12 (net_tables s variant)) w.outputs ≡ function_tables s (data_functions s (values_at s variant))
-data-tables s is w wired variant =
-    pair-tables Th12 (λ a b. a || b) or_gate s is w wired variant
-    ∙ sym (map_map (table_of (words (length s.inputs))) (λ (r : Rails). λ word. has_data (val s word variant) r) s.outputs)
+pub data-tables : (s : StageData) (order : List ℕ) (ordered : IsOrderOf (length s.inputs) order) → IsStage s → (w : WiringData) → IsWiring s w → (variant : Variant) → map (pair_table (length s.inputs) Th12 (net_tables_by order s variant)) w.outputs ≡ function_tables_by order (data_functions s (values_at s variant))
+data-tables s order ordered is w wired variant =
+    pair-tables Th12 (λ a b. a || b) or_gate s order ordered is w wired variant
+    ∙ sym (map_map (table_of (words_by order)) (λ (r : Rails). λ word. has_data (val s word variant) r) s.outputs)
 
-pub illegal-tables : (s : StageData) → IsStage s → (w : WiringData) → IsWiring s w → (variant : Variant) → map (pair_table (length s.inputs) Th22 (net_tables s variant)) w.outputs ≡ function_tables s (illegal_functions s (values_at s variant))
-illegal-tables s is w wired variant =
-    pair-tables Th22 (λ a b. a && b) and_gate s is w wired variant
-    ∙ sym (map_map (table_of (words (length s.inputs))) (λ (r : Rails). λ word. is_illegal (val s word variant) r) s.outputs)
+pub illegal-tables : (s : StageData) (order : List ℕ) (ordered : IsOrderOf (length s.inputs) order) → IsStage s → (w : WiringData) → IsWiring s w → (variant : Variant) → map (pair_table (length s.inputs) Th22 (net_tables_by order s variant)) w.outputs ≡ function_tables_by order (illegal_functions s (values_at s variant))
+illegal-tables s order ordered is w wired variant =
+    pair-tables Th22 (λ a b. a && b) and_gate s order ordered is w wired variant
+    ∙ sym (map_map (table_of (words_by order)) (λ (r : Rails). λ word. is_illegal (val s word variant) r) s.outputs)
 
 -- the conjunction of the DATA of some outputs
-pub all-data : (s : StageData) (v : ValuesAt) (outputs : List Rails) → all_table (length s.inputs) (map (table_of (words (length s.inputs))) (map (λ (r : Rails). λ word. has_data (v word) r) outputs)) ≡ table_of (words (length s.inputs)) (λ word. list_all (has_data (v word)) outputs)
-all-data s v outputs = table_of-same (length s.inputs) (λ word. list_all (λ t. at t word) (map (table_of (words (length s.inputs))) (map (λ (r : Rails). λ w. has_data (v w) r) outputs))) (λ word. list_all (has_data (v word)) outputs) (λ word same. each word same outputs)
+pub all-data : (s : StageData) (order : List ℕ) (ordered : IsOrderOf (length s.inputs) order) (v : ValuesAt) (outputs : List Rails) → all_table (length s.inputs) (map (table_of (words_by order)) (map (λ (r : Rails). λ word. has_data (v word) r) outputs)) ≡ table_of (words_by order) (λ word. list_all (has_data (v word)) outputs)
+all-data s order ordered v outputs = ordered-same (length s.inputs) order ordered (λ word. list_all (λ t. at t word) (map (table_of (words_by order)) (map (λ (r : Rails). λ w. has_data (v w) r) outputs))) (λ word. list_all (has_data (v word)) outputs) (λ word same. each word same outputs)
   where
-    each : (word : List Bool) → length word ≡ length s.inputs → (rs : List Rails) → list_all (λ t. at t word) (map (table_of (words (length s.inputs))) (map (λ (r : Rails). λ w. has_data (v w) r) rs)) ≡ list_all (has_data (v word)) rs
+    each : (word : List Bool) → length word ≡ length s.inputs → (rs : List Rails) → list_all (λ t. at t word) (map (table_of (words_by order)) (map (λ (r : Rails). λ w. has_data (v w) r) rs)) ≡ list_all (has_data (v (placed order word))) rs
     each word same [] = refl
     each word same (r ∷ rs) =
-        let first = at_table (length s.inputs) (λ w. has_data (v w) r) word same in
+        let first = ordered-at (length s.inputs) order ordered (λ w. has_data (v w) r) word same in
         let rest = each word same rs in
         λ i. first i && rest i
 
-pub front-tables : (s : StageData) (v : ValuesAt) → front_tables (length s.inputs) (function_tables s (data_functions s v)) ≡ function_tables s (data_fronts s v)
-front-tables s v =
-    ap (λ ls. map (all_table n) ls) (fronts-map (table_of (words n)) (data_functions s v) ∙ ap (map (map (table_of (words n)))) (fronts-map (λ (r : Rails). λ word. has_data (v word) r) s.outputs))
+pub front-tables : (s : StageData) (order : List ℕ) (ordered : IsOrderOf (length s.inputs) order) (v : ValuesAt) → front_tables (length s.inputs) (function_tables_by order (data_functions s v)) ≡ function_tables_by order (data_fronts s v)
+front-tables s order ordered v =
+    ap (λ ls. map (all_table n) ls) (fronts-map (table_of (words_by order)) (data_functions s v) ∙ ap (map (map (table_of (words_by order)))) (fronts-map (λ (r : Rails). λ word. has_data (v word) r) s.outputs))
     ∙ each (fronts s.outputs)
-    ∙ sym (map_map (table_of (words n)) (λ (front : List Rails). λ word. list_all (has_data (v word)) front) (fronts s.outputs))
+    ∙ sym (map_map (table_of (words_by order)) (λ (front : List Rails). λ word. list_all (has_data (v word)) front) (fronts s.outputs))
   where
     n : ℕ
     n = length s.inputs
 
-    each : (ls : List (List Rails)) → map (all_table (length s.inputs)) (map (map (table_of (words (length s.inputs)))) (map (map (λ (r : Rails). λ word. has_data (v word) r)) ls)) ≡ map (λ (front : List Rails). table_of (words (length s.inputs)) (λ word. list_all (has_data (v word)) front)) ls
+    each : (ls : List (List Rails)) → map (all_table (length s.inputs)) (map (map (table_of (words_by order))) (map (map (λ (r : Rails). λ word. has_data (v word) r)) ls)) ≡ map (λ (front : List Rails). table_of (words_by order) (λ word. list_all (has_data (v word)) front)) ls
     each [] = refl
     each (l ∷ ls) =
-        let first = all-data s v l in
+        let first = all-data s order ordered v l in
         let rest = each ls in
         λ i. first i ∷ rest i
 
 -- the tables that every variant has, list by list
-pub shared-tables : (s : StageData) (variant : Variant) → shared_tables s variant ≡ (net_tables s variant ++ function_tables s (data_functions s (values_at s variant))) ++ function_tables s (data_fronts s (values_at s variant))
-shared-tables s variant =
-    let f = table_of (words (length s.inputs)) in
+pub shared-tables : (s : StageData) (order : List ℕ) (variant : Variant) → shared_tables_by order s variant ≡ (net_tables_by order s variant ++ function_tables_by order (data_functions s (values_at s variant))) ++ function_tables_by order (data_fronts s (values_at s variant))
+shared-tables s order variant =
+    let f = table_of (words_by order) in
     let v : ValuesAt = values_at s variant in
     map-append f (net_functions s v ++ data_functions s v) (data_fronts s v)
-    ∙ ap (λ l. l ++ function_tables s (data_fronts s v)) (map-append f (net_functions s v) (data_functions s v))
-    ∙ ap (λ l. (l ++ function_tables s (data_functions s v)) ++ function_tables s (data_fronts s v)) (net-tables s variant)
+    ∙ ap (λ l. l ++ function_tables_by order (data_fronts s v)) (map-append f (net_functions s v) (data_functions s v))
+    ∙ ap (λ l. (l ++ function_tables_by order (data_functions s v)) ++ function_tables_by order (data_fronts s v)) (net-tables s order variant)
 
 -- the last conjunction is that of all outputs
-pub last-front : (s : StageData) (v : ValuesAt) → 1 ≤ length s.outputs → get_or (function_tables s (data_fronts s v)) (length s.outputs - 1) [] ≡ table_of (words (length s.inputs)) (all_data_function s v)
-last-front s v some =
+pub last-front : (s : StageData) (order : List ℕ) (ordered : IsOrderOf (length s.inputs) order) (v : ValuesAt) → 1 ≤ length s.outputs → get_or (function_tables_by order (data_fronts s v)) (length s.outputs - 1) [] ≡ table_of (words_by order) (all_data_function s v)
+last-front s order ordered v some =
     let n : ℕ = length s.inputs in
-    let ts : List (List Bool) = function_tables s (data_functions s v) in
+    let ts : List (List Bool) = function_tables_by order (data_functions s v) in
     let k : ℕ = length s.outputs - 1 in
-    let many : length ts ≡ length s.outputs = length-map (data_functions s v) (table_of (words n)) ∙ length-map s.outputs (λ (r : Rails). λ word. has_data (v word) r) in
-    ap (λ l. get_or l k []) (sym (front-tables s v))
+    let many : length ts ≡ length s.outputs = length-map (data_functions s v) (table_of (words_by order)) ∙ length-map s.outputs (λ (r : Rails). λ word. has_data (v word) r) in
+    ap (λ l. get_or l k []) (sym (front-tables s order ordered v))
     ∙ front_tables-at n ts k (omega (arith, many))
     ∙ ap (all_table n) (take_all (suc k) ts (omega (arith, many)))
-    ∙ all-data s v s.outputs
+    ∙ all-data s order ordered v s.outputs
 
 -- the Ref of a net
 pub net-ref : (space : SpaceData) (f : ℕ → List Bool) (nets : List ℕ) (refs : List Ref) → HaveTables space refs (map f nets) → (net : ℕ) → Contains nets net → (d : Ref) → (place_in nets net < length refs) × IsLive space (get_or refs (place_in nets net) d) × (space.table (get_or refs (place_in nets net) d) ≡ f net)

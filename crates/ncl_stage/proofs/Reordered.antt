@@ -7,7 +7,8 @@ use Rattle.std.proofs.lemmas.List.Sorted.{list_any-IsPermutation, length_permuta
 use Rattle.ncl_shape.specs.declared.stage.StageCell.{StageCell}
 use Rattle.ncl_shape.specs.Nets.{Nets, round, rounds}
 use Rattle.ncl_shape.specs.Stage.{StageData, rail_nets, nets_of, out_of}
-use Rattle.ncl_space.specs.Table.{words, table_of}
+use Rattle.ncl_space.specs.Table.{table_of}
+use Rattle.ncl_stage.specs.BitOrder.{bit_order, words_by}
 use Rattle.ncl_space.proofs.BeadLaws.{bead_count-permuted}
 use Rattle.ncl_stage.specs.declared.variant.Variant.{Variant}
 use Rattle.ncl_stage.specs.declared.variant.Variant.TheVariants.{Base, Bit, Cell}
@@ -68,10 +69,10 @@ module _ (s : StageData) (ys : List StageCell) (moved : IsPermutation s.cells ys
       (subst (λ questions. IsPermutation (functions_of s x) (net_functions t v ++ data_functions s v ++ data_fronts s v ++ questions)) (same_questions x y same v)
       (IsPermutation-append_left (question_functions s x v) (net_functions s v ++ data_functions s v ++ data_fronts s v) (net_functions t v ++ data_functions s v ++ data_fronts s v) with_fronts))
 
-  tables-permuted : (x y : Variant) → IsSameVariant s t x y → IsPermutation (tables_of s x) (tables_of t y)
-  tables-permuted x y same = IsPermutation-map (table_of (words (length s.inputs))) (functions_of s x) (functions_of t y) (functions-permuted x y same)
+  tables-permuted : bit_order s ≡ bit_order t → (x y : Variant) → IsSameVariant s t x y → IsPermutation (tables_of s x) (tables_of t y)
+  tables-permuted order x y same = subst (λ o. IsPermutation (tables_of s x) (map (table_of (words_by o)) (functions_of t y))) order (IsPermutation-map (table_of (words_by (bit_order s))) (functions_of s x) (functions_of t y) (functions-permuted x y same))
 
-  pub same_count : (x y : Variant) → IsSameVariant s t x y → count s x ≡ count t y
-  same_count x y same =
+  pub same_count : bit_order s ≡ bit_order t → (x y : Variant) → IsSameVariant s t x y → count s x ≡ count t y
+  same_count order x y same =
       bead_count-permuted (length s.inputs) (tables_of s Base ++ tables_of s x) (tables_of t Base ++ tables_of t y)
-      (IsPermutation-append (tables_of s Base) (tables_of t Base) (tables_of s x) (tables_of t y) (tables-permuted Base Base base) (tables-permuted x y same))
+      (IsPermutation-append (tables_of s Base) (tables_of t Base) (tables_of s x) (tables_of t y) (tables-permuted order Base Base base) (tables-permuted order x y same))

@@ -1,19 +1,15 @@
 -- The places of nets: how they are numbered, and what stands at them.
-use Rattle.std.proofs.Common.{◌≡◌, ◌≢◌, ℕ, ◌+◌, ◌<◌, cond, List, [], ◌∷◌, ◌++◌, length, map, take, drop, get_or, zero, suc, Some, sym, ◌∙◌, ap, subst, refl, arith, append_assoc}
-use Rattle.std.specs.Prelude.{All, AllPairs, Contains, nat_eq, position, unwrap_or}
-use Rattle.std.proofs.lemmas.Bool.{false_from_ne_true, eqb-true, eq-eqb}
+use Rattle.std.proofs.Common.{◌≡◌, ◌≢◌, ℕ, ◌+◌, ◌<◌, cond, List, [], ◌∷◌, ◌++◌, length, map, take, drop, get_or, zero, suc, sym, ◌∙◌, ap, subst, refl, arith, append_assoc}
+use Rattle.std.specs.Prelude.{All, AllPairs, Contains, nat_eq}
+use Rattle.std.proofs.lemmas.Bool.{false_from_ne_true, eqb-true}
 use Rattle.std.proofs.lemmas.List.{take-append-drop, take_more, drop_more, map-append}
 use Rattle.std.proofs.lemmas.List.Elements.{All-contains}
-use Rattle.std.proofs.lemmas.List.Quantifiers.{position-Some}
-use Rattle.std.proofs.lemmas.Iterator.Adapters.{position_from-zero}
 use Rattle.indexmap.specs.IndexSet.{insert_key}
 use Rattle.ncl_shape.specs.declared.rails.Rails.{Rails}
 use Rattle.ncl_shape.specs.declared.stage.StageCell.{StageCell}
 use Rattle.ncl_shape.specs.Stage.{StageData, IsStage, rail_nets, nets_of, out_of}
 use Rattle.ncl_netlist.specs.declared.ids.NetId.{NetId}
 use Rattle.ncl_base.proofs.Members.{Member, here, there, Member-append_left, Member-from_Contains, Contains-from_Member, member_from_list_any}
-use Rattle.ncl_base.proofs.Growing.{position_from-found}
-use Rattle.ncl_stage.specs.Wiring.{place_in}
 use Rattle.ncl_stage.proofs.Apart.{parts-differ}
 
 abbrev pub AllDiffer : List ℕ → Type 0
@@ -88,13 +84,3 @@ one-member (r ∷ rs) (suc i) d lt = there (there (one-member rs i d (omega arit
 
 pub at_rail : (P : ℕ → Type 0) (rails : List Rails) → All P (rail_nets rails) → (i : ℕ) (d : Rails) → i < length rails → P (get_or rails i d).zero.0 × P (get_or rails i d).one.0
 at_rail P rails all i d lt = (All-contains P (rail_nets rails) _ all (Contains-from_Member _ (zero-member rails i d lt)), All-contains P (rail_nets rails) _ all (Contains-from_Member _ (one-member rails i d lt)))
-
--- what stands at the place of a net
-pub place_in-at : (nets : List ℕ) (net : ℕ) → Contains nets net → (place_in nets net < length nets) × ((d : ℕ) → get_or nets (place_in nets net) d ≡ net)
-place_in-at nets net (k, lt, at) =
-    let found = position_from-found (nat_eq net) 0 nets k net lt (eq-eqb net (get_or nets k net) (sym at)) in
-    let first : position (nat_eq net) nets ≡ Some found.0 = position_from-zero (nat_eq net) nets ∙ found.1 in
-    let place : place_in nets net ≡ found.0 = ap (λ o. unwrap_or o 0) first in (
-      subst (λ n. n < length nets) (sym place) (position-Some (nat_eq net) nets found.0 net first).0,
-      λ d. ap (λ n. get_or nets n d) place ∙ sym (eqb-true net (get_or nets found.0 d) (position-Some (nat_eq net) nets found.0 d first).1),
-    )

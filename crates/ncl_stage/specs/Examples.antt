@@ -1,7 +1,7 @@
--- Worked examples of stages: an AND of two bits and its broken forms, crossed rails, a full adder.
+-- Worked examples of stages: an AND of two bits and its broken forms, crossed rails, a full adder, bits in another order.
 use Rattle.std.specs.Prelude.{ℕ, List, [], ◌∷◌, ◌++◌, map}
 use Rattle.ncl_gates.specs.declared.kind.Kind.{Kind}
-use Rattle.ncl_gates.specs.declared.kind.Kind.TheVariants.{Th12, Th22, Th23, Th34w2, ThAnd0}
+use Rattle.ncl_gates.specs.declared.kind.Kind.TheVariants.{Th12, Th22, Th23, Th24comp, Th34w2, ThAnd0}
 use Rattle.ncl_netlist.specs.declared.ids.NetId.{NetId}
 use Rattle.ncl_shape.specs.declared.rails.Rails.{Rails}
 use Rattle.ncl_shape.specs.declared.stage.StageCell.{StageCell}
@@ -66,3 +66,19 @@ adder_stage = stage (two_bits ++ rails 4 5 ∷ []) adder_cells (rails 6 7 ∷ ra
 -- the sum alone
 abbrev pub sum_stage : StageData
 sum_stage = stage (two_bits ++ rails 4 5 ∷ []) adder_cells (rails 8 9 ∷ [])
+
+-- outputs beside a gate of two bits, which is high at the words 01 and 10
+abbrev pub beside_gate : List Rails → StageData
+beside_gate outputs = stage two_bits (gate 6 Th24comp (0 ∷ 2 ∷ 1 ∷ 3 ∷ []) 4 ∷ []) outputs
+
+-- with wires from the second bit and the first, so that no output observes the gate
+abbrev pub swapped_stage : StageData
+swapped_stage = beside_gate (rails 2 3 ∷ rails 0 1 ∷ [])
+
+-- the same with the wires in the order of the bits
+abbrev pub straight_stage : StageData
+straight_stage = beside_gate (rails 0 1 ∷ rails 2 3 ∷ [])
+
+-- three bits of which only the second goes to an output
+abbrev pub unmet_stage : StageData
+unmet_stage = stage (two_bits ++ rails 4 5 ∷ []) [] (rails 2 3 ∷ [])

@@ -2,7 +2,7 @@
 use Rattle.std.specs.Prelude.{ℕ, Bool, List, [], ◌∷◌, length, Option, Some, None}
 use Rattle.std.specs.List.{find, flat_map, range_with_len}
 use Rattle.ncl_shape.specs.Stage.{StageData}
-use Rattle.ncl_space.specs.Table.{words}
+use Rattle.ncl_stage.specs.BitOrder.{bit_order, words_by}
 use Rattle.ncl_stage.specs.declared.variant.Variant.{Variant}
 use Rattle.ncl_stage.specs.declared.variant.Variant.TheVariants.{Base, Bit, Cell}
 use Rattle.ncl_stage.specs.Faults.{StageFault, BothRails, NoRail, Incomplete, Orphan, shows}
@@ -17,9 +17,12 @@ faults_of s Base = flat_map (λ output. BothRails output ∷ NoRail output ∷ [
 faults_of s (Bit bit) = Incomplete bit ∷ []
 faults_of s (Cell cell) = Orphan cell ∷ []
 
--- the least word that shows the fault
+-- the word that shows the fault, the least in an order of the bits, and the least in the bit order of the stage
+abbrev pub least_word_by : List ℕ → StageData → StageFault → Option (List Bool)
+least_word_by order s fault = find (λ word. shows s word fault) (words_by order)
+
 abbrev pub least_word : StageData → StageFault → Option (List Bool)
-least_word s fault = find (λ word. shows s word fault) (words (length s.inputs))
+least_word s fault = least_word_by (bit_order s) s fault
 
 -- the first that is there
 abbrev pub first_of : {X : Type 0} → List (Option X) → Option X

@@ -5,7 +5,8 @@ use Rattle.ncl_shape.specs.declared.rails.Rails.{Rails}
 use Rattle.ncl_shape.specs.declared.stage.StageCell.{StageCell}
 use Rattle.ncl_shape.specs.Nets.{Nets}
 use Rattle.ncl_shape.specs.Stage.{StageData, nets_of}
-use Rattle.ncl_space.specs.Table.{words, table_of}
+use Rattle.ncl_space.specs.Table.{table_of}
+use Rattle.ncl_stage.specs.BitOrder.{bit_order, words_by}
 use Rattle.ncl_space.specs.Beads.{bead_count}
 use Rattle.ncl_stage.specs.declared.variant.Variant.{Variant}
 use Rattle.ncl_stage.specs.declared.variant.Variant.TheVariants.{Base, Bit, Cell}
@@ -62,9 +63,16 @@ functions_of s variant =
     let v : ValuesAt = λ word. val s word variant in
     net_functions s v ++ data_functions s v ++ data_fronts s v ++ question_functions s variant v
 
--- the tables of a variant, over the words in their order
+-- the tables of some functions, over the words in an order of the bits
+abbrev pub function_tables_by : List ℕ → List WordFunction → List (List Bool)
+function_tables_by order functions = map (table_of (words_by order)) functions
+
+-- the tables of a variant in an order of the bits, and in the bit order of the stage
+abbrev pub tables_by : List ℕ → StageData → Variant → List (List Bool)
+tables_by order s variant = function_tables_by order (functions_of s variant)
+
 abbrev pub tables_of : StageData → Variant → List (List Bool)
-tables_of s variant = map (table_of (words (length s.inputs))) (functions_of s variant)
+tables_of s variant = tables_by (bit_order s) s variant
 
 -- the count of a variant: the distinct beads of its tables and of those of Base together
 abbrev pub count : StageData → Variant → ℕ

@@ -5,7 +5,7 @@ ghost use Rattle.ncl_shape.specs.Stage.{nets_of};
 ghost use Rattle.ncl_space.specs.Making.{HaveTables, MakesAll};
 ghost use Rattle.ncl_space.specs.Space.{IsSpace, Keeps, Makes, fits};
 ghost use Rattle.ncl_stage.specs.Changes.{IsUnreached, MarksChanges, net_at};
-ghost use Rattle.ncl_stage.specs.StageTables.{AreValues, net_table, net_tables};
+ghost use Rattle.ncl_stage.specs.StageTables.{AreValues, net_table_by, net_tables_by};
 ghost use Rattle.ncl_stage.specs.Wiring.{IsWiring};
 
 use crate::net_values::Values;
@@ -16,7 +16,7 @@ use ncl_shape::Stage;
 use ncl_space::{Ref, Space, SpaceFault};
 use std::alloc::Global;
 
-/// The functions of all nets of a stage under a variant, from those under Base, which `base` has: of the
+/// The functions of all nets of a stage under a variant, from those under Base, which `base` has, in its order: of the
 /// rails of its inputs, and then of the outputs of its cells.
 ///
 /// Linear in the cells and their pins, and it asks the space for one function for each cell that a changed
@@ -34,10 +34,10 @@ pub fn net_refs_from<P: Space>(
     requires width { (P.meaning space.old).width ≡ length stage.now.inputs }
     requires base { AreValues (P.meaning space.old) stage.now Variant.Base base.now }
     requires space { IsSpace (P.meaning space.old) }
-    ensures made { IfOk result (λ refs. MakesAll (P.meaning space.old) (P.meaning space.new) refs.items (net_tables stage.now variant)) }
+    ensures made { IfOk result (λ refs. MakesAll (P.meaning space.old) (P.meaning space.new) refs.items (net_tables_by base.now.wiring.order stage.now variant)) }
     ensures kept { Keeps (P.meaning space.old) (P.meaning space.new) }
     ensures space { IsSpace (P.meaning space.new) }
-    ensures full { IsErrOf result SpaceFault.Full → fits (P.meaning space.old) (net_tables stage.now variant) ≡ false }
+    ensures full { IsErrOf result SpaceFault.Full → fits (P.meaning space.old) (net_tables_by base.now.wiring.order stage.now variant) ≡ false }
 {
     let mut refs = Vec::with_capacity(alloc, base.refs().len())?;
     let mut changed = Vec::with_capacity(alloc, base.refs().len())?;
@@ -72,13 +72,13 @@ fn ref_from<P: Space>(
     requires base { AreValues (P.meaning space.old) stage.now Variant.Base base.now }
     requires place { place < length (nets_of stage.now.inputs stage.now.cells) }
     requires space { IsSpace (P.meaning space.old) }
-    requires refs { HaveTables (P.meaning space.old) refs.now (take place (net_tables stage.now variant)) }
+    requires refs { HaveTables (P.meaning space.old) refs.now (take place (net_tables_by base.now.wiring.order stage.now variant)) }
     requires many { length changed.now ≡ place }
-    requires changed { MarksChanges stage.now variant changed.now }
-    ensures made { IfOk result (λ r. Makes (P.meaning space.old) (P.meaning space.new) r (net_table stage.now variant (net_at stage.now place))) }
+    requires changed { MarksChanges base.now.wiring.order stage.now variant changed.now }
+    ensures made { IfOk result (λ r. Makes (P.meaning space.old) (P.meaning space.new) r (net_table_by base.now.wiring.order stage.now variant (net_at stage.now place))) }
     ensures kept { Keeps (P.meaning space.old) (P.meaning space.new) }
     ensures space { IsSpace (P.meaning space.new) }
-    ensures full { IsErrOf result SpaceFault.Full → fits (P.meaning space.old) (net_table stage.now variant (net_at stage.now place) ∷ []) ≡ false }
+    ensures full { IsErrOf result SpaceFault.Full → fits (P.meaning space.old) (net_table_by base.now.wiring.order stage.now variant (net_at stage.now place) ∷ []) ≡ false }
 {
     stage.facts();
     let wiring = base.wiring();
@@ -97,7 +97,7 @@ fn reached_cell(stage: &Stage, wiring: &Wiring, place: usize, changed: &[bool]) 
     requires place { place < length (nets_of stage.now.inputs stage.now.cells) }
     requires many { length changed.now ≡ place }
     ensures reached { IfSome result (λ cell. (cell < length stage.now.cells) × (place ≡ 2 * length stage.now.inputs + cell)) }
-    ensures unreached { (variant : Variant) → MarksChanges stage.now variant changed.now → IfNone result (IsUnreached stage.now variant (net_at stage.now place)) }
+    ensures unreached { (variant : Variant) → MarksChanges wiring.now.order stage.now variant changed.now → IfNone result (IsUnreached wiring.now.order stage.now variant (net_at stage.now place)) }
 {
     stage.facts();
     let rails = 2 * stage.inputs.items().len();

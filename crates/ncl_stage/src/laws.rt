@@ -1,12 +1,15 @@
 //! The laws of the values of a stage. Each function states some, and does nothing.
-ghost use Rattle.std.specs.Prelude.{◌≡◌, ℕ, Bool, false, List, All, Contains};
+ghost use Rattle.std.specs.Prelude.{◌≡◌, ◌^◌, ℕ, Bool, false, List, [], ◌∷◌, All, Contains, length, map};
+ghost use Rattle.std.specs.List.{range_with_len};
 ghost use Rattle.ncl_shape.specs.Nets.{IsBelow};
 ghost use Rattle.ncl_shape.specs.Stage.{StageData, IsStage, rail_nets, nets_of, out_of};
+ghost use Rattle.ncl_space.specs.Table.{number_of, words};
+ghost use Rattle.ncl_stage.specs.BitOrder.{IsOrderOf, bit_order, taken, words_by};
 ghost use Rattle.ncl_stage.specs.declared.variant.Variant.{Variant};
 ghost use Rattle.ncl_stage.specs.declared.variant.Variant.TheVariants.{Base};
 ghost use Rattle.ncl_stage.specs.Values.{kept_low, rises, start, val};
 ghost use Rattle.ncl_stage.specs.Pass.{pass};
-ghost use Rattle.ncl_stage.specs.Examples.{and_stage, eager_and_stage, orphan_and_stage, crossed_stage, dead_rail_stage, adder_stage, sum_stage};
+ghost use Rattle.ncl_stage.specs.Examples.{and_stage, eager_and_stage, orphan_and_stage, crossed_stage, dead_rail_stage, adder_stage, sum_stage, swapped_stage, straight_stage, unmet_stage};
 
 /// A rail of the inputs is high exactly where the word names it and the variant doesn't keep it low.
 pub fn rails_are_named()
@@ -34,6 +37,26 @@ pub fn one_pass_is_enough()
     ensures { (s : StageData) (word : List Bool) (variant : Variant) (net : ℕ) → IsStage s → pass (kept_low s variant) s.cells (start s (kept_low s variant) word) net ≡ val s word variant net }
 {}
 
+/// Each bit of a stage stands in its bit order once.
+pub fn each_bit_stands_once()
+    ensures { (s : StageData) → IsOrderOf (length s.inputs) (bit_order s) }
+{}
+
+/// The words stand in an order as the numbers that their bits, taken in the order, make: the first bit is the most
+/// significant. In ascending order they are all words as they stand.
+pub fn words_are_in_order()
+    ensures numbers { (n : ℕ) (order : List ℕ) → IsOrderOf n order → map (λ word. number_of (taken order word)) (words_by order) ≡ range_with_len 0 (2 ^ n) }
+    ensures ascending { (n : ℕ) → words_by (range_with_len 0 n) ≡ words n }
+{}
+
+/// The bits of a full adder stand in the order of the bank. Where two outputs are wires from the second bit and the
+/// first, the second stands first. A bit that no output reads comes after those that some output does.
+pub fn example_orders()
+    ensures adder { bit_order adder_stage ≡ 0 ∷ 1 ∷ 2 ∷ [] }
+    ensures swapped { bit_order swapped_stage ≡ 1 ∷ 0 ∷ [] }
+    ensures unmet { bit_order unmet_stage ≡ 1 ∷ 0 ∷ 2 ∷ [] }
+{}
+
 /// The worked examples are stages.
 pub fn examples_are_stages()
     ensures and_of_two { IsStage and_stage }
@@ -43,4 +66,7 @@ pub fn examples_are_stages()
     ensures dead_rail { IsStage dead_rail_stage }
     ensures adder { IsStage adder_stage }
     ensures sum { IsStage sum_stage }
+    ensures swapped { IsStage swapped_stage }
+    ensures straight { IsStage straight_stage }
+    ensures unmet { IsStage unmet_stage }
 {}

@@ -3,6 +3,7 @@
 
 mod changes;
 mod evaluation;
+mod input_order;
 pub mod laws;
 mod net_values;
 mod nets;
@@ -11,10 +12,12 @@ pub mod testing;
 #[cfg(test)]
 mod tests;
 mod variant;
+mod walk;
 mod wiring;
 
 pub use changes::net_refs_from;
-pub use evaluation::{revalue, values};
+pub use evaluation::{revalue, values, values_in};
+pub use input_order::{BitOrder, bit_order};
 pub use net_values::Values;
 pub use nets::net_refs;
 pub use outputs::{all_data, data_fronts, data_tables, least_one, least_zero, pair_refs};

@@ -2,10 +2,11 @@
 ghost use Rattle.std.specs.Prelude.{◌≡◌, Contains, IfOk, length};
 ghost use Rattle.ncl_shape.specs.Stage.{StageData};
 ghost use Rattle.ncl_space.specs.Space.{IsLive, SpaceData};
-ghost use Rattle.ncl_stage.specs.StageTables.{AreValues, net_table, ref_at};
+ghost use Rattle.ncl_stage.specs.StageTables.{AreValues, net_table_by, ref_at};
 ghost use Rattle.ncl_stage.specs.Wiring.{place_in};
 ghost use Rattle.ncl_stage.specs.declared.variant.Variant.{Variant};
 
+use crate::input_order::BitOrder;
 use crate::wiring::Wiring;
 use ncl_base::Memory;
 use ncl_netlist::NetId;
@@ -57,7 +58,7 @@ impl Values {
         requires { Contains self.now.wiring.nets net.0 }
         ensures named { result ≡ ref_at self.now.refs (place_in self.now.wiring.nets net.0) }
         ensures shown { (space : SpaceData) (s : StageData) (variant : Variant) → AreValues space s variant self.now
-            → IsLive space result × (space.table result ≡ net_table s variant net.0) }
+            → IsLive space result × (space.table result ≡ net_table_by self.now.wiring.order s variant net.0) }
     {
         self.refs[self.wiring.place_of(net)]
     }
@@ -68,6 +69,14 @@ impl Values {
         ensures many { length self.now.refs ≡ length self.now.wiring.nets }
     {
         self.refs.as_slice()
+    }
+
+    /// The order in which the functions take the bits of a word: the stage's bit order, for what `values` gives. Takes
+    /// no memory.
+    pub fn order(&self) -> &BitOrder
+        ensures { result.now ≡ self.now.wiring.order }
+    {
+        self.wiring.order()
     }
 
     /// The places of the nets. Takes no memory.

@@ -5,12 +5,14 @@ ghost use Rattle.ncl_gates.specs.Gate.{arity_of};
 ghost use Rattle.ncl_space.specs.Functions.{least};
 ghost use Rattle.ncl_space.specs.Making.{MakesAll};
 ghost use Rattle.ncl_space.specs.Space.{IsLive, IsSpace, Keeps, Makes, fits, with_tables};
-ghost use Rattle.ncl_space.specs.Table.{words, table_of};
-ghost use Rattle.ncl_stage.specs.StageTables.{AreValues, conjunction, front_tables, pair_table, shared_tables};
+ghost use Rattle.ncl_space.specs.Table.{table_of};
+ghost use Rattle.ncl_stage.specs.BitOrder.{placed, words_by};
+ghost use Rattle.ncl_stage.specs.StageTables.{AreValues, conjunction, front_tables, pair_table, shared_tables_by};
 ghost use Rattle.ncl_stage.specs.Tables.{ValuesAt, all_data_function};
 ghost use Rattle.ncl_stage.specs.Values.{val};
 
 use crate::changes::net_refs_from;
+use crate::input_order::BitOrder;
 use crate::net_values::Values;
 use crate::variant::Variant;
 use crate::wiring::Wiring;
@@ -119,12 +121,12 @@ fn conjoin<P: Space>(space: &mut P, front: Option<Ref>, next: Ref) -> Result<Ref
     }
 }
 
-/// That all outputs of a stage are DATA under a variant, where `base` has the values of the stage under
-/// Base. It makes the functions of all nets, of the DATA of each output and of their conjunctions.
+/// That all outputs of a stage are DATA under a variant, where `base` has the values of the stage under Base, in the
+/// order of `base`. It makes the functions of all nets, of the DATA of each output and of their conjunctions.
 ///
-/// Linear in the cells, their pins and the outputs, and it evaluates only the cells that a changed net
-/// reaches. `Full` comes exactly where the beads held with those
-/// of all these functions are more than the limit. What is made before a refusal stays.
+/// Linear in the cells, their pins and the outputs, and it evaluates only the cells that a changed net reaches. `Full`
+/// comes exactly where the beads held with those of all these functions are more than the limit. What is made before a
+/// refusal stays.
 pub fn all_data<P: Space>(
     alloc: Global,
     space: &mut P,
@@ -137,11 +139,11 @@ pub fn all_data<P: Space>(
     requires space { IsSpace (P.meaning space.old) }
     ensures live { IfOk result (IsLive (P.meaning space.new)) }
     ensures table { let v : ValuesAt = λ word. val stage.now word variant in
-        IfOk result (λ r. (P.meaning space.new).table r ≡ table_of (words (length stage.now.inputs)) (all_data_function stage.now v)) }
-    ensures held { OnOk result ((P.meaning space.new).held ≡ with_tables (P.meaning space.old) (shared_tables stage.now variant)) }
+        IfOk result (λ r. (P.meaning space.new).table r ≡ table_of (words_by base.now.wiring.order) (all_data_function stage.now v)) }
+    ensures held { OnOk result ((P.meaning space.new).held ≡ with_tables (P.meaning space.old) (shared_tables_by base.now.wiring.order stage.now variant)) }
     ensures kept { Keeps (P.meaning space.old) (P.meaning space.new) }
     ensures space { IsSpace (P.meaning space.new) }
-    ensures full { IsErrOf result SpaceFault.Full → fits (P.meaning space.old) (shared_tables stage.now variant) ≡ false }
+    ensures full { IsErrOf result SpaceFault.Full → fits (P.meaning space.old) (shared_tables_by base.now.wiring.order stage.now variant) ≡ false }
 {
     stage.facts();
     let refs = net_refs_from(alloc, space, stage, base, variant)?;
@@ -150,27 +152,31 @@ pub fn all_data<P: Space>(
     Ok(*fronts.as_slice().last().unwrap())
 }
 
-/// The least word at which a function is 1, if there is one. Takes no memory.
-pub fn least_one<P: Space>(space: &P, x: Ref) -> Option<Word>
-    requires { IsLive (P.meaning space.now) x }
-    ensures { let s = P.meaning space.now in result ≡ least true s.width (s.table x) }
+/// The word at which a function is 1 that is the least in an order of the bits, if there is one. The function is over
+/// the words whose bits are taken in that order. Takes no memory.
+pub fn least_one<P: Space>(space: &P, order: &BitOrder, x: Ref) -> Option<Word>
+    requires width { (P.meaning space.now).width ≡ length order.now }
+    requires live { IsLive (P.meaning space.now) x }
+    ensures { let s = P.meaning space.now in result ≡ option_map (placed order.now) (least true s.width (s.table x)) }
 {
     let mut word = Word::new();
     if space.least_one(x, &mut word) {
-        Some(word)
+        Some(order.placed(&word))
     } else {
         None
     }
 }
 
-/// The least word at which a function is 0, if there is one. Takes no memory.
-pub fn least_zero<P: Space>(space: &P, x: Ref) -> Option<Word>
-    requires { IsLive (P.meaning space.now) x }
-    ensures { let s = P.meaning space.now in result ≡ least false s.width (s.table x) }
+/// The word at which a function is 0 that is the least in an order of the bits, if there is one. The function is over
+/// the words whose bits are taken in that order. Takes no memory.
+pub fn least_zero<P: Space>(space: &P, order: &BitOrder, x: Ref) -> Option<Word>
+    requires width { (P.meaning space.now).width ≡ length order.now }
+    requires live { IsLive (P.meaning space.now) x }
+    ensures { let s = P.meaning space.now in result ≡ option_map (placed order.now) (least false s.width (s.table x)) }
 {
     let mut word = Word::new();
     if space.least_zero(x, &mut word) {
-        Some(word)
+        Some(order.placed(&word))
     } else {
         None
     }

@@ -2,7 +2,8 @@
 //! space that counts the gates that are asked of it.
 ghost use Rattle.std.specs.Prelude.{◌≡◌, ◌≤◌, IfOk, length};
 ghost use Rattle.ncl_space.specs.Plain.{plain_space};
-ghost use Rattle.ncl_stage.specs.Examples.{adder_stage, and_stage, gate, rails};
+ghost use Rattle.ncl_shape.specs.Stage.{IsStage};
+ghost use Rattle.ncl_stage.specs.Examples.{adder_stage, and_stage, beside_gate, gate, rails, straight_stage, swapped_stage, unmet_stage};
 
 use arrayvec::ArrayVec;
 use ncl_base::{Items, Memory, Word};
@@ -49,8 +50,55 @@ pub fn full_adder(alloc: Global) -> Result<Stage, Memory>
     ))
 }
 
-// A bit on two nets.
-fn pair(zero: u32, one: u32) -> Rails
+/// Wires from the second of two bits and from the first, and a gate that no output observes. An error is want of memory.
+pub fn swapped_bits(alloc: Global) -> Result<Stage, Memory>
+    ensures { IfOk result (λ stage. stage ≡ swapped_stage) }
+{
+    let outputs = vec![in alloc; pair(2, 3), pair(0, 1)]?;
+    beside_a_gate(alloc, outputs)
+}
+
+/// The same with the wires in the order of the bits. An error is want of memory.
+pub fn straight_bits(alloc: Global) -> Result<Stage, Memory>
+    ensures { IfOk result (λ stage. stage ≡ straight_stage) }
+{
+    let outputs = vec![in alloc; pair(0, 1), pair(2, 3)]?;
+    beside_a_gate(alloc, outputs)
+}
+
+// Outputs beside a gate of two bits.
+fn beside_a_gate(alloc: Global, outputs: Vec<Rails>) -> Result<Stage, Memory>
+    requires { IsStage (beside_gate outputs.items) }
+    ensures { IfOk result (λ stage. stage ≡ beside_gate outputs.items) }
+{
+    let inputs = vec![in alloc; pair(0, 1), pair(2, 3)]?;
+    let gate = cell(6, Kind::Th24comp, &[0, 2, 1, 3], 4);
+    let cells = vec![in alloc; gate]?;
+    Ok(Stage::new(
+        1,
+        Items::from_vec(inputs),
+        Items::from_vec(cells),
+        Items::from_vec(outputs),
+    ))
+}
+
+/// Three bits, of which only the second goes to an output. An error is want of memory.
+pub fn unmet_bits(alloc: Global) -> Result<Stage, Memory>
+    ensures { IfOk result (λ stage. stage ≡ unmet_stage) }
+{
+    let inputs = vec![in alloc; pair(0, 1), pair(2, 3), pair(4, 5)]?;
+    let cells = Vec::new(alloc);
+    let outputs = vec![in alloc; pair(2, 3)]?;
+    Ok(Stage::new(
+        1,
+        Items::from_vec(inputs),
+        Items::from_vec(cells),
+        Items::from_vec(outputs),
+    ))
+}
+
+/// A bit on two nets.
+pub fn pair(zero: u32, one: u32) -> Rails
     ensures { result ≡ rails zero one }
 {
     Rails {
@@ -59,8 +107,8 @@ fn pair(zero: u32, one: u32) -> Rails
     }
 }
 
-// A gate cell: its number in the file, its gate, its input nets and its output net.
-fn cell(number: u32, kind: Kind, ins: &[u32], out: u32) -> StageCell
+/// A gate cell: its number in the file, its gate, its input nets and its output net. Linear in the inputs.
+pub fn cell(number: u32, kind: Kind, ins: &[u32], out: u32) -> StageCell
     requires { length ins.now ≤ 4 }
     ensures { result ≡ gate number kind ins.now out }
 {

@@ -1,12 +1,20 @@
-//! That a variant is revalued to its values, and by how many gates.
-ghost use Rattle.std.specs.Prelude.{◌≡◌, ◌≤◌, All, length};
+//! That a variant is revalued to its values, and by how many gates; orders of bits; and that places are looked up.
+ghost use Rattle.std.specs.Prelude.{◌≡◌, ◌≤◌, All, IfOk, length};
+ghost use Rattle.std.specs.List.{range_with_len};
 ghost use Rattle.ncl_space.specs.Plain.{plain_space};
 ghost use Rattle.ncl_space.specs.Space.{IsLive};
 
-use crate::testing::{Counting, and_of_two_bits, full_adder};
-use crate::{Variant, revalue, values};
+use crate::testing::{
+    Counting, and_of_two_bits, full_adder, straight_bits, swapped_bits, unmet_bits,
+};
+use crate::wiring::place_of;
+use crate::{BitOrder, Variant, bit_order, revalue, values, values_in};
+use indexmap::IndexSet;
+use ncl_base::Memory;
+use ncl_netlist::NetId;
 use ncl_shape::Stage;
 use ncl_space::{Ref, Space};
+use std::alloc::Global;
 use std::process::Abort;
 use std::test::*;
 
@@ -74,5 +82,63 @@ fn variants_of_an_and(rt: HostRuntime) -> Result<(), Fail> {
     for (variant, most) in most {
         check(&rt, &stage, variant, most)?;
     }
+    Ok(())
+}
+
+/// The bit order of a stage.
+fn check_order(
+    rt: &(impl Abort + AllocGlobal),
+    stage: &Stage,
+    wanted: &[usize],
+) -> Result<(), Fail> {
+    let order = bit_order(rt.alloc(), stage)?;
+    assert_eq!(rt; order.bits(), wanted);
+    Ok(())
+}
+
+#[test]
+fn bits_are_met_from_the_outputs(rt: HostRuntime) -> Result<(), Fail> {
+    let swapped = swapped_bits(rt.alloc())?;
+    check_order(&rt, &swapped, &[1, 0])?;
+    let straight = straight_bits(rt.alloc())?;
+    check_order(&rt, &straight, &[0, 1])?;
+    let unmet = unmet_bits(rt.alloc())?;
+    check_order(&rt, &unmet, &[1, 0, 2])
+}
+
+#[test]
+fn values_in_an_order_that_is_given(rt: HostRuntime) -> Result<(), Fail> {
+    let stage = swapped_bits(rt.alloc())?;
+    let mut space = Counting::new(rt.alloc(), 2);
+    let order = BitOrder::ascending(rt.alloc(), 2)?;
+    let given = values_in(rt.alloc(), &mut space, &stage, order, Variant::Base)?;
+    assert_eq!(rt; given.order().bits(), [0, 1].as_slice());
+    let variant = revalue(rt.alloc(), &mut space, &stage, &given, Variant::Bit(0))?;
+    assert_eq!(rt; variant.order().bits(), [0, 1].as_slice());
+    let own = values(rt.alloc(), &mut space, &stage, Variant::Base)?;
+    assert_eq!(rt; own.order().bits(), [1, 0].as_slice());
+    Ok(())
+}
+
+/// So many nets, each at the place of its number.
+fn numbered(alloc: Global, count: u32) -> Result<IndexSet<u32>, Memory>
+    ensures { IfOk result (λ nets. nets.keys ≡ range_with_len 0 count) }
+{
+    let mut nets: IndexSet<u32> = IndexSet::new(alloc);
+    for net in 0..count {
+        nets.insert(net)?;
+    }
+    Ok(nets)
+}
+
+// By a pass over the nets these look-ups would take minutes.
+#[test]
+fn places_of_a_million_nets(rt: HostRuntime) -> Result<(), Fail> {
+    let nets = numbered(rt.alloc(), 1_000_000)?;
+    let mut sum: usize = 0;
+    for net in 0..1_000_000 {
+        sum = sum.wrapping_add(place_of(&nets, NetId(net)));
+    }
+    assert_eq!(rt; sum, 499_999_500_000);
     Ok(())
 }

@@ -2,8 +2,10 @@
 ghost use Rattle.std.specs.Prelude.{◌≡◌, ◌<◌, ◌≤◌, IfOk, [], All, Contains, length, map, slice_index_or};
 ghost use Rattle.ncl_netlist.specs.declared.ids.NetId.{NetId};
 ghost use Rattle.ncl_shape.specs.Stage.{nets_of, rail_nets};
+ghost use Rattle.ncl_stage.specs.BitOrder.{IsOrderOf, bit_order};
 ghost use Rattle.ncl_stage.specs.Wiring.{IsWiring, pin_places, place_in, rail_places};
 
+use crate::input_order::{BitOrder, order_of};
 use arrayvec::ArrayVec;
 use indexmap::IndexSet;
 use ncl_base::Memory;
@@ -13,12 +15,13 @@ use std::alloc::Global;
 use std::marker::Model;
 
 /// The nets of a stage in their order, the rails of its inputs before the outputs of its cells, and what
-/// its cells and outputs read, by places in that order.
+/// its cells and outputs read, by places in that order; and an order of the bits of a word.
 #[derive(Drop)]
 pub struct Wiring {
     nets: IndexSet<u32>,
     pins: Vec<ArrayVec<usize, 4>>,
     outputs: Vec<(usize, usize)>,
+    order: BitOrder,
 }
 
 impl Model for Wiring {
@@ -28,15 +31,37 @@ impl Model for Wiring {
 
     ghost Value = { WiringData };
 
-    ghost view = { λ a. record { nets = a.nets.keys; pins = map (λ p. p.items) a.pins.items; outputs = a.outputs.items } };
+    ghost view = { λ a. record { nets = a.nets.keys; pins = map (λ p. p.items) a.pins.items; outputs = a.outputs.items; order = a.order } };
 }
 
 impl Wiring {
-    /// The wiring of a stage. An error is want of memory.
+    /// The wiring of a stage, in its bit order. An error is want of memory.
     ///
     /// Linear in the stage: each net is looked up once for each cell or output that reads it.
     pub fn new(alloc: Global, stage: &Stage) -> Result<Wiring, Memory>
-        ensures { IfOk result (IsWiring stage.now) }
+        ensures wiring { IfOk result (IsWiring stage.now) }
+        ensures order { IfOk result (λ wiring. wiring.order ≡ bit_order stage.now) }
+    {
+        stage.facts();
+        let nets = number_nets(alloc, stage)?;
+        let pins = places_of_cells(alloc, &nets, stage)?;
+        let outputs = places_of_outputs(alloc, &nets, stage)?;
+        let order = order_of(alloc, stage, &pins, &outputs)?;
+        Ok(Wiring {
+            nets,
+            pins,
+            outputs,
+            order,
+        })
+    }
+
+    /// The wiring of a stage, in an order of its bits that is given. An error is want of memory.
+    ///
+    /// Linear in the stage: each net is looked up once for each cell or output that reads it.
+    pub(crate) fn in_order(alloc: Global, stage: &Stage, order: BitOrder) -> Result<Wiring, Memory>
+        requires { IsOrderOf (length stage.now.inputs) order }
+        ensures wiring { IfOk result (IsWiring stage.now) }
+        ensures order { IfOk result (λ wiring. wiring.order ≡ order) }
     {
         stage.facts();
         let nets = number_nets(alloc, stage)?;
@@ -46,6 +71,7 @@ impl Wiring {
             nets,
             pins,
             outputs,
+            order,
         })
     }
 
@@ -80,6 +106,20 @@ impl Wiring {
     {
         self.outputs.as_slice()
     }
+
+    /// The order of the bits. Takes no memory.
+    pub fn order(&self) -> &BitOrder
+        ensures { result.now ≡ self.now.order }
+    {
+        &self.order
+    }
+
+    /// The same, without the rest.
+    pub(crate) fn into_order(self) -> BitOrder
+        ensures { result ≡ self.order }
+    {
+        self.order
+    }
 }
 
 // The nets of a stage in their order. Linear in the nets.
@@ -107,8 +147,8 @@ fn number_rails(alloc: Global, stage: &Stage) -> Result<IndexSet<u32>, Memory>
     Ok(nets)
 }
 
-// The place of a net among some nets. Takes as long as a look-up in a table of hashes.
-fn place_of(nets: &IndexSet<u32>, net: NetId) -> usize
+/// The place of a net among some nets. Takes as long as a look-up in a table of hashes.
+pub(crate) fn place_of(nets: &IndexSet<u32>, net: NetId) -> usize
     requires { Contains nets.now.keys net.0 }
     ensures { result ≡ place_in nets.now.keys net.0 }
 {

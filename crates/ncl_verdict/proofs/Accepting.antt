@@ -1,29 +1,21 @@
 -- Sound stages are accepted, or one of them passes the limit.
-use Rattle.std.proofs.Common.{◌≡◌, ℕ, zero, suc, ◌+◌, ◌≤◌, ◌<◌, ◌⊎◌, Bool, true, false, List, [], ◌∷◌, ◌++◌, length, map, Option, Some, None, inl, inr, refl, sym, ap, ◌∙◌, subst, arith}
-use Rattle.std.specs.Prelude.{nat_lt, All, Contains, cond, if◌then◌else◌, option_and_then, unwrap_or}
+use Rattle.std.proofs.Common.{◌≡◌, ℕ, suc, ◌≤◌, ◌<◌, ◌⊎◌, Bool, false, List, [], ◌∷◌, map, Option, Some, None, inl, inr, refl, ap, ◌∙◌, subst, arith}
+use Rattle.std.specs.Prelude.{All, cond, if◌then◌else◌, option_and_then, unwrap_or}
 use Rattle.std.specs.List.{find}
-use Rattle.std.proofs.lemmas.Bool.{cases_Bool}
 use Rattle.std.proofs.lemmas.Bool.Decides.{leb_tells}
 use Rattle.std.proofs.lemmas.List.Elements.{All-contains}
-use Rattle.ncl_base.proofs.Members.{Member, here, there, member_cases, Member-append_cases, member_of_map, Contains-from_Member, Member-from_Contains}
+use Rattle.ncl_base.proofs.Members.{Member, here, there, member_cases, Contains-from_Member, Member-from_Contains}
 use Rattle.ncl_shape.specs.Stage.{StageData}
-use Rattle.ncl_space.specs.Table.{words}
+use Rattle.ncl_stage.specs.BitOrder.{bit_order, words_by}
+use Rattle.ncl_stage.proofs.OrderLaws.{words_by-length}
+use Rattle.ncl_stage.proofs.OrderedTables.{order-is}
 use Rattle.ncl_stage.specs.declared.variant.Variant.{Variant}
-use Rattle.ncl_stage.specs.Faults.{StageFault, shows, IsSound, IsWordOf}
+use Rattle.ncl_stage.specs.Faults.{StageFault, shows, IsSound}
 use Rattle.ncl_stage.specs.Tables.{count}
 use Rattle.ncl_verdict.specs.declared.verdict.Verdict.{Verdict}
 use Rattle.ncl_verdict.specs.declared.verdict.Verdict.TheVariants as verdict
-use Rattle.ncl_verdict.specs.Judgement.{stopped_at, verdict_of, variants, faults_of, least_word, found, first_of, at_variant, of_stage, judgement}
+use Rattle.ncl_verdict.specs.Judgement.{stopped_at, verdict_of, variants, faults_of, found, first_of, at_variant, of_stage, judgement}
 use Rattle.ncl_verdict.specs.Within.{IsWithin, AreWithin}
-
--- each of all words of n bits has n bits
-words-length : (n : ℕ) (word : List Bool) → Member word (words n) → length word ≡ n
-words-length zero word m = elim (member_cases word [] [] m) [ inl empty ↦ ap length (sym empty) | inr none ↦ elim none [ ] ]
-words-length (suc n) word m =
-    elim (Member-append_cases word (map (λ w. false ∷ w) (words n)) (map (λ w. true ∷ w) (words n)) m) [
-      | inl low ↦ let (rest, inside, is) = member_of_map (λ w. false ∷ w) (words n) word low in omega (arith, words-length n rest inside, ap length is)
-      | inr high ↦ let (rest, inside, is) = member_of_map (λ w. true ∷ w) (words n) word high in omega (arith, words-length n rest inside, ap length is)
-    ]
 
 -- where no item passes, nothing is found
 find-nothing : {X : Type 0} (test : X → Bool) (xs : List X) → ((x : X) → Member x xs → test x ≡ false) → find test xs ≡ None
@@ -39,7 +31,7 @@ first-none f (x ∷ xs) none = ap (λ answer. first_of (answer ∷ map f xs)) (n
 found-nothing : (s : StageData) → IsSound s → (fault : StageFault) → found s fault ≡ None
 found-nothing s sound fault =
     ap (option_and_then (λ word. Some (verdict_of s fault word)))
-    (find-nothing (λ word. shows s word fault) (words (length s.inputs)) (λ word m. sound fault word (words-length (length s.inputs) word m)))
+    (find-nothing (λ word. shows s word fault) (words_by (bit_order s)) (λ word m. sound fault word (words_by-length (bit_order s) word m ∙ (order-is s).many)))
 
 -- a variant of a sound stage passes the limit, or nothing is found
 at_variant-sound : (limit : ℕ) (s : StageData) → IsSound s → (variant : Variant) → ((limit < count s variant) × (at_variant (stopped_at limit) s variant ≡ Some (verdict.Limit s.number))) ⊎ ((count s variant ≤ limit) × (at_variant (stopped_at limit) s variant ≡ None))

@@ -1,33 +1,33 @@
 -- What a space answers, as the judgement counts it.
-use Rattle.std.proofs.Common.{◌≡◌, ℕ, zero, suc, ◌+◌, ◌<◌, ◌≤◌, Bool, true, false, List, [], ◌∷◌, ◌++◌, length, map, get_or, Option, Some, None, ◌⊎◌, inl, inr, refl, sym, ap, ◌∙◌, subst, arith}
+use Rattle.std.proofs.Common.{◌≡◌, ℕ, zero, suc, ◌<◌, Bool, true, false, List, [], ◌∷◌, ◌++◌, length, map, get_or, Option, Some, None, inl, inr, refl, sym, ap, ◌∙◌, subst, arith}
 use Rattle.std.specs.Prelude.{nat_le, nat_lt, option_and_then, if◌then◌else◌}
 use Rattle.std.specs.List.{flat_map}
 use Rattle.std.specs.Option.{option_map}
 use Rattle.std.specs.FinSet as set
 use Rattle.std.proofs.lemmas.Bool.Decides.{nat_tests}
-use Rattle.std.proofs.lemmas.Bool.{lt-ltb, le-ltb}
 use Rattle.std.proofs.lemmas.List.{append_assoc, map-append}
 use Rattle.ncl_shape.specs.Stage.{StageData}
 use Rattle.ncl_base.proofs.Members.{Member, here, there, Member-append_cases, Member-append_left, Member-append_right, Member-from_Contains, Contains-from_Member, Contains-from_slice_get, slice_get-from_Contains}
-use Rattle.ncl_space.specs.Beads.{Beads, distinct_beads, bead_count}
+use Rattle.ncl_space.specs.Beads.{distinct_beads, bead_count}
 use Rattle.ncl_space.specs.Space.{SpaceData, Restores, fits, with_tables, is_within}
 use Rattle.ncl_space.proofs.BeadLaws.{HasMembers, distinct_beads-append, distinct_beads-same}
 use Rattle.ncl_space.proofs.SpaceLaws.{count_of_both, too_much_by_front}
 use Rattle.ncl_space.proofs.MakingLaws.{have-kept}
 use Rattle.ncl_stage.specs.declared.variant.Variant.{Variant}
 use Rattle.ncl_stage.specs.declared.variant.Variant.TheVariants.{Base, Bit, Cell}
-use Rattle.ncl_stage.specs.Faults.{StageFault, BothRails, NoRail, Incomplete, Orphan}
+use Rattle.ncl_stage.specs.Faults.{StageFault, BothRails, NoRail}
+use Rattle.ncl_stage.specs.BitOrder.{bit_order}
 use Rattle.ncl_stage.specs.LeastWords.{below, faults_of, first_of, least_word}
-use Rattle.ncl_stage.specs.StageTables.{ValuesData, net_tables, function_tables}
-use Rattle.ncl_stage.specs.Tables.{count, data_functions, data_fronts, illegal_functions, tables_of}
+use Rattle.ncl_stage.specs.StageTables.{ValuesData, net_tables, net_tables_by}
+use Rattle.ncl_stage.specs.Tables.{count, data_functions, data_fronts, function_tables_by, illegal_functions, tables_by, tables_of}
 use Rattle.ncl_stage.proofs.OutputLaws.{values_at, shared-tables}
-use Rattle.ncl_stage.proofs.LeastLaws.{tables_of-parts, first_of-append, first_of-one, outputs-grouped, first_below-none, first_below-some}
+use Rattle.ncl_stage.proofs.LeastLaws.{tables_of-parts, first_of-append, first_of-one}
 use Rattle.ncl_complete.specs.declared.rail_fault.RailFault.{RailFault}
 use Rattle.ncl_complete.specs.declared.rail_fault.RailFault.TheVariants.{Both, Empty}
-use Rattle.ncl_complete.specs.RailFaults.{rail_fault, found_fault, first_rail_fault}
+use Rattle.ncl_complete.specs.RailFaults.{rail_fault, found_fault_by, first_rail_fault_by}
 use Rattle.ncl_verdict.specs.declared.verdict.Verdict.{Verdict}
 use Rattle.ncl_verdict.specs.declared.verdict.Verdict.TheVariants as verdict
-use Rattle.ncl_verdict.specs.Judgement.{Stop, at_variant, file_order, found, of_stage, stopped_at, variants, verdict_of}
+use Rattle.ncl_verdict.specs.Judgement.{Stop, at_variant, file_order, found, of_stage, verdict_of}
 use Rattle.ncl_verdict.proofs.FileOrder.{range-members}
 use Rattle.ncl_verdict.specs.InSpace.{IsReady, stopped_within, rail_verdict, output_of}
 
@@ -65,16 +65,16 @@ has-members ts us each = record {
 
 -- the nets are among the tables of Base
 pub base_rest : StageData → List (List Bool)
-base_rest s = function_tables s (data_functions s (values_at s Base)) ++ function_tables s (data_fronts s (values_at s Base)) ++ function_tables s (illegal_functions s (values_at s Base))
+base_rest s = function_tables_by (bit_order s) (data_functions s (values_at s Base)) ++ function_tables_by (bit_order s) (data_fronts s (values_at s Base)) ++ function_tables_by (bit_order s) (illegal_functions s (values_at s Base))
 
 pub base-front : (s : StageData) → tables_of s Base ≡ net_tables s Base ++ base_rest s
 unfolding base_rest
 base-front s =
     let nets = net_tables s Base in
-    let some = function_tables s (data_functions s (values_at s Base)) in
-    let fronts = function_tables s (data_fronts s (values_at s Base)) in
-    let both = function_tables s (illegal_functions s (values_at s Base)) in
-    tables_of-parts s Base ∙ ap (λ l. l ++ both) (shared-tables s Base)
+    let some = function_tables_by (bit_order s) (data_functions s (values_at s Base)) in
+    let fronts = function_tables_by (bit_order s) (data_fronts s (values_at s Base)) in
+    let both = function_tables_by (bit_order s) (illegal_functions s (values_at s Base)) in
+    tables_of-parts s (bit_order s) Base ∙ ap (λ l. l ++ both) (shared-tables s (bit_order s) Base)
     ∙ ap (λ l. l ++ both) (append_assoc nets some fronts) ∙ append_assoc nets (some ++ fronts) both
 
 net-in_base : (s : StageData) (t : List Bool) → Member t (net_tables s Base) → Member t (tables_of s Base)
@@ -97,6 +97,10 @@ with_nets s =
 pub fits-count : (a : SpaceData) (s : StageData) (variant : Variant) → a.width ≡ length s.inputs → a.held ≡ distinct_beads (length s.inputs) (tables_of s Base) → fits a (tables_of s variant) ≡ is_within a.limit (count s variant)
 fits-count a s variant width held =
     ap (is_within a.limit) (count_of_both a (tables_of s Base) (tables_of s variant) (held ∙ ap (λ n. distinct_beads n (tables_of s Base)) (sym width)) ∙ ap (λ n. bead_count n (tables_of s Base ++ tables_of s variant)) width)
+
+-- the same by the order of the values of Base
+pub fits-ready : (a : SpaceData) (s : StageData) (base : ValuesData) → IsReady a s base → (variant : Variant) → fits a (tables_by base.wiring.order s variant) ≡ is_within a.limit (count s variant)
+fits-ready a s base ready variant = ap (λ order. fits a (tables_by order s variant)) ready.order ∙ fits-count a s variant ready.width ready.held
 
 -- the same at Base, where those of the nets alone are held
 pub fits-base : (a : SpaceData) (s : StageData) → a.width ≡ length s.inputs → a.held ≡ distinct_beads (length s.inputs) (net_tables s Base) → fits a (tables_of s Base) ≡ is_within a.limit (count s Base)
@@ -130,15 +134,16 @@ nets-too_much a s e = ap (fits a) (base-front s) ∙ too_much_by_front a (net_ta
 pub ready-restored : (a b : SpaceData) (s : StageData) (base : ValuesData) → Restores a b → IsReady a s base → IsReady b s base
 ready-restored a b s base back ready = record {
   width = back.keeps.width ∙ ready.width;
-  values = record { wired = ready.values.wired; shown = have-kept a b base.refs (net_tables s Base) back.keeps ready.values.shown };
+  values = record { wired = ready.values.wired; shown = have-kept a b base.refs (net_tables_by base.wiring.order s Base) back.keeps ready.values.shown };
+  order = ready.order;
   held = back.held ∙ ready.held;
 }
 
 -- ---- the faults of the outputs
 -- what is said of them is what is found of them
-answers : (s : StageData) (outputs : List ℕ) → first_of (map (found s) (flat_map (λ k. BothRails k ∷ NoRail k ∷ []) outputs)) ≡ option_map (rail_verdict s) (first_of (map (found_fault s) (flat_map (λ k. BothRails k ∷ NoRail k ∷ []) outputs)))
+answers : (s : StageData) (outputs : List ℕ) → first_of (map (found s) (flat_map (λ k. BothRails k ∷ NoRail k ∷ []) outputs)) ≡ option_map (rail_verdict s) (first_of (map (found_fault_by (bit_order s) s) (flat_map (λ k. BothRails k ∷ NoRail k ∷ []) outputs)))
 answers s [] = refl
-answers s (k ∷ outputs) = by_words (least_word s (BothRails k)) (least_word s (NoRail k)) (map (found s) rest) (map (found_fault s) rest) (answers s outputs)
+answers s (k ∷ outputs) = by_words (least_word s (BothRails k)) (least_word s (NoRail k)) (map (found s) rest) (map (found_fault_by (bit_order s) s) rest) (answers s outputs)
   where
     rest : List StageFault
     rest = flat_map (λ k. BothRails k ∷ NoRail k ∷ []) outputs
@@ -150,13 +155,13 @@ answers s (k ∷ outputs) = by_words (least_word s (BothRails k)) (least_word s 
     by_words None (Some word) said faults e = refl
     by_words (Some word) neither said faults e = refl
 
-pub said-of_outputs : (s : StageData) → first_of (map (found s) (faults_of s Base)) ≡ option_map (rail_verdict s) (first_rail_fault s)
+pub said-of_outputs : (s : StageData) → first_of (map (found s) (faults_of s Base)) ≡ option_map (rail_verdict s) (first_rail_fault_by (bit_order s) s)
 said-of_outputs s = answers s (below (length s.outputs))
 
 -- a fault that is found is of one of the outputs
-within-all : (s : StageData) (bound : ℕ) (outputs : List ℕ) → ((k : ℕ) → Member k outputs → k < bound) → (fault : RailFault) → first_of (map (found_fault s) (flat_map (λ k. BothRails k ∷ NoRail k ∷ []) outputs)) ≡ Some fault → output_of fault < bound
+within-all : (s : StageData) (bound : ℕ) (outputs : List ℕ) → ((k : ℕ) → Member k outputs → k < bound) → (fault : RailFault) → first_of (map (found_fault_by (bit_order s) s) (flat_map (λ k. BothRails k ∷ NoRail k ∷ []) outputs)) ≡ Some fault → output_of fault < bound
 within-all s bound [] each fault e = absurd cc
-within-all s bound (k ∷ outputs) each fault e = by_words (least_word s (BothRails k)) (least_word s (NoRail k)) (map (found_fault s) (flat_map (λ k. BothRails k ∷ NoRail k ∷ []) outputs)) e (λ f. within-all s bound outputs (λ j m. each j (there m)) fault f)
+within-all s bound (k ∷ outputs) each fault e = by_words (least_word s (BothRails k)) (least_word s (NoRail k)) (map (found_fault_by (bit_order s) s) (flat_map (λ k. BothRails k ∷ NoRail k ∷ []) outputs)) e (λ f. within-all s bound outputs (λ j m. each j (there m)) fault f)
   where
     own : (v : RailFault) → output_of v ≡ k → Some v ≡ Some fault → output_of fault < bound
     own v at f = let same : v ≡ fault = cc in subst (λ n. n < bound) (sym at ∙ ap output_of same) (each k here)
@@ -166,7 +171,7 @@ within-all s bound (k ∷ outputs) each fault e = by_words (least_word s (BothRa
     by_words None (Some word) faults f later = own (Empty k word) refl f
     by_words (Some word) neither faults f later = own (Both k word) refl f
 
-pub fault-within : (s : StageData) (fault : RailFault) → first_rail_fault s ≡ Some fault → output_of fault < length s.outputs
+pub fault-within : (s : StageData) (fault : RailFault) → first_rail_fault_by (bit_order s) s ≡ Some fault → output_of fault < length s.outputs
 fault-within s fault e = within-all s (length s.outputs) (below (length s.outputs)) (λ k m. let lt = range-members 0 (length s.outputs) k m in omega (arith, lt)) fault e
 
 -- ---- the first of answers at the members of a list

@@ -1,10 +1,9 @@
 -- Every place, every cell's place and every word is asked.
-use Rattle.std.proofs.Common.{◌≡◌, ℕ, zero, suc, ◌+◌, ◌<◌, ◌≤◌, Bool, true, false, List, [], ◌∷◌, length, map, None, ◌⊎◌, inl, inr, refl, sym, subst, arith}
+use Rattle.std.proofs.Common.{◌≡◌, ℕ, zero, suc, ◌+◌, ◌<◌, ◌≤◌, Bool, true, false, List, [], ◌∷◌, length, None, ◌⊎◌, inl, inr, refl, sym, subst, arith}
 use Rattle.std.specs.Prelude.{nat_lt, if◌then◌else◌, slice_get}
 use Rattle.std.specs.List.{range_with_len}
 use Rattle.std.proofs.lemmas.Bool.{cases_eq}
-use Rattle.ncl_base.proofs.Members.{Member, here, there, member_cases, Member-map, Member-append_left, Member-append_right}
-use Rattle.ncl_space.specs.Table.{words}
+use Rattle.ncl_base.proofs.Members.{Member, here, there, member_cases}
 use Rattle.ncl_verdict.specs.Judgement.{below, inserted, ordered_by}
 
 Member-range : (from count k : ℕ) → from ≤ k → k < from + count → Member k (range_with_len from count)
@@ -45,12 +44,6 @@ Member-ordered_by key (place ∷ places) k m =
       | inl own ↦ Member-inserted key place (ordered_by key places) k (inl own)
       | inr n ↦ Member-inserted key place (ordered_by key places) k (inr (Member-ordered_by key places k n))
     ]
-
--- the words of a length are all
-pub Member-words : (word : List Bool) → Member word (words (length word))
-Member-words [] = here
-Member-words (false ∷ word) = Member-append_left (false ∷ word) (map (λ rest. true ∷ rest) (words (length word))) (Member-map (λ rest. false ∷ rest) word (Member-words word))
-Member-words (true ∷ word) = Member-append_right (map (λ rest. false ∷ rest) (words (length word))) (true ∷ word) (Member-map (λ rest. true ∷ rest) word (Member-words word))
 
 -- a place within a list or past its end
 pub slice_get-cases : {X : Type 0} (xs : List X) (k : ℕ) → (slice_get xs k ≡ None) ⊎ (k < length xs)

@@ -6,7 +6,9 @@ use Rattle.ncl_shape.specs.declared.rails.Rails.{Rails}
 use Rattle.ncl_shape.specs.declared.stage.StageCell.{StageCell}
 use Rattle.ncl_shape.specs.Stage.{StageData}
 use Rattle.ncl_base.proofs.Members.{Member, here, there, All-from_members, member_cases, Member-map, Member-append_left, Member-append_right}
-use Rattle.ncl_space.specs.Table.{words}
+use Rattle.ncl_stage.specs.BitOrder.{bit_order, words_by}
+use Rattle.ncl_stage.proofs.OrderLaws.{Member-words_by}
+use Rattle.ncl_stage.proofs.OrderedTables.{order-is}
 use Rattle.ncl_stage.specs.declared.variant.Variant.{Variant}
 use Rattle.ncl_stage.specs.declared.variant.Variant.TheVariants.{Base, Bit, Cell}
 use Rattle.ncl_stage.specs.Values.{val}
@@ -16,7 +18,7 @@ use Rattle.ncl_verdict.specs.declared.verdict.Verdict.{Verdict}
 use Rattle.ncl_verdict.specs.declared.verdict.Verdict.TheVariants as verdict
 use Rattle.ncl_verdict.specs.Judgement.{stopped_at, verdict_of, below, file_number, file_order, variants, faults_of, least_word, found, first_of, at_variant, of_stage, judgement}
 use Rattle.ncl_verdict.proofs.Firsts.{first_of-none, none_of, find-none, Refuses, map-refuses, unwrap-refuses}
-use Rattle.ncl_verdict.proofs.Places.{Member-below, Member-ordered_by, Member-words, slice_get-cases}
+use Rattle.ncl_verdict.proofs.Places.{Member-below, Member-ordered_by, slice_get-cases}
 
 -- no fault gives Accepted
 verdict_of-refuses : (s : StageData) (fault : StageFault) (word : List Bool) → Refuses (Some (verdict_of s fault word))
@@ -58,8 +60,8 @@ found-none limit s none variant m fault n =
 -- where nothing is found of a fault, no word shows it
 shows-none : (s : StageData) (fault : StageFault) → found s fault ≡ None → (word : List Bool) → IsWordOf s word → shows s word fault ≡ false
 shows-none s fault none word is =
-    find-none (λ w. shows s w fault) (words (length s.inputs)) (no_word (least_word s fault) none) word
-    (subst (λ n. Member word (words n)) is (Member-words word))
+    find-none (λ w. shows s w fault) (words_by (bit_order s)) (no_word (least_word s fault) none) word
+    (Member-words_by (length s.inputs) (bit_order s) (order-is s) word is)
   where
     no_word : (least : Option (List Bool)) → option_and_then (λ w. Some (verdict_of s fault w)) least ≡ None → least ≡ None
     no_word None e = refl

@@ -1,5 +1,5 @@
 -- The judgement of stages in two parts, one after the other.
-use Rattle.std.proofs.Common.{◌≡◌, ◌≢◌, ℕ, ◌+◌, ◌<◌, ◌≤◌, List, [], ◌∷◌, ◌++◌, length, map, take, drop, Option, Some, None, Result, Ok, Err, IfOk, get_or, refl, sym, ap, ◌∙◌, subst}
+use Rattle.std.proofs.Common.{◌≡◌, ◌≢◌, ℕ, ◌+◌, ◌<◌, ◌≤◌, List, [], ◌∷◌, ◌++◌, length, map, take, drop, Option, Some, None, Result, Ok, Err, IfOk, get_or, refl, sym, ap, ◌∙◌}
 use Rattle.std.specs.Prelude.{unwrap_or}
 use Rattle.std.proofs.lemmas.List.{take_more, take_all, take-append-drop}
 use Rattle.std.specs.Option.{option_or}
@@ -8,7 +8,7 @@ use Rattle.ncl_shape.specs.Stage.{StageData}
 use Rattle.ncl_verdict.specs.declared.verdict.Verdict.{Verdict}
 use Rattle.ncl_verdict.specs.declared.verdict.Verdict.TheVariants as verdict
 use Rattle.ncl_verdict.specs.Judgement.{first_of, of_stage, stopped_at, judgement, Answers}
-use Rattle.ncl_verdict.proofs.Firsts.{Refuses, map-refuses, unwrap-refuses}
+use Rattle.ncl_verdict.proofs.Firsts.{map-refuses, unwrap-refuses}
 use Rattle.ncl_verdict.proofs.Sound.{of_stage-refuses}
 
 -- the first of two lists is the first of the first, or else of the second

@@ -4,6 +4,7 @@ use Rattle.std.specs.Prelude.{◌≡◌, ℕ, ◌+◌, length, Option, Some, Non
 use Rattle.ncl_shape.specs.Stage.{StageData}
 use Rattle.ncl_space.specs.Beads.{distinct_beads}
 use Rattle.ncl_space.specs.Space.{SpaceData}
+use Rattle.ncl_stage.specs.BitOrder.{bit_order}
 use Rattle.ncl_stage.specs.declared.variant.Variant.TheVariants.{Base}
 use Rattle.ncl_stage.specs.StageTables.{AreValues, ValuesData}
 use Rattle.ncl_stage.specs.Tables.{tables_of}
@@ -18,10 +19,11 @@ abbrev pub stopped_within : Option ℕ → Stop
 stopped_within None s variant = None
 stopped_within (Some limit) s variant = stopped_at limit s variant
 
--- the space has the values of the stage under Base, and holds the beads of all tables of Base
+-- the space has the values of the stage under Base, in its bit order, and holds the beads of all tables of Base
 pub record IsReady (space : SpaceData) (s : StageData) (base : ValuesData) : Type 0 where
   pub width : space.width ≡ length s.inputs
   pub values : AreValues space s Base base
+  pub order : base.wiring.order ≡ bit_order s
   pub held : space.held ≡ distinct_beads (length s.inputs) (tables_of s Base)
 
 -- the verdict of a fault of an output

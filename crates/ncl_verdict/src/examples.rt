@@ -1,6 +1,6 @@
 //! Worked examples: what the judgement says of small stages.
 ghost use Rattle.std.specs.Prelude.{◌≡◌, true, false, [], ◌∷◌};
-ghost use Rattle.ncl_stage.specs.Examples.{and_stage, eager_and_stage, orphan_and_stage, crossed_stage, dead_rail_stage, adder_stage, sum_stage};
+ghost use Rattle.ncl_stage.specs.Examples.{and_stage, eager_and_stage, orphan_and_stage, crossed_stage, dead_rail_stage, adder_stage, sum_stage, swapped_stage, straight_stage};
 ghost use Rattle.ncl_stage.specs.Tables.{count};
 ghost use Rattle.ncl_stage.specs.declared.variant.Variant.TheVariants.{Base};
 ghost use Rattle.ncl_verdict.specs.Judgement.{judgement};
@@ -33,4 +33,11 @@ pub fn rails_of_no_bit()
 pub fn full_adder()
     ensures whole { judgement 100 (adder_stage ∷ []) ≡ Accepted }
     ensures sum_alone { judgement 100 (sum_stage ∷ []) ≡ Orphan 1 (record { 0 = 9 }) (false ∷ false ∷ false ∷ []) }
+{}
+
+/// A cell that no output observes, at the words 01 and 10. Which of them is the least goes by the order of the bits: where
+/// the outputs are the second bit and the first it is 10, and 01 where they are the first and the second.
+pub fn words_in_two_orders()
+    ensures swapped { judgement 100 (swapped_stage ∷ []) ≡ Orphan 1 (record { 0 = 6 }) (true ∷ false ∷ []) }
+    ensures straight { judgement 100 (straight_stage ∷ []) ≡ Orphan 1 (record { 0 = 6 }) (false ∷ true ∷ []) }
 {}

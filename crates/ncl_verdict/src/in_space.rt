@@ -2,6 +2,7 @@
 ghost use Rattle.std.specs.Prelude.{◌≡◌, ◌<◌, IfOk, IfNone, length, map};
 ghost use Rattle.ncl_space.specs.Beads.{distinct_beads};
 ghost use Rattle.ncl_space.specs.Space.{IsNew, Keeps, Restores};
+ghost use Rattle.ncl_stage.specs.BitOrder.{bit_order};
 ghost use Rattle.ncl_stage.specs.LeastWords.{below, first_of};
 ghost use Rattle.ncl_stage.specs.StageTables.{AreValues, net_tables};
 ghost use Rattle.ncl_verdict.specs.InSpace.{IsReady, output_of, rail_verdict, stopped_within};
@@ -66,6 +67,7 @@ fn at_outputs<P: Space>(
 ) -> Result<Option<Verdict>, Memory>
     requires width { (P.meaning space.old).width ≡ length stage.now.inputs }
     requires base { AreValues (P.meaning space.old) stage.now Variant.Base base.now }
+    requires order { base.now.wiring.order ≡ bit_order stage.now }
     requires held { (P.meaning space.old).held ≡ distinct_beads (length stage.now.inputs) (net_tables stage.now Variant.Base) }
     ensures answer { IfOk result (λ answer. answer ≡ at_variant (stopped_within (P.meaning space.old).limit) stage.now Variant.Base) }
     ensures ready { IfOk result (λ answer. IfNone answer (IsReady (P.meaning space.new) stage.now base.now)) }

@@ -114,7 +114,7 @@ fn with_later(
 
 /// The judgement of some stages one after another, the first of which stands at a place of the pipeline; none where a
 /// stage before one of them is known to be refused. It notes the place of the first that it finds refused.
-fn judge_run<J: Judge>(
+pub(crate) fn judge_run<J: Judge>(
     alloc: Global,
     judge: &J,
     stages: &[Stage],

@@ -1,10 +1,12 @@
-use Rattle.std.proofs.Common.{◌≡◌, ◌<◌, ◌≤◌, None, Some, length, get_or, sym, ◌∙◌, ap, subst, arith, below_more}
+use Rattle.std.proofs.Common.{◌≡◌, ◌<◌, ◌≤◌, None, length, sym, ◌∙◌, ap, subst, arith, below_more}
 use Rattle.ncl_shape.specs.Stage.{StageData}
 use Rattle.ncl_space.specs.Functions.{least}
 use Rattle.ncl_space.specs.Space.{SpaceData}
 use Rattle.std.proofs.Common.{true, false}
+use Rattle.std.specs.Option.{option_map}
+use Rattle.ncl_stage.specs.BitOrder.{placed}
 use Rattle.ncl_stage.specs.Faults.{BothRails, NoRail}
-use Rattle.ncl_stage.specs.LeastWords.{least_word}
+use Rattle.ncl_stage.specs.LeastWords.{least_word_by}
 use Rattle.ncl_complete.specs.declared.rail_fault.RailFault.TheVariants.{Both, Empty}
 use Rattle.ncl_complete.proofs.OutputFaults.{output_fault, both-found, none-found, fault-both, fault-empty, fault-none, first-fault, no-fault}
 use Rattle.ncl_complete.proofs.rails.first_fault.Goals as goal
@@ -16,9 +18,9 @@ returns-in-Some g c =
     let i = c.loop-output.output in
     let outputs : c.items-output-end.result.now ≡ s.outputs = c.items-output-end.ensures ∙ ap (λ (t : StageData). t.outputs) c.stage.view_is in
     let within : i < length s.outputs = subst (λ xs. i < length xs) outputs c.loop-output-test.true in
-    let both : least_word s (BothRails i) ≡ c.least_one.result =
-    sym (c.least_one.ensures ∙ ap (λ r. least true space.width (space.table r)) c.index.ensures ∙ both-found s space c.requires.width c.args.refs.now.both.items c.requires.both i within c.index.result.now) in
-    sym (first-fault s i (Both i c.in-Some.word) within c.loop-output.invariant (fault-both s i c.in-Some.word (both ∙ c.in-Some.is)))
+    let both : least_word_by c.args.order.now s (BothRails i) ≡ c.least_one.result =
+    sym (c.least_one.ensures ∙ ap (λ r. option_map (placed c.args.order.now) (least true space.width (space.table r))) c.index.ensures ∙ both-found s c.args.order.now c.requires.order space c.requires.width c.args.refs.now.both.items c.requires.both i within c.index.result.now) in
+    sym (first-fault s c.args.order.now i (Both i c.in-Some.word) within c.loop-output.invariant (fault-both s c.args.order.now i c.in-Some.word (both ∙ c.in-Some.is)))
 
 pub returns-in-Some-least_zero : goal.returns-in-Some-least_zero
 returns-in-Some-least_zero g c =
@@ -27,11 +29,11 @@ returns-in-Some-least_zero g c =
     let i = c.loop-output.output in
     let outputs : c.items-output-end.result.now ≡ s.outputs = c.items-output-end.ensures ∙ ap (λ (t : StageData). t.outputs) c.stage.view_is in
     let within : i < length s.outputs = subst (λ xs. i < length xs) outputs c.loop-output-test.true in
-    let both : least_word s (BothRails i) ≡ c.least_one.result =
-    sym (c.least_one.ensures ∙ ap (λ r. least true space.width (space.table r)) c.index.ensures ∙ both-found s space c.requires.width c.args.refs.now.both.items c.requires.both i within c.index.result.now) in
-    let neither : least_word s (NoRail i) ≡ c.least_zero.result =
-    sym (c.least_zero.ensures ∙ ap (λ r. least false space.width (space.table r)) c.index-in-loop-output.ensures ∙ none-found s space c.requires.width c.args.refs.now.some.items c.requires.some i within c.index-in-loop-output.result.now) in
-    sym (first-fault s i (Empty i c.in-Some-least_zero.word) within c.loop-output.invariant (fault-empty s i c.in-Some-least_zero.word (both ∙ c.in_default.is) (neither ∙ c.in-Some-least_zero.is)))
+    let both : least_word_by c.args.order.now s (BothRails i) ≡ c.least_one.result =
+    sym (c.least_one.ensures ∙ ap (λ r. option_map (placed c.args.order.now) (least true space.width (space.table r))) c.index.ensures ∙ both-found s c.args.order.now c.requires.order space c.requires.width c.args.refs.now.both.items c.requires.both i within c.index.result.now) in
+    let neither : least_word_by c.args.order.now s (NoRail i) ≡ c.least_zero.result =
+    sym (c.least_zero.ensures ∙ ap (λ r. option_map (placed c.args.order.now) (least false space.width (space.table r))) c.index-in-loop-output.ensures ∙ none-found s c.args.order.now c.requires.order space c.requires.width c.args.refs.now.some.items c.requires.some i within c.index-in-loop-output.result.now) in
+    sym (first-fault s c.args.order.now i (Empty i c.in-Some-least_zero.word) within c.loop-output.invariant (fault-empty s c.args.order.now i c.in-Some-least_zero.word (both ∙ c.in_default.is) (neither ∙ c.in-Some-least_zero.is)))
 
 pub loop-output-preserved : goal.loop-output-preserved
 loop-output-preserved g c =
@@ -40,15 +42,21 @@ loop-output-preserved g c =
     let i = c.loop-output.output in
     let outputs : c.items-output-end.result.now ≡ s.outputs = c.items-output-end.ensures ∙ ap (λ (t : StageData). t.outputs) c.stage.view_is in
     let within : i < length s.outputs = subst (λ xs. i < length xs) outputs c.loop-output-test.true in
-    let both : least_word s (BothRails i) ≡ c.least_one.result =
-    sym (c.least_one.ensures ∙ ap (λ r. least true space.width (space.table r)) c.index.ensures ∙ both-found s space c.requires.width c.args.refs.now.both.items c.requires.both i within c.index.result.now) in
-    let neither : least_word s (NoRail i) ≡ c.least_zero.result =
-    sym (c.least_zero.ensures ∙ ap (λ r. least false space.width (space.table r)) c.index-in-loop-output.ensures ∙ none-found s space c.requires.width c.args.refs.now.some.items c.requires.some i within c.index-in-loop-output.result.now) in
-    below_more (λ k. output_fault s k ≡ None) i c.loop-output.invariant (fault-none s i (both ∙ c.in_default.is) (neither ∙ c.in_default-least_zero.is))
+    let both : least_word_by c.args.order.now s (BothRails i) ≡ c.least_one.result =
+    sym (c.least_one.ensures ∙ ap (λ r. option_map (placed c.args.order.now) (least true space.width (space.table r))) c.index.ensures ∙ both-found s c.args.order.now c.requires.order space c.requires.width c.args.refs.now.both.items c.requires.both i within c.index.result.now) in
+    let neither : least_word_by c.args.order.now s (NoRail i) ≡ c.least_zero.result =
+    sym (c.least_zero.ensures ∙ ap (λ r. option_map (placed c.args.order.now) (least false space.width (space.table r))) c.index-in-loop-output.ensures ∙ none-found s c.args.order.now c.requires.order space c.requires.width c.args.refs.now.some.items c.requires.some i within c.index-in-loop-output.result.now) in
+    below_more (λ k. output_fault c.args.order.now s k ≡ None) i c.loop-output.invariant (fault-none s c.args.order.now i (both ∙ c.in_default.is) (neither ∙ c.in_default-least_zero.is))
 
 pub returns : goal.returns
 returns g c =
     let s : StageData = c.args.stage.now in
     let outputs : c.items-output-end.result.now ≡ s.outputs = c.items-output-end.ensures ∙ ap (λ (t : StageData). t.outputs) c.stage.view_is in
     let past : length s.outputs ≤ c.loop-output.output = subst (λ xs. length xs ≤ c.loop-output.output) outputs c.loop-output-test.false in
-    sym (no-fault s (λ k lt. c.loop-output.invariant k (omega arith)))
+    sym (no-fault s c.args.order.now (λ k lt. c.loop-output.invariant k (omega arith)))
+
+pub least_one-requires-clause-width : goal.least_one-requires-clause-width
+least_one-requires-clause-width g c = c.requires.width ∙ sym c.requires.order.many
+
+pub least_zero-requires-clause-width : goal.least_zero-requires-clause-width
+least_zero-requires-clause-width g c = c.requires.width ∙ sym c.requires.order.many

@@ -1,57 +1,58 @@
-use Rattle.std.proofs.Common.{◌≡◌, ℕ, ◌<◌, Bool, false, List, [], ◌∷◌, ◌++◌, Err, length, map, sym, ◌∙◌, ap, subst, append_assoc}
+use Rattle.std.proofs.Common.{◌≡◌, ℕ, ◌<◌, Bool, false, List, ◌++◌, Err, length, map, sym, ◌∙◌, ap, subst}
 use Rattle.std.specs.Prelude.{All}
 use Rattle.std.proofs.lemmas.List.{length-map}
 use Rattle.std.proofs.lemmas.List.Elements.{All-append}
 use Rattle.ncl_gates.specs.declared.kind.Kind.TheVariants.{Th12, Th22}
 use Rattle.ncl_shape.specs.Stage.{StageData, IsStage, nets_of}
-use Rattle.ncl_space.specs.Space.{SpaceData, IsSpace, IsLive, Keeps, fits, with_tables}
-use Rattle.ncl_space.specs.Making.{HaveTables, MakesAll, IsNamed}
+use Rattle.ncl_space.specs.Space.{SpaceData, IsSpace, Keeps, fits, with_tables}
+use Rattle.ncl_space.specs.Making.{HaveTables, IsNamed}
 use Rattle.ncl_space.specs.declared.space.Ref.{Ref}
 use Rattle.ncl_space.proofs.SpaceLaws.{keeps_all, keeps_along, too_much_by_front}
 use Rattle.ncl_space.proofs.MakingLaws.{have-length, have-kept, tables-kept, held-along, too_much-after, handed_on, with_tables-live, named-all}
 use Rattle.ncl_stage.specs.declared.variant.Variant.TheVariants.{Base}
-use Rattle.ncl_stage.specs.Tables.{data_functions, data_fronts, illegal_functions, tables_of}
+use Rattle.ncl_stage.specs.Tables.{data_functions, data_fronts, function_tables_by, illegal_functions, tables_by}
+use Rattle.ncl_stage.specs.BitOrder.{IsOrderOf}
 use Rattle.ncl_stage.specs.Wiring.{WiringData}
-use Rattle.ncl_stage.specs.StageTables.{AreValues, ValuesData, net_table, net_tables, function_tables, shared_tables, pair_table, front_tables}
+use Rattle.ncl_stage.specs.StageTables.{AreValues, ValuesData, net_table_by, net_tables_by, pair_table, front_tables}
 use Rattle.ncl_stage.proofs.OutputLaws.{values_at, outputs-within, data-tables, illegal-tables, front-tables, shared-tables}
 use Rattle.ncl_stage.proofs.LeastLaws.{tables_of-parts}
 use Rattle.ncl_complete.proofs.rails.output_refs.Goals as goal
 
 -- the lists of tables of Base
-abbrev some_tables : StageData → List (List Bool)
-some_tables s = function_tables s (data_functions s (values_at s Base))
+abbrev some_tables : List ℕ → StageData → List (List Bool)
+some_tables order s = function_tables_by order (data_functions s (values_at s Base))
 
-abbrev fronts_of : StageData → List (List Bool)
-fronts_of s = function_tables s (data_fronts s (values_at s Base))
+abbrev fronts_of : List ℕ → StageData → List (List Bool)
+fronts_of order s = function_tables_by order (data_fronts s (values_at s Base))
 
-abbrev both_tables : StageData → List (List Bool)
-both_tables s = function_tables s (illegal_functions s (values_at s Base))
+abbrev both_tables : List ℕ → StageData → List (List Bool)
+both_tables order s = function_tables_by order (illegal_functions s (values_at s Base))
 
-base-parts : (s : StageData) → tables_of s Base ≡ ((net_tables s Base ++ some_tables s) ++ fronts_of s) ++ both_tables s
-base-parts s = tables_of-parts s Base ∙ ap (λ l. l ++ both_tables s) (shared-tables s Base)
+base-parts : (order : List ℕ) (s : StageData) → tables_by order s Base ≡ ((net_tables_by order s Base ++ some_tables order s) ++ fronts_of order s) ++ both_tables order s
+base-parts order s = tables_of-parts s order Base ∙ ap (λ l. l ++ both_tables order s) (shared-tables s order Base)
 
 -- the nets are held already
-nets-held : (old : SpaceData) → IsSpace old → (s : StageData) (v : ValuesData) → AreValues old s Base v → old.held ≡ with_tables old (net_tables s Base)
+nets-held : (old : SpaceData) → IsSpace old → (s : StageData) (v : ValuesData) → AreValues old s Base v → old.held ≡ with_tables old (net_tables_by v.wiring.order s Base)
 nets-held old space s v are = sym (with_tables-live old space v.refs are.shown.live) ∙ ap (with_tables old) are.shown.tables
 
 within : (s : StageData) → IsStage s → (old : SpaceData) (v : ValuesData) → AreValues old s Base v → All (λ pair. (pair.0 < length v.refs) × (pair.1 < length v.refs)) v.wiring.outputs
-within s is old v are = outputs-within s is v.wiring are.wired (length v.refs) (have-length old v.refs (net_tables s Base) are.shown ∙ length-map (nets_of s.inputs s.cells) (net_table s Base))
+within s is old v are = outputs-within s is v.wiring are.wired (length v.refs) (have-length old v.refs (net_tables_by v.wiring.order s Base) are.shown ∙ length-map (nets_of s.inputs s.cells) (net_table_by v.wiring.order s Base))
 
 -- the tables that are made of the outputs
-made-some : (s : StageData) → IsStage s → (old : SpaceData) → old.width ≡ length s.inputs → (v : ValuesData) → AreValues old s Base v → (refs : List Ref) → refs ≡ v.refs → (w : WiringData) → w ≡ v.wiring → map (pair_table old.width Th12 (map old.table refs)) w.outputs ≡ some_tables s
+made-some : (s : StageData) → IsStage s → (old : SpaceData) → old.width ≡ length s.inputs → (v : ValuesData) → AreValues old s Base v → (refs : List Ref) → refs ≡ v.refs → (w : WiringData) → w ≡ v.wiring → map (pair_table old.width Th12 (map old.table refs)) w.outputs ≡ some_tables v.wiring.order s
 made-some s is old width v are refs e w f =
     (λ k. map (pair_table (width k) Th12 (map old.table (e k))) (f k).outputs)
     ∙ (λ k. map (pair_table (length s.inputs) Th12 (are.shown.tables k)) v.wiring.outputs)
-    ∙ data-tables s is v.wiring are.wired Base
+    ∙ data-tables s v.wiring.order are.wired.order is v.wiring are.wired Base
 
-made-fronts : (s : StageData) (now : SpaceData) → now.width ≡ length s.inputs → (refs : List Ref) → map now.table refs ≡ some_tables s → front_tables now.width (map now.table refs) ≡ fronts_of s
-made-fronts s now width refs shown = (λ k. front_tables (width k) (shown k)) ∙ front-tables s (values_at s Base)
+made-fronts : (order : List ℕ) (s : StageData) → IsOrderOf (length s.inputs) order → (now : SpaceData) → now.width ≡ length s.inputs → (refs : List Ref) → map now.table refs ≡ some_tables order s → front_tables now.width (map now.table refs) ≡ fronts_of order s
+made-fronts order s ordered now width refs shown = (λ k. front_tables (width k) (shown k)) ∙ front-tables s order ordered (values_at s Base)
 
-made-both : (s : StageData) → IsStage s → (old now : SpaceData) → Keeps old now → old.width ≡ length s.inputs → (v : ValuesData) → AreValues old s Base v → (refs : List Ref) → refs ≡ v.refs → (outputs : List (ℕ × ℕ)) → outputs ≡ v.wiring.outputs → map (pair_table now.width Th22 (map now.table refs)) outputs ≡ both_tables s
+made-both : (s : StageData) → IsStage s → (old now : SpaceData) → Keeps old now → old.width ≡ length s.inputs → (v : ValuesData) → AreValues old s Base v → (refs : List Ref) → refs ≡ v.refs → (outputs : List (ℕ × ℕ)) → outputs ≡ v.wiring.outputs → map (pair_table now.width Th22 (map now.table refs)) outputs ≡ both_tables v.wiring.order s
 made-both s is old now kept width v are refs e outputs f =
     (λ k. map (pair_table ((kept.width ∙ width) k) Th22 (map now.table (e k))) (f k))
     ∙ (λ k. map (pair_table (length s.inputs) Th22 ((tables-kept old now kept v.refs are.shown.live ∙ are.shown.tables) k)) v.wiring.outputs)
-    ∙ illegal-tables s is v.wiring are.wired Base
+    ∙ illegal-tables s v.wiring.order are.wired.order is v.wiring are.wired Base
 
 pub data_tables-requires-clause-within : goal.data_tables-requires-clause-within
 data_tables-requires-clause-within g c =
@@ -66,10 +67,10 @@ returns-in_err-some-clause-full g c = λ e.
     let v : ValuesData = c.args.base.now in
     let old : SpaceData = g.P.Space.meaning c.args.space.now in
     let is = made-some s c.facts.ensures old c.requires.width v c.requires.base c.refs.result.now c.refs.ensures.refs c.wiring.result.now c.wiring.ensures in
-    subst (λ tables. fits old tables ≡ false) (sym (base-parts s))
-    (too_much_by_front old ((net_tables s Base ++ some_tables s) ++ fronts_of s) (both_tables s)
-    (too_much_by_front old (net_tables s Base ++ some_tables s) (fronts_of s)
-    (too_much-after old old (net_tables s Base) (some_tables s) (keeps_all old) (nets-held old c.requires.space s v c.requires.base)
+    subst (λ tables. fits old tables ≡ false) (sym (base-parts v.wiring.order s))
+    (too_much_by_front old ((net_tables_by v.wiring.order s Base ++ some_tables v.wiring.order s) ++ fronts_of v.wiring.order s) (both_tables v.wiring.order s)
+    (too_much_by_front old (net_tables_by v.wiring.order s Base ++ some_tables v.wiring.order s) (fronts_of v.wiring.order s)
+    (too_much-after old old (net_tables_by v.wiring.order s Base) (some_tables v.wiring.order s) (keeps_all old) (nets-held old c.requires.space s v c.requires.base)
     (subst (λ tables. fits old tables ≡ false) is
     (c.in_err-some.ensures.full (ap Err (handed_on c.from_residual.result c.in_err-some.field-0.0 c.from_residual.ensures.1 e)))))))
 
@@ -80,11 +81,11 @@ returns-in_err-data_fronts-clause-full g c = λ e.
     let old : SpaceData = g.P.Space.meaning c.args.space.now in
     let mid : SpaceData = g.P.Space.meaning c.data_tables.new.space in
     let some = made-some s c.facts.ensures old c.requires.width v c.requires.base c.refs.result.now c.refs.ensures.refs c.wiring.result.now c.wiring.ensures in
-    let first : mid.held ≡ with_tables old (net_tables s Base ++ some_tables s) = held-along old old mid (net_tables s Base) (some_tables s) (keeps_all old) (nets-held old c.requires.space s v c.requires.base) (c.in_ok-some.ensures.made.held ∙ ap (with_tables old) some) in
-    let fronts = made-fronts s mid (c.in_ok-some.ensures.kept.width ∙ c.requires.width) c.as_slice.result.now (ap (map mid.table) c.as_slice.ensures.value ∙ c.in_ok-some.ensures.made.refs_of.tables ∙ some) in
-    subst (λ tables. fits old tables ≡ false) (sym (base-parts s))
-    (too_much_by_front old ((net_tables s Base ++ some_tables s) ++ fronts_of s) (both_tables s)
-    (too_much-after old mid (net_tables s Base ++ some_tables s) (fronts_of s) c.in_ok-some.ensures.kept first
+    let first : mid.held ≡ with_tables old (net_tables_by v.wiring.order s Base ++ some_tables v.wiring.order s) = held-along old old mid (net_tables_by v.wiring.order s Base) (some_tables v.wiring.order s) (keeps_all old) (nets-held old c.requires.space s v c.requires.base) (c.in_ok-some.ensures.made.held ∙ ap (with_tables old) some) in
+    let fronts = made-fronts v.wiring.order s c.requires.base.wired.order mid (c.in_ok-some.ensures.kept.width ∙ c.requires.width) c.as_slice.result.now (ap (map mid.table) c.as_slice.ensures.value ∙ c.in_ok-some.ensures.made.refs_of.tables ∙ some) in
+    subst (λ tables. fits old tables ≡ false) (sym (base-parts v.wiring.order s))
+    (too_much_by_front old ((net_tables_by v.wiring.order s Base ++ some_tables v.wiring.order s) ++ fronts_of v.wiring.order s) (both_tables v.wiring.order s)
+    (too_much-after old mid (net_tables_by v.wiring.order s Base ++ some_tables v.wiring.order s) (fronts_of v.wiring.order s) c.in_ok-some.ensures.kept first
     (subst (λ tables. fits mid tables ≡ false) fronts
     (c.in_err-data_fronts.ensures.full (ap Err (handed_on c.from_residual-in_err-data_fronts.result c.in_err-data_fronts.field-0.0 c.from_residual-in_err-data_fronts.ensures.1 e))))))
 
@@ -102,14 +103,14 @@ returns-in_err-both-clause-full g c = λ e.
     let old : SpaceData = g.P.Space.meaning c.args.space.now in
     let mid : SpaceData = g.P.Space.meaning c.data_tables.new.space in
     let some = made-some s c.facts.ensures old c.requires.width v c.requires.base c.refs.result.now c.refs.ensures.refs c.wiring.result.now c.wiring.ensures in
-    let first : mid.held ≡ with_tables old (net_tables s Base ++ some_tables s) = held-along old old mid (net_tables s Base) (some_tables s) (keeps_all old) (nets-held old c.requires.space s v c.requires.base) (c.in_ok-some.ensures.made.held ∙ ap (with_tables old) some) in
-    let fronts = made-fronts s mid (c.in_ok-some.ensures.kept.width ∙ c.requires.width) c.as_slice.result.now (ap (map mid.table) c.as_slice.ensures.value ∙ c.in_ok-some.ensures.made.refs_of.tables ∙ some) in
+    let first : mid.held ≡ with_tables old (net_tables_by v.wiring.order s Base ++ some_tables v.wiring.order s) = held-along old old mid (net_tables_by v.wiring.order s Base) (some_tables v.wiring.order s) (keeps_all old) (nets-held old c.requires.space s v c.requires.base) (c.in_ok-some.ensures.made.held ∙ ap (with_tables old) some) in
+    let fronts = made-fronts v.wiring.order s c.requires.base.wired.order mid (c.in_ok-some.ensures.kept.width ∙ c.requires.width) c.as_slice.result.now (ap (map mid.table) c.as_slice.ensures.value ∙ c.in_ok-some.ensures.made.refs_of.tables ∙ some) in
     let now : SpaceData = g.P.Space.meaning c.data_fronts.new.space in
     let kept : Keeps old now = keeps_along old mid now c.in_ok-some.ensures.kept c.in_ok-data_fronts.ensures.kept in
-    let second : now.held ≡ with_tables old ((net_tables s Base ++ some_tables s) ++ fronts_of s) = held-along old mid now (net_tables s Base ++ some_tables s) (fronts_of s) c.in_ok-some.ensures.kept first (c.in_ok-data_fronts.ensures.made.held ∙ ap (with_tables mid) fronts) in
+    let second : now.held ≡ with_tables old ((net_tables_by v.wiring.order s Base ++ some_tables v.wiring.order s) ++ fronts_of v.wiring.order s) = held-along old mid now (net_tables_by v.wiring.order s Base ++ some_tables v.wiring.order s) (fronts_of v.wiring.order s) c.in_ok-some.ensures.kept first (c.in_ok-data_fronts.ensures.made.held ∙ ap (with_tables mid) fronts) in
     let both = made-both s c.facts.ensures old now kept c.requires.width v c.requires.base c.refs-2.result.now c.refs-2.ensures.refs c.outputs.result.now (c.outputs.ensures ∙ ap (λ (w : WiringData). w.outputs) c.wiring-2.ensures) in
-    subst (λ tables. fits old tables ≡ false) (sym (base-parts s))
-    (too_much-after old now ((net_tables s Base ++ some_tables s) ++ fronts_of s) (both_tables s) kept second
+    subst (λ tables. fits old tables ≡ false) (sym (base-parts v.wiring.order s))
+    (too_much-after old now ((net_tables_by v.wiring.order s Base ++ some_tables v.wiring.order s) ++ fronts_of v.wiring.order s) (both_tables v.wiring.order s) kept second
     (subst (λ tables. fits now tables ≡ false) both
     (c.in_err-both.ensures.full (ap Err (handed_on c.from_residual-in_err-both.result c.in_err-both.field-0.0 c.from_residual-in_err-both.ensures.1 e)))))
 
@@ -143,22 +144,22 @@ returns-clause-live g c =
     let old : SpaceData = g.P.Space.meaning c.args.space.now in
     let mid : SpaceData = g.P.Space.meaning c.data_tables.new.space in
     let some = made-some s c.facts.ensures old c.requires.width v c.requires.base c.refs.result.now c.refs.ensures.refs c.wiring.result.now c.wiring.ensures in
-    let first : mid.held ≡ with_tables old (net_tables s Base ++ some_tables s) = held-along old old mid (net_tables s Base) (some_tables s) (keeps_all old) (nets-held old c.requires.space s v c.requires.base) (c.in_ok-some.ensures.made.held ∙ ap (with_tables old) some) in
-    let fronts = made-fronts s mid (c.in_ok-some.ensures.kept.width ∙ c.requires.width) c.as_slice.result.now (ap (map mid.table) c.as_slice.ensures.value ∙ c.in_ok-some.ensures.made.refs_of.tables ∙ some) in
+    let first : mid.held ≡ with_tables old (net_tables_by v.wiring.order s Base ++ some_tables v.wiring.order s) = held-along old old mid (net_tables_by v.wiring.order s Base) (some_tables v.wiring.order s) (keeps_all old) (nets-held old c.requires.space s v c.requires.base) (c.in_ok-some.ensures.made.held ∙ ap (with_tables old) some) in
+    let fronts = made-fronts v.wiring.order s c.requires.base.wired.order mid (c.in_ok-some.ensures.kept.width ∙ c.requires.width) c.as_slice.result.now (ap (map mid.table) c.as_slice.ensures.value ∙ c.in_ok-some.ensures.made.refs_of.tables ∙ some) in
     let now : SpaceData = g.P.Space.meaning c.data_fronts.new.space in
     let kept : Keeps old now = keeps_along old mid now c.in_ok-some.ensures.kept c.in_ok-data_fronts.ensures.kept in
-    let second : now.held ≡ with_tables old ((net_tables s Base ++ some_tables s) ++ fronts_of s) = held-along old mid now (net_tables s Base ++ some_tables s) (fronts_of s) c.in_ok-some.ensures.kept first (c.in_ok-data_fronts.ensures.made.held ∙ ap (with_tables mid) fronts) in
+    let second : now.held ≡ with_tables old ((net_tables_by v.wiring.order s Base ++ some_tables v.wiring.order s) ++ fronts_of v.wiring.order s) = held-along old mid now (net_tables_by v.wiring.order s Base ++ some_tables v.wiring.order s) (fronts_of v.wiring.order s) c.in_ok-some.ensures.kept first (c.in_ok-data_fronts.ensures.made.held ∙ ap (with_tables mid) fronts) in
     let both = made-both s c.facts.ensures old now kept c.requires.width v c.requires.base c.refs-2.result.now c.refs-2.ensures.refs c.outputs.result.now (c.outputs.ensures ∙ ap (λ (w : WiringData). w.outputs) c.wiring-2.ensures) in
     let new : SpaceData = g.P.Space.meaning c.pair_refs.new.space in
     let last : Keeps now new = c.in_ok-both.ensures.kept in
     let P : List Bool → Type 0 = IsNamed new in
-    let nets = named-all new v.refs (net_tables s Base) (have-kept old new v.refs (net_tables s Base) (keeps_along old now new kept last) c.requires.base.shown) in
-    let some_named = named-all new c.in_ok-some.some.items (some_tables s) (subst (HaveTables new c.in_ok-some.some.items) some (have-kept mid new c.in_ok-some.some.items _ (keeps_along mid now new c.in_ok-data_fronts.ensures.kept last) c.in_ok-some.ensures.made.refs_of)) in
-    let fronts_named = named-all new c.in_ok-data_fronts.field-0.items (fronts_of s) (subst (HaveTables new c.in_ok-data_fronts.field-0.items) fronts (have-kept now new c.in_ok-data_fronts.field-0.items _ last c.in_ok-data_fronts.ensures.made.refs_of)) in
-    let both_named = named-all new c.in_ok-both.both.items (both_tables s) (subst (HaveTables new c.in_ok-both.both.items) both c.in_ok-both.ensures.made.refs_of) in
-    subst (All P) (sym (base-parts s))
-    (All-append P ((net_tables s Base ++ some_tables s) ++ fronts_of s) (both_tables s)
-    (All-append P (net_tables s Base ++ some_tables s) (fronts_of s) (All-append P (net_tables s Base) (some_tables s) nets some_named) fronts_named) both_named)
+    let nets = named-all new v.refs (net_tables_by v.wiring.order s Base) (have-kept old new v.refs (net_tables_by v.wiring.order s Base) (keeps_along old now new kept last) c.requires.base.shown) in
+    let some_named = named-all new c.in_ok-some.some.items (some_tables v.wiring.order s) (subst (HaveTables new c.in_ok-some.some.items) some (have-kept mid new c.in_ok-some.some.items _ (keeps_along mid now new c.in_ok-data_fronts.ensures.kept last) c.in_ok-some.ensures.made.refs_of)) in
+    let fronts_named = named-all new c.in_ok-data_fronts.field-0.items (fronts_of v.wiring.order s) (subst (HaveTables new c.in_ok-data_fronts.field-0.items) fronts (have-kept now new c.in_ok-data_fronts.field-0.items _ last c.in_ok-data_fronts.ensures.made.refs_of)) in
+    let both_named = named-all new c.in_ok-both.both.items (both_tables v.wiring.order s) (subst (HaveTables new c.in_ok-both.both.items) both c.in_ok-both.ensures.made.refs_of) in
+    subst (All P) (sym (base-parts v.wiring.order s))
+    (All-append P ((net_tables_by v.wiring.order s Base ++ some_tables v.wiring.order s) ++ fronts_of v.wiring.order s) (both_tables v.wiring.order s)
+    (All-append P (net_tables_by v.wiring.order s Base ++ some_tables v.wiring.order s) (fronts_of v.wiring.order s) (All-append P (net_tables_by v.wiring.order s Base) (some_tables v.wiring.order s) nets some_named) fronts_named) both_named)
 
 pub returns-clause-held : goal.returns-clause-held
 returns-clause-held g c =
@@ -167,11 +168,11 @@ returns-clause-held g c =
     let old : SpaceData = g.P.Space.meaning c.args.space.now in
     let mid : SpaceData = g.P.Space.meaning c.data_tables.new.space in
     let some = made-some s c.facts.ensures old c.requires.width v c.requires.base c.refs.result.now c.refs.ensures.refs c.wiring.result.now c.wiring.ensures in
-    let first : mid.held ≡ with_tables old (net_tables s Base ++ some_tables s) = held-along old old mid (net_tables s Base) (some_tables s) (keeps_all old) (nets-held old c.requires.space s v c.requires.base) (c.in_ok-some.ensures.made.held ∙ ap (with_tables old) some) in
-    let fronts = made-fronts s mid (c.in_ok-some.ensures.kept.width ∙ c.requires.width) c.as_slice.result.now (ap (map mid.table) c.as_slice.ensures.value ∙ c.in_ok-some.ensures.made.refs_of.tables ∙ some) in
+    let first : mid.held ≡ with_tables old (net_tables_by v.wiring.order s Base ++ some_tables v.wiring.order s) = held-along old old mid (net_tables_by v.wiring.order s Base) (some_tables v.wiring.order s) (keeps_all old) (nets-held old c.requires.space s v c.requires.base) (c.in_ok-some.ensures.made.held ∙ ap (with_tables old) some) in
+    let fronts = made-fronts v.wiring.order s c.requires.base.wired.order mid (c.in_ok-some.ensures.kept.width ∙ c.requires.width) c.as_slice.result.now (ap (map mid.table) c.as_slice.ensures.value ∙ c.in_ok-some.ensures.made.refs_of.tables ∙ some) in
     let now : SpaceData = g.P.Space.meaning c.data_fronts.new.space in
     let kept : Keeps old now = keeps_along old mid now c.in_ok-some.ensures.kept c.in_ok-data_fronts.ensures.kept in
-    let second : now.held ≡ with_tables old ((net_tables s Base ++ some_tables s) ++ fronts_of s) = held-along old mid now (net_tables s Base ++ some_tables s) (fronts_of s) c.in_ok-some.ensures.kept first (c.in_ok-data_fronts.ensures.made.held ∙ ap (with_tables mid) fronts) in
+    let second : now.held ≡ with_tables old ((net_tables_by v.wiring.order s Base ++ some_tables v.wiring.order s) ++ fronts_of v.wiring.order s) = held-along old mid now (net_tables_by v.wiring.order s Base ++ some_tables v.wiring.order s) (fronts_of v.wiring.order s) c.in_ok-some.ensures.kept first (c.in_ok-data_fronts.ensures.made.held ∙ ap (with_tables mid) fronts) in
     let both = made-both s c.facts.ensures old now kept c.requires.width v c.requires.base c.refs-2.result.now c.refs-2.ensures.refs c.outputs.result.now (c.outputs.ensures ∙ ap (λ (w : WiringData). w.outputs) c.wiring-2.ensures) in
-    held-along old now (g.P.Space.meaning c.pair_refs.new.space) ((net_tables s Base ++ some_tables s) ++ fronts_of s) (both_tables s) kept second (c.in_ok-both.ensures.made.held ∙ ap (with_tables now) both)
-    ∙ ap (with_tables old) (sym (base-parts s))
+    held-along old now (g.P.Space.meaning c.pair_refs.new.space) ((net_tables_by v.wiring.order s Base ++ some_tables v.wiring.order s) ++ fronts_of v.wiring.order s) (both_tables v.wiring.order s) kept second (c.in_ok-both.ensures.made.held ∙ ap (with_tables now) both)
+    ∙ ap (with_tables old) (sym (base-parts v.wiring.order s))

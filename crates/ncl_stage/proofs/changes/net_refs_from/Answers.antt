@@ -1,4 +1,4 @@
-use Rattle.std.proofs.Common.{rules, ◌≡◌, ◌+◌, ◌<◌, Bool, true, false, not, List, [], ◌∷◌, Err, length, get_or, take, sym, ◌∙◌, ap, subst, arith}
+use Rattle.std.proofs.Common.{rules, ◌≡◌, ◌+◌, ◌<◌, Bool, true, false, not, List, [], ◌∷◌, Err, length, get_or, take, refl, sym, ◌∙◌, ap, subst, arith}
 use Rattle.std.specs.Prelude.{IsTrue, ◌↔◌}
 use Rattle.std.proofs.lemmas.List.{length-append, length-map}
 use Rattle.ncl_shape.specs.Stage.{StageData, nets_of}
@@ -8,7 +8,7 @@ use Rattle.ncl_space.proofs.SpaceLaws.{keeps_along}
 use Rattle.ncl_space.proofs.MakingLaws.{Making, making-none, making-next, too_much-next, handed_on}
 use Rattle.ncl_stage.specs.declared.variant.Variant.TheVariants.{Base}
 use Rattle.ncl_stage.specs.Changes.{IsUnchanged, MarksChanges, net_at}
-use Rattle.ncl_stage.specs.StageTables.{net_table, net_tables}
+use Rattle.ncl_stage.specs.StageTables.{net_table_by, net_tables_by}
 use Rattle.ncl_stage.proofs.ChangedLaws.{marks-more, marks-none, table-at, value-at, values-kept}
 use Rattle.ncl_stage.proofs.changes.net_refs_from.Goals as goal
 
@@ -18,7 +18,7 @@ loop-place-init g c =
     record {
       making = subst (λ items. Making old old items []) (sym c.in_ok-refs.ensures.items) (making-none old c.requires.space);
       many = ap length c.in_ok-changed.ensures.items;
-      marks = subst (MarksChanges c.args.stage.now c.args.variant) (sym c.in_ok-changed.ensures.items) (marks-none c.args.stage.now c.args.variant);
+      marks = subst (MarksChanges c.args.base.now.wiring.order c.args.stage.now c.args.variant) (sym c.in_ok-changed.ensures.items) (marks-none c.args.stage.now c.args.base.now.wiring.order c.args.variant);
     }
 
 pub ref_from-requires-clause-base : goal.ref_from-requires-clause-base
@@ -30,15 +30,15 @@ returns-in_err-made-clause-full g c = λ e.
     let place = c.loop-place.place in
     let refs : length c.refs-place-end.result.now ≡ length (nets_of s.inputs s.cells) = ap length c.refs-place-end.ensures.refs ∙ c.refs-place-end.ensures.many ∙ ap length c.requires.base.wired.nets in
     let within : place < length (nets_of s.inputs s.cells) = subst (λ n. place < n) refs c.loop-place-test.true in
-    too_much-next (g.P.Space.meaning c.args.space.now) (g.P.Space.meaning c.loop-place.space) (net_tables s c.args.variant) place c.loop-place.refs.items (net_table s c.args.variant (net_at s place))
-    (subst (λ n. place < n) (sym (length-map (nets_of s.inputs s.cells) (net_table s c.args.variant))) within)
-    (table-at s c.args.variant place within) c.loop-place.invariant.making
+    too_much-next (g.P.Space.meaning c.args.space.now) (g.P.Space.meaning c.loop-place.space) (net_tables_by c.args.base.now.wiring.order s c.args.variant) place c.loop-place.refs.items (net_table_by c.args.base.now.wiring.order s c.args.variant (net_at s place))
+    (subst (λ n. place < n) (sym (length-map (nets_of s.inputs s.cells) (net_table_by c.args.base.now.wiring.order s c.args.variant))) within)
+    (table-at s c.args.base.now.wiring.order c.args.variant place within) c.loop-place.invariant.making
     (c.in_err-made.ensures.full (ap Err (handed_on c.from_residual-in_err-made.result c.in_err-made.field-0.0 c.from_residual-in_err-made.ensures.1 e)))
 
--- what holds where a test passes, where its negation doesn't
-unmarked : {P : Type 0} (same : Bool) → IsTrue same ↔ P → not same ≡ false → P
-unmarked true iff e = iff.0 (search rules)
-unmarked false iff e = absurd cc
+-- a mark that says whether a test fails is none exactly where what the test tells holds
+unmarked : {P : Type 0} (same : Bool) → IsTrue same ↔ P → (not same ≡ false) ↔ P
+unmarked true iff = (λ e. iff.0 (search rules), λ p. refl)
+unmarked {P} false iff = (λ e. absurd cc, λ p. (let no : IsTrue false = iff.1 p in absurd cc))
 
 pub loop-place-preserved : goal.loop-place-preserved
 loop-place-preserved g c =
@@ -60,14 +60,15 @@ loop-place-preserved g c =
     let many = inv.many in
     record {
       making =
-          subst (λ items. Making old new items (take (place + 1) (net_tables s variant))) (sym c.in_ok-push-2.ensures.items)
-          (making-next old now new (net_tables s variant) place c.loop-place.refs.items c.in_ok-made.made (net_table s variant (net_at s place))
-          (subst (λ n. place < n) (sym (length-map (nets_of s.inputs s.cells) (net_table s variant))) within)
-          (table-at s variant place within) inv.making c.in_ok-made.ensures.kept c.in_ok-made.ensures.space made);
+          subst (λ items. Making old new items (take (place + 1) (net_tables_by c.args.base.now.wiring.order s variant))) (sym c.in_ok-push-2.ensures.items)
+          (making-next old now new (net_tables_by c.args.base.now.wiring.order s variant) place c.loop-place.refs.items c.in_ok-made.made (net_table_by c.args.base.now.wiring.order s variant (net_at s place))
+          (subst (λ n. place < n) (sym (length-map (nets_of s.inputs s.cells) (net_table_by c.args.base.now.wiring.order s variant))) within)
+          (table-at s c.args.base.now.wiring.order variant place within) inv.making c.in_ok-made.ensures.kept c.in_ok-made.ensures.space made);
       many = ap length c.in_ok-push.ensures.items ∙ omega arith;
       marks =
-          subst (MarksChanges s variant) (sym c.in_ok-push.ensures.items)
-          (marks-more s variant c.loop-place.changed.items (not c.same.result) inv.marks (λ same.
-          subst (λ n. IsUnchanged s variant (net_at s n)) (sym inv.many)
-          (sym made.table ∙ unmarked c.same.result c.same.ensures same ∙ own ∙ value.1)));
+          subst (MarksChanges c.args.base.now.wiring.order s variant) (sym c.in_ok-push.ensures.items)
+          (marks-more s c.args.base.now.wiring.order variant c.loop-place.changed.items (not c.same.result) inv.marks
+          (subst (λ n. (not c.same.result ≡ false) ↔ IsUnchanged c.args.base.now.wiring.order s variant (net_at s n)) (sym inv.many)
+          (subst (λ t. (not c.same.result ≡ false) ↔ (t ≡ net_table_by c.args.base.now.wiring.order s Base (net_at s place))) made.table
+          (subst (λ t. (not c.same.result ≡ false) ↔ (new.table c.in_ok-made.made ≡ t)) (own ∙ value.1) (unmarked c.same.result c.same.ensures)))));
     }

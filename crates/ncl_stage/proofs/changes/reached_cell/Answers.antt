@@ -13,7 +13,7 @@ returns-then-place-rails-clause-unreached c = λ variant marks.
     let s : StageData = c.args.stage.now in
     let place = c.args.place in
     let bits : length c.items.result.now ≡ length s.inputs = ap length (c.items.ensures ∙ ap (λ (t : StageData). t.inputs) c.stage.view_is) in
-    rail-unreached s c.facts.ensures variant (net_at s place) (net_at-rail s place (subst (λ n. place < 2 * n) bits c.if-place-rails.true))
+    rail-unreached s c.args.wiring.now.order c.facts.ensures variant (net_at s place) (net_at-rail s place (subst (λ n. place < 2 * n) bits c.if-place-rails.true))
 
 pub pins-requires : goal.pins-requires
 pins-requires c =
@@ -46,6 +46,6 @@ returns-else-is_marked-clause-unreached c = λ variant marks.
     let place = c.requires.place in
     let after = c.if-place-rails.false in
     let at : c.args.place ≡ 2 * length s.inputs + i = omega arith in
-    subst (IsUnreached s variant) (sym (ap (net_at s) at ∙ net_at-cell s i))
-    (unmarked-unreached s c.facts.ensures c.args.wiring.now c.requires.wiring variant c.args.changed.now marks i (omega arith)
+    subst (IsUnreached c.args.wiring.now.order s variant) (sym (ap (net_at s) at ∙ net_at-cell s i))
+    (unmarked-unreached s c.args.wiring.now.order c.requires.wiring.order c.facts.ensures c.args.wiring.now c.requires.wiring variant c.args.changed.now marks i (omega arith)
     (ap (list_any (λ p. get_or c.args.changed.now p true)) (sym c.pins.ensures.pins) ∙ sym c.is_marked.ensures ∙ c.if-is_marked.false))

@@ -1,4 +1,4 @@
-use Rattle.ncl_stage.proofs.ExampleLaws.{and_stage-is, eager_and_stage-is, orphan_and_stage-is, crossed_stage-is, dead_rail_stage-is, adder_stage-is, sum_stage-is}
+use Rattle.ncl_stage.proofs.ExampleLaws.{and_stage-is, eager_and_stage-is, orphan_and_stage-is, crossed_stage-is, dead_rail_stage-is, adder_stage-is, sum_stage-is, swapped_stage-is, straight_stage-is, unmet_stage-is}
 use Rattle.ncl_stage.proofs.laws.examples_are_stages.Goals as goal
 
 pub returns-clause-and_of_two : goal.returns-clause-and_of_two
@@ -21,3 +21,12 @@ returns-clause-adder c = adder_stage-is
 
 pub returns-clause-sum : goal.returns-clause-sum
 returns-clause-sum c = sum_stage-is
+
+pub returns-clause-swapped : goal.returns-clause-swapped
+returns-clause-swapped c = swapped_stage-is
+
+pub returns-clause-straight : goal.returns-clause-straight
+returns-clause-straight c = straight_stage-is
+
+pub returns-clause-unmet : goal.returns-clause-unmet
+returns-clause-unmet c = unmet_stage-is

@@ -5,14 +5,14 @@ use Rattle.ncl_space.specs.Space.{SpaceData, fits}
 use Rattle.ncl_space.specs.declared.space.Ref.{Ref}
 use Rattle.ncl_space.proofs.SpaceLaws.{too_much_by_front}
 use Rattle.ncl_space.proofs.MakingLaws.{Making, making-one, too_much-front, handed_on}
-use Rattle.ncl_stage.specs.StageTables.{net_table}
+use Rattle.ncl_stage.specs.StageTables.{net_table_by}
 use Rattle.ncl_stage.proofs.NetLaws.{out_at, net-tables-more, net-tables-cut}
 use Rattle.ncl_stage.proofs.nets.net_refs.Goals as goal
 
 pub returns-in_err-refs-clause-full : goal.returns-in_err-refs-clause-full
 returns-in_err-refs-clause-full g c = λ e.
     let s : StageData = c.args.stage.now in
-    let f : ℕ → List Bool = net_table s c.args.variant in
+    let f : ℕ → List Bool = net_table_by c.args.wiring.now.order s c.args.variant in
     let old : SpaceData = g.P.Space.meaning c.args.space.now in
     subst (λ tables. fits old tables ≡ false) (sym (map-append f (rail_nets s.inputs) (map out_of s.cells)))
     (too_much_by_front old (map f (rail_nets s.inputs)) (map f (map out_of s.cells))
@@ -22,7 +22,7 @@ pub returns-in_err-made-clause-full : goal.returns-in_err-made-clause-full
 returns-in_err-made-clause-full g c = λ e.
     let s : StageData = c.args.stage.now in
     let i = c.loop-cell.cell in
-    let f : ℕ → List Bool = net_table s c.args.variant in
+    let f : ℕ → List Bool = net_table_by c.args.wiring.now.order s c.args.variant in
     let cells : c.items-cell-end.result.now ≡ s.cells = c.items-cell-end.ensures ∙ ap (λ (t : StageData). t.cells) c.stage.view_is in
     let within : i < length s.cells = subst (λ xs. i < length xs) cells c.loop-cell-test.true in
     too_much-front (g.P.Space.meaning c.args.space.now) (g.P.Space.meaning c.loop-cell.space) c.loop-cell.refs.items (map f (nets_of s.inputs (take i s.cells))) (f (out_at s i)) (map f (map out_of (drop (i + 1) s.cells))) (map f (nets_of s.inputs s.cells))
@@ -33,7 +33,7 @@ pub loop-cell-preserved : goal.loop-cell-preserved
 loop-cell-preserved g c =
     let s : StageData = c.args.stage.now in
     let i = c.loop-cell.cell in
-    let f : ℕ → List Bool = net_table s c.args.variant in
+    let f : ℕ → List Bool = net_table_by c.args.wiring.now.order s c.args.variant in
     let old : SpaceData = g.P.Space.meaning c.args.space.now in
     let now : SpaceData = g.P.Space.meaning c.loop-cell.space in
     let new : SpaceData = g.P.Space.meaning c.cell_ref.new.space in

@@ -4,7 +4,7 @@ use Rattle.ncl_shape.specs.Stage.{StageData, rail_nets}
 use Rattle.ncl_space.specs.Space.{SpaceData}
 use Rattle.ncl_space.specs.declared.space.Ref.{Ref}
 use Rattle.ncl_space.proofs.MakingLaws.{Making, making-none, making-one, too_much-front, handed_on}
-use Rattle.ncl_stage.specs.StageTables.{net_table, rail_at}
+use Rattle.ncl_stage.specs.StageTables.{net_table_by, rail_at}
 use Rattle.ncl_stage.proofs.NetLaws.{rail-tables-more, rail-tables-cut}
 use Rattle.ncl_stage.proofs.nets.rail_refs.Goals as goal
 
@@ -18,7 +18,7 @@ returns-in_err-zero-clause-full g c = λ e.
     let d : Rails = record { zero = record { 0 = 0 }; one = record { 0 = 0 } } in
     let s : StageData = c.args.stage.now in
     let i = c.loop-bit.bit in
-    let f : ℕ → List Bool = net_table s c.args.variant in
+    let f : ℕ → List Bool = net_table_by c.args.wiring.now.order s c.args.variant in
     let inputs : c.items-bit-end.result.now ≡ s.inputs = c.items-bit-end.ensures ∙ ap (λ (t : StageData). t.inputs) c.stage.view_is in
     let within : i < length s.inputs = subst (λ xs. i < length xs) inputs c.loop-bit-test.true in
     let front : List (List Bool) = map f (rail_nets (take i s.inputs)) in
@@ -35,7 +35,7 @@ returns-in_err-one-clause-full g c = λ e.
     let d : Rails = record { zero = record { 0 = 0 }; one = record { 0 = 0 } } in
     let s : StageData = c.args.stage.now in
     let i = c.loop-bit.bit in
-    let f : ℕ → List Bool = net_table s c.args.variant in
+    let f : ℕ → List Bool = net_table_by c.args.wiring.now.order s c.args.variant in
     let old : SpaceData = g.P.Space.meaning c.args.space.now in
     let now : SpaceData = g.P.Space.meaning c.loop-bit.space in
     let mid : SpaceData = g.P.Space.meaning c.rail_ref.new.space in
@@ -55,7 +55,7 @@ loop-bit-preserved g c =
     let d : Rails = record { zero = record { 0 = 0 }; one = record { 0 = 0 } } in
     let s : StageData = c.args.stage.now in
     let i = c.loop-bit.bit in
-    let f : ℕ → List Bool = net_table s c.args.variant in
+    let f : ℕ → List Bool = net_table_by c.args.wiring.now.order s c.args.variant in
     let old : SpaceData = g.P.Space.meaning c.args.space.now in
     let now : SpaceData = g.P.Space.meaning c.loop-bit.space in
     let mid : SpaceData = g.P.Space.meaning c.rail_ref.new.space in

@@ -7,7 +7,8 @@ use Rattle.std.proofs.lemmas.List.{length-map}
 use Rattle.ncl_gates.specs.declared.kind.Kind.TheVariants.{Th12}
 use Rattle.ncl_shape.specs.Stage.{StageData, IsStage, nets_of}
 use Rattle.ncl_shape.specs.declared.rails.Rails.{Rails}
-use Rattle.ncl_space.specs.Table.{words, table_of}
+use Rattle.ncl_space.specs.Table.{table_of}
+use Rattle.ncl_stage.specs.BitOrder.{IsOrderOf, words_by}
 use Rattle.ncl_space.specs.Space.{SpaceData, Keeps, fits, with_tables}
 use Rattle.ncl_space.specs.Making.{HaveTables}
 use Rattle.ncl_space.specs.declared.space.Ref.{Ref}
@@ -15,36 +16,36 @@ use Rattle.ncl_space.proofs.SpaceLaws.{keeps_along, too_much_by_front}
 use Rattle.ncl_space.proofs.MakingLaws.{have-length, have-at, held-along, too_much-after, handed_on}
 use Rattle.ncl_stage.specs.declared.variant.Variant.{Variant}
 use Rattle.ncl_stage.specs.Faults.{has_data}
-use Rattle.ncl_stage.specs.Tables.{fronts, data_functions, data_fronts}
+use Rattle.ncl_stage.specs.Tables.{fronts, function_tables_by, data_functions, data_fronts}
 use Rattle.ncl_stage.specs.Values.{val}
 use Rattle.ncl_stage.specs.Wiring.{WiringData, IsWiring}
-use Rattle.ncl_stage.specs.StageTables.{net_table, net_tables, function_tables, pair_table, front_tables}
+use Rattle.ncl_stage.specs.StageTables.{net_table_by, net_tables_by, pair_table, front_tables}
 use Rattle.ncl_stage.proofs.OutputLaws.{values_at, outputs-within, data-tables, front-tables, shared-tables, last-front, length-fronts}
 use Rattle.ncl_stage.proofs.outputs.all_data.Goals as goal
 
 -- the DATA tables, as a space makes them of the Refs of the nets
-of_data : (s : StageData) → IsStage s → (w : WiringData) → IsWiring s w → (variant : Variant) (now : SpaceData) → now.width ≡ length s.inputs → (refs : List Ref) → map now.table refs ≡ net_tables s variant → map (pair_table now.width Th12 (map now.table refs)) w.outputs ≡ function_tables s (data_functions s (values_at s variant))
-of_data s is w wired variant now width refs shown = (λ k. map (pair_table (width k) Th12 (shown k)) w.outputs) ∙ data-tables s is w wired variant
+of_data : (s : StageData) (order : List ℕ) → IsOrderOf (length s.inputs) order → IsStage s → (w : WiringData) → IsWiring s w → (variant : Variant) (now : SpaceData) → now.width ≡ length s.inputs → (refs : List Ref) → map now.table refs ≡ net_tables_by order s variant → map (pair_table now.width Th12 (map now.table refs)) w.outputs ≡ function_tables_by order (data_functions s (values_at s variant))
+of_data s order ordered is w wired variant now width refs shown = (λ k. map (pair_table (width k) Th12 (shown k)) w.outputs) ∙ data-tables s order ordered is w wired variant
 
-of_fronts : (s : StageData) (variant : Variant) (now : SpaceData) → now.width ≡ length s.inputs → (refs : List Ref) → map now.table refs ≡ function_tables s (data_functions s (values_at s variant)) → front_tables now.width (map now.table refs) ≡ function_tables s (data_fronts s (values_at s variant))
-of_fronts s variant now width refs shown = (λ k. front_tables (width k) (shown k)) ∙ front-tables s (values_at s variant)
+of_fronts : (s : StageData) (order : List ℕ) → IsOrderOf (length s.inputs) order → (variant : Variant) (now : SpaceData) → now.width ≡ length s.inputs → (refs : List Ref) → map now.table refs ≡ function_tables_by order (data_functions s (values_at s variant)) → front_tables now.width (map now.table refs) ≡ function_tables_by order (data_fronts s (values_at s variant))
+of_fronts s order ordered variant now width refs shown = (λ k. front_tables (width k) (shown k)) ∙ front-tables s order ordered (values_at s variant)
 
 pub returns-in_err-refs-clause-full : goal.returns-in_err-refs-clause-full
 returns-in_err-refs-clause-full g c = λ e.
     let s : StageData = c.args.stage.now in
     let old : SpaceData = g.P.Space.meaning c.args.space.now in
-    let own : List (List Bool) = function_tables s (data_functions s (values_at s c.args.variant)) in
-    let fronts : List (List Bool) = function_tables s (data_fronts s (values_at s c.args.variant)) in
-    subst (λ tables. fits old tables ≡ false) (sym (shared-tables s c.args.variant))
-    (too_much_by_front old (net_tables s c.args.variant ++ own) fronts
-    (too_much_by_front old (net_tables s c.args.variant) own
+    let own : List (List Bool) = function_tables_by c.args.base.now.wiring.order (data_functions s (values_at s c.args.variant)) in
+    let fronts : List (List Bool) = function_tables_by c.args.base.now.wiring.order (data_fronts s (values_at s c.args.variant)) in
+    subst (λ tables. fits old tables ≡ false) (sym (shared-tables s c.args.base.now.wiring.order c.args.variant))
+    (too_much_by_front old (net_tables_by c.args.base.now.wiring.order s c.args.variant ++ own) fronts
+    (too_much_by_front old (net_tables_by c.args.base.now.wiring.order s c.args.variant) own
     (c.in_err-refs.ensures.full (ap Err (handed_on c.from_residual.result c.in_err-refs.field-0.0 c.from_residual.ensures.1 e)))))
 
 pub data_tables-requires-clause-within : goal.data_tables-requires-clause-within
 data_tables-requires-clause-within g c =
     let s : StageData = c.args.stage.now in
     let refs = c.in_ok-refs.refs.items in
-    let many : length refs ≡ length (nets_of s.inputs s.cells) = have-length (g.P.Space.meaning c.net_refs_from.new.space) refs (net_tables s c.args.variant) c.in_ok-refs.ensures.made.refs_of ∙ length-map (nets_of s.inputs s.cells) (net_table s c.args.variant) in
+    let many : length refs ≡ length (nets_of s.inputs s.cells) = have-length (g.P.Space.meaning c.net_refs_from.new.space) refs (net_tables_by c.args.base.now.wiring.order s c.args.variant) c.in_ok-refs.ensures.made.refs_of ∙ length-map (nets_of s.inputs s.cells) (net_table_by c.args.base.now.wiring.order s c.args.variant) in
     outputs-within s c.facts.ensures c.wiring.result.now (subst (IsWiring s) (sym c.wiring.ensures) c.requires.base.wired) (length c.as_slice.result.now) (ap length c.as_slice.ensures.value ∙ many)
 
 pub returns-in_err-data-clause-full : goal.returns-in_err-data-clause-full
@@ -53,12 +54,12 @@ returns-in_err-data-clause-full g c = λ e.
     let variant = c.args.variant in
     let old : SpaceData = g.P.Space.meaning c.args.space.now in
     let mid : SpaceData = g.P.Space.meaning c.net_refs_from.new.space in
-    let own : List (List Bool) = function_tables s (data_functions s (values_at s variant)) in
-    let fronts : List (List Bool) = function_tables s (data_fronts s (values_at s variant)) in
-    let is = of_data s c.facts.ensures c.wiring.result.now (subst (IsWiring s) (sym c.wiring.ensures) c.requires.base.wired) variant mid (c.in_ok-refs.ensures.kept.width ∙ c.requires.width) c.as_slice.result.now (ap (map mid.table) c.as_slice.ensures.value ∙ c.in_ok-refs.ensures.made.refs_of.tables) in
-    subst (λ tables. fits old tables ≡ false) (sym (shared-tables s variant))
-    (too_much_by_front old (net_tables s variant ++ own) fronts
-    (too_much-after old mid (net_tables s variant) own c.in_ok-refs.ensures.kept c.in_ok-refs.ensures.made.held
+    let own : List (List Bool) = function_tables_by c.args.base.now.wiring.order (data_functions s (values_at s variant)) in
+    let fronts : List (List Bool) = function_tables_by c.args.base.now.wiring.order (data_fronts s (values_at s variant)) in
+    let is = of_data s c.args.base.now.wiring.order c.requires.base.wired.order c.facts.ensures c.wiring.result.now (subst (IsWiring s) (sym c.wiring.ensures) c.requires.base.wired) variant mid (c.in_ok-refs.ensures.kept.width ∙ c.requires.width) c.as_slice.result.now (ap (map mid.table) c.as_slice.ensures.value ∙ c.in_ok-refs.ensures.made.refs_of.tables) in
+    subst (λ tables. fits old tables ≡ false) (sym (shared-tables s c.args.base.now.wiring.order variant))
+    (too_much_by_front old (net_tables_by c.args.base.now.wiring.order s variant ++ own) fronts
+    (too_much-after old mid (net_tables_by c.args.base.now.wiring.order s variant) own c.in_ok-refs.ensures.kept c.in_ok-refs.ensures.made.held
     (subst (λ tables. fits mid tables ≡ false) is
     (c.in_err-data.ensures.full (ap Err (handed_on c.from_residual-in_err-data.result c.in_err-data.field-0.0 c.from_residual-in_err-data.ensures.1 e))))))
 
@@ -69,22 +70,22 @@ returns-in_err-fronts-clause-full g c = λ e.
     let old : SpaceData = g.P.Space.meaning c.args.space.now in
     let mid : SpaceData = g.P.Space.meaning c.net_refs_from.new.space in
     let now : SpaceData = g.P.Space.meaning c.data_tables.new.space in
-    let own : List (List Bool) = function_tables s (data_functions s (values_at s variant)) in
-    let fronts : List (List Bool) = function_tables s (data_fronts s (values_at s variant)) in
-    let made = of_data s c.facts.ensures c.wiring.result.now (subst (IsWiring s) (sym c.wiring.ensures) c.requires.base.wired) variant mid (c.in_ok-refs.ensures.kept.width ∙ c.requires.width) c.as_slice.result.now (ap (map mid.table) c.as_slice.ensures.value ∙ c.in_ok-refs.ensures.made.refs_of.tables) in
+    let own : List (List Bool) = function_tables_by c.args.base.now.wiring.order (data_functions s (values_at s variant)) in
+    let fronts : List (List Bool) = function_tables_by c.args.base.now.wiring.order (data_fronts s (values_at s variant)) in
+    let made = of_data s c.args.base.now.wiring.order c.requires.base.wired.order c.facts.ensures c.wiring.result.now (subst (IsWiring s) (sym c.wiring.ensures) c.requires.base.wired) variant mid (c.in_ok-refs.ensures.kept.width ∙ c.requires.width) c.as_slice.result.now (ap (map mid.table) c.as_slice.ensures.value ∙ c.in_ok-refs.ensures.made.refs_of.tables) in
     let kept : Keeps old now = keeps_along old mid now c.in_ok-refs.ensures.kept c.in_ok-data.ensures.kept in
-    let held : now.held ≡ with_tables old (net_tables s variant ++ own) = held-along old mid now (net_tables s variant) own c.in_ok-refs.ensures.kept c.in_ok-refs.ensures.made.held (c.in_ok-data.ensures.made.held ∙ ap (with_tables mid) made) in
-    let is = of_fronts s variant now (kept.width ∙ c.requires.width) c.as_slice-2.result.now (ap (map now.table) c.as_slice-2.ensures.value ∙ c.in_ok-data.ensures.made.refs_of.tables ∙ made) in
-    subst (λ tables. fits old tables ≡ false) (sym (shared-tables s variant))
-    (too_much-after old now (net_tables s variant ++ own) fronts kept held
+    let held : now.held ≡ with_tables old (net_tables_by c.args.base.now.wiring.order s variant ++ own) = held-along old mid now (net_tables_by c.args.base.now.wiring.order s variant) own c.in_ok-refs.ensures.kept c.in_ok-refs.ensures.made.held (c.in_ok-data.ensures.made.held ∙ ap (with_tables mid) made) in
+    let is = of_fronts s c.args.base.now.wiring.order c.requires.base.wired.order variant now (kept.width ∙ c.requires.width) c.as_slice-2.result.now (ap (map now.table) c.as_slice-2.ensures.value ∙ c.in_ok-data.ensures.made.refs_of.tables ∙ made) in
+    subst (λ tables. fits old tables ≡ false) (sym (shared-tables s c.args.base.now.wiring.order variant))
+    (too_much-after old now (net_tables_by c.args.base.now.wiring.order s variant ++ own) fronts kept held
     (subst (λ tables. fits now tables ≡ false) is
     (c.in_err-fronts.ensures.full (ap Err (handed_on c.from_residual-in_err-fronts.result c.in_err-fronts.field-0.0 c.from_residual-in_err-fronts.ensures.1 e)))))
 
 -- how many conjunctions there are
-many-fronts : (s : StageData) (variant : Variant) (new : SpaceData) (refs : List Ref) → HaveTables new refs (function_tables s (data_fronts s (values_at s variant))) → length refs ≡ length s.outputs
-many-fronts s variant new refs have =
-    have-length new refs (function_tables s (data_fronts s (values_at s variant))) have
-    ∙ length-map (data_fronts s (values_at s variant)) (table_of (words (length s.inputs)))
+many-fronts : (s : StageData) (order : List ℕ) (variant : Variant) (new : SpaceData) (refs : List Ref) → HaveTables new refs (function_tables_by order (data_fronts s (values_at s variant))) → length refs ≡ length s.outputs
+many-fronts s order variant new refs have =
+    have-length new refs (function_tables_by order (data_fronts s (values_at s variant))) have
+    ∙ length-map (data_fronts s (values_at s variant)) (table_of (words_by order))
     ∙ length-map (fronts s.outputs) (λ (front : List Rails). λ word. list_all (has_data (val s word variant)) front)
     ∙ length-fronts s.outputs
 
@@ -95,9 +96,9 @@ unwrap-requires g c =
     let mid : SpaceData = g.P.Space.meaning c.net_refs_from.new.space in
     let now : SpaceData = g.P.Space.meaning c.data_tables.new.space in
     let new : SpaceData = g.P.Space.meaning c.data_fronts.new.space in
-    let made = of_data s c.facts.ensures c.wiring.result.now (subst (IsWiring s) (sym c.wiring.ensures) c.requires.base.wired) variant mid (c.in_ok-refs.ensures.kept.width ∙ c.requires.width) c.as_slice.result.now (ap (map mid.table) c.as_slice.ensures.value ∙ c.in_ok-refs.ensures.made.refs_of.tables) in
-    let is = of_fronts s variant now (c.in_ok-data.ensures.kept.width ∙ c.in_ok-refs.ensures.kept.width ∙ c.requires.width) c.as_slice-2.result.now (ap (map now.table) c.as_slice-2.ensures.value ∙ c.in_ok-data.ensures.made.refs_of.tables ∙ made) in
-    let many = many-fronts s variant new c.in_ok-fronts.fronts.items (subst (HaveTables new c.in_ok-fronts.fronts.items) is c.in_ok-fronts.ensures.made.refs_of) in
+    let made = of_data s c.args.base.now.wiring.order c.requires.base.wired.order c.facts.ensures c.wiring.result.now (subst (IsWiring s) (sym c.wiring.ensures) c.requires.base.wired) variant mid (c.in_ok-refs.ensures.kept.width ∙ c.requires.width) c.as_slice.result.now (ap (map mid.table) c.as_slice.ensures.value ∙ c.in_ok-refs.ensures.made.refs_of.tables) in
+    let is = of_fronts s c.args.base.now.wiring.order c.requires.base.wired.order variant now (c.in_ok-data.ensures.kept.width ∙ c.in_ok-refs.ensures.kept.width ∙ c.requires.width) c.as_slice-2.result.now (ap (map now.table) c.as_slice-2.ensures.value ∙ c.in_ok-data.ensures.made.refs_of.tables ∙ made) in
+    let many = many-fronts s c.args.base.now.wiring.order variant new c.in_ok-fronts.fronts.items (subst (HaveTables new c.in_ok-fronts.fronts.items) is c.in_ok-fronts.ensures.made.refs_of) in
     let some = c.facts.ensures.some_outputs in
     let size : length c.as_slice-3.result.now ≡ length s.outputs = ap length c.as_slice-3.ensures.value ∙ many in
     c.last.ensures.item.2 (omega arith)
@@ -109,12 +110,12 @@ returns-clause-table g c =
     let mid : SpaceData = g.P.Space.meaning c.net_refs_from.new.space in
     let now : SpaceData = g.P.Space.meaning c.data_tables.new.space in
     let new : SpaceData = g.P.Space.meaning c.data_fronts.new.space in
-    let tables : List (List Bool) = function_tables s (data_fronts s (values_at s variant)) in
-    let made = of_data s c.facts.ensures c.wiring.result.now (subst (IsWiring s) (sym c.wiring.ensures) c.requires.base.wired) variant mid (c.in_ok-refs.ensures.kept.width ∙ c.requires.width) c.as_slice.result.now (ap (map mid.table) c.as_slice.ensures.value ∙ c.in_ok-refs.ensures.made.refs_of.tables) in
-    let is = of_fronts s variant now (c.in_ok-data.ensures.kept.width ∙ c.in_ok-refs.ensures.kept.width ∙ c.requires.width) c.as_slice-2.result.now (ap (map now.table) c.as_slice-2.ensures.value ∙ c.in_ok-data.ensures.made.refs_of.tables ∙ made) in
+    let tables : List (List Bool) = function_tables_by c.args.base.now.wiring.order (data_fronts s (values_at s variant)) in
+    let made = of_data s c.args.base.now.wiring.order c.requires.base.wired.order c.facts.ensures c.wiring.result.now (subst (IsWiring s) (sym c.wiring.ensures) c.requires.base.wired) variant mid (c.in_ok-refs.ensures.kept.width ∙ c.requires.width) c.as_slice.result.now (ap (map mid.table) c.as_slice.ensures.value ∙ c.in_ok-refs.ensures.made.refs_of.tables) in
+    let is = of_fronts s c.args.base.now.wiring.order c.requires.base.wired.order variant now (c.in_ok-data.ensures.kept.width ∙ c.in_ok-refs.ensures.kept.width ∙ c.requires.width) c.as_slice-2.result.now (ap (map now.table) c.as_slice-2.ensures.value ∙ c.in_ok-data.ensures.made.refs_of.tables ∙ made) in
     let refs : List Ref = c.in_ok-fronts.fronts.items in
     let have : HaveTables new refs tables = subst (HaveTables new refs) is c.in_ok-fronts.ensures.made.refs_of in
-    let many : length refs ≡ length s.outputs = many-fronts s variant new refs have in
+    let many : length refs ≡ length s.outputs = many-fronts s c.args.base.now.wiring.order variant new refs have in
     let some = c.facts.ensures.some_outputs in
     let items : c.as_slice-3.result.now ≡ refs = c.as_slice-3.ensures.value in
     let k : ℕ = length s.outputs - 1 in
@@ -122,7 +123,7 @@ returns-clause-table g c =
     let item : unwrap_or (option_map (λ (x : Bor Ref). x.now) c.last.result) r ≡ get_or c.as_slice-3.result.now (length c.as_slice-3.result.now - 1) r = c.last.ensures.item.4 (omega arith) r in
     let at : r ≡ get_or refs k r =
     ap (λ o. unwrap_or (option_map (λ (x : Bor Ref). x.now) o) r) (sym c.unwrap.ensures) ∙ item ∙ (λ j. get_or (items j) (length (items j) - 1) r) ∙ ap (λ n. get_or refs (n - 1) r) many in
-    ap new.table at ∙ have-at new refs tables have k r [] (omega arith) ∙ last-front s (values_at s variant) some
+    ap new.table at ∙ have-at new refs tables have k r [] (omega arith) ∙ last-front s c.args.base.now.wiring.order c.requires.base.wired.order (values_at s variant) some
 
 pub returns-clause-held : goal.returns-clause-held
 returns-clause-held g c =
@@ -132,11 +133,11 @@ returns-clause-held g c =
     let mid : SpaceData = g.P.Space.meaning c.net_refs_from.new.space in
     let now : SpaceData = g.P.Space.meaning c.data_tables.new.space in
     let new : SpaceData = g.P.Space.meaning c.data_fronts.new.space in
-    let own : List (List Bool) = function_tables s (data_functions s (values_at s variant)) in
-    let tables : List (List Bool) = function_tables s (data_fronts s (values_at s variant)) in
-    let made = of_data s c.facts.ensures c.wiring.result.now (subst (IsWiring s) (sym c.wiring.ensures) c.requires.base.wired) variant mid (c.in_ok-refs.ensures.kept.width ∙ c.requires.width) c.as_slice.result.now (ap (map mid.table) c.as_slice.ensures.value ∙ c.in_ok-refs.ensures.made.refs_of.tables) in
+    let own : List (List Bool) = function_tables_by c.args.base.now.wiring.order (data_functions s (values_at s variant)) in
+    let tables : List (List Bool) = function_tables_by c.args.base.now.wiring.order (data_fronts s (values_at s variant)) in
+    let made = of_data s c.args.base.now.wiring.order c.requires.base.wired.order c.facts.ensures c.wiring.result.now (subst (IsWiring s) (sym c.wiring.ensures) c.requires.base.wired) variant mid (c.in_ok-refs.ensures.kept.width ∙ c.requires.width) c.as_slice.result.now (ap (map mid.table) c.as_slice.ensures.value ∙ c.in_ok-refs.ensures.made.refs_of.tables) in
     let kept : Keeps old now = keeps_along old mid now c.in_ok-refs.ensures.kept c.in_ok-data.ensures.kept in
-    let held : now.held ≡ with_tables old (net_tables s variant ++ own) = held-along old mid now (net_tables s variant) own c.in_ok-refs.ensures.kept c.in_ok-refs.ensures.made.held (c.in_ok-data.ensures.made.held ∙ ap (with_tables mid) made) in
-    let is = of_fronts s variant now (kept.width ∙ c.requires.width) c.as_slice-2.result.now (ap (map now.table) c.as_slice-2.ensures.value ∙ c.in_ok-data.ensures.made.refs_of.tables ∙ made) in
-    held-along old now new (net_tables s variant ++ own) tables kept held (c.in_ok-fronts.ensures.made.held ∙ ap (with_tables now) is)
-    ∙ ap (with_tables old) (sym (shared-tables s variant))
+    let held : now.held ≡ with_tables old (net_tables_by c.args.base.now.wiring.order s variant ++ own) = held-along old mid now (net_tables_by c.args.base.now.wiring.order s variant) own c.in_ok-refs.ensures.kept c.in_ok-refs.ensures.made.held (c.in_ok-data.ensures.made.held ∙ ap (with_tables mid) made) in
+    let is = of_fronts s c.args.base.now.wiring.order c.requires.base.wired.order variant now (kept.width ∙ c.requires.width) c.as_slice-2.result.now (ap (map now.table) c.as_slice-2.ensures.value ∙ c.in_ok-data.ensures.made.refs_of.tables ∙ made) in
+    held-along old now new (net_tables_by c.args.base.now.wiring.order s variant ++ own) tables kept held (c.in_ok-fronts.ensures.made.held ∙ ap (with_tables now) is)
+    ∙ ap (with_tables old) (sym (shared-tables s c.args.base.now.wiring.order variant))

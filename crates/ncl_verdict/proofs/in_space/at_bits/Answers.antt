@@ -1,4 +1,4 @@
-use Rattle.std.proofs.Common.{◌≡◌, ◌<◌, ◌≤◌, None, Some, length, sym, ◌∙◌, ap, subst, arith}
+use Rattle.std.proofs.Common.{◌≡◌, ◌<◌, ◌≤◌, Some, length, sym, ◌∙◌, ap, subst, arith}
 use Rattle.ncl_shape.specs.Stage.{StageData}
 use Rattle.ncl_stage.specs.declared.variant.Variant.TheVariants.{Bit}
 use Rattle.ncl_stage.specs.LeastWords.{below, first_of}

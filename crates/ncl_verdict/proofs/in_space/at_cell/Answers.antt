@@ -1,4 +1,4 @@
-use Rattle.std.proofs.Common.{◌≡◌, Bool, List, None, Some, Err, get_or, sym, ◌∙◌, ap}
+use Rattle.std.proofs.Common.{◌≡◌, None, Some, Err, get_or, sym, ◌∙◌, ap}
 use Rattle.std.specs.Prelude.{slice_get}
 use Rattle.std.proofs.lemmas.Option.{slice_get-get_or}
 use Rattle.std.proofs.lemmas.Result.{IfOk-weaker}
@@ -7,11 +7,11 @@ use Rattle.ncl_shape.specs.Stage.{StageData}
 use Rattle.ncl_space.specs.Space.{SpaceData}
 use Rattle.ncl_stage.specs.declared.variant.Variant.TheVariants.{Cell}
 use Rattle.ncl_stage.specs.Faults.{Orphan}
-use Rattle.ncl_stage.specs.LeastWords.{least_word}
+use Rattle.ncl_stage.specs.LeastWords.{least_word, least_word_by}
 use Rattle.ncl_verdict.specs.declared.verdict.Verdict.TheVariants as verdict
 use Rattle.ncl_verdict.specs.Judgement.{Stop, at_variant, cell_number}
 use Rattle.ncl_verdict.specs.InSpace.{stopped_within}
-use Rattle.ncl_verdict.proofs.InSpaceLaws.{stops, goes_on, at-stopped, at-asked, found-by, fits-count, ready-restored}
+use Rattle.ncl_verdict.proofs.InSpaceLaws.{stops, goes_on, at-stopped, at-asked, found-by, fits-ready, ready-restored}
 use Rattle.ncl_verdict.proofs.in_space.at_cell.Goals as goal
 
 pub returns-in-Ok-Some-clause-answer : goal.returns-in-Ok-Some-clause-answer
@@ -20,8 +20,8 @@ returns-in-Ok-Some-clause-answer g c =
     let cell = c.args.cell in
     let old : SpaceData = g.P.Space.meaning c.args.space.now in
     let stop : Stop = stopped_within old.limit in
-    let word : least_word s (Orphan cell) ≡ Some c.in-Ok-Some.word = sym c.in-Ok-Some.ensures.word ∙ c.in-Ok-Some.field-0-is in
-    let asked = goes_on old.limit s (Cell cell) (sym (fits-count old s (Cell cell) c.requires.ready.width c.requires.ready.held) ∙ c.in-Ok-Some.ensures.fits) in
+    let word : least_word s (Orphan cell) ≡ Some c.in-Ok-Some.word = ap (λ order. least_word_by order s (Orphan cell)) (sym c.requires.ready.order) ∙ sym c.in-Ok-Some.ensures.word ∙ c.in-Ok-Some.field-0-is in
+    let asked = goes_on old.limit s (Cell cell) (sym (fits-ready old s c.args.base.now c.requires.ready (Cell cell)) ∙ c.in-Ok-Some.ensures.fits) in
     let d : StageCell = c.index-items-cell.result in
     let cells : c.items.result.now ≡ s.cells = c.items.ensures ∙ ap (λ (t : StageData). t.cells) c.stage.view_is in
     let number : (get_or c.items.result.now cell d).cell ≡ cell_number (slice_get s.cells cell) =
@@ -39,8 +39,8 @@ returns-in-Ok-None-clause-answer g c =
     let cell = c.args.cell in
     let old : SpaceData = g.P.Space.meaning c.args.space.now in
     let stop : Stop = stopped_within old.limit in
-    let word : least_word s (Orphan cell) ≡ None = sym c.in-Ok-None.ensures.word ∙ c.in-Ok-None.field-0-is in
-    let asked = goes_on old.limit s (Cell cell) (sym (fits-count old s (Cell cell) c.requires.ready.width c.requires.ready.held) ∙ c.in-Ok-None.ensures.fits) in
+    let word : least_word s (Orphan cell) ≡ None = ap (λ order. least_word_by order s (Orphan cell)) (sym c.requires.ready.order) ∙ sym c.in-Ok-None.ensures.word ∙ c.in-Ok-None.field-0-is in
+    let asked = goes_on old.limit s (Cell cell) (sym (fits-ready old s c.args.base.now c.requires.ready (Cell cell)) ∙ c.in-Ok-None.ensures.fits) in
     sym (at-asked stop s (Cell cell) asked ∙ found-by s (Orphan cell) None word)
 
 pub returns-in-Ok-None-clause-ready : goal.returns-in-Ok-None-clause-ready
@@ -54,7 +54,7 @@ returns-in-Err-clause-answer g c =
     let stop : Stop = stopped_within old.limit in
     IfOk-weaker c.stopped.result _ (λ answer. answer ≡ at_variant stop s (Cell cell))
     (λ answer said. said.1 ∙ sym (at-stopped stop s (Cell cell) (verdict.Limit s.number)
-    (stops old.limit s (Cell cell) (sym (fits-count old s (Cell cell) c.requires.ready.width c.requires.ready.held) ∙ c.in-Err.ensures.full (ap Err said.0)))))
+    (stops old.limit s (Cell cell) (sym (fits-ready old s c.args.base.now c.requires.ready (Cell cell)) ∙ c.in-Err.ensures.full (ap Err said.0)))))
     c.stopped.ensures
 
 pub returns-in-Err-clause-ready : goal.returns-in-Err-clause-ready

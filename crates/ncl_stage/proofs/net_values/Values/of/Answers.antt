@@ -1,7 +1,7 @@
 use Rattle.std.proofs.Common.{◌≡◌, ◌∙◌, sym, ap, subst, map, get_or}
 use Rattle.ncl_space.specs.Making.{HaveTables}
 use Rattle.ncl_space.specs.Space.{IsLive}
-use Rattle.ncl_stage.specs.StageTables.{ValuesData, net_table}
+use Rattle.ncl_stage.specs.StageTables.{ValuesData, net_table_by}
 use Rattle.ncl_stage.specs.Wiring.{WiringData, place_in}
 use Rattle.ncl_stage.proofs.OutputLaws.{net-ref}
 use Rattle.ncl_stage.proofs.net_values.Values.of.Goals as goal
@@ -11,9 +11,9 @@ returns-clause-shown c = λ space s variant are.
     let nets = c.args.self.now.wiring.nets in
     let refs = c.args.self.now.refs in
     let net = c.args.net.0 in
-    let shown : HaveTables space refs (map (net_table s variant) nets) = subst (λ l. HaveTables space refs (map (net_table s variant) l)) (sym are.wired.nets) are.shown in
+    let shown : HaveTables space refs (map (net_table_by c.args.self.now.wiring.order s variant) nets) = subst (λ l. HaveTables space refs (map (net_table_by c.args.self.now.wiring.order s variant) l)) (sym are.wired.nets) are.shown in
     let r = c.index.result.now in
-    let found = net-ref space (net_table s variant) nets refs shown net c.requires r in
+    let found = net-ref space (net_table_by c.args.self.now.wiring.order s variant) nets refs shown net c.requires r in
     let place : c.place_of.result ≡ place_in nets net = c.place_of.ensures ∙ ap (λ (w : WiringData). place_in w.nets net) (c.deref.ensures ∙ ap (λ (v : ValuesData). v.wiring) c.self.view_is) in
     let own : c.self.inside.refs.items ≡ refs = ap (λ (v : ValuesData). v.refs) c.self.view_is in
     let at : r ≡ get_or refs (place_in nets net) r = c.index.ensures ∙ (λ k. get_or (own k) (place k) r) in

@@ -1,0 +1,13 @@
+-- The bit orders of worked examples.
+use Rattle.std.proofs.Common.{◌≡◌, [], ◌∷◌, refl}
+use Rattle.ncl_stage.specs.BitOrder.{bit_order}
+use Rattle.ncl_stage.specs.Examples.{adder_stage, swapped_stage, unmet_stage}
+
+pub adder-order : bit_order adder_stage ≡ 0 ∷ 1 ∷ 2 ∷ []
+adder-order = refl
+
+pub swapped-order : bit_order swapped_stage ≡ 1 ∷ 0 ∷ []
+swapped-order = refl
+
+pub unmet-order : bit_order unmet_stage ≡ 1 ∷ 0 ∷ 2 ∷ []
+unmet-order = refl

@@ -1,0 +1,77 @@
+-- Tables over words in an order of their bits, as tables over places of that order; and that the bit order of a stage
+-- is one.
+use Rattle.std.proofs.Common.{◌≡◌, ℕ, zero, suc, ◌+◌, ◌<◌, Bool, true, false, not, cond, ◌||◌, List, [], ◌∷◌, length, inl, inr, refl, sym, ap, ◌∙◌, arith}
+use Rattle.std.specs.Prelude.{nat_eq}
+use Rattle.std.specs.List.{find, flat_map}
+use Rattle.std.specs.Option.{option_map}
+use Rattle.ncl_shape.specs.declared.rails.Rails.{Rails}
+use Rattle.ncl_shape.specs.Stage.{StageData, rail_nets}
+use Rattle.ncl_base.proofs.Members.{Member, here, there, member_cases, Member-append_cases}
+use Rattle.ncl_space.specs.Table.{words, table_of}
+use Rattle.ncl_space.specs.Functions.{at, least}
+use Rattle.ncl_space.proofs.TableLaws.{table_of-same, at_table, least-table_of, least-zero_table_of}
+use Rattle.ncl_stage.specs.BitOrder.{IsOrderOf, bit_order, bits_from, driver_of, met, placed, read_by, walk, words_by}
+use Rattle.ncl_stage.proofs.OrderLaws.{is_order, length-placed, table_by, find_by}
+
+-- ---- each bit stands in the bit order once
+
+-- what stands in a list of lists stands in one of them
+member_of_flat_map : {X Y : Type 0} (f : X → List Y) (xs : List X) (y : Y) → Member y (flat_map f xs) → (x : X) × Member x xs × Member y (f x)
+member_of_flat_map f [] y m = elim m [ ]
+member_of_flat_map f (x ∷ xs) y m = elim (Member-append_cases y (f x) (flat_map f xs) m) [
+  | inl own ↦ (x, here, own)
+  | inr later ↦ let (z, n, own) = member_of_flat_map f xs y later in (z, there n, own)
+]
+
+bits_from-below : (bit : ℕ) (rails : List Rails) (net b : ℕ) → Member b (bits_from bit rails net) → b < bit + length rails
+bits_from-below bit [] net b m = elim m [ ]
+bits_from-below bit (r ∷ rs) net b m = by (nat_eq net r.zero.0 || nat_eq net r.one.0) m (bits_from-below (bit + 1) rs net b)
+  where
+    by : (test : Bool) → Member b (cond test (bit ∷ []) (bits_from (bit + 1) rs net)) → (Member b (bits_from (bit + 1) rs net) → b < bit + 1 + length rs) → b < bit + suc (length rs)
+    by true m later = elim (member_cases b bit [] m) [ inl same ↦ omega arith | inr none ↦ elim none [ ] ]
+    by false m later = let lt : b < bit + 1 + length rs = later m in omega arith
+
+met-below : (s : StageData) (cells net b : ℕ) → Member b (met s cells net) → b < length s.inputs
+met-below s zero net b m = let lt : b < 0 + length s.inputs = bits_from-below 0 s.inputs net b m in omega arith
+met-below s (suc cells) net b m = elim (Member-append_cases b (bits_from 0 s.inputs net) (flat_map (met s cells) (read_by (driver_of s.cells net))) m) [
+  | inl own ↦ let lt : b < 0 + length s.inputs = bits_from-below 0 s.inputs net b own in omega arith
+  | inr later ↦ let (pin, n, there_met) = member_of_flat_map (met s cells) (read_by (driver_of s.cells net)) b later in met-below s cells pin b there_met
+]
+
+-- each bit stands in the bit order once
+pub order-is : (s : StageData) → IsOrderOf (length s.inputs) (bit_order s)
+order-is s = is_order (length s.inputs) (walk s) (λ b m. let (net, n, there_met) = member_of_flat_map (met s (length s.cells)) (rail_nets s.outputs) b m in met-below s (length s.cells) net b there_met)
+
+-- ---- tables in an order of so many bits
+
+module _ (n : ℕ) (order : List ℕ) (ordered : IsOrderOf n order) where
+  pub placed-length : (w : List Bool) → length (placed order w) ≡ n
+  placed-length w = length-placed order w ∙ ordered.many
+
+  -- the table of a function over the words in the order is that of the function of a placed word
+  pub ordered-table : (f : List Bool → Bool) → table_of (words_by order) f ≡ table_of (words n) (λ w. f (placed order w))
+  ordered-table f = table_by order f ∙ ap (λ k. table_of (words k) (λ w. f (placed order w))) ordered.many
+
+  pub ordered-same : (f g : List Bool → Bool) → ((w : List Bool) → length w ≡ n → f w ≡ g (placed order w)) → table_of (words n) f ≡ table_of (words_by order) g
+  ordered-same f g same = table_of-same n f (λ w. g (placed order w)) same ∙ sym (ordered-table g)
+
+  pub ordered-at : (f : List Bool → Bool) (w : List Bool) → length w ≡ n → at (table_of (words_by order) f) w ≡ f (placed order w)
+  ordered-at f w long = ap (λ t. at t w) (ordered-table f) ∙ at_table n (λ v. f (placed order v)) w long
+
+  -- the least word of a table by places, put back, is the first that passes in the order
+  pub ordered-one : (f : List Bool → Bool) → option_map (placed order) (least true n (table_of (words_by order) f)) ≡ find f (words_by order)
+  ordered-one f =
+      ap (λ t. option_map (placed order) (least true n t)) (ordered-table f)
+      ∙ ap (option_map (placed order)) (least-table_of n (λ w. f (placed order w)))
+      ∙ sym (find_by order f ∙ ap (λ k. option_map (placed order) (find (λ w. f (placed order w)) (words k))) ordered.many)
+
+  pub ordered-zero : (f : List Bool → Bool) → option_map (placed order) (least false n (table_of (words_by order) f)) ≡ find (λ w. not (f w)) (words_by order)
+  ordered-zero f =
+      ap (λ t. option_map (placed order) (least false n t)) (ordered-table f)
+      ∙ ap (option_map (placed order)) (least-zero_table_of n (λ w. f (placed order w)))
+      ∙ sym (find_by order (λ w. not (f w)) ∙ ap (λ k. option_map (placed order) (find (λ w. not (f (placed order w))) (words k))) ordered.many)
+
+-- functions that agree at every word have one table
+pub table-any : (ws : List (List Bool)) (f g : List Bool → Bool) → ((w : List Bool) → f w ≡ g w) → table_of ws f ≡ table_of ws g
+table-any [] f g same = refl
+table-any (w ∷ ws) f g same = let first = same w in let rest = table-any ws f g same in λ k. first k ∷ rest k

@@ -1,0 +1,10 @@
+use Rattle.std.proofs.Common.{[], ◌∷◌}
+use Rattle.ncl_stage.specs.Examples.{swapped_stage, straight_stage}
+use Rattle.ncl_verdict.proofs.Computed.{judgement-computes}
+use Rattle.ncl_verdict.proofs.examples.words_in_two_orders.Goals as goal
+
+pub returns-clause-swapped : goal.returns-clause-swapped
+returns-clause-swapped c = judgement-computes 100 (swapped_stage ∷ [])
+
+pub returns-clause-straight : goal.returns-clause-straight
+returns-clause-straight c = judgement-computes 100 (straight_stage ∷ [])

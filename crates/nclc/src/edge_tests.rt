@@ -1,4 +1,5 @@
 //! Real files, pipes and words that are no text.
+use crate::answer;
 use crate::file_source::FileSource;
 use crate::stdout_sink::StdoutSink;
 use crate::words::{views, words_given};
@@ -7,14 +8,16 @@ use std::env::{Env, FillError};
 use std::fmt::Display;
 use std::io::{ErrorKind, PipeWriter, Print, Read, Write};
 use std::os::fd::AsRawFd;
+use std::sync::atomic::{AtomicUsize, Ordering};
 use std::test::Fail;
 use std::{env, fs, io};
 
-/// A printer into a pipe, of which a write takes at most so many bytes.
+/// A printer into a pipe, of which a write takes at most so many bytes, with a count of its writes.
 #[derive(Drop)]
 struct Narrow<'a> {
     to: &'a PipeWriter,
     most: usize,
+    writes: AtomicUsize,
 }
 
 impl Print for Narrow<'_> {
@@ -31,6 +34,7 @@ impl Print for Narrow<'_> {
     }
 
     fn write_some(&self, bytes: &[u8]) -> io::Result<usize> {
+        self.writes.fetch_add(1, Ordering::SeqCst);
         let count = self.most.min(bytes.len());
         let mut to = self.to;
         to.write(&bytes[..count])
@@ -101,15 +105,21 @@ fn a_pipe_is_read_to_its_end(rt: HostRuntime) -> Result<(), Fail> {
 
 #[test]
 fn a_printer_is_written_to_until_it_fails(rt: HostRuntime) -> Result<(), Fail> {
-    for (most, want, text) in [
-        (9, Ok(()), "hello"),
-        (2, Ok(()), "hello"),
-        (0, Err(SinkFault::Write), ""),
+    for (most, want, text, calls) in [
+        (9, Ok(()), "hello", 1),
+        (2, Ok(()), "hello", 3),
+        (0, Err(SinkFault::Write), "", 1),
     ] {
         let (reader, writer) = io::pipe(&rt)?;
-        let printer = Narrow { to: &writer, most };
+        let printer = Narrow {
+            to: &writer,
+            most,
+            writes: AtomicUsize::new(0),
+        };
         let told = deliver(&mut StdoutSink::new(&printer), b"hello");
         assert_eq!(rt; told, want, "{most} bytes at a time");
+        let writes = printer.writes.load(Ordering::SeqCst);
+        assert_eq!(rt; writes, calls, "{most} bytes at a time");
         drop(writer);
         let mut bytes = Vec::new(rt.alloc());
         let mut from = reader;
@@ -121,6 +131,7 @@ fn a_printer_is_written_to_until_it_fails(rt: HostRuntime) -> Result<(), Fail> {
     let printer = Narrow {
         to: &writer,
         most: 9,
+        writes: AtomicUsize::new(0),
     };
     let told = deliver(&mut StdoutSink::new(&printer), b"hello");
     assert_eq!(rt; told, Err(SinkFault::Write), "where nobody reads");
@@ -171,4 +182,18 @@ fn words_are_those_after_the_name(rt: HostRuntime) -> Result<(), Fail> {
     let refused = words_given(rt.alloc(), Err(io::Error::from(ErrorKind::OutOfMemory)));
     assert_eq!(rt; refused.err(), Some(7));
     Ok(())
+}
+
+#[test]
+fn words_that_are_no_text_are_of_no_form(rt: HostRuntime) {
+    let args: &'static [&'static [u8]] = &[b"nclc", b"check", b"\xff"];
+    let given = (Given { args }, rt.alloc());
+    let answered = answer(&rt, env::args(&given));
+    assert_eq!(rt; answered, Ok(2));
+}
+
+#[test]
+fn words_without_memory_have_status_7(rt: HostRuntime) {
+    let answered = answer(&rt, Err(io::Error::from(ErrorKind::OutOfMemory)));
+    assert_eq!(rt; answered, Err(7));
 }

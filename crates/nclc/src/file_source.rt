@@ -1,5 +1,5 @@
 //! Files of the system.
-ghost use Rattle.std.specs.Prelude.{None, true};
+ghost use Rattle.std.specs.Prelude.{◌≡◌, None, true};
 
 use crate::tally::{Tally, read_from};
 use ncl_base::{Failed, Source};
@@ -19,7 +19,10 @@ pub struct FileSource<'a, R: Files> {
 
 impl<'a, R: Files> FileSource<'a, R> {
     /// A source that has begun no file.
-    pub fn new(rt: &'a R) -> Self {
+    pub fn new(rt: &'a R) -> Self
+        ensures counts { result.tally ≡ record { faults = 0; given = 0 } }
+        ensures file { result.file ≡ None }
+    {
         FileSource {
             rt,
             file: None,

@@ -1,43 +1,49 @@
 //! nclc: judges netlists of pipelines in NULL Convention Logic.
 #![tactic(auto)]
 
-mod compiling;
-mod demonstrating;
+ghost use Rattle.std.specs.Prelude.{◌≡◌, IfErr, MatchResult};
+ghost use Rattle.std.specs.Process.{exit_status};
+
 #[cfg(test)]
 mod edge_tests;
 mod file_source;
-mod loading;
-mod reply;
-mod simulating;
 mod stdout_sink;
 mod tally;
-mod top;
 mod words;
 
 use file_source::FileSource;
-use std::env;
+use ncl_top::run;
+use std::env::Args;
 use std::process::ExitCode;
-use std::rt::{Env, Files};
+use std::rt::Files;
 use std::thread::Threads;
+use std::{env, io};
 use stdout_sink::StdoutSink;
-use top::run;
 use words::{views, words_given};
 
 /// Answers the words of the command line and ends with the answer's status.
 fn main(rt: HostRuntime) -> ExitCode {
-    match answer(&rt) {
+    code_of(answer(&rt, env::args(&rt)))
+}
+
+/// The code of this status, whether there was memory for the words or not.
+fn code_of(answered: Result<u8, u8>) -> ExitCode
+    ensures { MatchResult answered (λ status. exit_status result ≡ status) (λ status. exit_status result ≡ status) }
+{
+    match answered {
         Ok(status) | Err(status) => ExitCode::from(status),
     }
 }
 
-/// Answers the words of the command line, from the system's files to standard output.
+/// Answers these words of a command line, the program's name first, from the system's files to standard output.
 ///
-/// The status to end with is an error where there was no memory for the words.
-fn answer<R>(rt: &R) -> Result<u8, u8>
+/// The status to end with is an error where there was no memory for the words, and then it is 7.
+fn answer<R>(rt: &R, args: io::Result<Args>) -> Result<u8, u8>
 where
-    R: Threads + Sync + Env + Files + Print + AllocGlobal,
+    R: Threads + Sync + Files + Print + AllocGlobal,
+    ensures no_memory { IfErr result (λ status. status ≡ 7) }
 {
-    let words = words_given(rt.alloc(), env::args(rt))?;
+    let words = words_given(rt.alloc(), args)?;
     let words = views(rt.alloc(), &words)?;
     let mut source = FileSource::new(rt);
     let mut sink = StdoutSink::new(rt);

@@ -1,5 +1,5 @@
 //! Standard output.
-ghost use Rattle.std.specs.Prelude.{None};
+ghost use Rattle.std.specs.Prelude.{◌≡◌, None};
 
 use crate::tally::{Tally, write_to};
 use ncl_base::{Failed, Sink};
@@ -17,7 +17,9 @@ pub struct StdoutSink<'a, P: Print> {
 
 impl<'a, P: Print> StdoutSink<'a, P> {
     /// A sink to which nothing was written.
-    pub fn new(rt: &'a P) -> Self {
+    pub fn new(rt: &'a P) -> Self
+        ensures counts { result.tally ≡ record { faults = 0; given = 0 } }
+    {
         StdoutSink {
             rt,
             tally: Tally::new(),

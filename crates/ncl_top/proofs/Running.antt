@@ -1,0 +1,52 @@
+-- A pipeline of sound stages runs through at whatever delays.
+use Rattle.std.proofs.Common.{◌≡◌, ℕ, ◌==◌, true, Bool, List, length, Some, inl, inr, refl, sym, ap, ◌∙◌, subst, arith, IsTrue}
+use Rattle.std.proofs.lemmas.Bool.Decides.{nat_tests}
+use Rattle.ncl_base.specs.Files.{bytes_of}
+use Rattle.ncl_shape.specs.Pipeline.{PipelineData}
+use Rattle.ncl_delay.specs.Delays.{DelaysData}
+use Rattle.ncl_machine.specs.Run.{AreWordsOf}
+use Rattle.ncl_sim.specs.declared.trace.End.TheVariants.{Quiet}
+use Rattle.ncl_sim.specs.TimedRun.{TraceData, IsTimedRun, DeliversAll, words_due}
+use Rattle.ncl_sim.proofs.Existence.{some_run}
+use Rattle.ncl_sim.proofs.Quiet.{sound-ends_quiet, sound-delivers}
+use Rattle.ncl_report.specs.TraceText.{trace_lines}
+use Rattle.ncl_words.specs.Command.{Words, sim, command_of}
+use Rattle.ncl_top.specs.Simulating.{end_status, run_status, IsRunReply, ran, delayed, piped}
+use Rattle.ncl_top.specs.Answer.{Answer, replied, words_determine_text, words_determine_status, SourceState, SinkState, Ran, AnswersExactly, SimulatesWhatWorks}
+use Rattle.ncl_top.proofs.Ends.{answers_exactly}
+use Rattle.ncl_top.proofs.WordsRead.{words_fit}
+
+-- a run that ends quiet with every word delivered that is due has status 0
+whole_status : (p : PipelineData) (t : TraceData) (offered : List (List Bool)) → t.end ≡ Quiet → length t.delivered ≡ words_due p offered → run_status p t offered ≡ 0
+whole_status p t offered quiet all = ap (λ e. end_status e (length t.delivered == words_due p offered)) quiet ∙ ap (end_status Quiet) (same (length t.delivered) (words_due p offered) all)
+  where
+    same : (m n : ℕ) → m ≡ n → (m == n) ≡ true
+    same m n e = grind (arith, nat_tests)
+
+module _ (words : Words) (source : SourceState) (sink sink' : SinkState) (status : ℕ) (exact : AnswersExactly words source sink sink' status) where
+  runs_through : SimulatesWhatWorks words source sink sink' status
+  runs_through files netlist delays offers told asked p text sound d stated offered said =
+      let (t, run) = some_run p d offered in
+      let wide : AreWordsOf p offered = (words_fit (length p.inputs) (bytes_of files offers) offered said).1 in
+      let quiet : t.end ≡ Quiet = sound-ends_quiet p.netlist p d offered t text.shape sound wide run in
+      let delivers : DeliversAll p offered t = sound-delivers p.netlist p d offered t text.shape sound wide run in
+      let ends : run_status p t offered ≡ 0 = whole_status p t offered quiet delivers.as_many in
+      let lines = trace_lines p t (words_due p offered) in
+      let reply : IsRunReply p d offered 0 lines = record { trace = t; run = run; ends = sym ends; told = refl } in
+      let answer : Answer words (Some files) 0 lines =
+      replied (sim netlist delays offers) asked 0 lines
+      (piped (bytes_of files netlist) refl p text 0 lines (delayed (bytes_of files delays) refl d stated 0 lines (ran (bytes_of files offers) refl offered said 0 lines reply))) in
+      elim (exact files 0 lines told answer (status_determined asked)) [
+        | inl (is, written) ↦ inl (is, record { trace = t; run = run; quiet = quiet; delivers = delivers; written = written (determined asked) })
+        | inr kept ↦ inr kept
+      ]
+    where
+      status_determined : command_of words ≡ Some (sim netlist delays offers) → IsTrue (words_determine_status (command_of words))
+      status_determined is = subst (λ c. IsTrue (words_determine_status c)) (sym is) refl
+
+      determined : command_of words ≡ Some (sim netlist delays offers) → IsTrue (words_determine_text (command_of words))
+      determined is = subst (λ c. IsTrue (words_determine_text c)) (sym is) refl
+
+-- whatever call ended, ended so
+pub simulates_what_works : (words : Words) (source source' : SourceState) (sink sink' : SinkState) (status : ℕ) → Ran words source source' sink sink' status → SimulatesWhatWorks words source sink sink' status
+simulates_what_works words source source' sink sink' status how = runs_through words source sink sink' status (answers_exactly words source source' sink sink' status how)

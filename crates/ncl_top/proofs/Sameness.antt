@@ -1,0 +1,52 @@
+-- The words and the files have at most one status, and at most one text where they determine it.
+use Rattle.std.proofs.Common.{◌≡◌, ℕ, List, Some, None, IsTrue, false, refl, sym, ap, ◌∙◌, subst}
+use Rattle.std.proofs.lemmas.Bool.{both_ways}
+use Rattle.ncl_base.specs.Files.{Files}
+use Rattle.ncl_check.specs.Reply.{IsCheckReply}
+use Rattle.ncl_check.proofs.OneReply.{same_reply}
+use Rattle.ncl_words.specs.Command.{Words, Command, check, compile, sim, demo, command_of}
+use Rattle.ncl_top.specs.Compiling.{IsCompileReply}
+use Rattle.ncl_top.proofs.CompileStatus.{same_compile_status}
+use Rattle.ncl_top.proofs.Simulated.{one_sim_reply}
+use Rattle.ncl_top.specs.Answer.{status_of, IsFileReply, IsReply, Answer, not_understood, replied, words_determine_text, determines_text, words_determine_status, determines_status}
+
+-- the bytes that both replies are to
+same_file_reply : (files : Files) (file : List ℕ) (limit : ℕ) (status other : ℕ) (text line : List ℕ) → IsFileReply (Some files) file limit status text → IsFileReply (Some files) file limit other line → (status ≡ other) × (text ≡ line)
+same_file_reply files file limit status other text line one two =
+    let bytes : one.bytes ≡ two.bytes = one.given ∙ sym two.given in
+    let same = same_reply limit two.bytes (subst (λ bytes. IsCheckReply limit bytes one.outcome text) bytes one.reply) two.reply in
+    (one.ends ∙ ap status_of same.0 ∙ sym two.ends, same.1)
+
+same_command_status : (files : Files) (command : Command) → IsTrue (determines_status command) → (status other : ℕ) (text line : List ℕ) → IsReply command (Some files) status text → IsReply command (Some files) other line → status ≡ other
+same_command_status files (check file limit) determined status other text line one two = (same_file_reply files file limit status other text line one two).0
+same_command_status files (compile file) determined status other text line one two =
+    let bytes : one.bytes ≡ two.bytes = one.given ∙ sym two.given in
+    same_compile_status two.bytes (subst (λ bytes. IsCompileReply bytes status text) bytes one.reply) two.reply
+same_command_status files (sim netlist delays words) determined status other text line one two = (one_sim_reply files netlist delays words one two).0
+same_command_status files (demo bits) determined status other text line one two = absurd (both_ways false refl determined)
+
+same_command_text : (files : Files) (command : Command) → IsTrue (determines_text command) → (status other : ℕ) (text line : List ℕ) → IsReply command (Some files) status text → IsReply command (Some files) other line → text ≡ line
+same_command_text files (check file limit) determined status other text line one two = (same_file_reply files file limit status other text line one two).1
+same_command_text files (compile file) determined status other text line one two = absurd (both_ways false refl determined)
+same_command_text files (sim netlist delays words) determined status other text line one two = (one_sim_reply files netlist delays words one two).1
+same_command_text files (demo bits) determined status other text line one two = absurd (both_ways false refl determined)
+
+module _ (words : Words) (files : Files) where
+  -- two commands that the words give are one
+  one_command : (command named : Command) → command_of words ≡ Some command → command_of words ≡ Some named → command ≡ named
+  one_command command named is is' = let both : Some command ≡ Some named = sym is ∙ is' in cc
+
+  pub same_status : IsTrue (words_determine_status (command_of words)) → {status other : ℕ} {text line : List ℕ} → Answer words (Some files) status text → Answer words (Some files) other line → status ≡ other
+  same_status determined (not_understood e) (not_understood e') = refl
+  same_status determined (not_understood e) (replied command is status text reply) = let differ : None ≡ Some command = sym e ∙ is in cc
+  same_status determined (replied command is status text reply) (not_understood e) = let differ : None ≡ Some command = sym e ∙ is in cc
+  same_status determined (replied command is status text reply) (replied command' is' status' text' reply') =
+      same_command_status files command' (subst (λ o. IsTrue (words_determine_status o)) is' determined) status status' text text' (subst (λ m. IsReply m (Some files) status text) (one_command command command' is is') reply) reply'
+
+  pub same_text : IsTrue (words_determine_text (command_of words)) → {status other : ℕ} {text line : List ℕ} → Answer words (Some files) status text → Answer words (Some files) other line → text ≡ line
+  same_text determined (not_understood e) (not_understood e') = refl
+  same_text determined (not_understood e) (replied command is status text reply) = let differ : None ≡ Some command = sym e ∙ is in cc
+  same_text determined (replied command is status text reply) (not_understood e) = let differ : None ≡ Some command = sym e ∙ is in cc
+  same_text determined (replied command is status text reply) (replied command' is' status' text' reply') =
+      same_command_text files command' (subst (λ o. IsTrue (words_determine_text o)) is' determined) status status' text text'
+      (subst (λ m. IsReply m (Some files) status text) (one_command command command' is is') reply) reply'

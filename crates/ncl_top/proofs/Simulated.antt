@@ -1,0 +1,138 @@
+-- There is at most one reply to the files of a simulation.
+use Rattle.std.proofs.Common.{◌≡◌, ℕ, ◌+◌, ◌==◌, Bool, true, false, List, [], ◌∷◌, length, map, Some, None, refl, sym, ap, ◌∙◌, subst, arith}
+use Rattle.ncl_base.specs.Files.{Files}
+use Rattle.ncl_base.specs.Words.{text_of, character_of}
+use Rattle.ncl_netlist.specs.Netlist.{NetlistData}
+use Rattle.ncl_shape.specs.Held.{data_banks}
+use Rattle.ncl_shape.specs.Pipeline.{PipelineData}
+use Rattle.ncl_shape.specs.Shape.{Shape}
+use Rattle.ncl_shape.proofs.ShapeLaws.{shape_is_one}
+use Rattle.ncl_delay.specs.Delays.{DelaysData}
+use Rattle.ncl_sim.specs.TimedRun.{TraceData, IsTimedRun, words_due}
+use Rattle.ncl_sim.proofs.Oneness.{one_run}
+use Rattle.ncl_sim.proofs.SameRuns.{same_runs}
+use Rattle.ncl_report.specs.DelayText.{delay_line, words_line}
+use Rattle.ncl_report.specs.TraceText.{trace_lines}
+use Rattle.ncl_check.specs.Text.{IsPipelineText, IsRefusedText}
+use Rattle.ncl_check.proofs.OneReply.{one_pipeline, refused_once, refused_is_none}
+use Rattle.ncl_top.specs.Simulating.{AreDelaysText, AreRefusedDelays, long_delays, broken_delays, AreWordsText, AreRefusedWords, long_words, broken_words, end_status, run_status, IsRunReply, IsWordsReply, no_words, ran, IsDelaysReply, no_delays, delayed, IsSimReply, no_pipeline, piped}
+
+-- where the items that a function tells alike are one, so are the lists that it tells alike
+one_list : {X Y : Type 0} (f : X → Y) → ((x y : X) → f x ≡ f y → x ≡ y) → (xs ys : List X) → map f xs ≡ map f ys → xs ≡ ys
+one_list f one [] [] e = refl
+one_list f one [] (y ∷ ys) e = absurd cc
+one_list f one (x ∷ xs) [] e = absurd cc
+one_list f one (x ∷ xs) (y ∷ ys) e =
+    let first : f x ≡ f y = cc in
+    let rest : map f xs ≡ map f ys = cc in
+    let head : x ≡ y = one x y first in
+    let tail : xs ≡ ys = one_list f one xs ys rest in
+    cc
+
+one_bit : (a b : Bool) → character_of a ≡ character_of b → a ≡ b
+one_bit true true e = refl
+one_bit true false e = absurd (omega arith)
+one_bit false true e = absurd (omega arith)
+one_bit false false e = refl
+
+-- a text says at most one list of words
+one_words : (width : ℕ) (bytes : List ℕ) (v w : List (List Bool)) → AreWordsText width bytes v → AreWordsText width bytes w → v ≡ w
+one_words width bytes v w is also = one_list text_of (one_list character_of one_bit) v w (is.said ∙ sym also.said)
+
+-- a file that is refused says nothing, and one line tells why
+refused_delays_once : (n : NetlistData) (bytes : List ℕ) {text line : List ℕ} → AreRefusedDelays n bytes text → AreRefusedDelays n bytes line → text ≡ line
+refused_delays_once n bytes (long_delays many) (long_delays many') = refl
+refused_delays_once n bytes (long_delays many) (broken_delays few f is) = absurd (omega arith)
+refused_delays_once n bytes (broken_delays few f is) (long_delays many) = absurd (omega arith)
+refused_delays_once n bytes (broken_delays few f is) (broken_delays few' g is') =
+    let both : Some f ≡ Some g = sym is ∙ is' in
+    let one : f ≡ g = cc in
+    ap delay_line one
+
+refused_delays_none : (n : NetlistData) (bytes : List ℕ) {text : List ℕ} (d : DelaysData) → AreRefusedDelays n bytes text → AreDelaysText n bytes d → ⊥
+refused_delays_none n bytes d (long_delays many) is = let few = is.few in omega arith
+refused_delays_none n bytes d (broken_delays few f broken) is = let differ : None ≡ Some f = sym is.unbroken ∙ broken in cc
+
+refused_words_once : (width : ℕ) (bytes : List ℕ) {text line : List ℕ} → AreRefusedWords width bytes text → AreRefusedWords width bytes line → text ≡ line
+refused_words_once width bytes (long_words many) (long_words many') = refl
+refused_words_once width bytes (long_words many) (broken_words few f is) = absurd (omega arith)
+refused_words_once width bytes (broken_words few f is) (long_words many) = absurd (omega arith)
+refused_words_once width bytes (broken_words few f is) (broken_words few' g is') =
+    let both : Some f ≡ Some g = sym is ∙ is' in
+    let one : f ≡ g = cc in
+    ap words_line one
+
+refused_words_none : (width : ℕ) (bytes : List ℕ) {text : List ℕ} (words : List (List Bool)) → AreRefusedWords width bytes text → AreWordsText width bytes words → ⊥
+refused_words_none width bytes words (long_words many) is = let few = is.few in omega arith
+refused_words_none width bytes words (broken_words few f broken) is = let differ : None ≡ Some f = sym is.unbroken ∙ broken in cc
+
+-- two replies say the same
+abbrev pub SameReply : ℕ → ℕ → List ℕ → List ℕ → Type 0
+SameReply status other text line = (status ≡ other) × (text ≡ line)
+
+-- two pipelines of one netlist run alike
+module _ (p q : PipelineData) (same : p.netlist ≡ q.netlist) (shape_p : Shape p.netlist p) (shape_q : Shape p.netlist q) where
+  -- as many words are due
+  same_due : (offered : List (List Bool)) → words_due p offered ≡ words_due q offered
+  same_due offered = ap (λ banks. data_banks banks + length offered) (shape_is_one p.netlist shape_p.is_netlist p q shape_p shape_q).banks
+
+  one_run_reply : (d : DelaysData) (v w : List (List Bool)) (status other : ℕ) (text line : List ℕ) → v ≡ w → IsRunReply p d v status text → IsRunReply q d w other line → SameReply status other text line
+  one_run_reply d v w status other text line alike one two =
+      let run : IsTimedRun p d v two.trace = subst (λ words. IsTimedRun p d words two.trace) (sym alike) (same_runs p.netlist q p d w two.trace shape_q shape_p two.run) in
+      let trace : one.trace ≡ two.trace = one_run p d v one.trace two.trace one.run run in
+      let due : words_due p v ≡ words_due q w = ap (words_due p) alike ∙ same_due w in
+      let here : (run_status p one.trace v ≡ run_status q two.trace w) × (trace_lines p one.trace (words_due p v) ≡ trace_lines q two.trace (words_due q w)) = (
+        ap (λ t. run_status p t v) trace ∙ ap (λ count. end_status two.trace.end (length two.trace.delivered == count)) due,
+        ap (λ t. trace_lines p t (words_due p v)) trace ∙ ap (trace_lines p two.trace) due ∙ lines two.trace (words_due q w),
+      ) in
+      (one.ends ∙ here.0 ∙ sym two.ends, one.told ∙ here.1 ∙ sym two.told)
+    where
+      lines : (t : TraceData) (offered : ℕ) → trace_lines p t offered ≡ trace_lines q t offered
+      lines t offered = cc
+
+  same_width : length p.inputs ≡ length q.inputs
+  same_width = ap length (shape_is_one p.netlist shape_p.is_netlist p q shape_p shape_q).inputs
+
+  module _ (files : Files) where
+    one_words_reply : (d : DelaysData) (words : List ℕ) {status other : ℕ} {text line : List ℕ} → IsWordsReply (Some files) p d words status text → IsWordsReply (Some files) q d words other line → SameReply status other text line
+    one_words_reply d words (no_words bytes given text none) (no_words bytes' given' line none') =
+        let is : bytes ≡ bytes' = given ∙ sym given' in
+        let here : AreRefusedWords (length q.inputs) bytes' text = subst (λ b. AreRefusedWords (length q.inputs) b text) is (subst (λ w. AreRefusedWords w bytes text) same_width none) in
+        (refl, refused_words_once (length q.inputs) bytes' here none')
+    one_words_reply d words (no_words bytes given text none) (ran bytes' given' offered said status line reply) =
+        let is : bytes ≡ bytes' = given ∙ sym given' in
+        let here : AreRefusedWords (length q.inputs) bytes' text = subst (λ b. AreRefusedWords (length q.inputs) b text) is (subst (λ w. AreRefusedWords w bytes text) same_width none) in
+        absurd (refused_words_none (length q.inputs) bytes' offered here said)
+    one_words_reply d words (ran bytes given offered said status text reply) (no_words bytes' given' line none) =
+        let is : bytes ≡ bytes' = given ∙ sym given' in
+        let here : AreWordsText (length q.inputs) bytes' offered = subst (λ b. AreWordsText (length q.inputs) b offered) is (subst (λ w. AreWordsText w bytes offered) same_width said) in
+        absurd (refused_words_none (length q.inputs) bytes' offered none here)
+    one_words_reply d words (ran bytes given offered said status text reply) (ran bytes' given' offered' said' status' line reply') =
+        let is : bytes ≡ bytes' = given ∙ sym given' in
+        let here : AreWordsText (length q.inputs) bytes' offered = subst (λ b. AreWordsText (length q.inputs) b offered) is (subst (λ w. AreWordsText w bytes offered) same_width said) in
+        one_run_reply d offered offered' status status' text line (one_words (length q.inputs) bytes' offered offered' here said') reply reply'
+
+    one_delays_reply : (delays words : List ℕ) {status other : ℕ} {text line : List ℕ} → IsDelaysReply (Some files) p delays words status text → IsDelaysReply (Some files) q delays words other line → SameReply status other text line
+    one_delays_reply delays words (no_delays bytes given text none) (no_delays bytes' given' line none') =
+        (refl, refused_delays_once q.netlist bytes' (subst (λ b. AreRefusedDelays q.netlist b text) (given ∙ sym given') (subst (λ n. AreRefusedDelays n bytes text) same none)) none')
+    one_delays_reply delays words (no_delays bytes given text none) (delayed bytes' given' d said status line reply) =
+        absurd (refused_delays_none q.netlist bytes' d (subst (λ b. AreRefusedDelays q.netlist b text) (given ∙ sym given') (subst (λ n. AreRefusedDelays n bytes text) same none)) said)
+    one_delays_reply delays words (delayed bytes given d said status text reply) (no_delays bytes' given' line none) =
+        absurd (refused_delays_none q.netlist bytes' d none (subst (λ b. AreDelaysText q.netlist b d) (given ∙ sym given') (subst (λ n. AreDelaysText n bytes d) same said)))
+    one_delays_reply delays words (delayed bytes given d said status text reply) (delayed bytes' given' d' said' status' line reply') =
+        let here : AreDelaysText q.netlist bytes' d = subst (λ b. AreDelaysText q.netlist b d) (given ∙ sym given') (subst (λ n. AreDelaysText n bytes d) same said) in
+        let one : d ≡ d' = here.stated ∙ sym said'.stated in
+        one_words_reply d' words (subst (λ x. IsWordsReply (Some files) p x words status text) one reply) reply'
+
+-- the files determine the status and the text
+pub one_sim_reply : (files : Files) (netlist delays words : List ℕ) {status other : ℕ} {text line : List ℕ} → IsSimReply (Some files) netlist delays words status text → IsSimReply (Some files) netlist delays words other line → SameReply status other text line
+one_sim_reply files netlist delays words (no_pipeline bytes given text none) (no_pipeline bytes' given' line none') =
+    (refl, refused_once bytes' (subst (λ b. IsRefusedText b text) (given ∙ sym given') none) none')
+one_sim_reply files netlist delays words (no_pipeline bytes given text none) (piped bytes' given' q is status line reply) =
+    absurd (refused_is_none bytes' q (subst (λ b. IsRefusedText b text) (given ∙ sym given') none) is)
+one_sim_reply files netlist delays words (piped bytes given p is status text reply) (no_pipeline bytes' given' line none) =
+    absurd (refused_is_none bytes' p none (subst (λ b. IsPipelineText b p) (given ∙ sym given') is))
+one_sim_reply files netlist delays words (piped bytes given p is status text reply) (piped bytes' given' q also status' line reply') =
+    let here : IsPipelineText bytes' p = subst (λ b. IsPipelineText b p) (given ∙ sym given') is in
+    let (same, shape) = one_pipeline bytes' p q here also in
+    one_delays_reply p q same here.shape shape files delays words reply reply'

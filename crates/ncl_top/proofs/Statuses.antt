@@ -1,0 +1,91 @@
+-- The statuses of failed devices come from failed devices alone.
+use Rattle.std.proofs.Common.{◌≡◌, ◌≢◌, ℕ, Bool, true, false, List, Option, sym, subst, arith}
+use Rattle.ncl_base.specs.Files.{Files, Rose}
+use Rattle.ncl_blif.specs.declared.model.Model.{Model}
+use Rattle.ncl_check.specs.declared.reply.Outcome.{Outcome}
+use Rattle.ncl_check.specs.declared.reply.Outcome.TheVariants.{Accepted, Refused, NoPipeline, Unjudged}
+use Rattle.ncl_shape.specs.Pipeline.{PipelineData}
+use Rattle.ncl_delay.specs.Delays.{DelaysData}
+use Rattle.ncl_sim.specs.declared.trace.End.{End}
+use Rattle.ncl_sim.specs.declared.trace.End.TheVariants.{Quiet, Hazard, Over}
+use Rattle.ncl_words.specs.Command.{Words, Command, check, compile, sim, demo}
+use Rattle.ncl_top.specs.Compiling.{IsModelsReply, IsCompileReply, too_large, compiled, too_long, unread, modelled}
+use Rattle.ncl_top.specs.Demonstrating.{IsDemoReply}
+use Rattle.ncl_top.specs.Demonstrating as demonstrating
+use Rattle.ncl_top.specs.Simulating.{end_status, IsRunReply, IsWordsReply, IsDelaysReply, IsSimReply, no_words, ran, no_delays, delayed, no_pipeline, piped}
+use Rattle.ncl_top.specs.Answer.{status_of, IsReply, Answer, not_understood, replied, SourceState, SinkState, Says, answered, read_failed, no_memory, Tells, whole, cut_short, Ran}
+
+-- neither that of a source that failed nor that of a sink that did
+abbrev IsOfNoFault : ℕ → Type 0
+IsOfNoFault status = (status ≢ 4) × (status ≢ 5)
+
+of_outcome : (outcome : Outcome) → IsOfNoFault (status_of outcome)
+of_outcome Accepted = (λ e. absurd (omega arith), λ e. absurd (omega arith))
+of_outcome Refused = (λ e. absurd (omega arith), λ e. absurd (omega arith))
+of_outcome NoPipeline = (λ e. absurd (omega arith), λ e. absurd (omega arith))
+of_outcome Unjudged = (λ e. absurd (omega arith), λ e. absurd (omega arith))
+
+of_models : (models : List Model) {status : ℕ} {text : List ℕ} → IsModelsReply models status text → IsOfNoFault status
+of_models models (too_large fault named is) = (λ e. absurd (omega arith), λ e. absurd (omega arith))
+of_models models (compiled can n of) = (λ e. absurd (omega arith), λ e. absurd (omega arith))
+
+of_compile : (bytes : List ℕ) {status : ℕ} {text : List ℕ} → IsCompileReply bytes status text → IsOfNoFault status
+of_compile bytes (too_long more) = (λ e. absurd (omega arith), λ e. absurd (omega arith))
+of_compile bytes (unread few fault is) = (λ e. absurd (omega arith), λ e. absurd (omega arith))
+of_compile bytes (modelled few models read are status text reply) = of_models models reply
+
+of_end : (end : End) (all : Bool) → IsOfNoFault (end_status end all)
+of_end Quiet true = (λ e. absurd (omega arith), λ e. absurd (omega arith))
+of_end Quiet false = (λ e. absurd (omega arith), λ e. absurd (omega arith))
+of_end (Hazard item time) all = (λ e. absurd (omega arith), λ e. absurd (omega arith))
+of_end Over all = (λ e. absurd (omega arith), λ e. absurd (omega arith))
+
+of_run : (p : PipelineData) (d : DelaysData) (offered : List (List Bool)) {status : ℕ} {text : List ℕ} → IsRunReply p d offered status text → IsOfNoFault status
+of_run p d offered run = subst IsOfNoFault (sym run.ends) (of_end run.trace.end _)
+
+of_words : (told : Option Files) (p : PipelineData) (d : DelaysData) (words : List ℕ) {status : ℕ} {text : List ℕ} → IsWordsReply told p d words status text → IsOfNoFault status
+of_words told p d words (no_words bytes given text refused) = (λ e. absurd (omega arith), λ e. absurd (omega arith))
+of_words told p d words (ran bytes given offered are status text run) = of_run p d offered run
+
+of_delays : (told : Option Files) (p : PipelineData) (delays words : List ℕ) {status : ℕ} {text : List ℕ} → IsDelaysReply told p delays words status text → IsOfNoFault status
+of_delays told p delays words (no_delays bytes given text refused) = (λ e. absurd (omega arith), λ e. absurd (omega arith))
+of_delays told p delays words (delayed bytes given d are status text reply) = of_words told p d words reply
+
+of_sim : (told : Option Files) (netlist delays words : List ℕ) {status : ℕ} {text : List ℕ} → IsSimReply told netlist delays words status text → IsOfNoFault status
+of_sim told netlist delays words (no_pipeline bytes given text refused) = (λ e. absurd (omega arith), λ e. absurd (omega arith))
+of_sim told netlist delays words (piped bytes given p is status text reply) = of_delays told p delays words reply
+
+of_demo : (bits : ℕ) {status : ℕ} {text : List ℕ} → IsDemoReply bits status text → IsOfNoFault status
+of_demo bits (demonstrating.shown p made accepted t run) = (λ e. absurd (omega arith), λ e. absurd (omega arith))
+of_demo bits (demonstrating.too_large p made stage limit) = (λ e. absurd (omega arith), λ e. absurd (omega arith))
+
+of_reply : (command : Command) (told : Option Files) (status : ℕ) (text : List ℕ) → IsReply command told status text → IsOfNoFault status
+of_reply (check file limit) told status text reply = subst IsOfNoFault (sym reply.ends) (of_outcome reply.outcome)
+of_reply (compile file) told status text reply = of_compile reply.bytes reply.reply
+of_reply (sim netlist delays words) told status text reply = of_sim told netlist delays words reply
+of_reply (demo bits) told status text reply = of_demo bits reply
+
+-- what is answered where nothing fails has no such status
+of_answer : (words : Words) (told : Option Files) {status : ℕ} {text : List ℕ} → Answer words told status text → IsOfNoFault status
+of_answer words told (not_understood none) = (λ e. absurd (omega arith), λ e. absurd (omega arith))
+of_answer words told (replied command is status text reply) = of_reply command told status text reply
+
+read_rose : (words : Words) (source source' : SourceState) (sink sink' : SinkState) {said status : ℕ} {text : List ℕ} → Says words source source' said text → Tells sink sink' said text status → status ≡ 4 → Rose source.faults source'.faults
+read_rose words source source' sink sink' (answered status text answer) (whole grew) e = absurd ((of_answer words source.files answer).0 e)
+read_rose words source source' sink sink' says (cut_short rose grew) e = absurd (omega arith)
+read_rose words source source' sink sink' (read_failed command of named rose) (whole grew) e = rose
+read_rose words source source' sink sink' no_memory (whole grew) e = absurd (omega arith)
+
+write_rose : (words : Words) (source source' : SourceState) (sink sink' : SinkState) {said status : ℕ} {text : List ℕ} → Says words source source' said text → Tells sink sink' said text status → status ≡ 5 → Rose sink.faults sink'.faults
+write_rose words source source' sink sink' (answered status text answer) (whole grew) e = absurd ((of_answer words source.files answer).1 e)
+write_rose words source source' sink sink' says (cut_short rose grew) e = rose
+write_rose words source source' sink sink' (read_failed command of named rose) (whole grew) e = absurd (omega arith)
+write_rose words source source' sink sink' no_memory (whole grew) e = absurd (omega arith)
+
+-- a call that ended with 4 had a source that failed
+pub read_has_failed : (words : Words) (source source' : SourceState) (sink sink' : SinkState) (status : ℕ) → Ran words source source' sink sink' status → status ≡ 4 → Rose source.faults source'.faults
+read_has_failed words source source' sink sink' status call = read_rose words source source' sink sink' call.says call.tells
+
+-- a call that ended with 5 had a sink that failed
+pub write_has_failed : (words : Words) (source source' : SourceState) (sink sink' : SinkState) (status : ℕ) → Ran words source source' sink sink' status → status ≡ 5 → Rose sink.faults sink'.faults
+write_has_failed words source source' sink sink' status call = write_rose words source source' sink sink' call.says call.tells

@@ -1,0 +1,32 @@
+use Rattle.std.proofs.Common.{◌*◌, length, sym, ◌∙◌, ap, subst}
+use Rattle.ncl_machine.specs.Run.{AreWordsOf}
+use Rattle.ncl_sim.specs.TimedRun.{IsTimedRun, DeliversAll}
+use Rattle.ncl_verdict.proofs.Sound.{judgement-sound}
+use Rattle.ncl_words.specs.declared.command.TheConstants.{MOST_NODES as LIMIT}
+use Rattle.ncl_report.specs.DemoText.{demo_lines}
+use Rattle.ncl_top.specs.Demonstrating.{IsDemoReply, shown}
+use Rattle.ncl_report.proofs.NamedItems.{names_item}
+use Rattle.ncl_top.proofs.Demonstrated.{all_of_width, demo_width, demo_run}
+use Rattle.ncl_top.proofs.demonstrating.shown.Goals as goal
+
+pub simulate-requires-clause-wide : goal.simulate-requires-clause-wide
+simulate-requires-clause-wide c =
+    let p = c.args.pipeline.now in
+    subst (AreWordsOf p) (sym c.deref.ensures.value)
+    (all_of_width (2 * c.args.bits) c.in_ok-words.words.items c.in_ok-words.ensures.wide (length p.inputs) (demo_width c.args.bits p c.requires.pipeline c.requires.bits.0))
+
+pub demo_text-requires : goal.demo_text-requires
+demo_text-requires c = names_item c.args.pipeline.now c.unit-delays.result c.deref.result.now c.in_ok-trace.trace c.in_ok-trace.ensures.run
+
+pub returns-clause-ok : goal.returns-clause-ok
+returns-clause-ok c =
+    let p = c.args.pipeline.now in
+    let t = c.in_ok-trace.trace in
+    let words = c.deref.ensures.value ∙ c.in_ok-words.ensures.words in
+    let sound = judgement-sound LIMIT p.stages c.requires.accepted in
+    let run = demo_run c.args.bits p c.requires.pipeline t c.unit-delays.result c.unit-delays.ensures
+    (subst (λ offered. IsTimedRun p c.unit-delays.result offered t) words c.in_ok-trace.ensures.run)
+    (c.in_ok-trace.ensures.quiet sound)
+    (subst (λ offered. DeliversAll p offered t) words (c.in_ok-trace.ensures.delivered sound)) in
+    subst (IsDemoReply c.args.bits 0) (sym (c.in_ok-text.ensures ∙ ap (demo_lines c.args.bits p t) (c.deref-2.ensures.value ∙ c.in_ok-words.ensures.words)))
+    (shown p c.requires.pipeline c.requires.accepted t run)

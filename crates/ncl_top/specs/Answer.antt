@@ -1,0 +1,172 @@
+-- What a call answers: the status and the text that go with the words and the files.
+use Rattle.std.specs.Prelude.{◌≡◌, ◌≢◌, ℕ, ◌⊎◌, Bool, true, false, List, [], length, All, Option, Some, None, IsTrue, codes}
+use Rattle.ncl_base.specs.Files.{Files, bytes_of, Rose, Grew, GrewWithin}
+use Rattle.ncl_report.specs.Line.{line}
+use Rattle.ncl_verdict.specs.Within.{AreWithin}
+use Rattle.ncl_check.specs.declared.reply.Outcome.{Outcome}
+use Rattle.ncl_check.specs.declared.reply.Outcome.TheVariants.{Accepted, Refused, NoPipeline, Unjudged}
+use Rattle.ncl_check.specs.Reply.{IsCheckReply}
+use Rattle.ncl_check.specs.Headline.{IsDelayInsensitiveText}
+use Rattle.ncl_stage.specs.Faults.{IsSound}
+use Rattle.ncl_shape.specs.Pipeline.{PipelineData}
+use Rattle.ncl_delay.specs.Delays.{DelaysData}
+use Rattle.ncl_sim.specs.declared.trace.End.TheVariants.{Quiet}
+use Rattle.ncl_sim.specs.TimedRun.{TraceData, IsTimedRun, DeliversAll, words_due}
+use Rattle.ncl_report.specs.TraceText.{trace_lines}
+use Rattle.ncl_check.specs.Text.{IsPipelineText}
+use Rattle.ncl_words.specs.Command.{Words, Command, check, compile, sim, demo, command_of, files_named}
+use Rattle.ncl_top.specs.Compiling.{IsCompileReply}
+use Rattle.ncl_top.specs.Demonstrating.{IsDemoReply}
+use Rattle.ncl_top.specs.Given.{IsGiven}
+use Rattle.ncl_top.specs.Simulating.{AreDelaysText, AreWordsText, IsSimReply}
+
+-- the status of a check that ends so
+abbrev pub status_of : Outcome → ℕ
+status_of Accepted = 0
+status_of Refused = 1
+status_of NoPipeline = 3
+status_of Unjudged = 6
+
+-- what `check` replies to a file, where a stage may have so many nodes
+pub record IsFileReply (told : Option Files) (file : List ℕ) (limit : ℕ) (status : ℕ) (text : List ℕ) : Type 0 where
+  pub bytes : List ℕ
+  pub given : IsGiven told file bytes
+  pub outcome : Outcome
+  pub ends : status ≡ status_of outcome
+  pub reply : IsCheckReply limit bytes outcome text
+
+-- what `compile` replies to a file
+pub record IsCompiledFile (told : Option Files) (file : List ℕ) (status : ℕ) (text : List ℕ) : Type 0 where
+  pub bytes : List ℕ
+  pub given : IsGiven told file bytes
+  pub reply : IsCompileReply bytes status text
+
+-- what a command replies where the source tells this of its files. Each load of a file gives bytes of its own
+abbrev pub IsReply : Command → Option Files → ℕ → List ℕ → Type 0
+IsReply (check file limit) told status text = IsFileReply told file limit status text
+IsReply (compile file) told status text = IsCompiledFile told file status text
+IsReply (sim netlist delays words) told status text = IsSimReply told netlist delays words status text
+IsReply (demo bits) told status text = IsDemoReply bits status text
+
+-- what the words are answered where the source tells this of its files and nothing fails
+pub data Answer (words : Words) (told : Option Files) : ℕ → List ℕ → Type 0 where
+  -- the words are of no form
+  not_understood : command_of words ≡ None → Answer words told 2 (line (codes "words not understood"))
+  -- the words give a command, and this is its reply
+  replied : (command : Command) → command_of words ≡ Some command → (status : ℕ) (text : List ℕ) → IsReply command told status text → Answer words told status text
+
+-- whether the files determine the text that a command replies, and not its status alone
+abbrev pub determines_text : Command → Bool
+determines_text (check file limit) = true
+determines_text (compile file) = false
+determines_text (sim netlist delays words) = true
+determines_text (demo bits) = false
+
+-- whether the files determine the status: the netlist of a demo is one of many, of which some could pass the limit
+abbrev pub determines_status : Command → Bool
+determines_status (check file limit) = true
+determines_status (compile file) = true
+determines_status (sim netlist delays words) = true
+determines_status (demo bits) = false
+
+-- whether the words and the files determine the text: words of no form do
+abbrev pub words_determine_text : Option Command → Bool
+words_determine_text None = true
+words_determine_text (Some command) = determines_text command
+
+-- whether they determine the status: words of no form do
+abbrev pub words_determine_status : Option Command → Bool
+words_determine_status None = true
+words_determine_status (Some command) = determines_status command
+
+-- what a source tells at one moment: the files that it holds, and how many of its calls have failed
+pub record SourceState : Type 0 where
+  pub files : Option Files
+  pub faults : ℕ
+
+-- what a sink tells at one moment: the bytes that were written, and how many of its calls have failed
+pub record SinkState : Type 0 where
+  pub written : Option (List ℕ)
+  pub faults : ℕ
+
+-- what a call has to say, before it is written
+pub data Says (words : Words) (source source_after : SourceState) : ℕ → List ℕ → Type 0 where
+  -- the answer
+  answered : (status : ℕ) (text : List ℕ) → Answer words source.files status text → Says words source source_after status text
+  -- the words name a file, and the source failed in this call
+  read_failed : (command : Command) → command_of words ≡ Some command → files_named command ≢ [] → Rose source.faults source_after.faults → Says words source source_after 4 (line (codes "read failed"))
+  -- memory was refused
+  no_memory : Says words source source_after 7 (line (codes "out of memory"))
+
+-- how a status and its text came out
+pub data Tells (sink sink_after : SinkState) (said : ℕ) (text : List ℕ) : ℕ → Type 0 where
+  -- the text was written whole, and the status is its status
+  whole : Grew sink.written text sink_after.written → Tells sink sink_after said text said
+  -- the sink failed in this call, after a first part of the text
+  cut_short : Rose sink.faults sink_after.faults → GrewWithin sink.written text sink_after.written → Tells sink sink_after said text 5
+
+-- a call with these words ended with this status
+pub record Ran (words : Words) (source source_after : SourceState) (sink sink_after : SinkState) (status : ℕ) : Type 0 where
+  -- the status that belongs to the text
+  pub said : ℕ
+  -- the whole text, as it was before the first byte was written
+  pub text : List ℕ
+  pub says : Says words source source_after said text
+  pub tells : Tells sink sink_after said text status
+
+-- where the source tells its files and neither the source nor the sink fails, the call gives an
+-- answer whole, or memory was refused
+abbrev pub AnswersUnlessFaults : Words → SourceState → SourceState → SinkState → SinkState → ℕ → Type 0
+AnswersUnlessFaults words source source_after sink sink_after status =
+    (files : Files) → source.files ≡ Some files
+    → ¬ Rose source.faults source_after.faults → ¬ Rose sink.faults sink_after.faults
+    → (status ≡ 7) ⊎ ((text : List ℕ) × Answer words (Some files) status text × Grew sink.written text sink_after.written)
+
+-- whatever the words are answered where the source holds these files, the call ends with that status where the words
+-- and the files determine it, and writes that text where they determine that too, unless it is kept from it by the
+-- source (4), the sink (5) or want of memory (7)
+abbrev pub AnswersExactly : Words → SourceState → SinkState → SinkState → ℕ → Type 0
+AnswersExactly words source sink sink_after status =
+    (files : Files) (expected : ℕ) (text : List ℕ) → source.files ≡ Some files → Answer words (Some files) expected text
+    → IsTrue (words_determine_status (command_of words))
+    → ((status ≡ expected) × (IsTrue (words_determine_text (command_of words)) → Grew sink.written text sink_after.written))
+    ⊎ ((status ≡ 4) ⊎ ((status ≡ 5) ⊎ (status ≡ 7)))
+
+-- the text is that of a netlist that is delay-insensitive; and a check of it, whatever its limit, accepts where all
+-- stages stay within the limit of nodes, and else tells that one passes it
+pub record WorksAndIsAccepted (text : List ℕ) : Type 0 where
+  pub works : IsDelayInsensitiveText text
+  pub check : (limit : ℕ) (outcome : Outcome) (line : List ℕ) → IsCheckReply limit text outcome line → (AreWithin limit works.pipeline.stages × (outcome ≡ Accepted)) ⊎ ((AreWithin limit works.pipeline.stages → ⊥) × (outcome ≡ Unjudged))
+
+-- where the words ask for compiling a file and the status is 0, such a text was written, whatever the source tells
+abbrev pub CompilesWhatWorks : Words → SinkState → SinkState → ℕ → Type 0
+CompilesWhatWorks words sink sink_after status =
+    (file : List ℕ) → command_of words ≡ Some (compile file) → status ≡ 0
+    → (text : List ℕ) × WorksAndIsAccepted text × Grew sink.written text sink_after.written
+
+-- where the words ask for the check of a file, the source tells its files and the status is 0, the bytes
+-- under the file's name are the text of a netlist that is delay-insensitive
+abbrev pub AcceptsWhatWorks : Words → SourceState → ℕ → Type 0
+AcceptsWhatWorks words source status =
+    (files : Files) (file : List ℕ) (limit : ℕ) → source.files ≡ Some files → command_of words ≡ Some (check file limit)
+    → status ≡ 0 → IsDelayInsensitiveText (bytes_of files file)
+
+-- the run of the pipeline with these delays over some words ends where nothing can move any more, every word that is
+-- due has been delivered, and its lines were written
+pub record RunsThrough (p : PipelineData) (d : DelaysData) (offered : List (List Bool)) (sink sink_after : SinkState) : Type 0 where
+  pub trace : TraceData
+  pub run : IsTimedRun p d offered trace
+  pub quiet : trace.end ≡ Quiet
+  pub delivers : DeliversAll p offered trace
+  pub written : Grew sink.written (trace_lines p trace (words_due p offered)) sink_after.written
+
+-- where the words ask for a simulation, the source tells its files, the netlist is one of a pipeline of sound stages, and
+-- the delays and the words are read, the status is 0 and the pipeline runs through at those delays, unless the call is
+-- kept from it by the source (4), the sink (5) or want of memory (7)
+abbrev pub SimulatesWhatWorks : Words → SourceState → SinkState → SinkState → ℕ → Type 0
+SimulatesWhatWorks words source sink sink_after status =
+    (files : Files) (netlist delays offers : List ℕ) → source.files ≡ Some files → command_of words ≡ Some (sim netlist delays offers)
+    → (p : PipelineData) → IsPipelineText (bytes_of files netlist) p → All IsSound p.stages
+    → (d : DelaysData) → AreDelaysText p.netlist (bytes_of files delays) d
+    → (offered : List (List Bool)) → AreWordsText (length p.inputs) (bytes_of files offers) offered
+    → ((status ≡ 0) × RunsThrough p d offered sink sink_after) ⊎ ((status ≡ 4) ⊎ ((status ≡ 5) ⊎ (status ≡ 7)))

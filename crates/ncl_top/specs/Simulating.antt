@@ -1,0 +1,80 @@
+-- What `sim` replies to the bytes of a netlist, of delays and of words.
+use Rattle.std.specs.Prelude.{◌≡◌, ℕ, ◌<◌, ◌≤◌, ◌==◌, Bool, true, false, List, length, map, Option, Some, None, codes}
+use Rattle.ncl_base.specs.Files.{Files}
+use Rattle.ncl_base.specs.Words.{text_of}
+use Rattle.ncl_base.specs.declared.source.TheConstants.{MOST_BYTES}
+use Rattle.ncl_netlist.specs.Netlist.{NetlistData}
+use Rattle.ncl_shape.specs.Pipeline.{PipelineData}
+use Rattle.ncl_delay.specs.declared.fault.DelayFault.{DelayFault}
+use Rattle.ncl_delay.specs.declared.fault.WordsFault.{WordsFault}
+use Rattle.ncl_delay.specs.Lines.{told_lines}
+use Rattle.ncl_delay.specs.Delays.{DelaysData}
+use Rattle.ncl_delay.specs.DelayText.{cell_names, fault_in, stated_delays}
+use Rattle.ncl_delay.specs.WordText.{words_fault}
+use Rattle.ncl_sim.specs.declared.trace.End.{End}
+use Rattle.ncl_sim.specs.declared.trace.End.TheVariants.{Quiet, Hazard, Over}
+use Rattle.ncl_sim.specs.TimedRun.{TraceData, IsTimedRun, words_due}
+use Rattle.ncl_report.specs.Line.{line}
+use Rattle.ncl_report.specs.DelayText.{delay_line, words_line}
+use Rattle.ncl_report.specs.TraceText.{trace_lines}
+use Rattle.ncl_check.specs.Text.{IsPipelineText, IsRefusedText}
+use Rattle.ncl_top.specs.Given.{IsGiven}
+
+-- the bytes state these delays for the cells of the netlist, and for the source and the sink
+pub record AreDelaysText (n : NetlistData) (bytes : List ℕ) (d : DelaysData) : Type 0 where
+  pub few : length bytes ≤ MOST_BYTES
+  pub unbroken : fault_in (cell_names n) (told_lines bytes) ≡ None
+  pub stated : d ≡ stated_delays (cell_names n) (told_lines bytes)
+
+-- the bytes are no file of delays for the netlist, and this line tells why
+pub data AreRefusedDelays (n : NetlistData) (bytes : List ℕ) : List ℕ → Type 0 where
+  long_delays : MOST_BYTES < length bytes → AreRefusedDelays n bytes (line (codes "delays: too long"))
+  broken_delays : length bytes ≤ MOST_BYTES → (fault : DelayFault) → fault_in (cell_names n) (told_lines bytes) ≡ Some fault → AreRefusedDelays n bytes (delay_line fault)
+
+-- the bytes say these words, each of this width
+pub record AreWordsText (width : ℕ) (bytes : List ℕ) (words : List (List Bool)) : Type 0 where
+  pub few : length bytes ≤ MOST_BYTES
+  pub unbroken : words_fault width 0 (told_lines bytes) ≡ None
+  pub said : map text_of words ≡ map (λ line. line.text) (told_lines bytes)
+
+-- the bytes are no file of words of this width, and this line tells why
+pub data AreRefusedWords (width : ℕ) (bytes : List ℕ) : List ℕ → Type 0 where
+  long_words : MOST_BYTES < length bytes → AreRefusedWords width bytes (line (codes "words: too long"))
+  broken_words : length bytes ≤ MOST_BYTES → (fault : WordsFault) → words_fault width 0 (told_lines bytes) ≡ Some fault → AreRefusedWords width bytes (words_line fault)
+
+-- the status of a run that ends so; whether as many words were delivered as are due
+abbrev pub end_status : End → Bool → ℕ
+end_status Quiet true = 0
+end_status Quiet false = 1
+end_status (Hazard item time) all = 1
+end_status Over all = 8
+
+-- the status of a run of a pipeline over some words
+abbrev pub run_status : PipelineData → TraceData → List (List Bool) → ℕ
+run_status p t offered = end_status t.end (length t.delivered == words_due p offered)
+
+-- what is replied to words that are there, with the pipeline and the delays: its one timed run over them
+pub record IsRunReply (p : PipelineData) (d : DelaysData) (offered : List (List Bool)) (status : ℕ) (text : List ℕ) : Type 0 where
+  pub trace : TraceData
+  pub run : IsTimedRun p d offered trace
+  pub ends : status ≡ run_status p trace offered
+  pub told : text ≡ trace_lines p trace (words_due p offered)
+
+-- what is replied to the words in a file, where the pipeline and the delays are there: why they are refused, or the run
+-- over them
+pub data IsWordsReply (told : Option Files) (p : PipelineData) (d : DelaysData) (words : List ℕ) : ℕ → List ℕ → Type 0 where
+  no_words : (bytes : List ℕ) → IsGiven told words bytes → (text : List ℕ) → AreRefusedWords (length p.inputs) bytes text → IsWordsReply told p d words 3 text
+  ran : (bytes : List ℕ) → IsGiven told words bytes → (offered : List (List Bool)) → AreWordsText (length p.inputs) bytes offered
+      → (status : ℕ) (text : List ℕ) → IsRunReply p d offered status text → IsWordsReply told p d words status text
+
+-- what is replied to the delays in a file, where the pipeline is there: why they are refused, or what the words make of them
+pub data IsDelaysReply (told : Option Files) (p : PipelineData) (delays words : List ℕ) : ℕ → List ℕ → Type 0 where
+  no_delays : (bytes : List ℕ) → IsGiven told delays bytes → (text : List ℕ) → AreRefusedDelays p.netlist bytes text → IsDelaysReply told p delays words 3 text
+  delayed : (bytes : List ℕ) → IsGiven told delays bytes → (d : DelaysData) → AreDelaysText p.netlist bytes d
+      → (status : ℕ) (text : List ℕ) → IsWordsReply told p d words status text → IsDelaysReply told p delays words status text
+
+-- what is replied to the three files: why the netlist is no pipeline, or what the delays and the words make of it
+pub data IsSimReply (told : Option Files) (netlist delays words : List ℕ) : ℕ → List ℕ → Type 0 where
+  no_pipeline : (bytes : List ℕ) → IsGiven told netlist bytes → (text : List ℕ) → IsRefusedText bytes text → IsSimReply told netlist delays words 3 text
+  piped : (bytes : List ℕ) → IsGiven told netlist bytes → (p : PipelineData) → IsPipelineText bytes p
+      → (status : ℕ) (text : List ℕ) → IsDelaysReply told p delays words status text → IsSimReply told netlist delays words status text

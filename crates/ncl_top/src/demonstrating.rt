@@ -1,0 +1,136 @@
+//! What `demo` replies.
+ghost use Rattle.std.specs.Prelude.{◌≡◌, ◌≤◌, ◌++◌, ℕ, IfOk, IsErrOf};
+ghost use Rattle.ncl_verdict.specs.declared.verdict.Verdict.TheVariants.{Accepted as IsAccepted, Limit as PassesLimit};
+ghost use Rattle.ncl_check.specs.Reply.{verdict_on};
+ghost use Rattle.ncl_words.specs.declared.command.TheConstants.{MOST_NODES as LIMIT};
+ghost use Rattle.ncl_top.specs.Replies.{Gives};
+ghost use Rattle.ncl_top.specs.Demonstrating.{IsDemoNetlist, IsDemoPipeline, IsDemoReply};
+
+use crate::reply::{Fault, Reply};
+use ncl_base::Memory;
+use ncl_check::PARTS;
+use ncl_compile::compile;
+use ncl_delay::Delays;
+use ncl_demo::{demo_models, demo_words};
+use ncl_netlist::Netlist;
+use ncl_network::CompileFault;
+use ncl_report::{demo_text, verdict_text};
+use ncl_shape::{Pipeline, ShapeFault, shape};
+use ncl_sim::simulate;
+use ncl_verdict::{Judge, Verdict, judge_par};
+use ncl_words::MOST_NODES;
+use ncl_writer::write_netlist;
+use std::alloc::Global;
+use std::thread::Threads;
+
+/// Makes the adder of so many bits, compiles and judges it, runs it over eight words in which every item takes the time
+/// 1, and replies with its size, the words with their sums, and how the run ends; where a stage passes the usual limit
+/// of nodes, with the verdict and the netlist.
+///
+/// Costs what compiling, the check and the run cost.
+pub fn demonstrate<R: Threads + Sync, J: Judge + Sync>(
+    rt: &R,
+    alloc: Global,
+    judge: &J,
+    bits: u32,
+) -> Result<Reply, Fault>
+    requires { (1 ≤ bits) × (bits ≤ 32) }
+    ensures ok { IfOk result (Gives (IsDemoReply bits)) }
+    ensures memory { IsErrOf result Fault.Read → ⊥ }
+{
+    let netlist = demo_netlist(alloc, bits)?;
+    let pipeline = demo_pipeline(alloc, &netlist, bits)?;
+    judged(rt, alloc, judge, &pipeline, bits)
+}
+
+/// The netlist that is compiled from the models of the adder of so many bits.
+fn demo_netlist(alloc: Global, bits: u32) -> Result<Netlist, Fault>
+    requires { (1 ≤ bits) × (bits ≤ 32) }
+    ensures netlist { IfOk result (IsDemoNetlist bits) }
+    ensures memory { IsErrOf result Fault.Read → ⊥ }
+{
+    let models = demo_models(alloc, bits)?;
+    match compile(alloc, &models) {
+        Ok(netlist) => Ok(netlist),
+        Err(CompileFault::Memory) => Err(Fault::Memory),
+        Err(_) => unreachable!(),
+    }
+}
+
+/// The pipeline of that netlist.
+fn demo_pipeline<'a>(alloc: Global, netlist: &'a Netlist, bits: u32) -> Result<Pipeline<'a>, Fault>
+    requires { IsDemoNetlist bits netlist.now }
+    ensures pipeline { IfOk result (λ p. IsDemoPipeline bits p) }
+    ensures memory { IsErrOf result Fault.Read → ⊥ }
+{
+    let _ = bits;
+    match shape(alloc, netlist) {
+        Ok(pipeline) => Ok(pipeline),
+        Err(fault) => match fault {
+            ShapeFault::Memory => Err(Fault::Memory),
+            _ => unreachable!(),
+        },
+    }
+}
+
+/// The reply to the demo of that pipeline, once it is judged.
+fn judged<R: Threads + Sync, J: Judge + Sync>(
+    rt: &R,
+    alloc: Global,
+    judge: &J,
+    pipeline: &Pipeline,
+    bits: u32,
+) -> Result<Reply, Fault>
+    requires bits { (1 ≤ bits) × (bits ≤ 32) }
+    requires pipeline { IsDemoPipeline bits pipeline.now }
+    ensures ok { IfOk result (Gives (IsDemoReply bits)) }
+    ensures memory { IsErrOf result Fault.Read → ⊥ }
+{
+    let verdict = judge_par(rt, alloc, judge, pipeline, MOST_NODES, PARTS)?;
+    match &verdict {
+        Verdict::Accepted => shown(alloc, pipeline, bits),
+        Verdict::Limit { .. } => too_large(alloc, pipeline, &verdict, bits),
+        _ => unreachable!(),
+    }
+}
+
+/// The reply to the demo of a pipeline that is accepted: its run.
+fn shown(alloc: Global, pipeline: &Pipeline, bits: u32) -> Result<Reply, Fault>
+    requires bits { (1 ≤ bits) × (bits ≤ 32) }
+    requires pipeline { IsDemoPipeline bits pipeline.now }
+    requires accepted { verdict_on LIMIT pipeline.now ≡ IsAccepted }
+    ensures ok { IfOk result (Gives (IsDemoReply bits)) }
+    ensures memory { IsErrOf result Fault.Read → ⊥ }
+{
+    let words = demo_words(alloc, bits)?;
+    let delays = Delays::unit(alloc);
+    let trace = simulate(alloc, pipeline, &delays, &words)?;
+    let text = demo_text(alloc, bits, pipeline, &trace, &words)?;
+    Ok(Reply::Made(0, text))
+}
+
+/// The reply to the demo of a pipeline of which a stage passes the limit of nodes: the verdict and the netlist.
+fn too_large(
+    alloc: Global,
+    pipeline: &Pipeline,
+    verdict: &Verdict,
+    bits: u32,
+) -> Result<Reply, Fault>
+    requires pipeline { IsDemoPipeline bits pipeline.now }
+    requires limit { (stage : ℕ) × (verdict.now ≡ PassesLimit stage) × (verdict_on LIMIT pipeline.now ≡ PassesLimit stage) }
+    ensures ok { IfOk result (Gives (IsDemoReply bits)) }
+    ensures memory { IsErrOf result Fault.Read → ⊥ }
+{
+    let _ = bits;
+    let line = verdict_text(alloc, pipeline, verdict, MOST_NODES)?;
+    let netlist = write_netlist(alloc, pipeline.netlist())?;
+    Ok(Reply::Made(6, joined(line, &netlist)?))
+}
+
+/// A text with another after it.
+fn joined(mut text: Vec<u8>, more: &[u8]) -> Result<Vec<u8>, Memory>
+    ensures { IfOk result (λ joined. joined.items ≡ text.items ++ more.now) }
+{
+    text.extend_from_slice(more)?;
+    Ok(text)
+}

@@ -1,0 +1,11 @@
+//! The top call: all that the program does, between a source of files and a sink of bytes.
+#![tactic(auto)]
+
+mod compiling;
+mod demonstrating;
+mod loading;
+mod reply;
+mod simulating;
+mod top;
+
+pub use top::{run, run_by};

@@ -1,0 +1,165 @@
+//! The top call: all that the program does, between a source of files and a sink of bytes.
+ghost use Rattle.std.specs.Prelude.{◌≡◌, ◌≤◌, map};
+ghost use Rattle.ncl_base.specs.Files.{Rose};
+ghost use Rattle.ncl_words.specs.Command.{AllowsNamed};
+ghost use Rattle.ncl_top.specs.Answer.{Says, Tells, Ran, AnswersUnlessFaults, AnswersExactly, AcceptsWhatWorks, CompilesWhatWorks, SimulatesWhatWorks};
+ghost use Rattle.ncl_top.specs.Replies.{Gives};
+
+use crate::reply::{Fault, Reply, carry_out};
+use ncl_base::{Sink, Source, deliver};
+use ncl_verdict::{Judge, Stages};
+use ncl_words::Command;
+use std::alloc::Global;
+use std::thread::Threads;
+
+/// Answers the words that follow the program's name, and gives the status to end with.
+///
+/// Reads the files that the words name from the source, makes the whole text, and writes it to the
+/// sink. The status is 0 where a netlist is accepted, models are compiled, or a run delivers every word that is due and
+/// comes to rest; 1 where a stage has a fault, or a run loses an item or stalls; 2 where the words are of no form; 3
+/// where a file is refused; 4 where the source failed; 5 where the sink failed; 6 where a stage is too large to be
+/// judged; 7 where memory was refused; and 8 where a run has as many steps as it may and could go on.
+///
+/// A netlist that is accepted works at every gate delay: clause `headline`. So does one that is compiled, and `check`
+/// accepts it: clause `compiles`. A run of a netlist of sound stages ends with status 0 at whatever delays: clause
+/// `simulates`. Costs what the command costs, and a pass over the text. Stages are judged by up to four threads.
+pub fn run<R: Threads + Sync, S: Source, K: Sink>(
+    rt: &R,
+    alloc: Global,
+    words: &[&str],
+    source: &mut S,
+    sink: &mut K,
+) -> u8
+    requires { AllowsNamed (S.allowed source.old) (map (λ word. word.now) words.now) }
+    ensures ran { Ran (map (λ word. word.now) words.now)
+        (record { files = S.files source.old; faults = S.faults source.old })
+        (record { files = S.files source.new; faults = S.faults source.new })
+        (record { written = K.written sink.old; faults = K.faults sink.old })
+        (record { written = K.written sink.new; faults = K.faults sink.new })
+        result }
+    ensures complete { AnswersUnlessFaults (map (λ word. word.now) words.now)
+        (record { files = S.files source.old; faults = S.faults source.old })
+        (record { files = S.files source.new; faults = S.faults source.new })
+        (record { written = K.written sink.old; faults = K.faults sink.old })
+        (record { written = K.written sink.new; faults = K.faults sink.new })
+        result }
+    ensures exact { AnswersExactly (map (λ word. word.now) words.now)
+        (record { files = S.files source.old; faults = S.faults source.old })
+        (record { written = K.written sink.old; faults = K.faults sink.old })
+        (record { written = K.written sink.new; faults = K.faults sink.new })
+        result }
+    ensures headline { AcceptsWhatWorks (map (λ word. word.now) words.now)
+        (record { files = S.files source.old; faults = S.faults source.old })
+        result }
+    ensures compiles { CompilesWhatWorks (map (λ word. word.now) words.now)
+        (record { written = K.written sink.old; faults = K.faults sink.old })
+        (record { written = K.written sink.new; faults = K.faults sink.new })
+        result }
+    ensures simulates { SimulatesWhatWorks (map (λ word. word.now) words.now)
+        (record { files = S.files source.old; faults = S.faults source.old })
+        (record { written = K.written sink.old; faults = K.faults sink.old })
+        (record { written = K.written sink.new; faults = K.faults sink.new })
+        result }
+    ensures read_failed { result ≡ 4 → Rose (S.faults source.old) (S.faults source.new) }
+    ensures write_failed { result ≡ 5 → Rose (K.faults sink.old) (K.faults sink.new) }
+    ensures files { S.files source.new ≡ S.files source.old }
+    ensures allowed { S.allowed source.new ≡ S.allowed source.old }
+    ensures source_faults { S.faults source.old ≤ S.faults source.new }
+    ensures sink_faults { K.faults sink.old ≤ K.faults sink.new }
+{
+    run_by(rt, alloc, words, source, sink, &Stages)
+}
+
+/// Answers as `run` does, and has each stage judged by a judge of the caller's.
+pub fn run_by<R: Threads + Sync, S: Source, K: Sink, J: Judge + Sync>(
+    rt: &R,
+    alloc: Global,
+    words: &[&str],
+    source: &mut S,
+    sink: &mut K,
+    judge: &J,
+) -> u8
+    requires { AllowsNamed (S.allowed source.old) (map (λ word. word.now) words.now) }
+    ensures ran { Ran (map (λ word. word.now) words.now)
+        (record { files = S.files source.old; faults = S.faults source.old })
+        (record { files = S.files source.new; faults = S.faults source.new })
+        (record { written = K.written sink.old; faults = K.faults sink.old })
+        (record { written = K.written sink.new; faults = K.faults sink.new })
+        result }
+    ensures complete { AnswersUnlessFaults (map (λ word. word.now) words.now)
+        (record { files = S.files source.old; faults = S.faults source.old })
+        (record { files = S.files source.new; faults = S.faults source.new })
+        (record { written = K.written sink.old; faults = K.faults sink.old })
+        (record { written = K.written sink.new; faults = K.faults sink.new })
+        result }
+    ensures exact { AnswersExactly (map (λ word. word.now) words.now)
+        (record { files = S.files source.old; faults = S.faults source.old })
+        (record { written = K.written sink.old; faults = K.faults sink.old })
+        (record { written = K.written sink.new; faults = K.faults sink.new })
+        result }
+    ensures headline { AcceptsWhatWorks (map (λ word. word.now) words.now)
+        (record { files = S.files source.old; faults = S.faults source.old })
+        result }
+    ensures compiles { CompilesWhatWorks (map (λ word. word.now) words.now)
+        (record { written = K.written sink.old; faults = K.faults sink.old })
+        (record { written = K.written sink.new; faults = K.faults sink.new })
+        result }
+    ensures simulates { SimulatesWhatWorks (map (λ word. word.now) words.now)
+        (record { files = S.files source.old; faults = S.faults source.old })
+        (record { written = K.written sink.old; faults = K.faults sink.old })
+        (record { written = K.written sink.new; faults = K.faults sink.new })
+        result }
+    ensures read_failed { result ≡ 4 → Rose (S.faults source.old) (S.faults source.new) }
+    ensures write_failed { result ≡ 5 → Rose (K.faults sink.old) (K.faults sink.new) }
+    ensures files { S.files source.new ≡ S.files source.old }
+    ensures allowed { S.allowed source.new ≡ S.allowed source.old }
+    ensures source_faults { S.faults source.old ≤ S.faults source.new }
+    ensures sink_faults { K.faults sink.old ≤ K.faults sink.new }
+{
+    match answer(rt, alloc, words, source, judge) {
+        Reply::Made(status, text) => tell(sink, status, &text),
+        Reply::Fixed(status, text) => tell(sink, status, text),
+    }
+}
+
+/// What the words are answered.
+fn answer<R: Threads + Sync, S: Source, J: Judge + Sync>(
+    rt: &R,
+    alloc: Global,
+    words: &[&str],
+    source: &mut S,
+    judge: &J,
+) -> Reply
+    requires { AllowsNamed (S.allowed source.old) (map (λ word. word.now) words.now) }
+    ensures says { Gives (Says (map (λ word. word.now) words.now)
+        (record { files = S.files source.old; faults = S.faults source.old })
+        (record { files = S.files source.new; faults = S.faults source.new })) result }
+    ensures files { S.files source.new ≡ S.files source.old }
+    ensures allowed { S.allowed source.new ≡ S.allowed source.old }
+    ensures faults { S.faults source.old ≤ S.faults source.new }
+{
+    let command = match Command::parse(alloc, words) {
+        Ok(Some(command)) => command,
+        Ok(None) => return Reply::Fixed(2, b"words not understood\n"),
+        Err(_) => return Reply::Fixed(7, b"out of memory\n"),
+    };
+    match carry_out(rt, alloc, source, judge, command) {
+        Ok(reply) => reply,
+        Err(Fault::Read) => Reply::Fixed(4, b"read failed\n"),
+        Err(Fault::Memory) => Reply::Fixed(7, b"out of memory\n"),
+    }
+}
+
+/// Writes a text, and gives its status, or 5 where the sink fails.
+fn tell<K: Sink>(sink: &mut K, said: u8, text: &[u8]) -> u8
+    ensures tells { Tells
+        (record { written = K.written sink.old; faults = K.faults sink.old })
+        (record { written = K.written sink.new; faults = K.faults sink.new })
+        said text.now result }
+    ensures faults { K.faults sink.old ≤ K.faults sink.new }
+{
+    match deliver(sink, text) {
+        Ok(()) => said,
+        Err(_) => 5,
+    }
+}

@@ -151,3 +151,24 @@ fn names_and_lists_hold_what_they_are_made_of(rt: HostRuntime) -> Result<(), Fai
     assert_eq!(rt; vec.as_slice(), [4, 2].as_slice());
     Ok(())
 }
+
+#[test]
+fn faults_are_told(rt: HostRuntime) -> Result<(), Fail> {
+    for (fault, text) in [
+        (LoadFault::Read, "the file can't be read"),
+        (
+            LoadFault::TooLong,
+            "the file has more than 16,777,216 bytes",
+        ),
+        (LoadFault::Memory, "out of memory"),
+    ] {
+        let told = format!(in rt.alloc(); "{fault}")?;
+        assert_eq!(rt; told.as_str(), text);
+    }
+    let told = format!(in rt.alloc(); "{}, {}, {}", SinkFault::Write, Memory, Failed)?;
+    assert_eq!(rt;
+        told.as_str(),
+        "the bytes can't be written, out of memory, a call failed"
+    );
+    Ok(())
+}

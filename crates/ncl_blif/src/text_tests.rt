@@ -133,3 +133,24 @@ fn refused(rt: HostRuntime) -> Result<(), Fail> {
     }
     Ok(())
 }
+
+#[test]
+fn faults_are_told(rt: HostRuntime) -> Result<(), Fail> {
+    let cases = [
+        (BlifFault::Syntax(0), "syntax in line 0"),
+        (BlifFault::Unsupported(2), "unsupported in line 2"),
+        (BlifFault::BadRow(3), "bad row in line 3"),
+        (BlifFault::MixedCover(4), "mixed cover in line 4"),
+        (BlifFault::TwoDrivers(5), "two drivers in line 5"),
+        (BlifFault::Undriven(6), "undriven in line 6"),
+        (BlifFault::Cycle(7), "cycle in line 7"),
+        (BlifFault::NoBits(8), "no bits in model 8"),
+        (BlifFault::Width(9), "width of model 9"),
+        (BlifFault::Memory, "out of memory"),
+    ];
+    for (fault, text) in cases {
+        let told = format!(in rt.alloc(); "{fault}")?;
+        assert_eq!(rt; told.as_str(), text);
+    }
+    Ok(())
+}

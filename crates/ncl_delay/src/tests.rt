@@ -2,7 +2,7 @@
 
 use super::*;
 use ncl_base::{MOST_BYTES, Word};
-use ncl_netlist::CellId;
+use ncl_netlist::{CellId, Netlist};
 use ncl_reader::read_netlist;
 use ncl_shape::{Item, Pipeline, shape};
 use std::alloc::Global;
@@ -219,5 +219,61 @@ fn reads_512_words_at_most(rt: HostRuntime) -> Result<(), Fail> {
         count(&rt, rt.alloc(), &text),
         Err(WordsFault::TooMany(514))
     );
+    Ok(())
+}
+
+#[test]
+fn faults_of_delays_are_told(rt: HostRuntime) -> Result<(), Fail> {
+    let cases = [
+        (DelayFault::Syntax(1), "syntax in line 1"),
+        (DelayFault::UnknownCell(2), "unknown cell in line 2"),
+        (DelayFault::Memory, "out of memory"),
+    ];
+    for (fault, text) in cases {
+        let told = format!(in rt.alloc(); "{fault}")?;
+        assert_eq!(rt; told.as_str(), text);
+    }
+    Ok(())
+}
+
+#[test]
+fn faults_of_words_are_told(rt: HostRuntime) -> Result<(), Fail> {
+    let cases = [
+        (WordsFault::Syntax(1), "syntax in line 1"),
+        (WordsFault::Width(2), "width in line 2"),
+        (WordsFault::TooMany(3), "too many words in line 3"),
+        (WordsFault::Memory, "out of memory"),
+    ];
+    for (fault, text) in cases {
+        let told = format!(in rt.alloc(); "{fault}")?;
+        assert_eq!(rt; told.as_str(), text);
+    }
+    Ok(())
+}
+
+/// A netlist of so many cells side by side.
+fn beside(rt: &impl Abort, alloc: Global, cells: u32) -> Result<Netlist, Fail> {
+    let mut text = String::from_str(alloc, "module m(a);input a;\n")?;
+    for cell in 0..cells {
+        let line = format!(in alloc; "TH12 g{cell}(.A(a),.B(a),.Z(n{cell}));\n")?;
+        text.push_str(line.as_str())?;
+    }
+    text.push_str("endmodule\n")?;
+    assert!(rt; text.len() <= MOST_BYTES);
+    Ok(read_netlist(alloc, text.as_bytes())?)
+}
+
+#[test]
+fn many_lines_for_the_last_of_many_cells(rt: HostRuntime) -> Result<(), Fail> {
+    // A walk over the cells for each line would take minutes.
+    let netlist = beside(&rt, rt.alloc(), 100_000)?;
+    let mut text = Vec::new(rt.alloc());
+    for _ in 0..300_000 {
+        text.extend_from_slice(b"cell g99999 5 6\n")?;
+    }
+    assert!(rt; text.len() <= MOST_BYTES);
+    let delays = read_delays(rt.alloc(), &text, &netlist)?;
+    let last = delays.cells.last().copied();
+    assert_eq!(rt; last, Some(Some(Edges { rise: 5, fall: 6 })));
     Ok(())
 }

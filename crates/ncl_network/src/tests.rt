@@ -203,3 +203,21 @@ fn many_rows_are_folded(rt: HostRuntime) -> Result<(), Fail> {
         &[("101", "0"), ("010", "1"), ("111", "0"), ("000", "1")],
     )
 }
+
+#[test]
+fn faults_are_told(rt: HostRuntime) -> Result<(), Fail> {
+    let cases = [
+        (
+            CompileFault::TooWide(2),
+            "model 2 has more than 128 inputs or outputs",
+        ),
+        (CompileFault::TooLong, "more than 255 models"),
+        (CompileFault::TooMany, "too many cells"),
+        (CompileFault::Memory, "out of memory"),
+    ];
+    for (fault, text) in cases {
+        let told = format!(in rt.alloc(); "{fault}")?;
+        assert_eq!(rt; told.as_str(), text);
+    }
+    Ok(())
+}

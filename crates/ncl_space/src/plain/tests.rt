@@ -179,3 +179,10 @@ fn room_comes_back_at_a_release(rt: HostRuntime) -> Result<(), Fail> {
     }
     Ok(())
 }
+
+#[test]
+fn faults_are_told(rt: HostRuntime) -> Result<(), Fail> {
+    let told = format!(in rt.alloc(); "{}, {}", SpaceFault::Full, SpaceFault::Memory)?;
+    assert_eq!(rt; told.as_str(), "the limit is passed, out of memory");
+    Ok(())
+}

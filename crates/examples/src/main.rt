@@ -1,6 +1,9 @@
-//! Checks each netlist that it is given the name of, compiles each text of BLIF and checks what comes of it, by the
-//! libraries alone, and prints the answers.
+//! Checks each netlist that it is given the name of, compiles each text of BLIF and checks what comes of it, and
+//! simulates a netlist where its name is joined to those of delays and words by `+`: by the libraries alone. Prints the
+//! answers.
 #![tactic(auto)]
+
+mod runs;
 
 ghost use Rattle.std.specs.Prelude.{◌≤◌, length};
 ghost use Rattle.ncl_base.specs.declared.source.TheConstants.{MOST_BYTES};
@@ -13,7 +16,9 @@ use ncl_compile::compile;
 use ncl_report::blif_text;
 use ncl_verdict::Stages;
 use ncl_writer::{is_writable, write_netlist};
+use runs::{files_of, run};
 use std::alloc::Global;
+use std::rt::Files;
 use std::thread::Threads;
 use std::{env, fs};
 
@@ -47,12 +52,22 @@ fn answer<R: Threads + Sync>(
     }
 }
 
+/// What is answered to a word.
+fn told<R: Threads + Sync + Files + AllocGlobal>(rt: &R, word: &str) -> anyhow::Result<Vec<u8>> {
+    let alloc = rt.alloc();
+    let Some((netlist, delays, words)) = files_of(word) else {
+        return answer(rt, alloc, word, fs::read(rt, word)?);
+    };
+    let netlist = fs::read(rt, netlist)?;
+    let delays = fs::read(rt, delays)?;
+    run(alloc, &netlist, &delays, &fs::read(rt, words)?)
+}
+
 fn main(rt: HostRuntime) -> anyhow::Result<()> {
-    for name in env::args(&rt)?.skip(1) {
-        let bytes = fs::read(&rt, &name)?;
-        let answer = answer(&rt, rt.alloc(), &name, bytes)?;
-        let line = str::from_utf8(&answer).context("a name of another alphabet")?;
-        print!(rt; "{name}: {line}")?;
+    for word in env::args(&rt)?.skip(1) {
+        let answer = told(&rt, &word)?;
+        let lines = str::from_utf8(&answer).context("a name of another alphabet")?;
+        print!(rt; "{word}: {lines}")?;
     }
     Ok(())
 }

@@ -18,7 +18,8 @@ use Rattle.ncl_stage.specs.Examples.{gate}
 use Rattle.ncl_stage.specs.Walk.{AreMet, ReadEarlier}
 use Rattle.ncl_stage.specs.Wiring.{pin_places, rail_places}
 use Rattle.ncl_stage.proofs.Apart.{right-differ}
-use Rattle.ncl_stage.proofs.ChangedLaws.{rails-length, nets-length, net_at-rail, net_at-cell, nets-before}
+use Rattle.ncl_shape.proofs.RailLaws.{rails-length}
+use Rattle.ncl_stage.proofs.ChangedLaws.{nets-length, net_at-rail, net_at-cell, nets-before}
 use Rattle.ncl_stage.proofs.NetLaws.{left-differ, nets-cut, out_at, out_at-is, place_in-front, reads-before}
 use Rattle.ncl_stage.proofs.OrderLaws.{map_map}
 use Rattle.ncl_stage.proofs.PlaceLaws.{place_in-at}

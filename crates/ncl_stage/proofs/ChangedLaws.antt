@@ -12,6 +12,7 @@ use Rattle.ncl_shape.specs.declared.rails.Rails.{Rails}
 use Rattle.ncl_shape.specs.declared.stage.StageCell.{StageCell}
 use Rattle.ncl_shape.specs.Nets.{among}
 use Rattle.ncl_shape.specs.Stage.{StageData, IsStage, named_rails, rail_nets, nets_of, out_of}
+use Rattle.ncl_shape.proofs.RailLaws.{rails-length}
 use Rattle.ncl_base.proofs.Members.{Member, Member-get_or}
 use Rattle.ncl_space.specs.Functions.{gate_table}
 use Rattle.ncl_space.specs.Space.{SpaceData, IsLive, Keeps}
@@ -30,11 +31,6 @@ use Rattle.ncl_stage.proofs.NetLaws.{cell-net, nets-cut, out_at, out_at-is, pins
 use Rattle.ncl_stage.proofs.ValueLaws.{val-rail}
 use Rattle.ncl_stage.proofs.PlaceLaws.{place_in-at}
 use Rattle.ncl_stage.proofs.WiringLaws.{AllDiffer, reads-within}
-
--- a bit has two rails
-pub rails-length : (bits : List Rails) → length (rail_nets bits) ≡ 2 * length bits
-rails-length [] = refl
-rails-length (r ∷ rs) = let rest = rails-length rs in omega (arith, rest)
 
 pub nets-length : (s : StageData) → length (nets_of s.inputs s.cells) ≡ 2 * length s.inputs + length s.cells
 nets-length s = length-append (rail_nets s.inputs) (map out_of s.cells) ∙ (λ i. rails-length s.inputs i + length-map s.cells out_of i)
@@ -107,23 +103,35 @@ mark-within [] place none = absurd cc
 mark-within (mark ∷ marks) zero none = omega arith
 mark-within (mark ∷ marks) (suc place) none = let rest = mark-within marks place none in omega arith
 
--- where no mark stands at the places of some nets, they are unchanged
-pins-unchanged : (s : StageData) (order : List ℕ) (variant : Variant) (marks : List Bool) → MarksChanges order s variant marks → (ins : List NetId) → All (λ (net : NetId). Contains (nets_of s.inputs s.cells) net.0) ins → list_any (λ place. get_or marks place true) (map (λ (net : NetId). place_in (nets_of s.inputs s.cells) net.0) ins) ≡ false → map (λ (net : NetId). net_table_by order s variant net.0) ins ≡ map (λ (net : NetId). net_table_by order s Base net.0) ins
-pins-unchanged s order variant marks marked [] known none = refl
-pins-unchanged s order variant marks marked (net ∷ ins) known none =
-    let parts = or_parts (get_or marks (place_in (nets_of s.inputs s.cells) net.0) true) _ none in
+-- nets at unchanged places have the tables of Base
+pins-unchanged : (s : StageData) (order : List ℕ) (variant : Variant) (ins : List NetId) → All (λ (net : NetId). Contains (nets_of s.inputs s.cells) net.0) ins → All (λ place. IsUnchanged order s variant (net_at s place)) (map (λ (net : NetId). place_in (nets_of s.inputs s.cells) net.0) ins) → map (λ (net : NetId). net_table_by order s variant net.0) ins ≡ map (λ (net : NetId). net_table_by order s Base net.0) ins
+pins-unchanged s order variant [] known same = refl
+pins-unchanged s order variant (net ∷ ins) known same =
     let at = (place_in-at (nets_of s.inputs s.cells) net.0 (All-head (λ (x : NetId). Contains (nets_of s.inputs s.cells) x.0) net ins known)).1 0 in
-    let first : IsUnchanged order s variant net.0 = subst (IsUnchanged order s variant) at ((marked _ (mark-within marks _ parts.0)).0 parts.0) in
-    let others = pins-unchanged s order variant marks marked ins (All-tail (λ (x : NetId). Contains (nets_of s.inputs s.cells) x.0) net ins known) parts.1 in
+    let first : IsUnchanged order s variant net.0 = subst (IsUnchanged order s variant) at (All-head (λ place. IsUnchanged order s variant (net_at s place)) _ _ same) in
+    let others = pins-unchanged s order variant ins (All-tail (λ (x : NetId). Contains (nets_of s.inputs s.cells) x.0) net ins known) (All-tail (λ place. IsUnchanged order s variant (net_at s place)) _ _ same) in
     λ i. first i ∷ others i
 
-pub unmarked-unreached : (s : StageData) (order : List ℕ) (ordered : IsOrderOf (length s.inputs) order) → IsStage s → (w : WiringData) → IsWiring s w → (variant : Variant) (marks : List Bool) → MarksChanges order s variant marks → (i : ℕ) → i < length s.cells → list_any (λ place. get_or marks place true) (get_or w.pins i []) ≡ false → IsUnreached order s variant (out_at s i)
-unmarked-unreached s order ordered is w wired variant marks marked i lt none =
+-- the output of a cell is unreached where the places that it reads are unchanged
+pub places-unreached : (s : StageData) (order : List ℕ) (ordered : IsOrderOf (length s.inputs) order) → IsStage s → (w : WiringData) → IsWiring s w → (variant : Variant) (i : ℕ) → i < length s.cells → All (λ place. IsUnchanged order s variant (net_at s place)) (get_or w.pins i []) → IsUnreached order s variant (out_at s i)
+places-unreached s order ordered is w wired variant i lt same =
     let cell : StageCell = get_or s.cells i no_cell in
     subst (IsUnreached order s variant) (sym (out_at-is s i no_cell lt))
     (cell-unreached s order ordered is variant cell (Member-get_or s.cells i no_cell lt)
-    (pins-unchanged s order variant marks marked cell.ins.items (reads-within s is i no_cell lt)
-    (ap (list_any (λ place. get_or marks place true)) (sym (pins-of s w wired i no_cell lt)) ∙ none)))
+    (pins-unchanged s order variant cell.ins.items (reads-within s is i no_cell lt)
+    (subst (All (λ place. IsUnchanged order s variant (net_at s place))) (pins-of s w wired i no_cell lt) same)))
+
+-- where no mark stands at some places, they are unchanged
+unmarked-same : (s : StageData) (order : List ℕ) (variant : Variant) (marks : List Bool) → MarksChanges order s variant marks → (places : List ℕ) → list_any (λ place. get_or marks place true) places ≡ false → All (λ place. IsUnchanged order s variant (net_at s place)) places
+unmarked-same s order variant marks marked [] none = All-nil (λ place. IsUnchanged order s variant (net_at s place))
+unmarked-same s order variant marks marked (place ∷ places) none =
+    let parts = or_parts (get_or marks place true) _ none in
+    All-cons (λ p. IsUnchanged order s variant (net_at s p)) place places ((marked place (mark-within marks place parts.0)).0 parts.0)
+    (unmarked-same s order variant marks marked places parts.1)
+
+pub unmarked-unreached : (s : StageData) (order : List ℕ) (ordered : IsOrderOf (length s.inputs) order) → IsStage s → (w : WiringData) → IsWiring s w → (variant : Variant) (marks : List Bool) → MarksChanges order s variant marks → (i : ℕ) → i < length s.cells → list_any (λ place. get_or marks place true) (get_or w.pins i []) ≡ false → IsUnreached order s variant (out_at s i)
+unmarked-unreached s order ordered is w wired variant marks marked i lt none =
+    places-unreached s order ordered is w wired variant i lt (unmarked-same s order variant marks marked (get_or w.pins i []) none)
 
 -- at first there are no marks
 pub marks-none : (s : StageData) (order : List ℕ) (variant : Variant) → MarksChanges order s variant []

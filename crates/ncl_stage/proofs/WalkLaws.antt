@@ -89,20 +89,20 @@ module _ (bits : ℕ) (pins : List (List ℕ)) where
           empty (x ∷ xs) ys e = absurd cc
 
   -- what is ahead where one place more is taken
-  taken : (met : ℕ → List ℕ) (found more : List ℕ) (next : ℕ) (instead todo : List ℕ) (i : ℕ) → ((p : ℕ) → Member p instead → next < 2 * bits + i → p < 2 * bits + i) → ((bit : ℕ) → Member bit found → Member bit more) → ((bit : ℕ) → Member bit (met next) → Member bit more ⊎ Member bit (flat_map met instead)) → IsAhead bits met found (next ∷ todo) i → IsAhead bits met more (instead ++ todo) i
-  taken met found more next instead todo i below keeps own is = by is.ahead is.rest is.cut is.earlier is.met_there
+  taken : (met : ℕ → List ℕ) (found more : List ℕ) (next : ℕ) (instead left : List ℕ) (i : ℕ) → ((p : ℕ) → Member p instead → next < 2 * bits + i → p < 2 * bits + i) → ((bit : ℕ) → Member bit found → Member bit more) → ((bit : ℕ) → Member bit (met next) → Member bit more ⊎ Member bit (flat_map met instead)) → IsAhead bits met found (next ∷ left) i → IsAhead bits met more (instead ++ left) i
+  taken met found more next instead left i below keeps own is = by is.ahead is.rest is.cut is.earlier is.met_there
     where
-      by : (ahead rest : List ℕ) → next ∷ todo ≡ ahead ++ rest → ((p : ℕ) → Member p ahead → p < 2 * bits + i) → ((bit : ℕ) → Member bit (met (2 * bits + i)) → Member bit found ⊎ Member bit (flat_map met ahead)) → IsAhead bits met more (instead ++ todo) i
+      by : (ahead rest : List ℕ) → next ∷ left ≡ ahead ++ rest → ((p : ℕ) → Member p ahead → p < 2 * bits + i) → ((bit : ℕ) → Member bit (met (2 * bits + i)) → Member bit found ⊎ Member bit (flat_map met ahead)) → IsAhead bits met more (instead ++ left) i
       by [] rest cut earlier there_met = record {
         ahead = [];
-        rest = instead ++ todo;
+        rest = instead ++ left;
         cut = refl;
         earlier = λ p m. absurd (none p m);
         met_there = λ bit m. elim (there_met bit m) [ inl known ↦ inl (keeps bit known) | inr later ↦ absurd (none bit later) ];
       }
       by (x ∷ ahead) rest cut earlier there_met =
           let first : next ≡ x = cc in
-          let others : todo ≡ ahead ++ rest = cc in
+          let others : left ≡ ahead ++ rest = cc in
           record {
             ahead = instead ++ ahead;
             rest = rest;
@@ -126,13 +126,13 @@ module _ (bits : ℕ) (pins : List (List ℕ)) where
           }
 
   -- the next is a rail: its bit is found
-  pub walk_rail : (start found : List ℕ) (entered : List Bool) (place next : ℕ) (todo : List ℕ) → next < 2 * bits → IsWalk bits pins start place entered (next ∷ todo) found → IsWalk bits pins start place entered todo (with_bit found (next / 2))
-  walk_rail start found entered place next todo lt walk = record {
+  pub walk_rail : (start found : List ℕ) (entered : List Bool) (place next : ℕ) (left : List ℕ) → next < 2 * bits → IsWalk bits pins start place entered (next ∷ left) found → IsWalk bits pins start place entered left (with_bit found (next / 2))
+  walk_rail start found entered place next left lt walk = record {
     sized = walk.sized;
     places = λ p m. walk.places p (there m);
-    goal = λ met are. ap (λ l. with_bits found (l ++ flat_map met todo)) (sym (are.rail next lt)) ∙ walk.goal met are;
+    goal = λ met are. ap (λ l. with_bits found (l ++ flat_map met left)) (sym (are.rail next lt)) ∙ walk.goal met are;
     closed = λ met are i l was.
-        taken met found (with_bit found (next / 2)) next [] todo i (λ p m. absurd (none p m)) (λ bit m. with_bit-keeps found (next / 2) bit m)
+        taken met found (with_bit found (next / 2)) next [] left i (λ p m. absurd (none p m)) (λ bit m. with_bit-keeps found (next / 2) bit m)
         (λ bit m. elim (member_cases bit (next / 2) [] (subst (Member bit) (are.rail next lt) m)) [
           | inl e ↦ inl (subst (λ b. Member b (with_bit found (next / 2))) e (with_bit-has found (next / 2)))
           | inr n ↦ absurd (none bit n)
@@ -141,52 +141,52 @@ module _ (bits : ℕ) (pins : List (List ℕ)) where
   }
 
   -- the next is a cell that was entered: all that is met from it was found
-  pub walk_known : (start found : List ℕ) (entered : List Bool) (place i : ℕ) (todo : List ℕ) → i < length pins → was_entered entered i ≡ true → IsWalk bits pins start place entered ((2 * bits + i) ∷ todo) found → IsWalk bits pins start place entered todo found
-  walk_known start found entered place i todo lt was walk = record {
+  pub walk_known : (start found : List ℕ) (entered : List Bool) (place i : ℕ) (left : List ℕ) → i < length pins → was_entered entered i ≡ true → IsWalk bits pins start place entered ((2 * bits + i) ∷ left) found → IsWalk bits pins start place entered left found
+  walk_known start found entered place i left lt was walk = record {
     sized = walk.sized;
     places = λ p m. walk.places p (there m);
     goal = λ met are.
-        ap (λ l. with_bits l (flat_map met todo)) (sym (with_bits-known found (met (2 * bits + i)) (own met are)))
-        ∙ sym (with_bits-append found (met (2 * bits + i)) (flat_map met todo))
+        ap (λ l. with_bits l (flat_map met left)) (sym (with_bits-known found (met (2 * bits + i)) (own met are)))
+        ∙ sym (with_bits-append found (met (2 * bits + i)) (flat_map met left))
         ∙ walk.goal met are;
     closed = λ met are j l is.
-        taken met found found (2 * bits + i) [] todo j (λ p m. absurd (none p m)) (λ bit m. m) (λ bit m. inl (own met are bit m)) (walk.closed met are j l is);
+        taken met found found (2 * bits + i) [] left j (λ p m. absurd (none p m)) (λ bit m. m) (λ bit m. inl (own met are bit m)) (walk.closed met are j l is);
   }
     where
       own : (met : ℕ → List ℕ) → AreMet bits pins met → (bit : ℕ) → Member bit (met (2 * bits + i)) → Member bit found
       own met are bit m = by (walk.closed met are i lt was)
         where
-          by : IsAhead bits met found ((2 * bits + i) ∷ todo) i → Member bit found
+          by : IsAhead bits met found ((2 * bits + i) ∷ left) i → Member bit found
           by is = go is.ahead is.rest is.cut is.earlier (is.met_there bit m)
             where
-              go : (ahead rest : List ℕ) → (2 * bits + i) ∷ todo ≡ ahead ++ rest → ((p : ℕ) → Member p ahead → p < 2 * bits + i) → Member bit found ⊎ Member bit (flat_map met ahead) → Member bit found
+              go : (ahead rest : List ℕ) → (2 * bits + i) ∷ left ≡ ahead ++ rest → ((p : ℕ) → Member p ahead → p < 2 * bits + i) → Member bit found ⊎ Member bit (flat_map met ahead) → Member bit found
               go [] rest cut earlier (inl known) = known
               go [] rest cut earlier (inr later) = absurd (none bit later)
               go (x ∷ ahead) rest cut earlier some = let first : 2 * bits + i ≡ x = cc in let lt : x < 2 * bits + i = earlier x here in absurd (omega arith)
 
   -- the next is a cell that is entered now: what it reads waits in its place
-  pub walk_enters : (start found : List ℕ) (entered : List Bool) (place i : ℕ) (todo : List ℕ) → ReadEarlier bits pins → i < length pins → IsWalk bits pins start place entered ((2 * bits + i) ∷ todo) found → IsWalk bits pins start place (set entered i true) (get_or pins i [] ++ todo) found
-  walk_enters start found entered place i todo earlier lt walk = record {
+  pub walk_enters : (start found : List ℕ) (entered : List Bool) (place i : ℕ) (left : List ℕ) → ReadEarlier bits pins → i < length pins → IsWalk bits pins start place entered ((2 * bits + i) ∷ left) found → IsWalk bits pins start place (set entered i true) (get_or pins i [] ++ left) found
+  walk_enters start found entered place i left earlier lt walk = record {
     sized = length-set entered i true ∙ walk.sized;
-    places = λ p m. elim (Member-append_cases p (get_or pins i []) todo m) [
+    places = λ p m. elim (Member-append_cases p (get_or pins i []) left m) [
       | inl pin ↦ let e : p < 2 * bits + i = reads p pin in omega arith
       | inr old ↦ walk.places p (there old)
     ];
     goal = λ met are.
-        ap (with_bits found) (flat_map-append met (get_or pins i []) todo ∙ ap (λ l. l ++ flat_map met todo) (sym (are.cell i lt)))
+        ap (with_bits found) (flat_map-append met (get_or pins i []) left ∙ ap (λ l. l ++ flat_map met left) (sym (are.cell i lt)))
         ∙ walk.goal met are;
     closed = λ met are j l was. elim (cases_eq j i) [
       | inl same ↦
-          subst (IsAhead bits met found (get_or pins i [] ++ todo)) (sym same)
+          subst (IsAhead bits met found (get_or pins i [] ++ left)) (sym same)
           (record {
             ahead = get_or pins i [];
-            rest = todo;
+            rest = left;
             cut = refl;
             earlier = reads;
             met_there = λ bit m. inr (subst (Member bit) (are.cell i lt) m);
           })
       | inr other ↦
-          taken met found found (2 * bits + i) (get_or pins i []) todo j
+          taken met found found (2 * bits + i) (get_or pins i []) left j
           (λ p m before. let e : p < 2 * bits + i = reads p m in omega arith)
           (λ bit m. m)
           (λ bit m. inr (subst (Member bit) (are.cell i lt) m))
@@ -209,11 +209,11 @@ reversed xs x = reverse-append xs (x ∷ [])
 
 -- a walk whose stack has one place more stands at that place
 pub walk_at : (bits : ℕ) (pins : List (List ℕ)) (start : List ℕ) (place : ℕ) (entered : List Bool) (found stack left : List ℕ) (next : ℕ) → stack ≡ left ++ next ∷ [] → IsWalk bits pins start place entered (reverse stack) found → IsWalk bits pins start place entered (next ∷ reverse left) found
-walk_at bits pins start place entered found stack left next e walk = subst (λ todo. IsWalk bits pins start place entered todo found) (ap reverse e ∙ reversed left next) walk
+walk_at bits pins start place entered found stack left next e walk = subst (λ left. IsWalk bits pins start place entered left found) (ap reverse e ∙ reversed left next) walk
 
 -- the next place is within
-pub next_within : (bits : ℕ) (pins : List (List ℕ)) (start : List ℕ) (place : ℕ) (entered : List Bool) (found todo : List ℕ) (next : ℕ) → IsWalk bits pins start place entered (next ∷ todo) found → next < 2 * bits + length pins
-next_within bits pins start place entered found todo next walk = walk.places next here
+pub next_within : (bits : ℕ) (pins : List (List ℕ)) (start : List ℕ) (place : ℕ) (entered : List Bool) (found left : List ℕ) (next : ℕ) → IsWalk bits pins start place entered (next ∷ left) found → next < 2 * bits + length pins
+next_within bits pins start place entered found left next walk = walk.places next here
 
 -- the next cell
 pub turn_enters : (bits : ℕ) (pins : List (List ℕ)) (start : List ℕ) (place : ℕ) (entered : List Bool) (found left after : List ℕ) (next : ℕ) (ins : List ℕ) → ReadEarlier bits pins → 2 * bits ≤ next → ins ≡ get_or pins (next - 2 * bits) [] → after ≡ left ++ reverse ins → IsWalk bits pins start place entered (next ∷ reverse left) found → IsWalk bits pins start place (set entered (next - 2 * bits) true) (reverse after) found
@@ -223,7 +223,7 @@ turn_enters bits pins start place entered found left after next ins earlier past
     let within : next < 2 * bits + length pins = walk.places next here in
     let lt : i < length pins = omega arith in
     let moved = walk_enters bits pins start found entered place i (reverse left) earlier lt (subst (λ n. IsWalk bits pins start place entered (n ∷ reverse left) found) at walk) in
-    subst (λ todo. IsWalk bits pins start place (set entered i true) todo found)
+    subst (λ left. IsWalk bits pins start place (set entered i true) left found)
     (ap (λ l. l ++ reverse left) (sym are ∙ sym (reverse-reverse ins)) ∙ sym (reverse-append left (reverse ins)) ∙ ap reverse (sym put))
     moved
 
@@ -236,8 +236,8 @@ turn_known bits pins start place entered found left next past was walk =
     walk_known bits pins start found entered place i (reverse left) lt was (subst (λ n. IsWalk bits pins start place entered (n ∷ reverse left) found) at walk)
 
 -- the next cell is within the cells and their marks
-pub cell_within : (bits : ℕ) (pins : List (List ℕ)) (start : List ℕ) (place : ℕ) (entered : List Bool) (found todo : List ℕ) (next : ℕ) → 2 * bits ≤ next → IsWalk bits pins start place entered (next ∷ todo) found → (next - 2 * bits < length entered) × (next - 2 * bits < length pins)
-cell_within bits pins start place entered found todo next past walk =
+pub cell_within : (bits : ℕ) (pins : List (List ℕ)) (start : List ℕ) (place : ℕ) (entered : List Bool) (found left : List ℕ) (next : ℕ) → 2 * bits ≤ next → IsWalk bits pins start place entered (next ∷ left) found → (next - 2 * bits < length entered) × (next - 2 * bits < length pins)
+cell_within bits pins start place entered found left next past walk =
     let within : next < 2 * bits + length pins = walk.places next here in
     let sized : length entered ≡ length pins = walk.sized in
     (omega arith, omega arith)

@@ -1,12 +1,13 @@
 //! The functions of the nets of a stage under a variant, from those under Base.
-ghost use Rattle.std.specs.Prelude.{◌≡◌, ◌<◌, ◌+◌, ◌*◌, [], ◌∷◌, false, true, All, IfNone, IfOk, IfSome, IsErrOf, length, slice_index_or, take};
+ghost use Rattle.std.specs.Prelude.{◌≡◌, ◌<◌, ◌≤◌, ◌+◌, ◌-◌, ◌*◌, ◌⊎◌, ℕ, [], ◌∷◌, false, true, All, IfNone, IfOk, IfSome, IsErrOf, length, slice_index_or, take};
 ghost use Rattle.std.specs.List.{list_any};
 ghost use Rattle.ncl_shape.specs.Stage.{nets_of};
 ghost use Rattle.ncl_space.specs.Making.{HaveTables, MakesAll};
 ghost use Rattle.ncl_space.specs.Space.{IsSpace, Keeps, Makes, fits};
 ghost use Rattle.ncl_stage.specs.Changes.{IsUnreached, MarksChanges, net_at};
 ghost use Rattle.ncl_stage.specs.StageTables.{AreValues, net_table_by, net_tables_by};
-ghost use Rattle.ncl_stage.specs.Wiring.{IsWiring};
+ghost use Rattle.ncl_stage.specs.Values.{kept_low};
+ghost use Rattle.ncl_stage.specs.Wiring.{IsReadUpTo, IsWiring};
 
 use crate::net_values::Values;
 use crate::nets::cell_ref;
@@ -19,7 +20,8 @@ use std::alloc::Global;
 /// The functions of all nets of a stage under a variant, from those under Base, which `base` has, in its order: of the
 /// rails of its inputs, and then of the outputs of its cells.
 ///
-/// Linear in the cells and their pins, and it asks the space for one function for each cell that a changed
+/// Linear in the nets, which are copied, and in the pins of the cells from the first that the variant keeps low to the last
+/// that reads a changed net; it asks the space for one function for each cell that a changed
 /// net reaches. A net has changed where its function isn't that of Base. Every other net keeps the name
 /// that `base` has, or that of the constant 0 where the variant keeps it low. `Full` comes exactly where
 /// the beads held with those of all these functions are more than the limit. What is made before a refusal
@@ -39,9 +41,14 @@ pub fn net_refs_from<P: Space>(
     ensures space { IsSpace (P.meaning space.new) }
     ensures full { IsErrOf result SpaceFault.Full → fits (P.meaning space.old) (net_tables_by base.now.wiring.order stage.now variant) ≡ false }
 {
-    let mut refs = Vec::with_capacity(alloc, base.refs().len())?;
-    let mut changed = Vec::with_capacity(alloc, base.refs().len())?;
-    for place in 0..base.refs().len() {
+    stage.facts();
+    let all = base.refs();
+    let (first, mut last) = forced_places(stage, base.wiring(), variant);
+    let mut refs = Vec::with_capacity(alloc, all.len())?;
+    refs.extend_from_slice(&all[..first])?;
+    let mut changed = vec![in alloc; false; first]?;
+    let mut place = first;
+    while place < all.len() && place <= last {
         let made = ref_from(
             space,
             stage,
@@ -51,10 +58,54 @@ pub fn net_refs_from<P: Space>(
             refs.as_slice(),
             changed.as_slice(),
         )?;
-        changed.push(!space.same(made, base.refs()[place]))?;
+        let is_same = space.same(made, all[place]);
+        last = last_after(base.wiring(), place, is_same, last);
+        changed.push(!is_same)?;
         refs.push(made)?;
+        place += 1;
     }
+    refs.extend_from_slice(&all[place..])?;
     Ok(refs)
+}
+
+// The first and the last place of the nets that the variant keeps low, or one place where it keeps none low. Takes no
+// memory.
+fn forced_places(stage: &Stage, wiring: &Wiring, variant: Variant) -> (usize, usize)
+    requires { IsWiring stage.now wiring.now }
+    ensures within { result.0 ≤ length wiring.now.nets }
+    ensures others { (place : ℕ) → place < length wiring.now.nets → (place < result.0) ⊎ (result.1 < place) → kept_low stage.now variant (net_at stage.now place) ≡ false }
+{
+    stage.facts();
+    match variant {
+        Variant::Base => (0, 0),
+        Variant::Bit(bit) => match stage.inputs.items().get(bit) {
+            Some(pair) => {
+                let zero = wiring.place_of(pair.zero);
+                let one = wiring.place_of(pair.one);
+                (zero.min(one), zero.max(one))
+            }
+            None => (0, 0),
+        },
+        Variant::Cell(cell) => match stage.cells.items().get(cell) {
+            Some(cell) => {
+                let place = wiring.place_of(cell.out);
+                (place, place)
+            }
+            None => (0, 0),
+        },
+    }
+}
+
+// The last place so far that is to be looked at, or that of the last reader of a net that has changed.
+fn last_after(wiring: &Wiring, place: usize, is_same: bool, last: usize) -> usize
+    requires { place < length wiring.now.nets }
+    ensures later { last ≤ result }
+    ensures read { is_same ≡ false → IsReadUpTo (length wiring.now.nets - length wiring.now.pins) wiring.now.pins place result }
+{
+    if is_same {
+        return last;
+    }
+    last.max(wiring.last_reader(place))
 }
 
 // The function of the net at a place, from those of the nets before it, with marks for those that have

@@ -8,6 +8,7 @@ pub mod laws;
 mod net_values;
 mod nets;
 mod outputs;
+mod readers;
 pub mod testing;
 #[cfg(test)]
 mod tests;

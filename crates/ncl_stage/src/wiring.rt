@@ -1,11 +1,12 @@
 //! The nets of a stage by their places.
-ghost use Rattle.std.specs.Prelude.{◌≡◌, ◌<◌, ◌≤◌, IfOk, [], All, Contains, length, map, slice_index_or};
+ghost use Rattle.std.specs.Prelude.{◌≡◌, ◌-◌, ◌<◌, ◌≤◌, IfOk, [], All, Contains, length, map, slice_index_or};
 ghost use Rattle.ncl_netlist.specs.declared.ids.NetId.{NetId};
 ghost use Rattle.ncl_shape.specs.Stage.{nets_of, rail_nets};
 ghost use Rattle.ncl_stage.specs.BitOrder.{IsOrderOf, bit_order};
-ghost use Rattle.ncl_stage.specs.Wiring.{IsWiring, pin_places, place_in, rail_places};
+ghost use Rattle.ncl_stage.specs.Wiring.{IsReadUpTo, IsWiring, pin_places, place_in, rail_places};
 
 use crate::input_order::{BitOrder, order_of};
+use crate::readers::last_readers;
 use arrayvec::ArrayVec;
 use indexmap::IndexSet;
 use ncl_base::Memory;
@@ -15,23 +16,29 @@ use std::alloc::Global;
 use std::marker::Model;
 
 /// The nets of a stage in their order, the rails of its inputs before the outputs of its cells, and what
-/// its cells and outputs read, by places in that order; and an order of the bits of a word.
+/// its cells and outputs read, by places in that order; an order of the bits of a word; and of each net the place
+/// of the last cell that reads it.
 #[derive(Drop)]
 pub struct Wiring {
     nets: IndexSet<u32>,
     pins: Vec<ArrayVec<usize, 4>>,
     outputs: Vec<(usize, usize)>,
     order: BitOrder,
+    last_readers: Vec<usize>,
 }
 
 impl Model for Wiring {
-    ghost use Rattle.std.specs.Prelude.{map, List, ℕ};
+    ghost use Rattle.std.specs.Prelude.{◌-◌, length, map, List, ℕ};
     ghost use Rattle.arrayvec.specs.declared.ArrayVec.{ArrayVec};
     ghost use Rattle.ncl_stage.specs.Wiring.{WiringData};
 
     ghost Value = { WiringData };
 
+    ghost use Rattle.ncl_stage.specs.Wiring.{AreLastReaders};
+
     ghost view = { λ a. record { nets = a.nets.keys; pins = map (λ p. p.items) a.pins.items; outputs = a.outputs.items; order = a.order } };
+
+    ghost invariant = { λ a. AreLastReaders (length a.nets.keys - length a.pins.items) (map (λ p. p.items) a.pins.items) (length a.nets.keys) a.last_readers.items };
 }
 
 impl Wiring {
@@ -47,12 +54,7 @@ impl Wiring {
         let pins = places_of_cells(alloc, &nets, stage)?;
         let outputs = places_of_outputs(alloc, &nets, stage)?;
         let order = order_of(alloc, stage, &pins, &outputs)?;
-        Ok(Wiring {
-            nets,
-            pins,
-            outputs,
-            order,
-        })
+        Wiring::of_parts(alloc, nets, pins, outputs, order)
     }
 
     /// The wiring of a stage, in an order of its bits that is given. An error is want of memory.
@@ -67,11 +69,28 @@ impl Wiring {
         let nets = number_nets(alloc, stage)?;
         let pins = places_of_cells(alloc, &nets, stage)?;
         let outputs = places_of_outputs(alloc, &nets, stage)?;
+        Wiring::of_parts(alloc, nets, pins, outputs, order)
+    }
+
+    // The wiring of these parts. An error is want of memory. Linear in the nets and the pins.
+    fn of_parts(
+        alloc: Global,
+        nets: IndexSet<u32>,
+        pins: Vec<ArrayVec<usize, 4>>,
+        outputs: Vec<(usize, usize)>,
+        order: BitOrder,
+    ) -> Result<Wiring, Memory>
+        requires within { All (All (λ place. place < length nets.keys)) (map (λ p. p.items) pins.items) }
+        requires many { length pins.items ≤ length nets.keys }
+        ensures { IfOk result (λ wiring. wiring ≡ record { nets = nets.keys; pins = map (λ p. p.items) pins.items; outputs = outputs.items; order = order }) }
+    {
+        let last_readers = last_readers(alloc, nets.len(), pins.as_slice())?;
         Ok(Wiring {
             nets,
             pins,
             outputs,
             order,
+            last_readers,
         })
     }
 
@@ -98,6 +117,14 @@ impl Wiring {
         ensures few { length result.now ≤ 4 }
     {
         self.pins[cell].as_slice()
+    }
+
+    /// The place of the last cell that reads the net at a place, or 0. Takes no memory.
+    pub(crate) fn last_reader(&self, place: usize) -> usize
+        requires { place < length self.now.nets }
+        ensures { IsReadUpTo (length self.now.nets - length self.now.pins) self.now.pins place result }
+    {
+        self.last_readers[place]
     }
 
     /// The places of the rails of each output, rail 0 first. Takes no memory.

@@ -1,0 +1,144 @@
+-- Nets that a variant leaves as they are, so that nobody has to look at them.
+use Rattle.std.proofs.Common.{◌≡◌, ◌≢◌, ℕ, zero, suc, ◌+◌, ◌-◌, ◌*◌, ◌<◌, ◌≤◌, Bool, true, false, List, [], ◌∷◌, ◌++◌, length, map, take, drop, get_or, inl, inr, refl, sym, ap, ◌∙◌, subst, arith}
+use Rattle.std.specs.Prelude.{All, Contains, ◌||◌, ◌==◌, ◌⊎◌, Option, Some, None}
+use Rattle.std.proofs.lemmas.Bool.{cases_lt, ne_eqb}
+use Rattle.std.proofs.lemmas.List.{map-append}
+use Rattle.std.specs.List.{take-map, drop-map}
+use Rattle.std.proofs.lemmas.List.Elements.{All-append, All-drop, All-take}
+use Rattle.ncl_base.proofs.Members.{Member-get_or, Contains-from_Member}
+use Rattle.ncl_shape.specs.declared.rails.Rails.{Rails}
+use Rattle.ncl_shape.specs.Stage.{StageData, IsStage, nets_of}
+use Rattle.ncl_space.specs.Space.{SpaceData, IsLive, with_tables}
+use Rattle.ncl_space.specs.Making.{HaveTables}
+use Rattle.ncl_space.specs.declared.space.Ref.{Ref}
+use Rattle.ncl_space.proofs.MakingLaws.{Making, held-along, with_tables-live}
+use Rattle.ncl_stage.specs.BitOrder.{IsOrderOf}
+use Rattle.ncl_stage.specs.declared.variant.Variant.{Variant}
+use Rattle.ncl_stage.specs.declared.variant.Variant.TheVariants.{Base}
+use Rattle.ncl_stage.specs.Changes.{IsUnchanged, net_at}
+use Rattle.ncl_stage.specs.StageTables.{net_table_by, net_tables_by}
+use Rattle.ncl_stage.specs.Values.{both_rails, kept_low}
+use Rattle.ncl_stage.specs.Wiring.{WiringData, IsWiring, place_in}
+use Rattle.ncl_stage.proofs.ChangedLaws.{nets-length, net_at-rail, net_at-cell, pins-before, rail-unreached, places-unreached}
+use Rattle.ncl_stage.proofs.PlaceLaws.{place_in-at}
+
+-- a net stands at one place
+pub place-of : (s : StageData) → IsStage s → (place net : ℕ) → place < length (nets_of s.inputs s.cells) → net_at s place ≡ net → place ≡ place_in (nets_of s.inputs s.cells) net
+place-of s is place net lt at =
+    let nets : List ℕ = nets_of s.inputs s.cells in
+    let stands : Contains nets net = subst (Contains nets) at (Contains-from_Member (net_at s place) (Member-get_or nets place 0 lt)) in
+    let found = place_in-at nets net stands in
+    elim (cases_lt place (place_in nets net)) [
+      | inl before ↦ absurd (is.nets_differ place (place_in nets net) 0 before found.0 (at ∙ sym (found.1 0)))
+      | inr others ↦
+          elim (cases_lt (place_in nets net) place) [
+            | inl after ↦ absurd (is.nets_differ (place_in nets net) place 0 after lt (found.1 0 ∙ sym at))
+            | inr same ↦ omega (arith, others, same)
+          ]
+    ]
+
+-- Some places behind another, up to a last, at which no net is kept low, are unchanged where all that the cells there read
+-- before them is.
+pub unvisited : (s : StageData) (order : List ℕ) → IsOrderOf (length s.inputs) order → IsStage s → (w : WiringData) → IsWiring s w → (variant : Variant) (from to : ℕ) → to ≤ length (nets_of s.inputs s.cells)
+    → ((place : ℕ) → from ≤ place → place < to → kept_low s variant (net_at s place) ≡ false)
+    → ((cell place : ℕ) → from ≤ 2 * length s.inputs + cell → 2 * length s.inputs + cell < to → Contains (get_or w.pins cell []) place → place < from → IsUnchanged order s variant (net_at s place))
+    → (place : ℕ) → from ≤ place → place < to → IsUnchanged order s variant (net_at s place)
+unvisited s order ordered is w wired variant from to within low read place after before = below (suc place) place (omega arith) after before
+  where
+    cell-same : (cell : ℕ) → from ≤ 2 * length s.inputs + cell → 2 * length s.inputs + cell < to → ((p : ℕ) → p < 2 * length s.inputs + cell → from ≤ p → IsUnchanged order s variant (net_at s p)) → IsUnchanged order s variant (net_at s (2 * length s.inputs + cell))
+    cell-same cell after before known =
+        let many = nets-length s in
+        let lt : cell < length s.cells = omega (arith, many) in
+        let pins : List ℕ = get_or w.pins cell [] in
+        let free = low (2 * length s.inputs + cell) after before in
+        subst (IsUnchanged order s variant) (sym (net_at-cell s cell))
+        (places-unreached s order ordered is w wired variant cell lt
+        (λ k d inside.
+        let p = get_or pins k d in
+        elim (cases_lt p from) [
+          | inl front ↦ read cell p after before (Contains-from_Member p (Member-get_or pins k d inside)) front
+          | inr later ↦ known p (pins-before s is w wired cell lt (2 * length s.inputs + cell) refl k d inside) later
+        ])
+        (subst (λ net. kept_low s variant net ≡ false) (net_at-cell s cell) free))
+
+    one : (p : ℕ) → from ≤ p → p < to → ((q : ℕ) → q < p → from ≤ q → IsUnchanged order s variant (net_at s q)) → IsUnchanged order s variant (net_at s p)
+    one p after before known = elim (cases_lt p (2 * length s.inputs)) [
+      | inl rail ↦ rail-unreached s order is variant (net_at s p) (net_at-rail s p rail) (low p after before)
+      | inr out ↦
+          let at : 2 * length s.inputs + (p - 2 * length s.inputs) ≡ p = omega (arith, out) in
+          subst (λ n. IsUnchanged order s variant (net_at s n)) at
+          (cell-same (p - 2 * length s.inputs) (omega (arith, at)) (omega (arith, at)) (λ q lower. known q (omega (arith, at, lower))))
+    ]
+
+    below : (bound p : ℕ) → p < bound → from ≤ p → p < to → IsUnchanged order s variant (net_at s p)
+    below zero p lt after before = absurd (omega (arith, lt))
+    below (suc bound) p lt after before = one p after before (λ q lower later. below bound q (omega (arith, lt, lower)) later (omega (arith, lower, before)))
+
+-- two functions that agree at the first members of a list, or at the last, map them to the same
+map-take : (f g : ℕ → List Bool) (xs : List ℕ) (k : ℕ) → ((i : ℕ) → i < k → i < length xs → f (get_or xs i 0) ≡ g (get_or xs i 0)) → take k (map f xs) ≡ take k (map g xs)
+map-take f g xs zero same = refl
+map-take f g [] (suc k) same = refl
+map-take f g (x ∷ xs) (suc k) same =
+    let first : f x ≡ g x = same 0 (omega arith) (omega arith) in
+    let rest = map-take f g xs k (λ i lt within. same (suc i) (omega (arith, lt)) (omega (arith, within))) in
+    λ i. first i ∷ rest i
+
+map-drop : (f g : ℕ → List Bool) (xs : List ℕ) (k : ℕ) → ((i : ℕ) → k ≤ i → i < length xs → f (get_or xs i 0) ≡ g (get_or xs i 0)) → drop k (map f xs) ≡ drop k (map g xs)
+map-drop f g [] zero same = refl
+map-drop f g [] (suc k) same = refl
+map-drop f g (x ∷ xs) zero same =
+    let first : f x ≡ g x = same 0 (omega arith) (omega arith) in
+    let rest = map-drop f g xs zero (λ i after within. same (suc i) (omega arith) (omega (arith, within))) in
+    λ i. first i ∷ rest i
+map-drop f g (x ∷ xs) (suc k) same = map-drop f g xs k (λ i after within. same (suc i) (omega (arith, after)) (omega (arith, within)))
+
+-- what Refs of Base have at unchanged places is what the variant has there
+pub first-tables : (space : SpaceData) (s : StageData) (order : List ℕ) (variant : Variant) (refs : List Ref) (k : ℕ) → HaveTables space refs (net_tables_by order s Base) → ((place : ℕ) → place < k → place < length (nets_of s.inputs s.cells) → IsUnchanged order s variant (net_at s place)) → HaveTables space (take k refs) (take k (net_tables_by order s variant))
+first-tables space s order variant refs k have same = record {
+  live = All-take (IsLive space) k refs have.live;
+  tables =
+      sym (take-map space.table k refs) ∙ ap (take k) have.tables
+      ∙ sym (map-take (net_table_by order s variant) (net_table_by order s Base) (nets_of s.inputs s.cells) k same);
+}
+
+pub last-tables : (space : SpaceData) (s : StageData) (order : List ℕ) (variant : Variant) (refs : List Ref) (k : ℕ) → HaveTables space refs (net_tables_by order s Base) → ((place : ℕ) → k ≤ place → place < length (nets_of s.inputs s.cells) → IsUnchanged order s variant (net_at s place)) → HaveTables space (drop k refs) (drop k (net_tables_by order s variant))
+last-tables space s order variant refs k have same = record {
+  live = All-drop (IsLive space) k refs have.live;
+  tables =
+      sym (drop-map space.table k refs) ∙ ap (drop k) have.tables
+      ∙ sym (map-drop (net_table_by order s variant) (net_table_by order s Base) (nets_of s.inputs s.cells) k same);
+}
+
+-- Refs that are live are made for nothing
+pub making-live : (old now : SpaceData) (refs more : List Ref) (made shown : List (List Bool)) → Making old now refs made → HaveTables now more shown → Making old now (refs ++ more) (made ++ shown)
+making-live old now refs more made shown m have = record {
+  kept = m.kept;
+  space = m.space;
+  all = record {
+    refs_of = record {
+      live = All-append (IsLive now) refs more m.all.refs_of.live have.live;
+      tables = map-append now.table refs more ∙ (λ i. m.all.refs_of.tables i ++ have.tables i);
+    };
+    held = held-along old now now made shown m.kept m.all.held (sym (with_tables-live now m.space more have.live) ∙ ap (with_tables now) have.tables);
+  };
+}
+
+-- a net at another place than those of the nets that are kept low isn't kept low
+pub other-rail : (s : StageData) → IsStage s → (r : Rails) (first last place : ℕ) → first ≤ place_in (nets_of s.inputs s.cells) r.zero.0 → first ≤ place_in (nets_of s.inputs s.cells) r.one.0 → place_in (nets_of s.inputs s.cells) r.zero.0 ≤ last → place_in (nets_of s.inputs s.cells) r.one.0 ≤ last → place < length (nets_of s.inputs s.cells) → (place < first) ⊎ (last < place) → both_rails (Some r) (net_at s place) ≡ false
+other-rail s is r first last place zero_first one_first zero_last one_last lt outside = neither (net_at s place == r.zero.0) (net_at s place == r.one.0) (apart r.zero.0 zero_first zero_last) (apart r.one.0 one_first one_last)
+  where
+    nets : List ℕ
+    nets = nets_of s.inputs s.cells
+
+    apart : (net : ℕ) → first ≤ place_in nets net → place_in nets net ≤ last → (net_at s place == net) ≡ false
+    apart net low high = ne_eqb (net_at s place) net (λ at.
+        let found = place-of s is place net lt at in
+        elim outside [ inl before ↦ omega (arith, found, low, before) | inr after ↦ omega (arith, found, high, after) ])
+
+    neither : (a b : Bool) → a ≡ false → b ≡ false → (a || b) ≡ false
+    neither a b e f = (λ i. e i || b) ∙ f
+
+pub other-output : (s : StageData) → IsStage s → (net place : ℕ) → place < length (nets_of s.inputs s.cells) → (place < place_in (nets_of s.inputs s.cells) net) ⊎ (place_in (nets_of s.inputs s.cells) net < place) → (net_at s place == net) ≡ false
+other-output s is net place lt outside = ne_eqb (net_at s place) net (λ at.
+    let found = place-of s is place net lt at in
+    elim outside [ inl before ↦ omega (arith, found, before) | inr after ↦ omega (arith, found, after) ])

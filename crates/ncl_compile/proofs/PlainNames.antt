@@ -8,8 +8,8 @@ use Rattle.std.proofs.lemmas.Bool.{and_parts, and_from, or_cases, or_left, or_ri
 use Rattle.std.proofs.lemmas.Fmt.{decimal_by_steps}
 use Rattle.std.proofs.lemmas.List.{length-append}
 use Rattle.ncl_token.specs.Bytes.{is_letter, is_digit, begins_word, continues_word}
-use Rattle.ncl_reader.specs.declared.keyword.Keyword.TheVariants.{Module, EndModule, LeftOut, Way as word_of}
-use Rattle.ncl_reader.specs.declared.keyword.Way.TheVariants.{Input, Output, Wire}
+use Rattle.ncl_reader.specs.declared.keyword.Keyword.TheVariants.{Module, EndModule, Wire, LeftOut, Way as word_of}
+use Rattle.ncl_reader.specs.declared.keyword.Way.TheVariants.{Input, Output}
 use Rattle.ncl_reader.specs.Words.{keyword_of, left_out}
 use Rattle.ncl_writer.specs.Names.{is_plain}
 use Rattle.ncl_tree.specs.PartNames.{is_name_byte, IsPartName}
@@ -49,7 +49,7 @@ unreserved a b rest digit =
     (other (codes "module") refl) (other (codes "endmodule") refl) (other (codes "input") refl) (other (codes "output") refl) (other (codes "wire") refl) (other_words a b rest left_out digit refl)
   where
     by : (m e i o w l : Bool) → m ≡ false → e ≡ false → i ≡ false → o ≡ false → w ≡ false → l ≡ false
-        → (if m then Some Module else (if e then Some EndModule else (if i then Some (word_of Input) else (if o then Some (word_of Output) else (if w then Some (word_of Wire) else (if l then Some LeftOut else None)))))) ≡ None
+        → (if m then Some Module else (if e then Some EndModule else (if i then Some (word_of Input) else (if o then Some (word_of Output) else (if w then Some Wire else (if l then Some LeftOut else None)))))) ≡ None
     by m e i o w l a b c d f g = rw (a, b, c, d, f, g) refl
 
 -- a letter, a digit, and bytes with which a word goes on

@@ -11,28 +11,29 @@ use Rattle.ncl_reader.proofs.Runs.{run-append, run-spelled}
 use Rattle.ncl_reader.proofs.Grows.{grows-run}
 use Rattle.ncl_reader.proofs.Viable.{front_run, not_taken}
 use Rattle.ncl_reader.proofs.Breaking.{breaks-taken}
+use Rattle.ncl_reader.proofs.PlainNames.{NoBracket, front_none}
 
 -- from a partial tree on, no token of the list breaks a rule
 abbrev pub Clean : Partial → List Lexeme → Type 0
-Clean p xs = (before : List Lexeme) (t : Lexeme) (after : List Lexeme) (q : Partial) → xs ≡ before ++ t ∷ after → run p before ≡ Some q → BreaksRule (spelled q) t → ⊥
+Clean p xs = (before : List Lexeme) (t : Lexeme) (after : List Lexeme) (q : Partial) → xs ≡ before ++ t ∷ after → run p before ≡ Some q → NoBracket (spelled q) → BreaksRule (spelled q) t → ⊥
 
 pub clean-none : (p : Partial) → Clean p []
-clean-none p [] t after q e at breaks = absurd cc
-clean-none p (b ∷ before) t after q e at breaks = absurd cc
+clean-none p [] t after q e at none breaks = absurd cc
+clean-none p (b ∷ before) t after q e at none breaks = absurd cc
 
 -- one token in front
-pub clean-one : (p q : Partial) (t : Lexeme) (xs : List Lexeme) → step p t ≡ Some q → (BreaksRule (spelled p) t → ⊥) → Clean q xs → Clean p (t ∷ xs)
-clean-one p q t xs some no_rule clean [] u after r e at breaks =
+pub clean-one : (p q : Partial) (t : Lexeme) (xs : List Lexeme) → step p t ≡ Some q → (NoBracket (spelled p) → BreaksRule (spelled p) t → ⊥) → Clean q xs → Clean p (t ∷ xs)
+clean-one p q t xs some no_rule clean [] u after r e at none breaks =
     let same : t ≡ u = cc in
-    no_rule (subst (λ z. BreaksRule (spelled p) z) (sym same) (subst (λ s. BreaksRule (spelled s) u) (sym (same_Some p r at)) breaks))
-clean-one p q t xs some no_rule clean (b ∷ before) u after r e at breaks =
+    no_rule (subst (λ s. NoBracket (spelled s)) (sym (same_Some p r at)) none) (subst (λ z. BreaksRule (spelled p) z) (sym same) (subst (λ s. BreaksRule (spelled s) u) (sym (same_Some p r at)) breaks))
+clean-one p q t xs some no_rule clean (b ∷ before) u after r e at none breaks =
     let same : t ≡ b = cc in
     let rest : xs ≡ before ++ u ∷ after = cc in
     let at_q : run q before ≡ Some r = sym (ap (λ s. option_and_then (λ x. run x before) s) some) ∙ ap (λ z. option_and_then (λ x. run x before) (step p z)) same ∙ at in
-    clean before u after r rest at_q breaks
+    clean before u after r rest at_q none breaks
 
 -- one token alone
-pub clean-last : (p q : Partial) (t : Lexeme) → step p t ≡ Some q → (BreaksRule (spelled p) t → ⊥) → Clean p (t ∷ [])
+pub clean-last : (p q : Partial) (t : Lexeme) → step p t ≡ Some q → (NoBracket (spelled p) → BreaksRule (spelled p) t → ⊥) → Clean p (t ∷ [])
 clean-last p q t some no_rule = clean-one p q t [] some no_rule (clean-none q)
 
 -- behind the first token
@@ -47,16 +48,17 @@ clean-append p q (x ∷ xs) ys e front back = by (step p x) (λ r e clean. clean
   where
     by : (next : Option Partial) → ((r : Partial) → run r xs ≡ Some q → Clean r xs → Clean r (xs ++ ys)) → step p x ≡ next → option_and_then (λ r. run r xs) next ≡ Some q → Clean p (x ∷ (xs ++ ys))
     by None rec s e = absurd (none-some q e)
-    by (Some r) rec s e = clean-one p r x (xs ++ ys) s (λ breaks. front [] x xs p refl refl breaks) (rec r e (behind p r x xs s front))
+    by (Some r) rec s e = clean-one p r x (xs ++ ys) s (λ none breaks. front [] x xs p refl refl none breaks) (rec r e (behind p r x xs s front))
 
--- a derived list in which no rule is broken is one in which no token breaks
-pub unbroken-clean : (text : Text) → Clean start (text_phrase text) → NoneBreaks (text_phrase text)
-unbroken-clean text clean before t after e breaks =
+-- a derived list without brackets in which no rule is broken is one in which no token breaks
+pub unbroken-clean : (text : Text) → NoBracket (text_phrase text) → Clean start (text_phrase text) → NoneBreaks (text_phrase text)
+unbroken-clean text none clean before t after e breaks =
     let all = done text.head text.items in
     let whole : run start (before ++ t ∷ after) ≡ Some all = ap (run start) (sym e) ∙ run-spelled all in
     let (q, at) = front_run start all before (t ∷ after) whole in
     let here : spelled q ≡ before = grows-run start q before at in
-    by q (step q t) refl (sym (run-append start q before (t ∷ after) at) ∙ whole) (subst (λ b. Breaks b t) (sym here) breaks) (clean before t after q e at)
+    let front : NoBracket (spelled q) = subst NoBracket (sym here) (front_none (text_phrase text) before (t ∷ after) e none) in
+    by q (step q t) refl (sym (run-append start q before (t ∷ after) at) ∙ whole) (subst (λ b. Breaks b t) (sym here) breaks) (clean before t after q e at front)
   where
     by : (q : Partial) (next : Option Partial) → step q t ≡ next → run q (t ∷ after) ≡ Some (done text.head text.items) → Breaks (spelled q) t → (BreaksRule (spelled q) t → ⊥) → ⊥
     by q None s goes breaks no_rule = not_taken q (done text.head text.items) t after s goes

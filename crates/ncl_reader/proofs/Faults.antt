@@ -3,66 +3,33 @@ use Rattle.std.proofs.Common.{◌≡◌, List, [], ◌∷◌, ◌++◌, inl, inr
 use Rattle.std.proofs.lemmas.List.{map-append}
 use Rattle.ncl_reader.specs.declared.net_fault.NetFault.{NetFault}
 use Rattle.ncl_reader.specs.declared.net_fault.NetFault.TheVariants.{Syntax, UnknownCell, BadPins, Unsupported, Build, Memory}
-use Rattle.ncl_reader.specs.declared.lexeme.Sign.TheVariants.{RParen}
-use Rattle.ncl_reader.specs.declared.place.Place.{Place}
-use Rattle.ncl_reader.specs.declared.place.Place.TheVariants as place
-use Rattle.ncl_reader.specs.Lexemes.{Lexeme, Name, Mark, Placed, lexemes}
-use Rattle.ncl_reader.specs.Refusals.{IsAtItem, IsAtConn, IsAtPin, IsAtNet, IsAtClose, IsUnknown, HasBadPins, IsLeftOut, IsFaultAt, IsRefusedAt}
+use Rattle.ncl_reader.specs.Lexemes.{Lexeme, Placed, lexemes}
+use Rattle.ncl_reader.specs.Refusals.{IsFaultAt, IsRefusedAt}
 use Rattle.ncl_reader.specs.Rules.{Breaks, NoneBreaks}
-use Rattle.ncl_reader.specs.Partial.{Partial, at_item, inside, joining, dotted, opened, joined, spelled, place_of}
-use Rattle.ncl_reader.proofs.Viable.{same_tree}
-
--- what stands at two places is at one
-one_place : (before : List Lexeme) (p q : Partial) → before ≡ spelled p → before ≡ spelled q → place_of p ≡ place_of q
-one_place before p q one other = ap place_of (same_tree p q (sym one ∙ other))
-
--- two places differ, where nothing stands at both
-apart : (before : List Lexeme) (p q : Partial) (P : Place → Type 0) → before ≡ spelled p → before ≡ spelled q → P (place_of p) → P (place_of q)
-apart before p q P one other = subst P (one_place before p q one other)
 
 module _ (before : List Lexeme) where
-  item_conn : IsAtItem before → IsAtConn before → ⊥
-  item_conn (h, is, e) (g, js, cell, name, conns, f) = let same : place.Item ≡ place.Connection = one_place before (at_item h is) (inside g js (joining cell name conns)) e f in cc
-
-  item_pin : IsAtItem before → IsAtPin before → ⊥
-  item_pin (h, is, e) (g, js, cell, name, conns, f) = let same : place.Item ≡ place.Pin = one_place before (at_item h is) (inside g js (dotted cell name conns)) e f in cc
-
-  conn_pin : IsAtConn before → IsAtPin before → ⊥
-  conn_pin (h, is, cell, name, conns, e) (g, js, other, second, joins, f) = let same : place.Connection ≡ place.Pin = one_place before (inside h is (joining cell name conns)) (inside g js (dotted other second joins)) e f in cc
-
-  net_close : IsAtNet before → IsAtClose before → ⊥
-  net_close (h, is, cell, name, conns, pin, e) (g, js, other, second, joins, f) = let same : place.Net ≡ place.AfterConnection = one_place before (inside h is (opened cell name conns pin)) (inside g js (joined other second joins.before joins.last)) e f in cc
-
-  -- the rules exclude one another
-  unknown_pins : (t : Lexeme) → IsUnknown before t → HasBadPins before t → ⊥
-  unknown_pins (Name x) one other = item_pin one other
-  unknown_pins t one other = absurd one
-
-  unknown_left : (t : Lexeme) → IsUnknown before t → IsLeftOut before t → ⊥
-  unknown_left (Name x) one other = item_conn one other
-  unknown_left t one other = absurd one
-
-  pins_left : (t : Lexeme) → HasBadPins before t → IsLeftOut before t → ⊥
-  pins_left (Name x) one other = conn_pin other one
-  pins_left (Mark RParen) one other = net_close other one
-  pins_left t one other = absurd one
-
   one_fault_at : (t : Placed) (fault other : NetFault) → IsFaultAt before t fault → IsFaultAt before t other → fault ≡ other
   one_fault_at t (UnknownCell p) (UnknownCell q) one other = ap UnknownCell (one.0 ∙ sym other.0)
-  one_fault_at t (UnknownCell p) (BadPins q) one other = absurd (unknown_pins t.lexeme one.1 other.1)
-  one_fault_at t (UnknownCell p) (Unsupported q) one other = absurd (unknown_left t.lexeme one.1 other.1)
+  one_fault_at t (UnknownCell p) (BadPins q) one other = absurd (other.1 one.1)
+  one_fault_at t (UnknownCell p) (Unsupported q) one other = absurd (other.1 one.1)
   one_fault_at t (UnknownCell p) (Syntax q) one other = absurd (other.1 one.1)
-  one_fault_at t (BadPins p) (UnknownCell q) one other = absurd (unknown_pins t.lexeme other.1 one.1)
+  one_fault_at t (BadPins p) (UnknownCell q) one other = absurd (one.1 other.1)
   one_fault_at t (BadPins p) (BadPins q) one other = ap BadPins (one.0 ∙ sym other.0)
-  one_fault_at t (BadPins p) (Unsupported q) one other = absurd (pins_left t.lexeme one.1 other.1)
-  one_fault_at t (BadPins p) (Syntax q) one other = absurd (other.2 one.1)
-  one_fault_at t (Unsupported p) (UnknownCell q) one other = absurd (unknown_left t.lexeme other.1 one.1)
-  one_fault_at t (Unsupported p) (BadPins q) one other = absurd (pins_left t.lexeme other.1 one.1)
+  one_fault_at t (BadPins p) (Unsupported q) one other = absurd (other.2 one.2)
+  one_fault_at t (BadPins p) (Syntax q) one other = absurd (other.2 one.2)
+  one_fault_at t (Unsupported p) (UnknownCell q) one other = absurd (one.1 other.1)
+  one_fault_at t (Unsupported p) (BadPins q) one other = absurd (one.2 other.2)
   one_fault_at t (Unsupported p) (Unsupported q) one other = ap Unsupported (one.0 ∙ sym other.0)
-  one_fault_at t (Unsupported p) (Syntax q) one other = absurd (other.3 one.1)
+  one_fault_at t (Unsupported p) (Syntax q) one other = absurd (elim other.3 [
+    | inl misread ↦ one.3 misread
+    | inr other_case ↦ other_case one.4
+  ])
   one_fault_at t (Syntax p) (UnknownCell q) one other = absurd (one.1 other.1)
-  one_fault_at t (Syntax p) (BadPins q) one other = absurd (one.2 other.1)
-  one_fault_at t (Syntax p) (Unsupported q) one other = absurd (one.3 other.1)
+  one_fault_at t (Syntax p) (BadPins q) one other = absurd (one.2 other.2)
+  one_fault_at t (Syntax p) (Unsupported q) one other = absurd (elim one.3 [
+    | inl misread ↦ other.3 misread
+    | inr other_case ↦ other_case other.4
+  ])
   one_fault_at t (Syntax p) (Syntax q) one other = ap Syntax (one.0 ∙ sym other.0)
   one_fault_at t (Build f) fault one other = absurd one
   one_fault_at t Memory fault one other = absurd one

@@ -1,12 +1,13 @@
 -- The loop over tokens, and what is left of them.
-use Rattle.std.proofs.Common.{◌≡◌, ℕ, List, [], ◌∷◌, ◌++◌, drop, length, refl, sym, subst, append_assoc, Option, Some, None, Ok, Err, Result}
+use Rattle.std.proofs.Common.{◌≡◌, ℕ, ◌+◌, ◌≤◌, arith, List, [], ◌∷◌, ◌++◌, map, drop, length, refl, sym, ap, ◌∙◌, subst, append_assoc, Option, Some, None, Ok, Err, Result}
+use Rattle.std.proofs.lemmas.List.{length-append, length-map}
 use Rattle.ncl_netlist.specs.declared.parts.Parts.{Parts}
 use Rattle.ncl_token.specs.declared.token.Token.{Token}
 use Rattle.ncl_token.specs.Spaces.{IsSpace}
 use Rattle.ncl_token.specs.Tokens.{AreTokens, TokensOf, IsNextToken, IsBadByte, Stop, End as at_end, Bad as at_bad, at_end as none_left, at_bad_byte}
 use Rattle.ncl_token.specs.Reading.{IsAnswer}
 use Rattle.ncl_token.proofs.OneList.{list_once}
-use Rattle.ncl_token.proofs.Left.{next_left}
+use Rattle.ncl_token.proofs.Left.{next_left, tokens_few}
 use Rattle.ncl_reader.specs.declared.place.Place.{Place}
 use Rattle.ncl_reader.specs.declared.place.Place.TheVariants as place
 use Rattle.ncl_reader.specs.declared.net_fault.NetFault.{NetFault}
@@ -89,3 +90,14 @@ refused-fault bytes fault is = is
 
 pub whole-at : (bytes : List ℕ) (at : ℕ) (here : Place) (draft : Draft) (parts : Parts) → here ≡ place.End → LoopAt bytes at here draft → IsSpace (drop at bytes) [] → ((p : Partial) → HoldsAt place.End draft p → SaysAt p parts) → Reads bytes parts
 whole-at bytes at here draft parts is loop space says = let ends = subst (λ h. LoopAt bytes at h draft) is loop in loop-whole bytes at draft ends parts space (says ends.kept.stands.tree ends.kept.holds)
+
+-- what is read are no more tokens than bytes
+pub few_before : (bytes : List ℕ) (at : ℕ) (here : Place) (draft : Draft) (loop : LoopAt bytes at here draft) → length (spelled loop.kept.stands.tree) ≤ length bytes
+few_before bytes at here draft loop =
+    let (tokens, stop, are, is) = loop.lexed in
+    let tree : length (spelled loop.kept.stands.tree) ≡ length loop.before = ap length loop.kept.stands.is ∙ length-map loop.before _ in
+    let whole : length (loop.before ++ placed_in bytes loop.left loop.stop) ≡ length loop.before + length (placed_in bytes loop.left loop.stop) = length-append loop.before (placed_in bytes loop.left loop.stop) in
+    let rest : length (placed_in bytes loop.left loop.stop) ≡ length (map (placed_of bytes) loop.left) + 1 = length-append (map (placed_of bytes) loop.left) (stop_of bytes loop.stop ∷ []) in
+    let placed : length (placed_in bytes tokens stop) ≡ length tokens + 1 = length-append (map (placed_of bytes) tokens) (stop_of bytes stop ∷ []) ∙ ap (λ n. n + 1) (length-map tokens (placed_of bytes)) in
+    let same : length (loop.before ++ placed_in bytes loop.left loop.stop) ≡ length (placed_in bytes tokens stop) = ap length is in
+    omega (arith, tree, whole, rest, placed, same, tokens_few 0 bytes tokens stop are)

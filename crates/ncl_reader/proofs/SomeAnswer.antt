@@ -15,7 +15,7 @@ use Rattle.ncl_reader.specs.declared.net_fault.NetFault.TheVariants.{Syntax}
 use Rattle.ncl_reader.specs.Lexemes.{Lexeme, Word, Name, End, Placed, lexemes}
 use Rattle.ncl_reader.specs.Grammar.{Item, Declares, Joins, Head, Text, item_phrase, head_phrase, body_phrase, text_phrase, header_of, all_of}
 use Rattle.ncl_reader.specs.Rules.{Breaks, NoneBreaks}
-use Rattle.ncl_reader.specs.Says.{net_on, port_said, joined_in, AreCellsOf, Says}
+use Rattle.ncl_reader.specs.Says.{net_on, ports_said, joined_in, AreCellsOf, Says}
 use Rattle.ncl_reader.specs.Refusals.{IsRefusedAt}
 use Rattle.ncl_reader.specs.Reads.{placed_of, placed_in, IsLexed, Reads, IsRefused}
 use Rattle.ncl_reader.specs.Partial.{Partial, spelled}
@@ -23,7 +23,8 @@ use Rattle.ncl_reader.proofs.Steps.{step}
 use Rattle.ncl_reader.proofs.Grows.{grows}
 use Rattle.ncl_reader.proofs.Breaking.{breaks-untaken, breaks-taken}
 use Rattle.ncl_reader.proofs.Standing.{Stands, stands-first, stands-more, stands-broken, stands-bad, stands-whole, end-cases, cut-end}
-use Rattle.ncl_reader.proofs.SomeFault.{some_fault, rule_or_not}
+use Rattle.ncl_reader.proofs.SomeFault.{some_fault}
+use Rattle.ncl_reader.proofs.Rules.{rule_or_not}
 
 -- a token is refused, or the list is derived and none breaks
 abbrev Ends : List Placed → Type 0
@@ -67,12 +68,12 @@ next_item head some items item tail =
 -- where no token breaks each instance is of a cell
 some_cells : (head : Head) (some items : List Item) (tail : List Lexeme) → NoneBreaks (body_phrase head some ++ (flat_map item_phrase items ++ tail)) → (cells : List PartCell) × AreCellsOf (flat_map joined_in items) cells
 some_cells head some [] tail none = ([], tt)
-some_cells head some (Declares way names ∷ items) tail none = some_cells head (some ++ Declares way names ∷ []) items tail (subst NoneBreaks (next_item head some items (Declares way names) tail) none)
+some_cells head some (Declares group ∷ items) tail none = some_cells head (some ++ Declares group ∷ []) items tail (subst NoneBreaks (next_item head some items (Declares group) tail) none)
 some_cells head some (Joins cell name conns ∷ items) tail none =
     let (cells, are) = some_cells head (some ++ Joins cell name conns ∷ []) items tail (subst NoneBreaks (next_item head some items (Joins cell name conns) tail) none) in
     elim (cell_or_none cell) [
       | inl (kind, is) ↦ (record { kind = kind; name = name; pins = map (λ pin. unwrap_or (net_on (all_of conns) pin) []) (pins_of kind) } ∷ cells, (record { kind = is; name = refl; pins = refl }, are))
-      | inr other ↦ absurd (none (body_phrase head some) (Name cell) _ refl (inr (inr (inr (inl (record { head = head; items = some; is = refl; none = other }))))))
+      | inr other ↦ absurd (none (body_phrase head some) (Name cell) _ refl (inr (inr (inr (inr (inl (record { head = head; items = some; is = refl; none = other })))))))
     ]
 
 some_parts : (text : Text) → NoneBreaks (text_phrase text) → (parts : Parts) × Says text parts
@@ -81,7 +82,7 @@ some_parts text none =
     let tail = Word EndModule ∷ End ∷ [] in
     let parted : text_phrase text ≡ body_phrase head [] ++ (flat_map item_phrase text.items ++ tail) = append_assoc (head_phrase head) (flat_map item_phrase text.items) tail ∙ ap (λ l. l ++ (flat_map item_phrase text.items ++ tail)) (sym (append-nil (head_phrase head))) in
     let (cells, are) = some_cells head [] text.items tail (subst NoneBreaks parted none) in
-    (record { «module» = head.name; ports = map (port_said text.items) (header_of head); cells = cells }, record { title = refl; ports = refl; cells = are })
+    (record { «module» = head.name; ports = flat_map (ports_said text) (header_of head); cells = cells }, record { title = refl; ports = refl; cells = are })
 
 pub some_answer : (bytes : List ℕ) → ((parts : Parts) × Reads bytes parts) ⊎ ((fault : NetFault) × IsRefused bytes fault)
 some_answer bytes =

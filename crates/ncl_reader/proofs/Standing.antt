@@ -8,7 +8,7 @@ use Rattle.ncl_reader.specs.Lexemes.{End, Bad, Placed, lexemes}
 use Rattle.ncl_reader.specs.Grammar.{Head, Item, text_phrase}
 use Rattle.ncl_reader.specs.Rules.{Breaks, BreaksRule, NoneBreaks}
 use Rattle.ncl_reader.specs.Refusals.{IsFaultAt, IsRefusedAt}
-use Rattle.ncl_reader.specs.Partial.{Partial, start, ended, done, inside, declaring, declared, celled, named, joining, dotted, pinned, opened, netted, joined, closed, spelled, place_of}
+use Rattle.ncl_reader.specs.Partial.{led, bracketed, firsted, coloned, lasted, ranged, leading, naming, going, Partial, start, heading, ended, done, inside, declaring, celled, named, joining, dotted, pinned, opened, netted, indexing, indexed, picked, joined, closed, spelled, place_of}
 use Rattle.ncl_reader.proofs.Steps.{step}
 use Rattle.ncl_reader.proofs.Grows.{grows}
 use Rattle.ncl_reader.proofs.Breaking.{breaks-untaken, breaks-taken, unbroken-more}
@@ -52,29 +52,63 @@ module _ (before : List Placed) (stands : Stands before) where
 
 -- the end of the text is taken behind `endmodule` alone, and a bad byte nowhere
 pub bad-untaken : (p : Partial) → step p Bad ≡ None
-bad-untaken (inside head items (declaring way names)) = refl
-bad-untaken (inside head items (declared way names last)) = refl
+bad-untaken (heading name before (leading (led l))) = refl
+bad-untaken (heading name before (leading (bracketed l))) = refl
+bad-untaken (heading name before (leading (firsted l first))) = refl
+bad-untaken (heading name before (leading (coloned l first))) = refl
+bad-untaken (heading name before (leading (lasted l first last))) = refl
+bad-untaken (heading name before (leading (ranged l range))) = refl
+bad-untaken (heading name before (naming spec names last)) = refl
+bad-untaken (heading name before (going spec names)) = refl
+bad-untaken (inside head items (declaring (leading (led l)))) = refl
+bad-untaken (inside head items (declaring (leading (bracketed l)))) = refl
+bad-untaken (inside head items (declaring (leading (firsted l first)))) = refl
+bad-untaken (inside head items (declaring (leading (coloned l first)))) = refl
+bad-untaken (inside head items (declaring (leading (lasted l first last)))) = refl
+bad-untaken (inside head items (declaring (leading (ranged l range)))) = refl
+bad-untaken (inside head items (declaring (naming spec names last))) = refl
+bad-untaken (inside head items (declaring (going spec names))) = refl
 bad-untaken (inside head items (celled cell)) = refl
 bad-untaken (inside head items (named cell name)) = refl
 bad-untaken (inside head items (joining cell name conns)) = refl
 bad-untaken (inside head items (dotted cell name conns)) = refl
 bad-untaken (inside head items (pinned cell name conns pin)) = refl
 bad-untaken (inside head items (opened cell name conns pin)) = refl
-bad-untaken (inside head items (netted cell name conns conn)) = refl
+bad-untaken (inside head items (netted cell name conns pin net)) = refl
+bad-untaken (inside head items (indexing cell name conns pin net)) = refl
+bad-untaken (inside head items (indexed cell name conns pin net digits)) = refl
+bad-untaken (inside head items (picked cell name conns pin net digits)) = refl
 bad-untaken (inside head items (joined cell name conns conn)) = refl
 bad-untaken (inside head items (closed cell name conns conn)) = refl
 bad-untaken p = refl
 
 pub end-cases : (p : Partial) → (step p End ≡ None) ⊎ ((head : Head) × (items : List Item) × (p ≡ ended head items))
-end-cases (inside head items (declaring way names)) = inl refl
-end-cases (inside head items (declared way names last)) = inl refl
+end-cases (heading name before (leading (led l))) = inl refl
+end-cases (heading name before (leading (bracketed l))) = inl refl
+end-cases (heading name before (leading (firsted l first))) = inl refl
+end-cases (heading name before (leading (coloned l first))) = inl refl
+end-cases (heading name before (leading (lasted l first last))) = inl refl
+end-cases (heading name before (leading (ranged l range))) = inl refl
+end-cases (heading name before (naming spec names last)) = inl refl
+end-cases (heading name before (going spec names)) = inl refl
+end-cases (inside head items (declaring (leading (led l)))) = inl refl
+end-cases (inside head items (declaring (leading (bracketed l)))) = inl refl
+end-cases (inside head items (declaring (leading (firsted l first)))) = inl refl
+end-cases (inside head items (declaring (leading (coloned l first)))) = inl refl
+end-cases (inside head items (declaring (leading (lasted l first last)))) = inl refl
+end-cases (inside head items (declaring (leading (ranged l range)))) = inl refl
+end-cases (inside head items (declaring (naming spec names last))) = inl refl
+end-cases (inside head items (declaring (going spec names))) = inl refl
 end-cases (inside head items (celled cell)) = inl refl
 end-cases (inside head items (named cell name)) = inl refl
 end-cases (inside head items (joining cell name conns)) = inl refl
 end-cases (inside head items (dotted cell name conns)) = inl refl
 end-cases (inside head items (pinned cell name conns pin)) = inl refl
 end-cases (inside head items (opened cell name conns pin)) = inl refl
-end-cases (inside head items (netted cell name conns conn)) = inl refl
+end-cases (inside head items (netted cell name conns pin net)) = inl refl
+end-cases (inside head items (indexing cell name conns pin net)) = inl refl
+end-cases (inside head items (indexed cell name conns pin net digits)) = inl refl
+end-cases (inside head items (picked cell name conns pin net digits)) = inl refl
 end-cases (inside head items (joined cell name conns conn)) = inl refl
 end-cases (inside head items (closed cell name conns conn)) = inl refl
 end-cases (ended head items) = inr (head, items, refl)
@@ -88,10 +122,10 @@ end-untaken p other = elim (end-cases p) [
 
 -- either of them is a fault of syntax at its place
 pub cut-end : (p : Partial) (at : ℕ) → IsFaultAt (spelled p) (record { lexeme = End; place = at }) (Syntax at)
-cut-end p at = (refl, λ none. none, λ none. none, λ none. none)
+cut-end p at = (refl, λ none. none, λ none. none, inr (λ none. none))
 
 pub cut-bad : (p : Partial) (at : ℕ) → IsFaultAt (spelled p) (record { lexeme = Bad; place = at }) (Syntax at)
-cut-bad p at = (refl, λ none. none, λ none. none, λ none. none)
+cut-bad p at = (refl, λ none. none, λ none. none, inr (λ none. none))
 
 module _ (before : List Placed) (stands : Stands before) (at : ℕ) where
   pub stands-bad : IsRefusedAt (before ++ record { lexeme = Bad; place = at } ∷ []) (Syntax at)

@@ -3,10 +3,10 @@ use Rattle.std.proofs.Common.{◌≡◌, List, [], ◌∷◌, ◌++◌, Option, 
 use Rattle.std.specs.Prelude.{option_and_then, codes}
 use Rattle.std.proofs.lemmas.Option.{same_Some, none-some}
 use Rattle.ncl_reader.specs.declared.keyword.Keyword.TheVariants.{Module, EndModule}
-use Rattle.ncl_reader.specs.declared.lexeme.Sign.TheVariants.{LParen, RParen, Semi, Dot}
-use Rattle.ncl_reader.specs.Lexemes.{Lexeme, Word, Name, Mark, End}
+use Rattle.ncl_reader.specs.declared.lexeme.Sign.TheVariants.{LParen, RParen, Semi, Dot, RBracket, Colon}
+use Rattle.ncl_reader.specs.Lexemes.{Lexeme, Word, Name, Number, Mark, End}
 use Rattle.ncl_reader.specs.Grammar.{Text, Begins}
-use Rattle.ncl_reader.specs.Partial.{Partial, start, begun, titled, listing, listed, headed, at_item, inside, ended, done, ItemPart, declaring, declared, celled, named, joining, dotted, pinned, opened, netted, joined, closed, spelled}
+use Rattle.ncl_reader.specs.Partial.{LeadPart, led, bracketed, firsted, coloned, lasted, ranged, GroupPart, leading, naming, going, Partial, start, begun, titled, listing, listed, heading, headed, at_item, inside, ended, done, ItemPart, declaring, celled, named, joining, dotted, pinned, opened, netted, indexing, indexed, picked, joined, closed, spelled}
 use Rattle.ncl_reader.proofs.Steps.{step, run}
 use Rattle.ncl_reader.proofs.Runs.{run-append, run-spelled}
 use Rattle.ncl_reader.proofs.Grows.{grows-run}
@@ -15,16 +15,31 @@ use Rattle.ncl_reader.proofs.Grows.{grows-run}
 abbrev pub to_end : List Lexeme
 to_end = Word EndModule ∷ End ∷ []
 
+abbrev pub lead_rest : {L : Type 0} → LeadPart L → List Lexeme → List Lexeme
+lead_rest (led l) rest = Name (codes "a") ∷ rest
+lead_rest (bracketed l) rest = Number (codes "0") ∷ Mark Colon ∷ Number (codes "0") ∷ Mark RBracket ∷ Name (codes "a") ∷ rest
+lead_rest (firsted l first) rest = Mark Colon ∷ Number (codes "0") ∷ Mark RBracket ∷ Name (codes "a") ∷ rest
+lead_rest (coloned l first) rest = Number (codes "0") ∷ Mark RBracket ∷ Name (codes "a") ∷ rest
+lead_rest (lasted l first last) rest = Mark RBracket ∷ Name (codes "a") ∷ rest
+lead_rest (ranged l range) rest = Name (codes "a") ∷ rest
+
+abbrev pub group_rest : {L : Type 0} → GroupPart L → List Lexeme → List Lexeme
+group_rest (leading part) rest = lead_rest part rest
+group_rest (naming spec names last) rest = rest
+group_rest (going spec names) rest = Name (codes "a") ∷ rest
+
 abbrev pub item_rest : ItemPart → List Lexeme
-item_rest (declaring way names) = Name (codes "a") ∷ Mark Semi ∷ to_end
-item_rest (declared way names last) = Mark Semi ∷ to_end
+item_rest (declaring part) = group_rest part (Mark Semi ∷ to_end)
 item_rest (celled cell) = Name (codes "a") ∷ Mark LParen ∷ Mark Dot ∷ Name (codes "a") ∷ Mark LParen ∷ Name (codes "a") ∷ Mark RParen ∷ Mark RParen ∷ Mark Semi ∷ to_end
 item_rest (named cell name) = Mark LParen ∷ Mark Dot ∷ Name (codes "a") ∷ Mark LParen ∷ Name (codes "a") ∷ Mark RParen ∷ Mark RParen ∷ Mark Semi ∷ to_end
 item_rest (joining cell name conns) = Mark Dot ∷ Name (codes "a") ∷ Mark LParen ∷ Name (codes "a") ∷ Mark RParen ∷ Mark RParen ∷ Mark Semi ∷ to_end
 item_rest (dotted cell name conns) = Name (codes "a") ∷ Mark LParen ∷ Name (codes "a") ∷ Mark RParen ∷ Mark RParen ∷ Mark Semi ∷ to_end
 item_rest (pinned cell name conns pin) = Mark LParen ∷ Name (codes "a") ∷ Mark RParen ∷ Mark RParen ∷ Mark Semi ∷ to_end
 item_rest (opened cell name conns pin) = Name (codes "a") ∷ Mark RParen ∷ Mark RParen ∷ Mark Semi ∷ to_end
-item_rest (netted cell name conns conn) = Mark RParen ∷ Mark RParen ∷ Mark Semi ∷ to_end
+item_rest (netted cell name conns pin net) = Mark RParen ∷ Mark RParen ∷ Mark Semi ∷ to_end
+item_rest (indexing cell name conns pin net) = Number (codes "0") ∷ Mark RBracket ∷ Mark RParen ∷ Mark RParen ∷ Mark Semi ∷ to_end
+item_rest (indexed cell name conns pin net digits) = Mark RBracket ∷ Mark RParen ∷ Mark RParen ∷ Mark Semi ∷ to_end
+item_rest (picked cell name conns pin net digits) = Mark RParen ∷ Mark RParen ∷ Mark Semi ∷ to_end
 item_rest (joined cell name conns conn) = Mark RParen ∷ Mark Semi ∷ to_end
 item_rest (closed cell name conns conn) = Mark Semi ∷ to_end
 
@@ -34,6 +49,7 @@ rest_of begun = Name (codes "a") ∷ Mark Semi ∷ to_end
 rest_of (titled name) = Mark Semi ∷ to_end
 rest_of (listing name names) = Name (codes "a") ∷ Mark RParen ∷ Mark Semi ∷ to_end
 rest_of (listed name names last) = Mark RParen ∷ Mark Semi ∷ to_end
+rest_of (heading name groups part) = group_rest part (Mark RParen ∷ Mark Semi ∷ to_end)
 rest_of (headed name ports) = Mark Semi ∷ to_end
 rest_of (at_item head items) = to_end
 rest_of (inside head items part) = item_rest part
@@ -52,17 +68,34 @@ ends begun = record { text = record { head = _; items = _ }; runs = refl }
 ends (titled name) = record { text = record { head = _; items = _ }; runs = refl }
 ends (listing name names) = record { text = record { head = _; items = _ }; runs = refl }
 ends (listed name names last) = record { text = record { head = _; items = _ }; runs = refl }
+ends (heading name groups (leading (led l))) = record { text = record { head = _; items = _ }; runs = refl }
+ends (heading name groups (leading (bracketed l))) = record { text = record { head = _; items = _ }; runs = refl }
+ends (heading name groups (leading (firsted l first))) = record { text = record { head = _; items = _ }; runs = refl }
+ends (heading name groups (leading (coloned l first))) = record { text = record { head = _; items = _ }; runs = refl }
+ends (heading name groups (leading (lasted l first last))) = record { text = record { head = _; items = _ }; runs = refl }
+ends (heading name groups (leading (ranged l range))) = record { text = record { head = _; items = _ }; runs = refl }
+ends (heading name groups (naming spec names last)) = record { text = record { head = _; items = _ }; runs = refl }
+ends (heading name groups (going spec names)) = record { text = record { head = _; items = _ }; runs = refl }
 ends (headed name ports) = record { text = record { head = _; items = _ }; runs = refl }
 ends (at_item head items) = record { text = record { head = _; items = _ }; runs = refl }
-ends (inside head items (declaring way names)) = record { text = record { head = _; items = _ }; runs = refl }
-ends (inside head items (declared way names last)) = record { text = record { head = _; items = _ }; runs = refl }
+ends (inside head items (declaring (leading (led l)))) = record { text = record { head = _; items = _ }; runs = refl }
+ends (inside head items (declaring (leading (bracketed l)))) = record { text = record { head = _; items = _ }; runs = refl }
+ends (inside head items (declaring (leading (firsted l first)))) = record { text = record { head = _; items = _ }; runs = refl }
+ends (inside head items (declaring (leading (coloned l first)))) = record { text = record { head = _; items = _ }; runs = refl }
+ends (inside head items (declaring (leading (lasted l first last)))) = record { text = record { head = _; items = _ }; runs = refl }
+ends (inside head items (declaring (leading (ranged l range)))) = record { text = record { head = _; items = _ }; runs = refl }
+ends (inside head items (declaring (naming spec names last))) = record { text = record { head = _; items = _ }; runs = refl }
+ends (inside head items (declaring (going spec names))) = record { text = record { head = _; items = _ }; runs = refl }
 ends (inside head items (celled cell)) = record { text = record { head = _; items = _ }; runs = refl }
 ends (inside head items (named cell name)) = record { text = record { head = _; items = _ }; runs = refl }
 ends (inside head items (joining cell name conns)) = record { text = record { head = _; items = _ }; runs = refl }
 ends (inside head items (dotted cell name conns)) = record { text = record { head = _; items = _ }; runs = refl }
 ends (inside head items (pinned cell name conns pin)) = record { text = record { head = _; items = _ }; runs = refl }
 ends (inside head items (opened cell name conns pin)) = record { text = record { head = _; items = _ }; runs = refl }
-ends (inside head items (netted cell name conns conn)) = record { text = record { head = _; items = _ }; runs = refl }
+ends (inside head items (netted cell name conns pin net)) = record { text = record { head = _; items = _ }; runs = refl }
+ends (inside head items (indexing cell name conns pin net)) = record { text = record { head = _; items = _ }; runs = refl }
+ends (inside head items (indexed cell name conns pin net digits)) = record { text = record { head = _; items = _ }; runs = refl }
+ends (inside head items (picked cell name conns pin net digits)) = record { text = record { head = _; items = _ }; runs = refl }
 ends (inside head items (joined cell name conns conn)) = record { text = record { head = _; items = _ }; runs = refl }
 ends (inside head items (closed cell name conns conn)) = record { text = record { head = _; items = _ }; runs = refl }
 ends (ended head items) = record { text = record { head = _; items = _ }; runs = refl }

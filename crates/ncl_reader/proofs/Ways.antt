@@ -1,45 +1,83 @@
 -- What a header keeps of a name.
-use Rattle.std.proofs.Common.{◌≡◌, ℕ, arith, List, [], ◌∷◌, ◌++◌, Bool, true, false, ◌||◌, ◌&&◌, not, cond, subst, if◌then◌else◌, Option, Some, None, inl, inr, refl, sym, ap, ◌∙◌, Contains}
+use Rattle.std.proofs.Common.{◌≡◌, ℕ, zero, suc, arith, List, [], ◌∷◌, ◌++◌, Bool, true, false, ◌||◌, not, cond, subst, Option, Some, None, inl, inr, refl, sym, ap, ◌∙◌, Contains}
 use Rattle.std.specs.List.{list_any}
-use Rattle.std.specs.Option.{is_some}
+use Rattle.std.specs.Option.{is_some, option_or}
 use Rattle.std.specs.Str.{bytes_eq}
-use Rattle.std.proofs.lemmas.Bool.{false≢true, or_cases, or_left, or_right}
+use Rattle.std.proofs.lemmas.Bool.{false≢true}
+use Rattle.std.proofs.lemmas.List.Folds.{find-append}
 use Rattle.std.proofs.lemmas.Map.Keys.{IsDistinct-push, IsDistinct-from_apart}
 use Rattle.std.specs.Cmp.{nat_eq_equiv}
 use Rattle.std.specs.Cmp.Lexicographic.{lists_equiv}
 use Rattle.std.proofs.lemmas.Slice.Eq.{bytes_eq-Decides}
 use Rattle.ncl_netlist.specs.Names.{AllDiffer}
-use Rattle.ncl_reader.specs.Header.{way_of, LacksWay, with_output}
+use Rattle.ncl_reader.specs.Says.{Said}
+use Rattle.ncl_reader.specs.Header.{said_at, names_said, way_by, way_of, LacksWay}
 use Rattle.ncl_reader.proofs.Among.{contains-from_any, any-from_contains, any-push, bytes_eq-comm}
 
-abbrev choice : Bool → Bool → Bool → Option (Option Bool)
-choice d o n = if d then Some (Some o) else (if n then Some None else None)
+-- what is told of the first that is said
+pub said-here : (x : List ℕ) (s : Said) (said : List Said) → bytes_eq s.name x ≡ true → said_at (s ∷ said) x ≡ Some s
+said-here x s said e = rw e refl
 
-undirected : (d o n : Bool) → choice d o n ≡ Some None → (d ≡ false) × (n ≡ true)
-undirected true o n e = absurd cc
-undirected false o true e = (refl, refl)
-undirected false o false e = absurd cc
+pub said-there : (x : List ℕ) (s : Said) (said : List Said) → bytes_eq s.name x ≡ false → said_at (s ∷ said) x ≡ said_at said x
+said-there x s said e = rw e refl
 
-directed_as : (d o n w : Bool) → choice d o n ≡ Some (Some w) → (d ≡ true) × (o ≡ w)
-directed_as true o n w e = (refl, cc)
-directed_as false o true w e = absurd cc
-directed_as false o false w e = absurd cc
+-- nothing was said of names that aren't among those that something was said of
+pub none-said : (x : List ℕ) (said : List Said) → said_at said x ≡ None → Contains (names_said said) x → ⊥
+none-said x [] e found = absurd (omega (arith, found.1))
+none-said x (s ∷ said) e found = by (none-said x said) (bytes_eq s.name x) refl found
+  where
+    by : (said_at said x ≡ None → Contains (names_said said) x → ⊥) → (b : Bool) → bytes_eq s.name x ≡ b → Contains (names_said (s ∷ said)) x → ⊥
+    by rec true is found = let bad : Some s ≡ None = sym (said-here x s said is) ∙ e in absurd cc
+    by rec false is (zero, lt, same) = false≢true (sym is ∙ (bytes_eq-Decides s.name x).1 same)
+    by rec false is (suc k, lt, same) = rec (sym (said-there x s said is) ∙ e) (k, omega (arith, lt), same)
 
-unknown : (d o n : Bool) → choice d o n ≡ None → (d ≡ false) × (n ≡ false)
-unknown true o n e = absurd cc
-unknown false o true e = absurd cc
-unknown false o false e = (refl, refl)
+-- what is found was said of the name
+pub some-said : (x : List ℕ) (said : List Said) (s : Said) → said_at said x ≡ Some s → Contains said s × (s.name ≡ x)
+some-said x [] s e = absurd cc
+some-said x (t ∷ said) s e = by (some-said x said s) (bytes_eq t.name x) refl
+  where
+    by : (said_at said x ≡ Some s → Contains said s × (s.name ≡ x)) → (b : Bool) → bytes_eq t.name x ≡ b → Contains (t ∷ said) s × (s.name ≡ x)
+    by rec true is =
+        let one : Some t ≡ Some s = sym (said-here x t said is) ∙ e in
+        let same : t ≡ s = cc in
+        ((0, omega arith, same), ap (λ (r : Said). r.name) (sym same) ∙ (bytes_eq-Decides t.name x).0 is)
+    by rec false is =
+        let (found, name) = rec (sym (said-there x t said is) ∙ e) in
+        ((suc found.0, omega (arith, found.1), found.2), name)
+
+pub found-said : (x : List ℕ) (said : List Said) (s : Said) → said_at said x ≡ Some s → Contains (names_said said) x
+found-said x [] s e = absurd cc
+found-said x (t ∷ said) s e = by (found-said x said s) (bytes_eq t.name x) refl
+  where
+    by : (said_at said x ≡ Some s → Contains (names_said said) x) → (b : Bool) → bytes_eq t.name x ≡ b → Contains (names_said (t ∷ said)) x
+    by rec true is = (0, omega arith, (bytes_eq-Decides t.name x).0 is)
+    by rec false is = let found = rec (sym (said-there x t said is) ∙ e) in (suc found.0, omega (arith, found.1), found.2)
+
+pub not-said : (x : List ℕ) (said : List Said) → (Contains (names_said said) x → ⊥) → said_at said x ≡ None
+not-said x said absent = by (said_at said x) refl
+  where
+    by : (found : Option Said) → said_at said x ≡ found → found ≡ None
+    by None e = refl
+    by (Some s) e = absurd (absent (found-said x said s e))
+
+pub not_any : (b : Bool) → (b ≡ true → ⊥) → b ≡ false
+not_any true wrong = absurd (wrong refl)
+not_any false wrong = refl
 
 not_among : (x : List ℕ) (names : List (List ℕ)) → list_any (bytes_eq x) names ≡ false → Contains names x → ⊥
 not_among x names is stands = false≢true (sym is ∙ any-from_contains x names stands)
 
+-- no names differ, and so do names and a new one
+pub differ_none : AllDiffer []
+differ_none = IsDistinct-from_apart bytes_eq [] (λ i j d lower within. absurd (omega arith))
+
+pub differ_more : (names : List (List ℕ)) (x : List ℕ) → AllDiffer names → (Contains names x → ⊥) → AllDiffer (names ++ x ∷ [])
+differ_more names x all new = IsDistinct-push (lists_equiv nat_eq_equiv) names x all (not_any (list_any (bytes_eq x) names) (λ is. new (contains-from_any x names is)))
+
+-- whether a name has a direction, by what is kept
 abbrev pub LacksOf : Option (Option Bool) → Bool → Type 0
 LacksOf (Some None) b = b ≡ true
 LacksOf way b = b ≡ false
-
-abbrev pub output_of : Option (Option Bool) → Bool
-output_of (Some (Some w)) = w
-output_of way = false
 
 pub none-test : (w : Option Bool) (b : Bool) → is_some w ≡ not b → LacksOf (Some w) b
 none-test None true e = refl
@@ -47,115 +85,61 @@ none-test (Some v) false e = refl
 none-test None false e = absurd (false≢true e)
 none-test (Some v) true e = absurd (false≢true (sym e))
 
-undriven : (o d : Bool) → (o ≡ true → d ≡ true) → d ≡ false → false ≡ o
-undriven false d driven is = refl
-undriven true d driven is = absurd (false≢true (sym is ∙ driven refl))
+lacks_by : (names : List (List ℕ)) (said : List Said) (x : List ℕ) (found : Option Said) (listed : Bool) (way : Option (Option Bool)) (b : Bool) → said_at said x ≡ found → list_any (bytes_eq x) names ≡ listed → way_by found listed ≡ way → LacksOf way b → LacksWay b names said x
+lacks_by names said x (Some s) listed (Some (Some w)) false f l e is = inr (found-said x said s f)
+lacks_by names said x (Some s) listed (Some (Some w)) true f l e is = absurd (false≢true (sym is))
+lacks_by names said x (Some s) listed (Some None) b f l e is = absurd cc
+lacks_by names said x (Some s) listed None b f l e is = absurd cc
+lacks_by names said x None true (Some None) true f l e is = (contains-from_any x names l, none-said x said f)
+lacks_by names said x None true (Some None) false f l e is = absurd (false≢true is)
+lacks_by names said x None true (Some (Some w)) b f l e is = absurd cc
+lacks_by names said x None true None b f l e is = absurd cc
+lacks_by names said x None false None false f l e is = inl (not_among x names l)
+lacks_by names said x None false None true f l e is = absurd (false≢true (sym is))
+lacks_by names said x None false (Some w) b f l e is = absurd cc
 
-module _ (names directed outputs : List (List ℕ)) (x : List ℕ) where
-  pub lacks-none : way_of names directed outputs x ≡ Some None → LacksWay true names directed x
-  lacks-none e = let (d, n) = undirected (list_any (bytes_eq x) directed) (list_any (bytes_eq x) outputs) (list_any (bytes_eq x) names) e in (contains-from_any x names n, not_among x directed d)
+pub lacks : (names : List (List ℕ)) (said : List Said) (x : List ℕ) (way : Option (Option Bool)) (b : Bool) → way_of names said x ≡ way → LacksOf way b → LacksWay b names said x
+lacks names said x way b e is = lacks_by names said x (said_at said x) (list_any (bytes_eq x) names) way b refl refl e is
 
-  pub lacks-some : (w : Bool) → way_of names directed outputs x ≡ Some (Some w) → LacksWay false names directed x
-  lacks-some w e = inr (contains-from_any x directed (directed_as (list_any (bytes_eq x) directed) (list_any (bytes_eq x) outputs) (list_any (bytes_eq x) names) w e).0)
+-- something is kept of the names of the header alone
+listed_by : (found : Option Said) (listed : Bool) → (found ≡ None → listed ≡ true) → is_some (way_by found listed) ≡ true
+listed_by (Some s) listed is = refl
+listed_by None true is = refl
+listed_by None false is = absurd (false≢true (is refl))
 
-  pub lacks-absent : way_of names directed outputs x ≡ None → LacksWay false names directed x
-  lacks-absent e = inl (not_among x names (unknown (list_any (bytes_eq x) directed) (list_any (bytes_eq x) outputs) (list_any (bytes_eq x) names) e).1)
+pub kept_some : (names : List (List ℕ)) (said : List Said) (x : List ℕ) → Contains names x → is_some (way_of names said x) ≡ true
+kept_some names said x stands = listed_by (said_at said x) (list_any (bytes_eq x) names) (λ none. any-from_contains x names stands)
 
-  pub lacks : (way : Option (Option Bool)) (b : Bool) → way_of names directed outputs x ≡ way → LacksOf way b → LacksWay b names directed x
-  lacks (Some None) true e is = lacks-none e
-  lacks (Some (Some w)) false e is = lacks-some w e
-  lacks None false e is = lacks-absent e
-  lacks (Some None) false e is = absurd (false≢true is)
-  lacks (Some (Some w)) true e is = absurd (false≢true (sym is))
-  lacks None true e is = absurd (false≢true (sym is))
+kept_by : (names : List (List ℕ)) (said : List Said) (x : List ℕ) → ((y : List ℕ) → Contains (names_said said) y → Contains names y) → (found : Option Said) (listed : Bool) → said_at said x ≡ found → list_any (bytes_eq x) names ≡ listed → is_some (way_by found listed) ≡ true → Contains names x
+kept_by names said x known (Some s) listed f l e = known x (found-said x said s f)
+kept_by names said x known None true f l e = contains-from_any x names l
+kept_by names said x known None false f l e = absurd (false≢true e)
 
-  pub output : (way : Option (Option Bool)) → ((list_any (bytes_eq x) outputs ≡ true) → list_any (bytes_eq x) directed ≡ true) → way_of names directed outputs x ≡ way → output_of way ≡ list_any (bytes_eq x) outputs
-  output (Some (Some w)) driven e = sym (directed_as (list_any (bytes_eq x) directed) (list_any (bytes_eq x) outputs) (list_any (bytes_eq x) names) w e).1
-  output (Some None) driven e = undriven (list_any (bytes_eq x) outputs) (list_any (bytes_eq x) directed) driven (undirected (list_any (bytes_eq x) directed) (list_any (bytes_eq x) outputs) (list_any (bytes_eq x) names) e).0
-  output None driven e = undriven (list_any (bytes_eq x) outputs) (list_any (bytes_eq x) directed) driven (unknown (list_any (bytes_eq x) directed) (list_any (bytes_eq x) outputs) (list_any (bytes_eq x) names) e).0
+pub kept_known : (names : List (List ℕ)) (said : List Said) (x : List ℕ) → ((y : List ℕ) → Contains (names_said said) y → Contains names y) → is_some (way_of names said x) ≡ true → Contains names x
+kept_known names said x known e = kept_by names said x known (said_at said x) (list_any (bytes_eq x) names) refl refl e
 
--- no names differ, and so do names and a new one
-pub differ_none : AllDiffer []
-differ_none = IsDistinct-from_apart bytes_eq [] (λ i j d lower within. absurd (omega arith))
+-- a name more in the header
+more_by : (here : Bool) (found : Option Said) (listed : Bool) → (here ≡ true → found ≡ None) → cond here (Some None) (way_by found listed) ≡ way_by found (listed || here)
+more_by true (Some s) listed new = let bad : Some s ≡ None = new refl in absurd cc
+more_by true None true new = refl
+more_by true None false new = refl
+more_by false (Some s) listed new = refl
+more_by false None true new = refl
+more_by false None false new = refl
 
-not_any : (b : Bool) → (b ≡ true → ⊥) → b ≡ false
-not_any true wrong = absurd (wrong refl)
-not_any false wrong = refl
+pub name_more : (names : List (List ℕ)) (said : List Said) (x y : List ℕ) → (Contains (names_said said) x → ⊥) → cond (bytes_eq x y) (Some None) (way_of names said y) ≡ way_of (names ++ x ∷ []) said y
+name_more names said x y new =
+    more_by (bytes_eq x y) (said_at said y) (list_any (bytes_eq y) names) (λ here. subst (λ z. said_at said z ≡ None) ((bytes_eq-Decides x y).0 here) (not-said x said new))
+    ∙ ap (way_by (said_at said y)) (ap (λ b. list_any (bytes_eq y) names || b) (bytes_eq-comm x y) ∙ sym (any-push y names x))
 
-pub differ_more : (names : List (List ℕ)) (x : List ℕ) → AllDiffer names → (Contains names x → ⊥) → AllDiffer (names ++ x ∷ [])
-differ_more names x all new = IsDistinct-push (lists_equiv nat_eq_equiv) names x all (not_any (list_any (bytes_eq x) names) (λ is. new (contains-from_any x names is)))
+-- a direction more
+direct_by : (s : Said) (y : List ℕ) (here : Bool) (found : Option Said) (listed : Bool) → bytes_eq s.name y ≡ here → (here ≡ true → found ≡ None) → cond here (Some (Some s.output)) (way_by found listed) ≡ way_by (option_or found (said_at (s ∷ []) y)) listed
+direct_by s y true (Some t) listed is new = let bad : Some t ≡ None = new refl in absurd cc
+direct_by s y true None listed is new = ap (λ f. way_by f listed) (sym (said-here y s [] is))
+direct_by s y false (Some t) listed is new = refl
+direct_by s y false None listed is new = ap (λ f. way_by f listed) (sym (said-there y s [] is))
 
--- what has a direction is in the header, and an output has one
-pub known_more : (names directed : List (List ℕ)) (x y : List ℕ) → (list_any (bytes_eq y) directed ≡ true → list_any (bytes_eq y) names ≡ true) → Contains names x → list_any (bytes_eq y) (directed ++ x ∷ []) ≡ true → list_any (bytes_eq y) names ≡ true
-known_more names directed x y known stands is = elim (or_cases (list_any (bytes_eq y) directed) (bytes_eq y x) (sym (any-push y directed x) ∙ is)) [
-  | inl old ↦ known old
-  | inr same ↦ any-from_contains y names (subst (λ z. Contains names z) (sym ((bytes_eq-Decides y x).0 same)) stands)
-]
-
-pub driven_more : (directed outputs : List (List ℕ)) (w : Bool) (x y : List ℕ) → (list_any (bytes_eq y) outputs ≡ true → list_any (bytes_eq y) directed ≡ true) → list_any (bytes_eq y) (with_output w outputs x) ≡ true → list_any (bytes_eq y) (directed ++ x ∷ []) ≡ true
-driven_more directed outputs false x y driven is = any-push y directed x ∙ or_left (list_any (bytes_eq y) directed) (bytes_eq y x) (driven is)
-driven_more directed outputs true x y driven is = any-push y directed x ∙ elim (or_cases (list_any (bytes_eq y) outputs) (bytes_eq y x) (sym (any-push y outputs x) ∙ is)) [
-  | inl old ↦ or_left (list_any (bytes_eq y) directed) (bytes_eq y x) (driven old)
-  | inr same ↦ or_right (list_any (bytes_eq y) directed) (bytes_eq y x) same
-]
-
--- names without directions
-pub bare_known : (names outputs : List (List ℕ)) (x : List ℕ) → is_some (way_of names [] outputs x) ≡ true → Contains names x
-bare_known names outputs x e = contains-from_any x names (sym (any_test (list_any (bytes_eq x) outputs) (list_any (bytes_eq x) names)) ∙ e)
-  where
-    any_test : (o n : Bool) → is_some (choice false o n) ≡ n
-    any_test o true = refl
-    any_test o false = refl
-
-pub bare_some : (names outputs : List (List ℕ)) (x : List ℕ) → list_any (bytes_eq x) names ≡ true → is_some (way_of names [] outputs x) ≡ true
-bare_some names outputs x e = any_test (list_any (bytes_eq x) outputs) (list_any (bytes_eq x) names) ∙ e
-  where
-    any_test : (o n : Bool) → is_some (choice false o n) ≡ n
-    any_test o true = refl
-    any_test o false = refl
-
-bare_step : (here n : Bool) → cond here (Some None) (choice false false n) ≡ choice false false (n || here)
-bare_step true true = refl
-bare_step true false = refl
-bare_step false true = refl
-bare_step false false = refl
-
-pub bare_more : (names : List (List ℕ)) (y x : List ℕ) → cond (bytes_eq x y) (Some None) (way_of names [] [] y) ≡ way_of (names ++ x ∷ []) [] [] y
-bare_more names y x = bare_step (bytes_eq x y) (list_any (bytes_eq y) names) ∙ ap (choice false false) (ap (λ b. list_any (bytes_eq y) names || b) (bytes_eq-comm x y) ∙ sym (any-push y names x))
-
--- a name with a direction more
-way_step : (here d o n : Bool) (w : Bool) → (here ≡ true → n ≡ true) → (here ≡ true → d ≡ false) → (o ≡ true → d ≡ true) → cond here (Some (Some w)) (choice d o n) ≡ choice (d || here) (o || (w && here)) n
-way_step true true o n w known new driven = absurd (false≢true (sym (new refl)))
-way_step true false true n w known new driven = absurd (false≢true (driven refl))
-way_step true false false n true known new driven = refl
-way_step true false false n false known new driven = refl
-way_step false true true n true known new driven = refl
-way_step false true true n false known new driven = refl
-way_step false true false n true known new driven = refl
-way_step false true false n false known new driven = refl
-way_step false false true n w known new driven = absurd (false≢true (driven refl))
-way_step false false false n true known new driven = refl
-way_step false false false n false known new driven = refl
-
-pub any-with_output : (w : Bool) (outputs : List (List ℕ)) (y x : List ℕ) → list_any (bytes_eq y) (with_output w outputs x) ≡ (list_any (bytes_eq y) outputs || (w && bytes_eq y x))
-any-with_output true outputs y x = any-push y outputs x ∙ ap (λ b. list_any (bytes_eq y) outputs || b) (sym (same (bytes_eq y x)))
-  where
-    same : (b : Bool) → (true && b) ≡ b
-    same true = refl
-    same false = refl
-any-with_output false outputs y x = sym (last (list_any (bytes_eq y) outputs) (bytes_eq y x))
-  where
-    last : (b c : Bool) → (b || (false && c)) ≡ b
-    last true c = refl
-    last false true = refl
-    last false false = refl
-
-pub way_more : (names directed outputs : List (List ℕ)) (w : Bool) (x y : List ℕ) → Contains names x → (Contains directed x → ⊥) → (list_any (bytes_eq y) outputs ≡ true → list_any (bytes_eq y) directed ≡ true) → cond (bytes_eq x y) (Some (Some w)) (way_of names directed outputs y) ≡ way_of names (directed ++ x ∷ []) (with_output w outputs x) y
-way_more names directed outputs w x y stands new driven =
-    way_step (bytes_eq x y) (list_any (bytes_eq y) directed) (list_any (bytes_eq y) outputs) (list_any (bytes_eq y) names) w
-    (λ here. any-from_contains y names (subst (λ z. Contains names z) ((bytes_eq-Decides x y).0 here) stands))
-    (λ here. not_any (list_any (bytes_eq y) directed) (λ is. new (subst (λ z. Contains directed z) (sym ((bytes_eq-Decides x y).0 here)) (contains-from_any y directed is))))
-    driven
-    ∙ ap (λ b. choice (list_any (bytes_eq y) directed || bytes_eq x y) (list_any (bytes_eq y) outputs || (w && b)) (list_any (bytes_eq y) names)) (bytes_eq-comm x y)
-    ∙ ap (λ b. choice (list_any (bytes_eq y) directed || b) (list_any (bytes_eq y) outputs || (w && bytes_eq y x)) (list_any (bytes_eq y) names)) (bytes_eq-comm x y)
-    ∙ (λ i. choice (sym (any-push y directed x) i) (sym (any-with_output w outputs y x) i) (list_any (bytes_eq y) names))
+pub direction_more : (names : List (List ℕ)) (said : List Said) (s : Said) (y : List ℕ) → (Contains (names_said said) s.name → ⊥) → cond (bytes_eq s.name y) (Some (Some s.output)) (way_of names said y) ≡ way_of names (said ++ s ∷ []) y
+direction_more names said s y new =
+    direct_by s y (bytes_eq s.name y) (said_at said y) (list_any (bytes_eq y) names) refl (λ here. subst (λ z. said_at said z ≡ None) ((bytes_eq-Decides s.name y).0 here) (not-said s.name said new))
+    ∙ ap (λ f. way_by f (list_any (bytes_eq y) names)) (sym (find-append (λ (t : Said). bytes_eq t.name y) said (s ∷ [])))

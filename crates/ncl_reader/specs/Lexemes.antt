@@ -1,4 +1,4 @@
--- What a token of a netlist text is to the grammar: a reserved word, a name or a sign.
+-- What a token of a netlist text is to the grammar: a reserved word, a name, a number or a sign.
 use Rattle.std.specs.Prelude.{ℕ, List, map}
 use Rattle.ncl_reader.specs.declared.keyword.Keyword.{Keyword}
 use Rattle.ncl_reader.specs.declared.lexeme.Sign.{Sign}
@@ -8,7 +8,10 @@ pub data Lexeme : Type 0 where
   Word : Keyword → Lexeme
   -- a name, of an escaped name without its backslash
   Name : List ℕ → Lexeme
-  -- a parenthesis, a comma, a semicolon, a dot, or a token that stands nowhere in the grammar
+  -- a number, by its digits
+  Number : List ℕ → Lexeme
+  -- a parenthesis, a bracket, a comma, a semicolon, a dot, a colon, or a token that stands nowhere in the
+  -- grammar
   Mark : Sign → Lexeme
   -- the end of the text
   End : Lexeme

@@ -1,39 +1,13 @@
--- Why a text is refused at its first token that breaks. Of a token that breaks, what stands before it and what
--- it is tell the fault.
-use Rattle.std.specs.Prelude.{◌≡◌, ℕ, List, ◌∷◌, ◌++◌}
+-- Why a text is refused at its first token that breaks. Four classes are asked in order, of what stands before the
+-- token and of what it is; the rest is a fault of syntax.
+use Rattle.std.specs.Prelude.{◌≡◌, ℕ, List, ◌∷◌, ◌++◌, ◌⊎◌}
 use Rattle.ncl_reader.specs.declared.net_fault.NetFault.{NetFault}
 use Rattle.ncl_reader.specs.declared.net_fault.NetFault.TheVariants.{Syntax, UnknownCell, BadPins, Unsupported}
 use Rattle.ncl_reader.specs.declared.keyword.Keyword.TheVariants.{EndModule}
-use Rattle.ncl_reader.specs.declared.lexeme.Sign.TheVariants.{RParen, Other}
-use Rattle.ncl_reader.specs.Lexemes.{Lexeme, Word, Name, Mark, Placed, lexemes}
-use Rattle.ncl_reader.specs.Grammar.{Row, Conn, Item, Head, body_phrase}
-use Rattle.ncl_reader.specs.Forms.{at_conn, at_pin, at_net, at_close}
-use Rattle.ncl_reader.specs.Rules.{Breaks, NoneBreaks}
-
--- what may come next: an item, the dot of a connection, the name of a pin, the net of a connection, or what
--- ends the connections
-abbrev pub IsAtItem : List Lexeme → Type 0
-IsAtItem before = (head : Head) × (items : List Item) × (before ≡ body_phrase head items)
-
-abbrev pub IsAtConn : List Lexeme → Type 0
-IsAtConn before =
-    (head : Head) × (items : List Item) × (cell : List ℕ) × (name : List ℕ) × (conns : List Conn)
-    × (before ≡ at_conn head items cell name conns)
-
-abbrev pub IsAtPin : List Lexeme → Type 0
-IsAtPin before =
-    (head : Head) × (items : List Item) × (cell : List ℕ) × (name : List ℕ) × (conns : List Conn)
-    × (before ≡ at_pin head items cell name conns)
-
-abbrev pub IsAtNet : List Lexeme → Type 0
-IsAtNet before =
-    (head : Head) × (items : List Item) × (cell : List ℕ) × (name : List ℕ) × (conns : List Conn) × (pin : List ℕ)
-    × (before ≡ at_net head items cell name conns pin)
-
-abbrev pub IsAtClose : List Lexeme → Type 0
-IsAtClose before =
-    (head : Head) × (items : List Item) × (cell : List ℕ) × (name : List ℕ) × (conns : Row Conn)
-    × (before ≡ at_close head items cell name conns)
+use Rattle.ncl_reader.specs.declared.lexeme.Sign.TheVariants.{RParen, LBracket, RBracket, Colon, Other}
+use Rattle.ncl_reader.specs.Lexemes.{Lexeme, Word, Name, Number, Mark, Placed, lexemes}
+use Rattle.ncl_reader.specs.Forms.{IsAtItem, IsAtConn, IsAtPin, IsAtNet, IsBehindNet, IsAtIndex, IsAtClose}
+use Rattle.ncl_reader.specs.Rules.{IsOutside, Redeclares, Clashes, Crowds, Breaks, NoneBreaks}
 
 -- where an item may begin, a name that is no cell's
 abbrev pub IsUnknown : List Lexeme → Lexeme → Type 0
@@ -46,23 +20,39 @@ HasBadPins before (Name x) = IsAtPin before
 HasBadPins before (Mark RParen) = IsAtClose before
 HasBadPins before t = ⊥
 
--- what Verilog has and no text of ours: marks, strings and numbers; reserved words, but for an `endmodule`
--- that comes too early; a connection by position; and a pin without a net
+-- an `endmodule` that comes too early, a bit that the vector hasn't, and a name that was declared or used
+-- otherwise
+abbrev pub IsMisread : List Lexeme → Lexeme → Type 0
+IsMisread before (Word EndModule) = IsAtItem before
+IsMisread before (Number digits) = IsOutside before digits
+IsMisread before (Name x) = Redeclares before x
+IsMisread before t = ⊥
+
+-- what Verilog has and no text of ours: marks, brackets, strings and numbers that may not stand there; reserved
+-- words; a connection by position; a pin without a net, and a whole vector on a pin; names of bits beside the
+-- vector; and too many bits of ports
 abbrev pub IsLeftOut : List Lexeme → Lexeme → Type 0
 IsLeftOut before (Mark Other) = Unit {0}
-IsLeftOut before (Word EndModule) = ¬ IsAtItem before
+IsLeftOut before (Mark LBracket) = Unit {0}
+IsLeftOut before (Mark RBracket) = Unit {0}
+IsLeftOut before (Mark Colon) = Unit {0}
+IsLeftOut before (Number digits) = Unit {0}
 IsLeftOut before (Word word) = Unit {0}
-IsLeftOut before (Name x) = IsAtConn before
-IsLeftOut before (Mark RParen) = IsAtNet before
+IsLeftOut before (Name x) = IsAtConn before ⊎ (Clashes before x ⊎ Crowds before x)
+IsLeftOut before (Mark RParen) =
+    IsAtNet before ⊎ (((net : List ℕ) × IsBehindNet before net) ⊎ ((net : List ℕ) × IsAtIndex before net))
 IsLeftOut before t = ⊥
 
 -- the fault of a token that breaks, at its place
 abbrev pub IsFaultAt : List Lexeme → Placed → NetFault → Type 0
 IsFaultAt before t (UnknownCell p) = (p ≡ t.place) × IsUnknown before t.lexeme
-IsFaultAt before t (BadPins p) = (p ≡ t.place) × HasBadPins before t.lexeme
-IsFaultAt before t (Unsupported p) = (p ≡ t.place) × IsLeftOut before t.lexeme
+IsFaultAt before t (BadPins p) = (p ≡ t.place) × ¬ IsUnknown before t.lexeme × HasBadPins before t.lexeme
+IsFaultAt before t (Unsupported p) =
+    (p ≡ t.place) × ¬ IsUnknown before t.lexeme × ¬ HasBadPins before t.lexeme × ¬ IsMisread before t.lexeme
+    × IsLeftOut before t.lexeme
 IsFaultAt before t (Syntax p) =
-    (p ≡ t.place) × ¬ IsUnknown before t.lexeme × ¬ HasBadPins before t.lexeme × ¬ IsLeftOut before t.lexeme
+    (p ≡ t.place) × ¬ IsUnknown before t.lexeme × ¬ HasBadPins before t.lexeme
+    × (IsMisread before t.lexeme ⊎ ¬ IsLeftOut before t.lexeme)
 IsFaultAt before t other = ⊥
 
 -- the first token that breaks, and the fault of it

@@ -7,12 +7,12 @@ use Rattle.std.specs.Char.{is_ascii_lowercase}
 use Rattle.ncl_token.specs.declared.token.TokenKind.{TokenKind}
 use Rattle.ncl_token.specs.declared.token.TokenKind.TheVariants as token
 use Rattle.ncl_reader.specs.declared.keyword.Keyword.{Keyword}
-use Rattle.ncl_reader.specs.declared.keyword.Keyword.TheVariants.{Module, EndModule, LeftOut, Way as word_of}
-use Rattle.ncl_reader.specs.declared.keyword.Way.TheVariants.{Input, Output, Wire}
-use Rattle.ncl_reader.specs.declared.lexeme.Sign.TheVariants.{LParen, RParen, Comma, Semi, Dot, Other}
-use Rattle.ncl_reader.specs.Lexemes.{Lexeme, Word, Name, Mark}
+use Rattle.ncl_reader.specs.declared.keyword.Keyword.TheVariants.{Module, EndModule, Wire, LeftOut, Way as word_of}
+use Rattle.ncl_reader.specs.declared.keyword.Way.TheVariants.{Input, Output}
+use Rattle.ncl_reader.specs.declared.lexeme.Sign.TheVariants.{LParen, RParen, Comma, Semi, Dot, LBracket, RBracket, Colon, Other}
+use Rattle.ncl_reader.specs.Lexemes.{Lexeme, Word, Name, Number, Mark}
 
--- the reserved words of what no netlist text of ours has: expressions, behaviour, vectors of wires, gates of
+-- the reserved words of what no netlist text of ours has: expressions, behaviour, gates of
 -- the language and the like
 abbrev pub left_out : List (List ℕ)
 left_out =
@@ -49,7 +49,7 @@ keyword_of x =
     if bytes_eq x (codes "endmodule") then Some EndModule else (
     if bytes_eq x (codes "input") then Some (word_of Input) else (
     if bytes_eq x (codes "output") then Some (word_of Output) else (
-    if bytes_eq x (codes "wire") then Some (word_of Wire) else (
+    if bytes_eq x (codes "wire") then Some Wire else (
     if list_any (bytes_eq x) left_out then Some LeftOut else None)))))
 
 abbrev pub word_lexeme : Option Keyword → List ℕ → Lexeme
@@ -65,9 +65,8 @@ lexeme_of token.RParen x = Mark RParen
 lexeme_of token.Comma x = Mark Comma
 lexeme_of token.Semi x = Mark Semi
 lexeme_of token.Dot x = Mark Dot
--- brackets, colons and numbers stand nowhere in the grammar
-lexeme_of token.LBracket x = Mark Other
-lexeme_of token.RBracket x = Mark Other
-lexeme_of token.Colon x = Mark Other
-lexeme_of token.Number x = Mark Other
+lexeme_of token.LBracket x = Mark LBracket
+lexeme_of token.RBracket x = Mark RBracket
+lexeme_of token.Colon x = Mark Colon
+lexeme_of token.Number x = Number x
 lexeme_of token.Other x = Mark Other

@@ -1,57 +1,57 @@
 //! An instance of a cell, as far as it is read.
-ghost use Rattle.std.specs.Prelude.{◌≡◌, IfOk, Contains, MatchOption, None, Some};
-ghost use Rattle.std.specs.Bool.{Decides};
-ghost use Rattle.ncl_reader.specs.Instance.{conns_of, pins_in, MayJoin, Closes};
+ghost use Rattle.std.specs.Prelude.{◌≡◌, IfOk, List, MatchOption, None, Some};
+ghost use Rattle.ncl_reader.specs.Grammar.{Conn};
+ghost use Rattle.ncl_reader.specs.Instance.{AreJoins, MayJoin, Closes, picked_name};
 ghost use Rattle.ncl_reader.specs.Says.{net_on};
-ghost use Rattle.std.specs.Prelude.{map};
 
+use crate::bit::bit_name;
 use ncl_base::{Items, Memory, Name};
 use ncl_gates::CellKind;
 use ncl_netlist::PartCell;
 use std::alloc::Global;
 
-/// A pin, and the net that it is on.
+/// A pin, and the net that it is on: a name, or the bit of a vector with a number.
 #[derive(Clone, Copy, Debug)]
 pub struct Join<'a> {
     pub pin: &'a [u8],
     pub net: &'a [u8],
+    pub index: Option<u16>,
 }
 
-/// What was read of an instance: its cell, its name, the pin that was read last, and the connections, which
-/// are at most as many as the cell has pins.
+/// What was read of an instance: its cell, its name, the pin, the net and the number of a bit that were read last,
+/// and the connections, which are at most as many as the cell has pins.
 #[derive(Debug, Drop)]
 pub struct Instance<'a> {
     pub kind: CellKind,
     pub name: &'a [u8],
     pub pin: &'a [u8],
+    pub net: &'a [u8],
+    pub index: u16,
     pub joins: Vec<Join<'a>>,
 }
 
 impl<'a> Instance<'a> {
     /// Whether the cell has the pin, and it isn't joined.
     pub fn may_join(&self, pin: &[u8]) -> bool
-        ensures { MayJoin result self.now pin.now }
+        ensures { (conns : List Conn) → AreJoins conns self.now.joins.items → MayJoin result self.now.kind conns pin.now }
     {
         if !self.kind.pins().contains(&pin) {
             return false;
         }
-        match self.net_on(pin) {
-            None => true,
-            Some(_) => false,
-        }
+        self.join_on(pin).is_none()
     }
 
     /// The cell, or `None` where a pin isn't joined. Looks at each pin and each connection, at most five by five,
     /// and takes one allocation for each name.
     pub fn close(&self, alloc: Global) -> Result<Option<PartCell>, Memory>
-        ensures { IfOk result (λ found. Closes self.now found) }
+        ensures { (conns : List Conn) → AreJoins conns self.now.joins.items → IfOk result (λ found. Closes self.now conns found) }
     {
         let mut pins = Vec::new(alloc);
         for pin in self.kind.pins() {
-            let Some(net) = self.net_on(pin) else {
+            let Some(join) = self.join_on(pin) else {
                 return Ok(None);
             };
-            pins.push(Name::from_bytes(alloc, net)?)?;
+            pins.push(net_name(alloc, join)?)?;
         }
         Ok(Some(PartCell {
             kind: self.kind,
@@ -60,16 +60,27 @@ impl<'a> Instance<'a> {
         }))
     }
 
-    /// The net on a pin.
-    fn net_on(&self, pin: &[u8]) -> Option<&'a [u8]>
-        ensures { MatchOption result (net_on (conns_of self.now) pin.now ≡ None)
-            (λ net. net_on (conns_of self.now) pin.now ≡ Some net.now) }
+    /// The connection of a pin.
+    fn join_on(&self, pin: &[u8]) -> Option<Join<'a>>
+        ensures { (conns : List Conn) → AreJoins conns self.now.joins.items
+            → MatchOption result (net_on conns pin.now ≡ None)
+            (λ join. net_on conns pin.now ≡ Some (picked_name join.net.now join.index)) }
     {
         for join in &self.joins {
             if join.pin == pin {
-                return Some(join.net);
+                return Some(*join);
             }
         }
         None
+    }
+}
+
+/// The name of the net of a connection. One allocation.
+fn net_name(alloc: Global, join: Join) -> Result<Name, Memory>
+    ensures { IfOk result (λ name. name ≡ picked_name join.entry.net.now join.entry.index) }
+{
+    match join.index {
+        Some(k) => bit_name(alloc, join.net, k),
+        None => Name::from_bytes(alloc, join.net),
     }
 }

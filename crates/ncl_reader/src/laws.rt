@@ -4,7 +4,7 @@ ghost use Rattle.ncl_netlist.specs.declared.parts.Parts.{Parts};
 ghost use Rattle.ncl_reader.specs.declared.net_fault.NetFault.{NetFault};
 ghost use Rattle.ncl_reader.specs.Grammar.{Text, text_phrase};
 ghost use Rattle.ncl_reader.specs.Rules.{NoneBreaks};
-ghost use Rattle.ncl_reader.specs.Whole.{KeepsRules};
+ghost use Rattle.ncl_reader.specs.Whole.{IsPlain, KeepsRules};
 ghost use Rattle.ncl_reader.specs.Reads.{Reads, IsRefused};
 
 /// A list of tokens is the text of at most one tree.
@@ -28,7 +28,8 @@ pub fn some_answer()
         → ((parts : Parts) × Reads bytes parts) ⊎ ((fault : NetFault) × IsRefused bytes fault) }
 {}
 
-/// Where a text keeps the rules as a whole, none of its tokens breaks.
+/// Where a text without vectors and without declarations in its header keeps the rules as a whole, none of its
+/// tokens breaks.
 pub fn whole_rules()
-    ensures { (text : Text) → KeepsRules text → NoneBreaks (text_phrase text) }
+    ensures { (text : Text) → IsPlain text → KeepsRules text → NoneBreaks (text_phrase text) }
 {}

@@ -1,22 +1,38 @@
 //! The reader of netlist texts: structural modules, a part of IEEE 1364-2005.
 #![tactic(auto)]
 
+mod bit;
 mod draft;
+mod draft_declared;
+mod draft_header;
+mod draft_instance;
+mod draft_net;
 mod header;
 mod instance;
+mod kept_bits;
 mod keyword;
+mod known;
 pub mod laws;
+mod lead;
 mod lexeme;
+mod names;
 mod net_fault;
+mod number;
 mod place;
+mod ranges;
 mod reader;
 mod refusal;
+mod span;
 #[cfg(test)]
 mod speed_tests;
 #[cfg(test)]
 mod tests;
+mod uses;
+#[cfg(test)]
+mod vector_tests;
 
 pub use keyword::{Keyword, Way};
 pub use lexeme::Sign;
 pub use net_fault::NetFault;
 pub use reader::read_netlist;
+pub use span::Span;

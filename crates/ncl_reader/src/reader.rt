@@ -1,17 +1,17 @@
 //! A text read to its end.
-ghost use Rattle.std.specs.Prelude.{◌≡◌, ◌≤◌, IfOk, IfErr, length};
+ghost use Rattle.std.specs.Prelude.{◌≡◌, ◌≤◌, ◌+◌, IfOk, IfErr, length};
 ghost use Rattle.ncl_token.specs.declared.token.TokenFault.TheVariants.{BadByte};
 ghost use Rattle.ncl_netlist.specs.declared.parts.Parts.{Parts};
 ghost use Rattle.ncl_netlist.specs.Names.{AllDiffer};
 ghost use Rattle.ncl_netlist.specs.Parts.{netlist_of, port_names};
 ghost use Rattle.ncl_netlist.specs.Faults.{IsFaultless};
 ghost use Rattle.ncl_reader.specs.Reads.{Reads, IsReadFault, IsNetFault};
+ghost use Rattle.ncl_reader.specs.GraphicNames.{HasGraphicNames};
 
 use crate::draft::Draft;
 use crate::lexeme::lexeme_of;
 use crate::net_fault::NetFault;
 use crate::place::Place;
-use crate::refusal::refusal;
 use ncl_base::MOST_BYTES;
 use ncl_netlist::{Netlist, Parts, build};
 use ncl_token::{TokenFault, Tokens};
@@ -22,14 +22,16 @@ use std::alloc::Global;
 /// Fails at the first token that breaks the grammar or a rule, with its place and what is wrong; where the
 /// parts that the text says are no netlist; and where memory is refused.
 ///
-/// Near linear in the bytes: each is looked at a fixed number of times, each name of the header, and each
-/// name that `input` and `output` declare, is looked up by O(log n) comparisons, and `build` hashes each name
-/// once. Takes memory linear in the bytes: one allocation for each name of a port, a cell and a connection,
-/// and no list of tokens.
+/// Near linear in the bytes: each is looked at a fixed number of times, each name is looked up by O(log n)
+/// comparisons a fixed number of times, a name that has the form of a bit's name is looked at once more where its
+/// vector is declared, and `build` hashes each name once. Takes memory linear in the bytes: one allocation for each
+/// name of a port, a cell and a connection, and no list of tokens; and beside, the names of the bits of ports, which
+/// are at most 65,536, each with the name of its vector.
 pub fn read_netlist(alloc: Global, bytes: &[u8]) -> Result<Netlist, NetFault>
     requires { length bytes.now ≤ MOST_BYTES }
     ensures netlist { IfOk result
         (λ n. (parts : Parts) × Reads bytes.now parts × IsFaultless parts × (n ≡ netlist_of parts)) }
+    ensures names { IfOk result HasGraphicNames }
     ensures fault { IfErr result (IsNetFault bytes.now) }
 {
     let parts = read_parts(alloc, bytes)?;
@@ -42,6 +44,7 @@ pub fn read_netlist(alloc: Global, bytes: &[u8]) -> Result<Netlist, NetFault>
 fn read_parts(alloc: Global, bytes: &[u8]) -> Result<Parts, NetFault>
     ensures parts { IfOk result (Reads bytes.now) }
     ensures differ { IfOk result (λ parts. AllDiffer (port_names parts)) }
+    ensures few { IfOk result (λ parts. length parts.ports ≤ length bytes.now + 65536) }
     ensures fault { IfErr result (IsReadFault bytes.now) }
 {
     let mut tokens = Tokens::new(bytes);
@@ -53,7 +56,7 @@ fn read_parts(alloc: Global, bytes: &[u8]) -> Result<Parts, NetFault>
                 let lexeme = lexeme_of(&tokens, &token);
                 match draft.step(alloc, place, &lexeme)? {
                     Some(after) => place = after,
-                    None => return Err(refusal(place, &lexeme, token.start)),
+                    None => return Err(draft.refusal(place, &lexeme, token.start)),
                 }
             }
             Ok(None) => match place {

@@ -8,7 +8,7 @@ use std::process::Abort;
 use std::test::*;
 
 /// What a text is read as: its module and ports, and each cell with the nets on its pins; or the fault.
-fn told(rt: &impl Abort, alloc: Global, bytes: &[u8]) -> Result<Vec<u8>, Memory> {
+pub fn told(rt: &impl Abort, alloc: Global, bytes: &[u8]) -> Result<Vec<u8>, Memory> {
     assert!(rt; bytes.len() <= MOST_BYTES);
     match read_netlist(alloc, bytes) {
         Ok(netlist) => netlist_text(alloc, &netlist),
@@ -251,10 +251,10 @@ fn reads(rt: HostRuntime) -> Result<(), Fail> {
 }
 
 /// A text in two parts, of which the second begins with the token that is refused, and the fault.
-type Refused = (&'static str, &'static str, &'static str);
+pub type Refused = (&'static str, &'static str, &'static str);
 
 /// Asserts that a text is refused at the length of its first part.
-fn is_refused(rt: &impl Abort, alloc: Global, refused: Refused) -> Result<(), Memory> {
+pub fn is_refused(rt: &impl Abort, alloc: Global, refused: Refused) -> Result<(), Memory> {
     let (front, back, fault) = refused;
     let text = format!(in alloc; "{front}{back}")?;
     let want = format!(in alloc; "{fault} {}", front.len())?;
@@ -318,7 +318,7 @@ const GRAMMAR: [Refused; 64] = [
     ("module m ", "endmodule", "unsupported"),
     ("module m ", "#(parameter W=1)", "unsupported"),
     ("module m(", ",a);", "syntax"),
-    ("module m(", "input a);", "unsupported"),
+    ("module m(a,", "input b);", "unsupported"),
     ("module m(a,", ");", "syntax"),
     ("module m(a ", "b);", "syntax"),
     ("module m(a", ";", "syntax"),
@@ -334,7 +334,7 @@ const GRAMMAR: [Refused; 64] = [
     ("module m;", "and g(z,a,b);", "unsupported"),
     ("module m;wire", ";", "syntax"),
     ("module m;wire ", "wire a;", "unsupported"),
-    ("module m;wire ", "[3:0] a;", "unsupported"),
+    ("module m;wire [3:0] ", "[1:0] a;", "unsupported"),
     ("module m;wire a ", "b;", "syntax"),
     ("module m;wire a", "=1;", "unsupported"),
     ("module m;wire a,", ";", "syntax"),

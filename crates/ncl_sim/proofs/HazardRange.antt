@@ -13,7 +13,7 @@ use Rattle.ncl_sim.specs.declared.trace.End.{End}
 use Rattle.ncl_sim.specs.declared.trace.End.TheVariants.{Hazard}
 use Rattle.ncl_sim.proofs.Candidates.{and3, bit_within, excited_within}
 
-in_range : (p : PipelineData) (s : State) (item : Item) → enabled p s item ≡ true → InRange p item
+pub in_range : (p : PipelineData) (s : State) (item : Item) → enabled p s item ≡ true → InRange p item
 in_range p s (Fire cell) on = excited_within s.value p.netlist.cells cell.0 on
 in_range p s (Raise bit) on = bit_within p s bit false (and3 (not s.falling) (s.value p.ko) _ on).2
 in_range p s (Lower bit) on = bit_within p s bit true (and3 s.falling (not (s.value p.ko)) _ on).2

@@ -1,5 +1,5 @@
 -- The lexemes of the lines of a netlist's text.
-use Rattle.std.proofs.Common.{◌≡◌, ℕ, ◌<◌, List, [], ◌∷◌, ◌++◌, length, map, Bool, true, false, refl, ap, ◌∙◌, append_assoc, arith}
+use Rattle.std.proofs.Common.{◌≡◌, ℕ, ◌<◌, List, [], ◌∷◌, ◌++◌, length, map, Bool, true, false, refl, ap, ◌∙◌, append_assoc, arith, None, sym, subst}
 use Rattle.std.specs.Prelude.{codes, if◌then◌else◌}
 use Rattle.std.specs.List.{flat_map, join_with_byte, AllByRecursion}
 use Rattle.ncl_gates.specs.declared.cell_kind.CellKind.{CellKind}
@@ -7,7 +7,7 @@ use Rattle.ncl_gates.specs.Name.{cell_name_of, is_capital_word}
 use Rattle.ncl_gates.proofs.PinLaws.{cell_name_of-capital}
 use Rattle.ncl_netlist.specs.declared.port.Port.{Port}
 use Rattle.ncl_reader.specs.declared.keyword.Keyword.TheVariants.{Module, Way as word_of}
-use Rattle.ncl_reader.specs.declared.lexeme.Sign.TheVariants.{LParen, RParen, Semi}
+use Rattle.ncl_reader.specs.declared.lexeme.Sign.TheVariants.{LParen, RParen, Dot, Semi}
 use Rattle.ncl_reader.specs.Lexemes.{Lexeme, Word, Name, Mark}
 use Rattle.ncl_reader.specs.Grammar.{Conn, Item, Joins, name_phrase, conn_phrase, item_phrase, head_phrase, row_phrase}
 use Rattle.ncl_writer.specs.Names.{spelled_name, IsWritableName}
@@ -48,22 +48,27 @@ lexes-port_line port rest lexemes may lexes = by port.output
 -- a pin and its net: the pin is a capital word, and the net can be written
 pub record IsWritableConn (conn : Conn) : Type 0 where
   pub pin : is_capital_word conn.pin ≡ true
-  pub net : IsWritableName conn.net
+  pub net : IsWritableName conn.net.name
+  pub whole : conn.net.index ≡ None
 
 abbrev pub conn_text : Conn → List ℕ
-conn_text conn = pin_text conn.pin conn.net
+conn_text conn = pin_text conn.pin conn.net.name
 
 lexes-conn : (conn : Conn) (rest : List ℕ) (lexemes : List Lexeme) → IsWritableConn conn → Lexes rest lexemes → Lexes (conn_text conn ++ rest) (conn_phrase conn ++ lexemes)
 lexes-conn conn rest lexemes may lexes =
-    let net : List ℕ = spelled_name conn.net in
-    let behind : (net ++ codes ")") ++ rest ≡ net ++ 41 ∷ rest = append_assoc net (codes ")") rest in
-    let along : (conn.pin ++ 40 ∷ (net ++ codes ")")) ++ rest ≡ conn.pin ++ 40 ∷ (net ++ 41 ∷ rest) =
-    append_assoc conn.pin (40 ∷ (net ++ codes ")")) rest ∙ ap (λ l. conn.pin ++ 40 ∷ l) behind in
-    lexes-dot ((conn.pin ++ 40 ∷ (net ++ codes ")")) ++ rest) (Name conn.pin ∷ Mark LParen ∷ Name conn.net ∷ Mark RParen ∷ lexemes)
-    (lexes-along ((conn.pin ++ 40 ∷ (net ++ codes ")")) ++ rest) (conn.pin ++ 40 ∷ (net ++ 41 ∷ rest)) (Name conn.pin ∷ Mark LParen ∷ Name conn.net ∷ Mark RParen ∷ lexemes) along
-    (lexes-plain conn.pin (40 ∷ (net ++ 41 ∷ rest)) (Mark LParen ∷ Name conn.net ∷ Mark RParen ∷ lexemes) (capital_plain conn.pin may.pin) refl
-    (lexes-left (net ++ 41 ∷ rest) (Name conn.net ∷ Mark RParen ∷ lexemes) (name_after_left conn.net (41 ∷ rest) may.net)
-    (lexes-name conn.net (41 ∷ rest) (Mark RParen ∷ lexemes) may.net refl (lexes-right rest lexemes lexes)))))
+    subst (λ i. Lexes (conn_text conn ++ rest) (conn_phrase (record { pin = conn.pin; net = record { name = conn.net.name; index = i } }) ++ lexemes)) (sym may.whole) (lexes-net conn rest lexemes may lexes)
+  where
+    lexes-net : (conn : Conn) (rest : List ℕ) (lexemes : List Lexeme) → IsWritableConn conn → Lexes rest lexemes → Lexes (conn_text conn ++ rest) (Mark Dot ∷ Name conn.pin ∷ Mark LParen ∷ Name conn.net.name ∷ Mark RParen ∷ lexemes)
+    lexes-net conn rest lexemes may lexes =
+        let net : List ℕ = spelled_name conn.net.name in
+        let behind : (net ++ codes ")") ++ rest ≡ net ++ 41 ∷ rest = append_assoc net (codes ")") rest in
+        let along : (conn.pin ++ 40 ∷ (net ++ codes ")")) ++ rest ≡ conn.pin ++ 40 ∷ (net ++ 41 ∷ rest) =
+        append_assoc conn.pin (40 ∷ (net ++ codes ")")) rest ∙ ap (λ l. conn.pin ++ 40 ∷ l) behind in
+        lexes-dot ((conn.pin ++ 40 ∷ (net ++ codes ")")) ++ rest) (Name conn.pin ∷ Mark LParen ∷ Name conn.net.name ∷ Mark RParen ∷ lexemes)
+        (lexes-along ((conn.pin ++ 40 ∷ (net ++ codes ")")) ++ rest) (conn.pin ++ 40 ∷ (net ++ 41 ∷ rest)) (Name conn.pin ∷ Mark LParen ∷ Name conn.net.name ∷ Mark RParen ∷ lexemes) along
+        (lexes-plain conn.pin (40 ∷ (net ++ 41 ∷ rest)) (Mark LParen ∷ Name conn.net.name ∷ Mark RParen ∷ lexemes) (capital_plain conn.pin may.pin) refl
+        (lexes-left (net ++ 41 ∷ rest) (Name conn.net.name ∷ Mark RParen ∷ lexemes) (name_after_left conn.net.name (41 ∷ rest) may.net)
+        (lexes-name conn.net.name (41 ∷ rest) (Mark RParen ∷ lexemes) may.net refl (lexes-right rest lexemes lexes)))))
 
 -- the pins of a cell, and the end of the line
 lexes-conns : (conn : Conn) (conns : List Conn) (rest : List ℕ) (lexemes : List Lexeme) → IsWritableConn conn → AllByRecursion IsWritableConn conns → Lexes rest lexemes → Lexes (opened (map conn_text (conn ∷ conns)) ++ (codes ");\n" ++ rest)) (Mark LParen ∷ (row_phrase conn_phrase (row_of conn conns) ++ Mark RParen ∷ Mark Semi ∷ lexemes))

@@ -14,8 +14,8 @@ use Rattle.ncl_token.specs.Tokens.{IsToken, is_word, is_escaped}
 use Rattle.ncl_token.specs.Reading.{name_of}
 use Rattle.ncl_gates.specs.Name.{is_capital_word}
 use Rattle.ncl_reader.specs.declared.keyword.Keyword.{Keyword}
-use Rattle.ncl_reader.specs.declared.keyword.Keyword.TheVariants.{Module, EndModule, LeftOut, Way as word_of}
-use Rattle.ncl_reader.specs.declared.keyword.Way.TheVariants.{Input, Output, Wire}
+use Rattle.ncl_reader.specs.declared.keyword.Keyword.TheVariants.{Module, EndModule, Wire, LeftOut, Way as word_of}
+use Rattle.ncl_reader.specs.declared.keyword.Way.TheVariants.{Input, Output}
 use Rattle.ncl_reader.specs.Lexemes.{Lexeme, Name, Word}
 use Rattle.ncl_reader.specs.Words.{keyword_of, word_lexeme, left_out}
 use Rattle.ncl_writer.specs.Names.{is_plain, spelled_name, IsWritableName}
@@ -118,7 +118,7 @@ unreserved byte rest capital =
     (other (codes "module") refl) (other (codes "endmodule") refl) (other (codes "input") refl) (other (codes "output") refl) (other (codes "wire") refl) (other_words byte rest left_out capital refl)
   where
     by : (m e i o w l : Bool) → m ≡ false → e ≡ false → i ≡ false → o ≡ false → w ≡ false → l ≡ false
-        → (if m then Some Module else (if e then Some EndModule else (if i then Some (word_of Input) else (if o then Some (word_of Output) else (if w then Some (word_of Wire) else (if l then Some LeftOut else None)))))) ≡ None
+        → (if m then Some Module else (if e then Some EndModule else (if i then Some (word_of Input) else (if o then Some (word_of Output) else (if w then Some (Wire) else (if l then Some LeftOut else None)))))) ≡ None
     by m e i o w l a b c d f g = rw (a, b, c, d, f, g) refl
 
 -- a capital letter, and letters and digits, is a plain name
@@ -160,7 +160,7 @@ lexes-input rest lexemes lexes = lexes-token token.Word (codes "input") (32 ∷ 
 pub lexes-output : (rest : List ℕ) (lexemes : List Lexeme) → Lexes rest lexemes → Lexes (codes "output " ++ rest) (Word (word_of Output) ∷ lexemes)
 lexes-output rest lexemes lexes = lexes-token token.Word (codes "output") (32 ∷ rest) lexemes (is_word 111 (codes "utput") refl refl refl) refl (lexes-white 32 rest lexemes refl lexes)
 
-pub lexes-wire : (rest : List ℕ) (lexemes : List Lexeme) → Lexes rest lexemes → Lexes (codes "wire " ++ rest) (Word (word_of Wire) ∷ lexemes)
+pub lexes-wire : (rest : List ℕ) (lexemes : List Lexeme) → Lexes rest lexemes → Lexes (codes "wire " ++ rest) (Word (Wire) ∷ lexemes)
 lexes-wire rest lexemes lexes = lexes-token token.Word (codes "wire") (32 ∷ rest) lexemes (is_word 119 (codes "ire") refl refl refl) refl (lexes-white 32 rest lexemes refl lexes)
 
 pub lexes-endmodule : Lexes (codes "endmodule\n") (Word EndModule ∷ [])

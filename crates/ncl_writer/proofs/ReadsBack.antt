@@ -18,6 +18,7 @@ use Rattle.ncl_writer.specs.Text.{text_of}
 use Rattle.ncl_writer.proofs.Lexing.{lexeme_in}
 use Rattle.ncl_writer.proofs.Tree.{tree_of}
 use Rattle.ncl_writer.proofs.TextLexes.{lexes-text, phrases-tree}
+use Rattle.ncl_writer.proofs.TreeItems.{plain-tree_of}
 use Rattle.ncl_writer.proofs.KeptRules.{keeps_rules}
 use Rattle.ncl_writer.proofs.Saying.{says_parts}
 
@@ -38,7 +39,7 @@ reads_back n ok may =
       record {
         text = tree_of n;
         derives = derives;
-        unbroken = subst NoneBreaks (sym derives) (whole_rules (tree_of n) (keeps_rules n ok));
+        unbroken = subst NoneBreaks (sym derives) (whole_rules (tree_of n) (plain-tree_of n) (keeps_rules n ok));
         says = says_parts n ok;
       },
     )

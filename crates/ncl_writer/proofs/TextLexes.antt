@@ -1,5 +1,5 @@
 -- The lexemes of a netlist's text are those of its tree.
-use Rattle.std.proofs.Common.{◌≡◌, ℕ, ◌+◌, ◌<◌, List, [], ◌∷◌, ◌++◌, length, map, get_or, true, refl, sym, ap, ◌∙◌, subst, append_assoc, arith, All}
+use Rattle.std.proofs.Common.{◌≡◌, ℕ, ◌+◌, ◌<◌, List, [], ◌∷◌, ◌++◌, length, map, get_or, true, refl, sym, ap, ◌∙◌, subst, append_assoc, arith, All, None}
 use Rattle.std.specs.Prelude.{codes}
 use Rattle.std.specs.List.{flat_map, zip, AllByRecursion}
 use Rattle.std.proofs.lemmas.List.{length-map, length_push}
@@ -24,17 +24,17 @@ use Rattle.ncl_writer.proofs.LineLexes.{IsWritableConn, conn_text, lexes-wire_li
 
 -- ---- the pins of a cell
 
-pin_texts-conns : (pins names : List (List ℕ)) → map conn_text (map (λ (pin, net). record { pin = pin; net = net }) (zip pins names)) ≡ map (λ (pin, net). pin_text pin net) (zip pins names)
+pin_texts-conns : (pins names : List (List ℕ)) → map conn_text (map (λ (pin, net). record { pin = pin; net = record { name = net; index = None } }) (zip pins names)) ≡ map (λ (pin, net). pin_text pin net) (zip pins names)
 pin_texts-conns [] names = refl
 pin_texts-conns (pin ∷ pins) [] = refl
 pin_texts-conns (pin ∷ pins) (name ∷ names) = ap (λ l. pin_text pin name ∷ l) (pin_texts-conns pins names)
 
-conns_writable : (pins names : List (List ℕ)) → AllByRecursion (λ pin. is_capital_word pin ≡ true) pins → AllByRecursion IsWritableName names → AllByRecursion IsWritableConn (map (λ (pin, net). record { pin = pin; net = net }) (zip pins names))
+conns_writable : (pins names : List (List ℕ)) → AllByRecursion (λ pin. is_capital_word pin ≡ true) pins → AllByRecursion IsWritableName names → AllByRecursion IsWritableConn (map (λ (pin, net). record { pin = pin; net = record { name = net; index = None } }) (zip pins names))
 conns_writable [] names capital may = tt
 conns_writable (pin ∷ pins) [] capital may = tt
-conns_writable (pin ∷ pins) (name ∷ names) capital may = (record { pin = capital.0; net = may.0 }, conns_writable pins names capital.1 may.1)
+conns_writable (pin ∷ pins) (name ∷ names) capital may = (record { pin = capital.0; net = may.0; whole = refl }, conns_writable pins names capital.1 may.1)
 
-conns_some : (pins names : List (List ℕ)) → 0 < length pins → 0 < length names → 0 < length {A = Conn} (map (λ (pin, net). record { pin = pin; net = net }) (zip pins names))
+conns_some : (pins names : List (List ℕ)) → 0 < length pins → 0 < length names → 0 < length {A = Conn} (map (λ (pin, net). record { pin = pin; net = record { name = net; index = None } }) (zip pins names))
 conns_some [] names p q = absurd (omega arith)
 conns_some (pin ∷ pins) [] p q = absurd (omega arith)
 conns_some (pin ∷ pins) (name ∷ names) p q = omega arith

@@ -1,5 +1,5 @@
 -- The tree of the text of a netlist.
-use Rattle.std.proofs.Common.{ℕ, List, [], ◌∷◌, ◌++◌, length, map, drop, Some, None, Bool, true, false}
+use Rattle.std.proofs.Common.{ℕ, List, [], ◌∷◌, ◌++◌, length, map, drop, Option, Some, None, Bool, true, false}
 use Rattle.std.specs.List.{zip}
 use Rattle.ncl_gates.specs.Cell.{pins_of}
 use Rattle.ncl_gates.specs.Name.{cell_name_of}
@@ -7,35 +7,35 @@ use Rattle.ncl_netlist.specs.declared.port.Port.{Port}
 use Rattle.ncl_netlist.specs.declared.cell.Cell.{Cell}
 use Rattle.ncl_netlist.specs.Netlist.{NetlistData, pin_names}
 use Rattle.ncl_reader.specs.declared.keyword.Way.{Way}
-use Rattle.ncl_reader.specs.declared.keyword.Way.TheVariants.{Input, Output, Wire}
-use Rattle.ncl_reader.specs.Grammar.{Row, Conn, Item, Declares, Joins, Ports, Head, Text}
+use Rattle.ncl_reader.specs.declared.keyword.Way.TheVariants.{Input, Output}
+use Rattle.ncl_reader.specs.Grammar.{Row, Plain, Lead, Gives, Wires, Conn, Item, Declares, Joins, Listing, Names, Head, Text}
 use Rattle.ncl_writer.proofs.Rows.{row_of}
 
-abbrev pub ports_of : List (List ℕ) → Ports
+abbrev pub ports_of : List (List ℕ) → Option Listing
 ports_of [] = None
-ports_of (x ∷ xs) = Some (Some (row_of x xs))
+ports_of (x ∷ xs) = Some (Names (row_of x xs))
 
 abbrev pub way_of : Bool → Way
 way_of true = Output
 way_of false = Input
 
 -- a declaration of one name
-abbrev pub declared : Way → List ℕ → Item
-declared way name = Declares way (record { before = []; last = name })
+abbrev pub declared : Lead → List ℕ → Item
+declared lead name = Declares (record { spec = record { lead = lead; range = None }; names = record { before = []; last = name } })
 
 abbrev pub port_item : Port → Item
-port_item port = declared (way_of port.output) port.name
+port_item port = declared (Gives (Plain (way_of port.output))) port.name
 
 abbrev pub wire_item : List ℕ → Item
-wire_item net = declared Wire net
+wire_item net = declared Wires net
 
 -- the pins of a cell with their nets
 abbrev pub conns_of : List (List ℕ) → Cell → List Conn
-conns_of nets cell = map (λ (pin, net). record { pin = pin; net = net }) (zip (pins_of cell.kind) (pin_names nets cell))
+conns_of nets cell = map (λ (pin, net). record { pin = pin; net = record { name = net; index = None } }) (zip (pins_of cell.kind) (pin_names nets cell))
 
 -- a row of pins, of which each cell has some
 abbrev pub conn_row : List Conn → Row Conn
-conn_row [] = record { before = []; last = record { pin = []; net = [] } }
+conn_row [] = record { before = []; last = record { pin = []; net = record { name = []; index = None } } }
 conn_row (conn ∷ conns) = row_of conn conns
 
 abbrev pub cell_item : List (List ℕ) → Cell → Item

@@ -1,5 +1,5 @@
 -- What the tree of a netlist's text declares and joins.
-use Rattle.std.proofs.Common.{◌≡◌, ℕ, ◌<◌, Bool, true, false, List, [], ◌∷◌, ◌++◌, length, map, get_or, refl, ap, ◌∙◌, arith, All}
+use Rattle.std.proofs.Common.{◌≡◌, ℕ, ◌<◌, Bool, true, false, List, [], ◌∷◌, ◌++◌, length, map, get_or, refl, ap, ◌∙◌, arith, All, ◌≢◌, Some, None, sym, subst}
 use Rattle.std.specs.List.{flat_map, zip}
 use Rattle.std.proofs.lemmas.List.{append-nil, length-map, length_push}
 use Rattle.std.proofs.lemmas.List.Concat.{flat_map-append}
@@ -11,11 +11,12 @@ use Rattle.ncl_netlist.specs.declared.ids.NetId.{NetId}
 use Rattle.ncl_netlist.specs.declared.port.Port.{Port}
 use Rattle.ncl_netlist.specs.declared.cell.Cell.{Cell}
 use Rattle.ncl_netlist.specs.Netlist.{NetlistData, pin_names, CellFits, IsNetlist}
-use Rattle.ncl_reader.specs.Grammar.{all_of, Conn, Item, header_of}
-use Rattle.ncl_reader.specs.Rules.{directs, directed_in, directed_by}
-use Rattle.ncl_reader.specs.Says.{Joined, joined_in, output_names}
+use Rattle.ncl_reader.specs.Grammar.{Row, all_of, Direction, Group, group_names, Conn, Item, Ansi, groups_of, header_of}
+use Rattle.ncl_reader.specs.Rules.{directed_in, directed_by}
+use Rattle.ncl_reader.specs.Says.{Joined, joined_in, Said, said_in, said_in_header, said_by, way_output}
+use Rattle.ncl_reader.specs.Whole.{AreWhole, AreScalar, IsPlain}
 use Rattle.ncl_writer.proofs.Rows.{all_of-row_of}
-use Rattle.ncl_writer.proofs.Tree.{ports_of, way_of, port_item, wire_item, wires_of, conns_of, conn_row, cell_item, head_of, items_of}
+use Rattle.ncl_writer.proofs.Tree.{ports_of, way_of, port_item, wire_item, wires_of, conns_of, conn_row, cell_item, head_of, items_of, tree_of}
 
 abbrev pub names_of : List Port → List (List ℕ)
 names_of ports = map (λ (port : Port). port.name) ports
@@ -64,28 +65,76 @@ module _ {A : Type 0} (f : Item → List A) where
 -- ---- directions
 
 -- each port has one direction, and nothing else has one
-pub directed_by-items_of : (n : NetlistData) → directed_by (items_of n) ≡ names_of n.ports
-directed_by-items_of n = of_ports directed_in n (λ net. refl) (λ cell. refl) ∙ each n.ports
+pub directed_by-items_of : (n : NetlistData) → directed_by (head_of n) (items_of n) ≡ names_of n.ports
+directed_by-items_of n = ap (λ l. l ++ flat_map directed_in (items_of n)) (none_in (names_of n.ports)) ∙ of_ports directed_in n (λ net. refl) (λ cell. refl) ∙ each n.ports
   where
-    one : (output : Bool) (name : List ℕ) → directs (way_of output) (name ∷ []) ≡ name ∷ []
-    one true name = refl
-    one false name = refl
+    none_in : (names : List (List ℕ)) → flat_map group_names (groups_of (ports_of names)) ≡ []
+    none_in [] = refl
+    none_in (x ∷ xs) = refl
 
     each : (ports : List Port) → flat_map directed_in (map port_item ports) ≡ names_of ports
     each [] = refl
-    each (port ∷ ports) = λ i. one port.output port.name i ++ each ports i
+    each (port ∷ ports) = ap (λ l. port.name ∷ l) (each ports)
 
--- the names of the outputs
-abbrev pub outputs_of : List Port → List (List ℕ)
-outputs_of ports = flat_map output_names (map port_item ports)
+-- what is said of a port
+abbrev pub said_port : Port → Said
+said_port port = record { name = port.name; output = port.output; range = None }
 
-pub output_names-items_of : (n : NetlistData) → flat_map output_names (items_of n) ≡ outputs_of n.ports
-output_names-items_of n = of_ports output_names n (λ net. refl) (λ cell. refl)
+pub said_by-tree_of : (n : NetlistData) → said_by (tree_of n) ≡ map said_port n.ports
+said_by-tree_of n = ap (λ l. l ++ flat_map said_in (items_of n)) (none_in (names_of n.ports)) ∙ of_ports said_in n (λ net. refl) (λ cell. refl) ∙ each n.ports
+  where
+    none_in : (names : List (List ℕ)) → flat_map said_in_header (groups_of (ports_of names)) ≡ []
+    none_in [] = refl
+    none_in (x ∷ xs) = refl
+
+    one : (output : Bool) → way_output (way_of output) ≡ output
+    one true = refl
+    one false = refl
+
+    each : (ports : List Port) → flat_map said_in (map port_item ports) ≡ map said_port ports
+    each [] = refl
+    each (port ∷ ports) = λ i. record { name = port.name; output = one port.output i; range = None } ∷ each ports i
+
+-- no group stands in the header, and no range and no index
+pub plain-tree_of : (n : NetlistData) → IsPlain (tree_of n)
+plain-tree_of n = record { header = by (names_of n.ports); items = items }
+  where
+    by : (names : List (List ℕ)) (groups : Row (Group Direction)) → ports_of names ≢ Some (Ansi groups)
+    by [] groups e = absurd cc
+    by (x ∷ xs) groups e = absurd cc
+
+    both : (xs ys : List Item) → AreScalar xs → AreScalar ys → AreScalar (xs ++ ys)
+    both [] ys front back = back
+    both (x ∷ xs) ys front back = (front.0, both xs ys front.1 back)
+
+    ports_plain : (ports : List Port) → AreScalar (map port_item ports)
+    ports_plain [] = tt
+    ports_plain (port ∷ ports) = (refl, ports_plain ports)
+
+    wires_plain : (nets : List (List ℕ)) → AreScalar (map wire_item nets)
+    wires_plain [] = tt
+    wires_plain (net ∷ nets) = (refl, wires_plain nets)
+
+    zipped : (pins names : List (List ℕ)) → AreWhole (map (λ (pin, net). record { pin = pin; net = record { name = net; index = None } }) (zip pins names))
+    zipped [] names = tt
+    zipped (pin ∷ pins) [] = tt
+    zipped (pin ∷ pins) (name ∷ names) = (refl, zipped pins names)
+
+    row : (conns : List Conn) → AreWhole conns → AreWhole (all_of (conn_row conns))
+    row [] whole = (refl, tt)
+    row (conn ∷ conns) whole = subst AreWhole (sym (all_of-row_of conn conns)) whole
+
+    cells_plain : (cells : List Cell) → AreScalar (map (cell_item n.nets) cells)
+    cells_plain [] = tt
+    cells_plain (cell ∷ cells) = (row (conns_of n.nets cell) (zipped (pins_of cell.kind) (pin_names n.nets cell)), cells_plain cells)
+
+    items : AreScalar (items_of n)
+    items = both (map port_item n.ports) _ (ports_plain n.ports) (both (map wire_item (wires_of n)) _ (wires_plain (wires_of n)) (cells_plain n.cells))
 
 -- ---- instances
 
 -- the pins that are joined are those of the cell, and the nets those at its pins
-pins_zipped : (pins names : List (List ℕ)) → length pins ≡ length names → map (λ (c : Conn). c.pin) (map (λ (pin, net). record { pin = pin; net = net }) (zip pins names)) ≡ pins
+pins_zipped : (pins names : List (List ℕ)) → length pins ≡ length names → map (λ (c : Conn). c.pin) (map (λ (pin, net). record { pin = pin; net = record { name = net; index = None } }) (zip pins names)) ≡ pins
 pins_zipped [] names same = refl
 pins_zipped (pin ∷ pins) [] same = absurd (omega arith)
 pins_zipped (pin ∷ pins) (name ∷ names) same = ap (λ l. pin ∷ l) (pins_zipped pins names (omega arith))

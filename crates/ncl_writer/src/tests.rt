@@ -99,6 +99,39 @@ TH22 \\* (.A(\\1 ),.B(\\1 ),.Z(o));
 endmodule
 ";
 
+/// Two banks of one bit, whose rails are vectors.
+const VECTORS: &[u8] = b"module t(input [1:0] x1, input ki, rst, output [1:0] z1, output ko);
+wire [1:0] p;
+TH22N r1_0(.A(x1[0]),.B(c),.RST(rst),.Z(p[0]));
+TH22N r1_1(.A(x1[1]),.B(c),.RST(rst),.Z(p[1]));
+TH12B k1(.A(p[0]),.B(p[1]),.Z(ko));
+TH22N s1_0(.A(p[0]),.B(ki),.RST(rst),.Z(z1[0]));
+TH22N s1_1(.A(p[1]),.B(ki),.RST(rst),.Z(z1[1]));
+TH12B d1(.A(z1[0]),.B(z1[1]),.Z(c));
+endmodule
+";
+
+/// The text that is written of it: each bit by a name of its own.
+const VECTORS_WRITTEN: &str = "module t(\\x1[1] ,\\x1[0] ,ki,rst,\\z1[1] ,\\z1[0] ,ko);
+input \\x1[1] ;
+input \\x1[0] ;
+input ki;
+input rst;
+output \\z1[1] ;
+output \\z1[0] ;
+output ko;
+wire c;
+wire \\p[0] ;
+wire \\p[1] ;
+TH22N r1_0(.A(\\x1[0] ),.B(c),.RST(rst),.Z(\\p[0] ));
+TH22N r1_1(.A(\\x1[1] ),.B(c),.RST(rst),.Z(\\p[1] ));
+TH12B k1(.A(\\p[0] ),.B(\\p[1] ),.Z(ko));
+TH22N s1_0(.A(\\p[0] ),.B(ki),.RST(rst),.Z(\\z1[0] ));
+TH22N s1_1(.A(\\p[1] ),.B(ki),.RST(rst),.Z(\\z1[1] ));
+TH12B d1(.A(\\z1[0] ),.B(\\z1[1] ),.Z(c));
+endmodule
+";
+
 /// A gate that reads itself, in a module of one port.
 const LOOP: &[u8] = b"module m(z); output z; TH22 g(.A(z),.B(z),.Z(z)); endmodule";
 
@@ -136,13 +169,14 @@ fn is_same(netlist: &Netlist, other: &Netlist) -> bool {
 
 #[test]
 fn reads_back_what_was_written(rt: HostRuntime) -> Result<(), Fail> {
-    let cases: [(&[u8], Option<&str>); 6] = [
+    let cases: [(&[u8], Option<&str>); 7] = [
         (b"module m(); endmodule", Some("module m;\nendmodule\n")),
         (LOOP, Some(LOOP_WRITTEN)),
         (BANK, Some(WRITTEN)),
         (AND, None),
         (ADDER, None),
         (ODD_NAMES, Some(ODD_WRITTEN)),
+        (VECTORS, Some(VECTORS_WRITTEN)),
     ];
     for (text, exact) in cases {
         assert!(rt; text.len() <= MOST_BYTES);

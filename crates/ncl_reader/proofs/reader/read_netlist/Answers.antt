@@ -1,13 +1,18 @@
-use Rattle.std.proofs.Common.{arith}
+use Rattle.std.proofs.Common.{arith, subst, sym}
 use Rattle.std.specs.List.{flat_map}
 use Rattle.ncl_reader.specs.Says.{joined_in}
+use Rattle.ncl_reader.specs.GraphicNames.{HasGraphicNames}
+use Rattle.ncl_reader.proofs.GraphicNames.{graphic_names}
 use Rattle.ncl_reader.proofs.PartsRead as parts
 use Rattle.ncl_reader.proofs.reader.read_netlist.Goals as goal
 
 pub build-requires-clause-few_ports : goal.build-requires-clause-few_ports
-build-requires-clause-few_ports c = omega (arith, parts.few_ports c.args.bytes.now c.in_ok-parts.parts c.in_ok-parts.ensures.parts)
+build-requires-clause-few_ports c = omega (arith, c.in_ok-parts.ensures.few)
 
 pub build-requires-clause-all_pins : goal.build-requires-clause-all_pins
 build-requires-clause-all_pins c =
     let reads = c.in_ok-parts.ensures.parts.2 in
     parts.all_pins (flat_map joined_in reads.text.items) c.in_ok-parts.parts.cells reads.says.cells
+
+pub returns-clause-names : goal.returns-clause-names
+returns-clause-names c = subst HasGraphicNames (sym c.in_ok-build.ensures.built) (graphic_names c.args.bytes.now c.in_ok-parts.parts c.in_ok-parts.ensures.parts)

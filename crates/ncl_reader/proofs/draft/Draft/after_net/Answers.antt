@@ -1,21 +1,56 @@
-use Rattle.std.proofs.Common.{◌≡◌, ◌≢◌, refl, sym, ◌∙◌}
+use Rattle.std.proofs.Common.{not, ◌∷◌, [], ◌++◌, None, inl, refl, sym, ap, ◌∙◌, subst}
 use Rattle.std.proofs.lemmas.Bool.{false≢true}
 use Rattle.ncl_gates.specs.Name.{cell_name_of}
 use Rattle.ncl_reader.specs.declared.place.Place.TheVariants as place
-use Rattle.ncl_reader.specs.declared.lexeme.Sign.TheVariants.{RParen}
+use Rattle.ncl_reader.specs.declared.lexeme.Sign.TheVariants.{RParen, LBracket}
 use Rattle.ncl_reader.specs.Lexemes.{Mark}
+use Rattle.ncl_reader.specs.Grammar.{Conn}
 use Rattle.ncl_reader.specs.Meant.{meant}
-use Rattle.ncl_reader.specs.Partial.{inside, netted, joined}
-use Rattle.ncl_reader.proofs.Breaking.{breaks-untaken}
+use Rattle.ncl_reader.specs.Vectors.{IsVector}
+use Rattle.ncl_reader.specs.Instance.{AreJoins}
+use Rattle.ncl_reader.specs.Partial.{Partial, inside, netted, indexing, joined, spelled}
 use Rattle.ncl_reader.proofs.DraftSteps as steps
+use Rattle.ncl_reader.proofs.NetSteps as nets
+use Rattle.ncl_reader.proofs.Nets.{joins-more}
 use Rattle.ncl_reader.proofs.draft.Draft.after_net.Goals as goal
 
+pub returns-then-is_none : goal.returns-then-is_none
+returns-then-is_none c = λ p (kept, (head, items, conns, is, body, are)).
+    let tree : Partial = inside head items (netted (cell_name_of c.args.self.now.instance.kind) c.args.self.now.instance.name.now conns c.args.self.now.instance.pin.now c.args.self.now.instance.net.now) in
+    let scalar = nets.vector_missing (spelled p) c.args.self.now.instance.net.now c.net_range-range.result (c.net_range-range.ensures (spelled p) kept) (c.is_none.ensures ∙ ap not c.if-is_none.true) in
+    steps.against place.AfterNet p tree (meant c.args.lexeme.now) c.args.self.now is (Mark LBracket) (c.is_mark.ensures.0 c.if-is_mark.true)
+    (c.args.self.now.instance.net.now, (head, items, (cell_name_of c.args.self.now.instance.kind), c.args.self.now.instance.name.now, conns, c.args.self.now.instance.pin.now, refl), λ range vector. scalar range (subst (λ q. IsVector (spelled q) c.args.self.now.instance.net.now range) (sym is) vector))
+    (kept, (head, items, conns, is, body, are))
+
 pub returns-then-is_mark : goal.returns-then-is_mark
-returns-then-is_mark c = λ p (head, items, conns, conn, is, body, all).
-    let t : meant c.args.lexeme.now ≡ Mark RParen = c.is_mark.ensures.0 c.if-is_mark.true in
-    rw (is, t) (steps.takes (inside head items (netted (cell_name_of c.args.self.now.instance.kind) c.args.self.now.instance.name.now conns conn)) (inside head items (joined (cell_name_of c.args.self.now.instance.kind) c.args.self.now.instance.name.now conns conn)) (Mark RParen) place.AfterConnection c.args.self.now refl (head, items, conns, conn, refl, body, all) (steps.close_rule (inside head items (netted (cell_name_of c.args.self.now.instance.kind) c.args.self.now.instance.name.now conns conn)) (λ e. let same : place.AfterNet ≡ place.AfterConnection = e in absurd cc)))
+returns-then-is_mark c = λ p (kept, (head, items, conns, is, body, are)).
+    let tree : Partial = inside head items (netted (cell_name_of c.args.self.now.instance.kind) c.args.self.now.instance.name.now conns c.args.self.now.instance.pin.now c.args.self.now.instance.net.now) in
+    let (range, vector) = nets.vector_found (spelled p) c.args.self.now.instance.net.now c.net_range-range.result (c.net_range-range.ensures (spelled p) kept) (c.is_none.ensures ∙ ap not c.if-is_none.false) in
+    let here : IsVector (spelled tree) c.args.self.now.instance.net.now range = subst (λ q. IsVector (spelled q) c.args.self.now.instance.net.now range) is vector in
+    steps.taken_mark p tree (inside head items (indexing (cell_name_of c.args.self.now.instance.kind) c.args.self.now.instance.name.now conns c.args.self.now.instance.pin.now c.args.self.now.instance.net.now)) (meant c.args.lexeme.now) (Mark LBracket) place.Index c.args.self.now is (c.is_mark.ensures.0 c.if-is_mark.true) refl
+    (nets.mark_no_name LBracket) kept ((head, items, conns, refl, body, are), (range, nets.vector_next head items (cell_name_of c.args.self.now.instance.kind) c.args.self.now.instance.name.now conns c.args.self.now.instance.pin.now c.args.self.now.instance.net.now range here))
+    (λ (other, behind, scalar). scalar range (subst (λ x. IsVector (spelled tree) x range) (nets.behind_net_at head items (cell_name_of c.args.self.now.instance.kind) c.args.self.now.instance.name.now conns c.args.self.now.instance.pin.now c.args.self.now.instance.net.now other behind) here))
+
+pub returns-then-not-is_mark : goal.returns-then-not-is_mark
+returns-then-not-is_mark c = λ p (kept, (head, items, conns, is, body, are)).
+    steps.untaken place.AfterNet p (inside head items (netted (cell_name_of c.args.self.now.instance.kind) c.args.self.now.instance.name.now conns c.args.self.now.instance.pin.now c.args.self.now.instance.net.now)) (meant c.args.lexeme.now) c.args.self.now is
+    (steps.others-netted head items (cell_name_of c.args.self.now.instance.kind) c.args.self.now.instance.name.now conns c.args.self.now.instance.pin.now c.args.self.now.instance.net.now (meant c.args.lexeme.now) (λ e. false≢true (sym c.if-not-is_mark.true ∙ c.is_mark-2.ensures.1 e)) (λ e. false≢true (sym c.if-is_mark.false ∙ c.is_mark.ensures.1 e)))
+    (kept, (head, items, conns, is, body, are))
+
+pub returns-then-is_some : goal.returns-then-is_some
+returns-then-is_some c = λ p (kept, (head, items, conns, is, body, are)).
+    let tree : Partial = inside head items (netted (cell_name_of c.args.self.now.instance.kind) c.args.self.now.instance.name.now conns c.args.self.now.instance.pin.now c.args.self.now.instance.net.now) in
+    let (range, vector) = nets.vector_found (spelled p) c.args.self.now.instance.net.now c.net_range-range.result (c.net_range-range.ensures (spelled p) kept) (sym c.is_some.ensures ∙ c.if-is_some.true) in
+    steps.against place.AfterNet p tree (meant c.args.lexeme.now) c.args.self.now is (Mark RParen) (c.is_mark-2.ensures.0 c.if-not-is_mark.false)
+    (inl (c.args.self.now.instance.net.now, range, (head, items, (cell_name_of c.args.self.now.instance.kind), c.args.self.now.instance.name.now, conns, c.args.self.now.instance.pin.now, refl), subst (λ q. IsVector (spelled q) c.args.self.now.instance.net.now range) is vector))
+    (kept, (head, items, conns, is, body, are))
 
 pub returns : goal.returns
-returns c = λ p (head, items, conns, conn, is, body, all).
-    let one : meant c.args.lexeme.now ≢ Mark RParen = λ e. false≢true (sym c.if-is_mark.false ∙ c.is_mark.ensures.1 e) in
-    rw is (breaks-untaken (inside head items (netted (cell_name_of c.args.self.now.instance.kind) c.args.self.now.instance.name.now conns conn)) (meant c.args.lexeme.now) (steps.others-netted head items (cell_name_of c.args.self.now.instance.kind) c.args.self.now.instance.name.now conns conn (meant c.args.lexeme.now) one))
+returns c = λ p (kept, (head, items, conns, is, body, are)).
+    let tree : Partial = inside head items (netted (cell_name_of c.args.self.now.instance.kind) c.args.self.now.instance.name.now conns c.args.self.now.instance.pin.now c.args.self.now.instance.net.now) in
+    let scalar = nets.vector_missing (spelled p) c.args.self.now.instance.net.now c.net_range-range.result (c.net_range-range.ensures (spelled p) kept) (sym c.is_some.ensures ∙ c.if-is_some.false) in
+    let conn : Conn = record { pin = c.args.self.now.instance.pin.now; net = record { name = c.args.self.now.instance.net.now; index = None } } in
+    steps.taken_mark p tree (inside head items (joined (cell_name_of c.args.self.now.instance.kind) c.args.self.now.instance.name.now conns conn)) (meant c.args.lexeme.now) (Mark RParen) place.AfterConnection _ is (c.is_mark-2.ensures.0 c.if-not-is_mark.false) refl
+    (nets.mark_no_name RParen) kept
+    (head, items, conns, conn, refl, (body.0, record { ansi = body.1.ansi; header = body.1.header; cells = body.1.cells }), subst (AreJoins (conns ++ conn ∷ [])) (sym c.in_ok-push.ensures.items) (joins-more conns c.args.self.now.instance.joins.items conn _ are refl))
+    (nets.whole_net head items (cell_name_of c.args.self.now.instance.kind) c.args.self.now.instance.name.now conns c.args.self.now.instance.pin.now c.args.self.now.instance.net.now (λ range vector. scalar range (subst (λ q. IsVector (spelled q) c.args.self.now.instance.net.now range) (sym is) vector)))

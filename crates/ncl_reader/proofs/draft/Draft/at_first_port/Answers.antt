@@ -1,36 +1,49 @@
-use Rattle.ncl_reader.specs.Header.{IsAdded}
-use Rattle.std.proofs.Common.{◌≡◌, ◌≢◌, [], refl, sym, ◌∙◌, subst, None, true, false, inl, inr}
+use Rattle.std.proofs.Common.{◌≢◌, [], true, refl, sym, ap, ◌∙◌, arith}
 use Rattle.std.proofs.lemmas.Bool.{false≢true}
 use Rattle.ncl_reader.specs.declared.place.Place.TheVariants as place
+use Rattle.ncl_reader.specs.declared.place.LeadPlace.TheVariants as lead
+use Rattle.ncl_reader.specs.declared.keyword.Keyword.TheVariants.{Way as word_of}
 use Rattle.ncl_reader.specs.declared.lexeme.Sign.TheVariants.{RParen}
-use Rattle.ncl_reader.specs.Lexemes.{Mark, Name}
+use Rattle.ncl_reader.specs.Lexemes.{Mark, Word}
+use Rattle.ncl_reader.specs.Grammar.{Plain, Empty}
+use Rattle.ncl_reader.specs.Rules.{Clashes}
 use Rattle.ncl_reader.specs.Meant.{meant}
-use Rattle.ncl_reader.specs.Partial.{listing, listed, headed}
-use Rattle.ncl_reader.proofs.Breaking.{breaks-untaken}
+use Rattle.ncl_reader.specs.Partial.{listing, listed, heading, headed, leading, led, spelled}
+use Rattle.ncl_reader.proofs.Declares.{range_here}
+use Rattle.ncl_reader.proofs.NameRules.{opens, close_free, not_late, port_rule_at, not_declaring, not_net}
 use Rattle.ncl_reader.proofs.DraftSteps as steps
 use Rattle.ncl_reader.proofs.draft.Draft.at_first_port.Goals as goal
 
 pub returns-then-is_mark : goal.returns-then-is_mark
-returns-then-is_mark c = λ p (is, bare).
-    let here = listing c.args.self.now.title.now [] in
-    let t : meant c.args.lexeme.now ≡ Mark RParen = c.is_mark.ensures.0 c.if-is_mark.true in
-    rw (is, t) (steps.takes here (headed c.args.self.now.title.now None) (Mark RParen) place.AfterPorts c.args.self.now refl (None, refl, bare) (steps.close_rule here (λ e. let same : place.FirstPort ≡ place.AfterConnection = e in absurd cc)))
+returns-then-is_mark c = λ p (kept, (is, bare)).
+    let title = c.args.self.now.title.now in
+    steps.taken_mark p (listing title []) (headed title Empty) (meant c.args.lexeme.now) (Mark RParen) place.AfterPorts c.args.self.now is (c.is_mark.ensures.0 c.if-is_mark.true) refl (λ x e. absurd cc) kept (Empty, refl, (refl, bare)) (close_free (listing title []) refl)
 
-pub returns-in_default : goal.returns-in_default
-returns-in_default c = λ p (is, bare).
+pub returns-in-Some : goal.returns-in-Some
+returns-in-Some c = λ p (kept, (is, bare)).
+    let title = c.args.self.now.title.now in
+    let way = c.in-Some.way in
+    steps.taken_mark p (listing title []) (heading title [] (leading (led (Plain way)))) (meant c.args.lexeme.now) (Word (word_of way)) (place.HeaderLead lead.Direction) (record c.args.self.now { ansi = true; lead = c.begun-self.result }) is c.in-Some.ensures refl (λ x e. absurd cc) kept
+    ([], led (Plain way), refl, refl, (c.begun-self.ensures.output, c.begun-self.ensures.span), record { ansi = refl; header = bare.header; cells = bare.cells })
+    (not_late (listing title []) refl)
+
+pub returns-in_default-name : goal.returns-in_default-name
+returns-in_default-name c = λ p (kept, (is, bare)).
+    let title = c.args.self.now.title.now in
     let one : meant c.args.lexeme.now ≢ Mark RParen = λ e. false≢true (sym c.if-is_mark.false ∙ c.is_mark.ensures.1 e) in
-    rw is (breaks-untaken (listing c.args.self.now.title.now []) (meant c.args.lexeme.now) (steps.others-first c.args.self.now.title.now (meant c.args.lexeme.now) one c.in_default.ensures))
+    steps.untaken place.FirstPort p (listing title []) (meant c.args.lexeme.now) c.args.self.now is (steps.others-first title (meant c.args.lexeme.now) one c.in_default.ensures c.in_default-name.ensures) (kept, (is, bare))
 
-pub returns-then-not-branch : goal.returns-then-not-branch
-returns-then-not-branch c = λ p (is, bare).
-    let x = c.in-Some.name.now in
-    let t : meant c.args.lexeme.now ≡ Name x = c.in-Some.ensures in
-    let added : IsAdded false [] x c.add.new.self = subst (λ b. IsAdded b [] x c.add.new.self) c.if-not-branch.true (c.in_ok-add.ensures [] bare.0) in
-    rw (is, t) (inr (inl (record { title = c.args.self.now.title.now; names = []; is = refl; stands = added })))
+pub returns-then-clashes : goal.returns-then-clashes
+returns-then-clashes c = λ p (kept, (is, bare)).
+    steps.clashing place.FirstPort p (meant c.args.lexeme.now) c.in-Some-name.name.now c.args.self.now c.in-Some-name.ensures ((c.clashes.ensures (spelled p) kept (not_declaring p (ap range_here is))).0 c.if-clashes.true) (kept, (is, bare))
 
 pub returns : goal.returns
-returns c = λ p (is, bare).
-    let x = c.in-Some.name.now in
-    let t : meant c.args.lexeme.now ≡ Name x = c.in-Some.ensures in
-    let added : IsAdded true [] x c.add.new.self = subst (λ b. IsAdded b [] x c.add.new.self) c.if-not-branch.false (c.in_ok-add.ensures [] bare.0) in
-    rw (is, t) (steps.takes (listing c.args.self.now.title.now []) (listed c.args.self.now.title.now [] x) (Name x) place.AfterPort (record c.args.self.now { header = c.add.new.self }) refl ([], x, refl, (added.1, bare.1)) (steps.port_rule c.args.self.now.title.now [] x added.0))
+returns c = λ p (kept, (is, bare)).
+    let title = c.args.self.now.title.now in
+    let x = c.in-Some-name.name.now in
+    let plain = not_declaring p (ap range_here is) in
+    let fine : Clashes (spelled p) x → ⊥ = λ clashes. false≢true (sym c.if-clashes.false ∙ (c.clashes.ensures (spelled p) kept plain).1 clashes) in
+    steps.taken_name p (listing title []) (listed title [] x) (meant c.args.lexeme.now) x place.AfterPort (record c.args.self.now { header = c.add.new.self; known = c.stand.new.self }) is c.in-Some-name.ensures refl
+    (c.in_ok-stand.ensures (spelled p) kept plain (not_net p (ap opens is)) fine)
+    ([], x, refl, record { ansi = bare.ansi; header = c.in_ok-add.ensures [] [] bare.header (λ found. omega (arith, found.1)); cells = bare.cells })
+    (port_rule_at p title [] x is (λ found. omega (arith, found.1)) fine)

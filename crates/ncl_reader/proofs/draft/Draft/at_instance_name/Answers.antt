@@ -1,18 +1,33 @@
-use Rattle.std.proofs.Common.{◌≡◌, refl}
+use Rattle.std.proofs.Common.{refl, sym, ◌∙◌, subst}
+use Rattle.std.proofs.lemmas.Bool.{false≢true}
 use Rattle.ncl_gates.specs.Name.{cell_name_of}
 use Rattle.ncl_reader.specs.declared.place.Place.TheVariants as place
 use Rattle.ncl_reader.specs.Lexemes.{Name}
 use Rattle.ncl_reader.specs.Meant.{meant}
-use Rattle.ncl_reader.specs.Partial.{inside, celled, named}
-use Rattle.ncl_reader.proofs.Breaking.{breaks-untaken}
+use Rattle.ncl_reader.specs.Rules.{Clashes}
+use Rattle.ncl_reader.specs.Partial.{Partial, inside, celled, named, spelled}
 use Rattle.ncl_reader.proofs.DraftSteps as steps
+use Rattle.ncl_reader.proofs.NameRules.{free_rule}
+use Rattle.ncl_reader.proofs.NetSteps as nets
 use Rattle.ncl_reader.proofs.draft.Draft.at_instance_name.Goals as goal
 
 pub returns-in_default : goal.returns-in_default
-returns-in_default c = λ p (head, items, is, body, none). rw is (breaks-untaken (inside head items (celled (cell_name_of c.args.self.now.instance.kind))) (meant c.args.lexeme.now) (steps.others-celled head items (cell_name_of c.args.self.now.instance.kind) (meant c.args.lexeme.now) c.in_default.ensures))
+returns-in_default c = λ p (kept, (head, items, is, body, are)).
+    steps.untaken place.InstanceName p (inside head items (celled (cell_name_of c.args.self.now.instance.kind))) (meant c.args.lexeme.now) c.args.self.now is (steps.others-celled head items (cell_name_of c.args.self.now.instance.kind) (meant c.args.lexeme.now) c.in_default.ensures) (kept, (head, items, is, body, are))
+
+pub returns-then-clashes : goal.returns-then-clashes
+returns-then-clashes c = λ p (kept, (head, items, is, body, are)).
+    let x = c.in-Some.name.now in
+    let tree : Partial = inside head items (celled (cell_name_of c.args.self.now.instance.kind)) in
+    let clashes = (c.clashes.ensures (spelled p) kept (nets.undeclared_at p tree is refl)).0 c.if-clashes.true in
+    steps.against place.InstanceName p tree (meant c.args.lexeme.now) c.args.self.now is (Name x) c.in-Some.ensures (nets.clashing tree x (subst (λ q. Clashes (spelled q) x) is clashes)) (kept, (head, items, is, body, are))
 
 pub returns : goal.returns
-returns c = λ p (head, items, is, body, none).
+returns c = λ p (kept, (head, items, is, body, are)).
     let x = c.in-Some.name.now in
-    let t : meant c.args.lexeme.now ≡ Name x = c.in-Some.ensures in
-    rw (is, t) (steps.takes (inside head items (celled (cell_name_of c.args.self.now.instance.kind))) (inside head items (named (cell_name_of c.args.self.now.instance.kind) x)) (Name x) place.Connections (record c.args.self.now { instance = record c.args.self.now.instance { name = c.in-Some.name } }) refl (head, items, refl, body, none) (steps.name_free (inside head items (celled (cell_name_of c.args.self.now.instance.kind))) x refl))
+    let tree : Partial = inside head items (celled (cell_name_of c.args.self.now.instance.kind)) in
+    let none = nets.undeclared_at p tree is refl in
+    let fine : Clashes (spelled p) x → ⊥ = λ clashes. false≢true (sym c.if-clashes.false ∙ (c.clashes.ensures (spelled p) kept none).1 clashes) in
+    steps.taken p tree (inside head items (named (cell_name_of c.args.self.now.instance.kind) x)) (meant c.args.lexeme.now) (Name x) place.Connections _ is c.in-Some.ensures refl
+    (nets.kept_here _ (spelled p) x (meant c.args.lexeme.now) c.in-Some.ensures (c.in_ok-stand.ensures (spelled p) kept none (nets.no_net_at p tree is refl) fine)) (head, items, refl, (body.0, record { ansi = body.1.ansi; header = body.1.header; cells = body.1.cells }), are)
+    (free_rule tree x refl (λ clashes. fine (subst (λ q. Clashes (spelled q) x) (sym is) clashes)))

@@ -1,52 +1,58 @@
-use Rattle.std.proofs.Common.{map}
-use Rattle.ncl_reader.specs.Instance.{conn_of}
-use Rattle.ncl_reader.specs.Grammar.{header_of}
-use Rattle.ncl_reader.specs.Rules.{directed_by}
-use Rattle.ncl_reader.specs.Draft.{outputs_by}
-use Rattle.ncl_reader.specs.Header.{AllDirected}
-use Rattle.ncl_reader.specs.Partial.{ended}
-use Rattle.std.proofs.Common.{◌≡◌, ◌≢◌, [], refl, sym, ap, ◌∙◌, subst, true, false, inr}
+use Rattle.std.proofs.Common.{◌≢◌, Contains, None, true, false, refl, sym, ◌∙◌, subst}
 use Rattle.std.proofs.lemmas.Bool.{false≢true}
-use Rattle.ncl_gates.specs.Name.{cell_name_of}
+use Rattle.std.proofs.lemmas.Option.{none-some}
 use Rattle.ncl_reader.specs.declared.place.Place.TheVariants as place
-use Rattle.ncl_reader.specs.declared.keyword.Keyword.TheVariants.{EndModule, Way as word_of}
-use Rattle.ncl_reader.specs.Lexemes.{Name, Word}
+use Rattle.ncl_reader.specs.declared.place.LeadPlace.TheVariants as lead
+use Rattle.ncl_reader.specs.declared.keyword.Keyword.TheVariants.{EndModule, Wire, Way as word_of}
+use Rattle.ncl_reader.specs.Lexemes.{Word}
+use Rattle.ncl_reader.specs.Grammar.{Plain, Gives, Wires, header_of}
+use Rattle.ncl_reader.specs.Says.{said_by}
+use Rattle.ncl_reader.specs.Header.{AllDirected}
 use Rattle.ncl_reader.specs.Meant.{meant}
-use Rattle.ncl_reader.specs.Partial.{at_item, inside, declaring, celled}
-use Rattle.ncl_reader.proofs.Breaking.{breaks-untaken}
+use Rattle.ncl_reader.specs.Partial.{at_item, inside, declaring, leading, led, ended}
+use Rattle.ncl_reader.proofs.NameRules.{not_late_here, not_early}
+use Rattle.ncl_reader.proofs.SaidNames.{names-said_by}
+use Rattle.ncl_reader.proofs.DraftBody.{ansi_groups}
 use Rattle.ncl_reader.proofs.DraftSteps as steps
 use Rattle.ncl_reader.proofs.draft.Draft.at_item.Goals as goal
 
-pub returns-then-all_directed : goal.returns-then-all_directed
-returns-then-all_directed c = λ p (head, items, is, body).
-    let t : meant c.args.lexeme.now ≡ Word EndModule = c.is_word.ensures.0 c.if-is_word.true in
-    let all : AllDirected true (header_of head) (directed_by items) = subst (λ b. AllDirected b (header_of head) (directed_by items)) c.if-all_directed.true (c.all_directed.ensures (header_of head) (directed_by items) (outputs_by items) body.1) in
-    rw (is, t) (steps.takes (at_item head items) (ended head items) (Word EndModule) place.End c.args.self.now refl (head, items, refl, body) (steps.ends-free head items all))
+pub returns-in-Some : goal.returns-in-Some
+returns-in-Some c = c.at_cell.ensures c.in-Some.ensures
+
+pub returns-then-self : goal.returns-then-self
+returns-then-self c = λ p (kept, (head, items, is, body)).
+    let (groups, ports) = ansi_groups head.ports (sym body.1.ansi ∙ c.if-self.true) in
+    steps.against place.Item p (at_item head items) (meant c.args.lexeme.now) c.args.self.now is (Word (word_of c.in-Some-way.way)) c.in-Some-way.ensures (record { head = head; items = items; is = refl; groups = groups; ansi = ports }) (kept, (head, items, is, body))
+
+pub returns-in-Some-way : goal.returns-in-Some-way
+returns-in-Some-way c = λ p (kept, (head, items, is, body)).
+    let way = c.in-Some-way.way in
+    let new = record c.args.self.now { lead = c.begun-self.result } in
+    steps.taken_mark p (at_item head items) (inside head items (declaring (leading (led (Gives (Plain way)))))) (meant c.args.lexeme.now) (Word (word_of way)) (place.Lead lead.Direction) new is c.in-Some-way.ensures refl (λ x e. absurd cc) kept
+    (head, items, led (Gives (Plain way)), refl, refl, (c.begun-self.ensures.output, c.begun-self.ensures.span), λ o e. c.if-self.false, (body.0, record { ansi = body.1.ansi; header = body.1.header; cells = body.1.cells }))
+    (not_late_here head items (sym body.1.ansi ∙ c.if-self.false))
 
 pub returns-then-is_word : goal.returns-then-is_word
-returns-then-is_word c = λ p (head, items, is, body).
-    let t : meant c.args.lexeme.now ≡ Word EndModule = c.is_word.ensures.0 c.if-is_word.true in
-    let left : AllDirected false (header_of head) (directed_by items) = subst (λ b. AllDirected b (header_of head) (directed_by items)) c.if-all_directed.false (c.all_directed.ensures (header_of head) (directed_by items) (outputs_by items) body.1) in
-    rw (is, t) (inr (record { head = head; items = items; is = refl; port = left.0; stands = left.1; undirected = left.2 }))
+returns-then-is_word c = λ p (kept, (head, items, is, body)).
+    let new = record c.args.self.now { lead = record { output = None; span = None; first = 0 } } in
+    steps.taken_mark p (at_item head items) (inside head items (declaring (leading (led Wires)))) (meant c.args.lexeme.now) (Word Wire) (place.Lead lead.Wire) new is (c.is_word.ensures.0 c.if-is_word.true) refl (λ x e. absurd cc) kept
+    (head, items, led Wires, refl, refl, (refl, refl), (λ o e. absurd (none-some o e)), (body.0, record { ansi = body.1.ansi; header = body.1.header; cells = body.1.cells }))
+    (λ none. none)
 
-pub returns-in-Some : goal.returns-in-Some
-returns-in-Some c = λ p (head, items, is, body).
-    let way = c.in-Some.way in
-    let t : meant c.args.lexeme.now ≡ Word (word_of way) = c.in-Some.ensures in
-    let new = record c.args.self.now { way = way } in
-    rw (is, t) (steps.takes (at_item head items) (inside head items (declaring way [])) (Word (word_of way)) place.Declared new refl (head, items, [], refl, steps.body-starts new head items body) (λ none. none))
+pub returns-then-not-is_word : goal.returns-then-not-is_word
+returns-then-not-is_word c = λ p (kept, (head, items, is, body)).
+    let wire : meant c.args.lexeme.now ≢ Word Wire = λ e. false≢true (sym c.if-is_word.false ∙ c.is_word.ensures.1 e) in
+    let ends : meant c.args.lexeme.now ≢ Word EndModule = λ e. false≢true (sym c.if-not-is_word.true ∙ c.is_word-2.ensures.1 e) in
+    steps.untaken place.Item p (at_item head items) (meant c.args.lexeme.now) c.args.self.now is (steps.others-item head items (meant c.args.lexeme.now) ends wire c.in_default-way.ensures c.in_default.ensures) (kept, (head, items, is, body))
 
-pub returns-in_default-name : goal.returns-in_default-name
-returns-in_default-name c = λ p (head, items, is, body).
-    let one : meant c.args.lexeme.now ≢ Word EndModule = λ e. false≢true (sym c.if-is_word.false ∙ c.is_word.ensures.1 e) in
-    rw is (breaks-untaken (at_item head items) (meant c.args.lexeme.now) (steps.others-item head items (meant c.args.lexeme.now) one c.in_default.ensures c.in_default-name.ensures))
+pub returns-then-not-all_directed : goal.returns-then-not-all_directed
+returns-then-not-all_directed c = λ p (kept, (head, items, is, body)).
+    let said = said_by (record { head = head; items = items }) in
+    let left : AllDirected false (header_of head) said = subst (λ b. AllDirected b (header_of head) said) c.if-not-all_directed.true (c.all_directed.ensures (header_of head) said body.1.header) in
+    steps.against place.Item p (at_item head items) (meant c.args.lexeme.now) c.args.self.now is (Word EndModule) (c.is_word-2.ensures.0 c.if-not-is_word.false) (record { head = head; items = items; is = refl; port = left.0; stands = left.1; undirected = subst (λ l. ¬ Contains l left.0) (names-said_by head items) left.2 }) (kept, (head, items, is, body))
 
 pub returns : goal.returns
-returns c = λ p (head, items, is, body).
-    let x = c.in-Some-name.name.now in
-    let t : meant c.args.lexeme.now ≡ Name x = c.in-Some-name.ensures in
-    let kind = c.in-Some-from_name.kind in
-    let named : cell_name_of kind ≡ x = c.in-Some-from_name.ensures.some in
-    rw (is, t) (steps.takes (at_item head items) (inside head items (celled x)) (Name x) place.InstanceName (record c.args.self.now { instance = record c.args.self.now.instance { kind = kind; joins = c.clear.new.self } }) refl
-    (head, items, ap (λ z. inside head items (celled z)) (sym named), body, ap (map conn_of) c.clear.ensures.items)
-    (steps.item_rule head items kind x named))
+returns c = λ p (kept, (head, items, is, body)).
+    let said = said_by (record { head = head; items = items }) in
+    let all : AllDirected true (header_of head) said = subst (λ b. AllDirected b (header_of head) said) c.if-not-all_directed.false (c.all_directed.ensures (header_of head) said body.1.header) in
+    steps.taken_mark p (at_item head items) (ended head items) (meant c.args.lexeme.now) (Word EndModule) place.End c.args.self.now is (c.is_word-2.ensures.0 c.if-not-is_word.false) refl (λ x e. absurd cc) kept (head, items, refl, body) (not_early head items (λ x stands. subst (λ l. Contains l x) (names-said_by head items) (all x stands)))

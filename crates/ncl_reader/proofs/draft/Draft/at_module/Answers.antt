@@ -1,20 +1,18 @@
-use Rattle.std.proofs.Common.{◌≡◌, ◌≢◌, refl, sym, ◌∙◌}
+use Rattle.std.proofs.Common.{◌≢◌, refl, sym, ◌∙◌}
 use Rattle.std.proofs.lemmas.Bool.{false≢true}
 use Rattle.ncl_reader.specs.declared.place.Place.TheVariants as place
 use Rattle.ncl_reader.specs.declared.keyword.Keyword.TheVariants.{Module}
 use Rattle.ncl_reader.specs.Lexemes.{Word}
 use Rattle.ncl_reader.specs.Meant.{meant}
 use Rattle.ncl_reader.specs.Partial.{start, begun}
-use Rattle.ncl_reader.proofs.Breaking.{breaks-untaken}
 use Rattle.ncl_reader.proofs.DraftSteps as steps
 use Rattle.ncl_reader.proofs.draft.Draft.at_module.Goals as goal
 
 pub returns-then-is_word : goal.returns-then-is_word
-returns-then-is_word c = λ p (is, bare).
-    let t : meant c.args.lexeme.now ≡ Word Module = c.is_word.ensures.0 c.if-is_word.true in
-    rw (is, t) (steps.takes start begun (Word Module) place.ModuleName c.args.self.now refl (refl, bare) (λ none. none))
+returns-then-is_word c = λ p (kept, (is, bare)).
+    steps.taken_mark p start begun (meant c.args.lexeme.now) (Word Module) place.ModuleName c.args.self.now is (c.is_word.ensures.0 c.if-is_word.true) refl (λ x e. absurd cc) kept (refl, bare) (λ none. none)
 
 pub returns : goal.returns
-returns c = λ p (is, bare).
-    let one : meant c.args.lexeme.now ≢ Word Module = λ e. false≢true (sym c.if-is_word.false ∙ c.is_word.ensures.1 e) in
-    rw is (breaks-untaken start (meant c.args.lexeme.now) (steps.others-start (meant c.args.lexeme.now) one))
+returns c = λ p (kept, (is, bare)).
+    let other : meant c.args.lexeme.now ≢ Word Module = λ e. false≢true (sym c.if-is_word.false ∙ c.is_word.ensures.1 e) in
+    steps.untaken place.Module p start (meant c.args.lexeme.now) c.args.self.now is (steps.others-start (meant c.args.lexeme.now) other) (kept, (is, bare))

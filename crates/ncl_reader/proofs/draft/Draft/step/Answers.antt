@@ -1,21 +1,18 @@
+use Rattle.std.proofs.Common.{◌≡◌, None, subst}
 use Rattle.ncl_reader.specs.declared.draft.Draft.{Draft}
 use Rattle.ncl_reader.specs.declared.place.Place.{Place}
-use Rattle.ncl_reader.specs.declared.lexeme.Lexeme.{Lexeme as Read}
-use Rattle.ncl_reader.specs.Draft.{HoldsAt}
-use Rattle.ncl_reader.specs.Rules.{Breaks}
-use Rattle.ncl_reader.specs.Partial.{Partial, spelled}
-use Rattle.ncl_reader.specs.Partial.{ended}
-use Rattle.std.proofs.Common.{◌≡◌, subst}
 use Rattle.ncl_reader.specs.declared.place.Place.TheVariants as place
+use Rattle.ncl_reader.specs.declared.lexeme.Lexeme.{Lexeme as Read}
 use Rattle.ncl_reader.specs.Meant.{meant}
-use Rattle.ncl_reader.proofs.Breaking.{breaks-untaken}
+use Rattle.ncl_reader.specs.Draft.{HoldsAt, TakesOrBreaks}
+use Rattle.ncl_reader.specs.Partial.{Partial, ended}
 use Rattle.ncl_reader.proofs.DraftSteps as steps
 use Rattle.ncl_reader.proofs.draft.Draft.step.Goals as goal
 
-ended_breaks : (draft : Draft) (read : Read) (at : Place) (p : Partial) → at ≡ place.End → HoldsAt at draft p → Breaks (spelled p) (meant read)
+ended_breaks : (draft : Draft) (read : Read) (at : Place) (p : Partial) → at ≡ place.End → HoldsAt at draft p → TakesOrBreaks at p (meant read) None draft
 ended_breaks draft read at p e holds =
-    let (head, items, is, body) = subst (λ a. HoldsAt a draft p) e holds in
-    rw is (breaks-untaken (ended head items) (meant read) (steps.others-ended head items read))
+    let (kept, (head, items, is, body)) = subst (λ a. HoldsAt a draft p) e holds in
+    steps.untaken at p (ended head items) (meant read) draft is (steps.others-ended head items read) holds
 
 pub returns-in-End : goal.returns-in-End
 returns-in-End c = λ p holds. ended_breaks c.args.self.now c.args.lexeme.now c.args.place p c.in-End.is holds

@@ -1,0 +1,205 @@
+-- What is kept of a header and of items, with a name or a declaration more.
+use Rattle.std.proofs.Common.{◌≡◌, ℕ, ◌+◌, ◌*◌, ◌<◌, List, [], ◌∷◌, ◌++◌, length, map, sum, Bool, true, false, Option, Some, None, inl, inr, ◌⊎◌, refl, sym, ap, ◌∙◌, subst, append_assoc, arith, Contains}
+use Rattle.std.specs.List.{flat_map}
+use Rattle.std.specs.Option.{option_map}
+use Rattle.std.proofs.Math.Nat.{mul-suc}
+use Rattle.std.specs.Prelude.{is_some}
+use Rattle.std.proofs.lemmas.Bool.{false≢true}
+use Rattle.std.proofs.lemmas.Option.{same_Some, none-some}
+use Rattle.std.proofs.lemmas.List.{append-nil, flat_map_more}
+use Rattle.ncl_reader.specs.declared.draft.Draft.{Draft}
+use Rattle.ncl_reader.specs.declared.span.Span.{Span}
+use Rattle.ncl_reader.specs.declared.header.Header.{Header}
+use Rattle.ncl_reader.specs.Lexemes.{Lexeme, Name}
+use Rattle.ncl_reader.specs.Forms.{in_ansi, at_declared}
+use Rattle.ncl_reader.specs.Grammar.{Row, all_of, Direction, Lead, Gives, Wires, Range, Spec, Group, group_names, Listing, Ansi, Head, Item, Declares, groups_of, header_of}
+use Rattle.ncl_reader.specs.Vectors.{span_of, width, range_width, MOST_PORT_BITS}
+use Rattle.ncl_reader.specs.Rules.{directed_by, group_bits, item_bits, BreaksRule}
+use Rattle.ncl_reader.specs.Says.{Said, is_output, said_of, said_in_header, said_in, said_by, joined_in, Joined, AreCellsOf}
+use Rattle.ncl_reader.specs.Header.{IsHeader, names_said, bits_said, span_width}
+use Rattle.ncl_reader.specs.Draft.{said_with, is_ansi, IsRead, IsGrouped, IsGroupedWith, IsBody, IsBodyWith}
+use Rattle.ncl_reader.specs.declared.lead.Lead.{Lead as Led}
+use Rattle.ncl_reader.specs.Lead.{lead_output}
+use Rattle.ncl_reader.proofs.Among.{among_or_not}
+use Rattle.ncl_reader.proofs.SaidNames.{names-append, bits-append, names-said_of, bits-said_of, said_of-push, names-header, bits-header, names-said_by, bits-said_by}
+
+-- what is read doesn't depend on how its lists are named
+pub read-along : (draft : Draft) (form other : Bool) (names ns : List (List ℕ)) (said ss : List Said) (cells cs : List Joined) → form ≡ other → names ≡ ns → said ≡ ss → cells ≡ cs → IsRead draft form names said cells → IsRead draft other ns ss cs
+read-along draft form other names ns said ss cells cs forms same says cell_list read = record {
+  ansi = read.ansi ∙ forms;
+  header = subst (λ l. IsHeader draft.header ns l) says (subst (λ l. IsHeader draft.header l said) same read.header);
+  cells = subst (λ l. AreCellsOf l draft.cells.items) cell_list read.cells;
+}
+
+-- a declaration of the header that begins, and one that ends
+pub grouped-begins : (draft : Draft) (groups : List (Group Direction)) (spec : Spec Direction) → IsGrouped draft groups → IsGroupedWith draft groups spec []
+grouped-begins draft groups spec = read-along draft true true _ _ _ _ [] [] refl (sym (append-nil (flat_map group_names groups))) (sym (append-nil (flat_map said_in_header groups))) refl
+
+pub grouped-ends : (draft : Draft) (groups : List (Group Direction)) (spec : Spec Direction) (row : Row (List ℕ)) → IsGroupedWith draft groups spec (all_of row) → IsGrouped draft (groups ++ record { spec = spec; names = row } ∷ [])
+grouped-ends draft groups spec row = read-along draft true true _ _ _ _ [] [] refl (flat_map_more group_names [] groups (record { spec = spec; names = row })) (flat_map_more said_in_header [] groups (record { spec = spec; names = row })) refl
+
+pub header-ends : (draft : Draft) (groups : List (Group Direction)) (spec : Spec Direction) (row : Row (List ℕ)) → IsGroupedWith draft groups spec (all_of row) → IsBody draft (record { name = draft.title.now; ports = Some (Ansi (record { before = groups; last = record { spec = spec; names = row } })) }) []
+header-ends draft groups spec row read = (refl, read-along draft true true _ _ _ _ [] [] refl refl (sym (append-nil (flat_map said_in_header (groups ++ record { spec = spec; names = row } ∷ [])))) refl (grouped-ends draft groups spec row read))
+
+-- what a declaration of an item says
+pub said_with-none : (spec : Spec Lead) → said_with spec [] ≡ []
+said_with-none spec = by spec.lead spec.range
+  where
+    by : (lead : Lead) (range : Option Range) → said_with (record { lead = lead; range = range }) [] ≡ []
+    by (Gives direction) range = refl
+    by Wires range = refl
+
+pub said_with-item : (spec : Spec Lead) (row : Row (List ℕ)) → said_with spec (all_of row) ≡ said_in (Declares (record { spec = spec; names = row }))
+said_with-item spec row = by spec.lead spec.range
+  where
+    by : (lead : Lead) (range : Option Range) → said_with (record { lead = lead; range = range }) (all_of row) ≡ said_in (Declares (record { spec = record { lead = lead; range = range }; names = row }))
+    by (Gives direction) range = refl
+    by Wires range = refl
+
+pub said_with-wire : (spec : Spec Lead) (names : List (List ℕ)) → spec.lead ≡ Wires → said_with spec names ≡ []
+said_with-wire spec names wire = ap (λ l. said_with (record { lead = l; range = spec.range }) names) wire
+
+pub said_with-gives : (spec : Spec Lead) (names : List (List ℕ)) (direction : Direction) → spec.lead ≡ Gives direction → said_with spec names ≡ said_of direction spec.range names
+said_with-gives spec names direction gives = ap (λ l. said_with (record { lead = l; range = spec.range }) names) gives
+
+-- a declaration of an item that begins, and one that ends
+pub body-begins : (draft : Draft) (head : Head) (items : List Item) (spec : Spec Lead) → IsBody draft head items → IsBodyWith draft head items spec []
+body-begins draft head items spec (title, read) =
+    let said = said_by (record { head = head; items = items }) in
+    (title, read-along draft (is_ansi head.ports) (is_ansi head.ports) _ _ _ _ _ _ refl refl (sym (append-nil said) ∙ ap (λ l. said ++ l) (sym (said_with-none spec))) refl read)
+
+pub body-declares : (draft : Draft) (head : Head) (items : List Item) (spec : Spec Lead) (row : Row (List ℕ)) → IsBodyWith draft head items spec (all_of row) → IsBody draft head (items ++ Declares (record { spec = spec; names = row }) ∷ [])
+body-declares draft head items spec row (title, read) =
+    let item = Declares (record { spec = spec; names = row }) in
+    let said = said_by (record { head = head; items = items }) in
+    let says : said ++ said_with spec (all_of row) ≡ said_by (record { head = head; items = items ++ item ∷ [] }) = ap (λ l. said ++ l) (said_with-item spec row) ∙ flat_map_more said_in (flat_map said_in_header (groups_of head.ports)) items item in
+    let cells : flat_map joined_in items ≡ flat_map joined_in (items ++ item ∷ []) = sym (append-nil (flat_map joined_in items)) ∙ flat_map_more joined_in [] items item in
+    (title, read-along draft (is_ansi head.ports) (is_ansi head.ports) _ _ _ _ _ _ refl refl says cells read)
+
+-- names and bits in the middle of a declaration
+module _ (groups : List (Group Direction)) (spec : Spec Direction) (names : List (List ℕ)) where
+  abbrev said : List Said
+  said = flat_map said_in_header groups ++ said_of spec.lead spec.range names
+
+  pub names-grouped : names_said said ≡ flat_map group_names groups ++ names
+  names-grouped = names-append (flat_map said_in_header groups) (said_of spec.lead spec.range names) ∙ (λ i. names-header groups i ++ names-said_of spec.lead spec.range names i)
+
+  pub bits-grouped : bits_said said ≡ sum (map group_bits groups) + range_width spec.range * length names
+  bits-grouped = bits-append (flat_map said_in_header groups) (said_of spec.lead spec.range names) ∙ (λ i. bits-header groups i + bits-said_of spec.lead spec.range names i)
+
+  -- with a name more
+  pub bits-grouped_more : (range : Range) (span : Span) → spec.range ≡ Some range → span_of range ≡ span → bits_said said + width span ≡ sum (map group_bits groups) + width (span_of range) * (length names + 1)
+  bits-grouped_more range span is same =
+      let bits : bits_said said ≡ sum (map group_bits groups) + width (span_of range) * length names = bits-grouped ∙ ap (λ r. sum (map group_bits groups) + range_width r * length names) is in
+      let one : width (span_of range) ≡ width span = ap width same in
+      let more : width (span_of range) * (length names + 1) ≡ width (span_of range) * length names + width (span_of range) = ap (λ n. width (span_of range) * n) (omega arith) ∙ mul-suc (width (span_of range)) (length names) in
+      omega (arith, bits, one, more)
+
+  pub said-grouped_more : (x : List ℕ) → (flat_map said_in_header groups ++ said_of spec.lead spec.range names) ++ record { name = x; output = is_output spec.lead; range = spec.range } ∷ [] ≡ flat_map said_in_header groups ++ said_of spec.lead spec.range (names ++ x ∷ [])
+  said-grouped_more x = append_assoc (flat_map said_in_header groups) (said_of spec.lead spec.range names) _ ∙ ap (λ l. flat_map said_in_header groups ++ l) (sym (said_of-push spec.lead spec.range names x))
+
+module _ (head : Head) (items : List Item) (spec : Spec Lead) (names : List (List ℕ)) (direction : Direction) (gives : spec.lead ≡ Gives direction) where
+  abbrev told : List Said
+  told = said_by (record { head = head; items = items }) ++ said_with spec names
+
+  pub told-gives : told ≡ said_by (record { head = head; items = items }) ++ said_of direction spec.range names
+  told-gives = ap (λ l. said_by (record { head = head; items = items }) ++ l) (said_with-gives spec names direction gives)
+
+  pub names-body : names_said told ≡ directed_by head items ++ names
+  names-body = ap names_said told-gives ∙ names-append (said_by (record { head = head; items = items })) (said_of direction spec.range names) ∙ (λ i. names-said_by head items i ++ names-said_of direction spec.range names i)
+
+  -- behind a header without declarations
+  pub bits-body : groups_of head.ports ≡ [] → (range : Range) (span : Span) → spec.range ≡ Some range → span_of range ≡ span → bits_said told + width span ≡ sum (map item_bits items) + width (span_of range) * (length names + 1)
+  bits-body none range span is same =
+      let bits : bits_said told ≡ (sum (map group_bits (groups_of head.ports)) + sum (map item_bits items)) + width (span_of range) * length names = ap bits_said told-gives ∙ bits-append (said_by (record { head = head; items = items })) (said_of direction spec.range names) ∙ (λ i. bits-said_by head items i + bits-said_of direction spec.range names i) ∙ ap (λ r. (sum (map group_bits (groups_of head.ports)) + sum (map item_bits items)) + range_width r * length names) is in
+      let zero_bits : sum (map group_bits (groups_of head.ports)) ≡ 0 = ap (λ l. sum (map group_bits l)) none in
+      let one : width (span_of range) ≡ width span = ap width same in
+      let more : width (span_of range) * (length names + 1) ≡ width (span_of range) * length names + width (span_of range) = ap (λ n. width (span_of range) * n) (omega arith) ∙ mul-suc (width (span_of range)) (length names) in
+      omega (arith, bits, zero_bits, one, more)
+
+  pub told-more : (x : List ℕ) → told ++ record { name = x; output = is_output direction; range = spec.range } ∷ [] ≡ said_by (record { head = head; items = items }) ++ said_with spec (names ++ x ∷ [])
+  told-more x =
+      append_assoc (said_by (record { head = head; items = items })) (said_with spec names) _
+      ∙ ap (λ l. said_by (record { head = head; items = items }) ++ l) (ap (λ l. l ++ record { name = x; output = is_output direction; range = spec.range } ∷ []) (said_with-gives spec names direction gives) ∙ sym (said_of-push direction spec.range names x) ∙ sym (said_with-gives spec (names ++ x ∷ []) direction gives))
+
+-- a header without declarations has none
+pub no_groups : (ports : Option Listing) → is_ansi ports ≡ false → groups_of ports ≡ []
+no_groups (Some (Ansi groups)) e = absurd cc
+no_groups ports e = refl
+
+-- where a name breaks no rule, ports don't have too many bits
+pub few-grouped : (xs : List Lexeme) (title : List ℕ) (groups : List (Group Direction)) (spec : Spec Direction) (names : List (List ℕ)) (x : List ℕ) (header : Header) (span : Option Span) → xs ≡ in_ansi title groups spec names → IsHeader header (flat_map group_names groups ++ names) (flat_map said_in_header groups ++ said_of spec.lead spec.range names) → option_map span_of spec.range ≡ span → (Contains (flat_map group_names groups ++ names) x → ⊥) → (BreaksRule xs (Name x) → ⊥) → MOST_PORT_BITS < bits_said (flat_map said_in_header groups ++ said_of spec.lead spec.range names) + span_width span → ⊥
+few-grouped xs title groups spec names x header span is kept same new fine = by spec.range refl span same
+  where
+    by : (range : Option Range) → spec.range ≡ range → (s : Option Span) → option_map span_of spec.range ≡ s → MOST_PORT_BITS < bits_said (flat_map said_in_header groups ++ said_of spec.lead spec.range names) + span_width s → ⊥
+    by None e None numbers many = let few = kept.few in omega (arith, many, few)
+    by None e (Some s) numbers many = absurd (none-some s (ap (option_map span_of) (sym e) ∙ numbers))
+    by (Some range) e None numbers many = absurd (none-some (span_of range) (sym numbers ∙ ap (option_map span_of) e))
+    by (Some range) e (Some s) numbers many = fine (inr (inr (inr (inr (inr (inr (inr (inl (record {
+      title = title;
+      groups = groups;
+      direction = spec.lead;
+      range = range;
+      names = names;
+      is = is ∙ ap (λ r. in_ansi title groups (record { lead = spec.lead; range = r }) names) e;
+      new = new;
+      many = subst (λ n. MOST_PORT_BITS < n) (bits-grouped_more groups spec names range s e (same_Some (span_of range) s (ap (option_map span_of) (sym e) ∙ numbers))) many;
+    })))))))))
+
+pub ansi_groups : (ports : Option Listing) → is_ansi ports ≡ true → (groups : Row (Group Direction)) × (ports ≡ Some (Ansi groups))
+ansi_groups (Some (Ansi groups)) e = (groups, refl)
+ansi_groups ports e = absurd cc
+
+-- whether a declaration gives a direction
+pub wires_of : (lead : Lead) → lead_output lead ≡ None → lead ≡ Wires
+wires_of (Gives direction) e = absurd cc
+wires_of Wires e = refl
+
+pub gives_some : (lead : Lead) (output : Bool) → lead_output lead ≡ Some output → (direction : Direction) × (lead ≡ Gives direction) × (output ≡ is_output direction)
+gives_some (Gives direction) output e = (direction, refl, sym (same_Some (is_output direction) output e))
+gives_some Wires output e = absurd cc
+
+pub wire_of : (spec : Spec Lead) (kept : Led) → kept.output ≡ lead_output spec.lead → is_some kept.output ≡ false → (direction : Direction) → spec.lead ≡ Gives direction → ⊥
+wire_of spec kept same none direction gives = false≢true (sym none ∙ ap is_some (same ∙ ap lead_output gives))
+
+pub gives_of : (spec : Spec Lead) (kept : Led) → kept.output ≡ lead_output spec.lead → is_some kept.output ≡ true → (direction : Direction) × (spec.lead ≡ Gives direction)
+gives_of spec kept same some = by spec.lead (sym (ap is_some same) ∙ some)
+  where
+    by : (lead : Lead) → is_some (lead_output lead) ≡ true → (direction : Direction) × (lead ≡ Gives direction)
+    by (Gives direction) e = (direction, refl)
+    by Wires e = absurd (false≢true e)
+
+-- a name of a declaration that gives a direction breaks no rule: it is in the header, has no direction yet, and ports
+-- don't have too many bits
+module _ (head : Head) (items : List Item) (spec : Spec Lead) (names : List (List ℕ)) (direction : Direction) (gives : spec.lead ≡ Gives direction) (x : List ℕ) where
+  same_form : at_declared head items spec names ≡ at_declared head items (record { lead = Gives direction; range = spec.range }) names
+  same_form = ap (λ l. at_declared head items (record { lead = l; range = spec.range }) names) gives
+
+  pub listed-fine : (BreaksRule (at_declared head items spec names) (Name x) → ⊥) → Contains (header_of head) x × (Contains (directed_by head items ++ names) x → ⊥)
+  listed-fine fine = (by (among_or_not (header_of head) x), λ stands. against (inr stands))
+    where
+      against : ¬ Contains (header_of head) x ⊎ Contains (directed_by head items ++ names) x → ⊥
+      against why = fine (inr (inr (inl (record { head = head; items = items; direction = direction; range = spec.range; names = names; is = same_form; breaks = why }))))
+
+      by : Contains (header_of head) x ⊎ (Contains (header_of head) x → ⊥) → Contains (header_of head) x
+      by (inl stands) = stands
+      by (inr absent) = absurd (against (inl absent))
+
+  pub few-body : (header : Header) (span : Option Span) → groups_of head.ports ≡ [] → IsHeader header (header_of head) (said_by (record { head = head; items = items }) ++ said_with spec names) → option_map span_of spec.range ≡ span → Contains (header_of head) x × (Contains (directed_by head items ++ names) x → ⊥) → (BreaksRule (at_declared head items spec names) (Name x) → ⊥) → MOST_PORT_BITS < bits_said (said_by (record { head = head; items = items }) ++ said_with spec names) + span_width span → ⊥
+  few-body header span none kept same known fine = by spec.range refl span same
+    where
+      by : (range : Option Range) → spec.range ≡ range → (s : Option Span) → option_map span_of spec.range ≡ s → MOST_PORT_BITS < bits_said (said_by (record { head = head; items = items }) ++ said_with spec names) + span_width s → ⊥
+      by None e None numbers many = let few = kept.few in omega (arith, many, few)
+      by None e (Some s) numbers many = absurd (none-some s (ap (option_map span_of) (sym e) ∙ numbers))
+      by (Some range) e None numbers many = absurd (none-some (span_of range) (sym numbers ∙ ap (option_map span_of) e))
+      by (Some range) e (Some s) numbers many = fine (inr (inr (inr (inr (inr (inr (inr (inr (record {
+        head = head;
+        items = items;
+        direction = direction;
+        range = range;
+        names = names;
+        is = same_form ∙ ap (λ r. at_declared head items (record { lead = Gives direction; range = r }) names) e;
+        stands = known.0;
+        new = known.1;
+        many = subst (λ n. MOST_PORT_BITS < n) (bits-body head items spec names direction gives none range s e (same_Some (span_of range) s (ap (option_map span_of) (sym e) ∙ numbers))) many;
+      })))))))))

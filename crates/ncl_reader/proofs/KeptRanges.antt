@@ -1,0 +1,73 @@
+-- What is kept of how names were declared, with a token more.
+use Rattle.std.proofs.Common.{◌≡◌, ◌<◌, ℕ, List, [], ◌∷◌, ◌++◌, Option, Some, None, Bool, true, false, cond, inl, inr, ◌⊎◌, refl, sym, ap, ◌∙◌, subst}
+use Rattle.std.specs.Option.{option_map}
+use Rattle.std.specs.Str.{bytes_eq}
+use Rattle.std.proofs.lemmas.Option.{same_Some, none-some}
+use Rattle.std.proofs.lemmas.Slice.Eq.{bytes_eq-Decides}
+use Rattle.ncl_reader.specs.declared.span.Span.{Span}
+use Rattle.ncl_reader.specs.declared.ranges.Ranges.{Ranges}
+use Rattle.ncl_reader.specs.Lexemes.{Lexeme, Name}
+use Rattle.ncl_reader.specs.Grammar.{Range}
+use Rattle.ncl_reader.specs.Forms.{IsDeclaring}
+use Rattle.ncl_reader.specs.Vectors.{span_of, IsDeclared}
+use Rattle.ncl_reader.specs.Ranges.{IsRanges, range_at}
+use Rattle.ncl_reader.proofs.Said.{declared-more, declared-old, declared-new, declaring-once}
+
+-- a declaration more
+module _ (old new : Ranges) (xs : List Lexeme) (x : List ℕ) (range : Option Range) (span : Option Span) where
+  pub ranges-more : ((y : List ℕ) → range_at new y ≡ cond (bytes_eq x y) (Some span) (range_at old y)) → IsRanges old xs → IsDeclaring xs range → option_map span_of range ≡ span → ((other : Option Range) → IsDeclared xs x other → option_map span_of other ≡ span) → ((s : Span) → span ≡ Some s → (s.first < 65536) × (s.last < 65536)) → IsRanges new (xs ++ Name x ∷ [])
+  ranges-more updates is declares same agree fits = record {
+    small = λ y s e. few y s (bytes_eq x y) refl (sym (updates y) ∙ e);
+    declared = λ y r d. declared y r (declared-more xs (Name x) y r d);
+    only = λ y s e. only y s (bytes_eq x y) refl (sym (updates y) ∙ e);
+  }
+    where
+      here : (y : List ℕ) → x ≡ y → range_at new y ≡ Some span
+      here y is_y = updates y ∙ ap (λ b. cond b (Some span) (range_at old y)) ((bytes_eq-Decides x y).1 is_y)
+
+      there : (y : List ℕ) → bytes_eq x y ≡ false → range_at new y ≡ range_at old y
+      there y other = updates y ∙ ap (λ b. cond b (Some span) (range_at old y)) other
+
+      old_declared : (y : List ℕ) (r : Option Range) (b : Bool) → bytes_eq x y ≡ b → IsDeclared xs y r → range_at new y ≡ Some (option_map span_of r)
+      old_declared y r true e d =
+          let is_y = (bytes_eq-Decides x y).0 e in
+          here y is_y ∙ ap (λ s. Some s) (sym (agree r (subst (λ z. IsDeclared xs z r) (sym is_y) d)))
+      old_declared y r false e d = there y e ∙ is.declared y r d
+
+      few : (y : List ℕ) (s : Span) (b : Bool) → bytes_eq x y ≡ b → cond b (Some span) (range_at old y) ≡ Some (Some s) → (s.first < 65536) × (s.last < 65536)
+      few y s true e found = fits s (same_Some span (Some s) found)
+      few y s false e found = is.small y s found
+
+      name_in : {a b : List ℕ} → Name a ≡ Name b → a ≡ b
+      name_in e = cc
+
+      declared : (y : List ℕ) (r : Option Range) → IsDeclared xs y r ⊎ ((Name x ≡ Name y) × IsDeclaring xs r) → range_at new y ≡ Some (option_map span_of r)
+      declared y r (inl d) = old_declared y r (bytes_eq x y) refl d
+      declared y r (inr (e, declaring)) = here y (name_in e) ∙ ap (λ s. Some s) (sym same ∙ ap (option_map span_of) (declaring-once xs range r declares declaring))
+
+      only : (y : List ℕ) (s : Option Span) (b : Bool) → bytes_eq x y ≡ b → cond b (Some span) (range_at old y) ≡ Some s → (r : Option Range) × IsDeclared (xs ++ Name x ∷ []) y r × (option_map span_of r ≡ s)
+      only y s true e found = (range, subst (λ z. IsDeclared (xs ++ Name x ∷ []) z range) ((bytes_eq-Decides x y).0 e) (declared-new xs x range declares), same ∙ same_Some span s found)
+      only y s false e found = let (r, d, is_s) = is.only y s found in (r, declared-old xs (Name x ∷ []) y r d, is_s)
+
+-- a name more that isn't declared, or another token
+pub ranges-other : (ranges : Ranges) (xs : List Lexeme) (t : Lexeme) → ((y : List ℕ) (range : Option Range) → t ≡ Name y → IsDeclaring xs range → ⊥) → IsRanges ranges xs → IsRanges ranges (xs ++ t ∷ [])
+ranges-other ranges xs t other is = record {
+  small = is.small;
+  declared = λ y r d. elim (declared-more xs t y r d) [
+    | inl before ↦ is.declared y r before
+    | inr last ↦ absurd (other y r last.0 last.1)
+  ];
+  only = λ y s e. let (r, d, same) = is.only y s e in (r, declared-old xs (t ∷ []) y r d, same);
+}
+
+-- nothing stands
+pub ranges-none : (ranges : Ranges) → ((y : List ℕ) → range_at ranges y ≡ None) → IsRanges ranges []
+ranges-none ranges none = record {
+  small = λ y s e. absurd (none-some (Some s) (sym (none y) ∙ e));
+  declared = λ y r (front, rest, e, declares). absurd (nothing front y rest e);
+  only = λ y s e. absurd (none-some s (sym (none y) ∙ e));
+}
+  where
+    nothing : (front : List Lexeme) (y : List ℕ) (rest : List Lexeme) → [] ≡ front ++ Name y ∷ rest → ⊥
+    nothing [] y rest e = absurd cc
+    nothing (f ∷ front) y rest e = absurd cc

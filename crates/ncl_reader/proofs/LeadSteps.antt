@@ -1,0 +1,348 @@
+-- One token more in what a declaration begins with.
+use Rattle.std.proofs.Common.{◌≡◌, ◌≢◌, ℕ, ◌<◌, List, [], ◌∷◌, ◌++◌, Option, Some, None, Bool, true, false, inl, inr, ◌⊎◌, refl, sym, ap, ◌∙◌, subst, append_assoc}
+use Rattle.std.specs.Prelude.{MatchOption}
+use Rattle.std.specs.Option.{option_map}
+use Rattle.std.specs.Str.Parse.{digits_value}
+use Rattle.std.proofs.lemmas.Bool.{false≢true}
+use Rattle.std.proofs.lemmas.Option.{same_Some, none-some}
+use Rattle.ncl_reader.specs.declared.place.LeadPlace.{LeadPlace}
+use Rattle.ncl_reader.specs.declared.place.LeadPlace.TheVariants as lead
+use Rattle.ncl_reader.specs.declared.lead.Lead.{Lead as Led}
+use Rattle.ncl_reader.specs.declared.span.Span.{Span}
+use Rattle.ncl_reader.specs.declared.keyword.Keyword.TheVariants.{Module, Wire}
+use Rattle.ncl_reader.specs.declared.lexeme.Sign.TheVariants.{LParen, LBracket, RBracket, Colon}
+use Rattle.ncl_reader.specs.Lexemes.{Lexeme, Word, Name, Number, Mark}
+use Rattle.ncl_reader.specs.Grammar.{Direction, Plain, Wired, direction_phrase, Lead, Gives, Wires, lead_phrase, Range, Spec, Group, group_phrase, Item, Head, with_commas, body_phrase}
+use Rattle.ncl_reader.specs.Forms.{IsBehindNet, IsAtIndex, IsAtLast}
+use Rattle.ncl_reader.specs.Vectors.{width, IsTooLarge, MOST_BITS}
+use Rattle.ncl_reader.specs.Rules.{Breaks, BreaksRule, HasNoBits}
+use Rattle.ncl_reader.specs.Partial.{LeadPart, led, bracketed, firsted, coloned, lasted, ranged, leading, naming, lead_place, lead_spelled, direction_place, word_place, Partial, heading, inside, declaring, netted, indexing, spelled}
+use Rattle.ncl_reader.specs.Lead.{LeadTakes, IsLed, IsSaid, IsSpanOf, IsValue, takes_name, direction_output, lead_output}
+use Rattle.ncl_reader.proofs.Steps.{step, or_else, lead_step, direction_more, lead_more}
+use Rattle.ncl_reader.proofs.Grows.{grows}
+use Rattle.ncl_reader.proofs.Viable.{same_tree}
+use Rattle.ncl_reader.proofs.Breaking.{breaks-taken, breaks-untaken}
+use Rattle.ncl_reader.proofs.Declares.{part_spec}
+
+-- where a declaration is read: in the header, or as an item
+pub record Site (L : Type 0) : Type 0 where
+  pub tree : LeadPart L → Partial
+  pub phrase : L → List Lexeme
+  pub output : L → Option Bool
+  pub of : L → LeadPlace
+  pub more : L → Option L
+  pub front : List Lexeme
+  pub spell : (part : LeadPart L) → spelled (tree part) ≡ front ++ lead_spelled phrase part
+  pub takes : (part next : LeadPart L) (t : Lexeme) → lead_step more part t ≡ Some (leading next) → step (tree part) t ≡ Some (tree next)
+  pub leaves : (part : LeadPart L) (t : Lexeme) → lead_step more part t ≡ None → step (tree part) t ≡ None
+  pub no_net : (part : LeadPart L) (net : List ℕ) → IsBehindNet (spelled (tree part)) net → ⊥
+  pub no_index : (part : LeadPart L) (net : List ℕ) → IsAtIndex (spelled (tree part)) net → ⊥
+  pub wires : (l : L) → of l ≡ lead.Direction → (m : L) × (more l ≡ Some m) × (of m ≡ lead.Wire) × (output m ≡ output l)
+  pub wired : (l : L) → of l ≡ lead.Wire → more l ≡ None
+  pub forms : (l : L) → (of l ≡ lead.Direction) ⊎ (of l ≡ lead.Wire)
+
+-- the last token of a list is one
+last_token : (xs ys : List Lexeme) (t u : Lexeme) → xs ++ t ∷ [] ≡ ys ++ u ∷ [] → (xs ≡ ys) × (t ≡ u)
+last_token [] [] t u e = (refl, let same : t ≡ u = cc in same)
+last_token [] (y ∷ []) t u e = absurd cc
+last_token [] (y ∷ z ∷ ys) t u e = absurd cc
+last_token (x ∷ []) [] t u e = absurd cc
+last_token (x ∷ z ∷ xs) [] t u e = absurd cc
+last_token (x ∷ xs) (y ∷ ys) t u e =
+    let same : x ≡ y = cc in
+    let rest : xs ++ t ∷ [] ≡ ys ++ u ∷ [] = cc in
+    let (front, last) = last_token xs ys t u rest in
+    ((λ i. same i ∷ front i), last)
+
+-- of two ranges that are spelled so the first numbers are the same
+colon_first : (a b : List Lexeme) (first other : List ℕ) → a ++ Mark LBracket ∷ Number first ∷ Mark Colon ∷ [] ≡ b ++ Mark LBracket ∷ Number other ∷ Mark Colon ∷ [] → first ≡ other
+colon_first a b first other e =
+    let outer = last_token (a ++ Mark LBracket ∷ Number first ∷ []) (b ++ Mark LBracket ∷ Number other ∷ []) (Mark Colon) (Mark Colon) (append_assoc a (Mark LBracket ∷ Number first ∷ []) (Mark Colon ∷ []) ∙ e ∙ sym (append_assoc b (Mark LBracket ∷ Number other ∷ []) (Mark Colon ∷ []))) in
+    let inner = last_token (a ++ Mark LBracket ∷ []) (b ++ Mark LBracket ∷ []) (Number first) (Number other) (append_assoc a (Mark LBracket ∷ []) (Number first ∷ []) ∙ outer.0 ∙ sym (append_assoc b (Mark LBracket ∷ []) (Number other ∷ []))) in
+    number_in inner.1
+  where
+    number_in : {x y : List ℕ} → Number x ≡ Number y → x ≡ y
+    number_in e = cc
+
+module _ {L : Type 0} (site : Site L) (kept : Led) where
+  abbrev Answer : LeadPart L → Lexeme → Option LeadPlace → Type 0
+  Answer part t result = LeadTakes site.tree site.output site.of part t result kept
+
+  took : (part next : LeadPart L) (t : Lexeme) (after : LeadPlace) → lead_step site.more part t ≡ Some (leading next) → lead_place site.of next ≡ after → IsLed site.output next kept → (BreaksRule (spelled (site.tree part)) t → ⊥) → Answer part t (Some after)
+  took part next t after is at keeps fine =
+      let some = site.takes part next t is in
+      (next, at, keeps, grows (site.tree part) t (site.tree next) some, λ breaks. fine (breaks-taken (site.tree part) (site.tree next) t some breaks))
+
+  left : (part : LeadPart L) (t : Lexeme) → lead_step site.more part t ≡ None → IsLed site.output part kept → Answer part t None
+  left part t none keeps = (breaks-untaken (site.tree part) t (site.leaves part t none), keeps)
+
+  no_bits : (part : LeadPart L) → HasNoBits (spelled (site.tree part)) → ⊥
+  no_bits part (net, behind, none) = site.no_net part net behind
+
+  number_rule : (part : LeadPart L) (digits : List ℕ) → (IsTooLarge digits → ⊥) → ((first : List ℕ) → IsAtLast (spelled (site.tree part)) first → MOST_BITS < width (record { first = digits_value 10 first; last = digits_value 10 digits }) → ⊥) → BreaksRule (spelled (site.tree part)) (Number digits) → ⊥
+  number_rule part digits small short (inl large) = small large
+  number_rule part digits small short (inr (inl (first, at, long))) = short first at long
+  number_rule part digits small short (inr (inr (net, range, at, vector, outside))) = site.no_index part net at
+
+  -- what begins a declaration is in front of "wire", a bracket or a name
+  no_place : (l : L) (at : LeadPlace) → (lead.Direction ≡ at → ⊥) → (lead.Wire ≡ at → ⊥) → site.of l ≡ at → ⊥
+  no_place l at one two is = elim (site.forms l) [
+    | inl e ↦ one (sym e ∙ is)
+    | inr e ↦ two (sym e ∙ is)
+  ]
+
+  -- behind a direction
+  pub at_wire : (part : LeadPart L) (t : Lexeme) → lead_place site.of part ≡ lead.Direction → IsLed site.output part kept → t ≡ Word Wire → Answer part t (Some lead.Wire)
+  at_wire (led l) t at keeps is =
+      let (m, more, of, output) = site.wires l at in
+      subst (λ u. Answer (led l) u (Some lead.Wire)) (sym is) (took (led l) (led m) (Word Wire) lead.Wire (ap (option_map (λ n. leading (led n))) more) of (keeps.0 ∙ sym output, keeps.1) (λ none. none))
+  at_wire part t at keeps is = absurd cc
+
+  bracket_led : (l : L) (t : Lexeme) → IsLed site.output (led l) kept → t ≡ Mark LBracket → Answer (led l) t (Some lead.First)
+  bracket_led l t keeps is = subst (λ u. Answer (led l) u (Some lead.First)) (sym is) (took (led l) (bracketed l) (Mark LBracket) lead.First refl refl keeps.0 (no_bits (led l)))
+
+  pub at_bracket : (part : LeadPart L) (t : Lexeme) → lead_place site.of part ≡ lead.Direction → IsLed site.output part kept → t ≡ Mark LBracket → Answer part t (Some lead.First)
+  at_bracket (led l) t at keeps is = bracket_led l t keeps is
+  at_bracket part t at keeps is = absurd cc
+
+  pub wire_bracket : (part : LeadPart L) (t : Lexeme) → lead_place site.of part ≡ lead.Wire → IsLed site.output part kept → t ≡ Mark LBracket → Answer part t (Some lead.First)
+  wire_bracket (led l) t at keeps is = bracket_led l t keeps is
+  wire_bracket part t at keeps is = absurd cc
+
+  others-led : (l : L) (t : Lexeme) → (t ≡ Word Wire → site.more l ≡ None) → t ≢ Mark LBracket → ((x : List ℕ) → t ≢ Name x) → lead_step site.more (led l) t ≡ None
+  others-led l (Word Wire) wire bracket names = ap (option_map (λ n. leading (led n))) (wire refl)
+  others-led l (Mark LBracket) wire bracket names = absurd (bracket refl)
+  others-led l (Name x) wire bracket names = absurd (names x refl)
+  others-led l t wire bracket names = refl
+
+  pub at_none : (part : LeadPart L) (t : Lexeme) → lead_place site.of part ≡ lead.Direction → IsLed site.output part kept → t ≢ Word Wire → t ≢ Mark LBracket → ((x : List ℕ) → t ≢ Name x) → Answer part t None
+  at_none (led l) t at keeps wire bracket names = left (led l) t (others-led l t (λ is. absurd (wire is)) bracket names) keeps
+  at_none part t at keeps wire bracket names = absurd cc
+
+  pub wire_none : (part : LeadPart L) (t : Lexeme) → lead_place site.of part ≡ lead.Wire → IsLed site.output part kept → t ≢ Mark LBracket → ((x : List ℕ) → t ≢ Name x) → Answer part t None
+  wire_none (led l) t at keeps bracket names = left (led l) t (others-led l t (λ is. site.wired l at) bracket names) keeps
+  wire_none part t at keeps bracket names = absurd cc
+
+  -- behind the bracket, and behind the colon
+  number_or_none : (t : Lexeme) → ((digits : List ℕ) × (t ≡ Number digits)) ⊎ ((digits : List ℕ) → t ≢ Number digits)
+  number_or_none (Number digits) = inl (digits, refl)
+  number_or_none t = inr (λ digits e. absurd cc)
+
+  too_large : (part : LeadPart L) (t : Lexeme) → IsLed site.output part kept → ((digits : List ℕ) → t ≡ Number digits → IsTooLarge digits) → (((digits : List ℕ) → t ≢ Number digits) → lead_step site.more part t ≡ None) → Answer part t None
+  too_large part t keeps large others = elim (number_or_none t) [
+    | inl (digits, is) ↦ (subst (Breaks (spelled (site.tree part))) (sym is) (inr (inl (large digits is))), keeps)
+    | inr none ↦ left part t (others none) keeps
+  ]
+
+  others-bracketed : (l : L) (t : Lexeme) → ((digits : List ℕ) → t ≢ Number digits) → lead_step site.more (bracketed l) t ≡ None
+  others-bracketed l (Number digits) numbers = absurd (numbers digits refl)
+  others-bracketed l t numbers = refl
+
+  others-coloned : (l : L) (first : List ℕ) (t : Lexeme) → ((digits : List ℕ) → t ≢ Number digits) → lead_step site.more (coloned l first) t ≡ None
+  others-coloned l first (Number digits) numbers = absurd (numbers digits refl)
+  others-coloned l first t numbers = refl
+
+  pub first_none : (part : LeadPart L) (t : Lexeme) → lead_place site.of part ≡ lead.First → IsLed site.output part kept → ((digits : List ℕ) → t ≡ Number digits → IsTooLarge digits) → Answer part t None
+  first_none (bracketed l) t at keeps large = too_large (bracketed l) t keeps large (others-bracketed l t)
+  first_none (led l) t at keeps large = absurd (no_place l lead.First (λ e. absurd cc) (λ e. absurd cc) at)
+  first_none part t at keeps large = absurd cc
+
+  pub last_none : (part : LeadPart L) (t : Lexeme) → lead_place site.of part ≡ lead.Last → IsLed site.output part kept → ((digits : List ℕ) → t ≡ Number digits → IsTooLarge digits) → Answer part t None
+  last_none (coloned l first) t at keeps large = too_large (coloned l first) t keeps large (others-coloned l first t)
+  last_none (led l) t at keeps large = absurd (no_place l lead.Last (λ e. absurd cc) (λ e. absurd cc) at)
+  last_none part t at keeps large = absurd cc
+
+  -- behind the first number, and behind the last
+  others-firsted : (l : L) (first : List ℕ) (t : Lexeme) → t ≢ Mark Colon → lead_step site.more (firsted l first) t ≡ None
+  others-firsted l first (Mark Colon) other = absurd (other refl)
+  others-firsted l first t other = refl
+
+  others-lasted : (l : L) (first last : List ℕ) (t : Lexeme) → t ≢ Mark RBracket → lead_step site.more (lasted l first last) t ≡ None
+  others-lasted l first last (Mark RBracket) other = absurd (other refl)
+  others-lasted l first last t other = refl
+
+  others-ranged : (l : L) (range : Range) (t : Lexeme) → ((x : List ℕ) → t ≢ Name x) → lead_step site.more (ranged l range) t ≡ None
+  others-ranged l range (Name x) names = absurd (names x refl)
+  others-ranged l range t names = refl
+
+  pub colon : (part : LeadPart L) (t : Lexeme) → lead_place site.of part ≡ lead.Colon → IsLed site.output part kept → t ≡ Mark Colon → Answer part t (Some lead.Last)
+  colon (firsted l first) t at keeps is = subst (λ u. Answer (firsted l first) u (Some lead.Last)) (sym is) (took (firsted l first) (coloned l first) (Mark Colon) lead.Last refl refl keeps (λ none. none))
+  colon (led l) t at keeps is = absurd (no_place l lead.Colon (λ e. absurd cc) (λ e. absurd cc) at)
+  colon part t at keeps is = absurd cc
+
+  pub colon_none : (part : LeadPart L) (t : Lexeme) → lead_place site.of part ≡ lead.Colon → IsLed site.output part kept → t ≢ Mark Colon → Answer part t None
+  colon_none (firsted l first) t at keeps other = left (firsted l first) t (others-firsted l first t other) keeps
+  colon_none (led l) t at keeps other = absurd (no_place l lead.Colon (λ e. absurd cc) (λ e. absurd cc) at)
+  colon_none part t at keeps other = absurd cc
+
+  pub close : (part : LeadPart L) (t : Lexeme) → lead_place site.of part ≡ lead.Close → IsLed site.output part kept → t ≡ Mark RBracket → Answer part t (Some lead.Range)
+  close (lasted l first last) t at keeps is = subst (λ u. Answer (lasted l first last) u (Some lead.Range)) (sym is) (took (lasted l first last) (ranged l (record { first = first; last = last })) (Mark RBracket) lead.Range refl refl keeps (λ none. none))
+  close (led l) t at keeps is = absurd (no_place l lead.Close (λ e. absurd cc) (λ e. absurd cc) at)
+  close part t at keeps is = absurd cc
+
+  pub close_none : (part : LeadPart L) (t : Lexeme) → lead_place site.of part ≡ lead.Close → IsLed site.output part kept → t ≢ Mark RBracket → Answer part t None
+  close_none (lasted l first last) t at keeps other = left (lasted l first last) t (others-lasted l first last t other) keeps
+  close_none (led l) t at keeps other = absurd (no_place l lead.Close (λ e. absurd cc) (λ e. absurd cc) at)
+  close_none part t at keeps other = absurd cc
+
+  pub range_none : (part : LeadPart L) (t : Lexeme) → lead_place site.of part ≡ lead.Range → IsLed site.output part kept → ((x : List ℕ) → t ≢ Name x) → Answer part t None
+  range_none (ranged l range) t at keeps names = left (ranged l range) t (others-ranged l range t names) keeps
+  range_none (led l) t at keeps names = absurd (no_place l lead.Range (λ e. absurd cc) (λ e. absurd cc) at)
+  range_none part t at keeps names = absurd cc
+
+  -- a range that is too long
+  pub last_long : (part : LeadPart L) (t : Lexeme) (digits : List ℕ) (n : ℕ) → lead_place site.of part ≡ lead.Last → IsLed site.output part kept → t ≡ Number digits → IsValue digits n → MOST_BITS < width (record { first = kept.first; last = n }) → Answer part t None
+  last_long (coloned l first) t digits n at keeps is value long =
+      let too_long : MOST_BITS < width (record { first = digits_value 10 first; last = digits_value 10 digits }) = subst (λ f. MOST_BITS < width (record { first = f; last = digits_value 10 digits })) keeps.1.0 (subst (λ m. MOST_BITS < width (record { first = kept.first; last = m })) value.0 long) in
+      let at_last : IsAtLast (spelled (site.tree (coloned l first))) first = (site.front ++ site.phrase l, site.spell (coloned l first) ∙ sym (append_assoc site.front (site.phrase l) (Mark LBracket ∷ Number first ∷ Mark Colon ∷ []))) in
+      (subst (Breaks (spelled (site.tree (coloned l first)))) (sym is) (inr (inr (inl (first, at_last, too_long)))), keeps)
+  last_long (led l) t digits n at keeps is value long = absurd (no_place l lead.Last (λ e. absurd cc) (λ e. absurd cc) at)
+  last_long part t digits n at keeps is value long = absurd cc
+
+  -- behind a sign
+  pub by_sign : (part : LeadPart L) (t u : Lexeme) (after : LeadPlace) (result : Option LeadPlace) → MatchOption result (t ≢ u) (λ at. (at ≡ after) × (t ≡ u)) → (t ≡ u → Answer part t (Some after)) → (t ≢ u → Answer part t None) → Answer part t result
+  by_sign part t u after None e takes other = other e
+  by_sign part t u after (Some at) e takes other = subst (λ a. Answer part t (Some a)) (sym e.0) (takes e.1)
+
+  -- a name behind what a declaration begins with
+  pub no_name : (part : LeadPart L) (x : List ℕ) → takes_name (lead_place site.of part) ≡ false → step (site.tree part) (Name x) ≡ None
+  no_name (led l) x e = absurd (elim (site.forms l) [
+    | inl direction ↦ false≢true (sym e ∙ ap takes_name direction)
+    | inr wire ↦ false≢true (sym e ∙ ap takes_name wire)
+  ])
+  no_name (ranged l range) x e = absurd (false≢true (sym e))
+  no_name (bracketed l) x e = site.leaves (bracketed l) (Name x) refl
+  no_name (firsted l first) x e = site.leaves (firsted l first) (Name x) refl
+  no_name (coloned l first) x e = site.leaves (coloned l first) (Name x) refl
+  no_name (lasted l first last) x e = site.leaves (lasted l first last) (Name x) refl
+
+  -- what it is declared with
+  pub record Begins (part : LeadPart L) (x : List ℕ) : Type 0 where
+    pub spec : Spec L
+    pub says : part_spec (leading part) ≡ Some spec
+    pub keeps : IsSaid site.output spec kept
+    pub takes : lead_step site.more part (Name x) ≡ Some (naming spec [] x)
+
+  pub begins : (part : LeadPart L) (x : List ℕ) → takes_name (lead_place site.of part) ≡ true → IsLed site.output part kept → Begins part x
+  begins (led l) x e keeps = record {
+    spec = record { lead = l; range = None };
+    says = refl;
+    keeps = (keeps.0, record { same = sym keeps.1; few = λ s is. absurd (none-some s (sym keeps.1 ∙ is)) });
+    takes = refl;
+  }
+  begins (ranged l range) x e keeps = record {
+    spec = record { lead = l; range = Some range };
+    says = refl;
+    keeps = keeps;
+    takes = refl;
+  }
+  begins part x e keeps = absurd (false≢true e)
+
+-- numbers that are taken
+module _ {L : Type 0} (site : Site L) (old new : Led) where
+  pub first : (part : LeadPart L) (t : Lexeme) (digits : List ℕ) → lead_place site.of part ≡ lead.First → IsLed site.output part old → t ≡ Number digits → new.output ≡ old.output → IsValue digits new.first → (IsTooLarge digits → ⊥) → LeadTakes site.tree site.output site.of part t (Some lead.Colon) new
+  first (bracketed l) t digits at keeps is same value small = subst (λ u. LeadTakes site.tree site.output site.of (bracketed l) u (Some lead.Colon) new) (sym is) (took site new (bracketed l) (firsted l digits) (Number digits) lead.Colon refl refl (same ∙ keeps, value) (number_rule site new (bracketed l) digits small no_colon))
+    where
+      no_colon : (other : List ℕ) → IsAtLast (spelled (site.tree (bracketed l))) other → MOST_BITS < width (record { first = digits_value 10 other; last = digits_value 10 digits }) → ⊥
+      no_colon other (before, e) long =
+          let (fronts, signs) = last_token (site.front ++ site.phrase l) (before ++ Mark LBracket ∷ Number other ∷ []) (Mark LBracket) (Mark Colon) (append_assoc site.front (site.phrase l) (Mark LBracket ∷ []) ∙ sym (site.spell (bracketed l)) ∙ e ∙ sym (append_assoc before (Mark LBracket ∷ Number other ∷ []) (Mark Colon ∷ []))) in
+          let wrong : Mark LBracket ≡ Mark Colon = signs in absurd cc
+  first (led l) t digits at keeps is same value small = absurd (no_place site old l lead.First (λ e. absurd cc) (λ e. absurd cc) at)
+  first part t digits at keeps is same value small = absurd cc
+
+  pub last : (part : LeadPart L) (t : Lexeme) (digits : List ℕ) (n : ℕ) → lead_place site.of part ≡ lead.Last → IsLed site.output part old → t ≡ Number digits → new.output ≡ old.output → new.span ≡ Some (record { first = old.first; last = n }) → IsValue digits n → (IsTooLarge digits → ⊥) → (MOST_BITS < width (record { first = old.first; last = n }) → ⊥) → LeadTakes site.tree site.output site.of part t (Some lead.Close) new
+  last (coloned l first_digits) t digits n at keeps is same spans value small short = subst (λ u. LeadTakes site.tree site.output site.of (coloned l first_digits) u (Some lead.Close) new) (sym is) (took site new (coloned l first_digits) (lasted l first_digits digits) (Number digits) lead.Close refl refl (same ∙ keeps.0, span) (number_rule site new (coloned l first_digits) digits small no_long))
+    where
+      numbers : Span → Type 0
+      numbers s = (s.first < 65536) × (s.last < 65536)
+
+      span : IsSpanOf (Some (record { first = first_digits; last = digits })) new.span
+      span = record {
+        same = (λ i. Some (record { first = sym keeps.1.0 i; last = sym value.0 i })) ∙ sym spans;
+        few = λ s e. subst numbers (same_Some (record { first = old.first; last = n }) s (sym spans ∙ e)) (keeps.1.1, value.1);
+      }
+
+      no_long : (other : List ℕ) → IsAtLast (spelled (site.tree (coloned l first_digits))) other → MOST_BITS < width (record { first = digits_value 10 other; last = digits_value 10 digits }) → ⊥
+      no_long other (before, e) long =
+          let firsts : first_digits ≡ other = colon_first (site.front ++ site.phrase l) before first_digits other (append_assoc site.front (site.phrase l) (Mark LBracket ∷ Number first_digits ∷ Mark Colon ∷ []) ∙ sym (site.spell (coloned l first_digits)) ∙ e) in
+          short (subst (λ f. MOST_BITS < width (record { first = f; last = n })) (ap (digits_value 10) (sym firsts) ∙ sym keeps.1.0) (subst (λ m. MOST_BITS < width (record { first = digits_value 10 other; last = m })) (sym value.0) long))
+  last (led l) t digits n at keeps is same spans value small short = absurd (no_place site old l lead.Last (λ e. absurd cc) (λ e. absurd cc) at)
+  last part t digits n at keeps is same spans value small short = absurd cc
+
+-- the two places
+pub direction_wires : (l : Direction) → direction_place l ≡ lead.Direction → (m : Direction) × (direction_more l ≡ Some m) × (direction_place m ≡ lead.Wire) × (direction_output m ≡ direction_output l)
+direction_wires (Plain way) at = (Wired way, refl, refl, refl)
+direction_wires (Wired way) at = absurd cc
+
+pub direction_wired : (l : Direction) → direction_place l ≡ lead.Wire → direction_more l ≡ None
+direction_wired (Plain way) at = absurd cc
+direction_wired (Wired way) at = refl
+
+pub direction_forms : (l : Direction) → (direction_place l ≡ lead.Direction) ⊎ (direction_place l ≡ lead.Wire)
+direction_forms (Plain way) = inl refl
+direction_forms (Wired way) = inr refl
+
+pub word_wires : (l : Lead) → word_place l ≡ lead.Direction → (m : Lead) × (lead_more l ≡ Some m) × (word_place m ≡ lead.Wire) × (lead_output m ≡ lead_output l)
+word_wires (Gives (Plain way)) at = (Gives (Wired way), refl, refl, refl)
+word_wires (Gives (Wired way)) at = absurd cc
+word_wires Wires at = absurd cc
+
+pub word_wired : (l : Lead) → word_place l ≡ lead.Wire → lead_more l ≡ None
+word_wired (Gives (Plain way)) at = absurd cc
+word_wired (Gives (Wired way)) at = refl
+word_wired Wires at = refl
+
+pub word_forms : (l : Lead) → (word_place l ≡ lead.Direction) ⊎ (word_place l ≡ lead.Wire)
+word_forms (Gives (Plain way)) = inl refl
+word_forms (Gives (Wired way)) = inr refl
+word_forms Wires = inr refl
+
+module _ (title : List ℕ) (groups : List (Group Direction)) (part : LeadPart Direction) (net : List ℕ) where
+  pub no_net_in_header : IsBehindNet (spelled (heading title groups (leading part))) net → ⊥
+  no_net_in_header (head, items, cell, name, conns, pin, is) = let wrong : heading title groups (leading part) ≡ inside head items (netted cell name conns pin net) = same_tree (heading title groups (leading part)) (inside head items (netted cell name conns pin net)) is in absurd cc
+
+  pub no_index_in_header : IsAtIndex (spelled (heading title groups (leading part))) net → ⊥
+  no_index_in_header (head, items, cell, name, conns, pin, is) = let wrong : heading title groups (leading part) ≡ inside head items (indexing cell name conns pin net) = same_tree (heading title groups (leading part)) (inside head items (indexing cell name conns pin net)) is in absurd cc
+
+module _ (head : Head) (items : List Item) (part : LeadPart Lead) (net : List ℕ) where
+  pub no_net_in_item : IsBehindNet (spelled (inside head items (declaring (leading part)))) net → ⊥
+  no_net_in_item (h, i, cell, name, conns, pin, is) = let wrong : inside head items (declaring (leading part)) ≡ inside h i (netted cell name conns pin net) = same_tree (inside head items (declaring (leading part))) (inside h i (netted cell name conns pin net)) is in absurd cc
+
+  pub no_index_in_item : IsAtIndex (spelled (inside head items (declaring (leading part)))) net → ⊥
+  no_index_in_item (h, i, cell, name, conns, pin, is) = let wrong : inside head items (declaring (leading part)) ≡ inside h i (indexing cell name conns pin net) = same_tree (inside head items (declaring (leading part))) (inside h i (indexing cell name conns pin net)) is in absurd cc
+
+abbrev pub in_header : List ℕ → List (Group Direction) → Site Direction
+in_header title groups = record {
+  tree = λ part. heading title groups (leading part);
+  phrase = direction_phrase;
+  output = direction_output;
+  of = direction_place;
+  more = direction_more;
+  front = Word Module ∷ Name title ∷ Mark LParen ∷ with_commas (group_phrase direction_phrase) groups;
+  spell = λ part. refl;
+  takes = λ part next t is. ap (λ found. or_else (option_map (heading title groups) found) None) is;
+  leaves = λ part t is. ap (λ found. or_else (option_map (heading title groups) found) None) is;
+  no_net = no_net_in_header title groups;
+  no_index = no_index_in_header title groups;
+  wires = direction_wires;
+  wired = direction_wired;
+  forms = direction_forms;
+}
+
+abbrev pub in_item : Head → List Item → Site Lead
+in_item head items = record {
+  tree = λ part. inside head items (declaring (leading part));
+  phrase = lead_phrase;
+  output = lead_output;
+  of = word_place;
+  more = lead_more;
+  front = body_phrase head items;
+  spell = λ part. refl;
+  takes = λ part next t is. ap (λ found. or_else (option_map (λ more. inside head items (declaring more)) found) None) is;
+  leaves = λ part t is. ap (λ found. or_else (option_map (λ more. inside head items (declaring more)) found) None) is;
+  no_net = no_net_in_item head items;
+  no_index = no_index_in_item head items;
+  wires = word_wires;
+  wired = word_wired;
+  forms = word_forms;
+}

@@ -1,0 +1,194 @@
+-- What is said of a port was declared, and the names of a header stand.
+use Rattle.std.proofs.Common.{◌≡◌, ℕ, ◌+◌, ◌≤◌, arith, List, [], ◌∷◌, ◌++◌, length, Option, Some, None, inl, inr, refl, sym, ap, ◌∙◌, subst, append_assoc}
+use Rattle.std.specs.Prelude.{Contains}
+use Rattle.std.specs.List.{flat_map}
+use Rattle.std.proofs.lemmas.List.{append-nil, length-append}
+use Rattle.std.proofs.lemmas.Grind.{flat_map-append}
+use Rattle.ncl_base.proofs.Members.{Member, here, there, Member-append_cases, member_of_map, Member-from_Contains}
+use Rattle.ncl_reader.specs.declared.keyword.Keyword.TheVariants.{Module, EndModule}
+use Rattle.ncl_reader.specs.declared.lexeme.Sign.TheVariants.{LParen, RParen, Comma, Semi}
+use Rattle.ncl_reader.specs.Lexemes.{Lexeme, Word, Name, Mark}
+use Rattle.ncl_reader.specs.Grammar.{Row, all_of, with_commas, row_phrase, name_phrase, Direction, direction_phrase, Lead, Gives, Wires, lead_phrase, Range, spec_phrase, Group, group_names, group_phrase, Item, Declares, Joins, item_phrase, Listing, Empty, Names, Ansi, Head, head_phrase, body_phrase, groups_of, names_in, header_of}
+use Rattle.ncl_reader.specs.Forms.{in_ansi, at_declared}
+use Rattle.ncl_reader.specs.Vectors.{Stands, IsDeclared}
+use Rattle.ncl_reader.specs.Says.{Said, said_of, said_in_header, said_in, said_by}
+use Rattle.ncl_reader.specs.Header.{AreDeclared}
+
+-- the lexemes up to `endmodule`
+abbrev whole : Head → List Item → List Lexeme
+whole head items = body_phrase head items ++ Word EndModule ∷ []
+
+member_flat : {X Y : Type 0} (g : X → List Y) (xs : List X) (y : Y) → Member y (flat_map g xs) → (x : X) × Member x xs × Member y (g x)
+member_flat g [] y among = elim among [ ]
+member_flat g (x ∷ xs) y among = elim (Member-append_cases y (g x) (flat_map g xs) among) [
+  | inl front ↦ (x, here, front)
+  | inr back ↦ let (z, stands, is) = member_flat g xs y back in (z, there stands, is)
+]
+
+-- what stands in front of one of a row, and behind it
+split_first : (p wc last : List Lexeme) → ((p ++ Mark Comma ∷ []) ++ wc) ++ last ≡ p ++ Mark Comma ∷ (wc ++ last)
+split_first p wc last = simp append_assoc
+
+split_later : (p wc last some one : List Lexeme) → wc ++ last ≡ some ++ one → ((p ++ Mark Comma ∷ []) ++ wc) ++ last ≡ ((p ++ Mark Comma ∷ []) ++ some) ++ one
+split_later p wc last some one e = append_assoc (p ++ Mark Comma ∷ []) wc last ∙ ap (λ l. (p ++ Mark Comma ∷ []) ++ l) e ∙ sym (append_assoc (p ++ Mark Comma ∷ []) some one)
+
+module _ {X : Type 0} (phrase : X → List Lexeme) where
+  abbrev IsSplit : List Lexeme → X → Type 0
+  IsSplit xs x = (before : List X) × (rest : List Lexeme) × (xs ≡ with_commas phrase before ++ (phrase x ++ rest))
+
+  split_row : (xs : List X) (last x : X) → Member x (xs ++ last ∷ []) → IsSplit (with_commas phrase xs ++ phrase last) x
+  split_row [] last x here = ([], [], sym (append-nil (phrase last)))
+  split_row [] last x (there none) = elim none [ ]
+  split_row (y ∷ xs) last x here = ([], Mark Comma ∷ (with_commas phrase xs ++ phrase last), split_first (phrase y) (with_commas phrase xs) (phrase last))
+  split_row (y ∷ xs) last x (there among) =
+      let (before, rest, e) = split_row xs last x among in
+      (y ∷ before, rest, split_later (phrase y) (with_commas phrase xs) (phrase last) (with_commas phrase before) (phrase x ++ rest) e)
+
+  row_split : (row : Row X) (x : X) → Member x (all_of row) → IsSplit (row_phrase phrase row) x
+  row_split row x among = split_row row.before row.last x among
+
+-- so of items
+item_split : (items : List Item) (item : Item) → Member item items → (before : List Item) × (rest : List Lexeme) × (flat_map item_phrase items ≡ flat_map item_phrase before ++ (item_phrase item ++ rest))
+item_split (other ∷ items) item here = ([], flat_map item_phrase items, refl)
+item_split (other ∷ items) item (there among) =
+    let (before, rest, e) = item_split items item among in
+    (other ∷ before, rest, ap (λ l. item_phrase other ++ l) e ∙ sym (append_assoc (item_phrase other) (flat_map item_phrase before) (item_phrase item ++ rest)))
+item_split [] item among = elim among [ ]
+
+-- a name of a declaration of the header
+headed : (w s n one r1 r2 a b c d : List Lexeme) → ((((w ++ ((s ++ (n ++ (one ++ r2))) ++ r1)) ++ a) ++ b) ++ c) ++ d ≡ (w ++ (s ++ n)) ++ (one ++ (r2 ++ (r1 ++ (a ++ (b ++ (c ++ d))))))
+headed w s n one r1 r2 a b c d = simp append_assoc
+
+header_declares : (name : List ℕ) (ports : Option Listing) (items : List Item) (group : Group Direction) (x : List ℕ) → Member group (groups_of ports) → Member x (group_names group) → IsDeclared (whole (record { name = name; ports = ports }) items) x group.spec.range
+header_declares name (Some (Ansi row)) items group x among stands =
+    let (before, r1, e1) = row_split (group_phrase direction_phrase) row group among in
+    let (names, r2, e2) = row_split name_phrase group.names x stands in
+    let a : List Lexeme = Mark RParen ∷ [] in
+    let b : List Lexeme = Mark Semi ∷ [] in
+    let c = flat_map item_phrase items in
+    let d : List Lexeme = Word EndModule ∷ [] in
+    let w = with_commas (group_phrase direction_phrase) before in
+    let s = spec_phrase direction_phrase group.spec in
+    let n = with_commas name_phrase names in (
+      in_ansi name before group.spec names,
+      r2 ++ (r1 ++ (a ++ (b ++ (c ++ d)))),
+      ap (λ l. Word Module ∷ Name name ∷ Mark LParen ∷ l) (ap (λ r. (((r ++ a) ++ b) ++ c) ++ d) (e1 ∙ ap (λ m. w ++ ((s ++ m) ++ r1)) e2) ∙ headed w s n (Name x ∷ []) r1 r2 a b c d),
+      inl (name, before, group.spec.lead, names, refl),
+    )
+header_declares name (Some (Names row)) items group x among stands = elim among [ ]
+header_declares name (Some Empty) items group x among stands = elim among [ ]
+header_declares name None items group x among stands = elim among [ ]
+
+-- a name of a declaration of an item
+declared : (h f s n r1 r2 semi d : List Lexeme) (t : Lexeme) → (h ++ (f ++ (((s ++ (n ++ t ∷ r2)) ++ semi) ++ r1))) ++ d ≡ ((h ++ f) ++ (s ++ n)) ++ t ∷ (r2 ++ (semi ++ (r1 ++ d)))
+declared h f s n r1 r2 semi d t = simp append_assoc
+
+item_declares : (head : Head) (items : List Item) (group : Group Lead) (x : List ℕ) → Member (Declares group) items → Member x (group_names group) → IsDeclared (whole head items) x group.spec.range
+item_declares head items group x among stands =
+    let (before, r1, e1) = item_split items (Declares group) among in
+    let (names, r2, e2) = row_split name_phrase group.names x stands in
+    let semi : List Lexeme = Mark Semi ∷ [] in
+    let d : List Lexeme = Word EndModule ∷ [] in
+    let h = head_phrase head in
+    let f = flat_map item_phrase before in
+    let s = spec_phrase lead_phrase group.spec in
+    let n = with_commas name_phrase names in (
+      at_declared head before group.spec names,
+      r2 ++ (semi ++ (r1 ++ d)),
+      ap (λ r. (h ++ r) ++ d) (e1 ∙ ap (λ m. f ++ (((s ++ m) ++ semi) ++ r1)) e2) ∙ declared h f s n r1 r2 semi d (Name x),
+      inr (head, before, group.spec.lead, names, refl),
+    )
+
+-- what a declaration says, it says of its names
+said_member : (direction : Direction) (range : Option Range) (names : List (List ℕ)) (s : Said) → Member s (said_of direction range names) → Member s.name names × (s.range ≡ range)
+said_member direction range names s among =
+    let (x, stands, is) = member_of_map _ names s among in
+    (subst (λ (r : Said). Member r.name names) is stands, ap (λ (r : Said). r.range) (sym is))
+
+said_led : (lead : Lead) (range : Option Range) (names : Row (List ℕ)) (s : Said) → Member s (said_in (Declares (record { spec = record { lead = lead; range = range }; names = names }))) → Member s.name (all_of names) × (s.range ≡ range)
+said_led (Gives direction) range names s among = said_member direction range (all_of names) s among
+said_led Wires range names s among = elim among [ ]
+
+said_here : (head : Head) (items : List Item) (item : Item) (s : Said) → Member item items → Member s (said_in item) → IsDeclared (whole head items) s.name s.range
+said_here head items (Declares group) s among is =
+    let (stands, same) = said_led group.spec.lead group.spec.range group.names s is in
+    subst (IsDeclared (whole head items) s.name) (sym same) (item_declares head items group s.name among stands)
+said_here head items (Joins cell name conns) s among is = elim is [ ]
+
+-- what is said of a port was declared
+pub said_declared : (head : Head) (items : List Item) → AreDeclared (whole head items) (said_by (record { head = head; items = items }))
+said_declared head items s found = elim (Member-append_cases s (flat_map said_in_header (groups_of head.ports)) (flat_map said_in items) (Member-from_Contains (said_by (record { head = head; items = items })) s found)) [
+  | inl front ↦
+      let (group, among, is) = member_flat said_in_header (groups_of head.ports) s front in
+      let (stands, same) = said_member group.spec.lead group.spec.range (group_names group) s is in
+      subst (IsDeclared (whole head items) s.name) (sym same) (header_declares head.name head.ports items group s.name among stands)
+  | inr back ↦
+      let (item, among, is) = member_flat said_in items s back in
+      said_here head items item s among is
+]
+
+-- a name of a header of names
+listed : (n one r a b c d : List Lexeme) → ((((n ++ (one ++ r)) ++ a) ++ b) ++ c) ++ d ≡ n ++ (one ++ (r ++ (a ++ (b ++ (c ++ d)))))
+listed n one r a b c d = simp append_assoc
+
+stand_in : (name : List ℕ) (ports : Option Listing) (items : List Item) (x : List ℕ) → Member x (names_in ports) → Stands (whole (record { name = name; ports = ports }) items) x
+stand_in name (Some (Names row)) items x among =
+    let (names, r, e) = row_split name_phrase row x among in
+    let a : List Lexeme = Mark RParen ∷ [] in
+    let b : List Lexeme = Mark Semi ∷ [] in
+    let c = flat_map item_phrase items in
+    let d : List Lexeme = Word EndModule ∷ [] in
+    let n = with_commas name_phrase names in (
+      Word Module ∷ Name name ∷ Mark LParen ∷ n,
+      r ++ (a ++ (b ++ (c ++ d))),
+      ap (λ l. Word Module ∷ Name name ∷ Mark LParen ∷ l) (ap (λ m. (((m ++ a) ++ b) ++ c) ++ d) e ∙ listed n (Name x ∷ []) r a b c d),
+    )
+stand_in name (Some (Ansi row)) items x among =
+    let (group, stands, is) = member_flat group_names (all_of row) x among in
+    let (front, rest, e, declares) = header_declares name (Some (Ansi row)) items group x stands is in
+    (front, rest, e)
+stand_in name (Some Empty) items x among = elim among [ ]
+stand_in name None items x among = elim among [ ]
+
+-- the names of a header stand
+pub header_stands : (head : Head) (items : List Item) (x : List ℕ) → Contains (header_of head) x → Stands (whole head items) x
+header_stands head items x found = stand_in head.name head.ports items x (Member-from_Contains (header_of head) x found)
+
+-- and are no more than the lexemes
+few_names : (names : List (List ℕ)) → length names ≤ length (with_commas name_phrase names)
+few_names [] = omega arith
+few_names (x ∷ names) = omega (arith, few_names names)
+
+few_row : (row : Row (List ℕ)) → length (all_of row) ≤ length (row_phrase name_phrase row)
+few_row row = omega (arith, few_names row.before, length-append row.before (row.last ∷ []), length-append (with_commas name_phrase row.before) (Name row.last ∷ []))
+
+few_group : (group : Group Direction) → length (group_names group) ≤ length (group_phrase direction_phrase group)
+few_group group = omega (arith, few_row group.names, length-append (spec_phrase direction_phrase group.spec) (row_phrase name_phrase group.names))
+
+few_groups : (groups : List (Group Direction)) → length (flat_map group_names groups) ≤ length (with_commas (group_phrase direction_phrase) groups)
+few_groups [] = omega arith
+few_groups (group ∷ groups) =
+    let names : length (flat_map group_names (group ∷ groups)) ≡ length (group_names group) + length (flat_map group_names groups) = length-append (group_names group) (flat_map group_names groups) in
+    let comma : length (group_phrase direction_phrase group ++ Mark Comma ∷ []) ≡ length (group_phrase direction_phrase group) + 1 = length-append (group_phrase direction_phrase group) (Mark Comma ∷ []) in
+    let all : length (with_commas (group_phrase direction_phrase) (group ∷ groups)) ≡ length (group_phrase direction_phrase group ++ Mark Comma ∷ []) + length (with_commas (group_phrase direction_phrase) groups) = length-append (group_phrase direction_phrase group ++ Mark Comma ∷ []) (with_commas (group_phrase direction_phrase) groups) in
+    omega (arith, names, comma, all, few_group group, few_groups groups)
+
+few_ansi : (row : Row (Group Direction)) → length (flat_map group_names (all_of row)) ≤ length (row_phrase (group_phrase direction_phrase) row)
+few_ansi row =
+    let names : flat_map group_names (row.before ++ row.last ∷ []) ≡ flat_map group_names row.before ++ flat_map group_names (row.last ∷ []) = flat_map-append group_names row.before (row.last ∷ []) in
+    let count : length (flat_map group_names (row.before ++ row.last ∷ [])) ≡ length (flat_map group_names row.before) + length (flat_map group_names (row.last ∷ [])) = ap length names ∙ length-append (flat_map group_names row.before) (flat_map group_names (row.last ∷ [])) in
+    let last : length (flat_map group_names (row.last ∷ [])) ≡ length (group_names row.last) = ap length (append-nil (group_names row.last)) in
+    let all : length (row_phrase (group_phrase direction_phrase) row) ≡ length (with_commas (group_phrase direction_phrase) row.before) + length (group_phrase direction_phrase row.last) = length-append (with_commas (group_phrase direction_phrase) row.before) (group_phrase direction_phrase row.last) in
+    omega (arith, count, last, all, few_groups row.before, few_group row.last)
+
+inner_few : (l : List Lexeme) (a b c d : List Lexeme) → length l ≤ length ((((l ++ a) ++ b) ++ c) ++ d)
+inner_few l a b c d = simp length-append (omega arith)
+
+few_in : (name : List ℕ) (ports : Option Listing) (items : List Item) → length (names_in ports) ≤ length (whole (record { name = name; ports = ports }) items)
+few_in name None items = omega arith
+few_in name (Some Empty) items = omega arith
+few_in name (Some (Names row)) items = omega (arith, few_row row, inner_few (row_phrase name_phrase row) (Mark RParen ∷ []) (Mark Semi ∷ []) (flat_map item_phrase items) (Word EndModule ∷ []))
+few_in name (Some (Ansi row)) items = omega (arith, few_ansi row, inner_few (row_phrase (group_phrase direction_phrase) row) (Mark RParen ∷ []) (Mark Semi ∷ []) (flat_map item_phrase items) (Word EndModule ∷ []))
+
+pub header_few : (head : Head) (items : List Item) → length (header_of head) ≤ length (whole head items)
+header_few head items = few_in head.name head.ports items

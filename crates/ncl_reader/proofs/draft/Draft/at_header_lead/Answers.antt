@@ -1,0 +1,70 @@
+use Rattle.std.proofs.Common.{◌≡◌, [], refl, sym, ap, ◌∙◌, subst, true, false, None}
+use Rattle.std.specs.Option.{option_map}
+use Rattle.std.proofs.lemmas.Bool.{false≢true}
+use Rattle.ncl_reader.specs.declared.place.Place.TheVariants as place
+use Rattle.ncl_reader.specs.Lexemes.{Name}
+use Rattle.ncl_reader.specs.Grammar.{direction_phrase}
+use Rattle.ncl_reader.specs.Forms.{in_ansi}
+use Rattle.ncl_reader.specs.Rules.{BreaksRule}
+use Rattle.ncl_reader.specs.Known.{IsKept}
+use Rattle.ncl_reader.specs.Lead.{LeadTakes, direction_output, takes_name}
+use Rattle.ncl_reader.specs.Meant.{meant}
+use Rattle.ncl_reader.specs.Partial.{leading, heading, lead_place, direction_place}
+use Rattle.ncl_reader.proofs.Steps.{or_else, step}
+use Rattle.ncl_reader.proofs.Declares.{at_part}
+use Rattle.ncl_reader.proofs.LeadSteps.{in_header, no_name, begins}
+use Rattle.ncl_reader.proofs.DraftBody.{grouped-begins}
+use Rattle.ncl_reader.proofs.HeaderSteps.{lead_taken, lead_left, headed_form, headed_taken, name_left}
+use Rattle.ncl_reader.proofs.DraftSteps as steps
+use Rattle.ncl_reader.proofs.draft.Draft.at_header_lead.Goals as goal
+
+pub returns-in_default-step : goal.returns-in_default-step
+returns-in_default-step c = λ p (kept, (groups, part, is, at, led, read)).
+    let d = c.args.self.now in
+    let title = d.title.now in
+    let t = meant c.args.lexeme.now in
+    let answer = subst (λ r. LeadTakes (λ q. heading title groups (leading q)) direction_output direction_place part t r c.step.new.self) c.in_default-step.is (c.step.ensures.header title groups part c.in_default.ensures at led) in
+    lead_left p (heading title groups (leading part)) t is (place.HeaderLead c.args.at) (record d { lead = c.step.new.self }) answer.0 (kept, (groups, part, is, at, answer.1, record { ansi = read.ansi; header = read.header; cells = read.cells }))
+
+pub returns-in_default : goal.returns-in_default
+returns-in_default c = λ p (kept, (groups, part, is, at, led, read)).
+    let d = c.args.self.now in
+    let title = d.title.now in
+    let t = meant c.args.lexeme.now in
+    let (next, after, keeps, grows, unbroken) = subst (λ r. LeadTakes (λ q. heading title groups (leading q)) direction_output direction_place part t r c.step.new.self) c.in-Some-step.is (c.step.ensures.header title groups part c.in_default.ensures at led) in
+    lead_taken p (heading title groups (leading part)) t is (heading title groups (leading next)) (place.HeaderLead c.in-Some-step.after) (record d { lead = c.step.new.self }) grows unbroken c.in_default.ensures kept (groups, next, refl, after, keeps, record { ansi = read.ansi; header = read.header; cells = read.cells })
+
+pub returns-then-not-takes_name : goal.returns-then-not-takes_name
+returns-then-not-takes_name c = λ p (kept, (groups, part, is, at, led, read)).
+    let d = c.args.self.now in
+    let title = d.title.now in
+    let none : takes_name (lead_place direction_place part) ≡ false = ap takes_name at ∙ sym c.takes_name.ensures ∙ c.if-not-takes_name.true in
+    steps.untaken (place.HeaderLead c.args.at) p (heading title groups (leading part)) (meant c.args.lexeme.now) d is (ap (step (heading title groups (leading part))) c.in-Some.ensures ∙ no_name (in_header title groups) d.lead part c.in-Some.name.now none) (kept, (groups, part, is, at, led, read))
+
+pub returns-then-breaks_header : goal.returns-then-breaks_header
+returns-then-breaks_header c = λ p (kept, (groups, part, is, at, led, read)).
+    let d = c.args.self.now in
+    let title = d.title.now in
+    let t = meant c.args.lexeme.now in
+    let x = c.in-Some.name.now in
+    let takes : takes_name (lead_place direction_place part) ≡ true = ap takes_name at ∙ sym c.takes_name.ensures ∙ c.if-not-takes_name.false in
+    let start = begins (in_header title groups) d.lead part x takes led in
+    let spec = start.spec in
+    let form = headed_form p t x d d groups spec [] (leading part) is (at_part direction_phrase (leading part) spec start.says) c.in-Some.ensures in
+    name_left (place.HeaderLead c.args.at) p t x (in_ansi title groups spec []) d form c.in-Some.ensures ((c.breaks_header.ensures groups spec [] (subst (IsKept d.known) form kept) start.keeps (grouped-begins d groups spec read)).0 c.if-breaks_header.true) (kept, (groups, part, is, at, led, read))
+
+pub returns : goal.returns
+returns c = λ p (kept, (groups, part, is, at, led, read)).
+    let d = c.args.self.now in
+    let title = d.title.now in
+    let t = meant c.args.lexeme.now in
+    let x = c.in-Some.name.now in
+    let takes : takes_name (lead_place direction_place part) ≡ true = ap takes_name at ∙ sym c.takes_name.ensures ∙ c.if-not-takes_name.false in
+    let start = begins (in_header title groups) d.lead part x takes led in
+    let spec = start.spec in
+    let group = at_part direction_phrase (leading part) spec start.says in
+    let form = headed_form p t x d d groups spec [] (leading part) is group c.in-Some.ensures in
+    let here = subst (IsKept d.known) form kept in
+    let read_here = grouped-begins d groups spec read in
+    let fine : BreaksRule (in_ansi title groups spec []) (Name x) → ⊥ = λ breaks. false≢true (sym c.if-breaks_header.false ∙ (c.breaks_header.ensures groups spec [] here start.keeps read_here).1 breaks) in
+    headed_taken p t x d c.take_header_name.new.self groups spec [] (leading part) is group c.in-Some.ensures (ap (λ found. or_else (option_map (heading title groups) found) None) start.takes) (c.in_ok-take_header_name.ensures groups spec [] here start.keeps read_here fine) fine

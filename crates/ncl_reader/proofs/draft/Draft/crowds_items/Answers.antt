@@ -1,0 +1,60 @@
+use Rattle.std.proofs.Common.{not, ◌<◌, ◌++◌, true, false, Contains, inl, inr, sym, ap, ◌∙◌, subst}
+use Rattle.std.specs.Option.{option_map}
+use Rattle.std.proofs.lemmas.Bool.{false≢true}
+use Rattle.std.proofs.lemmas.Option.{none-some, same_Some}
+use Rattle.ncl_reader.specs.Grammar.{header_of}
+use Rattle.ncl_reader.specs.Vectors.{span_of, MOST_PORT_BITS}
+use Rattle.ncl_reader.specs.Rules.{directed_by}
+use Rattle.ncl_reader.specs.Lead.{lead_output}
+use Rattle.ncl_reader.specs.Header.{LacksWay}
+use Rattle.ncl_reader.specs.Says.{said_by, is_output}
+use Rattle.ncl_reader.specs.Draft.{said_with}
+use Rattle.ncl_reader.proofs.DraftBody.{bits-body, names-body, no_groups, gives_of, wire_of}
+use Rattle.ncl_reader.proofs.RefusalNames as refused
+use Rattle.ncl_reader.proofs.draft.Draft.crowds_items.Goals as goal
+
+pub returns-in_default : goal.returns-in_default
+returns-in_default c = λ head items spec names said early body. (
+  λ e. absurd (false≢true e),
+  λ crowds.
+      let h = refused.item_crowds head items spec names c.args.name.now crowds in
+      absurd (none-some (span_of h.range) (sym c.in_default.is ∙ sym said.1.same ∙ ap (option_map span_of) h.is)),
+)
+
+pub returns-then-is_none : goal.returns-then-is_none
+returns-then-is_none c = λ head items spec names said early body. (
+  λ e. absurd (false≢true e),
+  λ crowds.
+      let h = refused.item_crowds head items spec names c.args.name.now crowds in
+      absurd (wire_of spec c.args.self.now.lead said.0 (c.is_none.ensures ∙ ap not c.if-is_none.true) h.direction h.gives),
+)
+
+pub returns-then-not-lacks_way : goal.returns-then-not-lacks_way
+returns-then-not-lacks_way c = λ head items spec names said early body. (
+  λ e. absurd (false≢true e),
+  λ crowds.
+      let x = c.args.name.now in
+      let told = said_by (record { head = head; items = items }) ++ said_with spec names in
+      let h = refused.item_crowds head items spec names x crowds in
+      let lacks : LacksWay false (header_of head) told x = subst (λ b. LacksWay b (header_of head) told x) c.if-not-lacks_way.true (c.lacks_way.ensures (header_of head) told body.1.header) in
+      elim lacks [
+        | inl absent ↦ absurd (absent h.stands)
+        | inr found ↦ absurd (h.new (subst (λ l. Contains l x) (names-body head items spec names h.direction h.gives) found))
+      ],
+)
+
+pub returns : goal.returns
+returns c = λ head items spec names said early body.
+    let x = c.args.name.now in
+    let told = said_by (record { head = head; items = items }) ++ said_with spec names in
+    let span = c.in-Some.span in
+    let (direction, gives) = gives_of spec c.args.self.now.lead said.0 (c.is_none.ensures ∙ ap not c.if-is_none.false) in
+    let lacks : LacksWay true (header_of head) told x = subst (λ b. LacksWay b (header_of head) told x) c.if-not-lacks_way.false (c.lacks_way.ensures (header_of head) told body.1.header) in
+    let new : Contains (directed_by head items ++ names) x → ⊥ = λ r. lacks.1 (subst (λ l. Contains l x) (sym (names-body head items spec names direction gives)) r) in
+    let none = no_groups head.ports (sym body.1.ansi ∙ early (is_output direction) (said.0 ∙ ap lead_output gives)) in
+    let (range, is, numbers) = refused.range_of spec.range span (said.1.same ∙ c.in-Some.is) in (
+      λ e. refused.crowds_item head items spec names x (record { direction = direction; range = range; gives = gives; is = is; stands = lacks.0; new = new; many = subst (λ n. MOST_PORT_BITS < n) (bits-body head items spec names direction gives none range span is numbers) ((c.crowds.ensures (header_of head) told body.1.header).0 e) }),
+      λ crowds.
+          let h = refused.item_crowds head items spec names x crowds in
+          (c.crowds.ensures (header_of head) told body.1.header).1 (subst (λ n. MOST_PORT_BITS < n) (sym (bits-body head items spec names direction gives none h.range span h.is (same_Some (span_of h.range) span (ap (option_map span_of) (sym h.is) ∙ said.1.same ∙ c.in-Some.is)))) h.many),
+    )

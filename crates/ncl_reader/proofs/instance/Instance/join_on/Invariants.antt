@@ -1,0 +1,8 @@
+use Rattle.std.proofs.Common.{◌≡◌, map, take, None}
+use Rattle.ncl_reader.specs.Instance.{joint_of}
+use Rattle.ncl_reader.proofs.Nets.{joint_on}
+use Rattle.ncl_reader.proofs.instance.Instance.join_on.Given as goal
+
+-- no connection so far is on the pin
+abbrev pub invariant-loop-join : goal.invariant-loop-join
+invariant-loop-join l = joint_on (map joint_of (take l.join-index l.self.joins.items)) l.pin ≡ None

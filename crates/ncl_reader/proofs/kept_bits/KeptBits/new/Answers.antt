@@ -1,0 +1,6 @@
+use Rattle.std.proofs.Common.{rules}
+use Rattle.ncl_reader.proofs.KeptStanding.{standing-none}
+use Rattle.ncl_reader.proofs.kept_bits.KeptBits.new.Goals as goal
+
+pub returns : goal.returns
+returns c = standing-none _ (λ v. search rules)

@@ -1,0 +1,13 @@
+use Rattle.ncl_reader.specs.Lexemes.{Name}
+use Rattle.ncl_reader.proofs.KeptNames.{agrees_fine, declared_unused}
+use Rattle.ncl_reader.proofs.KeptUses.{uses-other}
+use Rattle.ncl_reader.proofs.KeptClear.{clear-name}
+use Rattle.ncl_reader.proofs.known.Known.declare.Goals as goal
+
+pub returns : goal.returns
+returns c = λ xs range kept declares is redeclares fine. record {
+  ranges = c.in_ok-declare.ensures xs range kept.ranges declares is.same (agrees_fine xs c.args.name.now range c.args.span declares is.same redeclares) is.few;
+  standing = c.in_ok-stand.ensures xs kept.standing;
+  uses = uses-other c.args.self.now.uses xs (Name c.args.name.now) (λ y same at. declared_unused xs range declares at) kept.uses;
+  clear = clear-name xs c.args.name.now kept.clear fine;
+}

@@ -1,0 +1,13 @@
+use Rattle.ncl_reader.specs.Lexemes.{Name}
+use Rattle.ncl_reader.proofs.KeptNames.{declared_unused}
+use Rattle.ncl_reader.proofs.KeptRanges.{ranges-other}
+use Rattle.ncl_reader.proofs.KeptClear.{clear-name}
+use Rattle.ncl_reader.proofs.known.Known.join.Goals as goal
+
+pub returns : goal.returns
+returns c = λ xs kept net fine. record {
+  ranges = ranges-other c.args.self.now.ranges xs (Name c.args.name.now) (λ y range same declares. declared_unused xs range declares net) kept.ranges;
+  standing = c.in_ok-stand.ensures xs kept.standing;
+  uses = c.in_ok-add.ensures xs kept.uses net;
+  clear = clear-name xs c.args.name.now kept.clear fine;
+}

@@ -1,0 +1,5 @@
+use Rattle.ncl_reader.proofs.KeptClear.{clear-none}
+use Rattle.ncl_reader.proofs.known.Known.new.Goals as goal
+
+pub returns : goal.returns
+returns c = record { ranges = c.new.ensures; standing = c.new-2.ensures; uses = c.new-3.ensures; clear = clear-none }

@@ -1,0 +1,10 @@
+use Rattle.std.proofs.Common.{refl, sym, subst, arith}
+use Rattle.ncl_reader.specs.Vectors.{Covers}
+use Rattle.ncl_reader.proofs.Digits.{outside_large}
+use Rattle.ncl_reader.proofs.number.lies_outside.Goals as goal
+
+pub returns-in-None : goal.returns-in-None
+returns-in-None c = (
+  λ e covers. outside_large c.args.span c.without_zeros.result.now (omega arith) (omega arith) c.without_zeros.ensures.digits c.without_zeros.ensures.first c.in-None.ensures (subst (Covers c.args.span) (sym c.without_zeros.ensures.value) covers),
+  λ none. refl,
+)

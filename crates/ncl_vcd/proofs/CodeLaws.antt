@@ -1,0 +1,63 @@
+-- The laws of codes: they are one to one, and their characters print.
+use Rattle.std.proofs.Common.{◌≡◌, ℕ, zero, suc, ◌+◌, ◌-◌, ◌*◌, ◌/◌, ◌%◌, ◌<◌, ◌≤◌, List, [], ◌∷◌, refl, sym, ap, ◌∙◌, arith}
+use Rattle.std.specs.List.{AllByRecursion}
+use Rattle.ncl_vcd.specs.Codes.{identifier_code, characters_left}
+
+-- any number of characters that is enough gives the same
+pub characters_left-enough : (m j n : ℕ) → n ≤ m → n ≤ j → characters_left m n ≡ characters_left j n
+characters_left-enough zero zero zero a b = refl
+characters_left-enough zero (suc j) zero a b = refl
+characters_left-enough (suc m) zero zero a b = refl
+characters_left-enough (suc m) (suc j) zero a b = refl
+characters_left-enough zero j (suc n) a b = absurd (omega arith)
+characters_left-enough (suc m) zero (suc n) a b = absurd (omega arith)
+characters_left-enough (suc m) (suc j) (suc n) a b =
+    let less : suc n / 94 ≤ n = omega arith in
+    ap (λ l. (33 + (suc n) % 94) ∷ l) (characters_left-enough m j (suc n / 94) (omega arith) (omega arith))
+
+-- one character of what is left
+pub characters_left-one : (n : ℕ) → 0 < n → characters_left n n ≡ (33 + n % 94) ∷ characters_left (n / 94) (n / 94)
+characters_left-one zero lt = absurd (omega arith)
+characters_left-one (suc n) lt =
+    let less : suc n / 94 ≤ n = omega arith in
+    ap (λ l. (33 + (suc n) % 94) ∷ l) (characters_left-enough n (suc n / 94) (suc n / 94) less (omega arith))
+
+pub code-one : (n : ℕ) → identifier_code n ≡ (33 + n % 94) ∷ characters_left (n / 94) (n / 94)
+code-one n = let less : n / 94 ≤ n = omega arith in ap (λ l. (33 + n % 94) ∷ l) (characters_left-enough n (n / 94) (n / 94) less (omega arith))
+
+-- the number of a code
+number_in : List ℕ → ℕ
+number_in [] = 0
+number_in (c ∷ cs) = (c - 33) + 94 * number_in cs
+
+characters_left-number : (m n : ℕ) → n ≤ m → number_in (characters_left m n) ≡ n
+unfolding number_in
+characters_left-number zero zero a = refl
+characters_left-number (suc m) zero a = refl
+characters_left-number zero (suc n) a = absurd (omega arith)
+characters_left-number (suc m) (suc n) a =
+    let less : suc n / 94 ≤ m = omega arith in
+    let rest : number_in (characters_left m (suc n / 94)) ≡ suc n / 94 = characters_left-number m (suc n / 94) less in
+    omega (arith, rest)
+
+code-number : (n : ℕ) → number_in (identifier_code n) ≡ n
+unfolding number_in
+code-number n =
+    let rest : number_in (characters_left n (n / 94)) ≡ n / 94 = characters_left-number n (n / 94) (omega arith) in
+    omega (arith, rest)
+
+-- two nets have two codes
+pub code-injective : (m n : ℕ) → identifier_code m ≡ identifier_code n → m ≡ n
+code-injective m n same = sym (code-number m) ∙ ap number_in same ∙ code-number n
+
+pub characters_left-prints : (m n : ℕ) → AllByRecursion (λ c. (33 ≤ c) × (c ≤ 126)) (characters_left m n)
+characters_left-prints m zero = by m
+  where
+    by : (m : ℕ) → AllByRecursion (λ c. (33 ≤ c) × (c ≤ 126)) (characters_left m zero)
+    by zero = tt
+    by (suc m) = tt
+characters_left-prints zero (suc n) = tt
+characters_left-prints (suc m) (suc n) = ((omega arith, omega arith), characters_left-prints m (suc n / 94))
+
+pub code-prints : (n : ℕ) → AllByRecursion (λ c. (33 ≤ c) × (c ≤ 126)) (identifier_code n)
+code-prints n = ((omega arith, omega arith), characters_left-prints n (n / 94))

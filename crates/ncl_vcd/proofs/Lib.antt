@@ -1,0 +1,8 @@
+mod CodeLaws
+mod Changes
+mod LevelLaws
+mod RunLaws
+mod WritingLaws
+mod Ranges
+mod NameLaws
+pub mod SameDumps

@@ -1,0 +1,11 @@
+use Rattle.std.proofs.Common.{◌++◌, ◌∙◌}
+use Rattle.ncl_machine.specs.Held.{meaning}
+use Rattle.ncl_vcd.specs.Dump.{line, value_line}
+use Rattle.ncl_vcd.proofs.WritingLaws.{values-step}
+use Rattle.ncl_vcd.proofs.writing.push_values.Goals as goal
+
+pub loop-net-preserved : goal.loop-net-preserved
+loop-net-preserved c =
+    c.in_ok-push_value.ensures
+    ∙ (λ k. c.loop-net.invariant k ++ line (value_line c.loop-net.net (c.value.ensures k)))
+    ∙ values-step c.args.text.now.items (meaning c.args.state.now).value c.loop-net.net

@@ -1,0 +1,4 @@
+pub mod Codes
+pub mod Dump
+pub mod Level
+pub mod RunDump

@@ -1,0 +1,8 @@
+//! Value change dumps of runs, for viewers of waveforms.
+#![tactic(auto)]
+
+mod code;
+mod lines;
+mod writing;
+
+pub use writing::dump;

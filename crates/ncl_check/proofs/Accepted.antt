@@ -1,5 +1,5 @@
 -- An acceptance says that the pipeline is delay-insensitive.
-use Rattle.std.proofs.Common.{◌≡◌, ℕ, List, refl, subst}
+use Rattle.std.proofs.Common.{◌≡◌, ℕ, Bool, List, refl, subst}
 use Rattle.ncl_shape.specs.Pipeline.{PipelineData}
 use Rattle.ncl_shape.specs.Shape.{Shape}
 use Rattle.ncl_verdict.specs.declared.verdict.Verdict.{Verdict}
@@ -21,9 +21,9 @@ accepted_alone (verdict.Orphan stage cell word) e = cc
 accepted_alone (verdict.Limit stage) e = cc
 
 -- bytes with this reply are the text of a netlist that works
-pub text_works : (limit : ℕ) (bytes : List ℕ) {outcome : Outcome} {text : List ℕ} → IsCheckReply limit bytes outcome text → outcome ≡ Accepted → IsDelayInsensitiveText bytes
-text_works limit bytes (refused text none) e = absurd cc
-text_works limit bytes (judged p is) e = record {
+pub text_works : (limit : ℕ) (why : Bool) (bytes : List ℕ) {outcome : Outcome} {text : List ℕ} → IsCheckReply limit why bytes outcome text → outcome ≡ Accepted → IsDelayInsensitiveText bytes
+text_works limit why bytes (refused text none) e = absurd cc
+text_works limit why bytes (judged p is text told) e = record {
   parts = is.text.parts;
   reads = is.text.reads;
   builds = is.text.builds;

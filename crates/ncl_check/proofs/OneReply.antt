@@ -1,5 +1,5 @@
 -- There is at most one reply to the bytes of a file.
-use Rattle.std.proofs.Common.{◌≡◌, ℕ, ◌<◌, ◌≤◌, List, length, inl, inr, refl, sym, ap, ◌∙◌, subst, arith}
+use Rattle.std.proofs.Common.{◌≡◌, ℕ, ◌<◌, ◌≤◌, Bool, false, List, length, inl, inr, refl, sym, ap, ◌∙◌, subst, arith}
 use Rattle.ncl_netlist.specs.declared.parts.Parts.{Parts}
 use Rattle.ncl_netlist.specs.declared.build_fault.BuildFault.{BuildFault}
 use Rattle.ncl_netlist.specs.declared.build_fault.BuildFault.TheVariants as build
@@ -21,7 +21,7 @@ use Rattle.ncl_report.specs.ShapeText.{shape_line}
 use Rattle.ncl_report.specs.VerdictText.{verdict_line}
 use Rattle.ncl_check.specs.declared.reply.Outcome.{Outcome}
 use Rattle.ncl_check.specs.Text.{IsNetlistText, IsPipelineText, IsShapeless, IsRefusedText, too_long, unread, unbuilt, shapeless}
-use Rattle.ncl_check.specs.Reply.{outcome_of, verdict_on, verdict_text, IsCheckReply, refused, judged}
+use Rattle.ncl_check.specs.Reply.{outcome_of, verdict_on, verdict_text, IsVerdictText, IsCheckReply, refused, judged}
 use Rattle.ncl_check.proofs.Stages.{are_stages, as_many_stages}
 
 -- two faults of the same parts, neither want of memory, are one
@@ -94,11 +94,21 @@ one_verdict_text limit p q same shape_p shape_q =
     ∙ ap (verdict_line p.netlist (length q.stages) limit) (one_verdict limit p.netlist p q shape_p shape_q)
     ∙ ap (λ n. verdict_line n (length q.stages) limit (verdict_on limit q)) same
 
--- there is at most one reply
-pub same_reply : (limit : ℕ) (bytes : List ℕ) {outcome other : Outcome} {text line : List ℕ} → IsCheckReply limit bytes outcome text → IsCheckReply limit bytes other line → (outcome ≡ other) × (text ≡ line)
-same_reply limit bytes (refused text none) (refused line none') = (refl, refused_once bytes none none')
-same_reply limit bytes (refused text none) (judged q is) = absurd (refused_is_none bytes q none is)
-same_reply limit bytes (judged p is) (refused line none) = absurd (refused_is_none bytes p none is)
-same_reply limit bytes (judged p is) (judged q also) =
-    let (same, shape) = one_pipeline bytes p q is also in
-    (ap outcome_of (one_verdict limit p.netlist p q is.shape shape), one_verdict_text limit p q same is.shape shape)
+-- the outcome of a check of the text of a pipeline
+pub outcome_is : (limit : ℕ) (why : Bool) (bytes : List ℕ) (q : PipelineData) {outcome : Outcome} {text : List ℕ} → IsCheckReply limit why bytes outcome text → IsPipelineText bytes q → outcome ≡ outcome_of (verdict_on limit q)
+outcome_is limit why bytes q (refused text none) is = absurd (refused_is_none bytes q none is)
+outcome_is limit why bytes q (judged p also text told) is = ap outcome_of (one_verdict limit p.netlist p q also.shape (one_pipeline bytes p q also is).1)
+
+-- there is at most one outcome, and at most one text where it isn't asked why
+pub same_reply : (limit : ℕ) (why : Bool) (bytes : List ℕ) {outcome other : Outcome} {text line : List ℕ} → IsCheckReply limit why bytes outcome text → IsCheckReply limit why bytes other line → (outcome ≡ other) × (why ≡ false → text ≡ line)
+same_reply limit why bytes (refused text none) (refused line none') = (refl, λ plain. refused_once bytes none none')
+same_reply limit why bytes (refused text none) (judged q is line told) = absurd (refused_is_none bytes q none is)
+same_reply limit why bytes (judged p is text told) (refused line none) = absurd (refused_is_none bytes p none is)
+same_reply limit why bytes (judged p is text told) (judged q also line told') =
+    let (same, shape) = one_pipeline bytes p q is also in (
+      ap outcome_of (one_verdict limit p.netlist p q is.shape shape),
+      λ plain.
+          subst (λ b. IsVerdictText b limit p text) plain told
+          ∙ one_verdict_text limit p q same is.shape shape
+          ∙ sym (subst (λ b. IsVerdictText b limit q line) plain told'),
+    )

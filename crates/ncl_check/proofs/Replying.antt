@@ -1,5 +1,5 @@
 -- How the parts of a check come to its reply.
-use Rattle.std.proofs.Common.{◌≡◌, ℕ, List, Result, Ok, Err, IfOk, sym, ap, ◌∙◌, subst}
+use Rattle.std.proofs.Common.{◌≡◌, ℕ, Bool, List, Result, Ok, Err, IfOk, sym, ap, ◌∙◌, subst}
 use Rattle.ncl_base.specs.declared.memory.Memory.{Memory}
 use Rattle.ncl_netlist.specs.Netlist.{NetlistData}
 use Rattle.ncl_shape.specs.Pipeline.{PipelineData}
@@ -7,7 +7,7 @@ use Rattle.ncl_shape.specs.Shape.{Shape}
 use Rattle.ncl_check.specs.declared.reply.Outcome.TheVariants.{Accepted, NoPipeline}
 use Rattle.ncl_check.specs.declared.reply.Reply.{Reply}
 use Rattle.ncl_check.specs.Text.{IsNetlistText, IsPipelineText, IsRefusedText}
-use Rattle.ncl_check.specs.Reply.{outcome_of, verdict_on, verdict_text, IsCheckReply, refused, judged}
+use Rattle.ncl_check.specs.Reply.{outcome_of, verdict_on, IsVerdictText, IsCheckReply, refused, judged}
 use Rattle.ncl_check.specs.Headline.{IsDelayInsensitiveText}
 use Rattle.ncl_check.proofs.Accepted.{text_works}
 
@@ -19,18 +19,17 @@ pipeline_text bytes n p text shape = record {
 }
 
 -- the reply that tells why bytes are the text of no pipeline
-pub refused_reply : (limit : ℕ) (bytes : List ℕ) (r : Result Reply Memory) → IfOk r (λ reply. reply.outcome ≡ NoPipeline) → IfOk r (λ reply. IsRefusedText bytes reply.text.items) → IfOk r (λ reply. IsCheckReply limit bytes reply.outcome reply.text.items)
-refused_reply limit bytes (Ok reply) ends none = subst (λ outcome. IsCheckReply limit bytes outcome reply.text.items) (sym ends) (refused reply.text.items none)
-refused_reply limit bytes (Err memory) ends none = tt
+pub refused_reply : (limit : ℕ) (why : Bool) (bytes : List ℕ) (r : Result Reply Memory) → IfOk r (λ reply. reply.outcome ≡ NoPipeline) → IfOk r (λ reply. IsRefusedText bytes reply.text.items) → IfOk r (λ reply. IsCheckReply limit why bytes reply.outcome reply.text.items)
+refused_reply limit why bytes (Ok reply) ends none = subst (λ outcome. IsCheckReply limit why bytes outcome reply.text.items) (sym ends) (refused reply.text.items none)
+refused_reply limit why bytes (Err memory) ends none = tt
 
 -- the reply that tells the judgement of their pipeline
-pub judged_reply : (limit : ℕ) (bytes : List ℕ) (p : PipelineData) → IsPipelineText bytes p → (r : Result Reply Memory) → IfOk r (λ reply. reply.outcome ≡ outcome_of (verdict_on limit p)) → IfOk r (λ reply. reply.text.items ≡ verdict_text limit p) → IfOk r (λ reply. IsCheckReply limit bytes reply.outcome reply.text.items)
-judged_reply limit bytes p is (Ok reply) ends told =
-    subst (λ outcome. IsCheckReply limit bytes outcome reply.text.items) (sym ends)
-    (subst (IsCheckReply limit bytes (outcome_of (verdict_on limit p))) (sym told) (judged p is))
-judged_reply limit bytes p is (Err memory) ends told = tt
+pub judged_reply : (limit : ℕ) (why : Bool) (bytes : List ℕ) (p : PipelineData) → IsPipelineText bytes p → (r : Result Reply Memory) → IfOk r (λ reply. reply.outcome ≡ outcome_of (verdict_on limit p)) → IfOk r (λ reply. IsVerdictText why limit p reply.text.items) → IfOk r (λ reply. IsCheckReply limit why bytes reply.outcome reply.text.items)
+judged_reply limit why bytes p is (Ok reply) ends told =
+    subst (λ outcome. IsCheckReply limit why bytes outcome reply.text.items) (sym ends) (judged p is reply.text.items told)
+judged_reply limit why bytes p is (Err memory) ends told = tt
 
 -- an acceptance among the replies says that the pipeline works
-pub reply_works : (limit : ℕ) (bytes : List ℕ) (r : Result Reply Memory) → IfOk r (λ reply. IsCheckReply limit bytes reply.outcome reply.text.items) → IfOk r (λ reply. reply.outcome ≡ Accepted → IsDelayInsensitiveText bytes)
-reply_works limit bytes (Ok reply) h = λ e. text_works limit bytes h e
-reply_works limit bytes (Err memory) h = tt
+pub reply_works : (limit : ℕ) (why : Bool) (bytes : List ℕ) (r : Result Reply Memory) → IfOk r (λ reply. IsCheckReply limit why bytes reply.outcome reply.text.items) → IfOk r (λ reply. reply.outcome ≡ Accepted → IsDelayInsensitiveText bytes)
+reply_works limit why bytes (Ok reply) h = λ e. text_works limit why bytes h e
+reply_works limit why bytes (Err memory) h = tt

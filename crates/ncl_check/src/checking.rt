@@ -2,14 +2,14 @@
 ghost use Rattle.std.specs.Prelude.{◌≡◌, ◌≤◌, ℕ, List, IfOk};
 ghost use Rattle.ncl_check.specs.Text.{IsRefusedText};
 ghost use Rattle.ncl_check.specs.Refusals.{Tells};
-ghost use Rattle.ncl_check.specs.Reply.{IsCheckReply, outcome_of, verdict_on, verdict_text};
+ghost use Rattle.ncl_check.specs.Reply.{IsCheckReply, IsVerdictText, outcome_of, verdict_on};
 ghost use Rattle.ncl_check.specs.Headline.{IsDelayInsensitiveText};
 ghost use Rattle.ncl_check.specs.declared.reply.Outcome.TheVariants.{Accepted, NoPipeline};
 
 use crate::reply::{Outcome, Reply};
 use crate::text::{Refusal, netlist_in, pipeline_in};
 use ncl_base::Memory;
-use ncl_report::verdict_text;
+use ncl_report::{verdict_text, why_text};
 use ncl_shape::Pipeline;
 use ncl_verdict::{Judge, judge_par};
 use std::alloc::Global;
@@ -20,7 +20,7 @@ pub const PARTS: u32 = 4;
 
 /// What `check` replies to the bytes of a file: the first thing that keeps them from being a netlist, the
 /// first rule of shape that the netlist breaks, or the judgement of its pipeline, each of whose stages may have
-/// at most `limit` nodes of diagrams.
+/// at most `limit` nodes of diagrams; and, with `why`, a run that shows the orphan that a judgement names.
 ///
 /// An acceptance says that the circuit works at every gate delay: clause `headline`. Fails where memory is
 /// refused, and then only. Linear in the bytes and cells but for look-ups of names and the judgement, which goes
@@ -31,9 +31,10 @@ pub fn check<R: Threads + Sync, J: Judge + Sync>(
     judge: &J,
     bytes: &[u8],
     limit: u32,
+    why: bool,
 ) -> Result<Reply, Memory>
     requires { 1 ≤ limit }
-    ensures reply { IfOk result (λ reply. IsCheckReply limit bytes.now reply.outcome reply.text.items) }
+    ensures reply { IfOk result (λ reply. IsCheckReply limit why bytes.now reply.outcome reply.text.items) }
     ensures headline { IfOk result (λ reply. reply.outcome ≡ Accepted → IsDelayInsensitiveText bytes.now) }
 {
     let netlist = match netlist_in(alloc, bytes) {
@@ -44,7 +45,7 @@ pub fn check<R: Threads + Sync, J: Judge + Sync>(
         Ok(pipeline) => pipeline,
         Err(refusal) => return refused(refusal),
     };
-    judged(rt, alloc, judge, &pipeline, limit)
+    judged(rt, alloc, judge, &pipeline, limit, why)
 }
 
 /// The reply to bytes that are the text of no pipeline.
@@ -61,22 +62,27 @@ fn refused(refusal: Refusal) -> Result<Reply, Memory>
     }
 }
 
-/// The reply to a pipeline: its judgement.
+/// The reply to a pipeline: its judgement, and, with `why`, what explains an orphan.
 fn judged<R: Threads + Sync, J: Judge + Sync>(
     rt: &R,
     alloc: Global,
     judge: &J,
     pipeline: &Pipeline,
     limit: u32,
+    why: bool,
 ) -> Result<Reply, Memory>
     requires { 1 ≤ limit }
     ensures outcome { IfOk result (λ reply. reply.outcome ≡ outcome_of (verdict_on limit pipeline.now)) }
-    ensures text { IfOk result (λ reply. reply.text.items ≡ verdict_text limit pipeline.now) }
+    ensures text { IfOk result (λ reply. IsVerdictText why limit pipeline.now reply.text.items) }
 {
     pipeline.facts();
     let verdict = judge_par(rt, alloc, judge, pipeline, limit, PARTS)?;
-    Ok(Reply {
-        outcome: Outcome::of(&verdict),
-        text: verdict_text(alloc, pipeline, &verdict, limit)?,
-    })
+    let outcome = Outcome::of(&verdict);
+    let mut text = verdict_text(alloc, pipeline, &verdict, limit)?;
+    if !why {
+        return Ok(Reply { outcome, text });
+    }
+    let lines = why_text(alloc, pipeline, &verdict, limit)?;
+    text.extend_from_slice(&lines)?;
+    Ok(Reply { outcome, text })
 }

@@ -1,3 +1,4 @@
 pub mod NamedPlaces
+mod WrittenSteps
 mod Zipping
 pub mod NamedItems

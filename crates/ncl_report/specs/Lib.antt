@@ -1,5 +1,6 @@
 pub mod Line
 pub mod VerdictText
+pub mod WhyText
 pub mod ShapeText
 pub mod NetText
 pub mod BlifText

@@ -1,0 +1,106 @@
+use Rattle.std.proofs.Common.{◌≡◌, ℕ, ◌-◌, ◌<◌, Result, Ok, Err, Option, None, Some, [], ◌∷◌, length, refl, sym, ap, ◌∙◌, subst}
+use Rattle.std.specs.Prelude.{IsErrAnd}
+use Rattle.std.proofs.lemmas.Option.{slice_get_within}
+use Rattle.ncl_shape.specs.Stage.{StageData}
+use Rattle.ncl_space.specs.declared.space.SpaceFault.{SpaceFault}
+use Rattle.ncl_space.specs.declared.space.SpaceFault.TheVariants as space
+use Rattle.ncl_machine.specs.State.{reset}
+use Rattle.ncl_hazard.specs.declared.fault.ExplainFault.{ExplainFault}
+use Rattle.ncl_hazard.specs.declared.fault.ExplainFault.TheVariants as explain
+use Rattle.ncl_hazard.specs.Trying.{Loses}
+use Rattle.ncl_hazard.specs.Explained.{IsPlaceOf, StandsAt}
+use Rattle.ncl_hazard.specs.Refusals.{told_as}
+use Rattle.ncl_hazard.proofs.InputLaws.{stage-at}
+use Rattle.ncl_hazard.proofs.OrphanPlaces.{stands-somewhere}
+use Rattle.ncl_hazard.proofs.ShownLaws.{brings-least}
+use Rattle.ncl_hazard.proofs.explaining.explain.Goals as goal
+
+-- the refusal that is told as Full
+full-was : (fault : SpaceFault) → told_as fault ≡ explain.Full → fault ≡ space.Full
+full-was space.Full e = refl
+full-was space.Memory e = absurd cc
+
+full-given : {X : Type 0} (r : Result X ExplainFault) (fault : SpaceFault) → IsErrAnd r (λ f. f ≡ told_as fault) → r ≡ Err explain.Full → fault ≡ space.Full
+full-given (Ok x) fault is e = absurd is
+full-given (Err f) fault is e = let same : f ≡ explain.Full = cc in full-was fault (sym is ∙ same)
+
+-- where nothing is found, and what isn't Some is None
+none-is : {X : Type 0} (o : Option X) → ((x : X) → o ≡ Some x → ⊥) → o ≡ None
+none-is None not = refl
+none-is (Some x) not = absurd (not x refl)
+
+pub place_of-place-requires : goal.place_of-place-requires
+place_of-place-requires c =
+    let p = c.args.pipeline.now in
+    let o = c.requires.orphan in
+    let within : c.args.stage - 1 < length p.stages = slice_get_within p.stages (c.args.stage - 1) o.own o.at in
+    let own : c.index-stages-before.result ≡ o.own = stage-at p c.stages.result.now (c.args.stage - 1) c.index-stages-before.result o.own c.stages.ensures.stages c.index-stages-before.is within o.at in
+    subst (λ (s : StageData). (place : ℕ) × StandsAt s c.args.cell place) (sym own) (stands-somewhere o.own o.limit o.number c.args.cell o.word o.judged)
+
+pub least_bringing-requires-clause-within : goal.least_bringing-requires-clause-within
+least_bringing-requires-clause-within c = slice_get_within c.args.pipeline.now.stages (c.args.stage - 1) c.requires.orphan.own c.requires.orphan.at
+
+pub least_bringing-requires-clause-cell : goal.least_bringing-requires-clause-cell
+least_bringing-requires-clause-cell c = λ s at.
+    let p = c.args.pipeline.now in
+    let o = c.requires.orphan in
+    let within : c.args.stage - 1 < length p.stages = slice_get_within p.stages (c.args.stage - 1) o.own o.at in
+    let own : c.index-stages-before.result ≡ s = stage-at p c.stages.result.now (c.args.stage - 1) c.index-stages-before.result s c.stages.ensures.stages c.index-stages-before.is within at in
+    let stands : StandsAt s c.args.cell c.place_of-place.result = subst (λ (x : StageData). StandsAt x c.args.cell c.place_of-place.result) own c.place_of-place.ensures in
+    slice_get_within s.cells c.place_of-place.result stands.0 stands.1
+
+pub returns-in_err-input-clause-full : goal.returns-in_err-input-clause-full
+returns-in_err-input-clause-full c = λ e.
+    let p = c.args.pipeline.now in
+    let o = c.requires.orphan in
+    let within : c.args.stage - 1 < length p.stages = slice_get_within p.stages (c.args.stage - 1) o.own o.at in
+    let own : c.index-stages-before.result ≡ o.own = stage-at p c.stages.result.now (c.args.stage - 1) c.index-stages-before.result o.own c.stages.ensures.stages c.index-stages-before.is within o.at in
+    record {
+      own = o.own;
+      place = c.place_of-place.result;
+      of_cell = (o.at, subst (λ (x : StageData). StandsAt x c.args.cell c.place_of-place.result) own c.place_of-place.ensures);
+      past = c.in_err-input.ensures.full (ap Err (full-given c.from_residual.result c.in_err-input.field-0.0 c.from_residual.ensures.1 e));
+    }
+
+pub returns-in_default-clause-explained : goal.returns-in_default-clause-explained
+returns-in_default-clause-explained c =
+    let p = c.args.pipeline.now in
+    let o = c.requires.orphan in
+    let within : c.args.stage - 1 < length p.stages = slice_get_within p.stages (c.args.stage - 1) o.own o.at in
+    let own : c.index-stages-before.result ≡ o.own = stage-at p c.stages.result.now (c.args.stage - 1) c.index-stages-before.result o.own c.stages.ensures.stages c.index-stages-before.is within o.at in
+    record {
+      own = o.own;
+      place = c.place_of-place.result;
+      of_cell = (o.at, subst (λ (x : StageData). StandsAt x c.args.cell c.place_of-place.result) own c.place_of-place.ensures);
+      within = c.in_ok-input.ensures.few;
+      tells = sym (c.in_ok-input.ensures.word o.own o.at) ∙ none-is c.in_ok-input.field-0 c.in_default.not-Some;
+    }
+
+pub shown_run-requires-clause-within : goal.shown_run-requires-clause-within
+shown_run-requires-clause-within c = slice_get_within c.args.pipeline.now.stages (c.args.stage - 1) c.requires.orphan.own c.requires.orphan.at
+
+pub shown_run-requires-clause-brings : goal.shown_run-requires-clause-brings
+shown_run-requires-clause-brings c =
+    let p = c.args.pipeline.now in
+    let o = c.requires.orphan in
+    let within : c.args.stage - 1 < length p.stages = slice_get_within p.stages (c.args.stage - 1) o.own o.at in
+    let own : c.index-stages-before.result ≡ o.own = stage-at p c.stages.result.now (c.args.stage - 1) c.index-stages-before.result o.own c.stages.ensures.stages c.index-stages-before.is within o.at in
+    let of_cell : IsPlaceOf p (c.args.stage - 1) c.args.cell o.own c.place_of-place.result = (o.at, subst (λ (x : StageData). StandsAt x c.args.cell c.place_of-place.result) own c.place_of-place.ensures) in
+    brings-least p (c.args.stage - 1) c.args.cell o.own c.place_of-place.result c.in-Some.input of_cell (sym (c.in_ok-input.ensures.word o.own o.at) ∙ c.in-Some.is)
+
+pub returns-clause-explained : goal.returns-clause-explained
+returns-clause-explained c =
+    let p = c.args.pipeline.now in
+    let o = c.requires.orphan in
+    let within : c.args.stage - 1 < length p.stages = slice_get_within p.stages (c.args.stage - 1) o.own o.at in
+    let own : c.index-stages-before.result ≡ o.own = stage-at p c.stages.result.now (c.args.stage - 1) c.index-stages-before.result o.own c.stages.ensures.stages c.index-stages-before.is within o.at in
+    record {
+      own = o.own;
+      place = c.place_of-place.result;
+      of_cell = (o.at, subst (λ (x : StageData). StandsAt x c.args.cell c.place_of-place.result) own c.place_of-place.ensures);
+      within = c.in_ok-input.ensures.few;
+      tells = (
+        sym (c.in_ok-input.ensures.word o.own o.at) ∙ c.in-Some.is,
+        subst (Loses p (reset p (c.in-Some.input ∷ [])) c.args.cell) (sym c.from_vec.ensures) c.in_ok-run.ensures,
+      );
+    }

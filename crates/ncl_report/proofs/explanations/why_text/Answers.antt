@@ -1,0 +1,48 @@
+use Rattle.std.proofs.Common.{◌-◌, Err, ap, sym, ◌∙◌, subst}
+use Rattle.std.specs.Prelude.{IfOk}
+use Rattle.std.proofs.lemmas.Result.{IfOk-weaker}
+use Rattle.ncl_verdict.specs.declared.verdict.Verdict.{Verdict}
+use Rattle.ncl_hazard.proofs.OrphanPlaces.{judged-orphan}
+use Rattle.ncl_report.specs.VerdictText.{NamesCellOf}
+use Rattle.ncl_report.specs.WhyText.{IsOrphanText, IsWhyText, data_banks, explained, past_limit}
+use Rattle.ncl_report.proofs.NamedPlaces.{names_cell_of}
+use Rattle.ncl_report.proofs.WrittenSteps.{names_items}
+use Rattle.ncl_report.proofs.explanations.why_text.Goals as goal
+
+pub explain-requires-clause-stage : goal.explain-requires-clause-stage
+explain-requires-clause-stage c = (judged-orphan c.args.pipeline.now c.facts.ensures c.args.limit c.in-Orphan.stage c.in-Orphan.cell c.in-Orphan.word (sym c.requires.verdict ∙ c.in-Orphan.is)).0
+
+pub explain-requires-clause-orphan : goal.explain-requires-clause-orphan
+explain-requires-clause-orphan c = (judged-orphan c.args.pipeline.now c.facts.ensures c.args.limit c.in-Orphan.stage c.in-Orphan.cell c.in-Orphan.word (sym c.requires.verdict ∙ c.in-Orphan.is)).1
+
+pub explained_text-requires-clause-cell : goal.explained_text-requires-clause-cell
+explained_text-requires-clause-cell c =
+    let p = c.args.pipeline.now in
+    subst (NamesCellOf p.netlist) (sym c.requires.verdict ∙ c.in-Orphan.is) (names_cell_of p.netlist p c.args.limit c.facts.ensures)
+
+pub explained_text-requires-clause-items : goal.explained_text-requires-clause-items
+explained_text-requires-clause-items c = names_items c.args.pipeline.now (c.in-Orphan.stage - 1) c.in-Orphan.cell c.args.limit c.in-Ok.told c.in-Ok.ensures.explained
+
+pub returns-then-data_banks-ne0 : goal.returns-then-data_banks-ne0
+returns-then-data_banks-ne0 c =
+    let p = c.args.pipeline.now in
+    subst (λ (v : Verdict). IfOk c.line_of.result (λ text. IsWhyText c.args.limit p v text.items)) (sym c.in-Orphan.is)
+    (IfOk-weaker c.line_of.result _ (λ text. IsOrphanText c.args.limit p (c.in-Orphan.stage - 1) c.in-Orphan.cell text.items)
+    (λ text said. subst (IsOrphanText c.args.limit p (c.in-Orphan.stage - 1) c.in-Orphan.cell) (sym said) (data_banks (λ none. c.if-data_banks-ne0.true (c.data_banks.ensures ∙ none))))
+    c.line_of.ensures)
+
+pub returns-in-Ok : goal.returns-in-Ok
+returns-in-Ok c =
+    let p = c.args.pipeline.now in
+    subst (λ (v : Verdict). IfOk c.explained_text.result (λ text. IsWhyText c.args.limit p v text.items)) (sym c.in-Orphan.is)
+    (IfOk-weaker c.explained_text.result _ (λ text. IsOrphanText c.args.limit p (c.in-Orphan.stage - 1) c.in-Orphan.cell text.items)
+    (λ text said. subst (IsOrphanText c.args.limit p (c.in-Orphan.stage - 1) c.in-Orphan.cell) (sym said) (explained (sym c.data_banks.ensures ∙ c.if-data_banks-ne0.false) c.in-Ok.told c.in-Ok.ensures.explained))
+    c.explained_text.ensures)
+
+pub returns-in-Err-Full : goal.returns-in-Err-Full
+returns-in-Err-Full c =
+    let p = c.args.pipeline.now in
+    subst (λ (v : Verdict). IfOk c.past_limit.result (λ text. IsWhyText c.args.limit p v text.items)) (sym c.in-Orphan.is)
+    (IfOk-weaker c.past_limit.result _ (λ text. IsOrphanText c.args.limit p (c.in-Orphan.stage - 1) c.in-Orphan.cell text.items)
+    (λ text said. subst (IsOrphanText c.args.limit p (c.in-Orphan.stage - 1) c.in-Orphan.cell) (sym said) (past_limit (sym c.data_banks.ensures ∙ c.if-data_banks-ne0.false) (c.in-Err-Full.ensures.full (ap Err c.in-Err-Full.field-0-is))))
+    c.past_limit.ensures)

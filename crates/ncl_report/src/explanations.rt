@@ -1,0 +1,155 @@
+//! The lines that tell why a cell is an orphan.
+ghost use Rattle.std.specs.Prelude.{◌≡◌, ◌≤◌, ◌<◌, ◌++◌, All, IfOk, OnOk, codes, decimal, length};
+ghost use Rattle.ncl_verdict.specs.Judgement.{judgement};
+ghost use Rattle.ncl_machine.specs.Held.{InRange};
+ghost use Rattle.ncl_report.specs.Line.{line};
+ghost use Rattle.ncl_report.specs.WhyText.{IsWhyText, NamesItemsOf, explained_lines, item_words, shown_lines, step_line, step_lines};
+
+use crate::line::line_of;
+use crate::traces::push_number;
+use crate::verdicts::push_word;
+use itoa::Buffer;
+use ncl_base::{Memory, Word};
+use ncl_hazard::{ExplainFault, Explained, explain};
+use ncl_machine::Item;
+use ncl_netlist::CellId;
+use ncl_shape::Pipeline;
+use ncl_verdict::Verdict;
+use std::alloc::Global;
+
+/// The lines that tell why a verdict on a pipeline names an orphan, of which each stage was judged with at most `limit`
+/// nodes: an input that brings a word that shows it and a run over this input, step by step, in whose last the cell loses its
+/// excitation; or why there is none. For every other verdict there are none. Fails where memory is refused.
+///
+/// Costs as explaining does, and is linear in the lines.
+pub fn why_text(
+    alloc: Global,
+    pipeline: &Pipeline<'_>,
+    verdict: &Verdict,
+    limit: u32,
+) -> Result<Vec<u8>, Memory>
+    requires limit { 1 ≤ limit }
+    requires verdict { verdict.now ≡ judgement limit pipeline.now.stages }
+    ensures { IfOk result (λ text. IsWhyText limit pipeline.now verdict.now text.items) }
+{
+    pipeline.facts();
+    let Verdict::Orphan { stage, cell, .. } = verdict else {
+        return Ok(Vec::new(alloc));
+    };
+    if pipeline.data_banks() != 0 {
+        return line_of(alloc, b"why: not told for data banks", b"");
+    }
+    match explain(alloc, pipeline, *stage, *cell, limit) {
+        Ok(told) => explained_text(alloc, pipeline, *cell, &told),
+        Err(ExplainFault::Full) => past_limit(alloc, limit),
+        Err(ExplainFault::Memory) => Err(Memory),
+    }
+}
+
+/// The line for an explanation that has more nodes than the limit.
+fn past_limit(alloc: Global, limit: u32) -> Result<Vec<u8>, Memory>
+    ensures { IfOk result (λ text. text.items ≡ line (codes "why: more than " ++ decimal limit ++ codes " nodes")) }
+{
+    let mut digits = Buffer::new();
+    let mut text = Vec::from_slice(alloc, b"why: more than ")?;
+    text.extend_from_slice(digits.format(limit).as_bytes())?;
+    text.extend_from_slice(b" nodes")?;
+    text.extend_from_slice(b"\n")?;
+    Ok(text)
+}
+
+/// The lines of an explanation. Linear in them.
+fn explained_text(
+    alloc: Global,
+    pipeline: &Pipeline<'_>,
+    cell: CellId,
+    told: &Explained,
+) -> Result<Vec<u8>, Memory>
+    requires cell { cell.0 < length pipeline.now.netlist.cells }
+    requires items { NamesItemsOf pipeline.now told.now }
+    ensures { IfOk result (λ text. text.items ≡ explained_lines pipeline.now.netlist cell told.now) }
+{
+    match told {
+        Explained::NoWord => line_of(alloc, b"why: no input brings a word that shows it", b""),
+        Explained::Shown { input, run } => shown_text(alloc, pipeline, cell, input, run.items()),
+    }
+}
+
+/// The lines of an input and a run over it. Linear in them.
+fn shown_text(
+    alloc: Global,
+    pipeline: &Pipeline<'_>,
+    cell: CellId,
+    input: &Word,
+    run: &[Item],
+) -> Result<Vec<u8>, Memory>
+    requires cell { cell.0 < length pipeline.now.netlist.cells }
+    requires items { All (InRange pipeline.now) run.now }
+    ensures { IfOk result (λ text. text.items ≡ shown_lines pipeline.now.netlist cell input.now run.now) }
+{
+    let mut text = Vec::from_slice(alloc, b"why: word ")?;
+    push_word(&mut text, input)?;
+    text.extend_from_slice(b"\n")?;
+    push_steps(&mut text, pipeline, run)?;
+    let cell = &pipeline.netlist().cells()[cell.0 as usize];
+    text.extend_from_slice(b"lost: cell ")?;
+    text.extend_from_slice(cell.name.bytes())?;
+    text.extend_from_slice(b"\n")?;
+    Ok(text)
+}
+
+/// Appends a line for each step. Linear in the lines.
+fn push_steps(text: &mut Vec<u8>, pipeline: &Pipeline<'_>, run: &[Item]) -> Result<(), Memory>
+    requires { All (InRange pipeline.now) run.now }
+    ensures { OnOk result (text.new.items ≡ text.old.items ++ step_lines pipeline.now.netlist 1 run.now) }
+{
+    for (place, item) in run.iter().enumerate() {
+        push_step(text, pipeline, place as u64 + 1, *item)?;
+    }
+    Ok(())
+}
+
+/// Appends the line of a step of this number.
+fn push_step(
+    text: &mut Vec<u8>,
+    pipeline: &Pipeline<'_>,
+    number: u64,
+    item: Item,
+) -> Result<(), Memory>
+    requires { InRange pipeline.now item }
+    ensures { OnOk result (text.new.items ≡ text.old.items ++ step_line pipeline.now.netlist number item) }
+{
+    text.extend_from_slice(b"step ")?;
+    push_number(text, number)?;
+    text.extend_from_slice(b": ")?;
+    push_item(text, pipeline, item)?;
+    text.extend_from_slice(b"\n")?;
+    Ok(())
+}
+
+/// Appends what happens in a step. A bit counts from 1.
+fn push_item(text: &mut Vec<u8>, pipeline: &Pipeline<'_>, item: Item) -> Result<(), Memory>
+    requires { InRange pipeline.now item }
+    ensures { OnOk result (text.new.items ≡ text.old.items ++ item_words pipeline.now.netlist item) }
+{
+    // The inputs come with their number, which is small.
+    let _ = pipeline.inputs();
+    match item {
+        Item::Cell(cell) => {
+            let cell = &pipeline.netlist().cells()[cell.0 as usize];
+            text.extend_from_slice(b"cell ")?;
+            text.extend_from_slice(cell.name.bytes())?;
+        }
+        Item::Raise(bit) => {
+            text.extend_from_slice(b"raise ")?;
+            push_number(text, bit as u64 + 1)?;
+        }
+        Item::Lower(bit) => {
+            text.extend_from_slice(b"lower ")?;
+            push_number(text, bit as u64 + 1)?;
+        }
+        Item::Take => text.extend_from_slice(b"take")?,
+        Item::Ready => text.extend_from_slice(b"ready")?,
+    }
+    Ok(())
+}

@@ -43,11 +43,11 @@ fn answer<R: Threads + Sync>(
     bytes: Vec<u8>,
 ) -> anyhow::Result<Vec<u8>> {
     if !name.ends_with(".blif") {
-        return Ok(check(rt, alloc, &Stages, &bytes, 100_000)?.text);
+        return Ok(check(rt, alloc, &Stages, &bytes, 100_000, false)?.text);
     }
     anyhow::ensure!(bytes.len() <= MOST_BYTES, "a file that is too long");
     match compiled(alloc, &bytes)? {
-        Ok(netlist) => Ok(check(rt, alloc, &Stages, &netlist, 100_000)?.text),
+        Ok(netlist) => Ok(check(rt, alloc, &Stages, &netlist, 100_000, false)?.text),
         Err(line) => Ok(line),
     }
 }

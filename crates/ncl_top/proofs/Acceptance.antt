@@ -1,5 +1,5 @@
 -- What status 0 says.
-use Rattle.std.proofs.Common.{◌≡◌, ℕ, List, Some, refl, sym, ◌∙◌, subst, arith, Option, None}
+use Rattle.std.proofs.Common.{◌≡◌, ℕ, Bool, List, Some, refl, sym, ◌∙◌, subst, arith, Option, None}
 use Rattle.ncl_base.specs.Files.{Files, bytes_of}
 use Rattle.ncl_check.specs.declared.reply.Outcome.{Outcome}
 use Rattle.ncl_check.specs.declared.reply.Outcome.TheVariants.{Accepted, Refused, NoPipeline, Unjudged}
@@ -15,36 +15,36 @@ accepted_by_status Refused e = absurd (omega arith)
 accepted_by_status NoPipeline e = absurd (omega arith)
 accepted_by_status Unjudged e = absurd (omega arith)
 
-file_works : (files : Files) (file : List ℕ) (limit : ℕ) {status : ℕ} {text : List ℕ} → IsFileReply (Some files) file limit status text → status ≡ 0 → IsDelayInsensitiveText (bytes_of files file)
-file_works files file limit reply e =
-    subst IsDelayInsensitiveText reply.given (text_works limit reply.bytes reply.reply (accepted_by_status reply.outcome (sym reply.ends ∙ e)))
+file_works : (files : Files) (file : List ℕ) (limit : ℕ) (why : Bool) {status : ℕ} {text : List ℕ} → IsFileReply (Some files) file limit why status text → status ≡ 0 → IsDelayInsensitiveText (bytes_of files file)
+file_works files file limit why reply e =
+    subst IsDelayInsensitiveText reply.given (text_works limit why reply.bytes reply.reply (accepted_by_status reply.outcome (sym reply.ends ∙ e)))
 
 -- no check is asked
 abbrev IsNoCheck : Option Command → Type 0
 IsNoCheck None = Unit {0}
-IsNoCheck (Some (check file limit)) = ⊥
+IsNoCheck (Some (check file limit why)) = ⊥
 IsNoCheck (Some (compile file)) = Unit {0}
-IsNoCheck (Some (sim netlist delays offers)) = Unit {0}
+IsNoCheck (Some (sim netlist delays offers vcd)) = Unit {0}
 IsNoCheck (Some (demo bits)) = Unit {0}
 
-answer_works : (words : Words) (files : Files) (file : List ℕ) (limit : ℕ) {status : ℕ} {text : List ℕ} → command_of words ≡ Some (check file limit) → Answer words (Some files) status text → status ≡ 0 → IsDelayInsensitiveText (bytes_of files file)
-answer_works words files file limit asked (not_understood none) e = absurd (omega arith)
-answer_works words files file limit asked (replied (check named number) is status text reply) e =
-    let same : named ≡ file = let both : Some (check named number) ≡ Some (check file limit) = sym is ∙ asked in cc in
-    subst (λ name. IsDelayInsensitiveText (bytes_of files name)) same (file_works files named number reply e)
-answer_works words files file limit asked (replied (compile named) is status text reply) e =
+answer_works : (words : Words) (files : Files) (file : List ℕ) (limit : ℕ) (why : Bool) {status : ℕ} {text : List ℕ} → command_of words ≡ Some (check file limit why) → Answer words (Some files) status text → status ≡ 0 → IsDelayInsensitiveText (bytes_of files file)
+answer_works words files file limit why asked (not_understood none) e = absurd (omega arith)
+answer_works words files file limit why asked (replied (check named number asks) is status text reply) e =
+    let same : named ≡ file = let both : Some (check named number asks) ≡ Some (check file limit why) = sym is ∙ asked in cc in
+    subst (λ name. IsDelayInsensitiveText (bytes_of files name)) same (file_works files named number asks reply e)
+answer_works words files file limit why asked (replied (compile named) is status text reply) e =
     absurd (subst IsNoCheck (sym is ∙ asked) tt)
-answer_works words files file limit asked (replied (sim netlist delays offers) is status text reply) e =
+answer_works words files file limit why asked (replied (sim netlist delays offers vcd) is status text reply) e =
     absurd (subst IsNoCheck (sym is ∙ asked) tt)
-answer_works words files file limit asked (replied (demo bits) is status text reply) e =
+answer_works words files file limit why asked (replied (demo bits) is status text reply) e =
     absurd (subst IsNoCheck (sym is ∙ asked) tt)
 
 end_works : (words : Words) (source source' : SourceState) (sink sink' : SinkState) {said status : ℕ} {text : List ℕ} → Says words source source' said text → Tells sink sink' said text status → AcceptsWhatWorks words source status
-end_works words source source' sink sink' (answered status text answer) (whole grew) files file limit told asked e =
-    answer_works words files file limit asked (subst (λ held. Answer words held status text) told answer) e
-end_works words source source' sink sink' says (cut_short rose grew) files file limit told asked e = absurd (omega arith)
-end_works words source source' sink sink' (read_failed command of named rose) (whole grew) files file limit told asked e = absurd (omega arith)
-end_works words source source' sink sink' no_memory (whole grew) files file limit told asked e = absurd (omega arith)
+end_works words source source' sink sink' (answered status text answer) (whole grew) files file limit why told asked e =
+    answer_works words files file limit why asked (subst (λ held. Answer words held status text) told answer) e
+end_works words source source' sink sink' says (cut_short rose grew) files file limit why told asked e = absurd (omega arith)
+end_works words source source' sink sink' (read_failed command of named rose) (whole grew) files file limit why told asked e = absurd (omega arith)
+end_works words source source' sink sink' no_memory (whole grew) files file limit why told asked e = absurd (omega arith)
 
 -- whatever ended with status 0 on a check, ended so on a text that works
 pub accepts_what_works : (words : Words) (source source' : SourceState) (sink sink' : SinkState) (status : ℕ) → Ran words source source' sink sink' status → AcceptsWhatWorks words source status

@@ -9,8 +9,8 @@ use Rattle.ncl_writer.specs.Text.{text_of}
 use Rattle.ncl_writer.proofs.ReadsBack.{reads_again}
 use Rattle.ncl_verdict.proofs.Accepting.{sound_verdict}
 use Rattle.ncl_machine.proofs.Headline.{delay_insensitive}
-use Rattle.ncl_check.specs.Reply.{outcome_of, judged}
-use Rattle.ncl_check.proofs.OneReply.{same_reply}
+use Rattle.ncl_check.specs.Reply.{outcome_of}
+use Rattle.ncl_check.proofs.OneReply.{outcome_is}
 use Rattle.ncl_compile.specs.Compiled.{Compiled}
 use Rattle.ncl_words.specs.Command.{Words, Command, check, compile, sim, demo, command_of}
 use Rattle.ncl_top.specs.Compiling.{IsModelsReply, too_large, compiled, IsCompileReply, too_long, unread, modelled}
@@ -25,9 +25,8 @@ compiled_works models n c =
     let shape : Shape (netlist_of parts) p = subst (λ m. Shape m p) (sym is) c.shape in
     record {
       works = record { parts = parts; reads = reads; builds = faultless; pipeline = p; shape = shape; insensitive = delay_insensitive n p c.shape c.sound };
-      check = λ limit outcome line reply.
-          let own = judged p (record { text = record { few = c.short; parts = parts; reads = reads; builds = faultless; netlist = c.shape.netlist ∙ sym is }; shape = subst (λ m. Shape m p) (sym c.shape.netlist) c.shape }) in
-          let same = (same_reply limit (text_of n) reply own).0 in
+      check = λ limit why outcome line reply.
+          let same = outcome_is limit why (text_of n) p reply (record { text = record { few = c.short; parts = parts; reads = reads; builds = faultless; netlist = c.shape.netlist ∙ sym is }; shape = subst (λ m. Shape m p) (sym c.shape.netlist) c.shape }) in
           elim (sound_verdict limit p.stages c.sound) [
             | inl within ↦ inl (within.0, same ∙ ap outcome_of within.1)
             | inr over ↦ inr (over.0, same ∙ ap outcome_of over.1.1)
@@ -46,16 +45,16 @@ file_works bytes (modelled few models read are status text reply) e = models_wor
 -- no compiling is asked
 abbrev IsNoCompiling : Option Command → Type 0
 IsNoCompiling None = Unit {0}
-IsNoCompiling (Some (check file limit)) = Unit {0}
+IsNoCompiling (Some (check file limit why)) = Unit {0}
 IsNoCompiling (Some (compile file)) = ⊥
-IsNoCompiling (Some (sim netlist delays offers)) = Unit {0}
+IsNoCompiling (Some (sim netlist delays offers vcd)) = Unit {0}
 IsNoCompiling (Some (demo bits)) = Unit {0}
 
 answer_works : (words : Words) (told : Option Files) (file : List ℕ) {status : ℕ} {text : List ℕ} → command_of words ≡ Some (compile file) → Answer words told status text → status ≡ 0 → WorksAndIsAccepted text
 answer_works words told file asked (not_understood none) e = absurd (omega arith)
-answer_works words told file asked (replied (check named limit) is status text reply) e = absurd (subst IsNoCompiling (sym is ∙ asked) tt)
+answer_works words told file asked (replied (check named limit why) is status text reply) e = absurd (subst IsNoCompiling (sym is ∙ asked) tt)
 answer_works words told file asked (replied (demo bits) is status text reply) e = absurd (subst IsNoCompiling (sym is ∙ asked) tt)
-answer_works words told file asked (replied (sim netlist delays offers) is status text reply) e = absurd (subst IsNoCompiling (sym is ∙ asked) tt)
+answer_works words told file asked (replied (sim netlist delays offers vcd) is status text reply) e = absurd (subst IsNoCompiling (sym is ∙ asked) tt)
 answer_works words told file asked (replied (compile named) is status text reply) e = file_works reply.bytes reply.reply e
 
 end_works : (words : Words) (source source' : SourceState) (sink sink' : SinkState) {said status : ℕ} {text : List ℕ} → Says words source source' said text → Tells sink sink' said text status → CompilesWhatWorks words sink sink' status

@@ -1,5 +1,5 @@
 -- The words and the files have at most one status, and at most one text where they determine it.
-use Rattle.std.proofs.Common.{◌≡◌, ℕ, List, Some, None, IsTrue, false, refl, sym, ap, ◌∙◌, subst}
+use Rattle.std.proofs.Common.{◌≡◌, ℕ, List, Some, None, IsTrue, Bool, true, false, not, refl, sym, ap, ◌∙◌, subst}
 use Rattle.std.proofs.lemmas.Bool.{both_ways}
 use Rattle.ncl_base.specs.Files.{Files}
 use Rattle.ncl_check.specs.Reply.{IsCheckReply}
@@ -11,24 +11,28 @@ use Rattle.ncl_top.proofs.Simulated.{one_sim_reply}
 use Rattle.ncl_top.specs.Answer.{status_of, IsFileReply, IsReply, Answer, not_understood, replied, words_determine_text, determines_text, words_determine_status, determines_status}
 
 -- the bytes that both replies are to
-same_file_reply : (files : Files) (file : List ℕ) (limit : ℕ) (status other : ℕ) (text line : List ℕ) → IsFileReply (Some files) file limit status text → IsFileReply (Some files) file limit other line → (status ≡ other) × (text ≡ line)
-same_file_reply files file limit status other text line one two =
+same_file_reply : (files : Files) (file : List ℕ) (limit : ℕ) (why : Bool) (status other : ℕ) (text line : List ℕ) → IsFileReply (Some files) file limit why status text → IsFileReply (Some files) file limit why other line → (status ≡ other) × (why ≡ false → text ≡ line)
+same_file_reply files file limit why status other text line one two =
     let bytes : one.bytes ≡ two.bytes = one.given ∙ sym two.given in
-    let same = same_reply limit two.bytes (subst (λ bytes. IsCheckReply limit bytes one.outcome text) bytes one.reply) two.reply in
+    let same = same_reply limit why two.bytes (subst (λ bytes. IsCheckReply limit why bytes one.outcome text) bytes one.reply) two.reply in
     (one.ends ∙ ap status_of same.0 ∙ sym two.ends, same.1)
 
+plain : (why : Bool) → IsTrue (not why) → why ≡ false
+plain false asked = refl
+plain true asked = absurd (both_ways false refl asked)
+
 same_command_status : (files : Files) (command : Command) → IsTrue (determines_status command) → (status other : ℕ) (text line : List ℕ) → IsReply command (Some files) status text → IsReply command (Some files) other line → status ≡ other
-same_command_status files (check file limit) determined status other text line one two = (same_file_reply files file limit status other text line one two).0
+same_command_status files (check file limit why) determined status other text line one two = (same_file_reply files file limit why status other text line one two).0
 same_command_status files (compile file) determined status other text line one two =
     let bytes : one.bytes ≡ two.bytes = one.given ∙ sym two.given in
     same_compile_status two.bytes (subst (λ bytes. IsCompileReply bytes status text) bytes one.reply) two.reply
-same_command_status files (sim netlist delays words) determined status other text line one two = (one_sim_reply files netlist delays words one two).0
+same_command_status files (sim netlist delays words vcd) determined status other text line one two = (one_sim_reply files netlist delays words vcd one two).0
 same_command_status files (demo bits) determined status other text line one two = absurd (both_ways false refl determined)
 
 same_command_text : (files : Files) (command : Command) → IsTrue (determines_text command) → (status other : ℕ) (text line : List ℕ) → IsReply command (Some files) status text → IsReply command (Some files) other line → text ≡ line
-same_command_text files (check file limit) determined status other text line one two = (same_file_reply files file limit status other text line one two).1
+same_command_text files (check file limit why) determined status other text line one two = (same_file_reply files file limit why status other text line one two).1 (plain why determined)
 same_command_text files (compile file) determined status other text line one two = absurd (both_ways false refl determined)
-same_command_text files (sim netlist delays words) determined status other text line one two = (one_sim_reply files netlist delays words one two).1
+same_command_text files (sim netlist delays words vcd) determined status other text line one two = (one_sim_reply files netlist delays words vcd one two).1
 same_command_text files (demo bits) determined status other text line one two = absurd (both_ways false refl determined)
 
 module _ (words : Words) (files : Files) where

@@ -61,16 +61,16 @@ delays_text n m bytes held d same is few unbroken stated = record {
 }
 
 -- what is told where they say nothing
-pub words_refused : (told : Option Files) (p : PipelineData) (d : DelaysData) (file held bytes : List ℕ) (width : ℕ) → IsGiven told file held → length held ≤ MOST_BYTES → bytes ≡ held → width ≡ length p.inputs → (fault : WordsFault) → (fault ≡ WordsMemory) ⊎ (words_fault width 0 (told_lines bytes) ≡ Some fault) → (status : ℕ) (text : List ℕ) → (status ≡ 3) × (fault ≢ WordsMemory) × (text ≡ words_line fault) → IsWordsReply told p d file status text
-words_refused told p d file held bytes width given few is same fault (inl memory) status text (three, own, says) = absurd (own memory)
-words_refused told p d file held bytes width given few is same fault (inr broken) status text (three, own, says) =
+pub words_refused : (told : Option Files) (p : PipelineData) (d : DelaysData) (file held bytes : List ℕ) (width : ℕ) (vcd : Bool) → IsGiven told file held → length held ≤ MOST_BYTES → bytes ≡ held → width ≡ length p.inputs → (fault : WordsFault) → (fault ≡ WordsMemory) ⊎ (words_fault width 0 (told_lines bytes) ≡ Some fault) → (status : ℕ) (text : List ℕ) → (status ≡ 3) × (fault ≢ WordsMemory) × (text ≡ words_line fault) → IsWordsReply told p d file vcd status text
+words_refused told p d file held bytes width vcd given few is same fault (inl memory) status text (three, own, says) = absurd (own memory)
+words_refused told p d file held bytes width vcd given few is same fault (inr broken) status text (three, own, says) =
     let here = subst (λ w. words_fault w 0 (told_lines held) ≡ Some fault) same (subst (λ b. words_fault width 0 (told_lines b) ≡ Some fault) is broken) in
-    subst (λ s. IsWordsReply told p d file s text) (sym three)
-    (subst (IsWordsReply told p d file 3) (sym says) (no_words held given (words_line fault) (broken_words few fault here)))
+    subst (λ s. IsWordsReply told p d file vcd s text) (sym three)
+    (subst (IsWordsReply told p d file vcd 3) (sym says) (no_words held given (words_line fault) (broken_words few fault here)))
 
-pub delays_refused : (told : Option Files) (p : PipelineData) (file words held bytes : List ℕ) (m : NetlistData) → IsGiven told file held → length held ≤ MOST_BYTES → bytes ≡ held → m ≡ p.netlist → (fault : DelayFault) → (fault ≡ DelayMemory) ⊎ (fault_in (cell_names m) (told_lines bytes) ≡ Some fault) → (status : ℕ) (text : List ℕ) → (status ≡ 3) × (fault ≢ DelayMemory) × (text ≡ delay_line fault) → IsDelaysReply told p file words status text
-delays_refused told p file words held bytes m given few is same fault (inl memory) status text (three, own, says) = absurd (own memory)
-delays_refused told p file words held bytes m given few is same fault (inr broken) status text (three, own, says) =
+pub delays_refused : (told : Option Files) (p : PipelineData) (file words held bytes : List ℕ) (m : NetlistData) (vcd : Bool) → IsGiven told file held → length held ≤ MOST_BYTES → bytes ≡ held → m ≡ p.netlist → (fault : DelayFault) → (fault ≡ DelayMemory) ⊎ (fault_in (cell_names m) (told_lines bytes) ≡ Some fault) → (status : ℕ) (text : List ℕ) → (status ≡ 3) × (fault ≢ DelayMemory) × (text ≡ delay_line fault) → IsDelaysReply told p file words vcd status text
+delays_refused told p file words held bytes m vcd given few is same fault (inl memory) status text (three, own, says) = absurd (own memory)
+delays_refused told p file words held bytes m vcd given few is same fault (inr broken) status text (three, own, says) =
     let here = subst (λ o. fault_in (cell_names o) (told_lines held) ≡ Some fault) same (subst (λ b. fault_in (cell_names m) (told_lines b) ≡ Some fault) is broken) in
-    subst (λ s. IsDelaysReply told p file words s text) (sym three)
-    (subst (IsDelaysReply told p file words 3) (sym says) (no_delays held given (delay_line fault) (broken_delays few fault here)))
+    subst (λ s. IsDelaysReply told p file words vcd s text) (sym three)
+    (subst (IsDelaysReply told p file words vcd 3) (sym says) (no_delays held given (delay_line fault) (broken_delays few fault here)))

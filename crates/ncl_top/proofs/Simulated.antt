@@ -13,9 +13,10 @@ use Rattle.ncl_sim.proofs.Oneness.{one_run}
 use Rattle.ncl_sim.proofs.SameRuns.{same_runs}
 use Rattle.ncl_report.specs.DelayText.{delay_line, words_line}
 use Rattle.ncl_report.specs.TraceText.{trace_lines}
+use Rattle.ncl_vcd.proofs.SameDumps.{same_dump}
 use Rattle.ncl_check.specs.Text.{IsPipelineText, IsRefusedText}
 use Rattle.ncl_check.proofs.OneReply.{one_pipeline, refused_once, refused_is_none}
-use Rattle.ncl_top.specs.Simulating.{AreDelaysText, AreRefusedDelays, long_delays, broken_delays, AreWordsText, AreRefusedWords, long_words, broken_words, end_status, run_status, IsRunReply, IsWordsReply, no_words, ran, IsDelaysReply, no_delays, delayed, IsSimReply, no_pipeline, piped}
+use Rattle.ncl_top.specs.Simulating.{AreDelaysText, AreRefusedDelays, long_delays, broken_delays, AreWordsText, AreRefusedWords, long_words, broken_words, end_status, run_status, run_text, IsRunReply, IsWordsReply, no_words, ran, IsDelaysReply, no_delays, delayed, IsSimReply, no_pipeline, piped}
 
 -- where the items that a function tells alike are one, so are the lists that it tells alike
 one_list : {X Y : Type 0} (f : X → Y) → ((x y : X) → f x ≡ f y → x ≡ y) → (xs ys : List X) → map f xs ≡ map f ys → xs ≡ ys
@@ -76,63 +77,66 @@ module _ (p q : PipelineData) (same : p.netlist ≡ q.netlist) (shape_p : Shape 
   same_due : (offered : List (List Bool)) → words_due p offered ≡ words_due q offered
   same_due offered = ap (λ banks. data_banks banks + length offered) (shape_is_one p.netlist shape_p.is_netlist p q shape_p shape_q).banks
 
-  one_run_reply : (d : DelaysData) (v w : List (List Bool)) (status other : ℕ) (text line : List ℕ) → v ≡ w → IsRunReply p d v status text → IsRunReply q d w other line → SameReply status other text line
-  one_run_reply d v w status other text line alike one two =
+  -- they are told alike
+  same_lines : (t : TraceData) (offered : ℕ) → trace_lines p t offered ≡ trace_lines q t offered
+  same_lines t offered = cc
+
+  same_run_text : (vcd : Bool) (t : TraceData) (offered : List (List Bool)) → run_text vcd p t offered ≡ run_text vcd q t offered
+  same_run_text true t offered = same_dump p.netlist p q offered t.steps shape_p shape_q
+  same_run_text false t offered = ap (trace_lines p t) (same_due offered) ∙ same_lines t (words_due q offered)
+
+  one_run_reply : (d : DelaysData) (v w : List (List Bool)) (vcd : Bool) (status other : ℕ) (text line : List ℕ) → v ≡ w → IsRunReply p d v vcd status text → IsRunReply q d w vcd other line → SameReply status other text line
+  one_run_reply d v w vcd status other text line alike one two =
       let run : IsTimedRun p d v two.trace = subst (λ words. IsTimedRun p d words two.trace) (sym alike) (same_runs p.netlist q p d w two.trace shape_q shape_p two.run) in
       let trace : one.trace ≡ two.trace = one_run p d v one.trace two.trace one.run run in
       let due : words_due p v ≡ words_due q w = ap (words_due p) alike ∙ same_due w in
-      let here : (run_status p one.trace v ≡ run_status q two.trace w) × (trace_lines p one.trace (words_due p v) ≡ trace_lines q two.trace (words_due q w)) = (
-        ap (λ t. run_status p t v) trace ∙ ap (λ count. end_status two.trace.end (length two.trace.delivered == count)) due,
-        ap (λ t. trace_lines p t (words_due p v)) trace ∙ ap (trace_lines p two.trace) due ∙ lines two.trace (words_due q w),
-      ) in
-      (one.ends ∙ here.0 ∙ sym two.ends, one.told ∙ here.1 ∙ sym two.told)
-    where
-      lines : (t : TraceData) (offered : ℕ) → trace_lines p t offered ≡ trace_lines q t offered
-      lines t offered = cc
+      let ends : run_status p one.trace v ≡ run_status q two.trace w = ap (λ t. run_status p t v) trace ∙ ap (λ count. end_status two.trace.end (length two.trace.delivered == count)) due in
+      let says : run_text vcd p one.trace v ≡ run_text vcd q two.trace w = (λ i. run_text vcd p (trace i) (alike i)) ∙ same_run_text vcd two.trace w in
+      (one.ends ∙ ends ∙ sym two.ends, one.told ∙ says ∙ sym two.told)
 
   same_width : length p.inputs ≡ length q.inputs
   same_width = ap length (shape_is_one p.netlist shape_p.is_netlist p q shape_p shape_q).inputs
 
   module _ (files : Files) where
-    one_words_reply : (d : DelaysData) (words : List ℕ) {status other : ℕ} {text line : List ℕ} → IsWordsReply (Some files) p d words status text → IsWordsReply (Some files) q d words other line → SameReply status other text line
-    one_words_reply d words (no_words bytes given text none) (no_words bytes' given' line none') =
+    one_words_reply : (d : DelaysData) (words : List ℕ) (vcd : Bool) {status other : ℕ} {text line : List ℕ} → IsWordsReply (Some files) p d words vcd status text → IsWordsReply (Some files) q d words vcd other line → SameReply status other text line
+    one_words_reply d words vcd (no_words bytes given text none) (no_words bytes' given' line none') =
         let is : bytes ≡ bytes' = given ∙ sym given' in
         let here : AreRefusedWords (length q.inputs) bytes' text = subst (λ b. AreRefusedWords (length q.inputs) b text) is (subst (λ w. AreRefusedWords w bytes text) same_width none) in
         (refl, refused_words_once (length q.inputs) bytes' here none')
-    one_words_reply d words (no_words bytes given text none) (ran bytes' given' offered said status line reply) =
+    one_words_reply d words vcd (no_words bytes given text none) (ran bytes' given' offered said status line reply) =
         let is : bytes ≡ bytes' = given ∙ sym given' in
         let here : AreRefusedWords (length q.inputs) bytes' text = subst (λ b. AreRefusedWords (length q.inputs) b text) is (subst (λ w. AreRefusedWords w bytes text) same_width none) in
         absurd (refused_words_none (length q.inputs) bytes' offered here said)
-    one_words_reply d words (ran bytes given offered said status text reply) (no_words bytes' given' line none) =
+    one_words_reply d words vcd (ran bytes given offered said status text reply) (no_words bytes' given' line none) =
         let is : bytes ≡ bytes' = given ∙ sym given' in
         let here : AreWordsText (length q.inputs) bytes' offered = subst (λ b. AreWordsText (length q.inputs) b offered) is (subst (λ w. AreWordsText w bytes offered) same_width said) in
         absurd (refused_words_none (length q.inputs) bytes' offered none here)
-    one_words_reply d words (ran bytes given offered said status text reply) (ran bytes' given' offered' said' status' line reply') =
+    one_words_reply d words vcd (ran bytes given offered said status text reply) (ran bytes' given' offered' said' status' line reply') =
         let is : bytes ≡ bytes' = given ∙ sym given' in
         let here : AreWordsText (length q.inputs) bytes' offered = subst (λ b. AreWordsText (length q.inputs) b offered) is (subst (λ w. AreWordsText w bytes offered) same_width said) in
-        one_run_reply d offered offered' status status' text line (one_words (length q.inputs) bytes' offered offered' here said') reply reply'
+        one_run_reply d offered offered' vcd status status' text line (one_words (length q.inputs) bytes' offered offered' here said') reply reply'
 
-    one_delays_reply : (delays words : List ℕ) {status other : ℕ} {text line : List ℕ} → IsDelaysReply (Some files) p delays words status text → IsDelaysReply (Some files) q delays words other line → SameReply status other text line
-    one_delays_reply delays words (no_delays bytes given text none) (no_delays bytes' given' line none') =
+    one_delays_reply : (delays words : List ℕ) (vcd : Bool) {status other : ℕ} {text line : List ℕ} → IsDelaysReply (Some files) p delays words vcd status text → IsDelaysReply (Some files) q delays words vcd other line → SameReply status other text line
+    one_delays_reply delays words vcd (no_delays bytes given text none) (no_delays bytes' given' line none') =
         (refl, refused_delays_once q.netlist bytes' (subst (λ b. AreRefusedDelays q.netlist b text) (given ∙ sym given') (subst (λ n. AreRefusedDelays n bytes text) same none)) none')
-    one_delays_reply delays words (no_delays bytes given text none) (delayed bytes' given' d said status line reply) =
+    one_delays_reply delays words vcd (no_delays bytes given text none) (delayed bytes' given' d said status line reply) =
         absurd (refused_delays_none q.netlist bytes' d (subst (λ b. AreRefusedDelays q.netlist b text) (given ∙ sym given') (subst (λ n. AreRefusedDelays n bytes text) same none)) said)
-    one_delays_reply delays words (delayed bytes given d said status text reply) (no_delays bytes' given' line none) =
+    one_delays_reply delays words vcd (delayed bytes given d said status text reply) (no_delays bytes' given' line none) =
         absurd (refused_delays_none q.netlist bytes' d none (subst (λ b. AreDelaysText q.netlist b d) (given ∙ sym given') (subst (λ n. AreDelaysText n bytes d) same said)))
-    one_delays_reply delays words (delayed bytes given d said status text reply) (delayed bytes' given' d' said' status' line reply') =
+    one_delays_reply delays words vcd (delayed bytes given d said status text reply) (delayed bytes' given' d' said' status' line reply') =
         let here : AreDelaysText q.netlist bytes' d = subst (λ b. AreDelaysText q.netlist b d) (given ∙ sym given') (subst (λ n. AreDelaysText n bytes d) same said) in
         let one : d ≡ d' = here.stated ∙ sym said'.stated in
-        one_words_reply d' words (subst (λ x. IsWordsReply (Some files) p x words status text) one reply) reply'
+        one_words_reply d' words vcd (subst (λ x. IsWordsReply (Some files) p x words vcd status text) one reply) reply'
 
 -- the files determine the status and the text
-pub one_sim_reply : (files : Files) (netlist delays words : List ℕ) {status other : ℕ} {text line : List ℕ} → IsSimReply (Some files) netlist delays words status text → IsSimReply (Some files) netlist delays words other line → SameReply status other text line
-one_sim_reply files netlist delays words (no_pipeline bytes given text none) (no_pipeline bytes' given' line none') =
+pub one_sim_reply : (files : Files) (netlist delays words : List ℕ) (vcd : Bool) {status other : ℕ} {text line : List ℕ} → IsSimReply (Some files) netlist delays words vcd status text → IsSimReply (Some files) netlist delays words vcd other line → SameReply status other text line
+one_sim_reply files netlist delays words vcd (no_pipeline bytes given text none) (no_pipeline bytes' given' line none') =
     (refl, refused_once bytes' (subst (λ b. IsRefusedText b text) (given ∙ sym given') none) none')
-one_sim_reply files netlist delays words (no_pipeline bytes given text none) (piped bytes' given' q is status line reply) =
+one_sim_reply files netlist delays words vcd (no_pipeline bytes given text none) (piped bytes' given' q is status line reply) =
     absurd (refused_is_none bytes' q (subst (λ b. IsRefusedText b text) (given ∙ sym given') none) is)
-one_sim_reply files netlist delays words (piped bytes given p is status text reply) (no_pipeline bytes' given' line none) =
+one_sim_reply files netlist delays words vcd (piped bytes given p is status text reply) (no_pipeline bytes' given' line none) =
     absurd (refused_is_none bytes' p none (subst (λ b. IsPipelineText b p) (given ∙ sym given') is))
-one_sim_reply files netlist delays words (piped bytes given p is status text reply) (piped bytes' given' q also status' line reply') =
+one_sim_reply files netlist delays words vcd (piped bytes given p is status text reply) (piped bytes' given' q also status' line reply') =
     let here : IsPipelineText bytes' p = subst (λ b. IsPipelineText b p) (given ∙ sym given') is in
     let (same, shape) = one_pipeline bytes' p q here also in
-    one_delays_reply p q same here.shape shape files delays words reply reply'
+    one_delays_reply p q same here.shape shape files delays words vcd reply reply'

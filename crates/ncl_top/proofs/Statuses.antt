@@ -40,29 +40,29 @@ of_end Quiet false = (λ e. absurd (omega arith), λ e. absurd (omega arith))
 of_end (Hazard item time) all = (λ e. absurd (omega arith), λ e. absurd (omega arith))
 of_end Over all = (λ e. absurd (omega arith), λ e. absurd (omega arith))
 
-of_run : (p : PipelineData) (d : DelaysData) (offered : List (List Bool)) {status : ℕ} {text : List ℕ} → IsRunReply p d offered status text → IsOfNoFault status
-of_run p d offered run = subst IsOfNoFault (sym run.ends) (of_end run.trace.end _)
+of_run : (p : PipelineData) (d : DelaysData) (offered : List (List Bool)) (vcd : Bool) {status : ℕ} {text : List ℕ} → IsRunReply p d offered vcd status text → IsOfNoFault status
+of_run p d offered vcd run = subst IsOfNoFault (sym run.ends) (of_end run.trace.end _)
 
-of_words : (told : Option Files) (p : PipelineData) (d : DelaysData) (words : List ℕ) {status : ℕ} {text : List ℕ} → IsWordsReply told p d words status text → IsOfNoFault status
-of_words told p d words (no_words bytes given text refused) = (λ e. absurd (omega arith), λ e. absurd (omega arith))
-of_words told p d words (ran bytes given offered are status text run) = of_run p d offered run
+of_words : (told : Option Files) (p : PipelineData) (d : DelaysData) (words : List ℕ) (vcd : Bool) {status : ℕ} {text : List ℕ} → IsWordsReply told p d words vcd status text → IsOfNoFault status
+of_words told p d words vcd (no_words bytes given text refused) = (λ e. absurd (omega arith), λ e. absurd (omega arith))
+of_words told p d words vcd (ran bytes given offered are status text run) = of_run p d offered vcd run
 
-of_delays : (told : Option Files) (p : PipelineData) (delays words : List ℕ) {status : ℕ} {text : List ℕ} → IsDelaysReply told p delays words status text → IsOfNoFault status
-of_delays told p delays words (no_delays bytes given text refused) = (λ e. absurd (omega arith), λ e. absurd (omega arith))
-of_delays told p delays words (delayed bytes given d are status text reply) = of_words told p d words reply
+of_delays : (told : Option Files) (p : PipelineData) (delays words : List ℕ) (vcd : Bool) {status : ℕ} {text : List ℕ} → IsDelaysReply told p delays words vcd status text → IsOfNoFault status
+of_delays told p delays words vcd (no_delays bytes given text refused) = (λ e. absurd (omega arith), λ e. absurd (omega arith))
+of_delays told p delays words vcd (delayed bytes given d are status text reply) = of_words told p d words vcd reply
 
-of_sim : (told : Option Files) (netlist delays words : List ℕ) {status : ℕ} {text : List ℕ} → IsSimReply told netlist delays words status text → IsOfNoFault status
-of_sim told netlist delays words (no_pipeline bytes given text refused) = (λ e. absurd (omega arith), λ e. absurd (omega arith))
-of_sim told netlist delays words (piped bytes given p is status text reply) = of_delays told p delays words reply
+of_sim : (told : Option Files) (netlist delays words : List ℕ) (vcd : Bool) {status : ℕ} {text : List ℕ} → IsSimReply told netlist delays words vcd status text → IsOfNoFault status
+of_sim told netlist delays words vcd (no_pipeline bytes given text refused) = (λ e. absurd (omega arith), λ e. absurd (omega arith))
+of_sim told netlist delays words vcd (piped bytes given p is status text reply) = of_delays told p delays words vcd reply
 
 of_demo : (bits : ℕ) {status : ℕ} {text : List ℕ} → IsDemoReply bits status text → IsOfNoFault status
 of_demo bits (demonstrating.shown p made accepted t run) = (λ e. absurd (omega arith), λ e. absurd (omega arith))
 of_demo bits (demonstrating.too_large p made stage limit) = (λ e. absurd (omega arith), λ e. absurd (omega arith))
 
 of_reply : (command : Command) (told : Option Files) (status : ℕ) (text : List ℕ) → IsReply command told status text → IsOfNoFault status
-of_reply (check file limit) told status text reply = subst IsOfNoFault (sym reply.ends) (of_outcome reply.outcome)
+of_reply (check file limit why) told status text reply = subst IsOfNoFault (sym reply.ends) (of_outcome reply.outcome)
 of_reply (compile file) told status text reply = of_compile reply.bytes reply.reply
-of_reply (sim netlist delays words) told status text reply = of_sim told netlist delays words reply
+of_reply (sim netlist delays words vcd) told status text reply = of_sim told netlist delays words vcd reply
 of_reply (demo bits) told status text reply = of_demo bits reply
 
 -- what is answered where nothing fails has no such status

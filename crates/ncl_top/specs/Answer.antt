@@ -1,5 +1,5 @@
 -- What a call answers: the status and the text that go with the words and the files.
-use Rattle.std.specs.Prelude.{◌≡◌, ◌≢◌, ℕ, ◌⊎◌, Bool, true, false, List, [], length, All, Option, Some, None, IsTrue, codes}
+use Rattle.std.specs.Prelude.{◌≡◌, ◌≢◌, ℕ, ◌⊎◌, Bool, true, false, not, List, [], length, All, Option, Some, None, IsTrue, codes}
 use Rattle.ncl_base.specs.Files.{Files, bytes_of, Rose, Grew, GrewWithin}
 use Rattle.ncl_report.specs.Line.{line}
 use Rattle.ncl_verdict.specs.Within.{AreWithin}
@@ -11,14 +11,13 @@ use Rattle.ncl_stage.specs.Faults.{IsSound}
 use Rattle.ncl_shape.specs.Pipeline.{PipelineData}
 use Rattle.ncl_delay.specs.Delays.{DelaysData}
 use Rattle.ncl_sim.specs.declared.trace.End.TheVariants.{Quiet}
-use Rattle.ncl_sim.specs.TimedRun.{TraceData, IsTimedRun, DeliversAll, words_due}
-use Rattle.ncl_report.specs.TraceText.{trace_lines}
+use Rattle.ncl_sim.specs.TimedRun.{TraceData, IsTimedRun, DeliversAll}
 use Rattle.ncl_check.specs.Text.{IsPipelineText}
 use Rattle.ncl_words.specs.Command.{Words, Command, check, compile, sim, demo, command_of, files_named}
 use Rattle.ncl_top.specs.Compiling.{IsCompileReply}
 use Rattle.ncl_top.specs.Demonstrating.{IsDemoReply}
 use Rattle.ncl_top.specs.Given.{IsGiven}
-use Rattle.ncl_top.specs.Simulating.{AreDelaysText, AreWordsText, IsSimReply}
+use Rattle.ncl_top.specs.Simulating.{AreDelaysText, AreWordsText, IsSimReply, run_text}
 
 -- the status of a check that ends so
 abbrev pub status_of : Outcome → ℕ
@@ -27,13 +26,13 @@ status_of Refused = 1
 status_of NoPipeline = 3
 status_of Unjudged = 6
 
--- what `check` replies to a file, where a stage may have so many nodes
-pub record IsFileReply (told : Option Files) (file : List ℕ) (limit : ℕ) (status : ℕ) (text : List ℕ) : Type 0 where
+-- what `check` replies to a file, where a stage may have so many nodes, and it is asked why or not
+pub record IsFileReply (told : Option Files) (file : List ℕ) (limit : ℕ) (why : Bool) (status : ℕ) (text : List ℕ) : Type 0 where
   pub bytes : List ℕ
   pub given : IsGiven told file bytes
   pub outcome : Outcome
   pub ends : status ≡ status_of outcome
-  pub reply : IsCheckReply limit bytes outcome text
+  pub reply : IsCheckReply limit why bytes outcome text
 
 -- what `compile` replies to a file
 pub record IsCompiledFile (told : Option Files) (file : List ℕ) (status : ℕ) (text : List ℕ) : Type 0 where
@@ -43,9 +42,9 @@ pub record IsCompiledFile (told : Option Files) (file : List ℕ) (status : ℕ)
 
 -- what a command replies where the source tells this of its files. Each load of a file gives bytes of its own
 abbrev pub IsReply : Command → Option Files → ℕ → List ℕ → Type 0
-IsReply (check file limit) told status text = IsFileReply told file limit status text
+IsReply (check file limit why) told status text = IsFileReply told file limit why status text
 IsReply (compile file) told status text = IsCompiledFile told file status text
-IsReply (sim netlist delays words) told status text = IsSimReply told netlist delays words status text
+IsReply (sim netlist delays words vcd) told status text = IsSimReply told netlist delays words vcd status text
 IsReply (demo bits) told status text = IsDemoReply bits status text
 
 -- what the words are answered where the source tells this of its files and nothing fails
@@ -55,18 +54,18 @@ pub data Answer (words : Words) (told : Option Files) : ℕ → List ℕ → Typ
   -- the words give a command, and this is its reply
   replied : (command : Command) → command_of words ≡ Some command → (status : ℕ) (text : List ℕ) → IsReply command told status text → Answer words told status text
 
--- whether the files determine the text that a command replies, and not its status alone
+-- whether the files determine the text that a command replies, and not its status alone: several runs show an orphan
 abbrev pub determines_text : Command → Bool
-determines_text (check file limit) = true
+determines_text (check file limit why) = not why
 determines_text (compile file) = false
-determines_text (sim netlist delays words) = true
+determines_text (sim netlist delays words vcd) = true
 determines_text (demo bits) = false
 
 -- whether the files determine the status: the netlist of a demo is one of many, of which some could pass the limit
 abbrev pub determines_status : Command → Bool
-determines_status (check file limit) = true
+determines_status (check file limit why) = true
 determines_status (compile file) = true
-determines_status (sim netlist delays words) = true
+determines_status (sim netlist delays words vcd) = true
 determines_status (demo bits) = false
 
 -- whether the words and the files determine the text: words of no form do
@@ -132,11 +131,11 @@ AnswersExactly words source sink sink_after status =
     → ((status ≡ expected) × (IsTrue (words_determine_text (command_of words)) → Grew sink.written text sink_after.written))
     ⊎ ((status ≡ 4) ⊎ ((status ≡ 5) ⊎ (status ≡ 7)))
 
--- the text is that of a netlist that is delay-insensitive; and a check of it, whatever its limit, accepts where all
+-- the text is that of a netlist that is delay-insensitive; and a check of it, whatever its limit and whether it is asked why, accepts where all
 -- stages stay within the limit of nodes, and else tells that one passes it
 pub record WorksAndIsAccepted (text : List ℕ) : Type 0 where
   pub works : IsDelayInsensitiveText text
-  pub check : (limit : ℕ) (outcome : Outcome) (line : List ℕ) → IsCheckReply limit text outcome line → (AreWithin limit works.pipeline.stages × (outcome ≡ Accepted)) ⊎ ((AreWithin limit works.pipeline.stages → ⊥) × (outcome ≡ Unjudged))
+  pub check : (limit : ℕ) (why : Bool) (outcome : Outcome) (line : List ℕ) → IsCheckReply limit why text outcome line → (AreWithin limit works.pipeline.stages × (outcome ≡ Accepted)) ⊎ ((AreWithin limit works.pipeline.stages → ⊥) × (outcome ≡ Unjudged))
 
 -- where the words ask for compiling a file and the status is 0, such a text was written, whatever the source tells
 abbrev pub CompilesWhatWorks : Words → SinkState → SinkState → ℕ → Type 0
@@ -148,25 +147,25 @@ CompilesWhatWorks words sink sink_after status =
 -- under the file's name are the text of a netlist that is delay-insensitive
 abbrev pub AcceptsWhatWorks : Words → SourceState → ℕ → Type 0
 AcceptsWhatWorks words source status =
-    (files : Files) (file : List ℕ) (limit : ℕ) → source.files ≡ Some files → command_of words ≡ Some (check file limit)
+    (files : Files) (file : List ℕ) (limit : ℕ) (why : Bool) → source.files ≡ Some files → command_of words ≡ Some (check file limit why)
     → status ≡ 0 → IsDelayInsensitiveText (bytes_of files file)
 
 -- the run of the pipeline with these delays over some words ends where nothing can move any more, every word that is
--- due has been delivered, and its lines were written
-pub record RunsThrough (p : PipelineData) (d : DelaysData) (offered : List (List Bool)) (sink sink_after : SinkState) : Type 0 where
+-- due has been delivered, and its value change dump or its lines were written
+pub record RunsThrough (p : PipelineData) (d : DelaysData) (offered : List (List Bool)) (vcd : Bool) (sink sink_after : SinkState) : Type 0 where
   pub trace : TraceData
   pub run : IsTimedRun p d offered trace
   pub quiet : trace.end ≡ Quiet
   pub delivers : DeliversAll p offered trace
-  pub written : Grew sink.written (trace_lines p trace (words_due p offered)) sink_after.written
+  pub written : Grew sink.written (run_text vcd p trace offered) sink_after.written
 
 -- where the words ask for a simulation, the source tells its files, the netlist is one of a pipeline of sound stages, and
 -- the delays and the words are read, the status is 0 and the pipeline runs through at those delays, unless the call is
 -- kept from it by the source (4), the sink (5) or want of memory (7)
 abbrev pub SimulatesWhatWorks : Words → SourceState → SinkState → SinkState → ℕ → Type 0
 SimulatesWhatWorks words source sink sink_after status =
-    (files : Files) (netlist delays offers : List ℕ) → source.files ≡ Some files → command_of words ≡ Some (sim netlist delays offers)
+    (files : Files) (netlist delays offers : List ℕ) (vcd : Bool) → source.files ≡ Some files → command_of words ≡ Some (sim netlist delays offers vcd)
     → (p : PipelineData) → IsPipelineText (bytes_of files netlist) p → All IsSound p.stages
     → (d : DelaysData) → AreDelaysText p.netlist (bytes_of files delays) d
     → (offered : List (List Bool)) → AreWordsText (length p.inputs) (bytes_of files offers) offered
-    → ((status ≡ 0) × RunsThrough p d offered sink sink_after) ⊎ ((status ≡ 4) ⊎ ((status ≡ 5) ⊎ (status ≡ 7)))
+    → ((status ≡ 0) × RunsThrough p d offered vcd sink sink_after) ⊎ ((status ≡ 4) ⊎ ((status ≡ 5) ⊎ (status ≡ 7)))

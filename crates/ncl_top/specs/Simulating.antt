@@ -17,6 +17,7 @@ use Rattle.ncl_sim.specs.TimedRun.{TraceData, IsTimedRun, words_due}
 use Rattle.ncl_report.specs.Line.{line}
 use Rattle.ncl_report.specs.DelayText.{delay_line, words_line}
 use Rattle.ncl_report.specs.TraceText.{trace_lines}
+use Rattle.ncl_vcd.specs.RunDump.{dump_of}
 use Rattle.ncl_check.specs.Text.{IsPipelineText, IsRefusedText}
 use Rattle.ncl_top.specs.Given.{IsGiven}
 
@@ -53,28 +54,35 @@ end_status Over all = 8
 abbrev pub run_status : PipelineData → TraceData → List (List Bool) → ℕ
 run_status p t offered = end_status t.end (length t.delivered == words_due p offered)
 
--- what is replied to words that are there, with the pipeline and the delays: its one timed run over them
-pub record IsRunReply (p : PipelineData) (d : DelaysData) (offered : List (List Bool)) (status : ℕ) (text : List ℕ) : Type 0 where
+-- the text that tells a run of a pipeline over some words: its value change dump where that is asked for, and else its
+-- lines
+abbrev pub run_text : Bool → PipelineData → TraceData → List (List Bool) → List ℕ
+run_text true p t offered = dump_of p offered t.steps
+run_text false p t offered = trace_lines p t (words_due p offered)
+
+-- what is replied to words that are there, with the pipeline and the delays: its one timed run over them, told by a value
+-- change dump or by its lines
+pub record IsRunReply (p : PipelineData) (d : DelaysData) (offered : List (List Bool)) (vcd : Bool) (status : ℕ) (text : List ℕ) : Type 0 where
   pub trace : TraceData
   pub run : IsTimedRun p d offered trace
   pub ends : status ≡ run_status p trace offered
-  pub told : text ≡ trace_lines p trace (words_due p offered)
+  pub told : text ≡ run_text vcd p trace offered
 
 -- what is replied to the words in a file, where the pipeline and the delays are there: why they are refused, or the run
 -- over them
-pub data IsWordsReply (told : Option Files) (p : PipelineData) (d : DelaysData) (words : List ℕ) : ℕ → List ℕ → Type 0 where
-  no_words : (bytes : List ℕ) → IsGiven told words bytes → (text : List ℕ) → AreRefusedWords (length p.inputs) bytes text → IsWordsReply told p d words 3 text
+pub data IsWordsReply (told : Option Files) (p : PipelineData) (d : DelaysData) (words : List ℕ) (vcd : Bool) : ℕ → List ℕ → Type 0 where
+  no_words : (bytes : List ℕ) → IsGiven told words bytes → (text : List ℕ) → AreRefusedWords (length p.inputs) bytes text → IsWordsReply told p d words vcd 3 text
   ran : (bytes : List ℕ) → IsGiven told words bytes → (offered : List (List Bool)) → AreWordsText (length p.inputs) bytes offered
-      → (status : ℕ) (text : List ℕ) → IsRunReply p d offered status text → IsWordsReply told p d words status text
+      → (status : ℕ) (text : List ℕ) → IsRunReply p d offered vcd status text → IsWordsReply told p d words vcd status text
 
 -- what is replied to the delays in a file, where the pipeline is there: why they are refused, or what the words make of them
-pub data IsDelaysReply (told : Option Files) (p : PipelineData) (delays words : List ℕ) : ℕ → List ℕ → Type 0 where
-  no_delays : (bytes : List ℕ) → IsGiven told delays bytes → (text : List ℕ) → AreRefusedDelays p.netlist bytes text → IsDelaysReply told p delays words 3 text
+pub data IsDelaysReply (told : Option Files) (p : PipelineData) (delays words : List ℕ) (vcd : Bool) : ℕ → List ℕ → Type 0 where
+  no_delays : (bytes : List ℕ) → IsGiven told delays bytes → (text : List ℕ) → AreRefusedDelays p.netlist bytes text → IsDelaysReply told p delays words vcd 3 text
   delayed : (bytes : List ℕ) → IsGiven told delays bytes → (d : DelaysData) → AreDelaysText p.netlist bytes d
-      → (status : ℕ) (text : List ℕ) → IsWordsReply told p d words status text → IsDelaysReply told p delays words status text
+      → (status : ℕ) (text : List ℕ) → IsWordsReply told p d words vcd status text → IsDelaysReply told p delays words vcd status text
 
 -- what is replied to the three files: why the netlist is no pipeline, or what the delays and the words make of it
-pub data IsSimReply (told : Option Files) (netlist delays words : List ℕ) : ℕ → List ℕ → Type 0 where
-  no_pipeline : (bytes : List ℕ) → IsGiven told netlist bytes → (text : List ℕ) → IsRefusedText bytes text → IsSimReply told netlist delays words 3 text
+pub data IsSimReply (told : Option Files) (netlist delays words : List ℕ) (vcd : Bool) : ℕ → List ℕ → Type 0 where
+  no_pipeline : (bytes : List ℕ) → IsGiven told netlist bytes → (text : List ℕ) → IsRefusedText bytes text → IsSimReply told netlist delays words vcd 3 text
   piped : (bytes : List ℕ) → IsGiven told netlist bytes → (p : PipelineData) → IsPipelineText bytes p
-      → (status : ℕ) (text : List ℕ) → IsDelaysReply told p delays words status text → IsSimReply told netlist delays words status text
+      → (status : ℕ) (text : List ℕ) → IsDelaysReply told p delays words vcd status text → IsSimReply told netlist delays words vcd status text

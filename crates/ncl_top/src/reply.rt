@@ -67,13 +67,16 @@ pub fn carry_out<R: Threads + Sync, S: Source, J: Judge + Sync>(
     ensures faults { S.faults source.old ≤ S.faults source.new }
 {
     match command {
-        Command::Check { file, limit } => check_file(rt, alloc, source, judge, file, limit),
+        Command::Check { file, limit, why } => {
+            check_file(rt, alloc, source, judge, file, limit, why)
+        }
         Command::Compile { file } => compile_file(alloc, source, file),
         Command::Sim {
             netlist,
             delays,
             words,
-        } => sim_files(alloc, source, netlist, delays, words),
+            vcd,
+        } => sim_files(alloc, source, netlist, delays, words, vcd),
         Command::Demo { bits } => demonstrate(rt, alloc, judge, bits),
     }
 }
@@ -88,10 +91,11 @@ fn check_file<R: Threads + Sync, S: Source, J: Judge + Sync>(
     judge: &J,
     file: &str,
     limit: u32,
+    why: bool,
 ) -> Result<Reply, Fault>
     requires allowed { IsTrue (S.allowed source.old file.now) }
     requires limit { 1 ≤ limit }
-    ensures ok { IfOk result (AnswersCommand (S.files source.old) (check_command file.now limit)) }
+    ensures ok { IfOk result (AnswersCommand (S.files source.old) (check_command file.now limit why)) }
     ensures read { IsErrOf result Fault.Read → Rose (S.faults source.old) (S.faults source.new) }
     ensures files { S.files source.new ≡ S.files source.old }
     ensures allowed { S.allowed source.new ≡ S.allowed source.old }
@@ -101,7 +105,7 @@ fn check_file<R: Threads + Sync, S: Source, J: Judge + Sync>(
         Some(bytes) => bytes,
         None => return Ok(Reply::Fixed(3, b"netlist: too long\n")),
     };
-    let reply = check(rt, alloc, judge, &bytes, limit)?;
+    let reply = check(rt, alloc, judge, &bytes, limit, why)?;
     Ok(Reply::Made(status_of(reply.outcome), reply.text))
 }
 

@@ -5,6 +5,7 @@ ghost use Rattle.ncl_machine.specs.Run.{AreWordsOf};
 ghost use Rattle.ncl_delay.specs.declared.fault.DelayFault.TheVariants.{Memory as DelayMemory};
 ghost use Rattle.ncl_delay.specs.declared.fault.WordsFault.TheVariants.{Memory as WordsMemory};
 ghost use Rattle.ncl_delay.specs.declared.word_text.TheConstants.{MOST_WORDS};
+ghost use Rattle.ncl_reader.specs.GraphicNames.{HasGraphicNames};
 ghost use Rattle.ncl_report.specs.DelayText.{delay_line, words_line};
 ghost use Rattle.ncl_check.specs.Text.{IsRefusedText};
 ghost use Rattle.ncl_check.specs.Refusals.{Tells};
@@ -19,10 +20,11 @@ use ncl_delay::{DelayFault, Delays, WordsFault, read_delays, read_words};
 use ncl_report::{delay_text, trace_text, words_text};
 use ncl_shape::Pipeline;
 use ncl_sim::{End, simulate};
+use ncl_vcd::dump;
 use std::alloc::Global;
 
-/// Loads a netlist, delays and words, and replies to `sim` of them. They are read in this order, and the first that is
-/// refused is told; a later file is not opened then.
+/// Loads a netlist, delays and words, and replies to `sim` of them, with a value change dump of the run if asked to.
+/// They are read in this order, and the first that is refused is told; a later file is not opened then.
 ///
 /// Costs a pass over the bytes of each file, what reading them costs, and the run.
 pub fn sim_files<S: Source>(
@@ -31,11 +33,12 @@ pub fn sim_files<S: Source>(
     netlist: &str,
     delays: &str,
     words: &str,
+    vcd: bool,
 ) -> Result<Reply, Fault>
     requires netlist { IsTrue (S.allowed source.old netlist.now) }
     requires delays { IsTrue (S.allowed source.old delays.now) }
     requires words { IsTrue (S.allowed source.old words.now) }
-    ensures ok { IfOk result (Gives (IsSimReply (S.files source.old) netlist.now delays.now words.now)) }
+    ensures ok { IfOk result (Gives (IsSimReply (S.files source.old) netlist.now delays.now words.now vcd)) }
     ensures read { IsErrOf result Fault.Read → Rose (S.faults source.old) (S.faults source.new) }
     ensures files { S.files source.new ≡ S.files source.old }
     ensures allowed { S.allowed source.new ≡ S.allowed source.old }
@@ -53,7 +56,7 @@ pub fn sim_files<S: Source>(
         Ok(pipeline) => pipeline,
         Err(refusal) => return refused(refusal),
     };
-    sim_pipeline(alloc, source, &pipeline, delays, words)
+    sim_pipeline(alloc, source, &pipeline, delays, words, vcd)
 }
 
 /// The reply to a netlist that is refused.
@@ -74,10 +77,12 @@ fn sim_pipeline<S: Source>(
     pipeline: &Pipeline,
     delays: &str,
     words: &str,
+    vcd: bool,
 ) -> Result<Reply, Fault>
+    requires names { HasGraphicNames pipeline.now.netlist }
     requires delays { IsTrue (S.allowed source.old delays.now) }
     requires words { IsTrue (S.allowed source.old words.now) }
-    ensures ok { IfOk result (Gives (IsDelaysReply (S.files source.old) pipeline.now delays.now words.now)) }
+    ensures ok { IfOk result (Gives (IsDelaysReply (S.files source.old) pipeline.now delays.now words.now vcd)) }
     ensures read { IsErrOf result Fault.Read → Rose (S.faults source.old) (S.faults source.new) }
     ensures files { S.files source.new ≡ S.files source.old }
     ensures allowed { S.allowed source.new ≡ S.allowed source.old }
@@ -88,7 +93,7 @@ fn sim_pipeline<S: Source>(
         None => return Ok(Reply::Fixed(3, b"delays: too long\n")),
     };
     match read_delays(alloc, &bytes, pipeline.netlist()) {
-        Ok(delays) => sim_delayed(alloc, source, pipeline, &delays, words),
+        Ok(delays) => sim_delayed(alloc, source, pipeline, &delays, words, vcd),
         Err(fault) => no_delays(alloc, fault),
     }
 }
@@ -111,9 +116,11 @@ fn sim_delayed<S: Source>(
     pipeline: &Pipeline,
     delays: &Delays,
     words: &str,
+    vcd: bool,
 ) -> Result<Reply, Fault>
-    requires { IsTrue (S.allowed source.old words.now) }
-    ensures ok { IfOk result (Gives (IsWordsReply (S.files source.old) pipeline.now delays.now words.now)) }
+    requires names { HasGraphicNames pipeline.now.netlist }
+    requires words { IsTrue (S.allowed source.old words.now) }
+    ensures ok { IfOk result (Gives (IsWordsReply (S.files source.old) pipeline.now delays.now words.now vcd)) }
     ensures read { IsErrOf result Fault.Read → Rose (S.faults source.old) (S.faults source.new) }
     ensures files { S.files source.new ≡ S.files source.old }
     ensures allowed { S.allowed source.new ≡ S.allowed source.old }
@@ -125,7 +132,7 @@ fn sim_delayed<S: Source>(
         None => return Ok(Reply::Fixed(3, b"words: too long\n")),
     };
     match read_words(alloc, &bytes, pipeline.inputs().len()) {
-        Ok(words) => run_reply(alloc, pipeline, delays, &words),
+        Ok(words) => run_reply(alloc, pipeline, delays, &words, vcd),
         Err(fault) => no_words(alloc, fault),
     }
 }
@@ -141,24 +148,31 @@ fn no_words(alloc: Global, fault: WordsFault) -> Result<Reply, Fault>
     }
 }
 
-/// The reply to words that are offered to a pipeline with delays: its run.
+/// The reply to words that are offered to a pipeline with delays: its run, told by a value change dump or by its lines.
 fn run_reply(
     alloc: Global,
     pipeline: &Pipeline,
     delays: &Delays,
     words: &[Word],
+    vcd: bool,
 ) -> Result<Reply, Fault>
+    requires names { HasGraphicNames pipeline.now.netlist }
     requires few { length words.now ≤ MOST_WORDS }
     requires wide { AreWordsOf pipeline.now words.now }
-    ensures told { IfOk result (Gives (IsRunReply pipeline.now delays.now words.now)) }
+    ensures told { IfOk result (Gives (IsRunReply pipeline.now delays.now words.now vcd)) }
     ensures memory { IsErrOf result Fault.Read → ⊥ }
 {
     pipeline.facts();
     let trace = simulate(alloc, pipeline, delays, words)?;
     let due = pipeline.data_banks() + words.len();
     let is_whole = trace.delivered.items().len() == due;
+    let status = end_status(trace.end, is_whole);
+    if vcd {
+        let text = dump(alloc, pipeline, words, trace.steps.items())?;
+        return Ok(Reply::Made(status, text));
+    }
     let text = trace_text(alloc, pipeline, &trace, due)?;
-    Ok(Reply::Made(end_status(trace.end, is_whole), text))
+    Ok(Reply::Made(status, text))
 }
 
 /// The status of a run that ends so, and has delivered as many words as are due, or not.

@@ -6,73 +6,138 @@ use std::test::*;
 
 /// Words with one space between two, and the check that they give.
 const CHECKS: [(&str, &str); 12] = [
-    ("check f", "Some(Check { file: \"f\", limit: 100000 })"),
-    ("check +5", "Some(Check { file: \"+5\", limit: 100000 })"),
+    (
+        "check f",
+        "Some(Check { file: \"f\", limit: 100000, why: false })",
+    ),
+    (
+        "check +5",
+        "Some(Check { file: \"+5\", limit: 100000, why: false })",
+    ),
     (
         "check help",
-        "Some(Check { file: \"help\", limit: 100000 })",
+        "Some(Check { file: \"help\", limit: 100000, why: false })",
     ),
     (
         "check x=--y",
-        "Some(Check { file: \"x=--y\", limit: 100000 })",
+        "Some(Check { file: \"x=--y\", limit: 100000, why: false })",
     ),
     (
         "check limit",
-        "Some(Check { file: \"limit\", limit: 100000 })",
+        "Some(Check { file: \"limit\", limit: 100000, why: false })",
     ),
-    ("check f --limit 5", "Some(Check { file: \"f\", limit: 5 })"),
-    ("check --limit 5 f", "Some(Check { file: \"f\", limit: 5 })"),
-    ("check f --limit=5", "Some(Check { file: \"f\", limit: 5 })"),
-    ("check --limit=5 f", "Some(Check { file: \"f\", limit: 5 })"),
-    ("check f --limit 1", "Some(Check { file: \"f\", limit: 1 })"),
+    (
+        "check f --limit 5",
+        "Some(Check { file: \"f\", limit: 5, why: false })",
+    ),
+    (
+        "check --limit 5 f",
+        "Some(Check { file: \"f\", limit: 5, why: false })",
+    ),
+    (
+        "check f --limit=5",
+        "Some(Check { file: \"f\", limit: 5, why: false })",
+    ),
+    (
+        "check --limit=5 f",
+        "Some(Check { file: \"f\", limit: 5, why: false })",
+    ),
+    (
+        "check f --limit 1",
+        "Some(Check { file: \"f\", limit: 1, why: false })",
+    ),
     (
         "check f --limit 1000000",
-        "Some(Check { file: \"f\", limit: 1000000 })",
+        "Some(Check { file: \"f\", limit: 1000000, why: false })",
     ),
     (
         "check f --limit 0000001",
-        "Some(Check { file: \"f\", limit: 1 })",
+        "Some(Check { file: \"f\", limit: 1, why: false })",
+    ),
+];
+
+/// Words that ask why as well.
+const WHY: [(&str, &str); 6] = [
+    (
+        "check f --why",
+        "Some(Check { file: \"f\", limit: 100000, why: true })",
+    ),
+    (
+        "check --why f",
+        "Some(Check { file: \"f\", limit: 100000, why: true })",
+    ),
+    (
+        "check --why f --limit 5",
+        "Some(Check { file: \"f\", limit: 5, why: true })",
+    ),
+    (
+        "check --limit 5 --why f",
+        "Some(Check { file: \"f\", limit: 5, why: true })",
+    ),
+    (
+        "check f --limit=5 --why",
+        "Some(Check { file: \"f\", limit: 5, why: true })",
+    ),
+    (
+        "check why",
+        "Some(Check { file: \"why\", limit: 100000, why: false })",
     ),
 ];
 
 /// The same of the other commands.
-const OTHERS: [(&str, &str); 14] = [
+const OTHERS: [(&str, &str); 18] = [
     ("compile f", "Some(Compile { file: \"f\" })"),
     (
         "sim f --delays d --words w",
-        "Some(Sim { netlist: \"f\", delays: \"d\", words: \"w\" })",
+        "Some(Sim { netlist: \"f\", delays: \"d\", words: \"w\", vcd: false })",
     ),
     (
         "sim f --words w --delays d",
-        "Some(Sim { netlist: \"f\", delays: \"d\", words: \"w\" })",
+        "Some(Sim { netlist: \"f\", delays: \"d\", words: \"w\", vcd: false })",
     ),
     (
         "sim --delays d f --words w",
-        "Some(Sim { netlist: \"f\", delays: \"d\", words: \"w\" })",
+        "Some(Sim { netlist: \"f\", delays: \"d\", words: \"w\", vcd: false })",
     ),
     (
         "sim --words=w f --delays=d",
-        "Some(Sim { netlist: \"f\", delays: \"d\", words: \"w\" })",
+        "Some(Sim { netlist: \"f\", delays: \"d\", words: \"w\", vcd: false })",
     ),
     (
         "sim --delays d --words=w f",
-        "Some(Sim { netlist: \"f\", delays: \"d\", words: \"w\" })",
+        "Some(Sim { netlist: \"f\", delays: \"d\", words: \"w\", vcd: false })",
     ),
     (
         "sim --words w --delays=d f",
-        "Some(Sim { netlist: \"f\", delays: \"d\", words: \"w\" })",
+        "Some(Sim { netlist: \"f\", delays: \"d\", words: \"w\", vcd: false })",
     ),
     (
         "sim f --delays=d --words=w",
-        "Some(Sim { netlist: \"f\", delays: \"d\", words: \"w\" })",
+        "Some(Sim { netlist: \"f\", delays: \"d\", words: \"w\", vcd: false })",
     ),
     (
         "sim f --delays a=b --words=--w",
-        "Some(Sim { netlist: \"f\", delays: \"a=b\", words: \"--w\" })",
+        "Some(Sim { netlist: \"f\", delays: \"a=b\", words: \"--w\", vcd: false })",
     ),
     (
         "sim f --delays f --words f",
-        "Some(Sim { netlist: \"f\", delays: \"f\", words: \"f\" })",
+        "Some(Sim { netlist: \"f\", delays: \"f\", words: \"f\", vcd: false })",
+    ),
+    (
+        "sim f --delays d --words w --vcd",
+        "Some(Sim { netlist: \"f\", delays: \"d\", words: \"w\", vcd: true })",
+    ),
+    (
+        "sim --vcd f --delays d --words w",
+        "Some(Sim { netlist: \"f\", delays: \"d\", words: \"w\", vcd: true })",
+    ),
+    (
+        "sim --delays d --vcd --words=w f",
+        "Some(Sim { netlist: \"f\", delays: \"d\", words: \"w\", vcd: true })",
+    ),
+    (
+        "sim vcd --delays d --words vcd",
+        "Some(Sim { netlist: \"vcd\", delays: \"d\", words: \"vcd\", vcd: false })",
     ),
     ("demo 1", "Some(Demo { bits: 1 })"),
     ("demo 32", "Some(Demo { bits: 32 })"),
@@ -158,6 +223,33 @@ const NO_OTHERS: [&str; 29] = [
     "demo 4 --limit 5",
 ];
 
+/// Words that give a flag wrongly, and no command.
+const NO_FLAGS: [&str; 23] = [
+    "check f --why --why",
+    "check --why f --limit 5 --why",
+    "check f --why=1",
+    "check f --why=true",
+    "check f --why=",
+    "check f --why g",
+    "check f --limit --why",
+    "check f --limit --why 5",
+    "check --why",
+    "check f --wh",
+    "check f -why",
+    "compile f --why",
+    "sim f --delays d --words w --vcd --vcd",
+    "sim --vcd f --delays d --words w --vcd",
+    "sim f --delays d --words w --vcd=x",
+    "sim f --delays d --words w --vcd=true",
+    "sim f --delays d --words w --vcd=",
+    "sim f --delays d --words w --vcd x",
+    "sim f --delays --vcd d --words w",
+    "sim f --delays d --words w --vc",
+    "sim f --delays d --words w -vcd",
+    "check f --vcd",
+    "compile f --vcd",
+];
+
 /// The command that words give, as a text.
 fn told(alloc: Global, line: &str) -> Result<String, Fail> {
     let words: Vec<&str> = line.split(' ').collect(alloc)?;
@@ -209,6 +301,24 @@ fn words_give_no_other_command(rt: HostRuntime) -> Result<(), Fail> {
     for line in NO_OTHERS {
         let told = told(rt.alloc(), line)?;
         assert_eq!(rt; told.as_str(), "None", "{line}");
+    }
+    Ok(())
+}
+
+#[test]
+fn a_flag_stands_once_and_takes_no_value(rt: HostRuntime) -> Result<(), Fail> {
+    for line in NO_FLAGS {
+        let told = told(rt.alloc(), line)?;
+        assert_eq!(rt; told.as_str(), "None", "{line}");
+    }
+    Ok(())
+}
+
+#[test]
+fn words_ask_why(rt: HostRuntime) -> Result<(), Fail> {
+    for (line, expected) in WHY {
+        let told = told(rt.alloc(), line)?;
+        assert_eq!(rt; told.as_str(), expected, "{line}");
     }
     Ok(())
 }

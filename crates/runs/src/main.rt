@@ -20,6 +20,8 @@ mod netlists;
 mod parallel_tests;
 #[cfg(test)]
 mod space_tests;
+#[cfg(test)]
+mod vector_tests;
 
 use anyhow::Context;
 use ncl_base::{Items, MemFile, MemSink, MemSource, Name};
@@ -43,6 +45,14 @@ fn file(alloc: Global, name: &str, bytes: Vec<u8>) -> anyhow::Result<MemFile> {
     })
 }
 
+/// What stands after the `=` of a word such as `--words=FILE`, and else the word.
+fn value_of(word: &str) -> &str {
+    match word.split_once('=') {
+        Some((_, value)) => value,
+        None => word,
+    }
+}
+
 /// The files that these words name: those that were kept, and those that lie in the folder.
 fn files_of<R: Files + AllocGlobal>(
     rt: &R,
@@ -52,10 +62,11 @@ fn files_of<R: Files + AllocGlobal>(
 ) -> anyhow::Result<Vec<MemFile>> {
     let mut files = Vec::new(alloc);
     for word in words {
-        if let Some(one) = kept.iter().find(|one| one.name.bytes() == word.as_bytes()) {
+        let name = value_of(word);
+        if let Some(one) = kept.iter().find(|one| one.name.bytes() == name.as_bytes()) {
             files.push(one.clone()?)?;
-        } else if let Ok(bytes) = fs::read(rt, word) {
-            files.push(file(alloc, word, bytes)?)?;
+        } else if let Ok(bytes) = fs::read(rt, name) {
+            files.push(file(alloc, name, bytes)?)?;
         }
     }
     Ok(files)

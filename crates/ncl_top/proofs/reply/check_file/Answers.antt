@@ -17,5 +17,5 @@ returns-clause-ok g c =
       given = some_told _ _ c.in_ok-bytes.field-0 c.in-Some.bytes c.in_ok-bytes.ensures.bytes c.in-Some.is;
       outcome = reply.outcome;
       ends = c.status_of.ensures;
-      reply = subst (λ bytes. IsCheckReply c.args.limit bytes reply.outcome reply.text.items) c.deref.ensures.value c.in_ok-reply.ensures.reply;
+      reply = subst (λ bytes. IsCheckReply c.args.limit c.args.why bytes reply.outcome reply.text.items) c.deref.ensures.value c.in_ok-reply.ensures.reply;
     }

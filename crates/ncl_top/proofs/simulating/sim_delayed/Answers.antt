@@ -37,8 +37,8 @@ returns-in-Ok-clause-ok g c =
     let given = some_told _ _ c.in_ok-bytes.field-0 c.in-Some.bytes c.in_ok-bytes.ensures.bytes c.in-Some.is in
     let few = some_told _ _ c.in_ok-bytes.field-0 c.in-Some.bytes c.in_ok-bytes.ensures.few c.in-Some.is in
     let text = words_text (length p.inputs) _ _ c.in-Some.bytes.items _ (ap length c.inputs.ensures.inputs) c.deref.ensures.value few c.in-Ok.ensures.unbroken c.in-Ok.ensures.words in
-    gives_from (IsRunReply p d c.deref-in-Ok.result.now) _
-    (λ status line reply. ran c.in-Some.bytes.items given c.in-Ok.words.items text status line (subst (λ words. IsRunReply p d words status line) c.deref-in-Ok.ensures.value reply))
+    gives_from (IsRunReply p d c.deref-in-Ok.result.now c.args.vcd) _
+    (λ status line reply. ran c.in-Some.bytes.items given c.in-Ok.words.items text status line (subst (λ words. IsRunReply p d words c.args.vcd status line) c.deref-in-Ok.ensures.value reply))
     c.run_reply.result c.run_reply.ensures.told
 
 pub returns-clause-ok : goal.returns-clause-ok
@@ -46,5 +46,5 @@ returns-clause-ok g c =
     let given = some_told _ _ c.in_ok-bytes.field-0 c.in-Some.bytes c.in_ok-bytes.ensures.bytes c.in-Some.is in
     let few = some_told _ _ c.in_ok-bytes.field-0 c.in-Some.bytes c.in_ok-bytes.ensures.few c.in-Some.is in
     gives_from _ _
-    (words_refused _ c.args.pipeline.now c.args.delays.now c.args.words.now c.in-Some.bytes.items _ _ given few c.deref.ensures.value (ap length c.inputs.ensures.inputs) c.in-Err.fault c.in-Err.ensures.broken)
+    (words_refused _ c.args.pipeline.now c.args.delays.now c.args.words.now c.in-Some.bytes.items _ _ c.args.vcd given few c.deref.ensures.value (ap length c.inputs.ensures.inputs) c.in-Err.fault c.in-Err.ensures.broken)
     c.no_words.result c.no_words.ensures.told

@@ -1,4 +1,6 @@
 use Rattle.std.proofs.Common.{◌≡◌, IfOk, sym, subst}
+use Rattle.ncl_reader.specs.GraphicNames.{HasGraphicNames}
+use Rattle.ncl_reader.proofs.GraphicNames.{graphic_names}
 use Rattle.ncl_check.specs.Text.{IsNetlistText, IsRefusedText, IsShapeless, too_long, shapeless}
 use Rattle.ncl_check.proofs.Refusing.{Tells-weaker}
 use Rattle.ncl_check.proofs.Replying.{pipeline_text}
@@ -18,8 +20,8 @@ returns-in-Err-clause-ok g c =
     let given = some_told _ _ c.in_ok-bytes.field-0 c.in-Some.bytes c.in_ok-bytes.ensures.bytes c.in-Some.is in
     let told = g.S.Source.files c.args.source.now in
     let none = Tells-weaker (IsRefusedText c.deref.result.now) (IsRefusedText bytes) (λ text refused. subst (λ b. IsRefusedText b text) c.deref.ensures.value refused) c.in-Err.refusal c.in-Err.ensures.refused in
-    gives_from (λ status text. (status ≡ 3) × IsRefusedText bytes text) (IsSimReply told c.args.netlist.now c.args.delays.now c.args.words.now)
-    (λ status text said. subst (λ s. IsSimReply told c.args.netlist.now c.args.delays.now c.args.words.now s text) (sym said.0) (no_pipeline bytes given text said.1))
+    gives_from (λ status text. (status ≡ 3) × IsRefusedText bytes text) (IsSimReply told c.args.netlist.now c.args.delays.now c.args.words.now c.args.vcd)
+    (λ status text said. subst (λ s. IsSimReply told c.args.netlist.now c.args.delays.now c.args.words.now c.args.vcd s text) (sym said.0) (no_pipeline bytes given text said.1))
     c.refused.result (c.refused.ensures.told bytes none)
 
 pub returns-in-Err-pipeline_in-clause-ok : goal.returns-in-Err-pipeline_in-clause-ok
@@ -30,8 +32,8 @@ returns-in-Err-pipeline_in-clause-ok g c =
     let told = g.S.Source.files c.args.source.now in
     let of : IsNetlistText bytes n = subst (λ b. IsNetlistText b n) c.deref.ensures.value c.in-Ok.ensures.netlist in
     let none = Tells-weaker (IsShapeless n) (IsRefusedText bytes) (shapeless n of) c.in-Err-pipeline_in.refusal c.in-Err-pipeline_in.ensures.refused in
-    gives_from (λ status text. (status ≡ 3) × IsRefusedText bytes text) (IsSimReply told c.args.netlist.now c.args.delays.now c.args.words.now)
-    (λ status text said. subst (λ s. IsSimReply told c.args.netlist.now c.args.delays.now c.args.words.now s text) (sym said.0) (no_pipeline bytes given text said.1))
+    gives_from (λ status text. (status ≡ 3) × IsRefusedText bytes text) (IsSimReply told c.args.netlist.now c.args.delays.now c.args.words.now c.args.vcd)
+    (λ status text said. subst (λ s. IsSimReply told c.args.netlist.now c.args.delays.now c.args.words.now c.args.vcd s text) (sym said.0) (no_pipeline bytes given text said.1))
     c.refused-in-Err-pipeline_in.result (c.refused-in-Err-pipeline_in.ensures.told bytes none)
 
 pub returns-clause-ok : goal.returns-clause-ok
@@ -41,7 +43,13 @@ returns-clause-ok g c =
     let p = c.in-Ok-pipeline_in.pipeline in
     let given = some_told _ _ c.in_ok-bytes.field-0 c.in-Some.bytes c.in_ok-bytes.ensures.bytes c.in-Some.is in
     let of : IsNetlistText bytes n = subst (λ b. IsNetlistText b n) c.deref.ensures.value c.in-Ok.ensures.netlist in
-    gives_from (IsDelaysReply (g.S.Source.files c.args.source.now) p c.args.delays.now c.args.words.now) _
+    gives_from (IsDelaysReply (g.S.Source.files c.args.source.now) p c.args.delays.now c.args.words.now c.args.vcd) _
     (λ status text reply. piped bytes given p (pipeline_text bytes n p of c.in-Ok-pipeline_in.ensures.pipeline) status text reply)
     c.sim_pipeline.result
-    (subst (λ told. IfOk c.sim_pipeline.result (Gives (IsDelaysReply told p c.args.delays.now c.args.words.now))) c.in_ok-bytes.ensures.files c.sim_pipeline.ensures.ok)
+    (subst (λ told. IfOk c.sim_pipeline.result (Gives (IsDelaysReply told p c.args.delays.now c.args.words.now c.args.vcd))) c.in_ok-bytes.ensures.files c.sim_pipeline.ensures.ok)
+
+-- what was read has names of printing characters
+pub sim_pipeline-requires-clause-names : goal.sim_pipeline-requires-clause-names
+sim_pipeline-requires-clause-names g c =
+    let text = c.in-Ok.ensures.netlist in
+    subst HasGraphicNames (sym c.in-Ok-pipeline_in.ensures.pipeline.netlist) (subst HasGraphicNames (sym text.netlist) (graphic_names c.deref.result.now text.parts text.reads))

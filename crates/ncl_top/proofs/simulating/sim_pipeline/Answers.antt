@@ -16,15 +16,15 @@ returns-in-Ok-clause-ok g c =
     let given = some_told _ _ c.in_ok-bytes.field-0 c.in-Some.bytes c.in_ok-bytes.ensures.bytes c.in-Some.is in
     let few = some_told _ _ c.in_ok-bytes.field-0 c.in-Some.bytes c.in_ok-bytes.ensures.few c.in-Some.is in
     let text = delays_text p.netlist _ _ c.in-Some.bytes.items d c.netlist.ensures.netlist c.deref.ensures.value few c.in-Ok.ensures.unbroken c.in-Ok.ensures.stated in
-    gives_from (IsWordsReply (g.S.Source.files c.args.source.now) p d c.args.words.now) _
+    gives_from (IsWordsReply (g.S.Source.files c.args.source.now) p d c.args.words.now c.args.vcd) _
     (λ status line reply. delayed c.in-Some.bytes.items given d text status line reply)
     c.sim_delayed.result
-    (subst (λ told. IfOk c.sim_delayed.result (Gives (IsWordsReply told p d c.args.words.now))) c.in_ok-bytes.ensures.files c.sim_delayed.ensures.ok)
+    (subst (λ told. IfOk c.sim_delayed.result (Gives (IsWordsReply told p d c.args.words.now c.args.vcd))) c.in_ok-bytes.ensures.files c.sim_delayed.ensures.ok)
 
 pub returns-clause-ok : goal.returns-clause-ok
 returns-clause-ok g c =
     let given = some_told _ _ c.in_ok-bytes.field-0 c.in-Some.bytes c.in_ok-bytes.ensures.bytes c.in-Some.is in
     let few = some_told _ _ c.in_ok-bytes.field-0 c.in-Some.bytes c.in_ok-bytes.ensures.few c.in-Some.is in
     gives_from _ _
-    (delays_refused _ c.args.pipeline.now c.args.delays.now c.args.words.now c.in-Some.bytes.items _ _ given few c.deref.ensures.value c.netlist.ensures.netlist c.in-Err.fault c.in-Err.ensures.broken)
+    (delays_refused _ c.args.pipeline.now c.args.delays.now c.args.words.now c.in-Some.bytes.items _ _ c.args.vcd given few c.deref.ensures.value c.netlist.ensures.netlist c.in-Err.fault c.in-Err.ensures.broken)
     c.no_delays.result c.no_delays.ensures.told

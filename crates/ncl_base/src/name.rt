@@ -10,15 +10,22 @@ ghost use Rattle.std.specs.Hash.{items_Alike};
 ghost use Rattle.std.specs.Cmp.Lexicographic.{nat_list_cmp_total};
 
 use crate::memory::Memory;
+use smallvec::SmallVec;
 use std::alloc::Global;
 use std::cmp::Ordering;
 use std::hash::{Hash, Hasher};
 use std::marker::Model;
 
+/// The most bytes of a name that takes no memory.
+const MOST_IN_PLACE: usize = 22;
+
 /// A name, which contracts see as the list of its bytes. Names are compared and hashed byte by byte.
+///
+/// A name of at most 22 bytes is kept in place, and takes no memory. A longer one takes an
+/// allocation, and so does its clone.
 #[derive(Clone, Drop, Debug)]
 pub struct Name {
-    text: Vec<u8>,
+    text: SmallVec<u8, MOST_IN_PLACE>,
 }
 
 impl Model for Name {
@@ -78,12 +85,13 @@ impl Hash for Name {
 }
 
 impl Name {
-    /// A name with a copy of these bytes. Linear in the bytes.
+    /// A name with a copy of these bytes. Linear in the bytes. Takes memory where there are more
+    /// than 22.
     pub fn from_bytes(alloc: Global, bytes: &[u8]) -> Result<Name, Memory>
         ensures { IfOk result (λ name. name ≡ bytes.now) }
     {
         Ok(Name {
-            text: bytes.to_vec(alloc)?,
+            text: SmallVec::from_slice(alloc, bytes)?,
         })
     }
 

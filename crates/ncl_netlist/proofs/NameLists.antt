@@ -1,9 +1,9 @@
 -- Lists of names: each name once, and the number of a name.
-use Rattle.std.proofs.Common.{◌≡◌, ℕ, ◌+◌, ◌<◌, ◌≤◌, Bool, true, false, not, ◌&&◌, ◌||◌, if◌then◌else◌, cond, List, [], ◌∷◌, ◌++◌, length, get_or, take, filter, sym, refl, ap, ◌∙◌, subst, arith, append_assoc}
+use Rattle.std.proofs.Common.{◌≡◌, ℕ, ◌+◌, ◌<◌, ◌≤◌, Bool, true, false, not, ◌&&◌, ◌||◌, if◌then◌else◌, cond, List, [], ◌∷◌, ◌++◌, length, get_or, take, map, filter, sym, refl, ap, ◌∙◌, subst, arith, append_assoc, Bor}
 use Rattle.std.specs.List.{list_any, IsDistinct, AllByRecursion}
 use Rattle.std.specs.Cmp.{IsEquivalence, nat_eq_equiv}
 use Rattle.std.specs.Cmp.Lexicographic.{lists_equiv, same_text}
-use Rattle.std.proofs.lemmas.List.{append-nil, take_at}
+use Rattle.std.proofs.lemmas.List.{append-nil, take_at, map-append}
 use Rattle.std.proofs.lemmas.List.Folds.{list_any-append}
 use Rattle.std.proofs.lemmas.List.Sums.{fold-append, position_or_len_is, passes_at_first}
 use Rattle.std.proofs.lemmas.Map.Keys.{IsDistinct-head, IsDistinct-tail, apart_from_distinct, IsDistinct-push}
@@ -70,6 +70,21 @@ pushed_test true true = refl
 pushed_test true false = refl
 pushed_test false true = refl
 pushed_test false false = refl
+
+-- names behind references
+pub any-now : (x : List ℕ) (keys : List (Bor (List ℕ))) → list_any (λ key. same_name x key.now) keys ≡ list_any (same_name x) (map (λ key. key.now) keys)
+any-now x [] = refl
+any-now x (key ∷ keys) = ap (λ b. same_name x key.now || b) (any-now x keys)
+
+pub insert_key-now : (keys : List (Bor (List ℕ))) (x : Bor (List ℕ)) → map (λ key. key.now) (insert_key (λ a b. same_name a.now b.now) keys x) ≡ insert_key same_name (map (λ key. key.now) keys) x.now
+insert_key-now keys x = by (list_any (λ key. same_name x.now key.now) keys) ∙ ap (λ b. if b then names else names ++ x.now ∷ []) (any-now x.now keys)
+  where
+    names : List (List ℕ)
+    names = map (λ key. key.now) keys
+
+    by : (b : Bool) → map (λ key. key.now) (if b then keys else keys ++ x ∷ []) ≡ (if b then names else names ++ x.now ∷ [])
+    by true = refl
+    by false = map-append (λ key. key.now) keys (x ∷ [])
 
 -- what is inserted goes last, once each, where it is new
 pub insert_all-grows : (ks xs : List (List ℕ)) → insert_all same_name ks xs ≡ ks ++ filter (fresh ks) (once_each xs)

@@ -14,14 +14,14 @@ pub const MOST_CELLS: usize = 131_072;
 
 /// The name of the first cell that repeats an earlier cell's name, or `None` where the names differ.
 ///
-/// Linear in the bytes of the names, each of which is copied.
+/// Linear in the bytes of the names, which are looked at where they stand.
 fn first_repeated(alloc: Global, cells: &[PartCell]) -> Result<Option<Name>, Memory>
     ensures { IfOk result (λ repeated. let names = map (λ cell. cell.name) cells.now in
         MatchOption repeated (AllDiffer names) (IsFirstWhere (Repeats names) names)) }
 {
-    let mut seen: IndexSet<Name> = IndexSet::new(alloc);
+    let mut seen: IndexSet<&[u8]> = IndexSet::with_capacity(alloc, cells.len())?;
     for cell in cells {
-        let added = seen.insert(Name::from_bytes(alloc, cell.name.bytes())?)?;
+        let added = seen.insert(cell.name.bytes())?;
         if !added {
             return Ok(Some(Name::from_bytes(alloc, cell.name.bytes())?));
         }

@@ -3,4 +3,4 @@ use Rattle.ncl_netlist.proofs.Steps.{Seen}
 use Rattle.ncl_netlist.proofs.cell_rules.first_repeated.Given as goal
 
 abbrev pub invariant-loop-cell : goal.invariant-loop-cell
-invariant-loop-cell l = Seen l.seen.keys (map (λ cell. cell.name) (take l.cell-index l.cells))
+invariant-loop-cell l = Seen (map (λ key. key.now) l.seen.keys) (map (λ cell. cell.name) (take l.cell-index l.cells))

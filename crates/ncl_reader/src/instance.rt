@@ -42,7 +42,7 @@ impl<'a> Instance<'a> {
     }
 
     /// The cell, or `None` where a pin isn't joined. Looks at each pin and each connection, at most five by five,
-    /// and takes one allocation for each name.
+    /// and takes at most a few allocations for each name.
     pub fn close(&self, alloc: Global) -> Result<Option<PartCell>, Memory>
         ensures { (conns : List Conn) → AreJoins conns self.now.joins.items → IfOk result (λ found. Closes self.now conns found) }
     {
@@ -75,7 +75,7 @@ impl<'a> Instance<'a> {
     }
 }
 
-/// The name of the net of a connection. One allocation.
+/// The name of the net of a connection. At most a few allocations.
 fn net_name(alloc: Global, join: Join) -> Result<Name, Memory>
     ensures { IfOk result (λ name. name ≡ picked_name join.entry.net.now join.entry.index) }
 {

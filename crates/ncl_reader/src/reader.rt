@@ -24,7 +24,7 @@ use std::alloc::Global;
 ///
 /// Near linear in the bytes: each is looked at a fixed number of times, each name is looked up by O(log n)
 /// comparisons a fixed number of times, a name that has the form of a bit's name is looked at once more where its
-/// vector is declared, and `build` hashes each name once. Takes memory linear in the bytes: one allocation for each
+/// vector is declared, and `build` hashes each name once. Takes memory linear in the bytes: that of each
 /// name of a port, a cell and a connection, and no list of tokens; and beside, the names of the bits of ports, which
 /// are at most 65,536, each with the name of its vector.
 pub fn read_netlist(alloc: Global, bytes: &[u8]) -> Result<Netlist, NetFault>

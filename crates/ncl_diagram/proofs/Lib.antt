@@ -15,5 +15,6 @@ pub mod DiagramLaws
 pub mod Rails
 pub mod LeastLaws
 pub mod KeptLaws
+pub mod Packing
 pub mod Reaching
 pub mod Counting

@@ -5,5 +5,6 @@ pub mod Memo
 pub mod Holding
 pub mod Diagram
 pub mod Leaves
+pub mod Slot
 pub mod Kept
 pub mod Steps

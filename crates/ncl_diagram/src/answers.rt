@@ -1,8 +1,12 @@
 //! Answers of earlier operations, of which some are kept.
-ghost use Rattle.std.specs.Prelude.{◌≡◌, ◌≤◌, ◌+◌, [], IfSome, length};
+ghost use Rattle.std.specs.Prelude.{◌≡◌, ◌≤◌, ◌+◌, [], ◌∷◌, IfSome, length};
 ghost use Rattle.ncl_diagram.specs.declared.answers.TheConstants.{MOST_SLOTS};
+ghost use Rattle.ncl_diagram.specs.declared.slot.TheConstants.{MOST_PLACES};
+ghost use Rattle.ncl_diagram.specs.Memo.{places};
+ghost use Rattle.ncl_diagram.specs.Slot.{are_below};
 
 use crate::memo::Key;
+use crate::slot::{MOST_PLACES, Slot};
 use ncl_gates::Kind;
 use ncl_space::Ref;
 use std::alloc::Global;
@@ -12,57 +16,29 @@ const FIRST_SLOTS: usize = 1 << 10;
 
 const MOST_SLOTS: usize = 1 << 18;
 
-/// The answer of an operation.
-#[derive(Clone, Copy, Debug)]
-pub(crate) struct Slot {
-    key: Key,
-    found: Ref,
-    kind: Kind,
-}
-
-impl Slot {
-    ghost use Rattle.ncl_diagram.specs.Kept.{is_below};
-
-    // What stands in a slot that has no answer: its function stands below no place.
-    fn blank() -> Slot
-        ensures { result.found.place ≡ u32.MAX }
-    {
-        let none = Ref { place: 0 };
-        Slot {
-            key: Key {
-                a: none,
-                b: none,
-                c: none,
-                d: none,
-            },
-            found: Ref { place: u32::MAX },
-            kind: Kind::Th12,
-        }
-    }
-
-    // Whether all its functions stand below a place.
-    fn is_below(&self, floor: u32) -> bool
-        ensures { result ≡ is_below floor self.now }
-    {
-        self.found.place < floor
-            && self.key.a.place < floor
-            && self.key.b.place < floor
-            && self.key.c.place < floor
-            && self.key.d.place < floor
-    }
+// Whether the functions of an answer stand below a place.
+fn are_below(floor: u32, key: Key, found: Ref) -> bool
+    ensures { result ≡ are_below floor (found.place ∷ places key) }
+{
+    found.place < floor
+        && key.a.place < floor
+        && key.b.place < floor
+        && key.c.place < floor
+        && key.d.place < floor
 }
 
 /// Some answers, each in the slot of its key, where a later one takes the place of an earlier one.
 ///
-/// A slot counts while all its functions stand below the floor, the lowest place that was ever free again
-/// after a release: what stands there has stood since the answer was found. A slot without an answer has a
-/// function that stands below no place, so it never counts. However many nodes there are, there are at most
-/// 262,144 slots.
+/// An answer counts while all its functions stand below the floor, the lowest place that was ever free again
+/// after a release: what stands there has stood since the answer was found. The floor is at most 2^24, so
+/// that an answer with a place that a slot can't name isn't kept. However many nodes there are, there are at
+/// most `MOST_SLOTS` slots.
 #[derive(Drop)]
 pub(crate) struct Answers {
     pub(crate) slots: Vec<Slot>,
     pub(crate) floor: u32,
     ghost few: { length slots.items ≤ MOST_SLOTS },
+    ghost nameable: { floor ≤ MOST_PLACES },
 }
 
 // One product of two places, and of what is mixed into them.
@@ -79,7 +55,7 @@ impl Answers {
     {
         Answers {
             slots: Vec::new(alloc),
-            floor: u32::MAX,
+            floor: MOST_PLACES,
         }
     }
 
@@ -99,9 +75,9 @@ impl Answers {
         if at >= self.slots.len() {
             return None;
         }
-        let slot = self.slots[at];
-        if slot.kind == kind && slot.key == key && slot.is_below(self.floor) {
-            Some(slot.found)
+        let found = self.slots[at].answer(kind, key)?;
+        if are_below(self.floor, key, found) {
+            Some(found)
         } else {
             None
         }
@@ -112,9 +88,8 @@ impl Answers {
         ensures floor { self.new.floor ≡ self.old.floor }
         ensures slots { HasMore self.old self.new kind key found }
     {
-        let slot = Slot { key, found, kind };
-        if at < self.slots.len() && slot.is_below(self.floor) {
-            self.slots[at] = slot;
+        if at < self.slots.len() && are_below(self.floor, key, found) {
+            self.slots[at] = Slot::new(kind, key, found);
         }
     }
 
@@ -130,7 +105,7 @@ impl Answers {
         }
         let more = (2 * count).clamp(FIRST_SLOTS, MOST_SLOTS);
         self.slots.truncate(0);
-        let _ = self.slots.resize(more, Slot::blank());
+        let _ = self.slots.resize(more, Slot::empty());
     }
 
     /// Nodes from so many on go.

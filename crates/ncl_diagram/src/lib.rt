@@ -7,6 +7,7 @@ mod least;
 mod memo;
 mod nodes;
 mod operation;
+mod slot;
 mod steps;
 #[cfg(test)]
 mod tests;

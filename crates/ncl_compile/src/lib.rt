@@ -8,7 +8,5 @@ mod naming;
 mod putting;
 mod sizing;
 mod stages;
-#[cfg(test)]
-mod tests;
 
 pub use compiling::compile;

@@ -5,8 +5,6 @@
 mod inputs;
 mod rail_fault;
 mod rails;
-#[cfg(test)]
-mod tests;
 
 pub use inputs::input_complete;
 pub use rail_fault::RailFault;

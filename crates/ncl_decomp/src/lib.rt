@@ -6,8 +6,6 @@ mod literals;
 mod pair;
 mod rows;
 mod splitting;
-#[cfg(test)]
-mod tests;
 mod tree;
 mod wide;
 

@@ -9,8 +9,6 @@ mod fired;
 mod lines;
 mod number;
 mod statement;
-#[cfg(test)]
-mod tests;
 mod word_text;
 
 pub use delay_text::read_delays;

@@ -4,8 +4,6 @@
 mod covers;
 pub mod laws;
 mod models;
-#[cfg(test)]
-mod tests;
 mod words;
 
 pub use models::demo_models;

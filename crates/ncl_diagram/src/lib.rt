@@ -9,8 +9,6 @@ mod nodes;
 mod operation;
 mod slot;
 mod steps;
-#[cfg(test)]
-mod tests;
 
 pub use diagram::Diagram;
 pub use ncl_space::{Mark, Plain, Ref, Space, SpaceFault};

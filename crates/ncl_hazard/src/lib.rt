@@ -8,8 +8,6 @@ mod joining;
 pub mod laws;
 mod schedule;
 mod search;
-#[cfg(test)]
-mod tests;
 mod trying;
 
 pub use explaining::{Explained, Steps, explain};

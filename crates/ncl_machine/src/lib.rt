@@ -9,8 +9,6 @@ mod levels;
 mod pair;
 mod reset;
 mod state;
-#[cfg(test)]
-mod state_tests;
 mod step_fault;
 pub mod unsound;
 

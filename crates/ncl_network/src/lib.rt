@@ -11,8 +11,6 @@ mod network;
 mod pruning;
 mod reducing;
 mod select;
-#[cfg(test)]
-mod tests;
 mod walk;
 
 pub use fault::CompileFault;

@@ -2,7 +2,5 @@
 #![tactic(auto)]
 
 mod observing;
-#[cfg(test)]
-mod tests;
 
 pub use observing::orphan;

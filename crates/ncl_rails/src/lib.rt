@@ -8,8 +8,6 @@ mod layout;
 mod naming;
 mod parts;
 mod signal_pairs;
-#[cfg(test)]
-mod tests;
 mod unread;
 
 pub use parts::{StageParts, stage_parts};

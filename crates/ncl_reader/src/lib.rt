@@ -23,13 +23,7 @@ mod ranges;
 mod reader;
 mod refusal;
 mod span;
-#[cfg(test)]
-mod speed_tests;
-#[cfg(test)]
-mod tests;
 mod uses;
-#[cfg(test)]
-mod vector_tests;
 
 pub use keyword::{Keyword, Way};
 pub use lexeme::Sign;

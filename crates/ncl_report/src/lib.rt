@@ -11,8 +11,6 @@ pub mod laws;
 mod line;
 mod net_faults;
 mod shape_faults;
-#[cfg(test)]
-mod tests;
 mod traces;
 mod verdicts;
 

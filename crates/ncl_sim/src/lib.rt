@@ -6,8 +6,6 @@ pub mod laws;
 mod looking;
 mod run;
 mod simulator;
-#[cfg(test)]
-mod tests;
 mod touched;
 mod trace;
 

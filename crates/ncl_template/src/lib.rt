@@ -8,7 +8,5 @@ mod order;
 mod rail;
 mod table;
 mod template;
-#[cfg(test)]
-mod tests;
 
 pub use template::add_template;

@@ -4,8 +4,6 @@
 mod gates;
 pub mod laws;
 mod names;
-#[cfg(test)]
-mod tests;
 mod tree;
 
 pub use gates::Gates;

@@ -1,0 +1,236 @@
+//! Tests of splitting, by texts, words, counts and answers that were worked out by hand.
+use ncl_base::MOST_BYTES;
+use ncl_blif::{Lit, Row, read_blif};
+use ncl_decomp::*;
+use ncl_network::{From3, Network, Node, Signal, reduce};
+use std::alloc::AllocError;
+use std::process::Abort;
+use std::test::Fail;
+
+/// The network that the one model of a text is split into.
+fn network(rt: &(impl Abort + AllocGlobal), text: &str) -> Result<Network, Fail> {
+    let bytes = text.as_bytes();
+    assert!(rt; bytes.len() <= MOST_BYTES);
+    let models = read_blif(rt.alloc(), bytes)?;
+    assert!(rt; models.len() == 1);
+    let network = reduce(rt.alloc(), &models[0])?;
+    Ok(split(rt.alloc(), &network)?)
+}
+
+/// The bit of a signal.
+fn bit(signal: &Signal, word: &[bool], nodes: &[bool]) -> bool {
+    let bit = match signal.from {
+        From3::Input(i) => word.get(i as usize).copied().unwrap_or(false),
+        From3::Node(k) => nodes.get(k as usize).copied().unwrap_or(false),
+        From3::Const(bit) => bit,
+    };
+    bit != signal.inverted
+}
+
+/// Whether a row matches some bits.
+fn matches(row: &Row, bits: &[bool]) -> bool {
+    row.items().iter().zip(bits).all(|(lit, bit)| match lit {
+        Lit::Zero => !*bit,
+        Lit::One => *bit,
+        Lit::Dash => true,
+    })
+}
+
+/// The bit of a node.
+fn node_bit(
+    rt: &impl AllocGlobal,
+    node: &Node,
+    word: &[bool],
+    nodes: &[bool],
+) -> Result<bool, AllocError> {
+    let mut bits = Vec::new(rt.alloc());
+    for signal in node.ins.items() {
+        bits.push(bit(signal, word, nodes))?;
+    }
+    let any = node.rows.items().iter().any(|row| matches(row, &bits));
+    Ok(any == node.on)
+}
+
+/// The bits of a network's outputs at a word, both as text.
+fn answer(rt: &impl AllocGlobal, network: &Network, word: &str) -> Result<String, AllocError> {
+    let word = word
+        .as_bytes()
+        .iter()
+        .map(|b| *b == b'1')
+        .collect(rt.alloc())?;
+    let word: Vec<bool> = word;
+    let mut nodes = Vec::new(rt.alloc());
+    for node in network.nodes.items() {
+        let bit = node_bit(rt, node, &word, &nodes)?;
+        nodes.push(bit)?;
+    }
+    let mut text = String::new(rt.alloc());
+    for signal in network.outputs.items() {
+        text.push(if bit(signal, &word, &nodes) { '1' } else { '0' })?;
+    }
+    Ok(text)
+}
+
+/// How many nodes of a network have so many inputs.
+fn nodes_of(network: &Network, inputs: usize) -> usize {
+    network
+        .nodes
+        .items()
+        .iter()
+        .filter(|node| node.ins.items().len() == inputs)
+        .count()
+}
+
+/// Tries a text: how many nodes of two, three and four inputs its network has, and what it answers to words.
+fn try_text(
+    rt: &(impl Abort + AllocGlobal),
+    text: &str,
+    nodes: [usize; 3],
+    words: &[(&str, &str)],
+) -> Result<(), Fail> {
+    let network = network(rt, text)?;
+    let found = [
+        nodes_of(&network, 2),
+        nodes_of(&network, 3),
+        nodes_of(&network, 4),
+    ];
+    assert!(rt; found == nodes, "{text}");
+    for (word, wanted) in words {
+        let answer = answer(rt, &network, word)?;
+        assert!(rt; answer.as_str() == *wanted, "{text} at {word}");
+    }
+    Ok(())
+}
+
+/// The greatest number of nodes on a way to the root of each node. Nodes read earlier ones.
+fn depth(rt: &impl AllocGlobal, network: &Network) -> Result<usize, AllocError> {
+    let mut depths = Vec::new(rt.alloc());
+    let mut deepest = 0usize;
+    for node in network.nodes.items() {
+        let mut here = 0usize;
+        for signal in node.ins.items() {
+            if let From3::Node(k) = signal.from {
+                here = here.max(depths.get(k as usize).copied().unwrap_or(0));
+            }
+        }
+        here = here.saturating_add(1);
+        deepest = deepest.max(here);
+        depths.push(here)?;
+    }
+    Ok(deepest)
+}
+
+#[test]
+fn narrow_nodes_stay(rt: HostRuntime) -> Result<(), Fail> {
+    let two = ".inputs a b\n.outputs y\n.names a b y\n10 1\n01 1\n";
+    try_text(
+        &rt,
+        two,
+        [1, 0, 0],
+        &[("00", "0"), ("10", "1"), ("01", "1"), ("11", "0")],
+    )?;
+    let three = ".inputs a b c\n.outputs y\n.names a b c y\n110 0\n--1 0\n";
+    try_text(
+        &rt,
+        three,
+        [0, 1, 0],
+        &[("110", "0"), ("100", "1"), ("001", "0"), ("000", "1")],
+    )?;
+    let four = ".inputs a b c d\n.outputs y\n.names a b c d y\n1--0 1\n-11- 1\n";
+    try_text(
+        &rt,
+        four,
+        [0, 0, 1],
+        &[("1000", "1"), ("1001", "0"), ("0110", "1"), ("0101", "0")],
+    )
+}
+
+#[test]
+fn wide_nodes_become_trees_of_nodes_of_two(rt: HostRuntime) -> Result<(), Fail> {
+    // Two rows of four and three literals: three nodes and two, and one over both.
+    let on = ".inputs a b c d e\n.outputs y\n.names a b c d e y\n10-11 1\n-110- 1\n";
+    let words = [
+        ("10011", "1"),
+        ("10111", "1"),
+        ("01100", "1"),
+        ("00000", "0"),
+        ("11011", "0"),
+        ("11101", "1"),
+    ];
+    try_text(&rt, on, [6, 0, 0], &words)?;
+    // The same rows as an OFF-set.
+    let off = ".inputs a b c d e\n.outputs y\n.names a b c d e y\n10-11 0\n-110- 0\n";
+    let words = [
+        ("10011", "0"),
+        ("10111", "0"),
+        ("01100", "0"),
+        ("00000", "1"),
+        ("11011", "1"),
+        ("11101", "0"),
+    ];
+    try_text(&rt, off, [6, 0, 0], &words)?;
+    // Rows of one literal are signals themselves.
+    let ones =
+        ".inputs a b c d e\n.outputs y\n.names a b c d e y\n1---- 1\n-0--- 1\n--1-- 1\n---1- 1\n----1 1\n";
+    try_text(
+        &rt,
+        ones,
+        [4, 0, 0],
+        &[
+            ("01000", "0"),
+            ("00000", "1"),
+            ("11000", "1"),
+            ("01001", "1"),
+        ],
+    )
+}
+
+#[test]
+fn trees_are_balanced(rt: HostRuntime) -> Result<(), Fail> {
+    let nine = ".inputs a b c d e f g h i\n.outputs y\n.names a b c d e f g h i y\n111111111 1\n";
+    try_text(
+        &rt,
+        nine,
+        [8, 0, 0],
+        &[("111111111", "1"), ("111111110", "0"), ("011111111", "0")],
+    )?;
+    let network = network(&rt, nine)?;
+    assert_eq!(rt; depth(&rt, &network)?, 4);
+    Ok(())
+}
+
+#[test]
+fn what_only_a_column_of_dashes_reads_is_dropped(rt: HostRuntime) -> Result<(), Fail> {
+    // x is read by dashes alone where y is.
+    let text =
+        ".inputs a b c d e\n.outputs y\n.names a b x\n11 1\n.names a b c d e x y\n11111- 1\n";
+    try_text(&rt, text, [4, 0, 0], &[("11111", "1"), ("11110", "0")])?;
+    // An output that is an input, its inverse, a constant.
+    let wires = ".inputs a b\n.outputs b n k\n.names a n\n0 1\n.names k\n1\n";
+    try_text(&rt, wires, [0, 0, 0], &[("01", "111"), ("10", "001")])
+}
+
+#[test]
+fn a_long_cover_is_split(rt: HostRuntime) -> Result<(), Fail> {
+    // 2,730 rows of five literals weigh 16,380.
+    let mut text = String::from_str(
+        rt.alloc(),
+        ".inputs a b c d e\n.outputs y\n.names a b c d e y\n",
+    )?;
+    for _ in 0..1365 {
+        text.push_str("10101 1\n11-01 1\n")?;
+    }
+    let words = [
+        ("10101", "1"),
+        ("11001", "1"),
+        ("11101", "1"),
+        ("10001", "0"),
+        ("11011", "0"),
+    ];
+    try_text(
+        &rt,
+        text.as_str(),
+        [1365 * 4 + 1365 * 3 + 2729, 0, 0],
+        &words,
+    )
+}

@@ -3,3 +3,4 @@ pub mod Named
 pub mod Members
 pub mod Lists
 pub mod Growing
+pub mod NumberLists

@@ -2,3 +2,4 @@ pub mod Words
 pub mod Files
 pub mod Held
 pub mod Members
+pub mod NumberLists

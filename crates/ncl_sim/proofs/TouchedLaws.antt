@@ -6,6 +6,7 @@ use Rattle.std.proofs.lemmas.List.{get_or-set_other, get_or-set_same, length-rep
 use Rattle.std.proofs.lemmas.List.Elements.{All-contains, Contains-append_left}
 use Rattle.std.proofs.lemmas.Option.{get_or_from_slice_get}
 use Rattle.ncl_base.proofs.Growing.{Contains-last, from_push}
+use Rattle.ncl_base.proofs.NumberLists.{grows-itself, grows-along, grows-put, put-has, nothing-at}
 use Rattle.ncl_base.proofs.Members.{Member, All-from_members, Contains-from_Member, Member-from_Contains, here, there}
 use Rattle.ncl_netlist.specs.declared.ids.NetId.{NetId}
 use Rattle.ncl_shape.specs.declared.rails.Rails.{Rails}
@@ -16,59 +17,9 @@ use Rattle.ncl_origin.specs.Origin.{CellAt}
 use Rattle.ncl_shape.specs.Pipeline.{PipelineData}
 use Rattle.ncl_shape.specs.Shape.{Shape}
 use Rattle.ncl_sim.specs.Candidates.{number_count}
-use Rattle.ncl_sim.specs.Running.{Grows, HasTouched, touched_at}
+use Rattle.ncl_base.specs.NumberLists.{Grows}
+use Rattle.ncl_sim.specs.Running.{HasTouched, touched_at}
 use Rattle.ncl_sim.proofs.ShapeEnds.{outputs-within}
-
-pub grows-itself : (count : ℕ) (table : List (List ℕ)) → Grows count table table
-grows-itself count table = record { size = refl; kept = λ net k has. has; below = λ net k has. inl has }
-
-pub grows-along : (count : ℕ) (a b c : List (List ℕ)) → Grows count a b → Grows count b c → Grows count a c
-grows-along count a b c first then = record {
-  size = then.size ∙ first.size;
-  kept = λ net k has. then.kept net k (first.kept net k has);
-  below = λ net k has. elim (then.below net k has) [ inl before ↦ first.below net k before | inr lt ↦ inr lt ];
-}
-
--- a number comes to a net
-abbrev pub put_into : List (List ℕ) → ℕ → ℕ → List (List ℕ)
-put_into table net k = set table net (touched_at table net ++ k ∷ [])
-
-pub put-has : (table : List (List ℕ)) (net k : ℕ) → net < length table → Contains (touched_at (put_into table net k) net) k
-put-has table net k lt =
-    subst (λ ks. Contains ks k) (sym (get_or-set_same table net (touched_at table net ++ k ∷ []) [] lt)) (Contains-last (touched_at table net) k)
-
-pub grows-put : (count : ℕ) (table : List (List ℕ)) (net k : ℕ) → net < length table → k < count → Grows count table (put_into table net k)
-grows-put count table net k lt few = record {
-  size = length-set table net (touched_at table net ++ k ∷ []);
-  kept = λ other j has. elim (cases_eq other net) [
-    | inl same ↦ subst (λ n. Contains (touched_at (put_into table net k) n) j) (sym same) (subst (λ ks. Contains ks j) (sym at_net) (Contains-append_left (touched_at table net) (k ∷ []) j (subst (λ n. Contains (touched_at table n) j) same has)))
-    | inr apart ↦ subst (λ ks. Contains ks j) (sym (get_or-set_other table net other (touched_at table net ++ k ∷ []) [] apart)) has
-  ];
-  below = λ other j has. elim (cases_eq other net) [
-    | inl same ↦ elim (from_push (touched_at table net) k j (subst (λ ks. Contains ks j) at_net (subst (λ n. Contains (touched_at (put_into table net k) n) j) same has))) [
-      | inl old ↦ inl (subst (λ n. Contains (touched_at table n) j) (sym same) old)
-      | inr new ↦ inr (subst (λ n. n < count) new few)
-    ]
-    | inr apart ↦ inl (subst (λ ks. Contains ks j) (get_or-set_other table net other (touched_at table net ++ k ∷ []) [] apart) has)
-  ];
-}
-  where
-    at_net : touched_at (put_into table net k) net ≡ touched_at table net ++ k ∷ []
-    at_net = get_or-set_same table net (touched_at table net ++ k ∷ []) [] lt
-
--- a table of empty lists has no number
-pub nothing-at : (nets net k : ℕ) → Contains (touched_at (replicate nets []) net) k → ⊥
-nothing-at zero net k has = none has
-  where
-    none : Contains {X = ℕ} [] k → ⊥
-    none (place, lt, at) = omega arith
-nothing-at (suc nets) zero k has = none has
-  where
-    none : Contains {X = ℕ} [] k → ⊥
-    none (place, lt, at) = omega arith
-nothing-at (suc nets) (suc net) k has = nothing-at nets net k has
-
--- ---- loops
 
 -- pins up to a place have the number, and so one more
 pub pins-next : (table new : List (List ℕ)) (pins : List NetId) (i k : ℕ) (d : NetId) (count : ℕ) → i < length pins → Grows count table new → Contains (touched_at new (get_or pins i d).0) k → ((pin : NetId) → Contains (take i pins) pin → Contains (touched_at table pin.0) k) → (pin : NetId) → Contains (take (i + 1) pins) pin → Contains (touched_at new pin.0) k

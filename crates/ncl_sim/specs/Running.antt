@@ -54,12 +54,6 @@ Turned p d r time (Some k) = IsStopped p d r (Hazard (candidate p (meaning r.sta
 abbrev pub touched_at : List (List ℕ) → ℕ → List ℕ
 touched_at table net = slice_index_or table net []
 
--- numbers below a count come to a table, and none leaves
-pub record Grows (count : ℕ) (old new : List (List ℕ)) : Type 0 where
-  pub size : length new ≡ length old
-  pub kept : (net k : ℕ) → Contains (touched_at old net) k → Contains (touched_at new net) k
-  pub below : (net k : ℕ) → Contains (touched_at new net) k → Contains (touched_at old net) k ⊎ (k < count)
-
 -- a table of the numbers that a change of each net can touch: the cells that read it; the bits where it is `ko`;
 -- the sink where it is a rail of an output
 pub record HasTouched (p : PipelineData) (table : List (List ℕ)) : Type 0 where

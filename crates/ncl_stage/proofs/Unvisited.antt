@@ -1,8 +1,8 @@
 -- Nets that a variant leaves as they are, so that nobody has to look at them.
 use Rattle.std.proofs.Common.{◌≡◌, ◌≢◌, ℕ, zero, suc, ◌+◌, ◌-◌, ◌*◌, ◌<◌, ◌≤◌, Bool, true, false, List, [], ◌∷◌, ◌++◌, length, map, take, drop, get_or, inl, inr, refl, sym, ap, ◌∙◌, subst, arith}
-use Rattle.std.specs.Prelude.{All, Contains, ◌||◌, ◌==◌, ◌⊎◌, Option, Some, None}
+use Rattle.std.specs.Prelude.{All, Contains, ◌||◌, ◌==◌, ◌↔◌, Some}
 use Rattle.std.proofs.lemmas.Bool.{cases_lt, ne_eqb}
-use Rattle.std.proofs.lemmas.List.{map-append}
+use Rattle.std.proofs.lemmas.List.{get_or_append_left, get_or-append_right, length-append, map-append}
 use Rattle.std.specs.List.{take-map, drop-map}
 use Rattle.std.proofs.lemmas.List.Elements.{All-append, All-drop, All-take}
 use Rattle.ncl_base.proofs.Members.{Member-get_or, Contains-from_Member}
@@ -15,7 +15,7 @@ use Rattle.ncl_space.proofs.MakingLaws.{Making, held-along, with_tables-live}
 use Rattle.ncl_stage.specs.BitOrder.{IsOrderOf}
 use Rattle.ncl_stage.specs.declared.variant.Variant.{Variant}
 use Rattle.ncl_stage.specs.declared.variant.Variant.TheVariants.{Base}
-use Rattle.ncl_stage.specs.Changes.{IsUnchanged, net_at}
+use Rattle.ncl_stage.specs.Changes.{IsUnchanged, MarksChanges, net_at}
 use Rattle.ncl_stage.specs.StageTables.{net_table_by, net_tables_by}
 use Rattle.ncl_stage.specs.Values.{both_rails, kept_low}
 use Rattle.ncl_stage.specs.Wiring.{WiringData, IsWiring, place_in}
@@ -109,6 +109,20 @@ last-tables space s order variant refs k have same = record {
       ∙ sym (map-drop (net_table_by order s variant) (net_table_by order s Base) (nets_of s.inputs s.cells) k same);
 }
 
+map-mid : (f g : ℕ → List Bool) (xs : List ℕ) (k many to : ℕ) → to ≡ k + many → ((i : ℕ) → k ≤ i → i < to → i < length xs → f (get_or xs i 0) ≡ g (get_or xs i 0)) → take many (drop k (map f xs)) ≡ take many (drop k (map g xs))
+map-mid f g xs zero many to all same = map-take f g xs many (λ i lt within. same i (omega arith) (omega (arith, all, lt)) within)
+map-mid f g [] (suc k) many to all same = refl
+map-mid f g (x ∷ xs) (suc k) many to all same =
+    map-mid f g xs k many (to - 1) (omega (arith, all)) (λ i after before within. same (suc i) (omega (arith, after)) (omega (arith, all, before)) (omega (arith, within)))
+
+pub mid-tables : (space : SpaceData) (s : StageData) (order : List ℕ) (variant : Variant) (refs : List Ref) (k many to : ℕ) → to ≡ k + many → HaveTables space refs (net_tables_by order s Base) → ((place : ℕ) → k ≤ place → place < to → place < length (nets_of s.inputs s.cells) → IsUnchanged order s variant (net_at s place)) → HaveTables space (take many (drop k refs)) (take many (drop k (net_tables_by order s variant)))
+mid-tables space s order variant refs k many to all have same = record {
+  live = All-take (IsLive space) many (drop k refs) (All-drop (IsLive space) k refs have.live);
+  tables =
+      sym (take-map space.table many (drop k refs)) ∙ ap (take many) (sym (drop-map space.table k refs)) ∙ ap (λ l. take many (drop k l)) have.tables
+      ∙ sym (map-mid (net_table_by order s variant) (net_table_by order s Base) (nets_of s.inputs s.cells) k many to all same);
+}
+
 -- Refs that are live are made for nothing
 pub making-live : (old now : SpaceData) (refs more : List Ref) (made shown : List (List Bool)) → Making old now refs made → HaveTables now more shown → Making old now (refs ++ more) (made ++ shown)
 making-live old now refs more made shown m have = record {
@@ -123,22 +137,50 @@ making-live old now refs more made shown m have = record {
   };
 }
 
+-- the members up to a place and so many behind it
+take-both : {X : Type 0} (k many to : ℕ) (xs : List X) → to ≡ k + many → take k xs ++ take many (drop k xs) ≡ take to xs
+take-both zero many to xs all = let same : many ≡ to = omega (arith, all) in ap (λ n. take n xs) same
+take-both (suc k) zero zero [] all = refl
+take-both (suc k) (suc many) zero [] all = refl
+take-both (suc k) zero (suc to) [] all = refl
+take-both (suc k) (suc many) (suc to) [] all = refl
+take-both (suc k) many zero (x ∷ xs) all = absurd (omega (arith, all))
+take-both (suc k) many (suc to) (x ∷ xs) all = let rest = take-both k many to xs (omega (arith, all)) in λ i. x ∷ rest i
+
+-- what has been made, and then the Refs of Base at unchanged places
+pub making-along : (old now : SpaceData) (s : StageData) (order : List ℕ) (variant : Variant) (base refs : List Ref) (k to : ℕ) → k ≤ to → HaveTables now base (net_tables_by order s Base) → ((place : ℕ) → k ≤ place → place < to → IsUnchanged order s variant (net_at s place)) → Making old now refs (take k (net_tables_by order s variant)) → Making old now (refs ++ take (to - k) (drop k base)) (take to (net_tables_by order s variant))
+making-along old now s order variant base refs k to after have same m =
+    let all : to ≡ k + (to - k) = omega (arith, after) in
+    subst (Making old now (refs ++ take (to - k) (drop k base))) (take-both k (to - k) to (net_tables_by order s variant) all)
+    (making-live old now refs (take (to - k) (drop k base)) (take k (net_tables_by order s variant)) (take (to - k) (drop k (net_tables_by order s variant))) m
+    (mid-tables now s order variant base k (to - k) to all have (λ place behind before within. same place behind before)))
+
+-- marks of unchanged places
+pub marks-along : (s : StageData) (order : List ℕ) (variant : Variant) (marks more : List Bool) → MarksChanges order s variant marks → ((k : ℕ) → k < length more → get_or more k true ≡ false) → ((place : ℕ) → length marks ≤ place → place < length marks + length more → IsUnchanged order s variant (net_at s place)) → MarksChanges order s variant (marks ++ more)
+marks-along s order variant marks more marked none same = λ place within.
+    elim (cases_lt place (length marks)) [
+      | inl before ↦ subst (λ b. (b ≡ false) ↔ IsUnchanged order s variant (net_at s place)) (sym (get_or_append_left marks more true place before)) (marked place before)
+      | inr after ↦
+          let all = length-append marks more in
+          let lt : place < length marks + length more = omega (arith, within, all) in
+          let here : get_or (marks ++ more) place true ≡ false = get_or-append_right marks more (length marks) place true refl (omega (arith, after)) ∙ none (place - length marks) (omega (arith, after, lt)) in
+          (λ e. same place (omega (arith, after)) lt, λ u. here)
+    ]
+
 -- a net at another place than those of the nets that are kept low isn't kept low
-pub other-rail : (s : StageData) → IsStage s → (r : Rails) (first last place : ℕ) → first ≤ place_in (nets_of s.inputs s.cells) r.zero.0 → first ≤ place_in (nets_of s.inputs s.cells) r.one.0 → place_in (nets_of s.inputs s.cells) r.zero.0 ≤ last → place_in (nets_of s.inputs s.cells) r.one.0 ≤ last → place < length (nets_of s.inputs s.cells) → (place < first) ⊎ (last < place) → both_rails (Some r) (net_at s place) ≡ false
-other-rail s is r first last place zero_first one_first zero_last one_last lt outside = neither (net_at s place == r.zero.0) (net_at s place == r.one.0) (apart r.zero.0 zero_first zero_last) (apart r.one.0 one_first one_last)
+pub other-output : (s : StageData) → IsStage s → (net place : ℕ) → place < length (nets_of s.inputs s.cells) → place ≢ place_in (nets_of s.inputs s.cells) net → (net_at s place == net) ≡ false
+other-output s is net place lt apart = ne_eqb (net_at s place) net (λ at. apart (place-of s is place net lt at))
+
+pub other-rail : (s : StageData) → IsStage s → (r : Rails) (place : ℕ) → place < length (nets_of s.inputs s.cells) → place ≢ place_in (nets_of s.inputs s.cells) r.zero.0 → place ≢ place_in (nets_of s.inputs s.cells) r.one.0 → both_rails (Some r) (net_at s place) ≡ false
+other-rail s is r place lt low high = neither (net_at s place == r.zero.0) (net_at s place == r.one.0) (other-output s is r.zero.0 place lt low) (other-output s is r.one.0 place lt high)
   where
-    nets : List ℕ
-    nets = nets_of s.inputs s.cells
-
-    apart : (net : ℕ) → first ≤ place_in nets net → place_in nets net ≤ last → (net_at s place == net) ≡ false
-    apart net low high = ne_eqb (net_at s place) net (λ at.
-        let found = place-of s is place net lt at in
-        elim outside [ inl before ↦ omega (arith, found, low, before) | inr after ↦ omega (arith, found, high, after) ])
-
     neither : (a b : Bool) → a ≡ false → b ≡ false → (a || b) ≡ false
     neither a b e f = (λ i. e i || b) ∙ f
 
-pub other-output : (s : StageData) → IsStage s → (net place : ℕ) → place < length (nets_of s.inputs s.cells) → (place < place_in (nets_of s.inputs s.cells) net) ⊎ (place_in (nets_of s.inputs s.cells) net < place) → (net_at s place == net) ≡ false
-other-output s is net place lt outside = ne_eqb (net_at s place) net (λ at.
-    let found = place-of s is place net lt at in
-    elim outside [ inl before ↦ omega (arith, found, before) | inr after ↦ omega (arith, found, after) ])
+-- there is a net
+pub some-net : (s : StageData) → IsStage s → 0 < length (nets_of s.inputs s.cells)
+some-net s is = let many = nets-length s in omega (arith, is.some_inputs, many)
+
+-- a net of the stage stands at a place
+pub place-within : (s : StageData) (net : ℕ) → Contains (nets_of s.inputs s.cells) net → place_in (nets_of s.inputs s.cells) net < length (nets_of s.inputs s.cells)
+place-within s net has = (place_in-at (nets_of s.inputs s.cells) net has).0

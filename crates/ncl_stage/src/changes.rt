@@ -1,5 +1,5 @@
 //! The functions of the nets of a stage under a variant, from those under Base.
-ghost use Rattle.std.specs.Prelude.{◌≡◌, ◌<◌, ◌≤◌, ◌+◌, ◌-◌, ◌*◌, ◌⊎◌, ℕ, [], ◌∷◌, false, true, All, IfNone, IfOk, IfSome, IsErrOf, length, slice_index_or, take};
+ghost use Rattle.std.specs.Prelude.{◌≡◌, ◌≢◌, ◌<◌, ◌≤◌, ◌+◌, ◌*◌, ℕ, [], ◌∷◌, false, true, All, Contains, IfNone, IfOk, IfSome, IsErrOf, MatchOption, length, slice_index_or, take};
 ghost use Rattle.std.specs.List.{list_any};
 ghost use Rattle.ncl_shape.specs.Stage.{nets_of};
 ghost use Rattle.ncl_space.specs.Making.{HaveTables, MakesAll};
@@ -7,12 +7,13 @@ ghost use Rattle.ncl_space.specs.Space.{IsSpace, Keeps, Makes, fits};
 ghost use Rattle.ncl_stage.specs.Changes.{IsUnreached, MarksChanges, net_at};
 ghost use Rattle.ncl_stage.specs.StageTables.{AreValues, net_table_by, net_tables_by};
 ghost use Rattle.ncl_stage.specs.Values.{kept_low};
-ghost use Rattle.ncl_stage.specs.Wiring.{IsReadUpTo, IsWiring};
+ghost use Rattle.ncl_stage.specs.Wiring.{IsWiring};
 
 use crate::net_values::Values;
 use crate::nets::cell_ref;
 use crate::variant::{Variant, is_kept_low};
 use crate::wiring::Wiring;
+use ncl_base::Memory;
 use ncl_shape::Stage;
 use ncl_space::{Ref, Space, SpaceFault};
 use std::alloc::Global;
@@ -20,9 +21,8 @@ use std::alloc::Global;
 /// The functions of all nets of a stage under a variant, from those under Base, which `base` has, in its order: of the
 /// rails of its inputs, and then of the outputs of its cells.
 ///
-/// Linear in the nets, which are copied, and in the pins of the cells from the first that the variant keeps low to the last
-/// that reads a changed net; it asks the space for one function for each cell that a changed
-/// net reaches. A net has changed where its function isn't that of Base. Every other net keeps the name
+/// Linear in the nets, which are copied, and in the pins of the cells that read a changed net; it asks the space for one
+/// function for each of these cells. A net has changed where its function isn't that of Base. Every other net keeps the name
 /// that `base` has, or that of the constant 0 where the variant keeps it low. `Full` comes exactly where
 /// the beads held with those of all these functions are more than the limit. What is made before a refusal
 /// stays.
@@ -43,12 +43,13 @@ pub fn net_refs_from<P: Space>(
 {
     stage.facts();
     let all = base.refs();
-    let (first, mut last) = forced_places(stage, base.wiring(), variant);
-    let mut refs = Vec::with_capacity(alloc, all.len())?;
-    refs.extend_from_slice(&all[..first])?;
-    let mut changed = vec![in alloc; false; first]?;
-    let mut place = first;
-    while place < all.len() && place <= last {
+    let (first, second) = forced_places(stage, base.wiring(), variant);
+    let mut waiting = two_marks(alloc, all.len(), first, second)?;
+    let mut refs: Vec<Ref> = Vec::with_capacity(alloc, all.len())?;
+    let mut changed: Vec<bool> = Vec::with_capacity(alloc, all.len())?;
+    while let Some(place) = next_waiting(waiting.as_slice(), refs.len()) {
+        refs.extend_from_slice(&all[refs.len()..place])?;
+        changed.resize(place, false)?;
         let made = ref_from(
             space,
             stage,
@@ -59,21 +60,19 @@ pub fn net_refs_from<P: Space>(
             changed.as_slice(),
         )?;
         let is_same = space.same(made, all[place]);
-        last = last_after(base.wiring(), place, is_same, last);
+        wait_unless(is_same, &mut waiting, base.wiring().readers(place));
         changed.push(!is_same)?;
         refs.push(made)?;
-        place += 1;
     }
-    refs.extend_from_slice(&all[place..])?;
+    refs.extend_from_slice(&all[refs.len()..])?;
     Ok(refs)
 }
 
-// The first and the last place of the nets that the variant keeps low, or one place where it keeps none low. Takes no
-// memory.
+// The places of the nets that the variant keeps low, or that of some net where it keeps fewer low. Takes no memory.
 fn forced_places(stage: &Stage, wiring: &Wiring, variant: Variant) -> (usize, usize)
     requires { IsWiring stage.now wiring.now }
-    ensures within { result.0 ≤ length wiring.now.nets }
-    ensures others { (place : ℕ) → place < length wiring.now.nets → (place < result.0) ⊎ (result.1 < place) → kept_low stage.now variant (net_at stage.now place) ≡ false }
+    ensures within { (result.0 < length wiring.now.nets) × (result.1 < length wiring.now.nets) }
+    ensures others { (place : ℕ) → place < length wiring.now.nets → place ≢ result.0 → place ≢ result.1 → kept_low stage.now variant (net_at stage.now place) ≡ false }
 {
     stage.facts();
     match variant {
@@ -82,7 +81,7 @@ fn forced_places(stage: &Stage, wiring: &Wiring, variant: Variant) -> (usize, us
             Some(pair) => {
                 let zero = wiring.place_of(pair.zero);
                 let one = wiring.place_of(pair.one);
-                (zero.min(one), zero.max(one))
+                (zero, one)
             }
             None => (0, 0),
         },
@@ -96,16 +95,52 @@ fn forced_places(stage: &Stage, wiring: &Wiring, variant: Variant) -> (usize, us
     }
 }
 
-// The last place so far that is to be looked at, or that of the last reader of a net that has changed.
-fn last_after(wiring: &Wiring, place: usize, is_same: bool, last: usize) -> usize
-    requires { place < length wiring.now.nets }
-    ensures later { last ≤ result }
-    ensures read { is_same ≡ false → IsReadUpTo (length wiring.now.nets - length wiring.now.pins) wiring.now.pins place result }
+// So many marks, of which two are set. An error is want of memory. Linear in the marks.
+fn two_marks(alloc: Global, count: usize, first: usize, second: usize) -> Result<Vec<bool>, Memory>
+    requires first { first < count }
+    requires second { second < count }
+    ensures many { IfOk result (λ marks. length marks.items ≡ count) }
+    ensures others { IfOk result (λ marks. (place : ℕ) → slice_index_or marks.items place true ≡ false → (place ≢ first) × (place ≢ second)) }
+{
+    let mut marks = vec![in alloc; false; count]?;
+    marks[first] = true;
+    marks[second] = true;
+    Ok(marks)
+}
+
+// The first marked place from one on. Linear in the places between.
+fn next_waiting(marks: &[bool], from: usize) -> Option<usize>
+    requires { from ≤ length marks.now }
+    ensures { MatchOption result ((other : ℕ) → from ≤ other → other < length marks.now → slice_index_or marks.now other true ≡ false)
+        (λ place. (from ≤ place) × (place < length marks.now) × ((other : ℕ) → from ≤ other → other < place → slice_index_or marks.now other true ≡ false)) }
+{
+    match first_marked(&marks[from..]) {
+        Some(behind) => Some(from + behind),
+        None => None,
+    }
+}
+
+// The first marked place. Linear in the places up to it.
+fn first_marked(marks: &[bool]) -> Option<usize>
+    ensures { MatchOption result ((other : ℕ) → other < length marks.now → slice_index_or marks.now other true ≡ false)
+        (λ place. (place < length marks.now) × ((other : ℕ) → other < place → slice_index_or marks.now other true ≡ false)) }
+{
+    marks.iter().position(|mark| *mark)
+}
+
+// Marks some places, unless the net that they read has its function of Base. Linear in the places.
+fn wait_unless(is_same: bool, marks: &mut [bool], readers: &[usize])
+    requires { All (λ reader. reader < length marks.old) readers.now }
+    ensures many { length marks.new ≡ length marks.old }
+    ensures kept { (place : ℕ) → slice_index_or marks.new place true ≡ false → slice_index_or marks.old place true ≡ false }
+    ensures readers { is_same ≡ false → (reader : ℕ) → Contains readers.now reader → slice_index_or marks.new reader true ≡ true }
 {
     if is_same {
-        return last;
+        return;
     }
-    last.max(wiring.last_reader(place))
+    for reader in readers {
+        marks[*reader] = true;
+    }
 }
 
 // The function of the net at a place, from those of the nets before it, with marks for those that have

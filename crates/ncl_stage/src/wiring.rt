@@ -1,12 +1,12 @@
 //! The nets of a stage by their places.
-ghost use Rattle.std.specs.Prelude.{◌≡◌, ◌-◌, ◌<◌, ◌≤◌, IfOk, [], All, Contains, length, map, slice_index_or};
+ghost use Rattle.std.specs.Prelude.{◌≡◌, ◌-◌, ◌+◌, ◌<◌, ◌≤◌, ℕ, IfOk, [], All, Contains, length, map, slice_index_or};
 ghost use Rattle.ncl_netlist.specs.declared.ids.NetId.{NetId};
 ghost use Rattle.ncl_shape.specs.Stage.{nets_of, rail_nets};
 ghost use Rattle.ncl_stage.specs.BitOrder.{IsOrderOf, bit_order};
-ghost use Rattle.ncl_stage.specs.Wiring.{IsReadUpTo, IsWiring, pin_places, place_in, rail_places};
+ghost use Rattle.ncl_stage.specs.Wiring.{IsWiring, pin_places, place_in, rail_places};
 
 use crate::input_order::{BitOrder, order_of};
-use crate::readers::last_readers;
+use crate::readers::{Readers, readers_of};
 use arrayvec::ArrayVec;
 use indexmap::IndexSet;
 use ncl_base::Memory;
@@ -16,15 +16,15 @@ use std::alloc::Global;
 use std::marker::Model;
 
 /// The nets of a stage in their order, the rails of its inputs before the outputs of its cells, and what
-/// its cells and outputs read, by places in that order; an order of the bits of a word; and of each net the place
-/// of the last cell that reads it.
+/// its cells and outputs read, by places in that order; an order of the bits of a word; and of each net the places of
+/// the cells that read it.
 #[derive(Drop)]
 pub struct Wiring {
     nets: IndexSet<u32>,
     pins: Vec<ArrayVec<usize, 4>>,
     outputs: Vec<(usize, usize)>,
     order: BitOrder,
-    last_readers: Vec<usize>,
+    readers: Readers,
 }
 
 impl Model for Wiring {
@@ -34,11 +34,11 @@ impl Model for Wiring {
 
     ghost Value = { WiringData };
 
-    ghost use Rattle.ncl_stage.specs.Wiring.{AreLastReaders};
+    ghost use Rattle.ncl_stage.specs.Wiring.{AreReaders};
 
     ghost view = { λ a. record { nets = a.nets.keys; pins = map (λ p. p.items) a.pins.items; outputs = a.outputs.items; order = a.order } };
 
-    ghost invariant = { λ a. AreLastReaders (length a.nets.keys - length a.pins.items) (map (λ p. p.items) a.pins.items) (length a.nets.keys) a.last_readers.items };
+    ghost invariant = { λ a. AreReaders (length a.nets.keys - length a.pins.items) (map (λ p. p.items) a.pins.items) (length a.nets.keys) a.readers };
 }
 
 impl Wiring {
@@ -84,13 +84,13 @@ impl Wiring {
         requires many { length pins.items ≤ length nets.keys }
         ensures { IfOk result (λ wiring. wiring ≡ record { nets = nets.keys; pins = map (λ p. p.items) pins.items; outputs = outputs.items; order = order }) }
     {
-        let last_readers = last_readers(alloc, nets.len(), pins.as_slice())?;
+        let readers = readers_of(alloc, nets.len(), pins.as_slice())?;
         Ok(Wiring {
             nets,
             pins,
             outputs,
             order,
-            last_readers,
+            readers,
         })
     }
 
@@ -100,6 +100,13 @@ impl Wiring {
         ensures { result ≡ place_in self.now.nets net.0 }
     {
         place_of(&self.nets, net)
+    }
+
+    /// How many nets there are. Takes no memory.
+    pub(crate) fn len(&self) -> usize
+        ensures { result ≡ length self.now.nets }
+    {
+        self.nets.len()
     }
 
     /// The net at a place. Takes no memory.
@@ -119,12 +126,13 @@ impl Wiring {
         self.pins[cell].as_slice()
     }
 
-    /// The place of the last cell that reads the net at a place, or 0. Takes no memory.
-    pub(crate) fn last_reader(&self, place: usize) -> usize
+    /// The places of the cells that read the net at a place. Takes no memory.
+    pub(crate) fn readers(&self, place: usize) -> &[usize]
         requires { place < length self.now.nets }
-        ensures { IsReadUpTo (length self.now.nets - length self.now.pins) self.now.pins place result }
+        ensures all { (cell : ℕ) → cell < length self.now.pins → Contains (slice_index_or self.now.pins cell []) place → Contains result.now (length self.now.nets - length self.now.pins + cell) }
+        ensures within { All (λ reader. reader < length self.now.nets) result.now }
     {
-        self.last_readers[place]
+        self.readers.of(place)
     }
 
     /// The places of the rails of each output, rail 0 first. Takes no memory.

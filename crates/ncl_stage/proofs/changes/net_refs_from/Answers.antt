@@ -1,129 +1,182 @@
-use Rattle.std.proofs.Common.{rules, ◌≡◌, ℕ, ◌+◌, ◌-◌, ◌*◌, ◌<◌, ◌≤◌, Bool, true, false, not, List, [], ◌∷◌, ◌++◌, Err, length, map, get_or, take, drop, replicate, inl, inr, refl, sym, ◌∙◌, ap, subst, arith}
-use Rattle.std.specs.Prelude.{Contains, IsTrue, ◌↔◌, ◌⊎◌}
-use Rattle.std.proofs.lemmas.Bool.{cases_lt}
-use Rattle.std.proofs.lemmas.List.{length-append, length-map, length-replicate, get_or-replicate, get_or_append_left, get_or_push, take-append-drop, take_rest}
-use Rattle.ncl_shape.specs.Stage.{StageData, nets_of}
+use Rattle.std.proofs.Common.{rules, ◌≡◌, ℕ, ◌+◌, ◌-◌, ◌*◌, ◌<◌, ◌≤◌, Bool, true, false, not, List, [], ◌∷◌, ◌++◌, Err, length, map, get_or, take, drop, replicate, refl, sym, ◌∙◌, ap, subst, subst₂, arith}
+use Rattle.std.specs.Prelude.{Contains, IsTrue, ◌↔◌}
+use Rattle.std.proofs.lemmas.List.{get_or-replicate, length-append, length-map, length-replicate, length-take-le, take_all, take_at}
+use Rattle.ncl_shape.specs.Stage.{StageData, IsStage, nets_of}
 use Rattle.ncl_space.specs.Space.{SpaceData}
-use Rattle.ncl_space.specs.Making.{MakesAll}
+use Rattle.ncl_space.specs.Making.{HaveTables, MakesAll}
 use Rattle.ncl_space.specs.declared.space.Ref.{Ref}
 use Rattle.ncl_space.proofs.SpaceLaws.{keeps_along}
-use Rattle.ncl_space.proofs.MakingLaws.{Making, making-none, making-next, too_much-next, handed_on}
+use Rattle.ncl_space.proofs.MakingLaws.{Making, making-none, making-next, too_much-next, have-length, handed_on}
+use Rattle.ncl_stage.specs.declared.variant.Variant.{Variant}
 use Rattle.ncl_stage.specs.declared.variant.Variant.TheVariants.{Base}
 use Rattle.ncl_stage.specs.Changes.{IsUnchanged, MarksChanges, net_at}
-use Rattle.ncl_stage.specs.StageTables.{net_table_by, net_tables_by}
-use Rattle.ncl_stage.specs.Wiring.{WiringData, IsReadUpTo, pin_places}
-use Rattle.ncl_stage.proofs.ChangedLaws.{marks-more, nets-length, table-at, value-at, values-kept}
-use Rattle.ncl_stage.proofs.Unvisited.{unvisited, first-tables, last-tables, making-live}
+use Rattle.ncl_stage.specs.StageTables.{ValuesData, AreValues, net_table_by, net_tables_by}
+use Rattle.ncl_stage.specs.Wiring.{WiringData, pin_places}
+use Rattle.ncl_stage.proofs.ChangedLaws.{marks-more, marks-none, nets-length, table-at, value-at, values-kept}
+use Rattle.ncl_stage.proofs.Unvisited.{making-along, marks-along}
+use Rattle.ncl_stage.proofs.Waiting.{AreWaiting, between, waiting-next}
 use Rattle.ncl_stage.proofs.changes.net_refs_from.Goals as goal
-use Rattle.ncl_stage.proofs.changes.net_refs_from.Goals.{then-loop-place-test+else-place-last, else-loop-place-test}
+
+-- what was left out between the places so far and another
+left : (old now : SpaceData) (s : StageData) (v : ValuesData) (variant : Variant) → IsStage s → AreValues now s Base v → (refs : List Ref) (waiting : List Bool) (to : ℕ) → Making old now refs (take (length refs) (net_tables_by v.wiring.order s variant)) → AreWaiting v.wiring s variant (length refs) waiting → length refs ≤ to → to ≤ length v.wiring.nets
+    → ((other : ℕ) → length refs ≤ other → other < to → get_or waiting other true ≡ false)
+    → Making old now (refs ++ take (to - length refs) (drop (length refs) v.refs)) (take to (net_tables_by v.wiring.order s variant)) × ((place : ℕ) → length refs ≤ place → place < to → IsUnchanged v.wiring.order s variant (net_at s place))
+left old now s v variant is are refs waiting to making waits after within none =
+    let same = between s is v.wiring are.wired variant waiting (length refs) to waits within none in
+    (making-along old now s v.wiring.order variant v.refs refs (length refs) to after are.shown same making, same)
+
+-- the marks so far, and then none up to another place
+unmarked : (s : StageData) (order : List ℕ) (variant : Variant) (changed new : List Bool) (to many : ℕ) → MarksChanges order s variant changed → length changed ≤ to → ((place : ℕ) → length changed ≤ place → place < to → IsUnchanged order s variant (net_at s place)) → new ≡ take to changed ++ replicate many false → length new ≡ to → MarksChanges order s variant new
+unmarked s order variant changed new to many marks after same is long =
+    let all : new ≡ changed ++ replicate many false = is ∙ ap (λ l. l ++ replicate many false) (take_all to changed after) in
+    let size = ap length all ∙ length-append changed (replicate many false) in
+    subst (MarksChanges order s variant) (sym all)
+    (marks-along s order variant changed (replicate many false) marks (λ k lt. get_or-replicate many k false true (subst (λ n. k < n) (length-replicate many false) lt))
+    (λ place behind lt. same place behind (omega (arith, lt, size, long))))
 
 pub loop-place-init : goal.loop-place-init
 loop-place-init g c =
     let s : StageData = c.args.stage.now in
     let order : List ℕ = c.args.base.now.wiring.order in
     let old : SpaceData = g.P.Space.meaning c.args.space.now in
-    let first = c.forced_places-first.result.0 in
-    let wired = c.requires.base.wired in
-    let nets = ap length wired.nets in
-    let given = ap (λ (w : WiringData). length w.nets) c.wiring.ensures in
-    let inside = c.forced_places-first.ensures.within in
-    let start : first ≤ length (nets_of s.inputs s.cells) = omega (arith, inside, given, nets) in
-    let same : (p : ℕ) → p < first → IsUnchanged order s c.args.variant (net_at s p) =
-    λ p lt. unvisited s order wired.order c.facts.ensures c.args.base.now.wiring wired c.args.variant 0 first start
-    (λ q after before. c.forced_places-first.ensures.others q (omega (arith, before, inside)) (inl before))
-    (λ cell q after before reads none. absurd (omega (arith, none)))
-    p (omega arith) lt in
-    let many : length c.in_ok-changed.changed.items ≡ first = ap length (c.in_ok-changed.ensures.items_if_clones_equal (λ y same. same)) ∙ length-replicate first false in
-    let marked : (p : ℕ) → p < first → get_or c.in_ok-changed.changed.items p true ≡ false = λ p lt. ap (λ l. get_or l p true) (c.in_ok-changed.ensures.items_if_clones_equal (λ y same. same)) ∙ get_or-replicate first p false true lt in
+    let empty = ap length c.in_ok-refs.ensures.items in
     record {
-      making =
-          subst (λ items. Making old old items (take first (net_tables_by order s c.args.variant))) (sym (c.in_ok-extend_from_slice.ensures.items ∙ (λ i. c.in_ok-refs.ensures.items i ++ take first (c.refs-all.ensures.refs i))))
-          (making-live old old [] (take first c.args.base.now.refs) [] (take first (net_tables_by order s c.args.variant)) (making-none old c.requires.space)
-          (first-tables old s order c.args.variant c.args.base.now.refs first c.requires.base.shown (λ p lt within. same p lt)));
-      many = many;
-      within = omega (arith, inside, given);
-      marks = λ p lt. let before : p < first = omega (arith, lt, many) in (λ e. same p before, λ u. marked p before);
-      low = λ p lt behind after. c.forced_places-first.ensures.others p (omega (arith, lt, given)) (inr behind);
-      read = λ p lt high. (let none : true ≡ false = sym high ∙ marked p lt in absurd cc);
+      making = subst (λ items. Making old old items (take (length items) (net_tables_by order s c.args.variant))) (sym c.in_ok-refs.ensures.items) (making-none old c.requires.space);
+      many = ap length c.in_ok-changed.ensures.items ∙ sym empty;
+      within = omega (arith, empty);
+      marks = subst (MarksChanges order s c.args.variant) (sym c.in_ok-changed.ensures.items) (marks-none s order c.args.variant);
+      waiting = record {
+        many = c.in_ok-waiting.ensures.many ∙ (ap length c.refs-all.ensures.refs ∙ c.refs-all.ensures.many);
+        low = λ place after lt none.
+            let apart = c.in_ok-waiting.ensures.others place none in
+            c.forced_places-first.ensures.others place (subst (λ (w : WiringData). place < length w.nets) (sym c.wiring.ensures) lt) apart.0 apart.1;
+        read = λ cell place after lt none reads earlier. absurd (omega (arith, earlier, empty));
+      };
     }
 
 pub ref_from-requires-clause-base : goal.ref_from-requires-clause-base
 ref_from-requires-clause-base g c = values-kept (g.P.Space.meaning c.args.space.now) (g.P.Space.meaning c.loop-place.space) c.args.stage.now Base c.args.base.now c.loop-place.invariant.making.kept c.requires.base
 
+-- the first place that waits, told of the marks themselves
+abbrev IsFirst : List Bool → ℕ → ℕ → Type 0
+IsFirst waiting from place = (from ≤ place) × (place < length waiting) × ((other : ℕ) → from ≤ other → other < place → get_or waiting other true ≡ false)
+
+first : (waiting slice : List Bool) (len from place : ℕ) → slice ≡ waiting → len ≡ from → IsFirst slice len place → IsFirst waiting from place
+first waiting slice len from place same at found = subst (λ l. IsFirst l from place) same (subst (λ n. IsFirst slice n place) at found)
+
+-- what has been made up to there
+made-up-to : (old now : SpaceData) (s : StageData) (v : ValuesData) (variant : Variant) → IsStage s → AreValues old s Base v → (refs all more : List Ref) (waiting : List Bool) (len place : ℕ) → Making old now refs (take (length refs) (net_tables_by v.wiring.order s variant)) → AreWaiting v.wiring s variant (length refs) waiting → IsFirst waiting (length refs) place → all ≡ v.refs → len ≡ length refs → more ≡ refs ++ take (place - len) (drop len all)
+    → Making old now more (take place (net_tables_by v.wiring.order s variant)) × ((other : ℕ) → length refs ≤ other → other < place → IsUnchanged v.wiring.order s variant (net_at s other)) × (length more ≡ place)
+made-up-to old now s v variant is base refs all more waiting len place making waits found named at grown =
+    let are = values-kept old now s Base v making.kept base in
+    let rest = left old now s v variant is are refs waiting place making waits found.0 (omega (arith, found.1, waits.many)) found.2 in
+    let whole : more ≡ refs ++ take (place - length refs) (drop (length refs) v.refs) = grown ∙ (λ i. refs ++ take (place - at i) (drop (at i) (named i))) in
+    let made = subst (λ items. Making old now items (take place (net_tables_by v.wiring.order s variant))) (sym whole) rest.0 in
+    let all = length-map (nets_of s.inputs s.cells) (net_table_by v.wiring.order s variant) in
+    let nets = ap length base.wired.nets in
+    let long = length-take-le place (net_tables_by v.wiring.order s variant) (omega (arith, all, nets, found.1, waits.many)) in
+    (made, rest.1, have-length now more (take place (net_tables_by v.wiring.order s variant)) made.all.refs_of ∙ long)
+
+pub ref_from-requires-clause-refs : goal.ref_from-requires-clause-refs
+ref_from-requires-clause-refs g c =
+    let s : StageData = c.args.stage.now in
+    let now : SpaceData = g.P.Space.meaning c.loop-place.space in
+    let inv = c.loop-place.invariant in
+    let found = first c.loop-place.waiting.items c.as_slice.result.now c.len.result (length c.loop-place.refs.items) c.in-Some.place c.as_slice.ensures.value (omega (arith, c.len.ensures)) c.in-Some.ensures in
+    let up = made-up-to (g.P.Space.meaning c.args.space.now) now s c.args.base.now c.args.variant c.facts.ensures c.requires.base c.loop-place.refs.items c.refs-all.result.now c.extend_from_slice.new.self.items c.loop-place.waiting.items c.len-in-Some.result c.in-Some.place inv.making inv.waiting found c.refs-all.ensures.refs (omega (arith, c.len-in-Some.ensures)) c.in_ok-extend_from_slice.ensures.items in
+    subst (λ items. HaveTables now items (take c.in-Some.place (net_tables_by c.args.base.now.wiring.order s c.args.variant))) (sym c.as_slice-in-Some.ensures.value) up.0.all.refs_of
+
+pub ref_from-requires-clause-changed : goal.ref_from-requires-clause-changed
+ref_from-requires-clause-changed g c =
+    let s : StageData = c.args.stage.now in
+    let now : SpaceData = g.P.Space.meaning c.loop-place.space in
+    let inv = c.loop-place.invariant in
+    let found = first c.loop-place.waiting.items c.as_slice.result.now c.len.result (length c.loop-place.refs.items) c.in-Some.place c.as_slice.ensures.value (omega (arith, c.len.ensures)) c.in-Some.ensures in
+    let up = made-up-to (g.P.Space.meaning c.args.space.now) now s c.args.base.now c.args.variant c.facts.ensures c.requires.base c.loop-place.refs.items c.refs-all.result.now c.extend_from_slice.new.self.items c.loop-place.waiting.items c.len-in-Some.result c.in-Some.place inv.making inv.waiting found c.refs-all.ensures.refs (omega (arith, c.len-in-Some.ensures)) c.in_ok-extend_from_slice.ensures.items in
+    subst (MarksChanges c.args.base.now.wiring.order s c.args.variant) (sym c.as_slice-in-Some-2.ensures.value)
+    (unmarked s c.args.base.now.wiring.order c.args.variant c.loop-place.changed.items c.resize.new.self.items c.in-Some.place _ inv.marks (omega (arith, inv.many, found.0)) (λ place behind before. up.1 place (omega (arith, behind, inv.many)) before) c.in_ok-resize.ensures.items (omega (arith, c.in_ok-resize.ensures.len)))
+
 pub returns-in_err-made-clause-full : goal.returns-in_err-made-clause-full
 returns-in_err-made-clause-full g c = λ e.
     let s : StageData = c.args.stage.now in
     let order : List ℕ = c.args.base.now.wiring.order in
-    let place = c.loop-place.place in
-    let refs : length c.refs-all.result.now ≡ length (nets_of s.inputs s.cells) = ap length c.refs-all.ensures.refs ∙ c.refs-all.ensures.many ∙ ap length c.requires.base.wired.nets in
-    let within : place < length (nets_of s.inputs s.cells) = subst (λ n. place < n) refs c.loop-place-test.true in
-    too_much-next (g.P.Space.meaning c.args.space.now) (g.P.Space.meaning c.loop-place.space) (net_tables_by order s c.args.variant) place c.loop-place.refs.items (net_table_by order s c.args.variant (net_at s place))
+    let place = c.in-Some.place in
+    let now : SpaceData = g.P.Space.meaning c.loop-place.space in
+    let inv = c.loop-place.invariant in
+    let found = first c.loop-place.waiting.items c.as_slice.result.now c.len.result (length c.loop-place.refs.items) c.in-Some.place c.as_slice.ensures.value (omega (arith, c.len.ensures)) c.in-Some.ensures in
+    let up = made-up-to (g.P.Space.meaning c.args.space.now) now s c.args.base.now c.args.variant c.facts.ensures c.requires.base c.loop-place.refs.items c.refs-all.result.now c.extend_from_slice.new.self.items c.loop-place.waiting.items c.len-in-Some.result c.in-Some.place inv.making inv.waiting found c.refs-all.ensures.refs (omega (arith, c.len-in-Some.ensures)) c.in_ok-extend_from_slice.ensures.items in
+    let nets = ap length c.requires.base.wired.nets in
+    let within : place < length (nets_of s.inputs s.cells) = omega (arith, found.1, inv.waiting.many, nets) in
+    too_much-next (g.P.Space.meaning c.args.space.now) now (net_tables_by order s c.args.variant) place c.extend_from_slice.new.self.items (net_table_by order s c.args.variant (net_at s place))
     (subst (λ n. place < n) (sym (length-map (nets_of s.inputs s.cells) (net_table_by order s c.args.variant))) within)
-    (table-at s order c.args.variant place within) c.loop-place.invariant.making
+    (table-at s order c.args.variant place within) up.0
     (c.in_err-made.ensures.full (ap Err (handed_on c.from_residual-in_err-made.result c.in_err-made.field-0.0 c.from_residual-in_err-made.ensures.1 e)))
 
 -- a mark that says whether a test fails is none exactly where what the test tells holds
-unmarked : {P : Type 0} (same : Bool) → IsTrue same ↔ P → (not same ≡ false) ↔ P
-unmarked true iff = (λ e. iff.0 (search rules), λ p. refl)
-unmarked {P} false iff = (λ e. absurd cc, λ p. (let no : IsTrue false = iff.1 p in absurd cc))
+tells : {P : Type 0} (same : Bool) → IsTrue same ↔ P → (not same ≡ false) ↔ P
+tells true iff = (λ e. iff.0 (search rules), λ p. refl)
+tells {P} false iff = (λ e. absurd cc, λ p. (let no : IsTrue false = iff.1 p in absurd cc))
 
-true_or_false : (b : Bool) → (b ≡ true) ⊎ (b ≡ false)
-true_or_false true = inl refl
-true_or_false false = inr refl
-
-failed : (same : Bool) → not same ≡ true → same ≡ false
-failed true e = absurd cc
-failed false e = refl
+held : {P : Type 0} (same : Bool) → IsTrue same ↔ P → same ≡ true → P
+held true iff e = iff.0 (search rules)
+held false iff e = absurd cc
 
 pub loop-place-preserved : goal.loop-place-preserved
 loop-place-preserved g c =
     let s : StageData = c.args.stage.now in
     let w : WiringData = c.args.base.now.wiring in
     let variant = c.args.variant in
-    let place = c.loop-place.place in
+    let place = c.in-Some.place in
     let none : Ref = record { place = 0 } in
     let old : SpaceData = g.P.Space.meaning c.args.space.now in
     let now : SpaceData = g.P.Space.meaning c.loop-place.space in
     let new : SpaceData = g.P.Space.meaning c.ref_from.new.space in
     let inv = c.loop-place.invariant in
+    let found = first c.loop-place.waiting.items c.as_slice.result.now c.len.result (length c.loop-place.refs.items) c.in-Some.place c.as_slice.ensures.value (omega (arith, c.len.ensures)) c.in-Some.ensures in
+    let up = made-up-to old now s c.args.base.now variant c.facts.ensures c.requires.base c.loop-place.refs.items c.refs-all.result.now c.extend_from_slice.new.self.items c.loop-place.waiting.items c.len-in-Some.result place inv.making inv.waiting found c.refs-all.ensures.refs (omega (arith, c.len-in-Some.ensures)) c.in_ok-extend_from_slice.ensures.items in
+    let marks : List Bool = c.resize.new.self.items in
+    let marked =
+    unmarked s w.order variant c.loop-place.changed.items marks place _ inv.marks (omega (arith, inv.many, found.0)) (λ p behind before. up.1 p (omega (arith, behind, inv.many)) before) c.in_ok-resize.ensures.items (omega (arith, c.in_ok-resize.ensures.len)) in
     let made = c.in_ok-made.ensures.made in
     let is_same = c.same-is_same.result in
-    let marks : List Bool = c.loop-place.changed.items in
     let nets = ap length c.requires.base.wired.nets in
-    let refs : length c.refs-all.result.now ≡ length (nets_of s.inputs s.cells) = ap length c.refs-all.ensures.refs ∙ c.refs-all.ensures.many ∙ nets in
-    let within : place < length (nets_of s.inputs s.cells) = subst (λ n. place < n) refs c.loop-place-test.true in
-    let kept = values-kept old new s Base c.args.base.now (keeps_along old now new inv.making.kept c.in_ok-made.ensures.kept) c.requires.base in
+    let within : place < length (nets_of s.inputs s.cells) = omega (arith, found.1, inv.waiting.many, nets) in
+    let up_to = c.in_ok-made.ensures.kept in
+    let kept = values-kept old new s Base c.args.base.now (keeps_along old now new inv.making.kept up_to) c.requires.base in
     let value = value-at new s Base c.args.base.now kept place none within in
     let own = ap (λ (rs : List Ref). new.table (get_or rs place none)) c.refs-all.ensures.refs in
-    let later = c.last_after-last.ensures.later in
-    let many = inv.many in
-    let read_up_to : (p : ℕ) → IsReadUpTo (length w.nets - length w.pins) w.pins p c.loop-place.last → IsReadUpTo (length w.nets - length w.pins) w.pins p c.last_after-last.result =
-    λ p read cell lt reads. (let before = read cell lt reads in omega (arith, before, later)) in
+    let iff : IsTrue is_same ↔ IsUnchanged w.order s variant (net_at s place) =
+    subst (λ t. IsTrue is_same ↔ (t ≡ net_table_by w.order s Base (net_at s place))) made.table
+    (subst (λ t. IsTrue is_same ↔ (new.table c.in_ok-made.made ≡ t)) (own ∙ value.1) c.same-is_same.ensures) in
+    let many : length marks ≡ place = omega (arith, c.in_ok-resize.ensures.len) in
+    let grown = length-append marks (not is_same ∷ []) in
+    let refs_many = ap length c.in_ok-push-2.ensures.items in
+    let size = length-append c.extend_from_slice.new.self.items (c.in_ok-made.made ∷ []) in
+    let long : length c.extend_from_slice.new.self.items + 1 ≡ place + 1 = ap (λ n. n + 1) up.2 in
+    let rails = nets-length s in
+    let pins : length w.pins ≡ length s.cells = ap length c.requires.base.wired.pins ∙ length-map s.cells (pin_places w.nets) in
+    let all : (cell : ℕ) → cell < length w.pins → Contains (get_or w.pins cell []) place → Contains c.readers.result.now (length w.nets - length w.pins + cell) =
+    subst (λ (x : WiringData). (cell : ℕ) → cell < length x.pins → Contains (get_or x.pins cell []) place → Contains c.readers.result.now (length x.nets - length x.pins + cell)) c.wiring-in-Some.ensures c.readers.ensures.all in
+    let whole = take_at c.wait_unless.new.marks (drop (length c.wait_unless.new.marks) c.loop-place.waiting.items) c.loop-place.waiting.len (omega (arith, c.wait_unless.ensures.many, c.deref_mut.ensures.len)) in
     record {
       making =
-          subst (λ items. Making old new items (take (place + 1) (net_tables_by w.order s variant))) (sym c.in_ok-push-2.ensures.items)
-          (making-next old now new (net_tables_by w.order s variant) place c.loop-place.refs.items c.in_ok-made.made (net_table_by w.order s variant (net_at s place))
+          subst (λ items. Making old new items (take (length items) (net_tables_by w.order s variant))) (sym c.in_ok-push-2.ensures.items)
+          (subst (λ n. Making old new (c.extend_from_slice.new.self.items ++ c.in_ok-made.made ∷ []) (take n (net_tables_by w.order s variant))) (sym (size ∙ long))
+          (making-next old now new (net_tables_by w.order s variant) place c.extend_from_slice.new.self.items c.in_ok-made.made (net_table_by w.order s variant (net_at s place))
           (subst (λ n. place < n) (sym (length-map (nets_of s.inputs s.cells) (net_table_by w.order s variant))) within)
-          (table-at s w.order variant place within) inv.making c.in_ok-made.ensures.kept c.in_ok-made.ensures.space made);
-      many = ap length c.in_ok-push.ensures.items ∙ (let grown = length-append marks (not is_same ∷ []) in omega (arith, many, grown));
-      within = omega (arith, within, nets);
+          (table-at s w.order variant place within) up.0 up_to c.in_ok-made.ensures.space made));
+      many = omega (arith, ap length c.in_ok-push.ensures.items, grown, many, refs_many, size, long);
+      within = omega (arith, refs_many, size, long, within, nets);
       marks =
           subst (MarksChanges w.order s variant) (sym c.in_ok-push.ensures.items)
-          (marks-more s w.order variant marks (not is_same) inv.marks
-          (subst (λ n. (not is_same ≡ false) ↔ IsUnchanged w.order s variant (net_at s n)) (sym inv.many)
-          (subst (λ t. (not is_same ≡ false) ↔ (t ≡ net_table_by w.order s Base (net_at s place))) made.table
-          (subst (λ t. (not is_same ≡ false) ↔ (new.table c.in_ok-made.made ≡ t)) (own ∙ value.1) (unmarked is_same c.same-is_same.ensures)))));
-      low = λ p lt behind after. inv.low p lt (omega (arith, behind, later)) (omega (arith, after));
-      read = λ p lt high.
-          let high_in : get_or (marks ++ not is_same ∷ []) p true ≡ true = ap (λ l. get_or l p true) (sym c.in_ok-push.ensures.items) ∙ high in
-          elim (cases_lt p place) [
-            | inl before ↦ read_up_to p (inv.read p before (sym (get_or_append_left marks (not is_same ∷ []) true p (omega (arith, before, many))) ∙ high_in))
-            | inr after ↦
-                let at : p ≡ place = omega (arith, lt, after) in
-                let mark : not is_same ≡ true = sym (get_or_push marks (not is_same) true p (many ∙ sym at)) ∙ high_in in
-                subst (λ n. IsReadUpTo (length w.nets - length w.pins) w.pins n c.last_after-last.result) (sym at)
-                (subst (λ (x : WiringData). IsReadUpTo (length x.nets - length x.pins) x.pins place c.last_after-last.result) c.wiring-in-loop-place.ensures (c.last_after-last.ensures.read (failed is_same mark)))
-          ];
+          (marks-more s w.order variant marks (not is_same) marked (subst (λ n. (not is_same ≡ false) ↔ IsUnchanged w.order s variant (net_at s n)) (sym many) (tells is_same iff)));
+      waiting =
+          subst₂ (λ n marks. AreWaiting w s variant n marks) (sym (refs_many ∙ size ∙ long)) (sym whole)
+          (waiting-next s w variant c.loop-place.waiting.items c.wait_unless.new.marks (length c.loop-place.refs.items) place is_same inv.waiting found.0
+          (c.wait_unless.ensures.many ∙ ap length c.deref_mut.ensures.value) (λ p unmarked. subst (λ l. get_or l p true ≡ false) c.deref_mut.ensures.value (c.wait_unless.ensures.kept p unmarked))
+          (λ e cell lt reads.
+          subst (λ n. get_or c.wait_unless.new.marks n true ≡ true) (omega (arith, rails, pins, nets))
+          (c.wait_unless.ensures.readers e (length w.nets - length w.pins + cell) (all cell (omega (arith, lt, rails, pins, nets)) reads))) up.1 (held is_same iff));
     }
 
 pub returns-clause-made : goal.returns-clause-made
@@ -131,30 +184,18 @@ returns-clause-made g c =
     let s : StageData = c.args.stage.now in
     let w : WiringData = c.args.base.now.wiring in
     let variant = c.args.variant in
-    let place = c.loop-place.place in
     let old : SpaceData = g.P.Space.meaning c.args.space.now in
     let now : SpaceData = g.P.Space.meaning c.loop-place.space in
     let inv = c.loop-place.invariant in
-    let wired = c.requires.base.wired in
-    let nets = ap length wired.nets in
-    let refs : length c.refs-all.result.now ≡ length (nets_of s.inputs s.cells) = ap length c.refs-all.ensures.refs ∙ c.refs-all.ensures.many ∙ nets in
-    let many = nets-length s in
-    let pins : length w.pins ≡ length s.cells = ap length wired.pins ∙ length-map s.cells (pin_places w.nets) in
-    let unread : c.loop-place.last < place → (cell p : ℕ) → cell < length w.pins → place ≤ 2 * length s.inputs + cell → Contains (get_or w.pins cell []) p → p < place → IsUnchanged w.order s variant (net_at s p) =
-    λ past cell p lt after reads earlier. elim (true_or_false (get_or c.loop-place.changed.items p true)) [
-      | inl high ↦ (let read = inv.read p earlier high cell lt reads in absurd (omega (arith, read, past, after, many, pins, nets)))
-      | inr low ↦ (inv.marks p (omega (arith, earlier, inv.many))).0 low
-    ] in
-    let behind : c.loop-place.last < place → (p : ℕ) → place ≤ p → p < length (nets_of s.inputs s.cells) → IsUnchanged w.order s variant (net_at s p) =
-    λ past. unvisited s w.order wired.order c.facts.ensures w wired variant place (length (nets_of s.inputs s.cells)) (omega arith)
-    (λ p after lt. inv.low p (omega (arith, lt, nets)) (omega (arith, past, after)) after)
-    (λ cell p after before reads earlier. unread past cell p (omega (arith, before, many, pins)) after reads earlier) in
-    let same : (p : ℕ) → place ≤ p → p < length (nets_of s.inputs s.cells) → IsUnchanged w.order s variant (net_at s p) =
-    λ p after lt. elim c.loop-place-test.branch [
-      | then-loop-place-test+else-place-last b ↦ behind (omega (arith, b.if-place-last.false)) p after lt
-      | else-loop-place-test b ↦ absurd (omega (arith, after, lt, refs, b.loop-place-test.false))
-    ] in
-    let shown = (values-kept old now s Base c.args.base.now inv.making.kept c.requires.base).shown in
-    let all = making-live old now c.loop-place.refs.items (drop place c.args.base.now.refs) (take place (net_tables_by w.order s variant)) (drop place (net_tables_by w.order s variant)) inv.making (last-tables now s w.order variant c.args.base.now.refs place shown same) in
-    subst (λ items. MakesAll old now items (net_tables_by w.order s variant)) (sym (c.in_ok-extend_from_slice-2.ensures.items ∙ ap (λ l. c.loop-place.refs.items ++ l) (take_rest c.refs-all.result.now place ∙ ap (drop place) c.refs-all.ensures.refs)))
-    (subst (MakesAll old now (c.loop-place.refs.items ++ drop place c.args.base.now.refs)) (take-append-drop place (net_tables_by w.order s variant)) all.all)
+    let nets = ap length c.requires.base.wired.nets in
+    let from = length c.loop-place.refs.items in
+    let all : length (net_tables_by w.order s variant) ≡ length w.nets = length-map (nets_of s.inputs s.cells) (net_table_by w.order s variant) ∙ sym nets in
+    let none : (other : ℕ) → from ≤ other → other < length w.nets → get_or c.loop-place.waiting.items other true ≡ false =
+    λ other behind before. subst (λ l. get_or l other true ≡ false) c.as_slice.ensures.value (c.in_default.ensures other (omega (arith, behind, c.len.ensures)) (omega (arith, before, ap length c.as_slice.ensures.value, inv.waiting.many))) in
+    let rest = left old now s c.args.base.now variant c.facts.ensures (values-kept old now s Base c.args.base.now inv.making.kept c.requires.base) c.loop-place.refs.items c.loop-place.waiting.items (length w.nets) inv.making inv.waiting inv.within (omega arith) none in
+    let long : length c.refs-all.result.now ≡ length w.nets = ap length c.refs-all.ensures.refs ∙ c.refs-all.ensures.many in
+    let at : c.len-2.result ≡ from = omega (arith, c.len-2.ensures) in
+    let whole : c.extend_from_slice-2.new.self.items ≡ c.loop-place.refs.items ++ take (length w.nets - from) (drop from c.args.base.now.refs) =
+    c.in_ok-extend_from_slice-2.ensures.items ∙ (λ i. c.loop-place.refs.items ++ take (long i - at i) (drop (at i) (c.refs-all.ensures.refs i))) in
+    subst (λ items. MakesAll old now items (net_tables_by w.order s variant)) (sym whole)
+    (subst (MakesAll old now (c.loop-place.refs.items ++ take (length w.nets - from) (drop from c.args.base.now.refs))) (take_all (length w.nets) (net_tables_by w.order s variant) (omega (arith, all))) rest.0.all)

@@ -1,5 +1,5 @@
 use Rattle.std.proofs.Common.{◌≡◌}
-use Rattle.ncl_stage.proofs.LastReaders.{pins-within, few-pins, wired}
+use Rattle.ncl_stage.proofs.ReaderLists.{pins-within, few-pins, wired}
 use Rattle.ncl_stage.proofs.wiring.Wiring.in_order.Goals as goal
 
 pub of_parts-requires-clause-within : goal.of_parts-requires-clause-within

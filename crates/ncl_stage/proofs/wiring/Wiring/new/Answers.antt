@@ -3,7 +3,7 @@ use Rattle.std.proofs.lemmas.Result.{IfOk-weaker}
 use Rattle.ncl_stage.specs.BitOrder.{IsOrderOf}
 use Rattle.ncl_stage.specs.Wiring.{WiringData, IsWiring}
 use Rattle.ncl_stage.proofs.OrderedTables.{order-is}
-use Rattle.ncl_stage.proofs.LastReaders.{pins-within, few-pins, wired}
+use Rattle.ncl_stage.proofs.ReaderLists.{pins-within, few-pins, wired}
 use Rattle.ncl_stage.proofs.wiring.Wiring.new.Goals as goal
 
 pub of_parts-requires-clause-within : goal.of_parts-requires-clause-within

@@ -64,6 +64,14 @@ done_weight covers places once within =
 
 -- ---- what is known
 
+-- something holds of the inputs and of what the covers drive that are done
+pub record HoldsOf (model : Model) (IsKnown : ℕ → Type 0) (done : List ℕ) : Type 0 where
+  pub inputs : (i : ℕ) → i < length model.inputs → IsKnown i
+  pub covers : (place : ℕ) (cover : Cover) → Contains done place → slice_get model.covers place ≡ Some cover → IsKnown cover.out
+
+known_of : (model : Model) (known : ℕ → Option Signal) (nodes : List Node) (done : List ℕ) → IsWalked model known nodes done → HoldsOf model (λ name. IsSome (known name)) done
+known_of model known nodes done walked = record { inputs = walked.inputs; covers = walked.covers }
+
 -- a signal that a cover drives has a driver among the covers
 driven_by : (covers : List Cover) (name : ℕ) → Contains (map (λ cover. cover.out) covers) name → (d : Cover) → (j : ℕ) × (j < length covers) × ((get_or covers j d).out ≡ name) × (driver_place covers name ≡ Some j)
 driven_by covers name (k, within, at) d =
@@ -75,44 +83,49 @@ driven_by covers name (k, within, at) d =
     let same : n ≡ m = omega arith in
     (m, m_in, eqb-true (get_or covers m d).out name (passes d), found ∙ ap Some same)
 
--- what is an input, or driven by a cover that is done, is known
-known_if : (model : Model) (known : ℕ → Option Signal) (nodes : List Node) (done : List ℕ) (name : ℕ) → IsModel model → IsWalked model known nodes done → ((j : ℕ) → j < length model.covers → driver_place model.covers name ≡ Some j → Contains done j) → Contains (signals_of model) name → Cover → IsSome (known name)
-known_if model known nodes done name fine walked is_done there d =
+-- what holds of the inputs and of what the covers drive that are done, as `IsKnown`, holds of a signal that is an input or
+-- is driven by such a cover
+known_if : (model : Model) (IsKnown : ℕ → Type 0) (done : List ℕ) (name : ℕ) → IsModel model → HoldsOf model IsKnown done → ((j : ℕ) → j < length model.covers → driver_place model.covers name ≡ Some j → Contains done j) → Contains (signals_of model) name → Cover → IsKnown name
+known_if model IsKnown done name fine holds is_done there d =
     ⊎_elim
     (λ (i, within, at).
     let count : ℕ = length model.inputs in
     let is : i ≡ name =
     sym (zero-add i) ∙ sym (get_or-range_with_len 0 count i name within)
     ∙ ap (λ l. get_or l i name) (sym fine.inputs_in_order) ∙ at in
-    subst (λ n. IsSome (known n)) is (walked.inputs i within))
+    subst IsKnown is (holds.inputs i within))
     (λ driven.
     let (j, within, is, found) = driven_by model.covers name driven d in
-    subst (λ n. IsSome (known n)) is (walked.covers j (get_or model.covers j d) (is_done j within found) (slice_get-get_or model.covers j d within)))
+    subst IsKnown is (holds.covers j (get_or model.covers j d) (is_done j within found) (slice_get-get_or model.covers j d within)))
     (Contains-append_cases model.inputs (map (λ cover. cover.out) model.covers) name there)
 
--- what a cover in its turn reads is known
-pub ready : (model : Model) (known : ℕ → Option Signal) (nodes : List Node) (before : List ℕ) (place : ℕ) (cover : Cover) → IsModel model → ((j : ℕ) → Contains (successors (dependency_graph model.covers) place) j → Contains before j) → place < length model.covers → get_or model.covers place cover ≡ cover → IsWalked model known nodes before → All (λ name. IsSome (known name)) cover.ins
-ready model known nodes before place cover fine after within at walked k d lt =
+-- it holds of what a cover in its turn reads
+ready : (model : Model) (IsKnown : ℕ → Type 0) (before : List ℕ) (place : ℕ) (cover : Cover) → IsModel model → ((j : ℕ) → Contains (successors (dependency_graph model.covers) place) j → Contains before j) → place < length model.covers → get_or model.covers place cover ≡ cover → HoldsOf model IsKnown before → All IsKnown cover.ins
+ready model IsKnown before place cover fine after within at holds k d lt =
     let covers : List Cover = model.covers in
     let name : ℕ = get_or cover.ins k d in
     let edges : Cover → List ℕ = λ cover. filter_map (driver_place covers) cover.ins in
     let among : Contains cover.ins name = (k, lt, get_or_default cover.ins k name d lt) in
     let driven : Contains (signals_of model) name = subst (λ c. All (λ name. Contains (signals_of model) name) c.ins) at (fine.reads_driven place cover within) k d lt in
-    known_if model known nodes before name fine walked
+    known_if model IsKnown before name fine holds
     (λ j in_covers found.
     after j (subst (λ js. Contains js j) (sym (get_or-map edges covers place cover [] within ∙ ap edges at)) (Contains-filter_map_of (driver_place covers) cover.ins name j among found)))
     driven cover
 
--- once all covers are done each signal is known
-pub all_known : (model : Model) (known : ℕ → Option Signal) (nodes : List Node) (order : List ℕ) (name : ℕ) → IsModel model → IsOrder (dependency_graph model.covers) order → IsWalked model known nodes order → Contains (signals_of model) name → IsSome (known name)
-all_known model known nodes order name fine ordered walked there =
-    known_if model known nodes order name fine walked
+-- once all covers are done it holds of each signal
+pub holds_of_all : (model : Model) (IsKnown : ℕ → Type 0) (order : List ℕ) (name : ℕ) → IsModel model → IsOrder (dependency_graph model.covers) order → HoldsOf model IsKnown order → Contains (signals_of model) name → IsKnown name
+holds_of_all model IsKnown order name fine ordered holds there =
+    known_if model IsKnown order name fine holds
     (λ j within found.
     ordered.every j (omega (arith, length-map model.covers (λ cover. filter_map (driver_place model.covers) cover.ins))))
     there none
   where
     none : Cover
     none = record { ins = []; out = 0; on = false; rows = [] }
+
+pub all_known : (model : Model) (known : ℕ → Option Signal) (nodes : List Node) (order : List ℕ) (name : ℕ) → IsModel model → IsOrder (dependency_graph model.covers) order → IsWalked model known nodes order → Contains (signals_of model) name → IsSome (known name)
+all_known model known nodes order name fine ordered walked there =
+    holds_of_all model (λ n. IsSome (known n)) order name fine ordered (known_of model known nodes order walked) there
 
 -- there are as many places in an order as covers
 pub length-order : (model : Model) (order : List ℕ) → IsOrder (dependency_graph model.covers) order → length order ≡ length model.covers
@@ -164,9 +177,13 @@ module _ (model : Model) (fine : IsModel model) (order : List ℕ) (ordered : Is
   pub turn_within : get_or order i 0 < length model.covers
   turn_within = places-order model order ordered i 0 turn
 
+  pub turn_holds : (IsKnown : ℕ → Type 0) (cover : Cover) → cover ≡ get_or model.covers (get_or order i 0) cover → HoldsOf model IsKnown (take i order) → All IsKnown cover.ins
+  turn_holds IsKnown cover at holds =
+      ready model IsKnown (take i order) (get_or order i 0) cover fine (ordered.after (take i order) (get_or order i 0) (drop (i + 1) order) (cut_at order i 0 turn)) turn_within (sym at) holds
+
   pub turn_ready : (known : ℕ → Option Signal) (nodes : List Node) (cover : Cover) → cover ≡ get_or model.covers (get_or order i 0) cover → IsWalked model known nodes (take i order) → All (λ name. IsSome (known name)) cover.ins
   turn_ready known nodes cover at walked =
-      ready model known nodes (take i order) (get_or order i 0) cover fine (ordered.after (take i order) (get_or order i 0) (drop (i + 1) order) (cut_at order i 0 turn)) turn_within (sym at) walked
+      turn_holds (λ n. IsSome (known n)) cover at (known_of model known nodes (take i order) walked)
 
   pub turn_few : (known : ℕ → Option Signal) (nodes : List Node) → IsWalked model known nodes (take i order) → length nodes < 2 ^ 32
   turn_few known nodes walked =

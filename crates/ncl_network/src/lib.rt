@@ -16,4 +16,4 @@ mod walk;
 pub use fault::CompileFault;
 pub use network::{From3, Network, Node, Signal};
 pub use pruning::prune;
-pub use reducing::reduce;
+pub use reducing::{cover_order, reduce};

@@ -14,9 +14,9 @@ use ncl_base::{Items, Memory};
 use ncl_blif::{Model, dependencies};
 use std::alloc::Global;
 
-/// The places of the covers in an order in which each stands after those that it reads. `n log n` in the
-/// covers and what they read.
-fn order(alloc: Global, model: &Model) -> Result<Vec<u32>, Memory>
+/// The places of the covers of a model in an order in which each stands after those that it reads. `n log n` in the
+/// covers and what they read. The only error is want of memory.
+pub fn cover_order(alloc: Global, model: &Model) -> Result<Vec<u32>, Memory>
     requires { IsModel model.now }
     ensures { IfOk result (λ order. IsOrder (dependency_graph model.now.covers) order.items) }
 {
@@ -37,7 +37,7 @@ fn fold_model(alloc: Global, model: &Model) -> Result<Network, Memory>
     ensures same { IfOk result (λ n. (word answer : List Bool) → Gives model.now word answer → answer ≡ answer_of n word) }
     ensures weight { IfOk result (λ n. weight_of_network n ≤ weight_of_model model.now) }
 {
-    let order = order(alloc, model)?;
+    let order = cover_order(alloc, model)?;
     let walk = walk_covers(alloc, model, &order)?;
     let outputs = walk.look_up(alloc, model.outputs.items())?;
     Ok(Network {

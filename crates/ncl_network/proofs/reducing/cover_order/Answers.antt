@@ -3,7 +3,7 @@ use Rattle.std.proofs.lemmas.Option.{MatchOption-at_none}
 use Rattle.ncl_graph.specs.Graph.{IsOnCycle}
 use Rattle.ncl_blif.specs.Dependence.{dependency_graph}
 use Rattle.ncl_network.proofs.CoverOrder.{covers_few, no_cycle}
-use Rattle.ncl_network.proofs.reducing.order.Goals as goal
+use Rattle.ncl_network.proofs.reducing.cover_order.Goals as goal
 
 pub dependencies-requires : goal.dependencies-requires
 dependencies-requires c = omega (arith, ap length c.items.ensures, covers_few c.args.model.now, c.requires.small)

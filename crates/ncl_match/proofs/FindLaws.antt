@@ -1,0 +1,69 @@
+-- The first word of a width that passes a test is the least that does.
+use Rattle.std.proofs.Common.{◌≡◌, ℕ, zero, suc, ◌^◌, ◌≤◌, List, [], ◌∷◌, Bool, true, false, length, Option, Some, None, cond, refl, sym, ap, ◌∙◌, subst, arith}
+use Rattle.std.specs.List.{find}
+use Rattle.std.specs.Option.{option_or, option_map}
+use Rattle.ncl_space.specs.Table.{words, number_of}
+use Rattle.ncl_space.proofs.TableLaws.{find-words, number_of-less}
+
+-- the word passes, and no word of the width before it does
+pub record IsLeast (n : ℕ) (test : List Bool → Bool) (word : List Bool) : Type 0 where
+  pub wide : length word ≡ n
+  pub passes : test word ≡ true
+  pub least : (other : List Bool) → length other ≡ n → test other ≡ true → number_of word ≤ number_of other
+
+-- no word of the width passes
+abbrev pub NonePasses : ℕ → (List Bool → Bool) → Type 0
+NonePasses n test = (word : List Bool) → length word ≡ n → test word ≡ true → ⊥
+
+-- what `find` gives
+abbrev pub Found : ℕ → (List Bool → Bool) → Option (List Bool) → Type 0
+Found n test None = NonePasses n test
+Found n test (Some word) = IsLeast n test word
+
+found-none : (test : List Bool → Bool) (b : Bool) → test [] ≡ b → Found 0 test (cond b (Some []) None)
+found-none test true e = record { wide = refl; passes = e; least = λ other wide passes. omega arith }
+found-none test false e = by
+  where
+    by : (word : List Bool) → length word ≡ 0 → test word ≡ true → ⊥
+    by [] wide passes = absurd (let no = sym e ∙ passes in cc)
+    by (b ∷ word) wide passes = omega (arith, wide)
+
+found-more : (n : ℕ) (test : List Bool → Bool) (low high : Option (List Bool)) → Found n (λ w. test (false ∷ w)) low → Found n (λ w. test (true ∷ w)) high → Found (suc n) test (option_or (option_map (λ w. false ∷ w) low) (option_map (λ w. true ∷ w) high))
+found-more n test (Some u) high l h = record {
+  wide = ap suc l.wide;
+  passes = l.passes;
+  least = by;
+}
+  where
+    by : (other : List Bool) → length other ≡ suc n → test other ≡ true → number_of (false ∷ u) ≤ number_of other
+    by [] wide passes = absurd (omega (arith, wide))
+    by (false ∷ v) wide passes = l.least v (omega arith) passes
+    by (true ∷ v) wide passes =
+        let far = number_of-less u in
+        let same : 2 ^ length u ≡ 2 ^ length v = ap (λ (k : ℕ). 2 ^ k) (let a = l.wide in omega (arith, a, wide)) in
+        omega (arith, far, same)
+found-more n test None (Some u) l h = record {
+  wide = ap suc h.wide;
+  passes = h.passes;
+  least = by;
+}
+  where
+    by : (other : List Bool) → length other ≡ suc n → test other ≡ true → number_of (true ∷ u) ≤ number_of other
+    by [] wide passes = absurd (omega (arith, wide))
+    by (false ∷ v) wide passes = absurd (l v (omega arith) passes)
+    by (true ∷ v) wide passes =
+        let rest = h.least v (omega arith) passes in
+        let same : 2 ^ length u ≡ 2 ^ length v = ap (λ (k : ℕ). 2 ^ k) (let a = h.wide in omega (arith, a, wide)) in
+        omega (arith, rest, same)
+found-more n test None None l h = by
+  where
+    by : (word : List Bool) → length word ≡ suc n → test word ≡ true → ⊥
+    by [] wide passes = omega (arith, wide)
+    by (false ∷ v) wide passes = l v (omega arith) passes
+    by (true ∷ v) wide passes = h v (omega arith) passes
+
+pub found : (n : ℕ) (test : List Bool → Bool) → Found n test (find test (words n))
+found zero test = found-none test (test []) refl
+found (suc n) test =
+    subst (Found (suc n) test) (sym (find-words n test))
+    (found-more n test (find (λ w. test (false ∷ w)) (words n)) (find (λ w. test (true ∷ w)) (words n)) (found n (λ w. test (false ∷ w))) (found n (λ w. test (true ∷ w))))

@@ -1,0 +1,48 @@
+use Rattle.std.proofs.Common.{◌≡◌, ◌≤◌, List, Err, length, ap, ◌∙◌, subst, arith}
+use Rattle.ncl_base.specs.declared.word.TheConstants.{MOST_BITS}
+use Rattle.ncl_blif.specs.declared.model.Model.{Model}
+use Rattle.ncl_diagram.specs.Diagram.{diagram_space}
+use Rattle.ncl_shape.specs.declared.rails.Rails.{Rails}
+use Rattle.ncl_shape.specs.Pipeline.{PipelineData}
+use Rattle.ncl_shape.specs.Shape.{Shape}
+use Rattle.ncl_layout.specs.Layout.{Layout, IsLayoutOf}
+use Rattle.ncl_layout.proofs.LaidOut.{laid_out_of}
+use Rattle.ncl_space.specs.Space.{SpaceData}
+use Rattle.ncl_space.specs.Table.{words, table_of}
+use Rattle.ncl_match.specs.Circuit.{Circuit, circuit_of}
+use Rattle.ncl_match.specs.Difference.{apart_function}
+use Rattle.ncl_match.proofs.BitLaws.{told-over, told-within}
+use Rattle.ncl_match.proofs.bits.BitsCompareBit.compare_bit.Goals as goal
+
+-- there are as many inputs as a word may have bits
+few_inputs : (p : PipelineData) → Shape p.netlist p → length p.inputs ≤ MOST_BITS
+few_inputs p shape = by (laid_out_of p.netlist p shape)
+  where
+    by : (l : Layout) × IsLayoutOf p l → length p.inputs ≤ MOST_BITS
+    by (l, is) = subst (λ (bits : List Rails). length bits ≤ MOST_BITS) is.source (is.is_stage 0 (omega arith)).few_inputs
+
+pub new-space-requires-clause-few : goal.new-space-requires-clause-few
+new-space-requires-clause-few c =
+    let few = few_inputs c.args.pipeline.now c.facts.ensures in
+    let many : length c.inputs.result.now ≡ length c.args.pipeline.now.inputs = ap length c.inputs.ensures.inputs in
+    omega (arith, few, many)
+
+pub returns-in-Ok : goal.returns-in-Ok
+returns-in-Ok c =
+    let circuit : Circuit = circuit_of c.args.pipeline.now in
+    let models : List Model = c.args.models.now in
+    let old : SpaceData = diagram_space c.new-space.result in
+    let now : SpaceData = diagram_space c.difference.new.space in
+    let h = c.in-Ok.ensures.apart in
+    let wide : old.width ≡ length circuit.inputs = c.new-space.ensures.width ∙ ap length c.inputs.ensures.inputs in
+    let now_wide : now.width ≡ length circuit.inputs = c.in-Ok.ensures.kept.width ∙ wide in
+    c.told.ensures circuit models c.args.limit c.args.bit h.f h.g c.requires.models.each h.are now_wide
+    (h.has.table ∙ ap (λ n. table_of (words n) (apart_function h.f h.g)) now_wide)
+    (told-within circuit models c.args.limit c.args.bit old now c.new-space.ensures.new c.new-space.ensures.limit wide c.in-Ok.ensures.kept c.in-Ok.ensures.space c.in-Ok.ensures.gathers c.in-Ok.ensures.whole)
+
+pub returns-in-Err-Full : goal.returns-in-Err-Full
+returns-in-Err-Full c =
+    let circuit : Circuit = circuit_of c.args.pipeline.now in
+    let old : SpaceData = diagram_space c.new-space.result in
+    let wide : old.width ≡ length circuit.inputs = c.new-space.ensures.width ∙ ap length c.inputs.ensures.inputs in
+    told-over circuit c.args.models.now c.args.limit c.args.bit old c.new-space.ensures.new c.new-space.ensures.limit wide (c.in-Err-Full.ensures.full (ap Err c.in-Err-Full.field-0-is))

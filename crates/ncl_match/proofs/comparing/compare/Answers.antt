@@ -1,0 +1,38 @@
+use Rattle.std.proofs.Common.{◌≡◌, ◌≤◌, List, length, ap, subst, arith}
+use Rattle.ncl_base.specs.declared.word.TheConstants.{MOST_BITS}
+use Rattle.ncl_shape.specs.declared.rails.Rails.{Rails}
+use Rattle.ncl_shape.specs.Pipeline.{PipelineData}
+use Rattle.ncl_shape.specs.Shape.{Shape}
+use Rattle.ncl_layout.specs.Layout.{Layout, IsLayoutOf}
+use Rattle.ncl_layout.proofs.LaidOut.{laid_out_of}
+use Rattle.ncl_match.specs.Answer.{IsRunAnswer}
+use Rattle.ncl_match.specs.Circuit.{circuit_of}
+use Rattle.ncl_match.specs.declared.answer.RunAnswer.TheVariants as run
+use Rattle.ncl_match.proofs.comparing.compare.Goals as goal
+
+-- there are as many outputs as a word may have bits
+few_outputs : (p : PipelineData) → Shape p.netlist p → length p.outputs ≤ MOST_BITS
+few_outputs p shape = by (laid_out_of p.netlist p shape)
+  where
+    by : (l : Layout) × IsLayoutOf p l → length p.outputs ≤ MOST_BITS
+    by (l, is) = subst (λ (bits : List Rails). length bits ≤ MOST_BITS) is.sink (is.is_stage l.last (omega arith)).few_outputs
+
+pub overflow_cast-outputs : goal.overflow_cast-outputs
+overflow_cast-outputs g c =
+    let few = few_outputs c.args.pipeline.now c.facts.ensures in
+    let many : length c.outputs.result.now ≡ length c.args.pipeline.now.outputs = ap length c.outputs.ensures.outputs in
+    record { fits = omega (arith, few, many) }
+
+pub returns-in-Ok-Same : goal.returns-in-Ok-Same
+returns-in-Ok-Same g c = (
+  c.have_widths.ensures.yes c.if-not-have_widths.false,
+  subst (λ (bits : List Rails). IsRunAnswer (circuit_of c.args.pipeline.now) c.args.models.now c.args.limit 0 (length bits) run.Same) c.outputs.ensures.outputs
+      (subst (IsRunAnswer (circuit_of c.args.pipeline.now) c.args.models.now c.args.limit 0 (length c.outputs.result.now)) c.in-Ok-Same.field-0-is c.in-Ok-Same.ensures),
+)
+
+pub returns-in-Ok-Differ : goal.returns-in-Ok-Differ
+returns-in-Ok-Differ g c = (
+  c.have_widths.ensures.yes c.if-not-have_widths.false,
+  subst (λ (bits : List Rails). IsRunAnswer (circuit_of c.args.pipeline.now) c.args.models.now c.args.limit 0 (length bits) (run.Differ c.in-Ok-Differ.word c.in-Ok-Differ.output)) c.outputs.ensures.outputs
+      (subst (IsRunAnswer (circuit_of c.args.pipeline.now) c.args.models.now c.args.limit 0 (length c.outputs.result.now)) c.in-Ok-Differ.field-0-is c.in-Ok-Differ.ensures),
+)

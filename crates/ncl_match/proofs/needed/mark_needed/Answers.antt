@@ -1,0 +1,39 @@
+use Rattle.std.proofs.Common.{◌≡◌, ℕ, ◌+◌, ◌-◌, ◌<◌, List, length, Some, refl, ap, ◌∙◌, subst, arith, ◌||◌}
+use Rattle.std.specs.Prelude.{slice_get}
+use Rattle.std.proofs.lemmas.Option.{slice_get_read}
+use Rattle.ncl_match.specs.declared.steps.Step.{Step}
+use Rattle.ncl_match.specs.Needed.{AreNeeded, is_among}
+use Rattle.ncl_match.specs.Steps.{bit_at}
+use Rattle.ncl_match.proofs.NeededLaws.{needed-root, needed-passed, needed-more}
+use Rattle.ncl_match.proofs.needed.mark_needed.Goals as goal
+
+pub loop-place-init : goal.loop-place-init
+loop-place-init c =
+    needed-root c.args.inputs c.args.steps.now c.args.root c.args.marks.now c.mark.new.marks c.requires.fresh (c.mark.auto.marks ∙ c.requires.many) c.mark.ensures
+
+pub loop-place-preserved : goal.loop-place-preserved
+loop-place-preserved c =
+    let steps : List Step = c.args.steps.now in
+    let place : ℕ = c.loop-place.place - 1 in
+    let step : Step = c.index-steps-place.result in
+    let most = c.loop-place.auto.place in
+    let some = c.loop-place-test.true in
+    let within : place < length steps = omega (arith, most, some) in
+    let at : slice_get steps place ≡ Some step = slice_get_read steps (length steps) place step refl within c.index-steps-place.is in
+    let from : c.loop-place.place ≡ place + 1 = omega (arith, some) in
+    needed-passed c.args.inputs steps c.args.root c.loop-place.marks place step at c.if-marks-inputs.false
+    (subst (AreNeeded c.args.inputs steps c.args.root c.loop-place.marks) from c.loop-place.invariant)
+
+pub loop-place-preserved-then-marks-inputs : goal.loop-place-preserved-then-marks-inputs
+loop-place-preserved-then-marks-inputs c =
+    let steps : List Step = c.args.steps.now in
+    let place : ℕ = c.loop-place.place - 1 in
+    let step : Step = c.index-steps-place.result in
+    let most = c.loop-place.auto.place in
+    let some = c.loop-place-test.true in
+    let within : place < length steps = omega (arith, most, some) in
+    let at : slice_get steps place ≡ Some step = slice_get_read steps (length steps) place step refl within c.index-steps-place.is in
+    let from : c.loop-place.place ≡ place + 1 = omega (arith, some) in
+    needed-more c.args.inputs steps c.args.root c.loop-place.marks c.mark-then-marks-inputs.new.marks place step c.requires.ordered at c.if-marks-inputs.true c.mark-then-marks-inputs.auto.marks
+    (λ number. c.mark-then-marks-inputs.ensures number ∙ ap (λ ins. bit_at c.loop-place.marks number || is_among ins number) c.items.ensures)
+    (subst (AreNeeded c.args.inputs steps c.args.root c.loop-place.marks) from c.loop-place.invariant)

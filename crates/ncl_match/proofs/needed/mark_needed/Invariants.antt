@@ -1,0 +1,6 @@
+use Rattle.ncl_match.specs.Needed.{AreNeeded}
+use Rattle.ncl_match.proofs.needed.mark_needed.Given as goal
+
+-- the steps from the place on are looked at
+abbrev pub invariant-loop-place : goal.invariant-loop-place
+invariant-loop-place l = AreNeeded l.inputs l.steps l.root l.marks l.place

@@ -1,0 +1,139 @@
+use Rattle.std.proofs.Common.{◌≡◌, ◌≢◌, ℕ, ◌<◌, Bool, false, List, Err, length, get_or, sym, ap, ◌∙◌, subst}
+use Rattle.std.specs.Prelude.{All, AllPairs}
+use Rattle.std.proofs.lemmas.Option.{get_or_from_slice_get, slice_get-get_or}
+use Rattle.ncl_shape.specs.declared.rails.Rails.{Rails}
+use Rattle.ncl_shape.specs.Nets.{Nets}
+use Rattle.ncl_shape.specs.Pipeline.{PipelineData}
+use Rattle.ncl_shape.specs.Stage.{rail_nets}
+use Rattle.ncl_layout.specs.Layout.{no_rails}
+use Rattle.ncl_layout.proofs.LaidOut.{laid_out_of}
+use Rattle.ncl_space.specs.Space.{SpaceData, fits}
+use Rattle.ncl_space.proofs.MakingLaws.{handed_on}
+use Rattle.ncl_match.specs.Circuit.{circuit_of, closed}
+use Rattle.ncl_match.specs.declared.pair.Pair.{Pair}
+use Rattle.ncl_match.specs.declared.planning.DataCell.{DataCell}
+use Rattle.ncl_match.specs.Inputs.{HaveInputs}
+use Rattle.ncl_match.specs.Plan.{FitPins, IsOrdered, pair_at, plan_tables}
+use Rattle.ncl_match.specs.PlanCase.{AreDone, IsCase}
+use Rattle.ncl_match.specs.Planned.{plan_of}
+use Rattle.ncl_match.specs.Sides.{HasRail}
+use Rattle.ncl_match.specs.Turns.{gathered}
+use Rattle.ncl_match.proofs.NetlistLaws.{cells-gather, cells-over, inputs-case, inputs-differ, inputs-over, nets-held, ones-within, rail-had, zeros-within}
+use Rattle.ncl_match.proofs.PlanLaws.{plan-fits, plan-ordered}
+use Rattle.ncl_match.proofs.ReachLaws.{output-within}
+use Rattle.ncl_match.proofs.netlist.filled_pair.Goals as goal
+
+-- the values of the nets
+abbrev values : PipelineData → List Bool → Nets
+values p word net = closed (circuit_of p) word net
+
+-- the rails of the inputs by a list that is theirs
+with_inputs : (old now : SpaceData) (bits inputs : List Rails) (marks : List Bool) (pairs : List Pair) → bits ≡ inputs → HaveInputs old now bits marks pairs (length bits) → HaveInputs old now inputs marks pairs (length inputs)
+with_inputs old now bits inputs marks pairs same have = subst (λ xs. HaveInputs old now xs marks pairs (length xs)) same have
+
+pub input_pairs-requires-clause-differ : goal.input_pairs-requires-clause-differ
+input_pairs-requires-clause-differ g c =
+    let p : PipelineData = c.args.pipeline.now in
+    let (l, is) = laid_out_of p.netlist p c.facts.ensures in
+    subst (λ bits. AllPairs (λ (x y : ℕ). x ≢ y) (rail_nets bits)) (sym c.inputs.ensures.inputs) (inputs-differ is)
+
+pub input_pairs-requires-clause-zeros : goal.input_pairs-requires-clause-zeros
+input_pairs-requires-clause-zeros g c =
+    let p : PipelineData = c.args.pipeline.now in
+    let (l, is) = laid_out_of p.netlist p c.facts.ensures in
+    let many : length p.netlist.nets ≡ length c.args.pairs.now = sym c.requires.marks.are.many ∙ c.requires.many in
+    subst (All (λ (r : Rails). r.zero.0 < length c.args.pairs.now)) (sym c.inputs.ensures.inputs) (subst (λ n. All (λ (r : Rails). r.zero.0 < n) p.inputs) many (zeros-within is))
+
+pub input_pairs-requires-clause-ones : goal.input_pairs-requires-clause-ones
+input_pairs-requires-clause-ones g c =
+    let p : PipelineData = c.args.pipeline.now in
+    let (l, is) = laid_out_of p.netlist p c.facts.ensures in
+    let many : length p.netlist.nets ≡ length c.args.pairs.now = sym c.requires.marks.are.many ∙ c.requires.many in
+    subst (All (λ (r : Rails). r.one.0 < length c.args.pairs.now)) (sym c.inputs.ensures.inputs) (subst (λ n. All (λ (r : Rails). r.one.0 < n) p.inputs) many (ones-within is))
+
+pub returns-in_err-input_pairs-clause-full : goal.returns-in_err-input_pairs-clause-full
+returns-in_err-input_pairs-clause-full g c = λ models e.
+    let p : PipelineData = c.args.pipeline.now in
+    let (l, is) = laid_out_of p.netlist p c.facts.ensures in
+    inputs-over is c.args.output c.args.marks.now c.requires.marks models (g.P.Space.meaning c.args.space.now) c.inputs.result.now c.requires.width c.inputs.ensures.inputs
+    (c.in_err-input_pairs.ensures.full (ap Err (handed_on c.from_residual.result c.in_err-input_pairs.field-0.0 c.from_residual.ensures.1 e)))
+
+pub plan_pairs-requires-clause-ordered : goal.plan_pairs-requires-clause-ordered
+plan_pairs-requires-clause-ordered g c =
+    let p : PipelineData = c.args.pipeline.now in
+    let (l, is) = laid_out_of p.netlist p c.facts.ensures in
+    let many : length p.netlist.nets ≡ length c.input_pairs.new.pairs = sym c.requires.marks.are.many ∙ c.requires.many ∙ sym c.input_pairs.auto.pairs in
+    subst (λ cells. IsOrdered cells (length c.input_pairs.new.pairs)) (sym c.requires.plan) (subst (IsOrdered (plan_of p)) many (plan-ordered is))
+
+pub plan_pairs-requires-clause-pins : goal.plan_pairs-requires-clause-pins
+plan_pairs-requires-clause-pins g c =
+    let p : PipelineData = c.args.pipeline.now in
+    let (l, is) = laid_out_of p.netlist p c.facts.ensures in
+    subst FitPins (sym c.requires.plan) (plan-fits is)
+
+pub returns-in_err-plan_pairs-clause-full : goal.returns-in_err-plan_pairs-clause-full
+returns-in_err-plan_pairs-clause-full g c = λ models e.
+    let p : PipelineData = c.args.pipeline.now in
+    let (l, is) = laid_out_of p.netlist p c.facts.ensures in
+    let old : SpaceData = g.P.Space.meaning c.args.space.now in
+    let now : SpaceData = g.P.Space.meaning c.input_pairs.new.space in
+    let marks : List Bool = c.args.marks.now in
+    let pairs : List Pair = c.input_pairs.new.pairs in
+    let bits : List Rails = c.inputs.result.now in
+    let case = inputs-case is c.args.output marks c.requires.marks old now pairs (c.in_ok-input_pairs.ensures.kept.width ∙ c.requires.width) (with_inputs old now bits p.inputs marks pairs c.inputs.ensures.inputs c.in_ok-input_pairs.ensures.have) in
+    let full = c.in_err-plan_pairs.ensures.full (rail_nets p.inputs) (values p) (subst (λ cells. IsCase now cells marks pairs (rail_nets p.inputs) (values p)) (sym c.requires.plan) case)
+    (ap Err (handed_on c.from_residual-in_err-plan_pairs.result c.in_err-plan_pairs.field-0.0 c.from_residual-in_err-plan_pairs.ensures.1 e)) in
+    cells-over is c.args.output marks c.requires.marks models old bits c.requires.width c.inputs.ensures.inputs now pairs c.in_ok-input_pairs.ensures.kept c.in_ok-input_pairs.ensures.have
+    (subst (λ (cells : List DataCell). fits now (gathered (plan_tables now.width (values p) marks cells) (length cells)) ≡ false) c.requires.plan full)
+
+pub returns-clause-nets : goal.returns-clause-nets
+returns-clause-nets g c =
+    let p : PipelineData = c.args.pipeline.now in
+    let (l, is) = laid_out_of p.netlist p c.facts.ensures in
+    let old : SpaceData = g.P.Space.meaning c.args.space.now in
+    let now : SpaceData = g.P.Space.meaning c.input_pairs.new.space in
+    let new : SpaceData = g.P.Space.meaning c.plan_pairs.new.space in
+    let marks : List Bool = c.args.marks.now in
+    let pairs : List Pair = c.input_pairs.new.pairs in
+    let after : List Pair = c.plan_pairs.new.pairs in
+    let case = inputs-case is c.args.output marks c.requires.marks old now pairs (c.in_ok-input_pairs.ensures.kept.width ∙ c.requires.width) (with_inputs old now c.inputs.result.now p.inputs marks pairs c.inputs.ensures.inputs c.in_ok-input_pairs.ensures.have) in
+    let over_plan = subst (λ (cells : List DataCell). IsCase now cells marks pairs (rail_nets p.inputs) (values p) → AreDone now new cells marks after (rail_nets p.inputs) (values p) (length cells)) c.requires.plan (c.in_ok-plan_pairs.ensures.done (rail_nets p.inputs) (values p)) in
+    nets-held is c.args.output marks c.requires.marks now new after c.in_ok-plan_pairs.ensures.space (over_plan case)
+
+pub returns-clause-gathers : goal.returns-clause-gathers
+returns-clause-gathers g c = λ models.
+    let p : PipelineData = c.args.pipeline.now in
+    let (l, is) = laid_out_of p.netlist p c.facts.ensures in
+    let old : SpaceData = g.P.Space.meaning c.args.space.now in
+    let now : SpaceData = g.P.Space.meaning c.input_pairs.new.space in
+    let new : SpaceData = g.P.Space.meaning c.plan_pairs.new.space in
+    let marks : List Bool = c.args.marks.now in
+    let pairs : List Pair = c.input_pairs.new.pairs in
+    let after : List Pair = c.plan_pairs.new.pairs in
+    let case = inputs-case is c.args.output marks c.requires.marks old now pairs (c.in_ok-input_pairs.ensures.kept.width ∙ c.requires.width) (with_inputs old now c.inputs.result.now p.inputs marks pairs c.inputs.ensures.inputs c.in_ok-input_pairs.ensures.have) in
+    let over_plan = subst (λ (cells : List DataCell). IsCase now cells marks pairs (rail_nets p.inputs) (values p) → AreDone now new cells marks after (rail_nets p.inputs) (values p) (length cells)) c.requires.plan (c.in_ok-plan_pairs.ensures.done (rail_nets p.inputs) (values p)) in
+    cells-gather is c.args.output marks c.requires.marks models old c.inputs.result.now c.requires.width c.inputs.ensures.inputs now pairs c.in_ok-input_pairs.ensures.kept c.in_ok-input_pairs.ensures.have new after (over_plan case)
+
+pub returns-clause-rail : goal.returns-clause-rail
+returns-clause-rail g c =
+    let p : PipelineData = c.args.pipeline.now in
+    let (l, is) = laid_out_of p.netlist p c.facts.ensures in
+    let old : SpaceData = g.P.Space.meaning c.args.space.now in
+    let now : SpaceData = g.P.Space.meaning c.input_pairs.new.space in
+    let new : SpaceData = g.P.Space.meaning c.plan_pairs.new.space in
+    let marks : List Bool = c.args.marks.now in
+    let pairs : List Pair = c.input_pairs.new.pairs in
+    let after : List Pair = c.plan_pairs.new.pairs in
+    let case = inputs-case is c.args.output marks c.requires.marks old now pairs (c.in_ok-input_pairs.ensures.kept.width ∙ c.requires.width) (with_inputs old now c.inputs.result.now p.inputs marks pairs c.inputs.ensures.inputs c.in_ok-input_pairs.ensures.have) in
+    let over_plan = subst (λ (cells : List DataCell). IsCase now cells marks pairs (rail_nets p.inputs) (values p) → AreDone now new cells marks after (rail_nets p.inputs) (values p) (length cells)) c.requires.plan (c.in_ok-plan_pairs.ensures.done (rail_nets p.inputs) (values p)) in
+    let had = rail-had is c.args.output marks c.requires.marks now new after c.in_ok-plan_pairs.ensures.space (over_plan case) in
+    let own : c.requires.marks.rails ≡ get_or c.outputs.result.now c.args.output no_rails = sym (ap (λ xs. get_or xs c.args.output no_rails) c.outputs.ensures.outputs ∙ get_or_from_slice_get p.outputs c.args.output c.requires.marks.rails no_rails c.requires.marks.at) in
+    subst (λ (r : Rails). HasRail new (pair_at after r.one.0) (circuit_of p) c.args.output) own had
+
+pub slice_copy_out-result : goal.slice_copy_out-result
+slice_copy_out-result g c =
+    let p : PipelineData = c.args.pipeline.now in
+    let (l, is) = laid_out_of p.netlist p c.facts.ensures in
+    let many : length p.netlist.nets ≡ length c.plan_pairs.new.pairs = sym c.requires.marks.are.many ∙ c.requires.many ∙ sym c.input_pairs.auto.pairs ∙ sym c.plan_pairs.auto.pairs in
+    let within = output-within is c.args.output (get_or p.outputs c.args.output no_rails) (slice_get-get_or p.outputs c.args.output no_rails c.requires.output) in
+    subst (λ (xs : List Rails). (get_or xs c.args.output no_rails).one.0 < length c.plan_pairs.new.pairs) (sym c.outputs.ensures.outputs) (subst (λ n. (get_or p.outputs c.args.output no_rails).one.0 < n) many within)

@@ -1,0 +1,46 @@
+use Rattle.std.proofs.Common.{◌≡◌, ℕ, ◌<◌, Bool, List, length, get_or, sym, ap, ◌∙◌, subst}
+use Rattle.std.proofs.lemmas.Option.{slice_get-get_or}
+use Rattle.ncl_netlist.specs.Netlist.{NetlistData}
+use Rattle.ncl_shape.specs.declared.rails.Rails.{Rails}
+use Rattle.ncl_shape.specs.Pipeline.{PipelineData}
+use Rattle.ncl_layout.specs.Layout.{no_rails}
+use Rattle.ncl_layout.proofs.LaidOut.{laid_out_of}
+use Rattle.ncl_match.specs.declared.planning.DataCell.{DataCell}
+use Rattle.ncl_match.specs.Plan.{AreMarks, IsOrdered}
+use Rattle.ncl_match.specs.Planned.{AreMarksFor, plan_of}
+use Rattle.ncl_match.proofs.PlanLaws.{plan-ordered}
+use Rattle.ncl_match.proofs.ReachLaws.{output-within}
+use Rattle.ncl_match.proofs.netlist.netlist_pair.Goals as goal
+
+-- marks of what is made are those of the plan
+marks-for : (p : PipelineData) (output : ℕ) (cells : List DataCell) (nets : ℕ) (outputs : List Rails) (made marks : List Bool) → output < length p.outputs → cells ≡ plan_of p → length p.netlist.nets ≡ nets → outputs ≡ p.outputs → marks ≡ made
+    → AreMarks cells nets (get_or outputs output no_rails).one.0 made 0 → AreMarksFor p output marks
+marks-for p output cells nets outputs made marks lt cells_are many same marks_are are = record {
+  rails = get_or p.outputs output no_rails;
+  at = slice_get-get_or p.outputs output no_rails lt;
+  are = subst (λ ms. AreMarks (plan_of p) (length p.netlist.nets) (get_or p.outputs output no_rails).one.0 ms 0) (sym marks_are)
+      (subst (λ n. AreMarks (plan_of p) n (get_or p.outputs output no_rails).one.0 made 0) (sym many)
+      (subst (λ (xs : List Rails). AreMarks (plan_of p) nets (get_or xs output no_rails).one.0 made 0) same
+      (subst (λ es. AreMarks es nets (get_or outputs output no_rails).one.0 made 0) cells_are are)));
+}
+
+pub marked_nets-requires-clause-ordered : goal.marked_nets-requires-clause-ordered
+marked_nets-requires-clause-ordered g c =
+    let p : PipelineData = c.args.pipeline.now in
+    let (l, is) = laid_out_of p.netlist p c.outputs.ensures.shape in
+    let many : length p.netlist.nets ≡ length c.nets-nets.result.now = ap length (sym (c.nets-nets.ensures.nets ∙ ap (λ (n : NetlistData). n.nets) c.netlist.ensures.netlist)) in
+    subst (λ cells. IsOrdered cells (length c.nets-nets.result.now)) (sym (c.deref.ensures.value ∙ c.in_ok-plan.ensures)) (subst (IsOrdered (plan_of p)) many (plan-ordered is))
+
+pub marked_nets-requires-clause-root : goal.marked_nets-requires-clause-root
+marked_nets-requires-clause-root g c =
+    let p : PipelineData = c.args.pipeline.now in
+    let (l, is) = laid_out_of p.netlist p c.outputs.ensures.shape in
+    let many : length p.netlist.nets ≡ length c.nets-nets.result.now = ap length (sym (c.nets-nets.ensures.nets ∙ ap (λ (n : NetlistData). n.nets) c.netlist.ensures.netlist)) in
+    let within = output-within is c.args.output (get_or p.outputs c.args.output no_rails) (slice_get-get_or p.outputs c.args.output no_rails c.requires.output) in
+    subst (λ (xs : List Rails). (get_or xs c.args.output no_rails).one.0 < length c.nets-nets.result.now) (sym c.outputs.ensures.outputs) (subst (λ n. (get_or p.outputs c.args.output no_rails).one.0 < n) many within)
+
+pub marked_pair-requires-clause-marks : goal.marked_pair-requires-clause-marks
+marked_pair-requires-clause-marks g c =
+    let p : PipelineData = c.args.pipeline.now in
+    let many : length p.netlist.nets ≡ length c.nets-nets.result.now = ap length (sym (c.nets-nets.ensures.nets ∙ ap (λ (n : NetlistData). n.nets) c.netlist.ensures.netlist)) in
+    marks-for p c.args.output c.deref.result.now (length c.nets-nets.result.now) c.outputs.result.now c.in_ok-marks.marks.items c.deref-3.result.now c.requires.output (c.deref.ensures.value ∙ c.in_ok-plan.ensures) many c.outputs.ensures.outputs c.deref-3.ensures.value c.in_ok-marks.ensures

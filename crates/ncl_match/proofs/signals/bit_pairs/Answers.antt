@@ -1,0 +1,53 @@
+use Rattle.std.proofs.Common.{◌≡◌, ◌+◌, Bool, true, false, List, [], ◌∷◌, ◌++◌, Err, length, sym, ap, ◌∙◌, subst, arith}
+use Rattle.std.specs.Prelude.{All}
+use Rattle.std.proofs.lemmas.Grind.{common_steps}
+use Rattle.std.proofs.lemmas.List.{length_push}
+use Rattle.std.proofs.lemmas.List.Elements.{All-nil}
+use Rattle.ncl_space.specs.Space.{SpaceData, with_tables, fits}
+use Rattle.ncl_space.proofs.MakingLaws.{handed_on}
+use Rattle.ncl_match.specs.declared.pair.Pair.{Pair}
+use Rattle.ncl_match.specs.Inputs.{bit_function}
+use Rattle.ncl_match.specs.Pairs.{HasFunction, IsPair}
+use Rattle.ncl_match.specs.Signals.{first_tables}
+use Rattle.ncl_match.specs.Steps.{bit_at}
+use Rattle.ncl_match.proofs.SignalLaws.{PairsLoop, bit-turn, pairs-begin, pairs-more}
+use Rattle.ncl_match.proofs.TurnLaws.{too_much-turn}
+use Rattle.ncl_match.proofs.signals.bit_pairs.Goals as goal
+
+pub loop-bit-init : goal.loop-bit-init
+loop-bit-init g c =
+    let s : SpaceData = g.P.Space.meaning c.args.space.now in
+    let none : c.new-pairs.result.items ≡ [] = c.new-pairs.ensures.items in
+    let many : length c.new-pairs.result.items ≡ 0 = ap length none in
+    record {
+      many = many;
+      done = pairs-begin s (first_tables s.width c.args.marks.now) bit_function c.args.marks.now c.new-pairs.result.items c.requires.space (subst (All (IsPair s)) (sym none) (All-nil (IsPair s))) (λ x lt mark. absurd (omega (arith, lt, many)));
+    }
+
+pub returns-in_err-pair-clause-full : goal.returns-in_err-pair-clause-full
+returns-in_err-pair-clause-full g c = λ e.
+    let old : SpaceData = g.P.Space.meaning c.args.space.now in
+    let now : SpaceData = g.P.Space.meaning c.loop-bit.space in
+    let l = c.loop-bit.invariant.done in
+    too_much-turn old now (first_tables old.width c.args.marks.now) c.loop-bit.bit c.args.inputs c.loop-bit-test.true l.turned
+    (subst (λ ts. fits now ts ≡ false) (bit-turn old now c.args.marks.now c.loop-bit.bit l.turned.kept.width)
+    (c.in_err-pair.ensures.full (ap Err (handed_on c.from_residual.result c.in_err-pair.field-0.0 c.from_residual.ensures.1 e))))
+
+pub loop-bit-preserved : goal.loop-bit-preserved
+loop-bit-preserved g c =
+    let old : SpaceData = g.P.Space.meaning c.args.space.now in
+    let now : SpaceData = g.P.Space.meaning c.loop-bit.space in
+    let new : SpaceData = g.P.Space.meaning c.bit_pair.new.space in
+    let marks : List Bool = c.args.marks.now in
+    let pairs : List Pair = c.loop-bit.pairs.items in
+    let p : Pair = c.in_ok-pair.pair in
+    let l = c.loop-bit.invariant.done in
+    let many : length pairs ≡ c.loop-bit.bit = c.loop-bit.invariant.many in
+    let more : c.push.new.self.items ≡ pairs ++ p ∷ [] = grind (arith, common_steps) in
+    record {
+      many = ap length more ∙ length_push pairs p ∙ ap (λ k. k + 1) many;
+      done = subst (λ ps. PairsLoop old new (first_tables old.width marks) bit_function marks ps (c.loop-bit.bit + 1)) (sym more)
+          (pairs-more old now new (first_tables old.width marks) bit_function marks pairs c.loop-bit.bit p l c.in_ok-pair.ensures.kept c.in_ok-pair.ensures.space c.in_ok-pair.ensures.pair
+          (subst (λ k. bit_at marks k ≡ true → HasFunction new p (bit_function k)) (sym many) c.in_ok-pair.ensures.has)
+          (c.in_ok-pair.ensures.held ∙ ap (with_tables now) (bit-turn old now marks c.loop-bit.bit l.turned.kept.width)));
+    }

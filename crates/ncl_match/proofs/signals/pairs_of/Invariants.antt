@@ -1,0 +1,7 @@
+use Rattle.std.proofs.Common.{◌≡◌, map, take}
+use Rattle.ncl_match.specs.Plan.{pair_at}
+use Rattle.ncl_match.proofs.signals.pairs_of.Given as goal
+
+-- the pairs of the signals so far
+abbrev pub invariant-loop-number : goal.invariant-loop-number
+invariant-loop-number l = l.found.items ≡ map (pair_at l.pairs) (take l.number-index l.numbers)

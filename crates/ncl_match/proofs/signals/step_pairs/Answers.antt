@@ -1,0 +1,92 @@
+use Rattle.std.proofs.Common.{◌≡◌, ℕ, ◌+◌, ◌<◌, Bool, true, false, List, [], ◌∷◌, ◌++◌, Err, Some, length, map, if◌then◌else◌, sym, ap, ◌∙◌, subst, arith, refl}
+use Rattle.std.specs.Prelude.{All, slice_get}
+use Rattle.std.proofs.lemmas.Grind.{common_steps}
+use Rattle.std.proofs.lemmas.List.{length_push}
+use Rattle.std.proofs.lemmas.Option.{slice_get_read}
+use Rattle.ncl_space.specs.Space.{SpaceData, with_tables, fits}
+use Rattle.ncl_space.proofs.MakingLaws.{handed_on}
+use Rattle.ncl_match.specs.declared.pair.Pair.{Pair}
+use Rattle.ncl_match.specs.declared.steps.Step.{Step}
+use Rattle.ncl_match.specs.Covers.{cover_function, cover_tables}
+use Rattle.ncl_match.specs.Pairs.{HasFunction, functions_at}
+use Rattle.ncl_match.specs.Plan.{pair_at}
+use Rattle.ncl_match.specs.Signals.{step_tables}
+use Rattle.ncl_match.specs.Steps.{bit_at, signal_function}
+use Rattle.ncl_match.proofs.SignalLaws.{PairsLoop, pairs-begin, pairs-more, step-has, step-refused, step-turn, step-within}
+use Rattle.ncl_match.proofs.signals.step_pairs.Goals as goal
+
+pub loop-step-init : goal.loop-step-init
+loop-step-init g c =
+    let s : SpaceData = g.P.Space.meaning c.args.space.now in
+    let many : length c.args.pairs.now.items ≡ s.width = c.requires.many in
+    record {
+      many = omega (arith, many);
+      done = pairs-begin s (step_tables s.width c.args.steps.now c.args.marks.now) (signal_function c.args.steps.now) c.args.marks.now c.args.pairs.now.items c.requires.space c.requires.pairs (λ x lt mark. c.requires.have x (omega (arith, lt, many)) mark);
+    }
+
+pub step_pair-requires-clause-within : goal.step_pair-requires-clause-within
+step_pair-requires-clause-within g c =
+    let old : SpaceData = g.P.Space.meaning c.args.space.now in
+    let now : SpaceData = g.P.Space.meaning c.loop-step.space in
+    let steps : List Step = c.args.steps.now in
+    let step : Step = c.step-item.result in
+    let place : ℕ = c.loop-step.step-index in
+    let at : slice_get steps place ≡ Some step = slice_get_read steps (length steps) place step refl c.loop-step-test.true c.step-item.is in
+    let (root, needed) = c.requires.marks in
+    subst (λ ps. All (λ (x : ℕ). x < length ps) step.ins) (sym c.as_slice-before.ensures.value)
+    (step-within old now steps c.args.marks.now c.loop-step.pairs.items place root step at c.requires.ordered needed c.loop-step.invariant.many c.loop-step.invariant.done)
+
+pub step_pair-requires-clause-widths : goal.step_pair-requires-clause-widths
+step_pair-requires-clause-widths g c =
+    let steps : List Step = c.args.steps.now in
+    let place : ℕ = c.loop-step.step-index in
+    c.requires.ordered.widths place c.step-item.result (slice_get_read steps (length steps) place c.step-item.result refl c.loop-step-test.true c.step-item.is)
+
+pub returns-in_err-pair-clause-full : goal.returns-in_err-pair-clause-full
+returns-in_err-pair-clause-full g c = λ e.
+    let old : SpaceData = g.P.Space.meaning c.args.space.now in
+    let now : SpaceData = g.P.Space.meaning c.loop-step.space in
+    let steps : List Step = c.args.steps.now in
+    let marks : List Bool = c.args.marks.now in
+    let step : Step = c.step-item.result in
+    let place : ℕ = c.loop-step.step-index in
+    let at : slice_get steps place ≡ Some step = slice_get_read steps (length steps) place step refl c.loop-step-test.true c.step-item.is in
+    let (root, needed) = c.requires.marks in
+    let len_is : length c.as_slice-before.result.now ≡ length c.loop-step.pairs.items = ap length c.as_slice-before.ensures.value in
+    let mark : Bool = bit_at marks (length c.as_slice-before.result.now) in
+    step-refused old now steps marks c.loop-step.pairs.items place root step at c.requires.ordered needed c.loop-step.invariant.many c.loop-step.invariant.done mark (ap (bit_at marks) (sym len_is)) c.loop-step-test.true
+    (subst (λ ps. fits now (if mark then cover_tables now.width (functions_at now (map (pair_at ps) step.ins)) step.cover.now.rows else []) ≡ false) c.as_slice-before.ensures.value
+    (c.in_err-pair.ensures.full (ap Err (handed_on c.from_residual.result c.in_err-pair.field-0.0 c.from_residual.ensures.1 e))))
+
+pub loop-step-preserved : goal.loop-step-preserved
+loop-step-preserved g c =
+    let old : SpaceData = g.P.Space.meaning c.args.space.now in
+    let now : SpaceData = g.P.Space.meaning c.loop-step.space in
+    let new : SpaceData = g.P.Space.meaning c.step_pair.new.space in
+    let steps : List Step = c.args.steps.now in
+    let marks : List Bool = c.args.marks.now in
+    let pairs : List Pair = c.loop-step.pairs.items in
+    let step : Step = c.step-item.result in
+    let rows = c.step-item.result.cover.now.rows in
+    let place : ℕ = c.loop-step.step-index in
+    let p : Pair = c.in_ok-pair.pair in
+    let l = c.loop-step.invariant.done in
+    let many : length pairs ≡ old.width + place = c.loop-step.invariant.many in
+    let at : slice_get steps place ≡ Some step = slice_get_read steps (length steps) place step refl c.loop-step-test.true c.step-item.is in
+    let (root, needed) = c.requires.marks in
+    let len_is : length c.as_slice-before.result.now ≡ length c.loop-step.pairs.items = ap length c.as_slice-before.ensures.value in
+    let mark : Bool = bit_at marks (length c.as_slice-before.result.now) in
+    let is : bit_at marks (length pairs) ≡ mark = ap (bit_at marks) (sym len_is) in
+    let more : c.push.new.self.items ≡ pairs ++ p ∷ [] = grind (arith, common_steps) in
+    let has : bit_at marks (length pairs) ≡ true → HasFunction new p (cover_function (functions_at now (map (pair_at pairs) step.ins)) step.cover.now.on rows) =
+    λ h. subst (λ ps. HasFunction new p (cover_function (functions_at now (map (pair_at ps) step.ins)) step.cover.now.on rows)) c.as_slice-before.ensures.value (c.in_ok-pair.ensures.has (sym is ∙ h)) in
+    let held : new.held ≡ with_tables now (step_tables old.width steps marks place) =
+    c.in_ok-pair.ensures.held
+    ∙ ap (λ ps. with_tables now (if mark then cover_tables now.width (functions_at now (map (pair_at ps) step.ins)) rows else [])) c.as_slice-before.ensures.value
+    ∙ ap (with_tables now) (step-turn old now steps marks pairs place root step at c.requires.ordered needed many l mark is) in
+    record {
+      many = ap length more ∙ length_push pairs p ∙ omega (arith, many);
+      done = subst (λ ps. PairsLoop old new (step_tables old.width steps marks) (signal_function steps) marks ps (place + 1)) (sym more)
+          (pairs-more old now new (step_tables old.width steps marks) (signal_function steps) marks pairs place p l c.in_ok-pair.ensures.kept c.in_ok-pair.ensures.space c.in_ok-pair.ensures.pair
+          (step-has old now steps marks pairs place root step at c.requires.ordered needed many l new p c.in_ok-pair.ensures.kept has) held);
+    }

@@ -1,0 +1,68 @@
+use Rattle.std.proofs.Common.{◌≡◌, ℕ, List, Option, map, get_or, take, sym, ap, ◌∙◌, subst, arith}
+use Rattle.std.specs.Prelude.{All, IsSome}
+use Rattle.std.specs.Ordering.{nat_cmp}
+use Rattle.std.specs.BTreeMap.{get}
+use Rattle.std.proofs.lemmas.List.{take_all, take_more}
+use Rattle.ncl_graph.specs.Graph.{IsOrder}
+use Rattle.ncl_blif.specs.declared.model.Cover.{Cover}
+use Rattle.ncl_blif.specs.declared.model.Model.{Model}
+use Rattle.ncl_blif.specs.Dependence.{dependency_graph}
+use Rattle.ncl_network.proofs.CoverOrder.{turn_done}
+use Rattle.ncl_match.specs.declared.steps.Step.{Step}
+use Rattle.ncl_match.specs.Steps.{AreAdded}
+use Rattle.ncl_match.proofs.StepLaws.{added-more, added-whole, outputs_known, turn_fresh, turn_known, turn_widths}
+use Rattle.ncl_match.proofs.steps.add_model.Goals as goal
+
+pub add_step-requires-clause-known : goal.add_step-requires-clause-known
+add_step-requires-clause-known c =
+    let m : Model = c.args.model.now in
+    let order : List ℕ = c.deref-place-items.result.now in
+    let ordered : IsOrder (dependency_graph m.covers) order = subst (IsOrder (dependency_graph m.covers)) (sym c.deref-place-items.ensures.value) c.in_ok-order.ensures in
+    let i : ℕ = c.loop-place.place-index in
+    let cover : Cover = c.index-covers-place.result in
+    let at : cover ≡ get_or m.covers (get_or order i 0) cover = c.index-covers-place.is ∙ ap (λ covers. get_or covers (get_or order i 0) cover) c.items-covers.ensures in
+    turn_known c.args.inputs c.args.steps.now.items c.loop-place.steps.items m c.requires.model c.args.ins.now c.requires.ins (get nat_cmp c.loop-place.numbers) order ordered i c.loop-place-test.true c.loop-place.invariant cover at
+
+pub loop-place-preserved : goal.loop-place-preserved
+loop-place-preserved c =
+    let m : Model = c.args.model.now in
+    let order : List ℕ = c.deref-place-items.result.now in
+    let ordered : IsOrder (dependency_graph m.covers) order = subst (IsOrder (dependency_graph m.covers)) (sym c.deref-place-items.ensures.value) c.in_ok-order.ensures in
+    let i : ℕ = c.loop-place.place-index in
+    let cover : Cover = c.index-covers-place.result in
+    let at : cover ≡ get_or m.covers (get_or order i 0) cover = c.index-covers-place.is ∙ ap (λ covers. get_or covers (get_or order i 0) cover) c.items-covers.ensures in
+    let n : ℕ = c.args.inputs in
+    let old : List Step = c.args.steps.now.items in
+    let steps : List Step = c.loop-place.steps.items in
+    let number : ℕ → Option ℕ = get nat_cmp c.loop-place.numbers in
+    let fresh = turn_fresh n old steps m c.requires.model c.args.ins.now c.requires.ins number order ordered i c.loop-place-test.true c.loop-place.invariant cover at in
+    let widths = turn_widths n old steps m c.requires.model c.args.ins.now c.requires.ins number order ordered i c.loop-place-test.true c.loop-place.invariant cover at in
+    subst (AreAdded n old c.add_step.new.steps.items m c.args.ins.now (get nat_cmp c.add_step.new.numbers)) (sym (take_more order i 0 c.loop-place-test.true))
+    (added-more n old steps c.add_step.new.steps.items m c.args.ins.now number (get nat_cmp c.add_step.new.numbers) (take i order) (get_or order i 0) cover
+    (turn_done m c.requires.model order ordered i c.loop-place-test.true cover at) c.in_ok-add_step.ensures.step c.in_ok-add_step.ensures.numbers fresh widths c.loop-place.invariant)
+
+pub look_up-requires : goal.look_up-requires
+look_up-requires c =
+    let m : Model = c.args.model.now in
+    let order : List ℕ = c.deref-place-items.result.now in
+    let ordered : IsOrder (dependency_graph m.covers) order = subst (IsOrder (dependency_graph m.covers)) (sym c.deref-place-items.ensures.value) c.in_ok-order.ensures in
+    let i : ℕ = c.loop-place.place-index in
+    let number : ℕ → Option ℕ = get nat_cmp c.loop-place.numbers in
+    let past = c.loop-place-test.false in
+    let all : AreAdded c.args.inputs c.args.steps.now.items c.loop-place.steps.items m c.args.ins.now number order =
+    subst (AreAdded c.args.inputs c.args.steps.now.items c.loop-place.steps.items m c.args.ins.now number) (take_all i order (omega (arith, past))) c.loop-place.invariant in
+    subst (All (λ signal. IsSome (number signal))) (sym c.items.ensures)
+    (outputs_known c.args.inputs c.args.steps.now.items c.loop-place.steps.items m c.requires.model c.args.ins.now c.requires.ins number order ordered all)
+
+pub returns : goal.returns
+returns c =
+    let m : Model = c.args.model.now in
+    let order : List ℕ = c.deref-place-items.result.now in
+    let ordered : IsOrder (dependency_graph m.covers) order = subst (IsOrder (dependency_graph m.covers)) (sym c.deref-place-items.ensures.value) c.in_ok-order.ensures in
+    let i : ℕ = c.loop-place.place-index in
+    let number : ℕ → Option ℕ = get nat_cmp c.loop-place.numbers in
+    let past = c.loop-place-test.false in
+    let all : AreAdded c.args.inputs c.args.steps.now.items c.loop-place.steps.items m c.args.ins.now number order =
+    subst (AreAdded c.args.inputs c.args.steps.now.items c.loop-place.steps.items m c.args.ins.now number) (take_all i order (omega (arith, past))) c.loop-place.invariant in
+    added-whole c.args.inputs c.args.steps.now.items c.loop-place.steps.items m c.requires.model c.args.ins.now c.requires.ins number order ordered all c.in_ok-outs.outs.items
+    (c.in_ok-outs.ensures ∙ ap (map number) c.items.ensures)

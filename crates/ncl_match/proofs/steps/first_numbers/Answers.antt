@@ -1,0 +1,13 @@
+use Rattle.std.proofs.Common.{◌≡◌, ℕ, suc, ◌+◌, [], ◌∷◌, ◌++◌, sym, ap, ◌∙◌, arith}
+use Rattle.std.specs.List.{range_with_len}
+use Rattle.std.proofs.lemmas.Grind.{common_steps}
+use Rattle.ncl_match.proofs.StepLaws.{range_push}
+use Rattle.ncl_match.proofs.steps.first_numbers.Goals as goal
+
+pub loop-number-preserved : goal.loop-number-preserved
+loop-number-preserved c =
+    let k : ℕ = c.loop-number.number in
+    let more : c.push.new.self.items ≡ c.loop-number.numbers.items ++ k ∷ [] = grind (arith, common_steps) in
+    let own : 0 + k ≡ k = omega arith in
+    let next : suc k ≡ k + 1 = omega arith in
+    more ∙ ap (λ l. l ++ k ∷ []) c.loop-number.invariant ∙ ap (λ x. range_with_len 0 k ++ x ∷ []) (sym own) ∙ sym (range_push 0 k) ∙ ap (range_with_len 0) next

@@ -1,0 +1,44 @@
+//! Whether a pipeline and models have the same function.
+#![tactic(auto)]
+
+mod answer;
+mod asking;
+mod bit;
+mod bits;
+mod comparing;
+mod cover;
+mod duals;
+mod halves;
+mod inputs;
+mod joining;
+pub mod laws;
+mod marks;
+mod needed;
+mod netlist;
+mod nets;
+mod order;
+mod pair;
+mod planning;
+mod sides;
+#[cfg(test)]
+mod signal_tests;
+mod signals;
+mod steps;
+#[cfg(test)]
+mod tests;
+mod widths;
+
+pub use answer::{BitAnswer, CompareFault, Compared};
+pub use bit::{apart, told};
+pub use bits::Bits;
+pub use comparing::{CompareBit, compare};
+pub use cover::{cover_pair, row_pair, rows_pair};
+pub use duals::dual;
+pub use inputs::input_pairs;
+pub use marks::marked_nets;
+pub use netlist::netlist_pair;
+pub use nets::{cell_pair, plan_pairs};
+pub use pair::{Pair, constant_pair, gate_pair, rail_pair};
+pub use planning::{DataCell, plan};
+pub use sides::difference;
+pub use signals::models_pair;

@@ -1,0 +1,48 @@
+//! The two sides of an output, and where they differ.
+ghost use Rattle.std.specs.Prelude.{◌≡◌, ◌-◌, ◌<◌, ◌≤◌, List, Bool, IfOk, OnOk, IsErrOf, length};
+ghost use Rattle.ncl_blif.specs.Model.{AreModels};
+ghost use Rattle.ncl_space.specs.Space.{IsSpace, Keeps};
+ghost use Rattle.ncl_match.specs.Answer.{HaveWidths};
+ghost use Rattle.ncl_match.specs.Circuit.{circuit_of};
+ghost use Rattle.ncl_match.specs.Gathering.{Gathers, IsHeld, Overflows};
+ghost use Rattle.ncl_match.specs.Listed.{IsListed};
+ghost use Rattle.ncl_match.specs.Sides.{HasApart};
+
+use crate::bit::apart;
+use crate::netlist::netlist_pair;
+use crate::pair::Pair;
+use crate::signals::models_pair;
+use ncl_blif::Model;
+use ncl_shape::Pipeline;
+use ncl_space::{Space, SpaceFault};
+use std::alloc::Global;
+
+/// Where the two functions of an output differ, from 1. It makes all tables of the output, and no others.
+///
+/// `Full` comes exactly where the beads held with those of all its tables are more than the limit. What is made before
+/// a refusal stays.
+pub fn difference<P: Space>(
+    alloc: Global,
+    space: &mut P,
+    pipeline: &Pipeline,
+    models: &[Model],
+    output: u32,
+) -> Result<Pair, SpaceFault>
+    requires space { IsSpace (P.meaning space.old) }
+    requires width { (P.meaning space.old).width ≡ length pipeline.now.inputs }
+    requires models { AreModels models.now }
+    requires widths { HaveWidths (circuit_of pipeline.now) models.now }
+    requires output { (1 ≤ output) × (output ≤ length pipeline.now.outputs) }
+    ensures apart { IfOk result (λ p. HasApart (P.meaning space.new) p (circuit_of pipeline.now) models.now (output - 1)) }
+    ensures whole { OnOk result ((table : List Bool) → IsListed (circuit_of pipeline.now) models.now (output - 1) table → IsHeld (P.meaning space.new) table) }
+    ensures gathers { OnOk result (Gathers (IsListed (circuit_of pipeline.now) models.now (output - 1)) (P.meaning space.old) (P.meaning space.new)) }
+    ensures kept { Keeps (P.meaning space.old) (P.meaning space.new) }
+    ensures space { IsSpace (P.meaning space.new) }
+    ensures full { IsErrOf result SpaceFault.Full → Overflows (IsListed (circuit_of pipeline.now) models.now (output - 1)) (P.meaning space.old) }
+{
+    let place = output as usize - 1;
+    let f = netlist_pair(alloc, space, pipeline, place)?;
+    let g = models_pair(alloc, space, models, place)?;
+    let either = apart(space, f, g)?;
+    Ok(either)
+}

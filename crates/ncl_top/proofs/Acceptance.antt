@@ -5,7 +5,7 @@ use Rattle.ncl_check.specs.declared.reply.Outcome.{Outcome}
 use Rattle.ncl_check.specs.declared.reply.Outcome.TheVariants.{Accepted, Refused, NoPipeline, Unjudged}
 use Rattle.ncl_check.specs.Headline.{IsDelayInsensitiveText}
 use Rattle.ncl_check.proofs.Accepted.{text_works}
-use Rattle.ncl_words.specs.Command.{Words, Command, check, compile, sim, demo, command_of}
+use Rattle.ncl_words.specs.Command.{Words, Command, check, compile, sim, matching, demo, command_of}
 use Rattle.ncl_top.specs.Answer.{status_of, IsFileReply, Answer, not_understood, replied, SourceState, SinkState, Says, answered, read_failed, no_memory, Tells, whole, cut_short, Ran, AcceptsWhatWorks}
 
 -- only an acceptance has status 0
@@ -25,6 +25,7 @@ IsNoCheck None = Unit {0}
 IsNoCheck (Some (check file limit why)) = ⊥
 IsNoCheck (Some (compile file)) = Unit {0}
 IsNoCheck (Some (sim netlist delays offers vcd)) = Unit {0}
+IsNoCheck (Some (matching netlist blif limit)) = Unit {0}
 IsNoCheck (Some (demo bits)) = Unit {0}
 
 answer_works : (words : Words) (files : Files) (file : List ℕ) (limit : ℕ) (why : Bool) {status : ℕ} {text : List ℕ} → command_of words ≡ Some (check file limit why) → Answer words (Some files) status text → status ≡ 0 → IsDelayInsensitiveText (bytes_of files file)
@@ -35,6 +36,8 @@ answer_works words files file limit why asked (replied (check named number asks)
 answer_works words files file limit why asked (replied (compile named) is status text reply) e =
     absurd (subst IsNoCheck (sym is ∙ asked) tt)
 answer_works words files file limit why asked (replied (sim netlist delays offers vcd) is status text reply) e =
+    absurd (subst IsNoCheck (sym is ∙ asked) tt)
+answer_works words files file limit why asked (replied (matching netlist blif most) is status text reply) e =
     absurd (subst IsNoCheck (sym is ∙ asked) tt)
 answer_works words files file limit why asked (replied (demo bits) is status text reply) e =
     absurd (subst IsNoCheck (sym is ∙ asked) tt)

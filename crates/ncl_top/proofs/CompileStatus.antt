@@ -1,13 +1,13 @@
 -- The bytes of a file determine the status of what `compile` replies to them.
-use Rattle.std.proofs.Common.{◌≡◌, ◌≢◌, ℕ, List, refl, sym, ◌∙◌, subst, arith}
+use Rattle.std.proofs.Common.{◌≡◌, ◌≢◌, ℕ, List, refl, subst, arith}
 use Rattle.std.proofs.lemmas.List.Elements.{All-contains}
 use Rattle.ncl_base.proofs.Members.{Contains-from_slice_get}
 use Rattle.ncl_blif.specs.declared.model.Model.{Model}
-use Rattle.ncl_blif.proofs.AnswerLaws.{read_is_not_refused}
 use Rattle.ncl_network.specs.declared.fault.CompileFault.{CompileFault}
 use Rattle.ncl_network.specs.declared.fault.CompileFault.TheVariants.{TooWide, TooLong, TooMany, Memory}
 use Rattle.ncl_compile.specs.Size.{IsSlim, IsCompileFault, CanBeCompiled}
-use Rattle.ncl_top.specs.Compiling.{IsModelsReply, too_large, compiled, IsCompileReply, too_long, unread, modelled}
+use Rattle.ncl_top.specs.Compiling.{IsModelsReply, too_large, compiled, IsCompileReply, no_models, modelled}
+use Rattle.ncl_top.proofs.ModelsText.{one_models, refused_models_none}
 
 -- models that can be compiled have no fault but want of memory
 no_fault : (models : List Model) → CanBeCompiled models → (fault : CompileFault) → fault ≢ Memory → IsCompileFault models fault → ⊥
@@ -25,14 +25,9 @@ models_status models (compiled can n of) (compiled can' n' of') = refl
 
 -- whatever is replied to bytes, its status is the same
 pub same_compile_status : (bytes : List ℕ) {status other : ℕ} {text line : List ℕ} → IsCompileReply bytes status text → IsCompileReply bytes other line → status ≡ other
-same_compile_status bytes (too_long more) (too_long more') = refl
-same_compile_status bytes (too_long more) (unread few fault is) = refl
-same_compile_status bytes (too_long more) (modelled few models read are status text reply) = absurd (omega arith)
-same_compile_status bytes (unread few fault is) (too_long more) = refl
-same_compile_status bytes (unread few fault is) (unread few' fault' is') = refl
-same_compile_status bytes (unread few fault is) (modelled few' models read are status text reply) = absurd (read_is_not_refused bytes models fault read is)
-same_compile_status bytes (modelled few models read are status text reply) (too_long more) = absurd (omega arith)
-same_compile_status bytes (modelled few models read are status text reply) (unread few' fault is) = absurd (read_is_not_refused bytes models fault read is)
-same_compile_status bytes (modelled few models read are status text reply) (modelled few' models' read' are' status' text' reply') =
-    let same : models ≡ models' = read.said ∙ sym read'.said in
+same_compile_status bytes (no_models text none) (no_models line none') = refl
+same_compile_status bytes (no_models text none) (modelled models said status line reply) = absurd (refused_models_none bytes models none said)
+same_compile_status bytes (modelled models said status text reply) (no_models line none) = absurd (refused_models_none bytes models none said)
+same_compile_status bytes (modelled models said status text reply) (modelled models' said' status' line reply') =
+    let same : models ≡ models' = one_models bytes models models' said said' in
     models_status models' (subst (λ ms. IsModelsReply ms status text) same reply) reply'

@@ -12,8 +12,8 @@ use Rattle.ncl_machine.proofs.Headline.{delay_insensitive}
 use Rattle.ncl_check.specs.Reply.{outcome_of}
 use Rattle.ncl_check.proofs.OneReply.{outcome_is}
 use Rattle.ncl_compile.specs.Compiled.{Compiled}
-use Rattle.ncl_words.specs.Command.{Words, Command, check, compile, sim, demo, command_of}
-use Rattle.ncl_top.specs.Compiling.{IsModelsReply, too_large, compiled, IsCompileReply, too_long, unread, modelled}
+use Rattle.ncl_words.specs.Command.{Words, Command, check, compile, sim, matching, demo, command_of}
+use Rattle.ncl_top.specs.Compiling.{IsModelsReply, too_large, compiled, IsCompileReply, no_models, modelled}
 use Rattle.ncl_top.specs.Answer.{Answer, not_understood, replied, WorksAndIsAccepted, SourceState, SinkState, Says, answered, read_failed, no_memory, Tells, whole, cut_short, Ran, CompilesWhatWorks}
 use Rattle.ncl_top.proofs.PlainNames.{writable}
 
@@ -38,9 +38,8 @@ models_work models (too_large fault named is) e = absurd (omega arith)
 models_work models (compiled can n of) e = compiled_works models n of
 
 file_works : (bytes : List ℕ) {status : ℕ} {text : List ℕ} → IsCompileReply bytes status text → status ≡ 0 → WorksAndIsAccepted text
-file_works bytes (too_long more) e = absurd (omega arith)
-file_works bytes (unread few fault is) e = absurd (omega arith)
-file_works bytes (modelled few models read are status text reply) e = models_work models reply e
+file_works bytes (no_models text none) e = absurd (omega arith)
+file_works bytes (modelled models said status text reply) e = models_work models reply e
 
 -- no compiling is asked
 abbrev IsNoCompiling : Option Command → Type 0
@@ -48,6 +47,7 @@ IsNoCompiling None = Unit {0}
 IsNoCompiling (Some (check file limit why)) = Unit {0}
 IsNoCompiling (Some (compile file)) = ⊥
 IsNoCompiling (Some (sim netlist delays offers vcd)) = Unit {0}
+IsNoCompiling (Some (matching netlist blif limit)) = Unit {0}
 IsNoCompiling (Some (demo bits)) = Unit {0}
 
 answer_works : (words : Words) (told : Option Files) (file : List ℕ) {status : ℕ} {text : List ℕ} → command_of words ≡ Some (compile file) → Answer words told status text → status ≡ 0 → WorksAndIsAccepted text
@@ -55,6 +55,7 @@ answer_works words told file asked (not_understood none) e = absurd (omega arith
 answer_works words told file asked (replied (check named limit why) is status text reply) e = absurd (subst IsNoCompiling (sym is ∙ asked) tt)
 answer_works words told file asked (replied (demo bits) is status text reply) e = absurd (subst IsNoCompiling (sym is ∙ asked) tt)
 answer_works words told file asked (replied (sim netlist delays offers vcd) is status text reply) e = absurd (subst IsNoCompiling (sym is ∙ asked) tt)
+answer_works words told file asked (replied (matching netlist blif limit) is status text reply) e = absurd (subst IsNoCompiling (sym is ∙ asked) tt)
 answer_works words told file asked (replied (compile named) is status text reply) e = file_works reply.bytes reply.reply e
 
 end_works : (words : Words) (source source' : SourceState) (sink sink' : SinkState) {said status : ℕ} {text : List ℕ} → Says words source source' said text → Tells sink sink' said text status → CompilesWhatWorks words sink sink' status

@@ -3,10 +3,9 @@ use Rattle.std.proofs.Common.{◌≡◌, ℕ, ◌==◌, true, Bool, List, length
 use Rattle.std.proofs.lemmas.Bool.Decides.{nat_tests}
 use Rattle.ncl_base.specs.Files.{bytes_of}
 use Rattle.ncl_shape.specs.Pipeline.{PipelineData}
-use Rattle.ncl_delay.specs.Delays.{DelaysData}
 use Rattle.ncl_machine.specs.Run.{AreWordsOf}
 use Rattle.ncl_sim.specs.declared.trace.End.TheVariants.{Quiet}
-use Rattle.ncl_sim.specs.TimedRun.{TraceData, IsTimedRun, DeliversAll, words_due}
+use Rattle.ncl_sim.specs.TimedRun.{TraceData, DeliversAll, words_due}
 use Rattle.ncl_sim.proofs.Existence.{some_run}
 use Rattle.ncl_sim.proofs.Quiet.{sound-ends_quiet, sound-delivers}
 use Rattle.ncl_words.specs.Command.{Words, sim, command_of}

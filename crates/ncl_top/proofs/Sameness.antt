@@ -4,9 +4,10 @@ use Rattle.std.proofs.lemmas.Bool.{both_ways}
 use Rattle.ncl_base.specs.Files.{Files}
 use Rattle.ncl_check.specs.Reply.{IsCheckReply}
 use Rattle.ncl_check.proofs.OneReply.{same_reply}
-use Rattle.ncl_words.specs.Command.{Words, Command, check, compile, sim, demo, command_of}
+use Rattle.ncl_words.specs.Command.{Words, Command, check, compile, sim, matching, demo, command_of}
 use Rattle.ncl_top.specs.Compiling.{IsCompileReply}
 use Rattle.ncl_top.proofs.CompileStatus.{same_compile_status}
+use Rattle.ncl_top.proofs.Matched.{one_match_reply}
 use Rattle.ncl_top.proofs.Simulated.{one_sim_reply}
 use Rattle.ncl_top.specs.Answer.{status_of, IsFileReply, IsReply, Answer, not_understood, replied, words_determine_text, determines_text, words_determine_status, determines_status}
 
@@ -27,12 +28,14 @@ same_command_status files (compile file) determined status other text line one t
     let bytes : one.bytes ≡ two.bytes = one.given ∙ sym two.given in
     same_compile_status two.bytes (subst (λ bytes. IsCompileReply bytes status text) bytes one.reply) two.reply
 same_command_status files (sim netlist delays words vcd) determined status other text line one two = (one_sim_reply files netlist delays words vcd one two).0
+same_command_status files (matching netlist blif limit) determined status other text line one two = (one_match_reply files netlist blif limit one two).0
 same_command_status files (demo bits) determined status other text line one two = absurd (both_ways false refl determined)
 
 same_command_text : (files : Files) (command : Command) → IsTrue (determines_text command) → (status other : ℕ) (text line : List ℕ) → IsReply command (Some files) status text → IsReply command (Some files) other line → text ≡ line
 same_command_text files (check file limit why) determined status other text line one two = (same_file_reply files file limit why status other text line one two).1 (plain why determined)
 same_command_text files (compile file) determined status other text line one two = absurd (both_ways false refl determined)
 same_command_text files (sim netlist delays words vcd) determined status other text line one two = (one_sim_reply files netlist delays words vcd one two).1
+same_command_text files (matching netlist blif limit) determined status other text line one two = (one_match_reply files netlist blif limit one two).1
 same_command_text files (demo bits) determined status other text line one two = absurd (both_ways false refl determined)
 
 module _ (words : Words) (files : Files) where

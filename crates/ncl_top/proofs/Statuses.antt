@@ -8,10 +8,13 @@ use Rattle.ncl_shape.specs.Pipeline.{PipelineData}
 use Rattle.ncl_delay.specs.Delays.{DelaysData}
 use Rattle.ncl_sim.specs.declared.trace.End.{End}
 use Rattle.ncl_sim.specs.declared.trace.End.TheVariants.{Quiet, Hazard, Over}
-use Rattle.ncl_words.specs.Command.{Words, Command, check, compile, sim, demo}
-use Rattle.ncl_top.specs.Compiling.{IsModelsReply, IsCompileReply, too_large, compiled, too_long, unread, modelled}
+use Rattle.ncl_words.specs.Command.{Words, Command, check, compile, sim, matching, demo}
+use Rattle.ncl_top.specs.Compiling.{IsModelsReply, IsCompileReply, too_large, compiled, no_models, modelled}
 use Rattle.ncl_top.specs.Demonstrating.{IsDemoReply}
 use Rattle.ncl_top.specs.Demonstrating as demonstrating
+use Rattle.ncl_match.specs.Circuit.{Circuit, circuit_of}
+use Rattle.ncl_top.specs.Matching.{IsMatched, IsModelsMatched, IsMatchReply}
+use Rattle.ncl_top.specs.Matching as compares
 use Rattle.ncl_top.specs.Simulating.{end_status, IsRunReply, IsWordsReply, IsDelaysReply, IsSimReply, no_words, ran, no_delays, delayed, no_pipeline, piped}
 use Rattle.ncl_top.specs.Answer.{status_of, IsReply, Answer, not_understood, replied, SourceState, SinkState, Says, answered, read_failed, no_memory, Tells, whole, cut_short, Ran}
 
@@ -30,9 +33,8 @@ of_models models (too_large fault named is) = (λ e. absurd (omega arith), λ e.
 of_models models (compiled can n of) = (λ e. absurd (omega arith), λ e. absurd (omega arith))
 
 of_compile : (bytes : List ℕ) {status : ℕ} {text : List ℕ} → IsCompileReply bytes status text → IsOfNoFault status
-of_compile bytes (too_long more) = (λ e. absurd (omega arith), λ e. absurd (omega arith))
-of_compile bytes (unread few fault is) = (λ e. absurd (omega arith), λ e. absurd (omega arith))
-of_compile bytes (modelled few models read are status text reply) = of_models models reply
+of_compile bytes (no_models text none) = (λ e. absurd (omega arith), λ e. absurd (omega arith))
+of_compile bytes (modelled models said status text reply) = of_models models reply
 
 of_end : (end : End) (all : Bool) → IsOfNoFault (end_status end all)
 of_end Quiet true = (λ e. absurd (omega arith), λ e. absurd (omega arith))
@@ -55,6 +57,20 @@ of_sim : (told : Option Files) (netlist delays words : List ℕ) (vcd : Bool) {s
 of_sim told netlist delays words vcd (no_pipeline bytes given text refused) = (λ e. absurd (omega arith), λ e. absurd (omega arith))
 of_sim told netlist delays words vcd (piped bytes given p is status text reply) = of_delays told p delays words vcd reply
 
+of_matched : (c : Circuit) (models : List Model) (limit : ℕ) {status : ℕ} {text : List ℕ} → IsMatched c models limit status text → IsOfNoFault status
+of_matched c models limit (compares.widths is) = (λ e. absurd (omega arith), λ e. absurd (omega arith))
+of_matched c models limit (compares.full output is) = (λ e. absurd (omega arith), λ e. absurd (omega arith))
+of_matched c models limit (compares.differs word output is) = (λ e. absurd (omega arith), λ e. absurd (omega arith))
+of_matched c models limit (compares.same is) = (λ e. absurd (omega arith), λ e. absurd (omega arith))
+
+of_compared : (told : Option Files) (p : PipelineData) (blif : List ℕ) (limit : ℕ) {status : ℕ} {text : List ℕ} → IsModelsMatched told p blif limit status text → IsOfNoFault status
+of_compared told p blif limit (compares.no_models bytes given text none) = (λ e. absurd (omega arith), λ e. absurd (omega arith))
+of_compared told p blif limit (compares.compared bytes given models said status text reply) = of_matched (circuit_of p) models limit reply
+
+of_match : (told : Option Files) (netlist blif : List ℕ) (limit : ℕ) {status : ℕ} {text : List ℕ} → IsMatchReply told netlist blif limit status text → IsOfNoFault status
+of_match told netlist blif limit (compares.no_pipeline bytes given text refused) = (λ e. absurd (omega arith), λ e. absurd (omega arith))
+of_match told netlist blif limit (compares.piped bytes given p is status text reply) = of_compared told p blif limit reply
+
 of_demo : (bits : ℕ) {status : ℕ} {text : List ℕ} → IsDemoReply bits status text → IsOfNoFault status
 of_demo bits (demonstrating.shown p made accepted t run) = (λ e. absurd (omega arith), λ e. absurd (omega arith))
 of_demo bits (demonstrating.too_large p made stage limit) = (λ e. absurd (omega arith), λ e. absurd (omega arith))
@@ -63,6 +79,7 @@ of_reply : (command : Command) (told : Option Files) (status : ℕ) (text : List
 of_reply (check file limit why) told status text reply = subst IsOfNoFault (sym reply.ends) (of_outcome reply.outcome)
 of_reply (compile file) told status text reply = of_compile reply.bytes reply.reply
 of_reply (sim netlist delays words vcd) told status text reply = of_sim told netlist delays words vcd reply
+of_reply (matching netlist blif limit) told status text reply = of_match told netlist blif limit reply
 of_reply (demo bits) told status text reply = of_demo bits reply
 
 -- what is answered where nothing fails has no such status

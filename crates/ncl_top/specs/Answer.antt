@@ -13,10 +13,16 @@ use Rattle.ncl_delay.specs.Delays.{DelaysData}
 use Rattle.ncl_sim.specs.declared.trace.End.TheVariants.{Quiet}
 use Rattle.ncl_sim.specs.TimedRun.{TraceData, IsTimedRun, DeliversAll}
 use Rattle.ncl_check.specs.Text.{IsPipelineText}
-use Rattle.ncl_words.specs.Command.{Words, Command, check, compile, sim, demo, command_of, files_named}
-use Rattle.ncl_top.specs.Compiling.{IsCompileReply}
+use Rattle.ncl_blif.specs.declared.model.Model.{Model}
+use Rattle.ncl_blif.specs.Meaning.{Computes}
+use Rattle.ncl_shape.specs.Closure.{function_of}
+use Rattle.ncl_match.specs.Circuit.{circuit_of}
+use Rattle.ncl_match.specs.Answer.{HaveWidths}
+use Rattle.ncl_words.specs.Command.{Words, Command, check, compile, sim, matching, demo, command_of, files_named}
+use Rattle.ncl_top.specs.Compiling.{AreModelsText, IsCompileReply}
 use Rattle.ncl_top.specs.Demonstrating.{IsDemoReply}
 use Rattle.ncl_top.specs.Given.{IsGiven}
+use Rattle.ncl_top.specs.Matching.{IsMatchReply}
 use Rattle.ncl_top.specs.Simulating.{AreDelaysText, AreWordsText, IsSimReply, run_text}
 
 -- the status of a check that ends so
@@ -45,6 +51,7 @@ abbrev pub IsReply : Command → Option Files → ℕ → List ℕ → Type 0
 IsReply (check file limit why) told status text = IsFileReply told file limit why status text
 IsReply (compile file) told status text = IsCompiledFile told file status text
 IsReply (sim netlist delays words vcd) told status text = IsSimReply told netlist delays words vcd status text
+IsReply (matching netlist blif limit) told status text = IsMatchReply told netlist blif limit status text
 IsReply (demo bits) told status text = IsDemoReply bits status text
 
 -- what the words are answered where the source tells this of its files and nothing fails
@@ -59,6 +66,7 @@ abbrev pub determines_text : Command → Bool
 determines_text (check file limit why) = not why
 determines_text (compile file) = false
 determines_text (sim netlist delays words vcd) = true
+determines_text (matching netlist blif limit) = true
 determines_text (demo bits) = false
 
 -- whether the files determine the status: the netlist of a demo is one of many, of which some could pass the limit
@@ -66,6 +74,7 @@ abbrev pub determines_status : Command → Bool
 determines_status (check file limit why) = true
 determines_status (compile file) = true
 determines_status (sim netlist delays words vcd) = true
+determines_status (matching netlist blif limit) = true
 determines_status (demo bits) = false
 
 -- whether the words and the files determine the text: words of no form do
@@ -169,3 +178,20 @@ SimulatesWhatWorks words source sink sink_after status =
     → (d : DelaysData) → AreDelaysText p.netlist (bytes_of files delays) d
     → (offered : List (List Bool)) → AreWordsText (length p.inputs) (bytes_of files offers) offered
     → ((status ≡ 0) × RunsThrough p d offered vcd sink sink_after) ⊎ ((status ≡ 4) ⊎ ((status ≡ 5) ⊎ (status ≡ 7)))
+
+-- the bytes are the texts of a pipeline and of models that have one function: their words have as many bits, and at each
+-- word the models give what the pipeline gives
+pub record HaveOneFunction (netlist blif : List ℕ) : Type 0 where
+  pub pipeline : PipelineData
+  pub is : IsPipelineText netlist pipeline
+  pub models : List Model
+  pub are : AreModelsText blif models
+  pub widths : HaveWidths (circuit_of pipeline) models
+  pub function : (word : List Bool) → length word ≡ length pipeline.inputs → Computes models word (function_of pipeline word)
+
+-- where the words ask for a comparison, the source tells its files and the status is 0, the bytes under the first name and
+-- those under the second are the texts of a pipeline and of models that have one function
+abbrev pub MatchesWhatIsSame : Words → SourceState → ℕ → Type 0
+MatchesWhatIsSame words source status =
+    (files : Files) (netlist blif : List ℕ) (limit : ℕ) → source.files ≡ Some files → command_of words ≡ Some (matching netlist blif limit)
+    → status ≡ 0 → HaveOneFunction (bytes_of files netlist) (bytes_of files blif)

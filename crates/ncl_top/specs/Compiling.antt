@@ -15,6 +15,19 @@ use Rattle.ncl_report.specs.CompileText.{compile_line}
 use Rattle.ncl_compile.specs.Size.{IsCompileFault, CanBeCompiled}
 use Rattle.ncl_compile.specs.Compiled.{Compiled}
 
+-- the bytes say these models
+pub record AreModelsText (bytes : List ℕ) (models : List Model) : Type 0 where
+  pub few : length bytes ≤ MOST_BYTES
+  pub read : IsRead bytes models
+  pub are : AreModels models
+
+-- the bytes say no models, and this line tells why
+pub data AreRefusedModels (bytes : List ℕ) : List ℕ → Type 0 where
+  -- a file has at most 16,777,216 bytes
+  too_long : MOST_BYTES < length bytes → AreRefusedModels bytes (line (codes "blif: too long"))
+  -- the text is refused at its first line or model that breaks
+  unread : length bytes ≤ MOST_BYTES → (fault : BlifFault) → IsRefused bytes fault → AreRefusedModels bytes (blif_line fault)
+
 -- what `compile` replies to models: a status and a text. The choice of gates is free, so the text of any netlist
 -- that is compiled from the models is right
 pub data IsModelsReply (models : List Model) : ℕ → List ℕ → Type 0 where
@@ -25,9 +38,7 @@ pub data IsModelsReply (models : List Model) : ℕ → List ℕ → Type 0 where
 
 -- what `compile` replies to the bytes of a file
 pub data IsCompileReply (bytes : List ℕ) : ℕ → List ℕ → Type 0 where
-  -- a file has at most 16,777,216 bytes
-  too_long : MOST_BYTES < length bytes → IsCompileReply bytes 3 (line (codes "blif: too long"))
-  -- the text is refused at its first line or model that breaks
-  unread : length bytes ≤ MOST_BYTES → (fault : BlifFault) → IsRefused bytes fault → IsCompileReply bytes 3 (blif_line fault)
-  -- the text says models, and this is the reply to them
-  modelled : length bytes ≤ MOST_BYTES → (models : List Model) → IsRead bytes models → AreModels models → (status : ℕ) (text : List ℕ) → IsModelsReply models status text → IsCompileReply bytes status text
+  -- they say no models
+  no_models : (text : List ℕ) → AreRefusedModels bytes text → IsCompileReply bytes 3 text
+  -- they say models, and this is the reply to them
+  modelled : (models : List Model) → AreModelsText bytes models → (status : ℕ) (text : List ℕ) → IsModelsReply models status text → IsCompileReply bytes status text

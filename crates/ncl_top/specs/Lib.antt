@@ -1,6 +1,7 @@
 pub mod Given
 pub mod Compiling
 pub mod Simulating
+pub mod Matching
 pub mod Demonstrating
 pub mod Answer
 pub mod Replies

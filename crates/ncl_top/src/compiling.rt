@@ -1,41 +1,31 @@
-//! What `compile` replies to the bytes of a file.
-ghost use Rattle.std.specs.Prelude.{◌≡◌, ◌≢◌, ◌≤◌, IfOk, OnOk, length};
-ghost use Rattle.ncl_base.specs.declared.source.TheConstants.{MOST_BYTES};
+//! What `compile` replies to models.
+ghost use Rattle.std.specs.Prelude.{◌≡◌, ◌≢◌, IfOk, IsErrOf, OnOk};
 ghost use Rattle.ncl_blif.specs.Model.{AreModels};
-ghost use Rattle.ncl_blif.specs.declared.fault.BlifFault.TheVariants.{Memory as ReadMemory};
 ghost use Rattle.ncl_network.specs.declared.fault.CompileFault.TheVariants.{Memory as CompileMemory};
-ghost use Rattle.ncl_report.specs.BlifText.{blif_line};
 ghost use Rattle.ncl_report.specs.CompileText.{compile_line};
-ghost use Rattle.ncl_top.specs.Compiling.{IsCompileReply, IsModelsReply};
+ghost use Rattle.ncl_top.specs.Compiling.{IsModelsReply};
+ghost use Rattle.ncl_top.specs.Replies.{Gives};
 
-use ncl_base::{MOST_BYTES, Memory};
-use ncl_blif::{BlifFault, Model, read_blif};
+use crate::reply::{Fault, Reply};
+use ncl_base::Memory;
+use ncl_blif::Model;
 use ncl_compile::compile;
 use ncl_network::CompileFault;
-use ncl_report::{blif_text, compile_text};
+use ncl_report::compile_text;
 use ncl_writer::write_netlist;
 use std::alloc::Global;
 
-/// The status and the text that `compile` replies to the bytes of a file: the netlist that is compiled from the
-/// models, or what keeps them from being compiled. Fails where memory is refused, and then only.
-pub fn compile_bytes(alloc: Global, bytes: &[u8]) -> Result<(u8, Vec<u8>), Memory>
-    requires { length bytes.now ≤ MOST_BYTES }
-    ensures { IfOk result (λ reply. IsCompileReply bytes.now reply.0 reply.1.items) }
+/// The reply to `compile` of models: the netlist that is compiled from them, or what keeps them from being compiled.
+///
+/// Costs what compiling and writing cost.
+pub fn compile_models(alloc: Global, models: &[Model]) -> Result<Reply, Fault>
+    requires { AreModels models.now }
+    ensures ok { IfOk result (Gives (IsModelsReply models.now)) }
+    ensures memory { IsErrOf result Fault.Read → ⊥ }
 {
-    match read_blif(alloc, bytes) {
-        Ok(models) => compile_models(alloc, &models),
-        Err(fault) => Ok((3, unread_text(alloc, fault)?)),
-    }
-}
-
-/// The line that tells why a text is not read, where that isn't want of memory.
-fn unread_text(alloc: Global, fault: BlifFault) -> Result<Vec<u8>, Memory>
-    ensures text { IfOk result (λ text. text.items ≡ blif_line fault) }
-    ensures memory { OnOk result (fault ≢ ReadMemory) }
-{
-    match fault {
-        BlifFault::Memory => Err(Memory),
-        fault => blif_text(alloc, &fault),
+    match compile(alloc, models) {
+        Ok(netlist) => Ok(Reply::Made(0, write_netlist(alloc, &netlist)?)),
+        Err(fault) => Ok(Reply::Made(3, too_large_text(alloc, fault)?)),
     }
 }
 
@@ -47,16 +37,5 @@ fn too_large_text(alloc: Global, fault: CompileFault) -> Result<Vec<u8>, Memory>
     match fault {
         CompileFault::Memory => Err(Memory),
         fault => compile_text(alloc, &fault),
-    }
-}
-
-/// What `compile` replies to models.
-fn compile_models(alloc: Global, models: &[Model]) -> Result<(u8, Vec<u8>), Memory>
-    requires { AreModels models.now }
-    ensures { IfOk result (λ reply. IsModelsReply models.now reply.0 reply.1.items) }
-{
-    match compile(alloc, models) {
-        Ok(netlist) => Ok((0, write_netlist(alloc, &netlist)?)),
-        Err(fault) => Ok((3, too_large_text(alloc, fault)?)),
     }
 }

@@ -4,6 +4,9 @@
 mod compiling;
 mod demonstrating;
 mod loading;
+mod match_text;
+mod matching;
+mod models;
 mod reply;
 mod simulating;
 mod top;

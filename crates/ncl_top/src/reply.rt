@@ -4,14 +4,16 @@ ghost use Rattle.ncl_base.specs.Files.{Rose};
 ghost use Rattle.ncl_words.specs.Command.{AllowsFiles, HasBits, HasLimit, files_named, check as check_command, compile as compile_command};
 ghost use Rattle.ncl_words.specs.Meaning.{command_meant};
 ghost use Rattle.ncl_top.specs.Answer.{status_of};
-ghost use Rattle.ncl_top.specs.Replies.{AnswersCommand};
+ghost use Rattle.ncl_top.specs.Replies.{AnswersCommand, Gives, TellsRefusal};
 
-use crate::compiling::compile_bytes;
+use crate::compiling::compile_models;
 use crate::demonstrating::demonstrate;
 use crate::loading::load_file;
+use crate::matching::match_files;
+use crate::models::models_in;
 use crate::simulating::sim_files;
 use ncl_base::{Memory, Source};
-use ncl_check::{Outcome, check};
+use ncl_check::{Outcome, Refusal, check};
 use ncl_verdict::Judge;
 use ncl_words::Command;
 use std::alloc::Global;
@@ -77,6 +79,11 @@ pub fn carry_out<R: Threads + Sync, S: Source, J: Judge + Sync>(
             words,
             vcd,
         } => sim_files(alloc, source, netlist, delays, words, vcd),
+        Command::Match {
+            netlist,
+            blif,
+            limit,
+        } => match_files(rt, alloc, source, netlist, blif, limit),
         Command::Demo { bits } => demonstrate(rt, alloc, judge, bits),
     }
 }
@@ -124,8 +131,21 @@ fn compile_file<S: Source>(alloc: Global, source: &mut S, file: &str) -> Result<
         Some(bytes) => bytes,
         None => return Ok(Reply::Fixed(3, b"blif: too long\n")),
     };
-    let (status, text) = compile_bytes(alloc, &bytes)?;
-    Ok(Reply::Made(status, text))
+    match models_in(alloc, &bytes) {
+        Ok(models) => compile_models(alloc, &models),
+        Err(refusal) => refused(refusal),
+    }
+}
+
+/// The reply to bytes that are refused.
+pub(crate) fn refused(refusal: Refusal) -> Result<Reply, Fault>
+    ensures told { IfOk result (Gives (TellsRefusal refusal)) }
+    ensures memory { IsErrOf result Fault.Read → ⊥ }
+{
+    match refusal {
+        Refusal::Told(text) => Ok(Reply::Made(3, text)),
+        Refusal::Memory => Err(Fault::Memory),
+    }
 }
 
 /// The status of a check that ends so.

@@ -1,5 +1,5 @@
 //! What `sim` replies to its files.
-ghost use Rattle.std.specs.Prelude.{◌≡◌, ◌≢◌, ◌≤◌, ℕ, List, Bool, IfOk, IsErrOf, IsTrue, length, None, Some};
+ghost use Rattle.std.specs.Prelude.{◌≡◌, ◌≢◌, ◌≤◌, Bool, IfOk, IsErrOf, IsTrue, length, None, Some};
 ghost use Rattle.ncl_base.specs.Files.{Rose};
 ghost use Rattle.ncl_machine.specs.Run.{AreWordsOf};
 ghost use Rattle.ncl_delay.specs.declared.fault.DelayFault.TheVariants.{Memory as DelayMemory};
@@ -7,15 +7,13 @@ ghost use Rattle.ncl_delay.specs.declared.fault.WordsFault.TheVariants.{Memory a
 ghost use Rattle.ncl_delay.specs.declared.word_text.TheConstants.{MOST_WORDS};
 ghost use Rattle.ncl_reader.specs.GraphicNames.{HasGraphicNames};
 ghost use Rattle.ncl_report.specs.DelayText.{delay_line, words_line};
-ghost use Rattle.ncl_check.specs.Text.{IsRefusedText};
-ghost use Rattle.ncl_check.specs.Refusals.{Tells};
 ghost use Rattle.ncl_top.specs.Replies.{Gives};
 ghost use Rattle.ncl_top.specs.Simulating.{IsDelaysReply, IsRunReply, IsSimReply, IsWordsReply, end_status};
 
 use crate::loading::load_file;
-use crate::reply::{Fault, Reply};
+use crate::reply::{Fault, Reply, refused};
 use ncl_base::{Source, Word};
-use ncl_check::{Refusal, netlist_in, pipeline_in};
+use ncl_check::{netlist_in, pipeline_in};
 use ncl_delay::{DelayFault, Delays, WordsFault, read_delays, read_words};
 use ncl_report::{delay_text, trace_text, words_text};
 use ncl_shape::Pipeline;
@@ -57,17 +55,6 @@ pub fn sim_files<S: Source>(
         Err(refusal) => return refused(refusal),
     };
     sim_pipeline(alloc, source, &pipeline, delays, words, vcd)
-}
-
-/// The reply to a netlist that is refused.
-fn refused(refusal: Refusal) -> Result<Reply, Fault>
-    ensures told { (bytes : List ℕ) → Tells (IsRefusedText bytes) refusal → IfOk result (Gives (λ status text. (status ≡ 3) × IsRefusedText bytes text)) }
-    ensures memory { IsErrOf result Fault.Read → ⊥ }
-{
-    match refusal {
-        Refusal::Told(text) => Ok(Reply::Made(3, text)),
-        Refusal::Memory => Err(Fault::Memory),
-    }
 }
 
 /// Loads delays and words for a pipeline, and replies to `sim` of them.

@@ -2,7 +2,7 @@
 ghost use Rattle.std.specs.Prelude.{◌≡◌, ◌≤◌, map};
 ghost use Rattle.ncl_base.specs.Files.{Rose};
 ghost use Rattle.ncl_words.specs.Command.{AllowsNamed};
-ghost use Rattle.ncl_top.specs.Answer.{Says, Tells, Ran, AnswersUnlessFaults, AnswersExactly, AcceptsWhatWorks, CompilesWhatWorks, SimulatesWhatWorks};
+ghost use Rattle.ncl_top.specs.Answer.{Says, Tells, Ran, AnswersUnlessFaults, AnswersExactly, AcceptsWhatWorks, CompilesWhatWorks, SimulatesWhatWorks, MatchesWhatIsSame};
 ghost use Rattle.ncl_top.specs.Replies.{Gives};
 
 use crate::reply::{Fault, Reply, carry_out};
@@ -15,14 +15,17 @@ use std::thread::Threads;
 /// Answers the words that follow the program's name, and gives the status to end with.
 ///
 /// Reads the files that the words name from the source, makes the whole text, and writes it to the
-/// sink. The status is 0 where a netlist is accepted, models are compiled, or a run delivers every word that is due and
-/// comes to rest; 1 where a stage has a fault, or a run loses an item or stalls; 2 where the words are of no form; 3
-/// where a file is refused; 4 where the source failed; 5 where the sink failed; 6 where a stage is too large to be
-/// judged; 7 where memory was refused; and 8 where a run has as many steps as it may and could go on.
+/// sink. The status is 0 where a netlist is accepted, models are compiled, a run delivers every word that is due and
+/// comes to rest, or a netlist and models have one function; 1 where a stage has a fault, a run loses an item or stalls,
+/// or a netlist and models differ in their function or in the numbers of bits of their words; 2 where the words are of no
+/// form; 3 where a file is refused; 4 where the source failed; 5 where the sink failed; 6 where a stage is too large to
+/// be judged or an output to be compared; 7 where memory was refused; and 8 where a run has as many steps as it may and
+/// could go on.
 ///
 /// A netlist that is accepted works at every gate delay: clause `headline`. So does one that is compiled, and `check`
 /// accepts it: clause `compiles`. A run of a netlist of sound stages ends with status 0 at whatever delays: clause
-/// `simulates`. Costs what the command costs, and a pass over the text. Stages are judged by up to four threads.
+/// `simulates`. Models that match a netlist give what it gives at each word: clause `matches`. Costs what the command
+/// costs, and a pass over the text. Stages are judged, and outputs compared, by up to four threads.
 pub fn run<R: Threads + Sync, S: Source, K: Sink>(
     rt: &R,
     alloc: Global,
@@ -59,6 +62,9 @@ pub fn run<R: Threads + Sync, S: Source, K: Sink>(
         (record { files = S.files source.old; faults = S.faults source.old })
         (record { written = K.written sink.old; faults = K.faults sink.old })
         (record { written = K.written sink.new; faults = K.faults sink.new })
+        result }
+    ensures matches { MatchesWhatIsSame (map (λ word. word.now) words.now)
+        (record { files = S.files source.old; faults = S.faults source.old })
         result }
     ensures read_failed { result ≡ 4 → Rose (S.faults source.old) (S.faults source.new) }
     ensures write_failed { result ≡ 5 → Rose (K.faults sink.old) (K.faults sink.new) }
@@ -108,6 +114,9 @@ pub fn run_by<R: Threads + Sync, S: Source, K: Sink, J: Judge + Sync>(
         (record { files = S.files source.old; faults = S.faults source.old })
         (record { written = K.written sink.old; faults = K.faults sink.old })
         (record { written = K.written sink.new; faults = K.faults sink.new })
+        result }
+    ensures matches { MatchesWhatIsSame (map (λ word. word.now) words.now)
+        (record { files = S.files source.old; faults = S.faults source.old })
         result }
     ensures read_failed { result ≡ 4 → Rose (S.faults source.old) (S.faults source.new) }
     ensures write_failed { result ≡ 5 → Rose (K.faults sink.old) (K.faults sink.new) }

@@ -145,6 +145,42 @@ const OTHERS: [(&str, &str); 18] = [
     ("demo 4", "Some(Demo { bits: 4 })"),
 ];
 
+/// Words that compare a netlist with models.
+const MATCHES: [(&str, &str); 8] = [
+    (
+        "match f g",
+        "Some(Match { netlist: \"f\", blif: \"g\", limit: 100000 })",
+    ),
+    (
+        "match g f",
+        "Some(Match { netlist: \"g\", blif: \"f\", limit: 100000 })",
+    ),
+    (
+        "match f f",
+        "Some(Match { netlist: \"f\", blif: \"f\", limit: 100000 })",
+    ),
+    (
+        "match match limit",
+        "Some(Match { netlist: \"match\", blif: \"limit\", limit: 100000 })",
+    ),
+    (
+        "match --limit 5 f g",
+        "Some(Match { netlist: \"f\", blif: \"g\", limit: 5 })",
+    ),
+    (
+        "match f --limit 5 g",
+        "Some(Match { netlist: \"f\", blif: \"g\", limit: 5 })",
+    ),
+    (
+        "match f g --limit 1000000",
+        "Some(Match { netlist: \"f\", blif: \"g\", limit: 1000000 })",
+    ),
+    (
+        "match f g --limit=5",
+        "Some(Match { netlist: \"f\", blif: \"g\", limit: 5 })",
+    ),
+];
+
 /// Words that look like a check, and give no command.
 const NO_CHECKS: [&str; 18] = [
     "",
@@ -250,6 +286,23 @@ const NO_FLAGS: [&str; 23] = [
     "compile f --vcd",
 ];
 
+/// Words that look like a comparison, and give no command.
+const NO_MATCHES: [&str; 13] = [
+    "match",
+    "match f",
+    "match f g h",
+    "match f --limit 5",
+    "match f g --limit",
+    "match f g --limit 0",
+    "match f g --limit 1000001",
+    "match f --limit g",
+    "match f g --limit 5 --limit 5",
+    "match --netlist f --blif g",
+    "match f --blif=g",
+    "match f g --why",
+    "match f g --delays d",
+];
+
 /// The command that words give, as a text.
 fn told(alloc: Global, line: &str) -> Result<String, Fail> {
     let words: Vec<&str> = line.split(' ').collect(alloc)?;
@@ -319,6 +372,24 @@ fn words_ask_why(rt: HostRuntime) -> Result<(), Fail> {
     for (line, expected) in WHY {
         let told = told(rt.alloc(), line)?;
         assert_eq!(rt; told.as_str(), expected, "{line}");
+    }
+    Ok(())
+}
+
+#[test]
+fn words_give_comparisons(rt: HostRuntime) -> Result<(), Fail> {
+    for (line, expected) in MATCHES {
+        let told = told(rt.alloc(), line)?;
+        assert_eq!(rt; told.as_str(), expected, "{line}");
+    }
+    Ok(())
+}
+
+#[test]
+fn a_comparison_has_two_files_and_a_limit(rt: HostRuntime) -> Result<(), Fail> {
+    for line in NO_MATCHES {
+        let told = told(rt.alloc(), line)?;
+        assert_eq!(rt; told.as_str(), "None", "{line}");
     }
     Ok(())
 }

@@ -1,4 +1,4 @@
-use Rattle.std.proofs.Common.{◌+◌, arith, length}
+use Rattle.std.proofs.Common.{arith}
 use Rattle.ncl_sim.proofs.WordsDue.{few_due}
 use Rattle.ncl_report.proofs.NamedItems.{names_item}
 use Rattle.ncl_top.proofs.simulating.run_reply.Goals as goal

@@ -1,11 +1,11 @@
-use Rattle.std.proofs.Common.{◌≡◌, IfOk, sym, subst}
+use Rattle.std.proofs.Common.{IfOk, sym, subst}
 use Rattle.ncl_reader.specs.GraphicNames.{HasGraphicNames}
 use Rattle.ncl_reader.proofs.GraphicNames.{graphic_names}
 use Rattle.ncl_check.specs.Text.{IsNetlistText, IsRefusedText, IsShapeless, too_long, shapeless}
-use Rattle.ncl_check.proofs.Refusing.{Tells-weaker}
 use Rattle.ncl_check.proofs.Replying.{pipeline_text}
 use Rattle.ncl_top.specs.Replies.{Gives}
 use Rattle.ncl_top.specs.Simulating.{IsDelaysReply, IsSimReply, no_pipeline, piped}
+use Rattle.ncl_top.proofs.Refusals.{refused_from}
 use Rattle.ncl_top.proofs.SimReplies.{some_told, none_told, gives_from}
 use Rattle.ncl_top.proofs.simulating.sim_files.Goals as goal
 
@@ -18,23 +18,19 @@ pub returns-in-Err-clause-ok : goal.returns-in-Err-clause-ok
 returns-in-Err-clause-ok g c =
     let bytes = c.in-Some.bytes.items in
     let given = some_told _ _ c.in_ok-bytes.field-0 c.in-Some.bytes c.in_ok-bytes.ensures.bytes c.in-Some.is in
-    let told = g.S.Source.files c.args.source.now in
-    let none = Tells-weaker (IsRefusedText c.deref.result.now) (IsRefusedText bytes) (λ text refused. subst (λ b. IsRefusedText b text) c.deref.ensures.value refused) c.in-Err.refusal c.in-Err.ensures.refused in
-    gives_from (λ status text. (status ≡ 3) × IsRefusedText bytes text) (IsSimReply told c.args.netlist.now c.args.delays.now c.args.words.now c.args.vcd)
-    (λ status text said. subst (λ s. IsSimReply told c.args.netlist.now c.args.delays.now c.args.words.now c.args.vcd s text) (sym said.0) (no_pipeline bytes given text said.1))
-    c.refused.result (c.refused.ensures.told bytes none)
+    refused_from (IsRefusedText c.deref.result.now) (IsSimReply (g.S.Source.files c.args.source.now) c.args.netlist.now c.args.delays.now c.args.words.now c.args.vcd)
+    (λ text none. no_pipeline bytes given text (subst (λ b. IsRefusedText b text) c.deref.ensures.value none))
+    c.in-Err.refusal c.in-Err.ensures.refused c.refused.result c.refused.ensures.told
 
 pub returns-in-Err-pipeline_in-clause-ok : goal.returns-in-Err-pipeline_in-clause-ok
 returns-in-Err-pipeline_in-clause-ok g c =
     let bytes = c.in-Some.bytes.items in
     let n = c.in-Ok.netlist in
     let given = some_told _ _ c.in_ok-bytes.field-0 c.in-Some.bytes c.in_ok-bytes.ensures.bytes c.in-Some.is in
-    let told = g.S.Source.files c.args.source.now in
     let of : IsNetlistText bytes n = subst (λ b. IsNetlistText b n) c.deref.ensures.value c.in-Ok.ensures.netlist in
-    let none = Tells-weaker (IsShapeless n) (IsRefusedText bytes) (shapeless n of) c.in-Err-pipeline_in.refusal c.in-Err-pipeline_in.ensures.refused in
-    gives_from (λ status text. (status ≡ 3) × IsRefusedText bytes text) (IsSimReply told c.args.netlist.now c.args.delays.now c.args.words.now c.args.vcd)
-    (λ status text said. subst (λ s. IsSimReply told c.args.netlist.now c.args.delays.now c.args.words.now c.args.vcd s text) (sym said.0) (no_pipeline bytes given text said.1))
-    c.refused-in-Err-pipeline_in.result (c.refused-in-Err-pipeline_in.ensures.told bytes none)
+    refused_from (IsShapeless n) (IsSimReply (g.S.Source.files c.args.source.now) c.args.netlist.now c.args.delays.now c.args.words.now c.args.vcd)
+    (λ text none. no_pipeline bytes given text (shapeless n of text none))
+    c.in-Err-pipeline_in.refusal c.in-Err-pipeline_in.ensures.refused c.refused-in-Err-pipeline_in.result c.refused-in-Err-pipeline_in.ensures.told
 
 pub returns-clause-ok : goal.returns-clause-ok
 returns-clause-ok g c =

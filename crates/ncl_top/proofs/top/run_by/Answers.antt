@@ -2,6 +2,7 @@ use Rattle.std.proofs.Common.{refl}
 use Rattle.ncl_top.proofs.Acceptance.{accepts_what_works}
 use Rattle.ncl_top.proofs.Compiled.{compiles_what_works}
 use Rattle.ncl_top.proofs.Running.{simulates_what_works}
+use Rattle.ncl_top.proofs.OneFunction.{matches_what_is_same}
 use Rattle.ncl_top.proofs.Ends.{ran_by, answers_unless_faults, answers_exactly}
 use Rattle.ncl_top.proofs.Statuses.{read_has_failed, write_has_failed}
 use Rattle.ncl_top.proofs.top.run_by.Goals as goal
@@ -45,6 +46,14 @@ returns-in-Made-clause-simulates g c =
 pub returns-in-Fixed-clause-simulates : goal.returns-in-Fixed-clause-simulates
 returns-in-Fixed-clause-simulates g c =
     simulates_what_works _ _ _ _ _ _ (ran_by _ _ _ _ _ _ _ _ _ c.in-Fixed.ensures.says refl c.tell-in-Fixed.ensures.tells)
+
+pub returns-in-Made-clause-matches : goal.returns-in-Made-clause-matches
+returns-in-Made-clause-matches g c =
+    matches_what_is_same _ _ _ _ _ _ (ran_by _ _ _ _ _ _ _ _ _ c.in-Made.ensures.says c.deref.ensures.value c.tell.ensures.tells)
+
+pub returns-in-Fixed-clause-matches : goal.returns-in-Fixed-clause-matches
+returns-in-Fixed-clause-matches g c =
+    matches_what_is_same _ _ _ _ _ _ (ran_by _ _ _ _ _ _ _ _ _ c.in-Fixed.ensures.says refl c.tell-in-Fixed.ensures.tells)
 
 pub returns-in-Made-clause-read_failed : goal.returns-in-Made-clause-read_failed
 returns-in-Made-clause-read_failed g c =

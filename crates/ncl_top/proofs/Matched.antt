@@ -1,0 +1,91 @@
+-- There is at most one reply to the files of a comparison.
+use Rattle.std.proofs.Common.{◌≡◌, ◌≢◌, ℕ, List, Some, Result, Ok, Err, refl, sym, ap, ◌∙◌, subst}
+use Rattle.std.specs.Prelude.{codes}
+use Rattle.ncl_base.specs.Files.{Files}
+use Rattle.ncl_blif.specs.declared.model.Model.{Model}
+use Rattle.ncl_shape.specs.Pipeline.{PipelineData}
+use Rattle.ncl_shape.specs.Shape.{Shape}
+use Rattle.ncl_shape.specs.SamePipeline.{IsSamePipeline}
+use Rattle.ncl_shape.proofs.ShapeLaws.{shape_is_one}
+use Rattle.ncl_match.specs.Circuit.{Circuit, circuit_of}
+use Rattle.ncl_match.specs.Answer.{IsAnswer}
+use Rattle.ncl_match.specs.declared.answer.Compared.{Compared}
+use Rattle.ncl_match.specs.declared.answer.Compared.TheVariants.{Same, Differ, Widths}
+use Rattle.ncl_match.specs.declared.answer.CompareFault.{CompareFault}
+use Rattle.ncl_match.specs.declared.answer.CompareFault.TheVariants.{Full, Memory}
+use Rattle.ncl_match.proofs.AnswerLaws.{one_whole}
+use Rattle.ncl_report.specs.Line.{line, out_of_memory}
+use Rattle.ncl_check.specs.Text.{IsPipelineText, IsRefusedText}
+use Rattle.ncl_check.proofs.OneReply.{one_pipeline, refused_once, refused_is_none}
+use Rattle.ncl_top.specs.Compiling.{AreModelsText, AreRefusedModels}
+use Rattle.ncl_top.specs.Matching.{widths_line, limit_line, differ_line, IsMatched, widths, full, differs, same, IsModelsMatched, no_models, compared, IsMatchReply, no_pipeline, piped}
+use Rattle.ncl_top.proofs.ModelsText.{one_models, refused_models_none, refused_models_once}
+use Rattle.ncl_top.proofs.Simulated.{SameReply}
+
+-- the status and the text that tell an answer
+abbrev status_told : Result Compared CompareFault → ℕ
+status_told (Ok Same) = 0
+status_told (Ok (Differ word output)) = 1
+status_told (Ok Widths) = 1
+status_told (Err (Full output)) = 6
+status_told (Err Memory) = 7
+
+abbrev text_told : Circuit → List Model → ℕ → Result Compared CompareFault → List ℕ
+text_told c models limit (Ok Same) = line (codes "same")
+text_told c models limit (Ok (Differ word output)) = differ_line word output
+text_told c models limit (Ok Widths) = widths_line c models
+text_told c models limit (Err (Full output)) = limit_line output limit
+text_told c models limit (Err Memory) = out_of_memory
+
+-- they tell an answer that isn't want of memory
+record IsTold (c : Circuit) (models : List Model) (limit status : ℕ) (text : List ℕ) : Type 0 where
+  answer : Result Compared CompareFault
+  own : answer ≢ Err Memory
+  is : IsAnswer c models limit answer
+  ends : status ≡ status_told answer
+  says : text ≡ text_told c models limit answer
+
+told : (c : Circuit) (models : List Model) (limit : ℕ) {status : ℕ} {text : List ℕ} → IsMatched c models limit status text → IsTold c models limit status text
+told c models limit (widths is) = record { answer = Ok Widths; own = λ e. absurd cc; is = is; ends = refl; says = refl }
+told c models limit (full output is) = record { answer = Err (Full output); own = λ e. absurd cc; is = is; ends = refl; says = refl }
+told c models limit (differs word output is) = record { answer = Ok (Differ word output); own = λ e. absurd cc; is = is; ends = refl; says = refl }
+told c models limit (same is) = record { answer = Ok Same; own = λ e. absurd cc; is = is; ends = refl; says = refl }
+
+one_matched : (c : Circuit) (models : List Model) (limit : ℕ) {status other : ℕ} {text line : List ℕ} → IsMatched c models limit status text → IsMatched c models limit other line → SameReply status other text line
+one_matched c models limit first second =
+    let one = told c models limit first in
+    let two = told c models limit second in
+    let alike = one_whole c models limit one.answer two.answer one.own two.own one.is two.is in
+    (one.ends ∙ ap status_told alike ∙ sym two.ends, one.says ∙ ap (text_told c models limit) alike ∙ sym two.says)
+
+-- two pipelines of one netlist are one circuit
+same_circuit : (p q : PipelineData) → p.netlist ≡ q.netlist → Shape p.netlist p → Shape p.netlist q → circuit_of p ≡ circuit_of q
+same_circuit p q alike shape_p shape_q =
+    let one : IsSamePipeline p q = shape_is_one p.netlist shape_p.is_netlist p q shape_p shape_q in
+    λ i. record { netlist = alike i; inputs = one.inputs i; outputs = one.outputs i }
+
+module _ (files : Files) (p q : PipelineData) (alike : circuit_of p ≡ circuit_of q) where
+  one_compared : (blif : List ℕ) (limit : ℕ) {status other : ℕ} {text line : List ℕ} → IsModelsMatched (Some files) p blif limit status text → IsModelsMatched (Some files) q blif limit other line → SameReply status other text line
+  one_compared blif limit (no_models bytes given text none) (no_models bytes' given' line none') =
+      (refl, refused_models_once bytes' (subst (λ b. AreRefusedModels b text) (given ∙ sym given') none) none')
+  one_compared blif limit (no_models bytes given text none) (compared bytes' given' models said status line reply) =
+      absurd (refused_models_none bytes' models (subst (λ b. AreRefusedModels b text) (given ∙ sym given') none) said)
+  one_compared blif limit (compared bytes given models said status text reply) (no_models bytes' given' line none) =
+      absurd (refused_models_none bytes' models none (subst (λ b. AreModelsText b models) (given ∙ sym given') said))
+  one_compared blif limit (compared bytes given models said status text reply) (compared bytes' given' models' said' status' line reply') =
+      let one : models ≡ models' = one_models bytes' models models' (subst (λ b. AreModelsText b models) (given ∙ sym given') said) said' in
+      one_matched (circuit_of q) models' limit
+      (subst (λ c. IsMatched c models' limit status text) alike (subst (λ ms. IsMatched (circuit_of p) ms limit status text) one reply)) reply'
+
+-- the files determine the status and the text
+pub one_match_reply : (files : Files) (netlist blif : List ℕ) (limit : ℕ) {status other : ℕ} {text line : List ℕ} → IsMatchReply (Some files) netlist blif limit status text → IsMatchReply (Some files) netlist blif limit other line → SameReply status other text line
+one_match_reply files netlist blif limit (no_pipeline bytes given text none) (no_pipeline bytes' given' line none') =
+    (refl, refused_once bytes' (subst (λ b. IsRefusedText b text) (given ∙ sym given') none) none')
+one_match_reply files netlist blif limit (no_pipeline bytes given text none) (piped bytes' given' q is status line reply) =
+    absurd (refused_is_none bytes' q (subst (λ b. IsRefusedText b text) (given ∙ sym given') none) is)
+one_match_reply files netlist blif limit (piped bytes given p is status text reply) (no_pipeline bytes' given' line none) =
+    absurd (refused_is_none bytes' p none (subst (λ b. IsPipelineText b p) (given ∙ sym given') is))
+one_match_reply files netlist blif limit (piped bytes given p is status text reply) (piped bytes' given' q also status' line reply') =
+    let here : IsPipelineText bytes' p = subst (λ b. IsPipelineText b p) (given ∙ sym given') is in
+    let (alike, shape) = one_pipeline bytes' p q here also in
+    one_compared files p q (same_circuit p q alike here.shape shape) blif limit reply reply'

@@ -1,0 +1,108 @@
+-- What status 0 of a comparison says.
+use Rattle.std.proofs.Common.{◌≡◌, ◌≢◌, ℕ, ◌+◌, ◌-◌, ◌<◌, Bool, true, false, List, [], ◌∷◌, length, get_or, Option, Some, None, Ok, refl, sym, ap, ◌∙◌, subst, arith}
+use Rattle.std.proofs.lemmas.List.{ext_get_or, length-map}
+use Rattle.std.proofs.lemmas.List.Elements.{recursion_from_All}
+use Rattle.ncl_base.specs.Files.{Files, bytes_of}
+use Rattle.ncl_blif.specs.declared.model.Model.{Model}
+use Rattle.ncl_blif.specs.Model.{IsModel, AreModels}
+use Rattle.ncl_blif.specs.Meaning.{Computes}
+use Rattle.ncl_blif.proofs.Composing.{computes_some}
+use Rattle.ncl_shape.specs.declared.rails.Rails.{Rails}
+use Rattle.ncl_shape.specs.Pipeline.{PipelineData}
+use Rattle.ncl_match.specs.Circuit.{Circuit, circuit_of, closed, computed}
+use Rattle.ncl_match.specs.Answer.{IsAnswer, DiffersAt, HaveWidths, bit_of, outputs_of}
+use Rattle.ncl_match.specs.Runs.{Agree}
+use Rattle.ncl_match.specs.declared.answer.Compared.TheVariants.{Same}
+use Rattle.ncl_check.specs.Text.{IsPipelineText}
+use Rattle.ncl_words.specs.Command.{Words, Command, check, compile, sim, matching, demo, command_of}
+use Rattle.ncl_top.specs.Matching.{IsMatched, widths, full, differs, same, IsModelsMatched, no_models, compared, IsMatchReply, no_pipeline, piped}
+use Rattle.ncl_top.specs.Answer.{Answer, not_understood, replied, SourceState, SinkState, Says, answered, read_failed, no_memory, Tells, whole, cut_short, Ran, HaveOneFunction, MatchesWhatIsSame}
+
+-- bits that don't differ are one
+one_bit : (a b : Bool) → (a ≢ b → ⊥) → a ≡ b
+one_bit true true h = refl
+one_bit true false h = absurd (h (λ e. absurd cc))
+one_bit false true h = absurd (h (λ e. absurd cc))
+one_bit false false h = refl
+
+-- models give words of as many bits as the last of them has outputs
+answer_width : (models : List Model) (word answer : List Bool) → 0 < length models → Computes models word answer → length answer ≡ outputs_of models
+answer_width [] word answer some is = absurd (omega (arith, some))
+answer_width (m ∷ []) word answer some (between, (bits, fits, gives), is) = ap length is ∙ ap length gives ∙ length-map m.outputs bits
+answer_width (m ∷ n ∷ ms) word answer some (between, gives, rest) = answer_width (n ∷ ms) between answer (omega arith) rest
+
+module _ (c : Circuit) (models : List Model) (are : AreModels models) (widths_are : HaveWidths c models) (agree : Agree (DiffersAt c models) 0 (length c.outputs)) where
+  -- a bit in which the answers agree
+  agree_at : (word answer : List Bool) → length word ≡ length c.inputs → Computes models word answer → (j : ℕ) → j < length c.outputs → get_or (computed c word) j false ≡ get_or answer j false
+  agree_at word answer wide computes j within =
+      let place : j + 1 - 1 ≡ j = omega arith in
+      let alike : bit_of (computed c word) (j + 1) ≡ bit_of answer (j + 1) =
+      one_bit (bit_of (computed c word) (j + 1)) (bit_of answer (j + 1))
+      (λ differ. agree (j + 1) word (record { after = omega arith; until = omega (arith, within) }) (record { wide = wide; answer = answer; computes = computes; differ = differ })) in
+      subst (λ k. get_or (computed c word) k false ≡ get_or answer k false) place alike
+
+  computes_it : (word : List Bool) → length word ≡ length c.inputs → Computes models word (computed c word)
+  computes_it word wide =
+      let (answer, computes) = computes_some models (recursion_from_All IsModel models are.each) are.joined word (wide ∙ widths_are.inputs) in
+      let many : length (computed c word) ≡ length c.outputs = length-map c.outputs (λ (r : Rails). closed c word r.one.0) in
+      let as_many : length (computed c word) ≡ length answer = many ∙ widths_are.outputs ∙ sym (answer_width models word answer are.some computes) in
+      let one : computed c word ≡ answer = ext_get_or false (computed c word) answer as_many (λ j within. agree_at word answer wide computes j (omega (arith, within, many))) in
+      subst (Computes models word) (sym one) computes
+
+-- the answer that has status 0
+same_by_status : (c : Circuit) (models : List Model) (limit : ℕ) {status : ℕ} {text : List ℕ} → IsMatched c models limit status text → status ≡ 0 → IsAnswer c models limit (Ok Same)
+same_by_status c models limit (widths is) e = absurd (omega arith)
+same_by_status c models limit (full output is) e = absurd (omega arith)
+same_by_status c models limit (differs word output is) e = absurd (omega arith)
+same_by_status c models limit (same is) e = is
+
+models_same : (files : Files) (netlist blif : List ℕ) (limit : ℕ) (p : PipelineData) → IsPipelineText netlist p → {status : ℕ} {text : List ℕ} → IsModelsMatched (Some files) p blif limit status text → status ≡ 0 → HaveOneFunction netlist (bytes_of files blif)
+models_same files netlist blif limit p is (no_models bytes given text none) e = absurd (omega arith)
+models_same files netlist blif limit p is (compared bytes given models said status text reply) e =
+    let found = same_by_status (circuit_of p) models limit reply e in
+    subst (HaveOneFunction netlist) given (record {
+      pipeline = p;
+      is = is;
+      models = models;
+      are = said;
+      widths = found.0;
+      function = computes_it (circuit_of p) models said.are found.0 found.1.1;
+    })
+
+files_same : (files : Files) (netlist blif : List ℕ) (limit : ℕ) {status : ℕ} {text : List ℕ} → IsMatchReply (Some files) netlist blif limit status text → status ≡ 0 → HaveOneFunction (bytes_of files netlist) (bytes_of files blif)
+files_same files netlist blif limit (no_pipeline bytes given text none) e = absurd (omega arith)
+files_same files netlist blif limit (piped bytes given p is status text reply) e =
+    models_same files (bytes_of files netlist) blif limit p (subst (λ b. IsPipelineText b p) given is) reply e
+
+-- no comparison is asked
+abbrev IsNoMatching : Option Command → Type 0
+IsNoMatching None = Unit {0}
+IsNoMatching (Some (check file limit why)) = Unit {0}
+IsNoMatching (Some (compile file)) = Unit {0}
+IsNoMatching (Some (sim netlist delays offers vcd)) = Unit {0}
+IsNoMatching (Some (matching netlist blif limit)) = ⊥
+IsNoMatching (Some (demo bits)) = Unit {0}
+
+answer_same : (words : Words) (files : Files) (netlist blif : List ℕ) (limit : ℕ) {status : ℕ} {text : List ℕ} → command_of words ≡ Some (matching netlist blif limit) → Answer words (Some files) status text → status ≡ 0 → HaveOneFunction (bytes_of files netlist) (bytes_of files blif)
+answer_same words files netlist blif limit asked (not_understood none) e = absurd (omega arith)
+answer_same words files netlist blif limit asked (replied (check file most why) is status text reply) e = absurd (subst IsNoMatching (sym is ∙ asked) tt)
+answer_same words files netlist blif limit asked (replied (compile file) is status text reply) e = absurd (subst IsNoMatching (sym is ∙ asked) tt)
+answer_same words files netlist blif limit asked (replied (sim wires delays offers vcd) is status text reply) e = absurd (subst IsNoMatching (sym is ∙ asked) tt)
+answer_same words files netlist blif limit asked (replied (demo bits) is status text reply) e = absurd (subst IsNoMatching (sym is ∙ asked) tt)
+answer_same words files netlist blif limit asked (replied (matching first second most) is status text reply) e =
+    let both : Some (matching first second most) ≡ Some (matching netlist blif limit) = sym is ∙ asked in
+    let one : first ≡ netlist = cc in
+    let two : second ≡ blif = cc in
+    subst (λ name. HaveOneFunction (bytes_of files netlist) (bytes_of files name)) two
+    (subst (λ name. HaveOneFunction (bytes_of files name) (bytes_of files second)) one (files_same files first second most reply e))
+
+end_same : (words : Words) (source source' : SourceState) (sink sink' : SinkState) {said status : ℕ} {text : List ℕ} → Says words source source' said text → Tells sink sink' said text status → MatchesWhatIsSame words source status
+end_same words source source' sink sink' (answered status text answer) (whole grew) files netlist blif limit told asked e =
+    answer_same words files netlist blif limit asked (subst (λ held. Answer words held status text) told answer) e
+end_same words source source' sink sink' says (cut_short rose grew) files netlist blif limit told asked e = absurd (omega arith)
+end_same words source source' sink sink' (read_failed command of named rose) (whole grew) files netlist blif limit told asked e = absurd (omega arith)
+end_same words source source' sink sink' no_memory (whole grew) files netlist blif limit told asked e = absurd (omega arith)
+
+-- whatever ended with status 0 on a comparison, ended so on a netlist and models that have one function
+pub matches_what_is_same : (words : Words) (source source' : SourceState) (sink sink' : SinkState) (status : ℕ) → Ran words source source' sink sink' status → MatchesWhatIsSame words source status
+matches_what_is_same words source source' sink sink' status ran = end_same words source source' sink sink' ran.says ran.tells

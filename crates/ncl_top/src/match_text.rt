@@ -1,0 +1,94 @@
+//! The lines that tell what a comparison finds.
+ghost use Rattle.std.specs.Prelude.{◌≡◌, ◌++◌, IfOk, OnOk};
+ghost use Rattle.ncl_base.specs.Words.{character_of, text_of};
+ghost use Rattle.ncl_blif.specs.Meaning.{width_of};
+ghost use Rattle.ncl_match.specs.Answer.{outputs_of};
+ghost use Rattle.ncl_match.specs.Circuit.{circuit_of};
+ghost use Rattle.ncl_top.specs.Matching.{differ_line, limit_line, widths_line};
+
+use itoa::Buffer;
+use ncl_base::{Memory, Word};
+use ncl_blif::Model;
+use ncl_shape::Pipeline;
+use std::alloc::Global;
+
+/// The line for words that have not the same numbers of bits. Fails where memory is refused.
+pub fn widths_text(alloc: Global, pipeline: &Pipeline, models: &[Model]) -> Result<Vec<u8>, Memory>
+    ensures { IfOk result (λ text. text.items ≡ widths_line (circuit_of pipeline.now) models.now) }
+{
+    let mut digits = Buffer::new();
+    let mut text = Vec::from_slice(alloc, b"widths differ: netlist ")?;
+    text.extend_from_slice(digits.format(pipeline.inputs().len()).as_bytes())?;
+    text.extend_from_slice(b" to ")?;
+    text.extend_from_slice(digits.format(pipeline.outputs().len()).as_bytes())?;
+    text.extend_from_slice(b", blif ")?;
+    text.extend_from_slice(digits.format(first_width(models)).as_bytes())?;
+    text.extend_from_slice(b" to ")?;
+    text.extend_from_slice(digits.format(last_width(models)).as_bytes())?;
+    text.extend_from_slice(b"\n")?;
+    Ok(text)
+}
+
+/// How many inputs the first model has.
+fn first_width(models: &[Model]) -> usize
+    ensures { result ≡ width_of models.now }
+{
+    match models {
+        [] => 0,
+        [first, ..] => first.inputs.items().len(),
+    }
+}
+
+/// How many outputs the last model has.
+fn last_width(models: &[Model]) -> usize
+    ensures { result ≡ outputs_of models.now }
+{
+    if models.is_empty() {
+        return 0;
+    }
+    models[models.len() - 1].outputs.items().len()
+}
+
+/// The line for an output, from 1, that has more nodes than the limit. Fails where memory is refused.
+pub fn limit_text(alloc: Global, output: u32, limit: u32) -> Result<Vec<u8>, Memory>
+    ensures { IfOk result (λ text. text.items ≡ limit_line output limit) }
+{
+    let mut digits = Buffer::new();
+    let mut text = Vec::from_slice(alloc, b"limit output ")?;
+    text.extend_from_slice(digits.format(output).as_bytes())?;
+    text.extend_from_slice(b": more than ")?;
+    text.extend_from_slice(digits.format(limit).as_bytes())?;
+    text.extend_from_slice(b" nodes")?;
+    text.extend_from_slice(b"\n")?;
+    Ok(text)
+}
+
+/// The line for functions that differ at a word in an output, from 1. Fails where memory is refused. Linear in the word.
+pub fn differ_text(alloc: Global, word: &Word, output: u32) -> Result<Vec<u8>, Memory>
+    ensures { IfOk result (λ text. text.items ≡ differ_line word.now output) }
+{
+    let mut digits = Buffer::new();
+    let mut text = Vec::from_slice(alloc, b"differ at word ")?;
+    push_word(&mut text, word)?;
+    text.extend_from_slice(b", output ")?;
+    text.extend_from_slice(digits.format(output).as_bytes())?;
+    text.extend_from_slice(b"\n")?;
+    Ok(text)
+}
+
+/// Appends a word, its first bit leftmost. Linear in its bits.
+fn push_word(text: &mut Vec<u8>, word: &Word) -> Result<(), Memory>
+    ensures { OnOk result (text.new.items ≡ text.old.items ++ text_of word.now) }
+{
+    for bit in word.bits() {
+        text.push(character(*bit))?;
+    }
+    Ok(())
+}
+
+/// A bit as a character.
+fn character(bit: bool) -> u8
+    ensures { result ≡ character_of bit }
+{
+    if bit { b'1' } else { b'0' }
+}

@@ -8,6 +8,8 @@ mod diagram_tests;
 #[cfg(test)]
 mod hazard_tests;
 #[cfg(test)]
+mod match_tests;
+#[cfg(test)]
 mod orphan_tests;
 #[cfg(test)]
 mod report_tests;

@@ -1,12 +1,14 @@
 #!/usr/bin/env python3
-"""Runs a pipeline by `nclc sim` and by Icarus Verilog with the same delays, and compares every word delivered.
+"""Runs netlists by `nclc sim` and by Icarus Verilog with the same delays, and compares words, times and every change.
 
     bench/simulating.py PROGRAM [BITS [STAGES [LAYERS [WORDS [MOST_DELAY]]]]]
 
-PROGRAM is the built nclc; iverilog and vvp have to be on the path. The pipeline is one of bench/pipelines.py: STAGES
-stages of LAYERS layers of half adders of BITS bits. Each cell, the source and the sink have random delays from 1 to
-MOST_DELAY. Prints the cells, the seconds of both, the steps of the run and how many nclc makes in a second. The cells of
-a netlist are modules here that act after their delays, and the source and the sink are processes of a test bench.
+PROGRAM is the built nclc; iverilog and vvp have to be on the path. Icarus runs the netlist with examples/cells.v and
+examples/bench.v, for which examples/bench.awk writes the names and delays. First come the runs of examples/, then a
+pipeline of bench/pipelines.py twice: STAGES stages of LAYERS layers of half adders of BITS bits, where no bank holds a
+word at reset, and where every third does. Each cell, the source and the sink have random delays from 1 to MOST_DELAY.
+The lines of the words have to be the same, and each net has to change at the same times. Prints the cells, the seconds of
+both without a dump, the steps of the run and how many nclc makes in a second.
 """
 import pathlib
 import random
@@ -16,113 +18,97 @@ import sys
 import tempfile
 import time
 
-sys.path.insert(0, str(pathlib.Path(__file__).resolve().parent))
+HERE = pathlib.Path(__file__).resolve().parent
+EXAMPLES = HERE.parent / "examples"
+sys.path.insert(0, str(HERE))
 import pipelines
+import waves
 
-# Each threshold gate of the generated pipelines by its set function.
-GATES = {
-    "TH12": "A|B", "TH22": "A&B", "TH33": "A&B&C", "TH44": "A&B&C&D",
-    "TH24comp": "(A&C)|(B&C)|(A&D)|(B&D)", "THand0": "(A&B)|(B&C)|(A&D)",
-}
-GATE = """module {kind} #(parameter R=1, F=1)({pins},output reg Z);
-  initial #1 Z = 0;
-  always @({any}) if ({up}) Z <= #R 1'b1; else if (Z & ~({data})) Z <= #F 1'b0;
-endmodule
-"""
-CELLS = """module TH22N #(parameter R=1, F=1)(input A,input B,input RST,output reg Z);
-  initial #1 Z = 0;
-  always @(A or B) if (A & B) Z <= #R 1'b1; else if (Z & ~(A | B)) Z <= #F 1'b0;
-endmodule
-module TH12B #(parameter R=1, F=1)(input A,input B,output reg Z);
-  initial #1 Z = 1;
-  always @(A or B) if (A | B) Z <= #F 1'b0; else Z <= #R 1'b1;
-endmodule
-"""
-BENCH = """module bench;
-  reg [{last_bit}:0] words [0:{last_word}];
-  reg [{last_bit}:0] x0, x1; reg ki; wire ko; wire [{last_out}:0] z0, z1;
-  wire data = &(z0 | z1); wire null = ~|(z0 | z1);
-  pipeline p({ports});
-  integer k, taken;
-  initial begin
-    $readmemb("{words}", words);
-    x0 = 0; x1 = 0; ki = 1;
-    #{settle};
-    for (k = 0; k < {words_count}; k = k + 1) begin
-      wait (ko === 1'b1);
-      #{source_rise} x0 = ~words[k]; x1 = words[k];
-      wait (ko === 1'b0);
-      #{source_fall} x0 = 0; x1 = 0;
-    end
-  end
-  initial begin
-    #{settle};
-    for (taken = 0; taken < {words_count}; taken = taken + 1) begin
-      wait (data === 1'b1);
-      #{sink_fall} $display("%b", z1); ki = 0;
-      wait (null === 1'b1);
-      #{sink_rise} ki = 1;
-    end
-    $finish;
-  end
-endmodule
-"""
+RESET = 10
 
 
-def verilog(netlist, delays):
-    """The netlist with each cell as a module with its delays, behind the modules."""
-    modules = [CELLS]
-    for kind, up in GATES.items():
-        pins = sorted(set(re.findall("[A-D]", up)))
-        modules.append(GATE.format(kind=kind, pins=",".join(f"input {pin}" for pin in pins), up=up,
-                                   any=" or ".join(pins), data="|".join(pins)))
-    told = re.sub(r"^(TH\w+) (\w+)\(", lambda m: "{} #({},{}) {}(".format(m[1], *delays[m[2]], m[2]), netlist, flags=re.M)
-    return "".join(modules) + told
+def timed(command):
+    """What a command writes, and its seconds."""
+    start = time.perf_counter()
+    ran = subprocess.run(command, capture_output=True, text=True)
+    return ran, time.perf_counter() - start
+
+
+def changes_of(text, begin):
+    """The changes of each net of a dump, with times from the end of the reset on."""
+    codes, told, time_now = {}, {}, 0
+    for line in text.split("\n"):
+        if found := re.match(r"\$var \w+ 1 (\S+) (\S+)", line):
+            codes[found[1]] = found[2]
+        elif line.startswith("#"):
+            time_now = int(line[1:]) - begin
+        elif time_now > 0 and line[:1] in ("0", "1") and line[1:] in codes:
+            told.setdefault(codes[line[1:]], []).append((time_now, line[0]))
+    return told
+
+
+def peer(folder, netlist, delays, words, dump):
+    """What Icarus prints for a netlist with a file of delays and one of words, and its seconds."""
+    header = subprocess.run(["awk", "-f", EXAMPLES / "bench.awk", delays, netlist], capture_output=True, text=True, check=True)
+    pathlib.Path(folder, "bench.vh").write_text(header.stdout)
+    subprocess.run(["iverilog", "-s", "bench", "-o", "bench", EXAMPLES / "cells.v", EXAMPLES / "bench.v", netlist], cwd=folder, check=True)
+    ran, seconds = timed(["vvp", "-n", f"{folder}/bench", f"+words={words}", *([f"+vcd={folder}/peer.vcd"] if dump else [])])
+    return "".join(line + "\n" for line in ran.stdout.splitlines() if line.startswith("word ")), seconds
+
+
+def compare(program, netlist, delays, words):
+    """Compares one run, and prints a line."""
+    with tempfile.TemporaryDirectory() as folder:
+        theirs, seconds = peer(folder, netlist, delays, words, False)
+        peer(folder, netlist, delays, words, True)
+        other = changes_of(pathlib.Path(folder, "peer.vcd").read_text(), RESET)
+    command = [program, "sim", netlist, "--delays", delays, "--words", words]
+    ours, taken = timed(command)
+    dump, _ = timed([*command, "--vcd"])
+    lines = ours.stdout.splitlines()
+    if "".join(line + "\n" for line in lines if line.startswith("word ")) != theirs:
+        sys.exit(f"{netlist}: the words differ")
+    if changes_of(dump.stdout, 0) != other:
+        sys.exit(f"{netlist}: the changes differ")
+    steps = int(re.search(r"after (\d+) steps", lines[-1])[1])
+    cells = len(re.findall(r"^\s*TH", pathlib.Path(netlist).read_text(), re.M))
+    print(f"{pathlib.Path(netlist).name}: {cells} cells, {len(lines) - 1} words, {steps} steps: Icarus {seconds:.2f} s, nclc {taken:.2f} s"
+          f" ({steps / taken:.0f} steps/s), ratio {taken / seconds:.3f}; words, times and changes agree", flush=True)
+
+
+def with_words_held(netlist, chance):
+    """The netlist with a word held at reset by every third bank."""
+    def cell(found):
+        number, bit = int(found[1]), found[2]
+        rail = held.setdefault((number, bit), chance.choice("01")) if number % 3 == 1 else None
+        return f"TH22{'D' if found[3] == rail else 'N'} b{number}r{bit}_{found[3]}("
+    held = {}
+    return re.sub(r"TH22N b(\d+)r(\d+)_([01])\(", cell, netlist)
+
+
+def files_of(folder, netlist, bits, count, most, chance):
+    """Files of a netlist with random delays and words."""
+    pair = lambda: "{} {}".format(chance.randint(1, most), chance.randint(1, most))
+    names = re.findall(r"^TH\w+ (\w+)\(", netlist, re.M)
+    delays = [f"cell {name} {pair()}" for name in names] + [f"source {pair()}", f"sink {pair()}"]
+    words = ["".join(chance.choice("01") for _ in range(bits)) for _ in range(count)]
+    texts = {"net.v": netlist, "net.delays": "\n".join(delays) + "\n", "net.words": "\n".join(words) + "\n"}
+    for name, text in texts.items():
+        pathlib.Path(folder, name).write_text(text)
+    return [f"{folder}/{name}" for name in texts]
 
 
 def main():
-    program = sys.argv[1]
+    program = str(pathlib.Path(sys.argv[1]).resolve())
     bits, stages, layers, count, most = ([int(word) for word in sys.argv[2:]] + [10, 30, 40, 512, 30][len(sys.argv) - 2:])
-    netlist, cells = pipelines.pipeline(bits, stages, layers)
+    for run in waves.RUNS:
+        if run[0] != "orphan.v":
+            compare(program, *(str(EXAMPLES / name) for name in run))
+    netlist, _ = pipelines.pipeline(bits, stages, layers)
     chance = random.Random(1)
-    names = re.findall(r"^TH\w+ (\w+)\(", netlist, re.M)
-    pair = lambda: (chance.randint(1, most), chance.randint(1, most))
-    delays = {name: pair() for name in names}
-    source, sink = pair(), pair()
-    words = ["".join(chance.choice("01") for _ in range(bits)) for _ in range(count)]
-    outputs = len(re.findall(r"\w+_1(?=[,)])", netlist.split("\n")[0])) - bits
     with tempfile.TemporaryDirectory() as folder:
-        at = lambda name: str(pathlib.Path(folder) / name)
-        write = lambda name, text: pathlib.Path(at(name)).write_text(text)
-        write("net.v", netlist)
-        write("delays.txt", "".join(f"cell {name} {rise} {fall}\n" for name, (rise, fall) in delays.items())
-              + "source {} {}\nsink {} {}\n".format(*source, *sink))
-        write("words.txt", "".join(word + "\n" for word in words))
-        write("cells.v", verilog(netlist, delays))
-        header = re.search(r"module pipeline\((.*?)\);", netlist)[1].split(",")
-        place = {name: f"x{name[-1]}[{bits - 1 - int(name[1:-2])}]" for name in header if name.startswith("x")}
-        rails = [name for name in header if name not in place and name not in ("ki", "ko", "rst")]
-        place |= {name: f"z{name[-1]}[{outputs - 1 - number // 2}]" for number, name in enumerate(rails)}
-        place |= {"ki": "ki", "ko": "ko", "rst": "1'b0"}
-        write("bench.v", BENCH.format(
-            last_bit=bits - 1, last_word=count - 1, last_out=outputs - 1, words=at("words.txt"), words_count=count,
-            ports=",".join(f".{name}({place[name]})" for name in header), settle=100 * most,
-            source_rise=source[0], source_fall=source[1], sink_rise=sink[0], sink_fall=sink[1]))
-        subprocess.run(["iverilog", "-o", at("bench"), at("bench.v"), at("cells.v")], check=True)
-        start = time.perf_counter()
-        peer = subprocess.run(["vvp", "-n", at("bench")], capture_output=True, text=True, check=True).stdout
-        middle = time.perf_counter()
-        ours = subprocess.run([program, "sim", at("net.v"), "--delays", at("delays.txt"), "--words", at("words.txt")],
-                              capture_output=True, text=True)
-        end = time.perf_counter()
-    lines = ours.stdout.splitlines()
-    got = [line.split(": ")[1] for line in lines if line.startswith("word ")]
-    wanted = [line for line in peer.splitlines() if set(line) <= set("01") and line]
-    if ours.returncode or got != wanted or len(got) != count:
-        sys.exit(f"status {ours.returncode}, {len(got)} words, Icarus {len(wanted)}: {lines[-1:]}")
-    steps = int(re.search(r"after (\d+) steps", lines[-1])[1])
-    print(f"{cells} cells, {count} words, {steps} steps: Icarus {middle - start:.2f} s, nclc {end - middle:.2f} s"
-          f" ({steps / (end - middle):.0f} steps/s), ratio {(end - middle) / (middle - start):.3f}; all words agree")
+        for text in (netlist, with_words_held(netlist, chance)):
+            compare(program, *files_of(folder, text, bits, count, most, chance))
 
 
 if __name__ == "__main__":

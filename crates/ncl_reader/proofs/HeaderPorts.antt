@@ -1,9 +1,9 @@
 -- The ports of a name, by what was said of it and how it was declared.
-use Rattle.std.proofs.Common.{◌≡◌, ◌≢◌, ℕ, List, [], ◌∷◌, map, Bool, true, false, Option, Some, None, refl, sym, ap, ◌∙◌, subst}
+use Rattle.std.proofs.Common.{◌≡◌, ◌≢◌, ℕ, List, [], ◌∷◌, map, Bool, true, false, Option, Some, None, MatchOption, refl, sym, ap, ◌∙◌, subst}
 use Rattle.std.specs.List.{list_any}
 use Rattle.std.specs.Option.{option_map}
 use Rattle.std.specs.Str.{bytes_eq}
-use Rattle.std.proofs.lemmas.Option.{none-some, same_Some}
+use Rattle.std.proofs.lemmas.Option.{same_Some}
 use Rattle.ncl_reader.specs.declared.span.Span.{Span}
 use Rattle.ncl_reader.specs.Lexemes.{Lexeme}
 use Rattle.ncl_reader.specs.Grammar.{Range}
@@ -34,17 +34,22 @@ module _ (ranges : Ranges) (xs : List Lexeme) (is : IsRanges ranges xs) (said : 
       let (among, name) = some-said x said s found in
       is.declared x s.range (subst (λ y. IsDeclared xs y s.range) name (declared s among))
 
-  pub ports-found : (w : Bool) (span : Option Span) → way_of names said x ≡ Some (Some w) → range_at ranges x ≡ Some span → ports_at said x ≡ ports_by x w span
+  ports-found : (w : Bool) (span : Option Span) → way_of names said x ≡ Some (Some w) → range_at ranges x ≡ Some span → ports_at said x ≡ ports_by x w span
   ports-found w span way at =
       let (s, found, output) = directed_by_said w (said_at said x) (list_any (bytes_eq x) names) way in
       let name = (some-said x said s found).1 in
       let same : option_map span_of s.range ≡ span = same_Some (option_map span_of s.range) span (sym (ranged s found) ∙ at) in
       ap ports_of found ∙ ports_same s.name s.output s.range ∙ (λ i. ports_by (name i) (output i) (same i))
 
-  pub ports-ranged : (w : Bool) → way_of names said x ≡ Some (Some w) → range_at ranges x ≢ None
-  ports-ranged w way none =
+  unranged : (span : Option Span) → range_at ranges x ≡ Some span → ((other : Span) → range_at ranges x ≢ Some (Some other)) → range_at ranges x ≡ Some None
+  unranged None at none = at
+  unranged (Some span) at none = absurd (none span at)
+
+  pub ports-vector : (w : Bool) (span : Option Span) → way_of names said x ≡ Some (Some w) → MatchOption span ((other : Span) → range_at ranges x ≢ Some (Some other)) (λ found. range_at ranges x ≡ Some (Some found)) → ports_at said x ≡ ports_by x w span
+  ports-vector w (Some span) way at = ports-found w (Some span) way at
+  ports-vector w None way none =
       let (s, found, output) = directed_by_said w (said_at said x) (list_any (bytes_eq x) names) way in
-      none-some (option_map span_of s.range) (sym none ∙ ranged s found)
+      ports-found w None way (unranged (option_map span_of s.range) (ranged s found) none)
 
 -- a name without a direction has no ports
 undirected_by : (found : Option Said) (listed : Bool) → ((w : Bool) → way_by found listed ≢ Some (Some w)) → ports_of found ≡ []

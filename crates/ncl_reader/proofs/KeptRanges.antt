@@ -1,5 +1,5 @@
 -- What is kept of how names were declared, with a token more.
-use Rattle.std.proofs.Common.{◌≡◌, ◌<◌, ℕ, List, [], ◌∷◌, ◌++◌, Option, Some, None, Bool, true, false, cond, inl, inr, ◌⊎◌, refl, sym, ap, ◌∙◌, subst}
+use Rattle.std.proofs.Common.{◌≡◌, ◌≢◌, MatchOption, Decides, ◌<◌, ℕ, List, [], ◌∷◌, ◌++◌, Option, Some, None, Bool, true, false, cond, inl, inr, ◌⊎◌, refl, sym, ap, ◌∙◌, subst}
 use Rattle.std.specs.Option.{option_map}
 use Rattle.std.specs.Str.{bytes_eq}
 use Rattle.std.proofs.lemmas.Option.{same_Some, none-some}
@@ -10,7 +10,8 @@ use Rattle.ncl_reader.specs.Lexemes.{Lexeme, Name}
 use Rattle.ncl_reader.specs.Grammar.{Range}
 use Rattle.ncl_reader.specs.Forms.{IsDeclaring}
 use Rattle.ncl_reader.specs.Vectors.{span_of, IsDeclared}
-use Rattle.ncl_reader.specs.Ranges.{IsRanges, range_at}
+use Rattle.ncl_reader.specs.NameSet.{has_name}
+use Rattle.ncl_reader.specs.Ranges.{IsRanges, range_at, vector_at, kept_as}
 use Rattle.ncl_reader.proofs.Said.{declared-more, declared-old, declared-new, declaring-once}
 
 -- a declaration more
@@ -71,3 +72,37 @@ ranges-none ranges none = record {
     nothing : (front : List Lexeme) (y : List ℕ) (rest : List Lexeme) → [] ≡ front ++ Name y ∷ rest → ⊥
     nothing [] y rest e = absurd cc
     nothing (f ∷ front) y rest e = absurd cc
+
+-- a vector more, and a name with no range more, which is no vector
+pub kept-vector : (e : Bool) (span : Span) (kept : Option Span) (plain : Bool) → kept_as (cond e (Some span) kept) plain ≡ cond e (Some (Some span)) (kept_as kept plain)
+kept-vector true span kept plain = refl
+kept-vector false span kept plain = refl
+
+kept-plain : (e : Bool) (kept : Option Span) (plain : Bool) → (e ≡ true → kept ≡ None) → kept_as kept (cond e true plain) ≡ cond e (Some None) (kept_as kept plain)
+kept-plain true kept plain none = ap (λ o. kept_as o true) (none refl)
+kept-plain false kept plain none = refl
+
+pub plain-more : (old new : Ranges) (xs : List Lexeme) (x : List ℕ) → IsRanges old xs → ((other : Option Range) → IsDeclared xs x other → option_map span_of other ≡ None) → ((y : List ℕ) → vector_at new y ≡ vector_at old y) → ((y : List ℕ) → has_name new.plain y ≡ cond (bytes_eq x y) true (has_name old.plain y)) → (y : List ℕ) → range_at new y ≡ cond (bytes_eq x y) (Some None) (range_at old y)
+plain-more old new xs x is agree same more y =
+    (λ i. kept_as (same y i) (more y i))
+    ∙ kept-plain (bytes_eq x y) (vector_at old y) (has_name old.plain y) (λ e. subst (λ z. vector_at old z ≡ None) ((bytes_eq-Decides x y).0 e) (by (vector_at old x) refl))
+  where
+    by : (kept : Option Span) → vector_at old x ≡ kept → kept ≡ None
+    by None e = refl
+    by (Some span) e =
+        let (range, declared, was) = is.only x (Some span) (ap (λ o. kept_as o (has_name old.plain x)) e) in
+        absurd (none-some span (sym (agree range declared) ∙ was))
+
+-- a name with no range is no vector
+pub unkept : (plain : Bool) (span : Span) → kept_as None plain ≢ Some (Some span)
+unkept true span e = none-some span (same_Some None (Some span) e)
+unkept false span e = none-some (Some span) e
+
+pub vector-found : (ranges : Ranges) (x : List ℕ) (found : Option Span) → found ≡ vector_at ranges x → MatchOption found ((span : Span) → range_at ranges x ≢ Some (Some span)) (λ span. range_at ranges x ≡ Some (Some span))
+vector-found ranges x None e = λ span at. unkept (has_name ranges.plain x) span (ap (λ o. kept_as o (has_name ranges.plain x)) e ∙ at)
+vector-found ranges x (Some span) e = ap (λ o. kept_as o (has_name ranges.plain x)) (sym e)
+
+-- what is no vector was declared with no range
+pub unvectored : (ranges : Ranges) (xs : List Lexeme) (x : List ℕ) → IsRanges ranges xs → ((span : Span) → range_at ranges x ≢ Some (Some span)) → (other : Option Range) → IsDeclared xs x other → option_map span_of other ≡ None
+unvectored ranges xs x is none None declared = refl
+unvectored ranges xs x is none (Some range) declared = absurd (none (span_of range) (is.declared x (Some range) declared))

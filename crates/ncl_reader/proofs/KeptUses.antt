@@ -1,6 +1,5 @@
 -- What is kept of names that connections used, with a token more.
-use Rattle.std.proofs.Common.{◌≡◌, ℕ, List, [], ◌∷◌, ◌++◌, Bool, true, false, cond, Option, Some, inl, inr, ◌⊎◌, refl, sym, ap, ◌∙◌, subst, append_assoc}
-use Rattle.std.specs.Prelude.{is_some}
+use Rattle.std.proofs.Common.{◌≡◌, ℕ, List, [], ◌∷◌, ◌++◌, Bool, true, false, cond, inl, inr, ◌⊎◌, refl, sym, ap, ◌∙◌, subst, append_assoc}
 use Rattle.std.specs.Str.{bytes_eq}
 use Rattle.std.proofs.lemmas.Bool.{false≢true}
 use Rattle.std.proofs.lemmas.Slice.Eq.{bytes_eq-Decides}
@@ -52,6 +51,9 @@ uses-none uses none = record {
     nothing [] y rest e = absurd cc
     nothing (f ∷ front) y rest e = absurd cc
 
-pub some-cond : {X : Type 0} (b : Bool) (v : X) (kept : Option X) → is_some (cond b (Some v) kept) ≡ cond b true (is_some kept)
-some-cond true v kept = refl
-some-cond false v kept = refl
+-- the same names
+pub uses-same : (old new : Uses) (xs : List Lexeme) → ((y : List ℕ) → used_at new y ≡ used_at old y) → IsUses old xs → IsUses new xs
+uses-same old new xs same is = record {
+  used = λ y used. same y ∙ is.used y used;
+  only = λ y e. is.only y (sym (same y) ∙ e);
+}

@@ -15,6 +15,7 @@ pub mod Bits
 pub mod BitTexts
 pub mod Digits
 mod Among
+mod NameSets
 mod Looked
 pub mod Nets
 pub mod NetSteps

@@ -4,6 +4,7 @@ pub mod Grammar
 pub mod Forms
 pub mod Vectors
 pub mod BitNames
+pub mod NameSet
 pub mod Ranges
 pub mod Uses
 pub mod KeptBits

@@ -1,5 +1,5 @@
 -- What is kept of how names were declared.
-use Rattle.std.specs.Prelude.{◌≡◌, ◌<◌, ℕ, List, Option, Some}
+use Rattle.std.specs.Prelude.{◌≡◌, ◌<◌, ℕ, List, Bool, true, false, Option, Some, None}
 use Rattle.std.specs.BTreeMap.{get_by}
 use Rattle.std.specs.Cmp.Lexicographic.{slice_cmp}
 use Rattle.std.specs.Ordering.{nat_cmp}
@@ -9,10 +9,19 @@ use Rattle.ncl_reader.specs.declared.span.Span.{Span}
 use Rattle.ncl_reader.specs.Lexemes.{Lexeme}
 use Rattle.ncl_reader.specs.Grammar.{Range}
 use Rattle.ncl_reader.specs.Vectors.{span_of, IsDeclared}
+use Rattle.ncl_reader.specs.NameSet.{has_name}
 
 -- what is kept of a name: nothing, or its range or none
+abbrev pub vector_at : Ranges → List ℕ → Option Span
+vector_at ranges x = get_by (λ key. slice_cmp nat_cmp x key.now) ranges.vectors
+
+abbrev pub kept_as : Option Span → Bool → Option (Option Span)
+kept_as (Some span) plain = Some (Some span)
+kept_as None true = Some None
+kept_as None false = None
+
 abbrev pub range_at : Ranges → List ℕ → Option (Option Span)
-range_at ranges x = get_by (λ key. slice_cmp nat_cmp x key.now) ranges.known
+range_at ranges x = kept_as (vector_at ranges x) (has_name ranges.plain x)
 
 -- what is kept of each name is what it was declared with
 pub record IsRanges (ranges : Ranges) (xs : List Lexeme) : Type 0 where

@@ -103,15 +103,13 @@ impl<'a> Draft<'a> {
         Ok(Some(Place::AfterConnection))
     }
 
-    /// The numbers of the net that is joined, if it is a vector. A look-up of O(log n) comparisons.
+    /// The numbers of the net that is joined, if it is a vector. A look-up of O(log n) comparisons,
+    /// where n is the number of vectors.
     pub fn net_range(&self) -> Option<Span>
         ensures { (xs : List Token) → IsKept self.now.known xs
             → MatchOption result ((range : Range) → ¬ IsVector xs self.now.instance.net.now range)
             (λ span. (range : Range) × IsVector xs self.now.instance.net.now range × (span_of range ≡ span)) }
     {
-        match self.known.ranges.of(self.instance.net) {
-            Some(known) => known,
-            None => None,
-        }
+        self.known.ranges.vector(self.instance.net)
     }
 }

@@ -102,6 +102,9 @@ impl<'a> Known<'a> {
     {
         self.bits.stand(alloc, name)?;
         self.ranges.declare(name, span)?;
+        if span.is_some() {
+            self.uses.sort()?;
+        }
         Ok(())
     }
 

@@ -15,6 +15,7 @@ mod known;
 pub mod laws;
 mod lead;
 mod lexeme;
+mod name_set;
 mod names;
 mod net_fault;
 mod number;

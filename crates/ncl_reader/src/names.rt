@@ -16,10 +16,7 @@ pub fn is_bit(ranges: &Ranges, name: &[u8]) -> bool
     let Some((vector, number)) = bit_of(name) else {
         return false;
     };
-    let Some(known) = ranges.of(vector) else {
-        return false;
-    };
-    match known {
+    match ranges.vector(vector) {
         Some(span) => span.covers(number),
         None => false,
     }

@@ -1,5 +1,5 @@
 //! How names were declared.
-ghost use Rattle.std.specs.Prelude.{◌≡◌, ℕ, List, [], ◌∷◌, ◌++◌, ◌<◌, Option, Some, IfOk};
+ghost use Rattle.std.specs.Prelude.{◌≡◌, ◌≢◌, ℕ, List, [], ◌∷◌, ◌++◌, ◌<◌, Option, Some, IfOk, MatchOption};
 ghost use Rattle.std.specs.Bool.{Decides};
 ghost use Rattle.std.specs.Option.{option_map};
 ghost use Rattle.ncl_reader.specs.declared.span.Span.{Span};
@@ -9,15 +9,17 @@ ghost use Rattle.ncl_reader.specs.Forms.{IsDeclaring};
 ghost use Rattle.ncl_reader.specs.Vectors.{span_of, IsDeclared};
 ghost use Rattle.ncl_reader.specs.Ranges.{IsRanges, range_at};
 
+use crate::name_set::NameSet;
 use crate::span::Span;
 use ncl_base::Memory;
 use std::alloc::Global;
 use std::collections::BTreeMap;
 
-/// The names that are declared, each with its range or with none.
+/// The names that are declared: vectors, each with its range, and names with none.
 #[derive(Debug, Drop)]
 pub struct Ranges<'a> {
-    known: BTreeMap<&'a [u8], Option<Span>>,
+    vectors: BTreeMap<&'a [u8], Span>,
+    plain: NameSet<'a>,
 }
 
 impl<'a> Ranges<'a> {
@@ -26,29 +28,54 @@ impl<'a> Ranges<'a> {
         ensures { IsRanges result [] }
     {
         Ranges {
-            known: BTreeMap::new(alloc),
+            vectors: BTreeMap::new(alloc),
+            plain: NameSet::new(alloc),
         }
     }
 
-    /// How a name was declared, if it was. A look-up of O(log n) comparisons.
+    /// How a name was declared, if it was. Two look-ups of O(log n) comparisons, and one with each name that was
+    /// declared since the last vector.
     pub fn of(&self, name: &[u8]) -> Option<Option<Span>>
         ensures { result ≡ range_at self.now name.now }
     {
-        self.known.get(name).copied()
+        if let Some(span) = self.vectors.get(name) {
+            return Some(Some(*span));
+        }
+        if self.plain.has(name) {
+            return Some(None);
+        }
+        None
     }
 
-    /// Whether a name was never declared with another range. A look-up of O(log n) comparisons.
+    /// The range of a name that is declared with one. A look-up of O(log n) comparisons, where n is the number of
+    /// vectors.
+    pub fn vector(&self, name: &[u8]) -> Option<Span>
+        ensures { MatchOption result ((span : Span) → range_at self.now name.now ≢ Some (Some span))
+            (λ span. range_at self.now name.now ≡ Some (Some span)) }
+    {
+        self.vectors.get(name).copied()
+    }
+
+    /// Whether a name was never declared with another range. Costs as `vector` does where no range is given, and as `of`
+    /// does where one is.
     pub fn agrees(&self, name: &[u8], span: Option<Span>) -> bool
         ensures { (xs : List Lexeme) → IsRanges self.now xs
             → Decides result ((other : Option Range) → IsDeclared xs name.now other → option_map span_of other ≡ span) }
     {
-        match self.of(name) {
-            Some(known) => known == span,
-            None => true,
+        match span {
+            Some(_) => match self.of(name) {
+                Some(known) => known == span,
+                None => true,
+            },
+            None => match self.vector(name) {
+                Some(_) => false,
+                None => true,
+            },
         }
     }
 
-    /// Declares a name with a range or with none. A look-up of O(log n) comparisons.
+    /// Declares a name with a range or with none. A look-up of O(log n) comparisons, for a vector and for each name that
+    /// was declared since the last.
     pub fn declare(&mut self, name: &'a [u8], span: Option<Span>) -> Result<(), Memory>
         ensures { (xs : List Lexeme) (range : Option Range) → IsRanges self.old xs → IsDeclaring xs range
             → option_map span_of range ≡ span
@@ -56,9 +83,15 @@ impl<'a> Ranges<'a> {
             → ((s : Span) → span ≡ Some s → (s.first < 65536) × (s.last < 65536))
             → IfOk result (λ u. IsRanges self.new (xs ++ NameLexeme name.now ∷ [])) }
     {
-        match self.known.insert(name, span) {
-            Ok(_) => Ok(()),
-            Err(_) => Err(Memory),
+        let Some(span) = span else {
+            self.plain.add(name)?;
+            return Ok(());
+        };
+        match self.vectors.insert(name, span) {
+            Ok(_) => {}
+            Err(_) => return Err(Memory),
         }
+        self.plain.sort()?;
+        Ok(())
     }
 }

@@ -4,16 +4,16 @@ ghost use Rattle.std.specs.Bool.{Decides};
 ghost use Rattle.ncl_reader.specs.Lexemes.{Lexeme, Name as NameLexeme};
 ghost use Rattle.ncl_reader.specs.Forms.{IsAtNet};
 ghost use Rattle.ncl_reader.specs.Vectors.{IsUsed};
-ghost use Rattle.ncl_reader.specs.Uses.{IsUses, used_at};
+ghost use Rattle.ncl_reader.specs.Uses.{IsUses};
 
+use crate::name_set::NameSet;
 use ncl_base::Memory;
 use std::alloc::Global;
-use std::collections::BTreeMap;
 
 /// The names that connections used.
 #[derive(Debug, Drop)]
 pub struct Uses<'a> {
-    names: BTreeMap<&'a [u8], bool>,
+    names: NameSet<'a>,
 }
 
 impl<'a> Uses<'a> {
@@ -22,25 +22,32 @@ impl<'a> Uses<'a> {
         ensures { IsUses result [] }
     {
         Uses {
-            names: BTreeMap::new(alloc),
+            names: NameSet::new(alloc),
         }
     }
 
-    /// Whether a connection used the name. A look-up of O(log n) comparisons.
+    /// Whether a connection used the name. A look-up of O(log n) comparisons, and one with each use since the names were
+    /// sorted.
     pub fn has(&self, name: &[u8]) -> bool
         ensures { (xs : List Lexeme) → IsUses self.now xs → Decides result (IsUsed xs name.now) }
     {
-        self.names.contains_key(name)
+        self.names.has(name)
     }
 
-    /// A connection uses the name. A look-up of O(log n) comparisons.
+    /// A connection uses the name. Compares nothing.
     pub fn add(&mut self, name: &'a [u8]) -> Result<(), Memory>
         ensures { (xs : List Lexeme) → IsUses self.old xs → IsAtNet xs
             → IfOk result (λ u. IsUses self.new (xs ++ NameLexeme name.now ∷ [])) }
     {
-        match self.names.insert(name, true) {
-            Ok(_) => Ok(()),
-            Err(_) => Err(Memory),
-        }
+        self.names.add(name)?;
+        Ok(())
+    }
+
+    /// Sorts the names, where one was asked for. A look-up of O(log n) comparisons for each use since they were sorted.
+    pub fn sort(&mut self) -> Result<(), Memory>
+        ensures { (xs : List Lexeme) → IsUses self.old xs → IfOk result (λ u. IsUses self.new xs) }
+    {
+        self.names.sort()?;
+        Ok(())
     }
 }

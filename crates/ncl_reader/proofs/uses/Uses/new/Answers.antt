@@ -1,6 +1,5 @@
-use Rattle.std.proofs.Common.{rules}
 use Rattle.ncl_reader.proofs.KeptUses.{uses-none}
 use Rattle.ncl_reader.proofs.uses.Uses.new.Goals as goal
 
 pub returns : goal.returns
-returns c = uses-none _ (λ y. search rules)
+returns c = uses-none _ c.new.ensures

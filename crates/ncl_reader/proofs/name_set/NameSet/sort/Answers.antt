@@ -1,0 +1,19 @@
+use Rattle.std.proofs.Common.{◌||◌, true, map, sym, ap, ◌∙◌}
+use Rattle.std.specs.Prelude.{is_some}
+use Rattle.std.specs.BTreeMap.{get_by}
+use Rattle.std.specs.Cmp.Lexicographic.{slice_cmp}
+use Rattle.std.specs.Ordering.{nat_cmp}
+use Rattle.std.specs.List.{list_any}
+use Rattle.std.specs.Str.{bytes_eq}
+use Rattle.std.proofs.lemmas.Map.Text.{btree_map_updates_str}
+use Rattle.ncl_reader.proofs.NameSets.{waits-more, one-sorted}
+use Rattle.ncl_reader.proofs.name_set.NameSet.sort.Goals as goal
+
+pub loop-name-preserved : goal.loop-name-preserved
+loop-name-preserved c = λ x.
+    let old = c.loop-name.self.sorted in
+    let rest = c.pop.new.self.items in
+    ap (λ kept. is_some kept || list_any (bytes_eq x) (map (λ y. y.now) rest)) (btree_map_updates_str c.in-Some.name.now old c.insert.new.self _ c.in-Ok.ensures.updates x)
+    ∙ one-sorted true (get_by (λ key. slice_cmp nat_cmp x key.now) old) _ (bytes_eq c.in-Some.name.now x)
+    ∙ sym (ap (λ b. is_some (get_by (λ key. slice_cmp nat_cmp x key.now) old) || b) (ap (λ names. list_any (bytes_eq x) (map (λ y. y.now) names)) c.in-Some.ensures.items ∙ waits-more x rest c.in-Some.name))
+    ∙ c.loop-name.invariant x

@@ -1,0 +1,6 @@
+use Rattle.std.proofs.Common.{rules}
+use Rattle.ncl_reader.proofs.KeptRanges.{vector-found}
+use Rattle.ncl_reader.proofs.ranges.Ranges.vector.Goals as goal
+
+pub returns : goal.returns
+returns c = vector-found c.args.self.now c.args.name.now _ (search rules)

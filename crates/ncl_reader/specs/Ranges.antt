@@ -11,15 +11,17 @@ use Rattle.ncl_reader.specs.Grammar.{Range}
 use Rattle.ncl_reader.specs.Vectors.{span_of, IsDeclared}
 use Rattle.ncl_reader.specs.NameSet.{has_name}
 
--- what is kept of a name: nothing, or its range or none
+-- the range of a vector
 abbrev pub vector_at : Ranges → List ℕ → Option Span
 vector_at ranges x = get_by (λ key. slice_cmp nat_cmp x key.now) ranges.vectors
 
+-- a name is a vector with a range, or has none, or isn't declared
 abbrev pub kept_as : Option Span → Bool → Option (Option Span)
 kept_as (Some span) plain = Some (Some span)
 kept_as None true = Some None
 kept_as None false = None
 
+-- what is kept of a name: nothing, or its range or none
 abbrev pub range_at : Ranges → List ℕ → Option (Option Span)
 range_at ranges x = kept_as (vector_at ranges x) (has_name ranges.plain x)
 

@@ -38,8 +38,8 @@ impl<'a> Known<'a> {
         }
     }
 
-    /// Whether a name that is declared was declared with another range, or used before it gets one. Two look-ups of
-    /// O(log n) comparisons.
+    /// Whether a name that is declared was declared with another range, or used before it gets one. Costs as
+    /// `agrees` of `Ranges`, and where a range is given as `has` of `Uses`.
     pub fn redeclares(&self, name: &[u8], span: Option<Span>) -> bool
         ensures { (xs : List Lexeme) (range : Option Range) → IsKept self.now xs → IsDeclaring xs range
             → option_map span_of range ≡ span → Decides result (Redeclares xs name.now) }
@@ -53,7 +53,8 @@ impl<'a> Known<'a> {
         }
     }
 
-    /// Whether a name that isn't declared here is that of a bit of a vector. A look-up of O(log n) comparisons.
+    /// Whether a name that isn't declared here is that of a bit of a vector. A look-up of O(log n) comparisons,
+    /// where n is the number of vectors.
     pub fn clashes(&self, name: &[u8]) -> bool
         ensures { (xs : List Lexeme) → IsKept self.now xs → ((range : Option Range) → IsDeclaring xs range → ⊥)
             → Decides result (Clashes xs name.now) }
@@ -89,7 +90,8 @@ impl<'a> Known<'a> {
         Ok(())
     }
 
-    /// Keeps a name that is declared. Three look-ups of O(log n) comparisons.
+    /// Keeps a name that is declared. Two look-ups of O(log n) comparisons; for a vector two more, and one for each name
+    /// that was declared or used since the last.
     pub fn declare(
         &mut self,
         alloc: Global,
@@ -108,7 +110,7 @@ impl<'a> Known<'a> {
         Ok(())
     }
 
-    /// Keeps the name of a net on a pin. Three look-ups of O(log n) comparisons.
+    /// Keeps the name of a net on a pin. Two look-ups of O(log n) comparisons.
     pub fn join(&mut self, alloc: Global, name: &'a [u8]) -> Result<(), Memory>
         ensures { (xs : List Lexeme) → IsKept self.old xs → IsAtNet xs → (Clashes xs name.now → ⊥)
             → IfOk result (λ u. IsKept self.new (xs ++ NameLexeme name.now ∷ [])) }

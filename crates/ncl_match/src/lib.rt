@@ -1,4 +1,20 @@
 //! Whether a pipeline and models have the same function.
+//!
+//! Models and the pipeline of a netlist, by four threads at most:
+//!
+//! ```
+//! use ncl_match::{Bits, Compared, compare};
+//! use ncl_reader::read_netlist;
+//! use ncl_shape::shape;
+//!
+//! let models = read_blif(alloc, &blif)?;
+//! let pipeline = shape(alloc, &read_netlist(alloc, &netlist)?)?;
+//! match compare(rt, alloc, &Bits, &pipeline, &models, 100_000, 4)? {
+//!     Compared::Same => println!(rt; "the same function")?,
+//!     Compared::Differ { bit, .. } => println!(rt; "output {bit} differs")?,
+//!     Compared::Widths => println!(rt; "other numbers of bits")?,
+//! }
+//! ```
 #![tactic(auto)]
 
 mod answer;

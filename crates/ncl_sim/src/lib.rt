@@ -1,4 +1,18 @@
 //! Timed runs: what a pipeline does where each cell, the source and the sink have delays.
+//!
+//! A run of a pipeline at the delays of a file, and the lines that tell it:
+//!
+//! ```
+//! use ncl_delay::{read_delays, read_words};
+//! use ncl_report::trace_text;
+//! use ncl_sim::simulate;
+//!
+//! let delays = read_delays(alloc, b"default 1 1\n", pipeline.netlist())?;
+//! let words = read_words(alloc, b"110\n000\n", pipeline.inputs().len())?;
+//! let trace = simulate(alloc, &pipeline, &delays, &words)?;
+//! let due = pipeline.data_banks() + words.len();
+//! rt.write_all(&trace_text(alloc, &pipeline, &trace, due)?)?;
+//! ```
 #![tactic(auto)]
 
 mod agenda;

@@ -85,8 +85,20 @@ const WHY: [(&str, &str); 6] = [
 ];
 
 /// The same of the other commands.
-const OTHERS: [(&str, &str); 18] = [
-    ("compile f", "Some(Compile { file: \"f\" })"),
+const OTHERS: [(&str, &str); 21] = [
+    ("compile f", "Some(Compile { file: \"f\", merge: false })"),
+    (
+        "compile f --merge",
+        "Some(Compile { file: \"f\", merge: true })",
+    ),
+    (
+        "compile --merge f",
+        "Some(Compile { file: \"f\", merge: true })",
+    ),
+    (
+        "compile merge",
+        "Some(Compile { file: \"merge\", merge: false })",
+    ),
     (
         "sim f --delays d --words w",
         "Some(Sim { netlist: \"f\", delays: \"d\", words: \"w\", vcd: false })",
@@ -260,7 +272,7 @@ const NO_OTHERS: [&str; 29] = [
 ];
 
 /// Words that give a flag wrongly, and no command.
-const NO_FLAGS: [&str; 23] = [
+const NO_FLAGS: [&str; 32] = [
     "check f --why --why",
     "check --why f --limit 5 --why",
     "check f --why=1",
@@ -284,6 +296,15 @@ const NO_FLAGS: [&str; 23] = [
     "sim f --delays d --words w -vcd",
     "check f --vcd",
     "compile f --vcd",
+    "check f --merge",
+    "compile --merge",
+    "compile f --merge g",
+    "compile f --merge --merge",
+    "compile f --merge=1",
+    "compile f --merge=",
+    "compile f --merg",
+    "compile f -merge",
+    "sim f --delays d --words w --merge",
 ];
 
 /// Words that look like a comparison, and give no command.

@@ -1,0 +1,52 @@
+-- What follows of the bits of sources.
+use Rattle.std.proofs.Common.{◌≡◌, ℕ, ◌+◌, ◌<◌, Bool, true, false, not, cond, List, [], ◌∷◌, ◌++◌, length, map, take, get_or, Some, refl, sym, ap, subst, ◌∙◌, arith, zero-add}
+use Rattle.std.specs.Bool.{beq}
+use Rattle.std.specs.Prelude.{All, slice_get}
+use Rattle.std.proofs.lemmas.List.{map_push, map_more}
+use Rattle.std.proofs.lemmas.List.Elements.{All-nil, All-cons, All-push}
+use Rattle.ncl_blif.specs.Meaning.{cover_value}
+use Rattle.ncl_network.specs.declared.network.From3.{From3}
+use Rattle.ncl_network.specs.declared.network.From3.TheVariants.{Node as FromNode}
+use Rattle.ncl_network.specs.declared.network.Signal.{Signal}
+use Rattle.ncl_network.specs.declared.network.Node.{Node}
+use Rattle.ncl_network.specs.declared.network.Network.{Network}
+use Rattle.ncl_network.specs.Network.{source_value, node_values, ReadBefore}
+use Rattle.ncl_cells.specs.declared.cone.Known.{Known}
+use Rattle.ncl_cells.specs.declared.cone.Leaves.{Leaves}
+use Rattle.ncl_cells.specs.declared.plan.Plan.{Plan}
+use Rattle.ncl_cells.specs.Plans.{plan_value}
+use Rattle.ncl_cells.specs.Cones.{signal_in, Respects, IsKnown, leaf_facts, leaf_bits, Computes, ComputesAt}
+use Rattle.ncl_cells.proofs.Smalls.{bit_of_node}
+
+-- the bits of a network at a word respect its nodes
+pub respected : (network : Network) (word : List Bool) → ReadBefore network.inputs 0 network.nodes → Respects network.nodes (source_value word (node_values word [] network.nodes))
+respected network word before k node at = bit_of_node network.inputs word network.nodes before k node at
+
+-- one more source is known
+pub IsKnown-push : (value : From3 → Bool) (known new : List Known) (fact : Known) → IsKnown value known → value fact.from ≡ fact.bit → new ≡ known ++ fact ∷ [] → IsKnown value new
+IsKnown-push value known new fact is here pushed =
+    subst (IsKnown value) (sym pushed) (All-push (λ (one : Known). value one.from ≡ one.bit) known fact is here)
+
+pub leaves_known : (value : From3 → Bool) (leaves : Leaves) (a b c d : Bool) → value leaves.first ≡ a → value leaves.second ≡ b → value leaves.third ≡ c → value leaves.fourth ≡ d → IsKnown value (leaf_facts leaves a b c d)
+leaves_known value leaves a b c d first second third fourth =
+    let F = λ (fact : Known). value fact.from ≡ fact.bit in
+    let k1 : Known = record { from = leaves.first; bit = a } in
+    let k2 : Known = record { from = leaves.second; bit = b } in
+    let k3 : Known = record { from = leaves.third; bit = c } in
+    let k4 : Known = record { from = leaves.fourth; bit = d } in
+    All-cons F k1 (k2 ∷ k3 ∷ k4 ∷ []) first (All-cons F k2 (k3 ∷ k4 ∷ []) second (All-cons F k3 (k4 ∷ []) third (All-cons F k4 [] fourth (All-nil F))))
+
+-- what holds of both bits of each leaf holds
+pub Computes-all : (nodes : List Node) (k : ℕ) (leaves : Leaves) (plan : Plan) → ((a b c d : Bool) → ComputesAt nodes k leaves plan a b c d) → Computes nodes k leaves plan
+Computes-all nodes k leaves plan at value respects =
+    at (value leaves.first) (value leaves.second) (value leaves.third) (value leaves.fourth) value respects refl refl refl refl
+
+pub both_bits : (P : Bool → Type 0) → P false → P true → (b : Bool) → P b
+both_bits P low high true = high
+both_bits P low high false = low
+
+pub same_bits : (a b : Bool) → beq a b ≡ true → a ≡ b
+same_bits true true e = refl
+same_bits true false e = absurd cc
+same_bits false true e = absurd cc
+same_bits false false e = refl

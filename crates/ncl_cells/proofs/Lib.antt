@@ -1,0 +1,8 @@
+pub mod Covers
+pub mod Smalls
+pub mod Forms
+pub mod Pools
+pub mod AddedOps
+pub mod Plans
+pub mod Cones
+pub mod Remade

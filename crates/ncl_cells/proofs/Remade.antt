@@ -1,0 +1,182 @@
+-- The nodes of a network as signals of small nodes, one node further.
+use Rattle.std.proofs.Common.{◌≡◌, ℕ, zero, suc, ◌+◌, ◌<◌, ◌≤◌, ◌^◌, Bool, true, false, not, cond, List, [], ◌∷◌, ◌++◌, length, map, get_or, Some, refl, sym, ap, subst, ◌∙◌, arith, ⊎_elim, ◌⊎◌, inl, inr}
+use Rattle.std.specs.Prelude.{All, slice_get, Contains}
+use Rattle.std.proofs.lemmas.List.{map_push, length_push, length-map}
+use Rattle.std.proofs.lemmas.List.Elements.{All-nil, All-head, All-tail, All-push}
+use Rattle.std.proofs.lemmas.List.Sums.{sum_by-cons}
+use Rattle.std.proofs.lemmas.Option.{same_Some, slice_get_within, slice_get-get_or, get_or_from_slice_get}
+use Rattle.ncl_network.specs.declared.network.From3.{From3}
+use Rattle.ncl_network.specs.declared.network.From3.TheVariants.{Input, Node as FromNode, Const}
+use Rattle.ncl_network.specs.declared.network.Signal.{Signal}
+use Rattle.ncl_network.specs.declared.network.Node.{Node}
+use Rattle.ncl_network.specs.declared.network.Network.{Network}
+use Rattle.ncl_network.specs.Network.{source_value, signal_value, node_values, answer_of, IsSource, ReadBefore, ReachesOutput}
+use Rattle.ncl_network.specs.Prune.{IsInOrder, AreLeft, moved_signal, moved_node}
+use Rattle.ncl_network.proofs.Pruned.{All-left, moved_constant}
+use Rattle.ncl_decomp.specs.Split.{IsNarrow, IsSplit, cost_of_inputs, cost_of_nodes}
+use Rattle.ncl_cells.specs.declared.small.Small.{Small}
+use Rattle.ncl_cells.specs.declared.cone.Leaves.{Leaves}
+use Rattle.ncl_cells.specs.declared.plan.Plan.{Plan}
+use Rattle.ncl_cells.specs.Smalls.{small_node, bits_of}
+use Rattle.ncl_cells.specs.Pools.{IsPool, Adds}
+use Rattle.ncl_cells.specs.Plans.{plan_value}
+use Rattle.ncl_cells.specs.Cones.{Computes, leaf_bits}
+use Rattle.ncl_cells.specs.Forms.{turned_by}
+use Rattle.ncl_cells.specs.Remade.{plain, leaf_signals, HaveBits, IsImageOf, AreImagesOf, bit_at, AreRemade, IsRebuiltOf}
+use Rattle.ncl_cells.proofs.Forms.{turned_by-value}
+use Rattle.ncl_cells.proofs.Pools.{IsPool-none, Adds-exists, Adds-keeps}
+use Rattle.ncl_cells.proofs.Cones.{respected}
+
+-- ---- the images of signals
+
+pub image_of_node : (inputs : ℕ) (images : List Signal) (k : ℕ) (signal : Signal) → slice_get images k ≡ Some signal → IsImageOf inputs images (plain (FromNode k)) signal
+image_of_node inputs images k signal at = record {
+  value = λ word nodes old have. have k signal at;
+  exists = λ count exist.
+      subst (λ (s : Signal). IsSource inputs count s.from) (get_or_from_slice_get images k signal signal at) (exist k signal (slice_get_within images k signal at));
+}
+
+pub image_of_input : (inputs : ℕ) (images : List Signal) (i : ℕ) → i < inputs → IsImageOf inputs images (plain (Input i)) (plain (Input i))
+image_of_input inputs images i within = record { value = λ word nodes old have. refl; exists = λ count exist. within }
+
+pub image_of_constant : (inputs : ℕ) (images : List Signal) (bit : Bool) → IsImageOf inputs images (plain (Const bit)) (plain (Const bit))
+image_of_constant inputs images bit = record { value = λ word nodes old have. refl; exists = λ count exist. tt }
+
+pub image_turned : (inputs : ℕ) (images : List Signal) (signal source : Signal) → IsImageOf inputs images (plain signal.from) source → IsImageOf inputs images signal (turned_by signal.inverted source)
+image_turned inputs images signal source is = record {
+  value = λ word nodes old have. turned_by-value word nodes signal.inverted source ∙ ap (λ b. cond signal.inverted (not b) b) (is.value word nodes old have);
+  exists = is.exists;
+}
+
+pub AreImagesOf-none : (inputs : ℕ) (images : List Signal) → AreImagesOf inputs images [] []
+AreImagesOf-none inputs images = record {
+  values = λ word nodes old have. refl;
+  exist = λ count exist. All-nil (λ (image : Signal). IsSource inputs count image.from);
+}
+
+pub AreImagesOf-push : (inputs : ℕ) (images signals found : List Signal) (signal image : Signal) (longer : List Signal) → AreImagesOf inputs images signals found → IsImageOf inputs images signal image → longer ≡ found ++ image ∷ [] → AreImagesOf inputs images (signals ++ signal ∷ []) longer
+AreImagesOf-push inputs images signals found signal image longer are is pushed =
+    subst (AreImagesOf inputs images (signals ++ signal ∷ [])) (sym pushed) (record {
+      values = λ word nodes old have.
+          map_push (signal_value word nodes) found image
+          ∙ (λ i. are.values word nodes old have i ++ is.value word nodes old have i ∷ [])
+          ∙ sym (map_push (signal_value word old) signals signal);
+      exist = λ count exist. All-push (λ (image : Signal). IsSource inputs count image.from) found image (are.exist count exist) (is.exists count exist);
+    })
+
+-- ---- one node further
+
+module _ (network : Network) (ordered : IsInOrder network) where
+  pub AreRemade-none : AreRemade network [] []
+  AreRemade-none = record {
+    fine = IsPool-none network.inputs;
+    exist = All-nil (λ (image : Signal). IsSource network.inputs 0 image.from);
+    values = λ word k signal at. absurd (omega (arith, slice_get_within [] k signal at));
+  }
+
+  module _ (smalls : List Small) (images : List Signal) (remade : AreRemade network smalls images) where
+    -- a plan that computes a node gives its bit over the images of the leaves
+    pub Adds-node : (k : ℕ) (leaves : Leaves) (plan : Plan) (found : List Signal) (next : List Small) (signal : Signal) → Computes network.nodes k leaves plan → AreImagesOf network.inputs images (leaf_signals leaves) found → ((inputs : ℕ) → IsPool inputs smalls → All (λ (leaf : Signal). IsSource inputs (length smalls) leaf.from) found → Adds inputs smalls next (λ word nodes. plan_value plan (map (signal_value word nodes) found)) signal) → Adds network.inputs smalls next (λ word _. bit_at network word k) signal
+    Adds-node k leaves plan found next signal computes are applied =
+        let adds : Adds network.inputs smalls next (λ word nodes. plan_value plan (map (signal_value word nodes) found)) signal = applied network.inputs remade.fine (are.exist (length smalls) remade.exist) in
+        record {
+          made = adds.made;
+          added = adds.added;
+          fine = adds.fine;
+          exists = adds.exists;
+          gives = λ word.
+              let old : List Bool = node_values word [] network.nodes in
+              adds.gives word
+              ∙ ap (plan_value plan) (are.values word (bits_of word smalls) old (remade.values word))
+              ∙ sym (computes (source_value word old) (respected network word ordered.reads_before));
+        }
+
+    pub AreRemade-more : (next : List Small) (signal : Signal) (longer : List Signal) → Adds network.inputs smalls next (λ word _. bit_at network word (length images)) signal → longer ≡ images ++ signal ∷ [] → AreRemade network next longer
+    AreRemade-more next signal longer adds pushed =
+        let value = λ (word nodes : List Bool). bit_at network word (length images) in
+        subst (AreRemade network next) (sym pushed) (record {
+          fine = adds.fine;
+          exist = All-push (λ (image : Signal). IsSource network.inputs (length next) image.from) images signal (λ i d within. Adds-exists network.inputs smalls next value signal adds (get_or images i d) (remade.exist i d within)) adds.exists;
+          values = λ word k image at.
+              ⊎_elim
+              (λ (before : slice_get images k ≡ Some image).
+              Adds-keeps network.inputs smalls next value signal adds word image (in_images k image before) ∙ remade.values word k image before)
+              (λ (last : (k ≡ length images) × (image ≡ signal)).
+              ap (signal_value word (bits_of word next)) last.1 ∙ adds.gives word ∙ ap (bit_at network word) (sym last.0))
+              (pushed_at images k image signal at);
+        })
+      where
+        in_images : (k : ℕ) (image : Signal) → slice_get images k ≡ Some image → IsSource network.inputs (length smalls) image.from
+        in_images k image at =
+            subst (λ (s : Signal). IsSource network.inputs (length smalls) s.from) (get_or_from_slice_get images k image image at) (remade.exist k image (slice_get_within images k image at))
+
+        pushed_at : (images : List Signal) (k : ℕ) (image signal : Signal) → slice_get (images ++ signal ∷ []) k ≡ Some image → (slice_get images k ≡ Some image) ⊎ ((k ≡ length images) × (image ≡ signal))
+        pushed_at [] zero image signal at = inr (refl, sym (same_Some signal image at))
+        pushed_at [] (suc k) image signal at = absurd cc
+        pushed_at (first ∷ images) zero image signal at = inl at
+        pushed_at (first ∷ images) (suc k) image signal at =
+            ⊎_elim (λ (before : slice_get images k ≡ Some image). inl before) (λ (last : (k ≡ length images) × (image ≡ signal)). inr (omega (arith, last.0), last.1)) (pushed_at images k image signal at)
+
+    -- ---- the whole
+
+    pub rebuilt : (nodes : List Node) (outputs : List Signal) → length smalls < 2 ^ 32 → nodes ≡ map small_node smalls → AreImagesOf network.inputs images network.outputs outputs → IsRebuiltOf network (record { inputs = network.inputs; nodes = nodes; outputs = outputs })
+    rebuilt nodes outputs few same are =
+        let count : length nodes ≡ length smalls = omega (arith, ap length same, length-map smalls small_node) in
+        record {
+          narrow = subst (All IsNarrow) (sym same) remade.fine.narrow;
+          ordered = record {
+            reads_before = subst (ReadBefore network.inputs 0) (sym same) remade.fine.reads_before;
+            outputs_exist = subst (λ n. All (λ (s : Signal). IsSource network.inputs n s.from) outputs) (sym count) (are.exist (length smalls) remade.exist);
+            few = omega (arith, count);
+          };
+          inputs = refl;
+          outputs = same_length outputs network.outputs (λ word. are.values word (bits_of word smalls) (node_values word [] network.nodes) (remade.values word));
+          same = λ word.
+              ap (λ all. map (signal_value word (node_values word [] all)) outputs) same
+              ∙ are.values word (bits_of word smalls) (node_values word [] network.nodes) (remade.values word);
+        }
+      where
+        same_length : (xs ys : List Signal) → ((word : List Bool) → map (signal_value word (bits_of word smalls)) xs ≡ map (signal_value word (node_values word [] network.nodes)) ys) → length xs ≡ length ys
+        same_length xs ys equal =
+            omega (arith, length-map xs (signal_value [] (bits_of [] smalls)), length-map ys (signal_value [] (node_values [] [] network.nodes)), ap length (equal []))
+
+-- ---- without what reaches no output
+
+IsNarrow-renumbered : (places : ℕ → ℕ) (node : Node) → IsNarrow node → IsNarrow (moved_node places node)
+IsNarrow-renumbered places node is =
+    let width = length-map node.ins (moved_signal places) in
+    record {
+      two_inputs = omega (arith, is.two_inputs);
+      four_inputs = omega (arith, is.four_inputs);
+      no_constant = moved_constant places node.ins is.no_constant;
+      some_row = is.some_row;
+      row_widths = subst (λ n. All (λ row. length row ≡ n) node.rows) (sym width) is.row_widths;
+    }
+
+pub narrow_left : (nodes left : List Node) → AreLeft nodes left → All IsNarrow nodes → All IsNarrow left
+narrow_left = All-left IsNarrow IsNarrow-renumbered
+
+-- ---- a split network is in order
+
+some_cost : (n : ℕ) → 2 ≤ n → n ≤ 4 → 1 ≤ cost_of_inputs n
+some_cost zero two four = absurd (omega arith)
+some_cost (suc zero) two four = absurd (omega arith)
+some_cost (suc (suc zero)) two four = omega arith
+some_cost (suc (suc (suc zero))) two four = omega arith
+some_cost (suc (suc (suc (suc zero)))) two four = omega arith
+some_cost (suc (suc (suc (suc (suc n))))) two four = absurd (omega arith)
+
+pub IsInOrder-narrow : (network : Network) → IsSplit network → IsInOrder network
+IsInOrder-narrow network is = record {
+  reads_before = is.reads_before;
+  outputs_exist = is.outputs_exist;
+  few = let count = few_nodes network.nodes is.nodes in let cheap = is.cheap in omega (arith, count, cheap);
+}
+  where
+    few_nodes : (nodes : List Node) → All IsNarrow nodes → length nodes ≤ cost_of_nodes nodes
+    few_nodes [] all = omega arith
+    few_nodes (node ∷ nodes) all =
+        let here : IsNarrow node = All-head IsNarrow node nodes all in
+        let costs = some_cost (length node.ins) here.two_inputs here.four_inputs in
+        let rest = few_nodes nodes (All-tail IsNarrow node nodes all) in
+        omega (arith, costs, rest, sum_by-cons (λ (node : Node). cost_of_inputs (length node.ins)) node nodes)

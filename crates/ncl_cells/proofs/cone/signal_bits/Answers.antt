@@ -1,0 +1,11 @@
+use Rattle.std.proofs.Common.{◌≡◌, false, sym, ◌∙◌, ◌++◌, [], ◌∷◌}
+use Rattle.std.proofs.lemmas.List.{map_more}
+use Rattle.ncl_network.specs.declared.network.From3.TheVariants.{Input}
+use Rattle.ncl_cells.specs.Cones.{signal_in}
+use Rattle.ncl_cells.proofs.cone.signal_bits.Goals as goal
+
+pub loop-signal-preserved : goal.loop-signal-preserved
+loop-signal-preserved c = λ value known.
+    map_more (signal_in value) c.args.signals.now c.loop-signal.signal-index (record { from = Input 0; inverted = false }) c.loop-signal-test.true
+    ∙ (λ j. c.loop-signal.invariant value known j ++ c.in_ok-bit.ensures value known j ∷ [])
+    ∙ sym c.in_ok-push.ensures.items

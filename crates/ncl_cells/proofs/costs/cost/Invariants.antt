@@ -1,0 +1,8 @@
+use Rattle.std.proofs.Common.{◌≡◌, ◌*◌, ◌≤◌, length, take}
+use Rattle.std.specs.Prelude.{sum_by}
+use Rattle.ncl_decomp.specs.Split.{cost_of_inputs}
+use Rattle.ncl_cells.proofs.costs.cost.Given as goal
+
+abbrev pub invariant-loop-node : goal.invariant-loop-node
+invariant-loop-node l =
+    (l.sum ≡ sum_by (λ node. cost_of_inputs (length node.ins)) (take l.node-index l.node-items)) × (l.sum ≤ 22 * l.node-index)

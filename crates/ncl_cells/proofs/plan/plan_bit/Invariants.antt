@@ -1,0 +1,6 @@
+use Rattle.std.proofs.Common.{◌≡◌, take}
+use Rattle.ncl_cells.specs.Plans.{step_values}
+use Rattle.ncl_cells.proofs.plan.plan_bit.Given as goal
+
+abbrev pub invariant-loop-step : goal.invariant-loop-step
+invariant-loop-step l = l.bits.items ≡ step_values l.fn.leaves.items (take l.step-index l.plan.steps.items)

@@ -1,0 +1,7 @@
+use Rattle.std.proofs.Common.{◌≡◌, length}
+use Rattle.ncl_cells.specs.Remade.{AreRemade}
+use Rattle.ncl_cells.proofs.remaking.remake_nodes.Given as goal
+
+abbrev pub invariant-loop-place : goal.invariant-loop-place
+invariant-loop-place l =
+    (length l.images.items ≡ l.place) × AreRemade l.network l.pool.smalls.items l.images.items

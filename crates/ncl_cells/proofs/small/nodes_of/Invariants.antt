@@ -1,0 +1,6 @@
+use Rattle.std.proofs.Common.{◌≡◌, map, take}
+use Rattle.ncl_cells.specs.Smalls.{small_node}
+use Rattle.ncl_cells.proofs.small.nodes_of.Given as goal
+
+abbrev pub invariant-loop-small : goal.invariant-loop-small
+invariant-loop-small l = l.nodes.items ≡ map small_node (take l.small-index l.smalls)

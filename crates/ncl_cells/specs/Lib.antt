@@ -1,0 +1,7 @@
+pub mod Smalls
+pub mod Forms
+pub mod Pools
+pub mod Adding
+pub mod Plans
+pub mod Cones
+pub mod Remade

@@ -1,0 +1,167 @@
+//! Plans by rules.
+ghost use Rattle.std.specs.Prelude.{◌≡◌, ◌<◌, ◌≤◌, IfOk};
+
+use crate::plan::{Arg, Step};
+use crate::rules::{Planner, Rule, others};
+use crate::small::Op;
+use crate::table::{cofactor, depends, input};
+use ncl_base::Memory;
+
+/// An argument that is always 0.
+const NOTHING: Arg = Arg {
+    place: usize::MAX,
+    inverted: false,
+};
+
+/// An argument, turned where the bit says so.
+fn turned(turn: bool, arg: Arg) -> Arg {
+    Arg {
+        place: arg.place,
+        inverted: arg.inverted != turn,
+    }
+}
+
+/// Adds a step, and gives what stands for it.
+fn step(steps: &mut Vec<Step>, op: Op, first: Arg, second: Arg, third: Arg) -> Result<Arg, Memory> {
+    let place = steps.len().saturating_add(4);
+    steps.push(Step {
+        op,
+        first,
+        second,
+        third,
+    })?;
+    Ok(Arg {
+        place,
+        inverted: false,
+    })
+}
+
+/// The first input from this one on that a function depends on.
+fn next_input(table: u16, from: usize) -> Option<usize> {
+    for k in from..4usize {
+        if depends(table, k) {
+            return Some(k);
+        }
+    }
+    None
+}
+
+/// Adds the step of a function of two inputs.
+fn draft_pair(
+    steps: &mut Vec<Step>,
+    table: u16,
+    k: usize,
+    j: usize,
+    args: [Arg; 4],
+) -> Result<Arg, Memory> {
+    let x = args[k % 4];
+    let y = args[j % 4];
+    let low = cofactor(table, k, false);
+    let high = cofactor(table, k, true);
+    let one = input(j);
+    if low == !high {
+        let found = step(steps, Op::Differ, x, y, x)?;
+        return Ok(turned(low != one, found));
+    }
+    let constant_low = low == 0 || low == 0xFFFF;
+    let (flat, rest) = if constant_low {
+        (low, high)
+    } else {
+        (high, low)
+    };
+    let turn = flat != 0;
+    let second = turned((rest != one) != turn, y);
+    let found = step(steps, Op::And, turned(!constant_low, x), second, x)?;
+    Ok(turned(turn, found))
+}
+
+/// Adds the steps of a function of at most two inputs.
+fn draft_short(steps: &mut Vec<Step>, table: u16, args: [Arg; 4]) -> Result<Arg, Memory> {
+    let Some(k) = next_input(table, 0) else {
+        return Ok(turned(table != 0, NOTHING));
+    };
+    match next_input(table, k.saturating_add(1)) {
+        Some(j) => draft_pair(steps, table, k, j, args),
+        None => Ok(turned(table != input(k), args[k % 4])),
+    }
+}
+
+/// The arguments with another in place of one.
+fn with(args: [Arg; 4], k: usize, arg: Arg) -> [Arg; 4] {
+    let mut changed = args;
+    changed[k % 4] = arg;
+    changed
+}
+
+/// Adds the step of a majority.
+fn draft_majority(
+    steps: &mut Vec<Step>,
+    idle: usize,
+    turns: [bool; 3],
+    args: [Arg; 4],
+) -> Result<Arg, Memory> {
+    let [x, y, z] = others(idle);
+    step(
+        steps,
+        Op::Majority,
+        turned(turns[0], args[x % 4]),
+        turned(turns[1], args[y % 4]),
+        turned(turns[2], args[z % 4]),
+    )
+}
+
+/// Adds the steps of a function, as rules say, which is taken to need no more than the fuel.
+pub(crate) fn draft(
+    planner: &mut Planner,
+    fuel: u32,
+    steps: &mut Vec<Step>,
+    table: u16,
+    args: [Arg; 4],
+) -> Result<Arg, Memory> {
+    let rule = planner.rule(12, table).rule;
+    if fuel == 0 {
+        return Ok(NOTHING);
+    }
+    let less = fuel - 1;
+    match rule {
+        Rule::Short => draft_short(steps, table, args),
+        Rule::Top(k, at, constant) => {
+            let rest = draft(planner, less, steps, cofactor(table, k, !at), args)?;
+            let x = turned(at, args[k % 4]);
+            let found = step(steps, Op::And, x, turned(constant, rest), x)?;
+            Ok(turned(constant, found))
+        }
+        Rule::Parity(k) => {
+            let rest = draft(planner, less, steps, cofactor(table, k, false), args)?;
+            step(steps, Op::Differ, args[k % 4], rest, rest)
+        }
+        Rule::Join(first, _, op, rest) => {
+            let joint = draft_short(steps, op, args)?;
+            draft(planner, less, steps, rest, with(args, first, joint))
+        }
+        Rule::Majority(idle, first, second, third) => {
+            draft_majority(steps, idle, [first, second, third], args)
+        }
+        Rule::Choose(k) => {
+            let low = draft_short(steps, cofactor(table, k, false), args)?;
+            let high = draft_short(steps, cofactor(table, k, true), args)?;
+            step(steps, Op::Choose, args[k % 4], low, high)
+        }
+        Rule::Add(k, at) => {
+            let apart = cofactor(table, k, false) ^ cofactor(table, k, true);
+            let change = draft(planner, less, steps, apart, args)?;
+            let base = draft(planner, less, steps, cofactor(table, k, at), args)?;
+            let x = turned(at, args[k % 4]);
+            let found = step(steps, Op::And, x, change, x)?;
+            step(steps, Op::Differ, found, base, base)
+        }
+        Rule::Grow(k, at) => {
+            let more = draft(planner, less, steps, cofactor(table, k, !at), args)?;
+            let base = draft(planner, less, steps, cofactor(table, k, at), args)?;
+            let x = turned(at, args[k % 4]);
+            let found = step(steps, Op::And, x, more, x)?;
+            let neither = step(steps, Op::And, turned(true, found), turned(true, base), x)?;
+            Ok(turned(true, neither))
+        }
+    }
+}

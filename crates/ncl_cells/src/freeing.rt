@@ -1,0 +1,108 @@
+//! What is read no more once a node is made of leaves.
+ghost use Rattle.std.specs.Prelude.{◌≡◌, ◌<◌, ◌≤◌, IfOk};
+
+use crate::cone::Leaves;
+use crate::costs::node_cells;
+use crate::stop::Stop;
+use ncl_base::Memory;
+use ncl_network::{From3, Network, Node, Signal};
+use std::alloc::Global;
+
+/// The most nodes of a cone.
+const MOST_CONE: usize = 40;
+
+/// Counts the signals that are of each node.
+fn count(readers: &mut [u32], signals: &[Signal]) {
+    for signal in signals {
+        if let From3::Node(place) = signal.from
+            && let Some(count) = readers.get_mut(place as usize)
+        {
+            *count = count.saturating_add(1);
+        }
+    }
+}
+
+/// For each node how many signals are of it. Linear in the network.
+pub(crate) fn readers_of(alloc: Global, network: &Network) -> Result<Vec<u32>, Memory> {
+    let mut readers = vec![in alloc; 0u32; network.nodes.items().len()]?;
+    for node in network.nodes.items() {
+        count(&mut readers, node.ins.items());
+    }
+    count(&mut readers, network.outputs.items());
+    Ok(readers)
+}
+
+/// Whether a source is a leaf.
+fn is_leaf(leaves: Leaves, from: From3) -> bool {
+    leaves.first == from || leaves.second == from || leaves.third == from || leaves.fourth == from
+}
+
+/// Adds the nodes that signals are of, but for leaves, to a cone.
+fn add_inner(cone: &mut Vec<u32>, leaves: Leaves, signals: &[Signal]) -> Result<(), Stop> {
+    for signal in signals {
+        if !is_leaf(leaves, signal.from) {
+            let From3::Node(place) = signal.from else {
+                return Err(Stop::GivenUp);
+            };
+            if !cone.iter().any(|other| *other == place) {
+                cone.push(place)?;
+            }
+        }
+    }
+    Ok(())
+}
+
+/// The nodes through which a node is computed of leaves, in order, if they are few.
+pub(crate) fn cone_of(
+    alloc: Global,
+    nodes: &[Node],
+    place: u32,
+    leaves: Leaves,
+) -> Result<Vec<u32>, Stop> {
+    let mut cone = vec![in alloc; place]?;
+    for at in 0..MOST_CONE {
+        let Some(place) = cone.get(at).copied() else {
+            cone.sort_unstable();
+            return Ok(cone);
+        };
+        if let Some(node) = nodes.get(place as usize) {
+            add_inner(&mut cone, leaves, node.ins.items())?;
+        }
+    }
+    Err(Stop::GivenUp)
+}
+
+/// Counts the signals that are of each node of a cone.
+fn count_inner(counts: &mut [u32], cone: &[u32], signals: &[Signal]) {
+    for signal in signals {
+        if let From3::Node(place) = signal.from
+            && let Some(at) = cone.iter().position(|other| *other == place)
+            && let Some(count) = counts.get_mut(at)
+        {
+            *count = count.saturating_add(1);
+        }
+    }
+}
+
+/// The cells of the nodes of a cone that nothing else reads once the last of them is made otherwise. Quadratic in
+/// the cone.
+pub(crate) fn freed(
+    alloc: Global,
+    nodes: &[Node],
+    readers: &[u32],
+    cone: &[u32],
+) -> Result<usize, Memory> {
+    let mut counts = vec![in alloc; 0u32; cone.len()]?;
+    let mut cells = 0usize;
+    for at in (0..cone.len()).rev() {
+        let place = cone[at] as usize;
+        let is_last = at + 1 == cone.len();
+        if let Some(node) = nodes.get(place)
+            && (is_last || readers.get(place) == counts.get(at))
+        {
+            cells = cells.saturating_add(node_cells(node));
+            count_inner(&mut counts, cone, node.ins.items());
+        }
+    }
+    Ok(cells)
+}

@@ -14,7 +14,7 @@ use Rattle.ncl_compile.specs.Size.{widths_of, compile_size, IsSlim}
 abbrev pub units_of : Model → ℕ
 units_of model = weight_of_model model + length model.inputs
 
-units-le : (model : Model) → units_of model + length model.outputs ≤ size_of_model model
+pub units-le : (model : Model) → units_of model + length model.outputs ≤ size_of_model model
 units-le model =
     let rows = sum_by-le-sum_by (λ (cover : Cover). weight_of_rows cover.rows) (λ (cover : Cover). 1 + length cover.ins + weight_of_rows cover.rows) model.covers (λ cover. omega arith) in
     omega (arith, rows)

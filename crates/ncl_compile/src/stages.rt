@@ -6,8 +6,10 @@ ghost use Rattle.ncl_compile.specs.InnerNames.{inner_pairs, stage_prefix};
 ghost use Rattle.ncl_compile.specs.Pieces.{IsStageOfModel, AreStages};
 
 use crate::naming::{inner_pairs, numbered};
+use crate::sizing::model_weight;
 use ncl_base::Memory;
 use ncl_blif::Model;
+use ncl_cells::improve;
 use ncl_decomp::split;
 use ncl_network::reduce;
 use ncl_rails::{StageParts, stage_parts};
@@ -21,7 +23,8 @@ fn stage_of(alloc: Global, number: usize, model: &Model) -> Result<StageParts, M
     ensures { IfOk result (IsStageOfModel model.now (inner_pairs number (length model.now.inputs)) (stage_prefix number)) }
 {
     let folded = reduce(alloc, model)?;
-    let network = split(alloc, &folded)?;
+    let narrow = split(alloc, &folded)?;
+    let network = improve(alloc, narrow, 5 * model_weight(model))?;
     let ins = inner_pairs(alloc, number, model.inputs.items().len())?;
     let prefix = numbered(alloc, b's', number)?;
     stage_parts(alloc, &network, &ins, &prefix)

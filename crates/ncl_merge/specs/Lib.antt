@@ -1,0 +1,7 @@
+pub mod Fold
+pub mod Renamed
+pub mod Search
+pub mod Thinned
+pub mod Rebuilt
+pub mod Folding
+pub mod Choice

@@ -56,7 +56,7 @@ kept_at choice (b ∷ cells) (suc k) c d at is =
       | inr (e, stays) ↦ (λ i. slice_get (kept_some choice b e cells stays i) (length (kept_some choice b e (take k cells) stays i))) ∙ kept_at choice cells k c d at is
     ]
 
-kept_rises : (choice : Cell → Option Cell) (cells : List Cell) (j k : ℕ) (c d : Cell) → slice_get cells j ≡ Some c → choice c ≡ Some d → j < k → place_in choice cells j < place_in choice cells k
+pub kept_rises : (choice : Cell → Option Cell) (cells : List Cell) (j k : ℕ) (c d : Cell) → slice_get cells j ≡ Some c → choice c ≡ Some d → j < k → place_in choice cells j < place_in choice cells k
 kept_rises choice [] j k c d at is lt = absurd cc
 kept_rises choice (b ∷ cells) j zero c d at is lt = absurd (omega arith)
 kept_rises choice (b ∷ cells) zero (suc k) c d at is lt =
@@ -196,7 +196,7 @@ module _ (n : NetlistData) (is_n : IsNetlist n) (free : IsFree n) (choice : Cell
   pub out-in : (d : Cell) → Member d.out (d.ins.items ++ d.out ∷ [])
   out-in d = Member-append_right d.ins.items d.out here
 
-  stood : (k : ℕ) (c : Cell) → CellAt n k c → (IsRailGate n c → ⊥) → IsStood m to from at k c
+  pub stood : (k : ℕ) (c : Cell) → CellAt n k c → (IsRailGate n c → ⊥) → IsStood m to from at k c
   stood k c at-c no_rail =
       let in_c : IsCell n c = Contains-from_slice_get n.cells k c at-c in
       let is = chosen.stands c in_c no_rail in
@@ -235,7 +235,7 @@ module _ (n : NetlistData) (is_n : IsNetlist n) (free : IsFree n) (choice : Cell
   pub same-choice : (c d : Cell) → choice c ≡ Some c → choice c ≡ Some d → c ≡ d
   same-choice c d one two = let both : Some c ≡ Some d = sym one ∙ two in cc
 
-  each-cell : (i : ℕ) (d : Cell) → CellAt m i d → IsOld n to at i d ⊎ IsThinGate n to from d
+  pub each-cell : (i : ℕ) (d : Cell) → CellAt m i d → IsOld n to at i d ⊎ IsThinGate n to from d
   each-cell i d at-d =
       let (k, c, e, at-c, is, place, moved-e) = source i d at-d in
       let in_c : IsCell n c = Contains-from_slice_get n.cells k c at-c in
@@ -266,7 +266,7 @@ module _ (n : NetlistData) (is_n : IsNetlist n) (free : IsFree n) (choice : Cell
   abbrev no_gate : Cell → Bool
   no_gate c = not (is_gate c.kind)
 
-  filter-moved : (cells : List Cell) → filter no_gate (map (moved to) cells) ≡ map (moved to) (filter no_gate cells)
+  pub filter-moved : (cells : List Cell) → filter no_gate (map (moved to) cells) ≡ map (moved to) (filter no_gate cells)
   filter-moved [] = refl
   filter-moved (c ∷ cells) = elim (cases_Bool (no_gate c)) [
     | inl passes ↦
@@ -282,7 +282,7 @@ module _ (n : NetlistData) (is_n : IsNetlist n) (free : IsFree n) (choice : Cell
   gate-fails : (c : Cell) → IsGate c → no_gate c ≡ false
   gate-fails c (kind, e) = ap (λ k. not (is_gate k)) e
 
-  filter-kept : (cells : List Cell) → ((c : Cell) → Member c cells → IsCell n c) → filter no_gate (kept choice cells) ≡ filter no_gate cells
+  pub filter-kept : (cells : List Cell) → ((c : Cell) → Member c cells → IsCell n c) → filter no_gate (kept choice cells) ≡ filter no_gate cells
   filter-kept [] among = refl
   filter-kept (c ∷ cells) among =
       let rest = filter-kept cells (λ d o. among d (there o)) in
@@ -316,7 +316,7 @@ module _ (n : NetlistData) (is_n : IsNetlist n) (free : IsFree n) (choice : Cell
         | inl rail ↦ (chosen.gate c e in_c rail is).1
       ]
 
-  ranks : (c d : Cell) → IsCell m c → IsGate c → IsCell m d → ReadsNet c d.out.0 → rank d.out.0 < rank c.out.0
+  pub ranks : (c d : Cell) → IsCell m c → IsGate c → IsCell m d → ReadsNet c d.out.0 → rank d.out.0 < rank c.out.0
   ranks c d in_c is_gate_c in_d reads =
       let (i, at-c) = place_of m c in_c in
       let (k, a, e, at-a, is, place, moved-e) = source i c at-c in
@@ -353,13 +353,13 @@ module _ (n : NetlistData) (is_n : IsNetlist n) (free : IsFree n) (choice : Cell
       less
 
   module _ (is_m : IsNetlist m) where
-    port-to : (net : ℕ) → net < length n.ports → to net ≡ net
+    pub port-to : (net : ℕ) → net < length n.ports → to net ≡ net
     port-to net lt = ap (number_of m.nets) (port-name n is_n refl net lt ∙ sym (port-name m is_m refl net lt)) ∙ number_of-get_or m.nets net [] is_m.net_names (port-within m is_m refl net lt)
 
-    port-from : (net : ℕ) → net < length n.ports → from net ≡ net
+    pub port-from : (net : ℕ) → net < length n.ports → from net ≡ net
     port-from net lt = ap (number_of n.nets) (port-name m is_m refl net lt ∙ sym (port-name n is_n refl net lt)) ∙ number_of-get_or n.nets net [] is_n.net_names (port-within n is_n refl net lt)
 
-    pub thinned-rebuilt : IsThinned n m
+    abbrev pub thinned-rebuilt : IsThinned n m
     thinned-rebuilt = record {
       to = to;
       from = from;

@@ -1,5 +1,5 @@
 -- The netlist of the kept cells has the shape of the pipeline of the folded stages.
-use Rattle.std.proofs.Common.{◌≡◌, ◌≢◌, ◌<◌, ◌+◌, ℕ, zero, suc, List, [], ◌∷◌, length, map, Option, Some, inl, inr, refl, sym, ap, ◌∙◌, subst, arith}
+use Rattle.std.proofs.Common.{◌≡◌, ◌≢◌, ◌<◌, ℕ, zero, suc, List, [], ◌∷◌, length, map, Option, Some, inl, inr, refl, sym, ap, ◌∙◌, subst, arith}
 use Rattle.std.specs.Prelude.{AllPairs, Contains, slice_get}
 use Rattle.std.specs.List.{AllZip}
 use Rattle.std.proofs.lemmas.List.Kept.{AllPairs-cons}
@@ -13,28 +13,27 @@ use Rattle.ncl_netlist.specs.Names.{number_of}
 use Rattle.ncl_netlist.proofs.NameLists.{get_or-number_of, number_of-get_or}
 use Rattle.ncl_origin.specs.Origin.{IsCell, CellAt}
 use Rattle.ncl_origin.proofs.Drivers.{cell_fits, same_driver, same_place}
-use Rattle.ncl_origin.proofs.OriginLaws.{place_of, origin_within}
+use Rattle.ncl_origin.proofs.OriginLaws.{place_of}
 use Rattle.ncl_shape.specs.declared.stage.StageCell.{StageCell}
-use Rattle.ncl_shape.specs.Stage.{StageData, IsStage, rail_nets, nets_of, out_of}
+use Rattle.ncl_shape.specs.Stage.{StageData, rail_nets, nets_of, out_of}
 use Rattle.ncl_shape.specs.Pipeline.{PipelineData}
 use Rattle.ncl_shape.specs.Shape.{Shape}
 use Rattle.ncl_shape.proofs.ShapeLaws.{same_cell}
-use Rattle.ncl_base.proofs.Members.{Member, here, there, Member-append_right, Member-append_cases, Member-map, member_of_map, All-from_members, Contains-from_Member, Member-from_Contains, Contains-from_slice_get, slice_get-from_Contains}
+use Rattle.ncl_base.proofs.Members.{Member, here, there, Member-append_right, Member-append_cases, Member-map, member_of_map, All-from_members, Contains-from_Member, Member-from_Contains, Contains-from_slice_get}
 use Rattle.ncl_base.proofs.Lists.{pairs-head, pairs-tail}
 use Rattle.ncl_layout.proofs.NetsApart.{nets_at, stages_apart}
 use Rattle.ncl_merge.specs.Fold.{with_cells}
 use Rattle.ncl_merge.specs.Folding.{AreFewer}
 use Rattle.ncl_merge.specs.Renamed.{renamed_net, IsRenamedCell, IsRenamedStage}
-use Rattle.ncl_merge.specs.Thinned.{moved, IsRailGate, IsThinned, IsThinStage, moved_pipeline}
+use Rattle.ncl_merge.specs.Thinned.{moved, IsRailGate, IsThinned, IsThinStage}
 use Rattle.ncl_merge.specs.Rebuilt.{kept, name_at, number_in}
 use Rattle.ncl_merge.specs.Choice.{with_gate_of, choice_of, folded_netlist, net_there, place_there, moved_gate, moved_stage, moved_stages, folded_pipeline}
 use Rattle.ncl_merge.proofs.Places.{outs-differ}
 use Rattle.ncl_merge.proofs.Folds.{cell-folded}
 use Rattle.ncl_merge.proofs.RenamedStage.{renamed-stage}
-use Rattle.ncl_merge.proofs.Thinned.{out-within}
 use Rattle.ncl_merge.proofs.ThinnedShape.{shape-there}
 use Rattle.ncl_merge.proofs.Rebuilt.{source, out-source, back, named, in-kept, out-in, kept_at, cells-moved, thinned-rebuilt}
-use Rattle.ncl_merge.proofs.Choices.{IsFoldedStageAt, folded-stage, folds, is-folded, stage-is, gate-cell, old-cell, net-at, out-known, comes-from, input-register, in-all, place-in, stage-within, choice-found, choice-rail}
+use Rattle.ncl_merge.proofs.Choices.{IsFoldedStageAt, folded-stage, folds, is-folded, stage-is, gate-cell, old-cell, net-at, out-known, input-register, in-all, place-in, stage-within, choice-found, choice-rail}
 use Rattle.ncl_merge.proofs.WholeChoice.{is-choice}
 use Rattle.ncl_merge.proofs.Thinned.{at_map}
 
@@ -48,16 +47,16 @@ pairs-map R Q f (x ∷ xs) each all =
     subst (Q (f x)) e (each x z here (there o) (pairs-head R x xs all z o))))
     (pairs-map R Q f xs (λ a b m o. each a b (there m) (there o)) (pairs-tail R x xs all))
 
-zip-moved : (to at : ℕ → ℕ) (cells : List StageCell) → AllZip (IsRenamedCell to) cells (map (moved_gate to at) cells)
+pub zip-moved : (to at : ℕ → ℕ) (cells : List StageCell) → AllZip (IsRenamedCell to) cells (map (moved_gate to at) cells)
 zip-moved to at [] = tt
 zip-moved to at (g ∷ cells) = (record { kind = refl; ins = refl; out = refl }, zip-moved to at cells)
 
-moved-count : (to at : ℕ → ℕ) (stages : List StageData) (lists : List (List StageCell)) → length lists ≡ length stages → length (moved_stages to at stages lists) ≡ length stages
+pub moved-count : (to at : ℕ → ℕ) (stages : List StageData) (lists : List (List StageCell)) → length lists ≡ length stages → length (moved_stages to at stages lists) ≡ length stages
 moved-count to at [] lists sized = refl
 moved-count to at (s ∷ stages) [] sized = absurd (omega (arith, sized))
 moved-count to at (s ∷ stages) (cells ∷ lists) sized = ap suc (moved-count to at stages lists (omega (arith, sized)))
 
-moved-at : (to at : ℕ → ℕ) (stages : List StageData) (lists : List (List StageCell)) (k : ℕ) (s t : StageData) → slice_get stages k ≡ Some s → slice_get (moved_stages to at stages lists) k ≡ Some t → (cells : List StageCell) × (slice_get lists k ≡ Some cells) × (moved_stage to at s cells ≡ t)
+pub moved-at : (to at : ℕ → ℕ) (stages : List StageData) (lists : List (List StageCell)) (k : ℕ) (s t : StageData) → slice_get stages k ≡ Some s → slice_get (moved_stages to at stages lists) k ≡ Some t → (cells : List StageCell) × (slice_get lists k ≡ Some cells) × (moved_stage to at s cells ≡ t)
 moved-at to at [] lists k s t at_s at_t = absurd cc
 moved-at to at (x ∷ stages) [] k s t at_s at_t = absurd cc
 moved-at to at (x ∷ stages) (cells ∷ lists) zero s t at_s at_t =

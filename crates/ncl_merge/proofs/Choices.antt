@@ -1,50 +1,39 @@
 -- What becomes of each cell of a netlist whose stages were folded, and that what is kept can be built.
-use Rattle.std.proofs.Common.{◌≡◌, ◌≢◌, ◌<◌, ◌≤◌, ◌+◌, ℕ, zero, suc, Bool, true, false, List, [], ◌∷◌, ◌++◌, length, map, take, drop, Option, None, Some, ◌⊎◌, inl, inr, refl, sym, ap, ◌∙◌, subst, arith}
+use Rattle.std.proofs.Common.{◌≡◌, ◌≢◌, ◌≤◌, ◌+◌, ℕ, suc, true, false, List, [], ◌∷◌, length, map, take, drop, Option, None, Some, ◌⊎◌, inl, inr, sym, ap, ◌∙◌, subst, arith}
 use Rattle.std.specs.Prelude.{AllPairs, Contains, slice_get, nat_eq, if◌then◌else◌}
 use Rattle.std.specs.List.{list_any, flat_map}
 use Rattle.std.proofs.lemmas.Bool.{cases_Bool, cases_eq, eq-eqb, ne_eqb, eqb-true, both_ways}
-use Rattle.std.proofs.lemmas.List.{length-map, take-append-drop}
+use Rattle.std.proofs.lemmas.List.{take-append-drop}
 use Rattle.std.proofs.lemmas.Option.{slice_get_within}
 use Rattle.std.proofs.lemmas.Slice.Zip.{AllZip-long}
-use Rattle.ncl_gates.specs.Gate.{arity_of}
-use Rattle.ncl_gates.specs.Cell.{pins_of}
-use Rattle.ncl_gates.specs.declared.cell_kind.CellKind.TheVariants.{Gate}
-use Rattle.ncl_gates.proofs.RegisterLaws.{register_no_gate, register_pins_of}
 use Rattle.ncl_netlist.specs.declared.ids.NetId.{NetId}
 use Rattle.ncl_netlist.specs.declared.ids.CellId.{CellId}
 use Rattle.ncl_netlist.specs.declared.cell.Cell.{Cell}
 use Rattle.ncl_netlist.specs.Netlist.{NetlistData}
-use Rattle.ncl_origin.specs.Origin.{IsCell, CellAt, IsGate, IsRegister, IsAck, ReadsNet, OnPin, A, B, RST, IsInputPort, IsOutputPort, IsOfBank, Origin, FromPort, RailOf, AckOf, ComesFrom, gate}
-use Rattle.ncl_origin.specs.Rules.{IsFromOneAck}
-use Rattle.ncl_origin.proofs.Drivers.{cell_fits, same_driver, no_cell_drives_port}
-use Rattle.ncl_origin.proofs.OriginLaws.{sort_of, place_of, origin_within, bank_of_register, cell_of_rail}
+use Rattle.ncl_origin.specs.Origin.{IsCell, CellAt, IsRegister, RailOf, ComesFrom}
+use Rattle.ncl_origin.proofs.Drivers.{same_driver}
+use Rattle.ncl_origin.proofs.OriginLaws.{place_of}
 use Rattle.ncl_shape.specs.declared.bank.Bank.{Bank}
 use Rattle.ncl_shape.specs.declared.stage.StageCell.{StageCell}
 use Rattle.ncl_shape.specs.Stage.{StageData, IsStage, rail_nets, nets_of, out_of}
 use Rattle.ncl_shape.specs.Pipeline.{PipelineData}
 use Rattle.ncl_shape.specs.Shape.{Shape, IsStageOf, AreRailsOf}
-use Rattle.ncl_shape.proofs.NetSources.{only_origin}
-use Rattle.ncl_shape.proofs.ShapeLaws.{requests, request_at, last_bank}
-use Rattle.ncl_base.proofs.Members.{Member, here, there, member_cases, Member-append_left, Member-append_right, Member-append_cases, Member-map, member_of_map, Contains-from_Member, Member-from_Contains, Contains-from_slice_get, slice_get-from_Contains, slice_get-some, list_any-from_member, member_from_list_any}
+use Rattle.ncl_base.proofs.Members.{Member, member_cases, Member-append_left, Member-append_right, Member-append_cases, Member-map, member_of_map, Contains-from_Member, Member-from_Contains, Contains-from_slice_get, slice_get-from_Contains, slice_get-some, list_any-from_member, member_from_list_any}
 use Rattle.ncl_base.proofs.Lists.{pairs-head, pairs-tail}
-use Rattle.ncl_layout.specs.Layout.{rail_at}
-use Rattle.ncl_layout.proofs.RailNets.{rail-place, rail-within}
-use Rattle.ncl_layout.proofs.BankBits.{drives_rail, register_of_rail, rail_of_register}
-use Rattle.ncl_layout.proofs.Numbering.{stage_at, wires_of, inner_or_last, inner_stage, last_stage, bank_named, bank_rails}
-use Rattle.ncl_layout.proofs.EndLaws.{first_bank, input_is_port}
-use Rattle.ncl_layout.proofs.BetweenBanks.{stages_join, register_on, stage_origin, gate_of_stage}
+use Rattle.ncl_layout.proofs.RailNets.{rail-place}
+use Rattle.ncl_layout.proofs.BankBits.{drives_rail, register_of_rail}
+use Rattle.ncl_layout.proofs.Numbering.{stage_at, inner_or_last, inner_stage, last_stage, bank_rails}
+use Rattle.ncl_layout.proofs.BetweenBanks.{stage_origin, gate_of_stage}
 use Rattle.ncl_layout.proofs.NetsApart.{nets_at, stages_apart}
 use Rattle.ncl_merge.specs.Fold.{with_cells, FoldsTo}
 use Rattle.ncl_merge.specs.Folding.{AreFewer}
 use Rattle.ncl_merge.specs.Thinned.{IsRailGate}
-use Rattle.ncl_merge.specs.Rebuilt.{IsChoice, IsWhole}
 use Rattle.ncl_merge.specs.Choice.{cell_driving, is_stage_cell, with_gate_of, becomes, choice_of}
 use Rattle.ncl_merge.proofs.Lists.{each}
 use Rattle.ncl_merge.proofs.Places.{outs-differ}
-use Rattle.ncl_merge.proofs.Folds.{stage-folded, cell-folded, rank-folded}
+use Rattle.ncl_merge.proofs.Folds.{stage-folded, cell-folded}
 use Rattle.ncl_merge.proofs.FoldingStage.{cut-place}
-use Rattle.ncl_merge.proofs.Thinned.{pins_of_gate}
-use Rattle.ncl_merge.proofs.Rebuilt.{decide, rail_or_not, same-choice, in-flat_map}
+use Rattle.ncl_merge.proofs.Rebuilt.{decide, in-flat_map}
 use Rattle.ncl_merge.proofs.Faultless.{of_flat_map}
 use Rattle.ncl_merge.proofs.NetTables.{driving-some}
 
@@ -218,7 +207,7 @@ module _ (p : PipelineData) (shape : Shape p.netlist p) (lists : List (List Stag
   stage-within k s at = let within = slice_get_within p.stages k s at in let count = shape.stages in omega (arith, within, count)
 
   -- for each net there is one
-  one-driving : (g h : StageCell) → Member g all → Member h all → g.out.0 ≡ h.out.0 → g ≡ h
+  pub one-driving : (g h : StageCell) → Member g all → Member h all → g.out.0 ≡ h.out.0 → g ≡ h
   one-driving g h m o e =
       let u = place-in g m in
       let v = place-in h o in
@@ -262,7 +251,7 @@ module _ (p : PipelineData) (shape : Shape p.netlist p) (lists : List (List Stag
       ]
 
   -- a cell of a stage is a gate that comes from a rail, and each such gate is a cell of a stage
-  rail-staged : (c : Cell) → IsCell n c → IsRailGate n c → is_stage_cell p c ≡ true
+  pub rail-staged : (c : Cell) → IsCell n c → IsRailGate n c → is_stage_cell p c ≡ true
   rail-staged c in_c ((kind, is_gate), (request, from)) =
       let (i, at_c) = place_of n c in_c in
       let (k, g, lt, m, of) = gate_of_stage p shape i c kind request at_c is_gate from in
@@ -276,7 +265,7 @@ module _ (p : PipelineData) (shape : Shape p.netlist p) (lists : List (List Stag
       none : (g : StageCell) → Member g [] → ⊥
       none g m = elim m [ ]
 
-  staged-rail : (c : Cell) → IsCell n c → is_stage_cell p c ≡ true → IsRailGate n c
+  pub staged-rail : (c : Cell) → IsCell n c → is_stage_cell p c ≡ true → IsRailGate n c
   staged-rail c in_c staged =
       let (s, m-s, some) = member_from_list_any (λ (s : StageData). list_any (λ (g : StageCell). nat_eq g.out.0 c.out.0) s.cells) p.stages staged in
       let (g, m-g, same) = member_from_list_any (λ (g : StageCell). nat_eq g.out.0 c.out.0) s.cells some in

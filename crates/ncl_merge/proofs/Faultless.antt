@@ -43,7 +43,7 @@ pairs-left : {X : Type 0} (R : X → X → Type 0) (xs ys : List X) → AllPairs
 pairs-left R [] ys all = λ i j d before lt. absurd (omega (arith, lt))
 pairs-left R (x ∷ xs) ys all = AllPairs-cons R x xs (All-from_members (R x) xs (λ y m. pairs-head R x (xs ++ ys) all y (Member-append_left y ys m))) (pairs-left R xs ys (pairs-tail R x (xs ++ ys) all))
 
-AllDiffer-take : (names : List (List ℕ)) (k : ℕ) → AllDiffer names → AllDiffer (take k names)
+pub AllDiffer-take : (names : List (List ℕ)) (k : ℕ) → AllDiffer names → AllDiffer (take k names)
 AllDiffer-take names k differ = differ_names (take k names) (pairs-left (λ a b. a ≢ b) (take k names) (drop k names) (subst (AllPairs (λ a b. a ≢ b)) (sym (take-append-drop k names)) (names_differ names differ)))
 
 -- no more cells are kept than there were
@@ -78,8 +78,12 @@ kept_differ key choice (c ∷ cells) same differ =
           pairs-head (λ a b. a ≢ b) (key c) (map key cells) differ (key b) (Member-map key b m-b) (sym (same c d here is) ∙ e ∙ sym at-g ∙ same b g (there m-b) is-b))) rest)
     ]
 
+-- a cell has a name for each pin, and one for its output
+pub pins-count : (nets : List (List ℕ)) (d : Cell) → length (pin_names nets d) ≡ length d.ins.items + 1
+pins-count nets d = length-map (d.ins.items ++ d.out ∷ []) (λ (net : NetId). get_or nets net.0 []) ∙ length_push d.ins.items d.out
+
 -- a name that is among once-each names is among the names
-from_once : (xs : List (List ℕ)) (x : List ℕ) → Member x (once_each xs) → Member x xs
+pub from_once : (xs : List (List ℕ)) (x : List ℕ) → Member x (once_each xs) → Member x xs
 from_once xs x m =
     let some = sym (list_any-once_each xs x) ∙ list_any-from_member (same_name x) x m (same_itself x) in
     let (y, n, same) = member_from_list_any (same_name x) xs some in
@@ -316,9 +320,6 @@ module _ (n : NetlistData) (is_n : IsNetlist n) (free : IsFree n) (choice : Cell
 
   -- ---- and what `build` asks
 
-  pins-count : (d : Cell) → length (pin_names n.nets d) ≡ length d.ins.items + 1
-  pins-count d = length-map (d.ins.items ++ d.out ∷ []) (λ (net : NetId). get_or n.nets net.0 []) ∙ length_push d.ins.items d.out
-
   pub all-pins : All HasAllPins parts.cells
   all-pins = All-from_members HasAllPins parts.cells (λ part m.
       let (d, m-d, is-d) = member_of_map (part_of n.nets) cells part m in
@@ -328,7 +329,7 @@ module _ (n : NetlistData) (is_n : IsNetlist n) (free : IsFree n) (choice : Cell
         | inl rail ↦ whole.fits c d in_c rail is
         | inr no_rail ↦ subst (λ (z : Cell). length z.ins.items + 1 ≡ length (pins_of z.kind)) (same-choice n is_n free choice chosen c d (chosen.stands c in_c no_rail) is) (cell_fits n is_n c in_c).pins
       ] in
-      subst HasAllPins is-d (pins-count d ∙ fits))
+      subst HasAllPins is-d (pins-count n.nets d ∙ fits))
 
   pub ports-apart : AllDiffer (port_names parts)
   ports-apart = ports-differ

@@ -1,20 +1,24 @@
 -- Tables of nets in which the cells of stages are put one after another.
-use Rattle.std.proofs.Common.{◌≡◌, ◌≢◌, ℕ, ◌+◌, ◌<◌, ◌≤◌, Bool, true, false, ◌||◌, cond, List, [], ◌∷◌, ◌++◌, length, map, take, set, get_or, replicate, Option, None, Some, ◌⊎◌, inl, inr, refl, sym, ap, ◌∙◌, subst, arith, append_assoc}
-use Rattle.std.specs.Prelude.{All, Contains, nat_eq, slice_get, if◌then◌else◌}
-use Rattle.std.specs.List.{list_any, flat_map}
-use Rattle.std.proofs.lemmas.Bool.{cases_eq, eq-eqb, ne_eqb, or_right}
-use Rattle.std.proofs.lemmas.List.{take_all, take_more, length-set, length-replicate, get_or-replicate, get_or-set_same, get_or-set_other}
+use Rattle.std.proofs.Common.{◌≡◌, ◌≢◌, ℕ, ◌+◌, ◌<◌, ◌≤◌, Bool, true, false, ◌||◌, List, [], ◌∷◌, ◌++◌, length, map, take, drop, set, get_or, replicate, Option, None, Some, inl, inr, refl, sym, ap, ◌∙◌, subst, arith, append_assoc}
+use Rattle.std.specs.Prelude.{All, nat_eq, if◌then◌else◌}
+use Rattle.std.proofs.lemmas.Bool.{cases_eq, eq-eqb, ne_eqb}
+use Rattle.std.proofs.lemmas.List.{map-append, take_all, take_more, take-append-drop, length-set, length-replicate, get_or-replicate, get_or-set_same, get_or-set_other}
 use Rattle.std.proofs.lemmas.List.Folds.{list_any_more}
 use Rattle.std.proofs.lemmas.List.Concat.{flat_map-cons}
 use Rattle.std.proofs.lemmas.Grind.{flat_map-append}
-use Rattle.std.proofs.lemmas.Option.{slice_get_within, slice_get-get_or}
+use Rattle.std.proofs.lemmas.Option.{get_or_from_slice_get, slice_get-get_or}
+use Rattle.ncl_netlist.specs.declared.cell.Cell.{Cell}
+use Rattle.ncl_netlist.specs.declared.parts.PartCell.{PartCell}
 use Rattle.ncl_netlist.specs.Netlist.{NetlistData}
+use Rattle.ncl_netlist.specs.Parts.{part_of}
 use Rattle.ncl_origin.specs.Tables.{IsTable}
 use Rattle.ncl_shape.specs.declared.stage.StageCell.{StageCell}
 use Rattle.ncl_shape.specs.Stage.{StageData}
-use Rattle.ncl_base.proofs.Members.{Member, here, there, Member-append_left, Member-append_right, Contains-from_Member, Member-from_Contains}
-use Rattle.ncl_merge.specs.Choice.{DriveOnce, HaveGates, all_of, cell_driving, is_driven, is_stage_net}
-use Rattle.ncl_merge.proofs.Rebuilt.{decide}
+use Rattle.ncl_base.proofs.Members.{Member, here, there, Member-append_left, Member-append_right, Member-get_or, All-from_members, Contains-from_Member, Member-from_Contains}
+use Rattle.ncl_merge.specs.Rebuilt.{kept, with_kept}
+use Rattle.ncl_merge.specs.Choice.{DriveOnce, HaveGates, all_of, becomes, choice_by, cell_driving, is_driven, is_stage_net}
+use Rattle.ncl_merge.proofs.Lists.{each}
+use Rattle.ncl_merge.proofs.Rebuilt.{decide, in-flat_map}
 
 -- ---- marks
 
@@ -157,3 +161,56 @@ all_of-more lists k d lt =
     append-same : (xs : List StageCell) → xs ++ [] ≡ xs
     append-same [] = refl
     append-same (x ∷ xs) = ap (λ rest. x ∷ rest) (append-same xs)
+
+-- one cell of a list more is put at its net
+pub put-more : (gates : List (Option StageCell)) (before cells : List StageCell) (k : ℕ) (g copy : StageCell) → k < length cells → copy ≡ g → g ≡ get_or cells k g → g.out.0 < length gates → HaveGates gates (before ++ take k cells) → DriveOnce (before ++ cells)
+    → HaveGates (set gates g.out.0 (Some copy)) (before ++ take (k + 1) cells)
+put-more gates before cells k g copy lt same is inside have once =
+    let more : (before ++ take k cells) ++ g ∷ [] ≡ before ++ take (k + 1) cells = append_assoc before (take k cells) (g ∷ []) ∙ ap (λ (x : StageCell). before ++ (take k cells ++ x ∷ [])) is ∙ ap (λ xs. before ++ xs) (sym (take_more cells k g lt)) in
+    let whole : before ++ cells ≡ (before ++ take (k + 1) cells) ++ drop (k + 1) cells = ap (λ xs. before ++ xs) (sym (take-append-drop (k + 1) cells)) ∙ sym (append_assoc before (take (k + 1) cells) (drop (k + 1) cells)) in
+    let front : DriveOnce (before ++ take (k + 1) cells) = once-front (before ++ take (k + 1) cells) (drop (k + 1) cells) (subst DriveOnce whole once) in
+    subst (HaveGates (set gates g.out.0 (Some copy))) more
+    (subst (λ (x : StageCell). HaveGates (set gates g.out.0 (Some x)) ((before ++ take k cells) ++ g ∷ [])) (sym same) (gates-more gates (before ++ take k cells) g have inside (subst DriveOnce (sym more) front)))
+
+-- what holds of all cells of the lists holds of those of one
+pub all_of-at : (P : StageCell → Type 0) (lists : List (List StageCell)) (k : ℕ) (d : List StageCell) → k < length lists → All P (all_of lists) → All P (get_or lists k d)
+all_of-at P lists k d lt holds =
+    All-from_members P (get_or lists k d) (λ g m. each P (all_of lists) holds g (in-flat_map (λ (cells : List StageCell). cells) (get_or lists k d) g (Member-get_or lists k d lt) m))
+
+-- the cells of the lists so far, and of one list more, drive nets once
+pub once-more : (lists : List (List StageCell)) (k : ℕ) (d : List StageCell) → k < length lists → DriveOnce (all_of lists) → DriveOnce (all_of (take k lists) ++ get_or lists k d)
+once-more lists k d lt once =
+    let cut : all_of lists ≡ all_of (take (k + 1) lists) ++ all_of (drop (k + 1) lists) = ap all_of (sym (take-append-drop (k + 1) lists)) ∙ flat_map-append (λ (cells : List StageCell). cells) (take (k + 1) lists) (drop (k + 1) lists) in
+    subst DriveOnce (all_of-more lists k d lt) (once-front (all_of (take (k + 1) lists)) (all_of (drop (k + 1) lists)) (subst DriveOnce cut once))
+
+-- ---- the kept cells
+
+kept-append : (choice : Cell → Option Cell) (xs ys : List Cell) → kept choice (xs ++ ys) ≡ kept choice xs ++ kept choice ys
+kept-append choice [] ys = refl
+kept-append choice (c ∷ xs) ys = ap (with_kept (choice c)) (kept-append choice xs ys) ∙ behind (choice c) (kept choice xs) (kept choice ys)
+  where
+    behind : (o : Option Cell) (xs ys : List Cell) → with_kept o (xs ++ ys) ≡ with_kept o xs ++ ys
+    behind None xs ys = refl
+    behind (Some d) xs ys = refl
+
+-- one cell more is looked at
+pub kept-more : (nets : List (List ℕ)) (gates : List (Option StageCell)) (staged : List Bool) (cells : List Cell) (k : ℕ) (c : Cell) (gate : Option StageCell) (was now : List PartCell) → k < length cells → c ≡ get_or cells k c → c.out.0 < length gates → gate ≡ get_or gates c.out.0 gate
+    → was ≡ map (part_of nets) (kept (choice_by gates staged) (take k cells))
+    → now ≡ was ++ map (part_of nets) (with_kept (becomes gate (get_or staged c.out.0 false) c) [])
+    → now ≡ map (part_of nets) (kept (choice_by gates staged) (take (k + 1) cells))
+kept-more nets gates staged cells k c gate was now lt is inside at before pushed =
+    let there : get_or gates c.out.0 None ≡ gate = get_or_from_slice_get gates c.out.0 (get_or gates c.out.0 gate) None (slice_get-get_or gates c.out.0 gate inside) ∙ sym at in
+    let one : kept (choice_by gates staged) (c ∷ []) ≡ with_kept (becomes gate (get_or staged c.out.0 false) c) [] = ap (λ o. with_kept (becomes o (get_or staged c.out.0 false) c) []) there in
+    let whole : kept (choice_by gates staged) (take (k + 1) cells) ≡ kept (choice_by gates staged) (take k cells) ++ with_kept (becomes gate (get_or staged c.out.0 false) c) [] =
+    ap (kept (choice_by gates staged)) (take_more cells k c lt ∙ ap (λ x. take k cells ++ x ∷ []) (sym is)) ∙ kept-append (choice_by gates staged) (take k cells) (c ∷ []) ∙ ap (λ xs. kept (choice_by gates staged) (take k cells) ++ xs) one in
+    pushed ∙ ap (λ xs. xs ++ map (part_of nets) (with_kept (becomes gate (get_or staged c.out.0 false) c) [])) before
+    ∙ sym (map-append (part_of nets) (kept (choice_by gates staged) (take k cells)) (with_kept (becomes gate (get_or staged c.out.0 false) c) []))
+    ∙ ap (map (part_of nets)) (sym whole)
+
+-- two choices that agree on the cells keep the same
+pub kept-same : (f g : Cell → Option Cell) (cells : List Cell) → ((c : Cell) → Member c cells → f c ≡ g c) → kept f cells ≡ kept g cells
+kept-same f g [] same = refl
+kept-same f g (c ∷ cells) same =
+    let rest = kept-same f g cells (λ d m. same d (there m)) in
+    let first = same c here in
+    λ i. with_kept (first i) (rest i)

@@ -13,8 +13,8 @@ use Rattle.ncl_netlist.specs.declared.ids.NetId.{NetId}
 use Rattle.ncl_netlist.specs.declared.port.Port.{Port}
 use Rattle.ncl_netlist.specs.declared.cell.Cell.{Cell}
 use Rattle.ncl_netlist.specs.Netlist.{NetlistData}
-use Rattle.ncl_origin.specs.Origin.{IsCell, CellAt, IsGate, IsRegister, IsAck, ReadsNet, OnPin, A, B, RST, IsInputPort, IsOutputPort, IsOfBank, AcksBank, IsDataRegister, IsDataBank, Origin, FromPort, RailOf, AckOf, ComesFrom, port, rail, ack, gate, HasOnlyOrigin, LeadsTo, one, more}
-use Rattle.ncl_origin.specs.Rules.{IsReadPort, IsOffCycles, IsTied, IsUnmixed, IsGateOfOne, IsRegisterOfOne, IsAckOfOne, ReadsData, IsFirstOfBank, IsPaired, ack_pins, ack_pins_of, pins_with}
+use Rattle.ncl_origin.specs.Origin.{IsCell, CellAt, IsGate, IsRegister, IsAck, ReadsNet, OnPin, A, B, RST, IsInputPort, IsOutputPort, IsOfBank, AcksBank, IsDataBank, Origin, FromPort, RailOf, AckOf, ComesFrom, port, rail, ack, gate, HasOnlyOrigin, LeadsTo, one, more}
+use Rattle.ncl_origin.specs.Rules.{IsReadPort, IsOffCycles, IsTied, IsUnmixed, IsGateOfOne, IsRegisterOfOne, IsAckOfOne, IsFirstOfBank, IsPaired, ack_pins, ack_pins_of, pins_with}
 use Rattle.ncl_origin.specs.CellTests.{is_gate}
 use Rattle.std.proofs.lemmas.Bool.{cases_Bool, cases_eq, eq-eqb, ne_eqb, both_ways}
 use Rattle.std.proofs.lemmas.List.Sums.{sum_by-cons}

@@ -7,7 +7,7 @@ use Rattle.ncl_gates.specs.Cell.{pins_of}
 use Rattle.ncl_netlist.specs.declared.ids.NetId.{NetId}
 use Rattle.ncl_netlist.specs.declared.cell.Cell.{Cell}
 use Rattle.ncl_netlist.specs.Netlist.{NetlistData}
-use Rattle.ncl_origin.specs.Origin.{IsCell, OnPin, A, B, IsInputPort, IsOutputPort, IsOfBank, IsDataBank, FromPort, RailOf, AckOf, ComesFrom, port, HasOnlyOrigin}
+use Rattle.ncl_origin.specs.Origin.{IsCell, OnPin, A, B, IsInputPort, IsOutputPort, IsOfBank, FromPort, RailOf, AckOf, ComesFrom, port, HasOnlyOrigin}
 use Rattle.ncl_origin.specs.Rules.{IsRequest}
 use Rattle.ncl_origin.specs.Free.{IsFree}
 use Rattle.ncl_base.proofs.Members.{Member-map, Contains-from_Member, Member-from_Contains, Contains-from_slice_get, slice_get-from_Contains}

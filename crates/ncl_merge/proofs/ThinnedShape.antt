@@ -11,7 +11,6 @@ use Rattle.ncl_netlist.specs.Netlist.{NetlistData}
 use Rattle.ncl_origin.specs.Origin.{IsCell, CellAt, OnPin, A, B, IsOfBank, AcksBank, RailOf, ComesFrom}
 use Rattle.ncl_origin.specs.Free.{IsFree}
 use Rattle.ncl_base.proofs.Members.{Member, here, there, Member-map, Contains-from_Member, Member-from_Contains, Contains-from_slice_get, slice_get-from_Contains, slice_get-some}
-use Rattle.ncl_origin.proofs.Drivers.{same_place}
 use Rattle.ncl_origin.proofs.OriginLaws.{place_of}
 use Rattle.ncl_shape.proofs.ChainLaws.{banks_of_chain}
 use Rattle.ncl_shape.specs.declared.bank.Bank.{Bank}
@@ -24,7 +23,7 @@ use Rattle.ncl_shape.specs.Shape.{IsBitOf, AreBitsOf, IsBankOf, AreRailsOf, AreI
 use Rattle.ncl_shape.proofs.ShapeLaws.{same_cell, request_at}
 use Rattle.ncl_merge.specs.Renamed.{renamed_net, renamed_rails}
 use Rattle.ncl_merge.specs.Thinned.{moved, IsStood, IsThinned, IsThinStage, moved_bit, moved_bank, moved_pipeline}
-use Rattle.ncl_merge.proofs.Thinned.{map_at, register-no_rail, ack-no_rail, old-ack, pin-back, pin-forth, bank-back, bank-forth, acks-forth, acks-back, comes-back, comes-forth, out-within, out-back, free-thinned}
+use Rattle.ncl_merge.proofs.Thinned.{map_at, register-no_rail, ack-no_rail, pin-forth, bank-forth, acks-forth, acks-back, comes-back, comes-forth, out-within, out-back, free-thinned}
 use Rattle.ncl_merge.proofs.ThinnedChain.{bank-kept, chain-forth, root-forth, chained-thinned}
 
 -- zipped lists to which functions were applied

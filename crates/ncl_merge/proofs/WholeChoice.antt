@@ -1,24 +1,21 @@
 -- The kept cells of a netlist whose stages were folded are a choice from which a netlist can be built.
-use Rattle.std.proofs.Common.{◌≡◌, ◌<◌, ◌+◌, ℕ, zero, suc, List, length, map, Option, Some, ◌⊎◌, inl, inr, refl, sym, ap, ◌∙◌, subst, arith}
+use Rattle.std.proofs.Common.{◌≡◌, ◌<◌, ◌+◌, ℕ, zero, suc, List, length, map, Option, Some, inl, inr, refl, sym, ap, ◌∙◌, subst, arith}
 use Rattle.std.specs.Prelude.{Contains, slice_get}
 use Rattle.std.proofs.lemmas.List.{length-map}
 use Rattle.std.proofs.lemmas.Option.{slice_get_within}
-use Rattle.std.proofs.lemmas.Slice.Zip.{AllZip-long}
 use Rattle.ncl_gates.specs.Gate.{arity_of}
 use Rattle.ncl_gates.specs.Cell.{pins_of}
-use Rattle.ncl_gates.specs.declared.cell_kind.CellKind.TheVariants.{Gate}
 use Rattle.ncl_gates.proofs.RegisterLaws.{register_no_gate, register_pins_of}
 use Rattle.ncl_netlist.specs.declared.ids.NetId.{NetId}
 use Rattle.ncl_netlist.specs.declared.cell.Cell.{Cell}
 use Rattle.ncl_netlist.specs.Netlist.{NetlistData}
-use Rattle.ncl_origin.specs.Origin.{IsCell, CellAt, IsGate, IsRegister, IsAck, ReadsNet, OnPin, A, B, RST, IsInputPort, IsOutputPort, IsOfBank, Origin, RailOf, AckOf, ComesFrom, gate}
+use Rattle.ncl_origin.specs.Origin.{IsCell, CellAt, IsGate, IsRegister, ReadsNet, OnPin, A, B, IsInputPort, IsOutputPort, IsOfBank, Origin, RailOf, AckOf, ComesFrom, gate}
 use Rattle.ncl_origin.proofs.Drivers.{cell_fits, same_driver, no_cell_drives_port}
 use Rattle.ncl_origin.proofs.OriginLaws.{sort_of, place_of, origin_within, bank_of_register, cell_of_rail}
 use Rattle.ncl_shape.specs.declared.bank.Bank.{Bank}
 use Rattle.ncl_shape.specs.declared.stage.StageCell.{StageCell}
 use Rattle.ncl_shape.specs.Stage.{StageData, rail_nets, nets_of, out_of}
 use Rattle.ncl_shape.specs.Pipeline.{PipelineData}
-use Rattle.ncl_shape.specs.Chain.{IsShown}
 use Rattle.ncl_shape.specs.Shape.{Shape}
 use Rattle.ncl_shape.proofs.NetSources.{only_origin}
 use Rattle.ncl_shape.proofs.ShapeLaws.{requests, request_at, last_bank}
@@ -29,7 +26,6 @@ use Rattle.ncl_layout.proofs.BankBits.{rail_of_register}
 use Rattle.ncl_layout.proofs.Numbering.{stage_at, inner_stage, bank_named}
 use Rattle.ncl_layout.proofs.EndLaws.{first_bank, input_is_port}
 use Rattle.ncl_layout.proofs.BetweenBanks.{stages_join, register_on}
-use Rattle.ncl_merge.specs.Fold.{FoldsTo}
 use Rattle.ncl_merge.specs.Folding.{AreFewer}
 use Rattle.ncl_merge.specs.Thinned.{IsRailGate}
 use Rattle.ncl_merge.specs.Rebuilt.{IsChoice, IsWhole}

@@ -1,0 +1,20 @@
+use Rattle.std.proofs.Common.{◌≡◌, ◌<◌, false, [], ◌++◌, length, map, get_or, sym, ap, ◌∙◌, subst}
+use Rattle.ncl_netlist.specs.declared.cell.Cell.{Cell}
+use Rattle.ncl_netlist.specs.Parts.{part_of}
+use Rattle.ncl_merge.specs.Rebuilt.{with_kept}
+use Rattle.ncl_merge.specs.Choice.{becomes}
+use Rattle.ncl_merge.proofs.NetTables.{kept-more}
+use Rattle.ncl_merge.proofs.rebuilding.kept_cells.Goals as goal
+
+pub loop-cell-preserved : goal.loop-cell-preserved
+loop-cell-preserved c =
+    let n = c.args.netlist.now in
+    let k = c.loop-cell.cell-index in
+    let cell = c.cell-item.result in
+    let items = c.cells-cell-items.ensures.cells in
+    let lt : k < length n.cells = subst (λ xs. k < length xs) items c.loop-cell-test.true in
+    let is : cell ≡ get_or n.cells k cell = c.cell-item.is ∙ ap (λ xs. get_or xs k cell) items in
+    let fits = c.cells-cell-items.ensures.netlist.fits k cell lt in
+    let out : cell.out.0 < length n.nets = subst (λ (x : Cell). x.out.0 < length n.nets) (sym is) fits.output in
+    kept-more n.nets c.args.gates.now c.args.staged.now n.cells k cell c.index-gates-net.result c.loop-cell.parts.items c.add_kept.new.parts.items lt is (subst (λ size. cell.out.0 < size) (sym c.requires.gates) out) c.index-gates-net.is c.loop-cell.invariant
+    (subst (λ names. c.add_kept.new.parts.items ≡ c.loop-cell.parts.items ++ map (part_of names) (with_kept (becomes c.index-gates-net.result (get_or c.args.staged.now cell.out.0 false) cell) [])) c.nets.ensures.nets c.in_ok-add_kept.ensures)

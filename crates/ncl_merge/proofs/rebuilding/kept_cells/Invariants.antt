@@ -1,0 +1,8 @@
+use Rattle.std.proofs.Common.{◌≡◌, map, take}
+use Rattle.ncl_netlist.specs.Parts.{part_of}
+use Rattle.ncl_merge.specs.Rebuilt.{kept}
+use Rattle.ncl_merge.specs.Choice.{choice_by}
+use Rattle.ncl_merge.proofs.rebuilding.kept_cells.Given as goal
+
+abbrev pub invariant-loop-cell : goal.invariant-loop-cell
+invariant-loop-cell l = l.parts.items ≡ map (part_of l.netlist.nets) (kept (choice_by l.gates l.staged) (take l.cell-index l.netlist.cells))

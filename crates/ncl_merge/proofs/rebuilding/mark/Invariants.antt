@@ -1,0 +1,8 @@
+use Rattle.std.proofs.Common.{◌≡◌, ℕ, ◌<◌, ◌||◌, false, length, take}
+use Rattle.std.specs.List.{slice_index_or}
+use Rattle.ncl_merge.specs.Choice.{is_driven}
+use Rattle.ncl_merge.proofs.rebuilding.mark.Given as goal
+
+-- the nets of the cells so far are marked
+abbrev pub invariant-loop-cell : goal.invariant-loop-cell
+invariant-loop-cell l = (net : ℕ) → net < length l.initial.marks → slice_index_or l.marks net false ≡ (slice_index_or l.initial.marks net false || is_driven net (take l.cell-index l.cells))

@@ -234,7 +234,7 @@ module _ (n m : NetlistData) (is : IsThinned n m) (free : IsFree n) where
       let at-n : slice_get n.ports net ≡ Some p = ap (λ ports. slice_get ports net) (sym is.ports) ∙ at in
       (p, ap (slice_get n.ports) (is.port_from net (slice_get_within n.ports net p at-n)) ∙ at-n, output)
 
-  -- ---- T2: each net of m comes from where the net of n does
+  -- ---- each net of m comes from where the net of n does
 
   pub comes-back : (net : ℕ) (o : Origin) → ComesFrom m net o → ComesFrom n (is.from net) (origin_back is.from o)
   comes-back net o (port input) = port (input-back net input)
@@ -277,7 +277,7 @@ module _ (n m : NetlistData) (is : IsThinned n m) (free : IsFree n) where
       ap AckOf same
   comes-kept net o (gate {net = read} d in_d is_gate reads from) = comes-kept read o from
 
-  -- ---- T1: each net of m comes from somewhere, and so from where it did
+  -- ---- each net of m comes from somewhere, and so from where it did
 
   pub acks-forth : (bank : ℕ) (c : Cell) → AcksBank n bank c → AcksBank m (is.to bank) (moved is.to c)
   acks-forth bank c acks =

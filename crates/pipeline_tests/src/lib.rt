@@ -10,6 +10,8 @@ mod hazard_tests;
 #[cfg(test)]
 mod match_tests;
 #[cfg(test)]
+mod merge_tests;
+#[cfg(test)]
 mod orphan_tests;
 #[cfg(test)]
 mod report_tests;

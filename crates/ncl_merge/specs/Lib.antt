@@ -5,3 +5,4 @@ pub mod Thinned
 pub mod Rebuilt
 pub mod Folding
 pub mod Choice
+pub mod Merged

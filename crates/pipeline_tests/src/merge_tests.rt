@@ -103,16 +103,22 @@ const STAYING: [Row; 5] = [
     },
 ];
 
-/// The netlist after folds, until no two gates can be folded.
+/// The netlist after folds of one round, if two gates can be folded.
+fn round(alloc: Global, netlist: &Netlist) -> Result<Option<Netlist>, Fail> {
+    let pipeline = shape(alloc, netlist)?;
+    match fold_pipeline(alloc, &pipeline)? {
+        Some(lists) => Ok(Some(rebuild(alloc, &pipeline, &lists)?)),
+        None => Ok(None),
+    }
+}
+
+/// The netlist after folds, more rounds of them than a row needs.
 fn fold_all(alloc: Global, netlist: Netlist) -> Result<Netlist, Fail> {
     let mut folded = netlist;
-    for _ in 0..10 {
-        let pipeline = shape(alloc, &folded)?;
-        let Some(lists) = fold_pipeline(alloc, &pipeline)? else {
-            break;
-        };
-        let next = rebuild(alloc, &pipeline, &lists)?;
-        folded = next;
+    for _ in 0..5 {
+        if let Some(next) = round(alloc, &folded)? {
+            folded = next;
+        }
     }
     Ok(folded)
 }

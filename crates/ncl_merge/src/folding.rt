@@ -1,5 +1,5 @@
 //! Folding the cells of a stage.
-ghost use Rattle.std.specs.Prelude.{All, ◌||◌, ◌+◌, ◌++◌, [], ◌∷◌, drop, IfOk, ℕ, true, false, ◌≡◌, ◌<◌, ◌≤◌, length, set, Some as IsSome, None as IsNone, Contains, slice_get, MatchOption};
+ghost use Rattle.std.specs.Prelude.{All, ◌||◌, ◌+◌, ◌++◌, [], ◌∷◌, drop, IfOk, ℕ, true, false, ◌≡◌, ◌<◌, ◌≤◌, length, set, Some, None, Contains, slice_get, MatchOption};
 ghost use Rattle.ncl_shape.specs.declared.stage.StageCell.{StageCell as Cell};
 ghost use Rattle.ncl_origin.specs.Tables.{IsTable};
 ghost use Rattle.ncl_merge.specs.Fold.{IsOnOnePin, FoldsTo, pins_of};
@@ -24,8 +24,8 @@ fn fold_at(
     requires counts { CountsPins stage.now pins.now }
     requires folding { IsFolding stage.now done.now cell.now }
     requires pin { pin < length cell.now.ins.items }
-    requires one { (net : NetId) → slice_get cell.now.ins.items pin ≡ IsSome net → slice_get pins.now net.0 ≡ IsSome 1 }
-    ensures { MatchOption result ((net : NetId) → slice_get cell.now.ins.items pin ≡ IsSome net → HasNoneAt done.now cell.now place net) (λ gate. IsFoldedAt stage.now done.now cell.now place gate.kind gate.ins.items) }
+    requires one { (net : NetId) → slice_get cell.now.ins.items pin ≡ Some net → slice_get pins.now net.0 ≡ Some 1 }
+    ensures { MatchOption result ((net : NetId) → slice_get cell.now.ins.items pin ≡ Some net → HasNoneAt done.now cell.now place net) (λ gate. IsFoldedAt stage.now done.now cell.now place gate.kind gate.ins.items) }
 {
     stage.facts();
     if done.len() <= place {
@@ -44,7 +44,7 @@ fn fold_at(
 
 /// The place of the cell that drives a net, where the net is on one pin.
 fn place_of(pins: &[u32], places: &[usize], net: NetId) -> Option<usize>
-    ensures { MatchOption result ((place : ℕ) → slice_get pins.now net.0 ≡ IsSome 1 → slice_get places.now net.0 ≡ IsSome place → ⊥) (λ place. (slice_get pins.now net.0 ≡ IsSome 1) × (slice_get places.now net.0 ≡ IsSome place)) }
+    ensures { MatchOption result ((place : ℕ) → slice_get pins.now net.0 ≡ Some 1 → slice_get places.now net.0 ≡ Some place → ⊥) (λ place. (slice_get pins.now net.0 ≡ Some 1) × (slice_get places.now net.0 ≡ Some place)) }
 {
     let net = net.0 as usize;
     if pins.len() <= net {
@@ -91,7 +91,7 @@ fn find_fold(
 /// Empties a slot.
 fn empty(done: &mut Vec<Option<StageCell>>, place: usize)
     requires { place < length done.old.items }
-    ensures { done.new.items ≡ set done.old.items place IsNone }
+    ensures { done.new.items ≡ set done.old.items place None }
 {
     done[place] = None;
 }
@@ -189,7 +189,7 @@ fn put_next(
     ensures long { IfOk result (λ _. length done.new.items ≡ length done.old.items + 1) }
     ensures few { IfOk result (λ _. length (present done.new.items) ≤ length (present done.old.items) + 1) }
     ensures fewer { IfOk result (λ folded. folded ≡ true → length (present done.new.items) < length (present done.old.items) + 1) }
-    ensures same { IfOk result (λ folded. folded ≡ false → (done.new.items ≡ done.old.items ++ IsSome cell ∷ []) × HasNone pins.now places.now done.old.items cell) }
+    ensures same { IfOk result (λ folded. folded ≡ false → (done.new.items ≡ done.old.items ++ Some cell ∷ []) × HasNone pins.now places.now done.old.items cell) }
 {
     let next = fold_into(stage, pins, places, done, cell);
     done.push(Some(next.cell))?;

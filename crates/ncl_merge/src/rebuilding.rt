@@ -1,5 +1,5 @@
 //! The netlist of a pipeline whose stages were folded.
-ghost use Rattle.std.specs.Prelude.{◌≡◌, ◌<◌, ◌^◌, ◌||◌, ◌++◌, ℕ, [], ◌∷◌, All, IfOk, List, IfSome, length, map, slice_get, false, None as IsNone, Some as IsSome};
+ghost use Rattle.std.specs.Prelude.{◌≡◌, ◌<◌, ◌^◌, ◌||◌, ◌++◌, ℕ, [], ◌∷◌, All, IfOk, List, IfSome, length, map, slice_get, false, None, Some};
 ghost use Rattle.std.specs.List.{slice_index_or};
 ghost use Rattle.ncl_netlist.specs.declared.ids.NetId.{NetId as NetNumber};
 ghost use Rattle.ncl_netlist.specs.Faults.{IsFaultless};
@@ -166,7 +166,7 @@ fn kept_cells(
 ) -> Result<Vec<PartCell>, Memory>
     requires gates { length gates.now ≡ length netlist.now.nets }
     requires staged { length staged.now ≡ length netlist.now.nets }
-    requires pins { (net : ℕ) (g : Gate) → slice_get gates.now net ≡ IsSome (IsSome g) → All (λ (x : NetNumber). x.0 < length netlist.now.nets) g.ins.items }
+    requires pins { (net : ℕ) (g : Gate) → slice_get gates.now net ≡ Some (Some g) → All (λ (x : NetNumber). x.0 < length netlist.now.nets) g.ins.items }
     ensures { IfOk result (λ parts. parts.items ≡ map (part_of netlist.now.nets) (kept (choice_by gates.now staged.now) netlist.now.cells)) }
 {
     let mut parts = Vec::with_capacity(alloc, netlist.cells().len())?;

@@ -130,9 +130,9 @@ module _ (p : PipelineData) (shape : Shape p.netlist p) (lists : List (List Stag
       let here_is : get_or p.outputs j no_rails ≡ r = get_or_from_slice_get p.outputs j r no_rails at_r in
       let side : (b : Bool) → name_at m (to (rail_at p.outputs j b)) ≡ name_at n (rail_at p.outputs j b) =
       λ b.
-          let (c, of_rail) = register_of_rail n shape.is_netlist shape.free last bank j b (omega (arith, within, long)) in
-          let drives = (drives_rail n last p.outputs rails j b c of_rail).1 in
-          subst (λ x. name_at m (to x) ≡ name_at n x) drives (name-register c of_rail.of_bank.0 of_rail.of_bank.1) in (
+      let (c, of_rail) = register_of_rail n shape.is_netlist shape.free last bank j b (omega (arith, within, long)) in
+      let drives = (drives_rail n last p.outputs rails j b c of_rail).1 in
+      subst (λ x. name_at m (to x) ≡ name_at n x) drives (name-register c of_rail.of_bank.0 of_rail.of_bank.1) in (
         subst (λ (q : Rails). name_at m (to q.zero.0) ≡ name_at n q.zero.0) here_is (side false),
         subst (λ (q : Rails). name_at m (to q.one.0) ≡ name_at n q.one.0) here_is (side true),
       ))
@@ -214,8 +214,11 @@ module _ (p : PipelineData) (shape : Shape p.netlist p) (lists : List (List Stag
       let stands : CellAt m (at f.cell.0) (moved to (with_gate_of c f)) =
       subst (λ xs. slice_get xs (at f.cell.0) ≡ Some (moved to (with_gate_of c f))) (sym (cells-moved n shape.is_netlist shape.free choice chosen))
       (at_map (moved to) (kept choice n.cells) (at f.cell.0) (with_gate_of c f) (kept_at choice n.cells f.cell.0 c (with_gate_of c f) at_c is)) in
-      let among = in-kept n shape.is_netlist shape.free choice chosen f.cell.0 c (with_gate_of c f) at_c is in
-      (old, Contains-from_Member old m-old, record {
-        name = name-of_cell m (at f.cell.0) (moved to (with_gate_of c f)) stands ∙ sym (name-of_cell n f.cell.0 c at_c) ∙ ap (λ (x : CellId). cell_name n x.0) number;
-        net = ap (λ (x : NetId). name_at m (to x.0)) (sym out) ∙ name-kept (with_gate_of c f) among c.out (out-in n shape.is_netlist shape.free choice chosen (with_gate_of c f)) ∙ ap (λ (x : NetId). name_at n x.0) (out ∙ same);
-      })
+      let among = in-kept n shape.is_netlist shape.free choice chosen f.cell.0 c (with_gate_of c f) at_c is in (
+        old,
+        Contains-from_Member old m-old,
+        record {
+          name = name-of_cell m (at f.cell.0) (moved to (with_gate_of c f)) stands ∙ sym (name-of_cell n f.cell.0 c at_c) ∙ ap (λ (x : CellId). cell_name n x.0) number;
+          net = ap (λ (x : NetId). name_at m (to x.0)) (sym out) ∙ name-kept (with_gate_of c f) among c.out (out-in n shape.is_netlist shape.free choice chosen (with_gate_of c f)) ∙ ap (λ (x : NetId). name_at n x.0) (out ∙ same);
+        },
+      )

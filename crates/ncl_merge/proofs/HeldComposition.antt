@@ -94,8 +94,8 @@ module _ {p : PipelineData} {l : Layout} (is : IsLayoutOf p l) (sound : All IsSo
         ∙ wires-pass (l.stage l.last) (is.is_stage l.last (omega arith)) is.last_wires (words l.last) (pass.wide l.last lt (omega arith))
         ∙ ap words (sym count)
         ∙ from_stage words (drop k p.stages) (suc k)
-          (λ i s at_s. ap l.stage (let next : suc k + i ≡ suc (k + i) = omega arith in next) ∙ is.in_order (k + i) s (sym (slice_get-drop k p.stages i) ∙ at_s))
-          (λ i within. pass.law (suc k + i) (omega arith) (omega (arith, within, count)))
+        (λ i s at_s. ap l.stage (let next : suc k + i ≡ suc (k + i) = omega arith in next) ∙ is.in_order (k + i) s (sym (slice_get-drop k p.stages i) ∙ at_s))
+        (λ i within. pass.law (suc k + i) (omega arith) (omega (arith, within, count)))
         ∙ ap (composed (drop k p.stages)) start
 
 module _ (p : PipelineData) (shape : Shape p.netlist p) (l : Layout) (is : IsLayoutOf p l) where

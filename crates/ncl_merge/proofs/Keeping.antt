@@ -140,18 +140,23 @@ module _ (p q u r : PipelineData) (one : Keeps p q) (same : IsSamePipeline u q) 
   stages-along (x ∷ xs) [] zs ws a b c = absurd a
   stages-along (x ∷ xs) (y ∷ ys) [] ws a b c = absurd b
   stages-along (x ∷ xs) (y ∷ ys) (z ∷ zs) [] a b c = absurd c
-  stages-along (x ∷ xs) (y ∷ ys) (z ∷ zs) (w ∷ ws) (first, rest) (alike, others) (next, last) =
-      (record {
-        labels = λ g m.
-            let (mid, m-mid, label) = next.labels g m in
-            let (old, m-old, own) = first.labels mid (Contains-permutation z.cells y.cells mid alike.cells m-mid) in
-            (old, m-old, record {
+  stages-along (x ∷ xs) (y ∷ ys) (z ∷ zs) (w ∷ ws) (first, rest) (alike, others) (next, last) = (
+    record {
+      labels = λ g m.
+          let (mid, m-mid, label) = next.labels g m in
+          let (old, m-old, own) = first.labels mid (Contains-permutation z.cells y.cells mid alike.cells m-mid) in (
+            old,
+            m-old,
+            record {
               name = label.name ∙ ap (λ (n : NetlistData). cell_name n mid.cell.0) same.netlist ∙ own.name;
               net = label.net ∙ ap (λ (n : NetlistData). name_at n mid.out.0) same.netlist ∙ own.net;
-            });
-        inputs = next.inputs ∙ ap length alike.inputs ∙ first.inputs;
-        function = λ word. next.function word ∙ same-function z y alike word ∙ first.function word;
-      }, stages-along xs ys zs ws rest others last)
+            },
+          );
+      inputs = next.inputs ∙ ap length alike.inputs ∙ first.inputs;
+      function = λ word. next.function word ∙ same-function z y alike word ∙ first.function word;
+    },
+    stages-along xs ys zs ws rest others last,
+  )
 
   function-same : (request : ℕ) → function_at u request ≡ function_at q request
   function-same request =
@@ -164,11 +169,13 @@ module _ (p q u r : PipelineData) (one : Keeps p q) (same : IsSamePipeline u q) 
   banks-along [] (y ∷ ys) ws a c = absurd a
   banks-along (x ∷ xs) [] ws a c = absurd a
   banks-along (x ∷ xs) (y ∷ ys) [] a c = absurd c
-  banks-along (x ∷ xs) (y ∷ ys) (w ∷ ws) (first, rest) (next, last) =
-      (record {
-        held = next.held ∙ first.held;
-        passes = λ data_is. next.passes (same-data x y first.held data_is) ∙ function-same y.request.0 ∙ first.passes data_is;
-      }, banks-along xs ys ws rest last)
+  banks-along (x ∷ xs) (y ∷ ys) (w ∷ ws) (first, rest) (next, last) = (
+    record {
+      held = next.held ∙ first.held;
+      passes = λ data_is. next.passes (same-data x y first.held data_is) ∙ function-same y.request.0 ∙ first.passes data_is;
+    },
+    banks-along xs ys ws rest last,
+  )
 
   names-along : All (Contains p.netlist.nets) r.netlist.nets
   names-along =

@@ -23,7 +23,7 @@ file_works files file limit why reply e =
 abbrev IsNoCheck : Option Command → Type 0
 IsNoCheck None = Unit {0}
 IsNoCheck (Some (check file limit why)) = ⊥
-IsNoCheck (Some (compile file)) = Unit {0}
+IsNoCheck (Some (compile file merge)) = Unit {0}
 IsNoCheck (Some (sim netlist delays offers vcd)) = Unit {0}
 IsNoCheck (Some (matching netlist blif limit)) = Unit {0}
 IsNoCheck (Some (demo bits)) = Unit {0}
@@ -33,7 +33,7 @@ answer_works words files file limit why asked (not_understood none) e = absurd (
 answer_works words files file limit why asked (replied (check named number asks) is status text reply) e =
     let same : named ≡ file = let both : Some (check named number asks) ≡ Some (check file limit why) = sym is ∙ asked in cc in
     subst (λ name. IsDelayInsensitiveText (bytes_of files name)) same (file_works files named number asks reply e)
-answer_works words files file limit why asked (replied (compile named) is status text reply) e =
+answer_works words files file limit why asked (replied (compile named merge) is status text reply) e =
     absurd (subst IsNoCheck (sym is ∙ asked) tt)
 answer_works words files file limit why asked (replied (sim netlist delays offers vcd) is status text reply) e =
     absurd (subst IsNoCheck (sym is ∙ asked) tt)

@@ -1,5 +1,5 @@
 -- The bytes of a file determine the status of what `compile` replies to them.
-use Rattle.std.proofs.Common.{◌≡◌, ◌≢◌, ℕ, List, refl, subst, arith}
+use Rattle.std.proofs.Common.{◌≡◌, ◌≢◌, ℕ, Bool, List, refl, subst, arith}
 use Rattle.std.proofs.lemmas.List.Elements.{All-contains}
 use Rattle.ncl_base.proofs.Members.{Contains-from_slice_get}
 use Rattle.ncl_blif.specs.declared.model.Model.{Model}
@@ -17,17 +17,17 @@ no_fault models can TooLong named fault = absurd (omega (arith, can.few, fault.1
 no_fault models can TooMany named fault = absurd (omega (arith, can.small, fault.2))
 no_fault models can Memory named fault = named refl
 
-models_status : (models : List Model) {status other : ℕ} {text line : List ℕ} → IsModelsReply models status text → IsModelsReply models other line → status ≡ other
-models_status models (too_large fault named is) (too_large fault' named' is') = refl
-models_status models (too_large fault named is) (compiled can n of) = absurd (no_fault models can fault named is)
-models_status models (compiled can n of) (too_large fault named is) = absurd (no_fault models can fault named is)
-models_status models (compiled can n of) (compiled can' n' of') = refl
+models_status : (models : List Model) (merge : Bool) {status other : ℕ} {text line : List ℕ} → IsModelsReply models merge status text → IsModelsReply models merge other line → status ≡ other
+models_status models merge (too_large fault named is) (too_large fault' named' is') = refl
+models_status models merge (too_large fault named is) (compiled can n of text written) = absurd (no_fault models can fault named is)
+models_status models merge (compiled can n of text written) (too_large fault named is) = absurd (no_fault models can fault named is)
+models_status models merge (compiled can n of text written) (compiled can' n' of' text' written') = refl
 
 -- whatever is replied to bytes, its status is the same
-pub same_compile_status : (bytes : List ℕ) {status other : ℕ} {text line : List ℕ} → IsCompileReply bytes status text → IsCompileReply bytes other line → status ≡ other
-same_compile_status bytes (no_models text none) (no_models line none') = refl
-same_compile_status bytes (no_models text none) (modelled models said status line reply) = absurd (refused_models_none bytes models none said)
-same_compile_status bytes (modelled models said status text reply) (no_models line none) = absurd (refused_models_none bytes models none said)
-same_compile_status bytes (modelled models said status text reply) (modelled models' said' status' line reply') =
+pub same_compile_status : (bytes : List ℕ) (merge : Bool) {status other : ℕ} {text line : List ℕ} → IsCompileReply bytes merge status text → IsCompileReply bytes merge other line → status ≡ other
+same_compile_status bytes merge (no_models text none) (no_models line none') = refl
+same_compile_status bytes merge (no_models text none) (modelled models said status line reply) = absurd (refused_models_none bytes models none said)
+same_compile_status bytes merge (modelled models said status text reply) (no_models line none) = absurd (refused_models_none bytes models none said)
+same_compile_status bytes merge (modelled models said status text reply) (modelled models' said' status' line reply') =
     let same : models ≡ models' = one_models bytes models models' said said' in
-    models_status models' (subst (λ ms. IsModelsReply ms status text) same reply) reply'
+    models_status models' merge (subst (λ ms. IsModelsReply ms merge status text) same reply) reply'

@@ -1,5 +1,6 @@
 -- What is compiled works at every gate delay, and is accepted.
-use Rattle.std.proofs.Common.{◌≡◌, ℕ, List, Option, Some, None, inl, inr, refl, sym, ap, ◌∙◌, subst, arith}
+use Rattle.std.proofs.Common.{◌≡◌, ℕ, Bool, true, false, List, Option, Some, None, inl, inr, refl, sym, ap, ◌∙◌, subst, arith}
+use Rattle.std.proofs.lemmas.Bool.{both_ways}
 use Rattle.ncl_base.specs.Files.{Files}
 use Rattle.ncl_blif.specs.declared.model.Model.{Model}
 use Rattle.ncl_netlist.specs.Netlist.{NetlistData}
@@ -12,9 +13,10 @@ use Rattle.ncl_machine.proofs.Headline.{delay_insensitive}
 use Rattle.ncl_check.specs.Reply.{outcome_of}
 use Rattle.ncl_check.proofs.OneReply.{outcome_is}
 use Rattle.ncl_compile.specs.Compiled.{Compiled}
+use Rattle.ncl_merge.specs.Merged.{Merged}
 use Rattle.ncl_words.specs.Command.{Words, Command, check, compile, sim, matching, demo, command_of}
-use Rattle.ncl_top.specs.Compiling.{IsModelsReply, too_large, compiled, IsCompileReply, no_models, modelled}
-use Rattle.ncl_top.specs.Answer.{Answer, not_understood, replied, WorksAndIsAccepted, SourceState, SinkState, Says, answered, read_failed, no_memory, Tells, whole, cut_short, Ran, CompilesWhatWorks}
+use Rattle.ncl_top.specs.Compiling.{IsCompiledText, plain, merged, IsModelsReply, too_large, compiled, IsCompileReply, no_models, modelled}
+use Rattle.ncl_top.specs.Answer.{Answer, not_understood, replied, WorksAndIsAccepted, IsMergedText, SourceState, SinkState, Says, answered, read_failed, no_memory, Tells, whole, cut_short, Ran, CompilesWhatWorks}
 use Rattle.ncl_top.proofs.PlainNames.{writable}
 
 -- the text of a compiled netlist
@@ -33,36 +35,47 @@ compiled_works models n c =
           ];
     }
 
-models_work : (models : List Model) {status : ℕ} {text : List ℕ} → IsModelsReply models status text → status ≡ 0 → WorksAndIsAccepted text
-models_work models (too_large fault named is) e = absurd (omega arith)
-models_work models (compiled can n of) e = compiled_works models n of
+-- what is written where models are compiled
+abbrev IsGood : Bool → List ℕ → Type 0
+IsGood merge text = WorksAndIsAccepted text × (merge ≡ true → IsMergedText text)
 
-file_works : (bytes : List ℕ) {status : ℕ} {text : List ℕ} → IsCompileReply bytes status text → status ≡ 0 → WorksAndIsAccepted text
-file_works bytes (no_models text none) e = absurd (omega arith)
-file_works bytes (modelled models said status text reply) e = models_work models reply e
+text_works : (models : List Model) (n : NetlistData) (merge : Bool) {text : List ℕ} → Compiled models n → IsCompiledText models n merge text → IsGood merge text
+text_works models n merge of (plain not_asked) = (compiled_works models n of, λ asked. absurd (both_ways merge not_asked asked))
+text_works models n merge of (merged asked m from also) =
+    (compiled_works models m also, λ asked. record { models = models; before = n; after = m; compiled_before = of; compiled = also; merged = from; is = refl })
 
--- no compiling is asked
-abbrev IsNoCompiling : Option Command → Type 0
-IsNoCompiling None = Unit {0}
-IsNoCompiling (Some (check file limit why)) = Unit {0}
-IsNoCompiling (Some (compile file)) = ⊥
-IsNoCompiling (Some (sim netlist delays offers vcd)) = Unit {0}
-IsNoCompiling (Some (matching netlist blif limit)) = Unit {0}
-IsNoCompiling (Some (demo bits)) = Unit {0}
+models_work : (models : List Model) (merge : Bool) {status : ℕ} {text : List ℕ} → IsModelsReply models merge status text → status ≡ 0 → IsGood merge text
+models_work models merge (too_large fault named is) e = absurd (omega arith)
+models_work models merge (compiled can n of text written) e = text_works models n merge of written
 
-answer_works : (words : Words) (told : Option Files) (file : List ℕ) {status : ℕ} {text : List ℕ} → command_of words ≡ Some (compile file) → Answer words told status text → status ≡ 0 → WorksAndIsAccepted text
-answer_works words told file asked (not_understood none) e = absurd (omega arith)
-answer_works words told file asked (replied (check named limit why) is status text reply) e = absurd (subst IsNoCompiling (sym is ∙ asked) tt)
-answer_works words told file asked (replied (demo bits) is status text reply) e = absurd (subst IsNoCompiling (sym is ∙ asked) tt)
-answer_works words told file asked (replied (sim netlist delays offers vcd) is status text reply) e = absurd (subst IsNoCompiling (sym is ∙ asked) tt)
-answer_works words told file asked (replied (matching netlist blif limit) is status text reply) e = absurd (subst IsNoCompiling (sym is ∙ asked) tt)
-answer_works words told file asked (replied (compile named) is status text reply) e = file_works reply.bytes reply.reply e
+file_works : (bytes : List ℕ) (merge : Bool) {status : ℕ} {text : List ℕ} → IsCompileReply bytes merge status text → status ≡ 0 → IsGood merge text
+file_works bytes merge (no_models text none) e = absurd (omega arith)
+file_works bytes merge (modelled models said status text reply) e = models_work models merge reply e
+
+-- the command is this one for compiling
+abbrev IsCompiling : List ℕ → Bool → Option Command → Type 0
+IsCompiling file merge None = ⊥
+IsCompiling file merge (Some (check named limit why)) = ⊥
+IsCompiling file merge (Some (compile named own)) = own ≡ merge
+IsCompiling file merge (Some (sim netlist delays offers vcd)) = ⊥
+IsCompiling file merge (Some (matching netlist blif limit)) = ⊥
+IsCompiling file merge (Some (demo bits)) = ⊥
+
+answer_works : (words : Words) (told : Option Files) (file : List ℕ) (merge : Bool) {status : ℕ} {text : List ℕ} → command_of words ≡ Some (compile file merge) → Answer words told status text → status ≡ 0 → IsGood merge text
+answer_works words told file merge asked (not_understood none) e = absurd (omega arith)
+answer_works words told file merge asked (replied (check named limit why) is status text reply) e = absurd (subst (IsCompiling file merge) (sym asked ∙ is) refl)
+answer_works words told file merge asked (replied (demo bits) is status text reply) e = absurd (subst (IsCompiling file merge) (sym asked ∙ is) refl)
+answer_works words told file merge asked (replied (sim netlist delays offers vcd) is status text reply) e = absurd (subst (IsCompiling file merge) (sym asked ∙ is) refl)
+answer_works words told file merge asked (replied (matching netlist blif limit) is status text reply) e = absurd (subst (IsCompiling file merge) (sym asked ∙ is) refl)
+answer_works words told file merge asked (replied (compile named own) is status text reply) e =
+    let same : own ≡ merge = subst (IsCompiling file merge) (sym asked ∙ is) refl in
+    subst (λ flag. IsGood flag text) same (file_works reply.bytes own reply.reply e)
 
 end_works : (words : Words) (source source' : SourceState) (sink sink' : SinkState) {said status : ℕ} {text : List ℕ} → Says words source source' said text → Tells sink sink' said text status → CompilesWhatWorks words sink sink' status
-end_works words source source' sink sink' (answered status text answer) (whole grew) file asked e = (text, answer_works words source.files file asked answer e, grew)
-end_works words source source' sink sink' says (cut_short rose grew) file asked e = absurd (omega arith)
-end_works words source source' sink sink' (read_failed command of named rose) (whole grew) file asked e = absurd (omega arith)
-end_works words source source' sink sink' no_memory (whole grew) file asked e = absurd (omega arith)
+end_works words source source' sink sink' (answered status text answer) (whole grew) file merge asked e = let (works, from) = answer_works words source.files file merge asked answer e in (text, works, from, grew)
+end_works words source source' sink sink' says (cut_short rose grew) file merge asked e = absurd (omega arith)
+end_works words source source' sink sink' (read_failed command of named rose) (whole grew) file merge asked e = absurd (omega arith)
+end_works words source source' sink sink' no_memory (whole grew) file merge asked e = absurd (omega arith)
 
 -- whatever ended with status 0 on compiling, ended so with a text that works
 pub compiles_what_works : (words : Words) (source source' : SourceState) (sink sink' : SinkState) (status : ℕ) → Ran words source source' sink sink' status → CompilesWhatWorks words sink sink' status

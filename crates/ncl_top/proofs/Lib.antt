@@ -16,3 +16,4 @@ mod Running
 mod Demonstrated
 mod SimReplies
 mod Refusals
+mod MergedModels

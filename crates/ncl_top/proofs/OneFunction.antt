@@ -78,7 +78,7 @@ files_same files netlist blif limit (piped bytes given p is status text reply) e
 abbrev IsNoMatching : Option Command → Type 0
 IsNoMatching None = Unit {0}
 IsNoMatching (Some (check file limit why)) = Unit {0}
-IsNoMatching (Some (compile file)) = Unit {0}
+IsNoMatching (Some (compile file merge)) = Unit {0}
 IsNoMatching (Some (sim netlist delays offers vcd)) = Unit {0}
 IsNoMatching (Some (matching netlist blif limit)) = ⊥
 IsNoMatching (Some (demo bits)) = Unit {0}
@@ -86,7 +86,7 @@ IsNoMatching (Some (demo bits)) = Unit {0}
 answer_same : (words : Words) (files : Files) (netlist blif : List ℕ) (limit : ℕ) {status : ℕ} {text : List ℕ} → command_of words ≡ Some (matching netlist blif limit) → Answer words (Some files) status text → status ≡ 0 → HaveOneFunction (bytes_of files netlist) (bytes_of files blif)
 answer_same words files netlist blif limit asked (not_understood none) e = absurd (omega arith)
 answer_same words files netlist blif limit asked (replied (check file most why) is status text reply) e = absurd (subst IsNoMatching (sym is ∙ asked) tt)
-answer_same words files netlist blif limit asked (replied (compile file) is status text reply) e = absurd (subst IsNoMatching (sym is ∙ asked) tt)
+answer_same words files netlist blif limit asked (replied (compile file merge) is status text reply) e = absurd (subst IsNoMatching (sym is ∙ asked) tt)
 answer_same words files netlist blif limit asked (replied (sim wires delays offers vcd) is status text reply) e = absurd (subst IsNoMatching (sym is ∙ asked) tt)
 answer_same words files netlist blif limit asked (replied (demo bits) is status text reply) e = absurd (subst IsNoMatching (sym is ∙ asked) tt)
 answer_same words files netlist blif limit asked (replied (matching first second most) is status text reply) e =

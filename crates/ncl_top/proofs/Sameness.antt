@@ -24,16 +24,16 @@ plain true asked = absurd (both_ways false refl asked)
 
 same_command_status : (files : Files) (command : Command) → IsTrue (determines_status command) → (status other : ℕ) (text line : List ℕ) → IsReply command (Some files) status text → IsReply command (Some files) other line → status ≡ other
 same_command_status files (check file limit why) determined status other text line one two = (same_file_reply files file limit why status other text line one two).0
-same_command_status files (compile file) determined status other text line one two =
+same_command_status files (compile file merge) determined status other text line one two =
     let bytes : one.bytes ≡ two.bytes = one.given ∙ sym two.given in
-    same_compile_status two.bytes (subst (λ bytes. IsCompileReply bytes status text) bytes one.reply) two.reply
+    same_compile_status two.bytes merge (subst (λ bytes. IsCompileReply bytes merge status text) bytes one.reply) two.reply
 same_command_status files (sim netlist delays words vcd) determined status other text line one two = (one_sim_reply files netlist delays words vcd one two).0
 same_command_status files (matching netlist blif limit) determined status other text line one two = (one_match_reply files netlist blif limit one two).0
 same_command_status files (demo bits) determined status other text line one two = absurd (both_ways false refl determined)
 
 same_command_text : (files : Files) (command : Command) → IsTrue (determines_text command) → (status other : ℕ) (text line : List ℕ) → IsReply command (Some files) status text → IsReply command (Some files) other line → text ≡ line
 same_command_text files (check file limit why) determined status other text line one two = (same_file_reply files file limit why status other text line one two).1 (plain why determined)
-same_command_text files (compile file) determined status other text line one two = absurd (both_ways false refl determined)
+same_command_text files (compile file merge) determined status other text line one two = absurd (both_ways false refl determined)
 same_command_text files (sim netlist delays words vcd) determined status other text line one two = (one_sim_reply files netlist delays words vcd one two).1
 same_command_text files (matching netlist blif limit) determined status other text line one two = (one_match_reply files netlist blif limit one two).1
 same_command_text files (demo bits) determined status other text line one two = absurd (both_ways false refl determined)

@@ -28,13 +28,13 @@ of_outcome Refused = (λ e. absurd (omega arith), λ e. absurd (omega arith))
 of_outcome NoPipeline = (λ e. absurd (omega arith), λ e. absurd (omega arith))
 of_outcome Unjudged = (λ e. absurd (omega arith), λ e. absurd (omega arith))
 
-of_models : (models : List Model) {status : ℕ} {text : List ℕ} → IsModelsReply models status text → IsOfNoFault status
-of_models models (too_large fault named is) = (λ e. absurd (omega arith), λ e. absurd (omega arith))
-of_models models (compiled can n of) = (λ e. absurd (omega arith), λ e. absurd (omega arith))
+of_models : (models : List Model) (merge : Bool) {status : ℕ} {text : List ℕ} → IsModelsReply models merge status text → IsOfNoFault status
+of_models models merge (too_large fault named is) = (λ e. absurd (omega arith), λ e. absurd (omega arith))
+of_models models merge (compiled can n of text written) = (λ e. absurd (omega arith), λ e. absurd (omega arith))
 
-of_compile : (bytes : List ℕ) {status : ℕ} {text : List ℕ} → IsCompileReply bytes status text → IsOfNoFault status
-of_compile bytes (no_models text none) = (λ e. absurd (omega arith), λ e. absurd (omega arith))
-of_compile bytes (modelled models said status text reply) = of_models models reply
+of_compile : (bytes : List ℕ) (merge : Bool) {status : ℕ} {text : List ℕ} → IsCompileReply bytes merge status text → IsOfNoFault status
+of_compile bytes merge (no_models text none) = (λ e. absurd (omega arith), λ e. absurd (omega arith))
+of_compile bytes merge (modelled models said status text reply) = of_models models merge reply
 
 of_end : (end : End) (all : Bool) → IsOfNoFault (end_status end all)
 of_end Quiet true = (λ e. absurd (omega arith), λ e. absurd (omega arith))
@@ -77,7 +77,7 @@ of_demo bits (demonstrating.too_large p made stage limit) = (λ e. absurd (omega
 
 of_reply : (command : Command) (told : Option Files) (status : ℕ) (text : List ℕ) → IsReply command told status text → IsOfNoFault status
 of_reply (check file limit why) told status text reply = subst IsOfNoFault (sym reply.ends) (of_outcome reply.outcome)
-of_reply (compile file) told status text reply = of_compile reply.bytes reply.reply
+of_reply (compile file merge) told status text reply = of_compile reply.bytes merge reply.reply
 of_reply (sim netlist delays words vcd) told status text reply = of_sim told netlist delays words vcd reply
 of_reply (matching netlist blif limit) told status text reply = of_match told netlist blif limit reply
 of_reply (demo bits) told status text reply = of_demo bits reply

@@ -16,6 +16,10 @@ use Rattle.ncl_check.specs.Text.{IsPipelineText}
 use Rattle.ncl_blif.specs.declared.model.Model.{Model}
 use Rattle.ncl_blif.specs.Meaning.{Computes}
 use Rattle.ncl_shape.specs.Closure.{function_of}
+use Rattle.ncl_netlist.specs.Netlist.{NetlistData}
+use Rattle.ncl_writer.specs.Text.{text_of}
+use Rattle.ncl_compile.specs.Compiled.{Compiled}
+use Rattle.ncl_merge.specs.Merged.{Merged}
 use Rattle.ncl_match.specs.Circuit.{circuit_of}
 use Rattle.ncl_match.specs.Answer.{HaveWidths}
 use Rattle.ncl_words.specs.Command.{Words, Command, check, compile, sim, matching, demo, command_of, files_named}
@@ -40,16 +44,16 @@ pub record IsFileReply (told : Option Files) (file : List ℕ) (limit : ℕ) (wh
   pub ends : status ≡ status_of outcome
   pub reply : IsCheckReply limit why bytes outcome text
 
--- what `compile` replies to a file
-pub record IsCompiledFile (told : Option Files) (file : List ℕ) (status : ℕ) (text : List ℕ) : Type 0 where
+-- what `compile` replies to a file, where gates are merged or not
+pub record IsCompiledFile (told : Option Files) (file : List ℕ) (merge : Bool) (status : ℕ) (text : List ℕ) : Type 0 where
   pub bytes : List ℕ
   pub given : IsGiven told file bytes
-  pub reply : IsCompileReply bytes status text
+  pub reply : IsCompileReply bytes merge status text
 
 -- what a command replies where the source tells this of its files. Each load of a file gives bytes of its own
 abbrev pub IsReply : Command → Option Files → ℕ → List ℕ → Type 0
 IsReply (check file limit why) told status text = IsFileReply told file limit why status text
-IsReply (compile file) told status text = IsCompiledFile told file status text
+IsReply (compile file merge) told status text = IsCompiledFile told file merge status text
 IsReply (sim netlist delays words vcd) told status text = IsSimReply told netlist delays words vcd status text
 IsReply (matching netlist blif limit) told status text = IsMatchReply told netlist blif limit status text
 IsReply (demo bits) told status text = IsDemoReply bits status text
@@ -64,7 +68,7 @@ pub data Answer (words : Words) (told : Option Files) : ℕ → List ℕ → Typ
 -- whether the files determine the text that a command replies, and not its status alone: several runs show an orphan
 abbrev pub determines_text : Command → Bool
 determines_text (check file limit why) = not why
-determines_text (compile file) = false
+determines_text (compile file merge) = false
 determines_text (sim netlist delays words vcd) = true
 determines_text (matching netlist blif limit) = true
 determines_text (demo bits) = false
@@ -72,7 +76,7 @@ determines_text (demo bits) = false
 -- whether the files determine the status: the netlist of a demo is one of many, of which some could pass the limit
 abbrev pub determines_status : Command → Bool
 determines_status (check file limit why) = true
-determines_status (compile file) = true
+determines_status (compile file merge) = true
 determines_status (sim netlist delays words vcd) = true
 determines_status (matching netlist blif limit) = true
 determines_status (demo bits) = false
@@ -146,11 +150,22 @@ pub record WorksAndIsAccepted (text : List ℕ) : Type 0 where
   pub works : IsDelayInsensitiveText text
   pub check : (limit : ℕ) (why : Bool) (outcome : Outcome) (line : List ℕ) → IsCheckReply limit why text outcome line → (AreWithin limit works.pipeline.stages × (outcome ≡ Accepted)) ⊎ ((AreWithin limit works.pipeline.stages → ⊥) × (outcome ≡ Unjudged))
 
--- where the words ask for compiling a file and the status is 0, such a text was written, whatever the source tells
+-- the text is that of a netlist that is merged from another, where both are compiled from the same models
+pub record IsMergedText (text : List ℕ) : Type 0 where
+  pub models : List Model
+  pub before : NetlistData
+  pub after : NetlistData
+  pub compiled_before : Compiled models before
+  pub compiled : Compiled models after
+  pub merged : Merged before after
+  pub is : text ≡ text_of after
+
+-- where the words ask for compiling a file and the status is 0, a text that works was written, whatever the source tells; and
+-- where they ask for merging too, it is that of a merged netlist
 abbrev pub CompilesWhatWorks : Words → SinkState → SinkState → ℕ → Type 0
 CompilesWhatWorks words sink sink_after status =
-    (file : List ℕ) → command_of words ≡ Some (compile file) → status ≡ 0
-    → (text : List ℕ) × WorksAndIsAccepted text × Grew sink.written text sink_after.written
+    (file : List ℕ) (merge : Bool) → command_of words ≡ Some (compile file merge) → status ≡ 0
+    → (text : List ℕ) × WorksAndIsAccepted text × (merge ≡ true → IsMergedText text) × Grew sink.written text sink_after.written
 
 -- where the words ask for the check of a file, the source tells its files and the status is 0, the bytes
 -- under the file's name are the text of a netlist that is delay-insensitive

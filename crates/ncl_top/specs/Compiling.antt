@@ -1,5 +1,5 @@
 -- What `compile` replies to the bytes of a file.
-use Rattle.std.specs.Prelude.{◌≢◌, ℕ, ◌<◌, ◌≤◌, List, length, codes}
+use Rattle.std.specs.Prelude.{◌≡◌, ◌≢◌, ℕ, ◌<◌, ◌≤◌, Bool, true, false, List, length, codes}
 use Rattle.ncl_base.specs.declared.source.TheConstants.{MOST_BYTES}
 use Rattle.ncl_blif.specs.declared.fault.BlifFault.{BlifFault}
 use Rattle.ncl_blif.specs.declared.model.Model.{Model}
@@ -14,6 +14,7 @@ use Rattle.ncl_report.specs.BlifText.{blif_line}
 use Rattle.ncl_report.specs.CompileText.{compile_line}
 use Rattle.ncl_compile.specs.Size.{IsCompileFault, CanBeCompiled}
 use Rattle.ncl_compile.specs.Compiled.{Compiled}
+use Rattle.ncl_merge.specs.Merged.{Merged}
 
 -- the bytes say these models
 pub record AreModelsText (bytes : List ℕ) (models : List Model) : Type 0 where
@@ -28,17 +29,23 @@ pub data AreRefusedModels (bytes : List ℕ) : List ℕ → Type 0 where
   -- the text is refused at its first line or model that breaks
   unread : length bytes ≤ MOST_BYTES → (fault : BlifFault) → IsRefused bytes fault → AreRefusedModels bytes (blif_line fault)
 
--- what `compile` replies to models: a status and a text. The choice of gates is free, so the text of any netlist
--- that is compiled from the models is right
-pub data IsModelsReply (models : List Model) : ℕ → List ℕ → Type 0 where
+-- the text that is written where a netlist was compiled from models: its own, or that of one that is merged from it and is
+-- compiled from the models too
+pub data IsCompiledText (models : List Model) (n : NetlistData) (merge : Bool) : List ℕ → Type 0 where
+  plain : merge ≡ false → IsCompiledText models n merge (text_of n)
+  merged : merge ≡ true → (m : NetlistData) → Merged n m → Compiled models m → IsCompiledText models n merge (text_of m)
+
+-- what `compile` replies to models, where gates are merged or not: a status and a text. The choice of gates is free, so the
+-- text of any netlist that is compiled from the models is right, and that of any that is merged from such a one
+pub data IsModelsReply (models : List Model) (merge : Bool) : ℕ → List ℕ → Type 0 where
   -- they are too large
-  too_large : (fault : CompileFault) → fault ≢ Memory → IsCompileFault models fault → IsModelsReply models 3 (compile_line fault)
-  -- a netlist that is compiled from them has this text
-  compiled : CanBeCompiled models → (n : NetlistData) → Compiled models n → IsModelsReply models 0 (text_of n)
+  too_large : (fault : CompileFault) → fault ≢ Memory → IsCompileFault models fault → IsModelsReply models merge 3 (compile_line fault)
+  -- a netlist is compiled from them, and this is written of it
+  compiled : CanBeCompiled models → (n : NetlistData) → Compiled models n → (text : List ℕ) → IsCompiledText models n merge text → IsModelsReply models merge 0 text
 
 -- what `compile` replies to the bytes of a file
-pub data IsCompileReply (bytes : List ℕ) : ℕ → List ℕ → Type 0 where
+pub data IsCompileReply (bytes : List ℕ) (merge : Bool) : ℕ → List ℕ → Type 0 where
   -- they say no models
-  no_models : (text : List ℕ) → AreRefusedModels bytes text → IsCompileReply bytes 3 text
+  no_models : (text : List ℕ) → AreRefusedModels bytes text → IsCompileReply bytes merge 3 text
   -- they say models, and this is the reply to them
-  modelled : (models : List Model) → AreModelsText bytes models → (status : ℕ) (text : List ℕ) → IsModelsReply models status text → IsCompileReply bytes status text
+  modelled : (models : List Model) → AreModelsText bytes models → (status : ℕ) (text : List ℕ) → IsModelsReply models merge status text → IsCompileReply bytes merge status text

@@ -1,32 +1,74 @@
 //! What `compile` replies to models.
-ghost use Rattle.std.specs.Prelude.{◌≡◌, ◌≢◌, IfOk, IsErrOf, OnOk};
+ghost use Rattle.std.specs.Prelude.{◌≡◌, ◌≢◌, true, false, IfOk, IsErrOf, OnOk};
 ghost use Rattle.ncl_blif.specs.Model.{AreModels};
 ghost use Rattle.ncl_network.specs.declared.fault.CompileFault.TheVariants.{Memory as CompileMemory};
 ghost use Rattle.ncl_report.specs.CompileText.{compile_line};
-ghost use Rattle.ncl_top.specs.Compiling.{IsModelsReply};
+ghost use Rattle.ncl_compile.specs.Compiled.{Compiled};
+ghost use Rattle.ncl_top.specs.Compiling.{IsCompiledText, IsModelsReply};
 ghost use Rattle.ncl_top.specs.Replies.{Gives};
 
 use crate::reply::{Fault, Reply};
 use ncl_base::Memory;
 use ncl_blif::Model;
 use ncl_compile::compile;
+use ncl_merge::merge;
+use ncl_netlist::Netlist;
 use ncl_network::CompileFault;
 use ncl_report::compile_text;
 use ncl_writer::write_netlist;
 use std::alloc::Global;
 
-/// The reply to `compile` of models: the netlist that is compiled from them, or what keeps them from being compiled.
+/// The reply to `compile` of models: the netlist that is compiled from them, merged if that is asked for, or what keeps them
+/// from being compiled.
 ///
-/// Costs what compiling and writing cost.
-pub fn compile_models(alloc: Global, models: &[Model]) -> Result<Reply, Fault>
+/// Costs what compiling, merging and writing cost.
+pub fn compile_models(alloc: Global, models: &[Model], merged: bool) -> Result<Reply, Fault>
     requires { AreModels models.now }
-    ensures ok { IfOk result (Gives (IsModelsReply models.now)) }
+    ensures ok { IfOk result (Gives (IsModelsReply models.now merged)) }
     ensures memory { IsErrOf result Fault.Read → ⊥ }
 {
     match compile(alloc, models) {
-        Ok(netlist) => Ok(Reply::Made(0, write_netlist(alloc, &netlist)?)),
+        Ok(netlist) => Ok(Reply::Made(0, compiled_text(alloc, models, &netlist, merged)?)),
         Err(fault) => Ok(Reply::Made(3, too_large_text(alloc, fault)?)),
     }
+}
+
+/// The text that is written of a netlist that is compiled from models: its own, or that of what it is merged to.
+fn compiled_text(
+    alloc: Global,
+    models: &[Model],
+    netlist: &Netlist,
+    merged: bool,
+) -> Result<Vec<u8>, Memory>
+    requires { Compiled models.now netlist.now }
+    ensures { IfOk result (λ text. IsCompiledText models.now netlist.now merged text.items) }
+{
+    if merged {
+        merged_text(alloc, models, netlist)
+    } else {
+        plain_text(alloc, models, netlist)
+    }
+}
+
+/// The text of a netlist that is compiled from models.
+fn plain_text(alloc: Global, models: &[Model], netlist: &Netlist) -> Result<Vec<u8>, Memory>
+    requires { Compiled models.now netlist.now }
+    ensures { IfOk result (λ text. IsCompiledText models.now netlist.now false text.items) }
+{
+    let _ = models;
+    let text = write_netlist(alloc, netlist)?;
+    Ok(text)
+}
+
+/// The text of what such a netlist is merged to.
+fn merged_text(alloc: Global, models: &[Model], netlist: &Netlist) -> Result<Vec<u8>, Memory>
+    requires { Compiled models.now netlist.now }
+    ensures { IfOk result (λ text. IsCompiledText models.now netlist.now true text.items) }
+{
+    let _ = models;
+    let folded = merge(alloc, netlist)?;
+    let text = write_netlist(alloc, &folded)?;
+    Ok(text)
 }
 
 /// The line that tells why models are not compiled, where that isn't want of memory.

@@ -72,7 +72,7 @@ pub fn carry_out<R: Threads + Sync, S: Source, J: Judge + Sync>(
         Command::Check { file, limit, why } => {
             check_file(rt, alloc, source, judge, file, limit, why)
         }
-        Command::Compile { file } => compile_file(alloc, source, file),
+        Command::Compile { file, merge } => compile_file(alloc, source, file, merge),
         Command::Sim {
             netlist,
             delays,
@@ -118,10 +118,15 @@ fn check_file<R: Threads + Sync, S: Source, J: Judge + Sync>(
 
 /// Loads a file and replies to `compile` of it.
 ///
-/// Costs a pass over the bytes, and what reading, compiling and writing cost.
-fn compile_file<S: Source>(alloc: Global, source: &mut S, file: &str) -> Result<Reply, Fault>
+/// Costs a pass over the bytes, and what reading, compiling, merging if it is asked for, and writing cost.
+fn compile_file<S: Source>(
+    alloc: Global,
+    source: &mut S,
+    file: &str,
+    merge: bool,
+) -> Result<Reply, Fault>
     requires { IsTrue (S.allowed source.old file.now) }
-    ensures ok { IfOk result (AnswersCommand (S.files source.old) (compile_command file.now)) }
+    ensures ok { IfOk result (AnswersCommand (S.files source.old) (compile_command file.now merge)) }
     ensures read { IsErrOf result Fault.Read → Rose (S.faults source.old) (S.faults source.new) }
     ensures files { S.files source.new ≡ S.files source.old }
     ensures allowed { S.allowed source.new ≡ S.allowed source.old }
@@ -132,7 +137,7 @@ fn compile_file<S: Source>(alloc: Global, source: &mut S, file: &str) -> Result<
         None => return Ok(Reply::Fixed(3, b"blif: too long\n")),
     };
     match models_in(alloc, &bytes) {
-        Ok(models) => compile_models(alloc, &models),
+        Ok(models) => compile_models(alloc, &models, merge),
         Err(refusal) => refused(refusal),
     }
 }

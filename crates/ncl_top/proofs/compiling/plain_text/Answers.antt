@@ -1,0 +1,10 @@
+use Rattle.std.proofs.Common.{false, refl, sym, subst}
+use Rattle.ncl_top.specs.Compiling.{IsCompiledText, plain}
+use Rattle.ncl_top.proofs.PlainNames.{writable}
+use Rattle.ncl_top.proofs.compiling.plain_text.Goals as goal
+
+pub write_netlist-requires : goal.write_netlist-requires
+write_netlist-requires c = writable c.args.models.now c.args.netlist.now c.requires
+
+pub returns : goal.returns
+returns c = subst (IsCompiledText c.args.models.now c.args.netlist.now false) (sym c.in_ok-text.ensures.text) (plain refl)

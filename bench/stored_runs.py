@@ -4,7 +4,8 @@
     bench/stored_runs.py PROGRAM
 
 PROGRAM is the built nclc. The gate makes the same runs through the top call; here they go through the program's own
-words, files, standard output and status. Prints each run that differs, and how many there were.
+words, files, standard output and status. Prints each run that differs, and how many there were: those of `crates/runs`, and
+those of the pages, which `crates/examples` makes.
 """
 import pathlib
 import shutil
@@ -12,28 +13,39 @@ import subprocess
 import sys
 import tempfile
 
+CRATES = pathlib.Path(__file__).resolve().parent.parent / "crates"
+
+
+def told(program, line, folder):
+    """What is stored of a command that answers so."""
+    command, _, name = line.partition(" > ")
+    ran = subprocess.run([program, *command.split(" ")], cwd=folder, capture_output=True, timeout=120)
+    if name:
+        pathlib.Path(folder, name).write_bytes(ran.stdout)
+    text = "" if name else ran.stdout.decode()
+    return f"$ nclc {line}\n{text}status {ran.returncode}\n"
+
+
+def are_same(program, crate):
+    """Whether the runs of a crate are as they are stored."""
+    stored = (CRATES / crate / "stdout").read_text()
+    wanted = stored[stored.index("$ nclc "):]
+    with tempfile.TemporaryDirectory() as folder:
+        shutil.copytree(CRATES / crate / "data", folder, dirs_exist_ok=True)
+        lines = (CRATES / crate / "data/commands").read_text().split("\n")[:-1]
+        runs = [told(program, line, folder) for line in lines]
+    for run in runs:
+        if run not in wanted:
+            print("differs:", run)
+    same = "".join(runs) == wanted
+    print(f"{crate}: {len(runs)} runs, {'all as stored' if same else 'NOT as stored'}")
+    return same
+
 
 def main():
     program = str(pathlib.Path(sys.argv[1]).resolve())
-    runs = pathlib.Path(__file__).resolve().parent.parent / "crates/runs"
-    wanted = (runs / "stdout").read_text()
-    told, count = [], 0
-    with tempfile.TemporaryDirectory() as folder:
-        shutil.copytree(runs / "data", folder, dirs_exist_ok=True)
-        for line in (runs / "data/commands").read_text().split("\n")[:-1]:
-            command, _, name = line.partition(" > ")
-            ran = subprocess.run([program, *command.split(" ")], cwd=folder, capture_output=True, timeout=120)
-            if name:
-                pathlib.Path(folder, name).write_bytes(ran.stdout)
-            text = "" if name else ran.stdout.decode()
-            told.append(f"$ nclc {line}\n{text}status {ran.returncode}\n")
-            count += 1
-    for run in told:
-        if run not in wanted:
-            print("differs:", run)
-    same = "".join(told) == wanted
-    print(f"{count} runs, {'all as stored' if same else 'NOT as stored'}")
-    return 0 if same else 1
+    answers = [are_same(program, crate) for crate in ("runs", "examples")]
+    return 0 if all(answers) else 1
 
 
 if __name__ == "__main__":

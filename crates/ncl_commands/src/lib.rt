@@ -1,0 +1,104 @@
+//! Commands as lines of text, carried out by the top call over files that lie in the folder or were kept.
+#![tactic(auto)]
+
+use ncl_base::{Items, MemFile, MemSink, MemSource, Name};
+use ncl_top::run;
+use std::alloc::Global;
+use std::fs;
+use std::io::Print;
+use std::rt::Files;
+use std::thread::Threads;
+
+/// The most bytes that a command writes.
+const ROOM: usize = 1_000_000;
+
+/// The bytes that one call of a source or of a sink moves at most.
+const AT_ONCE: usize = 4096;
+
+/// A file of this name with these bytes.
+fn file(alloc: Global, name: &str, bytes: Vec<u8>) -> anyhow::Result<MemFile> {
+    Ok(MemFile {
+        name: Name::from_bytes(alloc, name.as_bytes())?,
+        bytes: Items::from_vec(bytes),
+    })
+}
+
+/// What stands after the `=` of a word such as `--words=FILE`, and else the word.
+fn value_of(word: &str) -> &str {
+    match word.split_once('=') {
+        Some((_, value)) => value,
+        None => word,
+    }
+}
+
+/// The files that these words name: those that were kept, and those that lie in the folder. A pass over the kept files
+/// for each word.
+fn files_of<R: Files + AllocGlobal>(
+    rt: &R,
+    alloc: Global,
+    words: &[&str],
+    kept: &[MemFile],
+) -> anyhow::Result<Vec<MemFile>> {
+    let mut files = Vec::new(alloc);
+    for word in words {
+        let name = value_of(word);
+        if let Some(one) = kept.iter().find(|one| one.name.bytes() == name.as_bytes()) {
+            files.push(one.clone()?)?;
+        } else if let Ok(bytes) = fs::read(rt, name) {
+            files.push(file(alloc, name, bytes)?)?;
+        }
+    }
+    Ok(files)
+}
+
+/// The status of a command, and what it writes.
+fn status_and_text<R: Threads + Sync + Files + AllocGlobal>(
+    rt: &R,
+    alloc: Global,
+    command: &str,
+    kept: &[MemFile],
+) -> anyhow::Result<(u8, Vec<u8>)> {
+    let words: Vec<&str> = command.split(' ').collect(alloc)?;
+    let files = files_of(rt, alloc, &words, kept)?;
+    let mut source = MemSource::new(files, AT_ONCE, Vec::new(alloc));
+    let mut sink = MemSink::new(alloc, ROOM, AT_ONCE, Vec::new(alloc))?;
+    let status = run(rt, alloc, &words, &mut source, &mut sink);
+    Ok((status, sink.bytes().to_vec(alloc)?))
+}
+
+/// Carries out a line, the words of a command with blanks between them, and prints it, what it writes, and its status. Where
+/// the line ends with `> NAME`, what is written is kept as a file of this name for the lines that follow.
+fn carry_out_line<R: Threads + Sync + Files + AllocGlobal + Print>(
+    rt: &R,
+    line: &str,
+    kept: &mut Vec<MemFile>,
+) -> anyhow::Result<()> {
+    println!(rt; "$ nclc {line}")?;
+    let (command, name) = match line.split_once(" > ") {
+        Some((command, name)) => (command, Some(name)),
+        None => (line, None),
+    };
+    let (status, written) = status_and_text(rt, rt.alloc(), command, kept)?;
+    match name {
+        Some(name) => kept.push(file(rt.alloc(), name, written)?)?,
+        None => rt.write_all(&written)?,
+    }
+    println!(rt; "status {status}")?;
+    Ok(())
+}
+
+/// Carries out each command of a text, a line for each, by the top call over the files of the folder. Prints the command, what
+/// it writes, and the status. What a command that ends with `> NAME` writes is kept as a file of this name for those that
+/// follow.
+///
+/// Fails where memory is refused, where nothing can be printed, or where a command writes more than a million bytes.
+pub fn carry_out<R: Threads + Sync + Files + AllocGlobal + Print>(
+    rt: &R,
+    commands: &str,
+) -> anyhow::Result<()> {
+    let mut kept = Vec::new(rt.alloc());
+    for line in commands.lines() {
+        carry_out_line(rt, line, &mut kept)?;
+    }
+    Ok(())
+}

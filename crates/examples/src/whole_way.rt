@@ -1,0 +1,119 @@
+//! From BLIF to a wave by the libraries.
+ghost use Rattle.std.specs.Prelude.{◌≤◌, IfOk, IsTrue, length};
+ghost use Rattle.ncl_blif.specs.Model.{AreModels};
+ghost use Rattle.ncl_delay.specs.declared.word_text.TheConstants.{MOST_WORDS as LIMIT};
+ghost use Rattle.ncl_machine.specs.Run.{AreWordsOf};
+ghost use Rattle.ncl_reader.specs.GraphicNames.{HasGraphicNames};
+
+use ncl_base::{MOST_BITS, MOST_BYTES, Word};
+use ncl_blif::{Model, read_blif};
+use ncl_check::{PARTS, check};
+use ncl_compile::compile;
+use ncl_delay::{MOST_WORDS, read_delays, read_words};
+use ncl_match::{Bits, Compared, compare};
+use ncl_merge::merge;
+use ncl_reader::read_netlist;
+use ncl_report::trace_text;
+use ncl_shape::{Pipeline, shape};
+use ncl_sim::simulate;
+use ncl_vcd::dump;
+use ncl_verdict::Stages;
+use ncl_writer::{is_writable, write_netlist};
+use std::alloc::Global;
+use std::io::Print;
+use std::thread::Threads;
+
+/// The most nodes of a stage, and of an output where functions are compared.
+const NODES: u32 = 100_000;
+
+/// Compiles a text of BLIF and merges the gates, checks the netlist that comes of it, compares it with the text, runs it at
+/// some delays on some words, and makes a dump of the run. Prints what is found.
+pub fn go_all_the_way<R: Threads + Sync + AllocGlobal + Print>(
+    rt: &R,
+    blif: &[u8],
+    delays: &[u8],
+    words: &[u8],
+) -> anyhow::Result<()> {
+    let alloc = rt.alloc();
+    anyhow::ensure!(blif.len() <= MOST_BYTES, "models that are too long");
+    let models = read_blif(alloc, blif)?;
+    let text = merged_text(alloc, &models)?;
+    anyhow::ensure!(text.len() <= MOST_BYTES, "a netlist that is too long");
+    rt.write_all(&check(rt, alloc, &Stages, &text, NODES, false)?.text)?;
+    let netlist = read_netlist(alloc, &text)?;
+    let pipeline = shape(alloc, &netlist)?;
+    print_compared(rt, &pipeline, &models)?;
+    print_run(rt, &pipeline, delays, words)
+}
+
+/// The text of the netlist that models compile to, with its gates merged.
+fn merged_text(alloc: Global, models: &[Model]) -> anyhow::Result<Vec<u8>>
+    requires { AreModels models.now }
+{
+    let netlist = compile(alloc, models)?;
+    let merged = merge(alloc, &netlist)?;
+    anyhow::ensure!(is_writable(&merged), "a name that can't be written");
+    Ok(write_netlist(alloc, &merged)?)
+}
+
+/// Prints whether a netlist computes what models say.
+fn print_compared<R: Threads + Sync + AllocGlobal + Print>(
+    rt: &R,
+    pipeline: &Pipeline,
+    models: &[Model],
+) -> anyhow::Result<()>
+    requires { AreModels models.now }
+{
+    let found = match compare(rt, rt.alloc(), &Bits, pipeline, models, NODES, PARTS)? {
+        Compared::Same => "the same function",
+        Compared::Differ { .. } => "another function",
+        Compared::Widths => "other numbers of bits",
+    };
+    println!(rt; "{found}")?;
+    Ok(())
+}
+
+/// Whether words have the width of a pipeline's inputs. Linear in the words.
+fn are_words(pipeline: &Pipeline, words: &[Word]) -> bool
+    ensures { IsTrue result → AreWordsOf pipeline.now words.now }
+{
+    words
+        .iter()
+        .all(|word| word.bits().len() == pipeline.inputs().len())
+}
+
+/// The words of a text for a pipeline.
+fn offered(alloc: Global, pipeline: &Pipeline, text: &[u8]) -> anyhow::Result<Vec<Word>>
+    ensures wide { IfOk result (λ words. AreWordsOf pipeline.now words.items) }
+    ensures few { IfOk result (λ words. length words.items ≤ LIMIT) }
+{
+    let width = pipeline.inputs().len();
+    anyhow::ensure!(0 < width && width <= MOST_BITS, "no word is so wide");
+    anyhow::ensure!(text.len() <= MOST_BYTES, "words that are too long");
+    let words = read_words(alloc, text, width)?;
+    anyhow::ensure!(words.len() <= MOST_WORDS, "too many words");
+    anyhow::ensure!(are_words(pipeline, &words), "words of another width");
+    Ok(words)
+}
+
+/// Prints the lines of the run of a netlist at some delays over some words, and how long the dump of the run is.
+fn print_run<R: AllocGlobal + Print>(
+    rt: &R,
+    pipeline: &Pipeline,
+    delays: &[u8],
+    words: &[u8],
+) -> anyhow::Result<()>
+    requires { HasGraphicNames pipeline.now.netlist }
+{
+    let alloc = rt.alloc();
+    pipeline.facts();
+    anyhow::ensure!(delays.len() <= MOST_BYTES, "delays that are too long");
+    let delays = read_delays(alloc, delays, pipeline.netlist())?;
+    let words = offered(alloc, pipeline, words)?;
+    let trace = simulate(alloc, pipeline, &delays, &words)?;
+    let due = pipeline.data_banks() + words.len();
+    rt.write_all(&trace_text(alloc, pipeline, &trace, due)?)?;
+    let wave = dump(alloc, pipeline, &words, trace.steps.items())?;
+    println!(rt; "a dump of {} bytes", wave.len())?;
+    Ok(())
+}

@@ -67,9 +67,9 @@ fn one_round(
     }
 }
 
-/// A network with the same answers that has no more cells and costs no more than a bound: its nodes are taken apart
-/// into nodes of two inputs, majorities and choices, equal ones are shared, and what few signals compute is made
-/// anew of these.
+/// A network with the same answers that costs no more than a bound: its nodes are taken apart into nodes of two
+/// inputs, majorities and choices, equal ones are shared, and what few signals compute is made anew of these, where
+/// that saves cells as `cells` reckons them.
 ///
 /// Near linear in the network, with a fixed number of rounds. The only error is want of memory.
 pub fn improve(alloc: Global, network: Network, bound: usize) -> Result<Network, Memory>

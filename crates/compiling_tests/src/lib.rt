@@ -2,6 +2,8 @@
 #![tactic(auto)]
 
 #[cfg(test)]
+mod cells_tests;
+#[cfg(test)]
 mod compile_tests;
 #[cfg(test)]
 mod demo_tests;

@@ -13,8 +13,6 @@ mod null_sink;
 mod sink;
 mod source;
 mod steady_source;
-#[cfg(test)]
-mod tests;
 mod word;
 
 pub use items::Items;

@@ -20,8 +20,6 @@ mod rules;
 mod small;
 mod stop;
 mod table;
-#[cfg(test)]
-mod tests;
 mod trying;
 
 pub use improving::improve;

@@ -5,8 +5,6 @@
 mod cell_kind;
 mod kind;
 pub mod laws;
-#[cfg(test)]
-mod tests;
 
 pub use cell_kind::CellKind;
 pub use kind::Kind;

@@ -12,8 +12,6 @@ mod netlist;
 mod numbering;
 mod parts;
 mod port;
-#[cfg(test)]
-mod tests;
 
 pub use build_fault::BuildFault;
 pub use cell::Cell;

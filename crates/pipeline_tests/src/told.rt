@@ -38,7 +38,8 @@ fn have_all_pins(cells: &[PartCell]) -> bool
     true
 }
 
-fn name(alloc: Global, text: &str) -> Result<Name, Memory> {
+/// The name with these bytes.
+pub(crate) fn name(alloc: Global, text: &str) -> Result<Name, Memory> {
     Name::from_bytes(alloc, text.as_bytes())
 }
 
@@ -72,7 +73,7 @@ fn read_cell(alloc: Global, item: &str) -> Result<PartCell, Memory> {
 }
 
 /// The parts that a text tells.
-fn read(alloc: Global, text: &str) -> Result<Parts, Memory> {
+pub(crate) fn read(alloc: Global, text: &str) -> Result<Parts, Memory> {
     let mut ports: Vec<Port> = Vec::new(alloc);
     let mut cells: Vec<PartCell> = Vec::new(alloc);
     for item in text.split(';') {
@@ -98,9 +99,8 @@ fn read(alloc: Global, text: &str) -> Result<Parts, Memory> {
     })
 }
 
-/// The netlist that a text tells.
-pub(crate) fn netlist(rt: &impl Abort, alloc: Global, text: &str) -> Result<Netlist, BuildFault> {
-    let parts = read(alloc, text)?;
+/// Builds parts that meet what `build` requires.
+pub(crate) fn built(rt: &impl Abort, alloc: Global, parts: Parts) -> Result<Netlist, BuildFault> {
     let differ = ports_differ(alloc, parts.ports.items())?;
     assert!(rt; differ);
     let all_pins = have_all_pins(parts.cells.items());
@@ -108,4 +108,9 @@ pub(crate) fn netlist(rt: &impl Abort, alloc: Global, text: &str) -> Result<Netl
     let few = parts.ports.items().len() < 1_000;
     assert!(rt; few);
     build(alloc, parts)
+}
+
+/// The netlist that a text tells.
+pub(crate) fn netlist(rt: &impl Abort, alloc: Global, text: &str) -> Result<Netlist, BuildFault> {
+    built(rt, alloc, read(alloc, text)?)
 }

@@ -1,0 +1,78 @@
+//! Tests of what networks become, by counts that were worked out by hand.
+use ncl_base::MOST_BYTES;
+use ncl_blif::read_blif;
+use ncl_cells::improve;
+use ncl_decomp::split;
+use ncl_network::{Network, reduce};
+use std::process::Abort;
+use std::test::Fail;
+
+/// More than any network costs.
+const BOUND: usize = 83_886_080;
+
+/// The improved network of the one model of a text.
+fn improved(rt: &(impl Abort + AllocGlobal), text: &str) -> Result<Network, Fail> {
+    let bytes = text.as_bytes();
+    assert!(rt; bytes.len() <= MOST_BYTES);
+    let models = read_blif(rt.alloc(), bytes)?;
+    assert!(rt; models.len() == 1);
+    let network = split(rt.alloc(), &reduce(rt.alloc(), &models[0])?)?;
+    Ok(improve(rt.alloc(), network, BOUND)?)
+}
+
+/// How many nodes of two, three and four inputs there are.
+fn counts(network: &Network) -> [usize; 3] {
+    let mut counts = [0usize; 3];
+    for node in network.nodes.items() {
+        match node.ins.items().len() {
+            2 => counts[0] = counts[0].saturating_add(1),
+            3 => counts[1] = counts[1].saturating_add(1),
+            _ => counts[2] = counts[2].saturating_add(1),
+        }
+    }
+    counts
+}
+
+#[test]
+fn nodes_are_counted(rt: HostRuntime) -> Result<(), Fail> {
+    let cases = [
+        (
+            ".inputs a b c d\n.outputs y\n.names a b c d y\n1111 1\n",
+            [3usize, 0, 0],
+        ),
+        (
+            ".inputs a b c d\n.outputs y\n.names a b c d y\n1000 1\n0100 1\n0010 1\n0001 1\n1110 1\n1101 1\n1011 1\n0111 1\n",
+            [3, 0, 0],
+        ),
+        (
+            ".inputs a b\n.outputs y\n.names a b n\n11 0\n.names a n p\n11 0\n.names b n q\n11 0\n.names p q y\n11 0\n",
+            [1, 0, 0],
+        ),
+        (
+            ".inputs a b c\n.outputs y\n.names a b c y\n11- 1\n1-1 1\n-11 1\n",
+            [0, 1, 0],
+        ),
+        (
+            ".inputs a b c\n.outputs y\n.names a b c y\n11- 1\n0-1 1\n",
+            [0, 1, 0],
+        ),
+        (
+            ".inputs a b c\n.outputs y z\n.names a b c y\n11- 1\n1-1 1\n-11 1\n.names a b c z\n111 1\n110 1\n101 1\n011 1\n",
+            [0, 1, 0],
+        ),
+        (
+            ".inputs a b c d\n.outputs y\n.names a b p\n11 1\n.names p a q\n10 1\n.names q c y\n11 1\n",
+            [0, 0, 0],
+        ),
+        (
+            ".inputs a b c\n.outputs s k\n.names a b c s\n100 1\n010 1\n001 1\n111 1\n.names a b c k\n11- 1\n1-1 1\n-11 1\n",
+            [2, 1, 0],
+        ),
+    ];
+    for (text, wanted) in cases {
+        let network = improved(&rt, text)?;
+        let found = counts(&network);
+        assert!(rt; found == wanted, "{text}: {found:?}");
+    }
+    Ok(())
+}

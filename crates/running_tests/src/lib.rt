@@ -1,0 +1,7 @@
+//! Tests of the crates that run a pipeline, by their public calls.
+#![tactic(auto)]
+
+#[cfg(test)]
+mod sim_tests;
+#[cfg(test)]
+mod state_tests;

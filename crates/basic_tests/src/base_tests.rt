@@ -137,15 +137,27 @@ fn words_are_read(rt: HostRuntime) -> Result<(), Fail> {
 }
 
 #[test]
-fn names_and_lists_hold_what_they_are_made_of(rt: HostRuntime) -> Result<(), Fail> {
+fn names_hold_their_bytes(rt: HostRuntime) -> Result<(), Fail> {
     let name = Name::from_bytes(rt.alloc(), b"net")?;
     let next = Name::from_bytes(rt.alloc(), b"net1")?;
     assert_eq!(rt; name.bytes(), b"net".as_slice());
     assert!(rt; name == name.clone()? && name != next && name < next);
+    Ok(())
+}
+
+#[test]
+fn names_are_keys(rt: HostRuntime) -> Result<(), Fail> {
     let mut counts = HashMap::new(rt.alloc());
-    counts.insert(name.clone()?, 1)?;
+    counts.insert(Name::from_bytes(rt.alloc(), b"net")?, 1)?;
+    let name = Name::from_bytes(rt.alloc(), b"net")?;
     assert_eq!(rt; counts.get(&name).copied(), Some(1));
+    let next = Name::from_bytes(rt.alloc(), b"net1")?;
     assert_eq!(rt; counts.get(&next).copied(), None);
+    Ok(())
+}
+
+#[test]
+fn lists_hold_what_they_are_made_of(rt: HostRuntime) -> Result<(), Fail> {
     let items = Items::from_vec([4u64, 2].to_vec(rt.alloc())?);
     assert_eq!(rt; items.items(), [4, 2].as_slice());
     let vec = items.into_vec();

@@ -1,9 +1,13 @@
-//! Tests of the lowest crates, by their public calls: files and sinks, tokens, gates.
+//! Tests of the lowest crates, by their public calls: files and sinks, words of a call, graphs, tokens, gates.
 #![tactic(auto)]
 
 #[cfg(test)]
 mod base_tests;
 #[cfg(test)]
+mod command_tests;
+#[cfg(test)]
 mod gates_tests;
+#[cfg(test)]
+mod graph_tests;
 #[cfg(test)]
 mod token_tests;

@@ -11,3 +11,5 @@ mod hazard_tests;
 mod orphan_tests;
 #[cfg(test)]
 mod report_tests;
+#[cfg(test)]
+mod stage_tests;

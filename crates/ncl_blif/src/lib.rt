@@ -20,10 +20,6 @@ mod reader;
 mod row;
 mod rows;
 mod section;
-#[cfg(test)]
-mod tests;
-#[cfg(test)]
-mod text_tests;
 mod words;
 
 pub use dependence::dependencies;

@@ -11,7 +11,5 @@ mod order;
 mod ranks;
 mod reach;
 mod search;
-#[cfg(test)]
-mod tests;
 
 pub use graph::Graph;

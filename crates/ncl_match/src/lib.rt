@@ -36,12 +36,8 @@ mod order;
 mod pair;
 mod planning;
 mod sides;
-#[cfg(test)]
-mod signal_tests;
 mod signals;
 mod steps;
-#[cfg(test)]
-mod tests;
 mod widths;
 
 pub use answer::{BitAnswer, CompareFault, Compared};
@@ -58,3 +54,4 @@ pub use pair::{Pair, constant_pair, gate_pair, rail_pair};
 pub use planning::{DataCell, plan};
 pub use sides::difference;
 pub use signals::models_pair;
+pub use widths::{first_width, last_width};

@@ -17,8 +17,8 @@ pub(crate) fn have_widths(pipeline: &Pipeline, models: &[Model]) -> bool
     pipeline.inputs().len() == inputs && pipeline.outputs().len() == outputs
 }
 
-// How many inputs the first model has. Takes no memory.
-pub(crate) fn first_width(models: &[Model]) -> usize
+/// How many inputs the first model has. Takes no memory.
+pub fn first_width(models: &[Model]) -> usize
     ensures { result ≡ width_of models.now }
 {
     match models {
@@ -27,8 +27,8 @@ pub(crate) fn first_width(models: &[Model]) -> usize
     }
 }
 
-// How many outputs the last model has. Takes no memory.
-pub(crate) fn last_width(models: &[Model]) -> usize
+/// How many outputs the last model has. Takes no memory.
+pub fn last_width(models: &[Model]) -> usize
     ensures { result ≡ outputs_of models.now }
 {
     if models.is_empty() {

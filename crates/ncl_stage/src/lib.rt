@@ -10,8 +10,6 @@ mod nets;
 mod outputs;
 mod readers;
 pub mod testing;
-#[cfg(test)]
-mod tests;
 mod variant;
 mod walk;
 mod wiring;
@@ -23,4 +21,4 @@ pub use net_values::Values;
 pub use nets::net_refs;
 pub use outputs::{all_data, data_fronts, data_tables, least_one, least_zero, pair_refs};
 pub use variant::Variant;
-pub use wiring::Wiring;
+pub use wiring::{Wiring, place_of};

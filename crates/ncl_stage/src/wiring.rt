@@ -183,7 +183,7 @@ fn number_rails(alloc: Global, stage: &Stage) -> Result<IndexSet<u32>, Memory>
 }
 
 /// The place of a net among some nets. Takes as long as a look-up in a table of hashes.
-pub(crate) fn place_of(nets: &IndexSet<u32>, net: NetId) -> usize
+pub fn place_of(nets: &IndexSet<u32>, net: NetId) -> usize
     requires { Contains nets.now.keys net.0 }
     ensures { result ≡ place_in nets.now.keys net.0 }
 {

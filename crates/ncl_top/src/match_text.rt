@@ -1,14 +1,13 @@
 //! The lines that tell what a comparison finds.
 ghost use Rattle.std.specs.Prelude.{◌≡◌, ◌++◌, IfOk, OnOk};
 ghost use Rattle.ncl_base.specs.Words.{character_of, text_of};
-ghost use Rattle.ncl_blif.specs.Meaning.{width_of};
-ghost use Rattle.ncl_match.specs.Answer.{outputs_of};
 ghost use Rattle.ncl_match.specs.Circuit.{circuit_of};
 ghost use Rattle.ncl_top.specs.Matching.{differ_line, limit_line, widths_line};
 
 use itoa::Buffer;
 use ncl_base::{Memory, Word};
 use ncl_blif::Model;
+use ncl_match::{first_width, last_width};
 use ncl_shape::Pipeline;
 use std::alloc::Global;
 
@@ -27,26 +26,6 @@ pub fn widths_text(alloc: Global, pipeline: &Pipeline, models: &[Model]) -> Resu
     text.extend_from_slice(digits.format(last_width(models)).as_bytes())?;
     text.extend_from_slice(b"\n")?;
     Ok(text)
-}
-
-/// How many inputs the first model has.
-fn first_width(models: &[Model]) -> usize
-    ensures { result ≡ width_of models.now }
-{
-    match models {
-        [] => 0,
-        [first, ..] => first.inputs.items().len(),
-    }
-}
-
-/// How many outputs the last model has.
-fn last_width(models: &[Model]) -> usize
-    ensures { result ≡ outputs_of models.now }
-{
-    if models.is_empty() {
-        return 0;
-    }
-    models[models.len() - 1].outputs.items().len()
 }
 
 /// The line for an output, from 1, that has more nodes than the limit. Fails where memory is refused.

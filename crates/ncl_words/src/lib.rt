@@ -4,7 +4,5 @@
 mod command;
 mod form;
 mod number;
-#[cfg(test)]
-mod tests;
 
 pub use command::{Command, LARGEST_LIMIT, MOST_DEMO_BITS, MOST_NODES};

@@ -2,6 +2,8 @@
 #![tactic(auto)]
 
 #[cfg(test)]
+mod comparing_tests;
+#[cfg(test)]
 mod match_tests;
 #[cfg(test)]
 mod merge_tests;
@@ -9,5 +11,7 @@ mod merge_tests;
 mod netlist_tests;
 #[cfg(test)]
 mod shape_tests;
+#[cfg(test)]
+mod signal_tests;
 #[cfg(test)]
 mod told;

@@ -1,12 +1,8 @@
-//! Tests of the crates that read and write texts, by their public calls.
+//! Tests of the crates that read and write netlists and delays, by their public calls.
 #![tactic(auto)]
 
 #[cfg(test)]
-mod decomp_tests;
-#[cfg(test)]
 mod delay_tests;
-#[cfg(test)]
-mod network_tests;
 #[cfg(test)]
 mod reader_speed_tests;
 #[cfg(test)]

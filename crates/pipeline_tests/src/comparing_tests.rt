@@ -2,9 +2,9 @@
 ghost use Rattle.std.specs.Prelude.{IfOk};
 ghost use Rattle.ncl_blif.specs.Model.{AreModels};
 
-use crate::{BitAnswer, Bits, CompareBit, CompareFault, Compared, compare};
 use ncl_base::{MOST_BYTES, Memory};
 use ncl_blif::{Model, read_blif};
+use ncl_match::{BitAnswer, Bits, CompareBit, CompareFault, Compared, compare};
 use ncl_netlist::Netlist;
 use ncl_reader::read_netlist;
 use ncl_shape::{Pipeline, shape};

@@ -1,74 +1,14 @@
 //! Tests of splitting, by texts, words, counts and answers that were worked out by hand.
-use ncl_base::MOST_BYTES;
-use ncl_blif::{Lit, Row, read_blif};
-use ncl_decomp::*;
-use ncl_network::{From3, Network, Node, Signal, reduce};
+use crate::answers::{answer, network};
+use ncl_decomp::split;
+use ncl_network::{From3, Network};
 use std::alloc::AllocError;
 use std::process::Abort;
 use std::test::Fail;
 
 /// The network that the one model of a text is split into.
-fn network(rt: &(impl Abort + AllocGlobal), text: &str) -> Result<Network, Fail> {
-    let bytes = text.as_bytes();
-    assert!(rt; bytes.len() <= MOST_BYTES);
-    let models = read_blif(rt.alloc(), bytes)?;
-    assert!(rt; models.len() == 1);
-    let network = reduce(rt.alloc(), &models[0])?;
-    Ok(split(rt.alloc(), &network)?)
-}
-
-/// The bit of a signal.
-fn bit(signal: &Signal, word: &[bool], nodes: &[bool]) -> bool {
-    let bit = match signal.from {
-        From3::Input(i) => word.get(i as usize).copied().unwrap_or(false),
-        From3::Node(k) => nodes.get(k as usize).copied().unwrap_or(false),
-        From3::Const(bit) => bit,
-    };
-    bit != signal.inverted
-}
-
-/// Whether a row matches some bits.
-fn matches(row: &Row, bits: &[bool]) -> bool {
-    row.items().iter().zip(bits).all(|(lit, bit)| match lit {
-        Lit::Zero => !*bit,
-        Lit::One => *bit,
-        Lit::Dash => true,
-    })
-}
-
-/// The bit of a node.
-fn node_bit(
-    rt: &impl AllocGlobal,
-    node: &Node,
-    word: &[bool],
-    nodes: &[bool],
-) -> Result<bool, AllocError> {
-    let mut bits = Vec::new(rt.alloc());
-    for signal in node.ins.items() {
-        bits.push(bit(signal, word, nodes))?;
-    }
-    let any = node.rows.items().iter().any(|row| matches(row, &bits));
-    Ok(any == node.on)
-}
-
-/// The bits of a network's outputs at a word, both as text.
-fn answer(rt: &impl AllocGlobal, network: &Network, word: &str) -> Result<String, AllocError> {
-    let word = word
-        .as_bytes()
-        .iter()
-        .map(|b| *b == b'1')
-        .collect(rt.alloc())?;
-    let word: Vec<bool> = word;
-    let mut nodes = Vec::new(rt.alloc());
-    for node in network.nodes.items() {
-        let bit = node_bit(rt, node, &word, &nodes)?;
-        nodes.push(bit)?;
-    }
-    let mut text = String::new(rt.alloc());
-    for signal in network.outputs.items() {
-        text.push(if bit(signal, &word, &nodes) { '1' } else { '0' })?;
-    }
-    Ok(text)
+fn split_network(rt: &(impl Abort + AllocGlobal), text: &str) -> Result<Network, Fail> {
+    Ok(split(rt.alloc(), &network(rt, text)?)?)
 }
 
 /// How many nodes of a network have so many inputs.
@@ -88,7 +28,7 @@ fn try_text(
     nodes: [usize; 3],
     words: &[(&str, &str)],
 ) -> Result<(), Fail> {
-    let network = network(rt, text)?;
+    let network = split_network(rt, text)?;
     let found = [
         nodes_of(&network, 2),
         nodes_of(&network, 3),
@@ -194,7 +134,7 @@ fn trees_are_balanced(rt: HostRuntime) -> Result<(), Fail> {
         [8, 0, 0],
         &[("111111111", "1"), ("111111110", "0"), ("011111111", "0")],
     )?;
-    let network = network(&rt, nine)?;
+    let network = split_network(&rt, nine)?;
     assert_eq!(rt; depth(&rt, &network)?, 4);
     Ok(())
 }

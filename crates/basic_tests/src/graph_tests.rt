@@ -1,8 +1,9 @@
+//! Orders and cycles of small graphs, and of long chains.
 ghost use Rattle.std.specs.Prelude.{◌≡◌, ◌<◌, ◌≤◌, ◌^◌, length, All, IfOk, EachIndex};
 ghost use Rattle.ncl_graph.specs.Graph.{IsGraph};
 
-use super::*;
 use ncl_base::Items;
+use ncl_graph::Graph;
 use std::process::Abort;
 use std::test::Fail;
 

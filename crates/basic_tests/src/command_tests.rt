@@ -1,6 +1,6 @@
 //! Words and the commands that they give.
 
-use super::*;
+use ncl_words::*;
 use std::alloc::Global;
 use std::test::*;
 

@@ -1,10 +1,9 @@
 //! How many nodes the functions of models have, with those of the rows of their covers.
 
-use crate::signals::models_pair;
-use crate::widths::{first_width, last_width};
 use ncl_base::MOST_BYTES;
 use ncl_blif::read_blif;
 use ncl_diagram::Diagram;
+use ncl_match::{first_width, last_width, models_pair};
 use ncl_space::SpaceFault;
 use std::process::Abort;
 use std::test::Fail;

@@ -1,8 +1,6 @@
-//! Tests of the reader, on texts and answers that were worked out by hand.
-use crate::fault::BlifFault;
-use crate::model::{Cover, Lit, Model};
-use crate::reader::read_blif;
+//! Tests of the reader of models, on texts and answers that were worked out by hand.
 use ncl_base::MOST_BYTES;
+use ncl_blif::{BlifFault, Cover, Lit, Model, read_blif};
 use std::alloc::{AllocError, Global};
 use std::process::Abort;
 use std::test::Fail;
@@ -120,6 +118,11 @@ fn models_are_refused(rt: HostRuntime) -> Result<(), Fail> {
         ("", Some(BlifFault::Syntax(0))),
         ("\n # nothing\n\t\\\n", Some(BlifFault::Syntax(0))),
         (".end\n", Some(BlifFault::NoBits(1))),
+        (".inputs a\n.names \\\n a\n", Some(BlifFault::TwoDrivers(2))),
+        (
+            ".names a y\n1 1\n.end\n.inputs a\n",
+            Some(BlifFault::Syntax(4)),
+        ),
         (
             ".model m\n.outputs y\n.names y\n",
             Some(BlifFault::NoBits(1)),

@@ -4,16 +4,15 @@ ghost use Rattle.std.specs.List.{range_with_len};
 ghost use Rattle.ncl_space.specs.Plain.{plain_space};
 ghost use Rattle.ncl_space.specs.Space.{IsLive};
 
-use crate::testing::{
-    Counting, and_of_two_bits, full_adder, straight_bits, swapped_bits, unmet_bits,
-};
-use crate::wiring::place_of;
-use crate::{BitOrder, Variant, bit_order, revalue, values, values_in};
 use indexmap::IndexSet;
 use ncl_base::Memory;
 use ncl_netlist::NetId;
 use ncl_shape::Stage;
 use ncl_space::{Ref, Space};
+use ncl_stage::testing::{
+    Counting, and_of_two_bits, full_adder, straight_bits, swapped_bits, unmet_bits,
+};
+use ncl_stage::{BitOrder, Variant, bit_order, place_of, revalue, values, values_in};
 use std::alloc::Global;
 use std::process::Abort;
 use std::test::*;

@@ -1,6 +1,6 @@
 use Rattle.std.proofs.Common.{◌≡◌, ◌<◌, length}
 use Rattle.std.specs.List.{All}
-use Rattle.ncl_graph.proofs.tests.graph.Given as goal
+use Rattle.basic_tests.proofs.graph_tests.graph.Given as goal
 
 abbrev pub invariant-loop-successors : goal.invariant-loop-successors
 invariant-loop-successors g l = record {

@@ -1,6 +1,6 @@
 use Rattle.std.proofs.Common.{◌≡◌}
 use Rattle.std.specs.List.{range_with_len}
-use Rattle.ncl_stage.proofs.tests.numbered.Given as goal
+use Rattle.judging_tests.proofs.stage_tests.numbered.Given as goal
 
 -- the nets so far
 abbrev pub invariant-loop-net : goal.invariant-loop-net

@@ -15,6 +15,7 @@ use Rattle.ncl_shape.specs.declared.stage.StageCell.{StageCell}
 use Rattle.ncl_shape.specs.Stage.{StageData, IsStage, rail_nets, nets_of, out_of}
 use Rattle.ncl_shape.specs.Pipeline.{PipelineData}
 use Rattle.ncl_shape.specs.Shape.{Shape, AreRailsOf, AreInputsOf, IsGateOf}
+use Rattle.ncl_shape.specs.Chain.{ShownOutputs}
 use Rattle.ncl_base.proofs.Members.{Member, All-from_members, Member-from_Contains, Contains-from_Member, Contains-from_slice_get, slice_get-from_Contains, slice_get-some, Member-append_cases, member_of_map}
 use Rattle.ncl_origin.proofs.OriginLaws.{bank_of_rail}
 use Rattle.ncl_shape.proofs.ShapeLaws.{requests, request_at, same_cell}
@@ -168,5 +169,5 @@ module _ (p : PipelineData) (shape : Shape p.netlist p) where
             let (first, at_first) = first_bank p shape in
             let count = length-map p.banks (λ (b : Bank). b.request.0) in
             let end : k + 1 ≡ length (requests p.banks) = omega (arith, last, count) in
-            absurd ((shape.chained 7 (requests p.banks) first.request.0 b.request.0 shape.chain (request_at p.banks 0 first at_first) (k, end, request_at p.banks k b at)).no_gate c (Contains-from_slice_get p.netlist.cells i c at_c) (kind, is_gate) reads)
+            absurd ((shape.chained ShownOutputs (requests p.banks) first.request.0 b.request.0 shape.chain (request_at p.banks 0 first at_first) (k, end, request_at p.banks k b at)).no_gate c (Contains-from_slice_get p.netlist.cells i c at_c) (kind, is_gate) reads)
       ]

@@ -23,6 +23,7 @@ use Rattle.ncl_shape.specs.declared.stage.StageCell.{StageCell}
 use Rattle.ncl_shape.specs.Stage.{StageData, rail_nets}
 use Rattle.ncl_shape.specs.Pipeline.{PipelineData}
 use Rattle.ncl_shape.specs.Shape.{Shape, AreRailsOf}
+use Rattle.ncl_shape.specs.Chain.{OneRootEach}
 use Rattle.ncl_shape.proofs.ShapeLaws.{requests, request_at, last_bank}
 use Rattle.ncl_layout.specs.Layout.{no_rails, rail_at}
 use Rattle.ncl_layout.proofs.BankBits.{drives_rail, register_of_rail}
@@ -107,7 +108,7 @@ module _ (p : PipelineData) (shape : Shape p.netlist p) (lists : List (List Stag
   ko-named =
       let (first, at_first) = first_bank p shape in
       let root : p.ko ≡ first.root.0 = shape.ko first at_first in
-      let shown = (shape.chained 6 (requests p.banks) shape.chain).first first.request.0 first.root.0 (request_at p.banks 0 first at_first) (shape.banks 0 first at_first).0.root in
+      let shown = (shape.chained OneRootEach (requests p.banks) shape.chain).first first.request.0 first.root.0 (request_at p.banks 0 first at_first) (shape.banks 0 first at_first).0.root in
       name-output_port p.ko (subst (IsOutputPort n) (sym root) shown)
 
   pairs-named : (rails : List Rails) → ((r : Rails) → Member r rails → (name_at m (to r.zero.0) ≡ name_at n r.zero.0) × (name_at m (to r.one.0) ≡ name_at n r.one.0)) → map (rail_names m) (map (renamed_rails to) rails) ≡ map (rail_names n) rails

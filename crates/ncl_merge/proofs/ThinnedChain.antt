@@ -12,7 +12,7 @@ use Rattle.ncl_origin.specs.Rules.{IsRequest}
 use Rattle.ncl_origin.specs.Free.{IsFree}
 use Rattle.ncl_base.proofs.Members.{Member-map, Contains-from_Member, Member-from_Contains, Contains-from_slice_get, slice_get-from_Contains}
 use Rattle.ncl_origin.proofs.OriginLaws.{place_of, driver_of_ack}
-use Rattle.ncl_shape.specs.Chain.{IsBank, IsInputOf, IsFirstBank, IsLastBank, Follows, HasOne, IsPath, end, next, IsChain, IsRoot, HasRegister, HasEnds, IsUnforked, IsAcknowledged, HasRoots, IsClosed, OnPinNamed, HasOneRole, IsDataApart, IsHead, IsChained}
+use Rattle.ncl_shape.specs.Chain.{IsBank, IsInputOf, IsFirstBank, IsLastBank, Follows, HasOne, IsPath, end, next, IsChain, IsRoot, HasRegister, HasEnds, IsUnforked, IsAcknowledged, HasRoots, IsClosed, OnPinNamed, HasOneRole, IsDataApart, IsHead, IsChained, SomeRegister, TwoEnds, NoFork, OneChain, ChainedRequests, OneRootEach, ShownOutputs, OneRoleEach, WordsApart}
 use Rattle.ncl_shape.proofs.ChainLaws.{banks_of_chain}
 use Rattle.ncl_shape.proofs.NetSources.{only_origin}
 use Rattle.ncl_merge.specs.Thinned.{moved, IsRailGate, IsThinned}
@@ -297,17 +297,16 @@ module _ (n m : NetlistData) (is : IsThinned n m) (free : IsFree n) where
   head-kept banks chain first head = chain-kept banks chain 0 first head
 
   pub chained-thinned : IsChained n → IsChained m
-  chained-thinned chained zero = chained zero
-  chained-thinned chained (suc zero) = register-there (chained 1)
-  chained-thinned chained (suc (suc zero)) = ends-there (chained 2)
-  chained-thinned chained (suc (suc (suc zero))) = unforked-there (chained 3)
-  chained-thinned chained (suc (suc (suc (suc zero)))) = let (banks, chain) = chained 4 in (map is.to banks, chain-forth banks chain)
-  chained-thinned chained (suc (suc (suc (suc (suc zero))))) = λ banks chain. acknowledged-there banks chain (chained 5 (map is.from banks) (chain-back banks chain))
-  chained-thinned chained (suc (suc (suc (suc (suc (suc zero)))))) = λ banks chain. roots-there banks chain (chained 6 (map is.from banks) (chain-back banks chain))
-  chained-thinned chained (suc (suc (suc (suc (suc (suc (suc zero))))))) = λ banks first last chain head (k, count, at).
+  chained-thinned chained SomeRegister = register-there (chained SomeRegister)
+  chained-thinned chained TwoEnds = ends-there (chained TwoEnds)
+  chained-thinned chained NoFork = unforked-there (chained NoFork)
+  chained-thinned chained OneChain = let (banks, chain) = chained OneChain in (map is.to banks, chain-forth banks chain)
+  chained-thinned chained ChainedRequests = λ banks chain. acknowledged-there banks chain (chained ChainedRequests (map is.from banks) (chain-back banks chain))
+  chained-thinned chained OneRootEach = λ banks chain. roots-there banks chain (chained OneRootEach (map is.from banks) (chain-back banks chain))
+  chained-thinned chained ShownOutputs = λ banks first last chain head (k, count, at).
       let (head-n, kept-first) = head-kept banks chain first head in
       let (at-n, kept-last) = chain-kept banks chain k last at in
       let same : length (map is.from banks) ≡ length banks = length-map banks is.from in
-      closed-there first last kept-first kept-last (chained 7 (map is.from banks) (is.from first) (is.from last) (chain-back banks chain) head-n (k, omega (arith, count, same), at-n))
-  chained-thinned chained (suc (suc (suc (suc (suc (suc (suc (suc zero)))))))) = role-there (chained 8)
-  chained-thinned chained (suc (suc (suc (suc (suc (suc (suc (suc (suc r))))))))) = apart-there (chained 9)
+      closed-there first last kept-first kept-last (chained ShownOutputs (map is.from banks) (is.from first) (is.from last) (chain-back banks chain) head-n (k, omega (arith, count, same), at-n))
+  chained-thinned chained OneRoleEach = role-there (chained OneRoleEach)
+  chained-thinned chained WordsApart = apart-there (chained WordsApart)

@@ -17,6 +17,7 @@ use Rattle.ncl_shape.specs.declared.stage.StageCell.{StageCell}
 use Rattle.ncl_shape.specs.Stage.{StageData, rail_nets, nets_of, out_of}
 use Rattle.ncl_shape.specs.Pipeline.{PipelineData}
 use Rattle.ncl_shape.specs.Shape.{Shape}
+use Rattle.ncl_shape.specs.Chain.{ShownOutputs}
 use Rattle.ncl_shape.proofs.NetSources.{only_origin}
 use Rattle.ncl_shape.proofs.ShapeLaws.{requests, request_at, last_bank}
 use Rattle.ncl_base.proofs.Members.{Member, Member-append_cases, member_of_map, Contains-from_Member, Member-from_Contains, Contains-from_slice_get, slice_get-from_Contains, slice_get-some}
@@ -185,7 +186,7 @@ module _ (p : PipelineData) (shape : Shape p.netlist p) (lists : List (List Stag
       let (k, last, end, at_last) = last_bank n p shape in
       let count = length-map p.banks (λ (b : Bank). b.request.0) in
       let whole : k + 1 ≡ length (requests p.banks) = omega (arith, end, count) in
-      let closed = shape.chained 7 (requests p.banks) first.request.0 last.request.0 shape.chain (request_at p.banks 0 first at_first) (k, whole, request_at p.banks k last at_last) in
+      let closed = shape.chained ShownOutputs (requests p.banks) first.request.0 last.request.0 shape.chain (request_at p.banks 0 first at_first) (k, whole, request_at p.banks k last at_last) in
       elim (closed.ports b.out.0 output) [
         | inl (r, of_bank, out) ↦
             let one : r ≡ b = same_driver n shape.is_netlist r b of_bank.0 in_b out in

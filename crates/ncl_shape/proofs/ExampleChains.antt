@@ -6,13 +6,14 @@ use Rattle.std.proofs.lemmas.Bool.{eq-eqb}
 use Rattle.ncl_netlist.specs.declared.cell.Cell.{Cell}
 use Rattle.ncl_netlist.specs.Netlist.{NetlistData}
 use Rattle.ncl_origin.specs.Origin.{OnPin, A, B, IsInputPort, RailOf, ComesFrom, rail}
-use Rattle.ncl_shape.specs.Chain.{IsBank, IsInputOf, IsFirstBank, Follows, IsPath, end, next, IsChain, HasChain, InnerRule, BreaksInner}
+use Rattle.ncl_shape.specs.Chain.{IsBank, IsInputOf, IsFirstBank, Follows, IsPath, end, next, IsChain, HasChain, SomeRegister, TwoEnds, BreaksInner}
 use Rattle.ncl_shape.specs.Examples.{three, cut}
 use Rattle.ncl_origin.proofs.OriginLaws.{cell_of_rail}
 use Rattle.ncl_shape.proofs.ChainLaws.{head_is_one, head_or_follows}
 use Rattle.ncl_origin.specs.CellTests.{bank_test}
 use Rattle.ncl_origin.proofs.CellTests.{each_passing, each_register, each_of_bank, on_pin_each}
 use Rattle.ncl_shape.proofs.WrittenCells.{cell_of, is_cell, of_bank}
+use Rattle.ncl_shape.proofs.InnerRules.{one_more, none_before}
 
 -- what holds of both inputs of a bank of one bit holds of each
 each_input : (n : NetlistData) (bank : ℕ) (P : ℕ → Type 0) → AllByRecursion (λ (c : Cell). (net : ℕ) → OnPin c A net → P net) (filter (bank_test bank) n.cells) → (net : ℕ) → IsInputOf n bank net → P net
@@ -91,15 +92,11 @@ no_chain_of_cut (banks, chain) =
 
 pub cut_breaks : BreaksInner cut 2
 cut_breaks = record {
-  known = omega arith;
+  rule = TwoEnds;
+  is = refl;
   broken = λ ends.
       let first = ends.first.only 9 first_of_cut in
       let last = ends.first.only 2 last_of_cut in
       omega (arith, first, last);
-  before = earlier;
+  before = one_more cut SomeRegister (cell_of cut 0, is_cell cut 0 refl, refl) (none_before cut);
 }
-  where
-    earlier : (q : ℕ) → q < 2 → InnerRule cut q
-    earlier zero lt = tt
-    earlier (suc zero) lt = (cell_of cut 0, is_cell cut 0 refl, refl)
-    earlier (suc (suc q)) lt = absurd (omega arith)

@@ -1,5 +1,5 @@
 -- The laws of faults of shape: a netlist that has a shape has none, and a netlist has at most one.
-use Rattle.std.proofs.Common.{◌≡◌, ℕ, zero, suc, ◌-◌, ◌<◌, ◌≤◌, List, length, Some, inl, inr, refl, sym, ap, subst, ◌∙◌, arith}
+use Rattle.std.proofs.Common.{◌≡◌, ℕ, ◌-◌, ◌<◌, ◌≤◌, List, [], ◌∷◌, length, get_or, Some, inl, inr, refl, sym, ap, subst, ◌∙◌, arith}
 use Rattle.std.specs.Prelude.{slice_get}
 use Rattle.std.proofs.lemmas.Bool.{cases_lt}
 use Rattle.std.proofs.lemmas.List.{length-map}
@@ -9,24 +9,25 @@ use Rattle.ncl_shape.specs.declared.bank.Bank.{Bank}
 use Rattle.ncl_origin.specs.declared.fault.ShapeFault.{ShapeFault}
 use Rattle.ncl_origin.specs.declared.fault.ShapeFault.TheVariants.{UnusedPort, Cycle, Unpaired, Mixed, Loose, NoChain, TooWide, TooLong, Memory}
 use Rattle.ncl_origin.specs.Rules.{IsReadPort, IsOffCycles, IsPaired, IsUnmixed, IsTied}
-use Rattle.ncl_shape.specs.Chain.{IsChain, InnerRule}
+use Rattle.ncl_shape.specs.Chain.{IsChain, InnerRule, TwoEnds, inner_number, InnerHolds, BreaksInner}
 use Rattle.ncl_shape.specs.Pipeline.{PipelineData}
 use Rattle.ncl_origin.specs.Free.{IsFree, FailsFirst, AtCell}
-use Rattle.ncl_shape.specs.Shape.{IsNarrow, IsShort, AreBitsOf, Shape, RuleHolds, BreaksRule, rule_of, Broken}
+use Rattle.ncl_shape.specs.Shape.{IsNarrow, IsShort, AreBitsOf, Shape, Rule, PortsRead, OffCycles, InPairs, Unmixed, Tied, Chained, NarrowBanks, FewBanks, rule_number, RuleHolds, BreaksRule, rule_of, Broken}
 use Rattle.ncl_base.proofs.Members.{slice_get-some}
 use Rattle.ncl_shape.proofs.ChainLaws.{chain_is_one}
+use Rattle.ncl_shape.proofs.RuleOrder.{RulesBelow}
 use Rattle.ncl_shape.proofs.ShapeLaws.{requests, request_at, bits_are_one}
 
 -- the rule of a fault doesn't hold
-rule_fails : (n : NetlistData) (fault : ShapeFault) → BreaksRule n fault → RuleHolds n (rule_of fault) → ⊥
-rule_fails n (UnusedPort net) breaks holds = breaks.fails (holds net.0)
-rule_fails n (Cycle cell) breaks holds = breaks.fails (holds cell.0)
-rule_fails n (Unpaired cell) breaks holds = breaks.fails (holds cell.0)
-rule_fails n (Mixed cell) breaks holds = breaks.fails (holds cell.0)
-rule_fails n (Loose cell) breaks holds = breaks.fails (holds cell.0)
-rule_fails n (NoChain rule) breaks holds = breaks.broken (holds rule)
-rule_fails n (TooWide number) (banks, chain, positive, first) holds = first.fails (λ bank at. holds banks (number - 1) bank chain at)
-rule_fails n TooLong breaks holds = breaks holds
+rule_fails : (n : NetlistData) (fault : ShapeFault) → BreaksRule n fault → ((r : Rule) → rule_number r ≡ rule_of fault → RuleHolds n r) → ⊥
+rule_fails n (UnusedPort net) breaks holds = breaks.fails (holds PortsRead refl net.0)
+rule_fails n (Cycle cell) breaks holds = breaks.fails (holds OffCycles refl cell.0)
+rule_fails n (Unpaired cell) breaks holds = breaks.fails (holds InPairs refl cell.0)
+rule_fails n (Mixed cell) breaks holds = breaks.fails (holds Unmixed refl cell.0)
+rule_fails n (Loose cell) breaks holds = breaks.fails (holds Tied refl cell.0)
+rule_fails n (NoChain number) breaks holds = breaks.broken (holds Chained refl breaks.rule)
+rule_fails n (TooWide number) (banks, chain, positive, first) holds = first.fails (λ bank at. holds NarrowBanks refl banks (number - 1) bank chain at)
+rule_fails n TooLong breaks holds = breaks (holds FewBanks refl)
 rule_fails n Memory breaks holds = breaks
 
 module _ (n : NetlistData) (is : IsNetlist n) where
@@ -36,7 +37,7 @@ module _ (n : NetlistData) (is : IsNetlist n) where
 
     -- each chain is that of the pipeline
     chain_of_pipeline : (banks : List ℕ) → IsChain n banks → banks ≡ requests p.banks
-    chain_of_pipeline banks chain = chain_is_one n is shape.free (shape.chained 2) banks (requests p.banks) chain shape.chain
+    chain_of_pipeline banks chain = chain_is_one n is shape.free (shape.chained TwoEnds) banks (requests p.banks) chain shape.chain
 
     bank_is_narrow : (k bank : ℕ) → slice_get (requests p.banks) k ≡ Some bank → IsNarrow n bank
     bank_is_narrow k bank at bits of_bank =
@@ -58,20 +59,19 @@ module _ (n : NetlistData) (is : IsNetlist n) where
         omega (arith, few, same, as_many_requests)
 
     -- each rule holds
-    every_rule : (r : ℕ) → RuleHolds n r
-    every_rule zero = tt
-    every_rule (suc zero) = shape.free.ports_read
-    every_rule (suc (suc zero)) = shape.free.off_cycles
-    every_rule (suc (suc (suc zero))) = shape.free.paired
-    every_rule (suc (suc (suc (suc zero)))) = shape.free.unmixed
-    every_rule (suc (suc (suc (suc (suc zero))))) = shape.free.tied
-    every_rule (suc (suc (suc (suc (suc (suc zero)))))) = shape.chained
-    every_rule (suc (suc (suc (suc (suc (suc (suc zero))))))) = narrow
-    every_rule (suc (suc (suc (suc (suc (suc (suc (suc r)))))))) = short
+    every_rule : (r : Rule) → RuleHolds n r
+    every_rule PortsRead = shape.free.ports_read
+    every_rule OffCycles = shape.free.off_cycles
+    every_rule InPairs = shape.free.paired
+    every_rule Unmixed = shape.free.unmixed
+    every_rule Tied = shape.free.tied
+    every_rule Chained = shape.chained
+    every_rule NarrowBanks = narrow
+    every_rule FewBanks = short
 
     -- so a netlist that has a shape has no fault
     pub shape_is_unbroken : (fault : ShapeFault) → BreaksRule n fault → ⊥
-    shape_is_unbroken fault breaks = rule_fails n fault breaks (every_rule (rule_of fault))
+    shape_is_unbroken fault breaks = rule_fails n fault breaks (λ r of. every_rule r)
 
 -- there is one first place
 first_is_one : (Holds : ℕ → Type 0) (j k : ℕ) → FailsFirst Holds j → FailsFirst Holds k → j ≡ k
@@ -85,17 +85,12 @@ first_is_one Holds j k at_j at_k =
           ]
     ]
 
--- the fault of a rule at a place
+-- the fault at a place of the rule with a number
+abbrev faults : ℕ → List ShapeFault
+faults place = Memory ∷ UnusedPort (record { 0 = place }) ∷ Cycle (record { 0 = place }) ∷ Unpaired (record { 0 = place }) ∷ Mixed (record { 0 = place }) ∷ Loose (record { 0 = place }) ∷ NoChain place ∷ TooWide place ∷ TooLong ∷ []
+
 abbrev fault_at : ℕ → ℕ → ShapeFault
-fault_at zero place = Memory
-fault_at (suc zero) place = UnusedPort (record { 0 = place })
-fault_at (suc (suc zero)) place = Cycle (record { 0 = place })
-fault_at (suc (suc (suc zero))) place = Unpaired (record { 0 = place })
-fault_at (suc (suc (suc (suc zero)))) place = Mixed (record { 0 = place })
-fault_at (suc (suc (suc (suc (suc zero))))) place = Loose (record { 0 = place })
-fault_at (suc (suc (suc (suc (suc (suc zero)))))) place = NoChain place
-fault_at (suc (suc (suc (suc (suc (suc (suc zero))))))) place = TooWide place
-fault_at (suc (suc (suc (suc (suc (suc (suc (suc r)))))))) place = TooLong
+fault_at number place = get_or (faults place) number Memory
 
 -- each fault is that of its rule at some place
 has_place : (fault : ShapeFault) → (place : ℕ) × (fault_at (rule_of fault) place ≡ fault)
@@ -111,49 +106,57 @@ has_place Memory = (0, refl)
 
 module _ (n : NetlistData) (is : IsNetlist n) where
   -- the first five rules leave the netlist free
-  free_before : ((r : ℕ) → r < 7 → RuleHolds n r) → IsFree n
+  free_before : RulesBelow n 7 → IsFree n
   free_before before = record {
-    ports_read = before 1 (omega arith);
-    off_cycles = before 2 (omega arith);
-    paired = before 3 (omega arith);
-    unmixed = before 4 (omega arith);
-    tied = before 5 (omega arith);
+    ports_read = before PortsRead (omega arith);
+    off_cycles = before OffCycles (omega arith);
+    paired = before InPairs (omega arith);
+    unmixed = before Unmixed (omega arith);
+    tied = before Tied (omega arith);
   }
 
+  -- the first inner rule that fails has one number
+  inner_is_one : (i j : ℕ) → BreaksInner n i → BreaksInner n j → i ≡ j
+  inner_is_one i j at_i at_j = first_is_one (λ k. (r : InnerRule) → inner_number r ≡ k → InnerHolds n r) i j (first_inner i at_i) (first_inner j at_j)
+    where
+      first_inner : (k : ℕ) → BreaksInner n k → FailsFirst (λ number. (r : InnerRule) → inner_number r ≡ number → InnerHolds n r) k
+      first_inner k at = record {
+        fails = λ holds. at.broken (holds at.rule at.is);
+        before = λ q less r of. at.before r (subst (λ number. number < k) (sym of) less);
+      }
+
   -- the first wide bank has one number
-  number_is_one : (i j : ℕ) → ((r : ℕ) → r < 7 → RuleHolds n r) → BreaksRule n (TooWide i) → BreaksRule n (TooWide j) → i ≡ j
+  number_is_one : (i j : ℕ) → RulesBelow n 7 → BreaksRule n (TooWide i) → BreaksRule n (TooWide j) → i ≡ j
   number_is_one i j before (xs, chain_x, some_i, first_i) (ys, chain_y, some_j, first_j) =
-      let same : xs ≡ ys = chain_is_one n is (free_before before) (before 6 (omega arith) 2) xs ys chain_x chain_y in
+      let same : xs ≡ ys = chain_is_one n is (free_before before) (before Chained (omega arith) TwoEnds) xs ys chain_x chain_y in
       let first = subst (λ banks. FailsFirst (λ k. (bank : ℕ) → slice_get banks k ≡ Some bank → IsNarrow n bank) (i - 1)) same first_i in
       let places : i - 1 ≡ j - 1 = first_is_one (λ k. (bank : ℕ) → slice_get ys k ≡ Some bank → IsNarrow n bank) (i - 1) (j - 1) first first_j in
       omega (arith, some_i, some_j, places)
 
   -- a rule breaks first at one place, so the places give one fault
-  same_at_places : (r i j : ℕ) → ((q : ℕ) → q < r → RuleHolds n q) → BreaksRule n (fault_at r i) → BreaksRule n (fault_at r j) → fault_at r i ≡ fault_at r j
-  same_at_places zero i j before at_i at_j = refl
-  same_at_places (suc zero) i j before at_i at_j = ap (fault_at 1) (first_is_one (IsReadPort n) i j at_i at_j)
-  same_at_places (suc (suc zero)) i j before at_i at_j = ap (fault_at 2) (first_is_one (AtCell IsOffCycles n) i j at_i at_j)
-  same_at_places (suc (suc (suc zero))) i j before at_i at_j = ap (fault_at 3) (first_is_one (AtCell IsPaired n) i j at_i at_j)
-  same_at_places (suc (suc (suc (suc zero)))) i j before at_i at_j = ap (fault_at 4) (first_is_one (AtCell IsUnmixed n) i j at_i at_j)
-  same_at_places (suc (suc (suc (suc (suc zero))))) i j before at_i at_j = ap (fault_at 5) (first_is_one (AtCell IsTied n) i j at_i at_j)
-  same_at_places (suc (suc (suc (suc (suc (suc zero)))))) i j before at_i at_j = ap NoChain (first_is_one (InnerRule n) i j (record { fails = at_i.broken; before = at_i.before }) (record { fails = at_j.broken; before = at_j.before }))
-  same_at_places (suc (suc (suc (suc (suc (suc (suc zero))))))) i j before at_i at_j = ap TooWide (number_is_one i j before at_i at_j)
-  same_at_places (suc (suc (suc (suc (suc (suc (suc (suc r)))))))) i j before at_i at_j = refl
+  same_at_places : (f : ShapeFault) (j : ℕ) → RulesBelow n (rule_of f) → BreaksRule n f → BreaksRule n (fault_at (rule_of f) j) → f ≡ fault_at (rule_of f) j
+  same_at_places (UnusedPort net) j before at_i at_j = ap (fault_at 1) (first_is_one (IsReadPort n) net.0 j at_i at_j)
+  same_at_places (Cycle cell) j before at_i at_j = ap (fault_at 2) (first_is_one (AtCell IsOffCycles n) cell.0 j at_i at_j)
+  same_at_places (Unpaired cell) j before at_i at_j = ap (fault_at 3) (first_is_one (AtCell IsPaired n) cell.0 j at_i at_j)
+  same_at_places (Mixed cell) j before at_i at_j = ap (fault_at 4) (first_is_one (AtCell IsUnmixed n) cell.0 j at_i at_j)
+  same_at_places (Loose cell) j before at_i at_j = ap (fault_at 5) (first_is_one (AtCell IsTied n) cell.0 j at_i at_j)
+  same_at_places (NoChain i) j before at_i at_j = ap NoChain (inner_is_one i j at_i at_j)
+  same_at_places (TooWide i) j before at_i at_j = ap TooWide (number_is_one i j before at_i at_j)
+  same_at_places TooLong j before at_i at_j = refl
+  same_at_places Memory j before at_i at_j = refl
 
   -- faults of one rule are the same
   same_of_rule : (f g : ShapeFault) → rule_of f ≡ rule_of g → Broken n f → Broken n g → f ≡ g
   same_of_rule f g rules broken_f broken_g =
-      let (i, at_i) = has_place f in
       let (j, at_j) = has_place g in
       let at_g : fault_at (rule_of f) j ≡ g = ap (λ r. fault_at r j) rules ∙ at_j in
-      let same = same_at_places (rule_of f) i j broken_f.before (subst (BreaksRule n) (sym at_i) broken_f.breaks) (subst (BreaksRule n) (sym at_g) broken_g.breaks) in
-      sym at_i ∙ same ∙ at_g
+      same_at_places f j broken_f.before broken_f.breaks (subst (BreaksRule n) (sym at_g) broken_g.breaks) ∙ at_g
 
   -- no fault is of an earlier rule than the first fault
   no_earlier : (f g : ShapeFault) → Broken n f → Broken n g → rule_of f ≤ rule_of g
   no_earlier f g broken_f broken_g =
       elim (cases_lt (rule_of g) (rule_of f)) [
-        | inl less ↦ absurd (rule_fails n g broken_g.breaks (broken_f.before (rule_of g) less))
+        | inl less ↦ absurd (rule_fails n g broken_g.breaks (λ r of. broken_f.before r (subst (λ number. number < rule_of f) (sym of) less)))
         | inr most ↦ most
       ]
 

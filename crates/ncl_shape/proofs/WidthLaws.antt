@@ -1,5 +1,5 @@
 -- The seventh and the eighth rule of shape, by the bits that were found for each bank of a chain.
-use Rattle.std.proofs.Common.{◌≡◌, ℕ, zero, suc, ◌+◌, ◌-◌, ◌<◌, ◌≤◌, List, [], length, get_or, Some, inl, inr, ap, subst, arith}
+use Rattle.std.proofs.Common.{◌≡◌, ℕ, ◌+◌, ◌-◌, ◌<◌, ◌≤◌, List, [], length, get_or, Some, inl, inr, ap, subst, arith}
 use Rattle.std.specs.Prelude.{slice_get}
 use Rattle.std.specs.List.{AllZip}
 use Rattle.std.proofs.lemmas.Bool.{cases_lt}
@@ -11,38 +11,27 @@ use Rattle.ncl_origin.specs.declared.fault.ShapeFault.TheVariants.{TooWide, TooL
 use Rattle.ncl_origin.specs.Free.{IsFree, FailsFirst}
 use Rattle.ncl_shape.specs.declared.bank.TheConstants.{MOST_BANKS}
 use Rattle.ncl_shape.specs.declared.bank.Bit.{Bit}
-use Rattle.ncl_shape.specs.Chain.{IsChain, IsChained}
-use Rattle.ncl_shape.specs.Shape.{AreBitsOf, IsNarrow, RuleHolds, Broken}
+use Rattle.ncl_shape.specs.Chain.{IsChain, SomeRegister, TwoEnds, NoFork, IsChained}
+use Rattle.ncl_shape.specs.Shape.{AreBitsOf, IsNarrow, PortsRead, OffCycles, InPairs, Unmixed, Tied, Chained, NarrowBanks, RuleHolds, Broken}
 use Rattle.ncl_base.proofs.Lists.{AllZip-at}
 use Rattle.ncl_shape.proofs.InnerRules.{of_each_chain}
+use Rattle.ncl_shape.proofs.RuleOrder.{RulesBelow, no_rule_below, one_rule_more}
 use Rattle.ncl_shape.proofs.ShapeLaws.{bits_are_one}
 use Rattle.ncl_shape.proofs.ZippedLists.{AllZip-length}
 
 module _ (n : NetlistData) (free : IsFree n) where
   -- the first five rules hold
-  pub rules_before : (q : ℕ) → q < 6 → RuleHolds n q
-  rules_before zero lt = tt
-  rules_before (suc zero) lt = free.ports_read
-  rules_before (suc (suc zero)) lt = free.off_cycles
-  rules_before (suc (suc (suc zero))) lt = free.paired
-  rules_before (suc (suc (suc (suc zero)))) lt = free.unmixed
-  rules_before (suc (suc (suc (suc (suc zero))))) lt = free.tied
-  rules_before (suc (suc (suc (suc (suc (suc q)))))) lt = absurd (omega arith)
+  pub rules_before : RulesBelow n 6
+  rules_before =
+      one_rule_more n Tied free.tied
+      (one_rule_more n Unmixed free.unmixed (one_rule_more n InPairs free.paired (one_rule_more n OffCycles free.off_cycles (one_rule_more n PortsRead free.ports_read (no_rule_below n)))))
 
   -- and the sixth, where the banks are a chain
-  chained_before : IsChained n → (q : ℕ) → q < 7 → RuleHolds n q
-  chained_before chained q lt =
-      elim (cases_lt q 6) [
-        | inl less ↦ rules_before q less
-        | inr most ↦ let six : 6 ≡ q = omega (arith, lt, most) in subst (RuleHolds n) six chained
-      ]
+  chained_before : IsChained n → RulesBelow n 7
+  chained_before chained = one_rule_more n Chained chained rules_before
 
-  narrow_before : IsChained n → RuleHolds n 7 → (q : ℕ) → q < 8 → RuleHolds n q
-  narrow_before chained narrow q lt =
-      elim (cases_lt q 7) [
-        | inl less ↦ chained_before chained q less
-        | inr most ↦ let seven : 7 ≡ q = omega (arith, lt, most) in subst (RuleHolds n) seven narrow
-      ]
+  narrow_before : IsChained n → RuleHolds n NarrowBanks → RulesBelow n 8
+  narrow_before chained narrow = one_rule_more n NarrowBanks narrow (chained_before chained)
 
 module _ (n : NetlistData) (is : IsNetlist n) (free : IsFree n) (chained : IsChained n) (chain : List ℕ) (is_chain : IsChain n chain) where
   -- a bank is narrow where its bits are few
@@ -79,9 +68,9 @@ module _ (n : NetlistData) (is : IsNetlist n) (free : IsFree n) (chained : IsCha
         }
 
     -- where no list has too many the seventh rule holds
-    all_narrow : ((k : ℕ) → length (get_or lists k []) ≤ MOST_BITS) → RuleHolds n 7
+    all_narrow : ((k : ℕ) → length (get_or lists k []) ≤ MOST_BITS) → RuleHolds n NarrowBanks
     all_narrow few banks k bank other at =
-        of_each_chain n (chained 1) (chained 2) is free (chained 3) chain is_chain (λ xs. slice_get xs k ≡ Some bank → IsNarrow n bank) (λ at_k. is_narrow bank (get_or lists k []) (bits_at k bank at_k) (few k)) banks other at
+        of_each_chain n (chained SomeRegister) (chained TwoEnds) is free (chained NoFork) chain is_chain (λ xs. slice_get xs k ≡ Some bank → IsNarrow n bank) (λ at_k. is_narrow bank (get_or lists k []) (bits_at k bank at_k) (few k)) banks other at
 
     -- and too many banks break the eighth
     pub too_long : ((k : ℕ) → length (get_or lists k []) ≤ MOST_BITS) → MOST_BANKS < length chain → Broken n TooLong

@@ -1,5 +1,5 @@
 -- The chain of banks: the inner rules of the sixth rule of shape.
-use Rattle.std.specs.Prelude.{◌≡◌, ℕ, zero, suc, ◌+◌, ◌<◌, ◌≤◌, ◌⊎◌, List, [], ◌∷◌, Contains, length, slice_get, Some}
+use Rattle.std.specs.Prelude.{◌≡◌, ℕ, ◌+◌, ◌<◌, ◌⊎◌, List, [], ◌∷◌, Contains, length, slice_get, Some}
 use Rattle.ncl_gates.specs.Cell.{pins_of}
 use Rattle.ncl_netlist.specs.declared.cell.Cell.{Cell}
 use Rattle.ncl_netlist.specs.Netlist.{NetlistData}
@@ -52,30 +52,30 @@ pub record IsRoot (n : NetlistData) (bank net : ℕ) : Type 0 where
   pub acks : ComesFrom n net (AckOf bank)
   pub used : IsRequest n net ⊎ IsOutputPort n net
 
--- inner rule 1: there is a register cell
+-- there is a register cell
 abbrev pub HasRegister : NetlistData → Type 0
 HasRegister n = (c : Cell) × IsCell n c × IsRegister c
 
--- inner rule 2: exactly one bank reads input ports, and exactly one bank's request is an input port
+-- exactly one bank reads input ports, and exactly one bank's request is an input port
 pub record HasEnds (n : NetlistData) : Type 0 where
   pub first : HasOne (IsFirstBank n)
   pub last : HasOne (IsLastBank n)
 
--- inner rule 3: no two banks follow one bank
+-- no two banks follow one bank
 abbrev pub IsUnforked : NetlistData → Type 0
 IsUnforked n = (bank x y : ℕ) → Follows n bank x → Follows n bank y → x ≡ y
 
--- inner rule 4: the banks form a chain
+-- the banks form a chain
 abbrev pub HasChain : NetlistData → Type 0
 HasChain n = (banks : List ℕ) × IsChain n banks
 
--- inner rule 5: each bank but the last has the acknowledge of the next bank as its request, and the last
+-- each bank but the last has the acknowledge of the next bank as its request, and the last
 -- bank's request is an input port
 pub record IsAcknowledged (n : NetlistData) (banks : List ℕ) : Type 0 where
   pub by_next : (k bank next : ℕ) → slice_get banks k ≡ Some bank → slice_get banks (k + 1) ≡ Some next → HasOnlyOrigin n bank (AckOf next)
   pub by_port : (k bank : ℕ) → k + 1 ≡ length banks → slice_get banks k ≡ Some bank → IsInputPort n bank
 
--- inner rule 6: each bank has exactly one root, and the root of the first bank is an output port
+-- each bank has exactly one root, and the root of the first bank is an output port
 pub record HasRoots (n : NetlistData) (banks : List ℕ) : Type 0 where
   pub one_each : (bank : ℕ) → Contains banks bank → HasOne (IsRoot n bank)
   pub first : (bank root : ℕ) → slice_get banks 0 ≡ Some bank → IsRoot n bank root → IsOutputPort n root
@@ -84,7 +84,7 @@ pub record HasRoots (n : NetlistData) (banks : List ℕ) : Type 0 where
 abbrev pub IsShown : NetlistData → ℕ → ℕ → ℕ → Type 0
 IsShown n first last net = ((c : Cell) × IsOfBank n last c × (c.out.0 ≡ net)) ⊎ IsRoot n first net
 
--- inner rule 7: these are exactly the output ports, and no gate cell reads the last bank's rails
+-- these are exactly the output ports, and no gate cell reads the last bank's rails
 pub record IsClosed (n : NetlistData) (first last : ℕ) : Type 0 where
   pub shown : (net : ℕ) → IsShown n first last net → IsOutputPort n net
   pub ports : (net : ℕ) → IsOutputPort n net → IsShown n first last net
@@ -94,13 +94,13 @@ pub record IsClosed (n : NetlistData) (first last : ℕ) : Type 0 where
 abbrev pub OnPinNamed : Cell → List ℕ → ℕ → Type 0
 OnPinNamed c name net = (pin : ℕ) × (slice_get (pins_of c.kind) pin ≡ Some name) × OnPin c pin net
 
--- inner rule 8: an input port has one role: the pins that read it have one name, and at most one of them
+-- an input port has one role: the pins that read it have one name, and at most one of them
 -- is an A pin
 pub record HasOneRole (n : NetlistData) (net : ℕ) : Type 0 where
   pub one_name : (c d : Cell) (x y : List ℕ) → IsCell n c → IsCell n d → OnPinNamed c x net → OnPinNamed d y net → x ≡ y
   pub one_rail : (c d : Cell) → IsCell n c → IsCell n d → OnPin c A net → OnPin d A net → c ≡ d
 
--- inner rule 9: no bank that is reset to DATA is followed by one, since between two words there has to be a NULL
+-- no bank that is reset to DATA is followed by one, since between two words there has to be a NULL
 abbrev pub IsDataApart : NetlistData → Type 0
 IsDataApart n = (bank next : ℕ) → Follows n bank next → IsDataBank n bank → IsDataBank n next → ⊥
 
@@ -111,25 +111,49 @@ IsHead banks bank = slice_get banks 0 ≡ Some bank
 abbrev pub IsEnd : List ℕ → ℕ → Type 0
 IsEnd banks bank = (k : ℕ) × (k + 1 ≡ length banks) × (slice_get banks k ≡ Some bank)
 
--- the inner rules by number, from 1. Those from the fifth to the seventh speak of the chain, which the fourth gives
-abbrev pub InnerRule : NetlistData → ℕ → Type 0
-InnerRule n zero = Unit {0}
-InnerRule n (suc zero) = HasRegister n
-InnerRule n (suc (suc zero)) = HasEnds n
-InnerRule n (suc (suc (suc zero))) = IsUnforked n
-InnerRule n (suc (suc (suc (suc zero)))) = HasChain n
-InnerRule n (suc (suc (suc (suc (suc zero))))) = (banks : List ℕ) → IsChain n banks → IsAcknowledged n banks
-InnerRule n (suc (suc (suc (suc (suc (suc zero)))))) = (banks : List ℕ) → IsChain n banks → HasRoots n banks
-InnerRule n (suc (suc (suc (suc (suc (suc (suc zero))))))) = (banks : List ℕ) (first last : ℕ) → IsChain n banks → IsHead banks first → IsEnd banks last → IsClosed n first last
-InnerRule n (suc (suc (suc (suc (suc (suc (suc (suc zero)))))))) = (net : ℕ) → IsInputPort n net → HasOneRole n net
-InnerRule n (suc (suc (suc (suc (suc (suc (suc (suc (suc r))))))))) = IsDataApart n
+-- the inner rules of the chain, in the order in which they are asked
+pub data InnerRule : Type 0 where
+  SomeRegister : InnerRule
+  TwoEnds : InnerRule
+  NoFork : InnerRule
+  OneChain : InnerRule
+  ChainedRequests : InnerRule
+  OneRootEach : InnerRule
+  ShownOutputs : InnerRule
+  OneRoleEach : InnerRule
+  WordsApart : InnerRule
+
+-- their numbers, by which an answer tells them
+abbrev pub inner_number : InnerRule → ℕ
+inner_number SomeRegister = 1
+inner_number TwoEnds = 2
+inner_number NoFork = 3
+inner_number OneChain = 4
+inner_number ChainedRequests = 5
+inner_number OneRootEach = 6
+inner_number ShownOutputs = 7
+inner_number OneRoleEach = 8
+inner_number WordsApart = 9
+
+-- what each asks. Three of them speak of the chain, which one before gives
+abbrev pub InnerHolds : NetlistData → InnerRule → Type 0
+InnerHolds n SomeRegister = HasRegister n
+InnerHolds n TwoEnds = HasEnds n
+InnerHolds n NoFork = IsUnforked n
+InnerHolds n OneChain = HasChain n
+InnerHolds n ChainedRequests = (banks : List ℕ) → IsChain n banks → IsAcknowledged n banks
+InnerHolds n OneRootEach = (banks : List ℕ) → IsChain n banks → HasRoots n banks
+InnerHolds n ShownOutputs = (banks : List ℕ) (first last : ℕ) → IsChain n banks → IsHead banks first → IsEnd banks last → IsClosed n first last
+InnerHolds n OneRoleEach = (net : ℕ) → IsInputPort n net → HasOneRole n net
+InnerHolds n WordsApart = IsDataApart n
 
 -- the banks form a chain by all inner rules
 abbrev pub IsChained : NetlistData → Type 0
-IsChained n = (r : ℕ) → InnerRule n r
+IsChained n = (r : InnerRule) → InnerHolds n r
 
--- the least inner rule that fails
-pub record BreaksInner (n : NetlistData) (r : ℕ) : Type 0 where
-  pub known : r ≤ 9
-  pub broken : InnerRule n r → ⊥
-  pub before : (q : ℕ) → q < r → InnerRule n q
+-- the first inner rule that fails, by its number
+pub record BreaksInner (n : NetlistData) (number : ℕ) : Type 0 where
+  pub rule : InnerRule
+  pub is : inner_number rule ≡ number
+  pub broken : InnerHolds n rule → ⊥
+  pub before : (q : InnerRule) → inner_number q < number → InnerHolds n q

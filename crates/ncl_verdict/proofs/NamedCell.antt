@@ -9,6 +9,7 @@ use Rattle.ncl_shape.specs.declared.stage.StageCell.{StageCell}
 use Rattle.ncl_shape.specs.Stage.{StageData}
 use Rattle.ncl_shape.specs.Pipeline.{PipelineData}
 use Rattle.ncl_shape.specs.Shape.{Shape}
+use Rattle.ncl_shape.specs.Chain.{SomeRegister}
 use Rattle.ncl_stage.specs.declared.variant.Variant.{Variant}
 use Rattle.ncl_stage.specs.Tables.{count}
 use Rattle.ncl_stage.specs.Faults.{StageFault, BothRails, NoRail, Incomplete, Orphan}
@@ -104,5 +105,5 @@ stage_cells_within n p shape j s at k c there =
 -- the verdict on a pipeline names no cell but those of its netlist
 pub names_of_pipeline : (n : NetlistData) (p : PipelineData) → Shape n p → (limit : ℕ) → NamesBelow (length n.cells) (judgement limit p.stages)
 names_of_pipeline n p shape limit =
-    let (register, (place, within, at), is) = shape.chained 1 in
+    let (register, (place, within, at), is) = shape.chained SomeRegister in
     names_of_stages (length n.cells) (omega arith) limit p.stages (stage_cells_within n p shape)

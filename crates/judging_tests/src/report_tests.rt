@@ -60,7 +60,7 @@ fn tells_verdicts(rt: HostRuntime) -> Result<(), Fail> {
     let cases: [(Verdict, &str); 6] = [
         (Verdict::Accepted, "accepted banks=2 stages=1 cells=6\n"),
         (
-            Verdict::Both {
+            Verdict::BothRails {
                 stage: 1,
                 output: 1,
                 word: word.clone()?,
@@ -68,7 +68,7 @@ fn tells_verdicts(rt: HostRuntime) -> Result<(), Fail> {
             "refused stage 1: both rails, output 1, word 01\n",
         ),
         (
-            Verdict::Empty {
+            Verdict::NoRail {
                 stage: 2,
                 output: 3,
                 word: word.clone()?,

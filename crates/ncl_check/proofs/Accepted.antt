@@ -14,8 +14,8 @@ use Rattle.ncl_check.specs.Headline.{IsDelayInsensitiveText}
 -- only the verdict that nothing is wrong is an acceptance
 pub accepted_alone : (v : Verdict) → outcome_of v ≡ Accepted → v ≡ verdict.Accepted
 accepted_alone verdict.Accepted e = refl
-accepted_alone (verdict.Both stage output word) e = cc
-accepted_alone (verdict.Empty stage output word) e = cc
+accepted_alone (verdict.BothRails stage output word) e = cc
+accepted_alone (verdict.NoRail stage output word) e = cc
 accepted_alone (verdict.Incomplete stage bit word) e = cc
 accepted_alone (verdict.Orphan stage cell word) e = cc
 accepted_alone (verdict.Limit stage) e = cc

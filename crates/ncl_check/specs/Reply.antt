@@ -13,8 +13,8 @@ use Rattle.ncl_check.specs.declared.reply.Outcome.TheVariants.{Accepted, Refused
 -- how a check ends whose judgement is this verdict
 abbrev pub outcome_of : Verdict → Outcome
 outcome_of verdict.Accepted = Accepted
-outcome_of (verdict.Both stage output word) = Refused
-outcome_of (verdict.Empty stage output word) = Refused
+outcome_of (verdict.BothRails stage output word) = Refused
+outcome_of (verdict.NoRail stage output word) = Refused
 outcome_of (verdict.Incomplete stage bit word) = Refused
 outcome_of (verdict.Orphan stage cell word) = Refused
 outcome_of (verdict.Limit stage) = Unjudged

@@ -32,7 +32,7 @@ impl Outcome {
     {
         match verdict {
             Verdict::Accepted => Outcome::Accepted,
-            Verdict::Both { .. } | Verdict::Empty { .. } => Outcome::Refused,
+            Verdict::BothRails { .. } | Verdict::NoRail { .. } => Outcome::Refused,
             Verdict::Incomplete { .. } | Verdict::Orphan { .. } => Outcome::Refused,
             Verdict::Limit { .. } => Outcome::Unjudged,
         }

@@ -20,7 +20,7 @@ use Rattle.ncl_stage.specs.Values.{val}
 use Rattle.ncl_stage.proofs.OutputLaws.{values_at}
 use Rattle.ncl_stage.proofs.LeastLaws.{least-shown, least-hidden, both-shown, none-shown, outputs-grouped, first_below-none, first_below-some}
 use Rattle.ncl_complete.specs.declared.rail_fault.RailFault.{RailFault}
-use Rattle.ncl_complete.specs.declared.rail_fault.RailFault.TheVariants.{Both, Empty}
+use Rattle.ncl_complete.specs.declared.rail_fault.RailFault.TheVariants as rail
 use Rattle.ncl_complete.specs.RailFaults.{rail_fault, found_fault_by, first_rail_fault_by}
 
 -- the table of an output, where a function of its rails is asked of each
@@ -53,10 +53,10 @@ none-found s order ordered space width refs have output lt e =
 abbrev pub output_fault : List ℕ → StageData → ℕ → Option RailFault
 output_fault order s output = first_of (found_fault_by order s (BothRails output) ∷ found_fault_by order s (NoRail output) ∷ [])
 
-pub fault-both : (s : StageData) (order : List ℕ) (output : ℕ) (word : List Bool) → least_word_by order s (BothRails output) ≡ Some word → output_fault order s output ≡ Some (Both output word)
+pub fault-both : (s : StageData) (order : List ℕ) (output : ℕ) (word : List Bool) → least_word_by order s (BothRails output) ≡ Some word → output_fault order s output ≡ Some (rail.BothRails output word)
 fault-both s order output word is = ap (λ least. first_of (option_and_then (rail_fault (BothRails output)) least ∷ found_fault_by order s (NoRail output) ∷ [])) is
 
-pub fault-empty : (s : StageData) (order : List ℕ) (output : ℕ) (word : List Bool) → least_word_by order s (BothRails output) ≡ None → least_word_by order s (NoRail output) ≡ Some word → output_fault order s output ≡ Some (Empty output word)
+pub fault-empty : (s : StageData) (order : List ℕ) (output : ℕ) (word : List Bool) → least_word_by order s (BothRails output) ≡ None → least_word_by order s (NoRail output) ≡ Some word → output_fault order s output ≡ Some (rail.NoRail output word)
 fault-empty s order output word not_both is = λ k. first_of (option_and_then (rail_fault (BothRails output)) (not_both k) ∷ option_and_then (rail_fault (NoRail output)) (is k) ∷ [])
 
 pub fault-none : (s : StageData) (order : List ℕ) (output : ℕ) → least_word_by order s (BothRails output) ≡ None → least_word_by order s (NoRail output) ≡ None → output_fault order s output ≡ None

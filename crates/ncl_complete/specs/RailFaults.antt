@@ -5,12 +5,12 @@ use Rattle.ncl_stage.specs.declared.variant.Variant.TheVariants.{Base}
 use Rattle.ncl_stage.specs.Faults.{StageFault, BothRails, NoRail, Incomplete, Orphan}
 use Rattle.ncl_stage.specs.LeastWords.{faults_of, first_of, least_word_by}
 use Rattle.ncl_complete.specs.declared.rail_fault.RailFault.{RailFault}
-use Rattle.ncl_complete.specs.declared.rail_fault.RailFault.TheVariants.{Both, Empty}
+use Rattle.ncl_complete.specs.declared.rail_fault.RailFault.TheVariants as rail
 
 -- a fault of an output with a word that shows it; the other faults are of no output
 abbrev pub rail_fault : StageFault → List Bool → Option RailFault
-rail_fault (BothRails output) word = Some (Both output word)
-rail_fault (NoRail output) word = Some (Empty output word)
+rail_fault (BothRails output) word = Some (rail.BothRails output word)
+rail_fault (NoRail output) word = Some (rail.NoRail output word)
 rail_fault (Incomplete bit) word = None
 rail_fault (Orphan cell) word = None
 

@@ -5,7 +5,7 @@ use ncl_base::Word;
 #[derive(Clone, Debug, Drop)]
 pub enum RailFault {
     /// Both rails of the output are high.
-    Both(usize, Word),
+    BothRails(usize, Word),
     /// No rail of the output is high.
-    Empty(usize, Word),
+    NoRail(usize, Word),
 }

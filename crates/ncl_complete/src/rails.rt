@@ -109,10 +109,10 @@ fn first_fault<P: Space>(
 {
     for output in 0..stage.outputs.items().len() {
         if let Some(word) = least_one(space, order, refs.both[output]) {
-            return Some(RailFault::Both(output, word));
+            return Some(RailFault::BothRails(output, word));
         }
         if let Some(word) = least_zero(space, order, refs.some[output]) {
-            return Some(RailFault::Empty(output, word));
+            return Some(RailFault::NoRail(output, word));
         }
     }
     None

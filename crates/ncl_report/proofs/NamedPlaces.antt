@@ -12,7 +12,7 @@ use Rattle.ncl_origin.specs.Free.{AtCell, FailsFirst}
 use Rattle.ncl_shape.specs.Pipeline.{PipelineData}
 use Rattle.ncl_shape.specs.Shape.{Shape, IsShapeFault}
 use Rattle.ncl_verdict.specs.declared.verdict.Verdict.{Verdict}
-use Rattle.ncl_verdict.specs.declared.verdict.Verdict.TheVariants.{Accepted, Both, Empty, Incomplete, Orphan, Limit}
+use Rattle.ncl_verdict.specs.declared.verdict.Verdict.TheVariants.{Accepted, BothRails, NoRail, Incomplete, Orphan, Limit}
 use Rattle.ncl_verdict.specs.Judgement.{judgement}
 use Rattle.ncl_verdict.proofs.NamedCell.{NamesBelow, names_of_pipeline}
 use Rattle.ncl_report.specs.ShapeText.{NamesPlaceOf}
@@ -25,8 +25,8 @@ names_cell_of n p limit shape = by (judgement limit p.stages) (names_of_pipeline
     by : (v : Verdict) → NamesBelow (length n.cells) v → NamesCellOf n v
     by (Orphan stage cell word) below = below
     by Accepted below = tt
-    by (Both stage output word) below = tt
-    by (Empty stage output word) below = tt
+    by (BothRails stage output word) below = tt
+    by (NoRail stage output word) below = tt
     by (Incomplete stage bit word) below = tt
     by (Limit stage) below = tt
 

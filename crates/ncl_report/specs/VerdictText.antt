@@ -3,7 +3,7 @@ use Rattle.std.specs.Prelude.{ℕ, ◌+◌, ◌<◌, Bool, List, ◌++◌, lengt
 use Rattle.ncl_base.specs.Words.{text_of as word_text}
 use Rattle.ncl_netlist.specs.Netlist.{NetlistData}
 use Rattle.ncl_verdict.specs.declared.verdict.Verdict.{Verdict}
-use Rattle.ncl_verdict.specs.declared.verdict.Verdict.TheVariants.{Accepted, Both, Empty, Incomplete, Orphan, Limit}
+use Rattle.ncl_verdict.specs.declared.verdict.Verdict.TheVariants.{Accepted, BothRails, NoRail, Incomplete, Orphan, Limit}
 use Rattle.ncl_report.specs.Line.{line, cell_name}
 
 -- the line on a stage with a fault: the fault, the output, bit or cell where it is, and the word that shows it
@@ -17,8 +17,8 @@ abbrev pub verdict_line : NetlistData → ℕ → ℕ → Verdict → List ℕ
 verdict_line n stages limit Accepted =
     line (codes "accepted banks=" ++ decimal (stages + 1) ++ codes " stages=" ++ decimal stages
     ++ codes " cells=" ++ decimal (length n.cells))
-verdict_line n stages limit (Both stage output word) = refusal stage (codes "both rails, output ") (decimal output) word
-verdict_line n stages limit (Empty stage output word) = refusal stage (codes "no rail, output ") (decimal output) word
+verdict_line n stages limit (BothRails stage output word) = refusal stage (codes "both rails, output ") (decimal output) word
+verdict_line n stages limit (NoRail stage output word) = refusal stage (codes "no rail, output ") (decimal output) word
 verdict_line n stages limit (Incomplete stage bit word) = refusal stage (codes "incomplete, bit ") (decimal bit) word
 verdict_line n stages limit (Orphan stage cell word) = refusal stage (codes "orphan, cell ") (cell_name n cell.0) word
 verdict_line n stages limit (Limit stage) =

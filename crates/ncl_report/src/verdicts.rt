@@ -25,7 +25,7 @@ pub fn verdict_text(
     let netlist = pipeline.netlist();
     match verdict {
         Verdict::Accepted => accepted(alloc, pipeline.stages().len(), netlist.cells().len()),
-        Verdict::Both {
+        Verdict::BothRails {
             stage,
             output,
             word,
@@ -33,7 +33,7 @@ pub fn verdict_text(
             let output = digits.format(*output).as_bytes();
             refusal(alloc, *stage, b"both rails, output ", output, word)
         }
-        Verdict::Empty {
+        Verdict::NoRail {
             stage,
             output,
             word,

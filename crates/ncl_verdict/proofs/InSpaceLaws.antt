@@ -23,7 +23,7 @@ use Rattle.ncl_stage.specs.Tables.{count, data_functions, data_fronts, function_
 use Rattle.ncl_stage.proofs.OutputLaws.{values_at, shared-tables}
 use Rattle.ncl_stage.proofs.LeastLaws.{tables_of-parts, first_of-append, first_of-one}
 use Rattle.ncl_complete.specs.declared.rail_fault.RailFault.{RailFault}
-use Rattle.ncl_complete.specs.declared.rail_fault.RailFault.TheVariants.{Both, Empty}
+use Rattle.ncl_complete.specs.declared.rail_fault.RailFault.TheVariants as rail
 use Rattle.ncl_complete.specs.RailFaults.{rail_fault, found_fault_by, first_rail_fault_by}
 use Rattle.ncl_verdict.specs.declared.verdict.Verdict.{Verdict}
 use Rattle.ncl_verdict.specs.declared.verdict.Verdict.TheVariants as verdict
@@ -168,8 +168,8 @@ within-all s bound (k ∷ outputs) each fault e = by_words (least_word s (BothRa
 
     by_words : (both neither : Option (List Bool)) (faults : List (Option RailFault)) → first_of (option_and_then (rail_fault (BothRails k)) both ∷ option_and_then (rail_fault (NoRail k)) neither ∷ faults) ≡ Some fault → (first_of faults ≡ Some fault → output_of fault < bound) → output_of fault < bound
     by_words None None faults f later = later f
-    by_words None (Some word) faults f later = own (Empty k word) refl f
-    by_words (Some word) neither faults f later = own (Both k word) refl f
+    by_words None (Some word) faults f later = own (rail.NoRail k word) refl f
+    by_words (Some word) neither faults f later = own (rail.BothRails k word) refl f
 
 pub fault-within : (s : StageData) (fault : RailFault) → first_rail_fault_by (bit_order s) s ≡ Some fault → output_of fault < length s.outputs
 fault-within s fault e = within-all s (length s.outputs) (below (length s.outputs)) (λ k m. let lt = range-members 0 (length s.outputs) k m in omega (arith, lt)) fault e

@@ -9,7 +9,7 @@ use Rattle.ncl_stage.specs.declared.variant.Variant.TheVariants.{Base}
 use Rattle.ncl_stage.specs.StageTables.{AreValues, ValuesData}
 use Rattle.ncl_stage.specs.Tables.{tables_of}
 use Rattle.ncl_complete.specs.declared.rail_fault.RailFault.{RailFault}
-use Rattle.ncl_complete.specs.declared.rail_fault.RailFault.TheVariants.{Both, Empty}
+use Rattle.ncl_complete.specs.declared.rail_fault.RailFault.TheVariants as rail
 use Rattle.ncl_verdict.specs.declared.verdict.Verdict.{Verdict}
 use Rattle.ncl_verdict.specs.declared.verdict.Verdict.TheVariants as verdict
 use Rattle.ncl_verdict.specs.Judgement.{Stop, stopped_at}
@@ -28,10 +28,10 @@ pub record IsReady (space : SpaceData) (s : StageData) (base : ValuesData) : Typ
 
 -- the verdict of a fault of an output
 abbrev pub rail_verdict : StageData → RailFault → Verdict
-rail_verdict s (Both output word) = verdict.Both s.number (output + 1) word
-rail_verdict s (Empty output word) = verdict.Empty s.number (output + 1) word
+rail_verdict s (rail.BothRails output word) = verdict.BothRails s.number (output + 1) word
+rail_verdict s (rail.NoRail output word) = verdict.NoRail s.number (output + 1) word
 
 -- its output
 abbrev pub output_of : RailFault → ℕ
-output_of (Both output word) = output
-output_of (Empty output word) = output
+output_of (rail.BothRails output word) = output
+output_of (rail.NoRail output word) = output

@@ -22,8 +22,8 @@ cell_number (Some c) = c.cell
 
 -- the verdict that a fault gives, with the word that shows it
 abbrev pub verdict_of : StageData → StageFault → List Bool → Verdict
-verdict_of s (BothRails output) word = verdict.Both s.number (output + 1) word
-verdict_of s (NoRail output) word = verdict.Empty s.number (output + 1) word
+verdict_of s (BothRails output) word = verdict.BothRails s.number (output + 1) word
+verdict_of s (NoRail output) word = verdict.NoRail s.number (output + 1) word
 verdict_of s (Incomplete bit) word = verdict.Incomplete s.number (bit + 1) word
 verdict_of s (Orphan cell) word = verdict.Orphan s.number (cell_number (slice_get s.cells cell)) word
 

@@ -4,7 +4,7 @@ ghost use Rattle.ncl_stage.specs.Examples.{and_stage, eager_and_stage, orphan_an
 ghost use Rattle.ncl_stage.specs.Tables.{count};
 ghost use Rattle.ncl_stage.specs.declared.variant.Variant.TheVariants.{Base};
 ghost use Rattle.ncl_verdict.specs.Judgement.{judgement};
-ghost use Rattle.ncl_verdict.specs.declared.verdict.Verdict.TheVariants.{Accepted, Both, Empty, Incomplete, Orphan, Limit};
+ghost use Rattle.ncl_verdict.specs.declared.verdict.Verdict.TheVariants.{Accepted, BothRails, NoRail, Incomplete, Orphan, Limit};
 
 /// An AND of two bits is accepted with six nodes, and with five it is not judged.
 pub fn and_of_two_bits()
@@ -25,8 +25,8 @@ pub fn unobserved_cell()
 
 /// An output of rails of two bits can have both rails high, and one of a dead rail can have none.
 pub fn rails_of_no_bit()
-    ensures crossed { judgement 100 (crossed_stage ∷ []) ≡ Both 1 1 (true ∷ false ∷ []) }
-    ensures dead { judgement 100 (dead_rail_stage ∷ []) ≡ Empty 1 1 (false ∷ []) }
+    ensures crossed { judgement 100 (crossed_stage ∷ []) ≡ BothRails 1 1 (true ∷ false ∷ []) }
+    ensures dead { judgement 100 (dead_rail_stage ∷ []) ≡ NoRail 1 1 (false ∷ []) }
 {}
 
 /// A full adder is accepted; with the sum alone its carry is an orphan.

@@ -87,12 +87,12 @@ fn told(stage: &Stage, fault: RailFault) -> Verdict
 {
     stage.facts();
     match fault {
-        RailFault::Both(output, word) => Verdict::Both {
+        RailFault::BothRails(output, word) => Verdict::BothRails {
             stage: stage.number,
             output: output as u32 + 1,
             word,
         },
-        RailFault::Empty(output, word) => Verdict::Empty {
+        RailFault::NoRail(output, word) => Verdict::NoRail {
             stage: stage.number,
             output: output as u32 + 1,
             word,

@@ -9,13 +9,13 @@ pub enum Verdict {
     /// Every stage is sound.
     Accepted,
     /// At the word both rails of the output are high.
-    Both {
+    BothRails {
         stage: u32,
         output: u32,
         word: Word,
     },
     /// At the word no rail of the output is high.
-    Empty {
+    NoRail {
         stage: u32,
         output: u32,
         word: Word,

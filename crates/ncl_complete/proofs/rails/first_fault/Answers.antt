@@ -7,7 +7,7 @@ use Rattle.std.specs.Option.{option_map}
 use Rattle.ncl_stage.specs.BitOrder.{placed}
 use Rattle.ncl_stage.specs.Faults.{BothRails, NoRail}
 use Rattle.ncl_stage.specs.LeastWords.{least_word_by}
-use Rattle.ncl_complete.specs.declared.rail_fault.RailFault.TheVariants.{Both, Empty}
+use Rattle.ncl_complete.specs.declared.rail_fault.RailFault.TheVariants as rail
 use Rattle.ncl_complete.proofs.OutputFaults.{output_fault, both-found, none-found, fault-both, fault-empty, fault-none, first-fault, no-fault}
 use Rattle.ncl_complete.proofs.rails.first_fault.Goals as goal
 
@@ -20,7 +20,7 @@ returns-in-Some g c =
     let within : i < length s.outputs = subst (λ xs. i < length xs) outputs c.loop-output-test.true in
     let both : least_word_by c.args.order.now s (BothRails i) ≡ c.least_one.result =
     sym (c.least_one.ensures ∙ ap (λ r. option_map (placed c.args.order.now) (least true space.width (space.table r))) c.index.ensures ∙ both-found s c.args.order.now c.requires.order space c.requires.width c.args.refs.now.both.items c.requires.both i within c.index.result.now) in
-    sym (first-fault s c.args.order.now i (Both i c.in-Some.word) within c.loop-output.invariant (fault-both s c.args.order.now i c.in-Some.word (both ∙ c.in-Some.is)))
+    sym (first-fault s c.args.order.now i (rail.BothRails i c.in-Some.word) within c.loop-output.invariant (fault-both s c.args.order.now i c.in-Some.word (both ∙ c.in-Some.is)))
 
 pub returns-in-Some-least_zero : goal.returns-in-Some-least_zero
 returns-in-Some-least_zero g c =
@@ -33,7 +33,7 @@ returns-in-Some-least_zero g c =
     sym (c.least_one.ensures ∙ ap (λ r. option_map (placed c.args.order.now) (least true space.width (space.table r))) c.index.ensures ∙ both-found s c.args.order.now c.requires.order space c.requires.width c.args.refs.now.both.items c.requires.both i within c.index.result.now) in
     let neither : least_word_by c.args.order.now s (NoRail i) ≡ c.least_zero.result =
     sym (c.least_zero.ensures ∙ ap (λ r. option_map (placed c.args.order.now) (least false space.width (space.table r))) c.index-in-loop-output.ensures ∙ none-found s c.args.order.now c.requires.order space c.requires.width c.args.refs.now.some.items c.requires.some i within c.index-in-loop-output.result.now) in
-    sym (first-fault s c.args.order.now i (Empty i c.in-Some-least_zero.word) within c.loop-output.invariant (fault-empty s c.args.order.now i c.in-Some-least_zero.word (both ∙ c.in_default.is) (neither ∙ c.in-Some-least_zero.is)))
+    sym (first-fault s c.args.order.now i (rail.NoRail i c.in-Some-least_zero.word) within c.loop-output.invariant (fault-empty s c.args.order.now i c.in-Some-least_zero.word (both ∙ c.in_default.is) (neither ∙ c.in-Some-least_zero.is)))
 
 pub loop-output-preserved : goal.loop-output-preserved
 loop-output-preserved g c =

@@ -1,0 +1,85 @@
+#!/usr/bin/env python3
+"""Compares the names in clauses of public functions with the table of names in docs/definitions.md.
+
+    bench/named.py
+
+A public function is one that its crate hands out: in a public module, or of a name or a type in a `pub use`. Its clauses are its
+`requires` and `ensures`; a name is one that the file imports from definitions of this repository. Not asked for are types and
+constants of the program, and names of worked examples. Prints what stands on one side alone; the status is 1 where something does.
+"""
+import pathlib
+import re
+import sys
+
+TOP = pathlib.Path(__file__).resolve().parent.parent
+EXAMPLES = {"Examples", "IllShaped", "Unsound"}
+HEAD = re.compile(r"^( *)(pub )?(fn|impl|trait)\b([^\n]*)", re.MULTILINE)
+
+
+def imports(text):
+    """The definitions that a file imports: each with its name, its crate and its file."""
+    for place, names in re.findall(r"^ghost use Rattle\.(ncl_\w+\.specs[\w.]*)\.\{([^}]*)\}", text, re.MULTILINE):
+        crate, file = place.split(".")[0], place.split(".")[-1]
+        if ".declared." not in place and file not in EXAMPLES:
+            yield from ((name.strip(), crate, file) for name in names.split(","))
+
+
+def handed_out(crate):
+    """The names and the public modules that the root of a crate hands out."""
+    root = (crate / "src/lib.rt").read_text()
+    used = set(re.findall(r"\w+", " ".join(re.findall(r"^pub use ([^;]+);", root, re.MULTILINE))))
+    return used, set(re.findall(r"^pub mod (\w+);", root, re.MULTILINE))
+
+
+def clauses(text, module, used, modules):
+    """The clauses of the public functions of a file, as one text."""
+    found, owner, always = [], "", False
+    for head in HEAD.finditer(text):
+        indent, public, kind, rest = head.groups()
+        if kind != "fn":
+            owner = re.sub(r"<[^>]*>", "", rest).split(" for ")[-1].split("{")[0]
+            always = kind == "trait" or " for " in rest
+            continue
+        name = re.match(r" *(\w+)", rest).group(1)
+        outer = not indent and public and (name in used or module in modules)
+        inner = indent and (public or always) and set(re.findall(r"\w+", owner)[:1]) & used
+        if outer or inner:
+            end = re.compile(rf"\n{indent}\{{|;\n|\n\n").search(text, head.start())
+            found.append(text[head.start():end.start() if end else None].partition("\n")[2])
+    return " ".join(found)
+
+
+def named_in(crate):
+    """The names in clauses of a crate: each with the crate and the file of its definition."""
+    used, modules = handed_out(crate)
+    for file in sorted((crate / "src").rglob("*.rt")):
+        text = file.read_text()
+        words = set(re.findall(r"(?<![\w.])\w+", clauses(text, file.stem, used, modules)))
+        yield from (found for found in imports(text) if found[0] in words)
+
+
+def listed():
+    """The names of the table: each with the crate and the files of its row."""
+    page = (TOP / "docs/definitions.md").read_text().partition("## Names in clauses")[2]
+    for names, place in re.findall(r"^\| (`[^|]*`) \|[^|]*\| `(ncl_[^|]*) \|$", page, re.MULTILINE):
+        crate, files = place.split("/")[0], re.findall(r"(\w+)\.antt", place)
+        yield from ((name, crate, file) for name in re.findall(r"`(\w+)`", names) for file in files)
+
+
+def main():
+    rows = set(listed())
+    crates = [crate for crate in sorted((TOP / "crates").glob("ncl_*")) if (crate / "src/lib.rt").exists()]
+    cited = {found for crate in crates for found in named_in(crate)}
+    on_page = {(name, crate) for name, crate, _ in rows}
+    lost = sorted(found for found in cited if found not in rows and found[:2] not in on_page)
+    extra = sorted(on_page - {found[:2] for found in cited} - {("TakesBack", "ncl_machine"), ("BreaksOnly", "ncl_machine")})
+    for found in lost:
+        print("no row for", *found)
+    for found in extra:
+        print("in no clause:", *found)
+    print(f"{len(on_page)} names, {len(lost)} without a row, {len(extra)} in no clause")
+    return 1 if lost or extra else 0
+
+
+if __name__ == "__main__":
+    sys.exit(main())

@@ -58,7 +58,7 @@ fn has_undriven(draft: &Draft, cover: &DraftCover) -> bool
     any_undriven(draft, cover.ins())
 }
 
-/// The line of the first cover that reads a signal without a driver.
+/// The line of the first cover that reads a signal without a driver. A look-up for each signal that a cover reads.
 fn undriven_cover(draft: &Draft) -> Option<u32>
     ensures { result ≡ option_map (λ cover. cover.line) (find (reads_undriven draft.now) draft.now.covers) }
 {

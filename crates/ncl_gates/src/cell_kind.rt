@@ -77,7 +77,8 @@ impl CellKind {
         }
     }
 
-    /// The cell of a name, and None where no cell has it. Upper and lower case differ.
+    /// The cell of a name, and None where no cell has it. Upper and lower case differ. Compares it with at most 30
+    /// names.
     pub fn from_name(name: &[u8]) -> Option<CellKind>
         ensures some { IfSome result (λ cell. cell_name_of cell ≡ name.now) }
         ensures none { IfNone result ((cell : CellKind) → cell_name_of cell ≢ name.now) }

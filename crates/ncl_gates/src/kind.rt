@@ -179,7 +179,8 @@ impl Kind {
         }
     }
 
-    /// The gate of a name, and None where no gate has it. Upper and lower case differ.
+    /// The gate of a name, and None where no gate has it. Upper and lower case differ. Compares it with at most 27
+    /// names.
     pub fn from_name(name: &[u8]) -> Option<Kind>
         ensures some { IfSome result (λ kind. name_of kind ≡ name.now) }
         ensures none { IfNone result ((kind : Kind) → name_of kind ≢ name.now) }
@@ -217,7 +218,7 @@ impl Kind {
     }
 }
 
-// Whether some input is 1. Linear in the inputs.
+/// Whether some input is 1. Linear in the inputs.
 pub(crate) fn is_some_high(ins: &[bool]) -> bool
     ensures { result ≡ some_high ins.now }
 {

@@ -306,7 +306,7 @@ impl State {
         }
     }
 
-    /// Whether no cell is excited.
+    /// Whether no cell is excited. Linear in the cells.
     fn cells_rest(&self, pipeline: &Pipeline) -> bool
         requires { IsFor pipeline.now self.now }
         ensures { IsTrue result ↔ ((cell : CellId) → enabled pipeline.now (meaning self.now) (Fire cell) ≡ false) }
@@ -319,7 +319,7 @@ impl State {
         true
     }
 
-    /// Whether the source can neither raise nor lower a bit.
+    /// Whether the source can neither raise nor lower a bit. Linear in the bits of the inputs.
     fn source_rests(&self, pipeline: &Pipeline) -> bool
         requires { IsFor pipeline.now self.now }
         ensures { IsTrue result ↔ ((bit : ℕ) → (enabled pipeline.now (meaning self.now) (Raise bit) ≡ false) × (enabled pipeline.now (meaning self.now) (Lower bit) ≡ false)) }

@@ -45,7 +45,7 @@ pub(crate) fn compare_halves<R: Threads + Sync, Q: Ask + Sync>(
     Ok(joined(first, second))
 }
 
-/// The answer to the outputs after `low` up to `high`, one after another.
+/// The answer to the outputs after `low` up to `high`, one after another. Asks once for each output.
 fn compare_run<Q: Ask>(alloc: Global, asked: &Q, low: u32, high: u32) -> Result<RunAnswer, Memory>
     requires { CanRun (Q.question asked.now) low high }
     ensures { IfOk result (RunAnswers (Q.question asked.now) low high) }

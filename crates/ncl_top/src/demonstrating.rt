@@ -127,7 +127,7 @@ fn too_large(
     Ok(Reply::Made(6, joined(line, &netlist)?))
 }
 
-/// A text with another after it.
+/// A text with another after it. Costs a copy of the other, and of both where the text has no room.
 fn joined(mut text: Vec<u8>, more: &[u8]) -> Result<Vec<u8>, Memory>
     ensures { IfOk result (λ joined. joined.items ≡ text.items ++ more.now) }
 {

@@ -54,7 +54,7 @@ pub fn dump(
     Ok(text)
 }
 
-/// Appends the lines that name the nets.
+/// Appends the lines that name the nets. Linear in these lines.
 fn push_variables(text: &mut Vec<u8>, nets: &[Name]) -> Result<(), Memory>
     requires { length nets.now < 2 ^ 32 }
     ensures { OnOk result (text.new.items ≡ text.old.items ++ flat_map line (variable_lines 0 nets.now)) }
@@ -65,7 +65,7 @@ fn push_variables(text: &mut Vec<u8>, nets: &[Name]) -> Result<(), Memory>
     Ok(())
 }
 
-/// Appends the lines that tell the values of all nets.
+/// Appends the lines that tell the values of all nets. Linear in the nets.
 fn push_values(text: &mut Vec<u8>, pipeline: &Pipeline, state: &State) -> Result<(), Memory>
     requires { IsFor pipeline.now state.now }
     ensures { OnOk result (text.new.items ≡ text.old.items ++ flat_map line (value_lines 0 (values_in pipeline.now (meaning state.now)))) }

@@ -100,7 +100,7 @@ fn told(stage: &Stage, fault: RailFault) -> Verdict
     }
 }
 
-// The first that is said without an input bit.
+// The first that is said without an input bit. A variant for each bit.
 fn at_bits<P: Space>(
     alloc: Global,
     space: &mut P,
@@ -147,7 +147,7 @@ fn at_bit<P: Space>(
     }
 }
 
-// The first that is said without a cell, in the order of the file.
+// The first that is said without a cell, in the order of the file. A variant for each cell.
 fn at_cells<P: Space>(
     alloc: Global,
     space: &mut P,

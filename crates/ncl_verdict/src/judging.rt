@@ -26,7 +26,8 @@ pub fn judge_stage(alloc: Global, stage: &Stage, limit: u32) -> Result<Verdict, 
 /// The judgement of a pipeline, each of whose stages may have at most `limit` nodes: that of its first stage, in
 /// their order, that is not sound or has more; accepted where there is none. An error is want of memory.
 ///
-/// The stages are judged one after another, each as by `judge_stage`.
+/// The stages are judged one after another, each as by `judge_stage`, up to the first that isn't accepted; it costs what
+/// these cost together.
 pub fn judge(alloc: Global, pipeline: &Pipeline, limit: u32) -> Result<Verdict, Memory>
     requires { 1 ≤ limit }
     ensures { IfOk result (λ verdict. verdict ≡ judgement limit pipeline.now.stages) }

@@ -113,7 +113,8 @@ fn with_later(
 }
 
 /// The judgement of some stages one after another, the first of which stands at a place of the pipeline; none where a
-/// stage before one of them is known to be refused. It notes the place of the first that it finds refused.
+/// stage before one of them is known to be refused. It notes the place of the first that it finds refused. Asks the
+/// judge once for each stage, up to that one.
 pub(crate) fn judge_run<J: Judge>(
     alloc: Global,
     judge: &J,
@@ -141,7 +142,7 @@ pub(crate) fn judge_run<J: Judge>(
     Ok(Some(Verdict::Accepted))
 }
 
-/// The judgement of some stages one after another.
+/// The judgement of some stages one after another. Asks the judge once for each, up to the first that isn't accepted.
 fn judge_each<J: Judge>(
     alloc: Global,
     judge: &J,

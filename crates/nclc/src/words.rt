@@ -37,7 +37,8 @@ fn after_name(alloc: Global, args: Args) -> Result<Vec<String>, AllocError>
     args.skip(1).collect(alloc)
 }
 
-/// The words as views of their texts, or the status to end with where there was no memory for them.
+/// The words as views of their texts, or the status to end with where there was no memory for them. Linear in their
+/// number; no text is copied.
 pub fn views<'a>(alloc: Global, words: &'a [String]) -> Result<Vec<&'a str>, u8>
     ensures views { IfOk result (λ views. map (λ view. view.now) views.items ≡ map (λ word. string_bytes word) words.now) }
     ensures no_memory { IfErr result (λ status. status ≡ OUT_OF_MEMORY) }

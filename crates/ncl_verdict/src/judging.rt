@@ -12,7 +12,8 @@ use std::alloc::Global;
 /// The judgement of one stage with at most `limit` nodes: its first fault with the least word that shows it, or
 /// that it is sound, or that at some variant it has more nodes. An error is want of memory.
 ///
-/// For each input bit and each cell it goes over the cells once, each time by one operation on diagrams.
+/// For each input bit and each cell it evaluates the cells that the change reaches, at most all of them, each by one
+/// operation on diagrams.
 pub fn judge_stage(alloc: Global, stage: &Stage, limit: u32) -> Result<Verdict, Memory>
     requires { 1 ≤ limit }
     ensures { IfOk result (λ verdict. verdict ≡ judgement limit (stage.now ∷ [])) }

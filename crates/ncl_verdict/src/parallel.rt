@@ -35,7 +35,7 @@ impl Judge for Stages {
 /// answer of `judge`. An error is want of memory.
 ///
 /// The stages are split in halves, each judged by a thread of its own where one can be started, until there are `parts`
-/// runs of them. A stage that comes after one that is known to be refused is not begun any more; one that is being
+/// runs of them. It costs what the judge takes for each stage. A stage that comes after one that is known to be refused is not begun any more; one that is being
 /// judged is judged to its end.
 pub fn judge_par<R: Threads + Sync, J: Judge + Sync>(
     rt: &R,

@@ -37,7 +37,8 @@ pub trait CompareBit {
 /// more beads than the limit, or the least word at which the functions differ and the first bit that differs there.
 ///
 /// The outputs are split in halves, each compared by a thread of its own where one can be started, until there are
-/// `parts` runs of them.
+/// `parts` runs of them. Each output goes over the data cells of the pipeline and the covers of the models once. An error
+/// other than the limit is want of memory.
 pub fn compare<R: Threads + Sync, B: CompareBit + Sync>(
     rt: &R,
     alloc: Global,

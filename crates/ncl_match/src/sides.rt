@@ -17,7 +17,8 @@ use ncl_shape::Pipeline;
 use ncl_space::{Space, SpaceFault};
 use std::alloc::Global;
 
-/// Where the two functions of an output differ, from 1. It makes all tables of the output, and no others.
+/// Where the two functions of an output differ, from 1. It makes all tables of the output, and no others, in one pass over
+/// the data cells of the pipeline and one over the covers of the models.
 ///
 /// `Full` comes exactly where the beads held with those of all its tables are more than the limit. What is made before
 /// a refusal stays.

@@ -49,7 +49,7 @@ fn places_of(
 
 /// The covers as a graph: each leads to the covers that drive the signals that it reads.
 ///
-/// `n log n` in the covers and the signals that they read.
+/// `n log n` in the covers and the signals that they read. The only error is want of memory.
 pub fn dependencies(alloc: Global, covers: &[Cover]) -> Result<Graph, Memory>
     requires { length covers.now < 2 ^ 32 }
     ensures { IfOk result (λ graph. graph ≡ dependency_graph covers.now) }

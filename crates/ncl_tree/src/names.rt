@@ -51,7 +51,7 @@ pub fn cell_name(alloc: Global, prefix: &[u8], number: u32) -> Result<Name, Memo
     part_name(alloc, prefix, b'c', number)
 }
 
-/// The name of the net of the cell with this number, which has `n` in place of `c`.
+/// The name of the net of the cell with this number, which has `n` in place of `c`. The only error is want of memory.
 pub fn net_name(alloc: Global, prefix: &[u8], number: u32) -> Result<Name, Memory>
     requires { number < most_parts }
     ensures { IfOk result (λ name. name ≡ net_name_of prefix.now number) }

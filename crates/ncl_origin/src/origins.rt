@@ -131,7 +131,7 @@ fn tables(
 /// What is known of the nets of a netlist that keeps the first five rules of shape, or the first of these rules that
 /// it breaks, at its first port or cell.
 ///
-/// Linear in nets and pins, without recursion.
+/// Linear in nets and pins, without recursion. The one other error is want of memory.
 pub fn find_origins(alloc: Global, netlist: &Netlist) -> Result<Origins, ShapeFault>
     ensures origins { IfOk result (AreOrigins netlist.now) }
     ensures free { OnOk result (IsFree netlist.now) }

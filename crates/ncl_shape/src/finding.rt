@@ -101,7 +101,7 @@ fn pipeline_of<'a>(
 
 /// The pipeline of a netlist, or the first rule of shape that it breaks, at its first port, cell or bank.
 ///
-/// Linear in nets, cells and pins, without recursion.
+/// Linear in nets, cells and pins, without recursion. The one other error is want of memory.
 pub fn shape(alloc: Global, netlist: &Netlist) -> Result<Pipeline<'_>, ShapeFault>
     ensures shape { IfOk result (λ p. Shape netlist.now p) }
     ensures fault { IfErr result (IsShapeFault netlist.now) }

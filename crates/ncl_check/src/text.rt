@@ -25,7 +25,7 @@ pub enum Refusal {
 
 /// The netlist of which the bytes are the text, or the line that tells the first thing that keeps them from being one.
 ///
-/// Costs as reading does: near linear in the bytes.
+/// Costs as reading does: near linear in the bytes. The one other error is want of memory.
 pub fn netlist_in(alloc: Global, bytes: &[u8]) -> Result<Netlist, Refusal>
     ensures netlist { IfOk result (λ n. IsNetlistText bytes.now n) }
     ensures refused { IfErr result (Tells (IsRefusedText bytes.now)) }
@@ -41,7 +41,7 @@ pub fn netlist_in(alloc: Global, bytes: &[u8]) -> Result<Netlist, Refusal>
 
 /// The pipeline whose shape a netlist has, or the line that tells the first rule of shape that it breaks.
 ///
-/// Costs as finding the shape does: near linear in the cells.
+/// Costs as finding the shape does: linear in nets, cells and pins. The one other error is want of memory.
 pub fn pipeline_in<'a>(alloc: Global, netlist: &'a Netlist) -> Result<Pipeline<'a>, Refusal>
     ensures pipeline { IfOk result (λ p. Shape netlist.now p) }
     ensures refused { IfErr result (Tells (IsShapeless netlist.now)) }

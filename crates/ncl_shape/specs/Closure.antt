@@ -43,8 +43,7 @@ passes v c = passes_on c.kind (pin_values v c.ins.items)
 abbrev pub close : NetlistData → Nets → Nets
 close n start = rounds net_of passes n.cells (length n.cells) start
 
--- the function of a pipeline: the word whose bit j is 1 where rail 1 of output j is high in the closure of
--- the rails that the word names
+-- the function of a pipeline: of each output rail 1, as a bit, in the closure of the rails that the word names
 abbrev pub function_of : PipelineData → List Bool → List Bool
 function_of p word = map (λ (r : Rails). close p.netlist (among (named_rails p.inputs word)) r.one.0) p.outputs
 

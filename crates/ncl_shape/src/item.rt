@@ -1,7 +1,7 @@
 //! What can happen in one step.
 use ncl_netlist::CellId;
 
-/// One step of the firing machine: a cell takes its next value, or the environment makes one move.
+/// One step of the firing machine: a cell switches, or the source or the sink makes a move.
 /// Bits count from 0.
 #[derive(Clone, Copy, Debug, PartialEq, Eq)]
 pub enum Item {

@@ -1,8 +1,8 @@
 //! A bit in dual-rail form.
 use ncl_netlist::NetId;
 
-/// The two nets of a bit in dual-rail form. Rail 0 alone high is DATA0, rail 1 alone high is DATA1,
-/// both low is NULL, both high is illegal.
+/// The two nets of a bit in dual-rail form: DATA0 where rail 0 alone is high, DATA1 where rail 1 alone is, and NULL where
+/// neither is. Both high has no meaning.
 #[derive(Clone, Copy, Debug, Default, PartialEq, Eq)]
 pub struct Rails {
     pub zero: NetId,

@@ -22,8 +22,8 @@ port_names parts = map (λ port. port.name) parts.ports
 abbrev pub cell_names : Parts → List (List ℕ)
 cell_names parts = map (λ cell. cell.name) parts.cells
 
--- the nets: the ports in header order, then the other names in order of first appearance, going
--- through the cells in order and each cell's pins in pin order
+-- the nets: the ports as in the header, and then each other name where it comes first, cell by cell and pin
+-- by pin
 abbrev pub nets_of : Parts → List (List ℕ)
 nets_of parts = once_each (port_names parts ++ flat_map (λ cell. cell.pins) parts.cells)
 

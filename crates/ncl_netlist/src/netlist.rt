@@ -18,7 +18,7 @@ use std::marker::Model;
 
 /// A netlist, which only `build` makes.
 ///
-/// Each net has exactly one driver, an input port or a cell. Contracts see it as a record of its
+/// One input port or one cell drives each net, and nothing else does. Contracts see it as a record of its
 /// name, ports, nets and cells.
 #[derive(Debug, Drop)]
 pub struct Netlist {

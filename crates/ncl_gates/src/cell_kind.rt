@@ -21,8 +21,7 @@ pub enum CellKind {
 }
 
 impl CellKind {
-    /// The pin names in order: `A`, `B`, `C`, `D` as far as the cell has them, then `RST` for a
-    /// register cell, then `Z`.
+    /// The pin names in order: the inputs from `A` on, of a register cell `RST` after them, and the output `Z`.
     pub fn pins(self) -> &'static [&'static [u8]]
         ensures { map (λ pin. pin.now) result.now ≡ pins_of self }
     {
@@ -39,7 +38,7 @@ impl CellKind {
 
     /// The next value of the cell's output from the values of its other pins, in the order of `pins`,
     /// and the old value. A gate keeps its value as `Kind::next` says. A register cell of either kind is TH22
-    /// on `A` and `B`, whatever `RST` is. An acknowledge cell is 1 where `A` and `B` are both 0.
+    /// on `A` and `B`, whatever `RST` is. An acknowledge cell is 1 where neither of its inputs is.
     pub fn next(self, ins: &[bool], old: bool) -> bool
         requires { length ins.now + 1 ≡ length (pins_of self) }
         ensures { result ≡ next_of_cell self ins.now old }

@@ -22,7 +22,7 @@ use Rattle.ncl_delay.specs.Delays.{DelaysData}
 abbrev pub cell_names : NetlistData → List (List ℕ)
 cell_names n = map (λ cell. cell.name) n.cells
 
--- whether a word is a delay: 1 to 7 decimal digits with a value of 1 to 1,000,000
+-- whether a word is a delay: a number from 1 to MOST_DELAY, in at most MOST_DIGITS digits
 abbrev pub is_delay_text : List ℕ → Bool
 is_delay_text word =
     nat_le 1 (length word) && nat_le (length word) MOST_DIGITS && list_all is_ascii_digit word

@@ -21,8 +21,8 @@ use std::alloc::Global;
 /// The delays that a text states for the cells of a netlist, and for the source and the sink.
 ///
 /// Each line is empty, a remark, or one of `default R F`, `cell NAME R F`, `source R F` and
-/// `sink R F`, where R and F are the delays of rising and of falling. Of several lines for one thing
-/// the last holds. A cell without a line has the default, and what is never stated is 1.
+/// `sink R F`, where R and F are the delays of rising and of falling. A later line for one thing takes the
+/// place of an earlier one. A cell of which no line speaks has the default, and what is never stated is 1.
 ///
 /// It answers the first broken line: `Syntax` where it is of none of the forms, and else `UnknownCell`
 /// where no cell has the name; and `Memory` where memory was refused.

@@ -8,7 +8,7 @@ use crate::delays::MOST_DELAY;
 /// The most digits of a delay.
 const MOST_DIGITS: usize = 7;
 
-/// The delay of a word, or `None` where it is none: 1 to 7 decimal digits with a value of 1 to 1,000,000.
+/// The delay of a word, or `None` where it is none: a number from 1 to `MOST_DELAY`, in at most `MOST_DIGITS` digits.
 ///
 /// Looks at seven bytes at most.
 pub(crate) fn read_delay(word: &[u8]) -> Option<u32>

@@ -45,8 +45,8 @@ due_along p d item s before [] = before
 due_along p d item s before (f ∷ steps) =
     due_along p d item (step p s f.item) (due_step p d (step p s f.item) f item before) steps
 
--- when an item is due after some steps from reset: the moment since which it has been enabled without a
--- break, plus its delay; never where it isn't enabled
+-- when an item is due after some steps from reset: its delay after the moment at which it was enabled and since
+-- when it has stayed so; never where it isn't enabled
 abbrev pub due_after : PipelineData → DelaysData → List (List Bool) → List Fired → Item → Option ℕ
 due_after p d offered steps item =
     due_along p d item (reset p offered) (if enabled p (reset p offered) item then due_from p d (reset p offered) item 0 else None) steps

@@ -1,5 +1,5 @@
--- What can happen in a state, and what it does: one cell takes its next value, or the environment makes
--- one move of the four-phase protocol.
+-- What can happen in a state, and what it does: a cell switches, or the source or the sink makes a move of the
+-- four-phase protocol.
 use Rattle.std.specs.Prelude.{ℕ, ◌+◌, Bool, true, false, not, ◌||◌, ◌&&◌, if◌then◌else◌, List, [], ◌∷◌, ◌++◌, map, Option, Some, None, slice_get}
 use Rattle.std.specs.List.{list_all}
 use Rattle.ncl_gates.specs.Cell.{next_of_cell}

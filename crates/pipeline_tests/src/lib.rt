@@ -8,6 +8,8 @@ mod match_tests;
 #[cfg(test)]
 mod merge_tests;
 #[cfg(test)]
+mod merging_tests;
+#[cfg(test)]
 mod netlist_tests;
 #[cfg(test)]
 mod shape_tests;

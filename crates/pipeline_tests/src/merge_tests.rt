@@ -15,7 +15,23 @@ struct Row {
 }
 
 /// Gates that are folded.
-const FOLDED: [Row; 5] = [
+const FOLDED: [Row; 7] = [
+    // one minterm and two nets that two gates read
+    Row {
+        netlist: "in x0 x1 y0 y1 ki rst;out z0 z1 ko;TH22N r x0 c rst p0;TH22N s x1 c rst p1;\
+            TH22N i y0 c rst q0;TH22N j y1 c rst q1;TH12B k p0 p1 e;TH12B l q0 q1 f;TH22 m e f ko;\
+            TH22 g1 p0 q0 a;TH22 g2 p0 q1 b;TH22 g3 p1 q0 v;TH13 g a b v o;TH12 h b v n;\
+            TH22N t o ki rst z0;TH22N u n ki rst z1;TH12B d z0 z1 c",
+        gates: "TH22 m TH22 g2 TH22 g3 TH24w22 g TH12 h",
+    },
+    // two minterms and such a net
+    Row {
+        netlist: "in x0 x1 y0 y1 ki rst;out z0 z1 ko;TH22N r x0 c rst p0;TH22N s x1 c rst p1;\
+            TH22N i y0 c rst q0;TH22N j y1 c rst q1;TH12B k p0 p1 e;TH12B l q0 q1 f;TH22 m e f ko;\
+            TH22 g1 p0 q0 a;TH22 g2 p0 q1 b;TH22 g3 p1 q0 v;TH13 g a b v o;TH12 h v q1 n;\
+            TH22N t o ki rst z0;TH22N u n ki rst z1;TH12B d z0 z1 c",
+        gates: "TH22 m TH22 g3 TH34w32 g TH12 h",
+    },
     // three minterms and their OR are one gate
     Row {
         netlist: "in x0 x1 y0 y1 ki rst;out z0 z1 ko;TH22N r x0 c rst p0;TH22N s x1 c rst p1;\

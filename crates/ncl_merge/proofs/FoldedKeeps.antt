@@ -1,6 +1,6 @@
 -- A folded netlist keeps what the netlist has.
-use Rattle.std.proofs.Common.{◌≡◌, ◌<◌, ◌≤◌, ◌+◌, ◌||◌, ℕ, suc, Bool, true, false, not, List, [], ◌∷◌, ◌++◌, length, map, drop, Option, None, Some, is_some, inl, inr, refl, sym, ap, ◌∙◌, subst, arith}
-use Rattle.std.specs.Prelude.{All, Contains, filter, slice_get, nat_eq, sum_by, if◌then◌else◌}
+use Rattle.std.proofs.Common.{◌≡◌, ◌<◌, ◌+◌, ℕ, Bool, true, false, not, List, [], ◌∷◌, length, map, drop, Option, None, Some, is_some, inl, inr, refl, sym, ap, ◌∙◌, subst, arith}
+use Rattle.std.specs.Prelude.{All, filter, slice_get, nat_eq, sum_by, if◌then◌else◌}
 use Rattle.std.specs.List.{AllZip, list_any, flat_map}
 use Rattle.std.proofs.lemmas.Bool.{cases_Bool, both_ways, eq-eqb, eqb-true, false_from_ne_true}
 use Rattle.std.proofs.lemmas.List.{length-map}
@@ -14,33 +14,31 @@ use Rattle.ncl_netlist.specs.declared.ids.NetId.{NetId}
 use Rattle.ncl_netlist.specs.declared.cell.Cell.{Cell}
 use Rattle.ncl_netlist.specs.Netlist.{NetlistData, IsNetlist}
 use Rattle.ncl_netlist.specs.Parts.{part_of}
-use Rattle.ncl_origin.specs.Origin.{IsCell, CellAt}
+use Rattle.ncl_origin.specs.Origin.{IsCell}
 use Rattle.ncl_origin.proofs.Drivers.{same_driver}
 use Rattle.ncl_origin.proofs.OriginLaws.{place_of}
 use Rattle.ncl_shape.specs.declared.bank.Bank.{Bank}
 use Rattle.ncl_shape.specs.declared.bank.Bit.{Bit}
-use Rattle.ncl_shape.specs.declared.rails.Rails.{Rails}
 use Rattle.ncl_shape.specs.declared.stage.StageCell.{StageCell}
 use Rattle.ncl_shape.specs.Stage.{StageData}
-use Rattle.ncl_shape.specs.Held.{is_data_bank, word_held, value_or_low}
+use Rattle.ncl_shape.specs.Held.{word_held, value_or_low}
 use Rattle.ncl_shape.specs.Pipeline.{PipelineData}
 use Rattle.ncl_shape.specs.Shape.{Shape}
 use Rattle.ncl_stage.specs.Faults.{IsSound}
 use Rattle.ncl_machine.specs.Composition.{stage_function}
 use Rattle.ncl_machine.proofs.Headline.{is_composition}
-use Rattle.ncl_writer.specs.Text.{text_of}
 use Rattle.ncl_merge.specs.Fold.{with_cells}
 use Rattle.ncl_merge.specs.Folding.{AreFewer}
 use Rattle.ncl_merge.specs.Renamed.{renamed_rails}
 use Rattle.ncl_merge.specs.Thinned.{moved, IsRailGate, moved_bit, moved_bank}
 use Rattle.ncl_merge.specs.Rebuilt.{kept, number_in}
-use Rattle.ncl_merge.specs.Choice.{is_stage_cell, with_gate_of, choice_of, folded_netlist, net_there, place_there, moved_gate, moved_stage, folded_pipeline}
+use Rattle.ncl_merge.specs.Choice.{is_stage_cell, choice_of, folded_netlist, net_there, place_there, moved_gate, moved_stage, folded_pipeline}
 use Rattle.ncl_merge.specs.Merged.{standing, HasLabelOf, IsMergedStage, IsMergedBank, Keeps, IsSmaller}
 use Rattle.ncl_merge.proofs.Thinned.{at_map}
 use Rattle.ncl_merge.proofs.Folds.{sound-folded, function-folded}
 use Rattle.ncl_merge.proofs.Renamed.{sound-renamed, function-renamed}
-use Rattle.ncl_merge.proofs.Rebuilt.{decide, kept_some, kept_none, map-twice, cells-moved, out-source}
-use Rattle.ncl_merge.proofs.Choices.{IsFoldedStageAt, folded-stage, folds, is-folded, gate-cell, out-known, in-all, place-in, choice-found, choice-stands, choice-rail, rail-staged, staged-rail}
+use Rattle.ncl_merge.proofs.Rebuilt.{decide, kept_some, kept_none, map-twice, cells-moved}
+use Rattle.ncl_merge.proofs.Choices.{IsFoldedStageAt, folded-stage, folds, is-folded, gate-cell, out-known, place-in, choice-stands, choice-rail, rail-staged, staged-rail}
 use Rattle.ncl_merge.proofs.WholeChoice.{is-choice}
 use Rattle.ncl_merge.proofs.ChoiceShape.{moved-at, moved-count, is-thinned, net-back, renamed-at, shape-folded}
 use Rattle.ncl_merge.proofs.HeldComposition.{zip-drop, same-composed, held-is_composition}
@@ -101,6 +99,16 @@ module _ (p : PipelineData) (shape : Shape p.netlist p) (lists : List (List Stag
   abbrev at : ℕ → ℕ
   at = place_there p lists
 
+  -- each stage there is one that a stage has become
+  stage-back : (t : StageData) → Member t q.stages → (k : ℕ) × (s : StageData) × (cells : List StageCell) × (slice_get p.stages k ≡ Some s) × (slice_get lists k ≡ Some cells) × (moved_stage to at s cells ≡ t)
+  stage-back t m-t =
+      let (k, at_t) = slice_get-from_Contains q.stages t (Contains-from_Member t m-t) in
+      let within = slice_get_within q.stages k t at_t in
+      let count = moved-count to at p.stages lists fewer.sized in
+      let (s, at_s) = slice_get-some p.stages k (omega (arith, within, count)) in
+      let (cells, at_l, is) = moved-at to at p.stages lists k s t at_s at_t in
+      (k, s, cells, at_s, at_l, is)
+
   -- ---- which cells are cells of stages
 
   -- what a cell of a stage has become is one
@@ -125,11 +133,7 @@ module _ (p : PipelineData) (shape : Shape p.netlist p) (lists : List (List Stag
       false_from_ne_true (is_stage_cell q (moved to c)) (λ staged.
       let (t, m-t, some) = member_from_list_any (λ (s : StageData). list_any (λ (f : StageCell). nat_eq f.out.0 (moved to c).out.0) s.cells) q.stages staged in
       let (g, m-g, same) = member_from_list_any (λ (f : StageCell). nat_eq f.out.0 (moved to c).out.0) t.cells some in
-      let (k, at_t) = slice_get-from_Contains q.stages t (Contains-from_Member t m-t) in
-      let within = slice_get_within q.stages k t at_t in
-      let count = moved-count to at p.stages lists fewer.sized in
-      let (s, at_s) = slice_get-some p.stages k (omega (arith, within, count)) in
-      let (cells, at_l, moved_t) = moved-at to at p.stages lists k s t at_s at_t in
+      let (k, s, cells, at_s, at_l, moved_t) = stage-back t m-t in
       let of = folded-stage p shape lists fewer k s cells at_s at_l in
       let (f, m-f, e) = member_of_map (moved_gate to at) cells g (subst (λ (u : StageData). Member g u.cells) (sym moved_t) m-g) in
       let no_rail : IsRailGate n c → ⊥ = λ rail. both_ways (is_stage_cell p c) other (rail-staged p shape lists fewer c in_c rail) in
@@ -225,11 +229,7 @@ module _ (p : PipelineData) (shape : Shape p.netlist p) (lists : List (List Stag
     sound-kept : All IsSound q.stages
     sound-kept =
         All-from_members IsSound q.stages (λ t m-t.
-        let (k, at_t) = slice_get-from_Contains q.stages t (Contains-from_Member t m-t) in
-        let within = slice_get_within q.stages k t at_t in
-        let count = moved-count to at p.stages lists fewer.sized in
-        let (s, at_s) = slice_get-some p.stages k (omega (arith, within, count)) in
-        let (cells, at_l, is) = moved-at to at p.stages lists k s t at_s at_t in
+        let (k, s, cells, at_s, at_l, is) = stage-back t m-t in
         let of = folded-stage p shape lists fewer k s cells at_s at_l in
         let own : IsSound s = All-contains IsSound p.stages s sound (Contains-from_slice_get p.stages k s at_s) in
         subst IsSound is

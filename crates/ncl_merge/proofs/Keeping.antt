@@ -1,15 +1,14 @@
 -- What is kept doesn't depend on the order of the cells of stages, a pipeline keeps what it has itself, and what is kept
 -- once and again is kept.
-use Rattle.std.proofs.Common.{◌≡◌, ◌≤◌, ◌&&◌, ℕ, Bool, true, false, not, List, [], ◌∷◌, length, map, Option, None, Some, is_some, refl, sym, ap, ◌∙◌, subst, arith}
+use Rattle.std.proofs.Common.{◌≡◌, ◌&&◌, ℕ, Bool, true, false, not, List, [], ◌∷◌, length, map, Option, None, Some, is_some, refl, sym, ap, ◌∙◌, subst, arith}
 use Rattle.std.specs.Prelude.{All, Contains, filter, slice_get, nat_eq}
 use Rattle.std.specs.List.{AllZip, list_any}
 use Rattle.std.specs.List.Sorted.{IsPermutation}
 use Rattle.std.proofs.lemmas.List.{length-map}
 use Rattle.std.proofs.lemmas.List.Elements.{filter_agree, All-contains}
 use Rattle.std.proofs.lemmas.List.Sorted.{list_any-IsPermutation, Contains-permutation, IsPermutation-sym}
-use Rattle.ncl_base.proofs.Members.{Member, Contains-from_Member, Member-from_Contains, Member-map, member_of_map, All-from_members, Contains-from_slice_get, slice_get-from_Contains}
+use Rattle.ncl_base.proofs.Members.{Contains-from_Member, Member-from_Contains, Member-map, member_of_map, All-from_members, Contains-from_slice_get, slice_get-from_Contains}
 use Rattle.ncl_netlist.specs.declared.cell.Cell.{Cell as NetlistCell}
-use Rattle.ncl_netlist.specs.declared.parts.NamePair.{NamePair}
 use Rattle.ncl_netlist.specs.Netlist.{NetlistData}
 use Rattle.ncl_netlist.specs.Parts.{part_of}
 use Rattle.ncl_shape.specs.declared.bank.Bank.{Bank}
@@ -32,7 +31,7 @@ use Rattle.ncl_writer.specs.Text.{text_of}
 use Rattle.ncl_merge.specs.Fold.{with_cells}
 use Rattle.ncl_merge.specs.Rebuilt.{name_at}
 use Rattle.ncl_merge.specs.Choice.{is_stage_cell}
-use Rattle.ncl_merge.specs.Merged.{standing, cell_name, rail_names, HasLabelOf, IsMergedStage, IsMergedBank, Keeps}
+use Rattle.ncl_merge.specs.Merged.{standing, cell_name, rail_names, IsMergedStage, IsMergedBank, Keeps}
 use Rattle.ncl_merge.proofs.Lists.{each}
 use Rattle.ncl_merge.proofs.Renamed.{zip-left}
 

@@ -239,14 +239,13 @@ module _ (n m : NetlistData) (is : IsThinned n m) (free : IsFree n) where
 
   -- ---- rule 8
 
-  named-back : (d : Cell) → IsCell m d → (name : List ℕ) (net : ℕ) → IsInputPort m net → OnPinNamed d name net → (c : Cell) × IsCell n c × OnPinNamed c name (is.from net) × (d ≡ moved is.to c)
-  named-back d in_d name net input (pin, named, on) =
+  pin-kept : (d : Cell) → IsCell m d → (pin net : ℕ) → IsInputPort m net → OnPin d pin net → (c : Cell) × IsCell n c × OnPin c pin (is.from net) × (d ≡ moved is.to c)
+  pin-kept d in_d pin net input on =
       let (i, at) = place_of m d in_d in
       elim (is.each i d at) [
         | inl old ↦
-            let stood = is.stood old.place old.cell old.in_n old.no_rail in
-            let (on-c, kept) = pin-back n m is free old.place old.cell d stood old.is pin net on in
-            (old.cell, Contains-from_slice_get n.cells old.place old.cell old.in_n, (pin, ap (λ (z : Cell). slice_get (pins_of z.kind) pin) (sym old.is) ∙ named, on-c), old.is)
+            let (on-c, kept) = pin-back n m is free old.place old.cell d (is.stood old.place old.cell old.in_n old.no_rail) old.is pin net on in
+            (old.cell, Contains-from_slice_get n.cells old.place old.cell old.in_n, on-c, old.is)
         | inr thin ↦
             let (x, z-is, kept, comes) = thin.pins (record { 0 = net }) (Contains-from_slice_get d.ins.items pin (record { 0 = net }) on) in
             let there : ComesFrom n x FromPort = subst (λ y. ComesFrom n y FromPort) (ap is.from z-is ∙ kept) (port (input-back n m is free net input)) in
@@ -256,21 +255,10 @@ module _ (n m : NetlistData) (is : IsThinned n m) (free : IsFree n) where
       port-apart : (bank : ℕ) → FromPort ≡ RailOf bank → ⊥
       port-apart bank e = cc
 
-  a-named : (d : Cell) → IsCell m d → (net : ℕ) → IsInputPort m net → OnPin d A net → (c : Cell) × IsCell n c × OnPin c A (is.from net) × (d ≡ moved is.to c)
-  a-named d in_d net input on =
-      let (i, at) = place_of m d in_d in
-      elim (is.each i d at) [
-        | inl old ↦
-            let (on-c, kept) = pin-back n m is free old.place old.cell d (is.stood old.place old.cell old.in_n old.no_rail) old.is A net on in
-            (old.cell, Contains-from_slice_get n.cells old.place old.cell old.in_n, on-c, old.is)
-        | inr thin ↦
-            let (x, z-is, kept, comes) = thin.pins (record { 0 = net }) (Contains-from_slice_get d.ins.items A (record { 0 = net }) on) in
-            let there : ComesFrom n x FromPort = subst (λ y. ComesFrom n y FromPort) (ap is.from z-is ∙ kept) (port (input-back n m is free net input)) in
-            absurd (port-apart thin.bank ((only_origin n is.is_n free x (RailOf thin.bank) comes).only FromPort there))
-      ]
-    where
-      port-apart : (bank : ℕ) → FromPort ≡ RailOf bank → ⊥
-      port-apart bank e = cc
+  named-back : (d : Cell) → IsCell m d → (name : List ℕ) (net : ℕ) → IsInputPort m net → OnPinNamed d name net → (c : Cell) × IsCell n c × OnPinNamed c name (is.from net) × (d ≡ moved is.to c)
+  named-back d in_d name net input (pin, named, on) =
+      let (c, in_c, on-c, e) = pin-kept d in_d pin net input on in
+      (c, in_c, (pin, ap (λ (z : Cell). slice_get (pins_of z.kind) pin) (sym e) ∙ named, on-c), e)
 
   role-there : ((net : ℕ) → IsInputPort n net → HasOneRole n net) → (net : ℕ) → IsInputPort m net → HasOneRole m net
   role-there roles net input =
@@ -281,8 +269,8 @@ module _ (n m : NetlistData) (is : IsThinned n m) (free : IsFree n) where
             let (b, in_b, on-b, f) = named-back d in_d y net input on-d in
             role.one_name a b x y in_a in_b on-a on-b;
         one_rail = λ c d in_c in_d on-c on-d.
-            let (a, in_a, on-a, e) = a-named c in_c net input on-c in
-            let (b, in_b, on-b, f) = a-named d in_d net input on-d in
+            let (a, in_a, on-a, e) = pin-kept c in_c A net input on-c in
+            let (b, in_b, on-b, f) = pin-kept d in_d A net input on-d in
             e ∙ ap (moved is.to) (role.one_rail a b in_a in_b on-a on-b) ∙ sym f;
       }
 

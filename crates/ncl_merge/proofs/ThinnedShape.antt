@@ -39,6 +39,9 @@ module _ (n m : NetlistData) (is : IsThinned n m) (free : IsFree n) where
   stood-register : (bank k : ℕ) (c : Cell) → CellAt n k c → IsOfBank n bank c → IsStood m is.to is.from is.at k c
   stood-register bank k c at of_bank = is.stood k c at (register-no_rail n m is free c of_bank.1)
 
+  stood-at : (bank k : ℕ) (c d : Cell) → CellAt n k c → IsOfBank n bank c → CellAt m (is.at k) d → moved is.to c ≡ d
+  stood-at bank k c d at of_bank at-d = same_cell m (is.at k) (is.at k) (moved is.to c) d refl (stood-register bank k c at of_bank).stands at-d
+
   stood-ack : (bank k : ℕ) (c : Cell) → CellAt n k c → AcksBank n bank c → IsStood m is.to is.from is.at k c
   stood-ack bank k c at acks = is.stood k c at (ack-no_rail n m is free c acks.1)
 
@@ -97,10 +100,10 @@ module _ (n m : NetlistData) (is : IsThinned n m) (free : IsFree n) where
       let bit = are.each k b at in
       record {
         zero = λ d at-d.
-            ap (λ (z : Cell). z.out) (sym (same_cell m (is.at b.rail0.0) (is.at b.rail0.0) (moved is.to bit.zero) d refl (stood-register bank b.rail0.0 bit.zero bit.zero_at bit.zero_of).stands at-d))
+            ap (λ (z : Cell). z.out) (sym (stood-at bank b.rail0.0 bit.zero d bit.zero_at bit.zero_of at-d))
             ∙ ap (renamed_net is.to) (known.zero bit.zero bit.zero_at);
         one = λ d at-d.
-            ap (λ (z : Cell). z.out) (sym (same_cell m (is.at b.rail1.0) (is.at b.rail1.0) (moved is.to bit.one) d refl (stood-register bank b.rail1.0 bit.one bit.one_at bit.one_of).stands at-d))
+            ap (λ (z : Cell). z.out) (sym (stood-at bank b.rail1.0 bit.one d bit.one_at bit.one_of at-d))
             ∙ ap (renamed_net is.to) (known.one bit.one bit.one_at);
       })
 
@@ -111,10 +114,10 @@ module _ (n m : NetlistData) (is : IsThinned n m) (free : IsFree n) where
       let bit = are.each k b at in
       record {
         zero = λ d at-d.
-            subst (λ (z : Cell). OnPin z A (is.to r.zero.0)) (same_cell m (is.at b.rail0.0) (is.at b.rail0.0) (moved is.to bit.zero) d refl (stood-register bank b.rail0.0 bit.zero bit.zero_at bit.zero_of).stands at-d)
+            subst (λ (z : Cell). OnPin z A (is.to r.zero.0)) (stood-at bank b.rail0.0 bit.zero d bit.zero_at bit.zero_of at-d)
             (pin-forth n m is free bit.zero A r.zero.0 (known.zero bit.zero bit.zero_at));
         one = λ d at-d.
-            subst (λ (z : Cell). OnPin z A (is.to r.one.0)) (same_cell m (is.at b.rail1.0) (is.at b.rail1.0) (moved is.to bit.one) d refl (stood-register bank b.rail1.0 bit.one bit.one_at bit.one_of).stands at-d)
+            subst (λ (z : Cell). OnPin z A (is.to r.one.0)) (stood-at bank b.rail1.0 bit.one d bit.one_at bit.one_of at-d)
             (pin-forth n m is free bit.one A r.one.0 (known.one bit.one bit.one_at));
       })
 

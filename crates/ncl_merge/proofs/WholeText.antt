@@ -1,5 +1,5 @@
 -- The text of a folded netlist is no longer than that of the netlist.
-use Rattle.std.proofs.Common.{◌≡◌, ◌≢◌, ◌<◌, ◌≤◌, ◌+◌, ◌-◌, ℕ, suc, List, [], ◌∷◌, ◌++◌, length, map, take, drop, get_or, Option, None, Some, inl, inr, refl, sym, ap, ◌∙◌, subst, arith}
+use Rattle.std.proofs.Common.{◌≡◌, ◌≢◌, ◌≤◌, ◌+◌, ◌-◌, ℕ, suc, List, [], ◌∷◌, ◌++◌, length, map, take, drop, Option, Some, inl, inr, refl, sym, ap, ◌∙◌, subst, arith}
 use Rattle.std.specs.Prelude.{Contains, slice_get, sum_by, codes}
 use Rattle.std.specs.List.{flat_map, join_with_byte, zip}
 use Rattle.std.proofs.lemmas.Bool.{cases_lt}
@@ -27,7 +27,7 @@ use Rattle.ncl_shape.specs.Pipeline.{PipelineData}
 use Rattle.ncl_shape.specs.Shape.{Shape}
 use Rattle.ncl_writer.specs.Names.{spelled_name}
 use Rattle.ncl_writer.specs.Text.{opened, header_line, port_line, wire_line, pin_text, pin_texts, cell_line, text_of}
-use Rattle.ncl_merge.specs.Fold.{FoldsTo, pins_sum, line_length}
+use Rattle.ncl_merge.specs.Fold.{FoldsTo, line_length}
 use Rattle.ncl_merge.specs.Folding.{AreFewer}
 use Rattle.ncl_merge.specs.Thinned.{moved}
 use Rattle.ncl_merge.specs.Rebuilt.{kept, name_at}

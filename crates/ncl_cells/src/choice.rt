@@ -7,37 +7,48 @@ use crate::cut::{Cut, NodeCuts, network_cuts, source_of};
 use crate::drafting::draft;
 use crate::evaluating::Choice;
 use crate::freeing::{cone_of, freed, readers_of};
+use crate::leaves::{Made, leaves_of, reached_leaves};
+use crate::levels::add_levels;
 use crate::plan::{Arg, Plan};
 use crate::pool::Pool;
 use crate::rules::Planner;
 use crate::stop::Stop;
-use crate::trying::added;
+use crate::trying::{Reached, Trial, added};
 use ncl_base::Memory;
 use ncl_network::{From3, Network, Node, Signal};
 use std::alloc::Global;
+
+/// How the nodes are looked at.
+#[derive(Clone, Copy, Debug, PartialEq, Eq)]
+enum Look {
+    /// Each alone.
+    Alone,
+    /// Through others, and of leaves that come at once the first one first.
+    Through,
+    /// Through others, and of leaves that come at once the last one first.
+    Turned,
+}
 
 /// Chooses what each node of a network becomes.
 #[derive(Drop)]
 pub(crate) struct Chooser {
     planner: Planner,
-    looks_through: bool,
+    look: Look,
     readers: Vec<u32>,
     cuts: Vec<NodeCuts>,
+    levels: Vec<u32>,
 }
 
-/// A choice, and the cells that it frees and adds.
+/// A choice, the cells that it frees, and what it adds.
 #[derive(Drop)]
 struct Weighed {
     choice: Choice,
     freed: usize,
-    added: usize,
+    added: Trial,
 }
 
 /// The steps that no plan needs more of.
 const FUEL: u32 = 12;
-
-/// What stands where there are fewer than four leaves.
-const NO_LEAF: From3 = From3::Const(false);
 
 /// Whether a source is among others. Linear in them.
 fn is_among(sources: &[From3], from: From3) -> bool {
@@ -55,51 +66,6 @@ fn sources_of(alloc: Global, node: &Node) -> Result<Vec<From3>, Memory> {
     Ok(found)
 }
 
-/// A number by which sources are ordered.
-fn key(images: &[Signal], from: From3) -> u64 {
-    let image = match from {
-        From3::Node(place) => match images.get(place as usize) {
-            Some(signal) => signal.from,
-            None => from,
-        },
-        other => other,
-    };
-    match image {
-        From3::Input(place) => u64::from(place),
-        From3::Node(place) => u64::from(place) + 4_294_967_296,
-        From3::Const(_) => u64::MAX,
-    }
-}
-
-/// Four leaves in order of what they are. A fixed number of steps.
-fn ordered(leaves: [From3; 4], images: &[Signal]) -> [From3; 4] {
-    let mut order = leaves;
-    for (i, j) in [(0usize, 1usize), (2, 3), (0, 2), (1, 3), (1, 2)] {
-        let first = order[i % 4];
-        let second = order[j % 4];
-        if key(images, second) < key(images, first) {
-            order[i % 4] = second;
-            order[j % 4] = first;
-        }
-    }
-    order
-}
-
-/// The first four of some sources, in order of what they are.
-fn leaves_of(sources: &[From3], images: &[Signal]) -> Leaves {
-    let mut four = [NO_LEAF; 4];
-    for (place, source) in sources.iter().take(4).enumerate() {
-        four[place % 4] = *source;
-    }
-    let [first, second, third, fourth] = ordered(four, images);
-    Leaves {
-        first,
-        second,
-        third,
-        fourth,
-    }
-}
-
 /// The argument that is this leaf.
 fn leaf(place: usize) -> Arg {
     Arg {
@@ -108,29 +74,32 @@ fn leaf(place: usize) -> Arg {
     }
 }
 
-/// The signals that leaves are.
-fn leaf_images(
-    alloc: Global,
-    images: &[Signal],
-    leaves: Leaves,
-) -> Result<Vec<Option<Signal>>, Memory> {
+/// The signals that some nodes have become, but for those that have become none yet.
+fn images_of(alloc: Global, images: &[Signal], places: &[u32]) -> Result<Vec<Signal>, Memory> {
     let mut found = Vec::new(alloc);
-    for from in [leaves.first, leaves.second, leaves.third, leaves.fourth] {
-        let signal = match from {
-            From3::Node(place) => images.get(place as usize).copied(),
-            _ => Some(Signal {
-                from,
-                inverted: false,
-            }),
-        };
-        found.push(signal)?;
+    for place in places {
+        if let Some(signal) = images.get(*place as usize) {
+            found.push(*signal)?;
+        }
     }
     Ok(found)
 }
 
-/// What saves more cells, the first where both save as many.
+/// The levels of the four leaves.
+fn levels_of(reached: &[Reached]) -> [u32; 4] {
+    let mut levels = [0u32; 4];
+    for (place, one) in reached.iter().take(4).enumerate() {
+        levels[place % 4] = one.level;
+    }
+    levels
+}
+
+/// What saves more cells, or else has fewer gates one after another, the first where both have as many.
 fn better(first: Weighed, second: Weighed) -> Weighed {
-    if second.freed.saturating_add(first.added) > first.freed.saturating_add(second.added) {
+    let with_first = first.freed.saturating_add(second.added.cells);
+    let with_second = second.freed.saturating_add(first.added.cells);
+    let is_earlier = second.added.level < first.added.level;
+    if with_second > with_first || (with_second == with_first && is_earlier) {
         second
     } else {
         first
@@ -142,36 +111,50 @@ impl Chooser {
     pub(crate) fn new(alloc: Global) -> Result<Chooser, Memory> {
         Ok(Chooser {
             planner: Planner::new(alloc)?,
-            looks_through: false,
+            look: Look::Alone,
             readers: Vec::new(alloc),
             cuts: Vec::new(alloc),
+            levels: Vec::new(alloc),
         })
     }
 
     /// Begins with the nodes of a network. Linear in them.
     pub(crate) fn begin(&mut self, alloc: Global, network: &Network) -> Result<(), Memory> {
         self.readers = readers_of(alloc, network)?;
-        if self.looks_through {
+        self.levels = Vec::new(alloc);
+        if self.look != Look::Alone {
             self.cuts = network_cuts(alloc, network)?;
         }
         Ok(())
     }
 
-    /// Whether it looks through nodes.
-    pub(crate) fn looks_through(&self) -> bool {
-        self.looks_through
+    /// Whether it has no other way to look.
+    pub(crate) fn is_last(&self) -> bool {
+        self.look == Look::Turned
     }
 
-    /// Looks through nodes from now on.
-    pub(crate) fn look_through(&mut self) {
-        self.looks_through = true;
+    /// Looks another way from now on, if the last round gained nothing or looked at each node alone.
+    pub(crate) fn go_on(&mut self, gained: bool) {
+        self.look = match self.look {
+            Look::Alone => Look::Through,
+            Look::Through if gained => Look::Through,
+            _ => Look::Turned,
+        };
     }
 
-    /// The way to compute a function of some leaves.
-    fn plan(&mut self, alloc: Global, table: u16) -> Result<Plan, Memory> {
+    /// What the nodes have become so far.
+    fn made<'a>(&'a self, images: &'a [Signal]) -> Made<'a> {
+        Made {
+            images,
+            levels: &self.levels,
+        }
+    }
+
+    /// The way to compute a function of four leaves with these levels.
+    fn plan(&mut self, alloc: Global, table: u16, levels: [u32; 4]) -> Result<Plan, Memory> {
         let mut steps = Vec::new(alloc);
         let args = [leaf(0), leaf(1), leaf(2), leaf(3)];
-        let out = draft(&mut self.planner, FUEL, &mut steps, table, args)?;
+        let out = draft(&mut self.planner, FUEL, &mut steps, table, args, levels)?;
         Ok(Plan { steps, out })
     }
 
@@ -186,13 +169,15 @@ impl Chooser {
         cone: Vec<u32>,
     ) -> Result<Weighed, Stop> {
         let table = cone_table(alloc, nodes, &cone, leaves)?;
-        let plan = self.plan(alloc, table)?;
+        let reached = reached_leaves(alloc, self.made(images), leaves)?;
+        let plan = self.plan(alloc, table, levels_of(&reached))?;
         let freed = freed(alloc, nodes, &self.readers, &cone)?;
-        let added = added(pool, &plan, leaf_images(alloc, images, leaves)?)?;
+        let lost = images_of(alloc, images, &freed.places)?;
+        let added = added(pool, &self.levels, &lost, &plan, reached)?;
         let choice = Choice { leaves, cone, plan };
         Ok(Weighed {
             choice,
-            freed,
+            freed: freed.cells,
             added,
         })
     }
@@ -210,7 +195,7 @@ impl Chooser {
             return Err(Stop::GivenUp);
         };
         let sources = sources_of(alloc, node)?;
-        let leaves = leaves_of(&sources, images);
+        let leaves = leaves_of(self.made(images), self.is_last(), &sources);
         let cone = vec![in alloc; place]?;
         self.weighed(alloc, nodes, pool, images, leaves, cone)
     }
@@ -229,7 +214,7 @@ impl Chooser {
         for code in cut.codes {
             sources.push(source_of(network.inputs, code))?;
         }
-        let leaves = leaves_of(&sources, images);
+        let leaves = leaves_of(self.made(images), self.is_last(), &sources);
         let nodes = network.nodes.items();
         let cone = cone_of(alloc, nodes, place, leaves)?;
         self.weighed(alloc, nodes, pool, images, leaves, cone)
@@ -244,6 +229,7 @@ impl Chooser {
         images: &[Signal],
         place: u32,
     ) -> Result<Choice, Stop> {
+        add_levels(&mut self.levels, &pool.smalls)?;
         let mut best = self.own_choice(alloc, network.nodes.items(), pool, images, place)?;
         let cuts = match self.cuts.get(place as usize) {
             Some(cuts) => *cuts,

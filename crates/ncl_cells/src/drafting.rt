@@ -2,7 +2,7 @@
 ghost use Rattle.std.specs.Prelude.{◌≡◌, ◌<◌, ◌≤◌, IfOk};
 
 use crate::plan::{Arg, Step};
-use crate::rules::{Planner, Rule, others};
+use crate::rules::{Planner, Rule, join, others};
 use crate::small::Op;
 use crate::table::{cofactor, depends, input};
 use ncl_base::Memory;
@@ -93,7 +93,7 @@ fn with(args: [Arg; 4], k: usize, arg: Arg) -> [Arg; 4] {
     changed
 }
 
-/// Adds the step of a majority.
+/// Adds the step of a majority. Its last argument is the latest, which then goes through one gate alone.
 fn draft_majority(
     steps: &mut Vec<Step>,
     idle: usize,
@@ -104,21 +104,58 @@ fn draft_majority(
     step(
         steps,
         Op::Majority,
-        turned(turns[0], args[x % 4]),
-        turned(turns[1], args[y % 4]),
         turned(turns[2], args[z % 4]),
+        turned(turns[1], args[y % 4]),
+        turned(turns[0], args[x % 4]),
     )
 }
 
-/// Adds the steps of a function, as rules say, which is taken to need no more than the fuel.
+/// The levels after two inputs have become one.
+fn raised(levels: [u32; 4], first: usize, second: usize) -> [u32; 4] {
+    let level = levels[first % 4].max(levels[second % 4]);
+    let mut changed = levels;
+    changed[first % 4] = level.saturating_add(1);
+    changed
+}
+
+/// The input with the least level of those that a function depends on, the last of several, but for this one.
+fn earliest(table: u16, levels: [u32; 4], but: usize) -> usize {
+    let mut found = but;
+    for k in 0..4usize {
+        let is_first = found == but || levels[k % 4] <= levels[found % 4];
+        if k != but && depends(table, k) && is_first {
+            found = k;
+        }
+    }
+    found
+}
+
+/// A rule that takes no more gates one after another: in place of one that puts an input at the top, one that joins
+/// the two inputs that come first, if they can be.
+fn balanced(table: u16, levels: [u32; 4], rule: Rule) -> Rule {
+    match rule {
+        Rule::Top(..) | Rule::Parity(_) => {}
+        _ => return rule,
+    }
+    let one = earliest(table, levels, 4);
+    let other = earliest(table, levels, one);
+    match join(table, one.min(other), one.max(other)) {
+        Some(better) => better,
+        None => rule,
+    }
+}
+
+/// Adds the steps of a function of arguments with these levels, as rules say, which is taken to need no more than the
+/// fuel.
 pub(crate) fn draft(
     planner: &mut Planner,
     fuel: u32,
     steps: &mut Vec<Step>,
     table: u16,
     args: [Arg; 4],
+    levels: [u32; 4],
 ) -> Result<Arg, Memory> {
-    let rule = planner.rule(12, table).rule;
+    let rule = balanced(table, levels, planner.rule(12, table).rule);
     if fuel == 0 {
         return Ok(NOTHING);
     }
@@ -126,18 +163,26 @@ pub(crate) fn draft(
     match rule {
         Rule::Short => draft_short(steps, table, args),
         Rule::Top(k, at, constant) => {
-            let rest = draft(planner, less, steps, cofactor(table, k, !at), args)?;
+            let rest = draft(planner, less, steps, cofactor(table, k, !at), args, levels)?;
             let x = turned(at, args[k % 4]);
             let found = step(steps, Op::And, x, turned(constant, rest), x)?;
             Ok(turned(constant, found))
         }
         Rule::Parity(k) => {
-            let rest = draft(planner, less, steps, cofactor(table, k, false), args)?;
+            let rest = draft(
+                planner,
+                less,
+                steps,
+                cofactor(table, k, false),
+                args,
+                levels,
+            )?;
             step(steps, Op::Differ, args[k % 4], rest, rest)
         }
-        Rule::Join(first, _, op, rest) => {
+        Rule::Join(first, second, op, rest) => {
             let joint = draft_short(steps, op, args)?;
-            draft(planner, less, steps, rest, with(args, first, joint))
+            let levels = raised(levels, first, second);
+            draft(planner, less, steps, rest, with(args, first, joint), levels)
         }
         Rule::Majority(idle, first, second, third) => {
             draft_majority(steps, idle, [first, second, third], args)
@@ -149,15 +194,15 @@ pub(crate) fn draft(
         }
         Rule::Add(k, at) => {
             let apart = cofactor(table, k, false) ^ cofactor(table, k, true);
-            let change = draft(planner, less, steps, apart, args)?;
-            let base = draft(planner, less, steps, cofactor(table, k, at), args)?;
+            let change = draft(planner, less, steps, apart, args, levels)?;
+            let base = draft(planner, less, steps, cofactor(table, k, at), args, levels)?;
             let x = turned(at, args[k % 4]);
             let found = step(steps, Op::And, x, change, x)?;
             step(steps, Op::Differ, found, base, base)
         }
         Rule::Grow(k, at) => {
-            let more = draft(planner, less, steps, cofactor(table, k, !at), args)?;
-            let base = draft(planner, less, steps, cofactor(table, k, at), args)?;
+            let more = draft(planner, less, steps, cofactor(table, k, !at), args, levels)?;
+            let base = draft(planner, less, steps, cofactor(table, k, at), args, levels)?;
             let x = turned(at, args[k % 4]);
             let found = step(steps, Op::And, x, more, x)?;
             let neither = step(steps, Op::And, turned(true, found), turned(true, base), x)?;

@@ -84,15 +84,23 @@ fn count_inner(counts: &mut [u32], cone: &[u32], signals: &[Signal]) {
     }
 }
 
-/// The cells of the nodes of a cone that nothing else reads once the last of them is made otherwise. Quadratic in
+/// Nodes that nothing reads once another is made otherwise, and how many cells they are.
+#[derive(Drop)]
+pub(crate) struct Lost {
+    pub places: Vec<u32>,
+    pub cells: usize,
+}
+
+/// The nodes of a cone that nothing else reads once the last of them is made otherwise, the last first. Quadratic in
 /// the cone.
 pub(crate) fn freed(
     alloc: Global,
     nodes: &[Node],
     readers: &[u32],
     cone: &[u32],
-) -> Result<usize, Memory> {
+) -> Result<Lost, Memory> {
     let mut counts = vec![in alloc; 0u32; cone.len()]?;
+    let mut places = Vec::new(alloc);
     let mut cells = 0usize;
     for at in (0..cone.len()).rev() {
         let place = cone[at] as usize;
@@ -101,8 +109,9 @@ pub(crate) fn freed(
             && (is_last || readers.get(place) == counts.get(at))
         {
             cells = cells.saturating_add(node_cells(node));
+            places.push(cone[at])?;
             count_inner(&mut counts, cone, node.ins.items());
         }
     }
-    Ok(cells)
+    Ok(Lost { places, cells })
 }

@@ -13,7 +13,7 @@ use ncl_network::Network;
 use std::alloc::Global;
 
 /// The most rounds: the first takes nodes apart, and the others look through them too.
-const ROUNDS: usize = 5;
+const ROUNDS: usize = 9;
 
 /// A network, and whether a round made it.
 #[derive(Drop)]
@@ -86,10 +86,10 @@ pub fn improve(alloc: Global, network: Network, bound: usize) -> Result<Network,
     'rounds: for _ in 0..ROUNDS {
         let Round { network, is_new } = one_round(alloc, current, bound, &mut chooser)?;
         current = network;
-        if !is_new && chooser.looks_through() {
+        if !is_new && chooser.is_last() {
             return Ok(current);
         }
-        chooser.look_through();
+        chooser.go_on(is_new);
     }
     Ok(current)
 }

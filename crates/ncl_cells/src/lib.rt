@@ -13,6 +13,8 @@ mod evaluating;
 mod form;
 mod freeing;
 mod improving;
+mod leaves;
+mod levels;
 mod plan;
 mod pool;
 mod remaking;

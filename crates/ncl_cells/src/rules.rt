@@ -72,7 +72,7 @@ fn top(table: u16) -> Option<Rule> {
 }
 
 /// The rule of two inputs that matter through one bit, if they do.
-fn join(table: u16, first: usize, second: usize) -> Option<Rule> {
+pub(crate) fn join(table: u16, first: usize, second: usize) -> Option<Rule> {
     if !depends(table, first) || !depends(table, second) {
         return None;
     }
@@ -257,11 +257,12 @@ impl Planner {
         Priced { rule, cells }
     }
 
-    /// The cheapest rule of two inputs that matter through one bit. A fixed number of steps.
+    /// The cheapest rule of two inputs that matter through one bit, the last where several cost the same. A fixed
+    /// number of steps.
     #[cycle(pricing)]
     fn cheapest_join(&mut self, fuel: u32, table: u16) -> Option<Priced> {
         let mut found = None;
-        for (first, second) in [(0usize, 1usize), (0, 2), (0, 3), (1, 2), (1, 3), (2, 3)] {
+        for (first, second) in [(2usize, 3usize), (1, 3), (1, 2), (0, 3), (0, 2), (0, 1)] {
             if let Some(rule) = join(table, first, second) {
                 let priced = self.priced(fuel, table, rule);
                 found = cheaper(found, priced);

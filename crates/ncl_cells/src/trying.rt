@@ -2,21 +2,47 @@
 ghost use Rattle.std.specs.Prelude.{◌≡◌, ◌<◌, ◌≤◌, IfOk};
 
 use crate::form::{Form, and, choose, differ, majority};
+use crate::levels::{op_level, signal_level};
 use crate::plan::{Arg, Plan, Step};
 use crate::pool::Pool;
 use crate::small::Op;
 use ncl_base::Memory;
 use ncl_network::{From3, Signal};
 
+/// A signal, if it is there, and the gates on the longest way to it.
+#[derive(Clone, Copy, Debug, PartialEq, Eq)]
+pub(crate) struct Reached {
+    pub signal: Option<Signal>,
+    pub level: u32,
+}
+
+/// What a plan would add: so many cells, and so many gates on the longest way to what it computes.
+#[derive(Clone, Copy, Debug, PartialEq, Eq)]
+pub(crate) struct Trial {
+    pub cells: usize,
+    pub level: u32,
+}
+
+/// What always gives 0.
+const NOTHING: Reached = Reached {
+    signal: Some(Signal {
+        from: From3::Const(false),
+        inverted: false,
+    }),
+    level: 0,
+};
+
+/// What an argument is.
+fn reached_by(reached: &[Reached], arg: Arg) -> Reached {
+    match reached.get(arg.place) {
+        Some(one) => *one,
+        None => NOTHING,
+    }
+}
+
 /// The signal of an argument, if it is there.
-fn arg_signal(signals: &[Option<Signal>], arg: Arg) -> Option<Signal> {
-    let signal = match signals.get(arg.place) {
-        Some(signal) => (*signal)?,
-        None => Signal {
-            from: From3::Const(false),
-            inverted: false,
-        },
-    };
+fn arg_signal(reached: &[Reached], arg: Arg) -> Option<Signal> {
+    let signal = reached_by(reached, arg).signal?;
     Some(Signal {
         from: signal.from,
         inverted: signal.inverted != arg.inverted,
@@ -24,7 +50,7 @@ fn arg_signal(signals: &[Option<Signal>], arg: Arg) -> Option<Signal> {
 }
 
 /// What a step comes to, if its arguments are there.
-fn step_form(signals: &[Option<Signal>], step: &Step) -> Option<Form> {
+fn step_form(signals: &[Reached], step: &Step) -> Option<Form> {
     let first = arg_signal(signals, step.first)?;
     let second = arg_signal(signals, step.second)?;
     match step.op {
@@ -35,34 +61,74 @@ fn step_form(signals: &[Option<Signal>], step: &Step) -> Option<Form> {
     }
 }
 
-/// The signal of a step, if it is there.
-fn step_signal(pool: &Pool, signals: &[Option<Signal>], step: &Step) -> Option<Signal> {
-    match step_form(signals, step)? {
-        Form::Known(signal) => Some(signal),
-        Form::New(small, inverted) => Some(Signal {
-            from: From3::Node(pool.find(&small)?),
-            inverted,
-        }),
+/// What a step comes to, and whether its small node is to be counted: it isn't there, or is among those that nothing
+/// would read.
+#[derive(Clone, Copy, Debug, PartialEq, Eq)]
+struct Counted {
+    signal: Option<Signal>,
+    is_added: bool,
+}
+
+/// The signal of a step, if it is there, where nothing would read these small nodes.
+fn step_signal(pool: &Pool, lost: &[Signal], reached: &[Reached], step: &Step) -> Counted {
+    let none = Counted {
+        signal: None,
+        is_added: true,
+    };
+    match step_form(reached, step) {
+        None => none,
+        Some(Form::Known(signal)) => Counted {
+            signal: Some(signal),
+            is_added: false,
+        },
+        Some(Form::New(small, inverted)) => match pool.find(&small) {
+            None => none,
+            Some(place) => {
+                let from = From3::Node(place);
+                Counted {
+                    signal: Some(Signal { from, inverted }),
+                    is_added: lost.iter().any(|other| other.from == from),
+                }
+            }
+        },
     }
 }
 
-/// The cells of the nodes that a plan over these signals would add. Linear in the steps.
+/// The level of a step, which is known where its node is there.
+fn step_level(levels: &[u32], reached: &[Reached], step: &Step, signal: Option<Signal>) -> u32 {
+    match signal {
+        Some(signal) => signal_level(levels, signal),
+        None => op_level(
+            step.op,
+            reached_by(reached, step.first).level,
+            reached_by(reached, step.second).level,
+            reached_by(reached, step.third).level,
+        ),
+    }
+}
+
+/// The cells that a plan over these leaves would add, where nothing else reads the small nodes that are lost, and its
+/// level. Linear in the steps times what is lost.
 pub(crate) fn added(
     pool: &Pool,
+    levels: &[u32],
+    lost: &[Signal],
     plan: &Plan,
-    leaves: Vec<Option<Signal>>,
-) -> Result<usize, Memory> {
-    let mut signals = leaves;
+    leaves: Vec<Reached>,
+) -> Result<Trial, Memory> {
+    let mut reached = leaves;
     let mut cells = 0usize;
     for step in &plan.steps {
-        let signal = step_signal(pool, &signals, step);
-        if signal.is_none() {
+        let Counted { signal, is_added } = step_signal(pool, lost, &reached, step);
+        if is_added {
             cells = cells.saturating_add(match step.op {
                 Op::And | Op::Differ => 2,
                 Op::Majority | Op::Choose => 5,
             });
         }
-        signals.push(signal)?;
+        let level = step_level(levels, &reached, step, signal);
+        reached.push(Reached { signal, level })?;
     }
-    Ok(cells)
+    let level = reached_by(&reached, plan.out).level;
+    Ok(Trial { cells, level })
 }

@@ -1,0 +1,109 @@
+//! The order of the leaves that a node is made of.
+ghost use Rattle.std.specs.Prelude.{◌≡◌, ◌<◌, ◌≤◌, IfOk};
+
+use crate::cone::Leaves;
+use crate::levels::signal_level;
+use crate::trying::Reached;
+use ncl_base::Memory;
+use ncl_network::{From3, Signal};
+use std::alloc::Global;
+
+/// What stands where there are fewer than four leaves.
+const NO_LEAF: From3 = From3::Const(false);
+
+/// What the nodes have become so far: the signal of each, and the levels of the small nodes.
+#[derive(Clone, Copy)]
+pub(crate) struct Made<'a> {
+    pub images: &'a [Signal],
+    pub levels: &'a [u32],
+}
+
+/// The signal that a source is, if it is there.
+fn image(made: Made, from: From3) -> Option<Signal> {
+    match from {
+        From3::Node(place) => made.images.get(place as usize).copied(),
+        _ => Some(Signal {
+            from,
+            inverted: false,
+        }),
+    }
+}
+
+/// A number for what a signal is of: inputs by their places, and then nodes.
+fn number(signal: Signal) -> Option<u64> {
+    match signal.from {
+        From3::Input(place) => Some(u64::from(place)),
+        From3::Node(place) => Some(u64::from(place) + 4_294_967_296),
+        From3::Const(_) => None,
+    }
+}
+
+/// Whether the second of two signals comes before the first: it is later, or else has the lesser number, or with
+/// `turned` the greater one. Constants come last.
+fn is_late(made: Made, turned: bool, first: Option<Signal>, second: Option<Signal>) -> bool {
+    let Some(second) = second else {
+        return false;
+    };
+    let Some(place) = number(second) else {
+        return false;
+    };
+    let Some(first) = first else {
+        return true;
+    };
+    let Some(other) = number(first) else {
+        return true;
+    };
+    let level = signal_level(made.levels, second);
+    let other_level = signal_level(made.levels, first);
+    if level != other_level {
+        return level > other_level;
+    }
+    if turned { place > other } else { place < other }
+}
+
+/// Four leaves in order, the latest first. A fixed number of steps.
+fn ordered(made: Made, turned: bool, leaves: [From3; 4]) -> [From3; 4] {
+    let mut order = leaves;
+    for (i, j) in [(0usize, 1usize), (2, 3), (0, 2), (1, 3), (1, 2)] {
+        let first = order[i % 4];
+        let second = order[j % 4];
+        if is_late(made, turned, image(made, first), image(made, second)) {
+            order[i % 4] = second;
+            order[j % 4] = first;
+        }
+    }
+    order
+}
+
+/// The first four of some sources, the latest first.
+pub(crate) fn leaves_of(made: Made, turned: bool, sources: &[From3]) -> Leaves {
+    let mut four = [NO_LEAF; 4];
+    for (place, source) in sources.iter().take(4).enumerate() {
+        four[place % 4] = *source;
+    }
+    let [first, second, third, fourth] = ordered(made, turned, four);
+    Leaves {
+        first,
+        second,
+        third,
+        fourth,
+    }
+}
+
+/// What leaves are, and their levels.
+pub(crate) fn reached_leaves(
+    alloc: Global,
+    made: Made,
+    leaves: Leaves,
+) -> Result<Vec<Reached>, Memory> {
+    let mut found = Vec::new(alloc);
+    for from in [leaves.first, leaves.second, leaves.third, leaves.fourth] {
+        let signal = image(made, from);
+        let level = match signal {
+            Some(signal) => signal_level(made.levels, signal),
+            None => 0,
+        };
+        found.push(Reached { signal, level })?;
+    }
+    Ok(found)
+}

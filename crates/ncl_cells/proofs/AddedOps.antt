@@ -1,5 +1,5 @@
 -- Operations on signals, added to small nodes.
-use Rattle.std.proofs.Common.{◌≡◌, ℕ, Bool, true, false, not, cond, ◌&&◌, ◌||◌, List, length, refl, sym, ap, ◌∙◌}
+use Rattle.std.proofs.Common.{◌≡◌, ℕ, Bool, true, false, not, cond, ◌&&◌, ◌||◌, List, length, refl, ◌∙◌}
 use Rattle.ncl_network.specs.declared.network.Signal.{Signal}
 use Rattle.ncl_network.specs.Network.{signal_value, IsSource}
 use Rattle.ncl_cells.specs.declared.small.Op.{Op}

@@ -1,21 +1,15 @@
 -- What follows of the bits of sources.
-use Rattle.std.proofs.Common.{◌≡◌, ℕ, ◌+◌, ◌<◌, Bool, true, false, not, cond, List, [], ◌∷◌, ◌++◌, length, map, take, get_or, Some, refl, sym, ap, subst, ◌∙◌, arith, zero-add}
+use Rattle.std.proofs.Common.{◌≡◌, ℕ, Bool, true, false, List, [], ◌∷◌, ◌++◌, refl, sym, subst}
 use Rattle.std.specs.Bool.{beq}
-use Rattle.std.specs.Prelude.{All, slice_get}
-use Rattle.std.proofs.lemmas.List.{map_push, map_more}
 use Rattle.std.proofs.lemmas.List.Elements.{All-nil, All-cons, All-push}
-use Rattle.ncl_blif.specs.Meaning.{cover_value}
 use Rattle.ncl_network.specs.declared.network.From3.{From3}
-use Rattle.ncl_network.specs.declared.network.From3.TheVariants.{Node as FromNode}
-use Rattle.ncl_network.specs.declared.network.Signal.{Signal}
 use Rattle.ncl_network.specs.declared.network.Node.{Node}
 use Rattle.ncl_network.specs.declared.network.Network.{Network}
 use Rattle.ncl_network.specs.Network.{source_value, node_values, ReadBefore}
 use Rattle.ncl_cells.specs.declared.cone.Known.{Known}
 use Rattle.ncl_cells.specs.declared.cone.Leaves.{Leaves}
 use Rattle.ncl_cells.specs.declared.plan.Plan.{Plan}
-use Rattle.ncl_cells.specs.Plans.{plan_value}
-use Rattle.ncl_cells.specs.Cones.{signal_in, Respects, IsKnown, leaf_facts, leaf_bits, Computes, ComputesAt}
+use Rattle.ncl_cells.specs.Cones.{Respects, IsKnown, leaf_facts, Computes, ComputesAt}
 use Rattle.ncl_cells.proofs.Smalls.{bit_of_node}
 
 -- the bits of a network at a word respect its nodes

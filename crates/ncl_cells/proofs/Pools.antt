@@ -1,5 +1,5 @@
 -- Small nodes that grow in number.
-use Rattle.std.proofs.Common.{◌≡◌, ℕ, ◌+◌, ◌<◌, ◌≤◌, Bool, true, false, not, cond, List, [], ◌∷◌, ◌++◌, length, map, get_or, Some, refl, sym, ap, subst, ◌∙◌, arith, zero-add, append_assoc}
+use Rattle.std.proofs.Common.{◌≡◌, ℕ, ◌+◌, ◌<◌, ◌≤◌, Bool, false, not, cond, List, [], ◌∷◌, ◌++◌, length, map, get_or, Some, sym, ap, subst, ◌∙◌, arith, append_assoc}
 use Rattle.std.specs.Prelude.{All, slice_get}
 use Rattle.std.specs.Option.{option_map}
 use Rattle.std.proofs.lemmas.List.{map-append, map_push, get_or_push, length_push, length-map, append-nil, length-append}
@@ -13,7 +13,7 @@ use Rattle.ncl_network.proofs.Walking.{node_values-push, ReadBefore-push, IsSour
 use Rattle.ncl_decomp.specs.Split.{IsNarrow}
 use Rattle.ncl_decomp.proofs.Later.{node_values-append}
 use Rattle.ncl_cells.specs.declared.small.Small.{Small}
-use Rattle.ncl_cells.specs.declared.form.Form.TheVariants.{Known, New}
+use Rattle.ncl_cells.specs.declared.form.Form.TheVariants.{New}
 use Rattle.ncl_cells.specs.Smalls.{small_ins, small_node, small_value, bits_of}
 use Rattle.ncl_cells.specs.Forms.{form_value, IsFormOver}
 use Rattle.ncl_cells.specs.Pools.{IsPool, Adds}

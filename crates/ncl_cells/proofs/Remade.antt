@@ -1,16 +1,15 @@
 -- The nodes of a network as signals of small nodes, one node further.
-use Rattle.std.proofs.Common.{◌≡◌, ℕ, zero, suc, ◌+◌, ◌<◌, ◌≤◌, ◌^◌, Bool, true, false, not, cond, List, [], ◌∷◌, ◌++◌, length, map, get_or, Some, refl, sym, ap, subst, ◌∙◌, arith, ⊎_elim, ◌⊎◌, inl, inr}
-use Rattle.std.specs.Prelude.{All, slice_get, Contains}
-use Rattle.std.proofs.lemmas.List.{map_push, length_push, length-map}
+use Rattle.std.proofs.Common.{◌≡◌, ℕ, zero, suc, ◌<◌, ◌≤◌, ◌^◌, Bool, not, cond, List, [], ◌∷◌, ◌++◌, length, map, get_or, Some, refl, sym, ap, subst, ◌∙◌, arith, ⊎_elim, ◌⊎◌, inl, inr}
+use Rattle.std.specs.Prelude.{All, slice_get}
+use Rattle.std.proofs.lemmas.List.{map_push, length-map}
 use Rattle.std.proofs.lemmas.List.Elements.{All-nil, All-head, All-tail, All-push}
 use Rattle.std.proofs.lemmas.List.Sums.{sum_by-cons}
-use Rattle.std.proofs.lemmas.Option.{same_Some, slice_get_within, slice_get-get_or, get_or_from_slice_get}
-use Rattle.ncl_network.specs.declared.network.From3.{From3}
+use Rattle.std.proofs.lemmas.Option.{same_Some, slice_get_within, get_or_from_slice_get}
 use Rattle.ncl_network.specs.declared.network.From3.TheVariants.{Input, Node as FromNode, Const}
 use Rattle.ncl_network.specs.declared.network.Signal.{Signal}
 use Rattle.ncl_network.specs.declared.network.Node.{Node}
 use Rattle.ncl_network.specs.declared.network.Network.{Network}
-use Rattle.ncl_network.specs.Network.{source_value, signal_value, node_values, answer_of, IsSource, ReadBefore, ReachesOutput}
+use Rattle.ncl_network.specs.Network.{source_value, signal_value, node_values, IsSource, ReadBefore}
 use Rattle.ncl_network.specs.Prune.{IsInOrder, AreLeft, moved_signal, moved_node}
 use Rattle.ncl_network.proofs.Pruned.{All-left, moved_constant}
 use Rattle.ncl_decomp.specs.Split.{IsNarrow, IsSplit, cost_of_inputs, cost_of_nodes}
@@ -20,9 +19,9 @@ use Rattle.ncl_cells.specs.declared.plan.Plan.{Plan}
 use Rattle.ncl_cells.specs.Smalls.{small_node, bits_of}
 use Rattle.ncl_cells.specs.Pools.{IsPool, Adds}
 use Rattle.ncl_cells.specs.Plans.{plan_value}
-use Rattle.ncl_cells.specs.Cones.{Computes, leaf_bits}
+use Rattle.ncl_cells.specs.Cones.{Computes}
 use Rattle.ncl_cells.specs.Forms.{turned_by}
-use Rattle.ncl_cells.specs.Remade.{plain, leaf_signals, HaveBits, IsImageOf, AreImagesOf, bit_at, AreRemade, IsRebuiltOf}
+use Rattle.ncl_cells.specs.Remade.{plain, leaf_signals, IsImageOf, AreImagesOf, bit_at, AreRemade, IsRebuiltOf}
 use Rattle.ncl_cells.proofs.Forms.{turned_by-value}
 use Rattle.ncl_cells.proofs.Pools.{IsPool-none, Adds-exists, Adds-keeps}
 use Rattle.ncl_cells.proofs.Cones.{respected}

@@ -1,18 +1,17 @@
 -- The bits of small nodes, and that they are narrow.
-use Rattle.std.proofs.Common.{◌≡◌, ℕ, zero, suc, ◌+◌, ◌<◌, ◌≤◌, Bool, true, false, not, cond, ◌&&◌, ◌||◌, List, [], ◌∷◌, ◌++◌, length, map, get_or, Some, refl, sym, ap, subst, ◌∙◌, arith, add-zero, zero-add}
+use Rattle.std.proofs.Common.{◌≡◌, ℕ, zero, suc, ◌+◌, ◌<◌, Bool, true, false, List, [], ◌∷◌, ◌++◌, length, map, get_or, Some, refl, sym, ap, subst, ◌∙◌, arith, add-zero, zero-add}
 use Rattle.std.specs.Prelude.{All, slice_get}
-use Rattle.std.proofs.lemmas.List.{map_push, get_or_push, length_push, length-map}
+use Rattle.std.proofs.lemmas.List.{get_or_push, length_push, length-map}
 use Rattle.std.proofs.lemmas.List.Elements.{All-nil, All-cons}
 use Rattle.std.proofs.lemmas.Option.{same_Some}
 use Rattle.ncl_blif.specs.Meaning.{cover_value}
 use Rattle.ncl_blif.specs.declared.model.Lit.{Lit}
 use Rattle.ncl_blif.specs.declared.model.Lit.TheVariants.{Zero, One, Dash}
-use Rattle.ncl_network.specs.declared.network.From3.{From3}
-use Rattle.ncl_network.specs.declared.network.From3.TheVariants.{Input, Node as FromNode, Const}
+use Rattle.ncl_network.specs.declared.network.From3.TheVariants.{Node as FromNode}
 use Rattle.ncl_network.specs.declared.network.Signal.{Signal}
 use Rattle.ncl_network.specs.declared.network.Node.{Node}
-use Rattle.ncl_network.specs.Network.{source_value, signal_value, node_value, node_values, is_constant, IsSource, ReadBefore}
-use Rattle.ncl_network.proofs.Walking.{node_values-push, length-node_values}
+use Rattle.ncl_network.specs.Network.{signal_value, node_value, node_values, is_constant, IsSource, ReadBefore}
+use Rattle.ncl_network.proofs.Walking.{length-node_values}
 use Rattle.ncl_decomp.specs.Split.{IsNarrow}
 use Rattle.ncl_decomp.proofs.Later.{signals_kept}
 use Rattle.ncl_cells.specs.declared.small.Op.{Op}

@@ -1,4 +1,4 @@
-use Rattle.std.proofs.Common.{◌≡◌, length, ap, refl, sym, subst, ◌∙◌, Some}
+use Rattle.std.proofs.Common.{◌≡◌, length, refl, sym, subst, ◌∙◌, Some}
 use Rattle.std.specs.Prelude.{slice_get}
 use Rattle.std.proofs.lemmas.Option.{slice_get_read}
 use Rattle.ncl_network.specs.declared.network.From3.TheVariants.{Node as FromNode}

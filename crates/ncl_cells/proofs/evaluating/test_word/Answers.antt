@@ -1,5 +1,5 @@
 use Rattle.std.proofs.Common.{◌≡◌, ap, sym, subst, ◌∙◌}
-use Rattle.ncl_cells.specs.Cones.{IsKnown, leaf_facts}
+use Rattle.ncl_cells.specs.Cones.{IsKnown}
 use Rattle.ncl_cells.specs.Plans.{plan_value}
 use Rattle.ncl_cells.proofs.Cones.{leaves_known, same_bits}
 use Rattle.ncl_cells.proofs.evaluating.test_word.Goals as goal

@@ -1,4 +1,4 @@
-use Rattle.std.proofs.Common.{◌≡◌, ◌∙◌}
+use Rattle.std.proofs.Common.{◌∙◌}
 use Rattle.ncl_cells.proofs.Remade.{narrow_left}
 use Rattle.ncl_cells.proofs.remaking.remake.Goals as goal
 

@@ -1,4 +1,4 @@
-use Rattle.std.proofs.Common.{ℕ, length, map, sym, subst, ◌∙◌}
+use Rattle.std.proofs.Common.{ℕ, length, map, subst, ◌∙◌}
 use Rattle.std.specs.Prelude.{All}
 use Rattle.std.proofs.lemmas.Result.{IfOk-weaker}
 use Rattle.ncl_network.specs.declared.network.Signal.{Signal}

@@ -5,7 +5,8 @@
 
 The gate carries out the lines of that file over the files of examples/ and compares what is printed with what is stored, so
 that no answer on a page goes stale unseen; `shown.py` compares the pages themselves. What a shell does behind a command is left
-out, but for `> NAME` behind `nclc compile`. A command on a file that another program makes is passed over.
+out, but for `> NAME` behind `nclc compile`. A command on a file that another program makes is passed over. At the end each
+BLIF text of examples/ is compiled, and matched with what came of it, but for those that are refused.
 """
 import pathlib
 import re
@@ -33,6 +34,10 @@ def main():
                 command += f" > {kept}"
             if command not in found:
                 found.append(command)
+    for text in sorted(examples.glob("*.blif")):
+        if ".latch" not in text.read_text():
+            kept = f"{text.stem}.compiled.v"
+            found += [f"compile {text.name} > {kept}", f"match {kept} {text.name}"]
     (examples / "commands").write_text("\n".join(found) + "\n")
     print(f"{len(found)} commands")
 

@@ -68,6 +68,34 @@ fn nodes_are_counted(rt: HostRuntime) -> Result<(), Fail> {
             ".inputs a b c\n.outputs s k\n.names a b c s\n100 1\n010 1\n001 1\n111 1\n.names a b c k\n11- 1\n1-1 1\n-11 1\n",
             [2, 1, 0],
         ),
+        (
+            ".inputs s a b\n.outputs y\n.names s b p\n11 1\n.names s a q\n01 1\n.names p q y\n1- 1\n-1 1\n",
+            [0, 1, 0],
+        ),
+        (
+            ".inputs a b c\n.outputs y\n.names a b p\n11 1\n.names a b q\n1- 1\n-1 1\n.names c q r\n11 1\n.names p r y\n1- 1\n-1 1\n",
+            [0, 1, 0],
+        ),
+        (
+            ".inputs a b c\n.outputs s k\n.names a b p\n10 1\n01 1\n.names p c s\n10 1\n01 1\n.names a b g\n11 1\n.names p c h\n11 1\n.names g h k\n1- 1\n-1 1\n",
+            [2, 1, 0],
+        ),
+        (
+            ".inputs a b c\n.outputs y z\n.names a b p\n10 1\n01 1\n.names p c y\n10 1\n01 1\n.names b c q\n10 1\n01 1\n.names a q z\n10 0\n01 0\n",
+            [2, 0, 0],
+        ),
+        (
+            ".inputs a b c\n.outputs y\n.names a b p\n11 1\n.names p c q\n1- 1\n-1 1\n.names q a y\n11 1\n",
+            [2, 0, 0],
+        ),
+        (
+            ".inputs s t a b c d\n.outputs y\n.names s t a b c d y\n001--- 1\n10-1-- 1\n01--1- 1\n11---1 1\n",
+            [0, 3, 0],
+        ),
+        (
+            ".inputs a b c d\n.outputs y\n.names a b c d y\n1100 1\n1101 1\n1110 1\n1111 1\n0011 1\n0111 1\n1011 1\n",
+            [3, 0, 0],
+        ),
     ];
     for (text, wanted) in cases {
         let network = improved(&rt, text)?;

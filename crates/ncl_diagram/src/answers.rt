@@ -14,7 +14,7 @@ use std::alloc::Global;
 // How many slots there are at first, and at most.
 const FIRST_SLOTS: usize = 1 << 10;
 
-const MOST_SLOTS: usize = 1 << 18;
+const MOST_SLOTS: usize = 1 << 14;
 
 // Whether the functions of an answer stand below a place.
 fn are_below(floor: u32, key: Key, found: Ref) -> bool

@@ -1,19 +1,43 @@
 //! What one operation has found so far.
 ghost use Rattle.std.specs.Prelude.{◌≡◌, ◌≢◌, Err, ◌+◌, ◌≤◌, ◌<◌, [], ◌∷◌, ◌++◌, true, false, IfOk, OnOk, OnErr, length, slice_get, Some, set};
 ghost use Rattle.std.specs.List.{IsDistinct};
+ghost use Rattle.std.specs.Prelude.{◌*◌, ◌^◌};
+ghost use Rattle.std.specs.Hash as fed;
+ghost use Rattle.std.specs.Cmp.Rules.{hashing};
+ghost use Rattle.std.proofs.Common.{rules};
 ghost use Rattle.ncl_diagram.specs.Memo.{Begins, Forgets, KeepsKeys, MayAdd, is_key};
 
 use indexmap::IndexSet;
 use ncl_space::{Ref, SpaceFault};
 use std::alloc::Global;
+use std::hash::{Hash, Hasher};
 
 /// The operands of one operation, filled up with the constant 0.
-#[derive(Clone, Copy, Debug, PartialEq, Eq, Hash)]
+#[derive(Clone, Copy, Debug, PartialEq, Eq)]
 pub(crate) struct Key {
     pub(crate) a: Ref,
     pub(crate) b: Ref,
     pub(crate) c: Ref,
     pub(crate) d: Ref,
+}
+
+// Two places in one number.
+fn pair(x: Ref, y: Ref) -> u64
+    ensures { result ≡ x.place * 2 ^ 32 + y.place }
+{
+    x.place as u64 * 4_294_967_296 + y.place as u64
+}
+
+// One write of four places, where the derived one makes four.
+impl Hash for Key {
+    ghost hash_input = { λ k. fed.u128 ((k.a.place * 2 ^ 32 + k.b.place) * 2 ^ 64 + (k.c.place * 2 ^ 32 + k.d.place)) };
+
+    ghost respects_eq = { Prim.search (hashing, rules) };
+
+    fn hash<H: Hasher>(&self, state: &mut H) {
+        let high = pair(self.a, self.b) as u128;
+        state.write_u128(high * 18_446_744_073_709_551_616 + pair(self.c, self.d) as u128);
+    }
 }
 
 /// The keys that one operation has met, and beside each its answer, where there is one already.

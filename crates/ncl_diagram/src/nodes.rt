@@ -1,12 +1,17 @@
 //! The table of nodes.
 ghost use Rattle.std.specs.Prelude.{ℕ, ◌≡◌, ◌<◌, ◌≤◌, ◌+◌, ◌-◌, [], ◌∷◌, ◌++◌, false, IfOk, OnErr, IsErrOf, length, slice_get, take, Some, if◌then◌else◌};
 ghost use Rattle.std.specs.List.{list_any};
+ghost use Rattle.std.specs.Prelude.{◌*◌, ◌^◌};
+ghost use Rattle.std.specs.Hash as fed;
+ghost use Rattle.std.specs.Cmp.Rules.{hashing};
+ghost use Rattle.std.proofs.Common.{rules};
 ghost use Rattle.ncl_diagram.specs.Nodes.{IsCanonical, constant_place, is_node, node_at};
 
 use crate::steps::Steps;
 use indexmap::IndexSet;
 use ncl_space::{Ref, SpaceFault};
 use std::alloc::Global;
+use std::hash::{Hash, Hasher};
 use std::marker::Model;
 use std::sync::ledger::Ledger;
 
@@ -14,11 +19,23 @@ use std::sync::ledger::Ledger;
 const MOST_NODES: usize = 4_294_967_294;
 
 /// A node: the bit that it reads, and where it goes on from a 0 and from a 1.
-#[derive(Clone, Copy, Debug, PartialEq, Eq, Hash)]
+#[derive(Clone, Copy, Debug, PartialEq, Eq)]
 pub(crate) struct Node {
     pub(crate) bit: u8,
     pub(crate) low: Ref,
     pub(crate) high: Ref,
+}
+
+// One write of a bit and two places, where the derived one makes three.
+impl Hash for Node {
+    ghost hash_input = { λ n. fed.u128 (n.bit * 2 ^ 64 + (n.low.place * 2 ^ 32 + n.high.place)) };
+
+    ghost respects_eq = { Prim.search (hashing, rules) };
+
+    fn hash<H: Hasher>(&self, state: &mut H) {
+        let places = self.low.place as u64 * 4_294_967_296 + self.high.place as u64;
+        state.write_u128(self.bit as u128 * 18_446_744_073_709_551_616 + places as u128);
+    }
 }
 
 /// Nodes without doubles, seen as their list.

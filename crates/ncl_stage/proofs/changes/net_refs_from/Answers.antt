@@ -2,7 +2,7 @@ use Rattle.std.proofs.Common.{rules, ◌≡◌, ℕ, ◌+◌, ◌-◌, ◌*◌, 
 use Rattle.std.specs.Prelude.{Contains, IsTrue, ◌↔◌}
 use Rattle.std.proofs.lemmas.List.{get_or-replicate, length-append, length-map, length-replicate, length-take-le, take_all, take_at}
 use Rattle.ncl_shape.specs.Stage.{StageData, IsStage, nets_of}
-use Rattle.ncl_space.specs.Space.{SpaceData}
+use Rattle.ncl_space.specs.Space.{SpaceData, IsSpace, Keeps, Makes}
 use Rattle.ncl_space.specs.Making.{HaveTables, MakesAll}
 use Rattle.ncl_space.specs.declared.space.Ref.{Ref}
 use Rattle.ncl_space.proofs.SpaceLaws.{keeps_along}
@@ -117,6 +117,22 @@ tells : {P : Type 0} (same : Bool) → IsTrue same ↔ P → (not same ≡ false
 tells true iff = (λ e. iff.0 (search rules), λ p. refl)
 tells {P} false iff = (λ e. absurd cc, λ p. (let no : IsTrue false = iff.1 p in absurd cc))
 
+-- the marks, and one more that says whether a net has changed
+marked-next : (s : StageData) (order : List ℕ) (variant : Variant) (marks more : List Bool) (same : Bool) (place : ℕ) → MarksChanges order s variant marks → length marks ≡ place → IsTrue same ↔ IsUnchanged order s variant (net_at s place) → more ≡ marks ++ not same ∷ [] → MarksChanges order s variant more
+marked-next s order variant marks more same place marked many iff is =
+    subst (MarksChanges order s variant) (sym is)
+    (marks-more s order variant marks (not same) marked (subst (λ n. (not same ≡ false) ↔ IsUnchanged order s variant (net_at s n)) (sym many) (tells same iff)))
+
+-- the functions, and one more
+made-next : (old now new : SpaceData) (s : StageData) (order : List ℕ) (variant : Variant) (place : ℕ) (refs more : List Ref) (r : Ref) → place < length (nets_of s.inputs s.cells) → length refs ≡ place → Making old now refs (take place (net_tables_by order s variant)) → Keeps now new → IsSpace new → Makes now new r (net_table_by order s variant (net_at s place)) → more ≡ refs ++ r ∷ [] → Making old new more (take (length more) (net_tables_by order s variant))
+made-next old now new s order variant place refs more r within many made kept space makes is =
+    let size : length more ≡ place + 1 = ap length is ∙ length-append refs (r ∷ []) ∙ ap (λ n. n + 1) many in
+    subst (λ n. Making old new more (take n (net_tables_by order s variant))) (sym size)
+    (subst (λ items. Making old new items (take (place + 1) (net_tables_by order s variant))) (sym is)
+    (making-next old now new (net_tables_by order s variant) place refs r (net_table_by order s variant (net_at s place))
+    (subst (λ n. place < n) (sym (length-map (nets_of s.inputs s.cells) (net_table_by order s variant))) within)
+    (table-at s order variant place within) made kept space makes))
+
 held : {P : Type 0} (same : Bool) → IsTrue same ↔ P → same ≡ true → P
 held true iff e = iff.0 (search rules)
 held false iff e = absurd cc
@@ -159,17 +175,10 @@ loop-place-preserved g c =
     subst (λ (x : WiringData). (cell : ℕ) → cell < length x.pins → Contains (get_or x.pins cell []) place → Contains c.readers.result.now (length x.nets - length x.pins + cell)) c.wiring-in-Some.ensures c.readers.ensures.all in
     let whole = take_at c.wait_unless.new.marks (drop (length c.wait_unless.new.marks) c.loop-place.waiting.items) c.loop-place.waiting.len (omega (arith, c.wait_unless.ensures.many, c.deref_mut.ensures.len)) in
     record {
-      making =
-          subst (λ items. Making old new items (take (length items) (net_tables_by w.order s variant))) (sym c.in_ok-push-2.ensures.items)
-          (subst (λ n. Making old new (c.extend_from_slice.new.self.items ++ c.in_ok-made.made ∷ []) (take n (net_tables_by w.order s variant))) (sym (size ∙ long))
-          (making-next old now new (net_tables_by w.order s variant) place c.extend_from_slice.new.self.items c.in_ok-made.made (net_table_by w.order s variant (net_at s place))
-          (subst (λ n. place < n) (sym (length-map (nets_of s.inputs s.cells) (net_table_by w.order s variant))) within)
-          (table-at s w.order variant place within) up.0 up_to c.in_ok-made.ensures.space made));
+      making = made-next old now new s w.order variant place c.extend_from_slice.new.self.items _ c.in_ok-made.made within up.2 up.0 up_to c.in_ok-made.ensures.space made c.in_ok-push-2.ensures.items;
       many = omega (arith, ap length c.in_ok-push.ensures.items, grown, many, refs_many, size, long);
       within = omega (arith, refs_many, size, long, within, nets);
-      marks =
-          subst (MarksChanges w.order s variant) (sym c.in_ok-push.ensures.items)
-          (marks-more s w.order variant marks (not is_same) marked (subst (λ n. (not is_same ≡ false) ↔ IsUnchanged w.order s variant (net_at s n)) (sym many) (tells is_same iff)));
+      marks = marked-next s w.order variant marks _ is_same place marked many iff c.in_ok-push.ensures.items;
       waiting =
           subst₂ (λ n marks. AreWaiting w s variant n marks) (sym (refs_many ∙ size ∙ long)) (sym whole)
           (waiting-next s w variant c.loop-place.waiting.items c.wait_unless.new.marks (length c.loop-place.refs.items) place is_same inv.waiting found.0

@@ -1,5 +1,5 @@
 -- What is compiled works at every gate delay, and is accepted.
-use Rattle.std.proofs.Common.{◌≡◌, ℕ, Bool, true, false, List, Option, Some, None, inl, inr, refl, sym, ap, ◌∙◌, subst, arith}
+use Rattle.std.proofs.Common.{◌≡◌, ℕ, Bool, true, List, Option, Some, None, inl, inr, refl, sym, ap, ◌∙◌, subst, arith}
 use Rattle.std.proofs.lemmas.Bool.{both_ways}
 use Rattle.ncl_base.specs.Files.{Files}
 use Rattle.ncl_blif.specs.declared.model.Model.{Model}
@@ -13,7 +13,6 @@ use Rattle.ncl_machine.proofs.Headline.{delay_insensitive}
 use Rattle.ncl_check.specs.Reply.{outcome_of}
 use Rattle.ncl_check.proofs.OneReply.{outcome_is}
 use Rattle.ncl_compile.specs.Compiled.{Compiled}
-use Rattle.ncl_merge.specs.Merged.{Merged}
 use Rattle.ncl_words.specs.Command.{Words, Command, check, compile, sim, matching, demo, command_of}
 use Rattle.ncl_top.specs.Compiling.{IsCompiledText, plain, merged, IsModelsReply, too_large, compiled, IsCompileReply, no_models, modelled}
 use Rattle.ncl_top.specs.Answer.{Answer, not_understood, replied, WorksAndIsAccepted, IsMergedText, SourceState, SinkState, Says, answered, read_failed, no_memory, Tells, whole, cut_short, Ran, CompilesWhatWorks}

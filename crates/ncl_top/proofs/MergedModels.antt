@@ -1,6 +1,6 @@
 -- What is merged from a netlist that is compiled from models is compiled from them.
-use Rattle.std.proofs.Common.{◌≡◌, ℕ, ◌≤◌, ◌+◌, Bool, true, false, not, List, [], ◌∷◌, length, map, Some, inl, inr, refl, sym, ap, ◌∙◌, subst, arith}
-use Rattle.std.specs.Prelude.{All, Contains, slice_get, nat_eq, filter, if◌then◌else◌}
+use Rattle.std.proofs.Common.{◌≡◌, ℕ, ◌≤◌, ◌+◌, Bool, true, false, not, List, [], ◌∷◌, length, map, inl, inr, sym, ap, ◌∙◌, subst, arith}
+use Rattle.std.specs.Prelude.{All, Contains, nat_eq, filter, if◌then◌else◌}
 use Rattle.std.specs.List.{AllZip, range_with_len, list_any}
 use Rattle.std.proofs.lemmas.Bool.{cases_Bool, eqb-true}
 use Rattle.std.proofs.lemmas.List.{length-map}
@@ -26,7 +26,6 @@ use Rattle.ncl_shape.specs.Pipeline.{PipelineData}
 use Rattle.ncl_shape.specs.SamePipeline.{IsSameStage, IsSamePipeline}
 use Rattle.ncl_shape.specs.Shape.{Shape}
 use Rattle.ncl_shape.proofs.ShapeLaws.{shape_is_one}
-use Rattle.ncl_machine.specs.Composition.{stage_function}
 use Rattle.ncl_stage.specs.declared.variant.Variant.TheVariants.{Base}
 use Rattle.ncl_stage.specs.Values.{val}
 use Rattle.ncl_compile.specs.Compiled.{ComputesModel, Compiled, IsPlain, net_named}

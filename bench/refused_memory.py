@@ -72,10 +72,12 @@ TH12B d1(.A(z1_0),.B(z1_1),.Z(c));
 endmodule
 """
 XOR = ".model x\n.inputs a b\n.outputs y z\n.names a b y\n10 1\n01 1\n.names a b z\n11 1\n.end\n"
+# An AND whose rail 1 is folded into the gate that joins the input which it doesn't read.
+JOINED = ".model m\n.inputs a b u\n.outputs y\n.names a b y\n11 1\n"
 OR = ".model m\n.inputs a b\n.outputs y\n.names a b y\n1- 1\n-1 1\n"
 # The AND beside a gate that nothing waits for.
 UNSEEN = AND.replace("endmodule", "TH12 u9(.A(p1_0),.B(p1_1),.Z(w9));\nendmodule")
-FILES = {"and.v": AND, "seen.v": UNSEEN, "wires.v": WIRES, "xor.blif": XOR, "or.blif": OR, "d.txt": "cell r1_0 2 3\n", "w.txt": "1\n0\n", "unit.txt": "", "one.txt": "1\n"}
+FILES = {"and.v": AND, "seen.v": UNSEEN, "wires.v": WIRES, "xor.blif": XOR, "or.blif": OR, "joined.blif": JOINED, "d.txt": "cell r1_0 2 3\n", "w.txt": "1\n0\n", "unit.txt": "", "one.txt": "1\n"}
 RUNS = [
     ["check", "and.v"],
     ["check", "and.v", "--limit", "5"],
@@ -83,6 +85,7 @@ RUNS = [
     ["sim", "wires.v", "--delays", "d.txt", "--words", "w.txt"],
     ["sim", "wires.v", "--delays", "unit.txt", "--words", "one.txt", "--vcd"],
     ["compile", "xor.blif"],
+    ["compile", "joined.blif", "--merge"],
     ["match", "and.v", "or.blif"],
     ["demo", "2"],
 ]

@@ -1,7 +1,8 @@
 -- Nodes after others.
-use Rattle.std.proofs.Common.{◌≡◌, ℕ, ◌+◌, ◌≤◌, Bool, List, [], ◌∷◌, ◌++◌, length, map, refl, ap, subst, ◌∙◌, arith, append_assoc}
+use Rattle.std.proofs.Common.{◌≡◌, ℕ, ◌+◌, ◌≤◌, Bool, ◌&&◌, ◌||◌, List, [], ◌∷◌, ◌++◌, length, map, refl, ap, subst, ◌∙◌, arith, append_assoc}
 use Rattle.std.specs.Prelude.{All}
-use Rattle.std.proofs.lemmas.List.Elements.{All-head, All-tail}
+use Rattle.std.specs.List.{list_all, list_any}
+use Rattle.std.proofs.lemmas.List.Elements.{All-nil, All-cons, All-head, All-tail, All-weaker}
 use Rattle.ncl_network.specs.declared.network.Signal.{Signal}
 use Rattle.ncl_network.specs.declared.network.Node.{Node}
 use Rattle.ncl_network.specs.Network.{signal_value, node_value, node_values, IsSource, ReadBefore}
@@ -24,7 +25,7 @@ appended word bits (x ∷ xs) =
     (node_value word bits x ∷ extra, is ∙ append_assoc bits (node_value word bits x ∷ []) extra)
 
 -- signals of earlier nodes keep their values
-signal_kept : (inputs : ℕ) (word bits : List Bool) (nodes : List Node) (s : Signal) → IsSource inputs (length bits) s.from → signal_value word (node_values word bits nodes) s ≡ signal_value word bits s
+pub signal_kept : (inputs : ℕ) (word bits : List Bool) (nodes : List Node) (s : Signal) → IsSource inputs (length bits) s.from → signal_value word (node_values word bits nodes) s ≡ signal_value word bits s
 signal_kept inputs word bits nodes s known =
     let (extra, is) = appended word bits nodes in
     ap (λ all. signal_value word all s) is ∙ signal_value-more inputs word bits extra s known
@@ -47,3 +48,31 @@ All-sources inputs a b signals less known k d within = IsSource-more inputs a b 
 pub AreVarying-more : (inputs a b : ℕ) (signals : List Signal) → a ≤ b → AreVarying inputs a signals → AreVarying inputs b signals
 AreVarying-more inputs a b signals less varying =
     record { exist = All-sources inputs a b signals less varying.exist; vary = varying.vary }
+
+-- what holds of each of some elements and others
+pub All-front : {X : Type 0} (P : X → Type 0) (xs ys : List X) → All P (xs ++ ys) → All P xs
+All-front P [] ys all = All-nil P
+All-front P (x ∷ xs) ys all = All-cons P x xs (All-head P x (xs ++ ys) all) (All-front P xs ys (All-tail P x (xs ++ ys) all))
+
+pub All-back : {X : Type 0} (P : X → Type 0) (xs ys : List X) → All P (xs ++ ys) → All P ys
+All-back P [] ys all = all
+All-back P (x ∷ xs) ys all = All-back P xs ys (All-tail P x (xs ++ ys) all)
+
+-- products of earlier signals, and sums of them, keep their values
+pub all_same : (inputs : ℕ) (word bits : List Bool) (nodes : List Node) (signals : List Signal) → All (λ (s : Signal). IsSource inputs (length bits) s.from) signals → list_all (signal_value word (node_values word bits nodes)) signals ≡ list_all (signal_value word bits) signals
+all_same inputs word bits nodes [] known = refl
+all_same inputs word bits nodes (s ∷ signals) known =
+    let first = signal_kept inputs word bits nodes s (All-head (λ (x : Signal). IsSource inputs (length bits) x.from) s signals known) in
+    let rest = all_same inputs word bits nodes signals (All-tail (λ (x : Signal). IsSource inputs (length bits) x.from) s signals known) in
+    λ i. first i && rest i
+
+pub sum_same : (inputs : ℕ) (word bits : List Bool) (nodes : List Node) (sum : List (List Signal)) → All (AreVarying inputs (length bits)) sum → list_any (list_all (signal_value word (node_values word bits nodes))) sum ≡ list_any (list_all (signal_value word bits)) sum
+sum_same inputs word bits nodes [] varying = refl
+sum_same inputs word bits nodes (product ∷ sum) varying =
+    let first = all_same inputs word bits nodes product (All-head (AreVarying inputs (length bits)) product sum varying).exist in
+    let rest = sum_same inputs word bits nodes sum (All-tail (AreVarying inputs (length bits)) product sum varying) in
+    λ i. first i || rest i
+
+pub All-varying-more : (inputs a b : ℕ) (sum : List (List Signal)) → a ≤ b → All (AreVarying inputs a) sum → All (AreVarying inputs b) sum
+All-varying-more inputs a b sum less varying =
+    All-weaker (AreVarying inputs a) (AreVarying inputs b) (λ signals. AreVarying-more inputs a b signals less) sum varying

@@ -4,6 +4,9 @@ pub mod Queue
 pub mod RowLiterals
 pub mod Later
 pub mod Terms
+pub mod Sums
+pub mod Parting
+pub mod Frames
 pub mod Parts
 pub mod Walking
 pub mod Whole

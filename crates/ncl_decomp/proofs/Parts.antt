@@ -1,25 +1,26 @@
 -- What one node becomes: a sum of products, or itself.
-use Rattle.std.proofs.Common.{◌≡◌, ℕ, zero, suc, ◌+◌, ◌*◌, ◌<◌, ◌≤◌, Bool, true, false, not, cond, ◌||◌, List, [], ◌∷◌, ◌++◌, length, map, inl, inr, refl, sym, ap, subst, ◌∙◌, arith, length-append, append_assoc}
+use Rattle.std.proofs.Common.{◌≡◌, ℕ, zero, suc, ◌+◌, ◌*◌, ◌^◌, ◌<◌, ◌≤◌, Bool, true, false, not, cond, ◌&&◌, ◌||◌, List, [], ◌∷◌, ◌++◌, length, map, inl, inr, refl, sym, ap, subst, ◌∙◌, arith, length-append, append_assoc}
 use Rattle.std.specs.Prelude.{All}
-use Rattle.std.specs.List.{list_any}
+use Rattle.std.specs.List.{list_any, list_all}
 use Rattle.std.proofs.lemmas.List.{get_or_push}
-use Rattle.std.proofs.lemmas.List.Elements.{All-nil, All-cons, All-append, All-weaker, All-head}
+use Rattle.std.proofs.lemmas.List.Elements.{All-nil, All-cons, All-append, All-weaker, All-head, All-tail}
 use Rattle.std.proofs.lemmas.List.Sums.{sum_by-cons}
 use Rattle.ncl_blif.specs.Meaning.{row_matches, cover_value}
 use Rattle.ncl_blif.specs.Model.{weight_of_rows}
 use Rattle.ncl_blif.specs.declared.model.Lit.{Lit}
 use Rattle.ncl_network.specs.declared.network.Signal.{Signal}
 use Rattle.ncl_network.specs.declared.network.Node.{Node}
-use Rattle.ncl_network.specs.Network.{signal_value, node_value, node_values, is_constant, IsSource, ReadBefore, IsNode}
+use Rattle.ncl_network.specs.Network.{signal_value, node_value, node_values, is_constant, is_dash, IsSource, ReadBefore, IsNode}
 use Rattle.ncl_network.proofs.Walking.{length-node_values}
 use Rattle.ncl_decomp.specs.declared.pair.Joint.TheVariants.{Or}
 use Rattle.ncl_decomp.specs.Pairs.{AddsTree, node_signal}
-use Rattle.ncl_decomp.specs.Rows.{turned}
+use Rattle.ncl_decomp.specs.Products.{total, IsFilled}
+use Rattle.ncl_decomp.specs.Rows.{turned, literals_of}
 use Rattle.ncl_decomp.specs.Split.{IsNarrow, IsOfTwoOr, cost_of_inputs, cost_of_nodes}
-use Rattle.ncl_decomp.specs.Splitting.{AreVarying, TellRows, AddsTerms, AddsNode}
+use Rattle.ncl_decomp.specs.Splitting.{AreVarying, TellProducts, AddsTerms, TellSum, AddsSum, AddsNode}
 use Rattle.ncl_decomp.proofs.Pairs.{or_tree, tree_nodes}
 use Rattle.ncl_decomp.proofs.Trees.{IsTreeOver, tree_over}
-use Rattle.ncl_decomp.proofs.RowLiterals.{turned_value}
+use Rattle.ncl_decomp.proofs.RowLiterals.{turned_value, row_by_literals, varying_literals, few_literals, some_literal}
 use Rattle.ncl_decomp.proofs.Later.{node_values-append, ReadBefore-append}
 
 -- ---- what nodes cost
@@ -63,45 +64,112 @@ sum_value : (word bits : List Bool) (on : Bool) (sum : Signal) (matches : Bool) 
 sum_value word bits true sum matches is = is
 sum_value word bits false sum matches is = turned_value word bits sum ∙ ap not is
 
-AddsNode-sum : (ins : List Signal) (node : Node) (before middle new : List Node) (terms : List Signal) (sum : Signal) → 0 < length node.rows → AddsTerms ins node.rows before middle terms → AddsTree Or terms middle new sum → AddsNode ins node before new (sum_signal node.on sum)
-AddsNode-sum ins node before middle new terms sum some adds (tree, added, is_tree) =
-    let counted : length tree + 1 ≡ length terms = tree_nodes Or (length middle) terms tree sum is_tree in
+-- a sum of one product of one signal
+one_value : (a : Bool) → ((a && true) || false) ≡ a
+one_value true = refl
+one_value false = refl
+
+one_varying : (inputs count : ℕ) (root : Signal) → IsSource inputs count root.from → is_constant root.from ≡ false → All (AreVarying inputs count) ((root ∷ []) ∷ [])
+one_varying inputs count root exists varies =
+    All-cons (AreVarying inputs count) (root ∷ []) []
+    (record { exist = All-cons (λ (s : Signal). IsSource inputs count s.from) root [] exists (All-nil (λ (s : Signal). IsSource inputs count s.from)); vary = All-cons (λ (s : Signal). is_constant s.from ≡ false) root [] varies (All-nil (λ (s : Signal). is_constant s.from ≡ false)) })
+    (All-nil (AreVarying inputs count))
+
+-- the tree of terms is of the sum
+pub AddsSum-tree : (sum : List (List Signal)) (before middle new : List Node) (terms : List Signal) (root : Signal) → 0 < length sum → AddsTerms sum before middle terms → AddsTree Or terms middle new root → AddsSum sum before new ((root ∷ []) ∷ [])
+AddsSum-tree sum before middle new terms root some adds (tree, added, is_tree) =
+    let counted : length tree + 1 ≡ length terms = tree_nodes Or (length middle) terms tree root is_tree in
     let whole : length (adds.made ++ tree) ≡ length adds.made + length tree = length-append adds.made tree in
     let middle_count : length middle ≡ length before + length adds.made = ap length adds.added ∙ length-append before adds.made in
-    let few : length (adds.made ++ tree) ≤ weight_of_rows node.rows = omega (arith, adds.few, counted, whole) in
     record {
       made = adds.made ++ tree;
       added = added ∙ ap (λ front. front ++ tree) adds.added ∙ append_assoc before adds.made tree;
-      few = few;
-      becomes = λ inputs varying.
-          let tell : TellRows inputs (length before) ins node.rows adds.made terms = adds.tell inputs varying in
+      few = omega (arith, adds.few, counted, whole);
+      shorter = omega arith;
+      some = λ some. omega arith;
+      filled = λ filled. All-cons IsFilled (root ∷ []) [] (let there : 0 < 1 = omega arith in there) (All-nil IsFilled);
+      tell = λ inputs varying.
+          let tell : TellProducts inputs (length before) sum adds.made terms = adds.tell inputs varying in
           let terms_vary : AreVarying inputs (length middle) terms = subst (λ n. AreVarying inputs n terms) (sym middle_count) tell.varying in
-          let over : IsTreeOver inputs (length middle) terms tree sum = tree_over inputs Or (length middle) terms tree sum is_tree terms_vary in
-          let pairs : All (λ (node : Node). length node.ins ≡ 2) (adds.made ++ tree) = All-append (λ (node : Node). length node.ins ≡ 2) adds.made tree tell.pairs over.pairs in
+          let over : IsTreeOver inputs (length middle) terms tree root = tree_over inputs Or (length middle) terms tree root is_tree terms_vary in
           let place : length middle + length tree ≡ length before + length (adds.made ++ tree) = omega (arith, whole, middle_count) in
           record {
             narrow = All-append IsNarrow adds.made tree tell.narrow over.narrow;
-            kinds = All-weaker (λ (node : Node). length node.ins ≡ 2) (IsOfTwoOr (node ∷ [])) (λ made two. inl two) (adds.made ++ tree) pairs;
+            pairs = All-append (λ (node : Node). length node.ins ≡ 2) adds.made tree tell.pairs over.pairs;
             reads_before = ReadBefore-append inputs (length before) adds.made tree tell.reads_before (subst (λ n. ReadBefore inputs n tree) middle_count over.reads_before);
-            exists = subst (IsSource inputs (length before + length (adds.made ++ tree))) (sym (sum_from node.on sum)) (subst (λ n. IsSource inputs n sum.from) place over.exists);
-            varies = ap is_constant (sum_from node.on sum) ∙ over.varies;
-            value = λ word bits count.
+            varying = subst (λ n. All (AreVarying inputs n) ((root ∷ []) ∷ [])) place (one_varying inputs (length middle + length tree) root over.exists over.varies);
+            values = λ word bits count.
                 let bits1 : List Bool = node_values word bits adds.made in
                 let count1 : length bits1 ≡ length middle = omega (arith, length-node_values word bits adds.made, middle_count) in
-                let in_bits : List Bool = map (signal_value word bits) ins in
-                let by_terms : signal_value word (node_values word bits1 tree) sum ≡ list_any (signal_value word bits1) terms = or_tree inputs word bits1 (length middle) terms tree sum is_tree count1 terms_vary.exist in
-                let by_rows : list_any (signal_value word bits1) terms ≡ list_any (row_matches in_bits) node.rows =
-                list_any-by_map (signal_value word bits1) terms ∙ ap (list_any (λ b. b)) (tell.values word bits count) ∙ sym (list_any-by_map (row_matches in_bits) node.rows) in
-                ap (λ b. signal_value word b (sum_signal node.on sum)) (node_values-append word bits adds.made tree)
-                ∙ sum_value word (node_values word bits1 tree) node.on sum (list_any (row_matches in_bits) node.rows) (by_terms ∙ by_rows)
-                ∙ sym (cover_by_rows node.on node.rows in_bits some);
-            cost = omega (arith, cost_of_pairs (adds.made ++ tree) pairs, few);
+                let by_terms : signal_value word (node_values word bits1 tree) root ≡ list_any (signal_value word bits1) terms = or_tree inputs word bits1 (length middle) terms tree root is_tree count1 terms_vary.exist in
+                let by_sum : list_any (signal_value word bits1) terms ≡ list_any (list_all (signal_value word bits)) sum =
+                list_any-by_map (signal_value word bits1) terms ∙ ap (list_any (λ b. b)) (tell.values word bits count) ∙ sym (list_any-by_map (list_all (signal_value word bits)) sum) in
+                ap (λ b. list_any (list_all (signal_value word b)) ((root ∷ []) ∷ [])) (node_values-append word bits adds.made tree)
+                ∙ one_value (signal_value word (node_values word bits1 tree) root) ∙ by_terms ∙ by_sum;
           };
     }
 
-pub AddsNode-wide : (ins : List Signal) (node : Node) (before middle new : List Node) (terms : List Signal) (sum image : Signal) → IsNode node → AddsTerms ins node.rows before middle terms → AddsTree Or terms middle new sum → image ≡ sum_signal node.on sum → AddsNode ins node before new image
-AddsNode-wide ins node before middle new terms sum image is adds tree same =
-    subst (AddsNode ins node before new) (sym same) (AddsNode-sum ins node before middle new terms sum is.some_row adds tree)
+-- ---- a cover
+
+rows_total : (ins : List Signal) (rows : List (List Lit)) → total (map (literals_of ins) rows) ≤ weight_of_rows rows
+rows_total ins [] = omega arith
+rows_total ins (row ∷ rows) =
+    omega (arith, rows_total ins rows, few_literals ins row, sum_by-cons (λ (product : List Signal). length product) (literals_of ins row) (map (literals_of ins) rows), sum_by-cons (λ (row : List Lit). 1 + length row) row rows)
+
+rows_varying : (inputs count : ℕ) (ins : List Signal) (rows : List (List Lit)) → AreVarying inputs count ins → All (AreVarying inputs count) (map (literals_of ins) rows)
+rows_varying inputs count ins [] varying = All-nil (AreVarying inputs count)
+rows_varying inputs count ins (row ∷ rows) varying =
+    All-cons (AreVarying inputs count) (literals_of ins row) (map (literals_of ins) rows) (varying_literals inputs count ins row varying) (rows_varying inputs count ins rows varying)
+
+rows_value : (word bits : List Bool) (ins : List Signal) (rows : List (List Lit)) → list_any (list_all (signal_value word bits)) (map (literals_of ins) rows) ≡ list_any (row_matches (map (signal_value word bits) ins)) rows
+rows_value word bits ins [] = refl
+rows_value word bits ins (row ∷ rows) =
+    let first = row_by_literals word bits ins row in
+    let rest = rows_value word bits ins rows in
+    λ i. first i || rest i
+
+pub rows_filled : (ins : List Signal) (rows : List (List Lit)) → All (λ row. length row ≡ length ins) rows → All (λ row. list_all is_dash row ≡ false) rows → All IsFilled (map (literals_of ins) rows)
+rows_filled ins [] widths idle = All-nil IsFilled
+rows_filled ins (row ∷ rows) widths idle =
+    All-cons IsFilled (literals_of ins row) (map (literals_of ins) rows)
+    (some_literal ins row (All-head (λ (row : List Lit). length row ≡ length ins) row rows widths) (All-head (λ (row : List Lit). list_all is_dash row ≡ false) row rows idle))
+    (rows_filled ins rows (All-tail (λ (row : List Lit). length row ≡ length ins) row rows widths) (All-tail (λ (row : List Lit). list_all is_dash row ≡ false) row rows idle))
+
+pub rows_count : (ins : List Signal) (rows : List (List Lit)) → length (map (literals_of ins) rows) ≡ length rows
+rows_count ins [] = refl
+rows_count ins (row ∷ rows) = omega (arith, rows_count ins rows)
+
+-- there is room for the nodes of a sum, whose products are those of rows
+pub rows_room : (ins : List Signal) (rows : List (List Lit)) (before : List Node) → length before + weight_of_rows rows < 2 ^ 32 → length before + total (map (literals_of ins) rows) < 2 ^ 32
+rows_room ins rows before few = omega (arith, few, rows_total ins rows)
+
+pub sum_room : (sum new : List (List Signal)) (before after : List Node) → AddsSum sum before after new → length after + total new ≤ length before + total sum
+sum_room sum new before after adds = omega (arith, ap length adds.added, length-append before adds.made, adds.few)
+
+pub AddsNode-sum : (ins : List Signal) (node : Node) (before new : List Node) (sum : Signal) → 0 < length node.rows → AddsSum (map (literals_of ins) node.rows) before new ((sum ∷ []) ∷ []) → AddsNode ins node before new (sum_signal node.on sum)
+AddsNode-sum ins node before new sum some adds =
+    let few : length adds.made ≤ weight_of_rows node.rows = omega (arith, adds.few, rows_total ins node.rows) in
+    record {
+      made = adds.made;
+      added = adds.added;
+      few = few;
+      becomes = λ inputs varying.
+          let tell : TellSum inputs (length before) (map (literals_of ins) node.rows) adds.made ((sum ∷ []) ∷ []) = adds.tell inputs (rows_varying inputs (length before) ins node.rows varying) in
+          let here : AreVarying inputs (length before + length adds.made) (sum ∷ []) = All-head (AreVarying inputs (length before + length adds.made)) (sum ∷ []) [] tell.varying in
+          record {
+            narrow = tell.narrow;
+            kinds = All-weaker (λ (node : Node). length node.ins ≡ 2) (IsOfTwoOr (node ∷ [])) (λ made two. inl two) adds.made tell.pairs;
+            reads_before = tell.reads_before;
+            exists = subst (IsSource inputs (length before + length adds.made)) (sym (sum_from node.on sum)) (All-head (λ (s : Signal). IsSource inputs (length before + length adds.made) s.from) sum [] here.exist);
+            varies = ap is_constant (sum_from node.on sum) ∙ All-head (λ (s : Signal). is_constant s.from ≡ false) sum [] here.vary;
+            value = λ word bits count.
+                let in_bits : List Bool = map (signal_value word bits) ins in
+                sum_value word (node_values word bits adds.made) node.on sum (list_any (row_matches in_bits) node.rows)
+                (sym (one_value (signal_value word (node_values word bits adds.made) sum)) ∙ tell.values word bits count ∙ rows_value word bits ins node.rows)
+                ∙ sym (cover_by_rows node.on node.rows in_bits some);
+            cost = omega (arith, cost_of_pairs adds.made tell.pairs, few);
+          };
+    }
 
 -- ---- a node as it is
 

@@ -1,11 +1,12 @@
 -- The nodes that one node becomes, and how far the nodes of a network are split.
-use Rattle.std.specs.Prelude.{◌≡◌, ℕ, ◌+◌, ◌*◌, ◌≤◌, List, [], ◌∷◌, ◌++◌, Bool, false, length, map, sum_by, All}
-use Rattle.ncl_blif.specs.Meaning.{row_matches, cover_value}
+use Rattle.std.specs.Prelude.{◌≡◌, ℕ, ◌+◌, ◌*◌, ◌<◌, ◌≤◌, List, [], ◌∷◌, ◌++◌, Bool, false, length, map, sum_by, All}
+use Rattle.std.specs.List.{list_any, list_all}
+use Rattle.ncl_blif.specs.Meaning.{cover_value}
 use Rattle.ncl_blif.specs.Model.{weight_of_rows}
-use Rattle.ncl_blif.specs.declared.model.Lit.{Lit}
 use Rattle.ncl_network.specs.declared.network.Signal.{Signal}
 use Rattle.ncl_network.specs.declared.network.Node.{Node}
 use Rattle.ncl_network.specs.Network.{signal_value, node_values, is_constant, IsSource, ReadBefore}
+use Rattle.ncl_decomp.specs.Products.{total, IsFilled}
 use Rattle.ncl_decomp.specs.Split.{IsNarrow, IsOfTwoOr, cost_of_nodes}
 
 -- there is what the signals are of, where there are so many inputs and nodes, and none of them is constant
@@ -13,23 +14,49 @@ pub record AreVarying (inputs count : ℕ) (signals : List Signal) : Type 0 wher
   pub exist : All (λ signal. IsSource inputs count signal.from) signals
   pub vary : All (λ signal. is_constant signal.from ≡ false) signals
 
--- nodes after so many others tell of each row over some signals whether it matches
-pub record TellRows (inputs count : ℕ) (ins : List Signal) (rows : List (List Lit)) (made : List Node) (terms : List Signal) : Type 0 where
+-- products in another order, with signals that some of them have in front, tell the same
+pub record IsSameSum (sum new : List (List Signal)) : Type 0 where
+  pub as_many : length new ≡ length sum
+  pub few : total new ≤ total sum
+  pub filled : All IsFilled sum → All IsFilled new
+  pub varying : (inputs count : ℕ) → All (AreVarying inputs count) sum → All (AreVarying inputs count) new
+  pub same : (test : Signal → Bool) → list_any (list_all test) new ≡ list_any (list_all test) sum
+
+-- nodes after so many others tell of each product whether it is 1
+pub record TellProducts (inputs count : ℕ) (sum : List (List Signal)) (made : List Node) (terms : List Signal) : Type 0 where
   -- they are nodes of two inputs, in order
   pub narrow : All IsNarrow made
   pub pairs : All (λ node. length node.ins ≡ 2) made
   pub reads_before : ReadBefore inputs count made
-  -- the term of each row is 1 where it matches
+  -- the term of each product is 1 where all its signals are
   pub varying : AreVarying inputs (count + length made) terms
-  pub values : (word bits : List Bool) → length bits ≡ count → map (signal_value word (node_values word bits made)) terms ≡ map (row_matches (map (signal_value word bits) ins)) rows
+  pub values : (word bits : List Bool) → length bits ≡ count → map (signal_value word (node_values word bits made)) terms ≡ map (list_all (signal_value word bits)) sum
 
--- such nodes are added, with a term for each row, no more of both than the rows weigh
-pub record AddsTerms (ins : List Signal) (rows : List (List Lit)) (before after : List Node) (terms : List Signal) : Type 0 where
+-- such nodes are added, with a term for each product, no more of both than the products have signals
+pub record AddsTerms (sum : List (List Signal)) (before after : List Node) (terms : List Signal) : Type 0 where
   pub made : List Node
   pub added : after ≡ before ++ made
-  pub as_many : length terms ≡ length rows
-  pub few : length made + length terms ≤ weight_of_rows rows
-  pub tell : (inputs : ℕ) → AreVarying inputs (length before) ins → TellRows inputs (length before) ins rows made terms
+  pub as_many : length terms ≡ length sum
+  pub few : length made + length terms ≤ total sum
+  pub tell : (inputs : ℕ) → All (AreVarying inputs (length before)) sum → TellProducts inputs (length before) sum made terms
+
+-- nodes after so many others make new products out of some, whose sum is the same
+pub record TellSum (inputs count : ℕ) (sum : List (List Signal)) (made : List Node) (new : List (List Signal)) : Type 0 where
+  pub narrow : All IsNarrow made
+  pub pairs : All (λ node. length node.ins ≡ 2) made
+  pub reads_before : ReadBefore inputs count made
+  pub varying : All (AreVarying inputs (count + length made)) new
+  pub values : (word bits : List Bool) → length bits ≡ count → list_any (list_all (signal_value word (node_values word bits made))) new ≡ list_any (list_all (signal_value word bits)) sum
+
+-- such nodes are added, no more than there are signals less in the products
+pub record AddsSum (sum : List (List Signal)) (before after : List Node) (new : List (List Signal)) : Type 0 where
+  pub made : List Node
+  pub added : after ≡ before ++ made
+  pub few : length made + total new ≤ total sum
+  pub shorter : length new ≤ length sum
+  pub some : 0 < length sum → 0 < length new
+  pub filled : All IsFilled sum → All IsFilled new
+  pub tell : (inputs : ℕ) → All (AreVarying inputs (length before)) sum → TellSum inputs (length before) sum made new
 
 -- a node with these inputs becomes nodes after so many others, of which this is the signal
 pub record Becomes (inputs count : ℕ) (ins : List Signal) (node : Node) (made : List Node) (image : Signal) : Type 0 where

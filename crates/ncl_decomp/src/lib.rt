@@ -1,9 +1,13 @@
-//! Networks whose nodes have two to four inputs: a wide node becomes balanced trees of nodes of two inputs.
+//! Networks whose nodes have two to four inputs: of a wide node the signals that rows have in common are taken out, and
+//! what is left becomes balanced trees of nodes of two inputs.
 #![tactic(auto)]
 
+mod common;
+mod factoring;
 mod image;
 mod literals;
 mod pair;
+mod products;
 mod rows;
 mod splitting;
 mod tree;

@@ -10,7 +10,7 @@ use ncl_base::{Items, Memory};
 use ncl_network::{Network, prune};
 use std::alloc::Global;
 
-/// The network with each wide node as nodes of two inputs. Linear in the network.
+/// The network with each wide node as nodes of two inputs.
 fn decompose(alloc: Global, network: &Network) -> Result<Network, Memory>
     requires { IsNetwork network.now }
     ensures ordered { IfOk result IsInOrder }
@@ -37,10 +37,12 @@ fn decompose(alloc: Global, network: &Network) -> Result<Network, Memory>
 }
 
 /// The network whose nodes have two to four inputs, and which gives the same answers. A node of five or more
-/// inputs becomes nodes of two: for each row a balanced tree over what it asks, and one over the rows. An input
-/// that has a dash in every row of it is read no more, so nodes that reach no output by this are dropped.
+/// inputs becomes nodes of two: what most rows ask in common is taken out of them, and so on in both parts; then
+/// there is for each row a balanced tree over what it still asks, and one over the rows. An input that has a dash
+/// in every row of it is read no more, so nodes that reach no output by this are dropped.
 ///
-/// Linear in the network, without recursion. The only error is want of memory.
+/// Without recursion; the work is linear in the network, times the square of a wide node's inputs at most. The only
+/// error is want of memory.
 pub fn split(alloc: Global, network: &Network) -> Result<Network, Memory>
     requires { IsNetwork network.now }
     ensures network { IfOk result IsSplit }

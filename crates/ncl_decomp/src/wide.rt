@@ -1,42 +1,54 @@
 //! One node, split.
-ghost use Rattle.std.specs.Prelude.{◌≡◌, ◌<◌, ◌≤◌, ◌+◌, ◌^◌, false, length, All, IfOk};
-ghost use Rattle.std.specs.List.{list_all};
+ghost use Rattle.std.specs.Prelude.{◌≡◌, ◌<◌, ◌≤◌, ◌+◌, ◌^◌, ◌∷◌, [], length, All, IfOk};
 ghost use Rattle.ncl_blif.specs.Model.{weight_of_rows};
-ghost use Rattle.ncl_network.specs.Network.{IsNode, is_dash};
-ghost use Rattle.ncl_decomp.specs.Splitting.{AddsTerms, AddsNode};
+ghost use Rattle.ncl_network.specs.Network.{IsNode};
+ghost use Rattle.ncl_decomp.specs.Products.{total, IsFilled};
+ghost use Rattle.ncl_decomp.specs.Splitting.{AddsTerms, AddsSum, AddsNode};
 
-use crate::literals::{literals, turned};
+use crate::factoring::factored;
+use crate::literals::turned;
 use crate::pair::Joint;
+use crate::products::{copied_product, products};
 use crate::rows::copied_rows;
 use crate::tree::join;
 use ncl_base::{Items, Memory};
-use ncl_blif::Row;
 use ncl_network::{From3, Node, Signal};
 use std::alloc::Global;
 
-/// Adds the nodes that tell of each row whether it matches, and gives their signals in order. Linear in the
-/// rows.
-fn terms(
-    alloc: Global,
-    nodes: &mut Vec<Node>,
-    ins: &[Signal],
-    rows: &[Row],
-) -> Result<Vec<Signal>, Memory>
-    requires widths { All (λ row. length row ≡ length ins.now) rows.now }
-    requires no_idle_row { All (λ row. list_all is_dash row ≡ false) rows.now }
-    requires few { length nodes.old.items + weight_of_rows rows.now < 2 ^ 32 }
-    ensures { IfOk result (λ terms. AddsTerms ins.now rows.now nodes.old.items nodes.new.items terms.items) }
+/// Adds the nodes that tell of each product whether it is 1, and gives their signals in order. Linear in the
+/// products.
+fn terms(alloc: Global, nodes: &mut Vec<Node>, sum: &[Items<Signal>]) -> Result<Vec<Signal>, Memory>
+    requires filled { All IsFilled sum.now }
+    requires few { length nodes.old.items + total sum.now < 2 ^ 32 }
+    ensures { IfOk result (λ terms. AddsTerms sum.now nodes.old.items nodes.new.items terms.items) }
 {
     let mut terms = Vec::new(alloc);
-    for row in rows {
-        let leaves = literals(alloc, ins, row.items())?;
+    for product in sum {
+        let leaves = copied_product(alloc, product.items())?;
         let term = join(alloc, nodes, Joint::And, leaves)?;
         terms.push(term)?;
     }
     Ok(terms)
 }
 
-/// Adds the nodes of a sum of products, and gives its signal. Linear in the rows.
+/// Adds the nodes of a sum of products, and gives its signal: a balanced tree for each product, and one over them.
+/// Linear in the products.
+pub(crate) fn summed(
+    alloc: Global,
+    nodes: &mut Vec<Node>,
+    sum: &[Items<Signal>],
+) -> Result<Signal, Memory>
+    requires some { 0 < length sum.now }
+    requires filled { All IsFilled sum.now }
+    requires few { length nodes.old.items + total sum.now < 2 ^ 32 }
+    ensures { IfOk result (λ signal. AddsSum sum.now nodes.old.items nodes.new.items ((signal ∷ []) ∷ [])) }
+{
+    let terms = terms(alloc, nodes, sum)?;
+    let signal = join(alloc, nodes, Joint::Or, terms)?;
+    Ok(signal)
+}
+
+/// Adds the nodes of a wide node, and gives its signal. Costs as `factored` does.
 fn split_wide(
     alloc: Global,
     nodes: &mut Vec<Node>,
@@ -48,9 +60,10 @@ fn split_wide(
     requires few { length nodes.old.items + weight_of_rows node.now.rows < 2 ^ 32 }
     ensures { IfOk result (AddsNode ins.now node.now nodes.old.items nodes.new.items) }
 {
-    let terms = terms(alloc, nodes, ins, node.rows.items())?;
-    let sum = join(alloc, nodes, Joint::Or, terms)?;
-    Ok(if node.on { sum } else { turned(sum) })
+    let given = products(alloc, ins, node.rows.items())?;
+    let factors = factored(alloc, nodes, given)?;
+    let signal = summed(alloc, nodes, &factors)?;
+    Ok(if node.on { signal } else { turned(signal) })
 }
 
 /// Adds a node with these inputs as it is. Linear in it.

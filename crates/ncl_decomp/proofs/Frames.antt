@@ -1,0 +1,53 @@
+-- Products under frames: a frame more, and one less.
+use Rattle.std.proofs.Common.{◌≡◌, ℕ, ◌+◌, ◌<◌, ◌≤◌, true, List, [], ◌∷◌, ◌++◌, length, ap, refl, sym, subst, ◌∙◌, arith, length-append}
+use Rattle.std.specs.List.{list_any}
+use Rattle.std.proofs.lemmas.List.{append-nil}
+use Rattle.ncl_network.specs.declared.network.Signal.{Signal}
+use Rattle.ncl_network.specs.declared.network.Node.{Node}
+use Rattle.ncl_decomp.specs.declared.factoring.Frame.{Frame}
+use Rattle.ncl_decomp.specs.Products.{under, total, whole, is_empty}
+use Rattle.ncl_decomp.specs.Splitting.{IsSameSum, AddsSum}
+use Rattle.ncl_decomp.proofs.Sums.{AddsSum-same, AddsSum-then, AddsSum-among, AddsSum-under, AddsSum-whole, AddsSum-always, whole_push, whole_room}
+
+pub AddsSum-parted : (given sum others rests : List (List Signal)) (before nodes : List Node) (frames longer : List Frame) (frame : Frame) → AddsSum given before nodes (whole frames sum) → IsSameSum sum (others ++ under frame.literal rests) → frame.others ≡ others → longer ≡ frames ++ frame ∷ [] → AddsSum given before nodes (whole longer rests)
+AddsSum-parted given sum others rests before nodes frames longer frame so_far same is pushed =
+    let parts : List (List Signal) = frame.others ++ under frame.literal rests in
+    let step : AddsSum (whole frames sum) nodes nodes (whole frames parts) =
+    AddsSum-whole frames sum parts nodes nodes (AddsSum-same nodes sum parts (subst (λ others. IsSameSum sum (others ++ under frame.literal rests)) (sym is) same)) in
+    subst (AddsSum given before nodes) (sym (ap (λ frames. whole frames rests) pushed ∙ whole_push frames frame rests))
+    (AddsSum-then given (whole frames sum) (whole frames parts) before nodes nodes so_far step)
+
+pub AddsSum-closed : (given sum new : List (List Signal)) (before nodes after : List Node) (frames rest : List Frame) (frame : Frame) → AddsSum given before nodes (whole frames sum) → frames ≡ rest ++ frame ∷ [] → AddsSum (frame.others ++ under frame.literal sum) nodes after new → AddsSum given before after (whole rest new)
+AddsSum-closed given sum new before nodes after frames rest frame so_far popped closed =
+    let parts : List (List Signal) = frame.others ++ under frame.literal sum in
+    AddsSum-then given (whole rest parts) (whole rest new) before nodes after
+    (subst (AddsSum given before nodes) (ap (λ frames. whole frames sum) popped ∙ whole_push rest frame sum) so_far)
+    (AddsSum-whole rest parts new nodes after closed)
+
+pub AddsSum-open : (given sum : List (List Signal)) (before nodes : List Node) (frames : List Frame) → AddsSum given before nodes (whole frames sum) → length frames ≡ 0 → AddsSum given before nodes sum
+AddsSum-open given sum before nodes [] so_far none = so_far
+AddsSum-open given sum before nodes (frame ∷ frames) so_far none = absurd (omega (arith, none))
+
+-- there is room for the nodes of what is under frames
+pub frames_room : (given sum : List (List Signal)) (before nodes : List Node) (frames : List Frame) → AddsSum given before nodes (whole frames sum) → length nodes + total sum ≤ length before + total given
+frames_room given sum before nodes frames so_far =
+    omega (arith, ap length so_far.added, length-append before so_far.made, so_far.few, whole_room frames sum)
+
+-- what is under a signal becomes one product
+pub AddsSum-inner : (literal signal : Signal) (sum : List (List Signal)) (before after : List Node) → AddsSum sum before after ((signal ∷ []) ∷ []) → AddsSum (under literal sum) before after ((literal ∷ signal ∷ []) ∷ [])
+AddsSum-inner literal signal sum before after adds = AddsSum-under literal sum ((signal ∷ []) ∷ []) before after adds
+
+pub AddsSum-alone : (literal : Signal) (sum : List (List Signal)) (before : List Node) → 0 < length sum → list_any is_empty sum ≡ true → AddsSum (under literal sum) before before ((literal ∷ []) ∷ [])
+AddsSum-alone literal sum before some empty = AddsSum-under literal sum ([] ∷ []) before before (AddsSum-always before sum some empty)
+
+-- no frame, and nothing done
+pub AddsSum-start : (sum : List (List Signal)) (before : List Node) (frames : List Frame) → frames ≡ [] → AddsSum sum before before (whole frames sum)
+AddsSum-start sum before frames none =
+    subst (λ frames. AddsSum sum before before (whole frames sum)) (sym none)
+    (AddsSum-same before sum sum (record { as_many = refl; few = omega arith; filled = λ filled. filled; varying = λ inputs count varying. varying; same = λ test. refl }))
+
+-- nothing is under a signal
+pub AddsSum-empty : (literal : Signal) (others sum : List (List Signal)) (before : List Node) → length sum ≡ 0 → AddsSum (others ++ under literal sum) before before others
+AddsSum-empty literal others [] before none =
+    subst (λ sum. AddsSum sum before before others) (sym (append-nil others)) (AddsSum-start others before [] refl)
+AddsSum-empty literal others (product ∷ sum) before none = absurd (omega (arith, none))

@@ -1,0 +1,38 @@
+use Rattle.std.proofs.Common.{◌≡◌, ℕ, ◌+◌, ◌<◌, ◌≤◌, List, [], ◌∷◌, ◌++◌, length, take, sym, ap, ◌∙◌, subst, arith}
+use Rattle.std.proofs.lemmas.List.{take_more}
+use Rattle.ncl_network.specs.declared.network.Signal.{Signal}
+use Rattle.ncl_decomp.specs.Products.{under, without}
+use Rattle.ncl_decomp.specs.Splitting.{IsSameSum}
+use Rattle.ncl_decomp.proofs.Parting.{IsSameSum-other, IsSameSum-rest}
+use Rattle.ncl_decomp.proofs.factoring.parted.Goals as goal
+use Rattle.ncl_decomp.proofs.factoring.parted.Goals.{then-len-items+in_ok-push, else-len-items+in_ok-push-2}
+
+pub loop-product-preserved : goal.loop-product-preserved
+loop-product-preserved c =
+    let product : List Signal = c.product-item.result in
+    let literal : Signal = c.args.literal in
+    let sum : List (List Signal) = c.args.sum.now in
+    let i : ℕ = c.loop-product.product-index in
+    let rest : List Signal = c.in_ok-rest.rest.items in
+    let others : List (List Signal) = c.loop-product.others.items in
+    let rests : List (List Signal) = c.loop-product.rests.items in
+    let out : c.in_ok-rest.rest.items ≡ without literal product = c.in_ok-rest.ensures ∙ ap (without literal) c.items.ensures in
+    let upto : take (i + 1) sum ≡ take i sum ++ product ∷ [] = take_more sum i product c.loop-product-test.true ∙ (λ j. take i sum ++ sym c.product-item.is j ∷ []) in
+    elim c.if-len-items.branch [
+      | then-len-items+in_ok-push w ↦
+          let stays : c.if-len-items.others.items ≡ c.loop-product.others.items = ap (λ v. v.items) w.others-is in
+          let pushed : c.if-len-items.rests.items ≡ c.loop-product.rests.items ++ c.in_ok-rest.rest.items ∷ [] =
+          ap (λ v. v.items) w.rests-is ∙ w.in_ok-push.ensures.items ∙ (λ j. c.loop-product.rests.items ++ w.from_vec.ensures j ∷ []) in
+          let less : length c.in_ok-rest.rest.items < length c.product-item.result = omega (arith, w.if-len-items.true, c.len.ensures, ap length c.items-in-loop-product.ensures) in
+          subst (λ sum. IsSameSum sum (c.if-len-items.others.items ++ under literal c.if-len-items.rests.items)) (sym upto)
+          (subst (λ others. IsSameSum (take i sum ++ product ∷ []) (others ++ under literal c.if-len-items.rests.items)) (sym stays)
+          (IsSameSum-rest (take i sum) others rests literal product rest c.if-len-items.rests.items c.loop-product.invariant out less pushed))
+      | else-len-items+in_ok-push-2 w ↦
+          let stays : c.if-len-items.rests.items ≡ c.loop-product.rests.items = ap (λ v. v.items) w.rests-is in
+          let pushed : c.if-len-items.others.items ≡ c.loop-product.others.items ++ c.in_ok-rest.rest.items ∷ [] =
+          ap (λ v. v.items) w.others-is ∙ w.in_ok-push-2.ensures.items ∙ (λ j. c.loop-product.others.items ++ w.from_vec-else-len-items.ensures j ∷ []) in
+          let whole : length c.product-item.result ≤ length c.in_ok-rest.rest.items = omega (arith, w.if-len-items.false, c.len.ensures, ap length c.items-in-loop-product.ensures) in
+          subst (λ sum. IsSameSum sum (c.if-len-items.others.items ++ under literal c.if-len-items.rests.items)) (sym upto)
+          (subst (λ rests. IsSameSum (take i sum ++ product ∷ []) (c.if-len-items.others.items ++ under literal rests)) (sym stays)
+          (IsSameSum-other (take i sum) others rests literal product rest c.if-len-items.others.items c.loop-product.invariant out whole pushed))
+    ]

@@ -1,0 +1,65 @@
+//! The signal that most products have.
+ghost use Rattle.std.specs.Prelude.{◌<◌, IfOk, IfSome};
+
+use ncl_base::{Items, Memory};
+use ncl_network::{From3, Signal};
+use std::alloc::Global;
+
+/// A number for each signal, by which signals are put in order.
+fn key(signal: Signal) -> u64 {
+    let number = match signal.from {
+        From3::Input(number) => u64::from(number) * 4,
+        From3::Node(number) => u64::from(number) * 4 + 2,
+        From3::Const(_) => u64::MAX - 1,
+    };
+    number + u64::from(signal.inverted)
+}
+
+/// Adds the signals of a product to others.
+fn add(signals: &mut Vec<Signal>, product: &[Signal]) -> Result<(), Memory> {
+    for signal in product {
+        signals.push(*signal)?;
+    }
+    Ok(())
+}
+
+/// The signal that stands most often in a row, if one does twice.
+fn longest_run(signals: &[Signal]) -> Option<Signal> {
+    let mut found = None;
+    let mut most = 1usize;
+    let mut run = 0usize;
+    let mut last = None;
+    for signal in signals {
+        run = if last == Some(key(*signal)) {
+            run.saturating_add(1)
+        } else {
+            1
+        };
+        if run > most {
+            most = run;
+            found = Some(*signal);
+        }
+        last = Some(key(*signal));
+    }
+    found
+}
+
+/// The signal that most of some products have, at least two of them; none where nothing is left to try. The
+/// signals are sorted.
+pub(crate) fn common(
+    alloc: Global,
+    left: usize,
+    sum: &[Items<Signal>],
+) -> Result<Option<Signal>, Memory>
+    ensures { IfOk result (λ found. IfSome found (λ literal. 0 < left)) }
+{
+    if left == 0 {
+        return Ok(None);
+    }
+    let mut signals = Vec::new(alloc);
+    for product in sum {
+        add(&mut signals, product.items())?;
+    }
+    signals.sort_by_key(|signal: &Signal| key(*signal))?;
+    Ok(longest_run(&signals))
+}

@@ -11,14 +11,14 @@ use Rattle.ncl_shape.specs.Shape.{IsShapeFault}
 use Rattle.ncl_report.specs.NetText.{net_line}
 use Rattle.ncl_report.specs.ShapeText.{shape_line}
 use Rattle.ncl_check.specs.Text.{IsShapeless, IsRefusedText, unread, unbuilt}
-use Rattle.ncl_check.specs.Refusals.{Tells}
+use Rattle.ncl_check.specs.Refusals.{TellsLine}
 use Rattle.ncl_check.specs.declared.text.Refusal.{Refusal}
 use Rattle.ncl_check.specs.declared.text.Refusal.TheVariants as refusal
 
 -- what tells one thing tells what follows from it
-pub Tells-weaker : (kind other : List ℕ → Type 0) → ((text : List ℕ) → kind text → other text) → (r : Refusal) → Tells kind r → Tells other r
-Tells-weaker kind other follows (refusal.Told text) h = follows text.items h
-Tells-weaker kind other follows refusal.Memory h = tt
+pub TellsLine-weaker : (kind other : List ℕ → Type 0) → ((text : List ℕ) → kind text → other text) → (r : Refusal) → TellsLine kind r → TellsLine other r
+TellsLine-weaker kind other follows (refusal.Told text) h = follows text.items h
+TellsLine-weaker kind other follows refusal.Memory h = tt
 
 -- the first rule of shape that a netlist breaks is told
 pub shape_told : (n : NetlistData) → IsNetlist n → (fault : ShapeFault) → fault ≢ Memory → IsShapeFault n fault → IsShapeless n (shape_line n fault)

@@ -1,7 +1,7 @@
 //! The check of a netlist.
 ghost use Rattle.std.specs.Prelude.{◌≡◌, ◌≤◌, ℕ, List, IfOk};
 ghost use Rattle.ncl_check.specs.Text.{IsRefusedText};
-ghost use Rattle.ncl_check.specs.Refusals.{Tells};
+ghost use Rattle.ncl_check.specs.Refusals.{TellsLine};
 ghost use Rattle.ncl_check.specs.Reply.{IsCheckReply, IsVerdictText, outcome_of, verdict_on};
 ghost use Rattle.ncl_check.specs.Headline.{IsDelayInsensitiveText};
 ghost use Rattle.ncl_check.specs.declared.reply.Outcome.TheVariants.{Accepted, NoPipeline};
@@ -51,7 +51,7 @@ pub fn check<R: Threads + Sync, J: Judge + Sync>(
 /// The reply to bytes that are the text of no pipeline.
 fn refused(refusal: Refusal) -> Result<Reply, Memory>
     ensures outcome { IfOk result (λ reply. reply.outcome ≡ NoPipeline) }
-    ensures text { (bytes : List ℕ) → Tells (IsRefusedText bytes) refusal → IfOk result (λ reply. IsRefusedText bytes reply.text.items) }
+    ensures text { (bytes : List ℕ) → TellsLine (IsRefusedText bytes) refusal → IfOk result (λ reply. IsRefusedText bytes reply.text.items) }
 {
     match refusal {
         Refusal::Told(text) => Ok(Reply {

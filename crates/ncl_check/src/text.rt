@@ -5,7 +5,7 @@ ghost use Rattle.ncl_shape.specs.Shape.{Shape, IsShapeFault};
 ghost use Rattle.ncl_report.specs.Line.{line};
 ghost use Rattle.ncl_report.specs.NetText.{net_line};
 ghost use Rattle.ncl_check.specs.Text.{IsNetlistText, IsRefusedText, IsShapeless};
-ghost use Rattle.ncl_check.specs.Refusals.{Tells};
+ghost use Rattle.ncl_check.specs.Refusals.{TellsLine};
 
 use ncl_base::{MOST_BYTES, Memory};
 use ncl_netlist::Netlist;
@@ -28,7 +28,7 @@ pub enum Refusal {
 /// Costs as reading does: near linear in the bytes. The one other error is want of memory.
 pub fn netlist_in(alloc: Global, bytes: &[u8]) -> Result<Netlist, Refusal>
     ensures netlist { IfOk result (λ n. IsNetlistText bytes.now n) }
-    ensures refused { IfErr result (Tells (IsRefusedText bytes.now)) }
+    ensures refused { IfErr result (TellsLine (IsRefusedText bytes.now)) }
 {
     if bytes.len() > MOST_BYTES {
         return Err(too_long(alloc));
@@ -44,7 +44,7 @@ pub fn netlist_in(alloc: Global, bytes: &[u8]) -> Result<Netlist, Refusal>
 /// Costs as finding the shape does: linear in nets, cells and pins. The one other error is want of memory.
 pub fn pipeline_in<'a>(alloc: Global, netlist: &'a Netlist) -> Result<Pipeline<'a>, Refusal>
     ensures pipeline { IfOk result (λ p. Shape netlist.now p) }
-    ensures refused { IfErr result (Tells (IsShapeless netlist.now)) }
+    ensures refused { IfErr result (TellsLine (IsShapeless netlist.now)) }
 {
     match shape(alloc, netlist) {
         Ok(pipeline) => Ok(pipeline),
@@ -54,7 +54,7 @@ pub fn pipeline_in<'a>(alloc: Global, netlist: &'a Netlist) -> Result<Pipeline<'
 
 /// The line that was made.
 fn told(made: Result<Vec<u8>, Memory>) -> Refusal
-    ensures { (line : List ℕ) → IfOk made (λ text. text.items ≡ line) → Tells (λ text. text ≡ line) result }
+    ensures { (line : List ℕ) → IfOk made (λ text. text.items ≡ line) → TellsLine (λ text. text ≡ line) result }
 {
     match made {
         Ok(text) => Refusal::Told(text),
@@ -64,7 +64,7 @@ fn told(made: Result<Vec<u8>, Memory>) -> Refusal
 
 /// The line for more bytes than are read.
 fn too_long(alloc: Global) -> Refusal
-    ensures { Tells (λ text. text ≡ line (codes "netlist: too long")) result }
+    ensures { TellsLine (λ text. text ≡ line (codes "netlist: too long")) result }
 {
     match Vec::from_slice(alloc, b"netlist: too long\n") {
         Ok(text) => Refusal::Told(text),
@@ -74,7 +74,7 @@ fn too_long(alloc: Global) -> Refusal
 
 /// The line for a text that is no netlist.
 fn unread(alloc: Global, fault: NetFault) -> Refusal
-    ensures { Tells (λ text. (fault ≢ OutOfMemory) × (text ≡ net_line fault)) result }
+    ensures { TellsLine (λ text. (fault ≢ OutOfMemory) × (text ≡ net_line fault)) result }
 {
     match fault {
         NetFault::Memory => Refusal::Memory,
@@ -85,7 +85,7 @@ fn unread(alloc: Global, fault: NetFault) -> Refusal
 /// The line for a netlist that has no shape.
 fn no_shape(alloc: Global, netlist: &Netlist, fault: ShapeFault) -> Refusal
     requires { IsShapeFault netlist.now fault }
-    ensures { Tells (IsShapeless netlist.now) result }
+    ensures { TellsLine (IsShapeless netlist.now) result }
 {
     // The cells come with the facts of a netlist.
     let _ = netlist.cells();

@@ -3,7 +3,7 @@ ghost use Rattle.std.specs.Prelude.{◌≡◌, ◌≢◌, ◌≤◌, IfErr, IfOk
 ghost use Rattle.ncl_base.specs.declared.source.TheConstants.{MOST_BYTES};
 ghost use Rattle.ncl_blif.specs.declared.fault.BlifFault.TheVariants.{Memory as ReadMemory};
 ghost use Rattle.ncl_report.specs.BlifText.{blif_line};
-ghost use Rattle.ncl_check.specs.Refusals.{Tells};
+ghost use Rattle.ncl_check.specs.Refusals.{TellsLine};
 ghost use Rattle.ncl_top.specs.Compiling.{AreModelsText, AreRefusedModels};
 
 use ncl_base::{MOST_BYTES, Memory};
@@ -18,7 +18,7 @@ use std::alloc::Global;
 pub fn models_in(alloc: Global, bytes: &[u8]) -> Result<Vec<Model>, Refusal>
     requires { length bytes.now ≤ MOST_BYTES }
     ensures models { IfOk result (λ models. AreModelsText bytes.now models.items) }
-    ensures refused { IfErr result (Tells (AreRefusedModels bytes.now)) }
+    ensures refused { IfErr result (TellsLine (AreRefusedModels bytes.now)) }
 {
     match read_blif(alloc, bytes) {
         Ok(models) => Ok(models),

@@ -1,5 +1,5 @@
 use Rattle.ncl_check.specs.Text.{IsRefusedText, IsShapeless, shapeless}
-use Rattle.ncl_check.proofs.Refusing.{Tells-weaker}
+use Rattle.ncl_check.proofs.Refusing.{TellsLine-weaker}
 use Rattle.ncl_check.proofs.Replying.{pipeline_text, refused_reply, judged_reply, reply_works}
 use Rattle.ncl_check.proofs.checking.check.Goals as goal
 
@@ -11,7 +11,7 @@ pub returns-in-Err-pipeline_in-clause-reply : goal.returns-in-Err-pipeline_in-cl
 returns-in-Err-pipeline_in-clause-reply g c =
     let bytes = c.args.bytes.now in
     let n = c.in-Ok.netlist in
-    let none = Tells-weaker (IsShapeless n) (IsRefusedText bytes) (shapeless n c.in-Ok.ensures.netlist) c.in-Err-pipeline_in.refusal c.in-Err-pipeline_in.ensures.refused in
+    let none = TellsLine-weaker (IsShapeless n) (IsRefusedText bytes) (shapeless n c.in-Ok.ensures.netlist) c.in-Err-pipeline_in.refusal c.in-Err-pipeline_in.ensures.refused in
     refused_reply c.args.limit c.args.why bytes c.refused-in-Err-pipeline_in.result c.refused-in-Err-pipeline_in.ensures.outcome (c.refused-in-Err-pipeline_in.ensures.text bytes none)
 
 pub returns-clause-reply : goal.returns-clause-reply

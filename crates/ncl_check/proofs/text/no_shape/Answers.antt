@@ -2,7 +2,7 @@ use Rattle.std.proofs.Common.{◌≡◌, sym, subst}
 use Rattle.ncl_report.proofs.NamedPlaces.{names_place_of}
 use Rattle.ncl_report.specs.ShapeText.{shape_line}
 use Rattle.ncl_check.specs.Text.{IsShapeless}
-use Rattle.ncl_check.proofs.Refusing.{shape_told, Tells-weaker}
+use Rattle.ncl_check.proofs.Refusing.{shape_told, TellsLine-weaker}
 use Rattle.ncl_check.proofs.text.no_shape.Goals as goal
 
 pub shape_text-requires : goal.shape_text-requires
@@ -12,5 +12,5 @@ pub returns-in_default : goal.returns-in_default
 returns-in_default c =
     let n = c.args.netlist.now in
     let line = shape_line n c.args.fault in
-    Tells-weaker (λ text. text ≡ line) (IsShapeless n) (λ text is. subst (IsShapeless n) (sym is) (shape_told n c.cells.ensures.netlist c.args.fault c.in_default.not-Memory c.requires))
+    TellsLine-weaker (λ text. text ≡ line) (IsShapeless n) (λ text is. subst (IsShapeless n) (sym is) (shape_told n c.cells.ensures.netlist c.args.fault c.in_default.not-Memory c.requires))
     c.told.result (c.told.ensures line c.shape_text.ensures)

@@ -6,7 +6,7 @@ use Rattle.ncl_check.specs.declared.reply.Outcome.TheVariants.{Accepted, Refused
 use Rattle.ncl_check.specs.Headline.{IsDelayInsensitiveText}
 use Rattle.ncl_check.proofs.Accepted.{text_works}
 use Rattle.ncl_words.specs.Command.{Words, Command, check, compile, sim, matching, demo, command_of}
-use Rattle.ncl_top.specs.Answer.{status_of, IsFileReply, Answer, not_understood, replied, SourceState, SinkState, Says, answered, read_failed, no_memory, Tells, whole, cut_short, Ran, AcceptsWhatWorks}
+use Rattle.ncl_top.specs.Answer.{status_of, IsFileReply, Answer, not_understood, replied, SourceState, SinkState, Says, answered, read_failed, no_memory, CameOut, whole, cut_short, Ran, AcceptsWhatWorks}
 
 -- only an acceptance has status 0
 accepted_by_status : (outcome : Outcome) → status_of outcome ≡ 0 → outcome ≡ Accepted
@@ -42,7 +42,7 @@ answer_works words files file limit why asked (replied (matching netlist blif mo
 answer_works words files file limit why asked (replied (demo bits) is status text reply) e =
     absurd (subst IsNoCheck (sym is ∙ asked) tt)
 
-end_works : (words : Words) (source source' : SourceState) (sink sink' : SinkState) {said status : ℕ} {text : List ℕ} → Says words source source' said text → Tells sink sink' said text status → AcceptsWhatWorks words source status
+end_works : (words : Words) (source source' : SourceState) (sink sink' : SinkState) {said status : ℕ} {text : List ℕ} → Says words source source' said text → CameOut sink sink' said text status → AcceptsWhatWorks words source status
 end_works words source source' sink sink' (answered status text answer) (whole grew) files file limit why told asked e =
     answer_works words files file limit why asked (subst (λ held. Answer words held status text) told answer) e
 end_works words source source' sink sink' says (cut_short rose grew) files file limit why told asked e = absurd (omega arith)

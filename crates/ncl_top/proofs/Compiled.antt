@@ -15,7 +15,7 @@ use Rattle.ncl_check.proofs.OneReply.{outcome_is}
 use Rattle.ncl_compile.specs.Compiled.{Compiled}
 use Rattle.ncl_words.specs.Command.{Words, Command, check, compile, sim, matching, demo, command_of}
 use Rattle.ncl_top.specs.Compiling.{IsCompiledText, plain, merged, IsModelsReply, too_large, compiled, IsCompileReply, no_models, modelled}
-use Rattle.ncl_top.specs.Answer.{Answer, not_understood, replied, WorksAndIsAccepted, IsMergedText, SourceState, SinkState, Says, answered, read_failed, no_memory, Tells, whole, cut_short, Ran, CompilesWhatWorks}
+use Rattle.ncl_top.specs.Answer.{Answer, not_understood, replied, WorksAndIsAccepted, IsMergedText, SourceState, SinkState, Says, answered, read_failed, no_memory, CameOut, whole, cut_short, Ran, CompilesWhatWorks}
 use Rattle.ncl_top.proofs.PlainNames.{writable}
 
 -- the text of a compiled netlist
@@ -70,7 +70,7 @@ answer_works words told file merge asked (replied (compile named own) is status 
     let same : own ≡ merge = subst (IsCompiling file merge) (sym asked ∙ is) refl in
     subst (λ flag. IsGood flag text) same (file_works reply.bytes own reply.reply e)
 
-end_works : (words : Words) (source source' : SourceState) (sink sink' : SinkState) {said status : ℕ} {text : List ℕ} → Says words source source' said text → Tells sink sink' said text status → CompilesWhatWorks words sink sink' status
+end_works : (words : Words) (source source' : SourceState) (sink sink' : SinkState) {said status : ℕ} {text : List ℕ} → Says words source source' said text → CameOut sink sink' said text status → CompilesWhatWorks words sink sink' status
 end_works words source source' sink sink' (answered status text answer) (whole grew) file merge asked e = let (works, from) = answer_works words source.files file merge asked answer e in (text, works, from, grew)
 end_works words source source' sink sink' says (cut_short rose grew) file merge asked e = absurd (omega arith)
 end_works words source source' sink sink' (read_failed command of named rose) (whole grew) file merge asked e = absurd (omega arith)

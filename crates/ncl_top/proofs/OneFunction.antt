@@ -16,7 +16,7 @@ use Rattle.ncl_match.specs.declared.answer.Compared.TheVariants.{Same}
 use Rattle.ncl_check.specs.Text.{IsPipelineText}
 use Rattle.ncl_words.specs.Command.{Words, Command, check, compile, sim, matching, demo, command_of}
 use Rattle.ncl_top.specs.Matching.{IsMatched, widths, full, differs, same, IsModelsMatched, no_models, compared, IsMatchReply, no_pipeline, piped}
-use Rattle.ncl_top.specs.Answer.{Answer, not_understood, replied, SourceState, SinkState, Says, answered, read_failed, no_memory, Tells, whole, cut_short, Ran, HaveOneFunction, MatchesWhatIsSame}
+use Rattle.ncl_top.specs.Answer.{Answer, not_understood, replied, SourceState, SinkState, Says, answered, read_failed, no_memory, CameOut, whole, cut_short, Ran, HaveOneFunction, MatchesWhatIsSame}
 
 -- bits that don't differ are one
 one_bit : (a b : Bool) → (a ≢ b → ⊥) → a ≡ b
@@ -96,7 +96,7 @@ answer_same words files netlist blif limit asked (replied (matching first second
     subst (λ name. HaveOneFunction (bytes_of files netlist) (bytes_of files name)) two
     (subst (λ name. HaveOneFunction (bytes_of files name) (bytes_of files second)) one (files_same files first second most reply e))
 
-end_same : (words : Words) (source source' : SourceState) (sink sink' : SinkState) {said status : ℕ} {text : List ℕ} → Says words source source' said text → Tells sink sink' said text status → MatchesWhatIsSame words source status
+end_same : (words : Words) (source source' : SourceState) (sink sink' : SinkState) {said status : ℕ} {text : List ℕ} → Says words source source' said text → CameOut sink sink' said text status → MatchesWhatIsSame words source status
 end_same words source source' sink sink' (answered status text answer) (whole grew) files netlist blif limit told asked e =
     answer_same words files netlist blif limit asked (subst (λ held. Answer words held status text) told answer) e
 end_same words source source' sink sink' says (cut_short rose grew) files netlist blif limit told asked e = absurd (omega arith)

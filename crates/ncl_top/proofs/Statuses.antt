@@ -16,7 +16,7 @@ use Rattle.ncl_match.specs.Circuit.{Circuit, circuit_of}
 use Rattle.ncl_top.specs.Matching.{IsMatched, IsModelsMatched, IsMatchReply}
 use Rattle.ncl_top.specs.Matching as compares
 use Rattle.ncl_top.specs.Simulating.{end_status, IsRunReply, IsWordsReply, IsDelaysReply, IsSimReply, no_words, ran, no_delays, delayed, no_pipeline, piped}
-use Rattle.ncl_top.specs.Answer.{status_of, IsReply, Answer, not_understood, replied, SourceState, SinkState, Says, answered, read_failed, no_memory, Tells, whole, cut_short, Ran}
+use Rattle.ncl_top.specs.Answer.{status_of, IsReply, Answer, not_understood, replied, SourceState, SinkState, Says, answered, read_failed, no_memory, CameOut, whole, cut_short, Ran}
 
 -- neither that of a source that failed nor that of a sink that did
 abbrev IsOfNoFault : ℕ → Type 0
@@ -87,13 +87,13 @@ of_answer : (words : Words) (told : Option Files) {status : ℕ} {text : List �
 of_answer words told (not_understood none) = (λ e. absurd (omega arith), λ e. absurd (omega arith))
 of_answer words told (replied command is status text reply) = of_reply command told status text reply
 
-read_rose : (words : Words) (source source' : SourceState) (sink sink' : SinkState) {said status : ℕ} {text : List ℕ} → Says words source source' said text → Tells sink sink' said text status → status ≡ 4 → Rose source.faults source'.faults
+read_rose : (words : Words) (source source' : SourceState) (sink sink' : SinkState) {said status : ℕ} {text : List ℕ} → Says words source source' said text → CameOut sink sink' said text status → status ≡ 4 → Rose source.faults source'.faults
 read_rose words source source' sink sink' (answered status text answer) (whole grew) e = absurd ((of_answer words source.files answer).0 e)
 read_rose words source source' sink sink' says (cut_short rose grew) e = absurd (omega arith)
 read_rose words source source' sink sink' (read_failed command of named rose) (whole grew) e = rose
 read_rose words source source' sink sink' no_memory (whole grew) e = absurd (omega arith)
 
-write_rose : (words : Words) (source source' : SourceState) (sink sink' : SinkState) {said status : ℕ} {text : List ℕ} → Says words source source' said text → Tells sink sink' said text status → status ≡ 5 → Rose sink.faults sink'.faults
+write_rose : (words : Words) (source source' : SourceState) (sink sink' : SinkState) {said status : ℕ} {text : List ℕ} → Says words source source' said text → CameOut sink sink' said text status → status ≡ 5 → Rose sink.faults sink'.faults
 write_rose words source source' sink sink' (answered status text answer) (whole grew) e = absurd ((of_answer words source.files answer).1 e)
 write_rose words source source' sink sink' says (cut_short rose grew) e = rose
 write_rose words source source' sink sink' (read_failed command of named rose) (whole grew) e = absurd (omega arith)

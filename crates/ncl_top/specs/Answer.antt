@@ -111,11 +111,11 @@ pub data Says (words : Words) (source source_after : SourceState) : ℕ → List
   no_memory : Says words source source_after 7 (line (codes "out of memory"))
 
 -- how a status and its text came out
-pub data Tells (sink sink_after : SinkState) (said : ℕ) (text : List ℕ) : ℕ → Type 0 where
+pub data CameOut (sink sink_after : SinkState) (said : ℕ) (text : List ℕ) : ℕ → Type 0 where
   -- the text was written whole, and the status is its status
-  whole : Grew sink.written text sink_after.written → Tells sink sink_after said text said
+  whole : Grew sink.written text sink_after.written → CameOut sink sink_after said text said
   -- the sink failed in this call, after a first part of the text
-  cut_short : Rose sink.faults sink_after.faults → GrewWithin sink.written text sink_after.written → Tells sink sink_after said text 5
+  cut_short : Rose sink.faults sink_after.faults → GrewWithin sink.written text sink_after.written → CameOut sink sink_after said text 5
 
 -- a call with these words ended with this status
 pub record Ran (words : Words) (source source_after : SourceState) (sink sink_after : SinkState) (status : ℕ) : Type 0 where
@@ -124,7 +124,7 @@ pub record Ran (words : Words) (source source_after : SourceState) (sink sink_af
   -- the whole text, as it was before the first byte was written
   pub text : List ℕ
   pub says : Says words source source_after said text
-  pub tells : Tells sink sink_after said text status
+  pub tells : CameOut sink sink_after said text status
 
 -- where the source tells its files and neither the source nor the sink fails, the call gives an
 -- answer whole, or memory was refused

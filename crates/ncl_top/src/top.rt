@@ -2,7 +2,7 @@
 ghost use Rattle.std.specs.Prelude.{◌≡◌, ◌≤◌, map};
 ghost use Rattle.ncl_base.specs.Files.{Rose};
 ghost use Rattle.ncl_words.specs.Command.{AllowsNamed};
-ghost use Rattle.ncl_top.specs.Answer.{Says, Tells, Ran, AnswersUnlessFaults, AnswersExactly, AcceptsWhatWorks, CompilesWhatWorks, SimulatesWhatWorks, MatchesWhatIsSame};
+ghost use Rattle.ncl_top.specs.Answer.{Says, CameOut, Ran, AnswersUnlessFaults, AnswersExactly, AcceptsWhatWorks, CompilesWhatWorks, SimulatesWhatWorks, MatchesWhatIsSame};
 ghost use Rattle.ncl_top.specs.Replies.{Gives};
 
 use crate::reply::{Fault, Reply, carry_out};
@@ -161,7 +161,7 @@ fn answer<R: Threads + Sync, S: Source, J: Judge + Sync>(
 
 /// Writes a text, and gives its status, or 5 where the sink fails.
 fn tell<K: Sink>(sink: &mut K, said: u8, text: &[u8]) -> u8
-    ensures tells { Tells
+    ensures tells { CameOut
         (record { written = K.written sink.old; faults = K.faults sink.old })
         (record { written = K.written sink.new; faults = K.faults sink.new })
         said text.now result }

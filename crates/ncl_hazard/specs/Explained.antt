@@ -46,9 +46,9 @@ pub record BringsOrphan (p : PipelineData) (before : ℕ) (cell : CellId) (input
 
 -- what is told of a cell at a place of a stage: the least input that brings a word that shows it to be an orphan, with a
 -- run over that input from reset in whose last step the cell loses its excitation; or that there is no such input
-abbrev pub Tells : PipelineData → ℕ → CellId → StageData → ℕ → Explained → Type 0
-Tells p before cell s place NoWord = least_input p before s place ≡ None
-Tells p before cell s place (Shown input run) = (least_input p before s place ≡ Some input) × Loses p (reset p (input ∷ [])) cell run
+abbrev pub TellsOfCell : PipelineData → ℕ → CellId → StageData → ℕ → Explained → Type 0
+TellsOfCell p before cell s place NoWord = least_input p before s place ≡ None
+TellsOfCell p before cell s place (Shown input run) = (least_input p before s place ≡ Some input) × Loses p (reset p (input ∷ [])) cell run
 
 -- an explanation of the cell, whose functions have no more nodes than the limit
 pub record IsExplained (p : PipelineData) (before : ℕ) (cell : CellId) (limit : ℕ) (told : Explained) : Type 0 where
@@ -56,7 +56,7 @@ pub record IsExplained (p : PipelineData) (before : ℕ) (cell : CellId) (limit 
   pub place : ℕ
   pub of_cell : IsPlaceOf p before cell own place
   pub within : why_count p before place ≤ limit
-  pub tells : Tells p before cell own place told
+  pub tells : TellsOfCell p before cell own place told
 
 -- the functions of an explanation have more nodes than the limit
 pub record IsPastLimit (p : PipelineData) (before : ℕ) (cell : CellId) (limit : ℕ) : Type 0 where

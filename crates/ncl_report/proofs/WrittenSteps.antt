@@ -14,7 +14,7 @@ use Rattle.ncl_machine.specs.Run.{IsRunFrom}
 use Rattle.ncl_sim.proofs.Candidates.{and3, bit_within, excited_within}
 use Rattle.ncl_hazard.specs.declared.explaining.Explained.{Explained}
 use Rattle.ncl_hazard.specs.declared.explaining.Explained.TheVariants.{Shown, NoWord}
-use Rattle.ncl_hazard.specs.Explained.{IsExplained, Tells}
+use Rattle.ncl_hazard.specs.Explained.{IsExplained, TellsOfCell}
 use Rattle.ncl_report.specs.WhyText.{NamesItemsOf, step_line, step_lines}
 
 -- a line for one step more
@@ -50,6 +50,6 @@ run-in_range p (x ∷ run) s is item m = elim (member_cases item x run m) [
 pub names_items : (p : PipelineData) (before : ℕ) (cell : CellId) (limit : ℕ) (told : Explained) → IsExplained p before cell limit told → NamesItemsOf p told
 names_items p before cell limit told is = by told is.tells
   where
-    by : (told : Explained) → Tells p before cell is.own is.place told → NamesItemsOf p told
+    by : (told : Explained) → TellsOfCell p before cell is.own is.place told → NamesItemsOf p told
     by NoWord none = tt
     by (Shown input run) (least, loses) = All-from_members (InRange p) run (λ item m. run-in_range p run _ loses.is_run item m)

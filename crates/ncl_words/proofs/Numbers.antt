@@ -4,7 +4,7 @@ use Rattle.std.specs.List.{list_all}
 use Rattle.std.specs.Char.{is_ascii_digit}
 use Rattle.std.specs.Result.{result_ok}
 use Rattle.std.specs.Str.Parse.{ParsesUnsigned, digits_value}
-use Rattle.ncl_words.specs.Command.{is_number, number_of}
+use Rattle.ncl_words.specs.Command.{is_number, number_said}
 use Rattle.std.proofs.lemmas.Bool.{and_parts, leb-true}
 use Rattle.std.proofs.lemmas.Str.Parse.{IsNumeralModel, numerals_by_value, digits_value_short, parse_gives}
 
@@ -17,7 +17,7 @@ pub parsed : {E : Type 0} (text : List ℕ) (r : Result ℕ E) → ParsesUnsigne
 parsed text r h digits some few = parse_gives own 32 text r h digits (omega arith) (omega (arith, digits_value_short own text 9 digits few))
 
 -- the number of a text that is one
-pub number_is : {E : Type 0} (most : ℕ) (text : List ℕ) (r : Result ℕ E) → ParsesUnsigned 32 10 text r → most ≤ 9 → is_number most text ≡ true → result_ok r ≡ number_of most text
+pub number_is : {E : Type 0} (most : ℕ) (text : List ℕ) (r : Result ℕ E) → ParsesUnsigned 32 10 text r → most ≤ 9 → is_number most text ≡ true → result_ok r ≡ number_said most text
 number_is most text r h few number =
     let some = and_parts (nat_le 1 (length text)) (nat_le (length text) most && list_all is_ascii_digit text) number in
     let rest = and_parts (nat_le (length text) most) (list_all is_ascii_digit text) some.1 in

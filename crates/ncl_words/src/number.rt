@@ -2,7 +2,7 @@
 ghost use Rattle.std.specs.Prelude.{◌≡◌, ◌≤◌, IfSome};
 ghost use Rattle.std.specs.List.{list_all};
 ghost use Rattle.std.specs.Char.{is_ascii_digit};
-ghost use Rattle.ncl_words.specs.Command.{counted, is_number, number_of};
+ghost use Rattle.ncl_words.specs.Command.{counted, is_number, number_said};
 
 /// Whether a text has decimal digits alone. Linear in the text.
 fn are_digits(text: &str) -> bool
@@ -21,7 +21,7 @@ fn is_number(text: &str, most_digits: usize) -> bool
 /// The number that a text of at most so many decimal digits says. Linear in the text.
 fn number(text: &str, most_digits: usize) -> Option<u32>
     requires { most_digits ≤ 9 }
-    ensures { result ≡ number_of most_digits text.now }
+    ensures { result ≡ number_said most_digits text.now }
 {
     if !is_number(text, most_digits) {
         return None;

@@ -11,7 +11,7 @@ use Rattle.ncl_blif.specs.declared.draft_body.DraftBody.{DraftBody}
 use Rattle.ncl_blif.specs.declared.drivers.Driver.{Driver}
 use Rattle.ncl_blif.specs.declared.drivers.Driver.TheVariants.{Input, Cover}
 use Rattle.ncl_blif.specs.Named.{NamedModel, NamedCover, drivers_of}
-use Rattle.ncl_blif.specs.Numbered.{is_driven, number_of}
+use Rattle.ncl_blif.specs.Numbered.{is_driven, signal_number}
 use Rattle.ncl_blif.specs.Drivers.{driver_at, driver_among}
 use Rattle.ncl_blif.specs.LineFaults.{has_twins}
 use Rattle.ncl_blif.specs.Body.{said_by, IsKept}
@@ -105,12 +105,12 @@ inputs-all old body names kept said = sym (ap (λ m. has_twins (drivers_of m)) s
 pub number-none : (body : DraftBody) → IsKept body → (name : List ℕ) (found : Option Driver) → found ≡ driver_at body.drivers name → found ≡ None → is_driven (said_by body) name ≡ false
 number-none body kept name found is none = driven-is body kept name found is ∙ ap is_some none
 
-pub number-input : (body : DraftBody) → IsKept body → (name : List ℕ) (found : Option Driver) (n : ℕ) → found ≡ driver_at body.drivers name → found ≡ Some (Input n) → (is_driven (said_by body) name ≡ true) × (n ≡ number_of (said_by body) name)
+pub number-input : (body : DraftBody) → IsKept body → (name : List ℕ) (found : Option Driver) (n : ℕ) → found ≡ driver_at body.drivers name → found ≡ Some (Input n) → (is_driven (said_by body) name ≡ true) × (n ≡ signal_number (said_by body) name)
 number-input body kept name found n is some =
     (driven-is body kept name found is ∙ ap is_some some, (input-first (said_by body).inputs (outs_of body.covers.items) name n (sym (is ∙ kept.each name) ∙ some)).0)
 
 pub number-cover : (body : DraftBody) → IsKept body → (name : List ℕ) (found : Option Driver) (count n : ℕ) → found ≡ driver_at body.drivers name → found ≡ Some (Cover n) → count ≡ length body.inputs.items
-    → (is_driven (said_by body) name ≡ true) × (count + n ≡ number_of (said_by body) name)
+    → (is_driven (said_by body) name ≡ true) × (count + n ≡ signal_number (said_by body) name)
 number-cover body kept name found count n is some all = (
   driven-is body kept name found is ∙ ap is_some some,
   ap (λ m. m + n) (all ∙ sym (length-map body.inputs.items (λ name. name.now))) ∙ (cover-first (said_by body).inputs (outs_of body.covers.items) name n (sym (is ∙ kept.each name) ∙ some)).0,

@@ -8,7 +8,7 @@ use Rattle.std.proofs.lemmas.Option.{slice_get-get_or, slice_get_within, get_or_
 use Rattle.ncl_graph.specs.Graph.{IsOnCycle}
 use Rattle.ncl_blif.specs.declared.model.Cover.{Cover}
 use Rattle.ncl_blif.specs.Named.{NamedModel, NamedCover, drivers_of}
-use Rattle.ncl_blif.specs.Numbered.{number_of, numbered_cover, without_rows, rowless_covers, numbered_model}
+use Rattle.ncl_blif.specs.Numbered.{signal_number, numbered_cover, without_rows, rowless_covers, numbered_model}
 use Rattle.ncl_blif.specs.Model.{Depends}
 use Rattle.ncl_blif.specs.Dependence.{dependency_graph}
 use Rattle.std.specs.Option.{option_map}
@@ -26,7 +26,7 @@ pub length-graph_of : (model : NamedModel) → length (graph_of model) ≡ lengt
 length-graph_of model = length-map (numbered_model model).covers _ ∙ length-map model.covers (numbered_cover model)
 
 -- what the numbered cover at a place drives
-out_is : (model : NamedModel) (place : ℕ) (d : NamedCover) → place < length model.covers → out_at (numbered_model model).covers place no_numbers ≡ number_of model (get_or model.covers place d).out
+out_is : (model : NamedModel) (place : ℕ) (d : NamedCover) → place < length model.covers → out_at (numbered_model model).covers place no_numbers ≡ signal_number model (get_or model.covers place d).out
 out_is model place d within = ap (λ (cover : Cover). cover.out) (get_or-map (numbered_cover model) model.covers place d no_numbers within)
 
 -- a place on a cycle is that of a cover whose output depends on itself
@@ -46,7 +46,7 @@ IsOnCycle-from_cyclic model differ place (cover, at, depends) =
     let within : place < length model.covers = slice_get_within model.covers place cover at in
     let numbered : place < length (numbered_model model).covers = omega (arith, length-map model.covers (numbered_cover model)) in
     let here : get_or model.covers place cover ≡ cover = get_or_from_slice_get model.covers place cover cover at in
-    let is = out_is model place cover within ∙ ap (λ (c : NamedCover). number_of model c.out) here in
+    let is = out_is model place cover within ∙ ap (λ (c : NamedCover). signal_number model c.out) here in
     Leads-from_Depends (numbered_model model) (OutsDiffer-numbered model differ) _ _ depends place place no_numbers numbered numbered is is
 
 -- the graph that is made of the covers by numbers, without their rows

@@ -11,7 +11,7 @@ use Rattle.std.proofs.lemmas.Option.{slice_get-get_or}
 use Rattle.std.proofs.lemmas.Map.Keys.{IsDistinct-from_apart}
 use Rattle.ncl_blif.specs.declared.model.Cover.{Cover}
 use Rattle.ncl_blif.specs.Named.{NamedModel, NamedCover, NamedOutput, drivers_of}
-use Rattle.ncl_blif.specs.Numbered.{is_driven, number_of, numbered_cover, numbered_model}
+use Rattle.ncl_blif.specs.Numbered.{is_driven, signal_number, numbered_cover, numbered_model}
 use Rattle.ncl_blif.specs.Model.{Depends, signals_of, IsModel, size_of_model, most_size}
 use Rattle.ncl_blif.specs.Answer.{undriven_line, IsCyclic, IsFaultless}
 use Rattle.ncl_blif.proofs.Anys.{each_fails}
@@ -54,8 +54,8 @@ signal_among m differ k within =
     (k, omega (arith, signals_count m), signal_at m differ k k below)
 
 -- a signal with a driver has a number that is a signal
-driven_among : (m : NamedModel) → IsDistinct bytes_eq (drivers_of m) → (name : List ℕ) → is_driven m name ≡ true → Contains (signals_of (numbered_model m)) (number_of m name)
-driven_among m differ name driven = signal_among m differ (number_of m name) (ltb-true _ _ (sym (any-place (bytes_eq name) (drivers_of m)) ∙ driven))
+driven_among : (m : NamedModel) → IsDistinct bytes_eq (drivers_of m) → (name : List ℕ) → is_driven m name ≡ true → Contains (signals_of (numbered_model m)) (signal_number m name)
+driven_among m differ name driven = signal_among m differ (signal_number m name) (ltb-true _ _ (sym (any-place (bytes_eq name) (drivers_of m)) ∙ driven))
 
 -- no two numbers are the same
 one_driver_each : (m : NamedModel) → IsDistinct bytes_eq (drivers_of m) → IsDistinct nat_eq (signals_of (numbered_model m))
@@ -71,14 +71,14 @@ reads_among m differ none =
     let Among : ℕ → Type 0 = λ signal. Contains (signals_of (numbered_model m)) signal in
     All-map (λ (cover : Cover). All Among cover.ins) (numbered_cover m) m.covers (λ k d within.
     let cover = get_or m.covers k d in
-    All-map Among (number_of m) cover.ins (λ j e inside.
+    All-map Among (signal_number m) cover.ins (λ j e inside.
     driven_among m differ (get_or cover.ins j e)
     (not-false _ (each_fails (λ name. not (is_driven m name)) cover.ins (covers_driven m none k d within) j e inside))))
 
 outputs_among : (m : NamedModel) → IsDistinct bytes_eq (drivers_of m) → undriven_line m ≡ None
     → All (λ signal. Contains (signals_of (numbered_model m)) signal) (numbered_model m).outputs
 outputs_among m differ none =
-    All-map (λ signal. Contains (signals_of (numbered_model m)) signal) (λ (output : NamedOutput). number_of m output.signal) m.outputs
+    All-map (λ signal. Contains (signals_of (numbered_model m)) signal) (λ (output : NamedOutput). signal_number m output.signal) m.outputs
     (λ k d within. driven_among m differ (get_or m.outputs k d).signal (outputs_driven m none k d within))
 
 -- no signal depends on itself, where no cover's output does
@@ -86,7 +86,7 @@ acyclic : (m : NamedModel) → ((place : ℕ) → IsCyclic m place → ⊥) → 
 acyclic m none signal depends =
     let (k, inside, is) = driver_of_dependent (numbered_model m) signal signal depends no_numbers in
     let within : k < length m.covers = omega (arith, length-map m.covers (numbered_cover m)) in
-    let same : signal ≡ number_of m (get_or m.covers k no_cover).out =
+    let same : signal ≡ signal_number m (get_or m.covers k no_cover).out =
     sym is ∙ ap (λ (cover : Cover). cover.out) (get_or-map (numbered_cover m) m.covers k no_cover no_numbers within) in
     none k (get_or m.covers k no_cover, slice_get-get_or m.covers k no_cover within, subst (λ s. Depends (numbered_model m) s s) same depends)
 
@@ -96,13 +96,13 @@ RowsFit m = All (λ (cover : NamedCover). All (λ row. length row ≡ length cov
 
 rows_fit : (m : NamedModel) → RowsFit m → All (λ (cover : Cover). All (λ row. length row ≡ length cover.ins) cover.rows) (numbered_model m).covers
 rows_fit m fit = All-map (λ (cover : Cover). All (λ row. length row ≡ length cover.ins) cover.rows) (numbered_cover m) m.covers (λ k d within j e inside.
-    fit k d within j e inside ∙ sym (length-map (get_or m.covers k d).ins (number_of m)))
+    fit k d within j e inside ∙ sym (length-map (get_or m.covers k d).ins (signal_number m)))
 
 -- a faultless model by names is a model by numbers
 pub IsModel-numbered : (m : NamedModel) → IsDistinct bytes_eq (drivers_of m) → RowsFit m → IsFaultless m → size_of_model (numbered_model m) ≤ most_size → IsModel (numbered_model m)
 IsModel-numbered m differ fit fine small =
     let inputs : length (range_with_len 0 (length m.inputs)) ≡ length m.inputs = length-range_with_len 0 (length m.inputs) in
-    let outputs : length (numbered_model m).outputs ≡ length m.outputs = length-map m.outputs (λ (output : NamedOutput). number_of m output.signal) in
+    let outputs : length (numbered_model m).outputs ≡ length m.outputs = length-map m.outputs (λ (output : NamedOutput). signal_number m output.signal) in
     record {
       has_input = omega (arith, fine.bits.0);
       has_output = omega (arith, fine.bits.1);

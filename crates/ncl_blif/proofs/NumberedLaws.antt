@@ -14,7 +14,7 @@ use Rattle.ncl_blif.specs.LineFaults.{has_twins}
 use Rattle.std.proofs.lemmas.Map.Views.{list_any-from_Contains}
 use Rattle.ncl_blif.specs.declared.model.Cover.{Cover}
 use Rattle.ncl_blif.specs.Named.{NamedModel, NamedCover, drivers_of}
-use Rattle.ncl_blif.specs.Numbered.{is_driven, number_of, numbered_cover, numbered_model}
+use Rattle.ncl_blif.specs.Numbered.{is_driven, signal_number, numbered_cover, numbered_model}
 use Rattle.ncl_blif.specs.Named.{NamedOutput}
 use Rattle.ncl_blif.specs.Answer.{lesser, undriven_line, reads_undriven}
 use Rattle.ncl_blif.proofs.Anys.{find-none}
@@ -40,14 +40,14 @@ abbrev outs : NamedModel → List (List ℕ)
 outs model = map (λ cover. cover.out) model.covers
 
 -- the number of what the cover at a place drives stands after those of the inputs
-pub number-out : (model : NamedModel) → IsDistinct bytes_eq (drivers_of model) → (k : ℕ) (d : NamedCover) → k < length model.covers → number_of model (get_or model.covers k d).out ≡ length model.inputs + k
+pub number-out : (model : NamedModel) → IsDistinct bytes_eq (drivers_of model) → (k : ℕ) (d : NamedCover) → k < length model.covers → signal_number model (get_or model.covers k d).out ≡ length model.inputs + k
 number-out model differ k d within =
     let drivers = drivers_of model in
     let at : get_or drivers (length model.inputs + k) d.out ≡ (get_or model.covers k d).out =
     get_or-append-add model.inputs (outs model) k d.out ∙ get_or-map (λ (cover : NamedCover). cover.out) model.covers k d d.out within in
     let many : length drivers ≡ length model.inputs + length model.covers =
     length-append model.inputs (outs model) ∙ ap (λ n. length model.inputs + n) (length-map model.covers (λ (cover : NamedCover). cover.out)) in
-    ap (λ name. number_of model name) (sym at) ∙ number-driver drivers differ (length model.inputs + k) d.out (omega arith)
+    ap (λ name. signal_number model name) (sym at) ∙ number-driver drivers differ (length model.inputs + k) d.out (omega arith)
 
 -- what the numbered cover at a place drives
 pub out-numbered : (model : NamedModel) → IsDistinct bytes_eq (drivers_of model) → (k : ℕ) (d : Cover) (e : NamedCover) → k < length model.covers

@@ -15,7 +15,7 @@ use Rattle.ncl_blif.specs.Lines.{lines_of}
 use Rattle.ncl_blif.specs.Parts.{PartData, is_row, begins_model, up_to_model, named_sections, unnamed_section, parts_of, sections_of}
 use Rattle.ncl_blif.specs.LineFaults.{first_line_fault, first_section_fault}
 use Rattle.ncl_blif.specs.Named.{NamedModel, NamedCover, NamedOutput, drivers_of, named_model, size_of_named}
-use Rattle.ncl_blif.specs.Numbered.{number_of, numbered_cover, numbered_model}
+use Rattle.ncl_blif.specs.Numbered.{signal_number, numbered_cover, numbered_model}
 use Rattle.ncl_blif.specs.Model.{IsModel, AreModels, AreJoined, size_of_model, weight_of_rows, most_size}
 use Rattle.ncl_blif.specs.Answer.{models_said, IsFaultless, unjoined_model}
 use Rattle.ncl_blif.proofs.NumberedLaws.{twins_differ}
@@ -38,9 +38,9 @@ named_cover_size cover = 1 + length cover.ins + weight_of_rows cover.rows
 size-numbered : (m : NamedModel) → size_of_model (numbered_model m) ≡ size_of_named m
 size-numbered m =
     let inputs : length (numbered_model m).inputs ≡ length m.inputs = length-range_with_len 0 (length m.inputs) in
-    let outputs : length (numbered_model m).outputs ≡ length m.outputs = length-map m.outputs (λ (output : NamedOutput). number_of m output.signal) in
+    let outputs : length (numbered_model m).outputs ≡ length m.outputs = length-map m.outputs (λ (output : NamedOutput). signal_number m output.signal) in
     let covers = sum_by-map (λ (cover : Cover). 1 + length cover.ins + weight_of_rows cover.rows) named_cover_size (numbered_cover m)
-    (λ cover. ap (λ n. 1 + n + weight_of_rows cover.rows) (length-map cover.ins (number_of m))) m.covers in
+    (λ cover. ap (λ n. 1 + n + weight_of_rows cover.rows) (length-map cover.ins (signal_number m))) m.covers in
     omega (arith, inputs, outputs, covers)
 
 -- the widths fit
@@ -52,7 +52,7 @@ joined_numbered number (m ∷ next ∷ models) h =
     elim (eqb (length next.inputs) (length m.outputs)) as
     (λ b. eqb (length next.inputs) (length m.outputs) ≡ b → cond b (unjoined_model (number + 1) (next ∷ models)) (Some (number + 1)) ≡ None → Goal) [
       | true ↦ λ yes rest. (
-        length-range_with_len 0 (length next.inputs) ∙ eqb-true _ _ yes ∙ sym (length-map m.outputs (λ (output : NamedOutput). number_of m output.signal)),
+        length-range_with_len 0 (length next.inputs) ∙ eqb-true _ _ yes ∙ sym (length-map m.outputs (λ (output : NamedOutput). signal_number m output.signal)),
         joined_numbered (number + 1) (next ∷ models) rest,
       )
       | false ↦ λ other found. absurd cc

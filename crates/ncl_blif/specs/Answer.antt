@@ -10,7 +10,7 @@ use Rattle.ncl_blif.specs.Parts.{parts_of, sections_of}
 use Rattle.ncl_blif.specs.Named.{NamedModel, NamedCover, named_model}
 use Rattle.ncl_blif.specs.LineFaults.{first_line_fault}
 use Rattle.ncl_blif.specs.Model.{Depends}
-use Rattle.ncl_blif.specs.Numbered.{is_driven, number_of, numbered_model}
+use Rattle.ncl_blif.specs.Numbered.{is_driven, signal_number, numbered_model}
 
 -- the models that a text says
 abbrev pub models_said : List ℕ → List NamedModel
@@ -36,7 +36,7 @@ undriven_line model =
 abbrev pub IsCyclic : NamedModel → ℕ → Type 0
 IsCyclic model place =
     (cover : NamedCover) × (slice_get model.covers place ≡ Some cover)
-    × Depends (numbered_model model) (number_of model cover.out) (number_of model cover.out)
+    × Depends (numbered_model model) (signal_number model cover.out) (signal_number model cover.out)
 
 -- the line begins the first cover whose output depends on itself
 pub record IsFirstCycle (model : NamedModel) (line : ℕ) : Type 0 where

@@ -11,13 +11,13 @@ abbrev pub is_driven : NamedModel → List ℕ → Bool
 is_driven model name = list_any (bytes_eq name) (drivers_of model)
 
 -- the number of a signal: its place among those that have a driver, from 0
-abbrev pub number_of : NamedModel → List ℕ → ℕ
-number_of model name = position_or_len (bytes_eq name) (drivers_of model)
+abbrev pub signal_number : NamedModel → List ℕ → ℕ
+signal_number model name = position_or_len (bytes_eq name) (drivers_of model)
 
 abbrev pub numbered_cover : NamedModel → NamedCover → Cover
 numbered_cover model cover = record {
-  ins = map (number_of model) cover.ins;
-  out = number_of model cover.out;
+  ins = map (signal_number model) cover.ins;
+  out = signal_number model cover.out;
   on = cover.on;
   rows = cover.rows;
 }
@@ -36,6 +36,6 @@ abbrev pub numbered_model : NamedModel → Model
 numbered_model model = record {
   name = model.name;
   inputs = range_with_len 0 (length model.inputs);
-  outputs = map (λ output. number_of model output.signal) model.outputs;
+  outputs = map (λ output. signal_number model output.signal) model.outputs;
   covers = map (numbered_cover model) model.covers;
 }

@@ -2,7 +2,7 @@
 ghost use Rattle.std.specs.Prelude.{◌≡◌, ◌⊎◌, ◌≤◌, [], Some, None, true, false, length, map, slice_get, unwrap_or, MatchOption, MatchResult};
 ghost use Rattle.ncl_blif.specs.declared.fault.BlifFault.TheVariants.{Memory as OutOfMemory};
 ghost use Rattle.ncl_blif.specs.Named.{name_said, named_model, drivers_of};
-ghost use Rattle.ncl_blif.specs.Numbered.{is_driven, number_of};
+ghost use Rattle.ncl_blif.specs.Numbered.{is_driven, signal_number};
 ghost use Rattle.ncl_blif.specs.LineFaults.{has_twins, first_part_fault, first_section_fault, first_line_fault};
 ghost use Rattle.ncl_blif.specs.Lines.{lines_of};
 ghost use Rattle.ncl_blif.specs.Parts.{parts_of, sections_of};
@@ -67,7 +67,7 @@ impl<'a> Draft<'a> {
     /// Logarithmic in the signals.
     pub(crate) fn number(&self, signal: &[u8]) -> Option<u32>
         ensures { MatchOption result (is_driven self.now signal.now ≡ false)
-            (λ n. (is_driven self.now signal.now ≡ true) × (n ≡ number_of self.now signal.now)) }
+            (λ n. (is_driven self.now signal.now ≡ true) × (n ≡ signal_number self.now signal.now)) }
     {
         match self.body.drivers.get(signal)? {
             Driver::Input(place) => Some(place),

@@ -3,7 +3,7 @@ ghost use Rattle.std.specs.Prelude.{◌≡◌, ℕ, ◌<◌, ◌^◌, ◌⊎◌,
 ghost use Rattle.std.specs.List.{list_any, range_with_len};
 ghost use Rattle.std.specs.Option.{option_map};
 ghost use Rattle.ncl_blif.specs.declared.fault.BlifFault.TheVariants.{Memory as OutOfMemory};
-ghost use Rattle.ncl_blif.specs.Numbered.{is_driven, number_of, numbered_cover, without_rows, rowless_covers, numbered_model};
+ghost use Rattle.ncl_blif.specs.Numbered.{is_driven, signal_number, numbered_cover, without_rows, rowless_covers, numbered_model};
 ghost use Rattle.ncl_blif.specs.Answer.{lesser, reads_undriven, undriven_line, IsCyclic, IsFirstCycle, IsFaultless, IsModelFault};
 
 use crate::dependence::dependencies;
@@ -81,7 +81,7 @@ fn first_undriven(draft: &Draft) -> Option<u32>
 /// The number of a signal that has a driver. One look-up.
 fn number_in(draft: &Draft, signal: &[u8]) -> u32
     requires { is_driven draft.now signal.now ≡ true }
-    ensures { result ≡ number_of draft.now signal.now }
+    ensures { result ≡ signal_number draft.now signal.now }
 {
     match draft.number(signal) {
         Some(number) => number,
@@ -92,7 +92,7 @@ fn number_in(draft: &Draft, signal: &[u8]) -> u32
 /// The numbers of signals that have drivers, in order. A look-up for each.
 fn numbers_in(alloc: Global, draft: &Draft, signals: &[&[u8]]) -> Result<Items<u32>, Memory>
     requires { All (λ signal. is_driven draft.now signal.now ≡ true) signals.now }
-    ensures { IfOk result (λ numbers. numbers ≡ map (λ signal. number_of draft.now signal.now) signals.now) }
+    ensures { IfOk result (λ numbers. numbers ≡ map (λ signal. signal_number draft.now signal.now) signals.now) }
 {
     let mut numbers = Vec::new(alloc);
     for signal in signals {
@@ -118,7 +118,7 @@ fn numbered(alloc: Global, draft: &Draft, cover: &DraftCover) -> Result<Cover, M
 /// The numbers of the outputs, in order. A look-up for each.
 fn numbered_outputs(alloc: Global, draft: &Draft) -> Result<Items<u32>, Memory>
     requires { All (λ output. is_driven draft.now output.signal ≡ true) draft.now.outputs }
-    ensures { IfOk result (λ numbers. numbers ≡ map (λ output. number_of draft.now output.signal) draft.now.outputs) }
+    ensures { IfOk result (λ numbers. numbers ≡ map (λ output. signal_number draft.now output.signal) draft.now.outputs) }
 {
     let mut numbers = Vec::new(alloc);
     for output in draft.outputs() {

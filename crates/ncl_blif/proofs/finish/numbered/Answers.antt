@@ -2,7 +2,7 @@ use Rattle.std.proofs.Common.{◌≡◌, List, ℕ, Bool, Bor, false, not, map, 
 use Rattle.std.specs.List.{list_any}
 use Rattle.std.proofs.lemmas.Simd.{map-map}
 use Rattle.std.proofs.lemmas.Bool.{not-false}
-use Rattle.ncl_blif.specs.Numbered.{is_driven, number_of}
+use Rattle.ncl_blif.specs.Numbered.{is_driven, signal_number}
 use Rattle.ncl_blif.proofs.Anys.{list_any-map, each_fails}
 use Rattle.ncl_blif.proofs.finish.numbered.Goals as goal
 
@@ -15,7 +15,7 @@ numbers_in-requires c = λ k d within.
 
 pub returns : goal.returns
 returns c =
-    let number : List ℕ → ℕ = number_of c.args.draft.now in
+    let number : List ℕ → ℕ = signal_number c.args.draft.now in
     let numbers : c.in_ok-numbers_in.field-0 ≡ map number c.args.cover.now.ins =
     c.in_ok-numbers_in.ensures ∙ sym (map-map number (λ (name : Bor (List ℕ)). name.now) c.ins.result.now) ∙ ap (map number) c.ins.ensures in
     search (rules, numbers)

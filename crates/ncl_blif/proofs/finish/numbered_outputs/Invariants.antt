@@ -1,8 +1,8 @@
 use Rattle.std.proofs.Common.{◌≡◌, map, take}
-use Rattle.ncl_blif.specs.Numbered.{number_of}
+use Rattle.ncl_blif.specs.Numbered.{signal_number}
 use Rattle.ncl_blif.proofs.finish.numbered_outputs.Given as goal
 
 -- the numbers of the outputs so far
 abbrev pub invariant-loop-output : goal.invariant-loop-output
 invariant-loop-output l =
-    l.numbers.items ≡ map (λ output. number_of l.draft output.signal) (take l.output-index l.output-items)
+    l.numbers.items ≡ map (λ output. signal_number l.draft output.signal) (take l.output-index l.output-items)

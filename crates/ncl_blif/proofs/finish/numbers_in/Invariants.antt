@@ -1,8 +1,8 @@
 use Rattle.std.proofs.Common.{◌≡◌, map, take}
-use Rattle.ncl_blif.specs.Numbered.{number_of}
+use Rattle.ncl_blif.specs.Numbered.{signal_number}
 use Rattle.ncl_blif.proofs.finish.numbers_in.Given as goal
 
 -- the numbers of the signals so far
 abbrev pub invariant-loop-signal : goal.invariant-loop-signal
 invariant-loop-signal l =
-    l.numbers.items ≡ map (λ signal. number_of l.draft signal.now) (take l.signal-index l.signals)
+    l.numbers.items ≡ map (λ signal. signal_number l.draft signal.now) (take l.signal-index l.signals)

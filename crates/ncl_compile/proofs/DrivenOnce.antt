@@ -13,10 +13,10 @@ use Rattle.ncl_netlist.specs.declared.cell.Cell.{Cell}
 use Rattle.ncl_netlist.specs.declared.parts.PartCell.{PartCell}
 use Rattle.ncl_netlist.specs.declared.parts.Parts.{Parts}
 use Rattle.ncl_netlist.specs.Faults.{drivers_at}
-use Rattle.ncl_netlist.specs.Names.{AllDiffer, same_name, number_of}
+use Rattle.ncl_netlist.specs.Names.{AllDiffer, same_name, name_number}
 use Rattle.ncl_netlist.specs.Netlist.{drives}
 use Rattle.ncl_netlist.specs.Parts.{port_names, output_name, nets_of, cell_of}
-use Rattle.ncl_netlist.proofs.NameLists.{equal_names, same_itself, number_of-get_or, get_or-number_of, AllDiffer-once_each, list_any-once_each, take-once_each}
+use Rattle.ncl_netlist.proofs.NameLists.{equal_names, same_itself, name_number-get_or, get_or-name_number, AllDiffer-once_each, list_any-once_each, take-once_each}
 use Rattle.ncl_compile.proofs.ListPlaces.{at-map, place_of_member, member_at}
 use Rattle.ncl_compile.proofs.NameLaws.{AreApart}
 
@@ -84,14 +84,14 @@ module _ (parts : Parts) (differ : AllDiffer (port_names parts)) (apart : AreApa
       ∙ take-once_each (port_names parts) (flat_map (λ (cell : PartCell). cell.pins) parts.cells) differ
 
   -- the name of a port has the number of the port
-  port_place : (i : ℕ) (port : Port) → slice_get parts.ports i ≡ Some port → number_of nets port.name ≡ i
+  port_place : (i : ℕ) (port : Port) → slice_get parts.ports i ≡ Some port → name_number nets port.name ≡ i
   port_place i port at =
       let within = slice_get_within parts.ports i port at in
       let first = get_or_from_slice_get (port_names parts) i port.name [] (at-map (λ (p : Port). p.name) parts.ports i port at) in
       let named : get_or nets i [] ≡ port.name = sym (get_or-take (length parts.ports) nets i [] within) ∙ ap (λ l. get_or l i []) ports_are_first ∙ first in
       let long : length (take (length parts.ports) nets) ≡ length parts.ports = ap length ports_are_first ∙ length-map parts.ports (λ (port : Port). port.name) in
       let inside : i < length nets = omega (arith, within, long, length-take (length parts.ports) nets) in
-      ap (number_of nets) (sym named) ∙ number_of-get_or nets i [] nets_differ inside
+      ap (name_number nets) (sym named) ∙ name_number-get_or nets i [] nets_differ inside
 
   drives_there : (i : ℕ) (port : Port) → slice_get parts.ports i ≡ Some port → slice_index (map drives parts.ports) i ≡ drives port
   drives_there i port at = get_or_from_slice_get (map drives parts.ports) i (drives port) 0 (at-map drives parts.ports i port at)
@@ -102,7 +102,7 @@ module _ (parts : Parts) (differ : AllDiffer (port_names parts)) (apart : AreApa
       elim (cases_lt net (length parts.ports)) [
         | inl inside ↦
             let (port, at) = slice_get-some parts.ports net inside in
-            let named : get_or nets net [] ≡ port.name = ap (λ k. get_or nets k []) (sym (port_place net port at)) ∙ get_or-number_of nets port.name [] (subst (λ k. k < length nets) (sym (port_place net port at)) within) in
+            let named : get_or nets net [] ≡ port.name = ap (λ k. get_or nets k []) (sym (port_place net port at)) ∙ get_or-name_number nets port.name [] (subst (λ k. k < length nets) (sym (port_place net port at)) within) in
             drives_there net port at ∙ by port.output (λ input. no_input port.name (subst (λ z. Member z (map output_name parts.cells)) named made) (record { port = port; among = member_at parts.ports net port at; input = input; is = refl }))
         | inr past ↦ get_or_past (map drives parts.ports) net 0 (omega (arith, past, length-map parts.ports drives))
       ]
@@ -117,7 +117,7 @@ module _ (parts : Parts) (differ : AllDiffer (port_names parts)) (apart : AreApa
       elim (driven x (net_is_said x (Member-get_or nets net [] within))) [
         | inl input ↦
             let (i, at) = place_of_member parts.ports input.port input.among in
-            let place : i ≡ net = sym (port_place i input.port at) ∙ ap (number_of nets) input.is ∙ number_is in
+            let place : i ≡ net = sym (port_place i input.port at) ∙ ap (name_number nets) input.is ∙ number_is in
             let from_port : slice_index (map drives parts.ports) net ≡ 1 = ap (slice_index (map drives parts.ports)) (sym place) ∙ drives_there i input.port at ∙ ap (λ b. if b then 0 else 1) input.input in
             let from_cells = count_none output_name (cell_of nets) test x right only parts.cells (λ m. no_input x m input) in
             omega (arith, from_port, from_cells)
@@ -130,16 +130,16 @@ module _ (parts : Parts) (differ : AllDiffer (port_names parts)) (apart : AreApa
       x : List ℕ
       x = get_or nets net []
 
-      number_is : number_of nets x ≡ net
-      number_is = number_of-get_or nets net [] nets_differ within
+      number_is : name_number nets x ≡ net
+      number_is = name_number-get_or nets net [] nets_differ within
 
       test : Cell → Bool
       test cell = nat_eq cell.out.0 net
 
       right : (c : PartCell) → output_name c ≡ x → test (cell_of nets c) ≡ true
-      right c same = eq-eqb (number_of nets (output_name c)) net (ap (number_of nets) same ∙ number_is)
+      right c same = eq-eqb (name_number nets (output_name c)) net (ap (name_number nets) same ∙ number_is)
 
       only : (c : PartCell) → test (cell_of nets c) ≡ true → output_name c ≡ x
       only c passes =
-          let place = eqb-true (number_of nets (output_name c)) net passes in
-          sym (get_or-number_of nets (output_name c) [] (subst (λ k. k < length nets) (sym place) within)) ∙ ap (λ k. get_or nets k []) place
+          let place = eqb-true (name_number nets (output_name c)) net passes in
+          sym (get_or-name_number nets (output_name c) [] (subst (λ k. k < length nets) (sym place) within)) ∙ ap (λ k. get_or nets k []) place

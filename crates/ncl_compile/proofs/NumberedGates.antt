@@ -9,7 +9,7 @@ use Rattle.ncl_gates.specs.declared.cell_kind.CellKind.{CellKind}
 use Rattle.ncl_gates.specs.declared.cell_kind.CellKind.TheVariants.{Gate}
 use Rattle.ncl_netlist.specs.declared.parts.PartCell.{PartCell}
 use Rattle.ncl_netlist.specs.declared.parts.Parts.{Parts}
-use Rattle.ncl_netlist.specs.Names.{number_of}
+use Rattle.ncl_netlist.specs.Names.{name_number}
 use Rattle.ncl_netlist.specs.Parts.{input_names, output_name, cell_of, nets_of, netlist_of}
 use Rattle.ncl_shape.specs.declared.stage.StageCell.{StageCell}
 use Rattle.ncl_shape.specs.Stage.{out_of}
@@ -28,7 +28,7 @@ gate_kind-is cell (kind, is) = is ∙ ap (λ k. Gate (gate_kind k)) (sym is)
 
 module _ (parts : Parts) where
   abbrev pub number : List ℕ → ℕ
-  number = number_of (nets_of parts)
+  number = name_number (nets_of parts)
 
   -- a cell of the parts is a cell of their netlist
   pub HasCell-from_part : (place : ℕ) (c : PartCell) (sort : CellKind) (names : List (List ℕ)) (name : List ℕ) → slice_get parts.cells place ≡ Some c → c.kind ≡ sort → input_names c ≡ names → output_name c ≡ name

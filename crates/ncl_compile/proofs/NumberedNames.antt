@@ -11,11 +11,11 @@ use Rattle.ncl_netlist.specs.declared.port.Port.{Port}
 use Rattle.ncl_netlist.specs.declared.parts.NamePair.{NamePair}
 use Rattle.ncl_netlist.specs.declared.parts.PartCell.{PartCell}
 use Rattle.ncl_netlist.specs.declared.parts.Parts.{Parts}
-use Rattle.ncl_netlist.specs.Names.{same_name, number_of}
+use Rattle.ncl_netlist.specs.Names.{same_name, name_number}
 use Rattle.ncl_netlist.specs.Netlist.{IsNetlist}
 use Rattle.ncl_netlist.specs.Parts.{HasAllPins, port_names, output_name, nets_of, netlist_of}
-use Rattle.ncl_netlist.proofs.NameLists.{same_itself, list_any-once_each, number_of-lt-length, get_or-number_of}
-use Rattle.ncl_netlist.proofs.NetlistLaws.{number_of-net, net_of_port}
+use Rattle.ncl_netlist.proofs.NameLists.{same_itself, list_any-once_each, name_number-lt-length, get_or-name_number}
+use Rattle.ncl_netlist.proofs.NetlistLaws.{name_number-net, net_of_port}
 use Rattle.ncl_shape.specs.Stage.{rail_nets}
 use Rattle.ncl_rails.specs.Naming.{named_pair}
 use Rattle.ncl_tree.specs.NamePairs.{pair_names}
@@ -29,14 +29,14 @@ module _ (parts : Parts) where
   pins_of_parts = flat_map (λ (cell : PartCell). cell.pins) parts.cells
 
   abbrev pub net_number : List ℕ → ℕ
-  net_number = number_of (nets_of parts)
+  net_number = name_number (nets_of parts)
 
   -- the net of the number of a name that occurs has that name
   pub name_of_number : (x : List ℕ) → Member x (port_names parts ++ pins_of_parts) → get_or (nets_of parts) (net_number x) [] ≡ x
   name_of_number x m =
       let all = port_names parts ++ pins_of_parts in
-      let within = number_of-lt-length (nets_of parts) x (list_any-once_each all x ∙ list_any-from_member (same_name x) x m (same_itself x)) in
-      get_or-number_of (nets_of parts) x [] within
+      let within = name_number-lt-length (nets_of parts) x (list_any-once_each all x ∙ list_any-from_member (same_name x) x m (same_itself x)) in
+      get_or-name_number (nets_of parts) x [] within
 
   -- so the numbers of names at pins differ where the names do
   pub same_number : (x y : List ℕ) → Member x pins_of_parts → Member y pins_of_parts → net_number x ≡ net_number y → x ≡ y
@@ -55,7 +55,7 @@ module _ (parts : Parts) where
   module _ (is : IsNetlist (netlist_of parts)) where
     -- the number of the name of a port is the place of the port
     pub port_number : (i : ℕ) (port : Port) → slice_get parts.ports i ≡ Some port → net_number port.name ≡ i
-    port_number i port at = number_of-net (netlist_of parts) is i port.name (net_of_port (netlist_of parts) is i port at)
+    port_number i port at = name_number-net (netlist_of parts) is i port.name (net_of_port (netlist_of parts) is i port at)
 
     pub ports_in_row : map net_number (port_names parts) ≡ range_with_len 0 (length parts.ports)
     ports_in_row =

@@ -5,7 +5,7 @@ use Rattle.std.specs.List.{list_any, AllByRecursion}
 use Rattle.std.specs.Option.{option_or}
 use Rattle.std.proofs.lemmas.Map.Keys.{IsDistinct-head, IsDistinct-tail}
 use Rattle.std.proofs.lemmas.Simd.{splat_is_map}
-use Rattle.ncl_netlist.specs.Names.{same_name, AllDiffer, number_of}
+use Rattle.ncl_netlist.specs.Names.{same_name, AllDiffer, name_number}
 use Rattle.ncl_netlist.proofs.NameLists.{equal_names}
 use Rattle.ncl_blif.specs.Lines.{NumberedText}
 use Rattle.ncl_delay.specs.declared.delays.Edges.{Edges}
@@ -34,20 +34,20 @@ others_stay (other ∷ names) name edges before apart =
     (λ i. option_or (cond (apart.0 i) (Some edges) None) (before other) ∷ others_stay names name edges before apart.1 i)
 
 -- among names that differ, one place is renewed
-renewed-set : (names : List (List ℕ)) (name : List ℕ) (edges : Edges) (before : List ℕ → Option Edges) → AllDiffer names → list_any (same_name name) names ≡ true → map (renewed name edges before) names ≡ set (map before names) (number_of names name) (Some edges)
+renewed-set : (names : List (List ℕ)) (name : List ℕ) (edges : Edges) (before : List ℕ → Option Edges) → AllDiffer names → list_any (same_name name) names ≡ true → map (renewed name edges before) names ≡ set (map before names) (name_number names name) (Some edges)
 renewed-set [] name edges before differ known = cc
 renewed-set (other ∷ names) name edges before differ known = by (same_name name other) refl (renewed-set names name edges before (IsDistinct-tail same_name other names differ))
   where
-    by : (b : Bool) → same_name name other ≡ b → (list_any (same_name name) names ≡ true → map (renewed name edges before) names ≡ set (map before names) (number_of names name) (Some edges)) → map (renewed name edges before) (other ∷ names) ≡ set (map before (other ∷ names)) (number_of (other ∷ names) name) (Some edges)
+    by : (b : Bool) → same_name name other ≡ b → (list_any (same_name name) names ≡ true → map (renewed name edges before) names ≡ set (map before names) (name_number names name) (Some edges)) → map (renewed name edges before) (other ∷ names) ≡ set (map before (other ∷ names)) (name_number (other ∷ names) name) (Some edges)
     by true same rest =
         let apart = subst (λ it. AllByRecursion (λ y. same_name it y ≡ false) names) (sym (equal_names name other same)) (IsDistinct-head same_name other names differ) in
-        let place : number_of (other ∷ names) name ≡ 0 = ap (λ c. cond (not c) (1 + number_of names name) 0) same in
+        let place : name_number (other ∷ names) name ≡ 0 = ap (λ c. cond (not c) (1 + name_number names name) 0) same in
         (λ i. option_or (cond (same i) (Some edges) None) (before other) ∷ others_stay names name edges before apart i)
         ∙ sym (ap (λ n. set (map before (other ∷ names)) n (Some edges)) place)
     by false same rest =
         let later : list_any (same_name name) names ≡ true = sym (ap (λ c. c || list_any (same_name name) names) same) ∙ known in
-        let one : 1 + number_of names name ≡ suc (number_of names name) = omega arith in
-        let place : number_of (other ∷ names) name ≡ suc (number_of names name) = ap (λ c. cond (not c) (1 + number_of names name) 0) same ∙ one in
+        let one : 1 + name_number names name ≡ suc (name_number names name) = omega arith in
+        let place : name_number (other ∷ names) name ≡ suc (name_number names name) = ap (λ c. cond (not c) (1 + name_number names name) 0) same ∙ one in
         (λ i. option_or (cond (same i) (Some edges) None) (before other) ∷ rest later i)
         ∙ sym (ap (λ n. set (map before (other ∷ names)) n (Some edges)) place)
 

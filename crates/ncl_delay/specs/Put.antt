@@ -1,6 +1,6 @@
 -- Delays as one statement after another is put into them.
 use Rattle.std.specs.Prelude.{ℕ, List, Some, None, replicate, slice_set}
-use Rattle.ncl_netlist.specs.Names.{number_of}
+use Rattle.ncl_netlist.specs.Names.{name_number}
 use Rattle.ncl_delay.specs.declared.delays.Edges.{Edges}
 use Rattle.ncl_delay.specs.declared.statement.Thing.{Thing}
 use Rattle.ncl_delay.specs.declared.statement.Thing.TheVariants.{Default, Source, Sink, Cell}
@@ -16,4 +16,4 @@ abbrev pub put : List (List ℕ) → DelaysData → Edges → Thing → DelaysDa
 put names d edges Default = record d { default = edges }
 put names d edges Source = record d { source = edges }
 put names d edges Sink = record d { sink = edges }
-put names d edges (Cell name) = record d { cells = slice_set d.cells (number_of names name) (Some edges) }
+put names d edges (Cell name) = record d { cells = slice_set d.cells (name_number names name) (Some edges) }

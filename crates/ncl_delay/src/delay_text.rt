@@ -1,7 +1,7 @@
 //! Files of delays.
 ghost use Rattle.std.specs.Prelude.{◌≡◌, ◌<◌, ◌≤◌, ◌⊎◌, true, false, None, Some, IfOk, IfErr, OnOk, MatchOption, MatchResult, map, length};
 ghost use Rattle.std.specs.List.{list_any};
-ghost use Rattle.ncl_netlist.specs.Names.{AllDiffer, same_name, number_of};
+ghost use Rattle.ncl_netlist.specs.Names.{AllDiffer, same_name, name_number};
 ghost use Rattle.ncl_blif.specs.Lines.{NumberedText};
 ghost use Rattle.ncl_delay.specs.declared.statement.Statement.{Statement};
 ghost use Rattle.ncl_delay.specs.declared.fault.DelayFault.TheVariants.{Memory as OutOfMemory};
@@ -111,7 +111,7 @@ fn put_line(
 fn place_of(alloc: Global, names: &IndexSet<Name>, name: &[u8]) -> Result<Option<usize>, Memory>
     ensures { IfOk result (λ found. MatchOption found (list_any (same_name name.now) names.now.keys ≡ false)
         (λ place. (list_any (same_name name.now) names.now.keys ≡ true) × (place < length names.now.keys)
-        × (place ≡ number_of names.now.keys name.now))) }
+        × (place ≡ name_number names.now.keys name.now))) }
 {
     let name = Name::from_bytes(alloc, name)?;
     Ok(names.get_index_of(&name))

@@ -9,8 +9,8 @@ use Rattle.ncl_gates.proofs.RegisterLaws.{register_no_gate}
 use Rattle.ncl_netlist.specs.declared.ids.NetId.{NetId}
 use Rattle.ncl_netlist.specs.declared.cell.Cell.{Cell}
 use Rattle.ncl_netlist.specs.Netlist.{NetlistData, IsNetlist}
-use Rattle.ncl_netlist.specs.Names.{number_of}
-use Rattle.ncl_netlist.proofs.NameLists.{get_or-number_of, number_of-get_or}
+use Rattle.ncl_netlist.specs.Names.{name_number}
+use Rattle.ncl_netlist.proofs.NameLists.{get_or-name_number, name_number-get_or}
 use Rattle.ncl_origin.specs.Origin.{IsCell, CellAt}
 use Rattle.ncl_origin.proofs.Drivers.{cell_fits, same_driver, same_place}
 use Rattle.ncl_origin.proofs.OriginLaws.{place_of}
@@ -89,7 +89,7 @@ module _ (p : PipelineData) (shape : Shape p.netlist p) (lists : List (List Stag
 
   -- a net that has a number there leads back
   back-there : (x : ℕ) → x < length n.nets → to x < length m.nets → from (to x) ≡ x
-  back-there x within there_is = ap (number_of n.nets) (get_or-number_of m.nets (name_at n x) [] there_is) ∙ number_of-get_or n.nets x [] shape.is_netlist.net_names within
+  back-there x within there_is = ap (name_number n.nets) (get_or-name_number m.nets (name_at n x) [] there_is) ∙ name_number-get_or n.nets x [] shape.is_netlist.net_names within
 
   module _ (k : ℕ) (s : StageData) (cells : List StageCell) (of : IsFoldedStageAt p lists k s cells) where
     -- the cell that a cell of the stage has become

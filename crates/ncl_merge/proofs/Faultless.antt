@@ -16,11 +16,11 @@ use Rattle.ncl_netlist.specs.declared.port.Port.{Port}
 use Rattle.ncl_netlist.specs.declared.cell.Cell.{Cell}
 use Rattle.ncl_netlist.specs.declared.parts.PartCell.{PartCell}
 use Rattle.ncl_netlist.specs.declared.parts.Parts.{Parts}
-use Rattle.ncl_netlist.specs.Names.{AllDiffer, same_name, once_each, number_of}
+use Rattle.ncl_netlist.specs.Names.{AllDiffer, same_name, once_each, name_number}
 use Rattle.ncl_netlist.specs.Netlist.{NetlistData, IsNetlist, drives, most_cells, pin_names}
 use Rattle.ncl_netlist.specs.Parts.{HasAllPins, port_names, cell_names, netlist_of, part_of}
 use Rattle.ncl_netlist.specs.Faults.{IsFaultless, drivers_at}
-use Rattle.ncl_netlist.proofs.NameLists.{same_itself, equal_names, take-once_each, number_of-get_or, list_any-once_each, AllDiffer-once_each}
+use Rattle.ncl_netlist.proofs.NameLists.{same_itself, equal_names, take-once_each, name_number-get_or, list_any-once_each, AllDiffer-once_each}
 use Rattle.ncl_origin.specs.Origin.{IsCell, IsInputPort, IsOutputPort}
 use Rattle.ncl_origin.specs.Free.{IsFree}
 use Rattle.ncl_base.proofs.Members.{Member, here, there, member_cases, Member-append_left, Member-append_cases, Member-map, Member-get_or, member_of_map, Contains-from_Member, Member-from_Contains, All-from_members, Contains-from_slice_get, slice_get-from_Contains, list_any-from_member, member_from_list_any, member_from_count, count_from_member}
@@ -239,10 +239,10 @@ module _ (n : NetlistData) (is_n : IsNetlist n) (free : IsFree n) (choice : Cell
 
   module _ (net : ℕ) (lt : net < length k.nets) (was : ℕ) (was_in : was < length n.nets) (same-name : name_at n was ≡ name_at k net) (driven : (b : Cell) → IsCell n b → b.out.0 ≡ was → (e : Cell) × (choice b ≡ Some e)) where
     to-was : to n is_n free choice chosen was ≡ net
-    to-was = ap (number_of k.nets) same-name ∙ number_of-get_or k.nets net [] nets-differ lt
+    to-was = ap (name_number k.nets) same-name ∙ name_number-get_or k.nets net [] nets-differ lt
 
     from-net : from n is_n free choice chosen net ≡ was
-    from-net = ap (number_of n.nets) (sym same-name) ∙ number_of-get_or n.nets was [] is_n.net_names was_in
+    from-net = ap (name_number n.nets) (sym same-name) ∙ name_number-get_or n.nets was [] is_n.net_names was_in
 
     drives-same : get_or (map drives n.ports) net 0 ≡ get_or (map drives n.ports) was 0
     drives-same =
@@ -251,7 +251,7 @@ module _ (n : NetlistData) (is_n : IsNetlist n) (free : IsFree n) (choice : Cell
           | inl port ↦
               let names : name_at n was ≡ name_at n net = same-name ∙ port-same net port in
               let in-n = port-within n is_n free choice chosen n is_n refl net port in
-              ap (λ x. get_or (map drives n.ports) x 0) (sym (number_of-get_or n.nets net [] is_n.net_names in-n) ∙ ap (number_of n.nets) (sym names) ∙ number_of-get_or n.nets was [] is_n.net_names was_in)
+              ap (λ x. get_or (map drives n.ports) x 0) (sym (name_number-get_or n.nets net [] is_n.net_names in-n) ∙ ap (name_number n.nets) (sym names) ∙ name_number-get_or n.nets was [] is_n.net_names was_in)
           | inr inner ↦
               elim (cases_lt was (length n.ports)) [
                 | inl port ↦
@@ -259,7 +259,7 @@ module _ (n : NetlistData) (is_n : IsNetlist n) (free : IsFree n) (choice : Cell
                     let first : length (take (length n.ports) k.nets) ≡ length n.ports = ap length first-nets ∙ length-map n.ports (λ (p : Port). p.name) in
                     let most = length-take (length n.ports) k.nets in
                     let in-k : was < length k.nets = omega (arith, first, most, port) in
-                    let one : was ≡ net = sym (number_of-get_or k.nets was [] nets-differ in-k) ∙ ap (number_of k.nets) names ∙ number_of-get_or k.nets net [] nets-differ lt in
+                    let one : was ≡ net = sym (name_number-get_or k.nets was [] nets-differ in-k) ∙ ap (name_number k.nets) names ∙ name_number-get_or k.nets net [] nets-differ lt in
                     absurd (omega (arith, one, inner, port))
                 | inr also ↦ get_or_past (map drives n.ports) net 0 (omega (arith, count, inner)) ∙ sym (get_or_past (map drives n.ports) was 0 (omega (arith, count, also)))
               ]

@@ -14,7 +14,7 @@ use Rattle.ncl_netlist.specs.declared.cell.Cell.{Cell}
 use Rattle.ncl_netlist.specs.declared.parts.PartCell.{PartCell}
 use Rattle.ncl_netlist.specs.Netlist.{NetlistData, IsNetlist, pin_names}
 use Rattle.ncl_netlist.specs.Parts.{port_names, part_of}
-use Rattle.ncl_netlist.proofs.NameLists.{get_or-number_of, number_of-lt-length}
+use Rattle.ncl_netlist.proofs.NameLists.{get_or-name_number, name_number-lt-length}
 use Rattle.ncl_origin.specs.Origin.{IsCell, CellAt, IsRegister, IsInputPort, IsOutputPort}
 use Rattle.ncl_origin.proofs.Drivers.{cell_fits}
 use Rattle.ncl_origin.proofs.OriginLaws.{place_of}
@@ -80,7 +80,7 @@ module _ (p : PipelineData) (shape : Shape p.netlist p) (lists : List (List Stag
 
   -- a net on a pin of a kept cell
   pub name-kept : (d : Cell) → Member d (kept choice n.cells) → (x : NetId) → Member x (d.ins.items ++ d.out ∷ []) → name_at m (to x.0) ≡ name_at n x.0
-  name-kept d m-d x m-x = get_or-number_of m.nets (name_at n x.0) [] (number_of-lt-length m.nets (name_at n x.0) (named n shape.is_netlist shape.free choice chosen d m-d x m-x))
+  name-kept d m-d x m-x = get_or-name_number m.nets (name_at n x.0) [] (name_number-lt-length m.nets (name_at n x.0) (named n shape.is_netlist shape.free choice chosen d m-d x m-x))
 
   -- a port
   name-port : (x : ℕ) → x < length n.ports → name_at m (to x) ≡ name_at n x

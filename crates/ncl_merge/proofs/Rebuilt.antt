@@ -11,10 +11,10 @@ use Rattle.ncl_netlist.specs.declared.ids.NetId.{NetId}
 use Rattle.ncl_netlist.specs.declared.port.Port.{Port}
 use Rattle.ncl_netlist.specs.declared.cell.Cell.{Cell}
 use Rattle.ncl_netlist.specs.declared.parts.PartCell.{PartCell}
-use Rattle.ncl_netlist.specs.Names.{same_name, number_of}
+use Rattle.ncl_netlist.specs.Names.{same_name, name_number}
 use Rattle.ncl_netlist.specs.Netlist.{NetlistData, IsNetlist}
 use Rattle.ncl_netlist.specs.Parts.{port_names, net_of, cell_of, netlist_of, part_of}
-use Rattle.ncl_netlist.proofs.NameLists.{same_itself, number_of-lt-length, get_or-number_of, number_of-get_or, list_any-once_each}
+use Rattle.ncl_netlist.proofs.NameLists.{same_itself, name_number-lt-length, get_or-name_number, name_number-get_or, list_any-once_each}
 use Rattle.ncl_origin.specs.Origin.{IsCell, CellAt, IsGate, ReadsNet, RailOf, AckOf}
 use Rattle.ncl_origin.specs.CellTests.{is_gate}
 use Rattle.ncl_origin.specs.Free.{IsFree}
@@ -164,7 +164,7 @@ module _ (n : NetlistData) (is_n : IsNetlist n) (free : IsFree n) (choice : Cell
 
   pub back : (x : ℕ) → x < length n.nets → IsNamed x → from (to x) ≡ x
   back x lt named =
-      ap (number_of n.nets) (get_or-number_of m.nets (name_at n x) [] (number_of-lt-length m.nets (name_at n x) named)) ∙ number_of-get_or n.nets x [] is_n.net_names lt
+      ap (name_number n.nets) (get_or-name_number m.nets (name_at n x) [] (name_number-lt-length m.nets (name_at n x) named)) ∙ name_number-get_or n.nets x [] is_n.net_names lt
 
   -- a net on a pin of a kept cell
   pub named : (d : Cell) → Member d (kept choice n.cells) → (x : NetId) → Member x (d.ins.items ++ d.out ∷ []) → IsNamed x.0
@@ -354,10 +354,10 @@ module _ (n : NetlistData) (is_n : IsNetlist n) (free : IsFree n) (choice : Cell
 
   module _ (is_m : IsNetlist m) where
     pub port-to : (net : ℕ) → net < length n.ports → to net ≡ net
-    port-to net lt = ap (number_of m.nets) (port-name n is_n refl net lt ∙ sym (port-name m is_m refl net lt)) ∙ number_of-get_or m.nets net [] is_m.net_names (port-within m is_m refl net lt)
+    port-to net lt = ap (name_number m.nets) (port-name n is_n refl net lt ∙ sym (port-name m is_m refl net lt)) ∙ name_number-get_or m.nets net [] is_m.net_names (port-within m is_m refl net lt)
 
     pub port-from : (net : ℕ) → net < length n.ports → from net ≡ net
-    port-from net lt = ap (number_of n.nets) (port-name m is_m refl net lt ∙ sym (port-name n is_n refl net lt)) ∙ number_of-get_or n.nets net [] is_n.net_names (port-within n is_n refl net lt)
+    port-from net lt = ap (name_number n.nets) (port-name m is_m refl net lt ∙ sym (port-name n is_n refl net lt)) ∙ name_number-get_or n.nets net [] is_n.net_names (port-within n is_n refl net lt)
 
     abbrev pub thinned-rebuilt : IsThinned n m
     thinned-rebuilt = record {

@@ -18,8 +18,8 @@ use Rattle.ncl_netlist.specs.declared.ids.NetId.{NetId}
 use Rattle.ncl_netlist.specs.declared.cell.Cell.{Cell}
 use Rattle.ncl_netlist.specs.declared.parts.PartCell.{PartCell}
 use Rattle.ncl_netlist.specs.Netlist.{NetlistData, IsNetlist, pin_names}
-use Rattle.ncl_netlist.specs.Names.{number_of}
-use Rattle.ncl_netlist.proofs.NameLists.{number_of-get_or}
+use Rattle.ncl_netlist.specs.Names.{name_number}
+use Rattle.ncl_netlist.proofs.NameLists.{name_number-get_or}
 use Rattle.ncl_origin.specs.Origin.{CellAt}
 use Rattle.ncl_shape.specs.declared.stage.StageCell.{StageCell}
 use Rattle.ncl_shape.specs.Stage.{StageData}
@@ -205,30 +205,30 @@ module _ (p : PipelineData) (shape : Shape p.netlist p) (lists : List (List Stag
             port-name n shape.is_netlist shape.free choice (is-choice p shape lists fewer) m is_m refl j port
             ∙ sym (port-name n shape.is_netlist shape.free choice (is-choice p shape lists fewer) n shape.is_netlist refl j port)
             ∙ get_or_from_slice_get n.nets j x [] at_j in
-            let one : number_of m.nets x ≡ j = ap (number_of m.nets) (sym there_is) ∙ number_of-get_or m.nets j [] is_m.net_names (port-within n shape.is_netlist shape.free choice (is-choice p shape lists fewer) m is_m refl j port) in
+            let one : name_number m.nets x ≡ j = ap (name_number m.nets) (sym there_is) ∙ name_number-get_or m.nets j [] is_m.net_names (port-within n shape.is_netlist shape.free choice (is-choice p shape lists fewer) m is_m refl j port) in
             let other = number-there (count + i) x at_m in
             absurd (omega (arith, one, other, port))
       ]
     where
-      number-there : (k : ℕ) (x : List ℕ) → slice_get m.nets k ≡ Some x → number_of m.nets x ≡ k
-      number-there k x at = ap (number_of m.nets) (sym (get_or_from_slice_get m.nets k x [] at)) ∙ number_of-get_or m.nets k [] is_m.net_names (slice_get_within m.nets k x at)
+      number-there : (k : ℕ) (x : List ℕ) → slice_get m.nets k ≡ Some x → name_number m.nets x ≡ k
+      number-there k x at = ap (name_number m.nets) (sym (get_or_from_slice_get m.nets k x [] at)) ∙ name_number-get_or m.nets k [] is_m.net_names (slice_get_within m.nets k x at)
 
   wires-short : length (flat_map wire_line (drop count m.nets)) ≤ length (flat_map wire_line (drop count n.nets))
   wires-short =
       let left = length-flat_map wire_line (drop count m.nets) in
       let right = length-flat_map wire_line (drop count n.nets) in
       let law : sum_by (λ x. length (wire_line x)) (drop count m.nets) ≤ sum_by (λ x. length (wire_line x)) (drop count n.nets) =
-      no_more (number_of m.nets) (number_of m.nets) (λ x. length (wire_line x)) (λ x. length (wire_line x)) (drop count m.nets) (drop count n.nets) wires-differ (λ x m-x.
+      no_more (name_number m.nets) (name_number m.nets) (λ x. length (wire_line x)) (λ x. length (wire_line x)) (drop count m.nets) (drop count n.nets) wires-differ (λ x m-x.
       let (i, at_x) = slice_get-from_Contains (drop count m.nets) x (Contains-from_Member x m-x) in
       inr (x, wire-known i x at_x, refl, omega arith)) in
       omega (arith, left, right, law)
     where
-      number-there : (k : ℕ) (x : List ℕ) → slice_get m.nets k ≡ Some x → number_of m.nets x ≡ k
-      number-there k x at = ap (number_of m.nets) (sym (get_or_from_slice_get m.nets k x [] at)) ∙ number_of-get_or m.nets k [] is_m.net_names (slice_get_within m.nets k x at)
+      number-there : (k : ℕ) (x : List ℕ) → slice_get m.nets k ≡ Some x → name_number m.nets x ≡ k
+      number-there k x at = ap (name_number m.nets) (sym (get_or_from_slice_get m.nets k x [] at)) ∙ name_number-get_or m.nets k [] is_m.net_names (slice_get_within m.nets k x at)
 
-      wires-differ : Differ (number_of m.nets) (drop count m.nets)
+      wires-differ : Differ (name_number m.nets) (drop count m.nets)
       wires-differ =
-          pairs-from_places (λ x y. number_of m.nets x ≢ number_of m.nets y) (drop count m.nets) (λ i j x y lt at_x at_y same.
+          pairs-from_places (λ x y. name_number m.nets x ≢ name_number m.nets y) (drop count m.nets) (λ i j x y lt at_x at_y same.
           let first = number-there (count + i) x (sym (slice_get-drop count m.nets i) ∙ at_x) in
           let second = number-there (count + j) y (sym (slice_get-drop count m.nets j) ∙ at_y) in
           omega (arith, first, second, same, lt))

@@ -13,14 +13,14 @@ use Rattle.ncl_netlist.specs.declared.parts.PartCell.{PartCell}
 use Rattle.ncl_netlist.specs.declared.parts.Parts.{Parts}
 use Rattle.ncl_netlist.specs.declared.cell.Cell.{Cell}
 use Rattle.ncl_netlist.specs.declared.port.Port.{Port}
-use Rattle.ncl_netlist.specs.Names.{same_name, AllDiffer, once_each, number_of, IsFirstWhere}
+use Rattle.ncl_netlist.specs.Names.{same_name, AllDiffer, once_each, name_number, IsFirstWhere}
 use Rattle.ncl_netlist.specs.declared.ids.NetId.{NetId}
 use Rattle.ncl_netlist.specs.Netlist.{drives, pin_names, CellFits, IsNetlist}
 use Rattle.ncl_netlist.specs.Parts.{HasAllPins, port_names, nets_of, input_names, output_name, net_of, cell_of, netlist_of}
 use Rattle.ncl_netlist.specs.Faults.{HasFewCells, HasOwnCellNames, IsFaultless, IsFaultOf, IsFaultOfCounts, drivers_at}
 use Rattle.ncl_netlist.specs.declared.build_fault.BuildFault.{BuildFault}
 use Rattle.ncl_netlist.specs.declared.build_fault.BuildFault.TheVariants.{TooMany, SameName, TwoDrivers, NoDriver, Memory}
-use Rattle.ncl_netlist.proofs.NameLists.{same_itself, insert_all-none, AllDiffer-once_each, take-once_each, length-insert_all, number_of-lt-length, list_any-once_each, get_or-number_of}
+use Rattle.ncl_netlist.proofs.NameLists.{same_itself, insert_all-none, AllDiffer-once_each, take-once_each, length-insert_all, name_number-lt-length, list_any-once_each, get_or-name_number}
 
 or_true : (b : Bool) → (b || true) ≡ true
 or_true true = refl
@@ -35,22 +35,22 @@ pins_all P (c ∷ cells) h =
     (pins_all P cells (λ x e. h x (list_any-append (same_name x) c.pins (flat_map (λ cell. cell.pins) cells) ∙ ap (λ b. list_any (same_name x) c.pins || b) e ∙ or_true (list_any (same_name x) c.pins))))
 
 -- the numbers of a cell's nets are below the number of nets, where those of its names are
-fits : (nets : List (List ℕ)) (cell : PartCell) → HasAllPins cell → All (λ x. number_of nets x < length nets) cell.pins → CellFits (length nets) (cell_of nets cell)
+fits : (nets : List (List ℕ)) (cell : PartCell) → HasAllPins cell → All (λ x. name_number nets x < length nets) cell.pins → CellFits (length nets) (cell_of nets cell)
 fits nets cell all each =
     let last = length cell.pins - 1 in
     let some = pins_of-some cell.kind in
     record {
       output = each last [] (omega (arith, all));
-      inputs = All-map (λ net. net.0 < length nets) (net_of nets) (input_names cell) (All-take (λ x. number_of nets x < length nets) last cell.pins each);
+      inputs = All-map (λ net. net.0 < length nets) (net_of nets) (input_names cell) (All-take (λ x. name_number nets x < length nets) last cell.pins each);
       pins = omega (arith, length-map (input_names cell) (net_of nets), length-take last cell.pins, all);
     }
 
 -- the names of the nets that some names have are these names
-names-of_numbers : (nets xs : List (List ℕ)) → All (λ x. number_of nets x < length nets) xs → map (λ (net : NetId). get_or nets net.0 []) (map (net_of nets) xs) ≡ xs
+names-of_numbers : (nets xs : List (List ℕ)) → All (λ x. name_number nets x < length nets) xs → map (λ (net : NetId). get_or nets net.0 []) (map (net_of nets) xs) ≡ xs
 names-of_numbers nets [] known = refl
 names-of_numbers nets (x ∷ xs) known =
-    let first = get_or-number_of nets x [] (All-head (λ x. number_of nets x < length nets) x xs known) in
-    let rest = names-of_numbers nets xs (All-tail (λ x. number_of nets x < length nets) x xs known) in
+    let first = get_or-name_number nets x [] (All-head (λ x. name_number nets x < length nets) x xs known) in
+    let rest = names-of_numbers nets xs (All-tail (λ x. name_number nets x < length nets) x xs known) in
     λ i. first i ∷ rest i
 
 -- a list is its first k elements and the one after them, where it has no more
@@ -61,18 +61,18 @@ front_and_last (x ∷ (y ∷ xs)) zero d many = absurd (omega (arith, many))
 front_and_last (x ∷ xs) (suc k) d many = ap (λ l. x ∷ l) (front_and_last xs k d (omega (arith, many)))
 
 -- the names at the pins of a cell whose nets are numbered are the names that it was given
-pin_names-cell_of : (nets : List (List ℕ)) (cell : PartCell) → HasAllPins cell → All (λ x. number_of nets x < length nets) cell.pins → pin_names nets (cell_of nets cell) ≡ cell.pins
+pin_names-cell_of : (nets : List (List ℕ)) (cell : PartCell) → HasAllPins cell → All (λ x. name_number nets x < length nets) cell.pins → pin_names nets (cell_of nets cell) ≡ cell.pins
 pin_names-cell_of nets cell all known =
     let some = pins_of-some cell.kind in
     let whole = front_and_last cell.pins (length cell.pins - 1) [] (omega (arith, all, some)) in
     let numbers = map-append (net_of nets) (input_names cell) (output_name cell ∷ []) in
     ap (map (λ (net : NetId). get_or nets net.0 [])) (sym numbers ∙ ap (map (net_of nets)) whole) ∙ names-of_numbers nets cell.pins known
 
-all_pin_names : (nets : List (List ℕ)) (cells : List PartCell) → All HasAllPins cells → All (λ cell. All (λ x. number_of nets x < length nets) cell.pins) cells → flat_map (pin_names nets) (map (cell_of nets) cells) ≡ flat_map (λ cell. cell.pins) cells
+all_pin_names : (nets : List (List ℕ)) (cells : List PartCell) → All HasAllPins cells → All (λ cell. All (λ x. name_number nets x < length nets) cell.pins) cells → flat_map (pin_names nets) (map (cell_of nets) cells) ≡ flat_map (λ cell. cell.pins) cells
 all_pin_names nets [] all known = refl
 all_pin_names nets (c ∷ cells) all known =
-    let first = pin_names-cell_of nets c (All-head HasAllPins c cells all) (All-head (λ cell. All (λ x. number_of nets x < length nets) cell.pins) c cells known) in
-    let rest = all_pin_names nets cells (All-tail HasAllPins c cells all) (All-tail (λ cell. All (λ x. number_of nets x < length nets) cell.pins) c cells known) in
+    let first = pin_names-cell_of nets c (All-head HasAllPins c cells all) (All-head (λ cell. All (λ x. name_number nets x < length nets) cell.pins) c cells known) in
+    let rest = all_pin_names nets cells (All-tail HasAllPins c cells all) (All-tail (λ cell. All (λ x. name_number nets x < length nets) cell.pins) c cells known) in
     λ i. first i ++ rest i
 
 -- the cells have five pins at most
@@ -83,10 +83,10 @@ length-flat_map-pins (c ∷ cells) all =
 
 module _ (parts : Parts) where
   -- each name at a pin is a net
-  each_net : All (λ cell. All (λ x. number_of (nets_of parts) x < length (nets_of parts)) cell.pins) parts.cells
+  each_net : All (λ cell. All (λ x. name_number (nets_of parts) x < length (nets_of parts)) cell.pins) parts.cells
   each_net =
-      pins_all (λ x. number_of (nets_of parts) x < length (nets_of parts)) parts.cells
-      (λ x e. number_of-lt-length (nets_of parts) x (list_any-once_each (port_names parts ++ flat_map (λ cell. cell.pins) parts.cells) x ∙ list_any-append (same_name x) (port_names parts) (flat_map (λ cell. cell.pins) parts.cells) ∙ ap (λ b. list_any (same_name x) (port_names parts) || b) e ∙ or_true (list_any (same_name x) (port_names parts))))
+      pins_all (λ x. name_number (nets_of parts) x < length (nets_of parts)) parts.cells
+      (λ x e. name_number-lt-length (nets_of parts) x (list_any-once_each (port_names parts ++ flat_map (λ cell. cell.pins) parts.cells) x ∙ list_any-append (same_name x) (port_names parts) (flat_map (λ cell. cell.pins) parts.cells) ∙ ap (λ b. list_any (same_name x) (port_names parts) || b) e ∙ or_true (list_any (same_name x) (port_names parts))))
 
   pub cells_fit : All HasAllPins parts.cells → All (CellFits (length (nets_of parts))) (map (cell_of (nets_of parts)) parts.cells)
   cells_fit all =

@@ -9,7 +9,7 @@ use Rattle.std.proofs.lemmas.List.Sums.{fold-append, position_or_len_is, passes_
 use Rattle.std.proofs.lemmas.Map.Keys.{IsDistinct-head, IsDistinct-tail, apart_from_distinct, IsDistinct-push}
 use Rattle.std.proofs.lemmas.Grind.{common_steps}
 use Rattle.indexmap.specs.IndexSet.{insert_key, insert_all}
-use Rattle.ncl_netlist.specs.Names.{same_name, AllDiffer, once_each, number_of}
+use Rattle.ncl_netlist.specs.Names.{same_name, AllDiffer, once_each, name_number}
 
 -- ---- names that are the same
 
@@ -167,18 +167,18 @@ length-insert_all ks (x ∷ xs) =
 -- ---- the number of a name
 
 -- a name that is inserted has its number whatever comes later
-pub number_of-insert_key : (ks : List (List ℕ)) (x : List ℕ) (more : List (List ℕ)) → number_of (insert_key same_name ks x ++ more) x ≡ number_of ks x
-number_of-insert_key [] x more = ap (λ c. cond (not c) (1 + number_of more x) 0) (same_itself x)
-number_of-insert_key (k ∷ ks) x more = by (same_name x k) (list_any (same_name x) ks) refl refl (number_of-insert_key ks x more)
+pub name_number-insert_key : (ks : List (List ℕ)) (x : List ℕ) (more : List (List ℕ)) → name_number (insert_key same_name ks x ++ more) x ≡ name_number ks x
+name_number-insert_key [] x more = ap (λ c. cond (not c) (1 + name_number more x) 0) (same_itself x)
+name_number-insert_key (k ∷ ks) x more = by (same_name x k) (list_any (same_name x) ks) refl refl (name_number-insert_key ks x more)
   where
     inserted : List (List ℕ)
     inserted = insert_key same_name ks x
 
-    past : same_name x k ≡ false → (l : List (List ℕ)) → number_of (k ∷ l) x ≡ 1 + number_of l x
-    past e l = ap (λ c. cond (not c) (1 + number_of l x) 0) e
+    past : same_name x k ≡ false → (l : List (List ℕ)) → name_number (k ∷ l) x ≡ 1 + name_number l x
+    past e l = ap (λ c. cond (not c) (1 + name_number l x) 0) e
 
-    here : same_name x k ≡ true → (l : List (List ℕ)) → number_of (k ∷ l) x ≡ 0
-    here e l = ap (λ c. cond (not c) (1 + number_of l x) 0) e
+    here : same_name x k ≡ true → (l : List (List ℕ)) → name_number (k ∷ l) x ≡ 0
+    here e l = ap (λ c. cond (not c) (1 + name_number l x) 0) e
 
     later : (c : Bool) → same_name x k ≡ false → list_any (same_name x) ks ≡ c → insert_key same_name (k ∷ ks) x ≡ k ∷ inserted
     later true e f =
@@ -186,35 +186,35 @@ number_of-insert_key (k ∷ ks) x more = by (same_name x k) (list_any (same_name
     later false e f =
         insert_fresh (k ∷ ks) x (ap (λ c. c || list_any (same_name x) ks) e ∙ f) ∙ ap (λ l. k ∷ l) (sym (insert_fresh ks x f))
 
-    by : (b c : Bool) → same_name x k ≡ b → list_any (same_name x) ks ≡ c → number_of (inserted ++ more) x ≡ number_of ks x → number_of (insert_key same_name (k ∷ ks) x ++ more) x ≡ number_of (k ∷ ks) x
+    by : (b c : Bool) → same_name x k ≡ b → list_any (same_name x) ks ≡ c → name_number (inserted ++ more) x ≡ name_number ks x → name_number (insert_key same_name (k ∷ ks) x ++ more) x ≡ name_number (k ∷ ks) x
     by true c e f rec =
-        ap (λ l. number_of (l ++ more) x) (insert_present (k ∷ ks) x (ap (λ b. b || list_any (same_name x) ks) e))
+        ap (λ l. name_number (l ++ more) x) (insert_present (k ∷ ks) x (ap (λ b. b || list_any (same_name x) ks) e))
         ∙ here e (ks ++ more) ∙ sym (here e ks)
     by false c e f rec =
-        ap (λ l. number_of (l ++ more) x) (later c e f)
+        ap (λ l. name_number (l ++ more) x) (later c e f)
         ∙ past e (inserted ++ more) ∙ ap (λ n. 1 + n) rec ∙ sym (past e ks)
 
 -- a name of the list has a number below its length
-pub number_of-lt-length : (names : List (List ℕ)) (x : List ℕ) → list_any (same_name x) names ≡ true → number_of names x < length names
-number_of-lt-length [] x h = grind arith
-number_of-lt-length (y ∷ ys) x h = by (same_name x y) refl (number_of-lt-length ys x)
+pub name_number-lt-length : (names : List (List ℕ)) (x : List ℕ) → list_any (same_name x) names ≡ true → name_number names x < length names
+name_number-lt-length [] x h = grind arith
+name_number-lt-length (y ∷ ys) x h = by (same_name x y) refl (name_number-lt-length ys x)
   where
-    by : (b : Bool) → same_name x y ≡ b → (list_any (same_name x) ys ≡ true → number_of ys x < length ys) → number_of (y ∷ ys) x < length (y ∷ ys)
+    by : (b : Bool) → same_name x y ≡ b → (list_any (same_name x) ys ≡ true → name_number ys x < length ys) → name_number (y ∷ ys) x < length (y ∷ ys)
     by true e rec =
-        let n : number_of (y ∷ ys) x ≡ 0 = ap (λ c. cond (not c) (1 + number_of ys x) 0) e in
+        let n : name_number (y ∷ ys) x ≡ 0 = ap (λ c. cond (not c) (1 + name_number ys x) 0) e in
         omega (arith, n)
     by false e rec =
-        let n : number_of (y ∷ ys) x ≡ 1 + number_of ys x = ap (λ c. cond (not c) (1 + number_of ys x) 0) e in
+        let n : name_number (y ∷ ys) x ≡ 1 + name_number ys x = ap (λ c. cond (not c) (1 + name_number ys x) 0) e in
         omega (arith, n, rec (sym (ap (λ c. c || list_any (same_name x) ys) e) ∙ h))
 
 -- the name at the number of a name is that name
-pub get_or-number_of : (names : List (List ℕ)) (x d : List ℕ) → number_of names x < length names → get_or names (number_of names x) d ≡ x
-get_or-number_of names x d within =
-    sym (equal_names x (get_or names (number_of names x) d) (passes_at_first (same_name x) names d within))
+pub get_or-name_number : (names : List (List ℕ)) (x d : List ℕ) → name_number names x < length names → get_or names (name_number names x) d ≡ x
+get_or-name_number names x d within =
+    sym (equal_names x (get_or names (name_number names x) d) (passes_at_first (same_name x) names d within))
 
 -- the number of the name at a place is that place, where names differ
-pub number_of-get_or : (names : List (List ℕ)) (i : ℕ) (d : List ℕ) → AllDiffer names → i < length names → number_of names (get_or names i d) ≡ i
-number_of-get_or names i d differ within =
+pub name_number-get_or : (names : List (List ℕ)) (i : ℕ) (d : List ℕ) → AllDiffer names → i < length names → name_number names (get_or names i d) ≡ i
+name_number-get_or names i d differ within =
     position_or_len_is (same_name (get_or names i d)) names i d (omega arith)
     (λ k before. same_flipped (get_or names i d) (get_or names k d) ∙ apart_from_distinct same_name names k i d differ before within)
     (λ _. same_itself (get_or names i d))

@@ -8,9 +8,9 @@ use Rattle.std.proofs.lemmas.Option.{same_Some, none-some, slice_get-map, slice_
 use Rattle.ncl_netlist.specs.declared.ids.NetId.{NetId}
 use Rattle.ncl_netlist.specs.declared.port.Port.{Port}
 use Rattle.ncl_netlist.specs.declared.cell.Cell.{Cell}
-use Rattle.ncl_netlist.specs.Names.{number_of}
+use Rattle.ncl_netlist.specs.Names.{name_number}
 use Rattle.ncl_netlist.specs.Netlist.{NetlistData, drives, CellFits, IsNetlist}
-use Rattle.ncl_netlist.proofs.NameLists.{number_of-get_or}
+use Rattle.ncl_netlist.proofs.NameLists.{name_number-get_or}
 
 -- ---- how many of a list pass a test
 
@@ -79,14 +79,14 @@ module _ (n : NetlistData) (ok : IsNetlist n) where
   -- ---- nets and ports
 
   -- the number of a net's name is the number of the net
-  pub number_of-net : (net : ℕ) (x : List ℕ) → slice_get n.nets net ≡ Some x → number_of n.nets x ≡ net
-  number_of-net net x at =
-      ap (number_of n.nets) (sym (get_or_from_slice_get n.nets net x [] at))
-      ∙ number_of-get_or n.nets net [] ok.net_names (slice_get_within n.nets net x at)
+  pub name_number-net : (net : ℕ) (x : List ℕ) → slice_get n.nets net ≡ Some x → name_number n.nets x ≡ net
+  name_number-net net x at =
+      ap (name_number n.nets) (sym (get_or_from_slice_get n.nets net x [] at))
+      ∙ name_number-get_or n.nets net [] ok.net_names (slice_get_within n.nets net x at)
 
   -- two nets with one name are one
   pub same_net : (i j : ℕ) (x : List ℕ) → slice_get n.nets i ≡ Some x → slice_get n.nets j ≡ Some x → i ≡ j
-  same_net i j x a b = sym (number_of-net i x a) ∙ number_of-net j x b
+  same_net i j x a b = sym (name_number-net i x a) ∙ name_number-net j x b
 
   -- there are at least as many nets as ports
   pub ports-le-nets : length n.ports ≤ length n.nets

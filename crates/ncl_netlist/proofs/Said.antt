@@ -5,17 +5,17 @@ use Rattle.std.proofs.lemmas.List.{length-append, length-map, take_at, get_or_at
 use Rattle.std.proofs.lemmas.List.Elements.{All-head, All-tail}
 use Rattle.ncl_netlist.specs.declared.ids.NetId.{NetId}
 use Rattle.ncl_netlist.specs.declared.cell.Cell.{Cell}
-use Rattle.ncl_netlist.specs.Names.{AllDiffer, once_each, number_of}
+use Rattle.ncl_netlist.specs.Names.{AllDiffer, once_each, name_number}
 use Rattle.ncl_netlist.specs.Netlist.{NetlistData, drivers_of, pin_names, CellFits, IsNetlist}
 use Rattle.ncl_netlist.specs.Parts.{input_names, output_name, net_of, cell_of, nets_of, netlist_of, part_of, parts_said}
 use Rattle.ncl_netlist.specs.Faults.{IsFaultless, drivers_at}
-use Rattle.ncl_netlist.proofs.NameLists.{number_of-get_or}
+use Rattle.ncl_netlist.proofs.NameLists.{name_number-get_or}
 
 -- the numbers of the names of nets are those of the nets, where names differ
 numbers-of_names : (nets : List (List ℕ)) (ids : List NetId) → AllDiffer nets → All (λ net. net.0 < length nets) ids → map (net_of nets) (map (λ (net : NetId). get_or nets net.0 []) ids) ≡ ids
 numbers-of_names nets [] differ within = refl
 numbers-of_names nets (net ∷ ids) differ within =
-    let first = number_of-get_or nets net.0 [] differ (All-head (λ (one : NetId). one.0 < length nets) net ids within) in
+    let first = name_number-get_or nets net.0 [] differ (All-head (λ (one : NetId). one.0 < length nets) net ids within) in
     let rest = numbers-of_names nets ids differ (All-tail (λ (one : NetId). one.0 < length nets) net ids within) in
     λ i. record { 0 = first i } ∷ rest i
 
@@ -30,7 +30,7 @@ cell_of-part_of nets cell differ fits =
     let output : output_name (part_of nets cell) ≡ name cell.out =
     ap (λ k. get_or (pin_names nets cell) k []) last ∙ ap (λ l. get_or l (length (map name cell.ins.items)) []) pins ∙ get_or_at (map name cell.ins.items) (name cell.out) [] [] (length (map name cell.ins.items)) refl in
     let items : map (net_of nets) (input_names (part_of nets cell)) ≡ cell.ins.items = ap (map (net_of nets)) inputs ∙ numbers-of_names nets cell.ins.items differ fits.inputs in
-    let out : number_of nets (output_name (part_of nets cell)) ≡ cell.out.0 = ap (number_of nets) output ∙ number_of-get_or nets cell.out.0 [] differ fits.output in
+    let out : name_number nets (output_name (part_of nets cell)) ≡ cell.out.0 = ap (name_number nets) output ∙ name_number-get_or nets cell.out.0 [] differ fits.output in
     λ i. record { kind = cell.kind; name = cell.name; ins = record { items = items i }; out = record { 0 = out i } }
 
 cells_of-parts_of : (nets : List (List ℕ)) (cells : List Cell) → AllDiffer nets → All (CellFits (length nets)) cells → map (cell_of nets) (map (part_of nets) cells) ≡ cells

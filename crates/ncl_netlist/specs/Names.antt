@@ -17,8 +17,8 @@ once_each [] = []
 once_each (x ∷ xs) = x ∷ filter (λ y. not (same_name y x)) (once_each xs)
 
 -- the number of a name: the place of the first name that is the same, counted from 0
-abbrev pub number_of : List (List ℕ) → List ℕ → ℕ
-number_of names x = position_or_len (same_name x) names
+abbrev pub name_number : List (List ℕ) → List ℕ → ℕ
+name_number names x = position_or_len (same_name x) names
 
 -- the name at the place k stands at an earlier place too
 pub record Repeats (names : List (List ℕ)) (k : ℕ) : Type 0 where

@@ -7,7 +7,7 @@ use Rattle.ncl_netlist.specs.declared.ids.NetId.{NetId}
 use Rattle.ncl_netlist.specs.declared.cell.Cell.{Cell}
 use Rattle.ncl_netlist.specs.declared.parts.PartCell.{PartCell}
 use Rattle.ncl_netlist.specs.declared.parts.Parts.{Parts}
-use Rattle.ncl_netlist.specs.Names.{once_each, number_of}
+use Rattle.ncl_netlist.specs.Names.{once_each, name_number}
 use Rattle.ncl_netlist.specs.Netlist.{NetlistData, pin_names}
 
 -- the cell has one net for each pin of its kind
@@ -37,7 +37,7 @@ output_name cell = slice_index_or cell.pins (length cell.pins - 1) []
 
 -- the number of the net of a name
 abbrev pub net_of : List (List ℕ) → List ℕ → NetId
-net_of nets x = record { 0 = number_of nets x }
+net_of nets x = record { 0 = name_number nets x }
 
 -- the cell, with the numbers of its nets in place of their names
 abbrev pub cell_of : List (List ℕ) → PartCell → Cell

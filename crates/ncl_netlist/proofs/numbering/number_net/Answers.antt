@@ -1,12 +1,12 @@
 use Rattle.std.proofs.Common.{◌≡◌, ◌++◌, sym, ap, ◌∙◌}
-use Rattle.ncl_netlist.specs.Names.{number_of}
-use Rattle.ncl_netlist.proofs.NameLists.{number_of-insert_key}
+use Rattle.ncl_netlist.specs.Names.{name_number}
+use Rattle.ncl_netlist.proofs.NameLists.{name_number-insert_key}
 use Rattle.ncl_netlist.proofs.numbering.number_net.Goals as goal
 
 pub returns-clause-net : goal.returns-clause-net
 returns-clause-net c = λ more.
-    let place : c.in_ok-place.place ≡ number_of (c.insert_full.new.self.keys ++ more) c.args.name =
+    let place : c.in_ok-place.place ≡ name_number (c.insert_full.new.self.keys ++ more) c.args.name =
     c.in_ok-place.ensures.index
-    ∙ sym (number_of-insert_key c.args.names.now.keys c.args.name more)
-    ∙ ap (λ l. number_of (l ++ more) c.args.name) (sym c.in_ok-place.ensures.keys) in
+    ∙ sym (name_number-insert_key c.args.names.now.keys c.args.name more)
+    ∙ ap (λ l. name_number (l ++ more) c.args.name) (sym c.in_ok-place.ensures.keys) in
     λ i. record { 0 = place i }

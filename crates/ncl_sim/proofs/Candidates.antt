@@ -11,7 +11,7 @@ use Rattle.ncl_shape.specs.Pipeline.{PipelineData}
 use Rattle.ncl_shape.specs.Stage.{named_rails}
 use Rattle.ncl_machine.specs.State.{State}
 use Rattle.ncl_machine.specs.Steps.{current_rails, enabled, has_value, is_excited, rails_of_word}
-use Rattle.ncl_sim.specs.Numbers.{number_of}
+use Rattle.ncl_sim.specs.Numbers.{item_number}
 use Rattle.ncl_sim.specs.Candidates.{bit_candidate, candidate, number_count, sink_candidate}
 
 -- ---- where each kind of item stands
@@ -76,7 +76,7 @@ bit_within p s bit value on =
     let few : length (current_rails p s) ≤ length p.inputs = few_rails p.inputs (slice_get s.offered s.done) in
     omega (arith, within, few)
 
-pub number_within : (p : PipelineData) (s : State) (item : Item) → enabled p s item ≡ true → number_of p item < number_count p
+pub number_within : (p : PipelineData) (s : State) (item : Item) → enabled p s item ≡ true → item_number p item < number_count p
 number_within p s (Fire cell) on = let within : cell.0 < length p.netlist.cells = excited_within s.value p.netlist.cells cell.0 on in omega arith
 number_within p s (Raise bit) on = let within : bit < length p.inputs = bit_within p s bit false (and3 (not s.falling) (s.value p.ko) _ on).2 in omega arith
 number_within p s (Lower bit) on = let within : bit < length p.inputs = bit_within p s bit true (and3 s.falling (not (s.value p.ko)) _ on).2 in omega arith
@@ -84,7 +84,7 @@ number_within p s Take on = omega arith
 number_within p s Ready on = omega arith
 
 -- an enabled item is the candidate of its number
-pub candidate_of : (p : PipelineData) (s : State) (item : Item) → enabled p s item ≡ true → candidate p s (number_of p item) ≡ item
+pub candidate_of : (p : PipelineData) (s : State) (item : Item) → enabled p s item ≡ true → candidate p s (item_number p item) ≡ item
 candidate_of p s (Fire cell) on = cell_candidate p s cell.0 (excited_within s.value p.netlist.cells cell.0 on)
 candidate_of p s (Raise bit) on =
     let parts = and3 (not s.falling) (s.value p.ko) (has_value s.value (slice_get (current_rails p s) bit) false) on in
@@ -96,29 +96,29 @@ candidate_of p s Take on = candidate_at_sink p s (length p.netlist.cells + lengt
 candidate_of p s Ready on = candidate_at_sink p s (length p.netlist.cells + length p.inputs) (omega arith) ∙ ap sink_candidate (not-true (s.value p.ki) (and2 (not (s.value p.ki)) _ on))
 
 -- so enabled items of one number are one
-pub one_of_number : (p : PipelineData) (s : State) (x y : Item) → enabled p s x ≡ true → enabled p s y ≡ true → number_of p x ≡ number_of p y → x ≡ y
+pub one_of_number : (p : PipelineData) (s : State) (x y : Item) → enabled p s x ≡ true → enabled p s y ≡ true → item_number p x ≡ item_number p y → x ≡ y
 one_of_number p s x y on_x on_y same = sym (candidate_of p s x on_x) ∙ ap (candidate p s) same ∙ candidate_of p s y on_y
 
 -- ---- the candidate of a number has that number
 
-bit_candidate-number : (p : PipelineData) (falling : Bool) (bit : ℕ) → number_of p (bit_candidate falling bit) ≡ length p.netlist.cells + bit
+bit_candidate-number : (p : PipelineData) (falling : Bool) (bit : ℕ) → item_number p (bit_candidate falling bit) ≡ length p.netlist.cells + bit
 bit_candidate-number p true bit = refl
 bit_candidate-number p false bit = refl
 
-sink_candidate-number : (p : PipelineData) (asks : Bool) → number_of p (sink_candidate asks) ≡ length p.netlist.cells + length p.inputs
+sink_candidate-number : (p : PipelineData) (asks : Bool) → item_number p (sink_candidate asks) ≡ length p.netlist.cells + length p.inputs
 sink_candidate-number p true = refl
 sink_candidate-number p false = refl
 
-pub candidate-number : (p : PipelineData) (s : State) (k : ℕ) → k < number_count p → number_of p (candidate p s k) ≡ k
+pub candidate-number : (p : PipelineData) (s : State) (k : ℕ) → k < number_count p → item_number p (candidate p s k) ≡ k
 candidate-number p s k within =
     elim (cases_lt k (length p.netlist.cells)) [
-      | inl cell ↦ ap (number_of p) (cell_candidate p s k cell)
+      | inl cell ↦ ap (item_number p) (cell_candidate p s k cell)
       | inr past ↦ elim (cases_lt k (length p.netlist.cells + length p.inputs)) [
         | inl bit ↦
             let place : length p.netlist.cells + (k - length p.netlist.cells) ≡ k = omega arith in
-            ap (number_of p) (candidate_at_bit p s k past bit) ∙ bit_candidate-number p s.falling (k - length p.netlist.cells) ∙ place
+            ap (item_number p) (candidate_at_bit p s k past bit) ∙ bit_candidate-number p s.falling (k - length p.netlist.cells) ∙ place
         | inr sink ↦
             let place : length p.netlist.cells + length p.inputs ≡ k = omega arith in
-            ap (number_of p) (candidate_at_sink p s k sink) ∙ sink_candidate-number p (s.value p.ki) ∙ place
+            ap (item_number p) (candidate_at_sink p s k sink) ∙ sink_candidate-number p (s.value p.ki) ∙ place
       ]
     ]

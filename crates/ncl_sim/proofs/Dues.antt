@@ -6,7 +6,7 @@ use Rattle.ncl_machine.specs.State.{State, reset}
 use Rattle.ncl_machine.specs.Steps.{enabled, step}
 use Rattle.ncl_machine.specs.Run.{after}
 use Rattle.ncl_delay.specs.Delays.{DelaysData}
-use Rattle.ncl_sim.specs.Numbers.{number_of}
+use Rattle.ncl_sim.specs.Numbers.{item_number}
 use Rattle.ncl_sim.specs.TimedRun.{items_in, state_after, due_next, due_step, due_along, due_after, IsNext, ComesFirst}
 use Rattle.ncl_delay.specs.declared.fired.Fired.{Fired}
 
@@ -32,21 +32,21 @@ some_along : (p : PipelineData) (d : DelaysData) (item : Item) (s : State) (befo
 some_along p d item s before [] some on = some on
 some_along p d item s before (f ∷ steps) some on =
     some_along p d item (step p s f.item) (due_step p d (step p s f.item) f item before) steps
-    (λ now. rw now (some_next p d (step p s f.item) item (eqb (number_of p f.item) (number_of p item)) f.time before)) on
+    (λ now. rw now (some_next p d (step p s f.item) item (eqb (item_number p f.item) (item_number p item)) f.time before)) on
 
 -- what is enabled is due
 pub some_after : (p : PipelineData) (d : DelaysData) (offered : List (List Bool)) (steps : List Fired) (item : Item) → enabled p (state_after p offered steps) item ≡ true → (due : ℕ) × (due_after p d offered steps item ≡ Some due)
 some_after p d offered steps item on = some_along p d item (reset p offered) _ steps (λ now. rw now (_, refl)) on
 
 -- of two that come first, each before the other, the times and the numbers are the same
-same_first : (p : PipelineData) (f g : Fired) → ComesFirst p f g.time g.item → ComesFirst p g f.time f.item → (f.time ≡ g.time) × (number_of p f.item ≡ number_of p g.item)
+same_first : (p : PipelineData) (f g : Fired) → ComesFirst p f g.time g.item → ComesFirst p g f.time f.item → (f.time ≡ g.time) × (item_number p f.item ≡ item_number p g.item)
 same_first p f g (inl x) (inl y) = absurd (omega arith)
 same_first p f g (inl x) (inr y) = let e = y.0 in absurd (omega arith)
 same_first p f g (inr x) (inl y) = let e = x.0 in absurd (omega arith)
 same_first p f g (inr x) (inr y) = let e = x.1 in let h = y.1 in (x.0, omega arith)
 
 -- there is one next entry, where enabled items of one number are one
-pub next_is_one : (p : PipelineData) (d : DelaysData) (offered : List (List Bool)) (before : List Fired) (f g : Fired) → (number_of p f.item ≡ number_of p g.item → f.item ≡ g.item) → IsNext p d offered before f → IsNext p d offered before g → f ≡ g
+pub next_is_one : (p : PipelineData) (d : DelaysData) (offered : List (List Bool)) (before : List Fired) (f g : Fired) → (item_number p f.item ≡ item_number p g.item → f.item ≡ g.item) → IsNext p d offered before f → IsNext p d offered before g → f ≡ g
 next_is_one p d offered before f g one is_f is_g =
     let (times, numbers) = same_first p f g (is_f.first g.item g.time is_g.due) (is_g.first f.item f.time is_f.due) in
     let items = one numbers in

@@ -15,7 +15,7 @@ use Rattle.ncl_machine.specs.Steps.{after_lower, current_rails, enabled, put_at,
 use Rattle.ncl_machine.specs.Run.{IsQuiet, IsRunFrom, after}
 use Rattle.ncl_delay.specs.Delays.{DelaysData}
 use Rattle.ncl_sim.specs.Running.{GoesOn}
-use Rattle.ncl_sim.specs.Numbers.{number_of}
+use Rattle.ncl_sim.specs.Numbers.{item_number}
 use Rattle.ncl_sim.specs.TimedRun.{Ends, IsLost, IsNext, IsTimedRun, LosesNone, TraceData, due_after, is_take, items_in, last_time, lost, most_steps, over, quiet, state_after, takes_in}
 use Rattle.ncl_sim.specs.declared.trace.Taken.{Taken}
 use Rattle.ncl_sim.specs.declared.trace.End.{End}
@@ -56,7 +56,7 @@ split-more (s ∷ steps) f (b ∷ before) rest g e =
 
 abbrev pub is_lost_at : PipelineData → List (List Bool) → List Fired → List Fired → Fired → ℕ → Bool
 is_lost_at p offered steps before last k =
-    not (eqb (number_of p last.item) k)
+    not (eqb (item_number p last.item) k)
     && (enabled p (state_after p offered before) (candidate p (state_after p offered before) k)
     && not (enabled p (state_after p offered steps) (candidate p (state_after p offered before) k)))
 
@@ -69,32 +69,32 @@ where_zero true n e = refl
 where_zero false n e = absurd cc
 
 -- what was lost shows at its number
-lost_shows : (p : PipelineData) (offered : List (List Bool)) (steps before : List Fired) (last : Fired) → steps ≡ before ++ last ∷ [] → (other : Item) → IsLost p offered steps other → is_lost_at p offered steps before last (number_of p other) ≡ true
+lost_shows : (p : PipelineData) (offered : List (List Bool)) (steps before : List Fired) (last : Fired) → steps ≡ before ++ last ∷ [] → (other : Item) → IsLost p offered steps other → is_lost_at p offered steps before last (item_number p other) ≡ true
 lost_shows p offered steps before last split other is =
     let (front, end) = same_last is.before before is.last last (sym is.split ∙ split) in
     let was : enabled p (state_after p offered before) other ≡ true = subst (λ b. enabled p (state_after p offered b) other ≡ true) front is.was in
-    let same : candidate p (state_after p offered before) (number_of p other) ≡ other = candidate_of p (state_after p offered before) other was in
-    let apart : eqb (number_of p last.item) (number_of p other) ≡ false = ne_eqb (number_of p last.item) (number_of p other) (λ e. is.other (ap (λ (f : Fired). number_of p f.item) end ∙ e)) in
-    let gone : enabled p (state_after p offered steps) (candidate p (state_after p offered before) (number_of p other)) ≡ false = ap (enabled p (state_after p offered steps)) same ∙ is.gone in
+    let same : candidate p (state_after p offered before) (item_number p other) ≡ other = candidate_of p (state_after p offered before) other was in
+    let apart : eqb (item_number p last.item) (item_number p other) ≡ false = ne_eqb (item_number p last.item) (item_number p other) (λ e. is.other (ap (λ (f : Fired). item_number p f.item) end ∙ e)) in
+    let gone : enabled p (state_after p offered steps) (candidate p (state_after p offered before) (item_number p other)) ≡ false = ap (enabled p (state_after p offered steps)) same ∙ is.gone in
     and_from _ _ (not_from_false _ apart) (and_from _ _ (ap (enabled p (state_after p offered before)) same ∙ was) (not_from_false _ gone))
 
 -- and what shows was lost
 shown_lost : (p : PipelineData) (offered : List (List Bool)) (steps before : List Fired) (last : Fired) → steps ≡ before ++ last ∷ [] → (k : ℕ) → k < number_count p → is_lost_at p offered steps before last k ≡ true → IsLost p offered steps (candidate p (state_after p offered before) k)
 shown_lost p offered steps before last split k within shows =
-    let number : number_of p (candidate p (state_after p offered before) k) ≡ k = candidate-number p (state_after p offered before) k within in
-    let (apart, kept) = and_parts (not (eqb (number_of p last.item) k)) (enabled p (state_after p offered before) (candidate p (state_after p offered before) k) && not (enabled p (state_after p offered steps) (candidate p (state_after p offered before) k))) shows in
+    let number : item_number p (candidate p (state_after p offered before) k) ≡ k = candidate-number p (state_after p offered before) k within in
+    let (apart, kept) = and_parts (not (eqb (item_number p last.item) k)) (enabled p (state_after p offered before) (candidate p (state_after p offered before) k) && not (enabled p (state_after p offered steps) (candidate p (state_after p offered before) k))) shows in
     let (was, gone) = and_parts (enabled p (state_after p offered before) (candidate p (state_after p offered before) k)) (not (enabled p (state_after p offered steps) (candidate p (state_after p offered before) k))) kept in
     record {
       before = before;
       last = last;
       split = split;
-      other = λ e. eqb-false (number_of p last.item) k (not-true _ apart) (e ∙ number);
+      other = λ e. eqb-false (item_number p last.item) k (not-true _ apart) (e ∙ number);
       was = was;
       gone = not-true _ gone;
     }
 
 abbrev pub LosesFirst : PipelineData → List (List Bool) → List Fired → Type 0
-LosesFirst p offered steps = (item : Item) × (IsLost p offered steps item × ((other : Item) → IsLost p offered steps other → number_of p item ≤ number_of p other))
+LosesFirst p offered steps = (item : Item) × (IsLost p offered steps item × ((other : Item) → IsLost p offered steps other → item_number p item ≤ item_number p other))
 
 pub lost_or_none : (p : PipelineData) (offered : List (List Bool)) (steps : List Fired) → LosesFirst p offered steps ⊎ LosesNone p offered steps
 lost_or_none p offered steps = elim (last_of steps) [
@@ -102,31 +102,31 @@ lost_or_none p offered steps = elim (last_of steps) [
   | inr (before, (last, split)) ↦ elim (least_due (λ k. zero_where (is_lost_at p offered steps before last k)) (number_count p)) [
     | inl (k, (time, least)) ↦
         let shows : is_lost_at p offered steps before last k ≡ true = where_zero (is_lost_at p offered steps before last k) time least.at in
-        let number : number_of p (candidate p (state_after p offered before) k) ≡ k = candidate-number p (state_after p offered before) k least.within in
+        let number : item_number p (candidate p (state_after p offered before) k) ≡ k = candidate-number p (state_after p offered before) k least.within in
         inl (
           candidate p (state_after p offered before) k,
           (
             shown_lost p offered steps before last split k least.within shows,
             λ other is.
-                let shown : is_lost_at p offered steps before last (number_of p other) ≡ true = lost_shows p offered steps before last split other is in
+                let shown : is_lost_at p offered steps before last (item_number p other) ≡ true = lost_shows p offered steps before last split other is in
                 let was : enabled p (state_after p offered is.before) other ≡ true = is.was in
-                let within : number_of p other < number_count p = number_within p (state_after p offered is.before) other was in
-                elim (least.first (number_of p other) 0 within (ap zero_where shown)) [
+                let within : item_number p other < number_count p = number_within p (state_after p offered is.before) other was in
+                elim (least.first (item_number p other) 0 within (ap zero_where shown)) [
                   | inl less ↦ absurd (omega arith)
                   | inr (same, least_number) ↦ omega (arith, number, least_number)
                 ],
           ),
         )
     | inr nowhere ↦ inr (λ item is.
-        let within : number_of p item < number_count p = number_within p (state_after p offered is.before) item is.was in
-        none-some 0 (sym (nowhere (number_of p item) within) ∙ ap zero_where (lost_shows p offered steps before last split item is)))
+        let within : item_number p item < number_count p = number_within p (state_after p offered is.before) item is.was in
+        none-some 0 (sym (nowhere (item_number p item) within) ∙ ap zero_where (lost_shows p offered steps before last split item is)))
   ]
 ]
 
 -- ---- what is next
 
 -- the due of an item stands at its number
-pub due_shows : (p : PipelineData) (d : DelaysData) (offered : List (List Bool)) (steps : List Fired) (item : Item) → enabled p (state_after p offered steps) item ≡ true → due_at p d offered steps (number_of p item) ≡ due_after p d offered steps item
+pub due_shows : (p : PipelineData) (d : DelaysData) (offered : List (List Bool)) (steps : List Fired) (item : Item) → enabled p (state_after p offered steps) item ≡ true → due_at p d offered steps (item_number p item) ≡ due_after p d offered steps item
 due_shows p d offered steps item on = ap (due_after p d offered steps) (candidate_of p (state_after p offered steps) item on)
 
 abbrev pub first_due : PipelineData → List (List Bool) → List Fired → ℕ → ℕ → Fired
@@ -134,12 +134,12 @@ first_due p offered steps k at = record { time = at; item = candidate p (state_a
 
 pub first_is_next : (p : PipelineData) (d : DelaysData) (offered : List (List Bool)) (steps : List Fired) (k time : ℕ) → IsLeast (due_at p d offered steps) (number_count p) k time → IsNext p d offered steps (first_due p offered steps k time)
 first_is_next p d offered steps k time least =
-    let number : number_of p (candidate p (state_after p offered steps) k) ≡ k = candidate-number p (state_after p offered steps) k least.within in
+    let number : item_number p (candidate p (state_after p offered steps) k) ≡ k = candidate-number p (state_after p offered steps) k least.within in
     record {
       due = least.at;
       first = λ other due is.
           let on : enabled p (state_after p offered steps) other ≡ true = enabled_from_due p d offered steps other due is in
-          elim (least.first (number_of p other) due (number_within p (state_after p offered steps) other on) (due_shows p d offered steps other on ∙ is)) [
+          elim (least.first (item_number p other) due (number_within p (state_after p offered steps) other on) (due_shows p d offered steps other on ∙ is)) [
             | inl earlier ↦ inl earlier
             | inr (same, below) ↦ inr (same, omega (arith, number, below))
           ];
@@ -149,7 +149,7 @@ pub none_is_quiet : (p : PipelineData) (d : DelaysData) (offered : List (List Bo
 none_is_quiet p d offered steps none item =
     false_from_ne_true _ (λ on.
     let (due, is) = some_after p d offered steps item on in
-    none-some due (sym (none (number_of p item) (number_within p (state_after p offered steps) item on)) ∙ due_shows p d offered steps item on ∙ is))
+    none-some due (sym (none (item_number p item) (number_within p (state_after p offered steps) item on)) ∙ due_shows p d offered steps item on ∙ is))
 
 -- ---- the steps so far
 

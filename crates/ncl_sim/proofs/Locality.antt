@@ -14,7 +14,7 @@ use Rattle.ncl_shape.specs.Pipeline.{PipelineData}
 use Rattle.ncl_shape.specs.Stage.{named_rails, rail_nets}
 use Rattle.ncl_machine.specs.State.{State}
 use Rattle.ncl_machine.specs.Steps.{after_lower, after_raise, current_rails, differ, enabled, fired, has_value, is_data, is_excited, is_null, next_value, put_at, rails_of_word, step}
-use Rattle.ncl_sim.specs.Numbers.{number_of}
+use Rattle.ncl_sim.specs.Numbers.{item_number}
 use Rattle.ncl_sim.specs.Touch.{AreApart, AreDrivenOnce, AreEnds, Avoids, IsApart, IsUntouched}
 use Rattle.ncl_machine.specs.OneChange.{net_of_step, out_at}
 use Rattle.ncl_sim.specs.Candidates.{bit_candidate, candidate, sink_candidate}
@@ -117,7 +117,7 @@ out-apart P None net holds at = absurd (none-some net at)
 out-apart P (Some c) net holds at = subst P (same_Some c.out.0 net at) (holds c refl)
 
 -- but for the sink's own steps it isn't `ki`
-net-not_ki : (p : PipelineData) (s : State) (f : Item) (net : ℕ) → AreEnds p → AreDrivenOnce p → net_of_step p s f ≡ Some net → number_of p f ≢ length p.netlist.cells + length p.inputs → net ≢ p.ki
+net-not_ki : (p : PipelineData) (s : State) (f : Item) (net : ℕ) → AreEnds p → AreDrivenOnce p → net_of_step p s f ≡ Some net → item_number p f ≢ length p.netlist.cells + length p.inputs → net ≢ p.ki
 net-not_ki p s (Fire cell) net ends once at other = out-apart (λ n. n ≢ p.ki) (slice_get p.netlist.cells cell.0) net (once.not_ki cell.0) at
 net-not_ki p s (Raise bit) net ends once at other = flip p.ki net (rail-apart p.ki p.inputs (slice_get s.offered s.done) bit net ends.ki_inputs at)
 net-not_ki p s (Lower bit) net ends once at other = flip p.ki net (rail-apart p.ki p.inputs (slice_get s.offered s.done) bit net ends.ki_inputs at)
@@ -125,7 +125,7 @@ net-not_ki p s Take net ends once at other = absurd (other refl)
 net-not_ki p s Ready net ends once at other = absurd (other refl)
 
 -- nor the output of another cell
-net-not_out : (p : PipelineData) (s : State) (f : Item) (net k : ℕ) (c : Cell) → AreEnds p → AreDrivenOnce p → net_of_step p s f ≡ Some net → number_of p f ≢ k → CellAt p.netlist k c → net ≢ c.out.0
+net-not_out : (p : PipelineData) (s : State) (f : Item) (net k : ℕ) (c : Cell) → AreEnds p → AreDrivenOnce p → net_of_step p s f ≡ Some net → item_number p f ≢ k → CellAt p.netlist k c → net ≢ c.out.0
 net-not_out p s (Fire cell) net k c ends once at other at_c = out-apart (λ n. n ≢ c.out.0) (slice_get p.netlist.cells cell.0) net (λ b at_b. once.one_driver cell.0 k b c at_b at_c other) at
 net-not_out p s (Raise bit) net k c ends once at other at_c = flip c.out.0 net (rail-apart c.out.0 p.inputs (slice_get s.offered s.done) bit net (once.not_inputs k c at_c) at)
 net-not_out p s (Lower bit) net k c ends once at other at_c = flip c.out.0 net (rail-apart c.out.0 p.inputs (slice_get s.offered s.done) bit net (once.not_inputs k c at_c) at)
@@ -133,7 +133,7 @@ net-not_out p s Take net k c ends once at other at_c = λ e. once.not_ki k c at_
 net-not_out p s Ready net k c ends once at other at_c = λ e. once.not_ki k c at_c (sym e ∙ sym (same_Some p.ki net at))
 
 -- nor the rail of another bit
-net-not_rail : (p : PipelineData) (s : State) (f : Item) (net bit : ℕ) → AreEnds p → AreDrivenOnce p → net_of_step p s f ≡ Some net → number_of p f ≢ length p.netlist.cells + bit → (x : ℕ) → slice_get (current_rails p s) bit ≡ Some x → net ≢ x
+net-not_rail : (p : PipelineData) (s : State) (f : Item) (net bit : ℕ) → AreEnds p → AreDrivenOnce p → net_of_step p s f ≡ Some net → item_number p f ≢ length p.netlist.cells + bit → (x : ℕ) → slice_get (current_rails p s) bit ≡ Some x → net ≢ x
 net-not_rail p s (Fire cell) net bit ends once at other x at_x =
     out-apart (λ n. n ≢ x) (slice_get p.netlist.cells cell.0) net (λ c at_c. rail-apart c.out.0 p.inputs (slice_get s.offered s.done) bit x (once.not_inputs cell.0 c at_c) at_x) at
 net-not_rail p s (Raise own) net bit ends once at other x at_x = rail-differ p.inputs (slice_get s.offered s.done) own bit net x ends.inputs at at_x (λ e. other (ap (λ b. length p.netlist.cells + b) e))
@@ -210,12 +210,12 @@ keeps-bit p s net bit value not_ko not_rail = record {
 }
 
 -- what the step makes of the values, as it is written in the step
-keeps-bit_at : (p : PipelineData) (s : State) (f : Item) (net bit : ℕ) (v : Nets) → AreEnds p → AreDrivenOnce p → net_of_step p s f ≡ Some net → net ≢ p.ko → number_of p f ≢ length p.netlist.cells + bit → (step p s f).value ≡ v → KeepsBit p s v bit
+keeps-bit_at : (p : PipelineData) (s : State) (f : Item) (net bit : ℕ) (v : Nets) → AreEnds p → AreDrivenOnce p → net_of_step p s f ≡ Some net → net ≢ p.ko → item_number p f ≢ length p.netlist.cells + bit → (step p s f).value ≡ v → KeepsBit p s v bit
 keeps-bit_at p s f net bit v ends once at not_ko other is =
     let (value, puts) = step-value p s f net at in
     subst (λ w. KeepsBit p s w bit) (sym puts ∙ is) (keeps-bit p s net bit value not_ko (net-not_rail p s f net bit ends once at other))
 
-raise_untouched : (p : PipelineData) (s : State) (f : Item) (net bit : ℕ) → AreEnds p → AreDrivenOnce p → enabled p s f ≡ true → net_of_step p s f ≡ Some net → net ≢ p.ko → number_of p f ≢ length p.netlist.cells + bit → enabled p (step p s f) (Raise bit) ≡ enabled p s (Raise bit)
+raise_untouched : (p : PipelineData) (s : State) (f : Item) (net bit : ℕ) → AreEnds p → AreDrivenOnce p → enabled p s f ≡ true → net_of_step p s f ≡ Some net → net ≢ p.ko → item_number p f ≢ length p.netlist.cells + bit → enabled p (step p s f) (Raise bit) ≡ enabled p s (Raise bit)
 raise_untouched p s (Fire cell) net bit ends once on at not_ko other = same-raise p s (fired s.value (slice_get p.netlist.cells cell.0)) bit (keeps-bit_at p s (Fire cell) net bit _ ends once at not_ko other refl)
 raise_untouched p s (Raise own) net bit ends once on at not_ko other =
     raised-raise p s (put_at s.value (slice_get (current_rails p s) own) true) bit (keeps-bit_at p s (Raise own) net bit _ ends once at not_ko other refl)
@@ -227,7 +227,7 @@ raise_untouched p s (Lower own) net bit ends once on at not_ko other =
 raise_untouched p s Take net bit ends once on at not_ko other = same-raise p s (put s.value p.ki false) bit (keeps-bit_at p s Take net bit _ ends once at not_ko other refl)
 raise_untouched p s Ready net bit ends once on at not_ko other = same-raise p s (put s.value p.ki true) bit (keeps-bit_at p s Ready net bit _ ends once at not_ko other refl)
 
-lower_untouched : (p : PipelineData) (s : State) (f : Item) (net bit : ℕ) → AreEnds p → AreDrivenOnce p → enabled p s f ≡ true → net_of_step p s f ≡ Some net → net ≢ p.ko → number_of p f ≢ length p.netlist.cells + bit → enabled p (step p s f) (Lower bit) ≡ enabled p s (Lower bit)
+lower_untouched : (p : PipelineData) (s : State) (f : Item) (net bit : ℕ) → AreEnds p → AreDrivenOnce p → enabled p s f ≡ true → net_of_step p s f ≡ Some net → net ≢ p.ko → item_number p f ≢ length p.netlist.cells + bit → enabled p (step p s f) (Lower bit) ≡ enabled p s (Lower bit)
 lower_untouched p s (Fire cell) net bit ends once on at not_ko other = same-lower p s (fired s.value (slice_get p.netlist.cells cell.0)) bit (keeps-bit_at p s (Fire cell) net bit _ ends once at not_ko other refl)
 lower_untouched p s (Raise own) net bit ends once on at not_ko other =
     raised-lower p s (put_at s.value (slice_get (current_rails p s) own) true) bit (keeps-bit_at p s (Raise own) net bit _ ends once at not_ko other refl)
@@ -245,7 +245,7 @@ cell_untouched v net value None avoids apart = refl
 cell_untouched v net value (Some c) avoids apart = untouched v net value c (avoids c refl) (apart c refl)
 
 -- an item that isn't touched, of another number than the step's, is enabled after it exactly where it was before
-pub untouched_item : (p : PipelineData) (s : State) (f : Item) (net : ℕ) (item : Item) → AreEnds p → AreDrivenOnce p → enabled p s f ≡ true → net_of_step p s f ≡ Some net → IsUntouched p net item → number_of p f ≢ number_of p item → enabled p (step p s f) item ≡ enabled p s item
+pub untouched_item : (p : PipelineData) (s : State) (f : Item) (net : ℕ) (item : Item) → AreEnds p → AreDrivenOnce p → enabled p s f ≡ true → net_of_step p s f ≡ Some net → IsUntouched p net item → item_number p f ≢ item_number p item → enabled p (step p s f) item ≡ enabled p s item
 untouched_item p s f net (Fire cell) ends once on at free other =
     let (value, puts) = step-value p s f net at in
     ap (λ v. is_excited v (slice_get p.netlist.cells cell.0)) puts
@@ -267,13 +267,13 @@ untouched_item p s f net Ready ends once on at free other =
 
 -- ---- the candidate of another number stays, where it is enabled
 
-rail-kept : (p : PipelineData) (s : State) (f : Item) (net bit : ℕ) (v : Nets) (wanted : Bool) → AreEnds p → AreDrivenOnce p → net_of_step p s f ≡ Some net → number_of p f ≢ length p.netlist.cells + bit → (step p s f).value ≡ v → has_value v (slice_get (current_rails p s) bit) wanted ≡ has_value s.value (slice_get (current_rails p s) bit) wanted
+rail-kept : (p : PipelineData) (s : State) (f : Item) (net bit : ℕ) (v : Nets) (wanted : Bool) → AreEnds p → AreDrivenOnce p → net_of_step p s f ≡ Some net → item_number p f ≢ length p.netlist.cells + bit → (step p s f).value ≡ v → has_value v (slice_get (current_rails p s) bit) wanted ≡ has_value s.value (slice_get (current_rails p s) bit) wanted
 rail-kept p s f net bit v wanted ends once at other is =
     let (value, puts) = step-value p s f net at in
     ap (λ w. has_value w (slice_get (current_rails p s) bit) wanted) (sym is ∙ puts)
     ∙ value-unread s.value net value (slice_get (current_rails p s) bit) wanted (net-not_rail p s f net bit ends once at other)
 
-still-rising : (p : PipelineData) (s : State) (f : Item) (net bit : ℕ) → AreEnds p → AreDrivenOnce p → enabled p s f ≡ true → net_of_step p s f ≡ Some net → enabled p s (Raise bit) ≡ true → number_of p f ≢ length p.netlist.cells + bit → (step p s f).falling ≡ false
+still-rising : (p : PipelineData) (s : State) (f : Item) (net bit : ℕ) → AreEnds p → AreDrivenOnce p → enabled p s f ≡ true → net_of_step p s f ≡ Some net → enabled p s (Raise bit) ≡ true → item_number p f ≢ length p.netlist.cells + bit → (step p s f).falling ≡ false
 still-rising p s (Fire cell) net bit ends once on at is other = not-true s.falling (and3 (not s.falling) (s.value p.ko) _ is).0
 still-rising p s (Raise own) net bit ends once on at is other =
     false_from_ne_true _ (λ all.
@@ -284,7 +284,7 @@ still-rising p s (Lower own) net bit ends once on at is other = absurd (both_way
 still-rising p s Take net bit ends once on at is other = not-true s.falling (and3 (not s.falling) (s.value p.ko) _ is).0
 still-rising p s Ready net bit ends once on at is other = not-true s.falling (and3 (not s.falling) (s.value p.ko) _ is).0
 
-still-falling : (p : PipelineData) (s : State) (f : Item) (net bit : ℕ) → AreEnds p → AreDrivenOnce p → enabled p s f ≡ true → net_of_step p s f ≡ Some net → enabled p s (Lower bit) ≡ true → number_of p f ≢ length p.netlist.cells + bit → (step p s f).falling ≡ true
+still-falling : (p : PipelineData) (s : State) (f : Item) (net bit : ℕ) → AreEnds p → AreDrivenOnce p → enabled p s f ≡ true → net_of_step p s f ≡ Some net → enabled p s (Lower bit) ≡ true → item_number p f ≢ length p.netlist.cells + bit → (step p s f).falling ≡ true
 still-falling p s (Fire cell) net bit ends once on at is other = (and3 s.falling (not (s.value p.ko)) _ is).0
 still-falling p s (Raise own) net bit ends once on at is other = absurd (both_ways s.falling (not-true s.falling (and3 (not s.falling) (s.value p.ko) _ on).0) (and3 s.falling (not (s.value p.ko)) _ is).0)
 still-falling p s (Lower own) net bit ends once on at is other =
@@ -296,12 +296,12 @@ still-falling p s (Lower own) net bit ends once on at is other =
 still-falling p s Take net bit ends once on at is other = (and3 s.falling (not (s.value p.ko)) _ is).0
 still-falling p s Ready net bit ends once on at is other = (and3 s.falling (not (s.value p.ko)) _ is).0
 
-ki-kept : (p : PipelineData) (s : State) (f : Item) (net : ℕ) → AreEnds p → AreDrivenOnce p → net_of_step p s f ≡ Some net → number_of p f ≢ length p.netlist.cells + length p.inputs → (step p s f).value p.ki ≡ s.value p.ki
+ki-kept : (p : PipelineData) (s : State) (f : Item) (net : ℕ) → AreEnds p → AreDrivenOnce p → net_of_step p s f ≡ Some net → item_number p f ≢ length p.netlist.cells + length p.inputs → (step p s f).value p.ki ≡ s.value p.ki
 ki-kept p s f net ends once at other =
     let (value, puts) = step-value p s f net at in
     ap (λ (v : Nets). v p.ki) puts ∙ put-other s.value net p.ki value (net-not_ki p s f net ends once at other)
 
-pub candidate_stays : (p : PipelineData) (s : State) (f item : Item) → AreEnds p → AreDrivenOnce p → enabled p s f ≡ true → enabled p s item ≡ true → number_of p f ≢ number_of p item → candidate p (step p s f) (number_of p item) ≡ item
+pub candidate_stays : (p : PipelineData) (s : State) (f item : Item) → AreEnds p → AreDrivenOnce p → enabled p s f ≡ true → enabled p s item ≡ true → item_number p f ≢ item_number p item → candidate p (step p s f) (item_number p item) ≡ item
 candidate_stays p s f (Fire cell) ends once on is other = cell_candidate p (step p s f) cell.0 (excited_within s.value p.netlist.cells cell.0 is)
 candidate_stays p s f (Raise bit) ends once on is other =
     let (net, at) = enabled-net p s f on in
@@ -362,7 +362,7 @@ ko-kept p s f net at free =
     ap (λ (v : Nets). v p.ko) puts ∙ put-other s.value net p.ko value free
 
 -- where a step doesn't touch its own number, nothing of that number is enabled after it
-pub own_rests : (p : PipelineData) (s : State) (f : Item) (net : ℕ) → AreEnds p → enabled p s f ≡ true → net_of_step p s f ≡ Some net → IsUntouched p net f → enabled p (step p s f) (candidate p (step p s f) (number_of p f)) ≡ false
+pub own_rests : (p : PipelineData) (s : State) (f : Item) (net : ℕ) → AreEnds p → enabled p s f ≡ true → net_of_step p s f ≡ Some net → IsUntouched p net f → enabled p (step p s f) (candidate p (step p s f) (item_number p f)) ≡ false
 own_rests p s (Fire cell) net ends on at free =
     ap (enabled p (step p s (Fire cell))) (cell_candidate p (step p s (Fire cell)) cell.0 (excited_within s.value p.netlist.cells cell.0 on))
     ∙ cell_rests s.value (slice_get p.netlist.cells cell.0) net free at

@@ -7,7 +7,7 @@ use Rattle.ncl_machine.specs.State.{State, reset}
 use Rattle.ncl_machine.specs.Steps.{enabled, step}
 use Rattle.ncl_machine.specs.Run.{after}
 use Rattle.ncl_delay.specs.Delays.{DelaysData}
-use Rattle.ncl_sim.specs.Numbers.{number_of}
+use Rattle.ncl_sim.specs.Numbers.{item_number}
 use Rattle.ncl_sim.specs.TimedRun.{IsLost, due_after, due_next, items_in, state_after}
 use Rattle.ncl_sim.specs.Touch.{AreDrivenOnce, AreEnds, IsUntouched}
 use Rattle.ncl_machine.specs.OneChange.{net_of_step}
@@ -21,7 +21,7 @@ use Rattle.ncl_sim.proofs.Oneness.{enabled_from_due, same_last}
 
 -- after the step a number waited, and its candidate isn't enabled
 pub record IsSeenLost (p : PipelineData) (d : DelaysData) (offered : List (List Bool)) (steps : List Fired) (f : Fired) (k : ℕ) : Type 0 where
-  pub other : number_of p f.item ≢ k
+  pub other : item_number p f.item ≢ k
   pub due : ℕ
   pub waited : due_at p d offered steps k ≡ Some due
   pub off : enabled p (step p (state_after p offered steps) f.item) (candidate p (step p (state_after p offered steps) f.item) k) ≡ false
@@ -40,11 +40,11 @@ next-popped p d s item true time before = refl
 next-popped p d s item false time before = refl
 
 -- after one more step an item is due as the look says
-pub due-looked : (p : PipelineData) (d : DelaysData) (offered : List (List Bool)) (steps : List Fired) (f : Fired) (item : Item) → due_after p d offered (steps ++ f ∷ []) item ≡ look p d (step p (state_after p offered steps) f.item) item f.time (popped (eqb (number_of p f.item) (number_of p item)) (due_after p d offered steps item))
+pub due-looked : (p : PipelineData) (d : DelaysData) (offered : List (List Bool)) (steps : List Fired) (f : Fired) (item : Item) → due_after p d offered (steps ++ f ∷ []) item ≡ look p d (step p (state_after p offered steps) f.item) item f.time (popped (eqb (item_number p f.item) (item_number p item)) (due_after p d offered steps item))
 due-looked p d offered steps f item =
     due_along-more p d item (reset p offered) _ steps f
     ∙ ap (λ due. if enabled p (step p (state_after p offered steps) f.item) item then due else None)
-    (next-popped p d (step p (state_after p offered steps) f.item) item (eqb (number_of p f.item) (number_of p item)) f.time (due_after p d offered steps item))
+    (next-popped p d (step p (state_after p offered steps) f.item) item (eqb (item_number p f.item) (item_number p item)) f.time (due_after p d offered steps item))
 
 look-on : (p : PipelineData) (d : DelaysData) (s : State) (item : Item) (time due : ℕ) (waits : Option ℕ) → enabled p s item ≡ true → waits ≡ Some due → look p d s item time waits ≡ Some due
 look-on p d s item time due waits on is = cond-true (enabled p s item) (due_next p d s item false time waits) None on ∙ ap (due_next p d s item false time) is
@@ -53,11 +53,11 @@ pub look-off : (p : PipelineData) (d : DelaysData) (s : State) (item : Item) (ti
 look-off p d s item time waits off = cond-false (enabled p s item) (due_next p d s item false time waits) None off
 
 -- an item that isn't touched is due as before
-pub due-untouched : (p : PipelineData) (d : DelaysData) (offered : List (List Bool)) (steps : List Fired) (f : Fired) (net : ℕ) (item : Item) → AreEnds p → AreDrivenOnce p → enabled p (state_after p offered steps) f.item ≡ true → net_of_step p (state_after p offered steps) f.item ≡ Some net → IsUntouched p net item → number_of p f.item ≢ number_of p item → due_after p d offered (steps ++ f ∷ []) item ≡ due_after p d offered steps item
+pub due-untouched : (p : PipelineData) (d : DelaysData) (offered : List (List Bool)) (steps : List Fired) (f : Fired) (net : ℕ) (item : Item) → AreEnds p → AreDrivenOnce p → enabled p (state_after p offered steps) f.item ≡ true → net_of_step p (state_after p offered steps) f.item ≡ Some net → IsUntouched p net item → item_number p f.item ≢ item_number p item → due_after p d offered (steps ++ f ∷ []) item ≡ due_after p d offered steps item
 due-untouched p d offered steps f net item ends once on at free other =
     let s : State = state_after p offered steps in
     let same : enabled p (step p s f.item) item ≡ enabled p s item = untouched_item p s f.item net item ends once on at free other in
-    let apart : eqb (number_of p f.item) (number_of p item) ≡ false = ne_eqb (number_of p f.item) (number_of p item) other in
+    let apart : eqb (item_number p f.item) (item_number p item) ≡ false = ne_eqb (item_number p f.item) (item_number p item) other in
     due-looked p d offered steps f item
     ∙ ap (λ b. look p d (step p s f.item) item f.time (popped b (due_after p d offered steps item))) apart
     ∙ elim (cases_Bool (enabled p s item)) [
@@ -78,10 +78,10 @@ module _ (p : PipelineData) (d : DelaysData) (offered : List (List Bool)) (steps
   due_at-more : (k : ℕ) → due_at p d offered (steps ++ f ∷ []) k ≡ due_after p d offered (steps ++ f ∷ []) (now k)
   due_at-more k = ap (λ s. due_after p d offered (steps ++ f ∷ []) (candidate p s k)) (state-more p offered steps f)
 
-  was-number : (k : ℕ) → k < number_count p → number_of p (was k) ≡ k
+  was-number : (k : ℕ) → k < number_count p → item_number p (was k) ≡ k
   was-number k within = candidate-number p (state_after p offered steps) k within
 
-  now-number : (k : ℕ) → k < number_count p → number_of p (now k) ≡ k
+  now-number : (k : ℕ) → k < number_count p → item_number p (now k) ≡ k
   now-number k within = candidate-number p (step p (state_after p offered steps) f.item) k within
 
   -- where the new candidate was enabled before the step, it is the old one
@@ -89,13 +89,13 @@ module _ (p : PipelineData) (d : DelaysData) (offered : List (List Bool)) (steps
   same-from_now k within is = ap was (sym (now-number k within)) ∙ candidate_of p (state_after p offered steps) (now k) is
 
   -- where the old candidate was enabled, it stays
-  same-from_was : (k : ℕ) → k < number_count p → number_of p f.item ≢ k → enabled p (state_after p offered steps) (was k) ≡ true → now k ≡ was k
+  same-from_was : (k : ℕ) → k < number_count p → item_number p f.item ≢ k → enabled p (state_after p offered steps) (was k) ≡ true → now k ≡ was k
   same-from_was k within other is =
       ap now (sym (was-number k within))
       ∙ candidate_stays p (state_after p offered steps) f.item (was k) ends once on is (λ e. other (e ∙ was-number k within))
 
   -- so the due of the new candidate before the step was that of the old one
-  same-due : (k : ℕ) → k < number_count p → number_of p f.item ≢ k → due_after p d offered steps (now k) ≡ due_at p d offered steps k
+  same-due : (k : ℕ) → k < number_count p → item_number p f.item ≢ k → due_after p d offered steps (now k) ≡ due_at p d offered steps k
   same-due k within other =
       elim (cases_Bool (enabled p (state_after p offered steps) (was k))) [
         | inl is ↦ ap (due_after p d offered steps) (same-from_was k within other is)
@@ -106,50 +106,50 @@ module _ (p : PipelineData) (d : DelaysData) (offered : List (List Bool)) (steps
       ]
 
   -- a number that isn't touched is due as before
-  pub due_at-free : (net k : ℕ) → net_of_step p (state_after p offered steps) f.item ≡ Some net → k < number_count p → IsFree p net k → number_of p f.item ≢ k → due_at p d offered (steps ++ f ∷ []) k ≡ due_at p d offered steps k
+  pub due_at-free : (net k : ℕ) → net_of_step p (state_after p offered steps) f.item ≡ Some net → k < number_count p → IsFree p net k → item_number p f.item ≢ k → due_at p d offered (steps ++ f ∷ []) k ≡ due_at p d offered steps k
   due_at-free net k at within free other =
       due_at-more k
       ∙ due-untouched p d offered steps f net (now k) ends once on at (free (step p (state_after p offered steps) f.item)) (λ e. other (e ∙ now-number k within))
       ∙ same-due k within other
 
   -- the step's own number, where it isn't touched, is not due
-  pub due_at-rests : (net : ℕ) → net_of_step p (state_after p offered steps) f.item ≡ Some net → IsFree p net (number_of p f.item) → due_at p d offered (steps ++ f ∷ []) (number_of p f.item) ≡ None
+  pub due_at-rests : (net : ℕ) → net_of_step p (state_after p offered steps) f.item ≡ Some net → IsFree p net (item_number p f.item) → due_at p d offered (steps ++ f ∷ []) (item_number p f.item) ≡ None
   due_at-rests net at free =
       let own : IsUntouched p net f.item = subst (IsUntouched p net) (candidate_of p (state_after p offered steps) f.item on) (free (state_after p offered steps)) in
-      due_at-more (number_of p f.item)
-      ∙ none_after p d offered (steps ++ f ∷ []) (now (number_of p f.item))
-      (ap (λ s. enabled p s (now (number_of p f.item))) (state-more p offered steps f) ∙ own_rests p (state_after p offered steps) f.item net ends on at own)
+      due_at-more (item_number p f.item)
+      ∙ none_after p d offered (steps ++ f ∷ []) (now (item_number p f.item))
+      (ap (λ s. enabled p s (now (item_number p f.item))) (state-more p offered steps f) ∙ own_rests p (state_after p offered steps) f.item net ends on at own)
 
-  popped-same : (k : ℕ) → k < number_count p → popped (eqb (number_of p f.item) k) (due_after p d offered steps (now k)) ≡ popped (eqb (number_of p f.item) k) (due_at p d offered steps k)
+  popped-same : (k : ℕ) → k < number_count p → popped (eqb (item_number p f.item) k) (due_after p d offered steps (now k)) ≡ popped (eqb (item_number p f.item) k) (due_at p d offered steps k)
   popped-same k within =
-      elim (cases_Bool (eqb (number_of p f.item) k)) [
+      elim (cases_Bool (eqb (item_number p f.item) k)) [
         | inl own ↦
             ap (λ b. popped b (due_after p d offered steps (now k))) own ∙ sym (ap (λ b. popped b (due_at p d offered steps k)) own)
-        | inr other ↦ ap (popped (eqb (number_of p f.item) k)) (same-due k within (eqb-false (number_of p f.item) k other))
+        | inr other ↦ ap (popped (eqb (item_number p f.item) k)) (same-due k within (eqb-false (item_number p f.item) k other))
       ]
 
   -- any number is due as the look at its candidate says, from what waited there
-  pub due_at-looked : (k : ℕ) → k < number_count p → due_at p d offered (steps ++ f ∷ []) k ≡ look p d (step p (state_after p offered steps) f.item) (now k) f.time (popped (eqb (number_of p f.item) k) (due_at p d offered steps k))
+  pub due_at-looked : (k : ℕ) → k < number_count p → due_at p d offered (steps ++ f ∷ []) k ≡ look p d (step p (state_after p offered steps) f.item) (now k) f.time (popped (eqb (item_number p f.item) k) (due_at p d offered steps k))
   due_at-looked k within =
       due_at-more k
       ∙ due-looked p d offered steps f (now k)
-      ∙ ap (λ n. look p d (step p (state_after p offered steps) f.item) (now k) f.time (popped (eqb (number_of p f.item) n) (due_after p d offered steps (now k)))) (now-number k within)
+      ∙ ap (λ n. look p d (step p (state_after p offered steps) f.item) (now k) f.time (popped (eqb (item_number p f.item) n) (due_after p d offered steps (now k)))) (now-number k within)
       ∙ ap (look p d (step p (state_after p offered steps) f.item) (now k) f.time) (popped-same k within)
 
   -- ---- what was lost
 
-  lost_was : (item : Item) → IsLost p offered (steps ++ f ∷ []) item → (number_of p f.item ≢ number_of p item) × (enabled p (state_after p offered steps) item ≡ true)
+  lost_was : (item : Item) → IsLost p offered (steps ++ f ∷ []) item → (item_number p f.item ≢ item_number p item) × (enabled p (state_after p offered steps) item ≡ true)
   lost_was item is =
       let (front, last) = same_last is.before steps is.last f (sym is.split) in
-      ((λ e. is.other (ap (λ (g : Fired). number_of p g.item) last ∙ e)), subst (λ b. enabled p (state_after p offered b) item ≡ true) front is.was)
+      ((λ e. is.other (ap (λ (g : Fired). item_number p g.item) last ∙ e)), subst (λ b. enabled p (state_after p offered b) item ≡ true) front is.was)
 
-  pub lost_is_now : (item : Item) → IsLost p offered (steps ++ f ∷ []) item → now (number_of p item) ≡ item
+  pub lost_is_now : (item : Item) → IsLost p offered (steps ++ f ∷ []) item → now (item_number p item) ≡ item
   lost_is_now item is =
       let (other, was_on) = lost_was item is in
       candidate_stays p (state_after p offered steps) f.item item ends once on was_on other
 
   -- an item that was lost is the candidate of its number after the step, waited there, and isn't enabled
-  pub lost_is_seen : (item : Item) → IsLost p offered (steps ++ f ∷ []) item → IsSeenLost p d offered steps f (number_of p item)
+  pub lost_is_seen : (item : Item) → IsLost p offered (steps ++ f ∷ []) item → IsSeenLost p d offered steps f (item_number p item)
   lost_is_seen item is =
       let (other, was_on) = lost_was item is in
       let (due, waits) = some_after p d offered steps item was_on in

@@ -7,7 +7,7 @@ use Rattle.ncl_shape.specs.declared.item.Item.{Item}
 use Rattle.ncl_shape.specs.Pipeline.{PipelineData}
 use Rattle.ncl_machine.specs.Steps.{enabled}
 use Rattle.ncl_delay.specs.Delays.{DelaysData}
-use Rattle.ncl_sim.specs.Numbers.{number_of}
+use Rattle.ncl_sim.specs.Numbers.{item_number}
 use Rattle.ncl_sim.specs.TimedRun.{Ends, IsLost, IsNext, IsTimedRun, TraceData, due_after, is_take, last_time, lost, over, quiet, state_after}
 use Rattle.ncl_sim.specs.declared.trace.Taken.{Taken}
 use Rattle.ncl_sim.specs.declared.trace.End.{End}
@@ -38,15 +38,15 @@ same_last (a ∷ xs) (b ∷ ys) x y e =
 
 -- ---- one end
 
-one_lost : (p : PipelineData) (offered : List (List Bool)) (steps : List Fired) (x y : Item) → IsLost p offered steps x → IsLost p offered steps y → number_of p x ≡ number_of p y → x ≡ y
+one_lost : (p : PipelineData) (offered : List (List Bool)) (steps : List Fired) (x y : Item) → IsLost p offered steps x → IsLost p offered steps y → item_number p x ≡ item_number p y → x ≡ y
 one_lost p offered steps x y is_x is_y same =
     let (before, last) = same_last is_y.before is_x.before is_y.last is_x.last (sym is_y.split ∙ is_x.split) in
     one_of_number p (state_after p offered is_x.before) x y is_x.was (subst (λ b. enabled p (state_after p offered b) y ≡ true) before is_y.was) same
 
 pub one_end : (p : PipelineData) (offered : List (List Bool)) (steps : List Fired) (x y : End) → Ends p offered steps x → Ends p offered steps y → x ≡ y
 one_end p offered steps x y (lost a is_a least_a) (lost b is_b least_b) =
-    let up : number_of p a ≤ number_of p b = least_a b is_b in
-    let down : number_of p b ≤ number_of p a = least_b a is_a in
+    let up : item_number p a ≤ item_number p b = least_a b is_b in
+    let down : item_number p b ≤ item_number p a = least_b a is_a in
     ap (λ item. Hazard item (last_time 0 steps)) (one_lost p offered steps a b is_a is_b (omega arith))
 one_end p offered steps x y (lost a is_a least_a) (quiet none off) = absurd (none a is_a)
 one_end p offered steps x y (lost a is_a least_a) (over none many item on) = absurd (none a is_a)

@@ -12,7 +12,7 @@ use Rattle.ncl_machine.specs.Run.{IsQuiet}
 use Rattle.ncl_machine.specs.OneChange.{net_of_step}
 use Rattle.ncl_delay.specs.Delays.{DelaysData, delay_of}
 use Rattle.ncl_delay.specs.declared.fired.Fired.{Fired}
-use Rattle.ncl_sim.specs.Numbers.{number_of, rises}
+use Rattle.ncl_sim.specs.Numbers.{item_number, rises}
 use Rattle.ncl_sim.specs.TimedRun.{IsNext, LosesNone, due_next, state_after}
 use Rattle.ncl_sim.specs.Touch.{AreDrivenOnce, AreEnds}
 use Rattle.ncl_sim.specs.Candidates.{IsFree, candidate, due_at, look, number_count, popped}
@@ -26,7 +26,7 @@ use Rattle.ncl_sim.proofs.Looks.{IsSeenLost, due_at-free, due_at-looked, due_at-
 -- that was seen, or need not be, as after it, or it was lost; and what was lost waits as before
 pub record IsLooking (p : PipelineData) (d : DelaysData) (offered : List (List Bool)) (steps : List Fired) (f : Fired) (Seen : ℕ → Type 0) (waits : List (Option ℕ)) : Type 0 where
   pub count : length waits ≡ number_count p
-  pub each : (k : ℕ) → k < number_count p → (slice_get waits k ≡ Some (popped (eqb (number_of p f.item) k) (due_at p d offered steps k))) ⊎ (slice_get waits k ≡ Some (due_at p d offered (steps ++ f ∷ []) k))
+  pub each : (k : ℕ) → k < number_count p → (slice_get waits k ≡ Some (popped (eqb (item_number p f.item) k) (due_at p d offered steps k))) ⊎ (slice_get waits k ≡ Some (due_at p d offered (steps ++ f ∷ []) k))
   pub seen : (k : ℕ) → k < number_count p → Seen k → (slice_get waits k ≡ Some (due_at p d offered (steps ++ f ∷ []) k)) ⊎ IsSeenLost p d offered steps f k
   pub lost : (k : ℕ) → k < number_count p → IsSeenLost p d offered steps f k → slice_get waits k ≡ Some (due_at p d offered steps k)
 
@@ -74,25 +74,25 @@ popped-other k j waits apart = ap (λ b. popped b waits) (ne_eqb k j apart)
 
 module _ (p : PipelineData) (d : DelaysData) (offered : List (List Bool)) (steps : List Fired) (f : Fired) (ends : AreEnds p) (once : AreDrivenOnce p) (on : enabled p (state_after p offered steps) f.item ≡ true) where
   -- the event is taken out, and its number waits no more: so it stands before the first look
-  pub popped_is_looking : (waits : List (Option ℕ)) (net : ℕ) → net_of_step p (state_after p offered steps) f.item ≡ Some net → IsTracked p d offered steps waits → slice_get waits (number_of p f.item) ≡ Some (Some f.time) → IsLooking p d offered steps f (IsFree p net) (set waits (number_of p f.item) None)
+  pub popped_is_looking : (waits : List (Option ℕ)) (net : ℕ) → net_of_step p (state_after p offered steps) f.item ≡ Some net → IsTracked p d offered steps waits → slice_get waits (item_number p f.item) ≡ Some (Some f.time) → IsLooking p d offered steps f (IsFree p net) (set waits (item_number p f.item) None)
   popped_is_looking waits net at is own =
-      let there : slice_get (set waits (number_of p f.item) None) (number_of p f.item) ≡ Some None = set-there waits (number_of p f.item) None (Some f.time) own in
+      let there : slice_get (set waits (item_number p f.item) None) (item_number p f.item) ≡ Some None = set-there waits (item_number p f.item) None (Some f.time) own in
       record {
-        count = length-set waits (number_of p f.item) None ∙ is.count;
-        each = λ k lt. elim (cases_eq (number_of p f.item) k) [
-          | inl same ↦ inl (ap (slice_get (set waits (number_of p f.item) None)) (sym same) ∙ there ∙ ap (λ w. Some w) (sym (popped-own (number_of p f.item) k (due_at p d offered steps k) same)))
-          | inr other ↦ inl (set-elsewhere waits (number_of p f.item) k None other ∙ is.at k lt ∙ ap (λ w. Some w) (sym (popped-other (number_of p f.item) k (due_at p d offered steps k) other)))
+        count = length-set waits (item_number p f.item) None ∙ is.count;
+        each = λ k lt. elim (cases_eq (item_number p f.item) k) [
+          | inl same ↦ inl (ap (slice_get (set waits (item_number p f.item) None)) (sym same) ∙ there ∙ ap (λ w. Some w) (sym (popped-own (item_number p f.item) k (due_at p d offered steps k) same)))
+          | inr other ↦ inl (set-elsewhere waits (item_number p f.item) k None other ∙ is.at k lt ∙ ap (λ w. Some w) (sym (popped-other (item_number p f.item) k (due_at p d offered steps k) other)))
         ];
-        seen = λ k lt free. elim (cases_eq (number_of p f.item) k) [
+        seen = λ k lt free. elim (cases_eq (item_number p f.item) k) [
           | inl same ↦
-              inl (ap (slice_get (set waits (number_of p f.item) None)) (sym same) ∙ there
+              inl (ap (slice_get (set waits (item_number p f.item) None)) (sym same) ∙ there
               ∙ ap (λ w. Some w) (sym (due_at-rests p d offered steps f ends once on net at (subst (IsFree p net) (sym same) free)))
               ∙ ap (λ n. Some (due_at p d offered (steps ++ f ∷ []) n)) same)
           | inr other ↦
-              inl (set-elsewhere waits (number_of p f.item) k None other ∙ is.at k lt
+              inl (set-elsewhere waits (item_number p f.item) k None other ∙ is.at k lt
               ∙ ap (λ w. Some w) (sym (due_at-free p d offered steps f ends once on net k at lt free other)))
         ];
-        lost = λ k lt is_lost. set-elsewhere waits (number_of p f.item) k None is_lost.other ∙ is.at k lt;
+        lost = λ k lt is_lost. set-elsewhere waits (item_number p f.item) k None is_lost.other ∙ is.at k lt;
       }
 
   abbrev pub next_state : State
@@ -103,13 +103,13 @@ module _ (p : PipelineData) (d : DelaysData) (offered : List (List Bool)) (steps
     pub looked : (w : Option ℕ) → slice_get waits k ≡ Some w → due_at p d offered (steps ++ f ∷ []) k ≡ look p d next_state (candidate p next_state k) f.time w
     looked w at = elim (is.each k lt) [
       | inl before ↦
-          let same : popped (eqb (number_of p f.item) k) (due_at p d offered steps k) ≡ w = same_Some (popped (eqb (number_of p f.item) k) (due_at p d offered steps k)) w (sym before ∙ at) in
+          let same : popped (eqb (item_number p f.item) k) (due_at p d offered steps k) ≡ w = same_Some (popped (eqb (item_number p f.item) k) (due_at p d offered steps k)) w (sym before ∙ at) in
           due_at-looked p d offered steps f ends once on k lt ∙ ap (look p d next_state (candidate p next_state k) f.time) same
       | inr after ↦
           let same : due_at p d offered (steps ++ f ∷ []) k ≡ w = same_Some (due_at p d offered (steps ++ f ∷ []) k) w (sym after ∙ at) in
-          let due : due_at p d offered (steps ++ f ∷ []) k ≡ look p d next_state (candidate p next_state k) f.time (popped (eqb (number_of p f.item) k) (due_at p d offered steps k)) = due_at-looked p d offered steps f ends once on k lt in
+          let due : due_at p d offered (steps ++ f ∷ []) k ≡ look p d next_state (candidate p next_state k) f.time (popped (eqb (item_number p f.item) k) (due_at p d offered steps k)) = due_at-looked p d offered steps f ends once on k lt in
           due
-          ∙ sym (look-again p d next_state (candidate p next_state k) f.time (popped (eqb (number_of p f.item) k) (due_at p d offered steps k)))
+          ∙ sym (look-again p d next_state (candidate p next_state k) f.time (popped (eqb (item_number p f.item) k) (due_at p d offered steps k)))
           ∙ ap (look p d next_state (candidate p next_state k) f.time) (sym due ∙ same)
     ]
 
@@ -179,10 +179,10 @@ module _ (p : PipelineData) (d : DelaysData) (offered : List (List Bool)) (steps
         let lost : IsSeenLost p d offered steps f k =
         elim (is.each k lt) [
           | inl before ↦
-              let waited : popped (eqb (number_of p f.item) k) (due_at p d offered steps k) ≡ Some due = same_Some (popped (eqb (number_of p f.item) k) (due_at p d offered steps k)) (Some due) (sym before ∙ at) in
-              elim (cases_eq (number_of p f.item) k) [
-                | inl same ↦ absurd (none-some due (sym (popped-own (number_of p f.item) k (due_at p d offered steps k) same) ∙ waited))
-                | inr other ↦ record { other = other; due = due; waited = sym (popped-other (number_of p f.item) k (due_at p d offered steps k) other) ∙ waited; off = off }
+              let waited : popped (eqb (item_number p f.item) k) (due_at p d offered steps k) ≡ Some due = same_Some (popped (eqb (item_number p f.item) k) (due_at p d offered steps k)) (Some due) (sym before ∙ at) in
+              elim (cases_eq (item_number p f.item) k) [
+                | inl same ↦ absurd (none-some due (sym (popped-own (item_number p f.item) k (due_at p d offered steps k) same) ∙ waited))
+                | inr other ↦ record { other = other; due = due; waited = sym (popped-other (item_number p f.item) k (due_at p d offered steps k) other) ∙ waited; off = off }
               ]
           | inr after ↦ absurd (none-some due (sym none ∙ same_Some (due_at p d offered (steps ++ f ∷ []) k) (Some due) (sym after ∙ at)))
         ] in
@@ -195,8 +195,8 @@ module _ (p : PipelineData) (d : DelaysData) (offered : List (List Bool)) (steps
 
   pub none_seen : ((k : ℕ) → k < number_count p → IsSeenLost p d offered steps f k → ⊥) → LosesNone p offered (steps ++ f ∷ [])
   none_seen none item is_lost =
-      let within : number_of p item < number_count p = number_within p (state_after p offered is_lost.before) item is_lost.was in
-      none (number_of p item) within (lost_is_seen p d offered steps f ends once on item is_lost)
+      let within : item_number p item < number_count p = number_within p (state_after p offered is_lost.before) item is_lost.was in
+      none (item_number p item) within (lost_is_seen p d offered steps f ends once on item is_lost)
 
   -- after the last look, where nothing was lost, the table and the queue are those of the steps with one more
   pub looked_is_tracked : (Seen : ℕ → Type 0) (waits : List (Option ℕ)) → IsLooking p d offered steps f Seen waits → ((k : ℕ) → k < number_count p → Seen k) → LosesNone p offered (steps ++ f ∷ []) → IsTracked p d offered (steps ++ f ∷ []) waits

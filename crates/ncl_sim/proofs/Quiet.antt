@@ -8,7 +8,7 @@ use Rattle.ncl_machine.specs.State.{State, reset}
 use Rattle.ncl_machine.specs.Steps.{enabled, step}
 use Rattle.ncl_machine.specs.Run.{AreWordsOf, IsPersistent, IsQuiet, IsRun, IsRunFrom, after}
 use Rattle.ncl_delay.specs.Delays.{DelaysData}
-use Rattle.ncl_sim.specs.Numbers.{number_of}
+use Rattle.ncl_sim.specs.Numbers.{item_number}
 use Rattle.std.specs.Prelude.{All, slice_get}
 use Rattle.std.specs.Option.{option_map}
 use Rattle.std.proofs.lemmas.Option.{slice_get-map}
@@ -39,7 +39,7 @@ not_lost p d offered t item persistent is is_lost =
     let next : IsNext p d offered is_lost.before is_lost.last = is.next is_lost.before [] is_lost.last is_lost.split in
     let on : enabled p (state_after p offered is_lost.before) is_lost.last.item ≡ true = enabled_from_due p d offered is_lost.before is_lost.last.item is_lost.last.time next.due in
     let run : IsRun p offered (items_in is_lost.before) = run-prefix_is p offered is_lost.before is_lost.last (subst (λ l. IsRun p offered (items_in l)) is_lost.split is.run) in
-    let kept : enabled p (step p (state_after p offered is_lost.before) is_lost.last.item) item ≡ true = persistent (items_in is_lost.before) run is_lost.last.item item (λ e. is_lost.other (ap (number_of p) e)) on is_lost.was in
+    let kept : enabled p (step p (state_after p offered is_lost.before) is_lost.last.item) item ≡ true = persistent (items_in is_lost.before) run is_lost.last.item item (λ e. is_lost.other (ap (item_number p) e)) on is_lost.was in
     both_ways (enabled p (state_after p offered t.steps) item) is_lost.gone
     (ap (λ l. enabled p (state_after p offered l) item) is_lost.split ∙ ap (λ s. enabled p s item) (state-more p offered is_lost.before is_lost.last) ∙ kept)
 

@@ -15,7 +15,7 @@ use Rattle.ncl_machine.specs.Run.{IsRunFrom, after}
 use Rattle.ncl_machine.proofs.SamePipelineLaws.{with_stages, enabled-same, step-same, after-same, run-same, other-is}
 use Rattle.ncl_delay.specs.Delays.{DelaysData, delay_of}
 use Rattle.ncl_delay.specs.declared.fired.Fired.{Fired}
-use Rattle.ncl_sim.specs.Numbers.{number_of, rises}
+use Rattle.ncl_sim.specs.Numbers.{item_number, rises}
 use Rattle.ncl_sim.specs.TimedRun.{ComesFirst, Ends, IsLost, IsNext, IsTimedRun, LosesNone, TraceData, due_after, due_along, due_from, due_next, due_step, items_in, lost, over, quiet, state_after}
 use Rattle.ncl_sim.specs.declared.trace.End.{End}
 
@@ -25,7 +25,7 @@ module _ (p : PipelineData) (stages : List StageData) where
 
   -- ---- its items have the numbers and the directions of the pipeline's
 
-  number-same : (item : Item) → number_of q item ≡ number_of p item
+  number-same : (item : Item) → item_number q item ≡ item_number p item
   number-same (Fire cell) = refl
   number-same (Raise bit) = refl
   number-same (Lower bit) = refl
@@ -59,8 +59,8 @@ module _ (p : PipelineData) (stages : List StageData) where
 
   step_due-same : (d : DelaysData) (s : State) (f : Fired) (item : Item) (before : Option ℕ) → due_step q d s f item before ≡ due_step p d s f item before
   step_due-same d s f item before =
-      let due : due_next q d s item (number_of q f.item == number_of q item) f.time before ≡ due_next p d s item (number_of p f.item == number_of p item) f.time before =
-      next_due-same d s item (number_of q f.item == number_of q item) f.time before
+      let due : due_next q d s item (item_number q f.item == item_number q item) f.time before ≡ due_next p d s item (item_number p f.item == item_number p item) f.time before =
+      next_due-same d s item (item_number q f.item == item_number q item) f.time before
       ∙ (λ i. due_next p d s item (number-same f.item i == number-same item i) f.time before) in
       λ i. if enabled-same p stages s item i then due i else None
 

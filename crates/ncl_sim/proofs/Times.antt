@@ -7,7 +7,7 @@ use Rattle.ncl_shape.specs.Pipeline.{PipelineData}
 use Rattle.ncl_machine.specs.State.{State, reset}
 use Rattle.ncl_machine.specs.Steps.{enabled, step}
 use Rattle.ncl_delay.specs.Delays.{DelaysData, delay_of}
-use Rattle.ncl_sim.specs.Numbers.{number_of, rises}
+use Rattle.ncl_sim.specs.Numbers.{item_number, rises}
 use Rattle.ncl_sim.specs.TimedRun.{ComesFirst, IsNext, due_after, due_from, due_next, last_time, state_after}
 use Rattle.ncl_sim.specs.Times.{AreWithin, IsTimely}
 use Rattle.ncl_sim.specs.Candidates.{look, popped}
@@ -61,7 +61,7 @@ module _ (p : PipelineData) (d : DelaysData) (most : ℕ) (within : AreWithin d 
       record {
         last = omega (arith, last, soon, before, all);
         dues = λ item due is_due.
-            elim (fresh_or_old p d (step p (state_after p offered steps) f.item) item f.time due (eqb (number_of p f.item) (number_of p item)) (due_after p d offered steps item) (sym (due-looked p d offered steps f item) ∙ is_due)) [
+            elim (fresh_or_old p d (step p (state_after p offered steps) f.item) item f.time due (eqb (item_number p f.item) (item_number p item)) (due_after p d offered steps item) (sym (due-looked p d offered steps f item) ∙ is_due)) [
               | inl fresh ↦
                   let few : delay_of d item (rises p (step p (state_after p offered steps) f.item).value item) ≤ most = within item (rises p (step p (state_after p offered steps) f.item).value item) in
                   (omega (arith, last, fresh), omega (arith, last, fresh, few))

@@ -21,7 +21,7 @@ use Rattle.ncl_delay.specs.Delays.{AreDelays, DelaysData, HasDelays, edges_of, s
 use Rattle.ncl_delay.specs.declared.delays.Edges.{Edges}
 use Rattle.ncl_delay.specs.declared.delays.TheConstants.{MOST_DELAY}
 use Rattle.ncl_delay.specs.declared.fired.Fired.{Fired}
-use Rattle.ncl_sim.specs.Numbers.{number_of}
+use Rattle.ncl_sim.specs.Numbers.{item_number}
 use Rattle.ncl_sim.specs.TimedRun.{Ends, IsNext, LosesNone, lost, most_steps, over, quiet, state_after}
 use Rattle.ncl_sim.specs.Candidates.{IsFree, candidate, number_count}
 use Rattle.ncl_sim.specs.Queue.{IsTracked, NoneWaits, begins, due_now, is_waiting, least_of, look_at, looks, loses}
@@ -155,10 +155,10 @@ module _ (p : PipelineData) (d : DelaysData) (shape : Shape p.netlist p) (table 
           within,
           subst (λ t. Ends p offered (steps ++ f ∷ []) (Hazard (candidate p after m) t)) (last_time-more 0 steps f)
               (lost (candidate p after m) (seen_is_lost p d offered steps f (shape-ends p shape) (shape-driven p shape) on m within is_lost) (λ other other_lost.
-              let seen : IsSeenLost p d offered steps f (number_of p other) = lost_is_seen p d offered steps f (shape-ends p shape) (shape-driven p shape) on other other_lost in
-              let lt : number_of p other < number_count p = number_within p (state_after p offered other_lost.before) other other_lost.was in
-              let number : number_of p (candidate p after m) ≡ m = candidate-number p after m within in
-              let le : m ≤ number_of p other = least.first (number_of p other) (lost-touched (number_of p other) lt seen) (loses-lost (number_of p other) lt seen) in
+              let seen : IsSeenLost p d offered steps f (item_number p other) = lost_is_seen p d offered steps f (shape-ends p shape) (shape-driven p shape) on other other_lost in
+              let lt : item_number p other < number_count p = number_within p (state_after p offered other_lost.before) other other_lost.was in
+              let number : item_number p (candidate p after m) ≡ m = candidate-number p after m within in
+              let le : m ≤ item_number p other = least.first (item_number p other) (lost-touched (item_number p other) lt seen) (loses-lost (item_number p other) lt seen) in
               omega (arith, number, le))),
         )
       where
@@ -215,7 +215,7 @@ module _ (p : PipelineData) (d : DelaysData) (shape : Shape p.netlist p) (table 
 
   looking-from : net_of_step p before next_step.item ≡ Some net → IsLooking p d offered_words old.steps.items next_step (IsFree p net) old.agenda
   looking-from changed =
-      let number : number_of p next_step.item ≡ k = candidate-number p before k (popped-within p d old time k was) in
+      let number : item_number p next_step.item ≡ k = candidate-number p before k (popped-within p d old time k was) in
       subst (IsLooking p d offered_words old.steps.items next_step (IsFree p net)) (ap (λ n. set was.waits n None) number ∙ sym was.agenda)
       (popped_is_looking p d offered_words old.steps.items next_step (shape-ends p shape) (shape-driven p shape) is_on was.waits net changed was.under_way.waits
       (subst (λ n. slice_get was.waits n ≡ Some (Some time)) (sym number) was.first.here))

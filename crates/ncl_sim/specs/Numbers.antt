@@ -7,12 +7,12 @@ use Rattle.ncl_shape.specs.Nets.{Nets}
 use Rattle.ncl_shape.specs.Pipeline.{PipelineData}
 
 -- the number of an item: the cells come in file order, then the bits of the source, then the sink
-abbrev pub number_of : PipelineData → Item → ℕ
-number_of p (Fire cell) = cell.0
-number_of p (Raise bit) = length p.netlist.cells + bit
-number_of p (Lower bit) = length p.netlist.cells + bit
-number_of p Take = length p.netlist.cells + length p.inputs
-number_of p Ready = length p.netlist.cells + length p.inputs
+abbrev pub item_number : PipelineData → Item → ℕ
+item_number p (Fire cell) = cell.0
+item_number p (Raise bit) = length p.netlist.cells + bit
+item_number p (Lower bit) = length p.netlist.cells + bit
+item_number p Take = length p.netlist.cells + length p.inputs
+item_number p Ready = length p.netlist.cells + length p.inputs
 
 -- the output of a cell is low, so it rises where the cell fires
 abbrev pub output_is_low : Nets → Option Cell → Bool

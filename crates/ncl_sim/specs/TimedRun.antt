@@ -9,7 +9,7 @@ use Rattle.ncl_machine.specs.Steps.{enabled, step}
 use Rattle.ncl_machine.specs.Run.{IsRun, IsQuiet, after}
 use Rattle.ncl_machine.specs.DelayInsensitive.{Carries, due as all_due}
 use Rattle.ncl_delay.specs.Delays.{DelaysData, delay_of}
-use Rattle.ncl_sim.specs.Numbers.{number_of, rises}
+use Rattle.ncl_sim.specs.Numbers.{item_number, rises}
 use Rattle.ncl_delay.specs.declared.fired.Fired.{Fired}
 use Rattle.ncl_sim.specs.declared.trace.Taken.{Taken}
 use Rattle.ncl_sim.specs.declared.trace.End.{End}
@@ -38,7 +38,7 @@ due_next p d s item false time (Some due) = Some due
 
 abbrev pub due_step : PipelineData → DelaysData → State → Fired → Item → Option ℕ → Option ℕ
 due_step p d s f item before =
-    if enabled p s item then due_next p d s item (number_of p f.item == number_of p item) f.time before else None
+    if enabled p s item then due_next p d s item (item_number p f.item == item_number p item) f.time before else None
 
 abbrev pub due_along : PipelineData → DelaysData → Item → State → Option ℕ → List Fired → Option ℕ
 due_along p d item s before [] = before
@@ -53,7 +53,7 @@ due_after p d offered steps item =
 
 -- the entry comes before an item that is due at a time: by the time, and of one time by the number
 abbrev pub ComesFirst : PipelineData → Fired → ℕ → Item → Type 0
-ComesFirst p f due other = (f.time < due) ⊎ ((f.time ≡ due) × (number_of p f.item ≤ number_of p other))
+ComesFirst p f due other = (f.time < due) ⊎ ((f.time ≡ due) × (item_number p f.item ≤ item_number p other))
 
 -- the entry may stand after these steps
 pub record IsNext (p : PipelineData) (d : DelaysData) (offered : List (List Bool)) (before : List Fired) (f : Fired) : Type 0 where
@@ -65,7 +65,7 @@ pub record IsLost (p : PipelineData) (offered : List (List Bool)) (steps : List 
   pub before : List Fired
   pub last : Fired
   pub split : steps ≡ before ++ last ∷ []
-  pub other : number_of p last.item ≢ number_of p item
+  pub other : item_number p last.item ≢ item_number p item
   pub was : enabled p (state_after p offered before) item ≡ true
   pub gone : enabled p (state_after p offered steps) item ≡ false
 
@@ -82,7 +82,7 @@ most_steps p offered = 2 * words_due p offered * length p.netlist.nets
 
 -- a run ends after these steps
 pub data Ends (p : PipelineData) (offered : List (List Bool)) (steps : List Fired) : End → Type 0 where
-  lost : (item : Item) → IsLost p offered steps item → ((other : Item) → IsLost p offered steps other → number_of p item ≤ number_of p other) → Ends p offered steps (Hazard item (last_time 0 steps))
+  lost : (item : Item) → IsLost p offered steps item → ((other : Item) → IsLost p offered steps other → item_number p item ≤ item_number p other) → Ends p offered steps (Hazard item (last_time 0 steps))
   quiet : LosesNone p offered steps → IsQuiet p (state_after p offered steps) → Ends p offered steps Quiet
   over : LosesNone p offered steps → length steps ≡ most_steps p offered → (item : Item) → enabled p (state_after p offered steps) item ≡ true → Ends p offered steps Over
 

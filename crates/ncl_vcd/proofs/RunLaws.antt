@@ -16,7 +16,7 @@ use Rattle.ncl_machine.proofs.AtWorkLaws.{put-elsewhere}
 use Rattle.ncl_delay.specs.Delays.{DelaysData, delay_of}
 use Rattle.ncl_delay.specs.declared.fired.Fired.{Fired}
 use Rattle.ncl_sim.specs.Candidates.{look, popped}
-use Rattle.ncl_sim.specs.Numbers.{number_of, rises}
+use Rattle.ncl_sim.specs.Numbers.{item_number, rises}
 use Rattle.ncl_sim.specs.TimedRun.{ComesFirst, IsNext, due_after, due_next, items_in, last_time, state_after}
 use Rattle.ncl_sim.proofs.Locality.{enabled-net, step-value}
 use Rattle.ncl_sim.proofs.Looks.{due-looked, look-off}
@@ -60,7 +60,7 @@ NotBefore p d offered steps = (item : Item) (due : ℕ) → due_after p d offere
 not_before-more : (p : PipelineData) (d : DelaysData) (offered : List (List Bool)) (steps : List Fired) (f : Fired) → NotBefore p d offered steps → IsNext p d offered steps f → NotBefore p d offered (steps ++ f ∷ [])
 not_before-more p d offered steps f is next item due is_due =
     let last : last_time 0 (steps ++ f ∷ []) ≡ f.time = last_time-more 0 steps f in
-    elim (fresh_or_old p d (step p (state_after p offered steps) f.item) item f.time due (eqb (number_of p f.item) (number_of p item)) (due_after p d offered steps item) (sym (due-looked p d offered steps f item) ∙ is_due)) [
+    elim (fresh_or_old p d (step p (state_after p offered steps) f.item) item f.time due (eqb (item_number p f.item) (item_number p item)) (due_after p d offered steps item) (sym (due-looked p d offered steps f item) ∙ is_due)) [
       | inl fresh ↦ omega (arith, last, fresh)
       | inr old ↦ let first : f.time ≤ due = not-after p f due item (next.first item due old) in omega (arith, last, first)
     ]

@@ -16,7 +16,7 @@ use Rattle.ncl_template.specs.declared.table.TableRow.{TableRow}
 use Rattle.ncl_template.specs.declared.table.Table.{Table}
 use Rattle.ncl_template.specs.Template.{IsTemplate}
 use Rattle.ncl_template.specs.Formed.{IsFormed}
-use Rattle.ncl_template.specs.Tables.{number_of, bit_at, value_of, transposed, inverse_table}
+use Rattle.ncl_template.specs.Tables.{pair_number, bit_at, value_of, transposed, inverse_table}
 use Rattle.ncl_template.specs.PairGates.{IsOver}
 use Rattle.ncl_template.specs.Codes.{IsCode, class_net, IsCodeFor}
 use Rattle.ncl_template.specs.Rails.{class_at, one_at, PairLeaf, leaf_cell as pair_cell, leaf_net as pair_net, IsRail, pairs, never}
@@ -85,8 +85,8 @@ module _ (table : Table) (a b : Rails) (ys : List Rails) (gx gy : List StageCell
   value_at_classes x y word len =
       let k : ℕ = c_code.class_of (x ∷ y ∷ []) in
       let l : ℕ = d_code.class_of word in
-      let n : ℕ = number_of (x ∷ y ∷ []) in
-      let m : ℕ = number_of word in
+      let n : ℕ = pair_number (x ∷ y ∷ []) in
+      let m : ℕ = pair_number word in
       let row = c_code.right (x ∷ y ∷ []) (class_at first k) refl (class_found first k (c_code.is.bound (x ∷ y ∷ []) refl)) in
       let column = d_code.right word (class_at second l) len (class_found second l (d_code.is.bound word len)) in
       ap (λ (r : TableRow). bit_at r (class_at second l).word) row

@@ -13,7 +13,7 @@ use Rattle.ncl_stage.specs.Values.{holds}
 use Rattle.ncl_template.specs.Template.{IsNull, ShowWord, Obeys, IsCase}
 use Rattle.ncl_tree.specs.declared.tree.Family.TheVariants.{Any}
 use Rattle.ncl_tree.specs.GateTree.{GateTree}
-use Rattle.ncl_template.specs.Tables.{number_of}
+use Rattle.ncl_template.specs.Tables.{pair_number}
 use Rattle.ncl_template.specs.Codes.{AreAt, AreLow, IsCode}
 use Rattle.ncl_template.specs.Rails.{PairLeaf, IsPairLeaf, ArePairsApart, AreLeaves, leaf_net as pair_net}
 use Rattle.ncl_template.proofs.JoinedLists.{Member-flat_map, member_from_flat_map}
@@ -108,7 +108,7 @@ module _ (class : List Bool → ℕ) (ins : List Rails) (under : List StageCell)
 
 -- ---- the two rails of a bit are a code
 
-pub code_of_rails : (r : Rails) → IsCode number_of (r ∷ []) [] (r.zero ∷ r.one ∷ [])
+pub code_of_rails : (r : Rails) → IsCode pair_number (r ∷ []) [] (r.zero ∷ r.one ∷ [])
 code_of_rails r = record {
   bound = λ word len. bound word len;
   value = λ base word obeys shown. value base word shown;
@@ -116,7 +116,7 @@ code_of_rails r = record {
   observed = λ base v word case c m high low. elim (Member-from_Contains [] c m) [ ];
 }
   where
-    bound : (word : List Bool) → length word ≡ 1 → number_of word < 2
+    bound : (word : List Bool) → length word ≡ 1 → pair_number word < 2
     bound [] len = omega arith
     bound (true ∷ []) len = omega arith
     bound (false ∷ []) len = omega arith
@@ -131,7 +131,7 @@ code_of_rails r = record {
     low v null _ (there here) = null.one
     low v null net (there (there m)) = elim m [ ]
 
-    value : (base : Nets) (word : List Bool) → ShowWord base (r ∷ []) word → AreAt base (r.zero ∷ r.one ∷ []) (number_of word)
+    value : (base : Nets) (word : List Bool) → ShowWord base (r ∷ []) word → AreAt base (r.zero ∷ r.one ∷ []) (pair_number word)
     value base [] shown k net at = absurd shown
     value base (x ∷ y ∷ word) shown k net at = absurd shown.1
     value base (true ∷ []) shown zero net at = let same : r.zero ≡ net = cc in subst (λ (n : NetId). base n.0 ≡ false) same shown.0.low

@@ -13,7 +13,7 @@ use Rattle.ncl_shape.specs.declared.stage.StageCell.{StageCell}
 use Rattle.ncl_template.specs.declared.code.Class.{Class}
 use Rattle.ncl_template.specs.declared.table.TableRow.{TableRow}
 use Rattle.ncl_template.specs.declared.table.Table.{Table}
-use Rattle.ncl_template.specs.Tables.{number_of, bit_at, row_at, same_row, words_with, is_first_word}
+use Rattle.ncl_template.specs.Tables.{pair_number, bit_at, row_at, same_row, words_with, is_first_word}
 use Rattle.ncl_template.specs.PairGates.{IsTwoGate, AddsGate, IsOver}
 use Rattle.ncl_template.specs.Codes.{IsCode, class_net, rail_classes, IsCodeFor, pair_nets, AddsCode}
 use Rattle.ncl_template.proofs.PassingBelow.{length-passing_below, count_below-least}
@@ -94,21 +94,21 @@ bit_at-words_with table row (suc zero) = refl
 bit_at-words_with table row (suc (suc zero)) = refl
 bit_at-words_with table row (suc (suc (suc n))) = refl
 
-number_of-bound : (word : List Bool) → length word ≡ 2 → number_of word < 4
-number_of-bound [] len = absurd (omega (arith, len))
-number_of-bound (x ∷ []) len = absurd (omega (arith, len))
-number_of-bound (true ∷ true ∷ word) len = omega arith
-number_of-bound (true ∷ false ∷ word) len = omega arith
-number_of-bound (false ∷ true ∷ word) len = omega arith
-number_of-bound (false ∷ false ∷ word) len = omega arith
+pair_number-bound : (word : List Bool) → length word ≡ 2 → pair_number word < 4
+pair_number-bound [] len = absurd (omega (arith, len))
+pair_number-bound (x ∷ []) len = absurd (omega (arith, len))
+pair_number-bound (true ∷ true ∷ word) len = omega arith
+pair_number-bound (true ∷ false ∷ word) len = omega arith
+pair_number-bound (false ∷ true ∷ word) len = omega arith
+pair_number-bound (false ∷ false ∷ word) len = omega arith
 
 -- gates of all classes make a code
 module _ (table : Table) (a b : Rails) (gates : List ClassGate) (words_are : map gate_word gates ≡ first_words table) (are : (gate : ClassGate) → Member gate gates → IsTwoGate (words_with table (row_at table gate.word)) a b gate.cell) where
   abbrev class_of : List Bool → ℕ
-  class_of word = class_among table (first_words table) (number_of word)
+  class_of word = class_among table (first_words table) (pair_number word)
 
   abbrev leaf_of : ClassGate → Leaf
-  leaf_of gate = record { cell = gate.cell; at = λ word. bit_at (words_with table (row_at table gate.word)) (number_of word) }
+  leaf_of gate = record { cell = gate.cell; at = λ word. bit_at (words_with table (row_at table gate.word)) (pair_number word) }
 
   abbrev group_of : ClassGate → Group
   group_of gate = record { leaves = leaf_of gate ∷ []; tree = []; root = gate.cell.out }
@@ -122,7 +122,7 @@ module _ (table : Table) (a b : Rails) (gates : List ClassGate) (words_are : map
       subst (λ (group : Group). IsGroup (λ word. nat_eq k (class_of word)) (a ∷ b ∷ []) [] group.leaves group.tree group.root) same
       (group_of_one (λ word. nat_eq k (class_of word)) (a ∷ b ∷ []) [] (leaf_of gate)
       (two_leaf (words_with table (row_at table gate.word)) a b gate.cell (are gate (Member-from_Contains gates gate (Contains-from_slice_get gates k gate found))))
-      (λ word len. bit_at-words_with table (row_at table gate.word) (number_of word) ∙ class_place table (number_of word) k gate.word (first_at k gate found)))
+      (λ word len. bit_at-words_with table (row_at table gate.word) (pair_number word) ∙ class_place table (pair_number word) k gate.word (first_at k gate found)))
 
   own_cells : (gates : List ClassGate) → flat_map own_gates (map group_of gates) ≡ map gate_cell gates
   own_cells [] = refl
@@ -142,7 +142,7 @@ module _ (table : Table) (a b : Rails) (gates : List ClassGate) (words_are : map
       (subst (λ cells. IsCode class_of (a ∷ b ∷ []) cells (map group_root (map group_of gates))) (own_cells gates)
       (code_of_groups class_of (a ∷ b ∷ []) [] (map group_of gates) group_is
       (λ word len.
-      let less = class_bound table (number_of word) (number_of-bound word len) in
+      let less = class_bound table (pair_number word) (pair_number-bound word len) in
       omega (arith, less, ap length (roots gates), lengths gates, ap length words_are))))
 
   pub is_code_for : IsCodeFor table (a ∷ b ∷ []) (map gate_cell gates) (map gate_class gates)
@@ -151,7 +151,7 @@ module _ (table : Table) (a b : Rails) (gates : List ClassGate) (words_are : map
     is = code_is;
     right = λ word c len at.
         let (gate, found, same) = at_map gate_class gates (class_of word) c at in
-        ap (λ (c : Class). row_at table c.word) (sym same) ∙ class_right table (number_of word) gate.word (first_at (class_of word) gate found);
+        ap (λ (c : Class). row_at table c.word) (sym same) ∙ class_right table (pair_number word) gate.word (first_at (class_of word) gate found);
   }
 
 -- the code is added
@@ -175,7 +175,7 @@ AddsCode-whole table a b before after classes adds =
 
 -- ---- the rails of an input
 
-rails_right : (r : Rails) (word : List Bool) (c : Class) → length word ≡ 1 → slice_get (rail_classes r) (number_of word) ≡ Some c → c.word ≡ number_of word
+rails_right : (r : Rails) (word : List Bool) (c : Class) → length word ≡ 1 → slice_get (rail_classes r) (pair_number word) ≡ Some c → c.word ≡ pair_number word
 rails_right r [] c len at = absurd (omega (arith, len))
 rails_right r (x ∷ y ∷ word) c len at = absurd (omega (arith, len))
 rails_right r (true ∷ []) c len at = let same : ◌≡◌ {A = Class} (record { net = r.one; word = 1 }) c = cc in ap (λ (c : Class). c.word) (sym same)
@@ -184,7 +184,7 @@ rails_right r (false ∷ []) c len at = let same : ◌≡◌ {A = Class} (record
 -- are a code for any table
 pub rails_code_for : (table : Table) (r : Rails) → IsCodeFor table (r ∷ []) [] (rail_classes r)
 rails_code_for table r = record {
-  class_of = number_of;
+  class_of = pair_number;
   is = code_of_rails r;
   right = λ word c len at. ap (row_at table) (rails_right r word c len at);
 }

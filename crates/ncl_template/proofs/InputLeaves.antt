@@ -13,7 +13,7 @@ use Rattle.ncl_stage.specs.Values.{holds}
 use Rattle.ncl_tree.specs.GateTree.{one}
 use Rattle.ncl_template.specs.declared.table.TableRow.{TableRow}
 use Rattle.ncl_template.specs.Template.{Shows, IsNull, ShowWord}
-use Rattle.ncl_template.specs.Tables.{number_of, bit_at}
+use Rattle.ncl_template.specs.Tables.{pair_number, bit_at}
 use Rattle.ncl_template.specs.PairGates.{IsTwoGate, IsNever}
 use Rattle.ncl_template.proofs.TwoGates.{two_shown, two_null_first, two_null_second}
 use Rattle.ncl_template.proofs.Groups.{Leaf, IsLeaf, IsGroup}
@@ -33,14 +33,14 @@ pair_cases a b _ here = inl refl
 pair_cases a b r (there m) = elim (member_cases r b [] m) [ inl same ↦ inr same | inr rest ↦ elim rest [ ] ]
 
 -- a gate over the pairs of two inputs is a leaf
-pub two_leaf : (set : TableRow) (a b : Rails) (c : StageCell) → IsTwoGate set a b c → IsLeaf (a ∷ b ∷ []) [] (record { cell = c; at = λ word. bit_at set (number_of word) })
+pub two_leaf : (set : TableRow) (a b : Rails) (c : StageCell) → IsTwoGate set a b c → IsLeaf (a ∷ b ∷ []) [] (record { cell = c; at = λ word. bit_at set (pair_number word) })
 two_leaf set a b c is = record {
   exact = λ base word obeys shown. exact base word shown;
   waits = λ base v word case r m null. waits base v word case.below case.shown r (Member-from_Contains (a ∷ b ∷ []) r m) null;
   observes = λ base v word case g m high low. elim (Member-from_Contains [] g m) [ ];
 }
   where
-    exact : (base : Nets) (word : List Bool) → ShowWord base (a ∷ b ∷ []) word → holds base c ≡ bit_at set (number_of word)
+    exact : (base : Nets) (word : List Bool) → ShowWord base (a ∷ b ∷ []) word → holds base c ≡ bit_at set (pair_number word)
     exact base [] shown = absurd shown
     exact base (x ∷ []) shown = absurd shown.1
     exact base (x ∷ y ∷ z ∷ word) shown = absurd shown.1.1

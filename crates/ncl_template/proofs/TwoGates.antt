@@ -13,7 +13,7 @@ use Rattle.ncl_shape.specs.Closure.{pin_values}
 use Rattle.ncl_stage.specs.Values.{holds}
 use Rattle.ncl_template.specs.declared.table.TableRow.{TableRow}
 use Rattle.ncl_template.specs.Template.{IsNull}
-use Rattle.ncl_template.specs.Tables.{number_of, bit_at}
+use Rattle.ncl_template.specs.Tables.{pair_number, bit_at}
 use Rattle.ncl_template.proofs.TableLaws.{beq-true}
 use Rattle.ncl_template.specs.PairGates.{Wire, A0, A1, B0, B1, two_kind, two_pins, wire_net, IsTwoGate, IsOver}
 use Rattle.ncl_template.specs.Codes.{pair_nets}
@@ -72,9 +72,9 @@ two_set-sum s00 s01 s10 s11 a0 a1 b0 b1 a b =
 
 -- the sum at two bits
 abbrev shown : Bool → Bool → Bool → Bool → Bool → Bool → Bool
-shown s00 s01 s10 s11 x y = beq (two_sum (of_four s00 s01 s10 s11) (not x) x (not y) y) (bit_at (of_four s00 s01 s10 s11) (number_of (x ∷ y ∷ [])))
+shown s00 s01 s10 s11 x y = beq (two_sum (of_four s00 s01 s10 s11) (not x) x (not y) y) (bit_at (of_four s00 s01 s10 s11) (pair_number (x ∷ y ∷ [])))
 
-sum_shown : (s00 s01 s10 s11 x y : Bool) → two_sum (of_four s00 s01 s10 s11) (not x) x (not y) y ≡ bit_at (of_four s00 s01 s10 s11) (number_of (x ∷ y ∷ []))
+sum_shown : (s00 s01 s10 s11 x y : Bool) → two_sum (of_four s00 s01 s10 s11) (not x) x (not y) y ≡ bit_at (of_four s00 s01 s10 s11) (pair_number (x ∷ y ∷ []))
 sum_shown s00 s01 s10 s11 x y = beq-true _ _ (each2 (shown s00 s01 s10 s11) (each4 (λ p q r s. all2 (shown p q r s)) refl s00 s01 s10 s11) x y)
 
 -- the sum where a pair is NULL
@@ -107,7 +107,7 @@ module _ (set : TableRow) (a b : Rails) (c : StageCell) (is : IsTwoGate set a b 
       ∙ two_set-sum set.at_00 set.at_01 set.at_10 set.at_11 (v a.zero.0) (v a.one.0) (v b.zero.0) (v b.one.0) one_a one_b
 
   -- where the pairs show bits
-  pub two_shown : (x y : Bool) → v a.zero.0 ≡ not x → v a.one.0 ≡ x → v b.zero.0 ≡ not y → v b.one.0 ≡ y → holds v c ≡ bit_at set (number_of (x ∷ y ∷ []))
+  pub two_shown : (x y : Bool) → v a.zero.0 ≡ not x → v a.one.0 ≡ x → v b.zero.0 ≡ not y → v b.one.0 ≡ y → holds v c ≡ bit_at set (pair_number (x ∷ y ∷ []))
   two_shown x y a0 a1 b0 b1 =
       two_holds ((λ i. a0 i && a1 i) ∙ apart x) ((λ i. b0 i && b1 i) ∙ apart y)
       ∙ (λ i. two_sum set (a0 i) (a1 i) (b0 i) (b1 i))

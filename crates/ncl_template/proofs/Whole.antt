@@ -14,7 +14,7 @@ use Rattle.ncl_template.specs.declared.table.TableRow.{TableRow}
 use Rattle.ncl_template.specs.declared.table.Table.{Table}
 use Rattle.ncl_template.specs.Template.{IsTemplate}
 use Rattle.ncl_template.specs.Formed.{IsFormed, AddsTemplate}
-use Rattle.ncl_template.specs.Tables.{number_of, bit_at, value_of, inverse_row, inverse_table, transposed, row_of, short_row, table_of}
+use Rattle.ncl_template.specs.Tables.{pair_number, bit_at, value_of, inverse_row, inverse_table, transposed, row_of, short_row, table_of}
 use Rattle.ncl_template.specs.PairGates.{IsTwoGate, AddsGate, IsOver}
 use Rattle.ncl_template.specs.Codes.{class_net, rail_classes, pair_nets, AddsCode}
 use Rattle.ncl_template.specs.Rails.{one_at, AddsRails}
@@ -38,13 +38,13 @@ pair_known a b rest _ (there (there (there here))) = there (there (there here))
 pair_known a b rest net (there (there (there (there m)))) = elim m [ ]
 
 module _ (values : TableRow) (a b : Rails) where
-  two_template : (c d : StageCell) → IsTwoGate (inverse_row values) a b c → IsTwoGate values a b d → IsTemplate (λ word. bit_at values (number_of word)) (a ∷ b ∷ []) (c ∷ d ∷ []) (record { zero = c.out; one = d.out })
+  two_template : (c d : StageCell) → IsTwoGate (inverse_row values) a b c → IsTwoGate values a b d → IsTemplate (λ word. bit_at values (pair_number word)) (a ∷ b ∷ []) (c ∷ d ∷ []) (record { zero = c.out; one = d.out })
   two_template c d is_zero is_one =
-      let zero : Leaf = record { cell = c; at = λ word. bit_at (inverse_row values) (number_of word) } in
-      let one : Leaf = record { cell = d; at = λ word. bit_at values (number_of word) } in
-      template_of_groups (λ word. bit_at values (number_of word)) (a ∷ b ∷ []) [] (zero ∷ []) (one ∷ []) [] [] c.out d.out
-      (group_of_one (λ word. not (bit_at values (number_of word))) (a ∷ b ∷ []) [] zero (two_leaf (inverse_row values) a b c is_zero) (λ word len. bit_at-inverse_row values (number_of word)))
-      (group_of_one (λ word. bit_at values (number_of word)) (a ∷ b ∷ []) [] one (two_leaf values a b d is_one) (λ word len. refl))
+      let zero : Leaf = record { cell = c; at = λ word. bit_at (inverse_row values) (pair_number word) } in
+      let one : Leaf = record { cell = d; at = λ word. bit_at values (pair_number word) } in
+      template_of_groups (λ word. bit_at values (pair_number word)) (a ∷ b ∷ []) [] (zero ∷ []) (one ∷ []) [] [] c.out d.out
+      (group_of_one (λ word. not (bit_at values (pair_number word))) (a ∷ b ∷ []) [] zero (two_leaf (inverse_row values) a b c is_zero) (λ word len. bit_at-inverse_row values (pair_number word)))
+      (group_of_one (λ word. bit_at values (pair_number word)) (a ∷ b ∷ []) [] one (two_leaf values a b d is_one) (λ word len. refl))
 
   two_formed : (c d : StageCell) → IsTwoGate (inverse_row values) a b c → IsTwoGate values a b d → IsFormed (a ∷ b ∷ []) (c ∷ d ∷ []) (record { zero = c.out; one = d.out })
   two_formed c d is_zero is_one =
@@ -63,14 +63,14 @@ module _ (values : TableRow) (a b : Rails) where
       over _ (there here) = two_over values a b d is_one
       over g (there (there m)) = elim m [ ]
 
-  pub AddsTemplate-two : (inverse : TableRow) (before now after : List StageCell) (zero one : NetId) → inverse ≡ inverse_row values → AddsGate (IsTwoGate inverse a b) before now zero → AddsGate (IsTwoGate values a b) now after one → AddsTemplate (λ word. bit_at values (number_of word)) (a ∷ b ∷ []) 2 before after (record { zero = zero; one = one })
+  pub AddsTemplate-two : (inverse : TableRow) (before now after : List StageCell) (zero one : NetId) → inverse ≡ inverse_row values → AddsGate (IsTwoGate inverse a b) before now zero → AddsGate (IsTwoGate values a b) now after one → AddsTemplate (λ word. bit_at values (pair_number word)) (a ∷ b ∷ []) 2 before after (record { zero = zero; one = one })
   AddsTemplate-two inverse before now after zero one inverse_is first second =
       let is_zero : IsTwoGate (inverse_row values) a b first.cell = subst (λ row. IsTwoGate row a b first.cell) inverse_is first.is in
       let out : ◌≡◌ {A = Rails} (record { zero = first.cell.out; one = second.cell.out }) (record { zero = zero; one = one }) = λ i. record { zero = first.drives i; one = second.drives i } in
       record {
         made = first.cell ∷ second.cell ∷ [];
         added = second.added ∙ (λ i. first.added i ++ second.cell ∷ []) ∙ append_assoc before (first.cell ∷ []) (second.cell ∷ []);
-        template = subst (IsTemplate (λ word. bit_at values (number_of word)) (a ∷ b ∷ []) (first.cell ∷ second.cell ∷ [])) out (two_template first.cell second.cell is_zero second.is);
+        template = subst (IsTemplate (λ word. bit_at values (pair_number word)) (a ∷ b ∷ []) (first.cell ∷ second.cell ∷ [])) out (two_template first.cell second.cell is_zero second.is);
         formed = subst (IsFormed (a ∷ b ∷ []) (first.cell ∷ second.cell ∷ [])) out (two_formed first.cell second.cell is_zero second.is);
         few = omega arith;
       }
@@ -134,7 +134,7 @@ AddsTemplate-four table columns a b c d before now then after first second out c
 
 -- ---- the function of a node
 
-two_value : (f : List Bool → Bool) (word : List Bool) → length word ≡ 2 → bit_at (row_of (λ x y. f (x ∷ y ∷ []))) (number_of word) ≡ f word
+two_value : (f : List Bool → Bool) (word : List Bool) → length word ≡ 2 → bit_at (row_of (λ x y. f (x ∷ y ∷ []))) (pair_number word) ≡ f word
 two_value f [] len = absurd (omega (arith, len))
 two_value f (x ∷ []) len = absurd (omega (arith, len))
 two_value f (x ∷ y ∷ z ∷ word) len = absurd (omega (arith, len))
@@ -184,11 +184,11 @@ four_pairs : (ins : List Rails) (a b c d : Rails) → length ins ≡ 4 → slice
 four_pairs [] a b c d len at_a at_b at_c at_d = absurd (omega (arith, len))
 four_pairs (x ∷ ins) a b c d len at_a at_b at_c at_d = let first : x ≡ a = cc in (λ i. first i ∷ three_pairs ins b c d (omega (arith, len)) at_b at_c at_d i)
 
-pub AddsTemplate-of_two : (f : List Bool → Bool) (values : TableRow) (ins : List Rails) (a b : Rails) (before after : List StageCell) (out : Rails) → length ins ≡ 2 → slice_get ins 0 ≡ Some a → slice_get ins 1 ≡ Some b → values ≡ row_of (λ x y. f (x ∷ y ∷ [])) → AddsTemplate (λ word. bit_at values (number_of word)) (a ∷ b ∷ []) 2 before after out → AddsTemplate f ins 2 before after out
+pub AddsTemplate-of_two : (f : List Bool → Bool) (values : TableRow) (ins : List Rails) (a b : Rails) (before after : List StageCell) (out : Rails) → length ins ≡ 2 → slice_get ins 0 ≡ Some a → slice_get ins 1 ≡ Some b → values ≡ row_of (λ x y. f (x ∷ y ∷ [])) → AddsTemplate (λ word. bit_at values (pair_number word)) (a ∷ b ∷ []) 2 before after out → AddsTemplate f ins 2 before after out
 AddsTemplate-of_two f values ins a b before after out two at_a at_b values_is adds =
-    AddsTemplate-taken Straight (λ word. bit_at values (number_of word)) f ins 2 before after out
-    (λ word len. ap (λ word. bit_at values (number_of word)) (taken-straight word) ∙ ap (λ (row : TableRow). bit_at row (number_of word)) values_is ∙ two_value f word (len ∙ two))
-    (subst (λ ins. AddsTemplate (λ word. bit_at values (number_of word)) ins 2 before after out) (sym (taken-straight ins ∙ two_pairs ins a b two at_a at_b)) adds)
+    AddsTemplate-taken Straight (λ word. bit_at values (pair_number word)) f ins 2 before after out
+    (λ word len. ap (λ word. bit_at values (pair_number word)) (taken-straight word) ∙ ap (λ (row : TableRow). bit_at row (pair_number word)) values_is ∙ two_value f word (len ∙ two))
+    (subst (λ ins. AddsTemplate (λ word. bit_at values (pair_number word)) ins 2 before after out) (sym (taken-straight ins ∙ two_pairs ins a b two at_a at_b)) adds)
 
 pub AddsTemplate-of_three : (f : List Bool → Bool) (order : Order) (table : Table) (ins : List Rails) (a b c p q r : Rails) (before after : List StageCell) (out : Rails) → length ins ≡ 3 → slice_get ins 0 ≡ Some a → slice_get ins 1 ≡ Some b → slice_get ins 2 ≡ Some c → p ∷ q ∷ r ∷ [] ≡ taken order (a ∷ b ∷ c ∷ []) → table ≡ table_of (λ x y. short_row (λ z. f (placed order (x ∷ y ∷ z ∷ [])))) → AddsTemplate (value_of table) (p ∷ q ∷ r ∷ []) 12 before after out → AddsTemplate f ins 12 before after out
 AddsTemplate-of_three f order table ins a b c p q r before after out three at_a at_b at_c pairs table_is adds =

@@ -8,7 +8,7 @@ use Rattle.ncl_shape.specs.Stage.{out_of}
 use Rattle.ncl_template.specs.declared.code.Class.{Class}
 use Rattle.ncl_template.specs.declared.table.Table.{Table}
 use Rattle.ncl_template.specs.Template.{IsNull, ShowWord, Obeys, IsCase}
-use Rattle.ncl_template.specs.Tables.{number_of, row_at}
+use Rattle.ncl_template.specs.Tables.{pair_number, row_at}
 use Rattle.ncl_template.specs.PairGates.{IsOver}
 
 -- of the nets exactly the one at this place is high, if there is one
@@ -39,7 +39,7 @@ rail_classes r = record { net = r.zero; word = 0 } ∷ record { net = r.one; wor
 pub record IsCodeFor (table : Table) (ins : List Rails) (gates : List StageCell) (classes : List Class) : Type 0 where
   pub class_of : List Bool → ℕ
   pub is : IsCode class_of ins gates (map class_net classes)
-  pub right : (word : List Bool) (c : Class) → length word ≡ length ins → slice_get classes (class_of word) ≡ Some c → row_at table c.word ≡ row_at table (number_of word)
+  pub right : (word : List Bool) (c : Class) → length word ≡ length ins → slice_get classes (class_of word) ≡ Some c → row_at table c.word ≡ row_at table (pair_number word)
 
 -- the nets of two pairs
 abbrev pub pair_nets : Rails → Rails → List NetId

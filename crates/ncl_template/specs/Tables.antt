@@ -5,10 +5,10 @@ use Rattle.ncl_template.specs.declared.table.TableRow.{TableRow}
 use Rattle.ncl_template.specs.declared.table.Table.{Table}
 
 -- the number of a word of one or two bits
-abbrev pub number_of : List Bool → ℕ
-number_of [] = 0
-number_of (x ∷ []) = if x then 1 else 0
-number_of (x ∷ y ∷ word) = if x then (if y then 3 else 2) else (if y then 1 else 0)
+abbrev pub pair_number : List Bool → ℕ
+pair_number [] = 0
+pair_number (x ∷ []) = if x then 1 else 0
+pair_number (x ∷ y ∷ word) = if x then (if y then 3 else 2) else (if y then 1 else 0)
 
 -- the value at the word with a number, and the row
 abbrev pub bit_at : TableRow → ℕ → Bool
@@ -37,7 +37,7 @@ table_of f = record { at_00 = f false false; at_01 = f false true; at_10 = f tru
 abbrev pub value_of : Table → List Bool → Bool
 value_of table [] = false
 value_of table (x ∷ []) = false
-value_of table (x ∷ y ∷ word) = bit_at (row_at table (number_of (x ∷ y ∷ []))) (number_of word)
+value_of table (x ∷ y ∷ word) = bit_at (row_at table (pair_number (x ∷ y ∷ []))) (pair_number word)
 
 -- the inverse values
 abbrev pub inverse_row : TableRow → TableRow

@@ -3,7 +3,7 @@ ghost use Rattle.std.specs.Prelude.{◌≡◌, ◌+◌, ◌<◌, ◌≤◌, ◌^
 ghost use Rattle.ncl_decomp.specs.Split.{IsNarrow, cost_of_inputs};
 ghost use Rattle.ncl_tree.specs.Gates.{nets_so_far};
 ghost use Rattle.ncl_template.specs.Template.{node_function};
-ghost use Rattle.ncl_template.specs.Tables.{bit_at, number_of, value_of};
+ghost use Rattle.ncl_template.specs.Tables.{bit_at, pair_number, value_of};
 ghost use Rattle.ncl_template.specs.Formed.{AddsTemplate};
 
 use crate::code::{add_code, code_of_rails};
@@ -20,7 +20,7 @@ use std::alloc::Global;
 /// Adds the gates of a function of two inputs: one for each rail.
 fn add_two(gates: &mut Gates, values: TableRow, a: Rails, b: Rails) -> Result<Rails, Memory>
     requires room { nets_so_far gates.old + 2 < 2 ^ 32 }
-    ensures template { IfOk result (AddsTemplate (λ word. bit_at values (number_of word)) (a ∷ b ∷ []) 2
+    ensures template { IfOk result (AddsTemplate (λ word. bit_at values (pair_number word)) (a ∷ b ∷ []) 2
         gates.old.cells gates.new.cells) }
     ensures first { gates.new.first ≡ gates.old.first }
 {

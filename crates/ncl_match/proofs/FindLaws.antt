@@ -2,14 +2,14 @@
 use Rattle.std.proofs.Common.{◌≡◌, ℕ, zero, suc, ◌^◌, ◌≤◌, List, [], ◌∷◌, Bool, true, false, length, Option, Some, None, cond, refl, sym, ap, ◌∙◌, subst, arith}
 use Rattle.std.specs.List.{find}
 use Rattle.std.specs.Option.{option_or, option_map}
-use Rattle.ncl_space.specs.Table.{words, number_of}
-use Rattle.ncl_space.proofs.TableLaws.{find-words, number_of-less}
+use Rattle.ncl_space.specs.Table.{words, word_number}
+use Rattle.ncl_space.proofs.TableLaws.{find-words, word_number-less}
 
 -- the word passes, and no word of the width before it does
 pub record IsLeast (n : ℕ) (test : List Bool → Bool) (word : List Bool) : Type 0 where
   pub wide : length word ≡ n
   pub passes : test word ≡ true
-  pub least : (other : List Bool) → length other ≡ n → test other ≡ true → number_of word ≤ number_of other
+  pub least : (other : List Bool) → length other ≡ n → test other ≡ true → word_number word ≤ word_number other
 
 -- no word of the width passes
 abbrev pub NonePasses : ℕ → (List Bool → Bool) → Type 0
@@ -35,11 +35,11 @@ found-more n test (Some u) high l h = record {
   least = by;
 }
   where
-    by : (other : List Bool) → length other ≡ suc n → test other ≡ true → number_of (false ∷ u) ≤ number_of other
+    by : (other : List Bool) → length other ≡ suc n → test other ≡ true → word_number (false ∷ u) ≤ word_number other
     by [] wide passes = absurd (omega (arith, wide))
     by (false ∷ v) wide passes = l.least v (omega arith) passes
     by (true ∷ v) wide passes =
-        let far = number_of-less u in
+        let far = word_number-less u in
         let same : 2 ^ length u ≡ 2 ^ length v = ap (λ (k : ℕ). 2 ^ k) (let a = l.wide in omega (arith, a, wide)) in
         omega (arith, far, same)
 found-more n test None (Some u) l h = record {
@@ -48,7 +48,7 @@ found-more n test None (Some u) l h = record {
   least = by;
 }
   where
-    by : (other : List Bool) → length other ≡ suc n → test other ≡ true → number_of (true ∷ u) ≤ number_of other
+    by : (other : List Bool) → length other ≡ suc n → test other ≡ true → word_number (true ∷ u) ≤ word_number other
     by [] wide passes = absurd (omega (arith, wide))
     by (false ∷ v) wide passes = absurd (l v (omega arith) passes)
     by (true ∷ v) wide passes =

@@ -1,12 +1,12 @@
 -- The order of words of one width, by the first bit that differs.
 use Rattle.std.proofs.Common.{◌≡◌, ◌≢◌, ℕ, zero, suc, ◌^◌, ◌<◌, List, [], ◌∷◌, Bool, true, false, length, take, get_or, IsTrue, refl, ap, arith}
 use Rattle.std.specs.Prelude.{◌↔◌}
-use Rattle.ncl_space.specs.Table.{number_of}
-use Rattle.ncl_space.proofs.TableLaws.{number_of-less}
+use Rattle.ncl_space.specs.Table.{word_number}
+use Rattle.ncl_space.proofs.TableLaws.{word_number-less}
 use Rattle.ncl_match.specs.Order.{IsBefore}
 
 -- words of one width with one number are one
-pub one_word : (v w : List Bool) → length v ≡ length w → number_of v ≡ number_of w → v ≡ w
+pub one_word : (v w : List Bool) → length v ≡ length w → word_number v ≡ word_number w → v ≡ w
 one_word [] [] same e = refl
 one_word [] (b ∷ w) same e = absurd (omega arith)
 one_word (a ∷ v) [] same e = absurd (omega arith)
@@ -18,11 +18,11 @@ one_word (false ∷ v) (false ∷ w) same e = ap (λ l. false ∷ l) (one_word v
 one_word (true ∷ v) (false ∷ w) same e =
     let wide : length v ≡ length w = omega arith in
     let power : 2 ^ length v ≡ 2 ^ length w = ap (λ (k : ℕ). 2 ^ k) wide in
-    absurd (omega (arith, power, e, number_of-less w))
+    absurd (omega (arith, power, e, word_number-less w))
 one_word (false ∷ v) (true ∷ w) same e =
     let wide : length v ≡ length w = omega arith in
     let power : 2 ^ length v ≡ 2 ^ length w = ap (λ (k : ℕ). 2 ^ k) wide in
-    absurd (omega (arith, power, e, number_of-less v))
+    absurd (omega (arith, power, e, word_number-less v))
 
 -- at the first bit that differs, the word that has the 1 there is the later
 pub before-at : (v w : List Bool) (k : ℕ) → length v ≡ length w → k < length v → take k v ≡ take k w → get_or v k false ≢ get_or w k false → IsTrue (get_or w k false) ↔ IsBefore v w
@@ -33,11 +33,11 @@ before-at (false ∷ v) (false ∷ w) zero same lt front differ = absurd (differ
 before-at (true ∷ v) (false ∷ w) zero same lt front differ =
     let wide : length v ≡ length w = omega arith in
     let power : 2 ^ length v ≡ 2 ^ length w = ap (λ (k : ℕ). 2 ^ k) wide in
-    ((λ h. absurd cc), (λ h. absurd (omega (arith, power, h, number_of-less w))))
+    ((λ h. absurd cc), (λ h. absurd (omega (arith, power, h, word_number-less w))))
 before-at (false ∷ v) (true ∷ w) zero same lt front differ =
     let wide : length v ≡ length w = omega arith in
     let power : 2 ^ length v ≡ 2 ^ length w = ap (λ (k : ℕ). 2 ^ k) wide in
-    ((λ h. omega (arith, power, number_of-less v)), (λ h. refl))
+    ((λ h. omega (arith, power, word_number-less v)), (λ h. refl))
 before-at (true ∷ v) (true ∷ w) (suc k) same lt front differ =
     let wide : length v ≡ length w = omega arith in
     let power : 2 ^ length v ≡ 2 ^ length w = ap (λ (k : ℕ). 2 ^ k) wide in

@@ -1,7 +1,7 @@
 -- How answers to two runs of outputs, one after the other, give that to both; and that a run has one answer.
 use Rattle.std.proofs.Common.{◌≡◌, ℕ, ◌+◌, ◌≤◌, ◌⊎◌, inl, inr, List, Bool, length, refl, sym, ap, subst, arith}
 use Rattle.std.proofs.lemmas.Bool.{cases_lt}
-use Rattle.ncl_space.specs.Table.{number_of}
+use Rattle.ncl_space.specs.Table.{word_number}
 use Rattle.ncl_match.specs.Order.{IsNoLater, IsBefore}
 use Rattle.ncl_match.specs.Runs.{IsIn, AreWithin, IsFirstOver, Agree, IsFirstDifference, IsAnswerToRun}
 use Rattle.ncl_match.specs.declared.answer.RunAnswer.{RunAnswer}
@@ -115,7 +115,7 @@ module _ (over : ℕ → Type 0) (differs : ℕ → List Bool → Type 0) where
     joined-first word other output later not_before first second = (
       within-both first.0 second.0,
       differ-first word output first.1 (λ o earlier i h. let far = second.1.least o earlier i h in
-          elim (cases_lt (number_of earlier) (number_of word)) [
+          elim (cases_lt (word_number earlier) (word_number word)) [
             | inl less ↦ absurd (not_before (omega (arith, far, less)))
             | inr le ↦ le
           ]),

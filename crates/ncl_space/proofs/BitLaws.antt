@@ -6,7 +6,7 @@ use Rattle.std.specs.List.{find}
 use Rattle.std.specs.Option.{option_or, option_map}
 use Rattle.std.proofs.lemmas.Bool.{and_parts, cases_lt, lt-ltb, le-ltb}
 use Rattle.std.proofs.lemmas.Nat.Bits.{bit_at_and, bit_at_or, bit_at-lt, bit_at_above, bit_at_cat_low, bit_at_cat_high, same_from_bits_below, bit_at_not, bit_at_ones, bit_at_ones_above}
-use Rattle.ncl_space.specs.Table.{words, table_of, number_of}
+use Rattle.ncl_space.specs.Table.{words, table_of, word_number}
 use Rattle.ncl_space.specs.Bits.{is_set, word_of}
 use Rattle.ncl_space.proofs.TableLaws.{pow_suc, at_table, find-words, find-same}
 
@@ -126,17 +126,17 @@ word_of-high n i lt =
     λ t. first t ∷ rest t
 
 -- the number of the word of a number is that number
-pub number_of-word_of : (n i : ℕ) → i < 2 ^ n → number_of (word_of n i) ≡ i
-number_of-word_of zero i lt = omega arith
-number_of-word_of (suc n) i lt = elim (cases_lt i (2 ^ n)) [
-  | inl low ↦ ap number_of (word_of-low n i low) ∙ number_of-word_of n i low
+pub word_number-word_of : (n i : ℕ) → i < 2 ^ n → word_number (word_of n i) ≡ i
+word_number-word_of zero i lt = omega arith
+word_number-word_of (suc n) i lt = elim (cases_lt i (2 ^ n)) [
+  | inl low ↦ ap word_number (word_of-low n i low) ∙ word_number-word_of n i low
   | inr past ↦
       let rest : i - 2 ^ n < 2 ^ n = omega (arith, pow_suc n) in
       let is : i ≡ 2 ^ n + (i - 2 ^ n) = omega arith in
-      let high = number_of-word_of n (i - 2 ^ n) rest in
+      let high = word_number-word_of n (i - 2 ^ n) rest in
       let long = ap (λ (k : ℕ). 2 ^ k) (length-word_of n (i - 2 ^ n)) in
-      ap (λ (k : ℕ). number_of (word_of (suc n) k)) is
-      ∙ ap number_of (word_of-high n (i - 2 ^ n) rest)
+      ap (λ (k : ℕ). word_number (word_of (suc n) k)) is
+      ∙ ap word_number (word_of-high n (i - 2 ^ n) rest)
       ∙ omega (arith, high, long)
 ]
 
@@ -149,36 +149,36 @@ index-word_of (suc n) i (suc p) lt = let e : n - 1 - p ≡ suc n - 1 - suc p = o
 -- the table of a function has at each number the function's value at the word of that number
 pub index-table_of : (n : ℕ) (f : List Bool → Bool) (i : ℕ) → i < 2 ^ n → slice_index_or (table_of (words n) f) i false ≡ f (word_of n i)
 index-table_of n f i lt =
-    ap (λ (k : ℕ). slice_index_or (table_of (words n) f) k false) (sym (number_of-word_of n i lt))
+    ap (λ (k : ℕ). slice_index_or (table_of (words n) f) k false) (sym (word_number-word_of n i lt))
     ∙ at_table n f (word_of n i) (length-word_of n i)
 
 -- no number with a value, no word
-pub find-nowhere : (n : ℕ) (f : ℕ → Bool) → ((j : ℕ) → j < 2 ^ n → f j ≡ false) → find (λ w. f (number_of w)) (words n) ≡ None
+pub find-nowhere : (n : ℕ) (f : ℕ → Bool) → ((j : ℕ) → j < 2 ^ n → f j ≡ false) → find (λ w. f (word_number w)) (words n) ≡ None
 find-nowhere zero f none = ap (λ b. if b then Some [] else None) (none 0 (omega arith))
 find-nowhere (suc n) f none =
-    let left : find (λ w. f (number_of w)) (words n) ≡ None = find-nowhere n f (λ j lt. none j (omega (arith, pow_suc n))) in
-    let right : find (λ w. f (number_of (true ∷ w))) (words n) ≡ None =
-    find-same n (λ w. f (number_of (true ∷ w))) (λ w. f (2 ^ n + number_of w)) (λ w e. ap (λ (k : ℕ). f (2 ^ k + number_of w)) e)
+    let left : find (λ w. f (word_number w)) (words n) ≡ None = find-nowhere n f (λ j lt. none j (omega (arith, pow_suc n))) in
+    let right : find (λ w. f (word_number (true ∷ w))) (words n) ≡ None =
+    find-same n (λ w. f (word_number (true ∷ w))) (λ w. f (2 ^ n + word_number w)) (λ w e. ap (λ (k : ℕ). f (2 ^ k + word_number w)) e)
     ∙ find-nowhere n (λ j. f (2 ^ n + j)) (λ j lt. none (2 ^ n + j) (omega (arith, pow_suc n))) in
-    find-words n (λ w. f (number_of w))
+    find-words n (λ w. f (word_number w))
     ∙ (λ t. option_or (option_map (λ w. false ∷ w) (left t)) (option_map (λ w. true ∷ w) (right t)))
 
 -- the least number with a value is that of the least word
-pub find-first : (n : ℕ) (f : ℕ → Bool) (i : ℕ) → i < 2 ^ n → f i ≡ true → ((j : ℕ) → j < i → f j ≡ false) → find (λ w. f (number_of w)) (words n) ≡ Some (word_of n i)
+pub find-first : (n : ℕ) (f : ℕ → Bool) (i : ℕ) → i < 2 ^ n → f i ≡ true → ((j : ℕ) → j < i → f j ≡ false) → find (λ w. f (word_number w)) (words n) ≡ Some (word_of n i)
 find-first zero f i lt is none = let e : i ≡ 0 = omega arith in ap (λ b. if b then Some [] else None) (ap f (sym e) ∙ is)
 find-first (suc n) f i lt is none = elim (cases_lt i (2 ^ n)) [
   | inl low ↦
-      find-words n (λ w. f (number_of w))
-      ∙ ap (λ o. option_or (option_map (λ w. false ∷ w) o) (option_map (λ w. true ∷ w) (find (λ w. f (number_of (true ∷ w))) (words n)))) (find-first n f i low is none)
+      find-words n (λ w. f (word_number w))
+      ∙ ap (λ o. option_or (option_map (λ w. false ∷ w) o) (option_map (λ w. true ∷ w) (find (λ w. f (word_number (true ∷ w))) (words n)))) (find-first n f i low is none)
       ∙ ap Some (sym (word_of-low n i low))
   | inr past ↦
       let rest : i - 2 ^ n < 2 ^ n = omega (arith, pow_suc n) in
       let at : 2 ^ n + (i - 2 ^ n) ≡ i = omega arith in
-      let left : find (λ w. f (number_of w)) (words n) ≡ None = find-nowhere n f (λ j j_lt. none j (omega arith)) in
-      let right : find (λ w. f (number_of (true ∷ w))) (words n) ≡ Some (word_of n (i - 2 ^ n)) =
-      find-same n (λ w. f (number_of (true ∷ w))) (λ w. f (2 ^ n + number_of w)) (λ w e. ap (λ (k : ℕ). f (2 ^ k + number_of w)) e)
+      let left : find (λ w. f (word_number w)) (words n) ≡ None = find-nowhere n f (λ j j_lt. none j (omega arith)) in
+      let right : find (λ w. f (word_number (true ∷ w))) (words n) ≡ Some (word_of n (i - 2 ^ n)) =
+      find-same n (λ w. f (word_number (true ∷ w))) (λ w. f (2 ^ n + word_number w)) (λ w e. ap (λ (k : ℕ). f (2 ^ k + word_number w)) e)
       ∙ find-first n (λ j. f (2 ^ n + j)) (i - 2 ^ n) rest (ap f at ∙ is) (λ j j_lt. none (2 ^ n + j) (omega arith)) in
-      find-words n (λ w. f (number_of w))
+      find-words n (λ w. f (word_number w))
       ∙ (λ t. option_or (option_map (λ w. false ∷ w) (left t)) (option_map (λ w. true ∷ w) (right t)))
       ∙ ap Some (sym (word_of-high n (i - 2 ^ n) rest) ∙ ap (word_of (suc n)) at)
 ]

@@ -15,7 +15,7 @@ use Rattle.ncl_space.specs.Bits.{is_set, word_of}
 use Rattle.ncl_space.specs.Functions.{at, constant_table, gate_table, is_value, rail_table}
 use Rattle.ncl_space.specs.Plain.{stride_of, value_in, row_table, tables_in, AreTables, EndsAt, Holds, IsRow}
 use Rattle.ncl_space.proofs.TableLaws.{length-table_of}
-use Rattle.ncl_space.proofs.BitLaws.{is_set-past, index-table_of, index-word_of, number_of-word_of}
+use Rattle.ncl_space.proofs.BitLaws.{is_set-past, index-table_of, index-word_of, word_number-word_of}
 
 -- functions that agree below n make one list
 map_below-same : {X : Type 0} (n : ℕ) (f g : ℕ → X) → ((i : ℕ) → i < n → f i ≡ g i) → map f (range_with_len 0 n) ≡ map g (range_with_len 0 n)
@@ -318,7 +318,7 @@ index-gate n kind ts i long a b c d a_is b_is c_is d_is =
 
     at_word : (i < 2 ^ n) → (us : List (List Bool)) → map (λ t. slice_index_or t i false) us ≡ map (λ t. at t (word_of n i)) us
     at_word lt [] = refl
-    at_word lt (u ∷ us) = (λ t. slice_index_or u (sym (number_of-word_of n i lt) t) false ∷ at_word lt us t)
+    at_word lt (u ∷ us) = (λ t. slice_index_or u (sym (word_number-word_of n i lt) t) false ∷ at_word lt us t)
 
     by : (i < 2 ^ n) ⊎ (2 ^ n ≤ i) → set_of kind (map (λ t. slice_index_or t i false) ts) ≡ slice_index_or (gate_table n kind ts) i false
     by (inl lt) = ap (set_of kind) (at_word lt ts) ∙ sym (index-table_of n (λ word. set_of kind (map (λ t. at t word) ts)) i lt)

@@ -8,7 +8,7 @@ use Rattle.std.specs.List.{find}
 use Rattle.std.proofs.lemmas.Grind.{common_steps}
 use Rattle.std.proofs.lemmas.List.{map-append}
 use Rattle.std.proofs.lemmas.List.Folds.{find-append}
-use Rattle.ncl_space.specs.Table.{words, table_of, number_of}
+use Rattle.ncl_space.specs.Table.{words, table_of, word_number}
 use Rattle.ncl_space.specs.Beads.{low_half, high_half, is_same, beads_of, distinct_beads}
 use Rattle.ncl_space.specs.Functions.{at, constant_table, least}
 
@@ -16,10 +16,10 @@ pub pow_suc : (n : ℕ) → 2 ^ suc n ≡ 2 ^ n + 2 ^ n
 pow_suc n = grind (arith, common_steps)
 
 -- the number of a word is below the number of words
-pub number_of-less : (w : List Bool) → number_of w < 2 ^ length w
-number_of-less [] = omega arith
-number_of-less (true ∷ w) = omega (arith, number_of-less w, pow_suc (length w))
-number_of-less (false ∷ w) = omega (arith, number_of-less w, pow_suc (length w))
+pub word_number-less : (w : List Bool) → word_number w < 2 ^ length w
+word_number-less [] = omega arith
+word_number-less (true ∷ w) = omega (arith, word_number-less w, pow_suc (length w))
+word_number-less (false ∷ w) = omega (arith, word_number-less w, pow_suc (length w))
 
 map_after : (f : List Bool → Bool) (b : Bool) (ws : List (List Bool)) → map f (map (λ w. b ∷ w) ws) ≡ map (λ w. f (b ∷ w)) ws
 map_after f b [] = refl
@@ -60,10 +60,10 @@ get_back (x ∷ l) h (suc j) k e = get_back l h j k (omega arith)
 
 -- the value of two halves at a word is that of one of them at the rest of the word
 pub at-low : (l h w : List Bool) → length l ≡ 2 ^ length w → at (l ++ h) (false ∷ w) ≡ at l w
-at-low l h w e = get_front l h (number_of w) (omega (arith, number_of-less w))
+at-low l h w e = get_front l h (word_number w) (omega (arith, word_number-less w))
 
 pub at-high : (l h w : List Bool) → length l ≡ 2 ^ length w → at (l ++ h) (true ∷ w) ≡ at h w
-at-high l h w e = get_back l h (2 ^ length w + number_of w) (number_of w) (omega arith)
+at-high l h w e = get_back l h (2 ^ length w + word_number w) (word_number w) (omega arith)
 
 -- the table of a function has its value at each word
 pub at_table : (n : ℕ) (f : List Bool → Bool) (w : List Bool) → length w ≡ n → at (table_of (words n) f) w ≡ f w

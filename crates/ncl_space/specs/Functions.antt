@@ -4,11 +4,11 @@ use Rattle.std.specs.Prelude.{ℕ, List, Bool, true, false, Option, map, not, sl
 use Rattle.std.specs.List.{find}
 use Rattle.ncl_gates.specs.declared.kind.Kind.{Kind}
 use Rattle.ncl_gates.specs.Gate.{set_of}
-use Rattle.ncl_space.specs.Table.{words, table_of, number_of}
+use Rattle.ncl_space.specs.Table.{words, table_of, word_number}
 
 -- the value of a table at a word
 abbrev pub at : List Bool → List Bool → Bool
-at table word = slice_index_or table (number_of word) false
+at table word = slice_index_or table (word_number word) false
 
 -- the function that has this value everywhere
 abbrev pub constant_table : ℕ → Bool → List Bool

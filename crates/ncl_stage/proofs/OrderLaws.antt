@@ -11,7 +11,7 @@ use Rattle.std.proofs.lemmas.Cmp.{nat_eq_equiv}
 use Rattle.std.proofs.lemmas.Map.Keys.{IsDistinct-push}
 use Rattle.std.proofs.lemmas.Map.Steps.{length-le_from_distinct_below, le-length_from_below}
 use Rattle.ncl_base.proofs.Members.{Member, here, there, member_cases, Member-append_left, Member-append_right, Member-append_cases, Member-map, member_of_map, Member-from_Contains, Contains-from_Member, member_from_list_any, list_any-from_member}
-use Rattle.ncl_space.specs.Table.{words, table_of, number_of}
+use Rattle.ncl_space.specs.Table.{words, table_of, word_number}
 use Rattle.ncl_stage.specs.BitOrder.{place_in, with_bit, with_bits, IsOrderOf, taken, placed, words_by}
 use Rattle.ncl_stage.proofs.PlaceLaws.{place_in-at}
 
@@ -233,26 +233,26 @@ range_append from (suc a) b (suc c) e =
     ∙ ap (λ k. from ∷ range_with_len (from + 1) a ++ range_with_len k b) (let f : from + 1 + a ≡ from + suc a = omega arith in f)
 
 -- all words stand as the numbers that they make
-numbers-of-words : (n from : ℕ) → map (λ w. from + number_of w) (words n) ≡ range_with_len from (2 ^ n)
+numbers-of-words : (n from : ℕ) → map (λ w. from + word_number w) (words n) ≡ range_with_len from (2 ^ n)
 numbers-of-words zero from = ap (λ k. k ∷ []) (let e : from + 0 ≡ from = omega arith in e)
 numbers-of-words (suc n) from =
     let ws : List (List Bool) = words n in
     let twice : 2 ^ suc n ≡ 2 ^ n + 2 ^ n = grind (arith, common_steps) in
-    map-append (λ w. from + number_of w) (map (λ w. false ∷ w) ws) (map (λ w. true ∷ w) ws)
-    ∙ ap (λ l. l ++ map (λ w. from + number_of w) (map (λ w. true ∷ w) ws)) (map_map (λ w. from + number_of w) (λ w. false ∷ w) ws ∙ numbers-of-words n from)
-    ∙ ap (λ l. range_with_len from (2 ^ n) ++ l) (map_map (λ w. from + number_of w) (λ w. true ∷ w) ws
-    ∙ map_same (λ w. from + number_of (true ∷ w)) (λ w. from + 2 ^ n + number_of w) ws (λ w m. let long : 2 ^ length w ≡ 2 ^ n = ap (λ k. 2 ^ k) (words-length n w m) in omega arith)
+    map-append (λ w. from + word_number w) (map (λ w. false ∷ w) ws) (map (λ w. true ∷ w) ws)
+    ∙ ap (λ l. l ++ map (λ w. from + word_number w) (map (λ w. true ∷ w) ws)) (map_map (λ w. from + word_number w) (λ w. false ∷ w) ws ∙ numbers-of-words n from)
+    ∙ ap (λ l. range_with_len from (2 ^ n) ++ l) (map_map (λ w. from + word_number w) (λ w. true ∷ w) ws
+    ∙ map_same (λ w. from + word_number (true ∷ w)) (λ w. from + 2 ^ n + word_number w) ws (λ w m. let long : 2 ^ length w ≡ 2 ^ n = ap (λ k. 2 ^ k) (words-length n w m) in omega arith)
     ∙ numbers-of-words n (from + 2 ^ n))
     ∙ sym (range_append from (2 ^ n) (2 ^ n) (2 ^ suc n) twice)
 
 -- and those in an order as the numbers that their bits, taken in the order, make
-pub numbers_by : (n : ℕ) (order : List ℕ) → IsOrderOf n order → map (λ w. number_of (taken order w)) (words_by order) ≡ range_with_len 0 (2 ^ n)
+pub numbers_by : (n : ℕ) (order : List ℕ) → IsOrderOf n order → map (λ w. word_number (taken order w)) (words_by order) ≡ range_with_len 0 (2 ^ n)
 numbers_by n order is =
-    map_map (λ w. number_of (taken order w)) (placed order) (words (length order))
-    ∙ map_same (λ w. number_of (taken order (placed order w))) (λ w. 0 + number_of w) (words (length order)) (λ w m.
+    map_map (λ w. word_number (taken order w)) (placed order) (words (length order))
+    ∙ map_same (λ w. word_number (taken order (placed order w))) (λ w. 0 + word_number w) (words (length order)) (λ w m.
     let long = words-length (length order) w m in
     let size = is.many in
-    ap number_of (taken-placed n order is w (omega arith)) ∙ (let e : number_of w ≡ 0 + number_of w = omega arith in e))
+    ap word_number (taken-placed n order is w (omega arith)) ∙ (let e : word_number w ≡ 0 + word_number w = omega arith in e))
     ∙ numbers-of-words (length order) 0
     ∙ ap (λ k. range_with_len 0 (2 ^ k)) is.many
 

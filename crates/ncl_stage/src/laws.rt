@@ -3,7 +3,7 @@ ghost use Rattle.std.specs.Prelude.{◌≡◌, ◌^◌, ℕ, Bool, false, List, 
 ghost use Rattle.std.specs.List.{range_with_len};
 ghost use Rattle.ncl_shape.specs.Nets.{IsBelow};
 ghost use Rattle.ncl_shape.specs.Stage.{StageData, IsStage, rail_nets, nets_of, out_of};
-ghost use Rattle.ncl_space.specs.Table.{number_of, words};
+ghost use Rattle.ncl_space.specs.Table.{word_number, words};
 ghost use Rattle.ncl_stage.specs.BitOrder.{IsOrderOf, bit_order, taken, words_by};
 ghost use Rattle.ncl_stage.specs.declared.variant.Variant.{Variant};
 ghost use Rattle.ncl_stage.specs.declared.variant.Variant.TheVariants.{Base};
@@ -45,7 +45,7 @@ pub fn each_bit_stands_once()
 /// The words stand in an order as the numbers that their bits, taken in the order, make: the first bit is the most
 /// significant. In ascending order they are all words as they stand.
 pub fn words_are_in_order()
-    ensures numbers { (n : ℕ) (order : List ℕ) → IsOrderOf n order → map (λ word. number_of (taken order word)) (words_by order) ≡ range_with_len 0 (2 ^ n) }
+    ensures numbers { (n : ℕ) (order : List ℕ) → IsOrderOf n order → map (λ word. word_number (taken order word)) (words_by order) ≡ range_with_len 0 (2 ^ n) }
     ensures ascending { (n : ℕ) → words_by (range_with_len 0 n) ≡ words n }
 {}
 

@@ -8,16 +8,16 @@ use Rattle.ncl_gates.specs.declared.kind.Kind.TheVariants.{Th12}
 use Rattle.ncl_space.specs.declared.space.Ref.{Ref}
 use Rattle.ncl_diagram.specs.declared.memo.Key.{Key}
 use Rattle.ncl_diagram.specs.Memo.{places}
-use Rattle.ncl_diagram.specs.Slot.{AreWords, are_below, below_answer, entry_at, first_of, first_word, gates, kind_at, number_of, second_word}
+use Rattle.ncl_diagram.specs.Slot.{AreWords, are_below, below_answer, entry_at, first_of, first_word, gates, kind_at, kind_number, second_word}
 
 -- a gate is found by its number
-gate_found : (kind : Kind) → kind_at (number_of kind) ≡ Some kind
-unfolding number_of kind_at gates
+gate_found : (kind : Kind) → kind_at (kind_number kind) ≡ Some kind
+unfolding kind_number kind_at gates
 gate_found Th12 = refl
 gate_found _ = refl
 
-number_few : (kind : Kind) → number_of kind < 64
-unfolding number_of gates
+number_few : (kind : Kind) → kind_number kind < 64
+unfolding kind_number gates
 number_few Th12 = omega arith
 number_few _ = omega arith
 
@@ -53,12 +53,12 @@ found_in c d number found hc hd hn = omega arith
 unpacked : (kind : Kind) (key : Key) (found : Ref) → are_below (2 ^ 24) (places key) ≡ true → entry_at (first_of key) (found.place * 2 ^ 38 + below_answer kind key) ≡ Some (record { kind = kind; key = key; found = found })
 unpacked kind key found all =
     let below = each_below (2 ^ 24) key all in
-    let number = number_in key.c.place key.d.place (number_of kind) found.place below.2 below.3 (number_few kind) in
+    let number = number_in key.c.place key.d.place (kind_number kind) found.place below.2 below.3 (number_few kind) in
     let a = place_a key.a.place key.b.place key.c.place below.0 in
     let b = place_b key.a.place key.b.place key.c.place below.0 below.1 in
-    let c = place_c key.a.place key.b.place key.c.place key.d.place (number_of kind) found.place below.0 below.1 below.2 in
-    let d = place_d key.c.place key.d.place (number_of kind) found.place below.2 below.3 in
-    let e = found_in key.c.place key.d.place (number_of kind) found.place below.2 below.3 (number_few kind) in
+    let c = place_c key.a.place key.b.place key.c.place key.d.place (kind_number kind) found.place below.0 below.1 below.2 in
+    let d = place_d key.c.place key.d.place (kind_number kind) found.place below.2 below.3 in
+    let e = found_in key.c.place key.d.place (kind_number kind) found.place below.2 below.3 (number_few kind) in
     let gate = ap kind_at number ∙ gate_found kind in
     λ i. option_map (λ (k : Kind). record { kind = k; key = record { a = record { place = a i }; b = record { place = b i }; c = record { place = c i }; d = record { place = d i } }; found = record { place = e i } }) (gate i)
 

@@ -24,8 +24,8 @@ unfoldable pub gates : List Kind
 gates = Th12 ∷ Th22 ∷ Th13 ∷ Th23 ∷ Th33 ∷ Th23w2 ∷ Th33w2 ∷ Th14 ∷ Th24 ∷ Th34 ∷ Th44 ∷ Th24w2 ∷ Th34w2 ∷ Th44w2 ∷ Th34w3 ∷ Th44w3 ∷ Th24w22 ∷ Th34w22 ∷ Th44w22 ∷ Th54w22 ∷ Th34w32 ∷ Th54w32 ∷ Th44w322 ∷ Th54w322 ∷ ThXor0 ∷ ThAnd0 ∷ Th24comp ∷ []
 
 -- the number of a gate: its place among them, from 1
-unfoldable pub number_of : Kind → ℕ
-number_of kind = position_or_len (λ other. bytes_eq (name_of other) (name_of kind)) gates + 1
+unfoldable pub kind_number : Kind → ℕ
+kind_number kind = position_or_len (λ other. bytes_eq (name_of other) (name_of kind)) gates + 1
 
 -- the gate of a number
 unfoldable pub kind_at : ℕ → Option Kind
@@ -38,7 +38,7 @@ first_of key = (key.c.place % 2 ^ 16 * 2 ^ 24 + key.b.place) * 2 ^ 24 + key.a.pl
 
 -- the second word below the answer: from the top 6 bits of the gate, 24 of pin d, and the 8 higher bits of c
 abbrev pub below_answer : Kind → Key → ℕ
-below_answer kind key = (number_of kind * 2 ^ 24 + key.d.place) * 2 ^ 8 + key.c.place / 2 ^ 16
+below_answer kind key = (kind_number kind * 2 ^ 24 + key.d.place) * 2 ^ 8 + key.c.place / 2 ^ 16
 
 -- the two words of an answer, and those of none
 abbrev pub first_word : Option Entry → ℕ

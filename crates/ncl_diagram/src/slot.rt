@@ -2,7 +2,7 @@
 ghost use Rattle.std.specs.Prelude.{◌≡◌, ◌≢◌, ◌∷◌, ◌<◌, ◌^◌, None, Some, true, IfNone, IfSome};
 ghost use Rattle.ncl_space.specs.declared.space.Ref.{Ref};
 ghost use Rattle.ncl_diagram.specs.Memo.{places};
-ghost use Rattle.ncl_diagram.specs.Slot.{are_below, below_answer, first_of, number_of};
+ghost use Rattle.ncl_diagram.specs.Slot.{are_below, below_answer, first_of, kind_number};
 
 use crate::memo::Key;
 use ncl_gates::Kind;
@@ -42,8 +42,8 @@ impl Model for Slot {
 }
 
 // The number of a gate, from 1.
-fn number_of(kind: Kind) -> u64
-    ensures number { result ≡ number_of kind }
+fn kind_number(kind: Kind) -> u64
+    ensures number { result ≡ kind_number kind }
     ensures few { result < 2 ^ 6 }
 {
     kind as u64 + 1
@@ -62,7 +62,7 @@ fn first_of(key: Key) -> u64
 fn below_answer(kind: Kind, key: Key) -> u64
     ensures { are_below MOST_PLACES (places key) ≡ true → result ≡ below_answer kind key }
 {
-    let top = number_of(kind) << 32;
+    let top = kind_number(kind) << 32;
     let middle = (key.d.place as u64) << 8;
     top | middle | (key.c.place >> 16) as u64
 }

@@ -3,12 +3,12 @@ use Rattle.std.proofs.Common.{◌≡◌, ◌+◌, refl}
 use Rattle.ncl_gates.specs.contracts.kind.Kind.{the_type}
 use Rattle.ncl_gates.specs.declared.kind.Kind.{Kind}
 use Rattle.ncl_gates.specs.declared.kind.Kind.TheVariants.{Th12}
-use Rattle.ncl_diagram.specs.Slot.{gates, number_of}
-use Rattle.ncl_diagram.proofs.slot.number_of.Goals as goal
+use Rattle.ncl_diagram.specs.Slot.{gates, kind_number}
+use Rattle.ncl_diagram.proofs.slot.kind_number.Goals as goal
 
 -- the number by which the program knows a gate is one less
-number_as : (kind : Kind) → tag_of the_type kind + 1 ≡ number_of kind
-unfolding number_of gates
+number_as : (kind : Kind) → tag_of the_type kind + 1 ≡ kind_number kind
+unfolding kind_number gates
 number_as Th12 = refl
 number_as _ = refl
 

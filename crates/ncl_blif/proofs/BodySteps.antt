@@ -14,7 +14,7 @@ use Rattle.ncl_blif.specs.Named.{NamedModel, NamedCover, drivers_of}
 use Rattle.ncl_blif.specs.Numbered.{is_driven, signal_number}
 use Rattle.ncl_blif.specs.Drivers.{driver_at, driver_among}
 use Rattle.ncl_blif.specs.LineFaults.{has_twins}
-use Rattle.ncl_blif.specs.Body.{said_by, IsKept}
+use Rattle.ncl_blif.specs.Body.{said_by, AreDriversKept}
 use Rattle.ncl_blif.proofs.DriverPlaces.{among-tells, among-input, among-cover, once-input, once-cover, input-first, cover-first}
 use Rattle.ncl_blif.proofs.Twins.{twins-middle}
 
@@ -23,7 +23,7 @@ abbrev pub outs_of : List NamedCover → List (List ℕ)
 outs_of covers = map (λ (cover : NamedCover). cover.out) covers
 
 -- a look-up tells whether a signal has a driver
-pub driven-is : (body : DraftBody) → IsKept body → (name : List ℕ) (found : Option Driver) → found ≡ driver_at body.drivers name → is_driven (said_by body) name ≡ is_some found
+pub driven-is : (body : DraftBody) → AreDriversKept body → (name : List ℕ) (found : Option Driver) → found ≡ driver_at body.drivers name → is_driven (said_by body) name ≡ is_some found
 driven-is body kept name found is = sym (ap is_some (is ∙ kept.each name) ∙ among-tells (said_by body).inputs (outs_of body.covers.items) name)
 
 -- the model with these inputs, and with these covers
@@ -34,10 +34,10 @@ abbrev pub with_covers : NamedModel → List NamedCover → NamedModel
 with_covers model covers = record model { covers = covers }
 
 -- one more input
-pub kept-input : (old new : DraftBody) (name : List ℕ) → IsKept old → is_driven (said_by old) name ≡ false
+pub kept-input : (old new : DraftBody) (name : List ℕ) → AreDriversKept old → is_driven (said_by old) name ≡ false
     → map (λ name. name.now) new.inputs.items ≡ (said_by old).inputs ++ name ∷ [] → new.outputs.items ≡ old.outputs.items → new.covers.items ≡ old.covers.items
     → ((q : List ℕ) → driver_at new.drivers q ≡ cond (bytes_eq name q) (Some (Input (length (said_by old).inputs))) (driver_at old.drivers q))
-    → IsKept new × (said_by new ≡ with_inputs (said_by old) ((said_by old).inputs ++ name ∷ [])) × (is_driven (said_by old) name ≡ false)
+    → AreDriversKept new × (said_by new ≡ with_inputs (said_by old) ((said_by old).inputs ++ name ∷ [])) × (is_driven (said_by old) name ≡ false)
 kept-input old new name kept alone inputs outputs covers drivers =
     let outs = outs_of old.covers.items in (
       record {
@@ -50,10 +50,10 @@ kept-input old new name kept alone inputs outputs covers drivers =
     )
 
 -- one more cover
-pub kept-cover : (old new : DraftBody) (cover : NamedCover) → IsKept old → is_driven (said_by old) cover.out ≡ false
+pub kept-cover : (old new : DraftBody) (cover : NamedCover) → AreDriversKept old → is_driven (said_by old) cover.out ≡ false
     → new.covers.items ≡ old.covers.items ++ cover ∷ [] → new.outputs.items ≡ old.outputs.items → new.inputs.items ≡ old.inputs.items
     → ((q : List ℕ) → driver_at new.drivers q ≡ cond (bytes_eq cover.out q) (Some (Cover (length old.covers.items))) (driver_at old.drivers q))
-    → IsKept new × (said_by new ≡ with_covers (said_by old) ((said_by old).covers ++ cover ∷ []))
+    → AreDriversKept new × (said_by new ≡ with_covers (said_by old) ((said_by old).covers ++ cover ∷ []))
 kept-cover old new cover kept alone covers outputs inputs drivers =
     let outs = outs_of old.covers.items in
     let more : outs_of new.covers.items ≡ outs ++ cover.out ∷ [] = ap outs_of covers ∙ map_push (λ (cover : NamedCover). cover.out) old.covers.items cover in
@@ -98,18 +98,18 @@ inputs-twice old mid names n name driven lt at is =
     twins-found old.inputs names (outs_of old.covers) n name lt at (sym (ap (λ m. is_driven m name) is) ∙ driven)
 
 -- and where all are added none stands twice
-pub inputs-all : (old : NamedModel) (body : DraftBody) (names : List (List ℕ)) → IsKept body → said_by body ≡ with_inputs old (old.inputs ++ names) → has_twins (drivers_of (with_inputs old (old.inputs ++ names))) ≡ false
+pub inputs-all : (old : NamedModel) (body : DraftBody) (names : List (List ℕ)) → AreDriversKept body → said_by body ≡ with_inputs old (old.inputs ++ names) → has_twins (drivers_of (with_inputs old (old.inputs ++ names))) ≡ false
 inputs-all old body names kept said = sym (ap (λ m. has_twins (drivers_of m)) said) ∙ kept.once
 
 -- the number of a signal by a look-up: none, the place of an input, or that of a cover after the inputs
-pub number-none : (body : DraftBody) → IsKept body → (name : List ℕ) (found : Option Driver) → found ≡ driver_at body.drivers name → found ≡ None → is_driven (said_by body) name ≡ false
+pub number-none : (body : DraftBody) → AreDriversKept body → (name : List ℕ) (found : Option Driver) → found ≡ driver_at body.drivers name → found ≡ None → is_driven (said_by body) name ≡ false
 number-none body kept name found is none = driven-is body kept name found is ∙ ap is_some none
 
-pub number-input : (body : DraftBody) → IsKept body → (name : List ℕ) (found : Option Driver) (n : ℕ) → found ≡ driver_at body.drivers name → found ≡ Some (Input n) → (is_driven (said_by body) name ≡ true) × (n ≡ signal_number (said_by body) name)
+pub number-input : (body : DraftBody) → AreDriversKept body → (name : List ℕ) (found : Option Driver) (n : ℕ) → found ≡ driver_at body.drivers name → found ≡ Some (Input n) → (is_driven (said_by body) name ≡ true) × (n ≡ signal_number (said_by body) name)
 number-input body kept name found n is some =
     (driven-is body kept name found is ∙ ap is_some some, (input-first (said_by body).inputs (outs_of body.covers.items) name n (sym (is ∙ kept.each name) ∙ some)).0)
 
-pub number-cover : (body : DraftBody) → IsKept body → (name : List ℕ) (found : Option Driver) (count n : ℕ) → found ≡ driver_at body.drivers name → found ≡ Some (Cover n) → count ≡ length body.inputs.items
+pub number-cover : (body : DraftBody) → AreDriversKept body → (name : List ℕ) (found : Option Driver) (count n : ℕ) → found ≡ driver_at body.drivers name → found ≡ Some (Cover n) → count ≡ length body.inputs.items
     → (is_driven (said_by body) name ≡ true) × (count + n ≡ signal_number (said_by body) name)
 number-cover body kept name found count n is some all = (
   driven-is body kept name found is ∙ ap is_some some,

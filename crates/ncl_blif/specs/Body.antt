@@ -15,6 +15,6 @@ said_by body = record {
 }
 
 -- what drives each signal is kept by its name, and no signal has two drivers
-pub record IsKept (body : DraftBody) : Type 0 where
+pub record AreDriversKept (body : DraftBody) : Type 0 where
   pub each : (name : List ℕ) → driver_at body.drivers name ≡ driver_among (said_by body).inputs (map (λ (cover : NamedCover). cover.out) (said_by body).covers) name
   pub once : has_twins (drivers_of (said_by body)) ≡ false

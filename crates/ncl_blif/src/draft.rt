@@ -31,13 +31,13 @@ impl<'a> Model for Draft<'a> {
     ghost use Rattle.std.specs.Prelude.{◌≤◌, length};
     ghost use Rattle.ncl_blif.specs.Named.{NamedModel, drivers_of};
     ghost use Rattle.ncl_blif.specs.Model.{most_size};
-    ghost use Rattle.ncl_blif.specs.Body.{said_by, IsKept};
+    ghost use Rattle.ncl_blif.specs.Body.{said_by, AreDriversKept};
 
     ghost Value = { NamedModel };
 
     ghost view = { λ d. record (said_by d.body) { name = d.name.now } };
 
-    ghost invariant = { λ d. IsKept d.body × (length (drivers_of (said_by d.body)) ≤ most_size) };
+    ghost invariant = { λ d. AreDriversKept d.body × (length (drivers_of (said_by d.body)) ≤ most_size) };
 }
 
 impl<'a> Draft<'a> {

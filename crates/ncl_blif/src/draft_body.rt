@@ -6,7 +6,7 @@ ghost use Rattle.ncl_blif.specs.Commands.{word_of};
 ghost use Rattle.ncl_blif.specs.Named.{NamedModel, later_words, cover_of, cover_out, inputs_said, outputs_said, covers_said, named_model, drivers_of};
 ghost use Rattle.ncl_blif.specs.Numbered.{is_driven};
 ghost use Rattle.ncl_blif.specs.LineFaults.{rows_fault, has_twins, signals_driven, has_ended, part_fault};
-ghost use Rattle.ncl_blif.specs.Body.{said_by, IsKept};
+ghost use Rattle.ncl_blif.specs.Body.{said_by, AreDriversKept};
 
 use crate::command::Command;
 use crate::draft_cover::{DraftCover, DraftOutput};
@@ -32,7 +32,7 @@ impl<'a> DraftBody<'a> {
     /// What no parts say. Takes no memory.
     pub(crate) fn new(alloc: Global) -> DraftBody<'a>
         ensures said { said_by result ≡ record { name = []; inputs = []; outputs = []; covers = [] } }
-        ensures kept { IsKept result }
+        ensures kept { AreDriversKept result }
     {
         DraftBody {
             inputs: Vec::new(alloc),
@@ -52,11 +52,11 @@ impl<'a> DraftBody<'a> {
         ended: bool,
         part: &Part<'_, 'a>,
     ) -> Result<bool, BlifFault>
-        requires kept { IsKept self.old }
+        requires kept { AreDriversKept self.old }
         requires room { length (drivers_of (said_by self.old)) + length (signals_driven part.now) ≤ MOST_BYTES }
         ensures { let unnamed : List PartData → NamedModel = λ parts. record (named_model parts) { name = [] } in
             (before : List PartData) → said_by self.old ≡ unnamed before → ended ≡ has_ended before → MatchResult result
-            (λ ended. IsKept self.new × (said_by self.new ≡ unnamed (before ++ part.now ∷ []))
+            (λ ended. AreDriversKept self.new × (said_by self.new ≡ unnamed (before ++ part.now ∷ []))
             × (part_fault before part.now ≡ None) × (ended ≡ has_ended (before ++ part.now ∷ [])))
             (λ fault. (fault ≡ OutOfMemory) ⊎ (part_fault before part.now ≡ Some fault)) }
     {
@@ -82,7 +82,7 @@ impl<'a> DraftBody<'a> {
         command: Command,
         part: &Part<'_, 'a>,
     ) -> Result<(), BlifFault>
-        requires kept { IsKept self.old }
+        requires kept { AreDriversKept self.old }
         requires room { length (drivers_of (said_by self.old)) + length (signals_driven part.now) ≤ MOST_BYTES }
         requires word { first_word part.now.head ≡ word_of command }
         requires words { is_names part.now.head ≡ true → 2 ≤ length part.now.head.words }
@@ -93,7 +93,7 @@ impl<'a> DraftBody<'a> {
               covers = old.covers ++ covers_said part.now;
             } in
             MatchResult result
-            (λ _. IsKept self.new × (said_by self.new ≡ more) × (has_twins (drivers_of more) ≡ false)
+            (λ _. AreDriversKept self.new × (said_by self.new ≡ more) × (has_twins (drivers_of more) ≡ false)
             × (rows_fault part.now.head part.now.rows ≡ None))
             (λ fault. (fault ≡ OutOfMemory)
             ⊎ (((has_twins (drivers_of more) ≡ true) × (fault ≡ BlifFault.TwoDrivers part.now.head.number))
@@ -118,12 +118,12 @@ impl<'a> DraftBody<'a> {
     ///
     /// For each of them logarithmic in the signals.
     pub(crate) fn add_inputs(&mut self, line: u32, names: &[&'a [u8]]) -> Result<(), BlifFault>
-        requires kept { IsKept self.old }
+        requires kept { AreDriversKept self.old }
         requires room { length (drivers_of (said_by self.old)) + length names.now ≤ MOST_BYTES }
         ensures { let old = said_by self.old in
             let more = record old { inputs = old.inputs ++ map (λ name. name.now) names.now } in
             MatchResult result
-            (λ _. IsKept self.new × (said_by self.new ≡ more) × (has_twins (drivers_of more) ≡ false))
+            (λ _. AreDriversKept self.new × (said_by self.new ≡ more) × (has_twins (drivers_of more) ≡ false))
             (λ fault. (fault ≡ OutOfMemory) ⊎ ((fault ≡ BlifFault.TwoDrivers line) × (has_twins (drivers_of more) ≡ true))) }
     {
         for name in names {
@@ -136,10 +136,10 @@ impl<'a> DraftBody<'a> {
     ///
     /// Logarithmic in the signals.
     fn add_input(&mut self, line: u32, name: &'a [u8]) -> Result<(), BlifFault>
-        requires kept { IsKept self.old }
+        requires kept { AreDriversKept self.old }
         requires room { length (drivers_of (said_by self.old)) < MOST_BYTES }
         ensures { let old = said_by self.old in MatchResult result
-            (λ _. IsKept self.new × (said_by self.new ≡ record old { inputs = old.inputs ++ name.now ∷ [] })
+            (λ _. AreDriversKept self.new × (said_by self.new ≡ record old { inputs = old.inputs ++ name.now ∷ [] })
             × (is_driven old name.now ≡ false))
             (λ fault. (fault ≡ OutOfMemory) ⊎ ((fault ≡ BlifFault.TwoDrivers line) × (is_driven old name.now ≡ true))) }
     {
@@ -154,11 +154,11 @@ impl<'a> DraftBody<'a> {
 
     /// Adds outputs that this line says. Linear in these.
     pub(crate) fn add_outputs(&mut self, line: u32, names: &[&'a [u8]]) -> Result<(), BlifFault>
-        requires { IsKept self.old }
+        requires { AreDriversKept self.old }
         ensures { let old = said_by self.old in
             let outputs = map (λ signal. record { line = line; signal = signal }) (map (λ name. name.now) names.now) in
             MatchResult result
-            (λ _. IsKept self.new × (said_by self.new ≡ record old { outputs = old.outputs ++ outputs }))
+            (λ _. AreDriversKept self.new × (said_by self.new ≡ record old { outputs = old.outputs ++ outputs }))
             (λ fault. fault ≡ OutOfMemory) }
     {
         for name in names {
@@ -172,12 +172,12 @@ impl<'a> DraftBody<'a> {
     ///
     /// Linear in the lines, and logarithmic in the signals.
     pub(crate) fn add_cover(&mut self, alloc: Global, part: &Part<'_, 'a>) -> Result<(), BlifFault>
-        requires kept { IsKept self.old }
+        requires kept { AreDriversKept self.old }
         requires names { is_names part.now.head ≡ true }
         requires words { 2 ≤ length part.now.head.words }
         requires room { length (drivers_of (said_by self.old)) < MOST_BYTES }
         ensures { let old = said_by self.old in let driven = is_driven old (cover_out part.now.head) in MatchResult result
-            (λ _. IsKept self.new × (said_by self.new ≡ record old { covers = old.covers ++ cover_of part.now ∷ [] })
+            (λ _. AreDriversKept self.new × (said_by self.new ≡ record old { covers = old.covers ++ cover_of part.now ∷ [] })
             × (driven ≡ false) × (rows_fault part.now.head part.now.rows ≡ None))
             (λ fault. (fault ≡ OutOfMemory)
             ⊎ (((driven ≡ true) × (fault ≡ BlifFault.TwoDrivers part.now.head.number))

@@ -40,7 +40,7 @@ pub record IsSplit (network : Network) : Type 0 where
   pub cheap : cost_of_network network ≤ most_cost
 
 -- a node has as many inputs as another, and its rows
-pub record IsKept (node from : Node) : Type 0 where
+pub record HasRowsOf (node from : Node) : Type 0 where
   pub inputs : length node.ins ≡ length from.ins
   pub on : node.on ≡ from.on
   pub rows : node.rows ≡ from.rows
@@ -48,4 +48,4 @@ pub record IsKept (node from : Node) : Type 0 where
 -- a node has two inputs, or stood among others
 abbrev pub IsOfTwoOr : List Node → Node → Type 0
 IsOfTwoOr nodes node =
-    (length node.ins ≡ 2) ⊎ ((from : Node) × Contains nodes from × IsKept node from)
+    (length node.ins ≡ 2) ⊎ ((from : Node) × Contains nodes from × HasRowsOf node from)

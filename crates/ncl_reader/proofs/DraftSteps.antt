@@ -11,7 +11,7 @@ use Rattle.ncl_reader.specs.declared.keyword.Keyword.TheVariants.{Module, EndMod
 use Rattle.ncl_reader.specs.Lexemes.{Lexeme, Word, Name, Number, Mark}
 use Rattle.ncl_reader.specs.Grammar.{Head, Item, Conn, Row, Direction, Lead, Spec, Group, Listing}
 use Rattle.ncl_reader.specs.Rules.{BreaksRule, Breaks, Clashes}
-use Rattle.ncl_reader.specs.Known.{IsKept}
+use Rattle.ncl_reader.specs.Known.{KeepsNames}
 use Rattle.ncl_reader.specs.Partial.{Partial, naming, going, start, begun, titled, listing, listed, heading, headed, inside, at_item, ended, declaring, celled, named, joining, dotted, pinned, opened, netted, indexing, indexed, picked, joined, closed, spelled}
 use Rattle.ncl_reader.specs.Draft.{HoldsAt, HoldsBy, Takes, TakesOrBreaks}
 use Rattle.ncl_reader.proofs.Steps.{step}
@@ -42,21 +42,21 @@ module _ (p tree q : Partial) (t u : Lexeme) (after : Place) (draft : Draft) (is
   taken_at = (λ i. step (is i) (same i)) ∙ some
 
   -- a token that is taken and breaks no rule
-  pub taken : IsKept draft.known (spelled p ++ t ∷ []) → HoldsBy after draft q → (BreaksRule (spelled tree) u → ⊥) → Takes p t after draft
+  pub taken : KeepsNames draft.known (spelled p ++ t ∷ []) → HoldsBy after draft q → (BreaksRule (spelled tree) u → ⊥) → Takes p t after draft
   taken kept by no_rule = record {
     tree = q;
-    holds = (subst (IsKept draft.known) (sym (grows p t q taken_at)) kept, by);
+    holds = (subst (KeepsNames draft.known) (sym (grows p t q taken_at)) kept, by);
     grows = grows p t q taken_at;
     unbroken = λ breaks. no_rule (breaks-taken tree q u some (along p tree t u is same breaks));
   }
 
   -- so of one that is no name
-  pub taken_mark : ((x : List ℕ) → u ≢ Name x) → IsKept draft.known (spelled p) → HoldsBy after draft q → (BreaksRule (spelled tree) u → ⊥) → Takes p t after draft
+  pub taken_mark : ((x : List ℕ) → u ≢ Name x) → KeepsNames draft.known (spelled p) → HoldsBy after draft q → (BreaksRule (spelled tree) u → ⊥) → Takes p t after draft
   taken_mark other kept by no_rule = taken (kept_mark draft.known (spelled p) t (λ x e. other x (sym same ∙ e)) kept) by no_rule
 
 -- and of a name
-pub taken_name : (p tree q : Partial) (t : Lexeme) (x : List ℕ) (after : Place) (draft : Draft) → p ≡ tree → t ≡ Name x → step tree (Name x) ≡ Some q → IsKept draft.known (spelled p ++ Name x ∷ []) → HoldsBy after draft q → (BreaksRule (spelled p) (Name x) → ⊥) → Takes p t after draft
-taken_name p tree q t x after draft is same some kept by no_rule = taken p tree q t (Name x) after draft is same some (subst (λ u. IsKept draft.known (spelled p ++ u ∷ [])) (sym same) kept) by (λ breaks. no_rule (subst (λ r. BreaksRule (spelled r) (Name x)) (sym is) breaks))
+pub taken_name : (p tree q : Partial) (t : Lexeme) (x : List ℕ) (after : Place) (draft : Draft) → p ≡ tree → t ≡ Name x → step tree (Name x) ≡ Some q → KeepsNames draft.known (spelled p ++ Name x ∷ []) → HoldsBy after draft q → (BreaksRule (spelled p) (Name x) → ⊥) → Takes p t after draft
+taken_name p tree q t x after draft is same some kept by no_rule = taken p tree q t (Name x) after draft is same some (subst (λ u. KeepsNames draft.known (spelled p ++ u ∷ [])) (sym same) kept) by (λ breaks. no_rule (subst (λ r. BreaksRule (spelled r) (Name x)) (sym is) breaks))
 
 -- which tokens aren't taken
 pub others-start : (t : Lexeme) → t ≢ Word Module → step start t ≡ None

@@ -7,7 +7,7 @@ use Rattle.ncl_reader.specs.Lexemes.{Lexeme, Name}
 use Rattle.ncl_reader.specs.Grammar.{Direction, direction_phrase, Lead, lead_phrase, Spec, Group, Head, Item}
 use Rattle.ncl_reader.specs.Forms.{in_ansi, at_declared}
 use Rattle.ncl_reader.specs.Rules.{BreaksRule, Breaks}
-use Rattle.ncl_reader.specs.Known.{IsKept}
+use Rattle.ncl_reader.specs.Known.{KeepsNames}
 use Rattle.ncl_reader.specs.Partial.{GroupPart, naming, Partial, heading, inside, declaring, spelled}
 use Rattle.ncl_reader.specs.Draft.{HoldsAt, HoldsBy, Takes, TakesOrBreaks, IsHeadedNext, IsDeclaredNext}
 use Rattle.ncl_reader.proofs.Steps.{step}
@@ -17,12 +17,12 @@ use Rattle.ncl_reader.proofs.DraftSteps.{taken_name}
 
 -- one token more in what a declaration begins with
 module _ (p tree : Partial) (t : Lexeme) (is : p ≡ tree) where
-  pub lead_taken : (q : Partial) (after : Place) (draft : Draft) → spelled q ≡ spelled tree ++ t ∷ [] → (Breaks (spelled tree) t → ⊥) → ((x : List ℕ) → t ≢ Name x) → IsKept draft.known (spelled p) → HoldsBy after draft q → Takes p t after draft
+  pub lead_taken : (q : Partial) (after : Place) (draft : Draft) → spelled q ≡ spelled tree ++ t ∷ [] → (Breaks (spelled tree) t → ⊥) → ((x : List ℕ) → t ≢ Name x) → KeepsNames draft.known (spelled p) → HoldsBy after draft q → Takes p t after draft
   lead_taken q after draft grows unbroken other kept by =
       let more : spelled q ≡ spelled p ++ t ∷ [] = grows ∙ ap (λ r. spelled r ++ t ∷ []) (sym is) in
       record {
         tree = q;
-        holds = (subst (IsKept draft.known) (sym more) (kept_mark draft.known (spelled p) t other kept), by);
+        holds = (subst (KeepsNames draft.known) (sym more) (kept_mark draft.known (spelled p) t other kept), by);
         grows = more;
         unbroken = λ breaks. unbroken (subst (λ r. Breaks (spelled r) t) is breaks);
       }
@@ -41,7 +41,7 @@ module _ (p : Partial) (t : Lexeme) (x : List ℕ) (old new : Draft) (groups : L
 
   pub headed_taken : step (heading old.title.now groups part) (Name x) ≡ Some (heading old.title.now groups (naming spec names x)) → IsHeadedNext old groups spec names x new → (BreaksRule (in_ansi old.title.now groups spec names) (Name x) → ⊥) → Takes p t place.AfterHeaderName new
   headed_taken some (title, kept, said, read) fine = taken_name p (heading old.title.now groups part) (heading old.title.now groups (naming spec names x)) t x place.AfterHeaderName new is same some
-      (subst (λ l. IsKept new.known (l ++ Name x ∷ [])) (sym headed_form) kept)
+      (subst (λ l. KeepsNames new.known (l ++ Name x ∷ [])) (sym headed_form) kept)
       (groups, spec, names, x, ap (λ u. heading u groups (naming spec names x)) (sym title), said, read)
       (λ breaks. fine (subst (λ l. BreaksRule l (Name x)) headed_form breaks))
 
@@ -52,6 +52,6 @@ module _ (p : Partial) (t : Lexeme) (x : List ℕ) (new : Draft) (head : Head) (
 
   pub declared_taken : step (inside head items (declaring part)) (Name x) ≡ Some (inside head items (declaring (naming spec names x))) → IsDeclaredNext head items spec names x new → (BreaksRule (at_declared head items spec names) (Name x) → ⊥) → Takes p t place.AfterDeclared new
   declared_taken some (kept, said, early, read) fine = taken_name p (inside head items (declaring part)) (inside head items (declaring (naming spec names x))) t x place.AfterDeclared new is same some
-      (subst (λ l. IsKept new.known (l ++ Name x ∷ [])) (sym declared_form) kept)
+      (subst (λ l. KeepsNames new.known (l ++ Name x ∷ [])) (sym declared_form) kept)
       (head, items, spec, names, x, refl, said, early, read)
       (λ breaks. fine (subst (λ l. BreaksRule l (Name x)) declared_form breaks))

@@ -14,7 +14,7 @@ use Rattle.ncl_reader.specs.Ranges.{range_at}
 use Rattle.ncl_reader.specs.Vectors.{span_of, Covers, Stands, bit_name, IsDeclared, IsUsed, IsBit}
 use Rattle.ncl_reader.specs.KeptBits.{IsStanding}
 use Rattle.ncl_reader.specs.Rules.{Redeclares, Clashes}
-use Rattle.ncl_reader.specs.Known.{IsKept}
+use Rattle.ncl_reader.specs.Known.{KeepsNames}
 use Rattle.ncl_reader.specs.Partial.{Partial, inside, opened, spelled}
 use Rattle.ncl_reader.proofs.Said.{stands-more, declaring-once}
 use Rattle.ncl_reader.proofs.KeptRanges.{ranges-other}
@@ -41,7 +41,7 @@ standing_mark kept xs t other is = record {
   ];
 }
 
-pub kept_mark : (known : Known) (xs : List Lexeme) (t : Lexeme) → ((x : List ℕ) → t ≢ Name x) → IsKept known xs → IsKept known (xs ++ t ∷ [])
+pub kept_mark : (known : Known) (xs : List Lexeme) (t : Lexeme) → ((x : List ℕ) → t ≢ Name x) → KeepsNames known xs → KeepsNames known (xs ++ t ∷ [])
 kept_mark known xs t other kept = record {
   ranges = ranges-other known.ranges xs t (λ y range is declares. other y is) kept.ranges;
   standing = standing_mark known.bits xs t other kept.standing;
@@ -62,7 +62,7 @@ undeclared p none range declares = no_range (sym none ∙ declaring-here p range
     no_range e = absurd cc
 
 -- a name that was declared with another range, by what is kept
-module _ (known : Known) (xs : List Lexeme) (x : List ℕ) (range : Option Range) (span : Option Span) (kept : IsKept known xs) (declares : IsDeclaring xs range) (same : option_map span_of range ≡ span) where
+module _ (known : Known) (xs : List Lexeme) (x : List ℕ) (range : Option Range) (span : Option Span) (kept : KeepsNames known xs) (declares : IsDeclaring xs range) (same : option_map span_of range ≡ span) where
   abbrev Agrees : Type 0
   Agrees = (other : Option Range) → IsDeclared xs x other → option_map span_of other ≡ span
 

@@ -24,7 +24,7 @@ use Rattle.ncl_reader.specs.Vectors.{span_of, bit_name, Covers, IsTooLarge, IsVe
 use Rattle.ncl_reader.specs.Rules.{BreaksRule, Clashes}
 use Rattle.ncl_reader.specs.Says.{Joined, joined_in, said_by, said_in, said_in_header, AreCellsOf, IsCellOf}
 use Rattle.ncl_reader.specs.Instance.{MayJoin, joint_in, picked_name}
-use Rattle.ncl_reader.specs.Known.{IsKept}
+use Rattle.ncl_reader.specs.Known.{KeepsNames}
 use Rattle.ncl_reader.specs.Partial.{Partial, inside, dotted, opened, netted, indexing, picked, joined, spelled}
 use Rattle.ncl_reader.specs.Draft.{is_ansi, IsRead, IsBody, IsBodyAnd}
 use Rattle.ncl_reader.proofs.Grows.{grows}
@@ -104,7 +104,7 @@ module _ (head : Head) (items : List Item) (cell name : List ℕ) (conns : List 
       let wrong : Some (Mark LBracket) ≡ Some (Mark Colon) = sym bracket ∙ colon in absurd cc
 
   -- a number that the vector has
-  pub index_rule : (known : Known) (pin net digits : List ℕ) (range : Range) → IsKept known (spelled (inside head items (indexing cell name conns pin net))) → IsVector (spelled (inside head items (indexing cell name conns pin net))) net range → (IsTooLarge digits → ⊥) → ((Covers (span_of range) (digits_value 10 digits) → ⊥) → ⊥) → BreaksRule (spelled (inside head items (indexing cell name conns pin net))) (Number digits) → ⊥
+  pub index_rule : (known : Known) (pin net digits : List ℕ) (range : Range) → KeepsNames known (spelled (inside head items (indexing cell name conns pin net))) → IsVector (spelled (inside head items (indexing cell name conns pin net))) net range → (IsTooLarge digits → ⊥) → ((Covers (span_of range) (digits_value 10 digits) → ⊥) → ⊥) → BreaksRule (spelled (inside head items (indexing cell name conns pin net))) (Number digits) → ⊥
   index_rule known pin net digits range kept vector small covers (inl large) = small large
   index_rule known pin net digits range kept vector small covers (inr (inl (first, at, long))) = not_last pin net first at
   index_rule known pin net digits range kept vector small covers (inr (inr (other, r, at, also, outside))) =
@@ -159,8 +159,8 @@ pub no_net_at : (p tree : Partial) → p ≡ tree → takes_net tree ≡ false �
 no_net_at p tree is none (h, i, c, n, cs, q, e) = false≢true (sym none ∙ ap takes_net (sym is ∙ same_tree p (inside h i (opened c n cs q)) e))
 
 -- what is kept with a name more
-pub kept_here : (known : Known) (xs : List Lexeme) (x : List ℕ) (t : Lexeme) → t ≡ Name x → IsKept known (xs ++ Name x ∷ []) → IsKept known (xs ++ t ∷ [])
-kept_here known xs x t is kept = subst (λ u. IsKept known (xs ++ u ∷ [])) (sym is) kept
+pub kept_here : (known : Known) (xs : List Lexeme) (x : List ℕ) (t : Lexeme) → t ≡ Name x → KeepsNames known (xs ++ Name x ∷ []) → KeepsNames known (xs ++ t ∷ [])
+kept_here known xs x t is kept = subst (λ u. KeepsNames known (xs ++ u ∷ [])) (sym is) kept
 
 -- a bit that is joined
 pub bit_joint : (pin net digits : List ℕ) (index : ℕ) → index ≡ digits_value 10 digits → record { pin = pin; net = picked_name net (Some index) } ≡ joint_in (record { pin = pin; net = record { name = net; index = Some digits } })

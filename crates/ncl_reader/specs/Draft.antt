@@ -19,7 +19,7 @@ use Rattle.ncl_reader.specs.Says.{Said, said_of, said_in_header, said_by, joined
 use Rattle.ncl_reader.specs.Header.{IsHeader}
 use Rattle.ncl_reader.specs.Instance.{AreJoins}
 use Rattle.ncl_reader.specs.Lead.{IsLed, IsSaid, direction_output, lead_output}
-use Rattle.ncl_reader.specs.Known.{IsKept}
+use Rattle.ncl_reader.specs.Known.{KeepsNames}
 use Rattle.ncl_reader.specs.Partial.{LeadPart, leading, naming, going, lead_place, direction_place, word_place, Partial, ItemPart, start, begun, titled, listing, listed, heading, headed, at_item, inside, ended, declaring, celled, named, joining, dotted, pinned, opened, netted, indexing, indexed, picked, joined, closed, spelled}
 use Rattle.ncl_reader.specs.Meant.{meant}
 
@@ -175,7 +175,7 @@ HoldsBy place.End draft p = (head : Head) × (items : List Item) × (p ≡ ended
 
 -- and what is kept of the names that stand
 abbrev pub HoldsAt : Place → Draft → Partial → Type 0
-HoldsAt at draft p = IsKept draft.known (spelled p) × HoldsBy at draft p
+HoldsAt at draft p = KeepsNames draft.known (spelled p) × HoldsBy at draft p
 
 -- the parts are what the head and the items say
 abbrev pub SaysAt : Partial → Parts → Type 0
@@ -202,11 +202,11 @@ Steps at old read result new =
 -- a name of a declaration of the header is taken
 abbrev pub IsHeadedNext : Draft → List (Group Direction) → Spec Direction → List (List ℕ) → List ℕ → Draft → Type 0
 IsHeadedNext old groups spec names x new =
-    (new.title.now ≡ old.title.now) × IsKept new.known (in_ansi old.title.now groups spec names ++ Name x ∷ [])
+    (new.title.now ≡ old.title.now) × KeepsNames new.known (in_ansi old.title.now groups spec names ++ Name x ∷ [])
     × IsSaid direction_output spec new.lead × IsGroupedWith new groups spec (names ++ x ∷ [])
 
 -- so is one of a declaration of an item
 abbrev pub IsDeclaredNext : Head → List Item → Spec Lead → List (List ℕ) → List ℕ → Draft → Type 0
 IsDeclaredNext head items spec names x new =
-    IsKept new.known (at_declared head items spec names ++ Name x ∷ [])
+    KeepsNames new.known (at_declared head items spec names ++ Name x ∷ [])
     × IsSaid lead_output spec new.lead × IsEarly new × IsBodyWith new head items spec (names ++ x ∷ [])

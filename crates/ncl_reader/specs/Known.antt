@@ -9,7 +9,7 @@ use Rattle.ncl_reader.specs.Uses.{IsUses}
 
 -- how names were declared, which have the form of a bit's name, and which a connection used; and no name is that
 -- of a bit of a vector that is declared
-pub record IsKept (known : Known) (xs : List Lexeme) : Type 0 where
+pub record KeepsNames (known : Known) (xs : List Lexeme) : Type 0 where
   pub ranges : IsRanges known.ranges xs
   pub standing : IsStanding known.bits xs
   pub uses : IsUses known.uses xs

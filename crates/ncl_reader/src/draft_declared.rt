@@ -5,7 +5,7 @@ ghost use Rattle.ncl_reader.specs.Lexemes.{Name as NameLexeme};
 ghost use Rattle.ncl_reader.specs.Grammar.{Head, Item, Lead as LeadOf, Spec};
 ghost use Rattle.ncl_reader.specs.Forms.{at_declared};
 ghost use Rattle.ncl_reader.specs.Rules.{BreaksRule};
-ghost use Rattle.ncl_reader.specs.Known.{IsKept};
+ghost use Rattle.ncl_reader.specs.Known.{KeepsNames};
 ghost use Rattle.ncl_reader.specs.Lead.{IsSaid, lead_output};
 ghost use Rattle.ncl_reader.specs.Draft.{Steps, IsBodyWith, IsDeclaredNext, IsEarly};
 ghost use Rattle.ncl_reader.specs.Meant.{meant};
@@ -132,7 +132,7 @@ impl<'a> Draft<'a> {
     /// Whether a name that is declared breaks a rule. Five look-ups of O(log n) comparisons.
     fn breaks_declared(&self, name: &[u8]) -> bool
         ensures { (head : Head) (items : List Item) (spec : Spec LeadOf) (names : List (List ℕ))
-            → IsKept self.now.known (at_declared head items spec names) → IsSaid lead_output spec self.now.lead
+            → KeepsNames self.now.known (at_declared head items spec names) → IsSaid lead_output spec self.now.lead
             → IsEarly self.now → IsBodyWith self.now head items spec names
             → Decides result (BreaksRule (at_declared head items spec names) (NameLexeme name.now)) }
     {
@@ -158,7 +158,7 @@ impl<'a> Draft<'a> {
     /// Takes a name that is declared and breaks no rule. Five look-ups of O(log n) comparisons.
     fn take_declared(&mut self, alloc: Global, name: &'a [u8]) -> Result<(), Memory>
         ensures { (head : Head) (items : List Item) (spec : Spec LeadOf) (names : List (List ℕ))
-            → IsKept self.old.known (at_declared head items spec names) → IsSaid lead_output spec self.old.lead
+            → KeepsNames self.old.known (at_declared head items spec names) → IsSaid lead_output spec self.old.lead
             → IsEarly self.old → IsBodyWith self.old head items spec names
             → ¬ BreaksRule (at_declared head items spec names) (NameLexeme name.now)
             → IfOk result (λ u. IsDeclaredNext head items spec names name.now self.new) }

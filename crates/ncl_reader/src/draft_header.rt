@@ -6,7 +6,7 @@ ghost use Rattle.ncl_reader.specs.Grammar.{Direction, Group, Spec};
 ghost use Rattle.ncl_reader.specs.Says.{way_output};
 ghost use Rattle.ncl_reader.specs.Rules.{BreaksRule};
 ghost use Rattle.ncl_reader.specs.Forms.{in_ansi};
-ghost use Rattle.ncl_reader.specs.Known.{IsKept};
+ghost use Rattle.ncl_reader.specs.Known.{KeepsNames};
 ghost use Rattle.ncl_reader.specs.Lead.{IsSaid, direction_output};
 ghost use Rattle.ncl_reader.specs.Draft.{Steps, IsGroupedWith, IsHeadedNext};
 
@@ -150,7 +150,7 @@ impl<'a> Draft<'a> {
     /// Whether a name of a declaration of the header breaks a rule. Five look-ups of O(log n) comparisons.
     fn breaks_header(&self, name: &[u8]) -> bool
         ensures { (groups : List (Group Direction)) (spec : Spec Direction) (names : List (List ℕ))
-            → IsKept self.now.known (in_ansi self.now.title.now groups spec names)
+            → KeepsNames self.now.known (in_ansi self.now.title.now groups spec names)
             → IsSaid direction_output spec self.now.lead → IsGroupedWith self.now groups spec names
             → Decides result (BreaksRule (in_ansi self.now.title.now groups spec names) (NameLexeme name.now)) }
     {
@@ -173,7 +173,7 @@ impl<'a> Draft<'a> {
     /// Takes a name of a declaration of the header that breaks no rule. Five look-ups of O(log n) comparisons.
     fn take_header_name(&mut self, alloc: Global, name: &'a [u8]) -> Result<(), Memory>
         ensures { (groups : List (Group Direction)) (spec : Spec Direction) (names : List (List ℕ))
-            → IsKept self.old.known (in_ansi self.old.title.now groups spec names)
+            → KeepsNames self.old.known (in_ansi self.old.title.now groups spec names)
             → IsSaid direction_output spec self.old.lead → IsGroupedWith self.old groups spec names
             → ¬ BreaksRule (in_ansi self.old.title.now groups spec names) (NameLexeme name.now)
             → IfOk result (λ u. IsHeadedNext self.old groups spec names name.now self.new) }

@@ -3,7 +3,7 @@ ghost use Rattle.std.specs.Prelude.{◌≡◌, Ok, List, MatchOption};
 ghost use Rattle.ncl_reader.specs.Lexemes.{Lexeme as Token};
 ghost use Rattle.ncl_reader.specs.Grammar.{Range};
 ghost use Rattle.ncl_reader.specs.Vectors.{IsVector, span_of};
-ghost use Rattle.ncl_reader.specs.Known.{IsKept};
+ghost use Rattle.ncl_reader.specs.Known.{KeepsNames};
 ghost use Rattle.ncl_reader.specs.Draft.{Steps};
 
 use crate::draft::Draft;
@@ -106,7 +106,7 @@ impl<'a> Draft<'a> {
     /// The numbers of the net that is joined, if it is a vector. A look-up of O(log n) comparisons,
     /// where n is the number of vectors.
     pub fn net_range(&self) -> Option<Span>
-        ensures { (xs : List Token) → IsKept self.now.known xs
+        ensures { (xs : List Token) → KeepsNames self.now.known xs
             → MatchOption result ((range : Range) → ¬ IsVector xs self.now.instance.net.now range)
             (λ span. (range : Range) × IsVector xs self.now.instance.net.now range × (span_of range ≡ span)) }
     {

@@ -8,7 +8,7 @@ ghost use Rattle.ncl_reader.specs.Forms.{IsDeclaring, IsAtNet};
 ghost use Rattle.ncl_reader.specs.Vectors.{span_of};
 ghost use Rattle.ncl_reader.specs.Rules.{Redeclares, Clashes};
 ghost use Rattle.ncl_reader.specs.Lead.{IsSpanOf};
-ghost use Rattle.ncl_reader.specs.Known.{IsKept};
+ghost use Rattle.ncl_reader.specs.Known.{KeepsNames};
 
 use crate::kept_bits::KeptBits;
 use crate::names::is_bit;
@@ -29,7 +29,7 @@ pub struct Known<'a> {
 impl<'a> Known<'a> {
     /// No names.
     pub fn new(alloc: Global) -> Known<'a>
-        ensures { IsKept result [] }
+        ensures { KeepsNames result [] }
     {
         Known {
             ranges: Ranges::new(alloc),
@@ -41,7 +41,7 @@ impl<'a> Known<'a> {
     /// Whether a name that is declared was declared with another range, or used before it gets one. Costs as
     /// `agrees` of `Ranges`, and where a range is given as `has` of `Uses`.
     pub fn redeclares(&self, name: &[u8], span: Option<Span>) -> bool
-        ensures { (xs : List Lexeme) (range : Option Range) → IsKept self.now xs → IsDeclaring xs range
+        ensures { (xs : List Lexeme) (range : Option Range) → KeepsNames self.now xs → IsDeclaring xs range
             → option_map span_of range ≡ span → Decides result (Redeclares xs name.now) }
     {
         if !self.ranges.agrees(name, span) {
@@ -56,7 +56,7 @@ impl<'a> Known<'a> {
     /// Whether a name that isn't declared here is that of a bit of a vector. A look-up of O(log n) comparisons,
     /// where n is the number of vectors.
     pub fn clashes(&self, name: &[u8]) -> bool
-        ensures { (xs : List Lexeme) → IsKept self.now xs → ((range : Option Range) → IsDeclaring xs range → ⊥)
+        ensures { (xs : List Lexeme) → KeepsNames self.now xs → ((range : Option Range) → IsDeclaring xs range → ⊥)
             → Decides result (Clashes xs name.now) }
     {
         is_bit(&self.ranges, name)
@@ -66,7 +66,7 @@ impl<'a> Known<'a> {
     /// look-ups of O(log n) comparisons; where the name is declared as a vector for the first time, each number
     /// that stands with it is looked at.
     pub fn clashes_declared(&self, name: &[u8], span: Option<Span>) -> bool
-        ensures { (xs : List Lexeme) (range : Option Range) → IsKept self.now xs → IsDeclaring xs range
+        ensures { (xs : List Lexeme) (range : Option Range) → KeepsNames self.now xs → IsDeclaring xs range
             → option_map span_of range ≡ span → (Redeclares xs name.now → ⊥) → Decides result (Clashes xs name.now) }
     {
         if is_bit(&self.ranges, name) {
@@ -83,8 +83,8 @@ impl<'a> Known<'a> {
 
     /// Keeps a name that is neither declared nor used here. Two look-ups of O(log n) comparisons.
     pub fn stand(&mut self, alloc: Global, name: &'a [u8]) -> Result<(), Memory>
-        ensures { (xs : List Lexeme) → IsKept self.old xs → ((range : Option Range) → IsDeclaring xs range → ⊥)
-            → (IsAtNet xs → ⊥) → (Clashes xs name.now → ⊥) → IfOk result (λ u. IsKept self.new (xs ++ NameLexeme name.now ∷ [])) }
+        ensures { (xs : List Lexeme) → KeepsNames self.old xs → ((range : Option Range) → IsDeclaring xs range → ⊥)
+            → (IsAtNet xs → ⊥) → (Clashes xs name.now → ⊥) → IfOk result (λ u. KeepsNames self.new (xs ++ NameLexeme name.now ∷ [])) }
     {
         self.bits.stand(alloc, name)?;
         Ok(())
@@ -98,9 +98,9 @@ impl<'a> Known<'a> {
         name: &'a [u8],
         span: Option<Span>,
     ) -> Result<(), Memory>
-        ensures { (xs : List Lexeme) (range : Option Range) → IsKept self.old xs → IsDeclaring xs range → IsSpanOf range span
+        ensures { (xs : List Lexeme) (range : Option Range) → KeepsNames self.old xs → IsDeclaring xs range → IsSpanOf range span
             → (Redeclares xs name.now → ⊥) → (Clashes xs name.now → ⊥)
-            → IfOk result (λ u. IsKept self.new (xs ++ NameLexeme name.now ∷ [])) }
+            → IfOk result (λ u. KeepsNames self.new (xs ++ NameLexeme name.now ∷ [])) }
     {
         self.bits.stand(alloc, name)?;
         self.ranges.declare(name, span)?;
@@ -112,8 +112,8 @@ impl<'a> Known<'a> {
 
     /// Keeps the name of a net on a pin. Two look-ups of O(log n) comparisons.
     pub fn join(&mut self, alloc: Global, name: &'a [u8]) -> Result<(), Memory>
-        ensures { (xs : List Lexeme) → IsKept self.old xs → IsAtNet xs → (Clashes xs name.now → ⊥)
-            → IfOk result (λ u. IsKept self.new (xs ++ NameLexeme name.now ∷ [])) }
+        ensures { (xs : List Lexeme) → KeepsNames self.old xs → IsAtNet xs → (Clashes xs name.now → ⊥)
+            → IfOk result (λ u. KeepsNames self.new (xs ++ NameLexeme name.now ∷ [])) }
     {
         self.bits.stand(alloc, name)?;
         self.uses.add(name)?;

@@ -10,7 +10,7 @@ ghost use Rattle.ncl_reader.specs.Partial.{Partial, spelled, place_of};
 ghost use Rattle.ncl_reader.specs.Refusals.{IsFaultAt};
 ghost use Rattle.ncl_reader.specs.Rules.{Breaks, IsOutside, Crowds};
 ghost use Rattle.ncl_reader.specs.Lead.{IsSaid, direction_output, lead_output};
-ghost use Rattle.ncl_reader.specs.Known.{IsKept};
+ghost use Rattle.ncl_reader.specs.Known.{KeepsNames};
 ghost use Rattle.ncl_reader.specs.Draft.{HoldsAt, IsGroupedWith, IsBodyWith, IsEarly};
 ghost use Rattle.ncl_reader.specs.Meant.{meant};
 
@@ -77,7 +77,7 @@ impl<'a> Draft<'a> {
 
     /// The fault of a name that is declared, by whether it makes the bits of ports too many.
     fn of_declared(&self, name: &[u8], crowds: bool, at: usize) -> NetFault
-        ensures { (xs : List Token) (range : Option Range) → IsKept self.now.known xs → IsDeclaring xs range
+        ensures { (xs : List Token) (range : Option Range) → KeepsNames self.now.known xs → IsDeclaring xs range
             → option_map span_of range ≡ self.now.lead.span → Decides crowds (Crowds xs name.now)
             → IsFaultAt xs (record { lexeme = NameToken name.now; place = at }) result }
     {
@@ -96,7 +96,7 @@ impl<'a> Draft<'a> {
 
     /// The fault of a name that isn't declared.
     fn of_plain(&self, name: &[u8], at: usize) -> NetFault
-        ensures { (xs : List Token) → IsKept self.now.known xs → ((range : Option Range) → ¬ IsDeclaring xs range)
+        ensures { (xs : List Token) → KeepsNames self.now.known xs → ((range : Option Range) → ¬ IsDeclaring xs range)
             → ¬ IsAtItem xs → ¬ IsAtPin xs → ¬ IsAtConn xs
             → IsFaultAt xs (record { lexeme = NameToken name.now; place = at }) result }
     {

@@ -5,7 +5,7 @@ use Rattle.ncl_reader.specs.Lexemes.{Name}
 use Rattle.ncl_reader.specs.Grammar.{all_of, lead_phrase}
 use Rattle.ncl_reader.specs.Forms.{at_declared}
 use Rattle.ncl_reader.specs.Rules.{BreaksRule}
-use Rattle.ncl_reader.specs.Known.{IsKept}
+use Rattle.ncl_reader.specs.Known.{KeepsNames}
 use Rattle.ncl_reader.specs.Meant.{meant}
 use Rattle.ncl_reader.specs.Partial.{going, inside, declaring}
 use Rattle.ncl_reader.proofs.Declares.{at_part}
@@ -22,7 +22,7 @@ returns-then-breaks_declared c = λ p (kept, (head, items, spec, row, is, said, 
     let d = c.args.self.now in
     let x = c.in-Some.name.now in
     let form = declared_form p (meant c.args.lexeme.now) x d head items spec (all_of row) (going spec row) is (at_part lead_phrase (going spec row) spec refl) c.in-Some.ensures in
-    name_left place.Declared p (meant c.args.lexeme.now) x (at_declared head items spec (all_of row)) d form c.in-Some.ensures ((c.breaks_declared.ensures head items spec (all_of row) (subst (IsKept d.known) form kept) said early body).0 c.if-breaks_declared.true) (kept, (head, items, spec, row, is, said, early, body))
+    name_left place.Declared p (meant c.args.lexeme.now) x (at_declared head items spec (all_of row)) d form c.in-Some.ensures ((c.breaks_declared.ensures head items spec (all_of row) (subst (KeepsNames d.known) form kept) said early body).0 c.if-breaks_declared.true) (kept, (head, items, spec, row, is, said, early, body))
 
 pub returns : goal.returns
 returns c = λ p (kept, (head, items, spec, row, is, said, early, body)).
@@ -30,6 +30,6 @@ returns c = λ p (kept, (head, items, spec, row, is, said, early, body)).
     let x = c.in-Some.name.now in
     let part = at_part lead_phrase (going spec row) spec refl in
     let form = declared_form p (meant c.args.lexeme.now) x d head items spec (all_of row) (going spec row) is part c.in-Some.ensures in
-    let here = subst (IsKept d.known) form kept in
+    let here = subst (KeepsNames d.known) form kept in
     let fine : BreaksRule (at_declared head items spec (all_of row)) (Name x) → ⊥ = λ breaks. false≢true (sym c.if-breaks_declared.false ∙ (c.breaks_declared.ensures head items spec (all_of row) here said early body).1 breaks) in
     declared_taken p (meant c.args.lexeme.now) x c.take_declared.new.self head items spec (all_of row) (going spec row) is part c.in-Some.ensures refl (c.in_ok-take_declared.ensures head items spec (all_of row) here said early body fine) fine

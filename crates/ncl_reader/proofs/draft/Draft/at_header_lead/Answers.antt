@@ -6,7 +6,7 @@ use Rattle.ncl_reader.specs.Lexemes.{Name}
 use Rattle.ncl_reader.specs.Grammar.{direction_phrase}
 use Rattle.ncl_reader.specs.Forms.{in_ansi}
 use Rattle.ncl_reader.specs.Rules.{BreaksRule}
-use Rattle.ncl_reader.specs.Known.{IsKept}
+use Rattle.ncl_reader.specs.Known.{KeepsNames}
 use Rattle.ncl_reader.specs.Lead.{LeadTakes, direction_output, takes_name}
 use Rattle.ncl_reader.specs.Meant.{meant}
 use Rattle.ncl_reader.specs.Partial.{leading, heading, lead_place, direction_place}
@@ -51,7 +51,7 @@ returns-then-breaks_header c = λ p (kept, (groups, part, is, at, led, read)).
     let start = begins (in_header title groups) d.lead part x takes led in
     let spec = start.spec in
     let form = headed_form p t x d d groups spec [] (leading part) is (at_part direction_phrase (leading part) spec start.says) c.in-Some.ensures in
-    name_left (place.HeaderLead c.args.at) p t x (in_ansi title groups spec []) d form c.in-Some.ensures ((c.breaks_header.ensures groups spec [] (subst (IsKept d.known) form kept) start.keeps (grouped-begins d groups spec read)).0 c.if-breaks_header.true) (kept, (groups, part, is, at, led, read))
+    name_left (place.HeaderLead c.args.at) p t x (in_ansi title groups spec []) d form c.in-Some.ensures ((c.breaks_header.ensures groups spec [] (subst (KeepsNames d.known) form kept) start.keeps (grouped-begins d groups spec read)).0 c.if-breaks_header.true) (kept, (groups, part, is, at, led, read))
 
 pub returns : goal.returns
 returns c = λ p (kept, (groups, part, is, at, led, read)).
@@ -64,7 +64,7 @@ returns c = λ p (kept, (groups, part, is, at, led, read)).
     let spec = start.spec in
     let group = at_part direction_phrase (leading part) spec start.says in
     let form = headed_form p t x d d groups spec [] (leading part) is group c.in-Some.ensures in
-    let here = subst (IsKept d.known) form kept in
+    let here = subst (KeepsNames d.known) form kept in
     let read_here = grouped-begins d groups spec read in
     let fine : BreaksRule (in_ansi title groups spec []) (Name x) → ⊥ = λ breaks. false≢true (sym c.if-breaks_header.false ∙ (c.breaks_header.ensures groups spec [] here start.keeps read_here).1 breaks) in
     headed_taken p t x d c.take_header_name.new.self groups spec [] (leading part) is group c.in-Some.ensures (ap (λ found. or_else (option_map (heading title groups) found) None) start.takes) (c.in_ok-take_header_name.ensures groups spec [] here start.keeps read_here fine) fine

@@ -6,7 +6,7 @@ use Rattle.ncl_reader.specs.declared.keyword.Keyword.TheVariants.{Way as word_of
 use Rattle.ncl_reader.specs.Lexemes.{Name, Word}
 use Rattle.ncl_reader.specs.Forms.{in_ansi}
 use Rattle.ncl_reader.specs.Rules.{BreaksRule}
-use Rattle.ncl_reader.specs.Known.{IsKept}
+use Rattle.ncl_reader.specs.Known.{KeepsNames}
 use Rattle.ncl_reader.specs.Grammar.{all_of, Plain, direction_phrase}
 use Rattle.ncl_reader.specs.Meant.{meant}
 use Rattle.ncl_reader.specs.Partial.{going, leading, led, heading}
@@ -37,7 +37,7 @@ returns-then-breaks_header c = λ p (kept, (groups, spec, row, is, said, read)).
     let d = c.args.self.now in
     let x = c.in-Some-name.name.now in
     let form = headed_form p (meant c.args.lexeme.now) x d d groups spec (all_of row) (going spec row) is (at_part direction_phrase (going spec row) spec refl) c.in-Some-name.ensures in
-    name_left place.HeaderName p (meant c.args.lexeme.now) x _ d form c.in-Some-name.ensures ((c.breaks_header.ensures groups spec (all_of row) (subst (IsKept d.known) form kept) said read).0 c.if-breaks_header.true) (kept, (groups, spec, row, is, said, read))
+    name_left place.HeaderName p (meant c.args.lexeme.now) x _ d form c.in-Some-name.ensures ((c.breaks_header.ensures groups spec (all_of row) (subst (KeepsNames d.known) form kept) said read).0 c.if-breaks_header.true) (kept, (groups, spec, row, is, said, read))
 
 pub returns : goal.returns
 returns c = λ p (kept, (groups, spec, row, is, said, read)).
@@ -45,6 +45,6 @@ returns c = λ p (kept, (groups, spec, row, is, said, read)).
     let x = c.in-Some-name.name.now in
     let part = at_part direction_phrase (going spec row) spec refl in
     let form = headed_form p (meant c.args.lexeme.now) x d d groups spec (all_of row) (going spec row) is part c.in-Some-name.ensures in
-    let here = subst (IsKept d.known) form kept in
+    let here = subst (KeepsNames d.known) form kept in
     let fine : BreaksRule (in_ansi d.title.now groups spec (all_of row)) (Name x) → ⊥ = λ breaks. false≢true (sym c.if-breaks_header.false ∙ (c.breaks_header.ensures groups spec (all_of row) here said read).1 breaks) in
     headed_taken p (meant c.args.lexeme.now) x d c.take_header_name.new.self groups spec (all_of row) (going spec row) is part c.in-Some-name.ensures refl (c.in_ok-take_header_name.ensures groups spec (all_of row) here said read fine) fine

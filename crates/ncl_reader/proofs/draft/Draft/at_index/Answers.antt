@@ -4,7 +4,7 @@ use Rattle.std.proofs.lemmas.Bool.{false≢true}
 use Rattle.ncl_gates.specs.Name.{cell_name_of}
 use Rattle.ncl_reader.specs.declared.place.Place.TheVariants as place
 use Rattle.ncl_reader.specs.Lexemes.{Number}
-use Rattle.ncl_reader.specs.Known.{IsKept}
+use Rattle.ncl_reader.specs.Known.{KeepsNames}
 use Rattle.ncl_reader.specs.Meant.{meant}
 use Rattle.ncl_reader.specs.Vectors.{IsVector, span_of, Covers}
 use Rattle.ncl_reader.specs.Partial.{Partial, inside, indexing, indexed, spelled}
@@ -42,4 +42,4 @@ returns c = λ p (kept, ((head, items, conns, is, body, are), vector)).
     let inner : (Covers (span_of range) (digits_value 10 digits) → ⊥) → ⊥ = λ fails. false≢true (sym c.if-is_outside.false ∙ c.is_outside.ensures.1 (λ covers. fails (subst (λ s. Covers s (digits_value 10 digits)) (sym span) covers))) in
     steps.taken_mark p tree (inside head items (indexed (cell_name_of c.args.self.now.instance.kind) c.args.self.now.instance.name.now conns c.args.self.now.instance.pin.now c.args.self.now.instance.net.now digits)) (meant c.args.lexeme.now) (Number digits) place.AfterIndex _ is c.in-Some.ensures refl
     (nets.number_no_name digits) kept (digits, (head, items, conns, refl, (body.0, record { ansi = body.1.ansi; header = body.1.header; cells = body.1.cells }), are), c.in-Some-small.ensures.0)
-    (nets.index_rule head items (cell_name_of c.args.self.now.instance.kind) c.args.self.now.instance.name.now conns c.args.self.now.known c.args.self.now.instance.pin.now c.args.self.now.instance.net.now digits range (subst (λ q. IsKept c.args.self.now.known (spelled q)) is kept) (subst (λ q. IsVector (spelled q) c.args.self.now.instance.net.now range) is stands) c.in-Some-small.ensures.1 inner)
+    (nets.index_rule head items (cell_name_of c.args.self.now.instance.kind) c.args.self.now.instance.name.now conns c.args.self.now.known c.args.self.now.instance.pin.now c.args.self.now.instance.net.now digits range (subst (λ q. KeepsNames c.args.self.now.known (spelled q)) is kept) (subst (λ q. IsVector (spelled q) c.args.self.now.instance.net.now range) is stands) c.in-Some-small.ensures.1 inner)

@@ -6,7 +6,7 @@ use Rattle.ncl_reader.specs.Lexemes.{Name}
 use Rattle.ncl_reader.specs.Grammar.{lead_phrase}
 use Rattle.ncl_reader.specs.Forms.{at_declared}
 use Rattle.ncl_reader.specs.Rules.{BreaksRule}
-use Rattle.ncl_reader.specs.Known.{IsKept}
+use Rattle.ncl_reader.specs.Known.{KeepsNames}
 use Rattle.ncl_reader.specs.Lead.{LeadTakes, lead_output, takes_name}
 use Rattle.ncl_reader.specs.Meant.{meant}
 use Rattle.ncl_reader.specs.Partial.{leading, inside, declaring, lead_place, word_place}
@@ -49,7 +49,7 @@ returns-then-breaks_declared c = λ p (kept, (head, items, part, is, at, led, ea
     let start = begins (in_item head items) d.lead part x takes led in
     let spec = start.spec in
     let form = declared_form p t x d head items spec [] (leading part) is (at_part lead_phrase (leading part) spec start.says) c.in-Some.ensures in
-    name_left (place.Lead c.args.at) p t x (at_declared head items spec []) d form c.in-Some.ensures ((c.breaks_declared.ensures head items spec [] (subst (IsKept d.known) form kept) start.keeps early (body-begins d head items spec body)).0 c.if-breaks_declared.true) (kept, (head, items, part, is, at, led, early, body))
+    name_left (place.Lead c.args.at) p t x (at_declared head items spec []) d form c.in-Some.ensures ((c.breaks_declared.ensures head items spec [] (subst (KeepsNames d.known) form kept) start.keeps early (body-begins d head items spec body)).0 c.if-breaks_declared.true) (kept, (head, items, part, is, at, led, early, body))
 
 pub returns : goal.returns
 returns c = λ p (kept, (head, items, part, is, at, led, early, body)).
@@ -61,7 +61,7 @@ returns c = λ p (kept, (head, items, part, is, at, led, early, body)).
     let spec = start.spec in
     let group = at_part lead_phrase (leading part) spec start.says in
     let form = declared_form p t x d head items spec [] (leading part) is group c.in-Some.ensures in
-    let here = subst (IsKept d.known) form kept in
+    let here = subst (KeepsNames d.known) form kept in
     let read_here = body-begins d head items spec body in
     let fine : BreaksRule (at_declared head items spec []) (Name x) → ⊥ = λ breaks. false≢true (sym c.if-breaks_declared.false ∙ (c.breaks_declared.ensures head items spec [] here start.keeps early read_here).1 breaks) in
     declared_taken p t x c.take_declared.new.self head items spec [] (leading part) is group c.in-Some.ensures (ap (λ found. or_else (option_map (λ more. inside head items (declaring more)) found) None) start.takes) (c.in_ok-take_declared.ensures head items spec [] here start.keeps early read_here fine) fine

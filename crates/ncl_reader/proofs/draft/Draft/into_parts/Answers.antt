@@ -2,7 +2,7 @@ use Rattle.std.proofs.Common.{◌≡◌, arith, map, length, ◌∙◌, sym, ap,
 use Rattle.std.specs.List.{flat_map}
 use Rattle.ncl_netlist.specs.declared.port.Port.{Port}
 use Rattle.ncl_netlist.specs.Names.{AllDiffer}
-use Rattle.ncl_reader.specs.Known.{IsKept}
+use Rattle.ncl_reader.specs.Known.{KeepsNames}
 use Rattle.ncl_reader.specs.Grammar.{header_of}
 use Rattle.ncl_reader.specs.Says.{AreCellsOf, joined_in, said_by}
 use Rattle.ncl_reader.specs.Partial.{ended, spelled}
@@ -13,7 +13,7 @@ use Rattle.ncl_reader.proofs.draft.Draft.into_parts.Goals as goal
 
 pub returns-clause-says : goal.returns-clause-says
 returns-clause-says c = λ p (kept, (head, items, is, body)).
-    let here = subst (λ q. IsKept c.args.self.known (spelled q)) is kept in (
+    let here = subst (λ q. KeepsNames c.args.self.known (spelled q)) is kept in (
       head,
       items,
       is,
@@ -26,7 +26,7 @@ returns-clause-says c = λ p (kept, (head, items, is, body)).
 
 pub returns-clause-differ : goal.returns-clause-differ
 returns-clause-differ c = λ p (kept, (head, items, is, body)).
-    let here = subst (λ q. IsKept c.args.self.known (spelled q)) is kept in
+    let here = subst (λ q. KeepsNames c.args.self.known (spelled q)) is kept in
     let said = said_by (record { head = head; items = items }) in
     let ports = c.from_vec.ensures ∙ c.in_ok-ports.ensures (header_of head) said (spelled (ended head items)) body.1.header here.ranges (said_declared head items) in
     subst AllDiffer (sym (ap (map (λ (port : Port). port.name)) ports))
@@ -34,7 +34,7 @@ returns-clause-differ c = λ p (kept, (head, items, is, body)).
 
 pub returns-clause-few : goal.returns-clause-few
 returns-clause-few c = λ p (kept, (head, items, is, body)).
-    let here = subst (λ q. IsKept c.args.self.known (spelled q)) is kept in
+    let here = subst (λ q. KeepsNames c.args.self.known (spelled q)) is kept in
     let said = said_by (record { head = head; items = items }) in
     let ports = c.from_vec.ensures ∙ c.in_ok-ports.ensures (header_of head) said (spelled (ended head items)) body.1.header here.ranges (said_declared head items) in
     let count = ap length ports in

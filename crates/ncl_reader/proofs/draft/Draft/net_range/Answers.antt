@@ -7,12 +7,12 @@ use Rattle.ncl_reader.specs.Lexemes.{Lexeme}
 use Rattle.ncl_reader.specs.Grammar.{Range}
 use Rattle.ncl_reader.specs.Vectors.{span_of, IsDeclared}
 use Rattle.ncl_reader.specs.Ranges.{range_at}
-use Rattle.ncl_reader.specs.Known.{IsKept}
+use Rattle.ncl_reader.specs.Known.{KeepsNames}
 use Rattle.ncl_reader.proofs.NetSteps.{IsFound}
 use Rattle.ncl_reader.proofs.draft.Draft.net_range.Goals as goal
 
 -- what is kept of a name tells whether it is a vector
-told : (known : Known) (xs : List Lexeme) (net : List ℕ) → IsKept known xs → (found : Option Span) → MatchOption found ((span : Span) → range_at known.ranges net ≢ Some (Some span)) (λ span. range_at known.ranges net ≡ Some (Some span)) → IsFound xs net found
+told : (known : Known) (xs : List Lexeme) (net : List ℕ) → KeepsNames known xs → (found : Option Span) → MatchOption found ((span : Span) → range_at known.ranges net ≢ Some (Some span)) (λ span. range_at known.ranges net ≡ Some (Some span)) → IsFound xs net found
 told known xs net kept None none = λ range vector. none (span_of range) (kept.ranges.declared net (Some range) vector)
 told known xs net kept (Some span) at = by (kept.ranges.only net (Some span) at)
   where

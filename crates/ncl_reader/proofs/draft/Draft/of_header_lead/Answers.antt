@@ -4,7 +4,7 @@ use Rattle.ncl_reader.specs.Lexemes.{Name}
 use Rattle.ncl_reader.specs.Grammar.{direction_phrase}
 use Rattle.ncl_reader.specs.Forms.{in_ansi}
 use Rattle.ncl_reader.specs.Refusals.{IsFaultAt}
-use Rattle.ncl_reader.specs.Known.{IsKept}
+use Rattle.ncl_reader.specs.Known.{KeepsNames}
 use Rattle.ncl_reader.specs.Lead.{takes_name}
 use Rattle.ncl_reader.specs.Partial.{leading, lead_place, direction_place, spelled, place_of}
 use Rattle.ncl_reader.proofs.Declares.{at_part, heading_form, range_here}
@@ -22,7 +22,7 @@ returns-then-takes_name c = λ p (kept, (groups, part, is, at, led, read)).
     let spec = start.spec in
     let form : spelled p ≡ in_ansi c.args.self.now.title.now groups spec [] = ap spelled is ∙ heading_form c.args.self.now.title.now groups (leading part) spec [] (at_part direction_phrase (leading part) spec start.says) in
     subst (λ xs. IsFaultAt xs (record { lexeme = Name x; place = c.args.at }) c.of_declared.result) (sym form)
-    (c.of_declared.ensures (in_ansi c.args.self.now.title.now groups spec []) spec.range (subst (IsKept c.args.self.now.known) form kept) (inl (c.args.self.now.title.now, groups, spec.lead, [], refl)) start.keeps.1.same (c.crowds_header.ensures groups spec [] start.keeps (grouped-begins c.args.self.now groups spec read)))
+    (c.of_declared.ensures (in_ansi c.args.self.now.title.now groups spec []) spec.range (subst (KeepsNames c.args.self.now.known) form kept) (inl (c.args.self.now.title.now, groups, spec.lead, [], refl)) start.keeps.1.same (c.crowds_header.ensures groups spec [] start.keeps (grouped-begins c.args.self.now groups spec read)))
 
 pub returns : goal.returns
 returns c = λ p (kept, (groups, part, is, at, led, read)).

@@ -4,7 +4,7 @@ use Rattle.ncl_reader.specs.Lexemes.{Name}
 use Rattle.ncl_reader.specs.Grammar.{lead_phrase}
 use Rattle.ncl_reader.specs.Forms.{at_declared}
 use Rattle.ncl_reader.specs.Refusals.{IsFaultAt}
-use Rattle.ncl_reader.specs.Known.{IsKept}
+use Rattle.ncl_reader.specs.Known.{KeepsNames}
 use Rattle.ncl_reader.specs.Lead.{takes_name}
 use Rattle.ncl_reader.specs.Partial.{leading, lead_place, word_place, spelled, place_of}
 use Rattle.ncl_reader.proofs.Declares.{at_part, declaring_form, range_here}
@@ -22,7 +22,7 @@ returns-then-takes_name c = λ p (kept, (head, items, part, is, at, led, early, 
     let spec = start.spec in
     let form : spelled p ≡ at_declared head items spec [] = ap spelled is ∙ declaring_form head items (leading part) spec [] (at_part lead_phrase (leading part) spec start.says) in
     subst (λ xs. IsFaultAt xs (record { lexeme = Name x; place = c.args.at }) c.of_declared.result) (sym form)
-    (c.of_declared.ensures (at_declared head items spec []) spec.range (subst (IsKept c.args.self.now.known) form kept) (inr (head, items, spec.lead, [], refl)) start.keeps.1.same (c.crowds_items.ensures head items spec [] start.keeps early (body-begins c.args.self.now head items spec body)))
+    (c.of_declared.ensures (at_declared head items spec []) spec.range (subst (KeepsNames c.args.self.now.known) form kept) (inr (head, items, spec.lead, [], refl)) start.keeps.1.same (c.crowds_items.ensures head items spec [] start.keeps early (body-begins c.args.self.now head items spec body)))
 
 pub returns : goal.returns
 returns c = λ p (kept, (head, items, part, is, at, led, early, body)).

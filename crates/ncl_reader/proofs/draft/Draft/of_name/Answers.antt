@@ -4,7 +4,7 @@ use Rattle.ncl_reader.specs.Lexemes.{Name}
 use Rattle.ncl_reader.specs.Grammar.{all_of, direction_phrase, lead_phrase}
 use Rattle.ncl_reader.specs.Forms.{in_ansi, at_declared}
 use Rattle.ncl_reader.specs.Refusals.{IsFaultAt}
-use Rattle.ncl_reader.specs.Known.{IsKept}
+use Rattle.ncl_reader.specs.Known.{KeepsNames}
 use Rattle.ncl_reader.specs.Draft.{HoldsAt}
 use Rattle.ncl_reader.specs.Partial.{going, spelled}
 use Rattle.ncl_reader.proofs.Declares.{at_part, heading_form, declaring_form}
@@ -43,7 +43,7 @@ returns-in-HeaderName c = λ p holds.
     let names = all_of row in
     let form : spelled p ≡ in_ansi c.args.self.now.title.now groups spec names = ap spelled is ∙ heading_form c.args.self.now.title.now groups (going spec row) spec names (at_part direction_phrase (going spec row) spec refl) in
     subst (λ xs. IsFaultAt xs (record { lexeme = Name c.args.name.now; place = c.args.at }) c.of_declared.result) (sym form)
-    (c.of_declared.ensures (in_ansi c.args.self.now.title.now groups spec names) spec.range (subst (IsKept c.args.self.now.known) form kept) (inl (c.args.self.now.title.now, groups, spec.lead, names, refl)) said.1.same (c.crowds_header.ensures groups spec names said read))
+    (c.of_declared.ensures (in_ansi c.args.self.now.title.now groups spec names) spec.range (subst (KeepsNames c.args.self.now.known) form kept) (inl (c.args.self.now.title.now, groups, spec.lead, names, refl)) said.1.same (c.crowds_header.ensures groups spec names said read))
 
 pub returns-in-Lead : goal.returns-in-Lead
 returns-in-Lead c = λ p holds. c.of_lead.ensures p (subst (λ at. HoldsAt at c.args.self.now p) c.in-Lead.is holds)
@@ -54,7 +54,7 @@ returns-in-Declared c = λ p holds.
     let names = all_of row in
     let form : spelled p ≡ at_declared head items spec names = ap spelled is ∙ declaring_form head items (going spec row) spec names (at_part lead_phrase (going spec row) spec refl) in
     subst (λ xs. IsFaultAt xs (record { lexeme = Name c.args.name.now; place = c.args.at }) c.of_declared-in-Declared.result) (sym form)
-    (c.of_declared-in-Declared.ensures (at_declared head items spec names) spec.range (subst (IsKept c.args.self.now.known) form kept) (inr (head, items, spec.lead, names, refl)) said.1.same (c.crowds_items.ensures head items spec names said early body))
+    (c.of_declared-in-Declared.ensures (at_declared head items spec names) spec.range (subst (KeepsNames c.args.self.now.known) form kept) (inr (head, items, spec.lead, names, refl)) said.1.same (c.crowds_items.ensures head items spec names said early body))
 
 pub returns-in_default : goal.returns-in_default
 returns-in_default c = λ p holds.

@@ -47,7 +47,7 @@ fn mixed(x: Ref, y: Ref, by: u64) -> u64 {
 }
 
 impl Answers {
-    ghost use Rattle.ncl_diagram.specs.Kept.{HasSlots, HasMore, IsKept};
+    ghost use Rattle.ncl_diagram.specs.Kept.{HasSlots, HasMore, IsAnswerKept};
 
     /// No answers. Takes no memory.
     pub(crate) fn new(alloc: Global) -> Answers
@@ -70,7 +70,7 @@ impl Answers {
 
     /// The answer of a key, where its slot has it.
     pub(crate) fn find(&self, at: usize, kind: Kind, key: Key) -> Option<Ref>
-        ensures { IfSome result (IsKept self.now kind key) }
+        ensures { IfSome result (IsAnswerKept self.now kind key) }
     {
         if at >= self.slots.len() {
             return None;

@@ -23,7 +23,7 @@ use Rattle.ncl_machine.proofs.StageNets.{in_bit, rail-listed, gate-listed, tree-
 use Rattle.ncl_machine.proofs.LocalNets.{local-at, put-here, in_stage, in_tree}
 use Rattle.ncl_machine.proofs.Phases.{data-moved, data-other, gate-no_rail}
 use Rattle.ncl_machine.proofs.Numbers.{even}
-use Rattle.ncl_machine.proofs.Invariant.{Waves, IsSetting, IsKept, rising, word_in}
+use Rattle.ncl_machine.proofs.Invariant.{Waves, IsSetting, HasInvariant, rising, word_in}
 use Rattle.ncl_machine.proofs.Moves.{IsTreeMove, IsSourceMove, moved, Move, gate, register, tree, root, raise, raise_last, lower, lower_last, take, ready, next_at, numbers_after}
 use Rattle.ncl_machine.proofs.Views.{stage_changes as stage_views, tree_changes as tree_views}
 use Rattle.ncl_machine.proofs.KeptStates.{ki-value}
@@ -32,7 +32,7 @@ use Rattle.ncl_machine.proofs.SourceMoves.{source_is_old}
 use Rattle.ncl_machine.proofs.Totals.{sum_by-no_less, sum_by-more}
 use Rattle.ncl_machine.proofs.ChangeCounts.{times, rail_changes, gate_changes, tree_changes, changes_at, changes, times-more, times-put, changes-grown, below-more}
 
-module _ {p : PipelineData} {l : Layout} {w : Waves} {offered : List (List Bool)} (set : IsSetting p l w offered) {s : State} (k : IsKept l w offered s) where
+module _ {p : PipelineData} {l : Layout} {w : Waves} {offered : List (List Bool)} (set : IsSetting p l w offered) {s : State} (k : HasInvariant l w offered s) where
   -- at these values the nets have changed once more
   abbrev Rises : Nets → Type 0
   Rises u = suc (changes l s.value k.numbers) ≤ changes l u k.numbers

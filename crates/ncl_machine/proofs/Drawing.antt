@@ -14,7 +14,7 @@ use Rattle.ncl_machine.proofs.NamedRails.{some-rail, rail-data, all-from_places}
 use Rattle.ncl_machine.proofs.LocalNets.{in_stage}
 use Rattle.ncl_machine.proofs.Phases.{IsPhase, turns_down, turns_up}
 use Rattle.ncl_machine.proofs.Numbers.{even, half, equal, ahead, behind}
-use Rattle.ncl_machine.proofs.Invariant.{Waves, IsSetting, AreAt, AreKept, IsKept, rising, word_in}
+use Rattle.ncl_machine.proofs.Invariant.{Waves, IsSetting, AreAt, AreKept, HasInvariant, rising, word_in}
 use Rattle.ncl_machine.proofs.Moves.{IsDrawn}
 
 module _ {p : PipelineData} {l : Layout} {w : Waves} {offered : List (List Bool)} (set : IsSetting p l w offered) where
@@ -59,7 +59,7 @@ module _ {p : PipelineData} {l : Layout} {w : Waves} {offered : List (List Bool)
         in_bank j lj = let same = set.layout.joined k lt in omega (arith, lj, same)
 
   -- where the source is new to the first bank's wave, it is a step ahead of it
-  pub source_is_ahead : {s : State} (k : IsKept l w offered s) → AreAt l 0 (in_stage l s.value 0) (suc (k.numbers 1)) → k.numbers 0 ≡ suc (k.numbers 1)
+  pub source_is_ahead : {s : State} (k : HasInvariant l w offered s) → AreAt l 0 (in_stage l s.value 0) (suc (k.numbers 1)) → k.numbers 0 ≡ suc (k.numbers 1)
   source_is_ahead k new =
       let (b, lt, old) = k.ends.some_old in
       elim (k.nets.near 0 (omega arith)) [

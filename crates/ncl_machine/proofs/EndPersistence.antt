@@ -19,7 +19,7 @@ use Rattle.ncl_machine.proofs.NamedRails.{bit_at, rail-is_one}
 use Rattle.ncl_machine.proofs.StageNets.{outputs-listed}
 use Rattle.ncl_machine.proofs.LocalNets.{in_stage, in_tree}
 use Rattle.ncl_machine.proofs.CellNets.{output-no_source, output-no_ki, source-no_ki}
-use Rattle.ncl_machine.proofs.Invariant.{Waves, IsSetting, IsKept, rising, word_in}
+use Rattle.ncl_machine.proofs.Invariant.{Waves, IsSetting, HasInvariant, rising, word_in}
 use Rattle.ncl_machine.proofs.Moves.{Acknowledges, IsSourceMove, moved, Move, gate, register, tree, root, raise, raise_last, lower, lower_last, take, ready}
 use Rattle.ncl_machine.proofs.KeptStates.{root-value, ki-value}
 use Rattle.ncl_machine.proofs.StepValues.{current-rail, rail-put}
@@ -28,7 +28,7 @@ use Rattle.ncl_machine.proofs.MoveOf.{move_of}
 use Rattle.ncl_machine.proofs.MoveNets.{Turns, turns_of, Mover, a_cell, the_source, the_sink, mover_of, stage-stays, root-stays}
 use Rattle.ncl_machine.proofs.Persistence.{gate-stays, register-stays, tree-stays}
 
-module _ {p : PipelineData} {l : Layout} {w : Waves} {offered : List (List Bool)} (set : IsSetting p l w offered) {s : State} (k : IsKept l w offered s) where
+module _ {p : PipelineData} {l : Layout} {w : Waves} {offered : List (List Bool)} (set : IsSetting p l w offered) {s : State} (k : HasInvariant l w offered s) where
   -- ---- the source
 
   -- the rail of a bit that the current word names

@@ -23,14 +23,14 @@ use Rattle.ncl_machine.proofs.StageNets.{in_bit}
 use Rattle.ncl_machine.proofs.LocalNets.{put-here, in_stage}
 use Rattle.ncl_machine.proofs.CellNets.{output-no_source, output-no_ki, source-no_ki}
 use Rattle.ncl_machine.proofs.Numbers.{even, half, one_if, one_if-most, half-given, place-here, place-other}
-use Rattle.ncl_machine.proofs.Invariant.{Waves, IsSetting, AreAt, AreEnds, IsKept, rising, word_in}
+use Rattle.ncl_machine.proofs.Invariant.{Waves, IsSetting, AreAt, AreEnds, HasInvariant, rising, word_in}
 use Rattle.ncl_machine.proofs.KeptStates.{in-local, root-value}
 use Rattle.ncl_machine.proofs.Moves.{IsSourceMove, moved, Move, gate, register, tree, root, raise, raise_last, lower, lower_last, take, ready, next_at, numbers_after}
 use Rattle.ncl_machine.proofs.StepValues.{rail-put}
 use Rattle.ncl_machine.proofs.SourceMoves.{not_done, all_raised, all_lowered, some_low, some_high}
 use Rattle.ncl_machine.proofs.SinkWords.{taken-carries}
 
-module _ {p : PipelineData} {l : Layout} {w : Waves} {offered : List (List Bool)} (set : IsSetting p l w offered) {s : State} (k : IsKept l w offered s) where
+module _ {p : PipelineData} {l : Layout} {w : Waves} {offered : List (List Bool)} (set : IsSetting p l w offered) {s : State} (k : HasInvariant l w offered s) where
   -- where a net changes that is no rail of the source, its bits are as before
   source-same : (net : ℕ) (value : Bool) → ((b : ℕ) (r : Bool) → b < width l 0 → in_rail l 0 b r ≡ net → ⊥) → (b : ℕ) → b < width l 0
       → has_data (in_stage l (put s.value net value) 0) (in_bit l 0 b) ≡ has_data (in_stage l s.value 0) (in_bit l 0 b)

@@ -22,7 +22,7 @@ use Rattle.ncl_machine.specs.Composition.{composed}
 use Rattle.ncl_machine.specs.DelayInsensitive.{Carries, AfterEveryRun, DeliversWhatIsDue, DeliversInTime, IsLegalState, RestsWhereQuiet, IsSafe, IsDelayInsensitive}
 use Rattle.ncl_machine.proofs.WiresSound.{wires_sound}
 use Rattle.ncl_machine.proofs.Numbers.{one_if}
-use Rattle.ncl_machine.proofs.Invariant.{IsSetting, IsKept}
+use Rattle.ncl_machine.proofs.Invariant.{IsSetting, HasInvariant}
 use Rattle.ncl_machine.proofs.Keeping.{run-kept}
 use Rattle.ncl_machine.proofs.EndPersistence.{kept-persistent}
 use Rattle.ncl_machine.proofs.Composition.{function-is_composition}
@@ -49,7 +49,7 @@ all_sound p l is sound k le =
 
 -- ---- what the invariant says in the words of the definitions
 
-module _ {p : PipelineData} {l : Layout} {offered : List (List Bool)} (set : IsSetting p l (waves_of l offered) offered) {s : State} (k : IsKept l (waves_of l offered) offered s) where
+module _ {p : PipelineData} {l : Layout} {offered : List (List Bool)} (set : IsSetting p l (waves_of l offered) offered) {s : State} (k : HasInvariant l (waves_of l offered) offered s) where
   -- the pairs are the words that are due
   delivers : DeliversWhatIsDue p offered s
   delivers i pair at =
@@ -106,7 +106,7 @@ module _ (p : PipelineData) (shape : Shape p.netlist p) (sound : All IsSound p.s
 
   -- what holds wherever the invariant does holds after every run
   every_run : (P : List (List Bool) → State → Type 0)
-      → ((l : Layout) (offered : List (List Bool)) → IsSetting p l (waves_of l offered) offered → (s : State) → IsKept l (waves_of l offered) offered s → P offered s)
+      → ((l : Layout) (offered : List (List Bool)) → IsSetting p l (waves_of l offered) offered → (s : State) → HasInvariant l (waves_of l offered) offered s → P offered s)
       → AfterEveryRun p P
   every_run P holds offered items words run =
       let (l, is) = laid_out p shape in

@@ -89,7 +89,7 @@ pub record AreEnds (l : Layout) (w : Waves) (offered : List (List Bool)) (s : St
   pub carried : (i : ℕ) (pair : Pair) → slice_get s.delivered i ≡ Some pair → Carries (w.word i (suc l.last)) pair
 
 -- a state with the invariant, by some numbers
-pub record IsKept (l : Layout) (w : Waves) (offered : List (List Bool)) (s : State) : Type 0 where
+pub record HasInvariant (l : Layout) (w : Waves) (offered : List (List Bool)) (s : State) : Type 0 where
   pub numbers : ℕ → ℕ
   pub nets : AreKept l w (in_stage l s.value) (in_tree l s.value) numbers
   pub ends : AreEnds l w offered s numbers

@@ -13,7 +13,7 @@ use Rattle.ncl_machine.specs.Run.{IsRunFrom, after}
 use Rattle.ncl_machine.proofs.NamedRails.{bit_at}
 use Rattle.ncl_machine.proofs.StageNets.{rail-listed, gate-listed, tree-listed, root-listed}
 use Rattle.ncl_machine.proofs.LocalNets.{local-at, in_stage, in_tree}
-use Rattle.ncl_machine.proofs.Invariant.{Waves, IsSetting, AreKept, IsKept, rising, word_in}
+use Rattle.ncl_machine.proofs.Invariant.{Waves, IsSetting, AreKept, HasInvariant, rising, word_in}
 use Rattle.ncl_machine.proofs.Moves.{IsSourceMove, Acknowledges, moved, Move, gate, register, tree, root, raise, raise_last, lower, lower_last, take, ready, next_at, numbers_after}
 use Rattle.ncl_machine.proofs.Views.{Changes, stage_changes, tree_changes, same-kept}
 use Rattle.ncl_machine.proofs.StageSteps.{gate-kept, rail-kept}
@@ -25,7 +25,7 @@ use Rattle.ncl_machine.proofs.EndSteps.{ends-kept}
 use Rattle.ncl_machine.proofs.MoveOf.{move_of}
 
 module _ {p : PipelineData} {l : Layout} {w : Waves} {offered : List (List Bool)} (set : IsSetting p l w offered) where
-  module _ {s : State} (k : IsKept l w offered s) where
+  module _ {s : State} (k : HasInvariant l w offered s) where
     -- the invariant of the nets with some values
     abbrev Kept : Nets → (ℕ → ℕ) → Type 0
     Kept v c = AreKept l w (in_stage l v) (in_tree l v) c
@@ -101,10 +101,10 @@ module _ {p : PipelineData} {l : Layout} {w : Waves} {offered : List (List Bool)
     nets-kept item (ready od none acks) = sink_acknowledges true (not_from_false _ od) acks
 
   -- the state after a move, with its numbers
-  abbrev pub step-kept : {s : State} (k : IsKept l w offered s) (item : Item) → Move p l w s k.numbers item → IsKept l w offered (step p s item)
+  abbrev pub step-kept : {s : State} (k : HasInvariant l w offered s) (item : Item) → Move p l w s k.numbers item → HasInvariant l w offered (step p s item)
   step-kept k item m = record { numbers = numbers_after m; nets = nets-kept k item m; ends = ends-kept set k item m }
 
   -- and so does any run
-  pub run-kept : (items : List Item) (s : State) → IsKept l w offered s → IsRunFrom p s items → IsKept l w offered (after p s items)
+  pub run-kept : (items : List Item) (s : State) → HasInvariant l w offered s → IsRunFrom p s items → HasInvariant l w offered (after p s items)
   run-kept [] s k run = k
   run-kept (item ∷ items) s k run = run-kept items (step p s item) (step-kept k item (move_of set k item run.0)) run.1

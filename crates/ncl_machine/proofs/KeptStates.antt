@@ -14,7 +14,7 @@ use Rattle.ncl_machine.proofs.StageNets.{in_outputs, rail-listed, root-listed, o
 use Rattle.ncl_machine.proofs.LocalNets.{local-at, in_stage}
 use Rattle.ncl_machine.specs.Composition.{stage_function}
 use Rattle.ncl_machine.proofs.Phases.{rail_is, output_is}
-use Rattle.ncl_machine.proofs.Invariant.{Waves, IsSetting, IsKept, rising, word_in}
+use Rattle.ncl_machine.proofs.Invariant.{Waves, IsSetting, HasInvariant, rising, word_in}
 
 module _ {p : PipelineData} {l : Layout} {w : Waves} {offered : List (List Bool)} (set : IsSetting p l w offered) where
   -- the rails of a bank, the outputs of a stage, and what the sink reads, in their stage
@@ -35,7 +35,7 @@ module _ {p : PipelineData} {l : Layout} {w : Waves} {offered : List (List Bool)
       let (zero_same, one_same) = outputs-local v l.last r (omega arith) m in
       ap (λ x. x || in_stage l v l.last r.one.0) zero_same ∙ ap (λ y. v r.zero.0 || y) one_same
 
-  module _ {s : State} (k : IsKept l w offered s) where
+  module _ {s : State} (k : HasInvariant l w offered s) where
     -- a bank asks by its root
     pub root-value : (j : ℕ) → j ≤ l.last → s.value (l.root j) ≡ rising k.numbers j
     root-value j le = sym (local-at (l.tree_nets j) s.value (l.root j) (root-listed set.layout j le)) ∙ k.nets.asks j le

@@ -24,13 +24,13 @@ use Rattle.ncl_machine.proofs.LocalNets.{local, local-put_here, local-put_other,
 use Rattle.ncl_machine.proofs.Phases.{data-other, gate-no_rail}
 use Rattle.ncl_machine.proofs.CellNets.{output-no_source, output-no_ki}
 use Rattle.ncl_machine.proofs.Numbers.{even}
-use Rattle.ncl_machine.proofs.Invariant.{Waves, IsSetting, IsKept, rising, word_in}
+use Rattle.ncl_machine.proofs.Invariant.{Waves, IsSetting, HasInvariant, rising, word_in}
 use Rattle.ncl_machine.proofs.Moves.{Acknowledges, IsSourceMove, moved, Move, gate, register, tree, root, raise, raise_last, lower, lower_last, take, ready}
 use Rattle.ncl_machine.proofs.KeptStates.{ki-value}
 use Rattle.ncl_machine.proofs.StepValues.{gate-step, register-step, tree-step, raise-step, lower-step}
 use Rattle.ncl_machine.proofs.SourceMoves.{source_is_old}
 
-module _ {p : PipelineData} {l : Layout} {w : Waves} {offered : List (List Bool)} (set : IsSetting p l w offered) {s : State} (k : IsKept l w offered s) where
+module _ {p : PipelineData} {l : Layout} {w : Waves} {offered : List (List Bool)} (set : IsSetting p l w offered) {s : State} (k : HasInvariant l w offered s) where
   -- a net of stage j goes to the value of its wave; a net of tree j to the other
   abbrev pub TurnsInStage : Item → ℕ → ℕ → Type 0
   TurnsInStage item j net = (s.value net ≡ not (rising k.numbers j)) × ((step p s item).value ≡ put s.value net (rising k.numbers j))

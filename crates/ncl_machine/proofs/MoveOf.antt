@@ -23,12 +23,12 @@ use Rattle.ncl_machine.proofs.LocalNets.{all-local, in_stage, in_tree}
 use Rattle.ncl_machine.proofs.NextValues.{gate-excitation, register-turns}
 use Rattle.ncl_machine.proofs.Completion.{turning_is_old, others_are_new}
 use Rattle.ncl_machine.proofs.Numbers.{even, half, one_if, even-given, half-given, double-half, near-same}
-use Rattle.ncl_machine.proofs.Invariant.{Waves, IsSetting, AreAt, IsKept, rising, word_in}
+use Rattle.ncl_machine.proofs.Invariant.{Waves, IsSetting, AreAt, HasInvariant, rising, word_in}
 use Rattle.ncl_machine.proofs.KeptStates.{in-local, out-local, sink-same, root-value, ko-value, ki-value, rail_named, output_named}
 use Rattle.ncl_machine.proofs.Drawing.{drawn_by_data, drawn_by_null, drawn_by_bank, source_is_ahead}
 use Rattle.ncl_machine.proofs.Moves.{IsDrawn, Acknowledges, IsTreeMove, IsRegisterMove, IsSourceMove, moved, Move, gate, register, tree, root, raise, raise_last, lower, lower_last, take, ready}
 
-module _ {p : PipelineData} {l : Layout} {w : Waves} {offered : List (List Bool)} (set : IsSetting p l w offered) {s : State} (k : IsKept l w offered s) where
+module _ {p : PipelineData} {l : Layout} {w : Waves} {offered : List (List Bool)} (set : IsSetting p l w offered) {s : State} (k : HasInvariant l w offered s) where
   -- ---- a register cell that is excited
   register_move : (cell : Cell) (j b : ℕ) (r : Bool) → j < l.last → b < width l (suc j) → IsRegisterOf l j b r cell
       → differ (next_value s.value cell) (s.value cell.out.0) ≡ true → IsRegisterMove l w s k.numbers j b r cell

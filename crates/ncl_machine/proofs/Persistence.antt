@@ -23,12 +23,12 @@ use Rattle.ncl_machine.proofs.NextValues.{gate-excitation, register-excited}
 use Rattle.ncl_machine.proofs.Phases.{gate_stays}
 use Rattle.ncl_machine.proofs.Completion.{ReadsNew, reads-more, old_is_turning}
 use Rattle.ncl_machine.proofs.Numbers.{even}
-use Rattle.ncl_machine.proofs.Invariant.{Waves, IsSetting, IsKept, rising}
+use Rattle.ncl_machine.proofs.Invariant.{Waves, IsSetting, HasInvariant, rising}
 use Rattle.ncl_machine.proofs.Moves.{Acknowledges, IsRegisterMove, IsTreeMove}
 use Rattle.ncl_machine.proofs.KeptStates.{root-value}
 use Rattle.ncl_machine.proofs.MoveNets.{Turns, a_gate, a_rail, a_tree_net, TurnsInStage, Mover, output-stays, stage-stays, root-stays, bit-stays}
 
-module _ {p : PipelineData} {l : Layout} {w : Waves} {offered : List (List Bool)} (set : IsSetting p l w offered) {s : State} (k : IsKept l w offered s) (item : Item) (turns : Turns set k item) (mover : Mover set k item) where
+module _ {p : PipelineData} {l : Layout} {w : Waves} {offered : List (List Bool)} (set : IsSetting p l w offered) {s : State} (k : HasInvariant l w offered s) (item : Item) (turns : Turns set k item) (mover : Mover set k item) where
   -- the values after the item
   abbrev now : Nets
   now = (step p s item).value

@@ -30,7 +30,7 @@ use Rattle.ncl_machine.specs.Composition.{stage_function}
 use Rattle.ncl_machine.proofs.Phases.{IsPhase, up_empty, up_full, down_empty, output_high}
 use Rattle.ncl_machine.proofs.Completion.{ReadsNew, old_is_turning, all_are_new}
 use Rattle.ncl_machine.proofs.Numbers.{even, half, one_if, even-given, half-given, equal, ahead, behind}
-use Rattle.ncl_machine.proofs.Invariant.{Waves, IsSetting, AreAt, IsKept, rising, word_in}
+use Rattle.ncl_machine.proofs.Invariant.{Waves, IsSetting, AreAt, HasInvariant, rising, word_in}
 use Rattle.ncl_machine.proofs.Moves.{IsSourceMove}
 use Rattle.ncl_machine.proofs.KeptStates.{in-local, out-local, root-value, ko-value, ki-value, rail_named}
 use Rattle.ncl_machine.proofs.StepValues.{current-rail}
@@ -52,7 +52,7 @@ all_or_some v e (x ∷ xs) = elim (same_or_not (has_data v x) e) [
     each same all zero lt = same
     each same all (suc b) lt = all b (omega (arith, lt))
 
-module _ {p : PipelineData} {l : Layout} {w : Waves} {offered : List (List Bool)} (set : IsSetting p l w offered) {s : State} (k : IsKept l w offered s) (quiet : IsQuiet p s) where
+module _ {p : PipelineData} {l : Layout} {w : Waves} {offered : List (List Bool)} (set : IsSetting p l w offered) {s : State} (k : HasInvariant l w offered s) (quiet : IsQuiet p s) where
   -- no cell is excited
   still : (c : Cell) → IsCell p.netlist c → differ (next_value s.value c) (s.value c.out.0) ≡ true → ⊥
   still c in_c excited =

@@ -25,7 +25,7 @@ use Rattle.ncl_machine.proofs.LocalNets.{in_stage, in_tree}
 use Rattle.ncl_machine.proofs.Phases.{IsPhase, up_empty}
 use Rattle.ncl_machine.proofs.Completion.{all_are_old}
 use Rattle.ncl_machine.proofs.Numbers.{even, one_if, one_if-most, even-double, equal, ahead, behind}
-use Rattle.ncl_machine.proofs.Invariant.{Waves, IsSetting, IsKept, rising, word_in}
+use Rattle.ncl_machine.proofs.Invariant.{Waves, IsSetting, HasInvariant, rising, word_in}
 use Rattle.ncl_machine.proofs.Moves.{numbers_after}
 use Rattle.ncl_machine.proofs.MoveOf.{move_of}
 use Rattle.ncl_machine.proofs.Safety.{within_source}
@@ -35,7 +35,7 @@ use Rattle.ncl_machine.proofs.ChangeCounts.{agree, agree-old, times, rail_change
 use Rattle.ncl_machine.proofs.ChangesRise.{changes-rise}
 
 module _ {p : PipelineData} {l : Layout} {w : Waves} {offered : List (List Bool)} (set : IsSetting p l w offered) where
-  module _ {s : State} (k : IsKept l w offered s) where
+  module _ {s : State} (k : HasInvariant l w offered s) where
     -- the number of the last wave, the NULL after the last word
     abbrev last_wave : ℕ
     last_wave = 2 * (w.held + length offered)
@@ -163,7 +163,7 @@ module _ {p : PipelineData} {l : Layout} {w : Waves} {offered : List (List Bool)
     changes-within = below-within (suc l.last) (omega arith)
 
   -- each item of a run is one change more
-  pub run-within : (items : List Item) {s : State} (k : IsKept l w offered s) → IsRunFrom p s items
+  pub run-within : (items : List Item) {s : State} (k : HasInvariant l w offered s) → IsRunFrom p s items
       → changes l s.value k.numbers + length items ≤ 2 * (w.held + length offered) * nets_below l (suc l.last)
   run-within [] k run = let most = changes-within k in omega (arith, most)
   run-within (item ∷ items) {s} k run =

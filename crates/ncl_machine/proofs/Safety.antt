@@ -6,12 +6,12 @@ use Rattle.ncl_layout.specs.Layout.{Layout, width, in_rail}
 use Rattle.ncl_machine.specs.State.{State}
 use Rattle.ncl_machine.proofs.LocalNets.{in_stage}
 use Rattle.ncl_machine.proofs.Numbers.{one_if, one_if-most, equal, ahead, behind}
-use Rattle.ncl_machine.proofs.Invariant.{Waves, IsSetting, AreAt, IsKept}
+use Rattle.ncl_machine.proofs.Invariant.{Waves, IsSetting, AreAt, HasInvariant}
 use Rattle.ncl_machine.proofs.KeptStates.{in-local, rail_named}
 use Rattle.ncl_machine.proofs.TreeSteps.{never-both}
 use Rattle.ncl_machine.proofs.Drawing.{drawn_by_bank, source_is_ahead}
 
-module _ {p : PipelineData} {l : Layout} {w : Waves} {offered : List (List Bool)} (set : IsSetting p l w offered) {s : State} (k : IsKept l w offered s) where
+module _ {p : PipelineData} {l : Layout} {w : Waves} {offered : List (List Bool)} (set : IsSetting p l w offered) {s : State} (k : HasInvariant l w offered s) where
   -- no bank is ahead of the source, nor is one that is new to its wave at the source's
   pub within_source : (j : ℕ) → j ≤ l.last
       → (k.numbers (suc j) ≤ k.numbers 0) × (AreAt l j (in_stage l s.value j) (suc (k.numbers (suc j))) → suc (k.numbers (suc j)) ≤ k.numbers 0)

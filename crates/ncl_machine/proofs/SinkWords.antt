@@ -19,10 +19,10 @@ use Rattle.ncl_machine.proofs.LocalNets.{all-local, in_stage}
 use Rattle.ncl_machine.specs.Composition.{stage_function}
 use Rattle.ncl_machine.proofs.Phases.{IsPhase, turns_down}
 use Rattle.ncl_machine.proofs.Numbers.{half}
-use Rattle.ncl_machine.proofs.Invariant.{Waves, IsSetting, IsKept, rising, word_in}
+use Rattle.ncl_machine.proofs.Invariant.{Waves, IsSetting, HasInvariant, rising, word_in}
 use Rattle.ncl_machine.proofs.KeptStates.{outputs-local, sink-same}
 
-module _ {p : PipelineData} {l : Layout} {w : Waves} {offered : List (List Bool)} (set : IsSetting p l w offered) {s : State} (k : IsKept l w offered s) (ev : rising k.numbers l.last ≡ true) (some : is_data p.outputs s.value ≡ true) where
+module _ {p : PipelineData} {l : Layout} {w : Waves} {offered : List (List Bool)} (set : IsSetting p l w offered) {s : State} (k : HasInvariant l w offered s) (ev : rising k.numbers l.last ≡ true) (some : is_data p.outputs s.value ≡ true) where
   -- the last stage has settled at this word
   abbrev word : List Bool
   word = word_in w k.numbers l.last

@@ -18,11 +18,11 @@ use Rattle.ncl_machine.proofs.StageNets.{in_bit, rail-listed}
 use Rattle.ncl_machine.proofs.LocalNets.{local-put_here, in_stage}
 use Rattle.ncl_machine.proofs.Phases.{IsPhase, rail_is, rail_moves}
 use Rattle.ncl_machine.proofs.Numbers.{even}
-use Rattle.ncl_machine.proofs.Invariant.{Waves, IsSetting, AreAt, IsKept, rising, word_in}
+use Rattle.ncl_machine.proofs.Invariant.{Waves, IsSetting, AreAt, HasInvariant, rising, word_in}
 use Rattle.ncl_machine.proofs.KeptStates.{in-local, rail_named}
 use Rattle.ncl_machine.proofs.Moves.{IsSourceMove, moved}
 
-module _ {p : PipelineData} {l : Layout} {w : Waves} {offered : List (List Bool)} (set : IsSetting p l w offered) {s : State} (k : IsKept l w offered s) {b : ℕ} (move : IsSourceMove l w s k.numbers b) where
+module _ {p : PipelineData} {l : Layout} {w : Waves} {offered : List (List Bool)} (set : IsSetting p l w offered) {s : State} (k : HasInvariant l w offered s) {b : ℕ} (move : IsSourceMove l w s k.numbers b) where
   -- the values after the move, and the rail of a bit that the current word names
   abbrev after : Nets
   after = moved l w s k.numbers b

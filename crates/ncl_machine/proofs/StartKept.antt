@@ -13,7 +13,7 @@ use Rattle.ncl_machine.proofs.StageNets.{in_bit, root-listed, tree-listed}
 use Rattle.ncl_machine.proofs.LocalNets.{in_stage}
 use Rattle.ncl_machine.proofs.Phases.{IsPhase, phase-none, phase-empty, phase-named}
 use Rattle.ncl_machine.proofs.Numbers.{even, half, one_if, AreNear, equal, ahead, even-double}
-use Rattle.ncl_machine.proofs.Invariant.{AreAt, IsKept}
+use Rattle.ncl_machine.proofs.Invariant.{AreAt, HasInvariant}
 use Rattle.ncl_machine.proofs.HeldCounts.{holds_word, held_in_all, held_from, start_number, none_past, from-step, from-past, start-even, start-half}
 use Rattle.ncl_machine.proofs.OfferedWords.{word_under, waves_of, under-own}
 use Rattle.ncl_machine.proofs.Start.{held_in, stage-none, stage-held, tree-at, tree-value, source-null}
@@ -99,7 +99,7 @@ module _ {p : PipelineData} {l : Layout} (is : IsLayoutOf p l) where
       (λ none. absurd (both_ways _ od (start-even is k ∙ ap (λ o. not (is_some o)) none)))
       (λ word some. subst (IsPhase (l.stage k) false _) (sym (stage-none is k le (none-before k word some))) (phase-empty (l.stage k) _))
 
-  pub reset-kept : (offered : List (List Bool)) → IsKept l (waves_of l offered) offered (reset p offered)
+  pub reset-kept : (offered : List (List Bool)) → HasInvariant l (waves_of l offered) offered (reset p offered)
   reset-kept offered = record {
     numbers = start_number l;
     nets = record {

@@ -21,7 +21,7 @@ use Rattle.ncl_machine.proofs.LocalNets.{in_stage}
 use Rattle.ncl_machine.proofs.NextValues.{gate-next, register-takes}
 use Rattle.ncl_machine.proofs.Phases.{gate_moves, gate_local}
 use Rattle.ncl_machine.proofs.Completion.{old_is_turning}
-use Rattle.ncl_machine.proofs.Invariant.{Waves, IsSetting, IsKept, rising, word_in}
+use Rattle.ncl_machine.proofs.Invariant.{Waves, IsSetting, HasInvariant, rising, word_in}
 use Rattle.ncl_machine.proofs.KeptStates.{root-value}
 use Rattle.ncl_machine.proofs.Moves.{IsRegisterMove, IsTreeMove, IsSourceMove, moved}
 
@@ -31,7 +31,7 @@ pub lowered-value : (s : State) (v : Nets) (all : Bool)
 lowered-value s v true = refl
 lowered-value s v false = refl
 
-module _ {p : PipelineData} {l : Layout} {w : Waves} {offered : List (List Bool)} (set : IsSetting p l w offered) {s : State} (k : IsKept l w offered s) where
+module _ {p : PipelineData} {l : Layout} {w : Waves} {offered : List (List Bool)} (set : IsSetting p l w offered) {s : State} (k : HasInvariant l w offered s) where
   -- a gate goes to the value of its stage's wave
   pub gate-step : (i : CellId) (cell : Cell) (j : ℕ) (g : StageCell) → CellAt p.netlist i.0 cell → j ≤ l.last → Member g (l.stage j).cells
       → IsCellOf cell g → IsExcited (in_stage l s.value j) g

@@ -5,7 +5,7 @@ use Rattle.std.proofs.lemmas.Option.{same_Some, none-some}
 use Rattle.ncl_reader.specs.declared.keyword.Keyword.TheVariants.{Module, EndModule}
 use Rattle.ncl_reader.specs.declared.lexeme.Sign.TheVariants.{LParen, RParen, Semi, Dot, RBracket, Colon}
 use Rattle.ncl_reader.specs.Lexemes.{Lexeme, Word, Name, Number, Mark, End}
-use Rattle.ncl_reader.specs.Grammar.{Text, Begins}
+use Rattle.ncl_reader.specs.Grammar.{Text, BeginsShaped}
 use Rattle.ncl_reader.specs.Partial.{LeadPart, led, bracketed, firsted, coloned, lasted, ranged, GroupPart, leading, naming, going, Partial, start, begun, titled, listing, listed, heading, headed, at_item, inside, ended, done, ItemPart, declaring, celled, named, joining, dotted, pinned, opened, netted, indexing, indexed, picked, joined, closed, spelled}
 use Rattle.ncl_reader.proofs.Steps.{step, run}
 use Rattle.ncl_reader.proofs.Runs.{run-append, run-spelled}
@@ -102,7 +102,7 @@ ends (ended head items) = record { text = record { head = _; items = _ }; runs =
 ends (done head items) = record { text = record { head = _; items = _ }; runs = refl }
 
 -- the tokens of a partial tree begin a shaped list
-pub viable : (p : Partial) → Begins (spelled p)
+pub viable : (p : Partial) → BeginsShaped (spelled p)
 viable p = let end = ends p in (rest_of p, (end.text, sym (grows-run p (done end.text.head end.text.items) (rest_of p) end.runs)))
 
 -- tokens that are added, and then one that isn't taken
@@ -110,7 +110,7 @@ pub not_taken : (p q : Partial) (t : Lexeme) (rest : List Lexeme) → step p t �
 not_taken p q t rest none e = none-some q (sym (ap (λ next. option_and_then (λ r. run r rest) next) none) ∙ e)
 
 -- a token that isn't taken begins no shaped list behind them
-pub stuck : (p : Partial) (t : Lexeme) → step p t ≡ None → Begins (spelled p ++ t ∷ []) → ⊥
+pub stuck : (p : Partial) (t : Lexeme) → step p t ≡ None → BeginsShaped (spelled p ++ t ∷ []) → ⊥
 stuck p t none (rest, (text, is)) =
     let whole : spelled p ++ t ∷ rest ≡ spelled (done text.head text.items) = sym (append_assoc (spelled p) (t ∷ []) rest) ∙ is in
     not_taken p (done text.head text.items) t rest none (sym (run-append start p (spelled p) (t ∷ rest) (run-spelled p)) ∙ ap (run start) whole ∙ run-spelled (done text.head text.items))

@@ -157,8 +157,8 @@ abbrev pub IsShaped : List Lexeme → Type 0
 IsShaped xs = (text : Text) × (xs ≡ text_phrase text)
 
 -- the list begins some shaped list
-abbrev pub Begins : List Lexeme → Type 0
-Begins xs = (rest : List Lexeme) × IsShaped (xs ++ rest)
+abbrev pub BeginsShaped : List Lexeme → Type 0
+BeginsShaped xs = (rest : List Lexeme) × IsShaped (xs ++ rest)
 
 -- the declarations in the header
 abbrev pub groups_of : Option Listing → List (Group Direction)

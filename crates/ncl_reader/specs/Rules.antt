@@ -9,7 +9,7 @@ use Rattle.ncl_gates.specs.Cell.{pins_of}
 use Rattle.ncl_reader.specs.declared.keyword.Keyword.TheVariants.{EndModule, Way as word_of}
 use Rattle.ncl_reader.specs.declared.lexeme.Sign.TheVariants.{RParen, LBracket}
 use Rattle.ncl_reader.specs.Lexemes.{Lexeme, Word, Name, Number, Mark}
-use Rattle.ncl_reader.specs.Grammar.{Row, all_of, Direction, Lead, Gives, Wires, Range, Spec, Group, group_names, Conn, Item, Declares, Joins, Ansi, Head, groups_of, header_of, body_phrase, Begins}
+use Rattle.ncl_reader.specs.Grammar.{Row, all_of, Direction, Lead, Gives, Wires, Range, Spec, Group, group_names, Conn, Item, Declares, Joins, Ansi, Head, groups_of, header_of, body_phrase, BeginsShaped}
 use Rattle.ncl_reader.specs.Forms.{in_header, in_ansi, at_declared, at_pin, at_close, IsDeclaring, IsAtLast, IsAtIndex, IsBehindNet}
 use Rattle.ncl_reader.specs.Vectors.{span_of, width, range_width, Covers, bit_name, IsTooLarge, MOST_BITS, MOST_PORT_BITS, Stands, IsDeclared, IsUsed, IsVector, IsBit}
 
@@ -183,7 +183,7 @@ BreaksRule before t = ⊥
 
 -- the tokens before it begin a shaped list, and those up to it don't; or it breaks a rule
 abbrev pub Breaks : List Lexeme → Lexeme → Type 0
-Breaks before t = (Begins before × ¬ Begins (before ++ t ∷ [])) ⊎ BreaksRule before t
+Breaks before t = (BeginsShaped before × ¬ BeginsShaped (before ++ t ∷ [])) ⊎ BreaksRule before t
 
 -- no token breaks
 abbrev pub NoneBreaks : List Lexeme → Type 0

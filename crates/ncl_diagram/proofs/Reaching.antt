@@ -6,7 +6,7 @@ use Rattle.ncl_diagram.specs.declared.memo.Key.{Key}
 use Rattle.ncl_diagram.specs.declared.nodes.Node.{Node}
 use Rattle.ncl_diagram.specs.Nodes.{branch, IsCanonical, Grown}
 use Rattle.ncl_diagram.specs.Operands.{There}
-use Rattle.ncl_diagram.specs.Memo.{places, size_of, MayAdd, Begins, AreLarger, Settles}
+use Rattle.ncl_diagram.specs.Memo.{places, size_of, MayAdd, IsKeyPut, AreLarger, Settles}
 use Rattle.ncl_diagram.specs.Steps.{Reaches, here, along, ReachesKey, AddsKeys}
 use Rattle.ncl_diagram.proofs.Growth.{branch_grown, branch_before, grown_along, there_grown}
 use Rattle.ncl_diagram.proofs.MemoLaws.{get_last, short}
@@ -71,7 +71,7 @@ pub record Begun (keys : List Key) (found : List (Option Ref)) (more : List Key)
   pub found_are : known ≡ found ++ None ∷ []
   pub last : at ≡ length keys
 
-pub begun : (keys more : List Key) (found known : List (Option Ref)) (key : Key) (r : ℕ × Option Ref) → Begins keys found more known key r → r.1 ≡ None → AreLarger (size_of key) keys found → Begun keys found more known key r.0
+pub begun : (keys more : List Key) (found known : List (Option Ref)) (key : Key) (r : ℕ × Option Ref) → IsKeyPut keys found more known key r → r.1 ≡ None → AreLarger (size_of key) keys found → Begun keys found more known key r.0
 begun keys more found known key r (inl p) none larger = record { keys_are = p.0; found_are = p.1; last = p.2 }
 begun keys more found known key r (inr p) none larger =
     let less : size_of key < size_of key = larger.larger r.0 key p.2 (p.3 ∙ ap (λ (o : Option Ref). Some o) none) in

@@ -34,8 +34,8 @@ abbrev pub MayAdd : List Key → List Key → Key → Type 0
 MayAdd keys more key = (more ≡ keys) ⊎ (more ≡ keys ++ key ∷ [])
 
 -- a key is put last, without an answer, or it was there, with what is known of it
-abbrev pub Begins : List Key → List (Option Ref) → List Key → List (Option Ref) → Key → ℕ × Option Ref → Type 0
-Begins keys found more known key r =
+abbrev pub IsKeyPut : List Key → List (Option Ref) → List Key → List (Option Ref) → Key → ℕ × Option Ref → Type 0
+IsKeyPut keys found more known key r =
     ((more ≡ keys ++ key ∷ []) × (known ≡ found ++ None ∷ []) × (r.0 ≡ length keys) × (r.1 ≡ None))
     ⊎ ((more ≡ keys) × (known ≡ found) × (slice_get keys r.0 ≡ Some key) × (slice_get found r.0 ≡ Some r.1))
 

@@ -5,7 +5,7 @@ ghost use Rattle.std.specs.Prelude.{◌*◌, ◌^◌};
 ghost use Rattle.std.specs.Hash as fed;
 ghost use Rattle.std.specs.Cmp.Rules.{hashing};
 ghost use Rattle.std.proofs.Common.{rules};
-ghost use Rattle.ncl_diagram.specs.Memo.{Begins, Forgets, KeepsKeys, MayAdd, is_key};
+ghost use Rattle.ncl_diagram.specs.Memo.{IsKeyPut, Forgets, KeepsKeys, MayAdd, is_key};
 
 use indexmap::IndexSet;
 use ncl_space::{Ref, SpaceFault};
@@ -66,7 +66,7 @@ impl Memo {
         ensures never_full { result ≢ Err SpaceFault.Full }
         ensures answers { OnOk result (Forgets self.old.keys.keys self.old.found.items
             self.new.keys.keys self.new.found.items) }
-        ensures begins { IfOk result (Begins self.old.keys.keys self.old.found.items
+        ensures begins { IfOk result (IsKeyPut self.old.keys.keys self.old.found.items
             self.new.keys.keys self.new.found.items key) }
         ensures may { MayAdd self.old.keys.keys self.new.keys.keys key }
     {

@@ -10,7 +10,7 @@ use Rattle.ncl_shape.specs.declared.rails.Rails.{Rails}
 use Rattle.ncl_shape.specs.Nets.{Nets, put}
 use Rattle.ncl_shape.specs.Stage.{rail_nets}
 use Rattle.ncl_stage.specs.Faults.{has_data}
-use Rattle.ncl_machine.specs.Held.{value_of}
+use Rattle.ncl_machine.specs.Held.{net_values}
 use Rattle.ncl_machine.specs.Tallies.{count_of, mate_of, mate_in, is_covered_by}
 use Rattle.ncl_machine.proofs.AtWorkLaws.{put-elsewhere}
 use Rattle.ncl_machine.proofs.Counts.{count-same}
@@ -18,7 +18,7 @@ use Rattle.ncl_machine.proofs.InOrder.{rails_within}
 use Rattle.ncl_machine.proofs.LocalNets.{put-here}
 use Rattle.ncl_machine.proofs.NamedRails.{data-same}
 use Rattle.ncl_machine.proofs.Numbers.{one_if}
-use Rattle.ncl_machine.proofs.ValueLists.{value_of-set}
+use Rattle.ncl_machine.proofs.ValueLists.{net_values-set}
 
 -- the net is rail 0 of the bit, or rail 1, or neither
 pub data OwnRail (r : Rails) (net : ℕ) : Type 0 where
@@ -180,30 +180,30 @@ count-turned v net value turns (r ∷ bits) differ = by_rail (own_rail r net) (c
         subst (CountTurns v net value r bits) (sym mate) (omega (arith, rest, first))
 
 -- in a list of values
-module _ (values : List Bool) (net : ℕ) (value : Bool) (within : net < length values) (turns : value_of values net ≡ not value)
+module _ (values : List Bool) (net : ℕ) (value : Bool) (within : net < length values) (turns : net_values values net ≡ not value)
     (bits : List Rails) (differ : AllPairs (λ x y. x ≢ y) (rail_nets bits)) where
   abbrev now : ℕ
-  now = count_of (has_data (value_of (set values net value))) bits
+  now = count_of (has_data (net_values (set values net value))) bits
 
   abbrev before : ℕ
-  before = count_of (has_data (value_of values)) bits
+  before = count_of (has_data (net_values values)) bits
 
-  turned : (covered : Bool) → is_covered_by (value_of values) (mate_in bits net) ≡ covered → gain covered (not value) + now ≡ gain covered value + before
+  turned : (covered : Bool) → is_covered_by (net_values values) (mate_in bits net) ≡ covered → gain covered (not value) + now ≡ gain covered value + before
   turned covered is =
-      let put_now : count_of (has_data (value_of (set values net value))) bits ≡ count_of (has_data (put (value_of values) net value)) bits =
-      ap (λ v. count_of (has_data v) bits) (value_of-set values net value within) in
+      let put_now : count_of (has_data (net_values (set values net value))) bits ≡ count_of (has_data (put (net_values values) net value)) bits =
+      ap (λ v. count_of (has_data v) bits) (net_values-set values net value within) in
       subst (λ t. gain t (not value) + now ≡ gain t value + before) is
-      (ap (λ n. gain (is_covered_by (value_of values) (mate_in bits net)) (not value) + n) put_now ∙ count-turned (value_of values) net value turns bits differ)
+      (ap (λ n. gain (is_covered_by (net_values values) (mate_in bits net)) (not value) + n) put_now ∙ count-turned (net_values values) net value turns bits differ)
 
   -- where the bit is covered without the net, or there is no such bit, the count stays
-  pub count-stays : is_covered_by (value_of values) (mate_in bits net) ≡ true → before ≡ now
+  pub count-stays : is_covered_by (net_values values) (mate_in bits net) ≡ true → before ≡ now
   count-stays is = let e = turned true is in omega (arith, e)
 
   -- else one that rises adds one, and one that falls takes one away
-  pub count-more : is_covered_by (value_of values) (mate_in bits net) ≡ false → value ≡ true → before + 1 ≡ now
+  pub count-more : is_covered_by (net_values values) (mate_in bits net) ≡ false → value ≡ true → before + 1 ≡ now
   count-more is high =
       let e = subst (λ b. gain false (not b) + now ≡ gain false b + before) high (turned false is) in omega (arith, e)
 
-  pub count-less : is_covered_by (value_of values) (mate_in bits net) ≡ false → value ≡ false → before ≡ now + 1
+  pub count-less : is_covered_by (net_values values) (mate_in bits net) ≡ false → value ≡ false → before ≡ now + 1
   count-less is low =
       let e = subst (λ b. gain false (not b) + now ≡ gain false b + before) low (turned false is) in omega (arith, e)

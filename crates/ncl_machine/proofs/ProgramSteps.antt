@@ -12,14 +12,14 @@ use Rattle.ncl_shape.specs.Stage.{rail_nets}
 use Rattle.ncl_shape.specs.Pipeline.{PipelineData}
 use Rattle.ncl_machine.specs.Steps.{current_rails, rails_of_word, enabled, step, fired, is_excited, next_value, has_value, put_at, after_raise, after_lower}
 use Rattle.ncl_machine.specs.OneChange.{net_of_step, out_at}
-use Rattle.ncl_machine.specs.Held.{Held, IsFor, meaning, value_of}
+use Rattle.ncl_machine.specs.Held.{Held, IsFor, meaning, net_values}
 use Rattle.ncl_machine.specs.Tallies.{current_word, raised_from, lowered_from}
 use Rattle.ncl_machine.proofs.ProgramEnds.{AreProgramEnds}
 use Rattle.ncl_machine.proofs.TruthValues.{not-from_differ}
-use Rattle.ncl_machine.proofs.ValueLists.{value_of-set}
+use Rattle.ncl_machine.proofs.ValueLists.{net_values-set}
 
 abbrev pub flipped : Held → ℕ → Held
-flipped h net = record h { values = set h.values net (not (value_of h.values net)) }
+flipped h net = record h { values = set h.values net (not (net_values h.values net)) }
 
 meaning-if : (b : Bool) (x y : Held) → meaning (if b then x else y) ≡ (if b then meaning x else meaning y)
 meaning-if true x y = refl
@@ -32,11 +32,11 @@ module _ (p : PipelineData) (h : Held) (made : IsFor p h) (net : ℕ) (within : 
   -- ---- cells
 
   cell_is : (cell : CellId) → enabled p (meaning h) (Fire cell) ≡ true → IfSome (net_of_step p (meaning h) (Fire cell)) (λ n. net ≡ n)
-      → (c : Cell) × (slice_get p.netlist.cells cell.0 ≡ Some c) × (net ≡ c.out.0) × (next_value (value_of h.values) c ≡ not (value_of h.values c.out.0))
+      → (c : Cell) × (slice_get p.netlist.cells cell.0 ≡ Some c) × (net ≡ c.out.0) × (next_value (net_values h.values) c ≡ not (net_values h.values c.out.0))
   cell_is cell on is = by_cell (slice_get p.netlist.cells cell.0) refl on is
     where
-      by_cell : (o : Option Cell) → slice_get p.netlist.cells cell.0 ≡ o → is_excited (value_of h.values) o ≡ true → IfSome (out_at o) (λ n. net ≡ n)
-          → (c : Cell) × (slice_get p.netlist.cells cell.0 ≡ Some c) × (net ≡ c.out.0) × (next_value (value_of h.values) c ≡ not (value_of h.values c.out.0))
+      by_cell : (o : Option Cell) → slice_get p.netlist.cells cell.0 ≡ o → is_excited (net_values h.values) o ≡ true → IfSome (out_at o) (λ n. net ≡ n)
+          → (c : Cell) × (slice_get p.netlist.cells cell.0 ≡ Some c) × (net ≡ c.out.0) × (next_value (net_values h.values) c ≡ not (net_values h.values c.out.0))
       by_cell None at excited e = absurd (both_ways false refl excited)
       by_cell (Some c) at excited e = (c, at, e, not-from_differ _ _ excited)
 
@@ -50,17 +50,17 @@ module _ (p : PipelineData) (h : Held) (made : IsFor p h) (net : ℕ) (within : 
       → meaning (flipped h net) ≡ step p (meaning h) (Fire cell)
   cell_done cell on is =
       let (c, at, e, next) = cell_is cell on is in
-      let v = value_of h.values in
+      let v = net_values h.values in
       ap (λ u. record (meaning h) { value = u })
-      (value_of-set h.values net (not (v net)) within ∙ ap (λ n. put v n (not (v n))) e ∙ ap (put v c.out.0) (sym next) ∙ sym (ap (fired v) at))
+      (net_values-set h.values net (not (v net)) within ∙ ap (λ n. put v n (not (v n))) e ∙ ap (put v c.out.0) (sym next) ∙ sym (ap (fired v) at))
 
   -- ---- the source
 
-  bit_is : (bit : ℕ) (value : Bool) → has_value (value_of h.values) (slice_get (current_rails p (meaning h)) bit) value ≡ true
+  bit_is : (bit : ℕ) (value : Bool) → has_value (net_values h.values) (slice_get (current_rails p (meaning h)) bit) value ≡ true
       → IfSome (slice_get (current_rails p (meaning h)) bit) (λ n. net ≡ n) → slice_get (current_rails p (meaning h)) bit ≡ Some net
   bit_is bit value has is = by_rail (slice_get (current_rails p (meaning h)) bit) has is
     where
-      by_rail : (o : Option ℕ) → has_value (value_of h.values) o value ≡ true → IfSome o (λ n. net ≡ n) → o ≡ Some net
+      by_rail : (o : Option ℕ) → has_value (net_values h.values) o value ≡ true → IfSome o (λ n. net ≡ n) → o ≡ Some net
       by_rail None has is = absurd (both_ways false refl has)
       by_rail (Some n) has is = sym (ap Some is)
 
@@ -69,11 +69,11 @@ module _ (p : PipelineData) (h : Held) (made : IsFor p h) (net : ℕ) (within : 
 
   raised_rail : (bit : ℕ) → enabled p (meaning h) (Raise bit) ≡ true → IfSome (net_of_step p (meaning h) (Raise bit)) (λ n. net ≡ n)
       → slice_get (current_rails p (meaning h)) bit ≡ Some net
-  raised_rail bit on is = bit_is bit false (and_parts (not h.falling && value_of h.values p.ko) _ on).1 is
+  raised_rail bit on is = bit_is bit false (and_parts (not h.falling && net_values h.values p.ko) _ on).1 is
 
   lowered_rail : (bit : ℕ) → enabled p (meaning h) (Lower bit) ≡ true → IfSome (net_of_step p (meaning h) (Lower bit)) (λ n. net ≡ n)
       → slice_get (current_rails p (meaning h)) bit ≡ Some net
-  lowered_rail bit on is = bit_is bit true (and_parts (h.falling && not (value_of h.values p.ko)) _ on).1 is
+  lowered_rail bit on is = bit_is bit true (and_parts (h.falling && not (net_values h.values p.ko)) _ on).1 is
 
   pub raise_named : (bit : ℕ) → enabled p (meaning h) (Raise bit) ≡ true → IfSome (net_of_step p (meaning h) (Raise bit)) (λ n. net ≡ n)
       → Contains (current_word h) net
@@ -86,17 +86,17 @@ module _ (p : PipelineData) (h : Held) (made : IsFor p h) (net : ℕ) (within : 
   pub raise_done : (bit : ℕ) → enabled p (meaning h) (Raise bit) ≡ true → IfSome (net_of_step p (meaning h) (Raise bit)) (λ n. net ≡ n)
       → meaning (raised_from h net) ≡ step p (meaning h) (Raise bit)
   raise_done bit on is =
-      let v = value_of h.values in
-      ap (λ u. record (meaning h) { value = u; falling = list_all u (current_word h) }) (value_of-set h.values net true within)
+      let v = net_values h.values in
+      ap (λ u. record (meaning h) { value = u; falling = list_all u (current_word h) }) (net_values-set h.values net true within)
       ∙ ap (λ rails. record (meaning h) { value = put v net true; falling = list_all (put v net true) rails }) same_rails
       ∙ sym (ap (λ o. after_raise p (meaning h) (put_at v o true)) (raised_rail bit on is))
 
   pub lower_done : (bit : ℕ) → enabled p (meaning h) (Lower bit) ≡ true → IfSome (net_of_step p (meaning h) (Lower bit)) (λ n. net ≡ n)
       → meaning (lowered_from h net) ≡ step p (meaning h) (Lower bit)
   lower_done bit on is =
-      let v = value_of h.values in
-      meaning-if (list_all (λ rail. not (value_of (set h.values net false) rail)) (current_word h)) _ _
+      let v = net_values h.values in
+      meaning-if (list_all (λ rail. not (net_values (set h.values net false) rail)) (current_word h)) _ _
       ∙ ap (λ u. if list_all (λ rail. not (u rail)) (current_word h) then record (meaning h) { value = u; falling = false; done = h.done + 1 } else record (meaning h) { value = u })
-      (value_of-set h.values net false within)
+      (net_values-set h.values net false within)
       ∙ ap (λ rails. if list_all (λ rail. not (put v net false rail)) rails then record (meaning h) { value = put v net false; falling = false; done = h.done + 1 } else record (meaning h) { value = put v net false }) same_rails
       ∙ sym (ap (λ o. after_lower p (meaning h) (put_at v o false)) (lowered_rail bit on is))

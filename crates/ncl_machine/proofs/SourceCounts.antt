@@ -9,12 +9,12 @@ use Rattle.ncl_base.proofs.Members.{Member, All-from_members, Contains-from_Memb
 use Rattle.ncl_shape.specs.Stage.{rail_nets}
 use Rattle.ncl_machine.specs.declared.pair.Pair.{Pair}
 use Rattle.ncl_machine.specs.Steps.{rails_of_word}
-use Rattle.ncl_machine.specs.Held.{Held, value_of}
+use Rattle.ncl_machine.specs.Held.{Held, net_values}
 use Rattle.ncl_machine.specs.Tallies.{count_of, current_word, other_rails, IsCounted}
 use Rattle.ncl_machine.proofs.AtWorkLaws.{put-elsewhere}
 use Rattle.ncl_machine.proofs.Counts.{count-all, count-few, count-none, count-same, count-some, count-nothing, count-rises, count-falls}
 use Rattle.ncl_machine.proofs.SourceRails.{current-within, beside-within, current-apart, beside-apart, all_rails, length-current}
-use Rattle.ncl_machine.proofs.ValueLists.{value_of-set}
+use Rattle.ncl_machine.proofs.ValueLists.{net_values-set}
 
 module _ (h : Held) (raised : ℕ) (is : IsCounted h raised) where
   -- the current word, if there is one, has a bit for each input
@@ -25,8 +25,8 @@ module _ (h : Held) (raised : ℕ) (is : IsCounted h raised) where
     abbrev new : List Bool
     new = set h.values net value
 
-    elsewhere : (x : ℕ) → net ≢ x → value_of (set h.values net value) x ≡ value_of h.values x
-    elsewhere x apart = ap (λ v. v x) (value_of-set h.values net value within) ∙ put-elsewhere (value_of h.values) net x value apart
+    elsewhere : (x : ℕ) → net ≢ x → net_values (set h.values net value) x ≡ net_values h.values x
+    elsewhere x apart = ap (λ v. v x) (net_values-set h.values net value within) ∙ put-elsewhere (net_values h.values) net x value apart
 
     inside : (x : ℕ) → x < length h.values → x < length (set h.values net value)
     inside x lt = subst (λ n. x < n) (sym (length-set h.values net value)) lt
@@ -44,10 +44,10 @@ module _ (h : Held) (raised : ℕ) (is : IsCounted h raised) where
       ki_apart = is.ki_apart;
       ki_within = inside h.ki is.ki_within;
       ko_within = inside h.ko is.ko_within;
-      count = is.count ∙ sym (count-same (value_of h.values) (value_of (set h.values net value)) (current_word h)
+      count = is.count ∙ sym (count-same (net_values h.values) (net_values (set h.values net value)) (current_word h)
           (λ x m. elsewhere x (off x (current-within h.inputs (slice_get h.offered h.done) x m))));
-      others = All-from_members (λ x. value_of (set h.values net value) x ≡ false) (other_rails h)
-          (λ x m. elsewhere x (off x (beside-within h.inputs (slice_get h.offered h.done) x m)) ∙ All-contains (λ y. value_of h.values y ≡ false) (other_rails h) x is.others (Contains-from_Member x m));
+      others = All-from_members (λ x. net_values (set h.values net value) x ≡ false) (other_rails h)
+          (λ x m. elsewhere x (off x (beside-within h.inputs (slice_get h.offered h.done) x m)) ∙ All-contains (λ y. net_values h.values y ≡ false) (other_rails h) x is.others (Contains-from_Member x m));
     }
       where
         off : (x : ℕ) → Member x (rail_nets h.inputs) → net ≢ x
@@ -58,13 +58,13 @@ module _ (h : Held) (raised : ℕ) (is : IsCounted h raised) where
       is_named : Member net (current_word h)
       is_named = Member-from_Contains (current_word h) net named
 
-      others_low : (x : ℕ) → Member x (other_rails h) → value_of (set h.values net value) x ≡ false
+      others_low : (x : ℕ) → Member x (other_rails h) → net_values (set h.values net value) x ≡ false
       others_low x m =
           elsewhere x (λ e. beside-apart h.inputs is.apart (slice_get h.offered h.done) net is_named (subst (λ y. Member y (other_rails h)) (sym e) m))
-          ∙ All-contains (λ y. value_of h.values y ≡ false) (other_rails h) x is.others (Contains-from_Member x m)
+          ∙ All-contains (λ y. net_values h.values y ≡ false) (other_rails h) x is.others (Contains-from_Member x m)
 
       -- with the count that there is then
-      pub named-counted : (falling : Bool) (count : ℕ) → count ≡ count_of (value_of (set h.values net value)) (current_word h)
+      pub named-counted : (falling : Bool) (count : ℕ) → count ≡ count_of (net_values (set h.values net value)) (current_word h)
           → IsCounted (record h { values = set h.values net value; falling = falling }) count
       named-counted falling count so = record {
         words = is.words;
@@ -74,17 +74,17 @@ module _ (h : Held) (raised : ℕ) (is : IsCounted h raised) where
         ki_within = inside h.ki is.ki_within;
         ko_within = inside h.ko is.ko_within;
         count = so;
-        others = All-from_members (λ x. value_of (set h.values net value) x ≡ false) (other_rails h) others_low;
+        others = All-from_members (λ x. net_values (set h.values net value) x ≡ false) (other_rails h) others_low;
       }
 
       -- where none is high, the next word begins
-      all_low : 0 ≡ count_of (value_of (set h.values net value)) (current_word h) → (x : ℕ) → Member x (rail_nets h.inputs) → value_of (set h.values net value) x ≡ false
+      all_low : 0 ≡ count_of (net_values (set h.values net value)) (current_word h) → (x : ℕ) → Member x (rail_nets h.inputs) → net_values (set h.values net value) x ≡ false
       all_low none =
-          all_rails (λ x. value_of (set h.values net value) x ≡ false) h.inputs (slice_get h.offered h.done) wide
-          (λ x m. false_from_ne_true _ (λ high. let some = count-some (value_of (set h.values net value)) (current_word h) x m high in omega (arith, none, some)))
+          all_rails (λ x. net_values (set h.values net value) x ≡ false) h.inputs (slice_get h.offered h.done) wide
+          (λ x m. false_from_ne_true _ (λ high. let some = count-some (net_values (set h.values net value)) (current_word h) x m high in omega (arith, none, some)))
           others_low
 
-      pub next-counted : 0 ≡ count_of (value_of (set h.values net value)) (current_word h)
+      pub next-counted : 0 ≡ count_of (net_values (set h.values net value)) (current_word h)
           → IsCounted (record h { values = set h.values net value; falling = false; done = h.done + 1 }) 0
       next-counted none = record {
         words = is.words;
@@ -93,39 +93,39 @@ module _ (h : Held) (raised : ℕ) (is : IsCounted h raised) where
         ki_apart = is.ki_apart;
         ki_within = inside h.ki is.ki_within;
         ko_within = inside h.ko is.ko_within;
-        count = sym (count-nothing (value_of (set h.values net value)) _ (λ x m. all_low none x (current-within h.inputs (slice_get h.offered (h.done + 1)) x m)));
-        others = All-from_members (λ x. value_of (set h.values net value) x ≡ false) _
+        count = sym (count-nothing (net_values (set h.values net value)) _ (λ x m. all_low none x (current-within h.inputs (slice_get h.offered (h.done + 1)) x m)));
+        others = All-from_members (λ x. net_values (set h.values net value) x ≡ false) _
             (λ x m. all_low none x (beside-within h.inputs (slice_get h.offered (h.done + 1)) x m));
       }
 
       -- all are high where the count is that of the inputs, and all are low where it is 0
-      pub all_raised : (count : ℕ) → count ≡ count_of (value_of (set h.values net value)) (current_word h)
-          → nat_eq count (length h.inputs) ≡ list_all (value_of (set h.values net value)) (current_word h)
+      pub all_raised : (count : ℕ) → count ≡ count_of (net_values (set h.values net value)) (current_word h)
+          → nat_eq count (length h.inputs) ≡ list_all (net_values (set h.values net value)) (current_word h)
       all_raised count so =
           ap (λ n. nat_eq n (length h.inputs)) so
-          ∙ ap (nat_eq (count_of (value_of (set h.values net value)) (current_word h))) (sym (length-current h.inputs (slice_get h.offered h.done) wide net is_named))
-          ∙ sym (count-all (value_of (set h.values net value)) (current_word h))
+          ∙ ap (nat_eq (count_of (net_values (set h.values net value)) (current_word h))) (sym (length-current h.inputs (slice_get h.offered h.done) wide net is_named))
+          ∙ sym (count-all (net_values (set h.values net value)) (current_word h))
 
-      pub all_lowered : (count : ℕ) → count ≡ count_of (value_of (set h.values net value)) (current_word h)
-          → nat_eq count 0 ≡ list_all (λ rail. not (value_of (set h.values net value) rail)) (current_word h)
-      all_lowered count so = ap (λ n. nat_eq n 0) so ∙ sym (count-none (value_of (set h.values net value)) (current_word h))
+      pub all_lowered : (count : ℕ) → count ≡ count_of (net_values (set h.values net value)) (current_word h)
+          → nat_eq count 0 ≡ list_all (λ rail. not (net_values (set h.values net value) rail)) (current_word h)
+      all_lowered count so = ap (λ n. nat_eq n 0) so ∙ sym (count-none (net_values (set h.values net value)) (current_word h))
 
   -- one more is high where a rail is raised, one less where one is lowered
   module _ (net : ℕ) (within : net < length h.values) (named : Contains (current_word h) net) where
     is_one : Member net (current_word h)
     is_one = Member-from_Contains (current_word h) net named
 
-    pub count_raised : value_of h.values net ≡ false → raised + 1 ≡ count_of (value_of (set h.values net true)) (current_word h)
+    pub count_raised : net_values h.values net ≡ false → raised + 1 ≡ count_of (net_values (set h.values net true)) (current_word h)
     count_raised low =
-        let up = count-rises (value_of h.values) net (current_word h) (current-apart h.inputs is.apart (slice_get h.offered h.done)) is_one low in
-        let same = ap (λ v. count_of v (current_word h)) (value_of-set h.values net true within) in
+        let up = count-rises (net_values h.values) net (current_word h) (current-apart h.inputs is.apart (slice_get h.offered h.done)) is_one low in
+        let same = ap (λ v. count_of v (current_word h)) (net_values-set h.values net true within) in
         let before = is.count in
         omega (arith, up, same, before)
 
-    pub count_lowered : value_of h.values net ≡ true → raised ≡ count_of (value_of (set h.values net false)) (current_word h) + 1
+    pub count_lowered : net_values h.values net ≡ true → raised ≡ count_of (net_values (set h.values net false)) (current_word h) + 1
     count_lowered high =
-        let down = count-falls (value_of h.values) net (current_word h) (current-apart h.inputs is.apart (slice_get h.offered h.done)) is_one high in
-        let same = ap (λ v. count_of v (current_word h)) (value_of-set h.values net false within) in
+        let down = count-falls (net_values h.values) net (current_word h) (current-apart h.inputs is.apart (slice_get h.offered h.done)) is_one high in
+        let same = ap (λ v. count_of v (current_word h)) (net_values-set h.values net false within) in
         let before = is.count in
         omega (arith, down, same, before)
 

@@ -11,7 +11,7 @@ use Rattle.ncl_machine.specs.declared.pair.Pair.{Pair}
 use Rattle.ncl_machine.specs.State.{reset_nets}
 use Rattle.ncl_machine.specs.Run.{AreWordsOf}
 use Rattle.ncl_machine.specs.Steps.{rails_of_word}
-use Rattle.ncl_machine.specs.Held.{Held, value_of}
+use Rattle.ncl_machine.specs.Held.{Held, net_values}
 use Rattle.ncl_machine.specs.Tallies.{IsCounted, LevelsData, rails_beside}
 use Rattle.ncl_machine.proofs.Counts.{count-nothing}
 use Rattle.ncl_machine.proofs.ProgramEnds.{AreProgramEnds}
@@ -21,7 +21,7 @@ abbrev pub at_start : PipelineData → List (List Bool) → List Bool → Held
 at_start p words values = record { inputs = p.inputs; outputs = p.outputs; ki = p.ki; ko = p.ko; offered = words; due = data_banks p.banks + length words; values = values; done = 0; falling = false; delivered = [] }
 
 pub start_counted : (p : PipelineData) → AreProgramEnds p → (words : List (List Bool)) → AreWordsOf p words → (values : List Bool)
-    → length values ≡ length p.netlist.nets → value_of values ≡ reset_nets p → IsCounted (at_start p words values) 0
+    → length values ≡ length p.netlist.nets → net_values values ≡ reset_nets p → IsCounted (at_start p words values) 0
 start_counted p ends words wide values long are = record {
   words = All-from_recursion (λ (word : List Bool). length word ≡ length p.inputs) words wide;
   apart = ends.inputs_apart;
@@ -29,11 +29,11 @@ start_counted p ends words wide values long are = record {
   ki_apart = ends.ki_apart;
   ki_within = subst (λ n. p.ki < n) (sym long) ends.ki_within;
   ko_within = subst (λ n. p.ko < n) (sym long) ends.ko_within;
-  count = sym (count-nothing (value_of values) (rails_of_word p.inputs (slice_get words 0)) (λ net m. low net (current-within p.inputs (slice_get words 0) net m)));
-  others = All-from_members (λ net. value_of values net ≡ false) (rails_beside p.inputs (slice_get words 0)) (λ net m. low net (beside-within p.inputs (slice_get words 0) net m));
+  count = sym (count-nothing (net_values values) (rails_of_word p.inputs (slice_get words 0)) (λ net m. low net (current-within p.inputs (slice_get words 0) net m)));
+  others = All-from_members (λ net. net_values values net ≡ false) (rails_beside p.inputs (slice_get words 0)) (λ net m. low net (beside-within p.inputs (slice_get words 0) net m));
 }
   where
-    low : (net : ℕ) → Member net (rail_nets p.inputs) → value_of values net ≡ false
+    low : (net : ℕ) → Member net (rail_nets p.inputs) → net_values values net ≡ false
     low net m = ap (λ v. v net) are ∙ ends.inputs_low net m
 
 -- the same by its fields

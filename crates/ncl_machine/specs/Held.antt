@@ -24,12 +24,12 @@ pub record Held : Type 0 where
   pub delivered : List Pair
 
 -- the value of each net; past the last net all is low
-abbrev pub value_of : List Bool → Nets
-value_of values net = slice_index_or values net false
+abbrev pub net_values : List Bool → Nets
+net_values values net = slice_index_or values net false
 
 -- the state that is meant
 abbrev pub meaning : Held → State
-meaning h = record { offered = h.offered; value = value_of h.values; done = h.done; falling = h.falling; delivered = h.delivered }
+meaning h = record { offered = h.offered; value = net_values h.values; done = h.done; falling = h.falling; delivered = h.delivered }
 
 -- it was made for this pipeline
 pub record IsFor (p : PipelineData) (h : Held) : Type 0 where

@@ -9,7 +9,7 @@ use Rattle.ncl_shape.specs.Nets.{Nets}
 use Rattle.ncl_shape.specs.Stage.{rail_nets, named_rails}
 use Rattle.ncl_stage.specs.Faults.{has_data}
 use Rattle.ncl_machine.specs.Steps.{rails_of_word, pair_at}
-use Rattle.ncl_machine.specs.Held.{Held, value_of}
+use Rattle.ncl_machine.specs.Held.{Held, net_values}
 
 -- how many elements pass a test
 abbrev pub count_of : {X : Type 0} → (X → Bool) → List X → ℕ
@@ -42,7 +42,7 @@ pub record AreCovered (d : LevelsData) (mates : List (Option NetId)) (covered : 
   pub few : length d.outputs ≤ MOST_BITS
   pub as_many : length mates ≡ length d.values
   pub each : (net : ℕ) → slice_index_or mates net None ≡ mate_in d.outputs net
-  pub count : covered ≡ count_of (has_data (value_of d.values)) d.outputs
+  pub count : covered ≡ count_of (has_data (net_values d.values)) d.outputs
 
 -- the rails of the inputs that the current word names, and those that it doesn't
 abbrev pub current_word : Held → List ℕ
@@ -64,21 +64,21 @@ pub record IsCounted (h : Held) (raised : ℕ) : Type 0 where
   pub ki_apart : Contains (rail_nets h.inputs) h.ki → ⊥
   pub ki_within : h.ki < length h.values
   pub ko_within : h.ko < length h.values
-  pub count : raised ≡ count_of (value_of h.values) (current_word h)
-  pub others : All (λ net. value_of h.values net ≡ false) (other_rails h)
+  pub count : raised ≡ count_of (net_values h.values) (current_word h)
+  pub others : All (λ net. net_values h.values net ≡ false) (other_rails h)
 
 -- what a state becomes where a rail of the current word is raised or lowered, and where the sink takes
 abbrev pub raised_from : Held → ℕ → Held
 raised_from h net =
     let values = set h.values net true in
-    record h { values = values; falling = list_all (value_of values) (current_word h) }
+    record h { values = values; falling = list_all (net_values values) (current_word h) }
 
 abbrev pub lowered_from : Held → ℕ → Held
 lowered_from h net =
     let values = set h.values net false in
-    if list_all (λ rail. not (value_of values rail)) (current_word h)
+    if list_all (λ rail. not (net_values values rail)) (current_word h)
     then record h { values = values; falling = false; done = h.done + 1 }
     else record h { values = values }
 
 abbrev pub taken_from : Held → Held
-taken_from h = record h { values = set h.values h.ki false; delivered = h.delivered ++ pair_at h.outputs (value_of h.values) ∷ [] }
+taken_from h = record h { values = set h.values h.ki false; delivered = h.delivered ++ pair_at h.outputs (net_values h.values) ∷ [] }

@@ -10,7 +10,7 @@ ghost use Rattle.ncl_machine.specs.State.{reset};
 ghost use Rattle.ncl_machine.specs.Steps.{enabled, step, next_value, is_excited, has_value, pair_at};
 ghost use Rattle.ncl_machine.specs.Run.{AreWordsOf, IsQuiet};
 ghost use Rattle.ncl_machine.specs.OneChange.{net_of_step};
-ghost use Rattle.ncl_machine.specs.Held.{IsFor, InRange, meaning, value_of};
+ghost use Rattle.ncl_machine.specs.Held.{IsFor, InRange, meaning, net_values};
 ghost use Rattle.ncl_machine.specs.Tallies.{current_word, raised_from, lowered_from, taken_from};
 
 use crate::levels::Levels;
@@ -145,7 +145,7 @@ impl State {
     /// Whether the current word names a rail of a bit that has this value.
     fn rail_is(&self, bit: usize, value: bool) -> bool
         requires { bit < length self.now.inputs }
-        ensures { result ≡ has_value (value_of self.now.values) (slice_get (current_word self.now) bit) value }
+        ensures { result ≡ has_value (net_values self.now.values) (slice_get (current_word self.now) bit) value }
     {
         match self.rail(bit) {
             None => false,
@@ -156,7 +156,7 @@ impl State {
     /// The next value of a cell.
     fn next(&self, cell: &Cell) -> bool
         requires { CellFits (length self.now.values) cell.now }
-        ensures { result ≡ next_value (value_of self.now.values) cell.now }
+        ensures { result ≡ next_value (net_values self.now.values) cell.now }
     {
         let mut ins: ArrayVec<bool, 4> = ArrayVec::new();
         for net in cell.ins.as_slice() {
@@ -169,7 +169,7 @@ impl State {
     fn is_excited(&self, pipeline: &Pipeline, cell: CellId) -> bool
         requires made { IsFor pipeline.now self.now }
         requires within { cell.0 < length pipeline.now.netlist.cells }
-        ensures { result ≡ is_excited (value_of self.now.values) (slice_get pipeline.now.netlist.cells cell.0) }
+        ensures { result ≡ is_excited (net_values self.now.values) (slice_get pipeline.now.netlist.cells cell.0) }
     {
         let cell = &pipeline.netlist().cells()[cell.0 as usize];
         self.next(cell) != self.value(cell.out)
@@ -211,7 +211,7 @@ impl State {
     fn flip(&mut self, net: NetId)
         requires within { net.0 < length self.old.values }
         requires apart { Contains (rail_nets self.old.inputs) net.0 → ⊥ }
-        ensures { self.new ≡ record self.old { values = set self.old.values net.0 (not (value_of self.old.values net.0)) } }
+        ensures { self.new ≡ record self.old { values = set self.old.values net.0 (not (net_values self.old.values net.0)) } }
     {
         let value = !self.levels.value(net);
         self.levels.put(net, value);
@@ -221,7 +221,7 @@ impl State {
     fn raise(&mut self, net: NetId)
         requires within { net.0 < length self.old.values }
         requires named { Contains (current_word self.old) net.0 }
-        requires low { value_of self.old.values net.0 ≡ false }
+        requires low { net_values self.old.values net.0 ≡ false }
         ensures { self.new ≡ raised_from self.old net.0 }
     {
         self.levels.put(net, true);
@@ -233,7 +233,7 @@ impl State {
     fn lower(&mut self, net: NetId)
         requires within { net.0 < length self.old.values }
         requires named { Contains (current_word self.old) net.0 }
-        requires high { value_of self.old.values net.0 ≡ true }
+        requires high { net_values self.old.values net.0 ≡ true }
         ensures { self.new ≡ lowered_from self.old net.0 }
     {
         self.levels.put(net, false);
@@ -246,7 +246,7 @@ impl State {
 
     /// Takes the word at the outputs. Takes memory only where as many words have been delivered as are due.
     fn take(&mut self) -> Result<(), Memory>
-        requires { value_of self.old.values self.old.ki ≡ true }
+        requires { net_values self.old.values self.old.ki ≡ true }
         ensures taken { OnOk result (self.new ≡ taken_from self.old) }
         ensures refused { OnErr result (self.new ≡ self.old) }
         ensures full { OnErr result (self.old.due ≤ length self.old.delivered) }

@@ -1,7 +1,7 @@
 use Rattle.std.proofs.Common.{◌≡◌, ◌+◌, ◌<◌, Bool, drop, length, sym, ◌∙◌, arith}
 use Rattle.ncl_shape.specs.declared.rails.Rails.{Rails}
 use Rattle.ncl_stage.specs.Faults.{has_data}
-use Rattle.ncl_machine.specs.Held.{value_of}
+use Rattle.ncl_machine.specs.Held.{net_values}
 use Rattle.ncl_machine.specs.Tallies.{count_of}
 use Rattle.ncl_machine.proofs.Counts.{count-few}
 use Rattle.ncl_machine.proofs.CountSteps.{count-passed, count-failed, count-past}
@@ -21,7 +21,7 @@ has_data-requires-clause-one c = one_at (λ net. net < length c.args.values.now)
 
 pub overflow_add-count : goal.overflow_add-count
 overflow_add-count c =
-    let test : Rails → Bool = has_data (value_of c.args.values.now) in
+    let test : Rails → Bool = has_data (net_values c.args.values.now) in
     let inv : c.loop-bit.count + count_of test (drop c.loop-bit.bit-index c.args.bits.now) ≡ count_of test c.args.bits.now = c.loop-bit.invariant in
     let few = c.requires.few in
     let most = count-few test c.args.bits.now in
@@ -29,7 +29,7 @@ overflow_add-count c =
 
 pub loop-bit-preserved : goal.loop-bit-preserved
 loop-bit-preserved c =
-    let test : Rails → Bool = has_data (value_of c.args.values.now) in
+    let test : Rails → Bool = has_data (net_values c.args.values.now) in
     let k = c.loop-bit.bit-index in
     let bits = c.args.bits.now in
     let inv : c.loop-bit.count + count_of test (drop k bits) ≡ count_of test bits = c.loop-bit.invariant in
@@ -48,7 +48,7 @@ loop-bit-preserved c =
 
 pub returns : goal.returns
 returns c =
-    let test : Rails → Bool = has_data (value_of c.args.values.now) in
+    let test : Rails → Bool = has_data (net_values c.args.values.now) in
     let inv : c.loop-bit.count + count_of test (drop c.loop-bit.bit-index c.args.bits.now) ≡ count_of test c.args.bits.now = c.loop-bit.invariant in
     let none = count-past test c.args.bits.now c.loop-bit.bit-index c.loop-bit-test.false in
     omega (arith, inv, none)

@@ -2,7 +2,7 @@ use Rattle.std.proofs.Common.{◌≡◌, ◌<◌, length, take, ap, ◌∙◌}
 use Rattle.std.specs.Prelude.{map}
 use Rattle.std.proofs.lemmas.List.{take_all}
 use Rattle.ncl_shape.specs.declared.rails.Rails.{Rails}
-use Rattle.ncl_machine.specs.Held.{value_of}
+use Rattle.ncl_machine.specs.Held.{net_values}
 use Rattle.ncl_machine.proofs.RailPlaces.{zero_at, one_at}
 use Rattle.ncl_machine.proofs.levels.pair_of.Goals as goal
 
@@ -15,8 +15,8 @@ bounds-values-bit-in-loop-bit c = one_at (λ net. net < length c.args.values.now
 pub returns : goal.returns
 returns c =
     let all : take c.loop-bit.bit-index c.args.bits.now ≡ c.args.bits.now = take_all _ _ c.loop-bit-test.false in
-    let zero : c.loop-bit.rail0 ≡ map (λ (r : Rails). value_of c.args.values.now r.zero.0) c.args.bits.now =
-    c.loop-bit.invariant.zero ∙ ap (map (λ (r : Rails). value_of c.args.values.now r.zero.0)) all in
-    let one : c.loop-bit.rail1 ≡ map (λ (r : Rails). value_of c.args.values.now r.one.0) c.args.bits.now =
-    c.loop-bit.invariant.one ∙ ap (map (λ (r : Rails). value_of c.args.values.now r.one.0)) all in
+    let zero : c.loop-bit.rail0 ≡ map (λ (r : Rails). net_values c.args.values.now r.zero.0) c.args.bits.now =
+    c.loop-bit.invariant.zero ∙ ap (map (λ (r : Rails). net_values c.args.values.now r.zero.0)) all in
+    let one : c.loop-bit.rail1 ≡ map (λ (r : Rails). net_values c.args.values.now r.one.0) c.args.bits.now =
+    c.loop-bit.invariant.one ∙ ap (map (λ (r : Rails). net_values c.args.values.now r.one.0)) all in
     cc

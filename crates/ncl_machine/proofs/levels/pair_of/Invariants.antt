@@ -1,10 +1,10 @@
 use Rattle.std.proofs.Common.{◌≡◌, take, map}
 use Rattle.ncl_shape.specs.declared.rails.Rails.{Rails}
-use Rattle.ncl_machine.specs.Held.{value_of}
+use Rattle.ncl_machine.specs.Held.{net_values}
 use Rattle.ncl_machine.proofs.levels.pair_of.Given as goal
 
 abbrev pub invariant-loop-bit : goal.invariant-loop-bit
 invariant-loop-bit l = record {
-  zero : l.rail0 ≡ map (λ (r : Rails). value_of l.values r.zero.0) (take l.bit-index l.bits);
-  one : l.rail1 ≡ map (λ (r : Rails). value_of l.values r.one.0) (take l.bit-index l.bits);
+  zero : l.rail0 ≡ map (λ (r : Rails). net_values l.values r.zero.0) (take l.bit-index l.bits);
+  one : l.rail1 ≡ map (λ (r : Rails). net_values l.values r.one.0) (take l.bit-index l.bits);
 }

@@ -1,9 +1,9 @@
 use Rattle.std.proofs.Common.{length, drop, ap, ◌∙◌, arith}
 use Rattle.std.proofs.lemmas.List.{take_at}
-use Rattle.ncl_machine.specs.Held.{value_of}
+use Rattle.ncl_machine.specs.Held.{net_values}
 use Rattle.ncl_machine.proofs.reset.reset_values.Goals as goal
 
 pub returns-clause-values : goal.returns-clause-values
 returns-clause-values c =
-    ap value_of (take_at c.settle.new.values (drop (length c.settle.new.values) c.in_ok-values.values.items) c.in_ok-values.values.len (omega (arith, c.settle.auto.values, c.deref_mut.ensures.len)))
+    ap net_values (take_at c.settle.new.values (drop (length c.settle.new.values) c.in_ok-values.values.items) c.in_ok-values.values.len (omega (arith, c.settle.auto.values, c.deref_mut.ensures.len)))
     ∙ c.settle.ensures

@@ -5,7 +5,7 @@ use Rattle.ncl_netlist.specs.Netlist.{NetlistData}
 use Rattle.ncl_machine.specs.ResetValues.{driven_high}
 use Rattle.ncl_machine.proofs.ProgramEnds.{program_ends}
 use Rattle.ncl_machine.proofs.ResetDrivers.{reset_by_drivers}
-use Rattle.ncl_machine.proofs.ValueLists.{value_of-set}
+use Rattle.ncl_machine.proofs.ValueLists.{net_values-set}
 use Rattle.ncl_machine.proofs.reset.settle.Goals as goal
 
 no_more : (b : Bool) → (b || false) ≡ b
@@ -23,7 +23,7 @@ returns c =
     let o = c.args.origins.now in
     let inside = (program_ends p c.ki.ensures.shape).ki_within in
     let within : c.ki.result.0 < length c.raise_driven.new.values = omega (arith, inside, c.ki.ensures.ki, c.requires.nets, c.raise_driven.auto.values) in
-    value_of-set c.raise_driven.new.values c.ki.result.0 true within
+    net_values-set c.raise_driven.new.values c.ki.result.0 true within
     ∙ fun_ext (λ net.
     ap (λ (b : Bool). cond (nat_eq c.ki.result.0 net) true b)
     (c.raise_driven.ensures net ∙ ap (λ b. driven_high o c.netlist.result.now.cells net || b) (c.requires.low net) ∙ no_more (driven_high o c.netlist.result.now.cells net))

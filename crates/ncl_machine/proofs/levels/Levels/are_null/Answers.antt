@@ -1,7 +1,7 @@
 use Rattle.std.proofs.Common.{◌≡◌, sym, ap, ◌∙◌, subst}
 use Rattle.std.specs.Prelude.{nat_eq}
 use Rattle.ncl_stage.specs.Faults.{has_data}
-use Rattle.ncl_machine.specs.Held.{value_of}
+use Rattle.ncl_machine.specs.Held.{net_values}
 use Rattle.ncl_machine.specs.Steps.{is_null}
 use Rattle.ncl_machine.specs.Tallies.{LevelsData}
 use Rattle.ncl_machine.proofs.Counts.{count-none}
@@ -9,5 +9,5 @@ use Rattle.ncl_machine.proofs.levels.Levels.are_null.Goals as goal
 
 pub returns : goal.returns
 returns c =
-    subst (λ (d : LevelsData). nat_eq c.self.inside.covered 0 ≡ is_null d.outputs (value_of d.values)) c.self.view_is
-    (ap (λ n. nat_eq n 0) c.self.invariant.count ∙ sym (count-none (has_data (value_of c.self.inside.values.items)) c.self.inside.outputs.items))
+    subst (λ (d : LevelsData). nat_eq c.self.inside.covered 0 ≡ is_null d.outputs (net_values d.values)) c.self.view_is
+    (ap (λ n. nat_eq n 0) c.self.invariant.count ∙ sym (count-none (has_data (net_values c.self.inside.values.items)) c.self.inside.outputs.items))

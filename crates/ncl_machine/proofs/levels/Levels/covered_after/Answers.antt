@@ -2,28 +2,28 @@ use Rattle.std.proofs.Common.{◌≡◌, ℕ, ◌+◌, ◌<◌, ◌≤◌, Bool,
 use Rattle.ncl_base.specs.declared.word.TheConstants.{MOST_BITS}
 use Rattle.ncl_netlist.specs.declared.ids.NetId.{NetId}
 use Rattle.ncl_stage.specs.Faults.{has_data}
-use Rattle.ncl_machine.specs.Held.{value_of}
+use Rattle.ncl_machine.specs.Held.{net_values}
 use Rattle.ncl_machine.specs.Tallies.{LevelsData, AreCovered, count_of, is_covered_by, mate_in}
 use Rattle.ncl_machine.proofs.Counts.{count-few}
 use Rattle.ncl_machine.proofs.Mates.{count-stays, count-more, count-less}
 use Rattle.ncl_machine.proofs.levels.Levels.covered_after.Goals as goal
 
 module _ (d : LevelsData) (mates : List (Option NetId)) (covered net : ℕ) (value : Bool) (are : AreCovered d mates covered)
-    (within : net < length d.values) (turns : value_of d.values net ≡ not value) where
+    (within : net < length d.values) (turns : net_values d.values net ≡ not value) where
   abbrev now : ℕ
-  now = count_of (has_data (value_of (set d.values net value))) d.outputs
+  now = count_of (has_data (net_values (set d.values net value))) d.outputs
 
-  stays : true ≡ is_covered_by (value_of d.values) (mate_in d.outputs net) → covered ≡ now
+  stays : true ≡ is_covered_by (net_values d.values) (mate_in d.outputs net) → covered ≡ now
   stays is = are.count ∙ count-stays d.values net value within turns d.outputs are.apart (sym is)
 
-  more : false ≡ is_covered_by (value_of d.values) (mate_in d.outputs net) → value ≡ true → covered + 1 ≡ now
+  more : false ≡ is_covered_by (net_values d.values) (mate_in d.outputs net) → value ≡ true → covered + 1 ≡ now
   more is high = ap (λ n. n + 1) are.count ∙ count-more d.values net value within turns d.outputs are.apart (sym is) high
 
-  less : false ≡ is_covered_by (value_of d.values) (mate_in d.outputs net) → value ≡ false → covered ≡ now + 1
+  less : false ≡ is_covered_by (net_values d.values) (mate_in d.outputs net) → value ≡ false → covered ≡ now + 1
   less is low = are.count ∙ count-less d.values net value within turns d.outputs are.apart (sym is) low
 
   few : now ≤ MOST_BITS
-  few = let some = count-few (has_data (value_of (set d.values net value))) d.outputs in let most = are.few in omega (arith, some, most)
+  few = let some = count-few (has_data (net_values (set d.values net value))) d.outputs in let most = are.few in omega (arith, some, most)
 
 pub returns-then-is_covered_without : goal.returns-then-is_covered_without
 returns-then-is_covered_without c =

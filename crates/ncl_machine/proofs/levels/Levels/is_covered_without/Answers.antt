@@ -4,7 +4,7 @@ use Rattle.std.proofs.lemmas.List.Elements.{All-contains}
 use Rattle.ncl_base.proofs.Members.{Contains-from_Member}
 use Rattle.ncl_netlist.specs.declared.ids.NetId.{NetId}
 use Rattle.ncl_shape.specs.Stage.{rail_nets}
-use Rattle.ncl_machine.specs.Held.{value_of}
+use Rattle.ncl_machine.specs.Held.{net_values}
 use Rattle.ncl_machine.specs.Tallies.{LevelsData, AreCovered, mate_in, is_covered_by}
 use Rattle.ncl_machine.proofs.Mates.{mate_in-within}
 use Rattle.ncl_machine.proofs.levels.Levels.is_covered_without.Goals as goal
@@ -30,14 +30,14 @@ pub returns-in-None : goal.returns-in-None
 returns-in-None c =
     let within = subst (λ (d : LevelsData). c.args.net.0 < length d.values) (sym c.self.view_is) c.requires in
     let is = mate_is _ _ _ c.args.net.0 c.self.invariant within c.index.result.now c.index.ensures in
-    subst (λ (d : LevelsData). true ≡ is_covered_by (value_of d.values) (mate_in d.outputs c.args.net.0)) c.self.view_is
-    (sym (ap (is_covered_by (value_of c.self.inside.values.items)) (is ∙ c.in-None.is)))
+    subst (λ (d : LevelsData). true ≡ is_covered_by (net_values d.values) (mate_in d.outputs c.args.net.0)) c.self.view_is
+    (sym (ap (is_covered_by (net_values c.self.inside.values.items)) (is ∙ c.in-None.is)))
 
 pub returns-in-Some : goal.returns-in-Some
 returns-in-Some c =
     let within = subst (λ (d : LevelsData). c.args.net.0 < length d.values) (sym c.self.view_is) c.requires in
     let is = mate_is _ _ _ c.args.net.0 c.self.invariant within c.index.result.now c.index.ensures in
     let inside = mate_inside _ _ _ c.args.net.0 c.in-Some.mate c.self.invariant (is ∙ c.in-Some.is) in
-    subst (λ (d : LevelsData). c.index-in-Some.result.now ≡ is_covered_by (value_of d.values) (mate_in d.outputs c.args.net.0)) c.self.view_is
+    subst (λ (d : LevelsData). c.index-in-Some.result.now ≡ is_covered_by (net_values d.values) (mate_in d.outputs c.args.net.0)) c.self.view_is
     (c.index-in-Some.ensures ∙ get_or_default c.self.inside.values.items c.in-Some.mate.0 c.index-in-Some.result.now _ inside
-    ∙ sym (ap (is_covered_by (value_of c.self.inside.values.items)) (is ∙ c.in-Some.is)))
+    ∙ sym (ap (is_covered_by (net_values c.self.inside.values.items)) (is ∙ c.in-Some.is)))

@@ -1,6 +1,6 @@
 use Rattle.std.proofs.Common.{Bool, List, sym, ap, ◌∙◌, subst}
 use Rattle.ncl_stage.specs.Faults.{has_data}
-use Rattle.ncl_machine.specs.Held.{value_of}
+use Rattle.ncl_machine.specs.Held.{net_values}
 use Rattle.ncl_machine.specs.Tallies.{AreCovered, count_of}
 use Rattle.ncl_machine.proofs.levels.Levels.new.Goals as goal
 
@@ -13,5 +13,5 @@ invariant_of-result c =
       few = c.requires.few;
       as_many = c.in_ok-mates.ensures.as_many ∙ c.len.ensures ∙ c.args.values.ok.0;
       each = c.in_ok-mates.ensures.each;
-      count = c.count_data-covered.ensures ∙ ap (λ (v : List Bool). count_of (has_data (value_of v)) c.args.outputs.now) c.deref.ensures.value;
+      count = c.count_data-covered.ensures ∙ ap (λ (v : List Bool). count_of (has_data (net_values v)) c.args.outputs.now) c.deref.ensures.value;
     })

@@ -2,7 +2,7 @@ use Rattle.std.proofs.Common.{false, length, inl, inr, refl, ap, ◌∙◌, sym,
 use Rattle.std.proofs.lemmas.Bool.{both_ways, cases_lt}
 use Rattle.std.proofs.lemmas.Option.{slice_get_past}
 use Rattle.ncl_netlist.specs.Netlist.{NetlistData}
-use Rattle.ncl_machine.specs.Held.{value_of}
+use Rattle.ncl_machine.specs.Held.{net_values}
 use Rattle.ncl_machine.specs.Steps.{is_excited}
 use Rattle.ncl_machine.proofs.state.State.cells_rest.Goals as goal
 
@@ -13,7 +13,7 @@ pub returns : goal.returns
 returns c = (
   λ _ cell. elim (cases_lt cell.0 c.loop-k.k) [
     | inl lt ↦ c.loop-k.invariant cell.0 lt
-    | inr past ↦ ap (is_excited (value_of c.args.self.now.values)) (slice_get_past c.args.pipeline.now.netlist.cells cell.0 (omega (arith, past, c.loop-k-test.false, ap length c.cells-k-end.ensures.cells, ap (λ (n : NetlistData). length n.cells) c.netlist.ensures.netlist)))
+    | inr past ↦ ap (is_excited (net_values c.args.self.now.values)) (slice_get_past c.args.pipeline.now.netlist.cells cell.0 (omega (arith, past, c.loop-k-test.false, ap length c.cells-k-end.ensures.cells, ap (λ (n : NetlistData). length n.cells) c.netlist.ensures.netlist)))
   ],
   λ _. refl,
 )

@@ -2,12 +2,12 @@ use Rattle.std.proofs.Common.{◌≡◌, ap, ◌∙◌}
 use Rattle.std.proofs.lemmas.List.{take_all}
 use Rattle.ncl_gates.specs.Cell.{next_of_cell}
 use Rattle.ncl_shape.specs.Closure.{pin_values}
-use Rattle.ncl_machine.specs.Held.{value_of}
+use Rattle.ncl_machine.specs.Held.{net_values}
 use Rattle.ncl_machine.proofs.state.State.next.Goals as goal
 
 pub returns : goal.returns
 returns c =
-    let v = value_of c.args.self.now.values in
+    let v = net_values c.args.self.now.values in
     let cell = c.args.cell.now in
     let pins : c.as_slice.result.now ≡ pin_values v cell.ins.items =
     c.as_slice.ensures.value ∙ c.loop-net.invariant ∙ ap (pin_values v) (take_all _ _ c.loop-net-test.false ∙ c.as_slice-net-items.ensures.value) in

@@ -16,7 +16,7 @@ use Rattle.ncl_template.specs.declared.table.TableRow.{TableRow}
 use Rattle.ncl_template.specs.declared.table.Table.{Table}
 use Rattle.ncl_template.specs.Template.{IsTemplate}
 use Rattle.ncl_template.specs.Formed.{IsFormed}
-use Rattle.ncl_template.specs.Tables.{pair_number, bit_at, value_of, transposed, inverse_table}
+use Rattle.ncl_template.specs.Tables.{pair_number, bit_at, table_value, transposed, inverse_table}
 use Rattle.ncl_template.specs.PairGates.{IsOver}
 use Rattle.ncl_template.specs.Codes.{IsCode, class_net, IsCodeFor}
 use Rattle.ncl_template.specs.Rails.{class_at, one_at, PairLeaf, leaf_cell as pair_cell, leaf_net as pair_net, IsRail, pairs, never}
@@ -81,7 +81,7 @@ class_found classes k less = slice_get-get_or classes k (record { net = record {
 
 module _ (table : Table) (a b : Rails) (ys : List Rails) (gx gy : List StageCell) (first second : List Class) (c_code : IsCodeFor table (a ∷ b ∷ []) gx first) (d_code : IsCodeFor (transposed table) ys gy second) where
   -- the value at a word is that at the places of its classes
-  value_at_classes : (x y : Bool) (word : List Bool) → length word ≡ length ys → one_at table first second (c_code.class_of (x ∷ y ∷ [])) (d_code.class_of word) ≡ value_of table (x ∷ y ∷ word)
+  value_at_classes : (x y : Bool) (word : List Bool) → length word ≡ length ys → one_at table first second (c_code.class_of (x ∷ y ∷ [])) (d_code.class_of word) ≡ table_value table (x ∷ y ∷ word)
   value_at_classes x y word len =
       let k : ℕ = c_code.class_of (x ∷ y ∷ []) in
       let l : ℕ = d_code.class_of word in
@@ -94,14 +94,14 @@ module _ (table : Table) (a b : Rails) (ys : List Rails) (gx gy : List StageCell
       ∙ ap (λ (r : TableRow). bit_at r n) column
       ∙ bit_at-transposed table n m
 
-  value_at_word : (word : List Bool) → length word ≡ length (a ∷ b ∷ ys) → one_at table first second (c_code.class_of (front (a ∷ b ∷ []) word)) (d_code.class_of (back (a ∷ b ∷ []) word)) ≡ value_of table word
+  value_at_word : (word : List Bool) → length word ≡ length (a ∷ b ∷ ys) → one_at table first second (c_code.class_of (front (a ∷ b ∷ []) word)) (d_code.class_of (back (a ∷ b ∷ []) word)) ≡ table_value table word
   value_at_word [] len = absurd (omega (arith, len))
   value_at_word (x ∷ []) len = absurd (omega (arith, len))
   value_at_word (x ∷ y ∷ word) len = value_at_classes x y word (omega (arith, len))
 
-  pub table_template : (zeros ones : List StageCell) (out : Rails) → IsRail (one_at (inverse_table table) first second) (map class_net first) (map class_net second) a zeros out.zero → IsRail (one_at table first second) (map class_net first) (map class_net second) a ones out.one → IsTemplate (value_of table) (a ∷ b ∷ ys) ((gx ++ gy) ++ (zeros ++ ones)) out
+  pub table_template : (zeros ones : List StageCell) (out : Rails) → IsRail (one_at (inverse_table table) first second) (map class_net first) (map class_net second) a zeros out.zero → IsRail (one_at table first second) (map class_net first) (map class_net second) a ones out.one → IsTemplate (table_value table) (a ∷ b ∷ ys) ((gx ++ gy) ++ (zeros ++ ones)) out
   table_template zeros ones out rail0 rail1 =
-      rails_template a (b ∷ []) ys gx gy (map class_net first) (map class_net second) c_code.class_of d_code.class_of c_code.is d_code.is (value_of table) (one_at (inverse_table table) first second) (one_at table first second) zeros ones out.zero out.one
+      rails_template a (b ∷ []) ys gx gy (map class_net first) (map class_net second) c_code.class_of d_code.class_of c_code.is d_code.is (table_value table) (one_at (inverse_table table) first second) (one_at table first second) zeros ones out.zero out.one
       (λ word len. bit_at-inverse table (class_at first (c_code.class_of (front (a ∷ b ∷ []) word))).word (class_at second (d_code.class_of (back (a ∷ b ∷ []) word))).word ∙ ap not (value_at_word word len))
       value_at_word rail0 rail1
 

@@ -14,7 +14,7 @@ use Rattle.ncl_template.specs.declared.table.TableRow.{TableRow}
 use Rattle.ncl_template.specs.declared.table.Table.{Table}
 use Rattle.ncl_template.specs.Template.{IsTemplate}
 use Rattle.ncl_template.specs.Formed.{IsFormed, AddsTemplate}
-use Rattle.ncl_template.specs.Tables.{pair_number, bit_at, value_of, inverse_row, inverse_table, transposed, row_of, short_row, table_of}
+use Rattle.ncl_template.specs.Tables.{pair_number, bit_at, table_value, inverse_row, inverse_table, transposed, row_of, short_row, table_of}
 use Rattle.ncl_template.specs.PairGates.{IsTwoGate, AddsGate, IsOver}
 use Rattle.ncl_template.specs.Codes.{class_net, rail_classes, pair_nets, AddsCode}
 use Rattle.ncl_template.specs.Rails.{one_at, AddsRails}
@@ -90,7 +90,7 @@ rails_known a b c _ here = there (there (there (there here)))
 rails_known a b c _ (there here) = there (there (there (there (there here))))
 rails_known a b c net (there (there m)) = elim m [ ]
 
-pub AddsTemplate-three : (table : Table) (a b c : Rails) (before now after : List StageCell) (first second : List Class) (out : Rails) → second ≡ rail_classes c → AddsCode table a b before now first → AddsRails table first second a now after out → AddsTemplate (value_of table) (a ∷ b ∷ c ∷ []) 12 before after out
+pub AddsTemplate-three : (table : Table) (a b c : Rails) (before now after : List StageCell) (first second : List Class) (out : Rails) → second ≡ rail_classes c → AddsCode table a b before now first → AddsRails table first second a now after out → AddsTemplate (table_value table) (a ∷ b ∷ c ∷ []) 12 before after out
 AddsTemplate-three table a b c before now after first second out second_is code given =
     let rails : AddsRails table first (rail_classes c) a now after out = subst (λ second. AddsRails table first second a now after out) second_is given in
     let under : code.made ++ [] ≡ code.made = append-nil code.made in
@@ -99,7 +99,7 @@ AddsTemplate-three table a b c before now after first second out second_is code 
     record {
       made = code.made ++ (rails.zeros ++ rails.ones);
       added = rails.added ∙ (λ i. code.added i ++ (rails.zeros ++ rails.ones)) ∙ append_assoc before code.made (rails.zeros ++ rails.ones);
-      template = subst (λ under. IsTemplate (value_of table) (a ∷ b ∷ c ∷ []) (under ++ (rails.zeros ++ rails.ones)) out) under
+      template = subst (λ under. IsTemplate (table_value table) (a ∷ b ∷ c ∷ []) (under ++ (rails.zeros ++ rails.ones)) out) under
           (table_template table a b (c ∷ []) code.made [] first (rail_classes c) code.is (rails_code_for (transposed table) c) rails.zeros rails.ones out rails.is_zero rails.is_one);
       formed = subst (λ under. IsFormed (a ∷ b ∷ c ∷ []) (under ++ (rails.zeros ++ rails.ones)) out) under
           (codes_formed a (b ∷ c ∷ []) code.made [] rails.zeros rails.ones (map class_net first) (map class_net (rail_classes c)) (one_at (inverse_table table) first (rail_classes c)) (one_at table first (rail_classes c)) out
@@ -114,7 +114,7 @@ last_known a b c d _ (there (there here)) = there (there (there (there (there (t
 last_known a b c d _ (there (there (there here))) = there (there (there (there (there (there (there here))))))
 last_known a b c d net (there (there (there (there m)))) = elim m [ ]
 
-pub AddsTemplate-four : (table columns : Table) (a b c d : Rails) (before now then after : List StageCell) (first second : List Class) (out : Rails) → columns ≡ transposed table → AddsCode table a b before now first → AddsCode columns c d now then second → AddsRails table first second a then after out → AddsTemplate (value_of table) (a ∷ b ∷ c ∷ d ∷ []) 22 before after out
+pub AddsTemplate-four : (table columns : Table) (a b c d : Rails) (before now then after : List StageCell) (first second : List Class) (out : Rails) → columns ≡ transposed table → AddsCode table a b before now first → AddsCode columns c d now then second → AddsRails table first second a then after out → AddsTemplate (table_value table) (a ∷ b ∷ c ∷ d ∷ []) 22 before after out
 AddsTemplate-four table columns a b c d before now then after first second out columns_is code given rails =
     let other : AddsCode (transposed table) c d now then second = subst (λ columns. AddsCode columns c d now then second) columns_is given in
     let size = length-append (code.made ++ other.made) (rails.zeros ++ rails.ones) in
@@ -143,7 +143,7 @@ two_value f (true ∷ false ∷ []) len = refl
 two_value f (false ∷ true ∷ []) len = refl
 two_value f (false ∷ false ∷ []) len = refl
 
-three_value : (f : List Bool → Bool) (word : List Bool) → length word ≡ 3 → value_of (table_of (λ x y. short_row (λ z. f (x ∷ y ∷ z ∷ [])))) word ≡ f word
+three_value : (f : List Bool → Bool) (word : List Bool) → length word ≡ 3 → table_value (table_of (λ x y. short_row (λ z. f (x ∷ y ∷ z ∷ [])))) word ≡ f word
 three_value f [] len = absurd (omega (arith, len))
 three_value f (x ∷ []) len = absurd (omega (arith, len))
 three_value f (x ∷ y ∷ []) len = absurd (omega (arith, len))
@@ -157,7 +157,7 @@ three_value f (false ∷ true ∷ false ∷ []) len = refl
 three_value f (false ∷ false ∷ true ∷ []) len = refl
 three_value f (false ∷ false ∷ false ∷ []) len = refl
 
-four_value : (f : List Bool → Bool) (word : List Bool) → length word ≡ 4 → value_of (table_of (λ x y. row_of (λ z t. f (x ∷ y ∷ z ∷ t ∷ [])))) word ≡ f word
+four_value : (f : List Bool → Bool) (word : List Bool) → length word ≡ 4 → table_value (table_of (λ x y. row_of (λ z t. f (x ∷ y ∷ z ∷ t ∷ [])))) word ≡ f word
 four_value f [] len = absurd (omega (arith, len))
 four_value f (x ∷ []) len = absurd (omega (arith, len))
 four_value f (x ∷ y ∷ []) len = absurd (omega (arith, len))
@@ -190,15 +190,15 @@ AddsTemplate-of_two f values ins a b before after out two at_a at_b values_is ad
     (λ word len. ap (λ word. bit_at values (pair_number word)) (taken-straight word) ∙ ap (λ (row : TableRow). bit_at row (pair_number word)) values_is ∙ two_value f word (len ∙ two))
     (subst (λ ins. AddsTemplate (λ word. bit_at values (pair_number word)) ins 2 before after out) (sym (taken-straight ins ∙ two_pairs ins a b two at_a at_b)) adds)
 
-pub AddsTemplate-of_three : (f : List Bool → Bool) (order : Order) (table : Table) (ins : List Rails) (a b c p q r : Rails) (before after : List StageCell) (out : Rails) → length ins ≡ 3 → slice_get ins 0 ≡ Some a → slice_get ins 1 ≡ Some b → slice_get ins 2 ≡ Some c → p ∷ q ∷ r ∷ [] ≡ taken order (a ∷ b ∷ c ∷ []) → table ≡ table_of (λ x y. short_row (λ z. f (placed order (x ∷ y ∷ z ∷ [])))) → AddsTemplate (value_of table) (p ∷ q ∷ r ∷ []) 12 before after out → AddsTemplate f ins 12 before after out
+pub AddsTemplate-of_three : (f : List Bool → Bool) (order : Order) (table : Table) (ins : List Rails) (a b c p q r : Rails) (before after : List StageCell) (out : Rails) → length ins ≡ 3 → slice_get ins 0 ≡ Some a → slice_get ins 1 ≡ Some b → slice_get ins 2 ≡ Some c → p ∷ q ∷ r ∷ [] ≡ taken order (a ∷ b ∷ c ∷ []) → table ≡ table_of (λ x y. short_row (λ z. f (placed order (x ∷ y ∷ z ∷ [])))) → AddsTemplate (table_value table) (p ∷ q ∷ r ∷ []) 12 before after out → AddsTemplate f ins 12 before after out
 AddsTemplate-of_three f order table ins a b c p q r before after out three at_a at_b at_c pairs table_is adds =
-    AddsTemplate-taken order (value_of table) f ins 12 before after out
-    (λ word len. ap (λ table. value_of table (taken order word)) table_is ∙ three_value (λ word. f (placed order word)) (taken order word) (length-taken order word ∙ len ∙ three) ∙ ap f (placed-taken order word))
-    (subst (λ ins. AddsTemplate (value_of table) ins 12 before after out) (pairs ∙ ap (taken order) (sym (three_pairs ins a b c three at_a at_b at_c))) adds)
+    AddsTemplate-taken order (table_value table) f ins 12 before after out
+    (λ word len. ap (λ table. table_value table (taken order word)) table_is ∙ three_value (λ word. f (placed order word)) (taken order word) (length-taken order word ∙ len ∙ three) ∙ ap f (placed-taken order word))
+    (subst (λ ins. AddsTemplate (table_value table) ins 12 before after out) (pairs ∙ ap (taken order) (sym (three_pairs ins a b c three at_a at_b at_c))) adds)
 
-pub AddsTemplate-of_four : (f : List Bool → Bool) (order : Order) (table : Table) (ins : List Rails) (a b c d p q r : Rails) (before after : List StageCell) (out : Rails) → length ins ≡ 4 → slice_get ins 0 ≡ Some a → slice_get ins 1 ≡ Some b → slice_get ins 2 ≡ Some c → slice_get ins 3 ≡ Some d → p ∷ q ∷ r ∷ [] ≡ taken order (a ∷ b ∷ c ∷ []) → table ≡ table_of (λ x y. row_of (λ z t. f (placed order (x ∷ y ∷ z ∷ t ∷ [])))) → AddsTemplate (value_of table) (p ∷ q ∷ r ∷ d ∷ []) 22 before after out → AddsTemplate f ins 22 before after out
+pub AddsTemplate-of_four : (f : List Bool → Bool) (order : Order) (table : Table) (ins : List Rails) (a b c d p q r : Rails) (before after : List StageCell) (out : Rails) → length ins ≡ 4 → slice_get ins 0 ≡ Some a → slice_get ins 1 ≡ Some b → slice_get ins 2 ≡ Some c → slice_get ins 3 ≡ Some d → p ∷ q ∷ r ∷ [] ≡ taken order (a ∷ b ∷ c ∷ []) → table ≡ table_of (λ x y. row_of (λ z t. f (placed order (x ∷ y ∷ z ∷ t ∷ [])))) → AddsTemplate (table_value table) (p ∷ q ∷ r ∷ d ∷ []) 22 before after out → AddsTemplate f ins 22 before after out
 AddsTemplate-of_four f order table ins a b c d p q r before after out four at_a at_b at_c at_d pairs table_is adds =
     let all : p ∷ q ∷ r ∷ d ∷ [] ≡ taken order (a ∷ b ∷ c ∷ d ∷ []) = ap (λ ins. ins ++ d ∷ []) pairs ∙ taken-fourth order a b c d in
-    AddsTemplate-taken order (value_of table) f ins 22 before after out
-    (λ word len. ap (λ table. value_of table (taken order word)) table_is ∙ four_value (λ word. f (placed order word)) (taken order word) (length-taken order word ∙ len ∙ four) ∙ ap f (placed-taken order word))
-    (subst (λ ins. AddsTemplate (value_of table) ins 22 before after out) (all ∙ ap (taken order) (sym (four_pairs ins a b c d four at_a at_b at_c at_d))) adds)
+    AddsTemplate-taken order (table_value table) f ins 22 before after out
+    (λ word len. ap (λ table. table_value table (taken order word)) table_is ∙ four_value (λ word. f (placed order word)) (taken order word) (length-taken order word ∙ len ∙ four) ∙ ap f (placed-taken order word))
+    (subst (λ ins. AddsTemplate (table_value table) ins 22 before after out) (all ∙ ap (taken order) (sym (four_pairs ins a b c d four at_a at_b at_c at_d))) adds)

@@ -34,10 +34,10 @@ abbrev pub table_of : (Bool → Bool → TableRow) → Table
 table_of f = record { at_00 = f false false; at_01 = f false true; at_10 = f true false; at_11 = f true true }
 
 -- the value at a word whose first two bits choose the row
-abbrev pub value_of : Table → List Bool → Bool
-value_of table [] = false
-value_of table (x ∷ []) = false
-value_of table (x ∷ y ∷ word) = bit_at (row_at table (pair_number (x ∷ y ∷ []))) (pair_number word)
+abbrev pub table_value : Table → List Bool → Bool
+table_value table [] = false
+table_value table (x ∷ []) = false
+table_value table (x ∷ y ∷ word) = bit_at (row_at table (pair_number (x ∷ y ∷ []))) (pair_number word)
 
 -- the inverse values
 abbrev pub inverse_row : TableRow → TableRow

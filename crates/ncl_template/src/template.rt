@@ -3,7 +3,7 @@ ghost use Rattle.std.specs.Prelude.{◌≡◌, ◌+◌, ◌<◌, ◌≤◌, ◌^
 ghost use Rattle.ncl_decomp.specs.Split.{IsNarrow, cost_of_inputs};
 ghost use Rattle.ncl_tree.specs.Gates.{nets_so_far};
 ghost use Rattle.ncl_template.specs.Template.{node_function};
-ghost use Rattle.ncl_template.specs.Tables.{bit_at, pair_number, value_of};
+ghost use Rattle.ncl_template.specs.Tables.{bit_at, pair_number, table_value};
 ghost use Rattle.ncl_template.specs.Formed.{AddsTemplate};
 
 use crate::code::{add_code, code_of_rails};
@@ -39,7 +39,7 @@ fn add_three(
     c: Rails,
 ) -> Result<Rails, Memory>
     requires room { nets_so_far gates.old + 24 < 2 ^ 32 }
-    ensures template { IfOk result (AddsTemplate (value_of table) (a ∷ b ∷ c ∷ []) 12
+    ensures template { IfOk result (AddsTemplate (table_value table) (a ∷ b ∷ c ∷ []) 12
         gates.old.cells gates.new.cells) }
     ensures first { gates.new.first ≡ gates.old.first }
 {
@@ -61,7 +61,7 @@ fn add_four(
     d: Rails,
 ) -> Result<Rails, Memory>
     requires room { nets_so_far gates.old + 28 < 2 ^ 32 }
-    ensures template { IfOk result (AddsTemplate (value_of table) (a ∷ b ∷ c ∷ d ∷ []) 22
+    ensures template { IfOk result (AddsTemplate (table_value table) (a ∷ b ∷ c ∷ d ∷ []) 22
         gates.old.cells gates.new.cells) }
     ensures first { gates.new.first ≡ gates.old.first }
 {

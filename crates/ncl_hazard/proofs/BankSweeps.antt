@@ -15,7 +15,7 @@ use Rattle.ncl_netlist.specs.declared.ids.CellId.{CellId}
 use Rattle.ncl_netlist.specs.declared.ids.NetId.{NetId}
 use Rattle.ncl_netlist.specs.declared.cell.Cell.{Cell}
 use Rattle.ncl_origin.specs.Origin.{CellAt}
-use Rattle.ncl_shape.specs.Nets.{Nets, put}
+use Rattle.ncl_shape.specs.Nets.{Nets, with_net}
 use Rattle.ncl_shape.specs.Stage.{out_of}
 use Rattle.ncl_shape.specs.Closure.{pin_values}
 use Rattle.ncl_shape.specs.Pipeline.{PipelineData}
@@ -23,9 +23,9 @@ use Rattle.ncl_shape.proofs.PinLaws.{some_high-low}
 use Rattle.ncl_layout.specs.Layout.{in_rail, out_rail, Layout, IsRegisterOn, IsLayoutOf, IsRegisterOf, IsAckOf, TreePart, acks, completes, width, stage_nets}
 use Rattle.ncl_stage.specs.Faults.{has_data}
 use Rattle.ncl_machine.specs.Steps.{next_value, fired}
-use Rattle.ncl_machine.proofs.AtWorkLaws.{put-elsewhere}
+use Rattle.ncl_machine.proofs.AtWorkLaws.{with_net-elsewhere}
 use Rattle.ncl_machine.proofs.NamedRails.{rail-is_one, data-same}
-use Rattle.ncl_machine.proofs.LocalNets.{put-here}
+use Rattle.ncl_machine.proofs.LocalNets.{with_net-here}
 use Rattle.ncl_machine.proofs.StageNets.{in_bit, rail-listed, out-listed, root-listed, tree-listed}
 use Rattle.ncl_hazard.specs.Schedule.{chosen, swept}
 use Rattle.ncl_hazard.proofs.Sweeps.{fired-at}
@@ -110,22 +110,22 @@ module _ {p : PipelineData} {l : Layout} (is : IsLayoutOf p l) where
               ∙ ap (λ b. next_of Th22 (start (out_rail l k j r) ∷ b ∷ []) (v z)) going.b_net
               ∙ goes j r lj (v z) (going.between j r lj)
 
-          moved : fired v (slice_get p.netlist.cells i.0) ≡ put v z (goal j r)
-          moved = fired-at p v i.0 c at ∙ ap (λ x. put v x (next_value v c)) on.out ∙ ap (put v z) value
+          moved : fired v (slice_get p.netlist.cells i.0) ≡ with_net v z (goal j r)
+          moved = fired-at p v i.0 c at ∙ ap (λ x. with_net v x (next_value v c)) on.out ∙ ap (with_net v z) value
 
           -- at a rail: it is this one, or it keeps its value
-          at_rail : (h : ℕ) (q : Bool) → h < width l (suc k) → ((h ≡ j) × (q ≡ r)) ⊎ (put v z (goal j r) (in_rail l (suc k) h q) ≡ v (in_rail l (suc k) h q))
+          at_rail : (h : ℕ) (q : Bool) → h < width l (suc k) → ((h ≡ j) × (q ≡ r)) ⊎ (with_net v z (goal j r) (in_rail l (suc k) h q) ≡ v (in_rail l (suc k) h q))
           at_rail h q lh = elim (cases_eq z (in_rail l (suc k) h q)) [
             | inl e ↦ inl (rail_once h j q r lh lj (sym e))
-            | inr apart ↦ inr (put-elsewhere v z (in_rail l (suc k) h q) (goal j r) apart)
+            | inr apart ↦ inr (with_net-elsewhere v z (in_rail l (suc k) h q) (goal j r) apart)
           ]
 
-          own : (h : ℕ) (q : Bool) → (h ≡ j) × (q ≡ r) → put v z (goal j r) (in_rail l (suc k) h q) ≡ goal h q
+          own : (h : ℕ) (q : Bool) → (h ≡ j) × (q ≡ r) → with_net v z (goal j r) (in_rail l (suc k) h q) ≡ goal h q
           own h q e =
-              ap (λ x. put v z (goal j r) (in_rail l (suc k) x q)) e.0 ∙ ap (λ x. put v z (goal j r) (in_rail l (suc k) j x)) e.1
-              ∙ put-here v z (goal j r) ∙ ap (λ x. goal x r) (sym e.0) ∙ ap (goal h) (sym e.1)
+              ap (λ x. with_net v z (goal j r) (in_rail l (suc k) x q)) e.0 ∙ ap (λ x. with_net v z (goal j r) (in_rail l (suc k) j x)) e.1
+              ∙ with_net-here v z (goal j r) ∙ ap (λ x. goal x r) (sym e.0) ∙ ap (goal h) (sym e.1)
 
-          still : (h : ℕ) (q : Bool) → h < width l (suc k) → ((h ≡ j) × (q ≡ r) → ⊥) → (put v z (goal j r) (in_rail l (suc k) h q) ≡ v (in_rail l (suc k) h q)) → Waits (i ∷ rest) h q → Waits rest h q
+          still : (h : ℕ) (q : Bool) → h < width l (suc k) → ((h ≡ j) × (q ≡ r) → ⊥) → (with_net v z (goal j r) (in_rail l (suc k) h q) ≡ v (in_rail l (suc k) h q)) → Waits (i ∷ rest) h q → Waits rest h q
           still h q lh other same (x, d, m, at_d, on_d) = elim (member_cases x i rest m) [
             | inr n ↦ (x, d, n, at_d, on_d)
             | inl e ↦
@@ -134,10 +134,10 @@ module _ {p : PipelineData} {l : Layout} (is : IsLayoutOf p l) where
                 absurd (other (rail_once h j q r lh lj (sym on_d.out ∙ ap (λ (y : Cell). y.out.0) one ∙ on.out)))
           ]
 
-          now : IsGoing rest (put v z (goal j r))
+          now : IsGoing rest (with_net v z (goal j r))
           now = record {
-            a_net = λ h q lh. put-elsewhere v z (out_rail l k h q) (goal j r) (not_read j h r q lj lh) ∙ going.a_net h q lh;
-            b_net = put-elsewhere v z (l.root (suc k)) (goal j r) (not_root j r lj) ∙ going.b_net;
+            a_net = λ h q lh. with_net-elsewhere v z (out_rail l k h q) (goal j r) (not_read j h r q lj lh) ∙ going.a_net h q lh;
+            b_net = with_net-elsewhere v z (l.root (suc k)) (goal j r) (not_root j r lj) ∙ going.b_net;
             between = λ h q lh. elim (at_rail h q lh) [
               | inl e ↦ inr (own h q e)
               | inr same ↦ elim (going.between h q lh) [ inl old ↦ inl (same ∙ old) | inr done ↦ inr (same ∙ done) ]
@@ -284,21 +284,21 @@ module _ {p : PipelineData} {l : Layout} (is : IsLayoutOf p l) where
         go later true e =
             let (h, d, lh, in_tree, at_d) = are.only i in_order e in
             subst (λ u. AreDown order (swept p (chosen test rest) u)) (sym (fired-at p v i d at_d))
-            (later (put v d.out.0 (next_value v d))
+            (later (with_net v d.out.0 (next_value v d))
             (λ k b lk within.
-            data-same v (put v d.out.0 (next_value v d)) (in_bit l (suc k) b)
-            (put-elsewhere v d.out.0 (in_rail l (suc k) b false) (next_value v d) (no_rail h d k b false lh in_tree lk within))
-            (put-elsewhere v d.out.0 (in_rail l (suc k) b true) (next_value v d) (no_rail h d k b true lh in_tree lk within))
+            data-same v (with_net v d.out.0 (next_value v d)) (in_bit l (suc k) b)
+            (with_net-elsewhere v d.out.0 (in_rail l (suc k) b false) (next_value v d) (no_rail h d k b false lh in_tree lk within))
+            (with_net-elsewhere v d.out.0 (in_rail l (suc k) b true) (next_value v d) (no_rail h d k b true lh in_tree lk within))
             ∙ full k b lk within)
             (λ k c j lk m n at.
             elim (cases_eq d.out.0 c.out.0) [
               | inl same ↦
                   let one : h ≡ k = is.trees_apart h k d.out.0 (omega (arith, lh)) (omega (arith, lk, some)) (tree-listed is h d lh in_tree) (subst (λ x. Member x (l.tree_nets k)) (sym same) (tree-listed is k c (omega (arith, lk, some)) m)) in
-                  subst (λ x. put v d.out.0 (next_value v d) x ≡ false) same
-                  (put-here v d.out.0 (next_value v d)
+                  subst (λ x. with_net v d.out.0 (next_value v d) x ≡ false) same
+                  (with_net-here v d.out.0 (next_value v d)
                   ∙ tree-next before rest i parts v full down k d lk (subst (λ x. Member d (l.tree x)) one in_tree) at_d)
               | inr apart ↦
-                  put-elsewhere v d.out.0 c.out.0 (next_value v d) apart
+                  with_net-elsewhere v d.out.0 c.out.0 (next_value v d) apart
                   ∙ elim (Member-append_cases j before (i ∷ []) n) [
                     | inl old ↦ down k c j lk m old at
                     | inr last ↦ absurd (apart (own j last c at d at_d))

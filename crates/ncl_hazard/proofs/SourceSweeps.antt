@@ -5,15 +5,15 @@ use Rattle.std.specs.List.{list_all, range_with_len}
 use Rattle.std.proofs.lemmas.Bool.{both_ways, cases_Bool, cases_eq, and_from, and_right, false_from_ne_true}
 use Rattle.ncl_base.proofs.Members.{Member, here, there}
 use Rattle.ncl_shape.specs.declared.item.Item.TheVariants.{Raise, Lower}
-use Rattle.ncl_shape.specs.Nets.{Nets, put}
+use Rattle.ncl_shape.specs.Nets.{Nets, with_net}
 use Rattle.ncl_shape.specs.Stage.{named_rails}
 use Rattle.ncl_shape.specs.Pipeline.{PipelineData}
 use Rattle.ncl_layout.specs.Layout.{rail_at}
 use Rattle.ncl_machine.specs.State.{State}
 use Rattle.ncl_machine.specs.Steps.{differ, has_value, put_at, current_rails, rails_of_word, after_raise, after_lower, enabled, step}
-use Rattle.ncl_machine.proofs.AtWorkLaws.{put-elsewhere}
+use Rattle.ncl_machine.proofs.AtWorkLaws.{with_net-elsewhere}
 use Rattle.ncl_machine.proofs.ListTests.{member-passes}
-use Rattle.ncl_machine.proofs.LocalNets.{put-here, put-keeps}
+use Rattle.ncl_machine.proofs.LocalNets.{with_net-here, with_net-keeps}
 use Rattle.ncl_machine.proofs.NamedRails.{bit_at, named-get, named-has, named-place}
 use Rattle.ncl_machine.proofs.StepValues.{lowered-value}
 use Rattle.ncl_hazard.specs.Trying.{turned, tried}
@@ -71,7 +71,7 @@ module _ (p : PipelineData) (word : List Bool) (wide : length word ≡ length p.
           ap (λ f. not f && s.value p.ko && has_value s.value (slice_get (current_rails p s) b) false) rises
           ∙ ap (λ v. v && has_value s.value (slice_get (current_rails p s) b) false) (ing.others p.ko ko ∙ asks)
           ∙ ap (λ o. has_value s.value o false) (rail-now s ing.is b lt) ∙ ap (λ x. not (differ x false)) low in
-          let v : Nets = put s.value (rail b) true in
+          let v : Nets = with_net s.value (rail b) true in
           let made : turned p s (Raise b) ≡ record s { value = v; falling = list_all v rails } =
           ap (λ e. if e then step p s (Raise b) else s) now
           ∙ ap (λ o. after_raise p s (put_at s.value o true)) (rail-now s ing.is b lt)
@@ -80,10 +80,10 @@ module _ (p : PipelineData) (word : List Bool) (wide : length word ≡ length p.
             record {
               is = record { offered = ing.is.offered; done = ing.is.done };
               falling = refl;
-              others = λ net none. put-elsewhere s.value (rail b) net true (λ e. none (subst (λ x. Member x rails) e (rail-in b lt))) ∙ ing.others net none;
+              others = λ net none. with_net-elsewhere s.value (rail b) net true (λ e. none (subst (λ x. Member x rails) e (rail-in b lt))) ∙ ing.others net none;
             },
-            put-here s.value (rail b) true,
-            λ net h. put-keeps s.value (rail b) net true h,
+            with_net-here s.value (rail b) true,
+            λ net h. with_net-keeps s.value (rail b) net true h,
           )
     ]
 
@@ -147,16 +147,16 @@ module _ (p : PipelineData) (word : List Bool) (wide : length word ≡ length p.
             ap (λ f. f && not (s.value p.ko) && has_value s.value (slice_get (current_rails p s) b) true) falls
             ∙ ap (λ v. not v && has_value s.value (slice_get (current_rails p s) b) true) (ing.others p.ko ko ∙ asks)
             ∙ ap (λ o. has_value s.value o true) (rail-now s is b lt) ∙ ap (λ x. not (differ x true)) high in
-            let v : Nets = put s.value (rail b) false in
+            let v : Nets = with_net s.value (rail b) false in
             let made : turned p s (Lower b) ≡ (if list_all (λ net. not (v net)) rails then record s { value = v; falling = false; done = s.done + 1 } else record s { value = v }) =
             ap (λ e. if e then step p s (Lower b) else s) now
             ∙ ap (λ o. after_lower p s (put_at s.value o false)) (rail-now s is b lt)
             ∙ ap (λ xs. if list_all (λ net. not (v net)) xs then record s { value = v; falling = false; done = s.done + 1 } else record s { value = v }) (rails-now s is) in
             let value_is : (turned p s (Lower b)).value ≡ v = ap (λ (t : State). t.value) made ∙ lowered-value s v (list_all (λ net. not (v net)) rails) in (
               subst (IsLowering start) (sym made)
-                  (lowered-now s v (λ net none. put-elsewhere s.value (rail b) net false (λ e. none (subst (λ x. Member x rails) e (rail-in b lt))) ∙ ing.others net none) is falls (list_all (λ net. not (v net)) rails) refl),
-              ap (λ u. u (rail b)) value_is ∙ put-here s.value (rail b) false,
-              λ net low. ap (λ u. u net) value_is ∙ put-keeps s.value (rail b) net false low,
+                  (lowered-now s v (λ net none. with_net-elsewhere s.value (rail b) net false (λ e. none (subst (λ x. Member x rails) e (rail-in b lt))) ∙ ing.others net none) is falls (list_all (λ net. not (v net)) rails) refl),
+              ap (λ u. u (rail b)) value_is ∙ with_net-here s.value (rail b) false,
+              λ net low. ap (λ u. u net) value_is ∙ with_net-keeps s.value (rail b) net false low,
             )
       ]
     ]

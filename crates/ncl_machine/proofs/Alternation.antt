@@ -12,10 +12,10 @@ use Rattle.ncl_origin.proofs.Drivers.{no_cell_drives_port}
 use Rattle.ncl_layout.proofs.EndLaws.{ki_is_port, ki_is_no_input}
 use Rattle.ncl_stage.proofs.Apart.{named-within}
 use Rattle.ncl_stage.proofs.OnePass.{among-from_member}
-use Rattle.ncl_machine.proofs.AtWorkLaws.{put-elsewhere}
+use Rattle.ncl_machine.proofs.AtWorkLaws.{with_net-elsewhere}
 use Rattle.ncl_machine.proofs.RunLaws.{IsRunFrom-suffix}
 use Rattle.ncl_machine.proofs.StepValues.{lowered-value}
-use Rattle.ncl_machine.proofs.LocalNets.{put-here}
+use Rattle.ncl_machine.proofs.LocalNets.{with_net-here}
 use Rattle.ncl_shape.specs.declared.item.Item.{Item}
 use Rattle.ncl_shape.specs.declared.item.Item.TheVariants.{Cell as Fire, Raise, Lower, Take, Ready}
 use Rattle.ncl_shape.specs.Pipeline.{PipelineData}
@@ -31,7 +31,7 @@ module _ (p : PipelineData) (shape : Shape p.netlist p) where
   fire-keeps : (v : Nets) (o : Option Cell) (i : ℕ) → slice_get p.netlist.cells i ≡ o → fired v o p.ki ≡ v p.ki
   fire-keeps v None i at = refl
   fire-keeps v (Some c) i at =
-      put-elsewhere v c.out.0 p.ki (next_value v c)
+      with_net-elsewhere v c.out.0 p.ki (next_value v c)
       (λ e. no_cell_drives_port p.netlist shape.is_netlist c (Contains-from_slice_get p.netlist.cells i c at) (subst (IsInputPort p.netlist) (sym e) (ki_is_port p shape)))
 
   -- the rails of the current word are rails of the inputs, and the acknowledge is none
@@ -44,7 +44,7 @@ module _ (p : PipelineData) (shape : Shape p.netlist p) where
   rail-keeps : (s : State) (b : ℕ) (value : Bool) (o : Option ℕ) → slice_get (current_rails p s) b ≡ o → put_at s.value o value p.ki ≡ s.value p.ki
   rail-keeps s b value None at = refl
   rail-keeps s b value (Some net) at =
-      put-elsewhere s.value net p.ki value (λ e. ki_is_no_input p shape (subst (λ x. Member x (rail_nets p.inputs)) e (current-within (slice_get s.offered s.done) b net at)))
+      with_net-elsewhere s.value net p.ki value (λ e. ki_is_no_input p shape (subst (λ x. Member x (rail_nets p.inputs)) e (current-within (slice_get s.offered s.done) b net at)))
 
   later : (item : Item) (ys : List Item) (s : State) → PassesNull p (step p s item) ys → PassesNull p s (item ∷ ys)
   later item ys s passes = record { before = item ∷ passes.before; rest = passes.rest; split = ap (λ t. item ∷ t) passes.split; null = passes.null }
@@ -64,5 +64,5 @@ module _ (p : PipelineData) (shape : Shape p.netlist p) where
 
   pub alternates : AlternatesWithNull p
   alternates offered xs ys zs words run =
-      waits-for_null ys zs (step p (after p (reset p offered) xs) Take) (put-here (after p (reset p offered) xs).value p.ki false)
+      waits-for_null ys zs (step p (after p (reset p offered) xs) Take) (with_net-here (after p (reset p offered) xs).value p.ki false)
       (IsRunFrom-suffix p (reset p offered) xs (Take ∷ (ys ++ Take ∷ zs)) run).1

@@ -4,7 +4,7 @@ use Rattle.std.specs.Prelude.{Contains, nat_eq}
 use Rattle.std.proofs.lemmas.Bool.{and_from, both_ways, cond_both, cond-false, eqb-true, ne_eqb}
 use Rattle.ncl_gates.specs.Gate.{set_of, some_high}
 use Rattle.ncl_shape.specs.declared.stage.StageCell.{StageCell}
-use Rattle.ncl_shape.specs.Nets.{Nets, IsBelow, among, put}
+use Rattle.ncl_shape.specs.Nets.{Nets, IsBelow, among, with_net}
 use Rattle.ncl_shape.specs.Stage.{StageData, named_rails}
 use Rattle.ncl_shape.specs.Closure.{pin_values}
 use Rattle.ncl_base.proofs.Members.{Member-from_Contains}
@@ -16,23 +16,23 @@ use Rattle.ncl_machine.specs.Steps.{differ}
 use Rattle.ncl_machine.specs.AtWork.{next_of_gate, IsExcited, IsRising, IsFalling, null, raise, settled, lower, fire}
 
 -- with one net changed the nets stay below others in which that net is as high
-pub put-below : (v w : Nets) (net : ℕ) (value : Bool) → IsBelow v w → (value ≡ true → w net ≡ true) → IsBelow (put v net value) w
-put-below v w net value below here other =
+pub with_net-below : (v w : Nets) (net : ℕ) (value : Bool) → IsBelow v w → (value ≡ true → w net ≡ true) → IsBelow (with_net v net value) w
+with_net-below v w net value below here other =
     cond_both (nat_eq net other) value (v other) (λ b. b ≡ true → w other ≡ true)
     (λ same high. subst (λ x. w x ≡ true) (eqb-true net other same) (here high))
     (λ apart. below other)
 
 -- a net that isn't changed keeps its value
-pub put-elsewhere : (v : Nets) (net other : ℕ) (value : Bool) → net ≢ other → put v net value other ≡ v other
-put-elsewhere v net other value apart = cond-false (nat_eq net other) value (v other) (ne_eqb net other apart)
+pub with_net-elsewhere : (v : Nets) (net other : ℕ) (value : Bool) → net ≢ other → with_net v net value other ≡ v other
+with_net-elsewhere v net other value apart = cond-false (nat_eq net other) value (v other) (ne_eqb net other apart)
 
 -- where one net goes high, all that was high is
-pub put-raised : (v : Nets) (net : ℕ) → IsBelow v (put v net true)
-put-raised v net other high = cond_both (nat_eq net other) true (v other) (λ b. b ≡ true) (λ same. refl) (λ apart. high)
+pub with_net-raised : (v : Nets) (net : ℕ) → IsBelow v (with_net v net true)
+with_net-raised v net other high = cond_both (nat_eq net other) true (v other) (λ b. b ≡ true) (λ same. refl) (λ apart. high)
 
 -- where one goes low, all that is high was
-pub put-lowered : (v : Nets) (net : ℕ) → IsBelow (put v net false) v
-put-lowered v net = put-below v v net false (λ other high. high) (λ up. absurd (both_ways false refl up))
+pub with_net-lowered : (v : Nets) (net : ℕ) → IsBelow (with_net v net false) v
+with_net-lowered v net = with_net-below v v net false (λ other high. high) (λ up. absurd (both_ways false refl up))
 
 -- hysteresis keeps a value: where the next value is high and not the old one, the set function holds
 set-from_rise : (set high old : Bool) → differ (if set then true else (if high then old else false)) old ≡ true → (if set then true else (if high then old else false)) ≡ true → set ≡ true
@@ -46,9 +46,9 @@ pub holds-excited : (v : Nets) (c : StageCell) → IsExcited v c → next_of_gat
 holds-excited v c = set-from_rise (set_of c.kind (pin_values v c.ins.items)) (some_high (pin_values v c.ins.items)) (v c.out.0)
 
 -- so below the values of the stage its output is high in them
-fire-within : (s : StageData) (word : List Bool) (v : Nets) (c : StageCell) → Contains s.cells c → IsExcited v c → IsBelow v (val s word Base) → IsBelow (put v c.out.0 (next_of_gate v c)) (val s word Base)
+fire-within : (s : StageData) (word : List Bool) (v : Nets) (c : StageCell) → Contains s.cells c → IsExcited v c → IsBelow v (val s word Base) → IsBelow (with_net v c.out.0 (next_of_gate v c)) (val s word Base)
 fire-within s word v c in_s excited below =
-    put-below v (val s word Base) c.out.0 (next_of_gate v c) below
+    with_net-below v (val s word Base) c.out.0 (next_of_gate v c) below
     (λ up. val-settled s word Base c (Member-from_Contains s.cells c in_s)
     (and_from (not (kept_low s Base c.out.0)) _ refl (holds-grows v (val s word Base) below c (holds-excited v c excited up))))
 
@@ -62,7 +62,7 @@ named-within_values s word net named =
 pub rising-within : (s : StageData) (word : List Bool) (v : Nets) → IsRising s word v → IsBelow v (val s word Base)
 rising-within s word v null x high = absurd (both_ways false refl high)
 rising-within s word v (raise {v = old} net named before) x high =
-    put-below old (val s word Base) net true (rising-within s word old before) (λ up. named-within_values s word net named) x high
+    with_net-below old (val s word Base) net true (rising-within s word old before) (λ up. named-within_values s word net named) x high
 rising-within s word v (fire {v = old} c in_s excited before) x high =
     fire-within s word old c in_s excited (rising-within s word old before) x high
 
@@ -70,6 +70,6 @@ rising-within s word v (fire {v = old} c in_s excited before) x high =
 pub falling-within : (s : StageData) (word : List Bool) (v : Nets) → IsFalling s word v → IsBelow v (val s word Base)
 falling-within s word v settled x high = high
 falling-within s word v (lower {v = old} net rail before) x high =
-    put-below old (val s word Base) net false (falling-within s word old before) (λ up. absurd (both_ways false refl up)) x high
+    with_net-below old (val s word Base) net false (falling-within s word old before) (λ up. absurd (both_ways false refl up)) x high
 falling-within s word v (fire {v = old} c in_s excited before) x high =
     fire-within s word old c in_s excited (falling-within s word old before) x high

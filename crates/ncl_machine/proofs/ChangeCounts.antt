@@ -6,12 +6,12 @@ use Rattle.std.proofs.Math.Bool.{not-not}
 use Rattle.std.proofs.lemmas.Bool.{cases_eq}
 use Rattle.ncl_shape.specs.declared.rails.Rails.{Rails}
 use Rattle.ncl_shape.specs.declared.stage.StageCell.{StageCell}
-use Rattle.ncl_shape.specs.Nets.{Nets, put}
+use Rattle.ncl_shape.specs.Nets.{Nets, with_net}
 use Rattle.ncl_shape.specs.Stage.{out_of}
 use Rattle.ncl_layout.specs.Layout.{Layout}
 use Rattle.ncl_stage.specs.Faults.{has_data}
-use Rattle.ncl_machine.proofs.AtWorkLaws.{put-elsewhere}
-use Rattle.ncl_machine.proofs.LocalNets.{put-here, in_stage, in_tree}
+use Rattle.ncl_machine.proofs.AtWorkLaws.{with_net-elsewhere}
+use Rattle.ncl_machine.proofs.LocalNets.{with_net-here, in_stage, in_tree}
 use Rattle.ncl_machine.proofs.Numbers.{even, one_if, one_if-most, place-here, place-other}
 use Rattle.ncl_machine.proofs.Moves.{next_at}
 use Rattle.ncl_machine.proofs.Totals.{sum_by-no_less}
@@ -67,10 +67,10 @@ times-more c e x y old new =
     let now : one_if (agree y e) ≡ 1 = ap one_if (agree-new y e new) in
     omega (arith, was, now)
 
-pub times-put : (c : ℕ) (e : Bool) (v : Nets) (net x : ℕ) → v net ≡ not e → times c e (v x) ≤ times c e (put v net e x)
+pub times-put : (c : ℕ) (e : Bool) (v : Nets) (net x : ℕ) → v net ≡ not e → times c e (v x) ≤ times c e (with_net v net e x)
 times-put c e v net x old = elim (cases_eq net x) [
-  | inl same ↦ let more = times-more c e (v x) (put v net e x) (ap v (sym same) ∙ old) (ap (put v net e) (sym same) ∙ put-here v net e) in omega (arith, more)
-  | inr apart ↦ let one : times c e (put v net e x) ≡ times c e (v x) = ap (times c e) (put-elsewhere v net x e apart) in omega (arith, one)
+  | inl same ↦ let more = times-more c e (v x) (with_net v net e x) (ap v (sym same) ∙ old) (ap (with_net v net e) (sym same) ∙ with_net-here v net e) in omega (arith, more)
+  | inr apart ↦ let one : times c e (with_net v net e x) ≡ times c e (v x) = ap (times c e) (with_net-elsewhere v net x e apart) in omega (arith, one)
 ]
 
 -- ---- where a number goes on by one, nothing has changed less often

@@ -8,7 +8,7 @@ use Rattle.ncl_shape.specs.declared.rails.Rails.{Rails}
 use Rattle.ncl_shape.specs.declared.stage.StageCell.{StageCell}
 use Rattle.ncl_shape.specs.declared.item.Item.{Item}
 use Rattle.ncl_shape.specs.declared.item.Item.TheVariants.{Cell as Fire, Raise, Lower, Take, Ready}
-use Rattle.ncl_shape.specs.Nets.{Nets, put}
+use Rattle.ncl_shape.specs.Nets.{Nets, with_net}
 use Rattle.ncl_shape.specs.Stage.{out_of}
 use Rattle.ncl_shape.specs.Pipeline.{PipelineData}
 use Rattle.ncl_layout.specs.Layout.{no_rails, Layout, width, stage_nets, in_rail}
@@ -17,10 +17,10 @@ use Rattle.ncl_stage.specs.Faults.{has_data}
 use Rattle.ncl_stage.proofs.ValueLaws.{rail-no_output}
 use Rattle.ncl_machine.specs.State.{State}
 use Rattle.ncl_machine.specs.Steps.{step}
-use Rattle.ncl_machine.proofs.AtWorkLaws.{put-elsewhere}
+use Rattle.ncl_machine.proofs.AtWorkLaws.{with_net-elsewhere}
 use Rattle.ncl_machine.proofs.NamedRails.{bit_at, data-same}
 use Rattle.ncl_machine.proofs.StageNets.{in_bit, rail-listed, gate-listed, tree-listed, ki-listed}
-use Rattle.ncl_machine.proofs.LocalNets.{local-at, put-here, in_stage, in_tree}
+use Rattle.ncl_machine.proofs.LocalNets.{local-at, with_net-here, in_stage, in_tree}
 use Rattle.ncl_machine.proofs.Phases.{data-moved, data-other, gate-no_rail}
 use Rattle.ncl_machine.proofs.Numbers.{even}
 use Rattle.ncl_machine.proofs.Invariant.{Waves, IsSetting, HasInvariant, rising, word_in}
@@ -41,14 +41,14 @@ module _ {p : PipelineData} {l : Layout} {w : Waves} {offered : List (List Bool)
 
   -- where the count of one stage rises, that of all does
   stage-rises : (j net : ℕ) (value : Bool) → j ≤ l.last → Member net (stage_nets l j)
-      → suc (changes_at l k.numbers j (in_stage l s.value j) (in_tree l s.value j)) ≤ changes_at l k.numbers j (put (in_stage l s.value j) net value) (in_tree l s.value j)
-      → Rises (put s.value net value)
+      → suc (changes_at l k.numbers j (in_stage l s.value j) (in_tree l s.value j)) ≤ changes_at l k.numbers j (with_net (in_stage l s.value j) net value) (in_tree l s.value j)
+      → Rises (with_net s.value net value)
   stage-rises j net value le listed more =
       let (ch, trees) = stage_views set.layout s.value j net value le listed in
-      below-more l s.value (put s.value net value) k.numbers (suc l.last) j (omega (arith, le))
+      below-more l s.value (with_net s.value net value) k.numbers (suc l.last) j (omega (arith, le))
       (λ i lt apart. (ch.others i (omega (arith, lt)) apart, trees i (omega (arith, lt))))
-      (subst (λ x. suc (changes_at l k.numbers j (in_stage l s.value j) (in_tree l s.value j)) ≤ changes_at l k.numbers j x (in_tree l (put s.value net value) j)) (sym ch.here)
-      (subst (λ x. suc (changes_at l k.numbers j (in_stage l s.value j) (in_tree l s.value j)) ≤ changes_at l k.numbers j (put (in_stage l s.value j) net value) x) (sym (trees j le)) more))
+      (subst (λ x. suc (changes_at l k.numbers j (in_stage l s.value j) (in_tree l s.value j)) ≤ changes_at l k.numbers j x (in_tree l (with_net s.value net value) j)) (sym ch.here)
+      (subst (λ x. suc (changes_at l k.numbers j (in_stage l s.value j) (in_tree l s.value j)) ≤ changes_at l k.numbers j (with_net (in_stage l s.value j) net value) x) (sym (trees j le)) more))
 
   -- what holds of the bits by number holds of each
   by_bit : (j : ℕ) (P : Rails → Type 0) → ((i : ℕ) → i < width l j → P (in_bit l j i)) → (r : Rails) → Member r (l.stage j).inputs → P r
@@ -60,11 +60,11 @@ module _ {p : PipelineData} {l : Layout} {w : Waves} {offered : List (List Bool)
 
   -- a gate
   gate-rises : (j : ℕ) (g : StageCell) → j ≤ l.last → Member g (l.stage j).cells
-      → in_stage l s.value j (out_of g) ≡ not (rising k.numbers j) → Rises (put s.value (out_of g) (rising k.numbers j))
+      → in_stage l s.value j (out_of g) ≡ not (rising k.numbers j) → Rises (with_net s.value (out_of g) (rising k.numbers j))
   gate-rises j g le m old =
       stage-rises j (out_of g) e le (gate-listed (l.stage j) g m)
       (let gates = sum_by-more (gate_changes (k.numbers (suc j)) v) (gate_changes (k.numbers (suc j)) after) g
-      (λ x n. times-put (k.numbers (suc j)) e v (out_of g) (out_of x) old) m (times-more (k.numbers (suc j)) e (v (out_of g)) (after (out_of g)) old (put-here v (out_of g) e)) in
+      (λ x n. times-put (k.numbers (suc j)) e v (out_of g) (out_of x) old) m (times-more (k.numbers (suc j)) e (v (out_of g)) (after (out_of g)) old (with_net-here v (out_of g) e)) in
       let rails =
       sum_by-no_less (rail_changes (k.numbers j) v) (rail_changes (k.numbers j) after) (l.stage j).inputs
       (by_bit j (λ r. rail_changes (k.numbers j) v r ≤ rail_changes (k.numbers j) after r) same_bit) in
@@ -77,11 +77,11 @@ module _ {p : PipelineData} {l : Layout} {w : Waves} {offered : List (List Bool)
       v = in_stage l s.value j
 
       after : Nets
-      after = put (in_stage l s.value j) (out_of g) (rising k.numbers j)
+      after = with_net (in_stage l s.value j) (out_of g) (rising k.numbers j)
 
       same_bit : (i : ℕ) → i < width l j
           → rail_changes (k.numbers j) (in_stage l s.value j) (in_bit l j i) ≤ rail_changes
-          (k.numbers j) (put (in_stage l s.value j) (out_of g) (rising k.numbers j)) (in_bit l j i)
+          (k.numbers j) (with_net (in_stage l s.value j) (out_of g) (rising k.numbers j)) (in_bit l j i)
       same_bit i lt =
           let rail = gate-no_rail (set.layout.is_stage j le) v e g m i in
           let one : times (k.numbers j) (even (k.numbers j)) (has_data after (in_bit l j i)) ≡ times (k.numbers j) (even (k.numbers j)) (has_data v (in_bit l j i)) =
@@ -91,7 +91,7 @@ module _ {p : PipelineData} {l : Layout} {w : Waves} {offered : List (List Bool)
   -- a rail: its bit counts twice
   rail-rises : (j b : ℕ) (r : Bool) → j ≤ l.last → b < width l j → k.numbers j ≡ k.numbers (suc j) → r ≡ bit_at (word_in w k.numbers j) b
       → has_data (in_stage l s.value j) (in_bit l j b) ≡ not (even (k.numbers j))
-      → Rises (put s.value (in_rail l j b r) (rising k.numbers j))
+      → Rises (with_net s.value (in_rail l j b r) (rising k.numbers j))
   rail-rises j b r le within same named old =
       stage-rises j rail e le (rail-listed (l.stage j) b r within)
       (let rails = sum_by-more (rail_changes (k.numbers j) v) (rail_changes (k.numbers j) after) (in_bit l j b)
@@ -99,7 +99,7 @@ module _ {p : PipelineData} {l : Layout} {w : Waves} {offered : List (List Bool)
       (Member-get_or (l.stage j).inputs b no_rails within) (let more = moved_more in omega (arith, more)) in
       let gates = sum_by-no_less (gate_changes (k.numbers (suc j)) v) (gate_changes (k.numbers (suc j)) after) (l.stage j).cells (λ x n.
       let one : gate_changes (k.numbers (suc j)) after x ≡ gate_changes (k.numbers (suc j)) v x =
-      ap (times (k.numbers (suc j)) e) (put-elsewhere v rail (out_of x) e (λ q. rail-no_output (l.stage j) (set.layout.is_stage j le) rail (rail-within (l.stage j).inputs b r within) x n (sym q))) in
+      ap (times (k.numbers (suc j)) e) (with_net-elsewhere v rail (out_of x) e (λ q. rail-no_output (l.stage j) (set.layout.is_stage j le) rail (rail-within (l.stage j).inputs b r within) x n (sym q))) in
       omega (arith, one)) in
       omega (arith, rails, gates))
     where
@@ -113,16 +113,16 @@ module _ {p : PipelineData} {l : Layout} {w : Waves} {offered : List (List Bool)
       v = in_stage l s.value j
 
       after : Nets
-      after = put (in_stage l s.value j) (in_rail l j b r) (rising k.numbers j)
+      after = with_net (in_stage l s.value j) (in_rail l j b r) (rising k.numbers j)
 
-      moved_more : suc (times (k.numbers j) (even (k.numbers j)) (has_data (in_stage l s.value j) (in_bit l j b))) ≤ times (k.numbers j) (even (k.numbers j)) (has_data (put (in_stage l s.value j) (in_rail l j b r) (rising k.numbers j)) (in_bit l j b))
+      moved_more : suc (times (k.numbers j) (even (k.numbers j)) (has_data (in_stage l s.value j) (in_bit l j b))) ≤ times (k.numbers j) (even (k.numbers j)) (has_data (with_net (in_stage l s.value j) (in_rail l j b r) (rising k.numbers j)) (in_bit l j b))
       moved_more = times-more (k.numbers j) (even (k.numbers j)) _ _ old
-          (subst (λ q. has_data (put v (in_rail l j b q) e) (in_bit l j b) ≡ even (k.numbers j)) (sym named)
+          (subst (λ q. has_data (with_net v (in_rail l j b q) e) (in_bit l j b) ≡ even (k.numbers j)) (sym named)
           (data-moved (set.layout.is_stage j le) e (set.waves.wide _ j le) (k.nets.phases j le) b within ∙ ap even (sym same)))
 
       each : (i : ℕ) → i < width l j
           → rail_changes (k.numbers j) (in_stage l s.value j) (in_bit l j i) ≤ rail_changes (k.numbers j)
-          (put (in_stage l s.value j) (in_rail l j b r) (rising k.numbers j)) (in_bit l j i)
+          (with_net (in_stage l s.value j) (in_rail l j b r) (rising k.numbers j)) (in_bit l j i)
       each i lt = elim (cases_eq b i) [
         | inl q ↦ subst (λ x. rail_changes (k.numbers j) v (in_bit l j x) ≤ rail_changes (k.numbers j) after (in_bit l j x)) q (let more = moved_more in omega (arith, more))
         | inr apart ↦
@@ -134,19 +134,19 @@ module _ {p : PipelineData} {l : Layout} {w : Waves} {offered : List (List Bool)
   -- ---- a net of a tree
 
   tree-rises : (j net : ℕ) → j ≤ l.last → Member net (l.tree_nets j) → s.value net ≡ rising k.numbers j
-      → Rises (put s.value net (not (rising k.numbers j)))
+      → Rises (with_net s.value net (not (rising k.numbers j)))
   tree-rises j net le listed old =
       let e : Bool = not (rising k.numbers j) in
       let (ch, stages) = tree_views set.layout s.value j net (not (rising k.numbers j)) le listed in
       let was : in_tree l s.value j net ≡ not (not (rising k.numbers j)) =
       local-at (l.tree_nets j) s.value net listed ∙ old ∙ sym (not-not (rising k.numbers j)) in
-      below-more l s.value (put s.value net (not (rising k.numbers j))) k.numbers (suc l.last) j (omega (arith, le))
+      below-more l s.value (with_net s.value net (not (rising k.numbers j))) k.numbers (suc l.last) j (omega (arith, le))
       (λ i lt apart. (stages i (omega (arith, lt)), ch.others i (omega (arith, lt)) apart))
-      (subst (λ x. suc (changes_at l k.numbers j (in_stage l s.value j) (in_tree l s.value j)) ≤ changes_at l k.numbers j x (in_tree l (put s.value net (not (rising k.numbers j))) j)) (sym (stages j le))
+      (subst (λ x. suc (changes_at l k.numbers j (in_stage l s.value j) (in_tree l s.value j)) ≤ changes_at l k.numbers j x (in_tree l (with_net s.value net (not (rising k.numbers j))) j)) (sym (stages j le))
       (subst (λ x. suc (changes_at l k.numbers j (in_stage l s.value j) (in_tree l s.value j)) ≤ changes_at l k.numbers j (in_stage l s.value j) x) (sym ch.here)
-      (let nets = sum_by-more (tree_changes (k.numbers (suc j)) (in_tree l s.value j)) (tree_changes (k.numbers (suc j)) (put (in_tree l s.value j) net (not (rising k.numbers j))))
+      (let nets = sum_by-more (tree_changes (k.numbers (suc j)) (in_tree l s.value j)) (tree_changes (k.numbers (suc j)) (with_net (in_tree l s.value j) net (not (rising k.numbers j))))
       net (λ x n. times-put (k.numbers (suc j)) (not (rising k.numbers j)) (in_tree l s.value j) net x was) listed
-      (times-more (k.numbers (suc j)) (not (rising k.numbers j)) _ _ was (put-here (in_tree l s.value j) net (not (rising k.numbers j)))) in
+      (times-more (k.numbers (suc j)) (not (rising k.numbers j)) _ _ was (with_net-here (in_tree l s.value j) net (not (rising k.numbers j)))) in
       omega (arith, nets))))
 
   -- ---- the moves
@@ -160,11 +160,11 @@ module _ {p : PipelineData} {l : Layout} {w : Waves} {offered : List (List Bool)
   source-rises b move =
       rail-rises 0 b (bit_at (word_in w k.numbers 0) b) (omega arith) move.within move.same (λ i. bit_at (word_in w k.numbers 0) b) (source_is_old set k move)
 
-  ki-rises : (value : Bool) → value ≡ not (rising k.numbers l.last) → Rises (put s.value p.ki value)
-  ki-rises value new = subst (λ x. Rises (put s.value p.ki x)) (sym new) (tree-rises l.last p.ki (omega arith) (ki-listed set.layout) (ki-value set k))
+  ki-rises : (value : Bool) → value ≡ not (rising k.numbers l.last) → Rises (with_net s.value p.ki value)
+  ki-rises value new = subst (λ x. Rises (with_net s.value p.ki x)) (sym new) (tree-rises l.last p.ki (omega arith) (ki-listed set.layout) (ki-value set k))
 
   tree-move : (item : Item) (j : ℕ) (cell : Cell) → IsTreeMove l s k.numbers j cell
-      → (step p s item).value ≡ put s.value cell.out.0 (not (rising k.numbers j)) → Rises (step p s item).value
+      → (step p s item).value ≡ with_net s.value cell.out.0 (not (rising k.numbers j)) → Rises (step p s item).value
   tree-move item j cell move is =
       subst Rises (sym is) (tree-rises j cell.out.0 (let lt = move.within in omega (arith, lt)) (tree-listed set.layout j cell move.within move.listed) move.old)
 

@@ -5,10 +5,10 @@ use Rattle.std.specs.List.{list_all}
 use Rattle.std.proofs.lemmas.Bool.{cases_eq, eq-eqb, ne_eqb}
 use Rattle.ncl_base.proofs.Lists.{pairs-head, pairs-tail}
 use Rattle.ncl_base.proofs.Members.{Member, here, there}
-use Rattle.ncl_shape.specs.Nets.{Nets, put}
+use Rattle.ncl_shape.specs.Nets.{Nets, with_net}
 use Rattle.ncl_machine.specs.Tallies.{count_of}
-use Rattle.ncl_machine.proofs.AtWorkLaws.{put-elsewhere}
-use Rattle.ncl_machine.proofs.LocalNets.{put-here}
+use Rattle.ncl_machine.proofs.AtWorkLaws.{with_net-elsewhere}
+use Rattle.ncl_machine.proofs.LocalNets.{with_net-here}
 use Rattle.ncl_machine.proofs.Numbers.{one_if}
 
 pub count-few : {X : Type 0} (test : X → Bool) (xs : List X) → count_of test xs ≤ length xs
@@ -64,25 +64,25 @@ count-nothing test (x ∷ xs) none = let e = ap (λ b. one_if b + count_of test 
 
 -- nets that differ: one of them that rises makes the count greater by one, one that falls less by one
 pub count-rises : (v : Nets) (net : ℕ) (nets : List ℕ) → AllPairs (λ x y. x ≢ y) nets → Member net nets → v net ≡ false
-    → count_of (put v net true) nets ≡ suc (count_of v nets)
+    → count_of (with_net v net true) nets ≡ suc (count_of v nets)
 count-rises v net [] differ m low = elim m [ ]
 count-rises v net (x ∷ nets) differ here low =
-    let risen = ap (λ b. one_if b + count_of (put v net true) nets) (put-here v net true) in
+    let risen = ap (λ b. one_if b + count_of (with_net v net true) nets) (with_net-here v net true) in
     let before = ap (λ b. one_if b + count_of v nets) low in
-    let rest = count-same v (put v net true) nets (λ x m. put-elsewhere v net x true (pairs-head (λ x y. x ≢ y) net nets differ x m)) in
+    let rest = count-same v (with_net v net true) nets (λ x m. with_net-elsewhere v net x true (pairs-head (λ x y. x ≢ y) net nets differ x m)) in
     omega (arith, risen, before, rest)
 count-rises v net (x ∷ nets) differ (there m) low =
     let apart : net ≢ x = λ e. pairs-head (λ x y. x ≢ y) x nets differ net m (sym e) in
-    let same = ap (λ b. one_if b + count_of (put v net true) nets) (put-elsewhere v net x true apart) in
+    let same = ap (λ b. one_if b + count_of (with_net v net true) nets) (with_net-elsewhere v net x true apart) in
     let rest = count-rises v net nets (pairs-tail (λ x y. x ≢ y) x nets differ) m low in
     omega (arith, same, rest)
 
 pub count-falls : (v : Nets) (net : ℕ) (nets : List ℕ) → AllPairs (λ x y. x ≢ y) nets → Member net nets → v net ≡ true
-    → suc (count_of (put v net false) nets) ≡ count_of v nets
+    → suc (count_of (with_net v net false) nets) ≡ count_of v nets
 count-falls v net nets differ m high =
-    let up = count-rises (put v net false) net nets differ m (put-here v net false) in
-    let back = count-same v (put (put v net false) net true) nets (λ x n. elim (cases_eq net x) [
-      | inl e ↦ subst (λ y. put (put v net false) net true y ≡ v y) e (put-here (put v net false) net true ∙ sym high)
-      | inr apart ↦ put-elsewhere (put v net false) net x true apart ∙ put-elsewhere v net x false apart
+    let up = count-rises (with_net v net false) net nets differ m (with_net-here v net false) in
+    let back = count-same v (with_net (with_net v net false) net true) nets (λ x n. elim (cases_eq net x) [
+      | inl e ↦ subst (λ y. with_net (with_net v net false) net true y ≡ v y) e (with_net-here (with_net v net false) net true ∙ sym high)
+      | inr apart ↦ with_net-elsewhere (with_net v net false) net x true apart ∙ with_net-elsewhere v net x false apart
     ]) in
     omega (arith, up, back)

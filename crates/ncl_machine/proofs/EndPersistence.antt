@@ -12,7 +12,7 @@ use Rattle.ncl_layout.specs.Layout.{Layout, in_rail, stage_nets, width}
 use Rattle.ncl_machine.specs.State.{State}
 use Rattle.ncl_machine.specs.Steps.{enabled, step, differ, next_value, is_data, is_null, has_value, current_rails, after_lower}
 use Rattle.ncl_machine.specs.Run.{IsPersistent}
-use Rattle.ncl_machine.proofs.AtWorkLaws.{put-elsewhere}
+use Rattle.ncl_machine.proofs.AtWorkLaws.{with_net-elsewhere}
 use Rattle.ncl_machine.proofs.TruthValues.{differ-itself}
 use Rattle.ncl_machine.proofs.ListTests.{member-passes, all-more}
 use Rattle.ncl_machine.proofs.NamedRails.{bit_at, rail-is_one}
@@ -48,7 +48,7 @@ module _ {p : PipelineData} {l : Layout} {w : Waves} {offered : List (List Bool)
     -- a move of another bit leaves the bit's rail as it is
     other-rail : (a : ℕ) → a < width l 0 → (a ≡ b → ⊥) → moved l w s k.numbers a (own b) ≡ s.value (own b)
     other-rail a la apart =
-        put-elsewhere s.value (own a) (own b) (rising k.numbers 0)
+        with_net-elsewhere s.value (own a) (own b) (rising k.numbers 0)
         (λ e. apart (rail-is_one (l.stage 0).inputs _ (set.layout.is_stage 0 (omega arith)).nets_differ a b _ _ la move.within e).0)
 
     -- so the bit's rail stays
@@ -57,10 +57,10 @@ module _ {p : PipelineData} {l : Layout} {w : Waves} {offered : List (List Bool)
         → (step p s item).value (own b) ≡ s.value (own b)
     rail-stays item (a_cell i cell at e is) apart =
         ap (λ v. v (own b)) is
-        ∙ put-elsewhere s.value cell.out.0 (own b) (next_value s.value cell) (λ q. output-no_source set.layout cell (set.layout.part_of i.0 cell at) b _ move.within (sym q))
+        ∙ with_net-elsewhere s.value cell.out.0 (own b) (next_value s.value cell) (λ q. output-no_source set.layout cell (set.layout.part_of i.0 cell at) b _ move.within (sym q))
     rail-stays item (the_source a other which is) apart = ap (λ v. v (own b)) is ∙ other-rail a other.within (apart a which)
     rail-stays item (the_sink value which is) apart =
-        ap (λ v. v (own b)) is ∙ put-elsewhere s.value p.ki (own b) value (λ q. source-no_ki set.layout b _ move.within (sym q))
+        ap (λ v. v (own b)) is ∙ with_net-elsewhere s.value p.ki (own b) value (λ q. source-no_ki set.layout b _ move.within (sym q))
 
     -- the rail's value, as the test of an item asks for it
     rail-value : (t : State) (value : Bool) → current_rails p t ≡ current_rails p s → t.value (own b) ≡ value
@@ -142,9 +142,9 @@ module _ {p : PipelineData} {l : Layout} {w : Waves} {offered : List (List Bool)
       → Mover set k item → (step p s item).value p.ki ≡ s.value p.ki
   ki-stays item other (a_cell i cell at e is) =
       ap (λ v. v p.ki) is
-      ∙ put-elsewhere s.value cell.out.0 p.ki (next_value s.value cell) (λ q. output-no_ki set.layout cell (set.layout.part_of i.0 cell at) (sym q))
+      ∙ with_net-elsewhere s.value cell.out.0 p.ki (next_value s.value cell) (λ q. output-no_ki set.layout cell (set.layout.part_of i.0 cell at) (sym q))
   ki-stays item other (the_source b move which is) =
-      ap (λ v. v p.ki) is ∙ put-elsewhere s.value (own b) p.ki (rising k.numbers 0) (source-no_ki set.layout b _ move.within)
+      ap (λ v. v p.ki) is ∙ with_net-elsewhere s.value (own b) p.ki (rising k.numbers 0) (source-no_ki set.layout b _ move.within)
   ki-stays item other (the_sink value which is) = absurd (other which)
 
   -- an output that has the value of the last wave

@@ -8,7 +8,7 @@ use Rattle.ncl_netlist.specs.declared.cell.Cell.{Cell}
 use Rattle.ncl_origin.specs.Origin.{CellAt}
 use Rattle.ncl_shape.specs.declared.item.Item.{Item}
 use Rattle.ncl_shape.specs.declared.item.Item.TheVariants.{Cell as Fire}
-use Rattle.ncl_shape.specs.Nets.{Nets, put}
+use Rattle.ncl_shape.specs.Nets.{Nets, with_net}
 use Rattle.ncl_shape.specs.Pipeline.{PipelineData}
 use Rattle.ncl_layout.specs.Layout.{in_rail, Layout, Part, width}
 use Rattle.ncl_stage.specs.Faults.{has_data}
@@ -16,11 +16,11 @@ use Rattle.ncl_machine.specs.declared.pair.Pair.{Pair}
 use Rattle.ncl_machine.specs.State.{State}
 use Rattle.ncl_machine.specs.Steps.{step, current_rails, after_raise, after_lower, pair_at, next_value, fired}
 use Rattle.ncl_machine.specs.DelayInsensitive.{Carries}
-use Rattle.ncl_machine.proofs.AtWorkLaws.{put-elsewhere}
+use Rattle.ncl_machine.proofs.AtWorkLaws.{with_net-elsewhere}
 use Rattle.ncl_machine.proofs.ListTests.{push-cases}
 use Rattle.ncl_machine.proofs.NamedRails.{bit_at, data-same}
 use Rattle.ncl_machine.proofs.StageNets.{in_bit}
-use Rattle.ncl_machine.proofs.LocalNets.{put-here, in_stage}
+use Rattle.ncl_machine.proofs.LocalNets.{with_net-here, in_stage}
 use Rattle.ncl_machine.proofs.CellNets.{output-no_source, output-no_ki, source-no_ki}
 use Rattle.ncl_machine.proofs.Numbers.{even, half, one_if, one_if-most, half-given, place-here, place-other}
 use Rattle.ncl_machine.proofs.Invariant.{Waves, IsSetting, AreAt, AreEnds, HasInvariant, rising, word_in}
@@ -33,18 +33,18 @@ use Rattle.ncl_machine.proofs.SinkWords.{taken-carries}
 module _ {p : PipelineData} {l : Layout} {w : Waves} {offered : List (List Bool)} (set : IsSetting p l w offered) {s : State} (k : HasInvariant l w offered s) where
   -- where a net changes that is no rail of the source, its bits are as before
   source-same : (net : ℕ) (value : Bool) → ((b : ℕ) (r : Bool) → b < width l 0 → in_rail l 0 b r ≡ net → ⊥) → (b : ℕ) → b < width l 0
-      → has_data (in_stage l (put s.value net value) 0) (in_bit l 0 b) ≡ has_data (in_stage l s.value 0) (in_bit l 0 b)
-  source-same net value no_rail b lt = data-same (in_stage l s.value 0) (in_stage l (put s.value net value) 0) (in_bit l 0 b) (rail false) (rail true)
+      → has_data (in_stage l (with_net s.value net value) 0) (in_bit l 0 b) ≡ has_data (in_stage l s.value 0) (in_bit l 0 b)
+  source-same net value no_rail b lt = data-same (in_stage l s.value 0) (in_stage l (with_net s.value net value) 0) (in_bit l 0 b) (rail false) (rail true)
     where
-      rail : (r : Bool) → in_stage l (put s.value net value) 0 (in_rail l 0 b r) ≡ in_stage l s.value 0 (in_rail l 0 b r)
+      rail : (r : Bool) → in_stage l (with_net s.value net value) 0 (in_rail l 0 b r) ≡ in_stage l s.value 0 (in_rail l 0 b r)
       rail r =
-          in-local set (put s.value net value) 0 b r lt
-          ∙ put-elsewhere s.value net (in_rail l 0 b r) value (λ e. no_rail b r lt (sym e))
+          in-local set (with_net s.value net value) 0 b r lt
+          ∙ with_net-elsewhere s.value net (in_rail l 0 b r) value (λ e. no_rail b r lt (sym e))
           ∙ sym (in-local set s.value 0 b r lt)
 
   -- and where it isn't the sink's acknowledge, that is as before
-  sink-same : (net : ℕ) (value : Bool) → (p.ki ≡ net → ⊥) → put s.value net value (l.root l.last) ≡ s.value (l.root l.last)
-  sink-same net value no_ki = put-elsewhere s.value net (l.root l.last) value (λ e. no_ki (sym set.layout.ki ∙ sym e))
+  sink-same : (net : ℕ) (value : Bool) → (p.ki ≡ net → ⊥) → with_net s.value net value (l.root l.last) ≡ s.value (l.root l.last)
+  sink-same net value no_ki = with_net-elsewhere s.value net (l.root l.last) value (λ e. no_ki (sym set.layout.ki ∙ sym e))
 
   -- the numbers of the ends, where another bank goes on
   abbrev SameEnds : (ℕ → ℕ) → Type 0
@@ -64,13 +64,13 @@ module _ {p : PipelineData} {l : Layout} {w : Waves} {offered : List (List Bool)
   })
     where
       after : Nets
-      after = put s.value cell.out.0 (next_value s.value cell)
+      after = with_net s.value cell.out.0 (next_value s.value cell)
 
       part : Part l cell
       part = set.layout.part_of i.0 cell at
 
       same : (b : ℕ) → b < width l 0
-          → has_data (in_stage l (put s.value cell.out.0 (next_value s.value cell)) 0) (in_bit l 0 b) ≡ has_data (in_stage l s.value 0) (in_bit l 0 b)
+          → has_data (in_stage l (with_net s.value cell.out.0 (next_value s.value cell)) 0) (in_bit l 0 b) ≡ has_data (in_stage l s.value 0) (in_bit l 0 b)
       same = source-same cell.out.0 (next_value s.value cell) (output-no_source set.layout cell part)
 
   -- ---- a rail of the source that moves
@@ -137,18 +137,18 @@ module _ {p : PipelineData} {l : Layout} {w : Waves} {offered : List (List Bool)
 
   -- ---- the sink's acknowledge
 
-  -- the sink's acknowledge has the value put
-  ki-now : (value : Bool) → put s.value p.ki value (l.root l.last) ≡ value
-  ki-now value = subst (λ x. put s.value p.ki value x ≡ value) (sym set.layout.ki) (put-here s.value p.ki value)
+  -- the sink's acknowledge has the value with_net
+  ki-now : (value : Bool) → with_net s.value p.ki value (l.root l.last) ≡ value
+  ki-now value = subst (λ x. with_net s.value p.ki value x ≡ value) (sym set.layout.ki) (with_net-here s.value p.ki value)
 
   asked : one_if (not (s.value (l.root l.last))) ≡ one_if (not (rising k.numbers l.last))
   asked = ap (λ x. one_if (not x)) (root-value set k l.last (omega arith))
 
   -- the sink goes on to its next wave
   sink-ends : (value : Bool) (delivered : List Pair)
-      → next_at k.numbers (suc l.last) (suc l.last) + one_if (not (put s.value p.ki value (l.root l.last))) ≡ 2 * length delivered
+      → next_at k.numbers (suc l.last) (suc l.last) + one_if (not (with_net s.value p.ki value (l.root l.last))) ≡ 2 * length delivered
       → ((i : ℕ) (pair : Pair) → slice_get delivered i ≡ Some pair → Carries (w.word i (suc l.last)) pair)
-      → AreEnds l w offered (record s { value = put s.value p.ki value; delivered = delivered }) (next_at k.numbers (suc l.last))
+      → AreEnds l w offered (record s { value = with_net s.value p.ki value; delivered = delivered }) (next_at k.numbers (suc l.last))
   sink-ends value delivered taken carried =
       let source : next_at k.numbers (suc l.last) 0 ≡ k.numbers 0 =
       place-other k.numbers (suc l.last) (suc (k.numbers (suc l.last))) 0 (λ q. omega (arith, q)) in
@@ -191,7 +191,7 @@ module _ {p : PipelineData} {l : Layout} {w : Waves} {offered : List (List Bool)
       (done-ends move (next_at k.numbers 0) falls od (place-here k.numbers 0 (suc (k.numbers 0))) (place-other k.numbers 0 (suc (k.numbers 0)) (suc l.last) (λ q. omega (arith, q))) (all_lowered set k move od all)))
   ends-kept item (take ev some acks) = sink-ends false (s.delivered ++ pair_at p.outputs s.value ∷ [])
       (let now = place-here k.numbers (suc l.last) (suc (k.numbers (suc l.last))) in
-      let low : one_if (not (put s.value p.ki false (l.root l.last))) ≡ 1 = ap (λ x. one_if (not x)) (ki-now false) in
+      let low : one_if (not (with_net s.value p.ki false (l.root l.last))) ≡ 1 = ap (λ x. one_if (not x)) (ki-now false) in
       let more : length (s.delivered ++ pair_at p.outputs s.value ∷ []) ≡ length s.delivered + 1 =
       length-append s.delivered (pair_at p.outputs s.value ∷ []) in
       let before = count in
@@ -211,7 +211,7 @@ module _ {p : PipelineData} {l : Layout} {w : Waves} {offered : List (List Bool)
           omega (arith, before, high)
   ends-kept item (ready od none acks) = sink-ends true s.delivered
       (let now = place-here k.numbers (suc l.last) (suc (k.numbers (suc l.last))) in
-      let high : one_if (not (put s.value p.ki true (l.root l.last))) ≡ 0 = ap (λ x. one_if (not x)) (ki-now true) in
+      let high : one_if (not (with_net s.value p.ki true (l.root l.last))) ≡ 0 = ap (λ x. one_if (not x)) (ki-now true) in
       let before = k.ends.taken in
       let low : one_if (not (s.value (l.root l.last))) ≡ 1 = asked ∙ ap (λ x. one_if (not x)) od in
       omega (arith, now, high, before, low))

@@ -8,7 +8,7 @@ use Rattle.ncl_gates.proofs.GateLaws.{set_of-low}
 use Rattle.ncl_netlist.specs.declared.ids.NetId.{NetId}
 use Rattle.ncl_shape.specs.declared.rails.Rails.{Rails}
 use Rattle.ncl_shape.specs.declared.stage.StageCell.{StageCell}
-use Rattle.ncl_shape.specs.Nets.{Nets, IsBelow, put}
+use Rattle.ncl_shape.specs.Nets.{Nets, IsBelow, with_net}
 use Rattle.ncl_shape.specs.Stage.{StageData, IsStage, rail_nets, out_of}
 use Rattle.ncl_shape.specs.Closure.{pin_values}
 use Rattle.ncl_base.proofs.Members.{Member, here, there, Contains-from_Member, Member-from_Contains, recursion_from_members, slice_get-from_Contains}
@@ -21,7 +21,7 @@ use Rattle.ncl_stage.proofs.ValueLaws.{holds-grows, rail-no_output, same_output,
 use Rattle.ncl_machine.specs.Steps.{differ, is_null}
 use Rattle.ncl_machine.specs.AtWork.{next_of_gate, IsExcited, IsFalling, settled, lower, fire}
 use Rattle.ncl_machine.specs.StageLaw.{IsUndisturbed, IsFallingSafely}
-use Rattle.ncl_machine.proofs.AtWorkLaws.{falling-within, put-elsewhere, put-lowered}
+use Rattle.ncl_machine.proofs.AtWorkLaws.{falling-within, with_net-elsewhere, with_net-lowered}
 use Rattle.ncl_machine.proofs.InOrder.{in_order}
 use Rattle.ncl_machine.proofs.SoundLaws.{need, legal-below, named-from_high}
 
@@ -82,12 +82,12 @@ drained-excited s word v below drained c m =
     both_ways (holds v c) (set_of-low c.kind (pin_values v c.ins.items) (drained c m high low)) set))
 
 -- one net less, which is no output of a cell but of some that read nothing that is high
-pub drained-less : (s : StageData) (word : List Bool) (v : Nets) (net : ℕ) → IsDrained s word v → ((c : StageCell) → Member c s.cells → net ≡ out_of c → IsUnfed v c) → IsDrained s word (put v net false)
+pub drained-less : (s : StageData) (word : List Bool) (v : Nets) (net : ℕ) → IsDrained s word v → ((c : StageCell) → Member c s.cells → net ≡ out_of c → IsUnfed v c) → IsDrained s word (with_net v net false)
 drained-less s word v net drained own c m high low =
-    unfed-below v (put v net false) (put-lowered v net) c
+    unfed-below v (with_net v net false) (with_net-lowered v net) c
     (elim (cases_eq net (out_of c)) [
       | inl same ↦ own c m same
-      | inr apart ↦ drained c m high (sym (put-elsewhere v net (out_of c) false apart) ∙ low)
+      | inr apart ↦ drained c m high (sym (with_net-elsewhere v net (out_of c) false apart) ∙ low)
     ])
 
 pub rail-apart : (s : StageData) → IsStage s → (net : ℕ) → Contains (rail_nets s.inputs) net → (c : StageCell) → Member c s.cells → net ≢ out_of c
@@ -101,7 +101,7 @@ falling-drained s is word v (fire {v = old} other in_s excited before) =
     let drained : IsDrained s word old = falling-drained s is word old before in
     let n : Member other s.cells = Member-from_Contains s.cells other in_s in
     let unfed : IsUnfed old other = (drained-excited s word old (falling-within s word old before) drained other n excited).1 in
-    subst (λ b. IsDrained s word (put old other.out.0 b)) (sym (next-from_unfed old other unfed))
+    subst (λ b. IsDrained s word (with_net old other.out.0 b)) (sym (next-from_unfed old other unfed))
     (drained-less s word old other.out.0 drained (λ c m same. subst (IsUnfed old) (same_output s is other c n m same) unfed))
 
 -- ---- empty
@@ -155,11 +155,11 @@ falling-empty s is sound word right v below drained null net =
 -- ---- undisturbed
 
 -- a cell that is high and reads nothing that is stays excited where one other net falls
-pub excited-below : (v : Nets) (c : StageCell) (net : ℕ) → net ≢ out_of c → (v (out_of c) ≡ true) × IsUnfed v c → IsExcited (put v net false) c
+pub excited-below : (v : Nets) (c : StageCell) (net : ℕ) → net ≢ out_of c → (v (out_of c) ≡ true) × IsUnfed v c → IsExcited (with_net v net false) c
 excited-below v c net apart (high, unfed) =
-    let low : IsUnfed (put v net false) c = unfed-below v (put v net false) (put-lowered v net) c unfed in
-    excited-from_unfed (set_of c.kind (pin_values (put v net false) c.ins.items)) (some_high (pin_values (put v net false) c.ins.items)) (put v net false c.out.0)
-    (put-elsewhere v net (out_of c) false apart ∙ high) (set_of-low c.kind (pin_values (put v net false) c.ins.items) low) low
+    let low : IsUnfed (with_net v net false) c = unfed-below v (with_net v net false) (with_net-lowered v net) c unfed in
+    excited-from_unfed (set_of c.kind (pin_values (with_net v net false) c.ins.items)) (some_high (pin_values (with_net v net false) c.ins.items)) (with_net v net false c.out.0)
+    (with_net-elsewhere v net (out_of c) false apart ∙ high) (set_of-low c.kind (pin_values (with_net v net false) c.ins.items) low) low
 
 pub falling-undisturbed : (s : StageData) → IsStage s → (word : List Bool) (v : Nets) → IsBelow v (val s word Base) → IsDrained s word v → IsUndisturbed s (rail_nets s.inputs) false v
 falling-undisturbed s is word v below drained = record {
@@ -170,7 +170,7 @@ falling-undisturbed s is word v below drained = record {
       let m : Member c s.cells = Member-from_Contains s.cells c in_s in
       let n : Member other s.cells = Member-from_Contains s.cells other other_in in
       let (high, unfed) = drained-excited s word v below drained other n other_excited in
-      subst (λ b. IsExcited (put v other.out.0 b) c) (sym (next-from_unfed v other unfed))
+      subst (λ b. IsExcited (with_net v other.out.0 b) c) (sym (next-from_unfed v other unfed))
       (excited-below v c other.out.0 (λ e. unlike (sym (same_output s is other c n m e))) (drained-excited s word v below drained c m excited));
 }
 

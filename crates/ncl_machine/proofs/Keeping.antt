@@ -3,7 +3,7 @@ use Rattle.std.proofs.Common.{◌≡◌, ℕ, suc, ◌<◌, ◌≤◌, Bool, tru
 use Rattle.std.proofs.lemmas.Bool.{not_from_true, not_from_false}
 use Rattle.ncl_base.proofs.Members.{Member}
 use Rattle.ncl_shape.specs.declared.item.Item.{Item}
-use Rattle.ncl_shape.specs.Nets.{Nets, put}
+use Rattle.ncl_shape.specs.Nets.{Nets, with_net}
 use Rattle.ncl_shape.specs.Stage.{out_of}
 use Rattle.ncl_shape.specs.Pipeline.{PipelineData}
 use Rattle.ncl_layout.specs.Layout.{Layout, stage_nets, in_rail, out_rail, width}
@@ -32,25 +32,25 @@ module _ {p : PipelineData} {l : Layout} {w : Waves} {offered : List (List Bool)
 
     -- where one net of a stage changes, and where one net of a tree does
     by_stage : (j net : ℕ) (value : Bool) (c : ℕ → ℕ) → j ≤ l.last → Member net (stage_nets l j)
-        → ((new : ℕ → Nets) → Changes l.last (in_stage l s.value) new j (put (in_stage l s.value j) net value) → AreKept l w new (in_tree l s.value) c)
-        → Kept (put s.value net value) c
+        → ((new : ℕ → Nets) → Changes l.last (in_stage l s.value) new j (with_net (in_stage l s.value j) net value) → AreKept l w new (in_tree l s.value) c)
+        → Kept (with_net s.value net value) c
     by_stage j net value c le m keeps =
-        let now : ℕ → Nets = in_stage l (put s.value net value) in
+        let now : ℕ → Nets = in_stage l (with_net s.value net value) in
         let (changes, same) = stage_changes set.layout s.value j net value le m in
-        same-kept now (in_tree l (put s.value net value)) (λ i le. refl) same (keeps now changes)
+        same-kept now (in_tree l (with_net s.value net value)) (λ i le. refl) same (keeps now changes)
 
     by_tree : (j net : ℕ) (value : Bool) (c : ℕ → ℕ) → j ≤ l.last → Member net (l.tree_nets j)
-        → ((new : ℕ → Nets) → Changes l.last (in_tree l s.value) new j (put (in_tree l s.value j) net value) → AreKept l w (in_stage l s.value) new c)
-        → Kept (put s.value net value) c
+        → ((new : ℕ → Nets) → Changes l.last (in_tree l s.value) new j (with_net (in_tree l s.value j) net value) → AreKept l w (in_stage l s.value) new c)
+        → Kept (with_net s.value net value) c
     by_tree j net value c le m keeps =
-        let now : ℕ → Nets = in_tree l (put s.value net value) in
+        let now : ℕ → Nets = in_tree l (with_net s.value net value) in
         let (changes, same) = tree_changes set.layout s.value j net value le m in
-        same-kept (in_stage l (put s.value net value)) now same (λ i le. refl) (keeps now changes)
+        same-kept (in_stage l (with_net s.value net value)) now same (λ i le. refl) (keeps now changes)
 
     -- a rail of a bank or of the source
     rail : (i b : ℕ) (r : Bool) → i ≤ l.last → b < width l i → k.numbers i ≡ k.numbers (suc i) → r ≡ bit_at (word_in w k.numbers i) b
         → ((j : ℕ) → suc j ≡ i → in_stage l s.value j (out_rail l j b r) ≡ rising k.numbers i)
-        → Kept (put s.value (in_rail l i b r) (rising k.numbers i)) k.numbers
+        → Kept (with_net s.value (in_rail l i b r) (rising k.numbers i)) k.numbers
     rail i b r le within same named reads =
         by_stage i (in_rail l i b r) (rising k.numbers i) k.numbers le (rail-listed (l.stage i) b r within)
         (λ new changes. rail-kept set k.nets new i le b r within same named reads changes)
@@ -60,16 +60,16 @@ module _ {p : PipelineData} {l : Layout} {w : Waves} {offered : List (List Bool)
 
     -- the root of a bank or of the sink
     acknowledge : (j : ℕ) → j ≤ l.last → Acknowledges l w (in_stage l s.value) (in_tree l s.value) k.numbers j
-        → Kept (put s.value (l.root j) (not (rising k.numbers j))) (next_at k.numbers (suc j))
+        → Kept (with_net s.value (l.root j) (not (rising k.numbers j))) (next_at k.numbers (suc j))
     acknowledge j le acks =
         by_tree j (l.root j) (not (rising k.numbers j)) (next_at k.numbers (suc j)) le (root-listed set.layout j le)
         (λ new changes. root-kept set k.nets new j le acks changes)
 
     sink_acknowledges : (value : Bool) → not (rising k.numbers l.last) ≡ value
         → Acknowledges l w (in_stage l s.value) (in_tree l s.value) k.numbers l.last
-        → Kept (put s.value p.ki value) (next_at k.numbers (suc l.last))
+        → Kept (with_net s.value p.ki value) (next_at k.numbers (suc l.last))
     sink_acknowledges value is acks =
-        subst (λ v. Kept v (next_at k.numbers (suc l.last))) (ap (λ x. put s.value x (not (rising k.numbers l.last))) set.layout.ki ∙ ap (put s.value p.ki) is)
+        subst (λ v. Kept v (next_at k.numbers (suc l.last))) (ap (λ x. with_net s.value x (not (rising k.numbers l.last))) set.layout.ki ∙ ap (with_net s.value p.ki) is)
         (acknowledge l.last (omega arith) acks)
 
     -- any move keeps the invariant of the nets
@@ -87,7 +87,7 @@ module _ {p : PipelineData} {l : Layout} {w : Waves} {offered : List (List Bool)
         (by_tree j cell.out.0 (not (rising k.numbers j)) k.numbers (let lt = move.within in omega (arith, lt)) listed
         (λ new changes. tree-kept set k.nets new j cell move.within move.listed (local-at (l.tree_nets j) s.value cell.out.0 listed ∙ move.old) move.new inner changes))
     nets-kept item (root i cell j at move is acks) =
-        subst (λ v. Kept v (next_at k.numbers (suc j))) (sym (tree-step set k i cell j at move ∙ ap (λ x. put s.value x (not (rising k.numbers j))) is))
+        subst (λ v. Kept v (next_at k.numbers (suc j))) (sym (tree-step set k i cell j at move ∙ ap (λ x. with_net s.value x (not (rising k.numbers j))) is))
         (acknowledge j (let lt = move.within in omega (arith, lt)) acks)
     nets-kept item (raise b move rises ev some_low) = subst (λ v. Kept v k.numbers) (sym (raise-step set k b move ev)) (source_rail b move)
     nets-kept item (raise_last b move rises ev all_high) =

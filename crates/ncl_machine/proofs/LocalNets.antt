@@ -6,11 +6,11 @@ use Rattle.std.proofs.lemmas.Bool.{and_from, and_parts, cases_eq, eq-eqb, false_
 use Rattle.ncl_base.proofs.Members.{here, there}
 use Rattle.ncl_netlist.specs.declared.ids.NetId.{NetId}
 use Rattle.ncl_shape.specs.declared.rails.Rails.{Rails}
-use Rattle.ncl_shape.specs.Nets.{Nets, among, put}
+use Rattle.ncl_shape.specs.Nets.{Nets, among, with_net}
 use Rattle.ncl_shape.specs.Closure.{pin_values}
 use Rattle.ncl_layout.specs.Layout.{Layout, stage_nets}
 use Rattle.ncl_stage.proofs.OnePass.{among-from_member}
-use Rattle.ncl_machine.proofs.AtWorkLaws.{put-elsewhere}
+use Rattle.ncl_machine.proofs.AtWorkLaws.{with_net-elsewhere}
 use Rattle.ncl_machine.proofs.NamedRails.{member-from_among}
 use Rattle.ncl_base.specs.Members.{Member}
 
@@ -30,36 +30,36 @@ pub local-at : (nets : List ℕ) (v : Nets) (net : ℕ) → Member net nets → 
 local-at nets v net m = ap (λ a. a && v net) (among-from_member net m)
 
 -- a net that was changed has the value
-pub put-here : (v : Nets) (net : ℕ) (value : Bool) → put v net value net ≡ value
-put-here v net value = ap (λ b. cond b value (v net)) (eq-eqb net net refl)
+pub with_net-here : (v : Nets) (net : ℕ) (value : Bool) → with_net v net value net ≡ value
+with_net-here v net value = ap (λ b. cond b value (v net)) (eq-eqb net net refl)
 
 -- a net that has the value keeps it
-pub put-keeps : (v : Nets) (net other : ℕ) (value : Bool) → v other ≡ value → put v net value other ≡ value
-put-keeps v net other value has = elim (cases_eq net other) [
-  | inl e ↦ subst (λ x. put v net value x ≡ value) e (put-here v net value)
-  | inr apart ↦ put-elsewhere v net other value apart ∙ has
+pub with_net-keeps : (v : Nets) (net other : ℕ) (value : Bool) → v other ≡ value → with_net v net value other ≡ value
+with_net-keeps v net other value has = elim (cases_eq net other) [
+  | inl e ↦ subst (λ x. with_net v net value x ≡ value) e (with_net-here v net value)
+  | inr apart ↦ with_net-elsewhere v net other value apart ∙ has
 ]
 
 -- where one of them changes, that is what changes
-pub local-put_here : (nets : List ℕ) (v : Nets) (net : ℕ) (value : Bool) → Member net nets → local nets (put v net value) ≡ put (local nets v) net value
+pub local-put_here : (nets : List ℕ) (v : Nets) (net : ℕ) (value : Bool) → Member net nets → local nets (with_net v net value) ≡ with_net (local nets v) net value
 local-put_here nets v net value m = fun_ext (λ other.
     elim (cases_eq net other) [
       | inl e ↦
           ap (λ b. among nets other && cond b value (v other)) (eq-eqb net other e)
           ∙ ap (λ a. a && value) (subst (λ x. among nets x ≡ true) e (among-from_member net m))
           ∙ sym (ap (λ b. cond b value (among nets other && v other)) (eq-eqb net other e))
-      | inr apart ↦ ap (λ x. among nets other && x) (put-elsewhere v net other value apart) ∙ sym (put-elsewhere (local nets v) net other value apart)
+      | inr apart ↦ ap (λ x. among nets other && x) (with_net-elsewhere v net other value apart) ∙ sym (with_net-elsewhere (local nets v) net other value apart)
     ])
 
 -- where another changes, nothing does
-pub local-put_other : (nets : List ℕ) (v : Nets) (net : ℕ) (value : Bool) → (Member net nets → ⊥) → local nets (put v net value) ≡ local nets v
+pub local-put_other : (nets : List ℕ) (v : Nets) (net : ℕ) (value : Bool) → (Member net nets → ⊥) → local nets (with_net v net value) ≡ local nets v
 local-put_other nets v net value none = fun_ext (λ other.
     elim (cases_eq net other) [
       | inl e ↦
           let out : among nets other ≡ false =
           false_from_ne_true _ (λ some. none (subst (λ x. Member x nets) (sym e) (member-from_among other nets some))) in
-          ap (λ a. a && put v net value other) out ∙ sym (ap (λ a. a && v other) out)
-      | inr apart ↦ ap (λ x. among nets other && x) (put-elsewhere v net other value apart)
+          ap (λ a. a && with_net v net value other) out ∙ sym (ap (λ a. a && v other) out)
+      | inr apart ↦ ap (λ x. among nets other && x) (with_net-elsewhere v net other value apart)
     ])
 
 -- a cell that reads these nets alone sees the same on its pins

@@ -7,15 +7,15 @@ use Rattle.ncl_base.proofs.Lists.{pairs-head, pairs-tail}
 use Rattle.ncl_base.proofs.Members.{Member, here, there}
 use Rattle.ncl_netlist.specs.declared.ids.NetId.{NetId}
 use Rattle.ncl_shape.specs.declared.rails.Rails.{Rails}
-use Rattle.ncl_shape.specs.Nets.{Nets, put}
+use Rattle.ncl_shape.specs.Nets.{Nets, with_net}
 use Rattle.ncl_shape.specs.Stage.{rail_nets}
 use Rattle.ncl_stage.specs.Faults.{has_data}
 use Rattle.ncl_machine.specs.Held.{net_values}
 use Rattle.ncl_machine.specs.Tallies.{count_of, mate_of, mate_in, is_covered_by}
-use Rattle.ncl_machine.proofs.AtWorkLaws.{put-elsewhere}
+use Rattle.ncl_machine.proofs.AtWorkLaws.{with_net-elsewhere}
 use Rattle.ncl_machine.proofs.Counts.{count-same}
 use Rattle.ncl_machine.proofs.InOrder.{rails_within}
-use Rattle.ncl_machine.proofs.LocalNets.{put-here}
+use Rattle.ncl_machine.proofs.LocalNets.{with_net-here}
 use Rattle.ncl_machine.proofs.NamedRails.{data-same}
 use Rattle.ncl_machine.proofs.Numbers.{one_if}
 use Rattle.ncl_machine.proofs.ValueLists.{net_values-set}
@@ -123,12 +123,12 @@ turned-one false false m n same = omega (arith, same)
 
 abbrev CountTurns : Nets → ℕ → Bool → Rails → List Rails → Option NetId → Type 0
 CountTurns v net value r bits mate =
-    gain (is_covered_by v mate) (not value) + (one_if (has_data (put v net value) r) + count_of (has_data (put v net value)) bits)
+    gain (is_covered_by v mate) (not value) + (one_if (has_data (with_net v net value) r) + count_of (has_data (with_net v net value)) bits)
     ≡ gain (is_covered_by v mate) value + (one_if (has_data v r) + count_of (has_data v) bits)
 
 -- a net that turns to a value: the count changes by one where its mate is low, and else not
 pub count-turned : (v : Nets) (net : ℕ) (value : Bool) → v net ≡ not value → (bits : List Rails) → AllPairs (λ x y. x ≢ y) (rail_nets bits)
-    → gain (is_covered_by v (mate_in bits net)) (not value) + count_of (has_data (put v net value)) bits
+    → gain (is_covered_by v (mate_in bits net)) (not value) + count_of (has_data (with_net v net value)) bits
     ≡ gain (is_covered_by v (mate_in bits net)) value + count_of (has_data v) bits
 count-turned v net value turns [] differ = refl
 count-turned v net value turns (r ∷ bits) differ = by_rail (own_rail r net) (count-turned v net value turns bits (pairs-tail (λ x y. x ≢ y) r.one.0 (rail_nets bits) rest_differ))
@@ -140,42 +140,42 @@ count-turned v net value turns (r ∷ bits) differ = by_rail (own_rail r net) (c
     rest_differ = pairs-tail (λ x y. x ≢ y) r.zero.0 (r.one.0 ∷ rail_nets bits) differ
 
     -- where the net is no rail of the other bits, they are as they were
-    others : (Member net (rail_nets bits) → ⊥) → count_of (has_data (put v net value)) bits ≡ count_of (has_data v) bits
+    others : (Member net (rail_nets bits) → ⊥) → count_of (has_data (with_net v net value)) bits ≡ count_of (has_data v) bits
     others none =
-        count-same (has_data v) (has_data (put v net value)) bits (λ x m.
+        count-same (has_data v) (has_data (with_net v net value)) bits (λ x m.
         let (zero_in, one_in) = rails_within x m in
-        data-same v (put v net value) x
-        (put-elsewhere v net x.zero.0 value (λ e. none (subst (λ y. Member y (rail_nets bits)) (sym e) zero_in)))
-        (put-elsewhere v net x.one.0 value (λ e. none (subst (λ y. Member y (rail_nets bits)) (sym e) one_in))))
+        data-same v (with_net v net value) x
+        (with_net-elsewhere v net x.zero.0 value (λ e. none (subst (λ y. Member y (rail_nets bits)) (sym e) zero_in)))
+        (with_net-elsewhere v net x.one.0 value (λ e. none (subst (λ y. Member y (rail_nets bits)) (sym e) one_in))))
 
-    by_rail : OwnRail r net → gain (is_covered_by v (mate_in bits net)) (not value) + count_of (has_data (put v net value)) bits
+    by_rail : OwnRail r net → gain (is_covered_by v (mate_in bits net)) (not value) + count_of (has_data (with_net v net value)) bits
         ≡ gain (is_covered_by v (mate_in bits net)) value + count_of (has_data v) bits → CountTurns v net value r bits (mate_in (r ∷ bits) net)
     by_rail (is_zero e own) rest =
         let none : Member net (rail_nets bits) → ⊥ = λ m. apart_zero net (there m) e in
         let mate : mate_in (r ∷ bits) net ≡ Some r.one = ap (λ o. option_or o (mate_of r net)) (mate_in-apart bits net none) ∙ own in
-        let now_zero : put v net value r.zero.0 ≡ value = subst (λ x. put v net value x ≡ value) (sym e) (put-here v net value) in
-        let now_one : put v net value r.one.0 ≡ v r.one.0 = put-elsewhere v net r.one.0 value (λ q. apart_zero r.one.0 here (e ∙ q)) in
-        let now : has_data (put v net value) r ≡ (value || v r.one.0) = ap (λ x. x || put v net value r.one.0) now_zero ∙ ap (λ y. value || y) now_one in
+        let now_zero : with_net v net value r.zero.0 ≡ value = subst (λ x. with_net v net value x ≡ value) (sym e) (with_net-here v net value) in
+        let now_one : with_net v net value r.one.0 ≡ v r.one.0 = with_net-elsewhere v net r.one.0 value (λ q. apart_zero r.one.0 here (e ∙ q)) in
+        let now : has_data (with_net v net value) r ≡ (value || v r.one.0) = ap (λ x. x || with_net v net value r.one.0) now_zero ∙ ap (λ y. value || y) now_one in
         let before : has_data v r ≡ (not value || v r.one.0) = ap (λ x. x || v r.one.0) (subst (λ x. v x ≡ not value) (sym e) turns) in
         subst (CountTurns v net value r bits) (sym mate)
-        (ap (λ b. gain (v r.one.0) (not value) + (one_if b + count_of (has_data (put v net value)) bits)) now
+        (ap (λ b. gain (v r.one.0) (not value) + (one_if b + count_of (has_data (with_net v net value)) bits)) now
         ∙ turned-zero value (v r.one.0) _ _ (others none)
         ∙ sym (ap (λ b. gain (v r.one.0) value + (one_if b + count_of (has_data v) bits)) before))
     by_rail (is_one apart e own) rest =
         let none : Member net (rail_nets bits) → ⊥ = λ m. pairs-head (λ x y. x ≢ y) r.one.0 (rail_nets bits) rest_differ net m e in
         let mate : mate_in (r ∷ bits) net ≡ Some r.zero = ap (λ o. option_or o (mate_of r net)) (mate_in-apart bits net none) ∙ own in
-        let now_one : put v net value r.one.0 ≡ value = subst (λ x. put v net value x ≡ value) (sym e) (put-here v net value) in
-        let now_zero : put v net value r.zero.0 ≡ v r.zero.0 = put-elsewhere v net r.zero.0 value (λ q. apart (sym q)) in
-        let now : has_data (put v net value) r ≡ (v r.zero.0 || value) = ap (λ x. x || put v net value r.one.0) now_zero ∙ ap (λ y. v r.zero.0 || y) now_one in
+        let now_one : with_net v net value r.one.0 ≡ value = subst (λ x. with_net v net value x ≡ value) (sym e) (with_net-here v net value) in
+        let now_zero : with_net v net value r.zero.0 ≡ v r.zero.0 = with_net-elsewhere v net r.zero.0 value (λ q. apart (sym q)) in
+        let now : has_data (with_net v net value) r ≡ (v r.zero.0 || value) = ap (λ x. x || with_net v net value r.one.0) now_zero ∙ ap (λ y. v r.zero.0 || y) now_one in
         let before : has_data v r ≡ (v r.zero.0 || not value) = ap (λ y. v r.zero.0 || y) (subst (λ x. v x ≡ not value) (sym e) turns) in
         subst (CountTurns v net value r bits) (sym mate)
-        (ap (λ b. gain (v r.zero.0) (not value) + (one_if b + count_of (has_data (put v net value)) bits)) now
+        (ap (λ b. gain (v r.zero.0) (not value) + (one_if b + count_of (has_data (with_net v net value)) bits)) now
         ∙ turned-one value (v r.zero.0) _ _ (others none)
         ∙ sym (ap (λ b. gain (v r.zero.0) value + (one_if b + count_of (has_data v) bits)) before))
     by_rail (is_neither apart other own) rest =
         let mate : mate_in (r ∷ bits) net ≡ mate_in bits net = ap (λ o. option_or (mate_in bits net) o) own ∙ option_or-none (mate_in bits net) in
-        let same : has_data (put v net value) r ≡ has_data v r =
-        data-same v (put v net value) r (put-elsewhere v net r.zero.0 value (λ e. apart (sym e))) (put-elsewhere v net r.one.0 value (λ e. other (sym e))) in
+        let same : has_data (with_net v net value) r ≡ has_data v r =
+        data-same v (with_net v net value) r (with_net-elsewhere v net r.zero.0 value (λ e. apart (sym e))) (with_net-elsewhere v net r.one.0 value (λ e. other (sym e))) in
         let first = ap one_if same in
         subst (CountTurns v net value r bits) (sym mate) (omega (arith, rest, first))
 
@@ -190,7 +190,7 @@ module _ (values : List Bool) (net : ℕ) (value : Bool) (within : net < length 
 
   turned : (covered : Bool) → is_covered_by (net_values values) (mate_in bits net) ≡ covered → gain covered (not value) + now ≡ gain covered value + before
   turned covered is =
-      let put_now : count_of (has_data (net_values (set values net value))) bits ≡ count_of (has_data (put (net_values values) net value)) bits =
+      let put_now : count_of (has_data (net_values (set values net value))) bits ≡ count_of (has_data (with_net (net_values values) net value)) bits =
       ap (λ v. count_of (has_data v) bits) (net_values-set values net value within) in
       subst (λ t. gain t (not value) + now ≡ gain t value + before) is
       (ap (λ n. gain (is_covered_by (net_values values) (mate_in bits net)) (not value) + n) put_now ∙ count-turned (net_values values) net value turns bits differ)

@@ -9,14 +9,14 @@ use Rattle.ncl_origin.proofs.Drivers.{same_place}
 use Rattle.ncl_shape.specs.declared.stage.StageCell.{StageCell}
 use Rattle.ncl_shape.specs.declared.item.Item.{Item}
 use Rattle.ncl_shape.specs.declared.item.Item.TheVariants.{Cell as Fire, Raise, Lower, Take, Ready}
-use Rattle.ncl_shape.specs.Nets.{put}
+use Rattle.ncl_shape.specs.Nets.{with_net}
 use Rattle.ncl_shape.specs.Stage.{out_of}
 use Rattle.ncl_shape.specs.Pipeline.{PipelineData}
 use Rattle.ncl_layout.specs.Layout.{Layout, in_rail, stage_nets, width}
 use Rattle.ncl_stage.specs.Faults.{has_data}
 use Rattle.ncl_machine.specs.State.{State}
 use Rattle.ncl_machine.specs.Steps.{step, fired, next_value}
-use Rattle.ncl_machine.proofs.AtWorkLaws.{put-elsewhere}
+use Rattle.ncl_machine.proofs.AtWorkLaws.{with_net-elsewhere}
 use Rattle.ncl_machine.proofs.TruthValues.{not_itself}
 use Rattle.ncl_machine.proofs.NamedRails.{bit_at, data-same}
 use Rattle.ncl_machine.proofs.StageNets.{in_bit, rail-listed, gate-listed, tree-listed, root-listed, ki-listed}
@@ -33,10 +33,10 @@ use Rattle.ncl_machine.proofs.SourceMoves.{source_is_old}
 module _ {p : PipelineData} {l : Layout} {w : Waves} {offered : List (List Bool)} (set : IsSetting p l w offered) {s : State} (k : HasInvariant l w offered s) where
   -- a net of stage j goes to the value of its wave; a net of tree j to the other
   abbrev pub TurnsInStage : Item → ℕ → ℕ → Type 0
-  TurnsInStage item j net = (s.value net ≡ not (rising k.numbers j)) × ((step p s item).value ≡ put s.value net (rising k.numbers j))
+  TurnsInStage item j net = (s.value net ≡ not (rising k.numbers j)) × ((step p s item).value ≡ with_net s.value net (rising k.numbers j))
 
   abbrev pub TurnsInTree : Item → ℕ → ℕ → Type 0
-  TurnsInTree item j net = (s.value net ≡ rising k.numbers j) × ((step p s item).value ≡ put s.value net (not (rising k.numbers j)))
+  TurnsInTree item j net = (s.value net ≡ rising k.numbers j) × ((step p s item).value ≡ with_net s.value net (not (rising k.numbers j)))
 
   -- what an item turns: a gate, a rail of a bank or of the source, or a net of a tree, and where that is the root
   -- its bank acknowledges
@@ -67,19 +67,19 @@ module _ {p : PipelineData} {l : Layout} {w : Waves} {offered : List (List Bool)
   turns_of item (lower b move falls od some) = source-turns (Lower b) b move (lower-step set k b move od)
   turns_of item (lower_last b move falls od all) = source-turns (Lower b) b move (lower-step set k b move od)
   turns_of item (take ev some acks) =
-      a_tree_net l.last p.ki (omega arith) (ki-listed set.layout) (λ e. acks) (ki-value set k, ap (put s.value p.ki) (sym (not_from_true _ ev)))
+      a_tree_net l.last p.ki (omega arith) (ki-listed set.layout) (λ e. acks) (ki-value set k, ap (with_net s.value p.ki) (sym (not_from_true _ ev)))
   turns_of item (ready od none acks) =
-      a_tree_net l.last p.ki (omega arith) (ki-listed set.layout) (λ e. acks) (ki-value set k, ap (put s.value p.ki) (sym (not_from_false _ od)))
+      a_tree_net l.last p.ki (omega arith) (ki-listed set.layout) (λ e. acks) (ki-value set k, ap (with_net s.value p.ki) (sym (not_from_false _ od)))
 
   -- ---- who moves: a cell, whose output turns, the source, or the sink
 
   pub data Mover (item : Item) : Type 0 where
     a_cell : (i : CellId) (cell : Cell) → CellAt p.netlist i.0 cell → item ≡ Fire i
-        → (step p s item).value ≡ put s.value cell.out.0 (next_value s.value cell) → Mover item
+        → (step p s item).value ≡ with_net s.value cell.out.0 (next_value s.value cell) → Mover item
     the_source : (b : ℕ) → IsSourceMove l w s k.numbers b → (item ≡ Raise b) × (s.falling ≡ false) ⊎ (item ≡ Lower b) × (s.falling ≡ true)
         → (step p s item).value ≡ moved l w s k.numbers b → Mover item
     the_sink : (value : Bool) → (item ≡ Take) × (rising k.numbers l.last ≡ true) ⊎ (item ≡ Ready) × (rising k.numbers l.last ≡ false)
-        → (step p s item).value ≡ put s.value p.ki value → Mover item
+        → (step p s item).value ≡ with_net s.value p.ki value → Mover item
 
   -- every move is one of theirs
   pub mover_of : (item : Item) → Move p l w s k.numbers item → Mover item
@@ -98,14 +98,14 @@ module _ {p : PipelineData} {l : Layout} {w : Waves} {offered : List (List Bool)
   pub output-stays : (item : Item) (i : CellId) (cell : Cell) → CellAt p.netlist i.0 cell → Fire i ≢ item → Mover item
       → (step p s item).value cell.out.0 ≡ s.value cell.out.0
   output-stays item i cell at differs (a_cell other its at_other e is) =
-      ap (λ v. v cell.out.0) is ∙ put-elsewhere s.value its.out.0 cell.out.0 (next_value s.value its) (λ same.
+      ap (λ v. v cell.out.0) is ∙ with_net-elsewhere s.value its.out.0 cell.out.0 (next_value s.value its) (λ same.
       let places : i.0 ≡ other.0 = same_place p.netlist set.netlist i.0 other.0 cell its at at_other (sym same) in
       differs (ap (λ (x : ℕ). Fire (record { 0 = x })) places ∙ sym e))
   output-stays item i cell at differs (the_source b move which is) =
       ap (λ v. v cell.out.0) is
-      ∙ put-elsewhere s.value _ cell.out.0 (rising k.numbers 0) (output-no_source set.layout cell (set.layout.part_of i.0 cell at) b _ move.within)
+      ∙ with_net-elsewhere s.value _ cell.out.0 (rising k.numbers 0) (output-no_source set.layout cell (set.layout.part_of i.0 cell at) b _ move.within)
   output-stays item i cell at differs (the_sink value which is) =
-      ap (λ v. v cell.out.0) is ∙ put-elsewhere s.value p.ki cell.out.0 value (output-no_ki set.layout cell (set.layout.part_of i.0 cell at))
+      ap (λ v. v cell.out.0) is ∙ with_net-elsewhere s.value p.ki cell.out.0 value (output-no_ki set.layout cell (set.layout.part_of i.0 cell at))
 
   -- ---- what stays
 
@@ -115,7 +115,7 @@ module _ {p : PipelineData} {l : Layout} {w : Waves} {offered : List (List Bool)
   stage-stays item turns i net le listed has = by_net turns
     where
       by_stage : (j x : ℕ) → j ≤ l.last → Member x (stage_nets l j) → TurnsInStage item j x → (step p s item).value net ≡ s.value net
-      by_stage j x lj mx (was, is) = ap (λ v. v net) is ∙ put-elsewhere s.value x net (rising k.numbers j) (λ e.
+      by_stage j x lj mx (was, is) = ap (λ v. v net) is ∙ with_net-elsewhere s.value x net (rising k.numbers j) (λ e.
           let same : j ≡ i = set.layout.stages_apart j i net lj le (subst (λ y. Member y (stage_nets l j)) e mx) listed in
           not_itself (rising k.numbers i) (sym has ∙ ap s.value (sym e) ∙ was ∙ ap (λ t. not (rising k.numbers t)) same))
 
@@ -124,7 +124,7 @@ module _ {p : PipelineData} {l : Layout} {w : Waves} {offered : List (List Bool)
       by_net (a_rail j b r lj lt old turns) = by_stage j (in_rail l j b r) lj (rail-listed (l.stage j) b r lt) turns
       by_net (a_tree_net j x lj mx acks (was, is)) =
           ap (λ v. v net) is
-          ∙ put-elsewhere s.value x net (not (rising k.numbers j)) (λ e. set.layout.apart i j net le lj listed (subst (λ y. Member y (l.tree_nets j)) e mx))
+          ∙ with_net-elsewhere s.value x net (not (rising k.numbers j)) (λ e. set.layout.apart i j net le lj listed (subst (λ y. Member y (l.tree_nets j)) e mx))
 
   -- a root, except where its bank acknowledges
   pub root-stays : (item : Item) → Turns item → (j : ℕ) → j ≤ l.last
@@ -132,7 +132,7 @@ module _ {p : PipelineData} {l : Layout} {w : Waves} {offered : List (List Bool)
   root-stays item turns j le = by_net turns
     where
       by_stage : (i x : ℕ) → i ≤ l.last → Member x (stage_nets l i) → TurnsInStage item i x → (step p s item).value (l.root j) ≡ s.value (l.root j)
-      by_stage i x li mx (was, is) = ap (λ v. v (l.root j)) is ∙ put-elsewhere s.value x (l.root j) (rising k.numbers i) (λ e.
+      by_stage i x li mx (was, is) = ap (λ v. v (l.root j)) is ∙ with_net-elsewhere s.value x (l.root j) (rising k.numbers i) (λ e.
           set.layout.apart i j (l.root j) li le (subst (λ y. Member y (stage_nets l i)) e mx) (root-listed set.layout j le))
 
       by_net : Turns item
@@ -140,7 +140,7 @@ module _ {p : PipelineData} {l : Layout} {w : Waves} {offered : List (List Bool)
       by_net (a_gate i g li m turns) = inl (by_stage i (out_of g) li (gate-listed (l.stage i) g m) turns)
       by_net (a_rail i b r li lt old turns) = inl (by_stage i (in_rail l i b r) li (rail-listed (l.stage i) b r lt) turns)
       by_net (a_tree_net i x li mx acks (was, is)) = elim (cases_eq x (l.root j)) [
-        | inr apart ↦ inl (ap (λ v. v (l.root j)) is ∙ put-elsewhere s.value x (l.root j) (not (rising k.numbers i)) apart)
+        | inr apart ↦ inl (ap (λ v. v (l.root j)) is ∙ with_net-elsewhere s.value x (l.root j) (not (rising k.numbers i)) apart)
         | inl e ↦
             let same : i ≡ j = set.layout.trees_apart i j (l.root j) li le (subst (λ y. Member y (l.tree_nets i)) e mx) (root-listed set.layout j le) in
             inr (subst (Acknowledges l w (in_stage l s.value) (in_tree l s.value) k.numbers) same (acks (e ∙ ap l.root (sym same))))
@@ -152,7 +152,7 @@ module _ {p : PipelineData} {l : Layout} {w : Waves} {offered : List (List Bool)
       → has_data (in_stage l (step p s item).value j) (in_bit l j b) ≡ even (k.numbers j)
   bit-stays item turns j b le lt new = by_net turns
     where
-      elsewhere : (net : ℕ) (value : Bool) → (step p s item).value ≡ put s.value net value → (Member net (stage_nets l j) → ⊥)
+      elsewhere : (net : ℕ) (value : Bool) → (step p s item).value ≡ with_net s.value net value → (Member net (stage_nets l j) → ⊥)
           → has_data (in_stage l (step p s item).value j) (in_bit l j b) ≡ even (k.numbers j)
       elsewhere net value is none =
           ap (λ v. has_data v (in_bit l j b)) (ap (local (stage_nets l j)) is ∙ local-put_other (stage_nets l j) s.value net value none) ∙ new
@@ -167,7 +167,7 @@ module _ {p : PipelineData} {l : Layout} {w : Waves} {offered : List (List Bool)
             ap (local (stage_nets l j)) is ∙ local-put_here (stage_nets l j) s.value (out_of g) (rising k.numbers i) (gate-listed (l.stage j) g own) in
             let rail = gate-no_rail (set.layout.is_stage j le) (in_stage l s.value j) (rising k.numbers i) g own b in
             ap (λ v. has_data v (in_bit l j b)) now
-            ∙ data-same (in_stage l s.value j) (put (in_stage l s.value j) (out_of g) (rising k.numbers i)) (in_bit l j b) (rail false lt) (rail true lt)
+            ∙ data-same (in_stage l s.value j) (with_net (in_stage l s.value j) (out_of g) (rising k.numbers i)) (in_bit l j b) (rail false lt) (rail true lt)
             ∙ new
       ]
       by_net (a_rail i a r li within old (was, is)) = elim (cases_eq i j) [
@@ -175,11 +175,11 @@ module _ {p : PipelineData} {l : Layout} {w : Waves} {offered : List (List Bool)
             elsewhere (in_rail l i a r) (rising k.numbers i) is (λ n. apart (set.layout.stages_apart i j (in_rail l i a r) li le (rail-listed (l.stage i) a r within) n))
         | inl same ↦
             own_rail (subst (λ x. a < width l x) same within) (subst (λ x. has_data (in_stage l s.value x) (in_bit l x a) ≡ not (even (k.numbers x))) same old)
-            (is ∙ ap (λ x. put s.value (in_rail l x a r) (rising k.numbers x)) same)
+            (is ∙ ap (λ x. with_net s.value (in_rail l x a r) (rising k.numbers x)) same)
       ]
         where
           own_rail : a < width l j → has_data (in_stage l s.value j) (in_bit l j a) ≡ not (even (k.numbers j))
-              → (step p s item).value ≡ put s.value (in_rail l j a r) (rising k.numbers j)
+              → (step p s item).value ≡ with_net s.value (in_rail l j a r) (rising k.numbers j)
               → has_data (in_stage l (step p s item).value j) (in_bit l j b) ≡ even (k.numbers j)
           own_rail la old is =
               let now =

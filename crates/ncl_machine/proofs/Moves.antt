@@ -9,7 +9,7 @@ use Rattle.ncl_origin.specs.Origin.{CellAt}
 use Rattle.ncl_shape.specs.declared.stage.StageCell.{StageCell}
 use Rattle.ncl_shape.specs.declared.item.Item.{Item}
 use Rattle.ncl_shape.specs.declared.item.Item.TheVariants.{Cell as Fire, Raise, Lower, Take, Ready}
-use Rattle.ncl_shape.specs.Nets.{Nets, put}
+use Rattle.ncl_shape.specs.Nets.{Nets, with_net}
 use Rattle.ncl_shape.specs.Pipeline.{PipelineData}
 use Rattle.ncl_layout.specs.Layout.{Layout, width, IsCellOf, IsRegisterOf, in_rail, out_rail}
 use Rattle.ncl_stage.specs.Faults.{has_data}
@@ -47,7 +47,7 @@ pub record IsSourceMove (l : Layout) (w : Waves) (s : State) (c : ℕ → ℕ) (
 
 -- the values once that rail has moved
 abbrev pub moved : Layout → Waves → State → (ℕ → ℕ) → ℕ → Nets
-moved l w s c b = put s.value (in_rail l 0 b (bit_at (word_in w c 0) b)) (rising c 0)
+moved l w s c b = with_net s.value (in_rail l 0 b (bit_at (word_in w c 0) b)) (rising c 0)
 
 -- an old cell of the tree after stage k, all of whose inputs are new
 pub record IsTreeMove (l : Layout) (s : State) (c : ℕ → ℕ) (k : ℕ) (cell : Cell) : Type 0 where

@@ -9,7 +9,7 @@ use Rattle.ncl_origin.specs.Origin.{CellAt}
 use Rattle.ncl_shape.specs.declared.stage.StageCell.{StageCell}
 use Rattle.ncl_shape.specs.declared.item.Item.{Item}
 use Rattle.ncl_shape.specs.declared.item.Item.TheVariants.{Cell as Fire}
-use Rattle.ncl_shape.specs.Nets.{Nets, put}
+use Rattle.ncl_shape.specs.Nets.{Nets, with_net}
 use Rattle.ncl_shape.specs.Stage.{out_of}
 use Rattle.ncl_shape.specs.Pipeline.{PipelineData}
 use Rattle.ncl_layout.specs.Layout.{Layout, IsCellOf, in_rail, out_rail, stage_nets}
@@ -18,7 +18,7 @@ use Rattle.ncl_machine.specs.Steps.{enabled, step, is_excited}
 use Rattle.ncl_machine.specs.AtWork.{IsExcited}
 use Rattle.ncl_machine.proofs.TruthValues.{not_itself}
 use Rattle.ncl_machine.proofs.StageNets.{rail-listed, gate-listed, out-listed}
-use Rattle.ncl_machine.proofs.LocalNets.{local, local-put_here, local-put_other, put-here, put-keeps, in_stage, in_tree}
+use Rattle.ncl_machine.proofs.LocalNets.{local, local-put_here, local-put_other, with_net-here, with_net-keeps, in_stage, in_tree}
 use Rattle.ncl_machine.proofs.NextValues.{gate-excitation, register-excited}
 use Rattle.ncl_machine.proofs.Phases.{gate_stays}
 use Rattle.ncl_machine.proofs.Completion.{ReadsNew, reads-more, old_is_turning}
@@ -51,12 +51,12 @@ module _ {p : PipelineData} {l : Layout} {w : Waves} {offered : List (List Bool)
             (sym (ap (local (stage_nets l j)) is ∙ local-put_other (stage_nets l j) s.value net (rising k.numbers i) (λ n. apart (set.layout.stages_apart i j net li le mx n)))) excited
         | inl same ↦
             let listed : Member net (stage_nets l j) = subst (λ x. Member net (stage_nets l x)) same mx in
-            let view : in_stage l now j ≡ put (in_stage l s.value j) net (rising k.numbers j) =
-            ap (local (stage_nets l j)) (is ∙ ap (λ x. put s.value net (rising k.numbers x)) same)
+            let view : in_stage l now j ≡ with_net (in_stage l s.value j) net (rising k.numbers j) =
+            ap (local (stage_nets l j)) (is ∙ ap (λ x. with_net s.value net (rising k.numbers x)) same)
             ∙ local-put_here (stage_nets l j) s.value net (rising k.numbers j) listed in
             subst (λ v. IsExcited v g) (sym view)
             (gate_stays (set.layout.is_stage j le) (rising k.numbers j) (k.nets.phases j le) g m excited net (λ e.
-            not_itself (rising k.numbers i) (sym (put-here s.value net (rising k.numbers i)) ∙ sym (ap (λ v. v net) is) ∙ ap now e ∙ own ∙ ap s.value (sym e) ∙ was)))
+            not_itself (rising k.numbers i) (sym (with_net-here s.value net (rising k.numbers i)) ∙ sym (ap (λ v. v net) is) ∙ ap now e ∙ own ∙ ap s.value (sym e) ∙ was)))
       ]
 
       still : Turns set k item → IsExcited (in_stage l (step p s item).value j) g
@@ -99,7 +99,7 @@ module _ {p : PipelineData} {l : Layout} {w : Waves} {offered : List (List Bool)
       → in_tree l (step p s item).value j net ≡ not (rising k.numbers j)
   tree_net-stays j net le new = by_net turns
     where
-      elsewhere : (x : ℕ) (value : Bool) → (step p s item).value ≡ put s.value x value → (Member x (l.tree_nets j) → ⊥)
+      elsewhere : (x : ℕ) (value : Bool) → (step p s item).value ≡ with_net s.value x value → (Member x (l.tree_nets j) → ⊥)
           → in_tree l (step p s item).value j net ≡ not (rising k.numbers j)
       elsewhere x value is none = ap (λ v. v net) (ap (local (l.tree_nets j)) is ∙ local-put_other (l.tree_nets j) s.value x value none) ∙ new
 
@@ -113,9 +113,9 @@ module _ {p : PipelineData} {l : Layout} {w : Waves} {offered : List (List Bool)
         | inl same ↦
             let listed : Member x (l.tree_nets j) = subst (λ y. Member x (l.tree_nets y)) same mx in
             let view =
-            ap (local (l.tree_nets j)) (is ∙ ap (λ y. put s.value x (not (rising k.numbers y))) same)
+            ap (local (l.tree_nets j)) (is ∙ ap (λ y. with_net s.value x (not (rising k.numbers y))) same)
             ∙ local-put_here (l.tree_nets j) s.value x (not (rising k.numbers j)) listed in
-            ap (λ v. v net) view ∙ put-keeps (in_tree l s.value j) x net (not (rising k.numbers j)) new
+            ap (λ v. v net) view ∙ with_net-keeps (in_tree l s.value j) x net (not (rising k.numbers j)) new
       ]
 
   pub tree-stays : (i : CellId) (cell : Cell) (j : ℕ) → Fire i ≢ item → CellAt p.netlist i.0 cell → IsTreeMove l s k.numbers j cell

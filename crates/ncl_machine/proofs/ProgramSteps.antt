@@ -7,7 +7,7 @@ use Rattle.ncl_base.proofs.Members.{Contains-from_slice_get}
 use Rattle.ncl_netlist.specs.declared.cell.Cell.{Cell}
 use Rattle.ncl_netlist.specs.declared.ids.CellId.{CellId}
 use Rattle.ncl_shape.specs.declared.item.Item.TheVariants.{Cell as Fire, Raise, Lower}
-use Rattle.ncl_shape.specs.Nets.{put}
+use Rattle.ncl_shape.specs.Nets.{with_net}
 use Rattle.ncl_shape.specs.Stage.{rail_nets}
 use Rattle.ncl_shape.specs.Pipeline.{PipelineData}
 use Rattle.ncl_machine.specs.Steps.{current_rails, rails_of_word, enabled, step, fired, is_excited, next_value, has_value, put_at, after_raise, after_lower}
@@ -52,7 +52,7 @@ module _ (p : PipelineData) (h : Held) (made : IsFor p h) (net : ℕ) (within : 
       let (c, at, e, next) = cell_is cell on is in
       let v = net_values h.values in
       ap (λ u. record (meaning h) { value = u })
-      (net_values-set h.values net (not (v net)) within ∙ ap (λ n. put v n (not (v n))) e ∙ ap (put v c.out.0) (sym next) ∙ sym (ap (fired v) at))
+      (net_values-set h.values net (not (v net)) within ∙ ap (λ n. with_net v n (not (v n))) e ∙ ap (with_net v c.out.0) (sym next) ∙ sym (ap (fired v) at))
 
   -- ---- the source
 
@@ -88,7 +88,7 @@ module _ (p : PipelineData) (h : Held) (made : IsFor p h) (net : ℕ) (within : 
   raise_done bit on is =
       let v = net_values h.values in
       ap (λ u. record (meaning h) { value = u; falling = list_all u (current_word h) }) (net_values-set h.values net true within)
-      ∙ ap (λ rails. record (meaning h) { value = put v net true; falling = list_all (put v net true) rails }) same_rails
+      ∙ ap (λ rails. record (meaning h) { value = with_net v net true; falling = list_all (with_net v net true) rails }) same_rails
       ∙ sym (ap (λ o. after_raise p (meaning h) (put_at v o true)) (raised_rail bit on is))
 
   pub lower_done : (bit : ℕ) → enabled p (meaning h) (Lower bit) ≡ true → IfSome (net_of_step p (meaning h) (Lower bit)) (λ n. net ≡ n)
@@ -98,5 +98,5 @@ module _ (p : PipelineData) (h : Held) (made : IsFor p h) (net : ℕ) (within : 
       meaning-if (list_all (λ rail. not (net_values (set h.values net false) rail)) (current_word h)) _ _
       ∙ ap (λ u. if list_all (λ rail. not (u rail)) (current_word h) then record (meaning h) { value = u; falling = false; done = h.done + 1 } else record (meaning h) { value = u })
       (net_values-set h.values net false within)
-      ∙ ap (λ rails. if list_all (λ rail. not (put v net false rail)) rails then record (meaning h) { value = put v net false; falling = false; done = h.done + 1 } else record (meaning h) { value = put v net false }) same_rails
+      ∙ ap (λ rails. if list_all (λ rail. not (with_net v net false rail)) rails then record (meaning h) { value = with_net v net false; falling = false; done = h.done + 1 } else record (meaning h) { value = with_net v net false }) same_rails
       ∙ sym (ap (λ o. after_lower p (meaning h) (put_at v o false)) (lowered_rail bit on is))

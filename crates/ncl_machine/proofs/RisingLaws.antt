@@ -5,7 +5,7 @@ use Rattle.std.proofs.lemmas.Bool.{and_from, both_ways, cases_Bool, cases_eq, no
 use Rattle.ncl_gates.specs.Gate.{set_of, some_high}
 use Rattle.ncl_netlist.specs.declared.ids.NetId.{NetId}
 use Rattle.ncl_shape.specs.declared.stage.StageCell.{StageCell}
-use Rattle.ncl_shape.specs.Nets.{Nets, IsBelow, put}
+use Rattle.ncl_shape.specs.Nets.{Nets, IsBelow, with_net}
 use Rattle.ncl_shape.specs.Stage.{StageData, IsStage, named_rails, out_of}
 use Rattle.ncl_shape.specs.Closure.{pin_values}
 use Rattle.ncl_base.proofs.Members.{Member, Member-from_Contains, recursion_from_members}
@@ -21,7 +21,7 @@ use Rattle.ncl_stage.proofs.OnePass.{among-from_member}
 use Rattle.ncl_machine.specs.Steps.{differ}
 use Rattle.ncl_machine.specs.AtWork.{next_of_gate, IsExcited, IsRising, null, raise, fire}
 use Rattle.ncl_machine.specs.StageLaw.{IsUndisturbed, IsRisingSafely}
-use Rattle.ncl_machine.proofs.AtWorkLaws.{put-elsewhere, put-raised, rising-within}
+use Rattle.ncl_machine.proofs.AtWorkLaws.{with_net-elsewhere, with_net-raised, rising-within}
 use Rattle.ncl_machine.proofs.InOrder.{in_order}
 use Rattle.ncl_machine.proofs.SoundLaws.{need, all_data-grows, legal-below, named-from_high}
 
@@ -64,18 +64,18 @@ named-no_output s is word net named c m e =
 pub rising-supported : (s : StageData) → IsStage s → (word : List Bool) (v : Nets) → IsRising s word v → IsSupported s v
 rising-supported s is word v null c m high = absurd (both_ways false refl high)
 rising-supported s is word v (raise {v = old} net named before) c m high =
-    holds-grows old (put old net true) (put-raised old net) c
-    (rising-supported s is word old before c m (sym (put-elsewhere old net (out_of c) true (named-no_output s is word net named c m)) ∙ high))
+    holds-grows old (with_net old net true) (with_net-raised old net) c
+    (rising-supported s is word old before c m (sym (with_net-elsewhere old net (out_of c) true (named-no_output s is word net named c m)) ∙ high))
 rising-supported s is word v (fire {v = old} other in_s excited before) c m high =
     let supported : IsSupported s old = rising-supported s is word old before in
     let n : Member other s.cells = Member-from_Contains s.cells other in_s in
     let set : holds old other ≡ true = (waits-from_excited old other (supported other n) excited).1 in
     let up : next_of_gate old other ≡ true = next-from_set old other set in
-    subst (λ b. holds (put old other.out.0 b) c ≡ true) (sym up)
-    (holds-grows old (put old other.out.0 true) (put-raised old other.out.0) c
+    subst (λ b. holds (with_net old other.out.0 b) c ≡ true) (sym up)
+    (holds-grows old (with_net old other.out.0 true) (with_net-raised old other.out.0) c
     (elim (cases_eq other.out.0 (out_of c)) [
       | inl same ↦ subst (λ k. holds old k ≡ true) (same_output s is other c n m same) set
-      | inr apart ↦ supported c m (sym (put-elsewhere old other.out.0 (out_of c) (next_of_gate old other) apart) ∙ high)
+      | inr apart ↦ supported c m (sym (with_net-elsewhere old other.out.0 (out_of c) (next_of_gate old other) apart) ∙ high)
     ]))
 
 -- a rising state whose nets a variant doesn't keep low is below the values under the variant
@@ -102,9 +102,9 @@ rising-all s is sound word right v below supported all net high =
     ]
 
 -- a cell that waits stays excited where one other net rises
-pub excited-above : (v : Nets) (c : StageCell) (net : ℕ) → net ≢ out_of c → (v (out_of c) ≡ false) × (holds v c ≡ true) → IsExcited (put v net true) c
+pub excited-above : (v : Nets) (c : StageCell) (net : ℕ) → net ≢ out_of c → (v (out_of c) ≡ false) × (holds v c ≡ true) → IsExcited (with_net v net true) c
 excited-above v c net apart (low, set) =
-    excited-from_waiting (put v net true) c (put-elsewhere v net (out_of c) true apart ∙ low) (holds-grows v (put v net true) (put-raised v net) c set)
+    excited-from_waiting (with_net v net true) c (with_net-elsewhere v net (out_of c) true apart ∙ low) (holds-grows v (with_net v net true) (with_net-raised v net) c set)
 
 pub rising-undisturbed : (s : StageData) → IsStage s → (word : List Bool) (v : Nets) → IsSupported s v → IsUndisturbed s (named_rails s.inputs word) true v
 rising-undisturbed s is word v supported = record {
@@ -115,7 +115,7 @@ rising-undisturbed s is word v supported = record {
       let m : Member c s.cells = Member-from_Contains s.cells c in_s in
       let n : Member other s.cells = Member-from_Contains s.cells other other_in in
       let (low, set) = waits-from_excited v other (supported other n) other_excited in
-      subst (λ b. IsExcited (put v other.out.0 b) c) (sym (next-from_set v other set))
+      subst (λ b. IsExcited (with_net v other.out.0 b) c) (sym (next-from_set v other set))
       (excited-above v c other.out.0 (λ e. unlike (sym (same_output s is other c n m e))) (waits-from_excited v c (supported c m) excited));
 }
 

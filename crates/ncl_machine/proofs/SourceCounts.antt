@@ -11,7 +11,7 @@ use Rattle.ncl_machine.specs.declared.pair.Pair.{Pair}
 use Rattle.ncl_machine.specs.Steps.{rails_of_word}
 use Rattle.ncl_machine.specs.Held.{Held, net_values}
 use Rattle.ncl_machine.specs.Tallies.{count_of, current_word, other_rails, IsCounted}
-use Rattle.ncl_machine.proofs.AtWorkLaws.{put-elsewhere}
+use Rattle.ncl_machine.proofs.AtWorkLaws.{with_net-elsewhere}
 use Rattle.ncl_machine.proofs.Counts.{count-all, count-few, count-none, count-same, count-some, count-nothing, count-rises, count-falls}
 use Rattle.ncl_machine.proofs.SourceRails.{current-within, beside-within, current-apart, beside-apart, all_rails, length-current}
 use Rattle.ncl_machine.proofs.ValueLists.{net_values-set}
@@ -26,7 +26,7 @@ module _ (h : Held) (raised : ℕ) (is : IsCounted h raised) where
     new = set h.values net value
 
     elsewhere : (x : ℕ) → net ≢ x → net_values (set h.values net value) x ≡ net_values h.values x
-    elsewhere x apart = ap (λ v. v x) (net_values-set h.values net value within) ∙ put-elsewhere (net_values h.values) net x value apart
+    elsewhere x apart = ap (λ v. v x) (net_values-set h.values net value within) ∙ with_net-elsewhere (net_values h.values) net x value apart
 
     inside : (x : ℕ) → x < length h.values → x < length (set h.values net value)
     inside x lt = subst (λ n. x < n) (sym (length-set h.values net value)) lt

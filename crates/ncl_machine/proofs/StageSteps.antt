@@ -4,13 +4,13 @@ use Rattle.std.proofs.lemmas.Bool.{both_ways, cases_eq}
 use Rattle.ncl_base.proofs.Members.{Member}
 use Rattle.ncl_netlist.specs.declared.cell.Cell.{Cell}
 use Rattle.ncl_shape.specs.declared.stage.StageCell.{StageCell}
-use Rattle.ncl_shape.specs.Nets.{Nets, put}
+use Rattle.ncl_shape.specs.Nets.{Nets, with_net}
 use Rattle.ncl_shape.specs.Stage.{out_of}
 use Rattle.ncl_shape.specs.Pipeline.{PipelineData}
 use Rattle.ncl_layout.specs.Layout.{in_rail, out_rail, Layout, width}
 use Rattle.ncl_stage.specs.Faults.{has_data}
 use Rattle.ncl_machine.specs.AtWork.{IsExcited}
-use Rattle.ncl_machine.proofs.AtWorkLaws.{put-elsewhere, put-raised, put-lowered}
+use Rattle.ncl_machine.proofs.AtWorkLaws.{with_net-elsewhere, with_net-raised, with_net-lowered}
 use Rattle.ncl_machine.proofs.NamedRails.{bit_at, rail-is_one, data-same}
 use Rattle.ncl_machine.proofs.StageNets.{in_bit}
 use Rattle.ncl_machine.proofs.Phases.{IsPhase, gate_moves, rail_moves, data-moved, data-other, gate-no_rail}
@@ -27,13 +27,13 @@ module _ {p : PipelineData} {l : Layout} {w : Waves} {offered : List (List Bool)
   follows-more k new z lt m more is_new = reads-more set.layout k lt new (tree k) z m more (λ net has. has) (kept.follows k z lt m is_new)
 
   -- a net of a stage takes the value of its wave
-  module _ (new : ℕ → Nets) (i net : ℕ) (changes : Changes l.last at new i (put (at i) net (rising c i))) where
+  module _ (new : ℕ → Nets) (i net : ℕ) (changes : Changes l.last at new i (with_net (at i) net (rising c i))) where
     -- so in an even wave what is high stays so, and in an odd one what is high was so
     stays_high : (j : ℕ) → j ≤ l.last → rising c j ≡ true → (x : ℕ) → at j x ≡ true → new j x ≡ true
     stays_high j lj ev x high = elim (cases_eq i j) [
       | inl e ↦
           subst (λ y. rising c y ≡ true → at y x ≡ true → new y x ≡ true) e
-          (λ ev high. ap (λ v. v x) changes.here ∙ subst (λ b. put (at i) net b x ≡ true) (sym ev) (put-raised (at i) net x high)) ev high
+          (λ ev high. ap (λ v. v x) changes.here ∙ subst (λ b. with_net (at i) net b x ≡ true) (sym ev) (with_net-raised (at i) net x high)) ev high
       | inr apart ↦ ap (λ v. v x) (changes.others j lj apart) ∙ high
     ]
 
@@ -41,12 +41,12 @@ module _ {p : PipelineData} {l : Layout} {w : Waves} {offered : List (List Bool)
     was_high j lj od x high = elim (cases_eq i j) [
       | inl e ↦
           subst (λ y. rising c y ≡ false → new y x ≡ true → at y x ≡ true) e
-          (λ od high. put-lowered (at i) net x (subst (λ b. put (at i) net b x ≡ true) od (sym (ap (λ v. v x) changes.here) ∙ high))) od high
+          (λ od high. with_net-lowered (at i) net x (subst (λ b. with_net (at i) net b x ≡ true) od (sym (ap (λ v. v x) changes.here) ∙ high))) od high
       | inr apart ↦ sym (ap (λ v. v x) (changes.others j lj apart)) ∙ high
     ]
 
     -- each stage is in its phase where that one is
-    phases_after : IsPhase (l.stage i) (rising c i) (word_in w c i) (put (at i) net (rising c i)) → (j : ℕ) → j ≤ l.last
+    phases_after : IsPhase (l.stage i) (rising c i) (word_in w c i) (with_net (at i) net (rising c i)) → (j : ℕ) → j ≤ l.last
         → IsPhase (l.stage j) (rising c j) (word_in w c j) (new j)
     phases_after phase j lj = elim (cases_eq i j) [
       | inl e ↦ subst (λ x. IsPhase (l.stage x) (rising c x) (word_in w c x) (new x)) e (subst (IsPhase (l.stage i) (rising c i) (word_in w c i)) (sym changes.here) phase)
@@ -56,7 +56,7 @@ module _ {p : PipelineData} {l : Layout} {w : Waves} {offered : List (List Bool)
   module _ (new : ℕ → Nets) (i : ℕ) (le : i ≤ l.last) where
     -- ---- a gate of a stage
     pub gate-kept : (g : StageCell) → Member g (l.stage i).cells → IsExcited (at i) g
-        → Changes l.last at new i (put (at i) (out_of g) (rising c i)) → AreKept l w new tree c
+        → Changes l.last at new i (with_net (at i) (out_of g) (rising c i)) → AreKept l w new tree c
     gate-kept g m excited changes = record {
       near = λ j lj. near-map (AreAt l j (at j)) (AreAt l j (new j)) (λ t old b lt. bit_same j lj b lt ∙ old b lt) (c j) (c (suc j)) (kept.near j lj);
       order = kept.order;
@@ -85,7 +85,7 @@ module _ {p : PipelineData} {l : Layout} {w : Waves} {offered : List (List Bool)
     -- register cell, if it has one, has seen it move on A
     pub rail-kept : (j : ℕ) (r : Bool) → j < width l i → c i ≡ c (suc i) → r ≡ bit_at (word_in w c i) j
         → ((k : ℕ) → suc k ≡ i → at k (out_rail l k j r) ≡ rising c i)
-        → Changes l.last at new i (put (at i) (in_rail l i j r) (rising c i)) → AreKept l w new tree c
+        → Changes l.last at new i (with_net (at i) (in_rail l i j r) (rising c i)) → AreKept l w new tree c
     rail-kept j r within same named ready changes = record {
       near = λ n ln. elim (cases_eq i n) [
         | inl e ↦ subst (λ x. AreNear (AreAt l x (new x)) (c x) (c (suc x))) e (equal same)
@@ -98,7 +98,7 @@ module _ {p : PipelineData} {l : Layout} {w : Waves} {offered : List (List Bool)
         | inl e ↦ subst (λ x. b < width l x → has_data (at x) (in_bit l x b) ≡ even (c x) → has_data (new x) (in_bit l x b) ≡ even (c x)) e (new_bit b) lb was
         | inr apart ↦ ap (λ v. has_data v (in_bit l (suc k) b)) (changes.others (suc k) lt apart) ∙ was
       ]);
-      phases = phases_after new i (in_rail l i j r) changes (subst (λ q. IsPhase (l.stage i) (rising c i) (word_in w c i) (put (at i) (in_rail l i j q) (rising c i))) (sym named) (rail_moves (set.layout.is_stage i le) (rising c i) (set.waves.wide _ i le) (kept.phases i le) j within));
+      phases = phases_after new i (in_rail l i j r) changes (subst (λ q. IsPhase (l.stage i) (rising c i) (word_in w c i) (with_net (at i) (in_rail l i j q) (rising c i))) (sym named) (rail_moves (set.layout.is_stage i le) (rising c i) (set.waves.wide _ i le) (kept.phases i le) j within));
       up = λ k b q lt lb ev high. elim (cases_eq i (suc k)) [
         | inl e ↦ up_here k b q lt e (subst (λ x. b < width l x) (sym e) lb) ev (subst (λ x. new x (in_rail l x b q) ≡ true) (sym e) high)
         | inr apart ↦
@@ -120,8 +120,8 @@ module _ {p : PipelineData} {l : Layout} {w : Waves} {offered : List (List Bool)
         new_bit : (b : ℕ) → b < width l i → has_data (at i) (in_bit l i b) ≡ even (c i) → has_data (new i) (in_bit l i b) ≡ even (c i)
         new_bit b lb was = ap (λ v. has_data v (in_bit l i b)) changes.here ∙ elim (cases_eq j b) [
           | inl e ↦
-              subst (λ x. has_data (put (at i) (in_rail l i j r) (rising c i)) (in_bit l i x) ≡ even (c i)) e
-              (subst (λ q. has_data (put (at i) (in_rail l i j q) (rising c i)) (in_bit l i j) ≡ even (c i)) (sym named)
+              subst (λ x. has_data (with_net (at i) (in_rail l i j r) (rising c i)) (in_bit l i x) ≡ even (c i)) e
+              (subst (λ q. has_data (with_net (at i) (in_rail l i j q) (rising c i)) (in_bit l i j) ≡ even (c i)) (sym named)
               (data-moved (set.layout.is_stage i le) (rising c i) (set.waves.wide _ i le) (kept.phases i le) j within ∙ ap even (sym same)))
           | inr apart ↦ data-other (set.layout.is_stage i le) (at i) (rising c i) j b r within lb apart ∙ was
         ]
@@ -142,7 +142,7 @@ module _ {p : PipelineData} {l : Layout} {w : Waves} {offered : List (List Bool)
           | inl is ↦ own k b q e lb is ∙ ev
           | inr apart ↦
               let was : at i (in_rail l i b q) ≡ true =
-              sym (put-elsewhere (at i) (in_rail l i j r) (in_rail l i b q) (rising c i) apart)
+              sym (with_net-elsewhere (at i) (in_rail l i j r) (in_rail l i b q) (rising c i) apart)
               ∙ sym (ap (λ v. v (in_rail l i b q)) changes.here) ∙ high in
               kept.up k b q lt (subst (λ x. b < width l x) e lb) ev (subst (λ x. at x (in_rail l x b q) ≡ true) e was)
         ]
@@ -154,5 +154,5 @@ module _ {p : PipelineData} {l : Layout} {w : Waves} {offered : List (List Bool)
           | inr apart ↦
               let is : at (suc k) (in_rail l (suc k) b q) ≡ true =
               kept.down k b q lt (subst (λ x. b < width l x) e lb) od (sym (ap (λ v. v (out_rail l k b q)) (before k lt e)) ∙ high) in
-              put-elsewhere (at i) (in_rail l i j r) (in_rail l i b q) (rising c i) apart ∙ subst (λ x. at x (in_rail l x b q) ≡ true) (sym e) is
+              with_net-elsewhere (at i) (in_rail l i j r) (in_rail l i b q) (rising c i) apart ∙ subst (λ x. at x (in_rail l x b q) ≡ true) (sym e) is
         ]

@@ -8,7 +8,7 @@ use Rattle.ncl_netlist.specs.declared.cell.Cell.{Cell}
 use Rattle.ncl_origin.specs.Origin.{CellAt}
 use Rattle.ncl_shape.specs.declared.stage.StageCell.{StageCell}
 use Rattle.ncl_shape.specs.declared.item.Item.TheVariants.{Cell as Fire, Raise, Lower}
-use Rattle.ncl_shape.specs.Nets.{Nets, put}
+use Rattle.ncl_shape.specs.Nets.{Nets, with_net}
 use Rattle.ncl_shape.specs.Stage.{out_of, named_rails}
 use Rattle.ncl_shape.specs.Pipeline.{PipelineData}
 use Rattle.ncl_layout.specs.Layout.{Layout, IsCellOf, in_rail, out_rail}
@@ -35,30 +35,30 @@ module _ {p : PipelineData} {l : Layout} {w : Waves} {offered : List (List Bool)
   -- a gate goes to the value of its stage's wave
   pub gate-step : (i : CellId) (cell : Cell) (j : ℕ) (g : StageCell) → CellAt p.netlist i.0 cell → j ≤ l.last → Member g (l.stage j).cells
       → IsCellOf cell g → IsExcited (in_stage l s.value j) g
-      → (s.value (out_of g) ≡ not (rising k.numbers j)) × ((step p s (Fire i)).value ≡ put s.value (out_of g) (rising k.numbers j))
+      → (s.value (out_of g) ≡ not (rising k.numbers j)) × ((step p s (Fire i)).value ≡ with_net s.value (out_of g) (rising k.numbers j))
   gate-step i cell j g at le m is excited =
       let (was, next, phase) = gate_moves (set.layout.is_stage j le) (rising k.numbers j) (k.nets.phases j le) g m excited in
       let (same_next, same_out) = gate_local (set.layout.is_stage j le) s.value g m in (
         sym same_out ∙ was,
-        ap (fired s.value) at ∙ ap (λ x. put s.value x (next_value s.value cell)) is.out
-            ∙ ap (put s.value (out_of g)) (gate-next s.value cell g is ∙ sym same_next ∙ next),
+        ap (fired s.value) at ∙ ap (λ x. with_net s.value x (next_value s.value cell)) is.out
+            ∙ ap (with_net s.value (out_of g)) (gate-next s.value cell g is ∙ sym same_next ∙ next),
       )
 
   -- a rail of a bank goes to the value of the next bank's wave
   pub register-step : (i : CellId) (cell : Cell) (j b : ℕ) (r : Bool) → CellAt p.netlist i.0 cell
       → IsRegisterMove l w s k.numbers j b r cell
-      → (step p s (Fire i)).value ≡ put s.value (in_rail l (suc j) b r) (rising k.numbers (suc j))
+      → (step p s (Fire i)).value ≡ with_net s.value (in_rail l (suc j) b r) (rising k.numbers (suc j))
   register-step i cell j b r at move =
-      ap (fired s.value) at ∙ ap (λ x. put s.value x (next_value s.value cell)) move.on.out
-      ∙ ap (put s.value (in_rail l (suc j) b r))
+      ap (fired s.value) at ∙ ap (λ x. with_net s.value x (next_value s.value cell)) move.on.out
+      ∙ ap (with_net s.value (in_rail l (suc j) b r))
       (register-takes s.value cell (out_rail l j b r) (l.root (suc j)) (in_rail l (suc j) b r) move.on (rising k.numbers (suc j)) move.ready (root-value set k (suc j) move.within))
 
   -- a net of a tree goes to the other value
   pub tree-step : (i : CellId) (cell : Cell) (j : ℕ) → CellAt p.netlist i.0 cell → IsTreeMove l s k.numbers j cell
-      → (step p s (Fire i)).value ≡ put s.value cell.out.0 (not (rising k.numbers j))
+      → (step p s (Fire i)).value ≡ with_net s.value cell.out.0 (not (rising k.numbers j))
   tree-step i cell j at move =
       let turning = old_is_turning set.layout j move.within s.value (rising k.numbers j) cell move.listed move.old move.new in
-      ap (fired s.value) at ∙ ap (put s.value cell.out.0) (not-from_differ _ _ turning ∙ ap not move.old)
+      ap (fired s.value) at ∙ ap (with_net s.value cell.out.0) (not-from_differ _ _ turning ∙ ap not move.old)
 
   -- ---- the source
 
@@ -73,7 +73,7 @@ module _ {p : PipelineData} {l : Layout} {w : Waves} {offered : List (List Bool)
   pub rail-put : (b : ℕ) (value : Bool) → IsSourceMove l w s k.numbers b → rising k.numbers 0 ≡ value
       → put_at s.value (slice_get (current_rails p s) b) value ≡ moved l w s k.numbers b
   rail-put b value move is =
-      ap (λ o. put_at s.value o value) (current-rail b move) ∙ ap (put s.value (in_rail l 0 b (bit_at (word_in w k.numbers 0) b))) (sym is)
+      ap (λ o. put_at s.value o value) (current-rail b move) ∙ ap (with_net s.value (in_rail l 0 b (bit_at (word_in w k.numbers 0) b))) (sym is)
 
   -- so this rail goes to the value of the wave
   pub raise-step : (b : ℕ) → IsSourceMove l w s k.numbers b → rising k.numbers 0 ≡ true → (step p s (Raise b)).value ≡ moved l w s k.numbers b

@@ -5,12 +5,12 @@ use Rattle.std.proofs.Math.Bool.{not-not}
 use Rattle.std.proofs.lemmas.Bool.{not-false, both_ways, cases_eq, not_from_true}
 use Rattle.ncl_base.proofs.Members.{Member}
 use Rattle.ncl_netlist.specs.declared.cell.Cell.{Cell}
-use Rattle.ncl_shape.specs.Nets.{Nets, put}
+use Rattle.ncl_shape.specs.Nets.{Nets, with_net}
 use Rattle.ncl_shape.specs.Pipeline.{PipelineData}
 use Rattle.ncl_layout.specs.Layout.{in_rail, out_rail, Layout, IsLayoutOf, width}
-use Rattle.ncl_machine.proofs.AtWorkLaws.{put-elsewhere}
+use Rattle.ncl_machine.proofs.AtWorkLaws.{with_net-elsewhere}
 use Rattle.ncl_machine.proofs.NamedRails.{some-rail, rail-data}
-use Rattle.ncl_machine.proofs.LocalNets.{put-here, put-keeps}
+use Rattle.ncl_machine.proofs.LocalNets.{with_net-here, with_net-keeps}
 use Rattle.ncl_machine.proofs.Phases.{IsPhase, output_is}
 use Rattle.ncl_machine.proofs.Completion.{ReadsNew, Follows, one_cell, reads-more}
 use Rattle.ncl_machine.proofs.TruthValues.{not_itself}
@@ -30,7 +30,7 @@ module _ {p : PipelineData} {l : Layout} {w : Waves} {offered : List (List Bool)
   -- ---- a cell of a tree that is no root
   pub tree-kept : (new : ℕ → Nets) (k : ℕ) (z : Cell) → k < l.last → Member z (l.tree k) → tree k z.out.0 ≡ rising c k
       → ReadsNew (at (suc k)) (tree k) (rising c k) z → z.out.0 ≢ l.root k
-      → Changes l.last tree new k (put (tree k) z.out.0 (not (rising c k))) → AreKept l w at new c
+      → Changes l.last tree new k (with_net (tree k) z.out.0 (not (rising c k))) → AreKept l w at new c
   tree-kept new k z lt m old reads inner changes = record {
     near = kept.near;
     order = kept.order;
@@ -38,7 +38,7 @@ module _ {p : PipelineData} {l : Layout} {w : Waves} {offered : List (List Bool)
     asks = λ j lj. elim (cases_eq k j) [
       | inl e ↦
           subst (λ x. new x (l.root x) ≡ rising c x) e
-          (ap (λ v. v (l.root k)) changes.here ∙ put-elsewhere (tree k) z.out.0 (l.root k) (not (rising c k)) inner ∙ kept.asks k (omega (arith, lt)))
+          (ap (λ v. v (l.root k)) changes.here ∙ with_net-elsewhere (tree k) z.out.0 (l.root k) (not (rising c k)) inner ∙ kept.asks k (omega (arith, lt)))
       | inr apart ↦ ap (λ v. v (l.root j)) (changes.others j lj apart) ∙ kept.asks j lj
     ];
     follows = λ j y lj n. elim (cases_eq k j) [
@@ -53,21 +53,21 @@ module _ {p : PipelineData} {l : Layout} {w : Waves} {offered : List (List Bool)
   }
     where
       after : Nets
-      after = put (tree k) z.out.0 (not (rising c k))
+      after = with_net (tree k) z.out.0 (not (rising c k))
 
       still_new : (y : Cell) → Member y (l.tree k) → ReadsNew (at (suc k)) (tree k) (rising c k) y
-          → ReadsNew (at (suc k)) (put (tree k) z.out.0 (not (rising c k))) (rising c k) y
-      still_new y n = reads-more set.layout k lt (at (suc k)) after y n (λ b within has. has) (λ net. put-keeps (tree k) z.out.0 net (not (rising c k)))
+          → ReadsNew (at (suc k)) (with_net (tree k) z.out.0 (not (rising c k))) (rising c k) y
+      still_new y n = reads-more set.layout k lt (at (suc k)) after y n (λ b within has. has) (λ net. with_net-keeps (tree k) z.out.0 net (not (rising c k)))
 
-      follows_here : (y : Cell) → Member y (l.tree k) → Follows (at (suc k)) (put (tree k) z.out.0 (not (rising c k))) (rising c k) y
+      follows_here : (y : Cell) → Member y (l.tree k) → Follows (at (suc k)) (with_net (tree k) z.out.0 (not (rising c k))) (rising c k) y
       follows_here y n is_new = elim (cases_eq z.out.0 y.out.0) [
         | inl e ↦ subst (ReadsNew (at (suc k)) after (rising c k)) (one_cell set.layout k lt z y m n e) (still_new z m reads)
-        | inr apart ↦ still_new y n (kept.follows k y lt n (sym (put-elsewhere (tree k) z.out.0 y.out.0 (not (rising c k)) apart) ∙ is_new))
+        | inr apart ↦ still_new y n (kept.follows k y lt n (sym (with_net-elsewhere (tree k) z.out.0 y.out.0 (not (rising c k)) apart) ∙ is_new))
       ]
 
   -- ---- the root of a bank, and the acknowledge of the sink: the bank goes on to its next wave
   pub root-kept : (new : ℕ → Nets) (k : ℕ) → k ≤ l.last → Acknowledges l w at tree c k
-      → Changes l.last tree new k (put (tree k) (l.root k) (not (rising c k))) → AreKept l w at new (next_at c (suc k))
+      → Changes l.last tree new k (with_net (tree k) (l.root k) (not (rising c k))) → AreKept l w at new (next_at c (suc k))
   root-kept new k le acks changes = record {
     near = λ j lj. elim (cases_eq (suc k) j) [
       | inl e ↦
@@ -97,7 +97,7 @@ module _ {p : PipelineData} {l : Layout} {w : Waves} {offered : List (List Bool)
       | inr apart ↦ let was = kept.least j lj in let same = other j apart in omega (arith, was, same)
     ];
     asks = λ j lj. elim (cases_eq k j) [
-      | inl e ↦ subst (λ x. new x (l.root x) ≡ rising now x) e (ap (λ v. v (l.root k)) changes.here ∙ put-here (tree k) (l.root k) (not (rising c k)) ∙ ap even (sym here))
+      | inl e ↦ subst (λ x. new x (l.root x) ≡ rising now x) e (ap (λ v. v (l.root k)) changes.here ∙ with_net-here (tree k) (l.root k) (not (rising c k)) ∙ ap even (sym here))
       | inr apart ↦ ap (λ v. v (l.root j)) (changes.others j lj apart) ∙ kept.asks j lj ∙ ap even (sym (later j apart))
     ];
     follows = λ j y lj n. elim (cases_eq k j) [
@@ -141,10 +141,10 @@ module _ {p : PipelineData} {l : Layout} {w : Waves} {offered : List (List Bool)
       later j apart = other (suc j) (λ q. apart (omega (arith, q)))
 
       -- every cell of the tree is old to the next wave
-      all_old : k < l.last → (y : Cell) → Member y (l.tree k) → put (tree k) (l.root k) (not (rising c k)) y.out.0 ≡ not (rising c k)
+      all_old : k < l.last → (y : Cell) → Member y (l.tree k) → with_net (tree k) (l.root k) (not (rising c k)) y.out.0 ≡ not (rising c k)
       all_old lt y n = elim (acks.others y lt n) [
-        | inl is_root ↦ ap (put (tree k) (l.root k) (not (rising c k))) is_root ∙ put-here (tree k) (l.root k) (not (rising c k))
-        | inr known ↦ put-keeps (tree k) (l.root k) y.out.0 (not (rising c k)) known
+        | inl is_root ↦ ap (with_net (tree k) (l.root k) (not (rising c k))) is_root ∙ with_net-here (tree k) (l.root k) (not (rising c k))
+        | inr known ↦ with_net-keeps (tree k) (l.root k) y.out.0 (not (rising c k)) known
       ]
 
       near_here : k < l.last → AreNear (AreAt l (suc k) (at (suc k))) (suc (c (suc k))) (c (suc (suc k)))

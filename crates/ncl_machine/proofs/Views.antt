@@ -1,7 +1,7 @@
 -- The nets of the machine as stages and trees: where one net changes, one stage or one tree changes.
 use Rattle.std.proofs.Common.{◌≡◌, ℕ, suc, ◌≤◌, Bool, sym, ap, ◌∙◌, subst, arith}
 use Rattle.ncl_base.proofs.Members.{Member}
-use Rattle.ncl_shape.specs.Nets.{Nets, put}
+use Rattle.ncl_shape.specs.Nets.{Nets, with_net}
 use Rattle.ncl_shape.specs.Pipeline.{PipelineData}
 use Rattle.ncl_layout.specs.Layout.{Layout, IsLayoutOf, stage_nets, in_rail, out_rail}
 use Rattle.ncl_machine.proofs.LocalNets.{local-put_here, local-put_other, in_stage, in_tree}
@@ -21,7 +21,7 @@ pub record Changes (top : ℕ) (old new : ℕ → Nets) (k : ℕ) (now : Nets) :
 
 module _ {p : PipelineData} {l : Layout} (is : IsLayoutOf p l) (v : Nets) (k net : ℕ) (value : Bool) (le : k ≤ l.last) where
   pub stage_changes : Member net (stage_nets l k)
-      → Changes l.last (in_stage l v) (in_stage l (put v net value)) k (put (in_stage l v k) net value) × AreSame l.last (in_tree l v) (in_tree l (put v net value))
+      → Changes l.last (in_stage l v) (in_stage l (with_net v net value)) k (with_net (in_stage l v k) net value) × AreSame l.last (in_tree l v) (in_tree l (with_net v net value))
   stage_changes m = (
     record {
       here = local-put_here (stage_nets l k) v net value m;
@@ -31,7 +31,7 @@ module _ {p : PipelineData} {l : Layout} (is : IsLayoutOf p l) (v : Nets) (k net
   )
 
   pub tree_changes : Member net (l.tree_nets k)
-      → Changes l.last (in_tree l v) (in_tree l (put v net value)) k (put (in_tree l v k) net value) × AreSame l.last (in_stage l v) (in_stage l (put v net value))
+      → Changes l.last (in_tree l v) (in_tree l (with_net v net value)) k (with_net (in_tree l v k) net value) × AreSame l.last (in_stage l v) (in_stage l (with_net v net value))
   tree_changes m = (
     record {
       here = local-put_here (l.tree_nets k) v net value m;

@@ -2,7 +2,7 @@
 use Rattle.std.specs.Prelude.{◌≡◌, ℕ, true, false, Bool, List, Contains}
 use Rattle.ncl_gates.specs.Gate.{next_of}
 use Rattle.ncl_shape.specs.declared.stage.StageCell.{StageCell}
-use Rattle.ncl_shape.specs.Nets.{Nets, put}
+use Rattle.ncl_shape.specs.Nets.{Nets, with_net}
 use Rattle.ncl_shape.specs.Stage.{StageData, named_rails, rail_nets}
 use Rattle.ncl_shape.specs.Closure.{pin_values}
 use Rattle.ncl_stage.specs.declared.variant.Variant.TheVariants.{Base}
@@ -21,11 +21,11 @@ IsExcited v c = differ (next_of_gate v c) (v c.out.0) ≡ true
 -- the rising states at a word: from nothing high, rails of the word rise and excited cells fire
 pub data IsRising (s : StageData) (word : List Bool) : Nets → Type 0 where
   null : IsRising s word no_nets
-  raise : {v : Nets} → (net : ℕ) → Contains (named_rails s.inputs word) net → IsRising s word v → IsRising s word (put v net true)
-  fire : {v : Nets} → (c : StageCell) → Contains s.cells c → IsExcited v c → IsRising s word v → IsRising s word (put v c.out.0 (next_of_gate v c))
+  raise : {v : Nets} → (net : ℕ) → Contains (named_rails s.inputs word) net → IsRising s word v → IsRising s word (with_net v net true)
+  fire : {v : Nets} → (c : StageCell) → Contains s.cells c → IsExcited v c → IsRising s word v → IsRising s word (with_net v c.out.0 (next_of_gate v c))
 
 -- the falling states at a word: from its values, rails fall and excited cells fire
 pub data IsFalling (s : StageData) (word : List Bool) : Nets → Type 0 where
   settled : IsFalling s word (val s word Base)
-  lower : {v : Nets} → (net : ℕ) → Contains (rail_nets s.inputs) net → IsFalling s word v → IsFalling s word (put v net false)
-  fire : {v : Nets} → (c : StageCell) → Contains s.cells c → IsExcited v c → IsFalling s word v → IsFalling s word (put v c.out.0 (next_of_gate v c))
+  lower : {v : Nets} → (net : ℕ) → Contains (rail_nets s.inputs) net → IsFalling s word v → IsFalling s word (with_net v net false)
+  fire : {v : Nets} → (c : StageCell) → Contains s.cells c → IsExcited v c → IsFalling s word v → IsFalling s word (with_net v c.out.0 (next_of_gate v c))

@@ -1,7 +1,7 @@
 -- The theorem of one stage: what holds of each of its states at work where the stage is sound.
 use Rattle.std.specs.Prelude.{◌≡◌, ◌≢◌, ℕ, true, false, Bool, List, Contains, All}
 use Rattle.ncl_shape.specs.declared.stage.StageCell.{StageCell}
-use Rattle.ncl_shape.specs.Nets.{Nets, put}
+use Rattle.ncl_shape.specs.Nets.{Nets, with_net}
 use Rattle.ncl_shape.specs.Stage.{StageData, named_rails, rail_nets}
 use Rattle.ncl_stage.specs.declared.variant.Variant.TheVariants.{Base}
 use Rattle.ncl_stage.specs.Values.{val}
@@ -12,8 +12,8 @@ use Rattle.ncl_machine.specs.AtWork.{next_of_gate, IsExcited}
 -- no gate cell is disturbed: a cell that is excited stays excited where one of the nets takes the value, and
 -- where another excited cell fires
 pub record IsUndisturbed (s : StageData) (nets : List ℕ) (value : Bool) (v : Nets) : Type 0 where
-  pub by_rails : (c : StageCell) (net : ℕ) → Contains s.cells c → Contains nets net → IsExcited v c → IsExcited (put v net value) c
-  pub by_cells : (c other : StageCell) → Contains s.cells c → Contains s.cells other → c ≢ other → IsExcited v c → IsExcited v other → IsExcited (put v other.out.0 (next_of_gate v other)) c
+  pub by_rails : (c : StageCell) (net : ℕ) → Contains s.cells c → Contains nets net → IsExcited v c → IsExcited (with_net v net value) c
+  pub by_cells : (c other : StageCell) → Contains s.cells c → Contains s.cells other → c ≢ other → IsExcited v c → IsExcited v other → IsExcited (with_net v other.out.0 (next_of_gate v other)) c
 
 -- no output is illegal
 abbrev pub IsLegal : StageData → Nets → Type 0

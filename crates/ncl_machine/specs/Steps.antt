@@ -7,7 +7,7 @@ use Rattle.ncl_netlist.specs.declared.cell.Cell.{Cell}
 use Rattle.ncl_shape.specs.declared.rails.Rails.{Rails}
 use Rattle.ncl_shape.specs.declared.item.Item.{Item}
 use Rattle.ncl_shape.specs.declared.item.Item.TheVariants.{Cell as Fire, Raise, Lower, Take, Ready}
-use Rattle.ncl_shape.specs.Nets.{Nets, put}
+use Rattle.ncl_shape.specs.Nets.{Nets, with_net}
 use Rattle.ncl_shape.specs.Stage.{named_rails}
 use Rattle.ncl_shape.specs.Pipeline.{PipelineData}
 use Rattle.ncl_shape.specs.Closure.{pin_values}
@@ -59,12 +59,12 @@ enabled p s Ready = not (s.value p.ki) && is_null p.outputs s.value
 -- the cell's net takes the cell's next value
 abbrev pub fired : Nets → Option Cell → Nets
 fired v None = v
-fired v (Some c) = put v c.out.0 (next_value v c)
+fired v (Some c) = with_net v c.out.0 (next_value v c)
 
 -- the net, if there is one, takes a value
 abbrev pub put_at : Nets → Option ℕ → Bool → Nets
 put_at v None value = v
-put_at v (Some net) value = put v net value
+put_at v (Some net) value = with_net v net value
 
 -- the rails 0 and the rails 1 of the outputs
 abbrev pub pair_at : List Rails → Nets → Pair
@@ -86,5 +86,5 @@ abbrev pub step : PipelineData → State → Item → State
 step p s (Fire cell) = record s { value = fired s.value (slice_get p.netlist.cells cell.0) }
 step p s (Raise bit) = after_raise p s (put_at s.value (slice_get (current_rails p s) bit) true)
 step p s (Lower bit) = after_lower p s (put_at s.value (slice_get (current_rails p s) bit) false)
-step p s Take = record s { value = put s.value p.ki false; delivered = s.delivered ++ pair_at p.outputs s.value ∷ [] }
-step p s Ready = record s { value = put s.value p.ki true }
+step p s Take = record s { value = with_net s.value p.ki false; delivered = s.delivered ++ pair_at p.outputs s.value ∷ [] }
+step p s Ready = record s { value = with_net s.value p.ki true }

@@ -11,8 +11,8 @@ abbrev pub IsBelow : Nets → Nets → Type 0
 IsBelow v w = (net : ℕ) → v net ≡ true → w net ≡ true
 
 -- v with one net changed
-abbrev pub put : Nets → ℕ → Bool → Nets
-put v net value other = cond (nat_eq net other) value (v other)
+abbrev pub with_net : Nets → ℕ → Bool → Nets
+with_net v net value other = cond (nat_eq net other) value (v other)
 
 -- one of the nets in a list
 abbrev pub among : List ℕ → Nets

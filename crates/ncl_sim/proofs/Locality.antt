@@ -8,7 +8,7 @@ use Rattle.ncl_netlist.specs.declared.cell.Cell.{Cell}
 use Rattle.ncl_shape.specs.declared.item.Item.{Item}
 use Rattle.ncl_shape.specs.declared.item.Item.TheVariants.{Cell as Fire, Raise, Lower, Take, Ready}
 use Rattle.ncl_shape.specs.declared.rails.Rails.{Rails}
-use Rattle.ncl_shape.specs.Nets.{Nets, put}
+use Rattle.ncl_shape.specs.Nets.{Nets, with_net}
 use Rattle.ncl_origin.specs.Origin.{CellAt}
 use Rattle.ncl_shape.specs.Pipeline.{PipelineData}
 use Rattle.ncl_shape.specs.Stage.{named_rails, rail_nets}
@@ -19,7 +19,7 @@ use Rattle.ncl_sim.specs.Touch.{AreApart, AreDrivenOnce, AreEnds, Avoids, IsApar
 use Rattle.ncl_machine.specs.OneChange.{net_of_step, out_at}
 use Rattle.ncl_sim.specs.Candidates.{bit_candidate, candidate, sink_candidate}
 use Rattle.ncl_sim.proofs.Candidates.{and2, and3, bit_number, bit_within, candidate_at_sink, cell_candidate, excited_within}
-use Rattle.ncl_sim.proofs.Untouched.{put-other, put-same, rests, untouched}
+use Rattle.ncl_sim.proofs.Untouched.{with_net-other, with_net-same, rests, untouched}
 
 -- ---- the rails of the current word
 
@@ -50,17 +50,17 @@ rail-differ rs (Some word) j k x y apart at_x at_y differ e = named-differ rs wo
 
 -- ---- what a change of another net leaves
 
-value-unread : (v : Nets) (net : ℕ) (value : Bool) (o : Option ℕ) (wanted : Bool) → ((x : ℕ) → o ≡ Some x → net ≢ x) → has_value (put v net value) o wanted ≡ has_value v o wanted
+value-unread : (v : Nets) (net : ℕ) (value : Bool) (o : Option ℕ) (wanted : Bool) → ((x : ℕ) → o ≡ Some x → net ≢ x) → has_value (with_net v net value) o wanted ≡ has_value v o wanted
 value-unread v net value None wanted apart = refl
-value-unread v net value (Some x) wanted apart = ap (λ b. not (differ b wanted)) (put-other v net x value (apart x refl))
+value-unread v net value (Some x) wanted apart = ap (λ b. not (differ b wanted)) (with_net-other v net x value (apart x refl))
 
-data-unread : (v : Nets) (net : ℕ) (value : Bool) (bits : List Rails) → IsApart net (rail_nets bits) → is_data bits (put v net value) ≡ is_data bits v
+data-unread : (v : Nets) (net : ℕ) (value : Bool) (bits : List Rails) → IsApart net (rail_nets bits) → is_data bits (with_net v net value) ≡ is_data bits v
 data-unread v net value [] apart = refl
-data-unread v net value (r ∷ rs) apart = rw (put-other v net r.zero.0 value apart.0, put-other v net r.one.0 value apart.1.0, data-unread v net value rs apart.1.1) refl
+data-unread v net value (r ∷ rs) apart = rw (with_net-other v net r.zero.0 value apart.0, with_net-other v net r.one.0 value apart.1.0, data-unread v net value rs apart.1.1) refl
 
-null-unread : (v : Nets) (net : ℕ) (value : Bool) (bits : List Rails) → IsApart net (rail_nets bits) → is_null bits (put v net value) ≡ is_null bits v
+null-unread : (v : Nets) (net : ℕ) (value : Bool) (bits : List Rails) → IsApart net (rail_nets bits) → is_null bits (with_net v net value) ≡ is_null bits v
 null-unread v net value [] apart = refl
-null-unread v net value (r ∷ rs) apart = rw (put-other v net r.zero.0 value apart.0, put-other v net r.one.0 value apart.1.0, null-unread v net value rs apart.1.1) refl
+null-unread v net value (r ∷ rs) apart = rw (with_net-other v net r.zero.0 value apart.0, with_net-other v net r.one.0 value apart.1.0, null-unread v net value rs apart.1.1) refl
 
 -- where all rails are high, none has yet to rise; where all are low, none has yet to fall
 all-high : (v : Nets) (rails : List ℕ) (k : ℕ) → list_all v rails ≡ true → has_value v (slice_get rails k) false ≡ false
@@ -79,17 +79,17 @@ pub lower-value : (p : PipelineData) (s : State) (v : Nets) → (after_lower p s
 lower-value p s v =
     elim (list_all (λ net. not (v net)) (current_rails p s)) as (λ b. (if b then record s { value = v; falling = false; done = s.done + 1 } else record s { value = v }).value ≡ v) [ true ↦ refl | false ↦ refl ]
 
-fired-value : (v : Nets) (o : Option Cell) (net : ℕ) → out_at o ≡ Some net → (value : Bool) × (fired v o ≡ put v net value)
+fired-value : (v : Nets) (o : Option Cell) (net : ℕ) → out_at o ≡ Some net → (value : Bool) × (fired v o ≡ with_net v net value)
 fired-value v None net at = absurd (none-some net at)
-fired-value v (Some c) net at = (next_value v c, ap (λ n. put v n (next_value v c)) (same_Some c.out.0 net at))
+fired-value v (Some c) net at = (next_value v c, ap (λ n. with_net v n (next_value v c)) (same_Some c.out.0 net at))
 
 -- a step gives its net a value
-pub step-value : (p : PipelineData) (s : State) (f : Item) (net : ℕ) → net_of_step p s f ≡ Some net → (value : Bool) × ((step p s f).value ≡ put s.value net value)
+pub step-value : (p : PipelineData) (s : State) (f : Item) (net : ℕ) → net_of_step p s f ≡ Some net → (value : Bool) × ((step p s f).value ≡ with_net s.value net value)
 step-value p s (Fire cell) net at = fired-value s.value (slice_get p.netlist.cells cell.0) net at
 step-value p s (Raise bit) net at = (true, ap (λ o. put_at s.value o true) at)
 step-value p s (Lower bit) net at = (false, lower-value p s (put_at s.value (slice_get (current_rails p s) bit) false) ∙ ap (λ o. put_at s.value o false) at)
-step-value p s Take net at = (false, ap (λ n. put s.value n false) (same_Some p.ki net at))
-step-value p s Ready net at = (true, ap (λ n. put s.value n true) (same_Some p.ki net at))
+step-value p s Take net at = (false, ap (λ n. with_net s.value n false) (same_Some p.ki net at))
+step-value p s Ready net at = (true, ap (λ n. with_net s.value n true) (same_Some p.ki net at))
 
 -- an enabled item has a net
 excited-net : (v : Nets) (o : Option Cell) → is_excited v o ≡ true → (net : ℕ) × (out_at o ≡ Some net)
@@ -203,9 +203,9 @@ lowered-lower p s v bit keeps =
     (λ all. sym (and_right (s.falling && not (s.value p.ko)) (has_value s.value (slice_get (current_rails p s) bit) true) (sym (keeps.value true) ∙ all-low v (current_rails p s) bit all)))
     (same-lower p s v bit keeps)
 
-keeps-bit : (p : PipelineData) (s : State) (net bit : ℕ) (value : Bool) → net ≢ p.ko → ((x : ℕ) → slice_get (current_rails p s) bit ≡ Some x → net ≢ x) → KeepsBit p s (put s.value net value) bit
+keeps-bit : (p : PipelineData) (s : State) (net bit : ℕ) (value : Bool) → net ≢ p.ko → ((x : ℕ) → slice_get (current_rails p s) bit ≡ Some x → net ≢ x) → KeepsBit p s (with_net s.value net value) bit
 keeps-bit p s net bit value not_ko not_rail = record {
-  asks = put-other s.value net p.ko value not_ko;
+  asks = with_net-other s.value net p.ko value not_ko;
   value = λ wanted. value-unread s.value net value (slice_get (current_rails p s) bit) wanted not_rail;
 }
 
@@ -224,8 +224,8 @@ raise_untouched p s (Lower own) net bit ends once on at not_ko other =
     lowered-raise p s (put_at s.value (slice_get (current_rails p s) own) false) bit
     (keeps-bit_at p s (Lower own) net bit _ ends once at not_ko other (lower-value p s (put_at s.value (slice_get (current_rails p s) own) false)))
     (not-true (s.value p.ko) (and3 s.falling (not (s.value p.ko)) _ on).1)
-raise_untouched p s Take net bit ends once on at not_ko other = same-raise p s (put s.value p.ki false) bit (keeps-bit_at p s Take net bit _ ends once at not_ko other refl)
-raise_untouched p s Ready net bit ends once on at not_ko other = same-raise p s (put s.value p.ki true) bit (keeps-bit_at p s Ready net bit _ ends once at not_ko other refl)
+raise_untouched p s Take net bit ends once on at not_ko other = same-raise p s (with_net s.value p.ki false) bit (keeps-bit_at p s Take net bit _ ends once at not_ko other refl)
+raise_untouched p s Ready net bit ends once on at not_ko other = same-raise p s (with_net s.value p.ki true) bit (keeps-bit_at p s Ready net bit _ ends once at not_ko other refl)
 
 lower_untouched : (p : PipelineData) (s : State) (f : Item) (net bit : ℕ) → AreEnds p → AreDrivenOnce p → enabled p s f ≡ true → net_of_step p s f ≡ Some net → net ≢ p.ko → item_number p f ≢ length p.netlist.cells + bit → enabled p (step p s f) (Lower bit) ≡ enabled p s (Lower bit)
 lower_untouched p s (Fire cell) net bit ends once on at not_ko other = same-lower p s (fired s.value (slice_get p.netlist.cells cell.0)) bit (keeps-bit_at p s (Fire cell) net bit _ ends once at not_ko other refl)
@@ -235,12 +235,12 @@ lower_untouched p s (Raise own) net bit ends once on at not_ko other =
 lower_untouched p s (Lower own) net bit ends once on at not_ko other =
     lowered-lower p s (put_at s.value (slice_get (current_rails p s) own) false) bit
     (keeps-bit_at p s (Lower own) net bit _ ends once at not_ko other (lower-value p s (put_at s.value (slice_get (current_rails p s) own) false)))
-lower_untouched p s Take net bit ends once on at not_ko other = same-lower p s (put s.value p.ki false) bit (keeps-bit_at p s Take net bit _ ends once at not_ko other refl)
-lower_untouched p s Ready net bit ends once on at not_ko other = same-lower p s (put s.value p.ki true) bit (keeps-bit_at p s Ready net bit _ ends once at not_ko other refl)
+lower_untouched p s Take net bit ends once on at not_ko other = same-lower p s (with_net s.value p.ki false) bit (keeps-bit_at p s Take net bit _ ends once at not_ko other refl)
+lower_untouched p s Ready net bit ends once on at not_ko other = same-lower p s (with_net s.value p.ki true) bit (keeps-bit_at p s Ready net bit _ ends once at not_ko other refl)
 
 -- ---- the cells and the sink
 
-cell_untouched : (v : Nets) (net : ℕ) (value : Bool) (o : Option Cell) → ((c : Cell) → o ≡ Some c → Avoids net c.ins.items) → ((c : Cell) → o ≡ Some c → net ≢ c.out.0) → is_excited (put v net value) o ≡ is_excited v o
+cell_untouched : (v : Nets) (net : ℕ) (value : Bool) (o : Option Cell) → ((c : Cell) → o ≡ Some c → Avoids net c.ins.items) → ((c : Cell) → o ≡ Some c → net ≢ c.out.0) → is_excited (with_net v net value) o ≡ is_excited v o
 cell_untouched v net value None avoids apart = refl
 cell_untouched v net value (Some c) avoids apart = untouched v net value c (avoids c refl) (apart c refl)
 
@@ -254,15 +254,15 @@ untouched_item p s f net (Raise bit) ends once on at free other = raise_untouche
 untouched_item p s f net (Lower bit) ends once on at free other = lower_untouched p s f net bit ends once on at free other
 untouched_item p s f net Take ends once on at free other =
     let (value, puts) = step-value p s f net at in
-    let asks : put s.value net value p.ki ≡ s.value p.ki = put-other s.value net p.ki value (net-not_ki p s f net ends once at other) in
+    let asks : with_net s.value net value p.ki ≡ s.value p.ki = with_net-other s.value net p.ki value (net-not_ki p s f net ends once at other) in
     ap (λ v. v p.ki && is_data p.outputs v) puts
-    ∙ ap (λ b. b && is_data p.outputs (put s.value net value)) asks
+    ∙ ap (λ b. b && is_data p.outputs (with_net s.value net value)) asks
     ∙ ap (λ b. s.value p.ki && b) (data-unread s.value net value p.outputs free)
 untouched_item p s f net Ready ends once on at free other =
     let (value, puts) = step-value p s f net at in
-    let asks : put s.value net value p.ki ≡ s.value p.ki = put-other s.value net p.ki value (net-not_ki p s f net ends once at other) in
+    let asks : with_net s.value net value p.ki ≡ s.value p.ki = with_net-other s.value net p.ki value (net-not_ki p s f net ends once at other) in
     ap (λ v. not (v p.ki) && is_null p.outputs v) puts
-    ∙ ap (λ b. not b && is_null p.outputs (put s.value net value)) asks
+    ∙ ap (λ b. not b && is_null p.outputs (with_net s.value net value)) asks
     ∙ ap (λ b. not (s.value p.ki) && b) (null-unread s.value net value p.outputs free)
 
 -- ---- the candidate of another number stays, where it is enabled
@@ -299,7 +299,7 @@ still-falling p s Ready net bit ends once on at is other = (and3 s.falling (not 
 ki-kept : (p : PipelineData) (s : State) (f : Item) (net : ℕ) → AreEnds p → AreDrivenOnce p → net_of_step p s f ≡ Some net → item_number p f ≢ length p.netlist.cells + length p.inputs → (step p s f).value p.ki ≡ s.value p.ki
 ki-kept p s f net ends once at other =
     let (value, puts) = step-value p s f net at in
-    ap (λ (v : Nets). v p.ki) puts ∙ put-other s.value net p.ki value (net-not_ki p s f net ends once at other)
+    ap (λ (v : Nets). v p.ki) puts ∙ with_net-other s.value net p.ki value (net-not_ki p s f net ends once at other)
 
 pub candidate_stays : (p : PipelineData) (s : State) (f item : Item) → AreEnds p → AreDrivenOnce p → enabled p s f ≡ true → enabled p s item ≡ true → item_number p f ≢ item_number p item → candidate p (step p s f) (item_number p item) ≡ item
 candidate_stays p s f (Fire cell) ends once on is other = cell_candidate p (step p s f) cell.0 (excited_within s.value p.netlist.cells cell.0 is)
@@ -328,11 +328,11 @@ cell_rests v (Some c) net free at = rests v c (subst (λ n. Avoids n c.ins.items
 
 put_at-risen : (v : Nets) (o : Option ℕ) → has_value (put_at v o true) o false ≡ false
 put_at-risen v None = refl
-put_at-risen v (Some net) = ap (λ b. not (differ b false)) (put-same v net true)
+put_at-risen v (Some net) = ap (λ b. not (differ b false)) (with_net-same v net true)
 
 put_at-fallen : (v : Nets) (o : Option ℕ) → has_value (put_at v o false) o true ≡ false
 put_at-fallen v None = refl
-put_at-fallen v (Some net) = ap (λ b. not (differ b true)) (put-same v net false)
+put_at-fallen v (Some net) = ap (λ b. not (differ b true)) (with_net-same v net false)
 
 raise_rests : (p : PipelineData) (s : State) (v : Nets) (own : ℕ) → v p.ko ≡ true → has_value v (slice_get (current_rails p s) own) false ≡ false → enabled p (after_raise p s v) (bit_candidate (list_all v (current_rails p s)) own) ≡ false
 raise_rests p s v own asks risen =
@@ -359,7 +359,7 @@ data-not v (r ∷ rs) some empty = and_left (v r.zero.0 || v r.one.0) (is_data r
 ko-kept : (p : PipelineData) (s : State) (f : Item) (net : ℕ) → net_of_step p s f ≡ Some net → net ≢ p.ko → (step p s f).value p.ko ≡ s.value p.ko
 ko-kept p s f net at free =
     let (value, puts) = step-value p s f net at in
-    ap (λ (v : Nets). v p.ko) puts ∙ put-other s.value net p.ko value free
+    ap (λ (v : Nets). v p.ko) puts ∙ with_net-other s.value net p.ko value free
 
 -- where a step doesn't touch its own number, nothing of that number is enabled after it
 pub own_rests : (p : PipelineData) (s : State) (f : Item) (net : ℕ) → AreEnds p → enabled p s f ≡ true → net_of_step p s f ≡ Some net → IsUntouched p net f → enabled p (step p s f) (candidate p (step p s f) (item_number p f)) ≡ false
@@ -378,9 +378,9 @@ own_rests p s (Lower own) net ends on at free =
     ∙ lower_rests p s v own parts.0 idle (put_at-fallen s.value (slice_get (current_rails p s) own))
 own_rests p s Take net ends on at free =
     let (asks, full) = and_parts (s.value p.ki) (is_data p.outputs s.value) on in
-    ap (enabled p (step p s Take)) (candidate_at_sink p (step p s Take) (length p.netlist.cells + length p.inputs) (omega arith) ∙ ap sink_candidate (put-same s.value p.ki false))
-    ∙ and_right (not (put s.value p.ki false p.ki)) (is_null p.outputs (put s.value p.ki false)) (null-unread s.value p.ki false p.outputs ends.ki_outputs ∙ null-not s.value p.outputs ends.some_output full)
+    ap (enabled p (step p s Take)) (candidate_at_sink p (step p s Take) (length p.netlist.cells + length p.inputs) (omega arith) ∙ ap sink_candidate (with_net-same s.value p.ki false))
+    ∙ and_right (not (with_net s.value p.ki false p.ki)) (is_null p.outputs (with_net s.value p.ki false)) (null-unread s.value p.ki false p.outputs ends.ki_outputs ∙ null-not s.value p.outputs ends.some_output full)
 own_rests p s Ready net ends on at free =
     let (asks, empty) = and_parts (not (s.value p.ki)) (is_null p.outputs s.value) on in
-    ap (enabled p (step p s Ready)) (candidate_at_sink p (step p s Ready) (length p.netlist.cells + length p.inputs) (omega arith) ∙ ap sink_candidate (put-same s.value p.ki true))
-    ∙ and_right (put s.value p.ki true p.ki) (is_data p.outputs (put s.value p.ki true)) (data-unread s.value p.ki true p.outputs ends.ki_outputs ∙ data-not s.value p.outputs ends.some_output empty)
+    ap (enabled p (step p s Ready)) (candidate_at_sink p (step p s Ready) (length p.netlist.cells + length p.inputs) (omega arith) ∙ ap sink_candidate (with_net-same s.value p.ki true))
+    ∙ and_right (with_net s.value p.ki true p.ki) (is_data p.outputs (with_net s.value p.ki true)) (data-unread s.value p.ki true p.outputs ends.ki_outputs ∙ data-not s.value p.outputs ends.some_output empty)

@@ -8,35 +8,35 @@ use Rattle.ncl_gates.specs.Gate.{set_of, some_high}
 use Rattle.ncl_gates.specs.Cell.{next_of_cell}
 use Rattle.ncl_netlist.specs.declared.ids.NetId.{NetId}
 use Rattle.ncl_netlist.specs.declared.cell.Cell.{Cell}
-use Rattle.ncl_shape.specs.Nets.{Nets, put}
+use Rattle.ncl_shape.specs.Nets.{Nets, with_net}
 use Rattle.ncl_shape.specs.Closure.{pin_values}
 use Rattle.ncl_machine.specs.Steps.{next_value, differ}
 use Rattle.ncl_sim.specs.Touch.{Avoids}
 
-pub put-other : (v : Nets) (net other : ℕ) (value : Bool) → (net ≡ other → ⊥) → put v net value other ≡ v other
-put-other v net other value apart = ap (λ t. cond t value (v other)) (ne_eqb net other apart)
+pub with_net-other : (v : Nets) (net other : ℕ) (value : Bool) → (net ≡ other → ⊥) → with_net v net value other ≡ v other
+with_net-other v net other value apart = ap (λ t. cond t value (v other)) (ne_eqb net other apart)
 
-pub put-same : (v : Nets) (net : ℕ) (value : Bool) → put v net value net ≡ value
-put-same v net value = ap (λ t. cond t value (v net)) (eq-eqb net net refl)
+pub with_net-same : (v : Nets) (net : ℕ) (value : Bool) → with_net v net value net ≡ value
+with_net-same v net value = ap (λ t. cond t value (v net)) (eq-eqb net net refl)
 
-pub pins_unread : (v : Nets) (net : ℕ) (value : Bool) (ins : List NetId) → Avoids net ins → pin_values (put v net value) ins ≡ pin_values v ins
+pub pins_unread : (v : Nets) (net : ℕ) (value : Bool) (ins : List NetId) → Avoids net ins → pin_values (with_net v net value) ins ≡ pin_values v ins
 pins_unread v net value [] avoids = refl
-pins_unread v net value (x ∷ xs) avoids = ap (λ b. b ∷ pin_values (put v net value) xs) (put-other v net x.0 value avoids.0) ∙ ap (λ bs. v x.0 ∷ bs) (pins_unread v net value xs avoids.1)
+pins_unread v net value (x ∷ xs) avoids = ap (λ b. b ∷ pin_values (with_net v net value) xs) (with_net-other v net x.0 value avoids.0) ∙ ap (λ bs. v x.0 ∷ bs) (pins_unread v net value xs avoids.1)
 
 abbrev pub excited : Nets → Cell → Bool
 excited v c = differ (next_value v c) (v c.out.0)
 
-pub untouched : (v : Nets) (net : ℕ) (value : Bool) (c : Cell) → Avoids net c.ins.items → (net ≡ c.out.0 → ⊥) → excited (put v net value) c ≡ excited v c
+pub untouched : (v : Nets) (net : ℕ) (value : Bool) (c : Cell) → Avoids net c.ins.items → (net ≡ c.out.0 → ⊥) → excited (with_net v net value) c ≡ excited v c
 untouched v net value c avoids apart =
-    rw (pins_unread v net value c.ins.items avoids, put-other v net c.out.0 value apart) refl
+    rw (pins_unread v net value c.ins.items avoids, with_net-other v net c.out.0 value apart) refl
 
 differ-self : (b : Bool) → differ b b ≡ false
 differ-self true = refl
 differ-self false = refl
 
 -- the next value of the cell is its next value once more
-again : (v : Nets) (c : Cell) → Avoids c.out.0 c.ins.items → next_value (put v c.out.0 (next_value v c)) c ≡ next_of_cell c.kind (pin_values v c.ins.items) (next_value v c)
-again v c avoids = rw (pins_unread v c.out.0 (next_value v c) c.ins.items avoids, put-same v c.out.0 (next_value v c)) refl
+again : (v : Nets) (c : Cell) → Avoids c.out.0 c.ins.items → next_value (with_net v c.out.0 (next_value v c)) c ≡ next_of_cell c.kind (pin_values v c.ins.items) (next_value v c)
+again v c avoids = rw (pins_unread v c.out.0 (next_value v c) c.ins.items avoids, with_net-same v c.out.0 (next_value v c)) refl
 
 settled : (set some old : Bool) → cond set true (cond some (cond set true (cond some old false)) false) ≡ cond set true (cond some old false)
 settled true some old = refl
@@ -50,6 +50,6 @@ settles RegisterData ins old = settled (set_of Th22 (take 2 ins)) (some_high (ta
 settles Ack ins old = refl
 
 -- a cell that has stepped and doesn't read its own output isn't excited
-pub rests : (v : Nets) (c : Cell) → Avoids c.out.0 c.ins.items → excited (put v c.out.0 (next_value v c)) c ≡ false
+pub rests : (v : Nets) (c : Cell) → Avoids c.out.0 c.ins.items → excited (with_net v c.out.0 (next_value v c)) c ≡ false
 rests v c avoids =
-    rw (again v c avoids, put-same v c.out.0 (next_value v c), settles c.kind (pin_values v c.ins.items) (v c.out.0)) (differ-self (next_value v c))
+    rw (again v c avoids, with_net-same v c.out.0 (next_value v c), settles c.kind (pin_values v c.ins.items) (v c.out.0)) (differ-self (next_value v c))

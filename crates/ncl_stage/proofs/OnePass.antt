@@ -9,7 +9,7 @@ use Rattle.std.proofs.lemmas.List.Elements.{All-head, All-tail}
 use Rattle.ncl_gates.specs.Gate.{set_of}
 use Rattle.ncl_netlist.specs.declared.ids.NetId.{NetId}
 use Rattle.ncl_shape.specs.declared.stage.StageCell.{StageCell}
-use Rattle.ncl_shape.specs.Nets.{Nets, among, put}
+use Rattle.ncl_shape.specs.Nets.{Nets, among, with_net}
 use Rattle.ncl_shape.specs.Stage.{StageData, IsStage, rail_nets, nets_of, out_of}
 use Rattle.ncl_shape.specs.Closure.{pin_values}
 use Rattle.ncl_base.proofs.Members.{Member, here, list_any-from_member, member_from_list_any, Member-from_Contains, Member-append_right}
@@ -67,7 +67,7 @@ nets_of-more : (s : StageData) (before : List StageCell) (c : StageCell) → net
 nets_of-more s before c = ap (λ nets. rail_nets s.inputs ++ nets) (map-append out_of before (c ∷ [])) ∙ sym (append_assoc (rail_nets s.inputs) (map out_of before) (out_of c ∷ []))
 
 -- one more cell: its output takes the value that it has at what is known
-pub known-more : (s : StageData) → IsStage s → (word : List Bool) (variant : Variant) (before after : List StageCell) (c : StageCell) → s.cells ≡ before ++ c ∷ after → (net : ℕ) → known s word variant (before ++ c ∷ []) net ≡ put (known s word variant before) c.out.0 (rises (kept_low s variant) (known s word variant before) c) net
+pub known-more : (s : StageData) → IsStage s → (word : List Bool) (variant : Variant) (before after : List StageCell) (c : StageCell) → s.cells ≡ before ++ c ∷ after → (net : ℕ) → known s word variant (before ++ c ∷ []) net ≡ with_net (known s word variant before) c.out.0 (rises (kept_low s variant) (known s word variant before) c) net
 known-more s is word variant before after c parts net =
     let nets : among (nets_of s.inputs (before ++ c ∷ [])) net ≡ (among (nets_of s.inputs before) net || (nat_eq net (out_of c) || false)) =
     ap (λ nets. among nets net) (nets_of-more s before c) ∙ list_any-append (nat_eq net) (nets_of s.inputs before) (out_of c ∷ []) in
@@ -89,7 +89,7 @@ known-more s is word variant before after c parts net =
     or_false false = refl
 
 -- the same, by the place of the cell
-pub known-more_at : (s : StageData) → IsStage s → (word : List Bool) (variant : Variant) (place : ℕ) (d : StageCell) → place < length s.cells → (net : ℕ) → known s word variant (take (place + 1) s.cells) net ≡ put (known s word variant (take place s.cells)) (get_or s.cells place d).out.0 (rises (kept_low s variant) (known s word variant (take place s.cells)) (get_or s.cells place d)) net
+pub known-more_at : (s : StageData) → IsStage s → (word : List Bool) (variant : Variant) (place : ℕ) (d : StageCell) → place < length s.cells → (net : ℕ) → known s word variant (take (place + 1) s.cells) net ≡ with_net (known s word variant (take place s.cells)) (get_or s.cells place d).out.0 (rises (kept_low s variant) (known s word variant (take place s.cells)) (get_or s.cells place d)) net
 known-more_at s is word variant place d within net =
     ap (λ cells. known s word variant cells net) (take_more s.cells place d within)
     ∙ known-more s is word variant (take place s.cells) (drop (place + 1) s.cells) (get_or s.cells place d)

@@ -12,7 +12,7 @@ use Rattle.ncl_machine.specs.OneChange.{net_of_step}
 use Rattle.ncl_machine.specs.Run.{IsRunFrom, after}
 use Rattle.ncl_machine.specs.State.{State}
 use Rattle.ncl_machine.specs.Steps.{enabled, step}
-use Rattle.ncl_machine.proofs.AtWorkLaws.{put-elsewhere}
+use Rattle.ncl_machine.proofs.AtWorkLaws.{with_net-elsewhere}
 use Rattle.ncl_delay.specs.Delays.{DelaysData, delay_of}
 use Rattle.ncl_delay.specs.declared.fired.Fired.{Fired}
 use Rattle.ncl_sim.specs.Candidates.{look, popped}
@@ -85,7 +85,7 @@ step_one : (p : PipelineData) (s : State) (item : Item) → enabled p s item ≡
 step_one p s item on =
     let (net, at) = enabled-net p s item on in
     let (value, is) = step-value p s item net at in
-    (net, at, λ other apart. ap (λ v. v other) is ∙ put-elsewhere s.value net other value apart)
+    (net, at, λ other apart. ap (λ v. v other) is ∙ with_net-elsewhere s.value net other value apart)
 
 -- the changes of a run rise
 pub changes-rise : (p : PipelineData) (last : ℕ) (s : State) (steps : List Fired) → IsRunFrom p s (items_in steps) → NeverFall last steps → AreSmall steps → Rise last (changes_of p s steps)

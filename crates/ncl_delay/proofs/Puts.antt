@@ -15,7 +15,7 @@ use Rattle.ncl_delay.specs.declared.statement.Statement.{Statement}
 use Rattle.ncl_delay.specs.Delays.{DelaysData}
 use Rattle.ncl_delay.specs.DelayText.{said_in, said_of, same_thing, stated, stated_delays, unit_edges, is_known}
 use Rattle.ncl_delay.proofs.FirstOf.{option_or-none, option_or_assoc}
-use Rattle.ncl_delay.specs.Put.{put, unstated}
+use Rattle.ncl_delay.specs.Put.{put_edges, unstated}
 
 -- what is stated of a thing with one more line: what that line says of it, or what was stated
 stated-push : (thing : Thing) (lines : List NumberedText) (line : NumberedText) → stated thing (lines ++ line ∷ []) ≡ option_or (said_of thing (said_in line)) (stated thing lines)
@@ -63,19 +63,19 @@ all_after names edges thing lines = record {
   sink = unwrap_or (after edges thing lines Sink) unit_edges;
 }
 
-put-after : (names : List (List ℕ)) (lines : List NumberedText) (edges : Edges) (thing : Thing) → AllDiffer names → is_known names thing ≡ true → put names (stated_delays names lines) edges thing ≡ all_after names edges thing lines
-put-after names lines edges Default differ known = refl
-put-after names lines edges Source differ known = refl
-put-after names lines edges Sink differ known = refl
-put-after names lines edges (Cell name) differ known =
+put_edges-after : (names : List (List ℕ)) (lines : List NumberedText) (edges : Edges) (thing : Thing) → AllDiffer names → is_known names thing ≡ true → put_edges names (stated_delays names lines) edges thing ≡ all_after names edges thing lines
+put_edges-after names lines edges Default differ known = refl
+put_edges-after names lines edges Source differ known = refl
+put_edges-after names lines edges Sink differ known = refl
+put_edges-after names lines edges (Cell name) differ known =
     (λ i. record (stated_delays names lines) { cells = sym (renewed-set names name edges (λ other. stated (Cell other) lines) differ known) i })
 
 -- what lines state, with one more line that states this
-pub put-stated : (names : List (List ℕ)) (lines : List NumberedText) (line : NumberedText) (s : Statement) → AllDiffer names → said_in line ≡ Some s → is_known names s.thing ≡ true → put names (stated_delays names lines) s.edges s.thing ≡ stated_delays names (lines ++ line ∷ [])
-put-stated names lines line s differ says known =
+pub put_edges-stated : (names : List (List ℕ)) (lines : List NumberedText) (line : NumberedText) (s : Statement) → AllDiffer names → said_in line ≡ Some s → is_known names s.thing ≡ true → put_edges names (stated_delays names lines) s.edges s.thing ≡ stated_delays names (lines ++ line ∷ [])
+put_edges-stated names lines line s differ says known =
     let at : (of : Thing) → stated of (lines ++ line ∷ []) ≡ after s.edges s.thing lines of =
     λ of. stated-push of lines line ∙ ap (λ o. option_or (said_of of o) (stated of lines)) says in
-    put-after names lines s.edges s.thing differ known
+    put_edges-after names lines s.edges s.thing differ known
     ∙ (λ i. record { default = unwrap_or (sym (at Default) i) unit_edges; cells = map (λ name. sym (at (Cell name)) i) names; source = unwrap_or (sym (at Source) i) unit_edges; sink = unwrap_or (sym (at Sink) i) unit_edges })
 
 -- where no line is read, nothing is stated

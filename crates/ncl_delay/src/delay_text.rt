@@ -7,7 +7,7 @@ ghost use Rattle.ncl_delay.specs.declared.statement.Statement.{Statement};
 ghost use Rattle.ncl_delay.specs.declared.fault.DelayFault.TheVariants.{Memory as OutOfMemory};
 ghost use Rattle.ncl_delay.specs.Lines.{told_lines};
 ghost use Rattle.ncl_delay.specs.DelayText.{cell_names, fault_in, stated_delays, said_in, is_known, line_fault};
-ghost use Rattle.ncl_delay.specs.Put.{unstated, put};
+ghost use Rattle.ncl_delay.specs.Put.{unstated, put_edges};
 
 use crate::delays::{Delays, UNIT};
 use crate::fault::DelayFault;
@@ -85,7 +85,7 @@ fn put_line(
     requires { length delays.old.cells ≡ length names.now.keys }
     ensures { let line : NumberedText = record { number = number; text = line.now } in MatchResult result
         (λ _. (s : Statement) × (said_in line ≡ Some s) × (is_known names.now.keys s.thing ≡ true)
-        × (delays.new ≡ put names.now.keys delays.old s.edges s.thing))
+        × (delays.new ≡ put_edges names.now.keys delays.old s.edges s.thing))
         (λ fault. (fault ≡ OutOfMemory) ⊎ (line_fault names.now.keys line ≡ Some fault)) }
 {
     let Some(statement) = said(line) else {

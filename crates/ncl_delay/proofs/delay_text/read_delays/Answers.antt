@@ -5,7 +5,7 @@ use Rattle.std.proofs.lemmas.Iterator.Splits.{YieldsList-from_slice_split}
 use Rattle.std.proofs.lemmas.Result.{err_from_is_err_and}
 use Rattle.ncl_delay.specs.Lines.{is_feed, tells, numbered}
 use Rattle.ncl_delay.specs.DelayText.{cell_names, is_known, said_in, line_fault, fault_in, stated_delays}
-use Rattle.ncl_delay.specs.Put.{put, unstated}
+use Rattle.ncl_delay.specs.Put.{put_edges, unstated}
 use Rattle.ncl_delay.proofs.Told.{Part, placed, told_of-tells, told_next, next_line, no_line}
 use Rattle.ncl_delay.proofs.DelayLines.{AreStated, stated-none, stated-more, stated-broken}
 use Rattle.ncl_delay.proofs.delay_text.read_delays.Goals as goal
@@ -25,7 +25,7 @@ loop-place-preserved-in-Continue-branch-3 c =
     let stated = sym (λ i. said_in (record { number = c.in-Some.place + 1; text = c.trimmed-line.ensures i })) ∙ said in
     subst (λ lines. AreStated names lines c.put_line.new.delays) (sym (told_of-tells c.loop-place.yielded part says))
     (stated-more names _ c.loop-place.delays _ (numbered (placed part)) s c.cells-cells.ensures.netlist.cell_names c.loop-place.invariant stated
-    (sym (ap (λ ks. is_known ks s.thing) keys) ∙ known) (put_it ∙ ap (λ ks. put ks c.loop-place.delays s.edges s.thing) keys))
+    (sym (ap (λ ks. is_known ks s.thing) keys) ∙ known) (put_it ∙ ap (λ ks. put_edges ks c.loop-place.delays s.edges s.thing) keys))
 
 pub returns-in_err-put_line-clause-broken : goal.returns-in_err-put_line-clause-broken
 returns-in_err-put_line-clause-broken c =

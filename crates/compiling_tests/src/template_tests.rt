@@ -5,7 +5,7 @@ ghost use Rattle.ncl_decomp.specs.Split.{IsNarrow};
 use ncl_base::Items;
 use ncl_blif::Lit;
 use ncl_netlist::NetId;
-use ncl_network::{From3, Node, Signal};
+use ncl_network::{SignalSource, Node, Signal};
 use ncl_shape::{Rails, StageCell};
 use ncl_template::*;
 use ncl_tree::Gates;
@@ -25,7 +25,7 @@ fn is_narrow(node: &Node) -> bool
         .ins
         .items()
         .iter()
-        .all(|s| !matches!(s.from, From3::Const(_)));
+        .all(|s| !matches!(s.from, SignalSource::Const(_)));
     let fit = node
         .rows
         .items()
@@ -40,7 +40,7 @@ fn node_of(rt: &impl AllocGlobal, rows: &[&str], on: bool) -> Result<Node, Alloc
     let mut ins = Vec::new(rt.alloc());
     for k in 0..width as u32 {
         ins.push(Signal {
-            from: From3::Input(k),
+            from: SignalSource::Input(k),
             inverted: false,
         })?;
     }

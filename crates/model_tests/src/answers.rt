@@ -4,7 +4,7 @@ ghost use Rattle.ncl_network.specs.Network.{IsNetwork};
 
 use ncl_base::MOST_BYTES;
 use ncl_blif::{Lit, Row, read_blif};
-use ncl_network::{From3, Network, Node, Signal, reduce};
+use ncl_network::{SignalSource, Network, Node, Signal, reduce};
 use std::alloc::AllocError;
 use std::process::Abort;
 use std::test::Fail;
@@ -23,9 +23,9 @@ pub(crate) fn network(rt: &(impl Abort + AllocGlobal), text: &str) -> Result<Net
 /// The bit of a signal.
 fn bit(signal: &Signal, word: &[bool], nodes: &[bool]) -> bool {
     let bit = match signal.from {
-        From3::Input(i) => word.get(i as usize).copied().unwrap_or(false),
-        From3::Node(k) => nodes.get(k as usize).copied().unwrap_or(false),
-        From3::Const(bit) => bit,
+        SignalSource::Input(i) => word.get(i as usize).copied().unwrap_or(false),
+        SignalSource::Node(k) => nodes.get(k as usize).copied().unwrap_or(false),
+        SignalSource::Const(bit) => bit,
     };
     bit != signal.inverted
 }

@@ -1,7 +1,7 @@
 //! Tests of splitting, by texts, words, counts and answers that were worked out by hand.
 use crate::answers::{answer, network};
 use ncl_decomp::split;
-use ncl_network::{From3, Network};
+use ncl_network::{SignalSource, Network};
 use std::alloc::AllocError;
 use std::process::Abort;
 use std::test::Fail;
@@ -49,7 +49,7 @@ fn depth(rt: &impl AllocGlobal, network: &Network) -> Result<usize, AllocError> 
     for node in network.nodes.items() {
         let mut here = 0usize;
         for signal in node.ins.items() {
-            if let From3::Node(k) = signal.from {
+            if let SignalSource::Node(k) = signal.from {
                 here = here.max(depths.get(k as usize).copied().unwrap_or(0));
             }
         }

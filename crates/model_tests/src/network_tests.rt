@@ -1,6 +1,6 @@
 //! Tests of the folding, by texts, words and answers that were worked out by hand.
 use crate::answers::{answer, network};
-use ncl_network::{CompileFault, From3, Network};
+use ncl_network::{CompileFault, SignalSource, Network};
 use std::process::Abort;
 use std::test::Fail;
 
@@ -26,7 +26,7 @@ fn reads(network: &Network, input: u32) -> bool {
         node.ins
             .items()
             .iter()
-            .any(|signal| signal.from == From3::Input(input))
+            .any(|signal| signal.from == SignalSource::Input(input))
     })
 }
 

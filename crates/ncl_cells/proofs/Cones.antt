@@ -2,7 +2,7 @@
 use Rattle.std.proofs.Common.{◌≡◌, ℕ, Bool, true, false, List, [], ◌∷◌, ◌++◌, refl, sym, subst}
 use Rattle.std.specs.Bool.{beq}
 use Rattle.std.proofs.lemmas.List.Elements.{All-nil, All-cons, All-push}
-use Rattle.ncl_network.specs.declared.network.From3.{From3}
+use Rattle.ncl_network.specs.declared.network.SignalSource.{SignalSource}
 use Rattle.ncl_network.specs.declared.network.Node.{Node}
 use Rattle.ncl_network.specs.declared.network.Network.{Network}
 use Rattle.ncl_network.specs.Network.{source_value, node_values, ReadBefore}
@@ -17,11 +17,11 @@ pub respected : (network : Network) (word : List Bool) → ReadBefore network.in
 respected network word before k node at = bit_of_node network.inputs word network.nodes before k node at
 
 -- one more source is known
-pub IsKnown-push : (value : From3 → Bool) (known new : List Known) (fact : Known) → IsKnown value known → value fact.from ≡ fact.bit → new ≡ known ++ fact ∷ [] → IsKnown value new
+pub IsKnown-push : (value : SignalSource → Bool) (known new : List Known) (fact : Known) → IsKnown value known → value fact.from ≡ fact.bit → new ≡ known ++ fact ∷ [] → IsKnown value new
 IsKnown-push value known new fact is here pushed =
     subst (IsKnown value) (sym pushed) (All-push (λ (one : Known). value one.from ≡ one.bit) known fact is here)
 
-pub leaves_known : (value : From3 → Bool) (leaves : Leaves) (a b c d : Bool) → value leaves.first ≡ a → value leaves.second ≡ b → value leaves.third ≡ c → value leaves.fourth ≡ d → IsKnown value (leaf_facts leaves a b c d)
+pub leaves_known : (value : SignalSource → Bool) (leaves : Leaves) (a b c d : Bool) → value leaves.first ≡ a → value leaves.second ≡ b → value leaves.third ≡ c → value leaves.fourth ≡ d → IsKnown value (leaf_facts leaves a b c d)
 leaves_known value leaves a b c d first second third fourth =
     let F = λ (fact : Known). value fact.from ≡ fact.bit in
     let k1 : Known = record { from = leaves.first; bit = a } in

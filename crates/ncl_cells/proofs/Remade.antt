@@ -5,7 +5,7 @@ use Rattle.std.proofs.lemmas.List.{map_push, length-map}
 use Rattle.std.proofs.lemmas.List.Elements.{All-nil, All-head, All-tail, All-push}
 use Rattle.std.proofs.lemmas.List.Sums.{sum_by-cons}
 use Rattle.std.proofs.lemmas.Option.{same_Some, slice_get_within, get_or_from_slice_get}
-use Rattle.ncl_network.specs.declared.network.From3.TheVariants.{Input, Node as FromNode, Const}
+use Rattle.ncl_network.specs.declared.network.SignalSource.TheVariants.{Input, Node as FromNode, Const}
 use Rattle.ncl_network.specs.declared.network.Signal.{Signal}
 use Rattle.ncl_network.specs.declared.network.Node.{Node}
 use Rattle.ncl_network.specs.declared.network.Network.{Network}

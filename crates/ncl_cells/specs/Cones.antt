@@ -1,8 +1,8 @@
 -- What the nodes of a network are in terms of others.
 use Rattle.std.specs.Prelude.{◌≡◌, ℕ, List, [], ◌∷◌, Bool, not, cond, map, All, slice_get, Some}
 use Rattle.ncl_blif.specs.Meaning.{cover_value}
-use Rattle.ncl_network.specs.declared.network.From3.{From3}
-use Rattle.ncl_network.specs.declared.network.From3.TheVariants.{Node as FromNode}
+use Rattle.ncl_network.specs.declared.network.SignalSource.{SignalSource}
+use Rattle.ncl_network.specs.declared.network.SignalSource.TheVariants.{Node as FromNode}
 use Rattle.ncl_network.specs.declared.network.Signal.{Signal}
 use Rattle.ncl_network.specs.declared.network.Node.{Node}
 use Rattle.ncl_cells.specs.declared.cone.Known.{Known}
@@ -11,16 +11,16 @@ use Rattle.ncl_cells.specs.declared.plan.Plan.{Plan}
 use Rattle.ncl_cells.specs.Plans.{plan_value}
 
 -- the bit of a signal where sources have these bits
-abbrev pub signal_in : (From3 → Bool) → Signal → Bool
+abbrev pub signal_in : (SignalSource → Bool) → Signal → Bool
 signal_in value signal = cond signal.inverted (not (value signal.from)) (value signal.from)
 
 -- the bits of sources in which each node has the value of its cover
-abbrev pub Respects : List Node → (From3 → Bool) → Type 0
+abbrev pub Respects : List Node → (SignalSource → Bool) → Type 0
 Respects nodes value =
     (k : ℕ) (node : Node) → slice_get nodes k ≡ Some node → value (FromNode k) ≡ cover_value node.on node.rows (map (signal_in value) node.ins)
 
 -- sources have the bits that are known of them
-abbrev pub IsKnown : (From3 → Bool) → List Known → Type 0
+abbrev pub IsKnown : (SignalSource → Bool) → List Known → Type 0
 IsKnown value known = All (λ fact. value fact.from ≡ fact.bit) known
 
 -- that four leaves have these bits
@@ -29,15 +29,15 @@ leaf_facts leaves a b c d =
     record { from = leaves.first; bit = a } ∷ record { from = leaves.second; bit = b } ∷ record { from = leaves.third; bit = c } ∷ record { from = leaves.fourth; bit = d } ∷ []
 
 -- the bits of four leaves
-abbrev pub leaf_bits : (From3 → Bool) → Leaves → List Bool
+abbrev pub leaf_bits : (SignalSource → Bool) → Leaves → List Bool
 leaf_bits value leaves = value leaves.first ∷ value leaves.second ∷ value leaves.third ∷ value leaves.fourth ∷ []
 
 -- a plan over leaves gives the bit of a node, whatever bits respect the nodes
 abbrev pub Computes : List Node → ℕ → Leaves → Plan → Type 0
 Computes nodes k leaves plan =
-    (value : From3 → Bool) → Respects nodes value → value (FromNode k) ≡ plan_value plan (leaf_bits value leaves)
+    (value : SignalSource → Bool) → Respects nodes value → value (FromNode k) ≡ plan_value plan (leaf_bits value leaves)
 
 -- it does where the leaves have these bits
 abbrev pub ComputesAt : List Node → ℕ → Leaves → Plan → Bool → Bool → Bool → Bool → Type 0
 ComputesAt nodes k leaves plan a b c d =
-    (value : From3 → Bool) → Respects nodes value → value leaves.first ≡ a → value leaves.second ≡ b → value leaves.third ≡ c → value leaves.fourth ≡ d → value (FromNode k) ≡ plan_value plan (a ∷ b ∷ c ∷ d ∷ [])
+    (value : SignalSource → Bool) → Respects nodes value → value leaves.first ≡ a → value leaves.second ≡ b → value leaves.third ≡ c → value leaves.fourth ≡ d → value (FromNode k) ≡ plan_value plan (a ∷ b ∷ c ∷ d ∷ [])

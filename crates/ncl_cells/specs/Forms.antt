@@ -1,6 +1,6 @@
 -- What an operation on signals comes to: a signal that there is, or a small node.
 use Rattle.std.specs.Prelude.{◌≡◌, ℕ, List, Bool, false, not, cond, All, ◌⊎◌}
-use Rattle.ncl_network.specs.declared.network.From3.TheVariants.{Const}
+use Rattle.ncl_network.specs.declared.network.SignalSource.TheVariants.{Const}
 use Rattle.ncl_network.specs.declared.network.Signal.{Signal}
 use Rattle.ncl_network.specs.Network.{signal_value, is_constant, IsSource}
 use Rattle.ncl_cells.specs.declared.small.Op.{Op}

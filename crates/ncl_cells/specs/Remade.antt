@@ -1,7 +1,7 @@
 -- The nodes of a network as signals of small nodes.
 use Rattle.std.specs.Prelude.{◌≡◌, ℕ, ◌<◌, List, [], ◌∷◌, Bool, false, length, map, All, slice_get, Some}
 use Rattle.std.specs.List.{slice_index_or}
-use Rattle.ncl_network.specs.declared.network.From3.{From3}
+use Rattle.ncl_network.specs.declared.network.SignalSource.{SignalSource}
 use Rattle.ncl_network.specs.declared.network.Signal.{Signal}
 use Rattle.ncl_network.specs.declared.network.Network.{Network}
 use Rattle.ncl_network.specs.Network.{signal_value, node_values, answer_of, IsSource, ReachesOutput}
@@ -13,7 +13,7 @@ use Rattle.ncl_cells.specs.Smalls.{bits_of}
 use Rattle.ncl_cells.specs.Pools.{IsPool}
 
 -- the signal of a source, and those of leaves
-abbrev pub plain : From3 → Signal
+abbrev pub plain : SignalSource → Signal
 plain from = record { from = from; inverted = false }
 
 abbrev pub leaf_signals : Leaves → List Signal

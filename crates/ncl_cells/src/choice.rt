@@ -15,7 +15,7 @@ use crate::rules::Planner;
 use crate::stop::Stop;
 use crate::trying::{Reached, Trial, added};
 use ncl_base::Memory;
-use ncl_network::{From3, Network, Node, Signal};
+use ncl_network::{SignalSource, Network, Node, Signal};
 use std::alloc::Global;
 
 /// How the nodes are looked at.
@@ -51,12 +51,12 @@ struct Weighed {
 const FUEL: u32 = 12;
 
 /// Whether a source is among others. Linear in them.
-fn is_among(sources: &[From3], from: From3) -> bool {
+fn is_among(sources: &[SignalSource], from: SignalSource) -> bool {
     sources.iter().any(|source| *source == from)
 }
 
 /// The sources that a node reads, each once. Quadratic in its inputs.
-fn sources_of(alloc: Global, node: &Node) -> Result<Vec<From3>, Memory> {
+fn sources_of(alloc: Global, node: &Node) -> Result<Vec<SignalSource>, Memory> {
     let mut found = Vec::new(alloc);
     for signal in node.ins.items() {
         if !is_among(&found, signal.from) {

@@ -1,33 +1,33 @@
 //! The bits of nodes that depend on few others.
 ghost use Rattle.std.specs.Prelude.{◌≡◌, List, [], ◌∷◌, ◌++◌, Bool, IfOk, IfSome, All, map, slice_get, Some};
 ghost use Rattle.ncl_blif.specs.Meaning.{cover_value};
-ghost use Rattle.ncl_network.specs.declared.network.From3.{From3};
+ghost use Rattle.ncl_network.specs.declared.network.SignalSource.{SignalSource};
 ghost use Rattle.ncl_cells.specs.Cones.{IsKnown, Respects, signal_in};
 
 use crate::cover::cover_bit;
 use crate::stop::Stop;
-use ncl_network::{From3, Node, Signal};
+use ncl_network::{SignalSource, Node, Signal};
 use std::alloc::Global;
 
 /// A source whose bit is known.
 #[derive(Clone, Copy, Debug, PartialEq, Eq)]
 pub(crate) struct Known {
-    pub from: From3,
+    pub from: SignalSource,
     pub bit: bool,
 }
 
 /// Four sources that a node is computed of.
 #[derive(Clone, Copy, Debug, PartialEq, Eq)]
 pub(crate) struct Leaves {
-    pub first: From3,
-    pub second: From3,
-    pub third: From3,
-    pub fourth: From3,
+    pub first: SignalSource,
+    pub second: SignalSource,
+    pub third: SignalSource,
+    pub fourth: SignalSource,
 }
 
 /// The bit that is known of a source. Linear in what is known.
-pub(crate) fn known_bit(known: &[Known], from: From3) -> Result<bool, Stop>
-    ensures { IfOk result (λ bit. (value : From3 → Bool) → IsKnown value known.now → value from ≡ bit) }
+pub(crate) fn known_bit(known: &[Known], from: SignalSource) -> Result<bool, Stop>
+    ensures { IfOk result (λ bit. (value : SignalSource → Bool) → IsKnown value known.now → value from ≡ bit) }
 {
     for fact in known {
         if fact.from == from {
@@ -39,7 +39,7 @@ pub(crate) fn known_bit(known: &[Known], from: From3) -> Result<bool, Stop>
 
 /// The bit that follows for a signal.
 fn signal_bit(known: &[Known], signal: Signal) -> Result<bool, Stop>
-    ensures { IfOk result (λ bit. (value : From3 → Bool) → IsKnown value known.now → signal_in value signal ≡ bit) }
+    ensures { IfOk result (λ bit. (value : SignalSource → Bool) → IsKnown value known.now → signal_in value signal ≡ bit) }
 {
     let bit = known_bit(known, signal.from)?;
     Ok(if signal.inverted { !bit } else { bit })
@@ -47,7 +47,7 @@ fn signal_bit(known: &[Known], signal: Signal) -> Result<bool, Stop>
 
 /// The bits that follow for signals. Linear in them times what is known.
 fn signal_bits(alloc: Global, known: &[Known], signals: &[Signal]) -> Result<Vec<bool>, Stop>
-    ensures { IfOk result (λ bits. (value : From3 → Bool) → IsKnown value known.now → map (signal_in value) signals.now ≡ bits.items) }
+    ensures { IfOk result (λ bits. (value : SignalSource → Bool) → IsKnown value known.now → map (signal_in value) signals.now ≡ bits.items) }
 {
     let mut bits = Vec::new(alloc);
     for signal in signals {
@@ -59,7 +59,7 @@ fn signal_bits(alloc: Global, known: &[Known], signals: &[Signal]) -> Result<Vec
 
 /// The bit that follows for a node.
 fn node_bit(alloc: Global, known: &[Known], node: &Node) -> Result<bool, Stop>
-    ensures { IfOk result (λ bit. (value : From3 → Bool) → IsKnown value known.now → cover_value node.now.on node.now.rows (map (signal_in value) node.now.ins) ≡ bit) }
+    ensures { IfOk result (λ bit. (value : SignalSource → Bool) → IsKnown value known.now → cover_value node.now.on node.now.rows (map (signal_in value) node.now.ins) ≡ bit) }
 {
     let bits = signal_bits(alloc, known, node.ins.items())?;
     Ok(cover_bit(node.on, node.rows.items(), &bits))
@@ -67,14 +67,14 @@ fn node_bit(alloc: Global, known: &[Known], node: &Node) -> Result<bool, Stop>
 
 /// Adds the bit of the node at a place to what is known.
 fn learn(alloc: Global, nodes: &[Node], place: u32, known: &mut Vec<Known>) -> Result<(), Stop>
-    ensures { IfOk result (λ _. (value : From3 → Bool) → Respects nodes.now value → IsKnown value known.old.items → IsKnown value known.new.items) }
+    ensures { IfOk result (λ _. (value : SignalSource → Bool) → Respects nodes.now value → IsKnown value known.old.items → IsKnown value known.new.items) }
 {
     let Some(node) = nodes.get(place as usize) else {
         return Err(Stop::GivenUp);
     };
     let bit = node_bit(alloc, known, node)?;
     known.push(Known {
-        from: From3::Node(place),
+        from: SignalSource::Node(place),
         bit,
     })?;
     Ok(())
@@ -87,7 +87,7 @@ pub(crate) fn learn_all(
     cone: &[u32],
     known: &mut Vec<Known>,
 ) -> Result<(), Stop>
-    ensures { IfOk result (λ _. (value : From3 → Bool) → Respects nodes.now value → IsKnown value known.old.items → IsKnown value known.new.items) }
+    ensures { IfOk result (λ _. (value : SignalSource → Bool) → Respects nodes.now value → IsKnown value known.old.items → IsKnown value known.new.items) }
 {
     for place in cone {
         learn(alloc, nodes, *place, known)?;

@@ -4,18 +4,18 @@ ghost use Rattle.std.specs.Prelude.{◌≡◌, ◌<◌, ◌≤◌, IfOk};
 use crate::cone::Leaves;
 use crate::stop::Stop;
 use crate::table::{cover_table, input};
-use ncl_network::{From3, Node};
+use ncl_network::{SignalSource, Node};
 use std::alloc::Global;
 
 /// A source with its table.
 #[derive(Clone, Copy, Debug, PartialEq, Eq)]
 struct Tabled {
-    from: From3,
+    from: SignalSource,
     table: u16,
 }
 
 /// The table of a source. Linear in those that have one.
-fn table_of(known: &[Tabled], from: From3) -> Result<u16, Stop> {
+fn table_of(known: &[Tabled], from: SignalSource) -> Result<u16, Stop> {
     for one in known {
         if one.from == from {
             return Ok(one.table);
@@ -60,7 +60,7 @@ pub(crate) fn cone_table(
         };
         last = node_table(alloc, &known, node)?;
         known.push(Tabled {
-            from: From3::Node(*place),
+            from: SignalSource::Node(*place),
             table: last,
         })?;
     }

@@ -2,7 +2,7 @@
 ghost use Rattle.std.specs.Prelude.{◌≡◌, ◌<◌, ◌≤◌, IfOk};
 
 use ncl_base::Memory;
-use ncl_network::{From3, Network, Node};
+use ncl_network::{SignalSource, Network, Node};
 use std::alloc::Global;
 
 /// The most cuts of a node.
@@ -31,22 +31,22 @@ pub(crate) struct NodeCuts {
 const EMPTY: Cut = Cut { codes: [NONE; 4] };
 
 /// The number of a source.
-pub(crate) fn code_of(inputs: u32, from: From3) -> u32 {
+pub(crate) fn code_of(inputs: u32, from: SignalSource) -> u32 {
     match from {
-        From3::Input(place) => place,
-        From3::Node(place) => inputs.wrapping_add(place),
-        From3::Const(_) => NONE,
+        SignalSource::Input(place) => place,
+        SignalSource::Node(place) => inputs.wrapping_add(place),
+        SignalSource::Const(_) => NONE,
     }
 }
 
 /// The source of this number.
-pub(crate) fn source_of(inputs: u32, code: u32) -> From3 {
+pub(crate) fn source_of(inputs: u32, code: u32) -> SignalSource {
     if code == NONE {
-        From3::Const(false)
+        SignalSource::Const(false)
     } else if code < inputs {
-        From3::Input(code)
+        SignalSource::Input(code)
     } else {
-        From3::Node(code - inputs)
+        SignalSource::Node(code - inputs)
     }
 }
 
@@ -163,7 +163,7 @@ fn node_cuts(
     for signal in node.ins.items() {
         let code = code_of(inputs, signal.from);
         let cuts = match signal.from {
-            From3::Node(place) => match before.get(place as usize) {
+            SignalSource::Node(place) => match before.get(place as usize) {
                 Some(cuts) => *cuts,
                 None => NO_CUTS,
             },

@@ -5,7 +5,7 @@ ghost use Rattle.ncl_cells.specs.Cones.{Computes, ComputesAt, leaf_facts};
 use crate::cone::{Known, Leaves, known_bit, learn_all};
 use crate::plan::{Plan, plan_bit};
 use crate::stop::Stop;
-use ncl_network::{From3, Node};
+use ncl_network::{SignalSource, Node};
 use std::alloc::Global;
 
 /// A way to compute a node: of four leaves, through nodes in order of which it is the last, and by a plan.
@@ -62,7 +62,7 @@ fn test_word(
 {
     let mut known = known_leaves(alloc, choice.leaves, a, b, c, d)?;
     learn_all(alloc, nodes, &choice.cone, &mut known)?;
-    let bit = known_bit(&known, From3::Node(place))?;
+    let bit = known_bit(&known, SignalSource::Node(place))?;
     let planned = plan_bit(&choice.plan, vec![in alloc; a, b, c, d]?)?;
     if bit == planned {
         Ok(())

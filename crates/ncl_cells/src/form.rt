@@ -6,7 +6,7 @@ ghost use Rattle.ncl_cells.specs.declared.small.Op.TheVariants.{And, Differ, Maj
 ghost use Rattle.ncl_cells.specs.Forms.{ComesTo, IsPairOf, constant_signal, turned_by, where_one};
 
 use crate::small::{Op, Small, op_bit};
-use ncl_network::{From3, Signal};
+use ncl_network::{SignalSource, Signal};
 
 /// What an operation on signals comes to.
 #[derive(Clone, Copy, Debug, PartialEq, Eq)]
@@ -22,7 +22,7 @@ fn constant(bit: bool) -> Signal
     ensures { result ≡ constant_signal bit }
 {
     Signal {
-        from: From3::Const(bit),
+        from: SignalSource::Const(bit),
         inverted: false,
     }
 }
@@ -32,7 +32,7 @@ fn constant_bit(signal: Signal) -> Option<bool>
     ensures { MatchOption result (is_constant signal.from ≡ false) (λ bit. (word nodes : List Bool) → signal_value word nodes signal ≡ bit) }
 {
     match signal.from {
-        From3::Const(bit) => Some(if signal.inverted { !bit } else { bit }),
+        SignalSource::Const(bit) => Some(if signal.inverted { !bit } else { bit }),
         _ => None,
     }
 }
@@ -52,17 +52,17 @@ pub(crate) fn turned_by(turn: bool, signal: Signal) -> Signal
 }
 
 /// Whether a source comes before another in the order that small nodes read them.
-fn is_before(first: From3, second: From3) -> bool {
+fn is_before(first: SignalSource, second: SignalSource) -> bool {
     match first {
-        From3::Input(a) => match second {
-            From3::Input(b) => a < b,
+        SignalSource::Input(a) => match second {
+            SignalSource::Input(b) => a < b,
             _ => true,
         },
-        From3::Node(a) => match second {
-            From3::Node(b) => a < b,
+        SignalSource::Node(a) => match second {
+            SignalSource::Node(b) => a < b,
             _ => false,
         },
-        From3::Const(_) => false,
+        SignalSource::Const(_) => false,
     }
 }
 

@@ -5,7 +5,7 @@ use crate::cone::Leaves;
 use crate::costs::node_cells;
 use crate::stop::Stop;
 use ncl_base::Memory;
-use ncl_network::{From3, Network, Node, Signal};
+use ncl_network::{SignalSource, Network, Node, Signal};
 use std::alloc::Global;
 
 /// The most nodes of a cone.
@@ -14,7 +14,7 @@ const MOST_CONE: usize = 40;
 /// Counts the signals that are of each node.
 fn count(readers: &mut [u32], signals: &[Signal]) {
     for signal in signals {
-        if let From3::Node(place) = signal.from
+        if let SignalSource::Node(place) = signal.from
             && let Some(count) = readers.get_mut(place as usize)
         {
             *count = count.saturating_add(1);
@@ -33,7 +33,7 @@ pub(crate) fn readers_of(alloc: Global, network: &Network) -> Result<Vec<u32>, M
 }
 
 /// Whether a source is a leaf.
-fn is_leaf(leaves: Leaves, from: From3) -> bool {
+fn is_leaf(leaves: Leaves, from: SignalSource) -> bool {
     leaves.first == from || leaves.second == from || leaves.third == from || leaves.fourth == from
 }
 
@@ -41,7 +41,7 @@ fn is_leaf(leaves: Leaves, from: From3) -> bool {
 fn add_inner(cone: &mut Vec<u32>, leaves: Leaves, signals: &[Signal]) -> Result<(), Stop> {
     for signal in signals {
         if !is_leaf(leaves, signal.from) {
-            let From3::Node(place) = signal.from else {
+            let SignalSource::Node(place) = signal.from else {
                 return Err(Stop::GivenUp);
             };
             if !cone.iter().any(|other| *other == place) {
@@ -75,7 +75,7 @@ pub(crate) fn cone_of(
 /// Counts the signals that are of each node of a cone.
 fn count_inner(counts: &mut [u32], cone: &[u32], signals: &[Signal]) {
     for signal in signals {
-        if let From3::Node(place) = signal.from
+        if let SignalSource::Node(place) = signal.from
             && let Some(at) = cone.iter().position(|other| *other == place)
             && let Some(count) = counts.get_mut(at)
         {

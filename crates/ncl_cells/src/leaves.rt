@@ -5,11 +5,11 @@ use crate::cone::Leaves;
 use crate::levels::signal_level;
 use crate::trying::Reached;
 use ncl_base::Memory;
-use ncl_network::{From3, Signal};
+use ncl_network::{SignalSource, Signal};
 use std::alloc::Global;
 
 /// What stands where there are fewer than four leaves.
-const NO_LEAF: From3 = From3::Const(false);
+const NO_LEAF: SignalSource = SignalSource::Const(false);
 
 /// What the nodes have become so far: the signal of each, and the levels of the small nodes.
 #[derive(Clone, Copy)]
@@ -19,9 +19,9 @@ pub(crate) struct Made<'a> {
 }
 
 /// The signal that a source is, if it is there.
-fn image(made: Made, from: From3) -> Option<Signal> {
+fn image(made: Made, from: SignalSource) -> Option<Signal> {
     match from {
-        From3::Node(place) => made.images.get(place as usize).copied(),
+        SignalSource::Node(place) => made.images.get(place as usize).copied(),
         _ => Some(Signal {
             from,
             inverted: false,
@@ -32,9 +32,9 @@ fn image(made: Made, from: From3) -> Option<Signal> {
 /// A number for what a signal is of: inputs by their places, and then nodes.
 fn number(signal: Signal) -> Option<u64> {
     match signal.from {
-        From3::Input(place) => Some(u64::from(place)),
-        From3::Node(place) => Some(u64::from(place) + 4_294_967_296),
-        From3::Const(_) => None,
+        SignalSource::Input(place) => Some(u64::from(place)),
+        SignalSource::Node(place) => Some(u64::from(place) + 4_294_967_296),
+        SignalSource::Const(_) => None,
     }
 }
 
@@ -62,7 +62,7 @@ fn is_late(made: Made, turned: bool, first: Option<Signal>, second: Option<Signa
 }
 
 /// Four leaves in order, the latest first. A fixed number of steps.
-fn ordered(made: Made, turned: bool, leaves: [From3; 4]) -> [From3; 4] {
+fn ordered(made: Made, turned: bool, leaves: [SignalSource; 4]) -> [SignalSource; 4] {
     let mut order = leaves;
     for (i, j) in [(0usize, 1usize), (2, 3), (0, 2), (1, 3), (1, 2)] {
         let first = order[i % 4];
@@ -76,7 +76,7 @@ fn ordered(made: Made, turned: bool, leaves: [From3; 4]) -> [From3; 4] {
 }
 
 /// The first four of some sources, the latest first.
-pub(crate) fn leaves_of(made: Made, turned: bool, sources: &[From3]) -> Leaves {
+pub(crate) fn leaves_of(made: Made, turned: bool, sources: &[SignalSource]) -> Leaves {
     let mut four = [NO_LEAF; 4];
     for (place, source) in sources.iter().take(4).enumerate() {
         four[place % 4] = *source;

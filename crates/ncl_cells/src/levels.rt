@@ -3,12 +3,12 @@ ghost use Rattle.std.specs.Prelude.{◌≡◌, ◌<◌, ◌≤◌, IfOk};
 
 use crate::small::{Op, Small};
 use ncl_base::Memory;
-use ncl_network::{From3, Signal};
+use ncl_network::{SignalSource, Signal};
 
 /// The gates on the longest way to a signal, where the nodes have these levels.
 pub(crate) fn signal_level(levels: &[u32], signal: Signal) -> u32 {
     match signal.from {
-        From3::Node(place) => match levels.get(place as usize) {
+        SignalSource::Node(place) => match levels.get(place as usize) {
             Some(level) => *level,
             None => 0,
         },

@@ -9,7 +9,7 @@ use crate::pool::Pool;
 use crate::small::{Op, op_bit};
 use crate::stop::Stop;
 use ncl_base::Memory;
-use ncl_network::{From3, Signal};
+use ncl_network::{SignalSource, Signal};
 use std::alloc::Global;
 
 /// What a step reads: the leaf or the earlier step at this place, leaves first, or its inverse. Where none is, 0.
@@ -78,7 +78,7 @@ fn arg_signal(signals: &[Signal], arg: Arg) -> Signal
     let signal = match signals.get(arg.place) {
         Some(signal) => *signal,
         None => Signal {
-            from: From3::Const(false),
+            from: SignalSource::Const(false),
             inverted: false,
         },
     };

@@ -7,7 +7,7 @@ use crate::form::Form;
 use crate::small::{Op, Small};
 use crate::stop::Stop;
 use ncl_base::Memory;
-use ncl_network::{From3, Signal};
+use ncl_network::{SignalSource, Signal};
 use std::alloc::Global;
 
 /// The most small nodes of a network.
@@ -29,9 +29,9 @@ pub(crate) struct Pool {
 /// A number for a signal.
 fn signal_number(signal: Signal) -> u32 {
     let number = match signal.from {
-        From3::Input(place) => place.wrapping_mul(2_654_435_761),
-        From3::Node(place) => place.wrapping_mul(2_246_822_519).wrapping_add(97),
-        From3::Const(_) => 1,
+        SignalSource::Input(place) => place.wrapping_mul(2_654_435_761),
+        SignalSource::Node(place) => place.wrapping_mul(2_246_822_519).wrapping_add(97),
+        SignalSource::Const(_) => 1,
     };
     if signal.inverted {
         number.wrapping_add(40_503)
@@ -141,7 +141,7 @@ impl Pool {
                     None => self.push(small)?,
                 };
                 Ok(Signal {
-                    from: From3::Node(place),
+                    from: SignalSource::Node(place),
                     inverted,
                 })
             }

@@ -13,25 +13,25 @@ use crate::pool::Pool;
 use crate::small::nodes_of;
 use crate::stop::Stop;
 use ncl_base::Items;
-use ncl_network::{From3, Network, Signal, prune};
+use ncl_network::{SignalSource, Network, Signal, prune};
 use std::alloc::Global;
 
 /// The signal that a source is, where the nodes are these signals.
-fn source_image(inputs: u32, images: &[Signal], from: From3) -> Result<Signal, Stop>
+fn source_image(inputs: u32, images: &[Signal], from: SignalSource) -> Result<Signal, Stop>
     ensures { IfOk result (IsImageOf inputs images.now (plain from)) }
 {
     match from {
-        From3::Node(place) => match images.get(place as usize) {
+        SignalSource::Node(place) => match images.get(place as usize) {
             Some(signal) => Ok(*signal),
             None => Err(Stop::GivenUp),
         },
-        From3::Input(place) => {
+        SignalSource::Input(place) => {
             if place >= inputs {
                 return Err(Stop::GivenUp);
             }
             Ok(plain(from))
         }
-        From3::Const(_) => Ok(plain(from)),
+        SignalSource::Const(_) => Ok(plain(from)),
     }
 }
 
@@ -61,7 +61,7 @@ fn images_of(
 }
 
 /// The signal of a source.
-fn plain(from: From3) -> Signal
+fn plain(from: SignalSource) -> Signal
     ensures { result ≡ plain from }
 {
     Signal {

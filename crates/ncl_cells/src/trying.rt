@@ -7,7 +7,7 @@ use crate::plan::{Arg, Plan, Step};
 use crate::pool::Pool;
 use crate::small::Op;
 use ncl_base::Memory;
-use ncl_network::{From3, Signal};
+use ncl_network::{SignalSource, Signal};
 
 /// A signal, if it is there, and the gates on the longest way to it.
 #[derive(Clone, Copy, Debug, PartialEq, Eq)]
@@ -26,7 +26,7 @@ pub(crate) struct Trial {
 /// What always gives 0.
 const NOTHING: Reached = Reached {
     signal: Some(Signal {
-        from: From3::Const(false),
+        from: SignalSource::Const(false),
         inverted: false,
     }),
     level: 0,
@@ -84,7 +84,7 @@ fn step_signal(pool: &Pool, lost: &[Signal], reached: &[Reached], step: &Step) -
         Some(Form::New(small, inverted)) => match pool.find(&small) {
             None => none,
             Some(place) => {
-                let from = From3::Node(place);
+                let from = SignalSource::Node(place);
                 Counted {
                     signal: Some(Signal { from, inverted }),
                     is_added: lost.iter().any(|other| other.from == from),

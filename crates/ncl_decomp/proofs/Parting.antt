@@ -9,8 +9,8 @@ use Rattle.std.proofs.lemmas.List.Elements.{All-nil, All-cons, All-push, All-hea
 use Rattle.std.proofs.lemmas.List.Folds.{list_any-append}
 use Rattle.std.proofs.lemmas.List.Sorted.{IsPermutation-to_front, IsPermutation-append_right, All-permutation, list_any-IsPermutation, sum_by-IsPermutation, length_permutation}
 use Rattle.std.proofs.lemmas.List.Sums.{sum_by_push}
-use Rattle.ncl_network.specs.declared.network.From3.{From3}
-use Rattle.ncl_network.specs.declared.network.From3.TheVariants.{Input, Node as FromNode, Const}
+use Rattle.ncl_network.specs.declared.network.SignalSource.{SignalSource}
+use Rattle.ncl_network.specs.declared.network.SignalSource.TheVariants.{Input, Node as FromNode, Const}
 use Rattle.ncl_network.specs.declared.network.Signal.{Signal}
 use Rattle.ncl_network.specs.Network.{is_constant, IsSource}
 use Rattle.ncl_decomp.specs.Products.{same_source, same_signal, other_than, without, under, total, IsFilled}
@@ -24,7 +24,7 @@ same_inversion true b same = sym same
 same_inversion false true same = absurd (cc)
 same_inversion false false same = refl
 
-same_from : (a b : From3) → same_source a b ≡ true → a ≡ b
+same_from : (a b : SignalSource) → same_source a b ≡ true → a ≡ b
 same_from (Input i) (Input j) same = ap Input (eqb-true i j same)
 same_from (Input i) (FromNode j) same = absurd (cc)
 same_from (Input i) (Const bit) same = absurd (cc)

@@ -6,8 +6,8 @@ use Rattle.std.proofs.lemmas.List.Elements.{All-nil, All-push, All-append, All-w
 use Rattle.std.proofs.lemmas.List.Sums.{sum_by_push, sum_by-append}
 use Rattle.ncl_blif.specs.Meaning.{cover_value}
 use Rattle.ncl_blif.specs.Model.{weight_of_rows}
-use Rattle.ncl_network.specs.declared.network.From3.{From3}
-use Rattle.ncl_network.specs.declared.network.From3.TheVariants.{Input, Node as FromNode, Const}
+use Rattle.ncl_network.specs.declared.network.SignalSource.{SignalSource}
+use Rattle.ncl_network.specs.declared.network.SignalSource.TheVariants.{Input, Node as FromNode, Const}
 use Rattle.ncl_network.specs.declared.network.Signal.{Signal}
 use Rattle.ncl_network.specs.declared.network.Node.{Node}
 use Rattle.ncl_network.specs.Network.{source_value, signal_value, node_value, node_values, is_constant, IsSource, ReadBefore}
@@ -30,7 +30,7 @@ by_from true signal = refl
 by_from false signal = refl
 
 -- where the images of nodes have the bits of the nodes, so have those of signals
-source_image_value : (word old new : List Bool) (images : List Signal) (from : From3) → map (signal_value word new) images ≡ old → signal_value word new (image_of_source images from) ≡ source_value word old from
+source_image_value : (word old new : List Bool) (images : List Signal) (from : SignalSource) → map (signal_value word new) images ≡ old → signal_value word new (image_of_source images from) ≡ source_value word old from
 source_image_value word old new images (Input i) is = refl
 source_image_value word old new images (FromNode k) is =
     sym (map_at (signal_value word new) images k (record { from = Const false; inverted = false })) ∙ ap (λ bits. get_or bits k false) is
@@ -50,12 +50,12 @@ pub image_values : (word old new : List Bool) (images signals : List Signal) →
 image_values word old new images [] is = refl
 image_values word old new images (s ∷ signals) is = λ i. image_value word old new images s is i ∷ image_values word old new images signals is i
 
-source_image_exists : (inputs count : ℕ) (images : List Signal) (from : From3) → AreVarying inputs count images → IsSource inputs (length images) from → IsSource inputs count (image_of_source images from).from
+source_image_exists : (inputs count : ℕ) (images : List Signal) (from : SignalSource) → AreVarying inputs count images → IsSource inputs (length images) from → IsSource inputs count (image_of_source images from).from
 source_image_exists inputs count images (Input i) varying there = there
 source_image_exists inputs count images (FromNode k) varying there = varying.exist k (record { from = Const false; inverted = false }) there
 source_image_exists inputs count images (Const bit) varying there = tt
 
-source_image_varies : (inputs count : ℕ) (images : List Signal) (from : From3) → AreVarying inputs count images → IsSource inputs (length images) from → is_constant from ≡ false → is_constant (image_of_source images from).from ≡ false
+source_image_varies : (inputs count : ℕ) (images : List Signal) (from : SignalSource) → AreVarying inputs count images → IsSource inputs (length images) from → is_constant from ≡ false → is_constant (image_of_source images from).from ≡ false
 source_image_varies inputs count images (Input i) varying there varies = refl
 source_image_varies inputs count images (FromNode k) varying there varies = varying.vary k (record { from = Const false; inverted = false }) there
 source_image_varies inputs count images (Const bit) varying there varies = varies

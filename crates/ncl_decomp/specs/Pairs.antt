@@ -1,7 +1,7 @@
 -- Nodes of two inputs, and trees of them.
 use Rattle.std.specs.Prelude.{◌≡◌, ℕ, ◌+◌, List, [], ◌∷◌, ◌++◌, length, true, false}
 use Rattle.ncl_blif.specs.declared.model.Lit.TheVariants.{Zero, One, Dash}
-use Rattle.ncl_network.specs.declared.network.From3.TheVariants.{Node as FromNode}
+use Rattle.ncl_network.specs.declared.network.SignalSource.TheVariants.{Node as FromNode}
 use Rattle.ncl_network.specs.declared.network.Signal.{Signal}
 use Rattle.ncl_network.specs.declared.network.Node.{Node}
 use Rattle.ncl_decomp.specs.declared.pair.Joint.{Joint}

@@ -1,13 +1,13 @@
 -- Products of signals, and how a signal that some of them have is taken out.
 use Rattle.std.specs.Prelude.{ℕ, ◌==◌, ◌&&◌, ◌<◌, List, [], ◌∷◌, ◌++◌, Bool, true, false, not, if◌then◌else◌, length, map, sum_by, Option, Some, None}
 use Rattle.std.specs.List.{filter_map}
-use Rattle.ncl_network.specs.declared.network.From3.{From3}
-use Rattle.ncl_network.specs.declared.network.From3.TheVariants.{Input, Node as FromNode, Const}
+use Rattle.ncl_network.specs.declared.network.SignalSource.{SignalSource}
+use Rattle.ncl_network.specs.declared.network.SignalSource.TheVariants.{Input, Node as FromNode, Const}
 use Rattle.ncl_network.specs.declared.network.Signal.{Signal}
 use Rattle.ncl_decomp.specs.declared.factoring.Frame.{Frame}
 
 -- whether two sources are one input, or one node
-abbrev pub same_source : From3 → From3 → Bool
+abbrev pub same_source : SignalSource → SignalSource → Bool
 same_source (Input i) (Input j) = i == j
 same_source (Input i) (FromNode j) = false
 same_source (Input i) (Const bit) = false

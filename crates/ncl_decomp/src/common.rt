@@ -2,15 +2,15 @@
 ghost use Rattle.std.specs.Prelude.{◌<◌, IfOk, IfSome};
 
 use ncl_base::{Items, Memory};
-use ncl_network::{From3, Signal};
+use ncl_network::{SignalSource, Signal};
 use std::alloc::Global;
 
 /// A number for each signal, by which signals are put in order.
 fn key(signal: Signal) -> u64 {
     let number = match signal.from {
-        From3::Input(number) => u64::from(number) * 4,
-        From3::Node(number) => u64::from(number) * 4 + 2,
-        From3::Const(_) => u64::MAX - 1,
+        SignalSource::Input(number) => u64::from(number) * 4,
+        SignalSource::Node(number) => u64::from(number) * 4 + 2,
+        SignalSource::Const(_) => u64::MAX - 1,
     };
     number + u64::from(signal.inverted)
 }

@@ -5,7 +5,7 @@ ghost use Rattle.ncl_decomp.specs.Images.{image_of};
 
 use crate::literals::turned;
 use ncl_base::Memory;
-use ncl_network::{From3, Signal};
+use ncl_network::{SignalSource, Signal};
 use std::alloc::Global;
 
 /// What a signal is, where the nodes are these signals.
@@ -14,7 +14,7 @@ fn image(signal: Signal, images: &[Signal]) -> Signal
     ensures { result ≡ image_of images.now signal }
 {
     let source = match signal.from {
-        From3::Node(place) => images[place as usize],
+        SignalSource::Node(place) => images[place as usize],
         other => Signal {
             from: other,
             inverted: false,

@@ -7,7 +7,7 @@ ghost use Rattle.ncl_decomp.specs.Products.{same_signal, other_than, without, is
 use crate::literals::literals;
 use ncl_base::{Items, Memory};
 use ncl_blif::Row;
-use ncl_network::{From3, Signal};
+use ncl_network::{SignalSource, Signal};
 use std::alloc::Global;
 
 /// The products of the rows of a cover over some signals. Linear in the rows.
@@ -31,8 +31,8 @@ fn is_same(first: Signal, second: Signal) -> bool
     ensures { result ≡ same_signal first second }
 {
     let from = match (first.from, second.from) {
-        (From3::Input(i), From3::Input(j)) => i == j,
-        (From3::Node(i), From3::Node(j)) => i == j,
+        (SignalSource::Input(i), SignalSource::Input(j)) => i == j,
+        (SignalSource::Node(i), SignalSource::Node(j)) => i == j,
         _ => false,
     };
     from && (if first.inverted {

@@ -4,7 +4,7 @@ ghost use Rattle.ncl_decomp.specs.Pairs.{AddsTree};
 
 use crate::pair::{Joint, pair};
 use ncl_base::Memory;
-use ncl_network::{From3, Node, Signal};
+use ncl_network::{SignalSource, Node, Signal};
 use std::alloc::Global;
 
 /// Adds a balanced tree over some signals to the nodes of a network, and gives its root. Each node takes the
@@ -23,7 +23,7 @@ pub fn join(
     let mut queue = leaves;
     let mut at = 0usize;
     while at + 1 < queue.len() {
-        let from = From3::Node(nodes.len() as u32);
+        let from = SignalSource::Node(nodes.len() as u32);
         let node = pair(alloc, joint, queue[at], queue[at + 1])?;
         nodes.push(node)?;
         queue.push(Signal {

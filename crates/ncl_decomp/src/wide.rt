@@ -12,7 +12,7 @@ use crate::products::{copied_product, products};
 use crate::rows::copied_rows;
 use crate::tree::join;
 use ncl_base::{Items, Memory};
-use ncl_network::{From3, Node, Signal};
+use ncl_network::{SignalSource, Node, Signal};
 use std::alloc::Global;
 
 /// Adds the nodes that tell of each product whether it is 1, and gives their signals in order. Linear in the
@@ -79,7 +79,7 @@ fn keep(
     requires few { length nodes.old.items < 2 ^ 32 }
     ensures { IfOk result (AddsNode ins.items node.now nodes.old.items nodes.new.items) }
 {
-    let from = From3::Node(nodes.len() as u32);
+    let from = SignalSource::Node(nodes.len() as u32);
     let rows = copied_rows(alloc, node.rows.items())?;
     nodes.push(Node {
         ins: Items::from_vec(ins),

@@ -9,7 +9,7 @@ use Rattle.std.proofs.lemmas.List.Elements.{All-head, All-tail, All-map, All-wea
 use Rattle.ncl_blif.specs.Meaning.{lit_matches, row_matches, cover_value}
 use Rattle.ncl_blif.specs.declared.model.Lit.{Lit}
 use Rattle.ncl_blif.specs.declared.model.Lit.TheVariants.{Dash}
-use Rattle.ncl_network.specs.declared.network.From3.TheVariants.{Const}
+use Rattle.ncl_network.specs.declared.network.SignalSource.TheVariants.{Const}
 use Rattle.ncl_network.specs.declared.network.Signal.{Signal}
 use Rattle.ncl_blif.specs.Model.{weight_of_rows}
 use Rattle.ncl_network.specs.Network.{signal_value, is_constant, is_dash}

@@ -7,14 +7,14 @@ use Rattle.std.proofs.lemmas.List.Elements.{All-nil, All-cons}
 use Rattle.ncl_blif.specs.Meaning.{lit_matches, row_matches}
 use Rattle.ncl_blif.specs.declared.model.Lit.{Lit}
 use Rattle.ncl_blif.specs.declared.model.Lit.TheVariants.{Zero, One, Dash}
-use Rattle.ncl_network.specs.declared.network.From3.{From3}
-use Rattle.ncl_network.specs.declared.network.From3.TheVariants.{Input, Node as FromNode, Const}
+use Rattle.ncl_network.specs.declared.network.SignalSource.{SignalSource}
+use Rattle.ncl_network.specs.declared.network.SignalSource.TheVariants.{Input, Node as FromNode, Const}
 use Rattle.ncl_network.specs.declared.network.Signal.{Signal}
 use Rattle.ncl_network.specs.Network.{source_value, signal_value, is_constant, is_dash}
 use Rattle.ncl_network.specs.Fold.{select, is_live, is_asked}
 
 -- a constant is the same wherever it is read
-constant_source : (word nodes : List Bool) (from : From3) → is_constant from ≡ true → source_value word nodes from ≡ source_value [] [] from
+constant_source : (word nodes : List Bool) (from : SignalSource) → is_constant from ≡ true → source_value word nodes from ≡ source_value [] [] from
 constant_source word nodes (Input i) e = absurd cc
 constant_source word nodes (FromNode k) e = absurd cc
 constant_source word nodes (Const bit) e = refl

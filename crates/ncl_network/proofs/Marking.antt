@@ -5,8 +5,8 @@ use Rattle.std.proofs.lemmas.Bool.{eqb-true, eq-eqb, or_left, or_right, or_cases
 use Rattle.std.proofs.lemmas.List.Elements.{All-weaker}
 use Rattle.std.proofs.lemmas.List.Folds.{Any-from_list_any, list_any_at}
 use Rattle.std.proofs.lemmas.Option.{same_Some, slice_get_within, slice_get-get_or}
-use Rattle.ncl_network.specs.declared.network.From3.{From3}
-use Rattle.ncl_network.specs.declared.network.From3.TheVariants.{Input, Node as FromNode, Const}
+use Rattle.ncl_network.specs.declared.network.SignalSource.{SignalSource}
+use Rattle.ncl_network.specs.declared.network.SignalSource.TheVariants.{Input, Node as FromNode, Const}
 use Rattle.ncl_network.specs.declared.network.Signal.{Signal}
 use Rattle.ncl_network.specs.declared.network.Node.{Node}
 use Rattle.ncl_network.specs.declared.network.Network.{Network}
@@ -16,7 +16,7 @@ use Rattle.ncl_network.specs.Prune.{IsInOrder, IsPlaced, IsMarked, is_node, is_r
 
 -- ---- what is read
 
-is_node-true : (k : ℕ) (from : From3) → is_node k from ≡ true → from ≡ FromNode k
+is_node-true : (k : ℕ) (from : SignalSource) → is_node k from ≡ true → from ≡ FromNode k
 is_node-true k (Input i) e = absurd cc
 is_node-true k (FromNode j) e = ap FromNode (eqb-true j k e)
 is_node-true k (Const bit) e = absurd cc
@@ -38,7 +38,7 @@ read_below inputs count signals k all e =
     let placed : IsSource inputs count (FromNode k) = subst (IsSource inputs count) is there in
     placed
 
-IsPlaced-from : (inputs count : ℕ) (from : From3) → IsSource inputs count from → IsPlaced count from
+IsPlaced-from : (inputs count : ℕ) (from : SignalSource) → IsSource inputs count from → IsPlaced count from
 IsPlaced-from inputs count (Input i) there = tt
 IsPlaced-from inputs count (FromNode k) there = there
 IsPlaced-from inputs count (Const bit) there = tt

@@ -10,8 +10,8 @@ use Rattle.std.proofs.lemmas.Option.{slice_get-map}
 use Rattle.ncl_base.proofs.Growing.{length-le-sum_by}
 use Rattle.ncl_blif.specs.Meaning.{cover_value}
 use Rattle.ncl_blif.specs.Model.{most_size, weight_of_rows}
-use Rattle.ncl_network.specs.declared.network.From3.{From3}
-use Rattle.ncl_network.specs.declared.network.From3.TheVariants.{Input, Node as FromNode, Const}
+use Rattle.ncl_network.specs.declared.network.SignalSource.{SignalSource}
+use Rattle.ncl_network.specs.declared.network.SignalSource.TheVariants.{Input, Node as FromNode, Const}
 use Rattle.ncl_network.specs.declared.network.Signal.{Signal}
 use Rattle.ncl_network.specs.declared.network.Node.{Node}
 use Rattle.ncl_network.specs.declared.network.Network.{Network}
@@ -32,7 +32,7 @@ pruned network kept places = record {
 }
 
 -- there is such a source, and where it is a node this is kept
-abbrev IsKeptSource : ℕ → ℕ → List Bool → From3 → Type 0
+abbrev IsKeptSource : ℕ → ℕ → List Bool → SignalSource → Type 0
 IsKeptSource inputs count kept (Input i) = i < inputs
 IsKeptSource inputs count kept (FromNode k) = (k < count) × (is_kept kept k ≡ true)
 IsKeptSource inputs count kept (Const bit) = Unit {0}
@@ -43,7 +43,7 @@ all_kept inputs count kept signals all reads i d within =
     let signal : Signal = get_or signals i d in
     by_source signal.from refl (all i d within)
   where
-    by_source : (from : From3) → (get_or signals i d).from ≡ from → IsSource inputs count from → IsKeptSource inputs count kept from
+    by_source : (from : SignalSource) → (get_or signals i d).from ≡ from → IsSource inputs count from → IsKeptSource inputs count kept from
     by_source (Input j) e there = there
     by_source (FromNode k) e there = (there, reads k (is_read-from signals (get_or signals i d) k (i, within, get_or_default signals i (get_or signals i d) d within) e))
     by_source (Const bit) e there = tt
@@ -51,7 +51,7 @@ all_kept inputs count kept signals all reads i d within =
 module _ (kept : List Bool) (places : ℕ → ℕ) (numbered : (k : ℕ) → k < length kept → places k ≡ new_place kept k) where
   -- ---- the order
 
-  moved_exists : (inputs count : ℕ) (from : From3) → IsKeptSource inputs count kept from → IsSource inputs (new_place kept count) (moved_source places from)
+  moved_exists : (inputs count : ℕ) (from : SignalSource) → IsKeptSource inputs count kept from → IsSource inputs (new_place kept count) (moved_source places from)
   moved_exists inputs count (Input i) there = there
   moved_exists inputs count (FromNode k) there =
       let same = numbered k (kept_within kept k there.1) in
@@ -95,7 +95,7 @@ module _ (kept : List Bool) (places : ℕ → ℕ) (numbered : (k : ℕ) → k <
   Agree : List Bool → List Bool → Type 0
   Agree old new = (length new ≡ new_place kept (length old)) × ((k : ℕ) → k < length old → is_kept kept k ≡ true → get_or new (new_place kept k) false ≡ get_or old k false)
 
-  same_source : (inputs : ℕ) (word old new : List Bool) (from : From3) → Agree old new → IsKeptSource inputs (length old) kept from → source_value word new (moved_source places from) ≡ source_value word old from
+  same_source : (inputs : ℕ) (word old new : List Bool) (from : SignalSource) → Agree old new → IsKeptSource inputs (length old) kept from → source_value word new (moved_source places from) ≡ source_value word old from
   unfolding Agree
   same_source inputs word old new (Input i) agree there = refl
   same_source inputs word old new (FromNode k) agree there =
@@ -174,7 +174,7 @@ sum_by-left f less nodes left (kept, places, is) =
 pub weighs_less : (nodes left : List Node) → AreLeft nodes left → sum_by (λ node. weight_of_rows node.rows) left ≤ sum_by (λ node. weight_of_rows node.rows) nodes
 weighs_less = sum_by-left (λ node. weight_of_rows node.rows) (λ places node. omega arith)
 
-same_constant : (places : ℕ → ℕ) (from : From3) → is_constant (moved_source places from) ≡ is_constant from
+same_constant : (places : ℕ → ℕ) (from : SignalSource) → is_constant (moved_source places from) ≡ is_constant from
 same_constant places (Input i) = refl
 same_constant places (FromNode k) = refl
 same_constant places (Const bit) = refl

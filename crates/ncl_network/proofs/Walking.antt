@@ -11,8 +11,8 @@ use Rattle.std.proofs.lemmas.Option.{MatchOption-at_some, IfSome_then, same_Some
 use Rattle.ncl_blif.specs.Meaning.{cover_value, Fits}
 use Rattle.ncl_blif.specs.declared.model.Cover.{Cover}
 use Rattle.ncl_blif.specs.declared.model.Model.{Model}
-use Rattle.ncl_network.specs.declared.network.From3.{From3}
-use Rattle.ncl_network.specs.declared.network.From3.TheVariants.{Input, Node as FromNode, Const}
+use Rattle.ncl_network.specs.declared.network.SignalSource.{SignalSource}
+use Rattle.ncl_network.specs.declared.network.SignalSource.TheVariants.{Input, Node as FromNode, Const}
 use Rattle.ncl_network.specs.declared.network.Signal.{Signal}
 use Rattle.ncl_network.specs.declared.network.Node.{Node}
 use Rattle.ncl_network.specs.declared.fold.Folded.{Folded}
@@ -34,7 +34,7 @@ length-node_values word bits (node ∷ nodes) =
     omega (arith, length-node_values word (bits ++ node_value word bits node ∷ []) nodes, length_push bits (node_value word bits node))
 
 -- a signal of nodes that there were keeps its bit
-source_value-more : (inputs : ℕ) (word nodes more : List Bool) (from : From3) → IsSource inputs (length nodes) from → source_value word (nodes ++ more) from ≡ source_value word nodes from
+source_value-more : (inputs : ℕ) (word nodes more : List Bool) (from : SignalSource) → IsSource inputs (length nodes) from → source_value word (nodes ++ more) from ≡ source_value word nodes from
 source_value-more inputs word nodes more (Input i) there = refl
 source_value-more inputs word nodes more (FromNode k) there = get_or_append_left nodes more false k there
 source_value-more inputs word nodes more (Const bit) there = refl
@@ -43,7 +43,7 @@ pub signal_value-more : (inputs : ℕ) (word nodes more : List Bool) (signal : S
 signal_value-more inputs word nodes more signal there =
     ap (λ bit. cond signal.inverted (not bit) bit) (source_value-more inputs word nodes more signal.from there)
 
-pub IsSource-more : (inputs a b : ℕ) (from : From3) → a ≤ b → IsSource inputs a from → IsSource inputs b from
+pub IsSource-more : (inputs a b : ℕ) (from : SignalSource) → a ≤ b → IsSource inputs a from → IsSource inputs b from
 IsSource-more inputs a b (Input i) less there = there
 IsSource-more inputs a b (FromNode k) less there = omega arith
 IsSource-more inputs a b (Const bit) less there = tt

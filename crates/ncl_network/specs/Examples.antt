@@ -1,7 +1,7 @@
 -- A network for worked examples.
 use Rattle.std.specs.Prelude.{[], ◌∷◌, true, false}
 use Rattle.ncl_blif.specs.declared.model.Lit.TheVariants.{Zero, One, Dash}
-use Rattle.ncl_network.specs.declared.network.From3.TheVariants.{Input, Node as FromNode}
+use Rattle.ncl_network.specs.declared.network.SignalSource.TheVariants.{Input, Node as FromNode}
 use Rattle.ncl_network.specs.declared.network.Signal.{Signal}
 use Rattle.ncl_network.specs.declared.network.Node.{Node}
 use Rattle.ncl_network.specs.declared.network.Network.{Network}

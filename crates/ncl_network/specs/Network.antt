@@ -6,14 +6,14 @@ use Rattle.ncl_blif.specs.Model.{most_size, weight_of_rows}
 use Rattle.ncl_blif.specs.declared.model.Lit.{Lit}
 use Rattle.ncl_blif.specs.declared.model.Lit.TheVariants.{Zero, One, Dash}
 use Rattle.ncl_blif.specs.declared.model.Model.{Model}
-use Rattle.ncl_network.specs.declared.network.From3.{From3}
-use Rattle.ncl_network.specs.declared.network.From3.TheVariants.{Input, Node as FromNode, Const}
+use Rattle.ncl_network.specs.declared.network.SignalSource.{SignalSource}
+use Rattle.ncl_network.specs.declared.network.SignalSource.TheVariants.{Input, Node as FromNode, Const}
 use Rattle.ncl_network.specs.declared.network.Signal.{Signal}
 use Rattle.ncl_network.specs.declared.network.Node.{Node}
 use Rattle.ncl_network.specs.declared.network.Network.{Network}
 
 -- the bit of a source where the inputs have the bits of a word and the nodes these bits
-abbrev pub source_value : List Bool → List Bool → From3 → Bool
+abbrev pub source_value : List Bool → List Bool → SignalSource → Bool
 source_value word nodes (Input i) = slice_index_or word i false
 source_value word nodes (FromNode k) = slice_index_or nodes k false
 source_value word nodes (Const bit) = bit
@@ -44,7 +44,7 @@ abbrev pub weight_of_model : Model → ℕ
 weight_of_model model = sum_by (λ cover. weight_of_rows cover.rows) model.covers
 
 -- whether a source is a constant
-abbrev pub is_constant : From3 → Bool
+abbrev pub is_constant : SignalSource → Bool
 is_constant (Input i) = false
 is_constant (FromNode k) = false
 is_constant (Const bit) = true
@@ -56,7 +56,7 @@ is_dash One = false
 is_dash Dash = true
 
 -- there is such a source where there are so many inputs and nodes
-abbrev pub IsSource : ℕ → ℕ → From3 → Type 0
+abbrev pub IsSource : ℕ → ℕ → SignalSource → Type 0
 IsSource inputs nodes (Input i) = i < inputs
 IsSource inputs nodes (FromNode k) = k < nodes
 IsSource inputs nodes (Const bit) = Unit {0}

@@ -1,8 +1,8 @@
 -- Which nodes of a network matter, and the network without the others.
 use Rattle.std.specs.Prelude.{◌≡◌, ℕ, ◌<◌, ◌≤◌, ◌^◌, List, Bool, true, false, ◌==◌, Some, length, map, All, count_by, take, slice_get}
 use Rattle.std.specs.List.{slice_index_or, list_any}
-use Rattle.ncl_network.specs.declared.network.From3.{From3}
-use Rattle.ncl_network.specs.declared.network.From3.TheVariants.{Input, Node as FromNode, Const}
+use Rattle.ncl_network.specs.declared.network.SignalSource.{SignalSource}
+use Rattle.ncl_network.specs.declared.network.SignalSource.TheVariants.{Input, Node as FromNode, Const}
 use Rattle.ncl_network.specs.declared.network.Signal.{Signal}
 use Rattle.ncl_network.specs.declared.network.Node.{Node}
 use Rattle.ncl_network.specs.declared.network.Network.{Network}
@@ -16,13 +16,13 @@ pub record IsInOrder (network : Network) : Type 0 where
   pub few : length network.nodes < 2 ^ 32
 
 -- what is a node is one of so many
-abbrev pub IsPlaced : ℕ → From3 → Type 0
+abbrev pub IsPlaced : ℕ → SignalSource → Type 0
 IsPlaced count (Input i) = Unit {0}
 IsPlaced count (FromNode k) = k < count
 IsPlaced count (Const bit) = Unit {0}
 
 -- whether a source is this node
-abbrev pub is_node : ℕ → From3 → Bool
+abbrev pub is_node : ℕ → SignalSource → Bool
 is_node k (Input i) = false
 is_node k (FromNode j) = j == k
 is_node k (Const bit) = false
@@ -48,7 +48,7 @@ abbrev pub new_place : List Bool → ℕ → ℕ
 new_place kept place = count_by (λ b. b) (take place kept)
 
 -- a source in the network of the marked nodes
-abbrev pub moved_source : (ℕ → ℕ) → From3 → From3
+abbrev pub moved_source : (ℕ → ℕ) → SignalSource → SignalSource
 moved_source places (Input i) = Input i
 moved_source places (FromNode k) = FromNode (places k)
 moved_source places (Const bit) = Const bit

@@ -8,7 +8,7 @@ ghost use Rattle.ncl_network.specs.Fold.{two_level, folded_value, weight_of_fold
 
 use crate::columns::kept_columns;
 use crate::literals::{is_dash, lit_at, live_rows};
-use crate::network::{From3, Node, Signal};
+use crate::network::{SignalSource, Node, Signal};
 use crate::select::{select, select_rows};
 use ncl_base::{Items, Memory};
 use ncl_blif::{Lit, Row};
@@ -29,7 +29,7 @@ fn constant(bit: bool) -> Signal
     ensures source { (inputs count : ℕ) → IsSource inputs count result.from }
 {
     Signal {
-        from: From3::Const(bit),
+        from: SignalSource::Const(bit),
         inverted: false,
     }
 }

@@ -14,6 +14,6 @@ mod select;
 mod walk;
 
 pub use fault::CompileFault;
-pub use network::{From3, Network, Node, Signal};
+pub use network::{SignalSource, Network, Node, Signal};
 pub use pruning::prune;
 pub use reducing::{cover_order, reduce};

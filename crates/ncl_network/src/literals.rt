@@ -5,7 +5,7 @@ ghost use Rattle.ncl_blif.specs.Meaning.{lit_matches};
 ghost use Rattle.ncl_network.specs.Network.{is_dash, is_constant};
 ghost use Rattle.ncl_network.specs.Fold.{clashes, is_live};
 
-use crate::network::{From3, Signal};
+use crate::network::{SignalSource, Signal};
 use ncl_base::Memory;
 use ncl_blif::{Lit, Row};
 use std::alloc::Global;
@@ -22,7 +22,7 @@ pub(crate) fn is_constant(signal: Signal) -> bool
     ensures { result ≡ is_constant signal.from }
 {
     match signal.from {
-        From3::Const(_) => true,
+        SignalSource::Const(_) => true,
         _ => false,
     }
 }
@@ -43,7 +43,7 @@ fn clashes(lit: Lit, signal: Signal) -> bool
     ensures { result ≡ clashes lit signal }
 {
     match signal.from {
-        From3::Const(bit) => {
+        SignalSource::Const(bit) => {
             let value = if signal.inverted { !bit } else { bit };
             !lets_through(lit, value)
         }

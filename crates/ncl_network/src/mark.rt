@@ -2,7 +2,7 @@
 ghost use Rattle.std.specs.Prelude.{◌≡◌, ℕ, ◌||◌, false, length, replicate, All, IfOk};
 ghost use Rattle.ncl_network.specs.Prune.{IsInOrder, IsPlaced, IsMarked, is_read, is_kept};
 
-use crate::network::{From3, Network, Signal};
+use crate::network::{SignalSource, Network, Signal};
 use ncl_base::Memory;
 use std::alloc::Global;
 
@@ -12,7 +12,7 @@ fn mark(kept: &mut [bool], signals: &[Signal])
     ensures { (k : ℕ) → is_kept kept.new k ≡ (is_kept kept.old k || is_read signals.now k) }
 {
     for signal in signals {
-        if let From3::Node(place) = signal.from {
+        if let SignalSource::Node(place) = signal.from {
             kept[place as usize] = true;
         }
     }

@@ -4,7 +4,7 @@ use ncl_blif::Row;
 
 /// Where a signal comes from.
 #[derive(Clone, Copy, Debug, PartialEq, Eq)]
-pub enum From3 {
+pub enum SignalSource {
     /// The input of the network with this number, from 0.
     Input(u32),
     /// The node of the network with this number, from 0.
@@ -17,7 +17,7 @@ pub enum From3 {
 #[derive(Clone, Copy, Debug, PartialEq, Eq)]
 pub struct Signal {
     /// Where it comes from.
-    pub from: From3,
+    pub from: SignalSource,
     /// Whether it is the inverse of the source's bit.
     pub inverted: bool,
 }

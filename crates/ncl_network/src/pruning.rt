@@ -6,7 +6,7 @@ ghost use Rattle.ncl_network.specs.Fold.{select};
 ghost use Rattle.ncl_network.specs.Prune.{IsInOrder, IsPlaced, AreLeft, new_place, moved_signal, moved_node};
 
 use crate::mark::kept_nodes;
-use crate::network::{From3, Network, Node, Signal};
+use crate::network::{SignalSource, Network, Node, Signal};
 use ncl_base::{Items, Memory};
 use std::alloc::Global;
 
@@ -33,7 +33,7 @@ fn moved(signal: Signal, places: &[u32]) -> Signal
     ensures { result ≡ moved_signal (λ k. slice_index_or places.now k 0) signal }
 {
     let from = match signal.from {
-        From3::Node(place) => From3::Node(places[place as usize]),
+        SignalSource::Node(place) => SignalSource::Node(places[place as usize]),
         other => other,
     };
     Signal {

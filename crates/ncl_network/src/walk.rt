@@ -9,7 +9,7 @@ ghost use Rattle.ncl_blif.specs.declared.model.Model.{Model};
 ghost use Rattle.ncl_network.specs.Walk.{IsWalked, input_signal, nodes_with, signal_with};
 
 use crate::fold::{Folded, fold_cover};
-use crate::network::{From3, Node, Signal};
+use crate::network::{SignalSource, Node, Signal};
 use ncl_base::Memory;
 use ncl_blif::{Cover, Model};
 use std::alloc::Global;
@@ -33,7 +33,7 @@ fn begin(alloc: Global, inputs: usize) -> Result<Walk, Memory>
     let mut signals = BTreeMap::new(alloc);
     for name in 0..inputs as u32 {
         let signal = Signal {
-            from: From3::Input(name),
+            from: SignalSource::Input(name),
             inverted: false,
         };
         signals.insert(name, signal)?;
@@ -72,7 +72,7 @@ impl Walk {
                 let place = self.nodes.len() as u32;
                 self.nodes.push(node)?;
                 let signal = Signal {
-                    from: From3::Node(place),
+                    from: SignalSource::Node(place),
                     inverted: false,
                 };
                 self.signals.insert(name, signal)?;

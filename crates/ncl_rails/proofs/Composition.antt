@@ -13,8 +13,8 @@ use Rattle.ncl_shape.specs.Nets.{Nets, IsBelow}
 use Rattle.ncl_shape.specs.Stage.{out_of}
 use Rattle.ncl_stage.specs.Values.{holds}
 use Rattle.ncl_stage.specs.Faults.{has_data}
-use Rattle.ncl_network.specs.declared.network.From3.{From3}
-use Rattle.ncl_network.specs.declared.network.From3.TheVariants.{Input, Node as FromNode, Const}
+use Rattle.ncl_network.specs.declared.network.SignalSource.{SignalSource}
+use Rattle.ncl_network.specs.declared.network.SignalSource.TheVariants.{Input, Node as FromNode, Const}
 use Rattle.ncl_network.specs.declared.network.Signal.{Signal}
 use Rattle.ncl_network.specs.declared.network.Node.{Node}
 use Rattle.ncl_network.specs.declared.network.Network.{Network}
@@ -70,7 +70,7 @@ module _ (network : Network) (inputs : List Rails) (cells : List StageCell) (pai
     part_obeys : (k : ℕ) (part : List StageCell) → slice_get laid.parts k ≡ Some part → Obeys base part
     part_obeys k part at = record { each = λ c m. obeys c (gate_within k part at c m) }
 
-    source_shown : (bits : List Bool) (k : ℕ) → ((j : ℕ) → j < k → Shows base (source_pair inputs pairs (FromNode j)) (slice_index_or bits j false)) → (from : From3) → IsSource network.inputs k from → is_constant from ≡ false → Shows base (source_pair inputs pairs from) (source_value word bits from)
+    source_shown : (bits : List Bool) (k : ℕ) → ((j : ℕ) → j < k → Shows base (source_pair inputs pairs (FromNode j)) (slice_index_or bits j false)) → (from : SignalSource) → IsSource network.inputs k from → is_constant from ≡ false → Shows base (source_pair inputs pairs from) (source_value word bits from)
     source_shown bits k before (Input i) there varies = at_inputs i there
     source_shown bits k before (FromNode j) there varies = before j there
     source_shown bits k before (Const bit) there varies = absurd cc
@@ -152,12 +152,12 @@ module _ (network : Network) (inputs : List Rails) (cells : List StageCell) (pai
         supported = record { each = λ c m. supported c (gate_within k part found c m) };
       }
 
-      signal_null : (signal : Signal) (from : From3) → signal.from ≡ from → IsNull v (source_pair inputs pairs from) → IsNull v (signal_pair inputs pairs signal)
+      signal_null : (signal : Signal) (from : SignalSource) → signal.from ≡ from → IsNull v (source_pair inputs pairs from) → IsNull v (signal_pair inputs pairs signal)
       signal_null signal from is null =
           IsNull-turned v (source_pair inputs pairs signal.from) signal.inverted (subst (λ f. IsNull v (source_pair inputs pairs f)) (sym is) null)
 
       -- where a source that reaches an output is NULL, some output is NULL
-      pub null_reaches : (from : From3) → SourceReaches network from → IsNull v (source_pair inputs pairs from) → list_all (has_data v) output_pairs ≡ false
+      pub null_reaches : (from : SignalSource) → SourceReaches network from → IsNull v (source_pair inputs pairs from) → list_all (has_data v) output_pairs ≡ false
       unfolding output_pairs
       null_reaches _ (output from signal in_outputs is) null =
           list_all-fails (has_data v) (signal_pair inputs pairs signal) (Member-map (signal_pair inputs pairs) signal (Member-from_Contains network.outputs signal in_outputs))

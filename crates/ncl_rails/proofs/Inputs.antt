@@ -10,8 +10,8 @@ use Rattle.ncl_base.proofs.Members.{Member, member_of_map, Member-map, Member-fi
 use Rattle.std.proofs.lemmas.List.Elements.{All-weaker, filter-append}
 use Rattle.std.proofs.lemmas.Option.{slice_get-get_or}
 use Rattle.ncl_blif.proofs.NumberedLaws.{range_with_len-more}
-use Rattle.ncl_network.specs.declared.network.From3.{From3}
-use Rattle.ncl_network.specs.declared.network.From3.TheVariants.{Input, Node as FromNode, Const}
+use Rattle.ncl_network.specs.declared.network.SignalSource.{SignalSource}
+use Rattle.ncl_network.specs.declared.network.SignalSource.TheVariants.{Input, Node as FromNode, Const}
 use Rattle.ncl_network.specs.declared.network.Signal.{Signal}
 use Rattle.ncl_network.specs.declared.network.Node.{Node}
 use Rattle.ncl_network.specs.declared.network.Network.{Network}
@@ -23,7 +23,7 @@ use Rattle.ncl_rails.proofs.Composition.{reads_at}
 
 -- ---- there are the inputs that are read
 
-below : (inputs count : ℕ) (from : From3) → IsSource inputs count from → IsInputBelow inputs from
+below : (inputs count : ℕ) (from : SignalSource) → IsSource inputs count from → IsInputBelow inputs from
 below inputs count (Input i) there = there
 below inputs count (FromNode k) there = tt
 below inputs count (Const bit) there = tt

@@ -6,8 +6,8 @@ use Rattle.std.proofs.lemmas.Bool.{cases_lt, cases_Bool}
 use Rattle.std.proofs.lemmas.List.Elements.{All-nil, All-cons, All-append}
 use Rattle.std.proofs.lemmas.List.Sums.{sum_by-append}
 use Rattle.ncl_base.proofs.Members.{Member, here, there, member_cases, Contains-from_Member, Member-from_Contains, All-from_members}
-use Rattle.ncl_network.specs.declared.network.From3.{From3}
-use Rattle.ncl_network.specs.declared.network.From3.TheVariants.{Input, Node as FromNode}
+use Rattle.ncl_network.specs.declared.network.SignalSource.{SignalSource}
+use Rattle.ncl_network.specs.declared.network.SignalSource.TheVariants.{Input, Node as FromNode}
 use Rattle.ncl_network.specs.declared.network.Signal.{Signal}
 use Rattle.ncl_network.specs.declared.network.Node.{Node}
 use Rattle.ncl_network.specs.declared.network.Network.{Network}
@@ -69,11 +69,11 @@ module _ (network : Network) (o : Signal) (os : List Signal) (outs : network.out
   unfolding after
   last_reaches = output (FromNode (length network.nodes + length tree)) (node_signal (length network.nodes + length tree)) (0, omega arith, refl) refl
 
-  read_by_last : (x : Signal) → Contains (o ∷ root ∷ []) x → (from : From3) → x.from ≡ from → SourceReaches after from
+  read_by_last : (x : Signal) → Contains (o ∷ root ∷ []) x → (from : SignalSource) → x.from ≡ from → SourceReaches after from
   read_by_last x m from at = reader from (length network.nodes + length tree) (pair_node Join o root) x last_stands m at last_reaches
 
   -- what reached an output still does
-  carried : (from : From3) → SourceReaches network from → SourceReaches after from
+  carried : (from : SignalSource) → SourceReaches network from → SourceReaches after from
   unfolding after
   carried _ (output from signal among at) =
       elim (member_cases signal o os (subst (Member signal) outs (Member-from_Contains network.outputs signal among))) [

@@ -15,8 +15,8 @@ use Rattle.ncl_netlist.specs.declared.ids.NetId.{NetId}
 use Rattle.ncl_shape.specs.declared.rails.Rails.{Rails}
 use Rattle.ncl_shape.specs.declared.stage.StageCell.{StageCell}
 use Rattle.ncl_shape.specs.Stage.{IsInOrder, nets_of, rail_nets, out_of}
-use Rattle.ncl_network.specs.declared.network.From3.{From3}
-use Rattle.ncl_network.specs.declared.network.From3.TheVariants.{Input, Node as FromNode, Const}
+use Rattle.ncl_network.specs.declared.network.SignalSource.{SignalSource}
+use Rattle.ncl_network.specs.declared.network.SignalSource.TheVariants.{Input, Node as FromNode, Const}
 use Rattle.ncl_network.specs.declared.network.Signal.{Signal}
 use Rattle.ncl_network.specs.declared.network.Node.{Node}
 use Rattle.ncl_network.specs.declared.network.Network.{Network}
@@ -82,7 +82,7 @@ AreLaidOut-none inputs = record {
     nothing (c ∷ before) after cell is = cc
 
 -- the pairs of signals of earlier nodes stay
-source_stays : (inputs pairs : List Rails) (out : Rails) (n : ℕ) (from : From3) → IsSource n (length pairs) from → source_pair inputs (pairs ++ out ∷ []) from ≡ source_pair inputs pairs from
+source_stays : (inputs pairs : List Rails) (out : Rails) (n : ℕ) (from : SignalSource) → IsSource n (length pairs) from → source_pair inputs (pairs ++ out ∷ []) from ≡ source_pair inputs pairs from
 source_stays inputs pairs out n (Input i) exist = refl
 source_stays inputs pairs out n (FromNode k) exist = get_or_append_left pairs (out ∷ []) no_rails k exist
 source_stays inputs pairs out n (Const bit) exist = refl
@@ -112,7 +112,7 @@ module _ (inputs : List Rails) (done : List Node) (cells : List StageCell) (pair
         one = Contains-from_Member r.one.0 (Member-append_left r.one.0 (map out_of cells) second);
       }
 
-  source_known : (from : From3) → IsSource (length inputs) (length pairs) from → is_constant from ≡ false → IsKnown (nets_of inputs cells) (source_pair inputs pairs from)
+  source_known : (from : SignalSource) → IsSource (length inputs) (length pairs) from → is_constant from ≡ false → IsKnown (nets_of inputs cells) (source_pair inputs pairs from)
   source_known (Input i) exist varies = inputs_known (get_or inputs i no_rails) (Member-get_or inputs i no_rails exist)
   source_known (FromNode k) exist varies = pairs_known (get_or pairs k no_rails) (Member-get_or pairs k no_rails exist)
   source_known (Const bit) exist varies = absurd cc

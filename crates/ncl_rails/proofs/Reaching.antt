@@ -4,8 +4,8 @@ use Rattle.std.specs.Prelude.{Contains, slice_get}
 use Rattle.std.proofs.lemmas.Bool.{or_cases, eqb-true}
 use Rattle.ncl_base.proofs.Members.{Member, here, there, Member-append_left, Member-append_right, Contains-from_Member, member_from_list_any, slice_get-from_Contains}
 use Rattle.std.proofs.lemmas.Option.{slice_get_within}
-use Rattle.ncl_network.specs.declared.network.From3.{From3}
-use Rattle.ncl_network.specs.declared.network.From3.TheVariants.{Input, Node as FromNode, Const}
+use Rattle.ncl_network.specs.declared.network.SignalSource.{SignalSource}
+use Rattle.ncl_network.specs.declared.network.SignalSource.TheVariants.{Input, Node as FromNode, Const}
 use Rattle.ncl_network.specs.declared.network.Signal.{Signal}
 use Rattle.ncl_network.specs.declared.network.Node.{Node}
 use Rattle.ncl_network.specs.declared.network.Network.{Network}
@@ -22,7 +22,7 @@ source_reaches network _ (is_read k by node signal at reads from reach) = reader
 
 -- ---- inputs
 
-is_input-true : (i : ℕ) (from : From3) → is_input i from ≡ true → from ≡ Input i
+is_input-true : (i : ℕ) (from : SignalSource) → is_input i from ≡ true → from ≡ Input i
 is_input-true i (Input j) e = ap Input (eqb-true j i e)
 is_input-true i (FromNode k) e = absurd cc
 is_input-true i (Const bit) e = absurd cc

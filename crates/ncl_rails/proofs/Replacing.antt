@@ -9,8 +9,8 @@ use Rattle.std.proofs.lemmas.List.Sums.{sum_by_push, sum_by-cons}
 use Rattle.ncl_blif.specs.Meaning.{cover_value}
 use Rattle.ncl_blif.specs.declared.model.Lit.TheVariants.{Dash}
 use Rattle.ncl_base.proofs.Members.{Member, here, there, Member-map, member_from_list_any, list_any-from_member, Contains-from_Member, Member-from_Contains, All-from_members}
-use Rattle.ncl_network.specs.declared.network.From3.{From3}
-use Rattle.ncl_network.specs.declared.network.From3.TheVariants.{Input, Node as FromNode, Const}
+use Rattle.ncl_network.specs.declared.network.SignalSource.{SignalSource}
+use Rattle.ncl_network.specs.declared.network.SignalSource.TheVariants.{Input, Node as FromNode, Const}
 use Rattle.ncl_network.specs.declared.network.Signal.{Signal}
 use Rattle.ncl_network.specs.declared.network.Node.{Node}
 use Rattle.ncl_network.specs.declared.network.Network.{Network}
@@ -42,7 +42,7 @@ varied k s e = cond-false (is_constant s.from) (record { from = FromNode k; inve
 fixed : (k : ℕ) (s : Signal) → is_constant s.from ≡ true → replaced k s ≡ record { from = FromNode k; inverted = not (signal_value [] [] s) }
 fixed k s e = cond-true (is_constant s.from) (record { from = FromNode k; inverted = not (signal_value [] [] s) }) s e
 
-constant_value : (word bits : List Bool) (from : From3) (inverted : Bool) → is_constant from ≡ true → signal_value word bits (record { from = from; inverted = inverted }) ≡ signal_value [] [] (record { from = from; inverted = inverted })
+constant_value : (word bits : List Bool) (from : SignalSource) (inverted : Bool) → is_constant from ≡ true → signal_value word bits (record { from = from; inverted = inverted }) ≡ signal_value [] [] (record { from = from; inverted = inverted })
 constant_value word bits (Input i) inverted e = absurd (both_ways false refl e)
 constant_value word bits (FromNode k) inverted e = absurd (both_ways false refl e)
 constant_value word bits (Const bit) inverted e = refl
@@ -109,7 +109,7 @@ module _ (network : Network) (is : IsSplit network) where
     exists x m = at_member (λ (y : Signal). IsSource network.inputs (length network.nodes) y.from) network.outputs is.outputs_exist x (Contains-from_Member x m)
 
     -- what reached an output still does
-    carried : (from : From3) → is_constant from ≡ false → SourceReaches network from → SourceReaches after from
+    carried : (from : SignalSource) → is_constant from ≡ false → SourceReaches network from → SourceReaches after from
     unfolding after
     carried _ varies (output from signal among at) =
         let same = varied (length network.nodes) signal (ap is_constant at ∙ varies) in

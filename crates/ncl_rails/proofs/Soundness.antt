@@ -17,8 +17,8 @@ use Rattle.ncl_stage.specs.declared.variant.Variant.TheVariants.{Base, Bit, Cell
 use Rattle.ncl_stage.specs.Values.{holds, val}
 use Rattle.ncl_stage.specs.Faults.{holds_at, has_data, is_illegal, all_data, IsWordOf, IsSound, BothRails, NoRail, Incomplete, Orphan}
 use Rattle.ncl_stage.proofs.ValueLaws.{val-below_base}
-use Rattle.ncl_network.specs.declared.network.From3.{From3}
-use Rattle.ncl_network.specs.declared.network.From3.TheVariants.{Input}
+use Rattle.ncl_network.specs.declared.network.SignalSource.{SignalSource}
+use Rattle.ncl_network.specs.declared.network.SignalSource.TheVariants.{Input}
 use Rattle.ncl_network.specs.declared.network.Network.{Network}
 use Rattle.ncl_network.specs.Network.{answer_of}
 use Rattle.ncl_template.specs.Template.{Shows, IsNull, ShowWord}
@@ -93,7 +93,7 @@ module _ (network : Network) (inputs : List Rails) (cells : List StageCell) (pai
   unfolding values outs
   all_data_seen word variant = ap (list_all (has_data (val s word variant))) same.outputs ∙ data_new (val s word variant) number outs
 
-  null_spreads : (word : List Bool) → IsWordOf s word → (variant : Variant) (from : From3) → SourceReaches network from → IsNull (values word variant) (source_pair inputs pairs from) → all_data s (val s word variant) ≡ false
+  null_spreads : (word : List Bool) → IsWordOf s word → (variant : Variant) (from : SignalSource) → SourceReaches network from → IsNull (values word variant) (source_pair inputs pairs from) → all_data s (val s word variant) ≡ false
   unfolding outs
   null_spreads word right variant from reach null =
       all_data_seen word variant

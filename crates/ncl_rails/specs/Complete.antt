@@ -2,8 +2,8 @@
 use Rattle.std.specs.Prelude.{◌≡◌, ℕ, ◌<◌, List, [], ◌∷◌, Bool, true, false, not, ◌||◌, ◌==◌, if◌then◌else◌, length, map, filter, All, Contains, slice_get, Some}
 use Rattle.std.specs.List.{list_any, range_with_len}
 use Rattle.ncl_blif.specs.declared.model.Lit.TheVariants.{Dash}
-use Rattle.ncl_network.specs.declared.network.From3.{From3}
-use Rattle.ncl_network.specs.declared.network.From3.TheVariants.{Input, Node as FromNode, Const}
+use Rattle.ncl_network.specs.declared.network.SignalSource.{SignalSource}
+use Rattle.ncl_network.specs.declared.network.SignalSource.TheVariants.{Input, Node as FromNode, Const}
 use Rattle.ncl_network.specs.declared.network.Signal.{Signal}
 use Rattle.ncl_network.specs.declared.network.Node.{Node}
 use Rattle.ncl_network.specs.declared.network.Network.{Network}
@@ -11,9 +11,9 @@ use Rattle.ncl_network.specs.Network.{IsSource, ReadBefore, is_constant, signal_
 use Rattle.ncl_decomp.specs.Split.{IsNarrow}
 
 -- a source reaches an output: it is one, or a node that reaches one reads it
-pub data SourceReaches (network : Network) : From3 → Type 0 where
-  output : (source : From3) (signal : Signal) → Contains network.outputs signal → signal.from ≡ source → SourceReaches network source
-  reader : (source : From3) (by : ℕ) (node : Node) (signal : Signal) → slice_get network.nodes by ≡ Some node → Contains node.ins signal → signal.from ≡ source → SourceReaches network (FromNode by) → SourceReaches network source
+pub data SourceReaches (network : Network) : SignalSource → Type 0 where
+  output : (source : SignalSource) (signal : Signal) → Contains network.outputs signal → signal.from ≡ source → SourceReaches network source
+  reader : (source : SignalSource) (by : ℕ) (node : Node) (signal : Signal) → slice_get network.nodes by ≡ Some node → Contains node.ins signal → signal.from ≡ source → SourceReaches network (FromNode by) → SourceReaches network source
 
 -- a network of narrow nodes none of whose outputs is constant
 pub record IsVarying (network : Network) : Type 0 where
@@ -50,7 +50,7 @@ replaced k signal =
     if is_constant signal.from then (record { from = FromNode k; inverted = not (signal_value [] [] signal) }) else signal
 
 -- whether a source is this input, and whether one of some signals is of it
-abbrev pub is_input : ℕ → From3 → Bool
+abbrev pub is_input : ℕ → SignalSource → Bool
 is_input i (Input j) = j == i
 is_input i (FromNode k) = false
 is_input i (Const bit) = false
@@ -67,7 +67,7 @@ abbrev pub unread_signals : Network → List Signal
 unread_signals network = map input_signal (filter (λ i. not (is_input_read network i)) (range_with_len 0 network.inputs))
 
 -- what is an input is one of so many
-abbrev pub IsInputBelow : ℕ → From3 → Type 0
+abbrev pub IsInputBelow : ℕ → SignalSource → Type 0
 IsInputBelow inputs (Input i) = i < inputs
 IsInputBelow inputs (FromNode k) = Unit {0}
 IsInputBelow inputs (Const bit) = Unit {0}

@@ -6,8 +6,8 @@ use Rattle.ncl_netlist.specs.declared.ids.NetId.{NetId}
 use Rattle.ncl_shape.specs.declared.rails.Rails.{Rails}
 use Rattle.ncl_shape.specs.declared.stage.StageCell.{StageCell}
 use Rattle.ncl_shape.specs.Stage.{IsInOrder, nets_of, rail_nets}
-use Rattle.ncl_network.specs.declared.network.From3.{From3}
-use Rattle.ncl_network.specs.declared.network.From3.TheVariants.{Input, Node as FromNode, Const}
+use Rattle.ncl_network.specs.declared.network.SignalSource.{SignalSource}
+use Rattle.ncl_network.specs.declared.network.SignalSource.TheVariants.{Input, Node as FromNode, Const}
 use Rattle.ncl_network.specs.declared.network.Signal.{Signal}
 use Rattle.ncl_network.specs.declared.network.Node.{Node}
 use Rattle.ncl_network.specs.declared.network.Network.{Network}
@@ -29,7 +29,7 @@ abbrev pub no_rails : Rails
 no_rails = record { zero = no_net; one = no_net }
 
 -- the pair of a source, where inputs and nodes have these pairs
-abbrev pub source_pair : List Rails → List Rails → From3 → Rails
+abbrev pub source_pair : List Rails → List Rails → SignalSource → Rails
 source_pair inputs pairs (Input i) = slice_index_or inputs i no_rails
 source_pair inputs pairs (FromNode k) = slice_index_or pairs k no_rails
 source_pair inputs pairs (Const bit) = no_rails

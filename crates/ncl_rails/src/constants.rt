@@ -8,7 +8,7 @@ ghost use Rattle.ncl_rails.specs.Complete.{IsVarying, AnswersAs, true_node, repl
 use crate::copies::copied;
 use ncl_base::{Items, Memory};
 use ncl_blif::Lit;
-use ncl_network::{From3, Network, Node, Signal};
+use ncl_network::{SignalSource, Network, Node, Signal};
 use std::alloc::Global;
 
 /// A node that is always 1: it reads the first input twice, and asks nothing of it.
@@ -16,7 +16,7 @@ fn true_node(alloc: Global) -> Result<Node, Memory>
     ensures { IfOk result (λ node. node ≡ true_node) }
 {
     let input = Signal {
-        from: From3::Input(0),
+        from: SignalSource::Input(0),
         inverted: false,
     };
     let ins = vec![in alloc; input, input]?;
@@ -35,8 +35,8 @@ fn replaced(signal: Signal, place: u32) -> Signal
     ensures { result ≡ replaced place signal }
 {
     match signal.from {
-        From3::Const(bit) => Signal {
-            from: From3::Node(place),
+        SignalSource::Const(bit) => Signal {
+            from: SignalSource::Node(place),
             inverted: bit == signal.inverted,
         },
         _ => signal,
@@ -60,7 +60,7 @@ fn is_some_constant(signals: &[Signal]) -> bool
 {
     signals
         .iter()
-        .any(|signal| matches!(signal.from, From3::Const(_)))
+        .any(|signal| matches!(signal.from, SignalSource::Const(_)))
 }
 
 /// The network whose constant outputs are signals of a node that is always 1, or its inverse. Linear in the network.

@@ -6,7 +6,7 @@ ghost use Rattle.ncl_rails.specs.Layout.{input_pairs, signal_pair};
 
 use ncl_base::Memory;
 use ncl_netlist::NetId;
-use ncl_network::{From3, Signal};
+use ncl_network::{SignalSource, Signal};
 use ncl_shape::Rails;
 use std::alloc::Global;
 
@@ -31,9 +31,9 @@ fn signal_pair(inputs: &[Rails], pairs: &[Rails], signal: Signal) -> Rails
     ensures { result ≡ signal_pair inputs.now pairs.now signal }
 {
     let pair = match signal.from {
-        From3::Input(i) => inputs[i as usize],
-        From3::Node(k) => pairs[k as usize],
-        From3::Const(_) => Rails::default(),
+        SignalSource::Input(i) => inputs[i as usize],
+        SignalSource::Node(k) => pairs[k as usize],
+        SignalSource::Const(_) => Rails::default(),
     };
     if signal.inverted {
         Rails {

@@ -4,7 +4,7 @@ ghost use Rattle.std.specs.List.{list_any, slice_index_or};
 ghost use Rattle.ncl_rails.specs.Complete.{IsVarying, IsInputBelow, is_among, is_input_read, unread_signals};
 
 use ncl_base::Memory;
-use ncl_network::{From3, Network, Node, Signal};
+use ncl_network::{SignalSource, Network, Node, Signal};
 use std::alloc::Global;
 
 /// Marks the inputs that some signals are of. Linear in the signals.
@@ -13,7 +13,7 @@ fn mark(read: &mut [bool], signals: &[Signal])
     ensures { (i : ℕ) → slice_index_or read.new i false ≡ (slice_index_or read.old i false || is_among signals.now i) }
 {
     for signal in signals {
-        if let From3::Input(i) = signal.from {
+        if let SignalSource::Input(i) = signal.from {
             read[i as usize] = true;
         }
     }
@@ -60,7 +60,7 @@ pub(crate) fn unread_inputs(alloc: Global, network: &Network) -> Result<Vec<Sign
     for i in 0..network.inputs {
         if !read[i as usize] {
             unread.push(Signal {
-                from: From3::Input(i),
+                from: SignalSource::Input(i),
                 inverted: false,
             })?;
         }

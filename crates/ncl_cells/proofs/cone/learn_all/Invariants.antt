@@ -1,8 +1,8 @@
 use Rattle.std.proofs.Common.{Bool}
-use Rattle.ncl_network.specs.declared.network.From3.{From3}
+use Rattle.ncl_network.specs.declared.network.SignalSource.{SignalSource}
 use Rattle.ncl_cells.specs.Cones.{IsKnown, Respects}
 use Rattle.ncl_cells.proofs.cone.learn_all.Given as goal
 
 abbrev pub invariant-loop-place : goal.invariant-loop-place
 invariant-loop-place l =
-    (value : From3 → Bool) → Respects l.nodes value → IsKnown value l.initial.known.items → IsKnown value l.known.items
+    (value : SignalSource → Bool) → Respects l.nodes value → IsKnown value l.initial.known.items → IsKnown value l.known.items

@@ -1,6 +1,6 @@
 use Rattle.std.proofs.Common.{false, sym, ◌∙◌, ◌++◌, [], ◌∷◌}
 use Rattle.std.proofs.lemmas.List.{map_more}
-use Rattle.ncl_network.specs.declared.network.From3.TheVariants.{Input}
+use Rattle.ncl_network.specs.declared.network.SignalSource.TheVariants.{Input}
 use Rattle.ncl_cells.specs.Cones.{signal_in}
 use Rattle.ncl_cells.proofs.cone.signal_bits.Goals as goal
 

@@ -1,8 +1,8 @@
 use Rattle.std.proofs.Common.{◌≡◌, Bool, map, take}
-use Rattle.ncl_network.specs.declared.network.From3.{From3}
+use Rattle.ncl_network.specs.declared.network.SignalSource.{SignalSource}
 use Rattle.ncl_cells.specs.Cones.{IsKnown, signal_in}
 use Rattle.ncl_cells.proofs.cone.signal_bits.Given as goal
 
 abbrev pub invariant-loop-signal : goal.invariant-loop-signal
 invariant-loop-signal l =
-    (value : From3 → Bool) → IsKnown value l.known → map (signal_in value) (take l.signal-index l.signals) ≡ l.bits.items
+    (value : SignalSource → Bool) → IsKnown value l.known → map (signal_in value) (take l.signal-index l.signals) ≡ l.bits.items

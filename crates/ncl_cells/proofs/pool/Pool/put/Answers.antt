@@ -1,5 +1,5 @@
 use Rattle.std.proofs.Common.{ℕ, List, length, sym, subst}
-use Rattle.ncl_network.specs.declared.network.From3.TheVariants.{Node as FromNode}
+use Rattle.ncl_network.specs.declared.network.SignalSource.TheVariants.{Node as FromNode}
 use Rattle.ncl_network.specs.declared.network.Signal.{Signal}
 use Rattle.ncl_cells.specs.declared.form.Form.{Form}
 use Rattle.ncl_cells.specs.declared.small.Small.{Small}

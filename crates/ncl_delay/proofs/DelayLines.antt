@@ -25,13 +25,13 @@ pub record AreStated (names : List (List ℕ)) (lines : List NumberedText) (d : 
 pub stated-none : (names : List (List ℕ)) (d : DelaysData) → d ≡ unstated (length names) → AreStated names [] d
 stated-none names d none = record { unbroken = refl; delays = none ∙ unstated-stated names }
 
-pub stated-more : (names : List (List ℕ)) (lines : List NumberedText) (d new : DelaysData) (line : NumberedText) (s : Statement) → AllDiffer names → AreStated names lines d → said_in line ≡ Some s → is_known names s.thing ≡ true → new ≡ put_edges names d s.edges s.thing → AreStated names (lines ++ line ∷ []) new
+pub stated-more : (names : List (List ℕ)) (lines : List NumberedText) (d new : DelaysData) (line : NumberedText) (s : Statement) → AllDiffer names → AreStated names lines d → said_in line ≡ Some s → is_known names s.subject ≡ true → new ≡ put_edges names d s.edges s.subject → AreStated names (lines ++ line ∷ []) new
 stated-more names lines d new line s differ so_far says known is = record {
   unbroken =
       fault_in-append names lines (line ∷ []) ∙ ap (λ o. option_or o (fault_in names (line ∷ []))) so_far.unbroken
       ∙ option_or-none (line_fault names line) ∙ ap (statement_fault names line.number) says
       ∙ ap (λ b. if b then None else Some (UnknownCell line.number)) known;
-  delays = is ∙ ap (λ old. put_edges names old s.edges s.thing) so_far.delays ∙ put_edges-stated names lines line s differ says known;
+  delays = is ∙ ap (λ old. put_edges names old s.edges s.subject) so_far.delays ∙ put_edges-stated names lines line s differ says known;
 }
 
 -- the first broken line comes after lines that are not broken

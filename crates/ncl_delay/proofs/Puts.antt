@@ -9,20 +9,20 @@ use Rattle.ncl_netlist.specs.Names.{same_name, AllDiffer, name_number}
 use Rattle.ncl_netlist.proofs.NameLists.{equal_names}
 use Rattle.ncl_blif.specs.Lines.{NumberedText}
 use Rattle.ncl_delay.specs.declared.delays.Edges.{Edges}
-use Rattle.ncl_delay.specs.declared.statement.Thing.{Thing}
-use Rattle.ncl_delay.specs.declared.statement.Thing.TheVariants.{Default, Source, Sink, Cell}
+use Rattle.ncl_delay.specs.declared.statement.Subject.{Subject}
+use Rattle.ncl_delay.specs.declared.statement.Subject.TheVariants.{Default, Source, Sink, Cell}
 use Rattle.ncl_delay.specs.declared.statement.Statement.{Statement}
 use Rattle.ncl_delay.specs.Delays.{DelaysData}
-use Rattle.ncl_delay.specs.DelayText.{said_in, said_of, same_thing, stated, stated_delays, unit_edges, is_known}
+use Rattle.ncl_delay.specs.DelayText.{said_in, said_of, same_subject, stated, stated_delays, unit_edges, is_known}
 use Rattle.ncl_delay.proofs.FirstOf.{option_or-none, option_or_assoc}
 use Rattle.ncl_delay.specs.Put.{put_edges, unstated}
 
--- what is stated of a thing with one more line: what that line says of it, or what was stated
-stated-push : (thing : Thing) (lines : List NumberedText) (line : NumberedText) → stated thing (lines ++ line ∷ []) ≡ option_or (said_of thing (said_in line)) (stated thing lines)
-stated-push thing [] line = sym (option_or-none (said_of thing (said_in line)))
-stated-push thing (first ∷ lines) line =
-    ap (λ o. option_or o (said_of thing (said_in first))) (stated-push thing lines line)
-    ∙ option_or_assoc (said_of thing (said_in line)) (stated thing lines) (said_of thing (said_in first))
+-- what is stated of a subject with one more line: what that line says of it, or what was stated
+stated-push : (subject : Subject) (lines : List NumberedText) (line : NumberedText) → stated subject (lines ++ line ∷ []) ≡ option_or (said_of subject (said_in line)) (stated subject lines)
+stated-push subject [] line = sym (option_or-none (said_of subject (said_in line)))
+stated-push subject (first ∷ lines) line =
+    ap (λ o. option_or o (said_of subject (said_in first))) (stated-push subject lines line)
+    ∙ option_or_assoc (said_of subject (said_in line)) (stated subject lines) (said_of subject (said_in first))
 
 -- what a name has once a name got these delays
 abbrev renewed : List ℕ → Edges → (List ℕ → Option Edges) → List ℕ → Option Edges
@@ -51,19 +51,19 @@ renewed-set (other ∷ names) name edges before differ known = by (same_name nam
         (λ i. option_or (cond (same i) (Some edges) None) (before other) ∷ rest later i)
         ∙ sym (ap (λ n. set (map before (other ∷ names)) n (Some edges)) place)
 
--- what is stated of a thing once another thing got these delays
-abbrev after : Edges → Thing → List NumberedText → Thing → Option Edges
-after edges thing lines of = option_or (cond (same_thing thing of) (Some edges) None) (stated of lines)
+-- what is stated of a subject once another subject got these delays
+abbrev after : Edges → Subject → List NumberedText → Subject → Option Edges
+after edges subject lines of = option_or (cond (same_subject subject of) (Some edges) None) (stated of lines)
 
-abbrev all_after : List (List ℕ) → Edges → Thing → List NumberedText → DelaysData
-all_after names edges thing lines = record {
-  default = unwrap_or (after edges thing lines Default) unit_edges;
-  cells = map (λ name. after edges thing lines (Cell name)) names;
-  source = unwrap_or (after edges thing lines Source) unit_edges;
-  sink = unwrap_or (after edges thing lines Sink) unit_edges;
+abbrev all_after : List (List ℕ) → Edges → Subject → List NumberedText → DelaysData
+all_after names edges subject lines = record {
+  default = unwrap_or (after edges subject lines Default) unit_edges;
+  cells = map (λ name. after edges subject lines (Cell name)) names;
+  source = unwrap_or (after edges subject lines Source) unit_edges;
+  sink = unwrap_or (after edges subject lines Sink) unit_edges;
 }
 
-put_edges-after : (names : List (List ℕ)) (lines : List NumberedText) (edges : Edges) (thing : Thing) → AllDiffer names → is_known names thing ≡ true → put_edges names (stated_delays names lines) edges thing ≡ all_after names edges thing lines
+put_edges-after : (names : List (List ℕ)) (lines : List NumberedText) (edges : Edges) (subject : Subject) → AllDiffer names → is_known names subject ≡ true → put_edges names (stated_delays names lines) edges subject ≡ all_after names edges subject lines
 put_edges-after names lines edges Default differ known = refl
 put_edges-after names lines edges Source differ known = refl
 put_edges-after names lines edges Sink differ known = refl
@@ -71,11 +71,11 @@ put_edges-after names lines edges (Cell name) differ known =
     (λ i. record (stated_delays names lines) { cells = sym (renewed-set names name edges (λ other. stated (Cell other) lines) differ known) i })
 
 -- what lines state, with one more line that states this
-pub put_edges-stated : (names : List (List ℕ)) (lines : List NumberedText) (line : NumberedText) (s : Statement) → AllDiffer names → said_in line ≡ Some s → is_known names s.thing ≡ true → put_edges names (stated_delays names lines) s.edges s.thing ≡ stated_delays names (lines ++ line ∷ [])
+pub put_edges-stated : (names : List (List ℕ)) (lines : List NumberedText) (line : NumberedText) (s : Statement) → AllDiffer names → said_in line ≡ Some s → is_known names s.subject ≡ true → put_edges names (stated_delays names lines) s.edges s.subject ≡ stated_delays names (lines ++ line ∷ [])
 put_edges-stated names lines line s differ says known =
-    let at : (of : Thing) → stated of (lines ++ line ∷ []) ≡ after s.edges s.thing lines of =
+    let at : (of : Subject) → stated of (lines ++ line ∷ []) ≡ after s.edges s.subject lines of =
     λ of. stated-push of lines line ∙ ap (λ o. option_or (said_of of o) (stated of lines)) says in
-    put_edges-after names lines s.edges s.thing differ known
+    put_edges-after names lines s.edges s.subject differ known
     ∙ (λ i. record { default = unwrap_or (sym (at Default) i) unit_edges; cells = map (λ name. sym (at (Cell name)) i) names; source = unwrap_or (sym (at Source) i) unit_edges; sink = unwrap_or (sym (at Sink) i) unit_edges })
 
 -- where no line is read, nothing is stated

@@ -1,6 +1,6 @@
 -- The first words of a line, and what they state.
 use Rattle.std.proofs.Common.{◌≡◌, ℕ, ◌<◌, ◌≤◌, List, [], ◌∷◌, length, map, take, get_or, Bor, refl, sym, ap, ◌∙◌, arith}
-use Rattle.ncl_delay.specs.DelayText.{edges_text, thing_text, cell_text, stating, said}
+use Rattle.ncl_delay.specs.DelayText.{edges_text, subject_text, cell_text, stating, said}
 
 -- what the first five words of a line state is what all of them state
 said-take : (words : List (List ℕ)) → said (take 5 words) ≡ said words
@@ -15,7 +15,7 @@ said-take (a ∷ b ∷ c ∷ d ∷ e ∷ words) = refl
 abbrev pub AreFirst : List (Bor (List ℕ)) → List (List ℕ) → Type 0
 AreFirst first words = map (λ word. word.now) first ≡ take 5 words
 
-three : (first : List (Bor (List ℕ))) (d : Bor (List ℕ)) → 3 ≤ length first → length first < 4 → said (map (λ word. word.now) first) ≡ stating (thing_text (get_or first 0 d).now) (edges_text (get_or first 1 d).now (get_or first 2 d).now)
+three : (first : List (Bor (List ℕ))) (d : Bor (List ℕ)) → 3 ≤ length first → length first < 4 → said (map (λ word. word.now) first) ≡ stating (subject_text (get_or first 0 d).now) (edges_text (get_or first 1 d).now (get_or first 2 d).now)
 three [] d least below = absurd (omega arith)
 three (a ∷ []) d least below = absurd (omega arith)
 three (a ∷ b ∷ []) d least below = absurd (omega arith)
@@ -34,7 +34,7 @@ said-first : (words : List (List ℕ)) (first : List (Bor (List ℕ))) → AreFi
 said-first words first few = sym (said-take words) ∙ ap said (sym few)
 
 -- what a line of three words states, and a line of four
-pub said-three : (words : List (List ℕ)) (first : List (Bor (List ℕ))) (d : Bor (List ℕ)) → AreFirst first words → 3 ≤ length first → length first < 4 → said words ≡ stating (thing_text (get_or first 0 d).now) (edges_text (get_or first 1 d).now (get_or first 2 d).now)
+pub said-three : (words : List (List ℕ)) (first : List (Bor (List ℕ))) (d : Bor (List ℕ)) → AreFirst first words → 3 ≤ length first → length first < 4 → said words ≡ stating (subject_text (get_or first 0 d).now) (edges_text (get_or first 1 d).now (get_or first 2 d).now)
 said-three words first d few least below = said-first words first few ∙ three first d least below
 
 pub said-four : (words : List (List ℕ)) (first : List (Bor (List ℕ))) (d : Bor (List ℕ)) → AreFirst first words → 4 ≤ length first → length first < 5 → said words ≡ stating (cell_text (get_or first 0 d).now (get_or first 1 d).now) (edges_text (get_or first 2 d).now (get_or first 3 d).now)

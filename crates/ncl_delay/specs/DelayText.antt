@@ -11,8 +11,8 @@ use Rattle.ncl_blif.specs.Lines.{NumberedText, words_of}
 use Rattle.ncl_delay.specs.declared.delays.Edges.{Edges}
 use Rattle.ncl_delay.specs.declared.delays.TheConstants.{MOST_DELAY}
 use Rattle.ncl_delay.specs.declared.number.TheConstants.{MOST_DIGITS}
-use Rattle.ncl_delay.specs.declared.statement.Thing.{Thing}
-use Rattle.ncl_delay.specs.declared.statement.Thing.TheVariants.{Default, Source, Sink, Cell}
+use Rattle.ncl_delay.specs.declared.statement.Subject.{Subject}
+use Rattle.ncl_delay.specs.declared.statement.Subject.TheVariants.{Default, Source, Sink, Cell}
 use Rattle.ncl_delay.specs.declared.statement.Statement.{Statement}
 use Rattle.ncl_delay.specs.declared.fault.DelayFault.{DelayFault}
 use Rattle.ncl_delay.specs.declared.fault.DelayFault.TheVariants.{Syntax, UnknownCell}
@@ -41,26 +41,26 @@ both_edges (Some rise) (Some fall) = Some (record { rise = rise; fall = fall })
 abbrev pub edges_text : List ℕ → List ℕ → Option Edges
 edges_text rise fall = both_edges (delay_text rise) (delay_text fall)
 
--- the thing that a word stands for
-abbrev pub thing_text : List ℕ → Option Thing
-thing_text word =
+-- the subject that a word stands for
+abbrev pub subject_text : List ℕ → Option Subject
+subject_text word =
     if bytes_eq word (codes "default") then Some Default
     else (if bytes_eq word (codes "source") then Some Source
     else (if bytes_eq word (codes "sink") then Some Sink else None))
 
 -- the cell that a word and a name stand for
-abbrev pub cell_text : List ℕ → List ℕ → Option Thing
+abbrev pub cell_text : List ℕ → List ℕ → Option Subject
 cell_text word name = if bytes_eq word (codes "cell") then Some (Cell name) else None
 
--- the statement of a thing and its delays, where both are there
-abbrev pub stating : Option Thing → Option Edges → Option Statement
+-- the statement of a subject and its delays, where both are there
+abbrev pub stating : Option Subject → Option Edges → Option Statement
 stating None edges = None
-stating (Some thing) None = None
-stating (Some thing) (Some edges) = Some (record { thing = thing; edges = edges })
+stating (Some subject) None = None
+stating (Some subject) (Some edges) = Some (record { subject = subject; edges = edges })
 
 -- what the words of a line state: `default R F`, `source R F`, `sink R F` or `cell NAME R F`
 abbrev pub said : List (List ℕ) → Option Statement
-said (word ∷ rise ∷ fall ∷ []) = stating (thing_text word) (edges_text rise fall)
+said (word ∷ rise ∷ fall ∷ []) = stating (subject_text word) (edges_text rise fall)
 said (word ∷ name ∷ rise ∷ fall ∷ []) = stating (cell_text word name) (edges_text rise fall)
 said words = None
 
@@ -69,14 +69,14 @@ abbrev pub said_in : NumberedText → Option Statement
 said_in line = said (words_of line.text)
 
 -- whether a cell has the name
-abbrev pub is_known : List (List ℕ) → Thing → Bool
+abbrev pub is_known : List (List ℕ) → Subject → Bool
 is_known names (Cell name) = list_any (same_name name) names
-is_known names thing = true
+is_known names subject = true
 
 -- what breaks a line of this number that states this: it is of none of the forms, or names no cell
 abbrev pub statement_fault : List (List ℕ) → ℕ → Option Statement → Option DelayFault
 statement_fault names number None = Some (Syntax number)
-statement_fault names number (Some s) = if is_known names s.thing then None else Some (UnknownCell number)
+statement_fault names number (Some s) = if is_known names s.subject then None else Some (UnknownCell number)
 
 abbrev pub line_fault : List (List ℕ) → NumberedText → Option DelayFault
 line_fault names line = statement_fault names line.number (said_in line)
@@ -86,23 +86,23 @@ abbrev pub fault_in : List (List ℕ) → List NumberedText → Option DelayFaul
 fault_in names [] = None
 fault_in names (line ∷ lines) = option_or (line_fault names line) (fault_in names lines)
 
--- whether two things are one
-abbrev pub same_thing : Thing → Thing → Bool
-same_thing Default Default = true
-same_thing Source Source = true
-same_thing Sink Sink = true
-same_thing (Cell name) (Cell other) = same_name name other
-same_thing thing other = false
+-- whether two subjects are one
+abbrev pub same_subject : Subject → Subject → Bool
+same_subject Default Default = true
+same_subject Source Source = true
+same_subject Sink Sink = true
+same_subject (Cell name) (Cell other) = same_name name other
+same_subject subject other = false
 
--- what a statement says of a thing
-abbrev pub said_of : Thing → Option Statement → Option Edges
-said_of thing None = None
-said_of thing (Some s) = if same_thing s.thing thing then Some s.edges else None
+-- what a statement says of a subject
+abbrev pub said_of : Subject → Option Statement → Option Edges
+said_of subject None = None
+said_of subject (Some s) = if same_subject s.subject subject then Some s.edges else None
 
--- what lines state of a thing: what the last of them says that says something of it
-abbrev pub stated : Thing → List NumberedText → Option Edges
-stated thing [] = None
-stated thing (line ∷ lines) = option_or (stated thing lines) (said_of thing (said_in line))
+-- what lines state of a subject: what the last of them says that says something of it
+abbrev pub stated : Subject → List NumberedText → Option Edges
+stated subject [] = None
+stated subject (line ∷ lines) = option_or (stated subject lines) (said_of subject (said_in line))
 
 -- what is never stated is 1
 abbrev pub unit_edges : Edges

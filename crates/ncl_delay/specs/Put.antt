@@ -2,8 +2,8 @@
 use Rattle.std.specs.Prelude.{ℕ, List, Some, None, replicate, slice_set}
 use Rattle.ncl_netlist.specs.Names.{name_number}
 use Rattle.ncl_delay.specs.declared.delays.Edges.{Edges}
-use Rattle.ncl_delay.specs.declared.statement.Thing.{Thing}
-use Rattle.ncl_delay.specs.declared.statement.Thing.TheVariants.{Default, Source, Sink, Cell}
+use Rattle.ncl_delay.specs.declared.statement.Subject.{Subject}
+use Rattle.ncl_delay.specs.declared.statement.Subject.TheVariants.{Default, Source, Sink, Cell}
 use Rattle.ncl_delay.specs.Delays.{DelaysData}
 use Rattle.ncl_delay.specs.DelayText.{unit_edges}
 
@@ -11,8 +11,8 @@ use Rattle.ncl_delay.specs.DelayText.{unit_edges}
 abbrev pub unstated : ℕ → DelaysData
 unstated cells = record { default = unit_edges; cells = replicate cells None; source = unit_edges; sink = unit_edges }
 
--- the delays with these in place of those of a thing, where the cells have these names
-abbrev pub put_edges : List (List ℕ) → DelaysData → Edges → Thing → DelaysData
+-- the delays with these in place of those of a subject, where the cells have these names
+abbrev pub put_edges : List (List ℕ) → DelaysData → Edges → Subject → DelaysData
 put_edges names d edges Default = record d { default = edges }
 put_edges names d edges Source = record d { source = edges }
 put_edges names d edges Sink = record d { sink = edges }

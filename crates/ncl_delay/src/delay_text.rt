@@ -12,7 +12,7 @@ ghost use Rattle.ncl_delay.specs.Put.{unstated, put_edges};
 use crate::delays::{Delays, UNIT};
 use crate::fault::DelayFault;
 use crate::lines::{tells, trimmed};
-use crate::statement::{Thing, said};
+use crate::statement::{Subject, said};
 use indexmap::IndexSet;
 use ncl_base::{MOST_BYTES, Memory, Name};
 use ncl_netlist::{Cell, Netlist};
@@ -21,7 +21,7 @@ use std::alloc::Global;
 /// The delays that a text states for the cells of a netlist, and for the source and the sink.
 ///
 /// Each line is empty, a remark, or one of `default R F`, `cell NAME R F`, `source R F` and
-/// `sink R F`, where R and F are the delays of rising and of falling. A later line for one thing takes the
+/// `sink R F`, where R and F are the delays of rising and of falling. A later line for one subject takes the
 /// place of an earlier one. A cell of which no line speaks has the default, and what is never stated is 1.
 ///
 /// It answers the first broken line: `Syntax` where it is of none of the forms, and else `UnknownCell`
@@ -84,19 +84,19 @@ fn put_line(
 ) -> Result<(), DelayFault>
     requires { length delays.old.cells ≡ length names.now.keys }
     ensures { let line : NumberedText = record { number = number; text = line.now } in MatchResult result
-        (λ _. (s : Statement) × (said_in line ≡ Some s) × (is_known names.now.keys s.thing ≡ true)
-        × (delays.new ≡ put_edges names.now.keys delays.old s.edges s.thing))
+        (λ _. (s : Statement) × (said_in line ≡ Some s) × (is_known names.now.keys s.subject ≡ true)
+        × (delays.new ≡ put_edges names.now.keys delays.old s.edges s.subject))
         (λ fault. (fault ≡ OutOfMemory) ⊎ (line_fault names.now.keys line ≡ Some fault)) }
 {
     let Some(statement) = said(line) else {
         return Err(DelayFault::Syntax(number));
     };
     let edges = statement.edges;
-    match statement.thing {
-        Thing::Default => delays.default = edges,
-        Thing::Source => delays.source = edges,
-        Thing::Sink => delays.sink = edges,
-        Thing::Cell(name) => {
+    match statement.subject {
+        Subject::Default => delays.default = edges,
+        Subject::Source => delays.source = edges,
+        Subject::Sink => delays.sink = edges,
+        Subject::Cell(name) => {
             let Some(place) = place_of(alloc, names, name.bytes())? else {
                 return Err(DelayFault::UnknownCell(number));
             };

@@ -2,7 +2,7 @@
 ghost use Rattle.std.specs.Prelude.{◌≡◌, IfSome, map, take};
 ghost use Rattle.ncl_delay.specs.Delays.{AreDelays};
 ghost use Rattle.ncl_blif.specs.Lines.{is_blank, words_of};
-ghost use Rattle.ncl_delay.specs.DelayText.{edges_text, thing_text, cell_text, stating, said};
+ghost use Rattle.ncl_delay.specs.DelayText.{edges_text, subject_text, cell_text, stating, said};
 
 use crate::delays::Edges;
 use crate::number::read_delay;
@@ -34,7 +34,7 @@ impl<'a> Written<'a> {
 
 /// What a line states the delays of.
 #[derive(Debug, Drop)]
-pub(crate) enum Thing<'a> {
+pub(crate) enum Subject<'a> {
     /// Each cell without a line.
     Default,
     /// The source.
@@ -45,15 +45,15 @@ pub(crate) enum Thing<'a> {
     Cell(Written<'a>),
 }
 
-/// What a line states: the delays of a thing.
+/// What a line states: the delays of a subject.
 #[derive(Debug, Drop)]
 pub(crate) struct Statement<'a> {
-    pub(crate) thing: Thing<'a>,
+    pub(crate) subject: Subject<'a>,
     pub(crate) edges: Edges,
 }
 
 /// The most words of a line that are told apart.
-const FEW: usize = 5;
+const MOST_WORDS: usize = 5;
 
 const DEFAULT: &[u8] = b"default";
 
@@ -71,30 +71,30 @@ pub(crate) fn said(line: &[u8]) -> Option<Statement<'_>>
     ensures range { IfSome result (λ statement. AreDelays statement.edges) }
 {
     match first_words(line).as_slice() {
-        [word, rise, fall] => stating(read_thing(word), read_edges(rise, fall)),
+        [word, rise, fall] => stating(read_subject(word), read_edges(rise, fall)),
         [word, name, rise, fall] => stating(read_cell(word, name), read_edges(rise, fall)),
         _ => None,
     }
 }
 
-/// The statement of these delays for this thing, where both are there.
-fn stating<'a>(thing: Option<Thing<'a>>, edges: Option<Edges>) -> Option<Statement<'a>>
+/// The statement of these delays for this subject, where both are there.
+fn stating<'a>(subject: Option<Subject<'a>>, edges: Option<Edges>) -> Option<Statement<'a>>
     requires { IfSome edges AreDelays }
-    ensures value { result ≡ stating thing.entry edges }
+    ensures value { result ≡ stating subject.entry edges }
     ensures range { IfSome result (λ statement. AreDelays statement.edges) }
 {
-    let thing = thing?;
+    let subject = subject?;
     let edges = edges?;
-    Some(Statement { thing, edges })
+    Some(Statement { subject, edges })
 }
 
 /// The first words of a line, five at most. Linear in the line.
-fn first_words(line: &[u8]) -> ArrayVec<&[u8], FEW>
-    ensures { map (λ word. word.now) result.items ≡ take FEW (words_of line.now) }
+fn first_words(line: &[u8]) -> ArrayVec<&[u8], MOST_WORDS>
+    ensures { map (λ word. word.now) result.items ≡ take MOST_WORDS (words_of line.now) }
 {
     let mut words = ArrayVec::new();
     for part in line.split(|byte| is_blank(*byte)) {
-        if !part.is_empty() && words.len() < FEW {
+        if !part.is_empty() && words.len() < MOST_WORDS {
             words.push(part);
         }
     }
@@ -108,28 +108,28 @@ fn is_blank(byte: u8) -> bool
     byte == b' ' || byte == b'\t'
 }
 
-/// The thing that a word stands for, or `None` where it stands for none.
-fn read_thing(word: &[u8]) -> Option<Thing<'static>>
-    ensures { result ≡ thing_text word.now }
+/// The subject that a word stands for, or `None` where it stands for none.
+fn read_subject(word: &[u8]) -> Option<Subject<'static>>
+    ensures { result ≡ subject_text word.now }
 {
     if word == DEFAULT {
-        return Some(Thing::Default);
+        return Some(Subject::Default);
     }
     if word == SOURCE {
-        return Some(Thing::Source);
+        return Some(Subject::Source);
     }
     if word == SINK {
-        return Some(Thing::Sink);
+        return Some(Subject::Sink);
     }
     None
 }
 
 /// The cell of a name, or `None` where the word before the name is not `cell`.
-fn read_cell<'a>(word: &[u8], name: &'a [u8]) -> Option<Thing<'a>>
+fn read_cell<'a>(word: &[u8], name: &'a [u8]) -> Option<Subject<'a>>
     ensures { result ≡ cell_text word.now name.now }
 {
     if word == CELL {
-        return Some(Thing::Cell(Written { bytes: name }));
+        return Some(Subject::Cell(Written { bytes: name }));
     }
     None
 }

@@ -25,7 +25,7 @@ loop-place-preserved-in-Continue-branch-3 c =
     let stated = sym (λ i. said_in (record { number = c.in-Some.place + 1; text = c.trimmed-line.ensures i })) ∙ said in
     subst (λ lines. AreStated names lines c.put_line.new.delays) (sym (told_of-tells c.loop-place.yielded part says))
     (stated-more names _ c.loop-place.delays _ (numbered (placed part)) s c.cells-cells.ensures.netlist.cell_names c.loop-place.invariant stated
-    (sym (ap (λ ks. is_known ks s.thing) keys) ∙ known) (put_it ∙ ap (λ ks. put_edges ks c.loop-place.delays s.edges s.thing) keys))
+    (sym (ap (λ ks. is_known ks s.subject) keys) ∙ known) (put_it ∙ ap (λ ks. put_edges ks c.loop-place.delays s.edges s.subject) keys))
 
 pub returns-in_err-put_line-clause-broken : goal.returns-in_err-put_line-clause-broken
 returns-in_err-put_line-clause-broken c =

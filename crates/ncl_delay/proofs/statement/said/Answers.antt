@@ -7,7 +7,7 @@ use Rattle.ncl_delay.proofs.statement.said.Goals as goal
 pub returns-in-len3-clause-value : goal.returns-in-len3-clause-value
 returns-in-len3-clause-value c =
     let first = ap (map (λ word. word.now)) c.as_slice.ensures.value ∙ c.first_words.ensures in
-    c.stating.ensures.value ∙ (λ i. stating (c.read_thing.ensures i) (c.read_edges.ensures.value i))
+    c.stating.ensures.value ∙ (λ i. stating (c.read_subject.ensures i) (c.read_edges.ensures.value i))
     ∙ sym (said-three (words_of c.args.line.now) c.as_slice.result.now _ first c.in-len3.len_at_least c.in-len3.len_below)
 
 pub returns-in-len4-clause-value : goal.returns-in-len4-clause-value

@@ -4,7 +4,7 @@
 
 mod whole_way;
 
-use ncl_commands::carry_out;
+use ncl_script::carry_out;
 use std::fs;
 use whole_way::go_all_the_way;
 

@@ -23,7 +23,7 @@ mod space_tests;
 #[cfg(test)]
 mod vector_tests;
 
-use ncl_commands::carry_out;
+use ncl_script::carry_out;
 use std::fs;
 
 fn main(rt: HostRuntime) -> anyhow::Result<()> {

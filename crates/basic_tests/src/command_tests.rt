@@ -1,6 +1,6 @@
 //! Words and the commands that they give.
 
-use ncl_words::*;
+use ncl_command::*;
 use std::alloc::Global;
 use std::test::*;
 

@@ -5,7 +5,7 @@ use Rattle.ncl_check.specs.declared.reply.Outcome.{Outcome}
 use Rattle.ncl_check.specs.declared.reply.Outcome.TheVariants.{Accepted, Refused, NoPipeline, Unjudged}
 use Rattle.ncl_check.specs.Headline.{IsDelayInsensitiveText}
 use Rattle.ncl_check.proofs.Accepted.{text_works}
-use Rattle.ncl_words.specs.Command.{Words, Command, check, compile, sim, matching, demo, command_of}
+use Rattle.ncl_command.specs.Command.{Words, Command, check, compile, sim, matching, demo, command_of}
 use Rattle.ncl_top.specs.Answer.{status_of, IsFileReply, Answer, not_understood, replied, SourceState, SinkState, Says, answered, read_failed, no_memory, CameOut, whole, cut_short, Ran, AcceptsWhatWorks}
 
 -- only an acceptance has status 0

@@ -13,7 +13,7 @@ use Rattle.ncl_machine.proofs.Headline.{delay_insensitive}
 use Rattle.ncl_check.specs.Reply.{outcome_of}
 use Rattle.ncl_check.proofs.OneReply.{outcome_is}
 use Rattle.ncl_compile.specs.Compiled.{Compiled}
-use Rattle.ncl_words.specs.Command.{Words, Command, check, compile, sim, matching, demo, command_of}
+use Rattle.ncl_command.specs.Command.{Words, Command, check, compile, sim, matching, demo, command_of}
 use Rattle.ncl_top.specs.Compiling.{IsCompiledText, plain, merged, IsModelsReply, too_large, compiled, IsCompileReply, no_models, modelled}
 use Rattle.ncl_top.specs.Answer.{Answer, not_understood, replied, WorksAndIsAccepted, IsMergedText, SourceState, SinkState, Says, answered, read_failed, no_memory, CameOut, whole, cut_short, Ran, CompilesWhatWorks}
 use Rattle.ncl_top.proofs.PlainNames.{writable}

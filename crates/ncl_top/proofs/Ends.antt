@@ -1,7 +1,7 @@
 -- What follows from how a call ended.
 use Rattle.std.proofs.Common.{◌≡◌, ℕ, List, Some, inl, inr, refl, subst}
 use Rattle.ncl_base.specs.Files.{Grew}
-use Rattle.ncl_words.specs.Command.{Words}
+use Rattle.ncl_command.specs.Command.{Words}
 use Rattle.ncl_top.specs.Answer.{Answer, SourceState, SinkState, Says, answered, read_failed, no_memory, CameOut, whole, cut_short, Ran, AnswersUnlessFaults, AnswersExactly}
 use Rattle.ncl_top.proofs.Sameness.{same_status, same_text}
 

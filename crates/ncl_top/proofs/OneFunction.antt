@@ -14,7 +14,7 @@ use Rattle.ncl_match.specs.Answer.{IsAnswer, DiffersAt, HaveWidths, bit_of, outp
 use Rattle.ncl_match.specs.Runs.{Agree}
 use Rattle.ncl_match.specs.declared.answer.Compared.TheVariants.{Same}
 use Rattle.ncl_check.specs.Text.{IsPipelineText}
-use Rattle.ncl_words.specs.Command.{Words, Command, check, compile, sim, matching, demo, command_of}
+use Rattle.ncl_command.specs.Command.{Words, Command, check, compile, sim, matching, demo, command_of}
 use Rattle.ncl_top.specs.Matching.{IsMatched, widths, full, differs, same, IsModelsMatched, no_models, compared, IsMatchReply, no_pipeline, piped}
 use Rattle.ncl_top.specs.Answer.{Answer, not_understood, replied, SourceState, SinkState, Says, answered, read_failed, no_memory, CameOut, whole, cut_short, Ran, HaveOneFunction, MatchesWhatIsSame}
 

@@ -8,7 +8,7 @@ use Rattle.ncl_sim.specs.declared.trace.End.TheVariants.{Quiet}
 use Rattle.ncl_sim.specs.TimedRun.{TraceData, DeliversAll, words_due}
 use Rattle.ncl_sim.proofs.Existence.{some_run}
 use Rattle.ncl_sim.proofs.Quiet.{sound-ends_quiet, sound-delivers}
-use Rattle.ncl_words.specs.Command.{Words, sim, command_of}
+use Rattle.ncl_command.specs.Command.{Words, sim, command_of}
 use Rattle.ncl_top.specs.Simulating.{end_status, run_status, run_text, IsRunReply, ran, delayed, piped}
 use Rattle.ncl_top.specs.Answer.{Answer, replied, words_determine_text, words_determine_status, SourceState, SinkState, Ran, AnswersExactly, SimulatesWhatWorks}
 use Rattle.ncl_top.proofs.Ends.{answers_exactly}

@@ -4,7 +4,7 @@ use Rattle.std.proofs.lemmas.Bool.{both_ways}
 use Rattle.ncl_base.specs.Files.{Files}
 use Rattle.ncl_check.specs.Reply.{IsCheckReply}
 use Rattle.ncl_check.proofs.OneReply.{same_reply}
-use Rattle.ncl_words.specs.Command.{Words, Command, check, compile, sim, matching, demo, command_of}
+use Rattle.ncl_command.specs.Command.{Words, Command, check, compile, sim, matching, demo, command_of}
 use Rattle.ncl_top.specs.Compiling.{IsCompileReply}
 use Rattle.ncl_top.proofs.CompileStatus.{same_compile_status}
 use Rattle.ncl_top.proofs.Matched.{one_match_reply}

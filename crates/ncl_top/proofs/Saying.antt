@@ -1,6 +1,6 @@
 -- How a call comes to say a text.
 use Rattle.std.proofs.Common.{◌≡◌, Some}
-use Rattle.ncl_words.specs.Command.{Words, Command, command_of}
+use Rattle.ncl_command.specs.Command.{Words, Command, command_of}
 use Rattle.ncl_top.specs.Answer.{replied, SourceState, Says, answered}
 use Rattle.ncl_top.specs.Replies.{Gives, AnswersCommand}
 use Rattle.ncl_top.specs.declared.reply.Reply.{Reply}

@@ -8,7 +8,7 @@ use Rattle.ncl_shape.specs.Pipeline.{PipelineData}
 use Rattle.ncl_delay.specs.Delays.{DelaysData}
 use Rattle.ncl_sim.specs.declared.trace.End.{End}
 use Rattle.ncl_sim.specs.declared.trace.End.TheVariants.{Quiet, Hazard, Over}
-use Rattle.ncl_words.specs.Command.{Words, Command, check, compile, sim, matching, demo}
+use Rattle.ncl_command.specs.Command.{Words, Command, check, compile, sim, matching, demo}
 use Rattle.ncl_top.specs.Compiling.{IsModelsReply, IsCompileReply, too_large, compiled, no_models, modelled}
 use Rattle.ncl_top.specs.Demonstrating.{IsDemoReply}
 use Rattle.ncl_top.specs.Demonstrating as demonstrating

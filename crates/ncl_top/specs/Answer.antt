@@ -22,7 +22,7 @@ use Rattle.ncl_compile.specs.Compiled.{Compiled}
 use Rattle.ncl_merge.specs.Merged.{Merged}
 use Rattle.ncl_match.specs.Circuit.{circuit_of}
 use Rattle.ncl_match.specs.Answer.{HaveWidths}
-use Rattle.ncl_words.specs.Command.{Words, Command, check, compile, sim, matching, demo, command_of, files_named}
+use Rattle.ncl_command.specs.Command.{Words, Command, check, compile, sim, matching, demo, command_of, files_named}
 use Rattle.ncl_top.specs.Compiling.{AreModelsText, IsCompileReply}
 use Rattle.ncl_top.specs.Demonstrating.{IsDemoReply}
 use Rattle.ncl_top.specs.Given.{IsGiven}

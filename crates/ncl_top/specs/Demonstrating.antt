@@ -15,7 +15,7 @@ use Rattle.ncl_sim.specs.declared.trace.End.TheVariants.{Quiet}
 use Rattle.ncl_sim.specs.TimedRun.{TraceData, IsTimedRun}
 use Rattle.ncl_report.specs.DemoText.{demo_lines}
 use Rattle.ncl_check.specs.Reply.{verdict_on, verdict_text}
-use Rattle.ncl_words.specs.declared.command.TheConstants.{MOST_NODES}
+use Rattle.ncl_command.specs.declared.command.TheConstants.{MOST_NODES}
 
 -- every item takes the time 1
 abbrev pub IsUnit : DelaysData → Type 0

@@ -3,7 +3,7 @@ use Rattle.std.specs.Prelude.{◌≡◌, ℕ, List, Option}
 use Rattle.ncl_base.specs.Files.{Files}
 use Rattle.ncl_check.specs.declared.text.Refusal.{Refusal}
 use Rattle.ncl_check.specs.declared.text.Refusal.TheVariants.{Told, Memory}
-use Rattle.ncl_words.specs.Command.{Command}
+use Rattle.ncl_command.specs.Command.{Command}
 use Rattle.ncl_top.specs.Answer.{IsReply}
 use Rattle.ncl_top.specs.declared.reply.Reply.{Reply}
 use Rattle.ncl_top.specs.declared.reply.Reply.TheVariants.{Made, Fixed}

@@ -2,7 +2,7 @@
 ghost use Rattle.std.specs.Prelude.{◌≡◌, ◌≤◌, ◌++◌, ℕ, IfOk, IsErrOf};
 ghost use Rattle.ncl_verdict.specs.declared.verdict.Verdict.TheVariants.{Accepted as IsAccepted, Limit as PassesLimit};
 ghost use Rattle.ncl_check.specs.Reply.{verdict_on};
-ghost use Rattle.ncl_words.specs.declared.command.TheConstants.{MOST_NODES as LIMIT};
+ghost use Rattle.ncl_command.specs.declared.command.TheConstants.{MOST_NODES as LIMIT};
 ghost use Rattle.ncl_top.specs.Replies.{Gives};
 ghost use Rattle.ncl_top.specs.Demonstrating.{IsDemoNetlist, IsDemoPipeline, IsDemoReply};
 
@@ -18,7 +18,7 @@ use ncl_report::{demo_text, verdict_text};
 use ncl_shape::{Pipeline, ShapeFault, shape};
 use ncl_sim::simulate;
 use ncl_verdict::{Judge, Verdict, judge_par};
-use ncl_words::MOST_NODES;
+use ncl_command::MOST_NODES;
 use ncl_writer::write_netlist;
 use std::alloc::Global;
 use std::thread::Threads;

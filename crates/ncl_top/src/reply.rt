@@ -1,8 +1,8 @@
 //! What a call has to say.
 ghost use Rattle.std.specs.Prelude.{◌≡◌, ◌≤◌, ◌≢◌, [], IfOk, IsTrue, IsErrOf};
 ghost use Rattle.ncl_base.specs.Files.{Rose};
-ghost use Rattle.ncl_words.specs.Command.{AllowsFiles, HasBits, HasLimit, files_named, check as check_command, compile as compile_command};
-ghost use Rattle.ncl_words.specs.Meaning.{command_meant};
+ghost use Rattle.ncl_command.specs.Command.{AllowsFiles, HasBits, HasLimit, files_named, check as check_command, compile as compile_command};
+ghost use Rattle.ncl_command.specs.Meaning.{command_meant};
 ghost use Rattle.ncl_top.specs.Answer.{status_of};
 ghost use Rattle.ncl_top.specs.Replies.{AnswersCommand, Gives, TellsRefusal};
 
@@ -15,7 +15,7 @@ use crate::simulating::sim_files;
 use ncl_base::{Memory, Source};
 use ncl_check::{Outcome, Refusal, check};
 use ncl_verdict::Judge;
-use ncl_words::Command;
+use ncl_command::Command;
 use std::alloc::Global;
 use std::thread::Threads;
 

@@ -1,14 +1,14 @@
 //! The top call: all that the program does, between a source of files and a sink of bytes.
 ghost use Rattle.std.specs.Prelude.{◌≡◌, ◌≤◌, map};
 ghost use Rattle.ncl_base.specs.Files.{Rose};
-ghost use Rattle.ncl_words.specs.Command.{AllowsNamed};
+ghost use Rattle.ncl_command.specs.Command.{AllowsNamed};
 ghost use Rattle.ncl_top.specs.Answer.{Says, CameOut, Ran, AnswersUnlessFaults, AnswersExactly, AcceptsWhatWorks, CompilesWhatWorks, SimulatesWhatWorks, MatchesWhatIsSame};
 ghost use Rattle.ncl_top.specs.Replies.{Gives};
 
 use crate::reply::{Fault, Reply, carry_out};
 use ncl_base::{Sink, Source, deliver};
 use ncl_verdict::{Judge, Stages};
-use ncl_words::Command;
+use ncl_command::Command;
 use std::alloc::Global;
 use std::thread::Threads;
 

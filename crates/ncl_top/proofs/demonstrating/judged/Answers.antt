@@ -1,5 +1,5 @@
 use Rattle.std.proofs.Common.{inl, inr, ◌∙◌}
-use Rattle.ncl_words.specs.declared.command.TheConstants.{MOST_NODES}
+use Rattle.ncl_command.specs.declared.command.TheConstants.{MOST_NODES}
 use Rattle.ncl_top.proofs.Demonstrated.{demo_verdict}
 use Rattle.ncl_top.proofs.demonstrating.judged.Goals as goal
 

@@ -2,7 +2,7 @@ use Rattle.std.proofs.Common.{◌*◌, length, sym, ◌∙◌, ap, subst}
 use Rattle.ncl_machine.specs.Run.{AreWordsOf}
 use Rattle.ncl_sim.specs.TimedRun.{IsTimedRun, DeliversAll}
 use Rattle.ncl_verdict.proofs.Sound.{judgement-sound}
-use Rattle.ncl_words.specs.declared.command.TheConstants.{MOST_NODES as LIMIT}
+use Rattle.ncl_command.specs.declared.command.TheConstants.{MOST_NODES as LIMIT}
 use Rattle.ncl_report.specs.DemoText.{demo_lines}
 use Rattle.ncl_top.specs.Demonstrating.{IsDemoReply, shown}
 use Rattle.ncl_report.proofs.NamedItems.{names_item}

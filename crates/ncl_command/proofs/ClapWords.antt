@@ -1,0 +1,105 @@
+-- What `clap` sees in a word, by the kind of the word.
+use Rattle.std.proofs.Common.{◌≡◌, ◌∙◌, ◌+◌, Bool, true, false, List, [], ◌∷◌, Option, Some, None, refl, sym, ap, ap₂, subst, length, not, ◌==◌, if◌then◌else◌, cond, eqb-true, ◌||◌, true≢false, arith}
+use Rattle.std.specs.List.{list_any, position_or_len, before_first, after_first}
+use Rattle.std.specs.Str.{bytes_eq}
+use Rattle.std.proofs.lemmas.Bool.{eqb-false}
+use Rattle.std.proofs.Math.Seq.{take-length}
+use Rattle.std.specs.Prelude.{take}
+use Rattle.clap.specs.Lexer.{long_of, short_of}
+use Rattle.ncl_command.specs.Reading.{Text, WordKind, Refused, Plain, Named, Valued, kind_of, dashed_kind, option_kind, valued, is_equals}
+
+abbrev pub dashes : Text
+dashes = 45 ∷ 45 ∷ []
+
+-- a word that is no flag
+pub record IsPlain (word : Text) : Type 0 where
+  pub long : long_of word ≡ None
+  pub short : short_of word ≡ None
+  pub no_dashes : bytes_eq word dashes ≡ false
+
+-- a word `--NAME` or `--NAME=VALUE`
+pub record IsLong (word name : Text) (value : Option Text) : Type 0 where
+  pub long : long_of word ≡ Some (name, value)
+  pub no_dashes : bytes_eq word dashes ≡ false
+
+abbrev pub IsSeen : Text → WordKind → Type 0
+IsSeen word Refused = Unit {0}
+IsSeen word Plain = IsPlain word
+IsSeen word (Named name) = IsLong word name None
+IsSeen word (Valued name value) = IsLong word name (Some value)
+
+-- where no element passes, the first that does stands at the end
+position_past : {X : Type 0} (p : X → Bool) (xs : List X) → list_any p xs ≡ false → position_or_len p xs ≡ length xs
+position_past p [] none = refl
+position_past p (x ∷ xs) none = by (p x) refl (λ e. position_past p xs e)
+  where
+    by : (b : Bool) → p x ≡ b → (list_any p xs ≡ false → position_or_len p xs ≡ length xs) → position_or_len p (x ∷ xs) ≡ length (x ∷ xs)
+    by true e rest = absurd (true≢false (sym (ap (λ b. b || list_any p xs) e) ∙ none))
+    by false e rest =
+        let past = rest (sym (ap (λ b. b || list_any p xs) e) ∙ none) in
+        let one : position_or_len p (x ∷ xs) ≡ 1 + position_or_len p xs = ap (λ b. cond (not b) (1 + position_or_len p xs) 0) e in
+        omega arith
+
+-- where the first element that passes stands at the end, none does
+none_before : {X : Type 0} (p : X → Bool) (xs : List X) → position_or_len p xs ≡ length xs → list_any p xs ≡ false
+none_before p [] past = refl
+none_before p (x ∷ xs) past = by (p x) refl (λ e. none_before p xs e)
+  where
+    by : (b : Bool) → p x ≡ b → (position_or_len p xs ≡ length xs → list_any p xs ≡ false) → list_any p (x ∷ xs) ≡ false
+    by true e rest =
+        let first : position_or_len p (x ∷ xs) ≡ 0 = ap (λ b. cond (not b) (1 + position_or_len p xs) 0) e in
+        absurd (omega arith)
+    by false e rest =
+        let one : position_or_len p (x ∷ xs) ≡ 1 + position_or_len p xs = ap (λ b. cond (not b) (1 + position_or_len p xs) 0) e in
+        let none = rest (omega arith) in
+        rw e none
+
+-- a text without `=` is a name, and else it is cut at the first
+option_seen : (text : Text) → IsSeen (45 ∷ 45 ∷ text) (option_kind text)
+option_seen [] = tt
+option_seen (byte ∷ rest) = by (position_or_len is_equals text == length text) refl
+  where
+    text : Text
+    text = byte ∷ rest
+
+    value_seen : (value : Text) → after_first is_equals text ≡ value → list_any is_equals text ≡ true
+        → IsSeen (45 ∷ 45 ∷ text) (valued (before_first is_equals text) value)
+    value_seen [] e some = tt
+    value_seen (first ∷ value) e some = record {
+      long = ap₂ (λ b v. Some (before_first is_equals text, (if b then Some v else None))) some e;
+      no_dashes = refl;
+    }
+
+    by : (b : Bool) → (position_or_len is_equals text == length text) ≡ b
+        → IsSeen (45 ∷ 45 ∷ text) (if b then Named text else valued (before_first is_equals text) (after_first is_equals text))
+    by true e =
+        let past = eqb-true (position_or_len is_equals text) (length text) e in
+        let whole : before_first is_equals text ≡ text = ap (λ n. take n text) past ∙ take-length text in
+        record {
+          long = ap₂ (λ b name. Some (name, (if b then Some (after_first is_equals text) else None))) (none_before is_equals text past) whole;
+          no_dashes = refl;
+        }
+    by false e = value_seen (after_first is_equals text) refl (some (list_any is_equals text) refl)
+      where
+        some : (b : Bool) → list_any is_equals text ≡ b → list_any is_equals text ≡ true
+        some true found = found
+        some false none =
+            absurd (eqb-false (position_or_len is_equals text) (length text) e (position_past is_equals text none))
+
+-- what follows one dash
+dashed_seen : (text : Text) → IsSeen (45 ∷ text) (dashed_kind text)
+dashed_seen [] = tt
+dashed_seen (byte ∷ rest) = by (byte == 45) refl
+  where
+    by : (b : Bool) → (byte == 45) ≡ b → IsSeen (45 ∷ byte ∷ rest) (if b then option_kind rest else Refused)
+    by true e = subst (λ first. IsSeen (45 ∷ first ∷ rest) (option_kind rest)) (sym (eqb-true byte 45 e)) (option_seen rest)
+    by false e = tt
+
+-- every word is seen as its kind says
+pub seen : (word : Text) → IsSeen word (kind_of word)
+seen [] = tt
+seen (byte ∷ rest) = by (byte == 45) refl
+  where
+    by : (b : Bool) → (byte == 45) ≡ b → IsSeen (byte ∷ rest) (if b then dashed_kind rest else Plain)
+    by true e = subst (λ first. IsSeen (first ∷ rest) (dashed_kind rest)) (sym (eqb-true byte 45 e)) (dashed_seen rest)
+    by false e = record { long = rw e refl; short = rw e refl; no_dashes = rw e refl }

@@ -1,0 +1,49 @@
+-- The values that `clap` finds of a form's names.
+use Rattle.std.proofs.Math.Path.{fun_ext}
+use Rattle.std.proofs.Common.{◌≡◌, ◌∙◌, false, List, [], ◌∷◌, Option, Some, None, refl, ap, subst, inl, inr}
+use Rattle.std.specs.Prelude.{option_map}
+use Rattle.std.specs.List.{list_any}
+use Rattle.clap.specs.Faults.{fault_of}
+use Rattle.clap.specs.Kinds.{HasKind, IsAmong, Kinds}
+use Rattle.clap.specs.Values.{kind_of}
+use Rattle.clap.specs.declared.error.Error.{Error}
+use Rattle.clap.specs.declared.error.kind.ErrorKind.TheVariants.{OutOfMemory}
+use Rattle.clap.specs.Matches.{found_of}
+use Rattle.clap.specs.Simple.{matches_of}
+use Rattle.clap.specs.Walk.{first_of, rows_of}
+use Rattle.clap.specs.declared.error.kind.ErrorKind.{ErrorKind}
+use Rattle.clap.specs.declared.parser.matches.ArgMatches.{ArgMatches}
+use Rattle.clap.proofs.WalkLemmas.{first_value-rows}
+use Rattle.ncl_command.specs.Meaning.{values_found}
+use Rattle.ncl_command.specs.Reading.{Words, Form, NamedValue, has_option, is_refused, read_words, value_given, values_of}
+use Rattle.ncl_command.specs.Rules.{app_for}
+use Rattle.ncl_command.proofs.FormRules.{AreFew}
+use Rattle.ncl_command.proofs.ClapEnds.{value_is}
+use Rattle.ncl_command.proofs.FormReads.{Fails, Reads, form_reads}
+
+fails_among : (kind : ErrorKind) (kinds : Kinds) → IsAmong kind kinds → Fails kinds
+fails_among kind [] among = among
+fails_among kind (other ∷ kinds) among = tt
+
+-- an error that isn't want of memory comes from a fault
+pub fails_by : (kinds : Kinds) (error : Error) → HasKind kinds error → (kind_of error ≡ OutOfMemory → ⊥) → Fails kinds
+fails_by kinds error (inl memory) other = absurd (other memory)
+fails_by kinds error (inr among) other = fails_among (kind_of error) kinds among
+
+module _ (form : Form) (alone : list_any (has_option form) form.places ≡ false) (few : AreFew form) (words : Words) (readable : list_any is_refused words ≡ false) where
+  -- where nothing fails, each name has the value that the words give it
+  pub found : (m : ArgMatches) → fault_of (app_for form) words ≡ [] → rows_of (found_of m) ≡ matches_of (app_for form) words → Some (values_found m) ≡ values_of form words
+  found m passes found_rows = by (read_words form words) (form_reads form alone few words readable)
+    where
+      by : (o : Option (List NamedValue)) → Reads form o (fault_of (app_for form) words) (matches_of (app_for form) words) → Some (values_found m) ≡ option_map (value_given form) o
+      by None fails = absurd (subst Fails passes fails)
+      by (Some given) reads =
+          ap Some (fun_ext (λ name. first_value-rows (found_of m) name ∙ ap (first_of name) (found_rows ∙ reads.1) ∙ value_is form given name))
+
+  -- where something fails, the words are not of the form
+  pub not_found : Fails (fault_of (app_for form) words) → None ≡ values_of form words
+  not_found fails = by (read_words form words) (form_reads form alone few words readable)
+    where
+      by : (o : Option (List NamedValue)) → Reads form o (fault_of (app_for form) words) (matches_of (app_for form) words) → None ≡ option_map (value_given form) o
+      by None failed = refl
+      by (Some given) reads = absurd (subst Fails reads.0 fails)

@@ -1,0 +1,159 @@
+//! The words after a command's name, read by `clap`.
+ghost use Rattle.std.specs.Prelude.{◌≡◌, ◌≤◌, map, length, true, false, IfOk, option_map};
+ghost use Rattle.std.specs.List.{list_any};
+ghost use Rattle.clap.specs.Simple.{app_of};
+ghost use Rattle.clap.specs.Walk.{rule_of};
+ghost use Rattle.ncl_command.specs.Reading.{is_apart, is_refused, is_refused_kind, option_kind, values_of};
+ghost use Rattle.ncl_command.specs.Command.{flag, needed, optional};
+ghost use Rattle.ncl_command.specs.Rules.{app_for, option_rule, place_rule};
+ghost use Rattle.ncl_command.specs.Meaning.{form_meant, option_meant, values_found};
+
+use clap::error::ErrorKind;
+use clap::{Arg, ArgAction, ArgMatches, Command};
+use ncl_base::Memory;
+use std::alloc::{AllocError, Global};
+
+/// An option of a form.
+#[derive(Clone, Copy, Debug)]
+pub struct FormOption<'a> {
+    pub name: &'a str,
+    pub is_needed: bool,
+    /// It takes no value, and says only whether it was given.
+    pub is_flag: bool,
+}
+
+impl<'a> FormOption<'a> {
+    /// An option that may be given.
+    pub fn optional(name: &'a str) -> FormOption<'a>
+        ensures { option_meant result ≡ optional name.now }
+    {
+        FormOption {
+            name,
+            is_needed: false,
+            is_flag: false,
+        }
+    }
+
+    /// An option that must be given.
+    pub fn needed(name: &'a str) -> FormOption<'a>
+        ensures { option_meant result ≡ needed name.now }
+    {
+        FormOption {
+            name,
+            is_needed: true,
+            is_flag: false,
+        }
+    }
+
+    /// An option that takes no value.
+    pub fn flag(name: &'a str) -> FormOption<'a>
+        ensures { option_meant result ≡ flag name.now }
+    {
+        FormOption {
+            name,
+            is_needed: false,
+            is_flag: true,
+        }
+    }
+}
+
+/// Whether no form has a word that has this after two dashes.
+fn is_refused_option(text: &str) -> bool
+    ensures { result ≡ is_refused_kind (option_kind text.now) }
+{
+    match text.split_once('=') {
+        Some((_, value)) => value.is_empty(),
+        None => text.is_empty(),
+    }
+}
+
+/// Whether no form has this word: it is empty, or `--`, or has a dash before something else, or is `--NAME=`.
+/// Linear in its bytes.
+fn is_refused(word: &str) -> bool
+    ensures { result ≡ is_refused word.now }
+{
+    let Some(dashed) = word.strip_prefix('-') else {
+        return word.is_empty();
+    };
+    match dashed.strip_prefix('-') {
+        Some(option) => is_refused_option(option),
+        None => true,
+    }
+}
+
+/// Whether no form has one of these words. Linear in their bytes.
+fn any_is_refused(words: &[&str]) -> bool
+    ensures { result ≡ list_any (λ word. is_refused word.now) words.now }
+{
+    words.iter().any(|word| is_refused(word))
+}
+
+/// The argument of `clap` for an option.
+fn option_arg(alloc: Global, option: FormOption<'_>) -> Arg<'_>
+    ensures rule { rule_of result ≡ option_rule (option_meant option.entry) }
+    ensures local { result.global ≡ false }
+{
+    let arg = Arg::new(alloc, option.name)
+        .long(option.name)
+        .required(option.is_needed);
+    if option.is_flag {
+        arg.action(ArgAction::SetTrue)
+    } else {
+        arg
+    }
+}
+
+/// The argument of `clap` for a word that is no option.
+fn place_arg(alloc: Global, place: &str) -> Arg<'_>
+    ensures rule { rule_of result ≡ place_rule place.now }
+    ensures local { result.global ≡ false }
+{
+    Arg::new(alloc, place).required(true)
+}
+
+/// The command of `clap` for a form: words that are no options, in this order, and these options. One call of `clap` for
+/// each.
+fn form_command<'a>(
+    alloc: Global,
+    places: &[&'a str],
+    options: &[FormOption<'a>],
+) -> Result<Command<'a>, AllocError>
+    ensures { IfOk result (λ command. app_of command ≡ app_for (form_meant places.now options.now)) }
+{
+    let mut command = Command::new(alloc, "form")
+        .no_binary_name(true)
+        .disable_help_flag(true);
+    for place in places {
+        command = command.arg(place_arg(alloc, place))?;
+    }
+    for option in options {
+        command = command.arg(option_arg(alloc, *option))?;
+    }
+    Ok(command)
+}
+
+/// The values of the form's names in the words, or `None` where they aren't of the form. The only error is want of
+/// memory.
+pub fn form_values<'a>(
+    alloc: Global,
+    places: &[&'a str],
+    options: &[FormOption<'a>],
+    words: &'a [&'a str],
+) -> Result<Option<ArgMatches<'a>>, Memory>
+    requires apart { is_apart (form_meant places.now options.now) ≡ true }
+    requires few { length places.now ≤ 65535 }
+    ensures { IfOk result (λ found. option_map values_found found
+        ≡ values_of (form_meant places.now options.now) (map (λ word. word.now) words.now)) }
+{
+    if any_is_refused(words) {
+        return Ok(None);
+    }
+    let command = form_command(alloc, places, options)?;
+    match command.try_get_matches_from(words) {
+        Ok(matches) => Ok(Some(matches)),
+        Err(error) => match error.kind() {
+            ErrorKind::OutOfMemory => Err(Memory),
+            _ => Ok(None),
+        },
+    }
+}

@@ -7,7 +7,7 @@ use ncl_base::{Name, Word};
 use ncl_blif::BlifFault;
 use ncl_netlist::{BuildFault, CellId, NetId, Netlist};
 use ncl_network::CompileFault;
-use ncl_origin::ShapeFault;
+use ncl_cell_rules::ShapeFault;
 use ncl_reader::{NetFault, read_netlist};
 use ncl_report::*;
 use ncl_shape::shape;

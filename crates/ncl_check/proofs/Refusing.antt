@@ -5,8 +5,8 @@ use Rattle.ncl_netlist.specs.Netlist.{NetlistData, IsNetlist}
 use Rattle.ncl_reader.specs.declared.net_fault.NetFault.{NetFault}
 use Rattle.ncl_reader.specs.declared.net_fault.NetFault.TheVariants as net
 use Rattle.ncl_reader.specs.Reads.{IsNetFault}
-use Rattle.ncl_origin.specs.declared.fault.ShapeFault.{ShapeFault}
-use Rattle.ncl_origin.specs.declared.fault.ShapeFault.TheVariants.{UnusedPort, Cycle, Unpaired, Mixed, Loose, NoChain, TooWide, TooLong, Memory}
+use Rattle.ncl_cell_rules.specs.declared.fault.ShapeFault.{ShapeFault}
+use Rattle.ncl_cell_rules.specs.declared.fault.ShapeFault.TheVariants.{UnusedPort, Cycle, Unpaired, Mixed, Loose, NoChain, TooWide, TooLong, Memory}
 use Rattle.ncl_shape.specs.Shape.{IsShapeFault}
 use Rattle.ncl_report.specs.NetText.{net_line}
 use Rattle.ncl_report.specs.ShapeText.{shape_line}

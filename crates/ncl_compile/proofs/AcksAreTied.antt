@@ -7,8 +7,8 @@ use Rattle.ncl_base.proofs.Members.{Member, Member-append_left, Member-append_ri
 use Rattle.ncl_netlist.specs.declared.cell.Cell.{Cell}
 use Rattle.ncl_netlist.specs.declared.ids.NetId.{NetId}
 use Rattle.ncl_netlist.specs.Netlist.{NetlistData}
-use Rattle.ncl_origin.specs.Origin.{CellAt, IsOutputPort, RailOf, AckOf}
-use Rattle.ncl_origin.specs.Rules.{IsRequest, IsReadByGate, IsTied}
+use Rattle.ncl_cell_rules.specs.Origin.{CellAt, IsOutputPort, RailOf, AckOf}
+use Rattle.ncl_cell_rules.specs.Rules.{IsRequest, IsReadByGate, IsTied}
 use Rattle.ncl_shape.specs.Stage.{out_of}
 use Rattle.ncl_shape.specs.Pipeline.{PipelineData}
 use Rattle.ncl_compile.specs.Assembled.{WiredBit, WiredBank, HasGate, ack_nets, IsAssembled}

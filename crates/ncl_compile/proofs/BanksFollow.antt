@@ -4,7 +4,7 @@ use Rattle.std.specs.Prelude.{Contains, slice_get}
 use Rattle.std.proofs.lemmas.List.{length-map}
 use Rattle.ncl_base.proofs.Members.{Member, Contains-from_slice_get}
 use Rattle.ncl_netlist.specs.Netlist.{NetlistData}
-use Rattle.ncl_origin.specs.Origin.{A, IsInputPort, FromPort, RailOf, AckOf, port, HasOnlyOrigin}
+use Rattle.ncl_cell_rules.specs.Origin.{A, IsInputPort, FromPort, RailOf, AckOf, port, HasOnlyOrigin}
 use Rattle.ncl_shape.specs.declared.bank.Bank.{Bank}
 use Rattle.ncl_shape.specs.Stage.{rail_nets}
 use Rattle.ncl_shape.specs.Chain.{IsInputOf, IsFirstBank, IsLastBank, Follows, IsPath, end, next, IsChain, HasRegister, HasEnds, IsUnforked, IsAcknowledged}

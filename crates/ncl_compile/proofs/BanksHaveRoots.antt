@@ -6,9 +6,9 @@ use Rattle.ncl_base.proofs.Members.{Member, slice_get-from_Contains}
 use Rattle.ncl_netlist.specs.declared.cell.Cell.{Cell}
 use Rattle.ncl_netlist.specs.declared.ids.NetId.{NetId}
 use Rattle.ncl_netlist.specs.Netlist.{NetlistData}
-use Rattle.ncl_origin.specs.Origin.{IsCell, IsGate, IsOutputPort, FromPort, RailOf, AckOf, ComesFrom}
-use Rattle.ncl_origin.specs.Rules.{IsRequest}
-use Rattle.ncl_origin.proofs.OriginLaws.{place_of, port_origin}
+use Rattle.ncl_cell_rules.specs.Origin.{IsCell, IsGate, IsOutputPort, FromPort, RailOf, AckOf, ComesFrom}
+use Rattle.ncl_cell_rules.specs.Rules.{IsRequest}
+use Rattle.ncl_cell_rules.proofs.OriginLaws.{place_of, port_origin}
 use Rattle.ncl_shape.specs.Stage.{rail_nets}
 use Rattle.ncl_shape.specs.Chain.{HasOne, IsRoot, HasRoots, IsShown, IsClosed, IsHead, IsEnd}
 use Rattle.ncl_shape.specs.Pipeline.{PipelineData}

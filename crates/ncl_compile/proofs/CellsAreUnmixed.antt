@@ -3,16 +3,16 @@ use Rattle.std.proofs.Common.{◌≡◌, ℕ, zero, suc, true, false, map, inl, 
 use Rattle.std.proofs.lemmas.Bool.{both_ways, false_from_ne_true}
 use Rattle.ncl_gates.specs.Cell.{is_data_register}
 use Rattle.ncl_gates.proofs.RegisterLaws.{data_is_register}
-use Rattle.ncl_origin.proofs.OriginLaws.{place_of}
+use Rattle.ncl_cell_rules.proofs.OriginLaws.{place_of}
 use Rattle.ncl_base.proofs.Members.{Member, Member-append_right, Member-map}
 use Rattle.ncl_gates.specs.declared.kind.Kind.{Kind}
 use Rattle.ncl_gates.specs.declared.cell_kind.CellKind.TheVariants.{Gate}
 use Rattle.ncl_netlist.specs.declared.cell.Cell.{Cell}
 use Rattle.ncl_netlist.specs.declared.ids.NetId.{NetId}
 use Rattle.ncl_netlist.specs.Netlist.{NetlistData}
-use Rattle.ncl_origin.specs.Origin.{CellAt, IsCell, IsRegister, B, RST, IsInputPort, IsOfBank, IsDataBank, Origin, FromPort, RailOf, AckOf, ComesFrom, HasOnlyOrigin, HaveSameOrigins, IsTreeKind}
-use Rattle.ncl_origin.specs.Rules.{IsFromOneRail, IsFromOneAck, IsGateOfOne, IsRegisterOfOne, IsUnmixed}
-use Rattle.ncl_origin.proofs.CellTests.{same_net}
+use Rattle.ncl_cell_rules.specs.Origin.{CellAt, IsCell, IsRegister, B, RST, IsInputPort, IsOfBank, IsDataBank, Origin, FromPort, RailOf, AckOf, ComesFrom, HasOnlyOrigin, HaveSameOrigins, IsTreeKind}
+use Rattle.ncl_cell_rules.specs.Rules.{IsFromOneRail, IsFromOneAck, IsGateOfOne, IsRegisterOfOne, IsUnmixed}
+use Rattle.ncl_cell_rules.proofs.CellTests.{same_net}
 use Rattle.ncl_shape.specs.declared.stage.StageCell.{StageCell}
 use Rattle.ncl_shape.specs.Stage.{rail_nets, out_of, nets_of}
 use Rattle.ncl_shape.specs.Pipeline.{PipelineData}

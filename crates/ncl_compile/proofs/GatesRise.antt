@@ -6,10 +6,10 @@ use Rattle.ncl_gates.specs.declared.cell_kind.CellKind.TheVariants.{Register, Ac
 use Rattle.ncl_netlist.specs.declared.cell.Cell.{Cell}
 use Rattle.ncl_netlist.specs.declared.ids.NetId.{NetId}
 use Rattle.ncl_netlist.specs.Netlist.{NetlistData}
-use Rattle.ncl_origin.specs.Origin.{IsCell, CellAt, IsGate, ReadsNet, LeadsTo, one, more}
-use Rattle.ncl_origin.specs.Rules.{IsOffCycles}
-use Rattle.ncl_origin.proofs.Drivers.{same_place, same_driver}
-use Rattle.ncl_origin.proofs.OriginLaws.{place_of}
+use Rattle.ncl_cell_rules.specs.Origin.{IsCell, CellAt, IsGate, ReadsNet, LeadsTo, one, more}
+use Rattle.ncl_cell_rules.specs.Rules.{IsOffCycles}
+use Rattle.ncl_cell_rules.proofs.Drivers.{same_place, same_driver}
+use Rattle.ncl_cell_rules.proofs.OriginLaws.{place_of}
 use Rattle.ncl_shape.specs.declared.stage.StageCell.{StageCell}
 use Rattle.ncl_shape.specs.Stage.{Reads, rail_nets, out_of}
 use Rattle.ncl_shape.specs.Pipeline.{PipelineData}

@@ -4,9 +4,9 @@ use Rattle.std.specs.Prelude.{slice_get}
 use Rattle.ncl_base.proofs.Members.{Member}
 use Rattle.ncl_netlist.specs.declared.cell.Cell.{Cell}
 use Rattle.ncl_netlist.specs.Netlist.{NetlistData}
-use Rattle.ncl_origin.specs.Origin.{IsCell, ReadsNet, OnPin, A, B, RST}
-use Rattle.ncl_origin.specs.Rules.{IsReadPort}
-use Rattle.ncl_origin.proofs.OriginLaws.{ReadsNet-from_pin}
+use Rattle.ncl_cell_rules.specs.Origin.{IsCell, ReadsNet, OnPin, A, B, RST}
+use Rattle.ncl_cell_rules.specs.Rules.{IsReadPort}
+use Rattle.ncl_cell_rules.proofs.OriginLaws.{ReadsNet-from_pin}
 use Rattle.ncl_shape.specs.Stage.{rail_nets}
 use Rattle.ncl_shape.specs.Pipeline.{PipelineData}
 use Rattle.ncl_compile.specs.Assembled.{WiredBit, WiredBank, rails_read, IsAssembled}

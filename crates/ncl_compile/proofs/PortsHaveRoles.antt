@@ -9,9 +9,9 @@ use Rattle.ncl_gates.specs.Cell.{pins_of}
 use Rattle.ncl_netlist.specs.declared.cell.Cell.{Cell}
 use Rattle.ncl_netlist.specs.declared.ids.NetId.{NetId}
 use Rattle.ncl_netlist.specs.Netlist.{NetlistData}
-use Rattle.ncl_origin.specs.Origin.{IsCell, CellAt, IsGate, OnPin, A, B, RST, IsInputPort, Origin, FromPort, RailOf, AckOf, port, gate, HasOnlyOrigin}
-use Rattle.ncl_origin.proofs.CellTests.{same_net}
-use Rattle.ncl_origin.proofs.OriginLaws.{place_of, ReadsNet-from_pin}
+use Rattle.ncl_cell_rules.specs.Origin.{IsCell, CellAt, IsGate, OnPin, A, B, RST, IsInputPort, Origin, FromPort, RailOf, AckOf, port, gate, HasOnlyOrigin}
+use Rattle.ncl_cell_rules.proofs.CellTests.{same_net}
+use Rattle.ncl_cell_rules.proofs.OriginLaws.{place_of, ReadsNet-from_pin}
 use Rattle.ncl_shape.specs.declared.rails.Rails.{Rails}
 use Rattle.ncl_shape.specs.Stage.{rail_nets}
 use Rattle.ncl_shape.specs.Chain.{OnPinNamed, HasOneRole}

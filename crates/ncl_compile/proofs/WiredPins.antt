@@ -8,9 +8,9 @@ use Rattle.ncl_netlist.specs.declared.cell.Cell.{Cell}
 use Rattle.ncl_netlist.specs.declared.ids.CellId.{CellId}
 use Rattle.ncl_netlist.specs.declared.ids.NetId.{NetId}
 use Rattle.ncl_netlist.specs.Netlist.{NetlistData}
-use Rattle.ncl_origin.specs.Origin.{CellAt, OnPin, A, B, RST, IsInputPort, IsOfBank, RailOf, HasOnlyOrigin}
-use Rattle.ncl_origin.proofs.CellTests.{same_net}
-use Rattle.ncl_origin.proofs.OriginLaws.{place_of}
+use Rattle.ncl_cell_rules.specs.Origin.{CellAt, OnPin, A, B, RST, IsInputPort, IsOfBank, RailOf, HasOnlyOrigin}
+use Rattle.ncl_cell_rules.proofs.CellTests.{same_net}
+use Rattle.ncl_cell_rules.proofs.OriginLaws.{place_of}
 use Rattle.ncl_shape.specs.Stage.{rail_nets}
 use Rattle.ncl_shape.specs.Pipeline.{PipelineData}
 use Rattle.ncl_compile.specs.Assembled.{WiredBit, WiredBank, rails_read, rails_driven, HasCell, IsAssembled}

@@ -8,7 +8,7 @@ use Rattle.ncl_base.proofs.Lists.{pairs-head}
 use Rattle.ncl_base.proofs.Members.{Member, here, there, member_cases, Member-append_left, Member-append_right, Member-append_cases}
 use Rattle.ncl_netlist.specs.declared.port.Port.{Port}
 use Rattle.ncl_netlist.specs.Netlist.{NetlistData}
-use Rattle.ncl_origin.specs.Origin.{IsInputPort, IsOutputPort}
+use Rattle.ncl_cell_rules.specs.Origin.{IsInputPort, IsOutputPort}
 use Rattle.ncl_shape.specs.Stage.{rail_nets}
 use Rattle.ncl_shape.specs.Pipeline.{PipelineData}
 use Rattle.ncl_compile.specs.Assembled.{input_nets, output_nets, IsAssembled}

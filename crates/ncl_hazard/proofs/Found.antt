@@ -13,8 +13,8 @@ use Rattle.ncl_gates.proofs.RegisterLaws.{register_no_gate}
 use Rattle.ncl_netlist.specs.declared.ids.CellId.{CellId}
 use Rattle.ncl_netlist.specs.declared.ids.NetId.{NetId}
 use Rattle.ncl_netlist.specs.declared.cell.Cell.{Cell}
-use Rattle.ncl_origin.specs.Origin.{CellAt, IsRegister}
-use Rattle.ncl_origin.specs.CellOrder.{IsCellOrder}
+use Rattle.ncl_cell_rules.specs.Origin.{CellAt, IsRegister}
+use Rattle.ncl_cell_rules.specs.CellOrder.{IsCellOrder}
 use Rattle.ncl_shape.specs.declared.bank.Bank.{Bank}
 use Rattle.ncl_shape.specs.declared.bank.Bit.{Bit}
 use Rattle.ncl_shape.specs.declared.rails.Rails.{Rails}

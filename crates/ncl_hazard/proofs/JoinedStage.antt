@@ -11,7 +11,7 @@ use Rattle.ncl_base.proofs.Members.{Member, here, there, Member-append_left, Mem
 use Rattle.ncl_gates.specs.Gate.{arity_of}
 use Rattle.ncl_netlist.specs.declared.ids.NetId.{NetId}
 use Rattle.ncl_netlist.specs.declared.cell.Cell.{Cell}
-use Rattle.ncl_origin.specs.Origin.{CellAt}
+use Rattle.ncl_cell_rules.specs.Origin.{CellAt}
 use Rattle.ncl_shape.specs.declared.rails.Rails.{Rails}
 use Rattle.ncl_shape.specs.declared.stage.StageCell.{StageCell}
 use Rattle.ncl_shape.specs.Stage.{IsStage, Reads, IsInOrder, rail_nets, nets_of, out_of}

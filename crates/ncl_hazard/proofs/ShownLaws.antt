@@ -5,9 +5,9 @@ use Rattle.std.proofs.lemmas.Option.{slice_get_within}
 use Rattle.ncl_base.proofs.Members.{All-from_members, Member-from_Contains, Contains-from_slice_get}
 use Rattle.ncl_netlist.specs.declared.ids.CellId.{CellId}
 use Rattle.ncl_netlist.specs.Netlist.{NetlistData}
-use Rattle.ncl_origin.specs.declared.origins.Origins.{Origins}
-use Rattle.ncl_origin.specs.CellOrder.{IsCellOrder}
-use Rattle.ncl_origin.specs.Origins.{AreOrigins}
+use Rattle.ncl_cell_rules.specs.declared.origins.Origins.{Origins}
+use Rattle.ncl_cell_rules.specs.CellOrder.{IsCellOrder}
+use Rattle.ncl_cell_rules.specs.Origins.{AreOrigins}
 use Rattle.ncl_shape.specs.declared.stage.StageCell.{StageCell}
 use Rattle.ncl_shape.specs.declared.item.Item.TheVariants.{Cell as Fire}
 use Rattle.ncl_shape.specs.Stage.{StageData}

@@ -9,8 +9,8 @@ use Rattle.ncl_base.proofs.Members.{Member, Member-append_cases, Member-from_Con
 use Rattle.ncl_gates.proofs.RegisterLaws.{register_no_gate}
 use Rattle.ncl_netlist.specs.declared.ids.CellId.{CellId}
 use Rattle.ncl_netlist.specs.declared.cell.Cell.{Cell}
-use Rattle.ncl_origin.specs.Origin.{CellAt}
-use Rattle.ncl_origin.specs.CellOrder.{IsCellOrder}
+use Rattle.ncl_cell_rules.specs.Origin.{CellAt}
+use Rattle.ncl_cell_rules.specs.CellOrder.{IsCellOrder}
 use Rattle.ncl_shape.specs.declared.stage.StageCell.{StageCell}
 use Rattle.ncl_shape.specs.declared.item.Item.{Item}
 use Rattle.ncl_shape.specs.declared.item.Item.TheVariants.{Cell as Fire, Lower}

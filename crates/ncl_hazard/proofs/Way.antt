@@ -7,7 +7,7 @@ use Rattle.ncl_base.proofs.Members.{Member, here, there, Member-append_left, Mem
 use Rattle.ncl_netlist.specs.declared.ids.CellId.{CellId}
 use Rattle.ncl_netlist.specs.declared.cell.Cell.{Cell}
 use Rattle.ncl_gates.specs.Gate.{set_of}
-use Rattle.ncl_origin.specs.Origin.{CellAt}
+use Rattle.ncl_cell_rules.specs.Origin.{CellAt}
 use Rattle.ncl_shape.specs.declared.stage.StageCell.{StageCell}
 use Rattle.ncl_shape.specs.Nets.{Nets, among}
 use Rattle.ncl_shape.specs.Stage.{StageData, IsStage, rail_nets, nets_of, out_of, named_rails}

@@ -1,7 +1,7 @@
 //! Why a cell is an orphan.
 ghost use Rattle.std.specs.Prelude.{◌≡◌, ◌<◌, ◌≤◌, ◌-◌, ◌∷◌, [], ℕ, IfOk, IsErrOf, length};
-ghost use Rattle.ncl_origin.specs.Free.{IsFree};
-ghost use Rattle.ncl_origin.specs.Origins.{AreOrigins};
+ghost use Rattle.ncl_cell_rules.specs.Free.{IsFree};
+ghost use Rattle.ncl_cell_rules.specs.Origins.{AreOrigins};
 ghost use Rattle.ncl_machine.specs.Held.{IsFor, meaning};
 ghost use Rattle.ncl_machine.specs.State.{reset};
 ghost use Rattle.ncl_hazard.specs.Trying.{HasNoDataBank, Loses};
@@ -14,7 +14,7 @@ use crate::trying::losing_run;
 use ncl_base::{Items, Memory, Word};
 use ncl_machine::State;
 use ncl_netlist::{CellId, Netlist};
-use ncl_origin::{Origins, ShapeFault, find_origins};
+use ncl_cell_rules::{Origins, ShapeFault, find_origins};
 use ncl_shape::{Item, Pipeline, Stage};
 use std::alloc::Global;
 

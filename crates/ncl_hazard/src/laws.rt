@@ -1,6 +1,6 @@
 //! The laws of explanations. The functions state them, and do nothing.
 ghost use Rattle.std.specs.Prelude.{◌≡◌, ◌≤◌, ◌-◌, ℕ, true, Bool, List, [], ◌∷◌, length, slice_get, Some};
-ghost use Rattle.ncl_origin.specs.CellOrder.{IsCellOrder};
+ghost use Rattle.ncl_cell_rules.specs.CellOrder.{IsCellOrder};
 ghost use Rattle.ncl_shape.specs.declared.stage.StageCell.{StageCell};
 ghost use Rattle.ncl_shape.specs.declared.item.Item.{Item};
 ghost use Rattle.ncl_shape.specs.Stage.{StageData};

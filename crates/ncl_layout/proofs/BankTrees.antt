@@ -7,17 +7,17 @@ use Rattle.std.proofs.lemmas.List.Kept.{AllPairs-filter}
 use Rattle.std.proofs.lemmas.Option.{slice_get-get_or}
 use Rattle.ncl_netlist.specs.declared.cell.Cell.{Cell}
 use Rattle.ncl_netlist.specs.Netlist.{NetlistData, IsNetlist}
-use Rattle.ncl_origin.specs.Origin.{IsCell, IsGate, IsAck, Origin, FromPort, RailOf, AckOf, ComesFrom, gate}
-use Rattle.ncl_origin.specs.Free.{IsFree}
+use Rattle.ncl_cell_rules.specs.Origin.{IsCell, IsGate, IsAck, Origin, FromPort, RailOf, AckOf, ComesFrom, gate}
+use Rattle.ncl_cell_rules.specs.Free.{IsFree}
 use Rattle.ncl_shape.specs.declared.bank.Bank.{Bank}
 use Rattle.ncl_shape.specs.Closure.{net_of}
 use Rattle.ncl_shape.specs.Pipeline.{PipelineData}
 use Rattle.ncl_shape.specs.Shape.{Shape}
 use Rattle.ncl_base.proofs.Members.{Member, All-from_members, Contains-from_Member, Member-from_Contains, Member-filter}
 use Rattle.ncl_base.proofs.Lists.{Differ, differ_of_map}
-use Rattle.ncl_origin.proofs.Drivers.{cell_fits, same_place, same_driver}
-use Rattle.ncl_origin.proofs.OriginLaws.{place_of, has_origin, driver_of_ack}
-use Rattle.ncl_origin.proofs.NetOrigins.{one_origin}
+use Rattle.ncl_cell_rules.proofs.Drivers.{cell_fits, same_place, same_driver}
+use Rattle.ncl_cell_rules.proofs.OriginLaws.{place_of, has_origin, driver_of_ack}
+use Rattle.ncl_cell_rules.proofs.NetOrigins.{one_origin}
 use Rattle.ncl_layout.proofs.Numbering.{root_is_one}
 
 -- the outputs of the cells of a netlist differ

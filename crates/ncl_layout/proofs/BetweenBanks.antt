@@ -8,7 +8,7 @@ use Rattle.ncl_gates.specs.declared.kind.Kind.{Kind}
 use Rattle.ncl_gates.specs.declared.cell_kind.CellKind.TheVariants.{Gate}
 use Rattle.ncl_netlist.specs.declared.ids.NetId.{NetId}
 use Rattle.ncl_netlist.specs.declared.cell.Cell.{Cell}
-use Rattle.ncl_origin.specs.Origin.{CellAt, OnPin, B, RailOf, ComesFrom, rail}
+use Rattle.ncl_cell_rules.specs.Origin.{CellAt, OnPin, B, RailOf, ComesFrom, rail}
 use Rattle.ncl_shape.specs.declared.rails.Rails.{Rails}
 use Rattle.ncl_shape.specs.declared.bank.Bank.{Bank}
 use Rattle.ncl_shape.specs.declared.stage.StageCell.{StageCell}
@@ -17,7 +17,7 @@ use Rattle.ncl_shape.specs.Pipeline.{PipelineData}
 use Rattle.ncl_shape.specs.Shape.{Shape, AreRailsOf, AreInputsOf, IsGateOf}
 use Rattle.ncl_shape.specs.Chain.{ShownOutputs}
 use Rattle.ncl_base.proofs.Members.{Member, All-from_members, Member-from_Contains, Contains-from_Member, Contains-from_slice_get, slice_get-from_Contains, slice_get-some, Member-append_cases, member_of_map}
-use Rattle.ncl_origin.proofs.OriginLaws.{bank_of_rail}
+use Rattle.ncl_cell_rules.proofs.OriginLaws.{bank_of_rail}
 use Rattle.ncl_shape.proofs.ShapeLaws.{requests, request_at, same_cell}
 use Rattle.ncl_layout.specs.Layout.{rail_at, IsCellOf, IsRegisterOn, SomeCell}
 use Rattle.ncl_layout.proofs.RailNets.{rail-place}

@@ -9,10 +9,10 @@ use Rattle.ncl_gates.specs.Cell.{is_data_register, pins_of}
 use Rattle.ncl_netlist.specs.declared.ids.NetId.{NetId}
 use Rattle.ncl_netlist.specs.declared.cell.Cell.{Cell}
 use Rattle.ncl_netlist.specs.Netlist.{NetlistData, IsNetlist}
-use Rattle.ncl_origin.specs.Origin.{CellAt, IsCell, IsDataBank, A, B}
-use Rattle.ncl_origin.specs.Free.{IsFree}
-use Rattle.ncl_origin.proofs.Drivers.{cell_fits, same_driver}
-use Rattle.ncl_origin.proofs.CellTests.{same_net}
+use Rattle.ncl_cell_rules.specs.Origin.{CellAt, IsCell, IsDataBank, A, B}
+use Rattle.ncl_cell_rules.specs.Free.{IsFree}
+use Rattle.ncl_cell_rules.proofs.Drivers.{cell_fits, same_driver}
+use Rattle.ncl_cell_rules.proofs.CellTests.{same_net}
 use Rattle.ncl_shape.specs.declared.bank.Bank.{Bank}
 use Rattle.ncl_shape.specs.declared.bank.Bit.{Bit}
 use Rattle.ncl_shape.specs.Held.{is_data_bank, value_or_low, word_held}

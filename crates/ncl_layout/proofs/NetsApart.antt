@@ -5,15 +5,15 @@ use Rattle.std.proofs.lemmas.Bool.{cases_lt}
 use Rattle.std.proofs.lemmas.List.{append-nil}
 use Rattle.std.proofs.lemmas.Option.{slice_get_past}
 use Rattle.ncl_netlist.specs.declared.cell.Cell.{Cell}
-use Rattle.ncl_origin.specs.Origin.{IsCell, IsInputPort, Origin, FromPort, RailOf, AckOf, ComesFrom, port}
+use Rattle.ncl_cell_rules.specs.Origin.{IsCell, IsInputPort, Origin, FromPort, RailOf, AckOf, ComesFrom, port}
 use Rattle.ncl_shape.specs.declared.bank.Bank.{Bank}
 use Rattle.ncl_shape.specs.Stage.{rail_nets, nets_of}
 use Rattle.ncl_shape.specs.Closure.{net_of}
 use Rattle.ncl_shape.specs.Pipeline.{PipelineData}
 use Rattle.ncl_shape.specs.Shape.{Shape}
 use Rattle.ncl_base.proofs.Members.{Member, member_cases, member_of_map, slice_get-some}
-use Rattle.ncl_origin.proofs.OriginLaws.{origin_within}
-use Rattle.ncl_origin.proofs.NetOrigins.{one_origin}
+use Rattle.ncl_cell_rules.proofs.OriginLaws.{origin_within}
+use Rattle.ncl_cell_rules.proofs.NetOrigins.{one_origin}
 use Rattle.ncl_layout.proofs.Numbering.{stage_at, banks_apart}
 use Rattle.ncl_layout.proofs.EndLaws.{input_is_port, ki_is_port, ki_is_no_input}
 use Rattle.ncl_layout.proofs.BetweenBanks.{stage_origin}

@@ -6,9 +6,9 @@ use Rattle.std.proofs.lemmas.Bool.{and_parts, both_ways}
 use Rattle.ncl_netlist.specs.declared.cell.Cell.{Cell}
 use Rattle.ncl_shape.specs.Nets.{Nets}
 use Rattle.ncl_shape.specs.Stage.{named_rails, rail_nets}
-use Rattle.ncl_origin.specs.Origin.{IsInputPort}
+use Rattle.ncl_cell_rules.specs.Origin.{IsInputPort}
 use Rattle.ncl_base.proofs.Members.{Member-from_Contains, Contains-from_slice_get}
-use Rattle.ncl_origin.proofs.Drivers.{no_cell_drives_port}
+use Rattle.ncl_cell_rules.proofs.Drivers.{no_cell_drives_port}
 use Rattle.ncl_layout.proofs.EndLaws.{ki_is_port, ki_is_no_input}
 use Rattle.ncl_stage.proofs.Apart.{named-within}
 use Rattle.ncl_stage.proofs.OnePass.{among-from_member}

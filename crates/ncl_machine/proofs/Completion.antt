@@ -14,7 +14,7 @@ use Rattle.ncl_gates.specs.GateLaw.{all_high}
 use Rattle.ncl_gates.proofs.GateLaws.{set_of-Th22, set_of-Th33, set_of-Th44, next_of-hysteresis}
 use Rattle.ncl_netlist.specs.declared.ids.NetId.{NetId}
 use Rattle.ncl_netlist.specs.declared.cell.Cell.{Cell}
-use Rattle.ncl_origin.specs.Origin.{IsGate, IsTreeKind, th22, th33, th44}
+use Rattle.ncl_cell_rules.specs.Origin.{IsGate, IsTreeKind, th22, th33, th44}
 use Rattle.ncl_shape.specs.declared.rails.Rails.{Rails}
 use Rattle.ncl_shape.specs.Nets.{Nets}
 use Rattle.ncl_shape.specs.Closure.{pin_values, net_of}

@@ -5,7 +5,7 @@ use Rattle.std.specs.List.{list_all}
 use Rattle.std.proofs.Math.Bool.{not-not}
 use Rattle.ncl_netlist.specs.declared.ids.CellId.{CellId}
 use Rattle.ncl_netlist.specs.declared.cell.Cell.{Cell}
-use Rattle.ncl_origin.specs.Origin.{CellAt}
+use Rattle.ncl_cell_rules.specs.Origin.{CellAt}
 use Rattle.ncl_shape.specs.declared.item.Item.{Item}
 use Rattle.ncl_shape.specs.declared.item.Item.TheVariants.{Cell as Fire}
 use Rattle.ncl_shape.specs.Nets.{Nets, with_net}

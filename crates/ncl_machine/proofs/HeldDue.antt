@@ -10,9 +10,9 @@ use Rattle.ncl_base.proofs.Members.{Member, Contains-from_Member, Contains-from_
 use Rattle.ncl_gates.specs.Cell.{is_data_register}
 use Rattle.ncl_gates.proofs.RegisterLaws.{data_is_register, register_no_ack, register_no_gate}
 use Rattle.ncl_netlist.specs.declared.cell.Cell.{Cell}
-use Rattle.ncl_origin.specs.Origin.{CellAt, IsCell, OnPin, B}
-use Rattle.ncl_origin.specs.CellTests.{data_test, has_net}
-use Rattle.ncl_origin.proofs.CellTests.{data-from_test, same_net}
+use Rattle.ncl_cell_rules.specs.Origin.{CellAt, IsCell, OnPin, B}
+use Rattle.ncl_cell_rules.specs.CellTests.{data_test, has_net}
+use Rattle.ncl_cell_rules.proofs.CellTests.{data-from_test, same_net}
 use Rattle.ncl_shape.specs.declared.bank.Bank.{Bank}
 use Rattle.ncl_shape.specs.Stage.{named_rails}
 use Rattle.ncl_shape.specs.Closure.{function_of, function_at, held_nets}

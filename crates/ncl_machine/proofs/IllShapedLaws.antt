@@ -4,9 +4,9 @@ use Rattle.std.proofs.lemmas.Bool.{both_ways}
 use Rattle.std.specs.Prelude.{Bool}
 use Rattle.ncl_gates.specs.declared.kind.Kind.TheVariants.{Th12, Th22}
 use Rattle.ncl_netlist.specs.Netlist.{IsNetlist}
-use Rattle.ncl_origin.specs.Origin.{AckOf, ComesFrom, gate, ack}
-use Rattle.ncl_origin.specs.Free.{AtCell}
-use Rattle.ncl_origin.specs.Rules.{IsUnmixed}
+use Rattle.ncl_cell_rules.specs.Origin.{AckOf, ComesFrom, gate, ack}
+use Rattle.ncl_cell_rules.specs.Free.{AtCell}
+use Rattle.ncl_cell_rules.specs.Rules.{IsUnmixed}
 use Rattle.ncl_shape.specs.declared.item.Item.{Item}
 use Rattle.ncl_shape.specs.declared.item.Item.TheVariants.{Cell, Raise, Lower, Take, Ready}
 use Rattle.ncl_shape.specs.Chain.{HasOne, IsRoot}

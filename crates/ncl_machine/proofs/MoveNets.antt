@@ -4,8 +4,8 @@ use Rattle.std.proofs.lemmas.Bool.{cases_eq, not_from_false, not_from_true}
 use Rattle.ncl_base.proofs.Members.{Member}
 use Rattle.ncl_netlist.specs.declared.ids.CellId.{CellId}
 use Rattle.ncl_netlist.specs.declared.cell.Cell.{Cell}
-use Rattle.ncl_origin.specs.Origin.{CellAt}
-use Rattle.ncl_origin.proofs.Drivers.{same_place}
+use Rattle.ncl_cell_rules.specs.Origin.{CellAt}
+use Rattle.ncl_cell_rules.proofs.Drivers.{same_place}
 use Rattle.ncl_shape.specs.declared.stage.StageCell.{StageCell}
 use Rattle.ncl_shape.specs.declared.item.Item.{Item}
 use Rattle.ncl_shape.specs.declared.item.Item.TheVariants.{Cell as Fire, Raise, Lower, Take, Ready}

@@ -5,7 +5,7 @@ use Rattle.std.proofs.Math.Bool.{not-not}
 use Rattle.std.proofs.lemmas.Bool.{and_from, both_ways, cases_Bool, cases_lt, false_from_ne_true, not_from_false, not_from_true, or_from}
 use Rattle.ncl_base.proofs.Members.{Member, Contains-from_slice_get, slice_get-from_Contains, slice_get-some}
 use Rattle.ncl_netlist.specs.declared.cell.Cell.{Cell}
-use Rattle.ncl_origin.specs.Origin.{IsCell}
+use Rattle.ncl_cell_rules.specs.Origin.{IsCell}
 use Rattle.ncl_shape.specs.declared.rails.Rails.{Rails}
 use Rattle.ncl_shape.specs.declared.stage.StageCell.{StageCell}
 use Rattle.ncl_shape.specs.declared.item.Item.TheVariants.{Cell as Fire, Raise, Lower, Take, Ready}

@@ -11,18 +11,18 @@ use Rattle.ncl_gates.proofs.RegisterLaws.{by_register}
 use Rattle.ncl_netlist.specs.declared.ids.NetId.{NetId}
 use Rattle.ncl_netlist.specs.declared.cell.Cell.{Cell}
 use Rattle.ncl_netlist.specs.Netlist.{NetlistData, IsNetlist}
-use Rattle.ncl_origin.specs.declared.origins.Origins.{Origins}
-use Rattle.ncl_origin.specs.declared.source.Source.{Source}
-use Rattle.ncl_origin.specs.declared.source.Source.TheVariants.{Port, Rail, Ack as FromAck, Many}
-use Rattle.ncl_origin.specs.Origin.{CellAt, IsCell, B, AckOf, ComesFrom}
-use Rattle.ncl_origin.specs.Free.{IsFree}
-use Rattle.ncl_origin.specs.Sources.{IsSourceOf, source_at}
-use Rattle.ncl_origin.specs.Origins.{AreOrigins}
-use Rattle.ncl_origin.proofs.DataBanks.{bank_of_mark, mark_of_bank}
-use Rattle.ncl_origin.proofs.Drivers.{cell_fits, same_driver}
-use Rattle.ncl_origin.proofs.OriginLaws.{ack_of_bank}
-use Rattle.ncl_origin.proofs.NetOrigins.{one_origin}
-use Rattle.ncl_origin.proofs.PinNumbers.{on_pin_within}
+use Rattle.ncl_cell_rules.specs.declared.origins.Origins.{Origins}
+use Rattle.ncl_cell_rules.specs.declared.source.Source.{Source}
+use Rattle.ncl_cell_rules.specs.declared.source.Source.TheVariants.{Port, Rail, Ack as FromAck, Many}
+use Rattle.ncl_cell_rules.specs.Origin.{CellAt, IsCell, B, AckOf, ComesFrom}
+use Rattle.ncl_cell_rules.specs.Free.{IsFree}
+use Rattle.ncl_cell_rules.specs.Sources.{IsSourceOf, source_at}
+use Rattle.ncl_cell_rules.specs.Origins.{AreOrigins}
+use Rattle.ncl_cell_rules.proofs.DataBanks.{bank_of_mark, mark_of_bank}
+use Rattle.ncl_cell_rules.proofs.Drivers.{cell_fits, same_driver}
+use Rattle.ncl_cell_rules.proofs.OriginLaws.{ack_of_bank}
+use Rattle.ncl_cell_rules.proofs.NetOrigins.{one_origin}
+use Rattle.ncl_cell_rules.proofs.PinNumbers.{on_pin_within}
 use Rattle.ncl_shape.specs.Closure.{net_of}
 use Rattle.ncl_shape.specs.Pipeline.{PipelineData}
 use Rattle.ncl_shape.specs.Shape.{Shape}

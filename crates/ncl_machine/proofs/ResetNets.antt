@@ -9,11 +9,11 @@ use Rattle.ncl_gates.specs.Cell.{is_data_register}
 use Rattle.ncl_gates.proofs.RegisterLaws.{data_is_register, register_no_ack, register_no_gate}
 use Rattle.ncl_netlist.specs.declared.cell.Cell.{Cell}
 use Rattle.ncl_netlist.specs.Netlist.{NetlistData, IsNetlist}
-use Rattle.ncl_origin.specs.Origin.{CellAt, IsGate, IsAck, B, IsDataBank, AckOf, ComesFrom}
-use Rattle.ncl_origin.specs.Free.{IsFree}
-use Rattle.ncl_origin.proofs.CellTests.{same_net}
-use Rattle.ncl_origin.proofs.OriginLaws.{driver_of_ack}
-use Rattle.ncl_origin.proofs.NetOrigins.{one_origin}
+use Rattle.ncl_cell_rules.specs.Origin.{CellAt, IsGate, IsAck, B, IsDataBank, AckOf, ComesFrom}
+use Rattle.ncl_cell_rules.specs.Free.{IsFree}
+use Rattle.ncl_cell_rules.proofs.CellTests.{same_net}
+use Rattle.ncl_cell_rules.proofs.OriginLaws.{driver_of_ack}
+use Rattle.ncl_cell_rules.proofs.NetOrigins.{one_origin}
 use Rattle.ncl_shape.specs.declared.bank.Bank.{Bank}
 use Rattle.ncl_shape.specs.Held.{is_data_bank}
 use Rattle.ncl_shape.specs.Closure.{net_of}

@@ -12,7 +12,7 @@ use Rattle.ncl_gates.specs.Cell.{is_data_register}
 use Rattle.ncl_gates.proofs.RegisterLaws.{at_register, data_is_register, register_no_ack, register_no_gate}
 use Rattle.ncl_netlist.specs.declared.ids.NetId.{NetId}
 use Rattle.ncl_netlist.specs.declared.cell.Cell.{Cell}
-use Rattle.ncl_origin.specs.Origin.{CellAt}
+use Rattle.ncl_cell_rules.specs.Origin.{CellAt}
 use Rattle.ncl_shape.specs.Nets.{Nets, among}
 use Rattle.ncl_shape.specs.Stage.{named_rails}
 use Rattle.ncl_shape.specs.Closure.{net_of, pin_values}

@@ -6,13 +6,13 @@ use Rattle.ncl_gates.proofs.RegisterLaws.{register_no_ack, register_no_gate}
 use Rattle.ncl_gates.specs.declared.cell_kind.CellKind.TheVariants.{Register}
 use Rattle.ncl_netlist.specs.declared.cell.Cell.{Cell}
 use Rattle.ncl_netlist.specs.Netlist.{IsNetlist}
-use Rattle.ncl_origin.specs.Origin.{IsCell, CellAt, IsGate, IsRegister, IsAck, ReadsNet, OnPin, A, B, RST, IsInputPort, IsOutputPort, IsOfBank, IsDataRegister, IsDataBank, AcksBank, Origin, FromPort, RailOf, AckOf, ComesFrom, port, rail, ack, gate, HasOnlyOrigin, HaveSameOrigins}
-use Rattle.ncl_origin.specs.Rules.{IsReadPort, IsPaired, ReadsOneBit, ack_pins, IsFromOneRail, IsFromOneAck, IsRegisterOfOne, IsTied}
+use Rattle.ncl_cell_rules.specs.Origin.{IsCell, CellAt, IsGate, IsRegister, IsAck, ReadsNet, OnPin, A, B, RST, IsInputPort, IsOutputPort, IsOfBank, IsDataRegister, IsDataBank, AcksBank, Origin, FromPort, RailOf, AckOf, ComesFrom, port, rail, ack, gate, HasOnlyOrigin, HaveSameOrigins}
+use Rattle.ncl_cell_rules.specs.Rules.{IsReadPort, IsPaired, ReadsOneBit, ack_pins, IsFromOneRail, IsFromOneAck, IsRegisterOfOne, IsTied}
 use Rattle.ncl_shape.specs.Chain.{IsInputOf}
-use Rattle.ncl_origin.specs.Free.{IsFree}
+use Rattle.ncl_cell_rules.specs.Free.{IsFree}
 use Rattle.ncl_shape.specs.Examples.{wires, cell}
 use Rattle.ncl_base.proofs.Members.{Contains-from_slice_get}
-use Rattle.ncl_origin.proofs.CellTests.{each_register, each_of_bank, on_pin_each, same_net}
+use Rattle.ncl_cell_rules.proofs.CellTests.{each_register, each_of_bank, on_pin_each, same_net}
 use Rattle.ncl_machine.proofs.WrittenNetlists.{netlist_from_tests}
 
 -- ---- cells and ports by place

@@ -4,9 +4,9 @@
 ghost use Rattle.std.specs.Prelude.{◌≡◌, [], ◌∷◌};
 ghost use Rattle.ncl_shape.specs.declared.item.Item.TheVariants.{Lower, Raise};
 ghost use Rattle.ncl_netlist.specs.Netlist.{IsNetlist, drivers_of};
-ghost use Rattle.ncl_origin.specs.declared.fault.ShapeFault.TheVariants.{Loose};
-ghost use Rattle.ncl_origin.specs.Free.{AtCell};
-ghost use Rattle.ncl_origin.specs.Rules.{IsUnmixed};
+ghost use Rattle.ncl_cell_rules.specs.declared.fault.ShapeFault.TheVariants.{Loose};
+ghost use Rattle.ncl_cell_rules.specs.Free.{AtCell};
+ghost use Rattle.ncl_cell_rules.specs.Rules.{IsUnmixed};
 ghost use Rattle.ncl_shape.specs.Chain.{HasOne, IsRoot};
 ghost use Rattle.ncl_shape.specs.Shape.{BreaksRule};
 ghost use Rattle.ncl_shape.specs.Examples.{bit_left_out};

@@ -2,7 +2,7 @@
 ghost use Rattle.std.specs.Prelude.{◌≡◌, ◌↔◌, ◌+◌, ◌≤◌, ◌*◌, ℕ, true, All, Contains, List, [], Bool, ◌++◌, length};
 ghost use Rattle.ncl_shape.specs.declared.item.Item.{Item};
 ghost use Rattle.ncl_netlist.specs.Netlist.{IsNetlist, NetlistData};
-ghost use Rattle.ncl_origin.specs.Origin.{IsDataBank};
+ghost use Rattle.ncl_cell_rules.specs.Origin.{IsDataBank};
 ghost use Rattle.ncl_shape.specs.declared.bank.Bank.{Bank};
 ghost use Rattle.ncl_shape.specs.Nets.{Nets, IsBelow};
 ghost use Rattle.ncl_shape.specs.Stage.{StageData};

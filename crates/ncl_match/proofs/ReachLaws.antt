@@ -7,7 +7,7 @@ use Rattle.ncl_base.proofs.Members.{Member, here, there, Contains-from_Member, C
 use Rattle.ncl_gates.specs.Cell.{is_register}
 use Rattle.ncl_netlist.specs.declared.ids.NetId.{NetId}
 use Rattle.ncl_netlist.specs.declared.cell.Cell.{Cell}
-use Rattle.ncl_origin.specs.Origin.{IsCell, IsGate, IsRegister, OnPin, ReadsNet, A}
+use Rattle.ncl_cell_rules.specs.Origin.{IsCell, IsGate, IsRegister, OnPin, ReadsNet, A}
 use Rattle.ncl_shape.specs.declared.rails.Rails.{Rails}
 use Rattle.ncl_shape.specs.Closure.{net_of}
 use Rattle.ncl_shape.specs.Stage.{rail_nets}

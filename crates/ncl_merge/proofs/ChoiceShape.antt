@@ -11,9 +11,9 @@ use Rattle.ncl_netlist.specs.declared.cell.Cell.{Cell}
 use Rattle.ncl_netlist.specs.Netlist.{NetlistData, IsNetlist}
 use Rattle.ncl_netlist.specs.Names.{name_number}
 use Rattle.ncl_netlist.proofs.NameLists.{get_or-name_number, name_number-get_or}
-use Rattle.ncl_origin.specs.Origin.{IsCell, CellAt}
-use Rattle.ncl_origin.proofs.Drivers.{cell_fits, same_driver, same_place}
-use Rattle.ncl_origin.proofs.OriginLaws.{place_of}
+use Rattle.ncl_cell_rules.specs.Origin.{IsCell, CellAt}
+use Rattle.ncl_cell_rules.proofs.Drivers.{cell_fits, same_driver, same_place}
+use Rattle.ncl_cell_rules.proofs.OriginLaws.{place_of}
 use Rattle.ncl_shape.specs.declared.stage.StageCell.{StageCell}
 use Rattle.ncl_shape.specs.Stage.{StageData, rail_nets, nets_of, out_of}
 use Rattle.ncl_shape.specs.Pipeline.{PipelineData}

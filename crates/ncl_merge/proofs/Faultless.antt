@@ -21,12 +21,12 @@ use Rattle.ncl_netlist.specs.Netlist.{NetlistData, IsNetlist, drives, most_cells
 use Rattle.ncl_netlist.specs.Parts.{HasAllPins, port_names, cell_names, netlist_of, part_of}
 use Rattle.ncl_netlist.specs.Faults.{IsFaultless, drivers_at}
 use Rattle.ncl_netlist.proofs.NameLists.{same_itself, equal_names, take-once_each, name_number-get_or, list_any-once_each, AllDiffer-once_each}
-use Rattle.ncl_origin.specs.Origin.{IsCell, IsInputPort, IsOutputPort}
-use Rattle.ncl_origin.specs.Free.{IsFree}
+use Rattle.ncl_cell_rules.specs.Origin.{IsCell, IsInputPort, IsOutputPort}
+use Rattle.ncl_cell_rules.specs.Free.{IsFree}
 use Rattle.ncl_base.proofs.Members.{Member, here, there, member_cases, Member-append_left, Member-append_cases, Member-map, Member-get_or, member_of_map, Contains-from_Member, Member-from_Contains, All-from_members, Contains-from_slice_get, slice_get-from_Contains, list_any-from_member, member_from_list_any, member_from_count, count_from_member}
 use Rattle.ncl_base.proofs.Lists.{pairs-head, pairs-tail}
-use Rattle.ncl_origin.proofs.Drivers.{cell_fits, same_driver, no_cell_drives_port}
-use Rattle.ncl_origin.proofs.OriginLaws.{place_of}
+use Rattle.ncl_cell_rules.proofs.Drivers.{cell_fits, same_driver, no_cell_drives_port}
+use Rattle.ncl_cell_rules.proofs.OriginLaws.{place_of}
 use Rattle.ncl_merge.specs.Rebuilt.{kept, kept_parts, IsChoice, IsWhole, name_at}
 use Rattle.ncl_merge.specs.Thinned.{moved}
 use Rattle.ncl_merge.proofs.Lists.{each}

@@ -14,9 +14,9 @@ use Rattle.ncl_netlist.specs.declared.ids.NetId.{NetId}
 use Rattle.ncl_netlist.specs.declared.cell.Cell.{Cell}
 use Rattle.ncl_netlist.specs.Netlist.{NetlistData, IsNetlist}
 use Rattle.ncl_netlist.specs.Parts.{part_of}
-use Rattle.ncl_origin.specs.Origin.{IsCell}
-use Rattle.ncl_origin.proofs.Drivers.{same_driver}
-use Rattle.ncl_origin.proofs.OriginLaws.{place_of}
+use Rattle.ncl_cell_rules.specs.Origin.{IsCell}
+use Rattle.ncl_cell_rules.proofs.Drivers.{same_driver}
+use Rattle.ncl_cell_rules.proofs.OriginLaws.{place_of}
 use Rattle.ncl_shape.specs.declared.bank.Bank.{Bank}
 use Rattle.ncl_shape.specs.declared.bank.Bit.{Bit}
 use Rattle.ncl_shape.specs.declared.stage.StageCell.{StageCell}

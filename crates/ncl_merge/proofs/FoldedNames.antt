@@ -15,9 +15,9 @@ use Rattle.ncl_netlist.specs.declared.parts.PartCell.{PartCell}
 use Rattle.ncl_netlist.specs.Netlist.{NetlistData, IsNetlist, pin_names}
 use Rattle.ncl_netlist.specs.Parts.{port_names, part_of}
 use Rattle.ncl_netlist.proofs.NameLists.{get_or-name_number, name_number-lt-length}
-use Rattle.ncl_origin.specs.Origin.{IsCell, CellAt, IsRegister, IsInputPort, IsOutputPort}
-use Rattle.ncl_origin.proofs.Drivers.{cell_fits}
-use Rattle.ncl_origin.proofs.OriginLaws.{place_of}
+use Rattle.ncl_cell_rules.specs.Origin.{IsCell, CellAt, IsRegister, IsInputPort, IsOutputPort}
+use Rattle.ncl_cell_rules.proofs.Drivers.{cell_fits}
+use Rattle.ncl_cell_rules.proofs.OriginLaws.{place_of}
 use Rattle.ncl_shape.specs.declared.rails.Rails.{Rails}
 use Rattle.ncl_shape.specs.declared.stage.StageCell.{StageCell}
 use Rattle.ncl_shape.specs.Stage.{StageData, rail_nets}

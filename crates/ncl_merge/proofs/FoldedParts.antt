@@ -6,10 +6,10 @@ use Rattle.ncl_netlist.specs.declared.ids.NetId.{NetId}
 use Rattle.ncl_netlist.specs.Names.{AllDiffer}
 use Rattle.ncl_netlist.specs.Netlist.{NetlistData, IsNetlist}
 use Rattle.ncl_netlist.specs.Parts.{HasAllPins, part_of, parts_said, port_names}
-use Rattle.ncl_origin.specs.Origin.{RailOf}
-use Rattle.ncl_origin.specs.Tables.{IsTable}
-use Rattle.ncl_origin.proofs.Drivers.{cell_fits}
-use Rattle.ncl_origin.proofs.OriginLaws.{origin_within}
+use Rattle.ncl_cell_rules.specs.Origin.{RailOf}
+use Rattle.ncl_cell_rules.specs.Tables.{IsTable}
+use Rattle.ncl_cell_rules.proofs.Drivers.{cell_fits}
+use Rattle.ncl_cell_rules.proofs.OriginLaws.{origin_within}
 use Rattle.ncl_shape.specs.declared.stage.StageCell.{StageCell}
 use Rattle.ncl_shape.specs.Pipeline.{PipelineData}
 use Rattle.ncl_shape.specs.Shape.{Shape}

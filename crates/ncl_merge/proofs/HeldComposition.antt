@@ -11,7 +11,7 @@ use Rattle.ncl_base.proofs.Lists.{same_from_lengths}
 use Rattle.ncl_base.proofs.Members.{Contains-from_slice_get}
 use Rattle.ncl_gates.specs.Cell.{is_data_register}
 use Rattle.ncl_netlist.specs.declared.cell.Cell.{Cell}
-use Rattle.ncl_origin.proofs.Drivers.{same_driver}
+use Rattle.ncl_cell_rules.proofs.Drivers.{same_driver}
 use Rattle.ncl_shape.specs.declared.bank.Bank.{Bank}
 use Rattle.ncl_shape.specs.Stage.{StageData}
 use Rattle.ncl_shape.specs.Closure.{function_at, held_nets}

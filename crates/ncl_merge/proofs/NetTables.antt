@@ -11,7 +11,7 @@ use Rattle.ncl_netlist.specs.declared.cell.Cell.{Cell}
 use Rattle.ncl_netlist.specs.declared.parts.PartCell.{PartCell}
 use Rattle.ncl_netlist.specs.Netlist.{NetlistData}
 use Rattle.ncl_netlist.specs.Parts.{part_of}
-use Rattle.ncl_origin.specs.Tables.{IsTable}
+use Rattle.ncl_cell_rules.specs.Tables.{IsTable}
 use Rattle.ncl_shape.specs.declared.stage.StageCell.{StageCell}
 use Rattle.ncl_shape.specs.Stage.{StageData}
 use Rattle.ncl_base.proofs.Members.{Member, here, there, Member-append_left, Member-append_right, Member-get_or, All-from_members, Contains-from_Member, Member-from_Contains}

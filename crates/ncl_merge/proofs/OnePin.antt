@@ -12,8 +12,8 @@ use Rattle.ncl_gates.proofs.RegisterLaws.{register_no_gate}
 use Rattle.ncl_netlist.specs.declared.ids.NetId.{NetId}
 use Rattle.ncl_netlist.specs.declared.cell.Cell.{Cell}
 use Rattle.ncl_netlist.specs.Netlist.{NetlistData}
-use Rattle.ncl_origin.specs.Origin.{CellAt, OnPin, A}
-use Rattle.ncl_origin.specs.Rules.{pins_with}
+use Rattle.ncl_cell_rules.specs.Origin.{CellAt, OnPin, A}
+use Rattle.ncl_cell_rules.specs.Rules.{pins_with}
 use Rattle.ncl_shape.specs.declared.bank.Bank.{Bank}
 use Rattle.ncl_shape.specs.declared.rails.Rails.{Rails}
 use Rattle.ncl_shape.specs.declared.stage.StageCell.{StageCell}

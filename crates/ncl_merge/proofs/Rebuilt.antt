@@ -15,13 +15,13 @@ use Rattle.ncl_netlist.specs.Names.{same_name, name_number}
 use Rattle.ncl_netlist.specs.Netlist.{NetlistData, IsNetlist}
 use Rattle.ncl_netlist.specs.Parts.{port_names, net_of, cell_of, netlist_of, part_of}
 use Rattle.ncl_netlist.proofs.NameLists.{same_itself, name_number-lt-length, get_or-name_number, name_number-get_or, list_any-once_each}
-use Rattle.ncl_origin.specs.Origin.{IsCell, CellAt, IsGate, ReadsNet, RailOf, AckOf}
-use Rattle.ncl_origin.specs.CellTests.{is_gate}
-use Rattle.ncl_origin.specs.Free.{IsFree}
+use Rattle.ncl_cell_rules.specs.Origin.{IsCell, CellAt, IsGate, ReadsNet, RailOf, AckOf}
+use Rattle.ncl_cell_rules.specs.CellTests.{is_gate}
+use Rattle.ncl_cell_rules.specs.Free.{IsFree}
 use Rattle.ncl_base.proofs.Members.{Member, here, there, Member-append_left, Member-append_right, Member-map, member_of_map, Contains-from_Member, Member-from_Contains, Contains-from_slice_get, list_any-from_member}
-use Rattle.ncl_origin.proofs.Drivers.{cell_fits}
-use Rattle.ncl_origin.proofs.OriginLaws.{place_of}
-use Rattle.ncl_origin.proofs.GateRanks.{gate_ranks}
+use Rattle.ncl_cell_rules.proofs.Drivers.{cell_fits}
+use Rattle.ncl_cell_rules.proofs.OriginLaws.{place_of}
+use Rattle.ncl_cell_rules.proofs.GateRanks.{gate_ranks}
 use Rattle.ncl_shape.proofs.NetSources.{only_origin}
 use Rattle.ncl_merge.specs.Renamed.{renamed_net}
 use Rattle.ncl_merge.specs.Thinned.{moved, IsRailGate, IsThinGate, IsStood, IsOld, IsThinned}

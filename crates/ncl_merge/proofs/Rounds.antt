@@ -4,8 +4,8 @@ use Rattle.std.specs.Prelude.{All}
 use Rattle.std.proofs.lemmas.List.Sorted.{Contains-permutation, IsPermutation-sym}
 use Rattle.ncl_base.proofs.Members.{Contains-from_Member, Member-from_Contains}
 use Rattle.ncl_netlist.specs.Netlist.{NetlistData, IsNetlist}
-use Rattle.ncl_origin.specs.declared.fault.ShapeFault.{ShapeFault}
-use Rattle.ncl_origin.specs.declared.fault.ShapeFault.TheVariants.{UnusedPort, Cycle, Unpaired, Mixed, Loose, NoChain, TooWide, TooLong, Memory}
+use Rattle.ncl_cell_rules.specs.declared.fault.ShapeFault.{ShapeFault}
+use Rattle.ncl_cell_rules.specs.declared.fault.ShapeFault.TheVariants.{UnusedPort, Cycle, Unpaired, Mixed, Loose, NoChain, TooWide, TooLong, Memory}
 use Rattle.ncl_shape.specs.declared.stage.StageCell.{StageCell}
 use Rattle.ncl_shape.specs.Pipeline.{PipelineData}
 use Rattle.ncl_shape.specs.SamePipeline.{IsSameStage}

@@ -13,15 +13,15 @@ use Rattle.ncl_netlist.specs.declared.ids.NetId.{NetId}
 use Rattle.ncl_netlist.specs.declared.port.Port.{Port}
 use Rattle.ncl_netlist.specs.declared.cell.Cell.{Cell}
 use Rattle.ncl_netlist.specs.Netlist.{NetlistData}
-use Rattle.ncl_origin.specs.Origin.{IsCell, CellAt, IsGate, IsRegister, IsAck, ReadsNet, OnPin, A, B, RST, IsInputPort, IsOutputPort, IsOfBank, AcksBank, IsDataBank, Origin, FromPort, RailOf, AckOf, ComesFrom, port, rail, ack, gate, HasOnlyOrigin, LeadsTo, one, more}
-use Rattle.ncl_origin.specs.Rules.{IsReadPort, IsOffCycles, IsTied, IsUnmixed, IsGateOfOne, IsRegisterOfOne, IsAckOfOne, IsFirstOfBank, IsPaired, ack_pins, ack_pins_of, pins_with}
-use Rattle.ncl_origin.specs.CellTests.{is_gate}
+use Rattle.ncl_cell_rules.specs.Origin.{IsCell, CellAt, IsGate, IsRegister, IsAck, ReadsNet, OnPin, A, B, RST, IsInputPort, IsOutputPort, IsOfBank, AcksBank, IsDataBank, Origin, FromPort, RailOf, AckOf, ComesFrom, port, rail, ack, gate, HasOnlyOrigin, LeadsTo, one, more}
+use Rattle.ncl_cell_rules.specs.Rules.{IsReadPort, IsOffCycles, IsTied, IsUnmixed, IsGateOfOne, IsRegisterOfOne, IsAckOfOne, IsFirstOfBank, IsPaired, ack_pins, ack_pins_of, pins_with}
+use Rattle.ncl_cell_rules.specs.CellTests.{is_gate}
 use Rattle.std.proofs.lemmas.Bool.{cases_Bool, cases_eq, eq-eqb, ne_eqb, both_ways}
 use Rattle.std.proofs.lemmas.List.Sums.{sum_by-cons}
-use Rattle.ncl_origin.specs.Free.{IsFree}
+use Rattle.ncl_cell_rules.specs.Free.{IsFree}
 use Rattle.ncl_base.proofs.Members.{Member, here, there, member_cases, Member-map, slice_get-some, Contains-from_Member, Member-from_Contains, Contains-from_slice_get, slice_get-from_Contains}
-use Rattle.ncl_origin.proofs.Drivers.{driver_of, cell_fits, same_place}
-use Rattle.ncl_origin.proofs.OriginLaws.{place_of, sort_of, bank_of_register, bank_of_ack}
+use Rattle.ncl_cell_rules.proofs.Drivers.{driver_of, cell_fits, same_place}
+use Rattle.ncl_cell_rules.proofs.OriginLaws.{place_of, sort_of, bank_of_register, bank_of_ack}
 use Rattle.ncl_shape.proofs.NetSources.{only_origin}
 use Rattle.ncl_merge.specs.Renamed.{renamed_net}
 use Rattle.ncl_merge.proofs.Lists.{each}

@@ -7,11 +7,11 @@ use Rattle.ncl_gates.specs.Cell.{pins_of}
 use Rattle.ncl_netlist.specs.declared.ids.NetId.{NetId}
 use Rattle.ncl_netlist.specs.declared.cell.Cell.{Cell}
 use Rattle.ncl_netlist.specs.Netlist.{NetlistData}
-use Rattle.ncl_origin.specs.Origin.{IsCell, OnPin, A, B, IsInputPort, IsOutputPort, IsOfBank, FromPort, RailOf, AckOf, ComesFrom, port, HasOnlyOrigin}
-use Rattle.ncl_origin.specs.Rules.{IsRequest}
-use Rattle.ncl_origin.specs.Free.{IsFree}
+use Rattle.ncl_cell_rules.specs.Origin.{IsCell, OnPin, A, B, IsInputPort, IsOutputPort, IsOfBank, FromPort, RailOf, AckOf, ComesFrom, port, HasOnlyOrigin}
+use Rattle.ncl_cell_rules.specs.Rules.{IsRequest}
+use Rattle.ncl_cell_rules.specs.Free.{IsFree}
 use Rattle.ncl_base.proofs.Members.{Member-map, Contains-from_Member, Member-from_Contains, Contains-from_slice_get, slice_get-from_Contains}
-use Rattle.ncl_origin.proofs.OriginLaws.{place_of, driver_of_ack}
+use Rattle.ncl_cell_rules.proofs.OriginLaws.{place_of, driver_of_ack}
 use Rattle.ncl_shape.specs.Chain.{IsBank, IsInputOf, IsFirstBank, IsLastBank, Follows, HasOne, IsPath, end, next, IsChain, IsRoot, HasRegister, HasEnds, IsUnforked, IsAcknowledged, HasRoots, IsClosed, OnPinNamed, HasOneRole, IsDataApart, IsHead, IsChained, SomeRegister, TwoEnds, NoFork, OneChain, ChainedRequests, OneRootEach, ShownOutputs, OneRoleEach, WordsApart}
 use Rattle.ncl_shape.proofs.ChainLaws.{banks_of_chain}
 use Rattle.ncl_shape.proofs.NetSources.{only_origin}

@@ -8,10 +8,10 @@ use Rattle.ncl_base.specs.declared.word.TheConstants.{MOST_BITS}
 use Rattle.ncl_netlist.specs.declared.ids.NetId.{NetId}
 use Rattle.ncl_netlist.specs.declared.cell.Cell.{Cell}
 use Rattle.ncl_netlist.specs.Netlist.{NetlistData}
-use Rattle.ncl_origin.specs.Origin.{IsCell, CellAt, OnPin, A, B, IsOfBank, AcksBank, RailOf, ComesFrom}
-use Rattle.ncl_origin.specs.Free.{IsFree}
+use Rattle.ncl_cell_rules.specs.Origin.{IsCell, CellAt, OnPin, A, B, IsOfBank, AcksBank, RailOf, ComesFrom}
+use Rattle.ncl_cell_rules.specs.Free.{IsFree}
 use Rattle.ncl_base.proofs.Members.{Member, here, there, Member-map, Contains-from_Member, Member-from_Contains, Contains-from_slice_get, slice_get-from_Contains, slice_get-some}
-use Rattle.ncl_origin.proofs.OriginLaws.{place_of}
+use Rattle.ncl_cell_rules.proofs.OriginLaws.{place_of}
 use Rattle.ncl_shape.proofs.ChainLaws.{banks_of_chain}
 use Rattle.ncl_shape.specs.declared.bank.Bank.{Bank}
 use Rattle.ncl_shape.specs.declared.bank.Bit.{Bit}

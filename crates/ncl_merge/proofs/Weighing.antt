@@ -13,8 +13,8 @@ use Rattle.ncl_gates.specs.Gate.{arity_of}
 use Rattle.ncl_netlist.specs.declared.cell.Cell.{Cell}
 use Rattle.ncl_netlist.specs.declared.ids.NetId.{NetId}
 use Rattle.ncl_netlist.specs.Netlist.{NetlistData}
-use Rattle.ncl_origin.specs.Origin.{CellAt}
-use Rattle.ncl_origin.proofs.Drivers.{same_driver, same_place}
+use Rattle.ncl_cell_rules.specs.Origin.{CellAt}
+use Rattle.ncl_cell_rules.proofs.Drivers.{same_driver, same_place}
 use Rattle.ncl_shape.specs.declared.stage.StageCell.{StageCell}
 use Rattle.ncl_shape.specs.Stage.{StageData, rail_nets, nets_of, out_of}
 use Rattle.ncl_shape.specs.Pipeline.{PipelineData}

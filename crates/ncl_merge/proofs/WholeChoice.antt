@@ -9,9 +9,9 @@ use Rattle.ncl_gates.proofs.RegisterLaws.{register_no_gate, register_pins_of}
 use Rattle.ncl_netlist.specs.declared.ids.NetId.{NetId}
 use Rattle.ncl_netlist.specs.declared.cell.Cell.{Cell}
 use Rattle.ncl_netlist.specs.Netlist.{NetlistData}
-use Rattle.ncl_origin.specs.Origin.{IsCell, CellAt, IsGate, IsRegister, ReadsNet, OnPin, A, B, IsInputPort, IsOutputPort, IsOfBank, Origin, RailOf, AckOf, ComesFrom, gate}
-use Rattle.ncl_origin.proofs.Drivers.{cell_fits, same_driver, no_cell_drives_port}
-use Rattle.ncl_origin.proofs.OriginLaws.{sort_of, place_of, origin_within, bank_of_register, cell_of_rail}
+use Rattle.ncl_cell_rules.specs.Origin.{IsCell, CellAt, IsGate, IsRegister, ReadsNet, OnPin, A, B, IsInputPort, IsOutputPort, IsOfBank, Origin, RailOf, AckOf, ComesFrom, gate}
+use Rattle.ncl_cell_rules.proofs.Drivers.{cell_fits, same_driver, no_cell_drives_port}
+use Rattle.ncl_cell_rules.proofs.OriginLaws.{sort_of, place_of, origin_within, bank_of_register, cell_of_rail}
 use Rattle.ncl_shape.specs.declared.bank.Bank.{Bank}
 use Rattle.ncl_shape.specs.declared.stage.StageCell.{StageCell}
 use Rattle.ncl_shape.specs.Stage.{StageData, rail_nets, nets_of, out_of}

@@ -20,7 +20,7 @@ use Rattle.ncl_netlist.specs.declared.parts.PartCell.{PartCell}
 use Rattle.ncl_netlist.specs.Netlist.{NetlistData, IsNetlist, pin_names}
 use Rattle.ncl_netlist.specs.Names.{name_number}
 use Rattle.ncl_netlist.proofs.NameLists.{name_number-get_or}
-use Rattle.ncl_origin.specs.Origin.{CellAt}
+use Rattle.ncl_cell_rules.specs.Origin.{CellAt}
 use Rattle.ncl_shape.specs.declared.stage.StageCell.{StageCell}
 use Rattle.ncl_shape.specs.Stage.{StageData}
 use Rattle.ncl_shape.specs.Pipeline.{PipelineData}

@@ -1,7 +1,7 @@
 //! Folding the cells of a stage.
 ghost use Rattle.std.specs.Prelude.{All, ◌||◌, ◌+◌, ◌++◌, [], ◌∷◌, drop, IfOk, ℕ, true, false, ◌≡◌, ◌<◌, ◌≤◌, length, set, Some, None, slice_get, MatchOption};
 ghost use Rattle.ncl_shape.specs.declared.stage.StageCell.{StageCell as Cell};
-ghost use Rattle.ncl_origin.specs.Tables.{IsTable};
+ghost use Rattle.ncl_cell_rules.specs.Tables.{IsTable};
 ghost use Rattle.ncl_merge.specs.Fold.{FoldsTo, pins_of};
 ghost use Rattle.ncl_merge.specs.Folding.{HasNoFoldable, AreFewer, AreFoldsOf, AreAllFolds, with_slot, HasPlaces, HasNoneIn, IsFoldedStage, with_gate, IsFolding, CountsPins, IsFoldedAt, HasNoneAt, HasNone, present};
 

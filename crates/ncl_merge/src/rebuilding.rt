@@ -5,7 +5,7 @@ ghost use Rattle.ncl_netlist.specs.declared.ids.NetId.{NetId as NetNumber};
 ghost use Rattle.ncl_netlist.specs.Faults.{IsFaultless};
 ghost use Rattle.ncl_netlist.specs.Names.{AllDiffer};
 ghost use Rattle.ncl_netlist.specs.Parts.{HasAllPins, netlist_of, part_of, parts_said, port_names};
-ghost use Rattle.ncl_origin.specs.Tables.{IsTable};
+ghost use Rattle.ncl_cell_rules.specs.Tables.{IsTable};
 ghost use Rattle.ncl_shape.specs.declared.stage.StageCell.{StageCell as Gate};
 ghost use Rattle.ncl_merge.specs.Folding.{AreFewer};
 ghost use Rattle.ncl_merge.specs.Rebuilt.{kept, kept_parts, with_kept};

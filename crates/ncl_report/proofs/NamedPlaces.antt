@@ -5,10 +5,10 @@ use Rattle.std.proofs.lemmas.Option.{slice_get_within}
 use Rattle.ncl_netlist.specs.declared.cell.Cell.{Cell}
 use Rattle.ncl_netlist.specs.Netlist.{NetlistData, IsNetlist}
 use Rattle.ncl_netlist.proofs.NetlistLaws.{ports-le-nets}
-use Rattle.ncl_origin.specs.declared.fault.ShapeFault.{ShapeFault}
-use Rattle.ncl_origin.specs.declared.fault.ShapeFault.TheVariants.{UnusedPort, Cycle, Unpaired, Mixed, Loose, NoChain, TooWide, TooLong, Memory}
-use Rattle.ncl_origin.specs.Rules.{IsOffCycles, IsPaired, IsUnmixed, IsTied}
-use Rattle.ncl_origin.specs.Free.{AtCell, FailsFirst}
+use Rattle.ncl_cell_rules.specs.declared.fault.ShapeFault.{ShapeFault}
+use Rattle.ncl_cell_rules.specs.declared.fault.ShapeFault.TheVariants.{UnusedPort, Cycle, Unpaired, Mixed, Loose, NoChain, TooWide, TooLong, Memory}
+use Rattle.ncl_cell_rules.specs.Rules.{IsOffCycles, IsPaired, IsUnmixed, IsTied}
+use Rattle.ncl_cell_rules.specs.Free.{AtCell, FailsFirst}
 use Rattle.ncl_shape.specs.Pipeline.{PipelineData}
 use Rattle.ncl_shape.specs.Shape.{Shape, IsShapeFault}
 use Rattle.ncl_verdict.specs.declared.verdict.Verdict.{Verdict}

@@ -1,8 +1,8 @@
 -- The line that tells why a netlist has no shape.
 use Rattle.std.specs.Prelude.{ℕ, ◌<◌, List, ◌++◌, length, codes, decimal}
 use Rattle.ncl_netlist.specs.Netlist.{NetlistData}
-use Rattle.ncl_origin.specs.declared.fault.ShapeFault.{ShapeFault}
-use Rattle.ncl_origin.specs.declared.fault.ShapeFault.TheVariants.{UnusedPort, Cycle, Unpaired, Mixed, Loose, NoChain, TooWide, TooLong, Memory}
+use Rattle.ncl_cell_rules.specs.declared.fault.ShapeFault.{ShapeFault}
+use Rattle.ncl_cell_rules.specs.declared.fault.ShapeFault.TheVariants.{UnusedPort, Cycle, Unpaired, Mixed, Loose, NoChain, TooWide, TooLong, Memory}
 use Rattle.ncl_report.specs.Line.{line, out_of_memory, cell_name, net_name}
 
 -- the line that tells which rule of shape a netlist breaks, and where first

@@ -6,9 +6,9 @@ use Rattle.std.proofs.lemmas.Option.{slice_get_within}
 use Rattle.ncl_base.proofs.Members.{slice_get-some, slice_get-from_Contains}
 use Rattle.ncl_netlist.specs.declared.ids.NetId.{NetId}
 use Rattle.ncl_netlist.specs.Netlist.{NetlistData, IsNetlist}
-use Rattle.ncl_origin.specs.Free.{IsFree}
-use Rattle.ncl_origin.specs.Origin.{IsInputPort, IsOutputPort, FromPort, AckOf, HasOnlyOrigin, port}
-use Rattle.ncl_origin.proofs.OriginLaws.{port_origin}
+use Rattle.ncl_cell_rules.specs.Free.{IsFree}
+use Rattle.ncl_cell_rules.specs.Origin.{IsInputPort, IsOutputPort, FromPort, AckOf, HasOnlyOrigin, port}
+use Rattle.ncl_cell_rules.proofs.OriginLaws.{port_origin}
 use Rattle.ncl_shape.specs.Chain.{HasEnds, IsChain, IsAcknowledged, IsRoot}
 use Rattle.ncl_shape.specs.ChainSteps.{numbers_of}
 use Rattle.ncl_shape.proofs.ChainLaws.{place_in_chain}

@@ -3,13 +3,13 @@ use Rattle.std.proofs.Common.{◌≡◌, ℕ, Option, Some, None, ◌⊎◌, inl
 use Rattle.ncl_netlist.specs.declared.ids.NetId.{NetId}
 use Rattle.ncl_netlist.specs.declared.cell.Cell.{Cell}
 use Rattle.ncl_netlist.specs.Netlist.{NetlistData, IsNetlist}
-use Rattle.ncl_origin.specs.declared.source.Source.{Source}
-use Rattle.ncl_origin.specs.declared.source.Source.TheVariants.{Port, Rail, Ack, Many}
-use Rattle.ncl_origin.specs.Origin.{OnPin, A, IsInputPort, IsOfBank, Origin, FromPort, RailOf, AckOf, ComesFrom}
-use Rattle.ncl_origin.specs.Free.{IsFree}
-use Rattle.ncl_origin.specs.Sources.{IsSourceOf}
-use Rattle.ncl_origin.proofs.OriginLaws.{place_of, port_origin}
-use Rattle.ncl_origin.proofs.NetOrigins.{one_origin}
+use Rattle.ncl_cell_rules.specs.declared.source.Source.{Source}
+use Rattle.ncl_cell_rules.specs.declared.source.Source.TheVariants.{Port, Rail, Ack, Many}
+use Rattle.ncl_cell_rules.specs.Origin.{OnPin, A, IsInputPort, IsOfBank, Origin, FromPort, RailOf, AckOf, ComesFrom}
+use Rattle.ncl_cell_rules.specs.Free.{IsFree}
+use Rattle.ncl_cell_rules.specs.Sources.{IsSourceOf}
+use Rattle.ncl_cell_rules.proofs.OriginLaws.{place_of, port_origin}
+use Rattle.ncl_cell_rules.proofs.NetOrigins.{one_origin}
 use Rattle.ncl_shape.specs.Chain.{IsInputOf, IsFirstBank, Follows}
 use Rattle.ncl_shape.specs.ChainSteps.{IsFeedOf}
 use Rattle.ncl_shape.proofs.ChainLaws.{same_rails, first_follows_none}

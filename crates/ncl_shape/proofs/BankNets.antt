@@ -2,9 +2,9 @@
 use Rattle.std.proofs.Common.{ℕ, ◌<◌, List, length, get_or, refl}
 use Rattle.ncl_netlist.specs.declared.ids.NetId.{NetId}
 use Rattle.ncl_netlist.specs.Netlist.{NetlistData, IsNetlist}
-use Rattle.ncl_origin.specs.Origin.{B, RailOf}
-use Rattle.ncl_origin.proofs.OriginLaws.{bank_of_rail}
-use Rattle.ncl_origin.proofs.PinNumbers.{on_pin_within}
+use Rattle.ncl_cell_rules.specs.Origin.{B, RailOf}
+use Rattle.ncl_cell_rules.proofs.OriginLaws.{bank_of_rail}
+use Rattle.ncl_cell_rules.proofs.PinNumbers.{on_pin_within}
 use Rattle.ncl_shape.specs.Chain.{IsBank, Follows, IsChain}
 use Rattle.ncl_shape.specs.ChainSteps.{numbers_of}
 use Rattle.ncl_shape.proofs.ChainLaws.{banks_of_chain}

@@ -7,9 +7,9 @@ use Rattle.ncl_base.proofs.Members.{Contains-from_slice_get}
 use Rattle.ncl_netlist.specs.declared.ids.NetId.{NetId}
 use Rattle.ncl_netlist.specs.declared.cell.Cell.{Cell}
 use Rattle.ncl_netlist.specs.Netlist.{NetlistData, IsNetlist}
-use Rattle.ncl_origin.specs.Origin.{CellAt, IsRegister, OnPin, A}
-use Rattle.ncl_origin.proofs.PinNumbers.{no_net, register_pins, on_pin_of}
-use Rattle.ncl_origin.proofs.TableSteps.{cell_read}
+use Rattle.ncl_cell_rules.specs.Origin.{CellAt, IsRegister, OnPin, A}
+use Rattle.ncl_cell_rules.proofs.PinNumbers.{no_net, register_pins, on_pin_of}
+use Rattle.ncl_cell_rules.proofs.TableSteps.{cell_read}
 use Rattle.ncl_shape.specs.declared.bank.Bit.{Bit}
 use Rattle.ncl_shape.specs.Shape.{IsBitOf, AreBitsOf, AreRailsOf, AreInputsOf}
 use Rattle.ncl_shape.proofs.ShapeLaws.{same_cell}

@@ -1,9 +1,9 @@
 -- The fault that a pass answers is that of the netlist: the rules of the passes before it hold.
 use Rattle.ncl_netlist.specs.Netlist.{NetlistData}
-use Rattle.ncl_origin.specs.declared.fault.ShapeFault.{ShapeFault}
-use Rattle.ncl_origin.specs.declared.fault.ShapeFault.TheVariants.{UnusedPort, Cycle, Unpaired, Mixed, Loose, NoChain, TooWide, TooLong, Memory}
-use Rattle.ncl_origin.specs.Free.{IsFree}
-use Rattle.ncl_origin.specs.Origins.{ArePortsRead, AreOffCycles, ArePaired, AreUnmixed, IsCellFault}
+use Rattle.ncl_cell_rules.specs.declared.fault.ShapeFault.{ShapeFault}
+use Rattle.ncl_cell_rules.specs.declared.fault.ShapeFault.TheVariants.{UnusedPort, Cycle, Unpaired, Mixed, Loose, NoChain, TooWide, TooLong, Memory}
+use Rattle.ncl_cell_rules.specs.Free.{IsFree}
+use Rattle.ncl_cell_rules.specs.Origins.{ArePortsRead, AreOffCycles, ArePaired, AreUnmixed, IsCellFault}
 use Rattle.ncl_shape.specs.FoundChain.{IsChainFault}
 use Rattle.ncl_shape.specs.Shape.{PortsRead, OffCycles, InPairs, Unmixed, IsShapeFault}
 use Rattle.ncl_shape.proofs.RuleOrder.{RulesBelow, no_rule_below, one_rule_more}

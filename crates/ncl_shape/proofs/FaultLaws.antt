@@ -6,12 +6,12 @@ use Rattle.std.proofs.lemmas.List.{length-map}
 use Rattle.std.proofs.lemmas.Option.{slice_get_within}
 use Rattle.ncl_netlist.specs.Netlist.{NetlistData, IsNetlist}
 use Rattle.ncl_shape.specs.declared.bank.Bank.{Bank}
-use Rattle.ncl_origin.specs.declared.fault.ShapeFault.{ShapeFault}
-use Rattle.ncl_origin.specs.declared.fault.ShapeFault.TheVariants.{UnusedPort, Cycle, Unpaired, Mixed, Loose, NoChain, TooWide, TooLong, Memory}
-use Rattle.ncl_origin.specs.Rules.{IsReadPort, IsOffCycles, IsPaired, IsUnmixed, IsTied}
+use Rattle.ncl_cell_rules.specs.declared.fault.ShapeFault.{ShapeFault}
+use Rattle.ncl_cell_rules.specs.declared.fault.ShapeFault.TheVariants.{UnusedPort, Cycle, Unpaired, Mixed, Loose, NoChain, TooWide, TooLong, Memory}
+use Rattle.ncl_cell_rules.specs.Rules.{IsReadPort, IsOffCycles, IsPaired, IsUnmixed, IsTied}
 use Rattle.ncl_shape.specs.Chain.{IsChain, InnerRule, TwoEnds, inner_number, InnerHolds, BreaksInner}
 use Rattle.ncl_shape.specs.Pipeline.{PipelineData}
-use Rattle.ncl_origin.specs.Free.{IsFree, FailsFirst, AtCell}
+use Rattle.ncl_cell_rules.specs.Free.{IsFree, FailsFirst, AtCell}
 use Rattle.ncl_shape.specs.Shape.{IsNarrow, IsShort, AreBitsOf, Shape, Rule, PortsRead, OffCycles, InPairs, Unmixed, Tied, Chained, NarrowBanks, FewBanks, rule_number, RuleHolds, BreaksRule, rule_of, Broken}
 use Rattle.ncl_base.proofs.Members.{slice_get-some}
 use Rattle.ncl_shape.proofs.ChainLaws.{chain_is_one}

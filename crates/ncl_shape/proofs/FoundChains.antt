@@ -2,7 +2,7 @@
 use Rattle.std.proofs.Common.{◌≡◌, ℕ, List, Option, Some, ap, ◌∙◌}
 use Rattle.std.specs.Prelude.{slice_get}
 use Rattle.ncl_netlist.specs.Netlist.{NetlistData, IsNetlist}
-use Rattle.ncl_origin.specs.Free.{IsFree}
+use Rattle.ncl_cell_rules.specs.Free.{IsFree}
 use Rattle.ncl_shape.specs.Chain.{IsChain}
 use Rattle.ncl_shape.specs.ChainSteps.{AreNumbersOf}
 use Rattle.ncl_shape.specs.FoundChain.{number_at}

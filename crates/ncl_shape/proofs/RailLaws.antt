@@ -9,10 +9,10 @@ use Rattle.ncl_base.proofs.Lists.{pairs-head, pairs-tail}
 use Rattle.ncl_netlist.specs.declared.ids.NetId.{NetId}
 use Rattle.ncl_netlist.specs.declared.cell.Cell.{Cell}
 use Rattle.ncl_netlist.specs.Netlist.{NetlistData, IsNetlist}
-use Rattle.ncl_origin.specs.Origin.{OnPin, A, B, IsOfBank}
-use Rattle.ncl_origin.specs.Free.{IsFree}
-use Rattle.ncl_origin.proofs.AckPins.{ack_pin_is_one, ack_of_register}
-use Rattle.ncl_origin.proofs.CellTests.{same_net}
+use Rattle.ncl_cell_rules.specs.Origin.{OnPin, A, B, IsOfBank}
+use Rattle.ncl_cell_rules.specs.Free.{IsFree}
+use Rattle.ncl_cell_rules.proofs.AckPins.{ack_pin_is_one, ack_of_register}
+use Rattle.ncl_cell_rules.proofs.CellTests.{same_net}
 use Rattle.ncl_shape.specs.declared.bank.Bit.{Bit}
 use Rattle.ncl_shape.specs.declared.rails.Rails.{Rails}
 use Rattle.ncl_shape.specs.Stage.{rail_nets}

@@ -7,10 +7,10 @@ use Rattle.std.proofs.lemmas.Option.{slice_get_within}
 use Rattle.ncl_base.proofs.Members.{slice_get-some, slice_get-from_Contains, Contains-from_slice_get}
 use Rattle.ncl_netlist.specs.declared.ids.NetId.{NetId}
 use Rattle.ncl_netlist.specs.Netlist.{NetlistData, IsNetlist}
-use Rattle.ncl_origin.specs.Free.{IsFree}
-use Rattle.ncl_origin.specs.Origin.{AckOf}
-use Rattle.ncl_origin.proofs.NetOrigins.{one_origin, bank_of_ack_net}
-use Rattle.ncl_origin.proofs.OriginLaws.{origin_within}
+use Rattle.ncl_cell_rules.specs.Free.{IsFree}
+use Rattle.ncl_cell_rules.specs.Origin.{AckOf}
+use Rattle.ncl_cell_rules.proofs.NetOrigins.{one_origin, bank_of_ack_net}
+use Rattle.ncl_cell_rules.proofs.OriginLaws.{origin_within}
 use Rattle.ncl_shape.proofs.BankNets.{bank_within, chain_within}
 use Rattle.ncl_shape.specs.Chain.{HasOne, IsRoot, IsChain, HasRoots, IsAcknowledged}
 use Rattle.ncl_shape.specs.ChainSteps.{IsOnly, HasMore, AreOnly, IsOnlyOf, AreRootsOf, numbers_of, net_at}

@@ -9,13 +9,13 @@ use Rattle.ncl_gates.proofs.RegisterLaws.{register_no_gate}
 use Rattle.ncl_netlist.specs.declared.ids.NetId.{NetId}
 use Rattle.ncl_netlist.specs.declared.cell.Cell.{Cell}
 use Rattle.ncl_netlist.specs.Netlist.{NetlistData, IsNetlist}
-use Rattle.ncl_origin.specs.Origin.{IsCell, IsOfBank, IsOutputPort, RailOf, ComesFrom, rail}
-use Rattle.ncl_origin.proofs.OriginLaws.{sort_of, register_origin, ack_origin, cell_of_rail}
+use Rattle.ncl_cell_rules.specs.Origin.{IsCell, IsOfBank, IsOutputPort, RailOf, ComesFrom, rail}
+use Rattle.ncl_cell_rules.proofs.OriginLaws.{sort_of, register_origin, ack_origin, cell_of_rail}
 use Rattle.ncl_shape.specs.Chain.{HasOne, IsRoot, HasRoots, IsClosed, IsChain, IsHead, IsEnd}
 use Rattle.ncl_shape.specs.ChainSteps.{IsShownCell, IsShownPort, AreRootsOf, numbers_of}
 use Rattle.ncl_shape.proofs.ChainLaws.{head_is_one, head_of_path}
 use Rattle.ncl_shape.proofs.Places.{number_of_place}
-use Rattle.ncl_origin.proofs.PinNumbers.{no_net}
+use Rattle.ncl_cell_rules.proofs.PinNumbers.{no_net}
 
 module _ (n : NetlistData) (is : IsNetlist n) (first last root : ℕ) (is_root : IsRoot n first root) where
   -- where each cell and each port is shown the pipeline is closed

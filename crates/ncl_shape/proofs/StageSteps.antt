@@ -13,14 +13,14 @@ use Rattle.ncl_gates.specs.declared.cell_kind.CellKind.TheVariants.{Gate}
 use Rattle.ncl_netlist.specs.declared.ids.NetId.{NetId}
 use Rattle.ncl_netlist.specs.declared.cell.Cell.{Cell}
 use Rattle.ncl_netlist.specs.Netlist.{NetlistData, IsNetlist}
-use Rattle.ncl_origin.specs.Origin.{IsCell, CellAt, IsGate, ReadsNet, IsOfBank, RailOf, ComesFrom, gate}
-use Rattle.ncl_origin.specs.Free.{IsFree}
-use Rattle.ncl_origin.specs.GateGraph.{Drives}
-use Rattle.ncl_origin.specs.CellOrder.{IsCellOrder}
-use Rattle.ncl_origin.proofs.Drivers.{driver_of, cell_fits}
-use Rattle.ncl_origin.proofs.OriginLaws.{place_of, port_origin, register_origin, ack_origin, has_origin, sort_of}
-use Rattle.ncl_origin.proofs.NetOrigins.{one_origin}
-use Rattle.ncl_origin.proofs.OrderSteps.{new_at}
+use Rattle.ncl_cell_rules.specs.Origin.{IsCell, CellAt, IsGate, ReadsNet, IsOfBank, RailOf, ComesFrom, gate}
+use Rattle.ncl_cell_rules.specs.Free.{IsFree}
+use Rattle.ncl_cell_rules.specs.GateGraph.{Drives}
+use Rattle.ncl_cell_rules.specs.CellOrder.{IsCellOrder}
+use Rattle.ncl_cell_rules.proofs.Drivers.{driver_of, cell_fits}
+use Rattle.ncl_cell_rules.proofs.OriginLaws.{place_of, port_origin, register_origin, ack_origin, has_origin, sort_of}
+use Rattle.ncl_cell_rules.proofs.NetOrigins.{one_origin}
+use Rattle.ncl_cell_rules.proofs.OrderSteps.{new_at}
 use Rattle.ncl_shape.specs.declared.bank.Bit.{Bit}
 use Rattle.ncl_shape.specs.declared.rails.Rails.{Rails}
 use Rattle.ncl_shape.specs.declared.stage.StageCell.{StageCell}

@@ -9,7 +9,7 @@ use Rattle.ncl_base.proofs.Members.{Member, member_cases, All-from_members, slic
 use Rattle.ncl_base.proofs.Growing.{no_more_than}
 use Rattle.ncl_netlist.specs.declared.ids.NetId.{NetId}
 use Rattle.ncl_netlist.specs.Netlist.{NetlistData, IsNetlist}
-use Rattle.ncl_origin.specs.Free.{IsFree}
+use Rattle.ncl_cell_rules.specs.Free.{IsFree}
 use Rattle.ncl_shape.specs.Chain.{IsFirstBank, Follows, IsUnforked, HasChain, IsPath, end, next, IsChain}
 use Rattle.ncl_shape.specs.ChainSteps.{IsWalk, AreNumbersOf, AreAllNumbered, numbers_of}
 use Rattle.ncl_shape.proofs.ChainLaws.{head_is_one, follows_at, banks_of_chain, place_in_chain}

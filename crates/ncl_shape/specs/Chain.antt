@@ -3,8 +3,8 @@ use Rattle.std.specs.Prelude.{◌≡◌, ℕ, ◌+◌, ◌<◌, ◌⊎◌, List,
 use Rattle.ncl_gates.specs.Cell.{pins_of}
 use Rattle.ncl_netlist.specs.declared.cell.Cell.{Cell}
 use Rattle.ncl_netlist.specs.Netlist.{NetlistData}
-use Rattle.ncl_origin.specs.Origin.{IsCell, IsGate, IsRegister, OnPin, A, IsInputPort, IsOutputPort, IsOfBank, IsDataBank, RailOf, AckOf, ComesFrom, HasOnlyOrigin}
-use Rattle.ncl_origin.specs.Rules.{IsRequest}
+use Rattle.ncl_cell_rules.specs.Origin.{IsCell, IsGate, IsRegister, OnPin, A, IsInputPort, IsOutputPort, IsOfBank, IsDataBank, RailOf, AckOf, ComesFrom, HasOnlyOrigin}
+use Rattle.ncl_cell_rules.specs.Rules.{IsRequest}
 
 -- a bank, named by its request
 abbrev pub IsBank : NetlistData → ℕ → Type 0

@@ -4,9 +4,9 @@ use Rattle.std.specs.List.{slice_index_or}
 use Rattle.ncl_netlist.specs.declared.ids.NetId.{NetId}
 use Rattle.ncl_netlist.specs.declared.cell.Cell.{Cell}
 use Rattle.ncl_netlist.specs.Netlist.{NetlistData}
-use Rattle.ncl_origin.specs.declared.source.Source.{Source}
-use Rattle.ncl_origin.specs.declared.source.Source.TheVariants.{Port, Rail, Ack, Many}
-use Rattle.ncl_origin.specs.Origin.{IsRegister, IsOutputPort, RailOf, ComesFrom}
+use Rattle.ncl_cell_rules.specs.declared.source.Source.{Source}
+use Rattle.ncl_cell_rules.specs.declared.source.Source.TheVariants.{Port, Rail, Ack, Many}
+use Rattle.ncl_cell_rules.specs.Origin.{IsRegister, IsOutputPort, RailOf, ComesFrom}
 use Rattle.ncl_shape.specs.Chain.{IsBank, IsFirstBank, Follows, HasOne, IsPath, IsEnd, IsRoot}
 use Rattle.ncl_shape.specs.FoundChain.{number_at}
 

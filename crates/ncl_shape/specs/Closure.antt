@@ -8,7 +8,7 @@ use Rattle.ncl_gates.specs.Gate.{set_of}
 use Rattle.ncl_netlist.specs.declared.ids.NetId.{NetId}
 use Rattle.ncl_netlist.specs.declared.cell.Cell.{Cell}
 use Rattle.ncl_netlist.specs.Netlist.{NetlistData}
-use Rattle.ncl_origin.specs.CellTests.{data_test}
+use Rattle.ncl_cell_rules.specs.CellTests.{data_test}
 use Rattle.ncl_shape.specs.declared.rails.Rails.{Rails}
 use Rattle.ncl_shape.specs.Nets.{Nets, among, rounds}
 use Rattle.ncl_shape.specs.Stage.{named_rails}

@@ -4,8 +4,8 @@ use Rattle.std.specs.Prelude.{◌≡◌, ℕ, List, map, length, slice_get, Opti
 use Rattle.std.specs.List.{slice_index_or}
 use Rattle.ncl_netlist.specs.declared.ids.NetId.{NetId}
 use Rattle.ncl_netlist.specs.Netlist.{NetlistData}
-use Rattle.ncl_origin.specs.declared.fault.ShapeFault.{ShapeFault}
-use Rattle.ncl_origin.specs.declared.fault.ShapeFault.TheVariants.{UnusedPort, Cycle, Unpaired, Mixed, Loose, NoChain, TooWide, TooLong, Memory}
+use Rattle.ncl_cell_rules.specs.declared.fault.ShapeFault.{ShapeFault}
+use Rattle.ncl_cell_rules.specs.declared.fault.ShapeFault.TheVariants.{UnusedPort, Cycle, Unpaired, Mixed, Loose, NoChain, TooWide, TooLong, Memory}
 use Rattle.ncl_shape.specs.declared.chain.Chain.{Chain}
 use Rattle.ncl_shape.specs.Chain.{IsChain, IsRoot, BreaksInner}
 

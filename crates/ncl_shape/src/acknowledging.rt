@@ -1,12 +1,12 @@
 //! The fifth inner rule: the request of each bank but the last is the acknowledge of the next.
 ghost use Rattle.std.specs.Prelude.{◌↔◌, IsTrue};
-ghost use Rattle.ncl_origin.specs.Free.{IsFree};
-ghost use Rattle.ncl_origin.specs.Origins.{AreOrigins};
+ghost use Rattle.ncl_cell_rules.specs.Free.{IsFree};
+ghost use Rattle.ncl_cell_rules.specs.Origins.{AreOrigins};
 ghost use Rattle.ncl_shape.specs.Chain.{HasEnds, IsAcknowledged, IsChain};
 ghost use Rattle.ncl_shape.specs.ChainSteps.{numbers_of};
 
 use ncl_netlist::{NetId, Netlist};
-use ncl_origin::{Origins, Source, same_source};
+use ncl_cell_rules::{Origins, Source, same_source};
 
 /// Whether the request of each bank comes from the acknowledge cells of the next. That of the last is then the one
 /// that is an input port. Linear in the banks.

@@ -1,10 +1,10 @@
 //! The bits of the banks.
 ghost use Rattle.std.specs.Prelude.{◌≡◌, ◌<◌, IfOk, length, map};
 ghost use Rattle.std.specs.List.{AllZip};
-ghost use Rattle.ncl_origin.specs.Origin.{CellAt, IsAck};
-ghost use Rattle.ncl_origin.specs.Free.{IsFree};
-ghost use Rattle.ncl_origin.specs.GateGraph.{AreDrivers};
-ghost use Rattle.ncl_origin.specs.Origins.{AreOrigins};
+ghost use Rattle.ncl_cell_rules.specs.Origin.{CellAt, IsAck};
+ghost use Rattle.ncl_cell_rules.specs.Free.{IsFree};
+ghost use Rattle.ncl_cell_rules.specs.GateGraph.{AreDrivers};
+ghost use Rattle.ncl_cell_rules.specs.Origins.{AreOrigins};
 ghost use Rattle.ncl_shape.specs.FoundChain.{IsChainOf, requests_of};
 ghost use Rattle.ncl_shape.specs.FoundParts.{IsStart};
 ghost use Rattle.ncl_shape.specs.Shape.{AreBitsOf, IsBitOf};
@@ -15,7 +15,7 @@ use crate::chain::Chain;
 use ncl_base::Memory;
 use ncl_gates::CellKind;
 use ncl_netlist::{Cell, CellId, NetId, Netlist};
-use ncl_origin::{Origins, is_data_behind, register_behind};
+use ncl_cell_rules::{Origins, is_data_behind, register_behind};
 use std::alloc::Global;
 
 /// The value to which the bit is reset whose rails are two nets; `None` for NULL.

@@ -1,13 +1,13 @@
 //! The second inner rule: one bank reads input ports, and the request of one bank is an input port.
 ghost use Rattle.std.specs.Prelude.{◌<◌, ◌↔◌, IsTrue, MatchOption, length};
-ghost use Rattle.ncl_origin.specs.Free.{IsFree};
-ghost use Rattle.ncl_origin.specs.Origins.{AreOrigins};
+ghost use Rattle.ncl_cell_rules.specs.Free.{IsFree};
+ghost use Rattle.ncl_cell_rules.specs.Origins.{AreOrigins};
 ghost use Rattle.ncl_shape.specs.Chain.{HasEnds, HasOne, IsFirstBank, IsLastBank};
 ghost use Rattle.ncl_shape.specs.ChainSteps.{IsOnly};
 
 use crate::banks::feed;
 use ncl_netlist::{NetId, Netlist};
-use ncl_origin::{Origins, Source, same_source};
+use ncl_cell_rules::{Origins, Source, same_source};
 
 /// Whether the bank of a request reads input ports.
 fn is_first_bank(netlist: &Netlist, origins: &Origins, bank: NetId) -> bool

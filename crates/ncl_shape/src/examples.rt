@@ -1,6 +1,6 @@
 //! Worked examples of shape: what chains, what does not, and a completion tree that leaves out a bit.
 ghost use Rattle.std.specs.Prelude.{[], ◌∷◌};
-ghost use Rattle.ncl_origin.specs.declared.fault.ShapeFault.TheVariants.{Loose};
+ghost use Rattle.ncl_cell_rules.specs.declared.fault.ShapeFault.TheVariants.{Loose};
 ghost use Rattle.ncl_shape.specs.Chain.{BreaksInner, HasChain, IsChain};
 ghost use Rattle.ncl_shape.specs.Shape.{BreaksRule};
 ghost use Rattle.ncl_shape.specs.Examples.{bit_left_out, cut, three};

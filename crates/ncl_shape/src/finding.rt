@@ -1,8 +1,8 @@
 //! The shape of a netlist.
 ghost use Rattle.std.specs.Prelude.{◌≡◌, ◌≤◌, IfErr, IfOk, length, map};
 ghost use Rattle.std.specs.List.{AllZip};
-ghost use Rattle.ncl_origin.specs.Free.{IsFree};
-ghost use Rattle.ncl_origin.specs.Origins.{AreOrigins};
+ghost use Rattle.ncl_cell_rules.specs.Free.{IsFree};
+ghost use Rattle.ncl_cell_rules.specs.Origins.{AreOrigins};
 ghost use Rattle.ncl_shape.specs.declared.bank.TheConstants.{MOST_BANKS};
 ghost use Rattle.ncl_shape.specs.Chain.{IsChained};
 ghost use Rattle.ncl_shape.specs.FoundChain.{IsChainOf, requests_of};
@@ -18,7 +18,7 @@ use crate::staging::stages_between;
 use crate::widths::find_bits;
 use ncl_base::{Items, Memory};
 use ncl_netlist::Netlist;
-use ncl_origin::{Origins, ShapeFault, find_origins};
+use ncl_cell_rules::{Origins, ShapeFault, find_origins};
 use std::alloc::Global;
 
 /// The banks of a chain, with their bits. Linear in the banks.

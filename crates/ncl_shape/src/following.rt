@@ -1,7 +1,7 @@
 //! The third inner rule: no two banks follow one bank.
 ghost use Rattle.std.specs.Prelude.{◌<◌, ℕ, IfOk, MatchOption, length};
-ghost use Rattle.ncl_origin.specs.Free.{IsFree};
-ghost use Rattle.ncl_origin.specs.Origins.{AreOrigins};
+ghost use Rattle.ncl_cell_rules.specs.Free.{IsFree};
+ghost use Rattle.ncl_cell_rules.specs.Origins.{AreOrigins};
 ghost use Rattle.ncl_shape.specs.Chain.{Follows, IsUnforked};
 ghost use Rattle.ncl_shape.specs.ChainSteps.{AreOnly};
 
@@ -9,7 +9,7 @@ use crate::banks::feed;
 use crate::entries::put_once;
 use ncl_base::Memory;
 use ncl_netlist::{NetId, Netlist};
-use ncl_origin::{Origins, Source};
+use ncl_cell_rules::{Origins, Source};
 use std::alloc::Global;
 
 /// The bank that a bank follows; `None` at the first bank, and where the net is no request.

@@ -1,12 +1,12 @@
 //! The ninth inner rule: no bank that is reset to DATA is followed by one.
 ghost use Rattle.std.specs.Prelude.{◌<◌, ◌↔◌, ℕ, IsTrue, length};
-ghost use Rattle.ncl_origin.specs.Origin.{IsDataBank};
-ghost use Rattle.ncl_origin.specs.Origins.{AreOrigins};
+ghost use Rattle.ncl_cell_rules.specs.Origin.{IsDataBank};
+ghost use Rattle.ncl_cell_rules.specs.Origins.{AreOrigins};
 ghost use Rattle.ncl_shape.specs.Chain.{Follows, IsDataApart};
 ghost use Rattle.ncl_shape.specs.ChainSteps.{AreOnly};
 
 use ncl_netlist::{NetId, Netlist};
-use ncl_origin::Origins;
+use ncl_cell_rules::Origins;
 
 /// Whether the bank of a request and the bank that follows it are not both reset to DATA.
 fn is_apart(netlist: &Netlist, origins: &Origins, followers: &[Option<NetId>], bank: NetId) -> bool

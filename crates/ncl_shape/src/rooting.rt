@@ -1,16 +1,16 @@
 //! The sixth inner rule: each bank has one root, and that of the first bank is an output port.
 ghost use Rattle.std.specs.Prelude.{◌<◌, ◌↔◌, ◌⊎◌, ℕ, IfOk, IsTrue, MatchOption, length};
-ghost use Rattle.ncl_origin.specs.Free.{IsFree};
-ghost use Rattle.ncl_origin.specs.Origin.{IsOutputPort};
-ghost use Rattle.ncl_origin.specs.Origins.{AreOrigins};
-ghost use Rattle.ncl_origin.specs.Rules.{IsRequest};
+ghost use Rattle.ncl_cell_rules.specs.Free.{IsFree};
+ghost use Rattle.ncl_cell_rules.specs.Origin.{IsOutputPort};
+ghost use Rattle.ncl_cell_rules.specs.Origins.{AreOrigins};
+ghost use Rattle.ncl_cell_rules.specs.Rules.{IsRequest};
 ghost use Rattle.ncl_shape.specs.Chain.{HasRoots, IsAcknowledged, IsChain, IsRoot};
 ghost use Rattle.ncl_shape.specs.ChainSteps.{AreOnly, AreRootsOf, HasMore, numbers_of};
 
 use crate::entries::put_once;
 use ncl_base::Memory;
 use ncl_netlist::{NetId, Netlist};
-use ncl_origin::{Origins, Source, is_output_port};
+use ncl_cell_rules::{Origins, Source, is_output_port};
 use std::alloc::Global;
 
 /// Whether a net is a request or an output port.

@@ -3,9 +3,9 @@ ghost use Rattle.std.specs.Prelude.{◌≡◌, ℕ, IfOk, IfNone, IfSome, map};
 ghost use Rattle.std.specs.List.{AllZip};
 ghost use Rattle.ncl_gates.specs.declared.kind.Kind.{Kind};
 ghost use Rattle.ncl_gates.specs.declared.cell_kind.CellKind.TheVariants.{Gate};
-ghost use Rattle.ncl_origin.specs.Origin.{CellAt, ComesFrom, IsCell, RailOf};
-ghost use Rattle.ncl_origin.specs.Free.{IsFree};
-ghost use Rattle.ncl_origin.specs.Origins.{AreOrigins};
+ghost use Rattle.ncl_cell_rules.specs.Origin.{CellAt, ComesFrom, IsCell, RailOf};
+ghost use Rattle.ncl_cell_rules.specs.Free.{IsFree};
+ghost use Rattle.ncl_cell_rules.specs.Origins.{AreOrigins};
 ghost use Rattle.ncl_shape.specs.FoundChain.{IsChainOf, requests_of};
 ghost use Rattle.ncl_shape.specs.FoundParts.{AreGatesOf};
 ghost use Rattle.ncl_shape.specs.Shape.{IsGateOf};
@@ -16,7 +16,7 @@ use crate::stage::StageCell;
 use ncl_base::Memory;
 use ncl_gates::{CellKind, Kind};
 use ncl_netlist::{Cell, CellId, NetId, Netlist};
-use ncl_origin::{Origins, Source};
+use ncl_cell_rules::{Origins, Source};
 use std::alloc::Global;
 
 /// A gate cell as a cell of a stage.

@@ -2,7 +2,7 @@
 ghost use Rattle.std.specs.Prelude.{◌≡◌, ◌≤◌, IfOk, length, map};
 ghost use Rattle.std.specs.List.{AllZip};
 ghost use Rattle.ncl_netlist.specs.Netlist.{IsNetlist};
-ghost use Rattle.ncl_origin.specs.Free.{IsFree};
+ghost use Rattle.ncl_cell_rules.specs.Free.{IsFree};
 ghost use Rattle.ncl_shape.specs.declared.bank.TheConstants.{MOST_BANKS};
 ghost use Rattle.ncl_shape.specs.declared.bank.Bank.{Bank};
 ghost use Rattle.ncl_shape.specs.Chain.{Follows, IsPath};

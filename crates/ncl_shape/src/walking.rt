@@ -1,14 +1,14 @@
 //! The fourth inner rule: the banks form a chain.
 ghost use Rattle.std.specs.Prelude.{◌≡◌, ◌<◌, ◌≤◌, ◌+◌, ◌↔◌, All, IfOk, IsTrue, MatchOption, length};
 ghost use Rattle.ncl_netlist.specs.declared.ids.NetId.{NetId};
-ghost use Rattle.ncl_origin.specs.Free.{IsFree};
-ghost use Rattle.ncl_origin.specs.Origins.{AreOrigins};
+ghost use Rattle.ncl_cell_rules.specs.Free.{IsFree};
+ghost use Rattle.ncl_cell_rules.specs.Origins.{AreOrigins};
 ghost use Rattle.ncl_shape.specs.Chain.{Follows, HasChain, IsChain, IsFirstBank, IsUnforked};
 ghost use Rattle.ncl_shape.specs.ChainSteps.{AreAllNumbered, AreNumbersOf, AreOnly, IsOnly, IsWalk, numbers_of};
 
 use ncl_base::Memory;
 use ncl_netlist::{NetId, Netlist};
-use ncl_origin::Origins;
+use ncl_cell_rules::Origins;
 use std::alloc::Global;
 
 /// The banks from the first on, each the one that follows the bank before, in at most as many steps as there are

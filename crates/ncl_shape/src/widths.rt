@@ -1,8 +1,8 @@
 //! The seventh and the eighth rule of shape: no bank is too wide, and there are not too many banks.
 ghost use Rattle.std.specs.Prelude.{◌≡◌, ℕ, ◌<◌, ◌≤◌, [], All, IfErr, IfOk, MatchOption, OnOk, length, map};
 ghost use Rattle.std.specs.List.{AllZip, slice_index_or};
-ghost use Rattle.ncl_origin.specs.Free.{FailsFirst, IsFree};
-ghost use Rattle.ncl_origin.specs.Origins.{AreOrigins};
+ghost use Rattle.ncl_cell_rules.specs.Free.{FailsFirst, IsFree};
+ghost use Rattle.ncl_cell_rules.specs.Origins.{AreOrigins};
 ghost use Rattle.ncl_shape.specs.Chain.{IsChained};
 ghost use Rattle.ncl_shape.specs.FoundChain.{IsChainOf, requests_of};
 ghost use Rattle.ncl_shape.specs.FoundParts.{AreFewBitsOf};
@@ -13,7 +13,7 @@ use crate::bits::bits_of_banks;
 use crate::chain::Chain;
 use ncl_base::MOST_BITS;
 use ncl_netlist::Netlist;
-use ncl_origin::{Origins, ShapeFault};
+use ncl_cell_rules::{Origins, ShapeFault};
 use std::alloc::Global;
 
 /// The place of the first list of more bits than a word has. Linear in the lists.

@@ -4,7 +4,7 @@ use Rattle.std.specs.Prelude.{AllPairs}
 use Rattle.ncl_base.specs.declared.word.TheConstants.{MOST_BITS}
 use Rattle.ncl_netlist.specs.declared.cell.Cell.{Cell}
 use Rattle.ncl_netlist.specs.Netlist.{most_cells}
-use Rattle.ncl_origin.proofs.Drivers.{same_place}
+use Rattle.ncl_cell_rules.proofs.Drivers.{same_place}
 use Rattle.ncl_shape.specs.declared.stage.StageCell.{StageCell}
 use Rattle.ncl_shape.specs.Closure.{net_of}
 use Rattle.ncl_shape.specs.Pipeline.{PipelineData}

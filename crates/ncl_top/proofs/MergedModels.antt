@@ -16,7 +16,7 @@ use Rattle.ncl_netlist.specs.declared.cell.Cell.{Cell}
 use Rattle.ncl_netlist.specs.declared.parts.PartCell.{PartCell}
 use Rattle.ncl_netlist.specs.Netlist.{NetlistData}
 use Rattle.ncl_netlist.specs.Parts.{part_of}
-use Rattle.ncl_origin.proofs.Drivers.{same_driver}
+use Rattle.ncl_cell_rules.proofs.Drivers.{same_driver}
 use Rattle.ncl_shape.specs.declared.rails.Rails.{Rails}
 use Rattle.ncl_shape.specs.declared.stage.StageCell.{StageCell}
 use Rattle.ncl_shape.specs.Nets.{among}

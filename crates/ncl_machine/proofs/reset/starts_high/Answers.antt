@@ -1,6 +1,6 @@
 use Rattle.std.proofs.Common.{sym, subst, arith}
-use Rattle.ncl_origin.specs.Sources.{IsSourceOf}
-use Rattle.ncl_origin.proofs.PinNumbers.{output_within}
+use Rattle.ncl_cell_rules.specs.Sources.{IsSourceOf}
+use Rattle.ncl_cell_rules.proofs.PinNumbers.{output_within}
 use Rattle.ncl_machine.proofs.ResetDrivers.{bank_within}
 use Rattle.ncl_machine.proofs.reset.starts_high.Goals as goal
 

@@ -3,7 +3,7 @@ use Rattle.std.specs.Prelude.{All}
 use Rattle.ncl_netlist.specs.declared.ids.NetId.{NetId}
 use Rattle.ncl_netlist.specs.Netlist.{NetlistData}
 use Rattle.ncl_netlist.specs.Parts.{part_of}
-use Rattle.ncl_origin.specs.Tables.{IsTable}
+use Rattle.ncl_cell_rules.specs.Tables.{IsTable}
 use Rattle.ncl_shape.specs.declared.stage.StageCell.{StageCell}
 use Rattle.ncl_merge.specs.Rebuilt.{kept}
 use Rattle.ncl_merge.specs.Choice.{HaveGates, all_of, choice_by, choice_of, is_stage_net}

@@ -1,8 +1,8 @@
 use Rattle.std.proofs.Common.{◌<◌, length, get_or, sym, ap, ◌∙◌, subst, arith}
-use Rattle.ncl_origin.specs.Origin.{OnPin, A}
-use Rattle.ncl_origin.specs.Sources.{IsSourceOf}
-use Rattle.ncl_origin.proofs.PinNumbers.{no_net, register_pins, on_pin_of, pin_inside}
-use Rattle.ncl_origin.proofs.FirstRegisters.{first_within, first_read, first_none}
+use Rattle.ncl_cell_rules.specs.Origin.{OnPin, A}
+use Rattle.ncl_cell_rules.specs.Sources.{IsSourceOf}
+use Rattle.ncl_cell_rules.proofs.PinNumbers.{no_net, register_pins, on_pin_of, pin_inside}
+use Rattle.ncl_cell_rules.proofs.FirstRegisters.{first_within, first_read, first_none}
 use Rattle.ncl_shape.proofs.BankFeeds.{feed_of}
 use Rattle.ncl_shape.proofs.banks.feed.Goals as goal
 

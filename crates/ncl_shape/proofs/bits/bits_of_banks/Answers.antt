@@ -1,7 +1,7 @@
 use Rattle.std.proofs.Common.{◌≡◌, ◌+◌, [], length, map, replicate, sym, ap, ◌∙◌, subst, arith}
 use Rattle.std.specs.List.{AllZip}
-use Rattle.ncl_origin.specs.Origin.{CellAt}
-use Rattle.ncl_origin.proofs.TableSteps.{cell_read}
+use Rattle.ncl_cell_rules.specs.Origin.{CellAt}
+use Rattle.ncl_cell_rules.proofs.TableSteps.{cell_read}
 use Rattle.ncl_shape.specs.FoundChain.{requests_of}
 use Rattle.ncl_shape.proofs.ChainNumbers.{bank_number, one_place, as_many_requests, number_in}
 use Rattle.ncl_shape.proofs.BitSteps.{AreBitsBelow, lists_begin, lists_more, lists_pass, lists_whole}

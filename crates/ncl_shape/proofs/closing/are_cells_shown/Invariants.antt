@@ -1,5 +1,5 @@
 use Rattle.std.proofs.Common.{ℕ, ◌<◌}
-use Rattle.ncl_origin.specs.Free.{AtCell}
+use Rattle.ncl_cell_rules.specs.Free.{AtCell}
 use Rattle.ncl_shape.specs.ChainSteps.{IsShownCell}
 use Rattle.ncl_shape.proofs.closing.are_cells_shown.Given as goal
 

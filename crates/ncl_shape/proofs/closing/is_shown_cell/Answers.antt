@@ -1,9 +1,9 @@
 use Rattle.std.proofs.Common.{refl, sym, subst}
 use Rattle.std.proofs.lemmas.Bool.{both_ways}
-use Rattle.ncl_origin.specs.declared.source.Source.TheVariants.{Rail}
-use Rattle.ncl_origin.specs.Origin.{RailOf}
-use Rattle.ncl_origin.specs.Sources.{IsSourceOf}
-use Rattle.ncl_origin.proofs.PinNumbers.{output_within}
+use Rattle.ncl_cell_rules.specs.declared.source.Source.TheVariants.{Rail}
+use Rattle.ncl_cell_rules.specs.Origin.{RailOf}
+use Rattle.ncl_cell_rules.specs.Sources.{IsSourceOf}
+use Rattle.ncl_cell_rules.proofs.PinNumbers.{output_within}
 use Rattle.ncl_shape.proofs.NetSources.{source_of_origin}
 use Rattle.ncl_shape.proofs.closing.is_shown_cell.Goals as goal
 

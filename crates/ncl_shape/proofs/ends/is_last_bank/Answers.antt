@@ -1,7 +1,7 @@
 use Rattle.std.proofs.Common.{is_some, inl, inr, sym, ap, ◌∙◌}
 use Rattle.std.proofs.lemmas.Bool.{both_ways, cases_Bool}
-use Rattle.ncl_origin.proofs.SourceTests.{none_from, some_from, port_of_none, none_of_port}
-use Rattle.ncl_origin.proofs.TreeTests.{request_by_first, first_by_request}
+use Rattle.ncl_cell_rules.proofs.SourceTests.{none_from, some_from, port_of_none, none_of_port}
+use Rattle.ncl_cell_rules.proofs.TreeTests.{request_by_first, first_by_request}
 use Rattle.ncl_shape.proofs.ends.is_last_bank.Goals as goal
 
 pub returns-then-is_some : goal.returns-then-is_some

@@ -2,7 +2,7 @@ use Rattle.std.proofs.Common.{◌≡◌, sym, subst}
 use Rattle.std.specs.Prelude.{IfErr, IsErrAnd}
 use Rattle.std.specs.declared.result.Result.{Result}
 use Rattle.std.specs.declared.result.Result.TheVariants.{Ok, Err}
-use Rattle.ncl_origin.specs.declared.fault.ShapeFault.{ShapeFault}
+use Rattle.ncl_cell_rules.specs.declared.fault.ShapeFault.{ShapeFault}
 use Rattle.ncl_shape.specs.Shape.{IsShapeFault}
 use Rattle.ncl_shape.proofs.FaultCases.{of_cells, of_chain}
 use Rattle.ncl_shape.proofs.finding.shape.Goals as goal

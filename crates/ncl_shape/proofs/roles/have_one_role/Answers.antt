@@ -1,8 +1,8 @@
 use Rattle.std.proofs.Common.{length, refl, ap, arith, below_more}
 use Rattle.std.proofs.lemmas.Bool.{both_ways}
 use Rattle.std.proofs.lemmas.Option.{slice_get_within}
-use Rattle.ncl_origin.specs.Origin.{IsInputPort}
-use Rattle.ncl_origin.proofs.PortReads.{port_read}
+use Rattle.ncl_cell_rules.specs.Origin.{IsInputPort}
+use Rattle.ncl_cell_rules.proofs.PortReads.{port_read}
 use Rattle.ncl_shape.specs.Chain.{HasOneRole}
 use Rattle.ncl_shape.proofs.PortRoles.{role_of_counts, no_input}
 use Rattle.ncl_shape.proofs.roles.have_one_role.Goals as goal

@@ -1,5 +1,5 @@
 use Rattle.std.proofs.Common.{ℕ, ◌<◌}
-use Rattle.ncl_origin.specs.Origin.{IsInputPort}
+use Rattle.ncl_cell_rules.specs.Origin.{IsInputPort}
 use Rattle.ncl_shape.specs.Chain.{HasOneRole}
 use Rattle.ncl_shape.proofs.roles.have_one_role.Given as goal
 

@@ -1,7 +1,7 @@
 use Rattle.std.proofs.Common.{◌+◌, None, get_or, sym, ◌∙◌, subst, arith}
 use Rattle.std.proofs.lemmas.List.{get_or_read}
 use Rattle.std.proofs.lemmas.Option.{slice_get-get_or, MatchOption-at_some, MatchOption-at_none}
-use Rattle.ncl_origin.proofs.PinNumbers.{no_net}
+use Rattle.ncl_cell_rules.proofs.PinNumbers.{no_net}
 use Rattle.ncl_shape.specs.Chain.{IsRoot}
 use Rattle.ncl_shape.specs.ChainSteps.{AreOnly, IsOnly, IsOnlyOf}
 use Rattle.ncl_shape.proofs.Places.{no_entry}

@@ -1,7 +1,7 @@
 use Rattle.std.proofs.Common.{◌≡◌, ◌<◌, ℕ, None, Some, length, is_some, refl, sym, ap, ◌∙◌, arith, below_more}
 use Rattle.std.proofs.lemmas.Bool.{both_ways}
-use Rattle.ncl_origin.proofs.SourceTests.{none_from}
-use Rattle.ncl_origin.proofs.TreeTests.{request_by_first, first_by_request}
+use Rattle.ncl_cell_rules.proofs.SourceTests.{none_from}
+use Rattle.ncl_cell_rules.proofs.TreeTests.{request_by_first, first_by_request}
 use Rattle.ncl_shape.specs.Chain.{IsBank}
 use Rattle.ncl_shape.specs.FoundChain.{number_at}
 use Rattle.ncl_shape.proofs.BankNets.{bank_within}

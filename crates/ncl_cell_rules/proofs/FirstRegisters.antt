@@ -1,0 +1,172 @@
+-- The first register cell of each bank, found cell by cell.
+use Rattle.std.proofs.Common.{◌≡◌, ℕ, ◌+◌, ◌<◌, ◌≤◌, Bool, true, false, cond, not, List, [], length, take, get_or, set, replicate, Option, None, Some, is_some, inl, inr, refl, sym, ap, ◌∙◌, subst, arith, get_or-set_same, get_or-set_other, length-set}
+use Rattle.std.specs.Prelude.{position}
+use Rattle.std.specs.List.{position_from}
+use Rattle.std.specs.Option.{option_or}
+use Rattle.std.proofs.lemmas.Bool.{cases_eq, and_from, and_parts, both_ways, eq-eqb, eqb-true}
+use Rattle.ncl_gates.specs.declared.cell_kind.CellKind.TheVariants.{Register}
+use Rattle.ncl_gates.specs.Cell.{is_register}
+use Rattle.std.proofs.lemmas.List.{take_all, length-replicate, get_or-replicate, get_or_read}
+use Rattle.std.proofs.lemmas.Option.{slice_get_within, get_or_from_slice_get}
+use Rattle.ncl_base.proofs.Growing.{position_from-more, position_from-found}
+use Rattle.ncl_base.proofs.Members.{Member-from_Contains, Contains-from_slice_get, slice_get-some, first_passing}
+use Rattle.ncl_cell_rules.proofs.TableSteps.{cell_read}
+use Rattle.ncl_cell_rules.proofs.CellTests.{of_bank_passes, of_bank-from_test}
+use Rattle.ncl_netlist.specs.declared.cell.Cell.{Cell}
+use Rattle.ncl_netlist.specs.Netlist.{NetlistData}
+use Rattle.ncl_cell_rules.specs.Origin.{CellAt, IsRegister, OnPin, B, IsOfBank}
+use Rattle.ncl_cell_rules.specs.CellTests.{has_net, bank_test}
+use Rattle.ncl_cell_rules.specs.Tables.{AreFirsts, first_at}
+use Rattle.ncl_cell_rules.specs.Rules.{IsFirstOfBank}
+use Rattle.std.proofs.lemmas.Iterator.Adapters.{position_from-zero}
+use Rattle.std.proofs.lemmas.List.Quantifiers.{position-Some}
+
+-- the first register cells among the first k cells
+pub record AreFirstsOf (n : NetlistData) (k : ℕ) (firsts : List (Option ℕ)) : Type 0 where
+  pub sized : length firsts ≡ length n.nets
+  pub each : (net : ℕ) → net < length n.nets → get_or firsts net None ≡ position_from (bank_test net) 0 (take k n.cells)
+
+module _ (n : NetlistData) where
+  pub firsts_begin : (firsts : List (Option ℕ)) → firsts ≡ replicate (length n.nets) None → AreFirstsOf n 0 firsts
+  firsts_begin firsts none = record {
+    sized = ap length none ∙ length-replicate (length n.nets) None;
+    each = λ net lt. ap (λ l. get_or l net None) none ∙ get_or-replicate (length n.nets) net None None lt;
+  }
+
+  -- the entry of a net once one cell more was asked
+  first_more : (k : ℕ) (c : Cell) (firsts : List (Option ℕ)) → AreFirstsOf n k firsts → CellAt n k c → (net : ℕ) → net < length n.nets
+      → position_from (bank_test net) 0 (take (k + 1) n.cells) ≡ option_or (get_or firsts net None) (cond (bank_test net c) (Some k) None)
+  first_more k c firsts so_far at net lt =
+      let within : k < length n.cells = slice_get_within n.cells k c at in
+      position_from-more (bank_test net) n.cells k c within
+      ∙ ap (λ o. option_or o (cond (bank_test net (get_or n.cells k c)) (Some k) None)) (sym (so_far.each net lt))
+      ∙ ap (λ x. option_or (get_or firsts net None) (cond (bank_test net x) (Some k) None)) (get_or_from_slice_get n.cells k c c at)
+
+  -- a cell that is of no bank without a register cell so far changes nothing
+  pub firsts_same : (k : ℕ) (c : Cell) (firsts : List (Option ℕ)) → AreFirstsOf n k firsts → CellAt n k c
+      → ((net : ℕ) → net < length n.nets → bank_test net c ≡ true → is_some (get_or firsts net None) ≡ true) → AreFirstsOf n (k + 1) firsts
+  firsts_same k c firsts so_far at known = record {
+    sized = so_far.sized;
+    each = λ net lt. sym (first_more k c firsts so_far at net lt ∙ stays (get_or firsts net None) (bank_test net c) (known net lt));
+  }
+    where
+      stays : (o : Option ℕ) (b : Bool) → (b ≡ true → is_some o ≡ true) → option_or o (cond b (Some k) None) ≡ o
+      stays None true h = cc (h refl)
+      stays None false h = refl
+      stays (Some x) b h = refl
+
+  -- the first register cell of a bank is put down
+  pub firsts_put : (k : ℕ) (c : Cell) (request : ℕ) (firsts : List (Option ℕ)) → AreFirstsOf n k firsts → CellAt n k c → request < length n.nets
+      → get_or firsts request None ≡ None → ((net : ℕ) → bank_test net c ≡ true → net ≡ request) → bank_test request c ≡ true
+      → AreFirstsOf n (k + 1) (set firsts request (Some k))
+  firsts_put k c request firsts so_far at within none only is = record {
+    sized = length-set firsts request (Some k) ∙ so_far.sized;
+    each = λ net lt.
+        let sized = so_far.sized in
+        let more = first_more k c firsts so_far at net lt in
+        elim (cases_eq net request) [
+          | inl same ↦
+              ap (λ x. get_or (set firsts request (Some k)) x None) same ∙ get_or-set_same firsts request (Some k) None (omega (arith, within, sized))
+              ∙ sym (more ∙ ap (λ x. option_or (get_or firsts x None) (cond (bank_test x c) (Some k) None)) same ∙ ap (λ o. option_or o (cond (bank_test request c) (Some k) None)) none ∙ ap (λ b. cond b (Some k) None) is)
+          | inr other ↦
+              get_or-set_other firsts request net (Some k) None other
+              ∙ sym (more ∙ skips (get_or firsts net None) (bank_test net c) (λ yes. other (only net yes)))
+        ];
+  }
+    where
+      skips : (o : Option ℕ) (b : Bool) → (b ≡ true → ⊥) → option_or o (cond b (Some k) None) ≡ o
+      skips o true h = absurd (h refl)
+      skips None false h = refl
+      skips (Some x) false h = refl
+
+  pub firsts_whole : (k : ℕ) (firsts : List (Option ℕ)) → length n.cells ≤ k → AreFirstsOf n k firsts → AreFirsts n firsts
+  firsts_whole k firsts all so_far = record {
+    sized = so_far.sized;
+    each = λ net lt. so_far.each net lt ∙ ap (position_from (bank_test net) 0) (take_all k n.cells all);
+  }
+
+-- a cell that is no register cell is of no bank
+pub other_sort : (c : Cell) → is_register c.kind ≡ false → (net : ℕ) → bank_test net c ≡ true → ⊥
+other_sort c other net passes = both_ways (is_register c.kind) other (and_parts (is_register c.kind) _ passes).0
+
+-- a register cell is of the bank whose request is on B, and of no other
+pub is_of_own_bank : (c : Cell) (request : ℕ) → IsRegister c → OnPin c B request → bank_test request c ≡ true
+is_of_own_bank c request register on = and_from (is_register c.kind) _ register (ap (has_net request) on ∙ eq-eqb request request refl)
+
+pub bank_of_pin : (c : Cell) (request net : ℕ) → OnPin c B request → bank_test net c ≡ true → net ≡ request
+bank_of_pin c request net on passes =
+    let has = (and_parts (is_register c.kind) _ passes).1 in
+    sym (eqb-true request net (sym (ap (has_net net) on) ∙ has))
+
+-- a bank has a first register cell
+pub first_of_bank : (n : NetlistData) (bank : ℕ) (c : Cell) → IsOfBank n bank c → (first : Cell) × IsFirstOfBank n bank first
+first_of_bank n bank c of_bank =
+    let (k, first, at, passes, before) = first_passing (bank_test bank) c (Member-from_Contains n.cells c of_bank.0) (of_bank_passes n bank c of_bank) in (
+      first,
+      record {
+        place = k;
+        at = at;
+        of_bank = of_bank-from_test n bank first (Contains-from_slice_get n.cells k first at) passes;
+        first = λ j other lt at_other of_other. both_ways (bank_test bank other) (before j other lt at_other) (of_bank_passes n bank other of_other);
+      },
+    )
+
+-- a cell that is none
+no_cell : Cell
+no_cell = record { kind = Register; name = []; ins = record { items = [] }; out = record { 0 = 0 } }
+
+module _ (n : NetlistData) (firsts : List (Option ℕ)) (are : AreFirsts n firsts) (request : ℕ) (inside : request < length n.nets) where
+  at_position : position (bank_test request) n.cells ≡ first_at firsts request
+  at_position = position_from-zero (bank_test request) n.cells ∙ sym (are.each request inside)
+
+  -- what stands in the table is the first register cell of the bank
+  pub first_is : (k : ℕ) → first_at firsts request ≡ Some k → (first : Cell) × (is : IsFirstOfBank n request first) × (is.place ≡ k)
+  first_is k said =
+      let (within, passes, before) = position-Some (bank_test request) n.cells k no_cell (at_position ∙ said) in
+      let (first, at) = slice_get-some n.cells k within in
+      let here : get_or n.cells k no_cell ≡ first = get_or_from_slice_get n.cells k first no_cell at in (
+        first,
+        record {
+          place = k;
+          at = at;
+          of_bank = of_bank-from_test n request first (Contains-from_slice_get n.cells k first at) (ap (bank_test request) (sym here) ∙ passes);
+          first = λ j other lt at_other of_other.
+              let there : get_or n.cells j no_cell ≡ other = get_or_from_slice_get n.cells j other no_cell at_other in
+              both_ways (bank_test request other) (ap (bank_test request) (sym there) ∙ before j lt) (of_bank_passes n request other of_other);
+        },
+        refl,
+      )
+
+  -- the cell that is read at its place is this cell
+  pub first_within : (k : ℕ) (cells : List Cell) → first_at firsts request ≡ Some k → cells ≡ n.cells → k < length cells
+  first_within k cells said same =
+      let (first, is_first, place) = first_is k said in
+      let within = slice_get_within n.cells is_first.place first is_first.at in
+      omega (arith, within, place, ap length same)
+
+  pub first_read : (k : ℕ) (cells : List Cell) (c : Cell) → first_at firsts request ≡ Some k → cells ≡ n.cells → c ≡ get_or cells k c → IsFirstOfBank n request c
+  first_read k cells c said same read =
+      let (first, is_first, place) = first_is k said in
+      let at = cell_read n cells k c same (first_within k cells said same) read in
+      let there : CellAt n k first = subst (λ p. CellAt n p first) place is_first.at in
+      let one : first ≡ c = cc in
+      subst (IsFirstOfBank n request) one is_first
+
+  -- and where nothing stands there is no register cell
+  pub first_none : first_at firsts request ≡ None → (c : Cell) → IsOfBank n request c → ⊥
+  first_none none c of_bank =
+      let (k, lt, at) = of_bank.0 in
+      let (place, found) = position_from-found (bank_test request) 0 n.cells k c lt (ap (bank_test request) at ∙ of_bank_passes n request c of_bank) in
+      let clash : None ≡ Some place = sym none ∙ are.each request inside ∙ found in
+      cc
+
+-- what a read of an entry tells
+pub none_read : (firsts : List (Option ℕ)) (net : ℕ) (read : Option ℕ) (none : Bool) → net < length firsts → read ≡ get_or firsts net read → is_some read ≡ not none → none ≡ true → get_or firsts net None ≡ None
+none_read firsts net read none inside is tells holds = sym (get_or_read firsts net read inside is None) ∙ empty read (tells ∙ ap not holds)
+  where
+    empty : (o : Option ℕ) → is_some o ≡ false → o ≡ None
+    empty None e = refl
+    empty (Some x) e = absurd (both_ways false refl (sym e))
+
+pub some_read : (firsts : List (Option ℕ)) (net : ℕ) (read : Option ℕ) (none : Bool) → net < length firsts → read ≡ get_or firsts net read → is_some read ≡ not none → none ≡ false → is_some (get_or firsts net None) ≡ true
+some_read firsts net read none inside is tells fails = ap is_some (sym (get_or_read firsts net read inside is None)) ∙ tells ∙ ap not fails

@@ -1,0 +1,91 @@
+-- How many pins of acknowledge cells have a net, counted pin by pin and cell by cell.
+use Rattle.std.proofs.Common.{◌≡◌, ℕ, ◌+◌, ◌*◌, ◌<◌, ◌≤◌, List, length, take, get_or, set, replicate, inl, inr, sym, ap, ◌∙◌, arith, get_or-set_same, get_or-set_other}
+use Rattle.std.specs.Prelude.{sum_by}
+use Rattle.std.proofs.lemmas.Bool.{cases_eq, cases_lt, eq-eqb, ne_eqb}
+use Rattle.std.proofs.lemmas.List.{take_all, length-replicate, get_or-replicate, get_or_past}
+use Rattle.std.proofs.lemmas.List.Sums.{sum_by_more, sum_by-le, sum_by-take-le, count_by-le-length, count_by_more_yes, count_by_more_no}
+use Rattle.std.proofs.lemmas.Option.{slice_get_within, get_or_from_slice_get}
+use Rattle.ncl_netlist.specs.declared.ids.NetId.{NetId}
+use Rattle.ncl_netlist.specs.declared.cell.Cell.{Cell}
+use Rattle.ncl_netlist.specs.Netlist.{NetlistData, IsNetlist}
+use Rattle.ncl_gates.specs.declared.cell_kind.CellKind.{CellKind}
+use Rattle.ncl_gates.specs.declared.cell_kind.CellKind.TheVariants.{Gate, Register, RegisterData, Ack}
+use Rattle.ncl_gates.specs.Cell.{pins_of}
+use Rattle.ncl_cell_rules.specs.Origin.{CellAt}
+use Rattle.ncl_cell_rules.specs.Rules.{pins_with, ack_pins_of, ack_pins}
+use Rattle.ncl_cell_rules.specs.Tables.{IsTable}
+use Rattle.ncl_cell_rules.proofs.ReadTables.{has_pin}
+
+-- one pin more is counted
+pub counted_more : (counts : List ℕ) (was : ℕ) (pins : List NetId) (i : ℕ) (d : NetId) (net : ℕ) → i < length pins → net < length counts
+    → get_or counts net 0 ≡ was + pins_with net (take i pins)
+    → get_or (set counts (get_or pins i d).0 (get_or counts (get_or pins i d).0 0 + 1)) net 0 ≡ was + pins_with net (take (i + 1) pins)
+counted_more counts was pins i d net lt within so_far =
+    let pin = (get_or pins i d).0 in
+    elim (cases_eq net pin) [
+      | inl same ↦
+          let more = count_by_more_yes (has_pin net) pins i d lt (eq-eqb pin net (sym same)) in
+          let here = get_or-set_same counts pin (get_or counts pin 0 + 1) 0 (omega (arith, same, within)) in
+          let old : get_or counts pin 0 ≡ was + pins_with net (take i pins) = ap (λ x. get_or counts x 0) (sym same) ∙ so_far in
+          ap (λ x. get_or (set counts pin (get_or counts pin 0 + 1)) x 0) same ∙ omega (arith, here, old, more)
+      | inr other ↦
+          let more = count_by_more_no (has_pin net) pins i d lt (ne_eqb pin net (λ e. other (sym e))) in
+          get_or-set_other counts pin net (get_or counts pin 0 + 1) 0 other ∙ so_far ∙ ap (λ x. was + x) (sym more)
+    ]
+
+-- the counts of the first k cells
+pub record AreCountsOf (n : NetlistData) (k : ℕ) (counts : List ℕ) : Type 0 where
+  pub sized : length counts ≡ length n.nets
+  pub each : (net : ℕ) → net < length n.nets → get_or counts net 0 ≡ sum_by (λ (c : Cell). ack_pins_of c.kind net c.ins.items) (take k n.cells)
+
+module _ (n : NetlistData) where
+  pub counts_begin : (counts : List ℕ) → counts ≡ replicate (length n.nets) 0 → AreCountsOf n 0 counts
+  counts_begin counts none = record {
+    sized = ap length none ∙ length-replicate (length n.nets) 0;
+    each = λ net lt. ap (λ l. get_or l net 0) none ∙ get_or-replicate (length n.nets) net 0 0 lt;
+  }
+
+  -- one cell more
+  pub counts_more : (k : ℕ) (c : Cell) (counts new : List ℕ) → AreCountsOf n k counts → CellAt n k c → length new ≡ length counts
+      → ((net : ℕ) → net < length counts → get_or new net 0 ≡ get_or counts net 0 + ack_pins_of c.kind net c.ins.items) → AreCountsOf n (k + 1) new
+  counts_more k c counts new so_far at long counted = record {
+    sized = long ∙ so_far.sized;
+    each = λ net lt.
+        let within : k < length n.cells = slice_get_within n.cells k c at in
+        let sized = so_far.sized in
+        let pins : Cell → ℕ = λ c. ack_pins_of c.kind net c.ins.items in
+        let here : pins (get_or n.cells k c) ≡ pins c = ap pins (get_or_from_slice_get n.cells k c c at) in
+        let more : sum_by pins (take (k + 1) n.cells) ≡ sum_by pins (take k n.cells) + pins (get_or n.cells k c) = sum_by_more pins n.cells k c within in
+        let now : get_or new net 0 ≡ get_or counts net 0 + pins c = counted net (omega (arith, lt, sized)) in
+        let was : get_or counts net 0 ≡ sum_by pins (take k n.cells) = so_far.each net lt in
+        omega (arith, now, was, more, here);
+  }
+
+  pub counts_whole : (k : ℕ) (counts : List ℕ) → length n.cells ≤ k → AreCountsOf n k counts → IsTable n 0 (ack_pins n) counts
+  counts_whole k counts all so_far = record {
+    sized = so_far.sized;
+    each = λ net lt. so_far.each net lt ∙ ap (sum_by (λ (c : Cell). ack_pins_of c.kind net c.ins.items)) (take_all k n.cells all);
+  }
+
+-- an acknowledge cell has two input pins, so the counts stay small
+pins-few : (kind : CellKind) (net : ℕ) (ins : List NetId) → length ins + 1 ≡ length (pins_of kind) → ack_pins_of kind net ins ≤ 2
+pins-few Ack net ins pins = let most = count_by-le-length (has_pin net) ins in omega (arith, most, pins)
+pins-few Register net ins pins = omega arith
+pins-few RegisterData net ins pins = omega arith
+pins-few (Gate kind) net ins pins = omega arith
+
+pub few_counts : (n : NetlistData) → IsNetlist n → (k : ℕ) (counts : List ℕ) → AreCountsOf n k counts → (net : ℕ) → get_or counts net 0 ≤ 2 * 131072
+few_counts n is k counts so_far net =
+    elim (cases_lt net (length counts)) [
+      | inl inside ↦
+          let sized = so_far.sized in
+          let sum : get_or counts net 0 ≡ sum_by pins (take k n.cells) = so_far.each net (omega (arith, inside, sized)) in
+          let most = sum_by-take-le pins n.cells k in
+          let whole = sum_by-le pins 2 n.cells (λ i d lt. pins-few (get_or n.cells i d).kind net (get_or n.cells i d).ins.items (is.fits i d lt).pins) in
+          let few = is.few_cells in
+          omega (arith, sum, most, whole, few)
+      | inr past ↦ let none : get_or counts net 0 ≡ 0 = get_or_past counts net 0 past in omega (arith, none)
+    ]
+  where
+    pins : Cell → ℕ
+    pins c = ack_pins_of c.kind net c.ins.items

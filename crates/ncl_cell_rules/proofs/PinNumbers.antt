@@ -1,0 +1,54 @@
+-- How many input pins a cell has, and that the nets on them are there.
+use Rattle.std.proofs.Common.{◌≡◌, ℕ, ◌<◌, List, length, get_or, sym, ap, subst, arith}
+use Rattle.std.specs.Prelude.{All}
+use Rattle.std.proofs.lemmas.Option.{slice_get-get_or, slice_get_within, get_or_from_slice_get}
+use Rattle.ncl_gates.specs.Cell.{pins_of}
+use Rattle.ncl_gates.proofs.RegisterLaws.{register_pins_of}
+use Rattle.ncl_netlist.specs.declared.ids.NetId.{NetId}
+use Rattle.ncl_netlist.specs.declared.cell.Cell.{Cell}
+use Rattle.ncl_netlist.specs.Netlist.{NetlistData, IsNetlist}
+use Rattle.ncl_cell_rules.specs.Origin.{IsCell, IsRegister, IsAck, OnPin}
+use Rattle.ncl_cell_rules.proofs.Drivers.{cell_fits}
+
+-- a net that is none
+abbrev pub no_net : NetId
+no_net = record { 0 = 0 }
+
+module _ (n : NetlistData) (is : IsNetlist n) (c : Cell) (in_c : IsCell n c) where
+  pub register_pins : IsRegister c → length c.ins.items ≡ 3
+  register_pins register =
+      let pins = (cell_fits n is c in_c).pins in
+      let four : length (pins_of c.kind) ≡ 4 = ap length (register_pins_of c.kind register) in
+      omega (arith, pins, four)
+
+  pub ack_pins : IsAck c → length c.ins.items ≡ 2
+  ack_pins is_ack =
+      let pins = (cell_fits n is c in_c).pins in
+      let three : length (pins_of c.kind) ≡ 3 = ap (λ k. length (pins_of k)) is_ack in
+      omega (arith, pins, three)
+
+  pub output_within : c.out.0 < length n.nets
+  output_within = (cell_fits n is c in_c).output
+
+  pub pins_within : All (λ (net : NetId). net.0 < length n.nets) c.ins.items
+  pins_within = (cell_fits n is c in_c).inputs
+
+  pub pin_within : (pin : ℕ) → pin < length c.ins.items → (get_or c.ins.items pin no_net).0 < length n.nets
+  pin_within pin lt = (cell_fits n is c in_c).inputs pin no_net lt
+
+  -- the same of a list that is read in place of the pins
+  pub pin_inside : (pin : ℕ) (pins : List NetId) → pins ≡ c.ins.items → pin < length c.ins.items → (get_or pins pin no_net).0 < length n.nets
+  pin_inside pin pins are lt = subst (λ l. (get_or l pin no_net).0 < length n.nets) (sym are) (pin_within pin lt)
+
+-- a net on a pin of a cell is there
+pub on_pin_within : (n : NetlistData) → IsNetlist n → (c : Cell) → IsCell n c → (pin net : ℕ) → OnPin c pin net → net < length n.nets
+on_pin_within n is c in_c pin net on =
+    let id : NetId = record { 0 = net } in
+    subst (λ (x : NetId). x.0 < length n.nets) (get_or_from_slice_get c.ins.items pin id id on) ((cell_fits n is c in_c).inputs pin id (slice_get_within c.ins.items pin id on))
+
+-- the net that is read on a pin is on it
+pub on_pin : (c : Cell) (pin : ℕ) → pin < length c.ins.items → OnPin c pin (get_or c.ins.items pin no_net).0
+on_pin c pin lt = slice_get-get_or c.ins.items pin no_net lt
+
+pub on_pin_of : (c : Cell) (pin : ℕ) (pins : List NetId) → pins ≡ c.ins.items → pin < length c.ins.items → OnPin c pin (get_or pins pin no_net).0
+on_pin_of c pin pins are lt = subst (λ l. OnPin c pin (get_or l pin no_net).0) (sym are) (on_pin c pin lt)

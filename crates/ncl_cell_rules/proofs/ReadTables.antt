@@ -1,0 +1,74 @@
+-- Tables of what reads a net, one pin or one cell more at a time.
+use Rattle.std.proofs.Common.{◌≡◌, ℕ, ◌+◌, ◌<◌, ◌≤◌, Bool, true, false, ◌||◌, List, length, take, get_or, set, nat_eq, replicate, inl, inr, refl, sym, ap, ◌∙◌, arith, get_or-set_same, get_or-set_other}
+use Rattle.std.specs.List.{list_any}
+use Rattle.std.proofs.Math.Bool.{or-false}
+use Rattle.std.proofs.lemmas.Bool.{cases_eq, eq-eqb, ne_eqb, or_right}
+use Rattle.std.proofs.lemmas.List.{take_all}
+use Rattle.std.proofs.lemmas.List.Folds.{list_any_more}
+use Rattle.std.proofs.lemmas.List.{length-replicate, get_or-replicate}
+use Rattle.std.proofs.lemmas.Option.{slice_get_within, get_or_from_slice_get}
+use Rattle.ncl_netlist.specs.declared.ids.NetId.{NetId}
+use Rattle.ncl_netlist.specs.declared.cell.Cell.{Cell}
+use Rattle.ncl_netlist.specs.Netlist.{NetlistData}
+use Rattle.ncl_cell_rules.specs.Origin.{CellAt}
+use Rattle.ncl_cell_rules.specs.Tables.{IsTable}
+
+-- a pin has the net
+abbrev pub has_pin : ℕ → NetId → Bool
+has_pin net pin = nat_eq pin.0 net
+
+or-assoc : (a b c : Bool) → (a || (b || c)) ≡ ((a || b) || c)
+or-assoc true b c = refl
+or-assoc false b c = refl
+
+-- one pin more is marked
+pub marked_more : (flags : List Bool) (was : Bool) (pins : List NetId) (i : ℕ) (d : NetId) (net : ℕ) → i < length pins → net < length flags
+    → get_or flags net false ≡ (was || list_any (has_pin net) (take i pins))
+    → get_or (set flags (get_or pins i d).0 true) net false ≡ (was || list_any (has_pin net) (take (i + 1) pins))
+marked_more flags was pins i d net lt within so_far =
+    let more : list_any (has_pin net) (take (i + 1) pins) ≡ (list_any (has_pin net) (take i pins) || nat_eq (get_or pins i d).0 net) = list_any_more (has_pin net) pins i d lt in
+    let whole : (was || list_any (has_pin net) (take (i + 1) pins)) ≡ ((was || list_any (has_pin net) (take i pins)) || nat_eq (get_or pins i d).0 net) =
+    ap (λ b. was || b) more ∙ or-assoc was (list_any (has_pin net) (take i pins)) (nat_eq (get_or pins i d).0 net) in
+    elim (cases_eq net (get_or pins i d).0) [
+      | inl same ↦
+          ap (λ x. get_or (set flags (get_or pins i d).0 true) x false) same
+          ∙ get_or-set_same flags (get_or pins i d).0 true false (omega (arith, same, within))
+          ∙ sym (whole ∙ or_right (was || list_any (has_pin net) (take i pins)) _ (eq-eqb (get_or pins i d).0 net (sym same)))
+      | inr other ↦
+          get_or-set_other flags (get_or pins i d).0 net true false other ∙ so_far
+          ∙ sym (whole ∙ ap (λ b. (was || list_any (has_pin net) (take i pins)) || b) (ne_eqb (get_or pins i d).0 net (λ e. other (sym e))) ∙ or-false (was || list_any (has_pin net) (take i pins)))
+    ]
+
+-- the flags that are known once the first k cells were asked by a test
+pub record AreFlagsOf (n : NetlistData) (test : ℕ → Cell → Bool) (k : ℕ) (flags : List Bool) : Type 0 where
+  pub sized : length flags ≡ length n.nets
+  pub each : (net : ℕ) → net < length n.nets → get_or flags net false ≡ list_any (test net) (take k n.cells)
+
+module _ (n : NetlistData) (test : ℕ → Cell → Bool) where
+  -- before any cell no flag is set
+  pub flags_begin : (flags : List Bool) → flags ≡ replicate (length n.nets) false → AreFlagsOf n test 0 flags
+  flags_begin flags none = record {
+    sized = ap length none ∙ length-replicate (length n.nets) false;
+    each = λ net lt. ap (λ l. get_or l net false) none ∙ get_or-replicate (length n.nets) net false false lt;
+  }
+
+  -- one cell more, whose pins were marked where the test may hold
+  pub flags_more : (k : ℕ) (c : Cell) (flags new : List Bool) → AreFlagsOf n test k flags → CellAt n k c → length new ≡ length flags
+      → ((net : ℕ) → net < length flags → get_or new net false ≡ (get_or flags net false || test net c)) → AreFlagsOf n test (k + 1) new
+  flags_more k c flags new so_far at long marked = record {
+    sized = long ∙ so_far.sized;
+    each = λ net lt.
+        let within : k < length n.cells = slice_get_within n.cells k c at in
+        let sized = so_far.sized in
+        let here : get_or n.cells k c ≡ c = get_or_from_slice_get n.cells k c c at in
+        marked net (omega (arith, lt, sized))
+        ∙ ap (λ b. b || test net c) (so_far.each net lt)
+        ∙ sym (list_any_more (test net) n.cells k c within ∙ ap (λ x. list_any (test net) (take k n.cells) || test net x) here);
+  }
+
+  -- after all cells the table is whole
+  pub flags_whole : (k : ℕ) (flags : List Bool) → length n.cells ≤ k → AreFlagsOf n test k flags → IsTable n false (λ net. list_any (test net) n.cells) flags
+  flags_whole k flags all so_far = record {
+    sized = so_far.sized;
+    each = λ net lt. so_far.each net lt ∙ ap (list_any (test net)) (take_all k n.cells all);
+  }

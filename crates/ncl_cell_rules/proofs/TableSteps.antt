@@ -1,0 +1,91 @@
+-- Tables of nets that grow cell by cell.
+use Rattle.std.proofs.Common.{◌≡◌, ◌≢◌, ℕ, ◌+◌, ◌<◌, ◌≤◌, List, length, get_or, set, Option, Some, None, inl, inr, sym, ap, ◌∙◌, subst, arith, get_or-set_same, get_or-set_other, length-set}
+use Rattle.std.specs.Prelude.{slice_get}
+use Rattle.std.proofs.lemmas.Bool.{cases_eq}
+use Rattle.std.proofs.lemmas.Option.{slice_get_within, slice_get-get_or}
+use Rattle.ncl_netlist.specs.declared.cell.Cell.{Cell}
+use Rattle.ncl_netlist.specs.Netlist.{NetlistData, IsNetlist}
+use Rattle.ncl_cell_rules.specs.Origin.{CellAt}
+use Rattle.ncl_base.proofs.Members.{Contains-from_slice_get}
+use Rattle.ncl_cell_rules.proofs.Drivers.{same_place, cell_fits}
+use Rattle.ncl_cell_rules.specs.Free.{AtCell}
+use Rattle.ncl_cell_rules.specs.CellOrder.{IsCellOrder}
+use Rattle.ncl_cell_rules.specs.GateGraph.{Drives, driver_at, AreDriversBelow, AreDrivers}
+
+-- the table of one cell more
+pub drivers_more : (n : NetlistData) → IsNetlist n → (limit : ℕ) (drivers : List (Option ℕ)) (c : Cell) → AreDriversBelow n limit drivers → CellAt n limit c → AreDriversBelow n (limit + 1) (set drivers c.out.0 (Some limit))
+drivers_more n is limit drivers c below at = record {
+  sized = length-set drivers c.out.0 (Some limit) ∙ below.sized;
+  drives = λ net place said. elim (cases_eq net c.out.0) [
+    | inl same ↦ let one : limit ≡ place = some_same limit place (sym (at_out net same) ∙ said) in subst (λ p. Drives n p net) one (c, at, sym same)
+    | inr other ↦ below.drives net place (sym (get_or-set_other drivers c.out.0 net (Some limit) None other) ∙ said)
+  ];
+  below = λ net place said. elim (cases_eq net c.out.0) [
+    | inl same ↦ let one : limit ≡ place = some_same limit place (sym (at_out net same) ∙ said) in omega (arith, one)
+    | inr other ↦ let less = below.below net place (sym (get_or-set_other drivers c.out.0 net (Some limit) None other) ∙ said) in omega (arith, less)
+  ];
+  driven = λ net place (d, at_d, out) less. elim (cases_eq net c.out.0) [
+    | inl same ↦ let one : limit ≡ place = same_place n is limit place c d at at_d (sym same ∙ sym out) in at_out net same ∙ ap Some one
+    | inr other ↦
+        let differ : place ≢ limit = λ e. other (sym out ∙ ap (λ (x : Cell). x.out.0) (cell_same d c (sym at_d ∙ ap (slice_get n.cells) e ∙ at))) in
+        get_or-set_other drivers c.out.0 net (Some limit) None other ∙ below.driven net place (d, at_d, out) (omega (arith, less, differ))
+  ];
+}
+  where
+    some_same : (x y : ℕ) → Some x ≡ Some y → x ≡ y
+    some_same x y e = cc
+
+    cell_same : (x y : Cell) → Some x ≡ Some y → x ≡ y
+    cell_same x y e = cc
+
+    inside : c.out.0 < length drivers
+    inside =
+        let fits = cell_fits n is c (Contains-from_slice_get n.cells limit c at) in
+        let sized = below.sized in
+        omega (arith, fits.output, sized)
+
+    at_out : (net : ℕ) → net ≡ c.out.0 → driver_at (set drivers c.out.0 (Some limit)) net ≡ Some limit
+    at_out net same = ap (driver_at (set drivers c.out.0 (Some limit))) same ∙ get_or-set_same drivers c.out.0 (Some limit) None inside
+
+-- after all cells the table is whole
+pub drivers_whole : (n : NetlistData) → IsNetlist n → (limit : ℕ) (drivers : List (Option ℕ)) → length n.cells ≤ limit → AreDriversBelow n limit drivers → AreDrivers n drivers
+drivers_whole n is limit drivers all below = record {
+  netlist = is;
+  sized = below.sized;
+  drives = below.drives;
+  driven = λ net place (c, at, out).
+      let within = slice_get_within n.cells place c at in
+      below.driven net place (c, at, out) (omega (arith, within, all));
+}
+
+-- the cell that a loop over the cells reads stands at its place
+pub cell_read : (n : NetlistData) (cells : List Cell) (k : ℕ) (c : Cell) → cells ≡ n.cells → k < length cells → c ≡ get_or cells k c → CellAt n k c
+cell_read n cells k c are lt read = ap (λ (l : List Cell). slice_get l k) (sym are) ∙ slice_get-get_or cells k c lt ∙ ap Some (sym read)
+
+-- what an entry of the table of drivers leads to: a place of a cell, and the cell that is read there drives the net
+module _ (n : NetlistData) (drivers : List (Option ℕ)) (are : AreDrivers n drivers) (net place : ℕ) where
+  pub driver_within : (cells : List Cell) → cells ≡ n.cells → driver_at drivers net ≡ Some place → place < length cells
+  driver_within cells same said =
+      let (c, at, out) = are.drives net place said in
+      let within = slice_get_within n.cells place c at in
+      omega (arith, within, ap length same)
+
+  pub driver_is : (cells : List Cell) (c : Cell) → cells ≡ n.cells → driver_at drivers net ≡ Some place → c ≡ get_or cells place c → CellAt n place c × (c.out.0 ≡ net)
+  driver_is cells c same said read =
+      let (d, at_d, out) = are.drives net place said in
+      let at = cell_read n cells place c same (driver_within cells same said) read in
+      let one : c ≡ d = cc in
+      (at, ap (λ (x : Cell). x.out.0) one ∙ out)
+
+-- the cell that is read at a place of an order of all cells
+pub cell_of_order : (n : NetlistData) (order : List ℕ) → IsCellOrder n order → (k : ℕ) → k < length order → (cells : List Cell) (c : Cell) → cells ≡ n.cells → c ≡ get_or cells (get_or order k 0) c → CellAt n (get_or order k 0) c
+cell_of_order n order ordered k lt cells c same read =
+    let inside = ordered.inside k 0 lt in
+    cell_read n cells (get_or order k 0) c same (omega (arith, inside, ap length same)) read
+
+-- a rule that holds of the cell at a place holds at the place
+pub rule_at : (n : NetlistData) (Rule : NetlistData → Cell → Type 0) (k : ℕ) (c : Cell) → CellAt n k c → Rule n c → AtCell Rule n k
+rule_at n Rule k c at holds = λ d at_d.
+    let same : Some c ≡ Some d = sym at ∙ at_d in
+    let one : c ≡ d = cc in
+    subst (Rule n) one holds

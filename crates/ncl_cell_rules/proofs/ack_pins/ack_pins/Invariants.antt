@@ -1,0 +1,5 @@
+use Rattle.ncl_cell_rules.proofs.PinCounts.{AreCountsOf}
+use Rattle.ncl_cell_rules.proofs.ack_pins.ack_pins.Given as goal
+
+abbrev pub invariant-loop-cell : goal.invariant-loop-cell
+invariant-loop-cell l = AreCountsOf l.netlist l.cell-index l.counts.items

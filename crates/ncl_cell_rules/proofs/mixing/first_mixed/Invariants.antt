@@ -1,0 +1,7 @@
+use Rattle.std.proofs.Common.{ℕ, ◌<◌}
+use Rattle.ncl_cell_rules.specs.Rules.{IsUnmixed}
+use Rattle.ncl_cell_rules.specs.Free.{AtCell}
+use Rattle.ncl_cell_rules.proofs.mixing.first_mixed.Given as goal
+
+abbrev pub invariant-loop-place : goal.invariant-loop-place
+invariant-loop-place l = (j : ℕ) → j < l.place → AtCell IsUnmixed l.netlist j

@@ -1,0 +1,6 @@
+use Rattle.ncl_cell_rules.specs.CellTests.{gate_reads_test}
+use Rattle.ncl_cell_rules.proofs.ReadTables.{AreFlagsOf}
+use Rattle.ncl_cell_rules.proofs.reading.gate_reads.Given as goal
+
+abbrev pub invariant-loop-cell : goal.invariant-loop-cell
+invariant-loop-cell l = AreFlagsOf l.netlist gate_reads_test l.cell-index l.flags.items

@@ -1,0 +1,14 @@
+use Rattle.std.proofs.Common.{get_or, sym, subst}
+use Rattle.std.proofs.lemmas.List.{take_more}
+use Rattle.ncl_netlist.specs.declared.ids.NetId.{NetId}
+use Rattle.ncl_cell_rules.specs.Sources.{IsSummary, OfNets}
+use Rattle.ncl_cell_rules.proofs.SourceSteps.{joined}
+use Rattle.ncl_cell_rules.proofs.source.source_of_nets.Goals as goal
+
+pub loop-k-preserved : goal.loop-k-preserved
+loop-k-preserved c =
+    let k = c.loop-k.k in
+    let nets = c.args.nets.now in
+    let zero : NetId = record { 0 = 0 } in
+    let source = joined c.args.netlist.now _ (get_or nets k zero) _ _ _ c.join-source.ensures c.loop-k.invariant (c.requires.known k zero c.loop-k-test.true) in
+    subst (λ l. IsSummary (OfNets c.args.netlist.now l) c.join-source.result) (sym (take_more nets k zero c.loop-k-test.true)) source

@@ -1,0 +1,156 @@
+//! The first five rules of shape, and what they leave known.
+ghost use Rattle.std.specs.Prelude.{◌≡◌, ◌<◌, false, IfErr, IfOk, OnOk, length};
+ghost use Rattle.std.specs.List.{slice_index_or};
+ghost use Rattle.ncl_cell_rules.specs.Free.{IsFree};
+ghost use Rattle.ncl_cell_rules.specs.GateGraph.{AreDrivers, driver_at};
+ghost use Rattle.ncl_cell_rules.specs.Sources.{source_at};
+ghost use Rattle.ncl_cell_rules.specs.Tables.{first_at};
+ghost use Rattle.ncl_cell_rules.specs.CellOrder.{IsCellOrder};
+ghost use Rattle.ncl_cell_rules.specs.Origins.{AreOffCycles, AreOrigins, ArePaired, IsCellFault, IsOrderFault};
+
+use crate::ack_pins::ack_pins;
+use crate::data_banks::data_banks;
+use crate::driver_table::drivers;
+use crate::fault::ShapeFault;
+use crate::first_registers::first_registers;
+use crate::gate_graph::gate_graph;
+use crate::mixing::first_mixed;
+use crate::net_sources::net_sources;
+use crate::pairing::first_unpaired;
+use crate::ports_read::first_unread;
+use crate::reading::{gate_reads, reads};
+use crate::source::Source;
+use crate::tying::first_loose;
+use ncl_base::Memory;
+use ncl_netlist::{CellId, NetId, Netlist};
+use std::alloc::Global;
+
+/// What is known of a netlist that keeps the first five rules of shape. Tables have an entry for each net.
+#[derive(Drop)]
+pub struct Origins {
+    /// The place of the cell that drives the net; `None` at an input port.
+    pub drivers: Vec<Option<u32>>,
+    /// The place of the first register cell that has the net on B; `None` where the net is no request.
+    pub firsts: Vec<Option<u32>>,
+    /// Whether the net is the request of a bank that is reset to DATA.
+    pub data_banks: Vec<bool>,
+    /// All cells, each gate cell after those that drive its pins.
+    pub order: Vec<u32>,
+    /// Where the net comes from.
+    pub sources: Vec<Source>,
+}
+
+impl Origins {
+    /// Where a net comes from.
+    pub fn source(&self, net: NetId) -> Source
+        requires { net.0 < length self.now.sources.items }
+        ensures { result ≡ source_at self.now.sources.items net.0 }
+    {
+        self.sources[net.0 as usize]
+    }
+
+    /// The place of the cell that drives a net; `None` at an input port.
+    pub fn driver(&self, net: NetId) -> Option<u32>
+        requires { net.0 < length self.now.drivers.items }
+        ensures { result ≡ driver_at self.now.drivers.items net.0 }
+    {
+        self.drivers[net.0 as usize]
+    }
+
+    /// The place of the first register cell of the bank of a request; `None` where the net is no request.
+    pub fn first(&self, request: NetId) -> Option<u32>
+        requires { request.0 < length self.now.firsts.items }
+        ensures { result ≡ first_at self.now.firsts.items request.0 }
+    {
+        self.firsts[request.0 as usize]
+    }
+
+    /// All cells by their places, each gate cell after those that drive its pins: of `find_origins` it is an order as
+    /// `IsCellOrder` of the netlist says, with each cell once.
+    pub fn order(&self) -> &[u32]
+        ensures { result.now ≡ self.now.order.items }
+    {
+        &self.order
+    }
+
+    /// Whether a net is the request of a bank that is reset to DATA.
+    pub fn is_data_bank(&self, request: NetId) -> bool
+        requires { request.0 < length self.now.data_banks.items }
+        ensures { result ≡ slice_index_or self.now.data_banks.items request.0 false }
+    {
+        self.data_banks[request.0 as usize]
+    }
+}
+
+/// An order of all cells in which each gate cell stands after those that drive its pins, or the first gate cell on a
+/// cycle. Linear in cells and pins.
+fn cell_order(
+    alloc: Global,
+    netlist: &Netlist,
+    drivers: &[Option<u32>],
+) -> Result<Vec<u32>, ShapeFault>
+    requires { AreDrivers netlist.now drivers.now }
+    ensures order { IfOk result (λ order. IsCellOrder netlist.now order.items) }
+    ensures off_cycles { OnOk result (AreOffCycles netlist.now) }
+    ensures fault { IfErr result (IsOrderFault netlist.now) }
+{
+    let graph = gate_graph(alloc, netlist, drivers)?;
+    if let Some(order) = graph.order(alloc)? {
+        return Ok(order);
+    }
+    match graph.first_on_cycle(alloc)? {
+        Some(place) => Err(ShapeFault::Cycle(CellId(place))),
+        None => unreachable!(),
+    }
+}
+
+/// The tables of a netlist whose cells pair up, from their order.
+fn tables(
+    alloc: Global,
+    netlist: &Netlist,
+    drivers: Vec<Option<u32>>,
+    order: Vec<u32>,
+) -> Result<Origins, Memory>
+    requires drivers { AreDrivers netlist.now drivers.items }
+    requires paired { ArePaired netlist.now }
+    requires order { IsCellOrder netlist.now order.items }
+    ensures { IfOk result (AreOrigins netlist.now) }
+{
+    let firsts = first_registers(alloc, netlist)?;
+    let data_banks = data_banks(alloc, netlist)?;
+    let sources = net_sources(alloc, netlist, &drivers, &order)?;
+    Ok(Origins {
+        drivers,
+        firsts,
+        data_banks,
+        order,
+        sources,
+    })
+}
+
+/// What is known of the nets of a netlist that keeps the first five rules of shape, or the first of these rules that
+/// it breaks, at its first port or cell.
+///
+/// Linear in nets and pins, without recursion. The one other error is want of memory.
+pub fn find_origins(alloc: Global, netlist: &Netlist) -> Result<Origins, ShapeFault>
+    ensures origins { IfOk result (AreOrigins netlist.now) }
+    ensures free { OnOk result (IsFree netlist.now) }
+    ensures fault { IfErr result (IsCellFault netlist.now) }
+{
+    if let Some(net) = first_unread(netlist, &reads(alloc, netlist)?) {
+        return Err(ShapeFault::UnusedPort(net));
+    }
+    let drivers = drivers(alloc, netlist)?;
+    let order = cell_order(alloc, netlist, &drivers)?;
+    if let Some(cell) = first_unpaired(netlist, &drivers, &ack_pins(alloc, netlist)?) {
+        return Err(ShapeFault::Unpaired(cell));
+    }
+    let origins = tables(alloc, netlist, drivers, order)?;
+    if let Some(cell) = first_mixed(netlist, &origins) {
+        return Err(ShapeFault::Mixed(cell));
+    }
+    if let Some(cell) = first_loose(netlist, &origins, &gate_reads(alloc, netlist)?) {
+        return Err(ShapeFault::Loose(cell));
+    }
+    Ok(origins)
+}

@@ -1,0 +1,64 @@
+//! The fifth rule of shape: nothing of a completion tree is left unread.
+ghost use Rattle.std.specs.Prelude.{◌≡◌, ℕ, ◌<◌, ◌↔◌, IsTrue, MatchOption};
+ghost use Rattle.ncl_cell_rules.specs.Origin.{IsCell, IsOutputPort};
+ghost use Rattle.ncl_cell_rules.specs.Rules.{IsTied};
+ghost use Rattle.ncl_cell_rules.specs.Free.{AtCell, FailsFirst};
+ghost use Rattle.ncl_cell_rules.specs.Tables.{AreGateReads};
+ghost use Rattle.ncl_cell_rules.specs.Origins.{AreOrigins, AreUnmixed};
+
+use crate::origins::Origins;
+use crate::source::Source;
+use ncl_netlist::{Cell, CellId, NetId, Netlist};
+
+/// Whether a net is an output port.
+pub fn is_output_port(netlist: &Netlist, net: NetId) -> bool
+    ensures { IsTrue result ↔ IsOutputPort netlist.now net.0 }
+{
+    match netlist.ports().get(net.0 as usize) {
+        Some(port) => port.output,
+        None => false,
+    }
+}
+
+/// Whether the output of an acknowledge or completion cell is read by a gate cell, or is a request, or is an output
+/// port. Other cells have nothing to keep.
+fn is_tied(netlist: &Netlist, origins: &Origins, gate_reads: &[bool], cell: &Cell) -> bool
+    requires in_netlist { IsCell netlist.now cell.now }
+    requires origins { AreOrigins netlist.now origins.now }
+    requires unmixed { AreUnmixed netlist.now }
+    requires gate_reads { AreGateReads netlist.now gate_reads.now }
+    ensures { IsTrue result ↔ IsTied netlist.now cell.now }
+{
+    if cell.kind.is_register() {
+        return true;
+    }
+    let Source::Ack(_) = origins.source(cell.out) else {
+        return true;
+    };
+    if gate_reads[cell.out.0 as usize] {
+        return true;
+    }
+    if origins.first(cell.out).is_some() {
+        return true;
+    }
+    is_output_port(netlist, cell.out)
+}
+
+/// The first acknowledge or completion cell that is left unread. Linear in the cells.
+pub(crate) fn first_loose(
+    netlist: &Netlist,
+    origins: &Origins,
+    gate_reads: &[bool],
+) -> Option<CellId>
+    requires origins { AreOrigins netlist.now origins.now }
+    requires unmixed { AreUnmixed netlist.now }
+    requires gate_reads { AreGateReads netlist.now gate_reads.now }
+    ensures { MatchOption result ((k : ℕ) → AtCell IsTied netlist.now k) (λ c. FailsFirst (AtCell IsTied netlist.now) c.0) }
+{
+    for (place, cell) in netlist.cells().iter().enumerate() {
+        if !is_tied(netlist, origins, gate_reads, cell) {
+            return Some(CellId(place as u32));
+        }
+    }
+    None
+}

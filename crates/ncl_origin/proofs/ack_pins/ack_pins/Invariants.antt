@@ -1,5 +1,0 @@
-use Rattle.ncl_origin.proofs.PinCounts.{AreCountsOf}
-use Rattle.ncl_origin.proofs.ack_pins.ack_pins.Given as goal
-
-abbrev pub invariant-loop-cell : goal.invariant-loop-cell
-invariant-loop-cell l = AreCountsOf l.netlist l.cell-index l.counts.items

@@ -1,8 +1,0 @@
-use Rattle.std.proofs.Common.{◌≡◌, ℕ, ◌+◌, ◌<◌, length, take, get_or}
-use Rattle.ncl_origin.specs.Rules.{pins_with}
-use Rattle.ncl_origin.proofs.ack_pins.count.Given as goal
-
--- each net is counted once for each of the pins so far that have it
-abbrev pub invariant-loop-net : goal.invariant-loop-net
-invariant-loop-net l =
-    (net : ℕ) → net < length l.counts → get_or l.counts net 0 ≡ get_or l.initial.counts net 0 + pins_with net (take l.net-index l.pins)

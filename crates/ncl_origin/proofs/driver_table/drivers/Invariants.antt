@@ -1,5 +1,0 @@
-use Rattle.ncl_origin.specs.GateGraph.{AreDriversBelow}
-use Rattle.ncl_origin.proofs.driver_table.drivers.Given as goal
-
-abbrev pub invariant-loop-place : goal.invariant-loop-place
-invariant-loop-place l = AreDriversBelow l.netlist l.place l.drivers.items

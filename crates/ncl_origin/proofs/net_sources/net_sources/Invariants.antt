@@ -1,6 +1,0 @@
-use Rattle.std.proofs.Common.{take}
-use Rattle.ncl_origin.specs.CellOrder.{AreSourcesOf}
-use Rattle.ncl_origin.proofs.net_sources.net_sources.Given as goal
-
-abbrev pub invariant-loop-place : goal.invariant-loop-place
-invariant-loop-place l = AreSourcesOf l.netlist (take l.place-index l.order) l.sources.items

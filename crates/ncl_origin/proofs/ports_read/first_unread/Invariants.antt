@@ -1,6 +1,0 @@
-use Rattle.std.proofs.Common.{ℕ, ◌<◌}
-use Rattle.ncl_origin.specs.Rules.{IsReadPort}
-use Rattle.ncl_origin.proofs.ports_read.first_unread.Given as goal
-
-abbrev pub invariant-loop-net : goal.invariant-loop-net
-invariant-loop-net l = (j : ℕ) → j < l.net → IsReadPort l.netlist j

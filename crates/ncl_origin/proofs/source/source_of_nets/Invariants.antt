@@ -1,6 +1,0 @@
-use Rattle.std.proofs.Common.{take}
-use Rattle.ncl_origin.specs.Sources.{IsSummary, OfNets}
-use Rattle.ncl_origin.proofs.source.source_of_nets.Given as goal
-
-abbrev pub invariant-loop-k : goal.invariant-loop-k
-invariant-loop-k l = IsSummary (OfNets l.netlist (take l.k l.nets)) l.source

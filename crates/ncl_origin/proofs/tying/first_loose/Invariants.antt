@@ -1,7 +1,0 @@
-use Rattle.std.proofs.Common.{ℕ, ◌<◌}
-use Rattle.ncl_origin.specs.Rules.{IsTied}
-use Rattle.ncl_origin.specs.Free.{AtCell}
-use Rattle.ncl_origin.proofs.tying.first_loose.Given as goal
-
-abbrev pub invariant-loop-place : goal.invariant-loop-place
-invariant-loop-place l = (j : ℕ) → j < l.place → AtCell IsTied l.netlist j

@@ -11,7 +11,7 @@ use Rattle.ncl_shape.specs.declared.bank.Bank.{Bank}
 use Rattle.ncl_shape.specs.Held.{is_data_bank, data_banks}
 use Rattle.ncl_shape.specs.Pipeline.{PipelineData}
 use Rattle.ncl_shape.specs.Shape.{Shape}
-use Rattle.ncl_layout.proofs.HeldWords.{data_bank_of}
+use Rattle.ncl_cell_roles.proofs.HeldWords.{data_bank_of}
 
 module _ (n : NetlistData) (p : PipelineData) (shape : Shape n p) (no_data : All (λ (cell : Cell). is_data_register cell.kind ≡ false) n.cells) where
   no_data_bank : (b : Bank) → Member b p.banks → is_data_bank b ≡ false

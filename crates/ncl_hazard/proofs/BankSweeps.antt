@@ -20,7 +20,7 @@ use Rattle.ncl_shape.specs.Stage.{out_of}
 use Rattle.ncl_shape.specs.Closure.{pin_values}
 use Rattle.ncl_shape.specs.Pipeline.{PipelineData}
 use Rattle.ncl_shape.proofs.PinLaws.{some_high-low}
-use Rattle.ncl_layout.specs.Layout.{in_rail, out_rail, Layout, IsRegisterOn, IsLayoutOf, IsRegisterOf, IsAckOf, TreePart, acks, completes, width, stage_nets}
+use Rattle.ncl_cell_roles.specs.Layout.{in_rail, out_rail, Layout, IsRegisterOn, IsLayoutOf, IsRegisterOf, IsAckOf, TreePart, acks, completes, width, stage_nets}
 use Rattle.ncl_stage.specs.Faults.{has_data}
 use Rattle.ncl_machine.specs.Steps.{next_value, fired}
 use Rattle.ncl_machine.proofs.AtWorkLaws.{with_net-elsewhere}

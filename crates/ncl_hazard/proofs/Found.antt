@@ -7,7 +7,7 @@ use Rattle.std.proofs.lemmas.List.Elements.{All-contains}
 use Rattle.std.proofs.lemmas.Option.{slice_get_within, slice_get-get_or}
 use Rattle.std.proofs.lemmas.Slice.Zip.{AllZip-long}
 use Rattle.ncl_shape.specs.Shape.{AreRailsOf}
-use Rattle.ncl_layout.proofs.Numbering.{bank_rails}
+use Rattle.ncl_cell_roles.proofs.Numbering.{bank_rails}
 use Rattle.ncl_base.proofs.Members.{Member, here, there, Member-from_Contains, Contains-from_Member, slice_get-from_Contains, slice_get-some}
 use Rattle.ncl_gates.proofs.RegisterLaws.{register_no_gate}
 use Rattle.ncl_netlist.specs.declared.ids.CellId.{CellId}
@@ -21,10 +21,10 @@ use Rattle.ncl_shape.specs.declared.rails.Rails.{Rails}
 use Rattle.ncl_shape.specs.Stage.{StageData, out_of}
 use Rattle.ncl_shape.specs.Pipeline.{PipelineData}
 use Rattle.ncl_shape.specs.Shape.{Shape}
-use Rattle.ncl_layout.specs.Layout.{in_rail, rail_at, Layout, IsLayoutOf, IsRegisterOf, Part, of_stage, of_bank, of_tree, width, stage_nets}
-use Rattle.ncl_layout.proofs.BankBits.{IsRegisterOfRail, place_of_rail, register_of_rail}
-use Rattle.ncl_layout.proofs.Numbering.{stage_at, wires_of, one_more_bank, inner_or_last, inner_stage, last_stage, stage_after}
-use Rattle.ncl_layout.proofs.BetweenBanks.{register_on}
+use Rattle.ncl_cell_roles.specs.Layout.{in_rail, rail_at, Layout, IsLayoutOf, IsRegisterOf, Part, of_stage, of_bank, of_tree, width, stage_nets}
+use Rattle.ncl_cell_roles.proofs.BankBits.{IsRegisterOfRail, place_of_rail, register_of_rail}
+use Rattle.ncl_cell_roles.proofs.Numbering.{stage_at, wires_of, one_more_bank, inner_or_last, inner_stage, last_stage, stage_after}
+use Rattle.ncl_cell_roles.proofs.BetweenBanks.{register_on}
 use Rattle.ncl_machine.specs.Composition.{stage_function, composed}
 use Rattle.ncl_machine.specs.State.{reset_nets}
 use Rattle.ncl_machine.proofs.Composition.{word_at}

@@ -8,7 +8,7 @@ use Rattle.ncl_shape.specs.declared.stage.StageCell.{StageCell}
 use Rattle.ncl_shape.specs.Stage.{StageData}
 use Rattle.ncl_shape.specs.Pipeline.{PipelineData}
 use Rattle.ncl_shape.specs.Shape.{Shape}
-use Rattle.ncl_layout.proofs.LaidOut.{laid_out}
+use Rattle.ncl_cell_roles.proofs.LaidOut.{laid_out}
 use Rattle.ncl_space.specs.Table.{words, table_of}
 use Rattle.ncl_space.specs.Beads.{distinct_beads}
 use Rattle.ncl_stage.specs.Values.{val}

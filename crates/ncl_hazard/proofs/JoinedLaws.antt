@@ -9,9 +9,9 @@ use Rattle.ncl_shape.specs.declared.stage.StageCell.{StageCell}
 use Rattle.ncl_shape.specs.Stage.{StageData, IsStage, rail_nets, nets_of, out_of}
 use Rattle.ncl_shape.specs.Pipeline.{PipelineData}
 use Rattle.ncl_shape.specs.Shape.{Shape}
-use Rattle.ncl_layout.specs.Layout.{in_rail, rail_at, Layout, IsLayoutOf, width, stage_nets}
-use Rattle.ncl_layout.proofs.RailNets.{rail-place}
-use Rattle.ncl_layout.proofs.Numbering.{inner_stage}
+use Rattle.ncl_cell_roles.specs.Layout.{in_rail, rail_at, Layout, IsLayoutOf, width, stage_nets}
+use Rattle.ncl_cell_roles.proofs.RailNets.{rail-place}
+use Rattle.ncl_cell_roles.proofs.Numbering.{inner_stage}
 use Rattle.ncl_space.proofs.TableLaws.{find-same}
 use Rattle.ncl_stage.specs.declared.variant.Variant.{Variant}
 use Rattle.ncl_stage.specs.declared.variant.Variant.TheVariants.{Base, Cell as Without}

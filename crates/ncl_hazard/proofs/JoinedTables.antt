@@ -11,7 +11,7 @@ use Rattle.ncl_shape.specs.declared.stage.StageCell.{StageCell}
 use Rattle.ncl_shape.specs.Stage.{StageData, nets_of, out_of}
 use Rattle.ncl_shape.specs.Pipeline.{PipelineData}
 use Rattle.ncl_shape.specs.Shape.{Shape}
-use Rattle.ncl_layout.specs.Layout.{Layout, IsLayoutOf, stage_nets}
+use Rattle.ncl_cell_roles.specs.Layout.{Layout, IsLayoutOf, stage_nets}
 use Rattle.ncl_space.specs.Table.{words, table_of}
 use Rattle.ncl_space.specs.Beads.{distinct_beads}
 use Rattle.ncl_space.proofs.TableLaws.{table_of-same}

@@ -14,8 +14,8 @@ use Rattle.ncl_shape.specs.Nets.{Nets, among}
 use Rattle.ncl_shape.specs.Stage.{StageData, IsStage, rail_nets, out_of, named_rails}
 use Rattle.ncl_shape.specs.Closure.{pin_values}
 use Rattle.ncl_shape.specs.Pipeline.{PipelineData}
-use Rattle.ncl_layout.specs.Layout.{in_rail, out_rail, rail_at, Layout, IsLayoutOf, width, stage_nets}
-use Rattle.ncl_layout.proofs.RailNets.{rail-within, rail-place}
+use Rattle.ncl_cell_roles.specs.Layout.{in_rail, out_rail, rail_at, Layout, IsLayoutOf, width, stage_nets}
+use Rattle.ncl_cell_roles.proofs.RailNets.{rail-within, rail-place}
 use Rattle.ncl_stage.specs.declared.variant.Variant.{Variant}
 use Rattle.ncl_stage.specs.declared.variant.Variant.TheVariants.{Base}
 use Rattle.ncl_stage.specs.Values.{holds, kept_low, val}

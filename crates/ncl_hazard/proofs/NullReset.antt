@@ -7,7 +7,7 @@ use Rattle.ncl_base.proofs.Members.{Member, slice_get-some}
 use Rattle.ncl_shape.specs.declared.bank.Bank.{Bank}
 use Rattle.ncl_shape.specs.Held.{is_data_bank, data_banks}
 use Rattle.ncl_shape.specs.Pipeline.{PipelineData}
-use Rattle.ncl_layout.specs.Layout.{Layout, IsLayoutOf, stage_nets}
+use Rattle.ncl_cell_roles.specs.Layout.{Layout, IsLayoutOf, stage_nets}
 use Rattle.ncl_machine.specs.State.{reset_nets}
 use Rattle.ncl_machine.proofs.HeldCounts.{holds_word, none_past}
 use Rattle.ncl_machine.proofs.Start.{held-net, none-holds, stage-value, tree-value}

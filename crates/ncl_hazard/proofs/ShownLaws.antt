@@ -15,7 +15,7 @@ use Rattle.ncl_shape.specs.Pipeline.{PipelineData}
 use Rattle.ncl_shape.specs.Shape.{Shape}
 use Rattle.ncl_space.specs.Table.{words}
 use Rattle.ncl_stage.proofs.OrderLaws.{words-length}
-use Rattle.ncl_layout.proofs.LaidOut.{laid_out}
+use Rattle.ncl_cell_roles.proofs.LaidOut.{laid_out}
 use Rattle.ncl_machine.specs.State.{reset}
 use Rattle.ncl_machine.specs.Steps.{enabled}
 use Rattle.ncl_hazard.specs.Trying.{tried, CanBeTried, HasNoDataBank}

@@ -19,9 +19,9 @@ use Rattle.ncl_shape.specs.Stage.{StageData, IsStage, rail_nets, out_of, named_r
 use Rattle.ncl_shape.specs.Pipeline.{PipelineData}
 use Rattle.ncl_shape.specs.Shape.{Shape}
 use Rattle.ncl_shape.proofs.Rounds.{same_from_both}
-use Rattle.ncl_layout.specs.Layout.{rail_at, Layout, IsLayoutOf, stage_nets}
-use Rattle.ncl_layout.proofs.Numbering.{stage_at, inner_stage}
-use Rattle.ncl_layout.proofs.LaidOut.{laid_out}
+use Rattle.ncl_cell_roles.specs.Layout.{rail_at, Layout, IsLayoutOf, stage_nets}
+use Rattle.ncl_cell_roles.proofs.Numbering.{stage_at, inner_stage}
+use Rattle.ncl_cell_roles.proofs.LaidOut.{laid_out}
 use Rattle.ncl_stage.specs.declared.variant.Variant.TheVariants.{Base, Cell as Without}
 use Rattle.ncl_stage.specs.Values.{val}
 use Rattle.ncl_stage.specs.Faults.{IsSound, Orphan, shows}

@@ -8,7 +8,7 @@ use Rattle.ncl_shape.specs.declared.item.Item.TheVariants.{Raise, Lower}
 use Rattle.ncl_shape.specs.Nets.{Nets, with_net}
 use Rattle.ncl_shape.specs.Stage.{named_rails}
 use Rattle.ncl_shape.specs.Pipeline.{PipelineData}
-use Rattle.ncl_layout.specs.Layout.{rail_at}
+use Rattle.ncl_cell_roles.specs.Layout.{rail_at}
 use Rattle.ncl_machine.specs.State.{State}
 use Rattle.ncl_machine.specs.Steps.{differ, has_value, put_at, current_rails, rails_of_word, after_raise, after_lower, enabled, step}
 use Rattle.ncl_machine.proofs.AtWorkLaws.{with_net-elsewhere}

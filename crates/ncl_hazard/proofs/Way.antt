@@ -13,8 +13,8 @@ use Rattle.ncl_shape.specs.Nets.{Nets, among}
 use Rattle.ncl_shape.specs.Stage.{StageData, IsStage, rail_nets, nets_of, out_of, named_rails}
 use Rattle.ncl_shape.specs.Pipeline.{PipelineData}
 use Rattle.ncl_shape.proofs.PinLaws.{some_high-low}
-use Rattle.ncl_layout.specs.Layout.{in_rail, out_rail, no_rails, Layout, IsLayoutOf, width, stage_nets}
-use Rattle.ncl_layout.proofs.RailNets.{rail-within, rail-place}
+use Rattle.ncl_cell_roles.specs.Layout.{in_rail, out_rail, no_rails, Layout, IsLayoutOf, width, stage_nets}
+use Rattle.ncl_cell_roles.proofs.RailNets.{rail-within, rail-place}
 use Rattle.ncl_stage.specs.declared.variant.Variant.{Variant}
 use Rattle.ncl_stage.specs.declared.variant.Variant.TheVariants.{Base, Cell as Without}
 use Rattle.ncl_stage.specs.Values.{holds, kept_low, output_net, val}

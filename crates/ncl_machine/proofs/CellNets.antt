@@ -4,8 +4,8 @@ use Rattle.ncl_base.proofs.Members.{Member}
 use Rattle.ncl_netlist.specs.declared.cell.Cell.{Cell}
 use Rattle.ncl_shape.specs.Stage.{rail_nets}
 use Rattle.ncl_shape.specs.Pipeline.{PipelineData}
-use Rattle.ncl_layout.specs.Layout.{Layout, IsLayoutOf, in_rail, stage_nets, width, Part, of_stage, of_bank, of_tree}
-use Rattle.ncl_layout.proofs.RailNets.{rail-within}
+use Rattle.ncl_cell_roles.specs.Layout.{Layout, IsLayoutOf, in_rail, stage_nets, width, Part, of_stage, of_bank, of_tree}
+use Rattle.ncl_cell_roles.proofs.RailNets.{rail-within}
 use Rattle.ncl_stage.proofs.ValueLaws.{rail-no_output}
 use Rattle.ncl_machine.proofs.StageNets.{rail-listed, gate-listed, tree-listed, ki-listed}
 

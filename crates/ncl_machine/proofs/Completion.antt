@@ -20,7 +20,7 @@ use Rattle.ncl_shape.specs.Nets.{Nets}
 use Rattle.ncl_shape.specs.Closure.{pin_values, net_of}
 use Rattle.ncl_shape.specs.Pipeline.{PipelineData}
 use Rattle.ncl_shape.proofs.PinLaws.{some_high-low, all_high-from}
-use Rattle.ncl_layout.specs.Layout.{in_rail, stage_nets, IsAckOn, IsAckOf, Layout, IsLayoutOf, TreePart, acks, completes, width}
+use Rattle.ncl_cell_roles.specs.Layout.{in_rail, stage_nets, IsAckOn, IsAckOf, Layout, IsLayoutOf, TreePart, acks, completes, width}
 use Rattle.ncl_stage.specs.Faults.{has_data}
 use Rattle.ncl_stage.proofs.Apart.{same_from_value}
 use Rattle.ncl_machine.specs.Steps.{differ, next_value}

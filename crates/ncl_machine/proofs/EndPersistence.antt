@@ -8,7 +8,7 @@ use Rattle.ncl_shape.specs.declared.rails.Rails.{Rails}
 use Rattle.ncl_shape.specs.declared.item.Item.{Item}
 use Rattle.ncl_shape.specs.declared.item.Item.TheVariants.{Raise, Lower, Take, Ready}
 use Rattle.ncl_shape.specs.Pipeline.{PipelineData}
-use Rattle.ncl_layout.specs.Layout.{Layout, in_rail, stage_nets, width}
+use Rattle.ncl_cell_roles.specs.Layout.{Layout, in_rail, stage_nets, width}
 use Rattle.ncl_machine.specs.State.{State}
 use Rattle.ncl_machine.specs.Steps.{enabled, step, differ, next_value, is_data, is_null, has_value, current_rails, after_lower}
 use Rattle.ncl_machine.specs.Run.{IsPersistent}

@@ -12,9 +12,9 @@ use Rattle.ncl_shape.specs.Closure.{function_of}
 use Rattle.ncl_shape.specs.Held.{data_banks}
 use Rattle.ncl_shape.specs.Pipeline.{PipelineData}
 use Rattle.ncl_shape.specs.Shape.{Shape}
-use Rattle.ncl_layout.specs.Layout.{Layout, IsLayoutOf, in_rail}
-use Rattle.ncl_layout.proofs.RailNets.{rail-within}
-use Rattle.ncl_layout.proofs.LaidOut.{laid_out}
+use Rattle.ncl_cell_roles.specs.Layout.{Layout, IsLayoutOf, in_rail}
+use Rattle.ncl_cell_roles.proofs.RailNets.{rail-within}
+use Rattle.ncl_cell_roles.proofs.LaidOut.{laid_out}
 use Rattle.ncl_stage.specs.Faults.{IsSound}
 use Rattle.ncl_machine.specs.State.{State, reset}
 use Rattle.ncl_machine.specs.Run.{IsRun, after, AreWordsOf, IsPersistent}
@@ -26,7 +26,7 @@ use Rattle.ncl_machine.proofs.Invariant.{IsSetting, HasInvariant}
 use Rattle.ncl_machine.proofs.Keeping.{run-kept}
 use Rattle.ncl_machine.proofs.EndPersistence.{kept-persistent}
 use Rattle.ncl_machine.proofs.Composition.{function-is_composition}
-use Rattle.ncl_layout.proofs.StageNumbers.{wires_or_stage, stage_of}
+use Rattle.ncl_cell_roles.proofs.StageNumbers.{wires_or_stage, stage_of}
 use Rattle.ncl_machine.proofs.HeldCounts.{held_in_all, held-count}
 use Rattle.ncl_machine.proofs.OfferedWords.{waves_of, waves-are}
 use Rattle.ncl_machine.proofs.HeldDue.{word-due, due-length}

@@ -5,7 +5,7 @@ use Rattle.std.proofs.lemmas.Bool.{cases_lt}
 use Rattle.ncl_shape.specs.declared.bank.Bank.{Bank}
 use Rattle.ncl_shape.specs.Pipeline.{PipelineData}
 use Rattle.ncl_shape.specs.Held.{is_data_bank, data_banks}
-use Rattle.ncl_layout.specs.Layout.{Layout, IsLayoutOf}
+use Rattle.ncl_cell_roles.specs.Layout.{Layout, IsLayoutOf}
 use Rattle.ncl_machine.proofs.Numbers.{even, half, one_if, even-given, half-given}
 
 -- the bank after stage k holds a word

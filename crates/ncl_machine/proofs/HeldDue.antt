@@ -18,7 +18,7 @@ use Rattle.ncl_shape.specs.Stage.{named_rails}
 use Rattle.ncl_shape.specs.Closure.{function_of, function_at, held_nets}
 use Rattle.ncl_shape.specs.Held.{is_data_bank, data_banks}
 use Rattle.ncl_shape.specs.Pipeline.{PipelineData}
-use Rattle.ncl_layout.specs.Layout.{in_rail, width, holds_rail, Layout, IsLayoutOf, Part, of_stage, of_bank, of_tree, TreePart, acks, completes}
+use Rattle.ncl_cell_roles.specs.Layout.{in_rail, width, holds_rail, Layout, IsLayoutOf, Part, of_stage, of_bank, of_tree, TreePart, acks, completes}
 use Rattle.ncl_stage.specs.Faults.{IsSound}
 use Rattle.ncl_machine.specs.Run.{AreWordsOf}
 use Rattle.ncl_machine.specs.Composition.{stage_function}

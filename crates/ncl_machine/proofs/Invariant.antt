@@ -8,7 +8,7 @@ use Rattle.ncl_netlist.specs.declared.cell.Cell.{Cell}
 use Rattle.ncl_netlist.specs.Netlist.{IsNetlist}
 use Rattle.ncl_shape.specs.Nets.{Nets}
 use Rattle.ncl_shape.specs.Pipeline.{PipelineData}
-use Rattle.ncl_layout.specs.Layout.{Layout, IsLayoutOf, width, in_rail, out_rail}
+use Rattle.ncl_cell_roles.specs.Layout.{Layout, IsLayoutOf, width, in_rail, out_rail}
 use Rattle.ncl_stage.specs.Faults.{IsSound, IsWordOf, has_data}
 use Rattle.ncl_machine.specs.declared.pair.Pair.{Pair}
 use Rattle.ncl_machine.specs.State.{State}

@@ -6,7 +6,7 @@ use Rattle.ncl_shape.specs.declared.item.Item.{Item}
 use Rattle.ncl_shape.specs.Nets.{Nets, with_net}
 use Rattle.ncl_shape.specs.Stage.{out_of}
 use Rattle.ncl_shape.specs.Pipeline.{PipelineData}
-use Rattle.ncl_layout.specs.Layout.{Layout, stage_nets, in_rail, out_rail, width}
+use Rattle.ncl_cell_roles.specs.Layout.{Layout, stage_nets, in_rail, out_rail, width}
 use Rattle.ncl_machine.specs.State.{State}
 use Rattle.ncl_machine.specs.Steps.{step}
 use Rattle.ncl_machine.specs.Run.{IsRunFrom, after}

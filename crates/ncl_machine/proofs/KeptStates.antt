@@ -5,7 +5,7 @@ use Rattle.ncl_base.proofs.Members.{Member, Contains-from_Member}
 use Rattle.ncl_shape.specs.declared.rails.Rails.{Rails}
 use Rattle.ncl_shape.specs.Nets.{Nets}
 use Rattle.ncl_shape.specs.Pipeline.{PipelineData}
-use Rattle.ncl_layout.specs.Layout.{Layout, width, in_rail, out_rail, stage_nets}
+use Rattle.ncl_cell_roles.specs.Layout.{Layout, width, in_rail, out_rail, stage_nets}
 use Rattle.ncl_stage.specs.Faults.{has_data, is_illegal}
 use Rattle.ncl_machine.specs.State.{State}
 use Rattle.ncl_machine.proofs.SoundLaws.{legal-below}

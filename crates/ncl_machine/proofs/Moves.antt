@@ -11,7 +11,7 @@ use Rattle.ncl_shape.specs.declared.item.Item.{Item}
 use Rattle.ncl_shape.specs.declared.item.Item.TheVariants.{Cell as Fire, Raise, Lower, Take, Ready}
 use Rattle.ncl_shape.specs.Nets.{Nets, with_net}
 use Rattle.ncl_shape.specs.Pipeline.{PipelineData}
-use Rattle.ncl_layout.specs.Layout.{Layout, width, IsCellOf, IsRegisterOf, in_rail, out_rail}
+use Rattle.ncl_cell_roles.specs.Layout.{Layout, width, IsCellOf, IsRegisterOf, in_rail, out_rail}
 use Rattle.ncl_stage.specs.Faults.{has_data}
 use Rattle.ncl_machine.specs.State.{State}
 use Rattle.ncl_machine.specs.Steps.{is_null, is_data, current_rails}

@@ -7,8 +7,8 @@ use Rattle.ncl_base.proofs.Members.{here, there, Member-get_or, member_from_list
 use Rattle.ncl_shape.specs.declared.rails.Rails.{Rails}
 use Rattle.ncl_shape.specs.Nets.{Nets, among}
 use Rattle.ncl_shape.specs.Stage.{rail_of, rail_nets, named_rails}
-use Rattle.ncl_layout.specs.Layout.{no_rails, rail_at}
-use Rattle.ncl_layout.proofs.RailNets.{rail-within}
+use Rattle.ncl_cell_roles.specs.Layout.{no_rails, rail_at}
+use Rattle.ncl_cell_roles.proofs.RailNets.{rail-within}
 use Rattle.ncl_stage.specs.Faults.{has_data}
 use Rattle.ncl_stage.proofs.Apart.{parts-differ, right-differ}
 use Rattle.ncl_stage.proofs.OnePass.{among-from_member}

@@ -6,7 +6,7 @@ use Rattle.ncl_base.proofs.Members.{Member, here, there, All-from_members, Membe
 use Rattle.ncl_base.proofs.Lists.{pairs-head, pairs-tail}
 use Rattle.ncl_base.proofs.Growing.{no_more_than}
 use Rattle.ncl_shape.specs.Pipeline.{PipelineData}
-use Rattle.ncl_layout.specs.Layout.{Layout, IsLayoutOf, stage_nets}
+use Rattle.ncl_cell_roles.specs.Layout.{Layout, IsLayoutOf, stage_nets}
 
 -- how many there are, of the stages and trees below an index
 abbrev pub nets_below : Layout → ℕ → ℕ

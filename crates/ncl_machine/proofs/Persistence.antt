@@ -12,7 +12,7 @@ use Rattle.ncl_shape.specs.declared.item.Item.TheVariants.{Cell as Fire}
 use Rattle.ncl_shape.specs.Nets.{Nets, with_net}
 use Rattle.ncl_shape.specs.Stage.{out_of}
 use Rattle.ncl_shape.specs.Pipeline.{PipelineData}
-use Rattle.ncl_layout.specs.Layout.{Layout, IsCellOf, in_rail, out_rail, stage_nets}
+use Rattle.ncl_cell_roles.specs.Layout.{Layout, IsCellOf, in_rail, out_rail, stage_nets}
 use Rattle.ncl_machine.specs.State.{State}
 use Rattle.ncl_machine.specs.Steps.{enabled, step, is_excited}
 use Rattle.ncl_machine.specs.AtWork.{IsExcited}

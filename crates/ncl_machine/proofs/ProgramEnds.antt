@@ -12,9 +12,9 @@ use Rattle.ncl_shape.specs.declared.rails.Rails.{Rails}
 use Rattle.ncl_shape.specs.Pipeline.{PipelineData}
 use Rattle.ncl_shape.specs.Shape.{Shape}
 use Rattle.ncl_shape.specs.Stage.{rail_nets, out_of}
-use Rattle.ncl_layout.specs.Layout.{Layout, IsLayoutOf}
-use Rattle.ncl_layout.proofs.RailNets.{rail-place}
-use Rattle.ncl_layout.proofs.LaidOut.{laid_out_of}
+use Rattle.ncl_cell_roles.specs.Layout.{Layout, IsLayoutOf}
+use Rattle.ncl_cell_roles.proofs.RailNets.{rail-place}
+use Rattle.ncl_cell_roles.proofs.LaidOut.{laid_out_of}
 use Rattle.ncl_machine.proofs.CellNets.{output-no_source, source-no_ki}
 use Rattle.ncl_machine.specs.State.{reset_nets}
 use Rattle.ncl_machine.proofs.Start.{stage-value, held-net, held-net_listed}

@@ -12,8 +12,8 @@ use Rattle.ncl_shape.specs.declared.item.Item.TheVariants.{Cell as Fire, Raise, 
 use Rattle.ncl_shape.specs.Nets.{Nets}
 use Rattle.ncl_shape.specs.Stage.{rail_nets}
 use Rattle.ncl_shape.specs.Pipeline.{PipelineData}
-use Rattle.ncl_layout.specs.Layout.{no_rails, in_rail, out_rail, Layout, width, stage_nets}
-use Rattle.ncl_layout.proofs.RailNets.{rail-place}
+use Rattle.ncl_cell_roles.specs.Layout.{no_rails, in_rail, out_rail, Layout, width, stage_nets}
+use Rattle.ncl_cell_roles.proofs.RailNets.{rail-place}
 use Rattle.ncl_stage.specs.declared.variant.Variant.TheVariants.{Base}
 use Rattle.ncl_stage.specs.Values.{val}
 use Rattle.ncl_stage.specs.Faults.{has_data}

@@ -27,8 +27,8 @@ use Rattle.ncl_shape.specs.Closure.{net_of}
 use Rattle.ncl_shape.specs.Pipeline.{PipelineData}
 use Rattle.ncl_shape.specs.Shape.{Shape}
 use Rattle.ncl_shape.proofs.Rounds.{same_from_both}
-use Rattle.ncl_layout.specs.Layout.{Layout, IsLayoutOf, Part, of_stage, of_bank, of_tree, TreePart, acks, completes, stage_nets}
-use Rattle.ncl_layout.proofs.LaidOut.{laid_out_of}
+use Rattle.ncl_cell_roles.specs.Layout.{Layout, IsLayoutOf, Part, of_stage, of_bank, of_tree, TreePart, acks, completes, stage_nets}
+use Rattle.ncl_cell_roles.proofs.LaidOut.{laid_out_of}
 use Rattle.ncl_machine.specs.State.{data_nets, tree_nets, reset_nets}
 use Rattle.ncl_machine.specs.ResetValues.{asks_for_data, starts_high, cell_starts_high, drives_high, driven_high}
 use Rattle.ncl_machine.proofs.StageNets.{rail-listed, gate-listed, root-listed, tree-listed}

@@ -19,8 +19,8 @@ use Rattle.ncl_shape.specs.Held.{is_data_bank}
 use Rattle.ncl_shape.specs.Closure.{net_of}
 use Rattle.ncl_shape.specs.Pipeline.{PipelineData}
 use Rattle.ncl_shape.specs.Shape.{Shape}
-use Rattle.ncl_layout.specs.Layout.{Layout, IsLayoutOf, Part, of_stage, of_bank, of_tree, TreePart, acks, completes, holds_rail, width}
-use Rattle.ncl_layout.proofs.LaidOut.{laid_out_of}
+use Rattle.ncl_cell_roles.specs.Layout.{Layout, IsLayoutOf, Part, of_stage, of_bank, of_tree, TreePart, acks, completes, holds_rail, width}
+use Rattle.ncl_cell_roles.proofs.LaidOut.{laid_out_of}
 use Rattle.ncl_machine.specs.State.{data_nets, tree_nets, reset_nets}
 use Rattle.ncl_machine.specs.ResetLaw.{IsDataOutput, AsksForData, IsReset}
 use Rattle.ncl_machine.proofs.NamedRails.{bit_at}

@@ -2,7 +2,7 @@
 use Rattle.std.proofs.Common.{◌≡◌, ℕ, zero, suc, ◌+◌, ◌<◌, ◌≤◌, Bool, true, false, ◌&&◌, not, List, length, sym, ◌∙◌, subst, arith}
 use Rattle.std.proofs.lemmas.Bool.{and_parts, both_ways, false_from_ne_true}
 use Rattle.ncl_shape.specs.Pipeline.{PipelineData}
-use Rattle.ncl_layout.specs.Layout.{Layout, width, in_rail}
+use Rattle.ncl_cell_roles.specs.Layout.{Layout, width, in_rail}
 use Rattle.ncl_machine.specs.State.{State}
 use Rattle.ncl_machine.proofs.LocalNets.{in_stage}
 use Rattle.ncl_machine.proofs.Numbers.{one_if, one_if-most, equal, ahead, behind}

@@ -8,7 +8,7 @@ use Rattle.ncl_base.proofs.Members.{Member}
 use Rattle.ncl_shape.specs.Nets.{Nets}
 use Rattle.ncl_shape.specs.Stage.{named_rails}
 use Rattle.ncl_shape.specs.Pipeline.{PipelineData}
-use Rattle.ncl_layout.specs.Layout.{in_rail, Layout, width, stage_nets}
+use Rattle.ncl_cell_roles.specs.Layout.{in_rail, Layout, width, stage_nets}
 use Rattle.ncl_stage.specs.Faults.{has_data}
 use Rattle.ncl_machine.specs.State.{State}
 use Rattle.ncl_machine.specs.Steps.{current_rails, rails_of_word}

@@ -19,7 +19,7 @@ use Rattle.ncl_shape.specs.Closure.{net_of, pin_values}
 use Rattle.ncl_shape.specs.Pipeline.{PipelineData}
 use Rattle.ncl_shape.proofs.Rounds.{rounds-each, rounds-settled, same_from_both}
 use Rattle.ncl_shape.proofs.PinLaws.{high_net, some_high-from, some_high-low}
-use Rattle.ncl_layout.specs.Layout.{in_rail, Layout, IsLayoutOf, IsAckOf, Part, of_stage, of_bank, of_tree, TreePart, acks, completes, width, stage_nets, holds_rail}
+use Rattle.ncl_cell_roles.specs.Layout.{in_rail, Layout, IsLayoutOf, IsAckOf, Part, of_stage, of_bank, of_tree, TreePart, acks, completes, width, stage_nets, holds_rail}
 use Rattle.ncl_stage.specs.Faults.{has_data}
 use Rattle.ncl_stage.proofs.OnePass.{among-from_member}
 use Rattle.ncl_machine.specs.State.{joins_kind, joins_tree, no_nets, data_nets, tree_nets, reset_nets}

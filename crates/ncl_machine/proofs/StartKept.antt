@@ -4,7 +4,7 @@ use Rattle.std.proofs.lemmas.Bool.{both_ways}
 use Rattle.ncl_shape.specs.Nets.{among}
 use Rattle.ncl_shape.specs.Stage.{named_rails}
 use Rattle.ncl_shape.specs.Pipeline.{PipelineData}
-use Rattle.ncl_layout.specs.Layout.{in_rail, out_rail, Layout, IsLayoutOf, width}
+use Rattle.ncl_cell_roles.specs.Layout.{in_rail, out_rail, Layout, IsLayoutOf, width}
 use Rattle.ncl_stage.specs.Faults.{has_data}
 use Rattle.ncl_stage.proofs.OnePass.{among-from_member}
 use Rattle.ncl_machine.specs.State.{reset, reset_nets}

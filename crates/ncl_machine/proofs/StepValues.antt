@@ -11,7 +11,7 @@ use Rattle.ncl_shape.specs.declared.item.Item.TheVariants.{Cell as Fire, Raise, 
 use Rattle.ncl_shape.specs.Nets.{Nets, with_net}
 use Rattle.ncl_shape.specs.Stage.{out_of, named_rails}
 use Rattle.ncl_shape.specs.Pipeline.{PipelineData}
-use Rattle.ncl_layout.specs.Layout.{Layout, IsCellOf, in_rail, out_rail}
+use Rattle.ncl_cell_roles.specs.Layout.{Layout, IsCellOf, in_rail, out_rail}
 use Rattle.ncl_machine.specs.State.{State}
 use Rattle.ncl_machine.specs.Steps.{step, fired, next_value, put_at, current_rails, rails_of_word}
 use Rattle.ncl_machine.specs.AtWork.{IsExcited}

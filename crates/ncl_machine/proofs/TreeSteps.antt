@@ -7,7 +7,7 @@ use Rattle.ncl_base.proofs.Members.{Member}
 use Rattle.ncl_netlist.specs.declared.cell.Cell.{Cell}
 use Rattle.ncl_shape.specs.Nets.{Nets, with_net}
 use Rattle.ncl_shape.specs.Pipeline.{PipelineData}
-use Rattle.ncl_layout.specs.Layout.{in_rail, out_rail, Layout, IsLayoutOf, width}
+use Rattle.ncl_cell_roles.specs.Layout.{in_rail, out_rail, Layout, IsLayoutOf, width}
 use Rattle.ncl_machine.proofs.AtWorkLaws.{with_net-elsewhere}
 use Rattle.ncl_machine.proofs.NamedRails.{some-rail, rail-data}
 use Rattle.ncl_machine.proofs.LocalNets.{with_net-here, with_net-keeps}

@@ -3,7 +3,7 @@ use Rattle.std.proofs.Common.{◌≡◌, ℕ, suc, ◌≤◌, Bool, sym, ap, ◌
 use Rattle.ncl_base.proofs.Members.{Member}
 use Rattle.ncl_shape.specs.Nets.{Nets, with_net}
 use Rattle.ncl_shape.specs.Pipeline.{PipelineData}
-use Rattle.ncl_layout.specs.Layout.{Layout, IsLayoutOf, stage_nets, in_rail, out_rail}
+use Rattle.ncl_cell_roles.specs.Layout.{Layout, IsLayoutOf, stage_nets, in_rail, out_rail}
 use Rattle.ncl_machine.proofs.LocalNets.{local-put_here, local-put_other, in_stage, in_tree}
 use Rattle.ncl_machine.proofs.Phases.{IsPhase}
 use Rattle.ncl_machine.proofs.Completion.{Follows}

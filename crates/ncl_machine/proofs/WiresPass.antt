@@ -7,7 +7,7 @@ use Rattle.ncl_base.proofs.Lists.{same_from_lengths}
 use Rattle.ncl_base.proofs.Members.{Contains-from_Member}
 use Rattle.ncl_shape.specs.declared.rails.Rails.{Rails}
 use Rattle.ncl_shape.specs.Stage.{StageData, IsStage}
-use Rattle.ncl_layout.specs.Layout.{no_rails, rail_at, IsWires}
+use Rattle.ncl_cell_roles.specs.Layout.{no_rails, rail_at, IsWires}
 use Rattle.ncl_stage.specs.declared.variant.Variant.TheVariants.{Base}
 use Rattle.ncl_stage.specs.Values.{val}
 use Rattle.ncl_stage.specs.Faults.{IsWordOf}

@@ -17,8 +17,8 @@ use Rattle.ncl_shape.specs.Pipeline.{PipelineData}
 use Rattle.ncl_shape.proofs.Rounds.{same_from_both, rounds-keep, rounds-settled, rounds-support}
 use Rattle.ncl_shape.proofs.ClosureLaws.{passes-monotone}
 use Rattle.ncl_shape.proofs.PinLaws.{first_pin-is}
-use Rattle.ncl_layout.specs.Layout.{Layout, IsLayoutOf, Part, of_stage, of_bank, of_tree, in_rail, out_rail, width, stage_nets, rail_at, no_rails}
-use Rattle.ncl_layout.proofs.RailNets.{rail-within}
+use Rattle.ncl_cell_roles.specs.Layout.{Layout, IsLayoutOf, Part, of_stage, of_bank, of_tree, in_rail, out_rail, width, stage_nets, rail_at, no_rails}
+use Rattle.ncl_cell_roles.proofs.RailNets.{rail-within}
 use Rattle.ncl_space.specs.Functions.{is_value}
 use Rattle.ncl_stage.proofs.Apart.{named-within}
 use Rattle.ncl_stage.proofs.NetLaws.{left-differ, named-at}

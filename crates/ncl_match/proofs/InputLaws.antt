@@ -6,7 +6,7 @@ use Rattle.std.proofs.lemmas.List.{append-nil, length-set}
 use Rattle.std.proofs.lemmas.List.Elements.{All-set}
 use Rattle.ncl_shape.specs.declared.rails.Rails.{Rails}
 use Rattle.ncl_shape.specs.Stage.{rail_nets}
-use Rattle.ncl_layout.specs.Layout.{no_rails, rail_at}
+use Rattle.ncl_cell_roles.specs.Layout.{no_rails, rail_at}
 use Rattle.ncl_space.specs.Functions.{is_value}
 use Rattle.ncl_space.specs.Space.{SpaceData, IsSpace, Keeps, with_tables, fits}
 use Rattle.ncl_space.proofs.SpaceLaws.{keeps_along, keeps_all, with_none}

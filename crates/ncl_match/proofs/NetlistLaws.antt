@@ -9,8 +9,8 @@ use Rattle.ncl_shape.specs.declared.rails.Rails.{Rails}
 use Rattle.ncl_shape.specs.Nets.{Nets}
 use Rattle.ncl_shape.specs.Stage.{out_of, rail_nets, rail_of}
 use Rattle.ncl_shape.specs.Pipeline.{PipelineData}
-use Rattle.ncl_layout.specs.Layout.{Layout, IsLayoutOf, no_rails, rail_at}
-use Rattle.ncl_layout.proofs.RailNets.{rail-place}
+use Rattle.ncl_cell_roles.specs.Layout.{Layout, IsLayoutOf, no_rails, rail_at}
+use Rattle.ncl_cell_roles.proofs.RailNets.{rail-place}
 use Rattle.ncl_space.specs.Functions.{is_value}
 use Rattle.ncl_space.specs.Space.{SpaceData, IsSpace, Keeps, fits, with_tables}
 use Rattle.ncl_space.specs.Table.{words, table_of}

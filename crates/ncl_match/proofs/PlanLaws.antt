@@ -10,7 +10,7 @@ use Rattle.ncl_shape.specs.declared.stage.StageCell.{StageCell}
 use Rattle.ncl_shape.specs.Nets.{Nets}
 use Rattle.ncl_shape.specs.Stage.{rail_nets}
 use Rattle.ncl_shape.specs.Pipeline.{PipelineData}
-use Rattle.ncl_layout.specs.Layout.{Layout, IsLayoutOf}
+use Rattle.ncl_cell_roles.specs.Layout.{Layout, IsLayoutOf}
 use Rattle.ncl_match.specs.Circuit.{closed, circuit_of}
 use Rattle.ncl_match.specs.declared.planning.DataCell.{DataCell}
 use Rattle.ncl_match.specs.Plan.{Drives, FitPins, IsEvaluated, IsKnown, IsOrdered, is_on, made_of, pins_of}

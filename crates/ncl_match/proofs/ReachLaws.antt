@@ -12,7 +12,7 @@ use Rattle.ncl_shape.specs.declared.rails.Rails.{Rails}
 use Rattle.ncl_shape.specs.Closure.{net_of}
 use Rattle.ncl_shape.specs.Stage.{rail_nets}
 use Rattle.ncl_shape.specs.Pipeline.{PipelineData}
-use Rattle.ncl_layout.specs.Layout.{Layout, IsLayoutOf, Part, of_stage, of_bank, of_tree, in_rail, out_rail}
+use Rattle.ncl_cell_roles.specs.Layout.{Layout, IsLayoutOf, Part, of_stage, of_bank, of_tree, in_rail, out_rail}
 use Rattle.ncl_match.specs.Circuit.{circuit_of}
 use Rattle.ncl_match.specs.Counting.{NetCounts, is_rail, by_gate, by_register}
 use Rattle.ncl_match.specs.declared.planning.DataCell.{DataCell}

@@ -1,7 +1,7 @@
 -- The functions of the rails of the inputs.
 use Rattle.std.specs.Prelude.{◌≡◌, ℕ, ◌<◌, List, [], Bool, true, false, ◌||◌, slice_index_or, if◌then◌else◌}
 use Rattle.ncl_shape.specs.declared.rails.Rails.{Rails}
-use Rattle.ncl_layout.specs.Layout.{no_rails, rail_at}
+use Rattle.ncl_cell_roles.specs.Layout.{no_rails, rail_at}
 use Rattle.ncl_space.specs.Functions.{is_value}
 use Rattle.ncl_space.specs.Space.{SpaceData, with_tables}
 use Rattle.ncl_match.specs.declared.pair.Pair.{Pair}

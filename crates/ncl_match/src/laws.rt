@@ -12,7 +12,7 @@ ghost use Rattle.ncl_match.specs.Plan.{AreMarks, FitPins, IsEvaluated, IsOrdered
 ghost use Rattle.ncl_match.specs.Planned.{plan_of};
 ghost use Rattle.ncl_shape.specs.declared.rails.Rails.{Rails};
 ghost use Rattle.ncl_match.specs.declared.planning.DataCell.{DataCell};
-ghost use Rattle.ncl_layout.specs.Layout.{Layout, IsLayoutOf, in_rail, out_rail, width};
+ghost use Rattle.ncl_cell_roles.specs.Layout.{Layout, IsLayoutOf, in_rail, out_rail, width};
 ghost use Rattle.ncl_shape.specs.Stage.{out_of, rail_nets};
 ghost use Rattle.ncl_space.specs.Functions.{is_value};
 ghost use Rattle.ncl_match.specs.Answer.{IsAnswer, IsRunAnswer};

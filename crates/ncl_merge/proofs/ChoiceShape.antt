@@ -21,7 +21,7 @@ use Rattle.ncl_shape.specs.Shape.{Shape}
 use Rattle.ncl_shape.proofs.ShapeLaws.{same_cell}
 use Rattle.ncl_base.proofs.Members.{Member, here, there, Member-append_right, Member-append_cases, Member-map, member_of_map, All-from_members, Contains-from_Member, Member-from_Contains, Contains-from_slice_get}
 use Rattle.ncl_base.proofs.Lists.{pairs-head, pairs-tail}
-use Rattle.ncl_layout.proofs.NetsApart.{nets_at, stages_apart}
+use Rattle.ncl_cell_roles.proofs.NetsApart.{nets_at, stages_apart}
 use Rattle.ncl_merge.specs.Fold.{with_cells}
 use Rattle.ncl_merge.specs.Folding.{AreFewer}
 use Rattle.ncl_merge.specs.Renamed.{renamed_net, IsRenamedCell, IsRenamedStage}

@@ -20,11 +20,11 @@ use Rattle.ncl_shape.specs.Pipeline.{PipelineData}
 use Rattle.ncl_shape.specs.Shape.{Shape, IsStageOf, AreRailsOf}
 use Rattle.ncl_base.proofs.Members.{Member, member_cases, Member-append_left, Member-append_right, Member-append_cases, Member-map, member_of_map, Contains-from_Member, Member-from_Contains, Contains-from_slice_get, slice_get-from_Contains, slice_get-some, list_any-from_member, member_from_list_any}
 use Rattle.ncl_base.proofs.Lists.{pairs-head, pairs-tail}
-use Rattle.ncl_layout.proofs.RailNets.{rail-place}
-use Rattle.ncl_layout.proofs.BankBits.{drives_rail, register_of_rail}
-use Rattle.ncl_layout.proofs.Numbering.{stage_at, inner_or_last, inner_stage, last_stage, bank_rails}
-use Rattle.ncl_layout.proofs.BetweenBanks.{stage_origin, gate_of_stage}
-use Rattle.ncl_layout.proofs.NetsApart.{nets_at, stages_apart}
+use Rattle.ncl_cell_roles.proofs.RailNets.{rail-place}
+use Rattle.ncl_cell_roles.proofs.BankBits.{drives_rail, register_of_rail}
+use Rattle.ncl_cell_roles.proofs.Numbering.{stage_at, inner_or_last, inner_stage, last_stage, bank_rails}
+use Rattle.ncl_cell_roles.proofs.BetweenBanks.{stage_origin, gate_of_stage}
+use Rattle.ncl_cell_roles.proofs.NetsApart.{nets_at, stages_apart}
 use Rattle.ncl_merge.specs.Fold.{with_cells, FoldsTo}
 use Rattle.ncl_merge.specs.Folding.{AreFewer}
 use Rattle.ncl_merge.specs.Thinned.{IsRailGate}

@@ -25,9 +25,9 @@ use Rattle.ncl_shape.specs.Pipeline.{PipelineData}
 use Rattle.ncl_shape.specs.Shape.{Shape, AreRailsOf}
 use Rattle.ncl_shape.specs.Chain.{OneRootEach}
 use Rattle.ncl_shape.proofs.ShapeLaws.{requests, request_at, last_bank}
-use Rattle.ncl_layout.specs.Layout.{no_rails, rail_at}
-use Rattle.ncl_layout.proofs.BankBits.{drives_rail, register_of_rail}
-use Rattle.ncl_layout.proofs.EndLaws.{first_bank, input_is_port, ki_is_port}
+use Rattle.ncl_cell_roles.specs.Layout.{no_rails, rail_at}
+use Rattle.ncl_cell_roles.proofs.BankBits.{drives_rail, register_of_rail}
+use Rattle.ncl_cell_roles.proofs.EndLaws.{first_bank, input_is_port, ki_is_port}
 use Rattle.ncl_machine.proofs.ListTests.{map-same}
 use Rattle.ncl_merge.specs.Folding.{AreFewer}
 use Rattle.ncl_merge.specs.Renamed.{renamed_net, renamed_rails}

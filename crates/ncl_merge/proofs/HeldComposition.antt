@@ -18,12 +18,12 @@ use Rattle.ncl_shape.specs.Closure.{function_at, held_nets}
 use Rattle.ncl_shape.specs.Held.{word_held}
 use Rattle.ncl_shape.specs.Pipeline.{PipelineData}
 use Rattle.ncl_shape.specs.Shape.{Shape, AreRailsOf}
-use Rattle.ncl_layout.specs.Layout.{Layout, IsLayoutOf, rail_at, holds_rail}
-use Rattle.ncl_layout.proofs.BankBits.{drives_rail, register_of_rail}
-use Rattle.ncl_layout.proofs.HeldWords.{register-held, held-wide, held-some}
-use Rattle.ncl_layout.proofs.Numbering.{stage_at, inner_or_last, inner_stage, last_stage, bank_rails}
-use Rattle.ncl_layout.proofs.StageNumbers.{wires_or_stage}
-use Rattle.ncl_layout.proofs.LaidOut.{laid_out}
+use Rattle.ncl_cell_roles.specs.Layout.{Layout, IsLayoutOf, rail_at, holds_rail}
+use Rattle.ncl_cell_roles.proofs.BankBits.{drives_rail, register_of_rail}
+use Rattle.ncl_cell_roles.proofs.HeldWords.{register-held, held-wide, held-some}
+use Rattle.ncl_cell_roles.proofs.Numbering.{stage_at, inner_or_last, inner_stage, last_stage, bank_rails}
+use Rattle.ncl_cell_roles.proofs.StageNumbers.{wires_or_stage}
+use Rattle.ncl_cell_roles.proofs.LaidOut.{laid_out}
 use Rattle.ncl_stage.specs.Faults.{IsSound}
 use Rattle.ncl_machine.specs.Composition.{stage_function, composed}
 use Rattle.ncl_machine.proofs.Composition.{closed-is}

@@ -25,7 +25,7 @@ use Rattle.ncl_stage.specs.declared.variant.Variant.TheVariants.{Base, Bit, Cell
 use Rattle.ncl_stage.specs.Values.{val}
 use Rattle.ncl_stage.specs.Faults.{BothRails, NoRail, Incomplete, Orphan, holds_at, is_illegal, has_data, all_data, IsWordOf, IsSound}
 use Rattle.ncl_stage.proofs.Reordered.{IsSameVariant, base, bit, cell, same_values}
-use Rattle.ncl_layout.proofs.HeldWords.{held-some}
+use Rattle.ncl_cell_roles.proofs.HeldWords.{held-some}
 use Rattle.ncl_machine.specs.Composition.{stage_function}
 use Rattle.ncl_writer.specs.Text.{text_of}
 use Rattle.ncl_merge.specs.Fold.{with_cells}

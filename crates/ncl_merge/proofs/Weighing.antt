@@ -19,7 +19,7 @@ use Rattle.ncl_shape.specs.declared.stage.StageCell.{StageCell}
 use Rattle.ncl_shape.specs.Stage.{StageData, rail_nets, nets_of, out_of}
 use Rattle.ncl_shape.specs.Pipeline.{PipelineData}
 use Rattle.ncl_shape.specs.Shape.{Shape}
-use Rattle.ncl_layout.proofs.NetsApart.{nets_at, stages_apart}
+use Rattle.ncl_cell_roles.proofs.NetsApart.{nets_at, stages_apart}
 use Rattle.ncl_merge.specs.Folding.{AreFewer}
 use Rattle.ncl_merge.specs.Rebuilt.{kept}
 use Rattle.ncl_merge.specs.Choice.{is_stage_cell, with_gate_of, choice_of}

@@ -21,12 +21,12 @@ use Rattle.ncl_shape.specs.Chain.{ShownOutputs}
 use Rattle.ncl_shape.proofs.NetSources.{only_origin}
 use Rattle.ncl_shape.proofs.ShapeLaws.{requests, request_at, last_bank}
 use Rattle.ncl_base.proofs.Members.{Member, Member-append_cases, member_of_map, Contains-from_Member, Member-from_Contains, Contains-from_slice_get, slice_get-from_Contains, slice_get-some}
-use Rattle.ncl_layout.specs.Layout.{rail_at}
-use Rattle.ncl_layout.proofs.RailNets.{rail-within}
-use Rattle.ncl_layout.proofs.BankBits.{rail_of_register}
-use Rattle.ncl_layout.proofs.Numbering.{stage_at, inner_stage, bank_named}
-use Rattle.ncl_layout.proofs.EndLaws.{first_bank, input_is_port}
-use Rattle.ncl_layout.proofs.BetweenBanks.{stages_join, register_on}
+use Rattle.ncl_cell_roles.specs.Layout.{rail_at}
+use Rattle.ncl_cell_roles.proofs.RailNets.{rail-within}
+use Rattle.ncl_cell_roles.proofs.BankBits.{rail_of_register}
+use Rattle.ncl_cell_roles.proofs.Numbering.{stage_at, inner_stage, bank_named}
+use Rattle.ncl_cell_roles.proofs.EndLaws.{first_bank, input_is_port}
+use Rattle.ncl_cell_roles.proofs.BetweenBanks.{stages_join, register_on}
 use Rattle.ncl_merge.specs.Folding.{AreFewer}
 use Rattle.ncl_merge.specs.Thinned.{IsRailGate}
 use Rattle.ncl_merge.specs.Rebuilt.{IsChoice, IsWhole}

@@ -12,10 +12,10 @@ use Rattle.ncl_shape.specs.Shape.{Shape}
 use Rattle.ncl_shape.specs.Stage.{out_of, rail_nets}
 use Rattle.ncl_base.proofs.Lists.{pairs-head, pairs-tail}
 use Rattle.ncl_base.proofs.Members.{Member, Member-append_left, Member-append_right, Member-map, here, recursion_from_members}
-use Rattle.ncl_layout.specs.Layout.{IsLayoutOf, Layout, Part, in_rail, of_bank, of_stage, of_tree, stage_nets}
-use Rattle.ncl_layout.proofs.LaidOut.{laid_out_of}
-use Rattle.ncl_layout.proofs.RailNets.{rail-within}
-use Rattle.ncl_layout.proofs.EndLaws.{inputs_differ}
+use Rattle.ncl_cell_roles.specs.Layout.{IsLayoutOf, Layout, Part, in_rail, of_bank, of_stage, of_tree, stage_nets}
+use Rattle.ncl_cell_roles.proofs.LaidOut.{laid_out_of}
+use Rattle.ncl_cell_roles.proofs.RailNets.{rail-within}
+use Rattle.ncl_cell_roles.proofs.EndLaws.{inputs_differ}
 use Rattle.ncl_sim.specs.Touch.{AreApart, AreDrivenOnce, AreEnds, IsApart}
 
 -- a list of nets that all differ

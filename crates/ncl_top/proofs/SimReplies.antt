@@ -17,7 +17,7 @@ use Rattle.ncl_report.specs.DelayText.{delay_line, words_line}
 use Rattle.ncl_base.specs.declared.word.TheConstants.{MOST_BITS}
 use Rattle.ncl_shape.specs.Pipeline.{PipelineData}
 use Rattle.ncl_shape.specs.Shape.{Shape}
-use Rattle.ncl_layout.proofs.LaidOut.{laid_out_of}
+use Rattle.ncl_cell_roles.proofs.LaidOut.{laid_out_of}
 use Rattle.ncl_top.specs.declared.reply.Reply.{Reply}
 use Rattle.ncl_top.specs.declared.reply.Reply.TheVariants.{Made, Fixed}
 use Rattle.ncl_top.specs.declared.reply.Fault.{Fault}

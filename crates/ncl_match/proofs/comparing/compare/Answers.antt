@@ -3,8 +3,8 @@ use Rattle.ncl_base.specs.declared.word.TheConstants.{MOST_BITS}
 use Rattle.ncl_shape.specs.declared.rails.Rails.{Rails}
 use Rattle.ncl_shape.specs.Pipeline.{PipelineData}
 use Rattle.ncl_shape.specs.Shape.{Shape}
-use Rattle.ncl_layout.specs.Layout.{Layout, IsLayoutOf}
-use Rattle.ncl_layout.proofs.LaidOut.{laid_out_of}
+use Rattle.ncl_cell_roles.specs.Layout.{Layout, IsLayoutOf}
+use Rattle.ncl_cell_roles.proofs.LaidOut.{laid_out_of}
 use Rattle.ncl_match.specs.Answer.{IsRunAnswer}
 use Rattle.ncl_match.specs.Circuit.{circuit_of}
 use Rattle.ncl_match.specs.declared.answer.RunAnswer.TheVariants as run

@@ -1,6 +1,6 @@
 use Rattle.std.proofs.Common.{ℕ, ◌+◌, Bool, List, Err, sym, ap, ◌∙◌, subst}
 use Rattle.ncl_shape.specs.declared.rails.Rails.{Rails}
-use Rattle.ncl_layout.specs.Layout.{no_rails}
+use Rattle.ncl_cell_roles.specs.Layout.{no_rails}
 use Rattle.ncl_space.specs.Space.{SpaceData}
 use Rattle.ncl_space.proofs.MakingLaws.{handed_on}
 use Rattle.ncl_match.specs.declared.pair.Pair.{Pair}

@@ -5,8 +5,8 @@ use Rattle.ncl_shape.specs.declared.rails.Rails.{Rails}
 use Rattle.ncl_shape.specs.Nets.{Nets}
 use Rattle.ncl_shape.specs.Pipeline.{PipelineData}
 use Rattle.ncl_shape.specs.Stage.{rail_nets}
-use Rattle.ncl_layout.specs.Layout.{no_rails}
-use Rattle.ncl_layout.proofs.LaidOut.{laid_out_of}
+use Rattle.ncl_cell_roles.specs.Layout.{no_rails}
+use Rattle.ncl_cell_roles.proofs.LaidOut.{laid_out_of}
 use Rattle.ncl_space.specs.Space.{SpaceData, fits}
 use Rattle.ncl_space.proofs.MakingLaws.{handed_on}
 use Rattle.ncl_match.specs.Circuit.{circuit_of, closed}

@@ -3,8 +3,8 @@ use Rattle.std.proofs.lemmas.Option.{slice_get-get_or}
 use Rattle.ncl_netlist.specs.Netlist.{NetlistData}
 use Rattle.ncl_shape.specs.declared.rails.Rails.{Rails}
 use Rattle.ncl_shape.specs.Pipeline.{PipelineData}
-use Rattle.ncl_layout.specs.Layout.{no_rails}
-use Rattle.ncl_layout.proofs.LaidOut.{laid_out_of}
+use Rattle.ncl_cell_roles.specs.Layout.{no_rails}
+use Rattle.ncl_cell_roles.proofs.LaidOut.{laid_out_of}
 use Rattle.ncl_match.specs.declared.planning.DataCell.{DataCell}
 use Rattle.ncl_match.specs.Plan.{AreMarks, IsOrdered}
 use Rattle.ncl_match.specs.Planned.{AreMarksFor, plan_of}

@@ -1,6 +1,6 @@
 use Rattle.std.proofs.Common.{◌≡◌, ℕ, zero, suc, ◌+◌, ◌<◌, List, [], ◌∷◌, ◌++◌, length, take, get_or, refl, sym, ap, ◌∙◌, arith, append_assoc}
 use Rattle.ncl_shape.specs.declared.rails.Rails.{Rails}
-use Rattle.ncl_layout.specs.Layout.{no_rails}
+use Rattle.ncl_cell_roles.specs.Layout.{no_rails}
 use Rattle.ncl_match.specs.declared.planning.DataCell.{DataCell}
 use Rattle.ncl_match.specs.Planned.{register_cell, register_cells}
 use Rattle.ncl_match.proofs.planning.add_registers.Goals as goal

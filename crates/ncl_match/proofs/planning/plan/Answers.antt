@@ -5,7 +5,7 @@ use Rattle.ncl_shape.specs.declared.rails.Rails.{Rails}
 use Rattle.ncl_shape.specs.declared.stage.StageCell.{StageCell}
 use Rattle.ncl_shape.specs.Pipeline.{PipelineData}
 use Rattle.ncl_shape.specs.Stage.{StageData}
-use Rattle.ncl_layout.proofs.LaidOut.{laid_out_of}
+use Rattle.ncl_cell_roles.proofs.LaidOut.{laid_out_of}
 use Rattle.ncl_match.specs.declared.planning.DataCell.{DataCell}
 use Rattle.ncl_match.specs.Planned.{bank_cells, before_at, gate_cell, plan_turn, register_cells}
 use Rattle.ncl_match.specs.Turns.{gathered}

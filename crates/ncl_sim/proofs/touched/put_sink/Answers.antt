@@ -1,5 +1,5 @@
 use Rattle.std.proofs.Common.{◌+◌, ◌<◌, arith, length}
-use Rattle.ncl_layout.specs.Layout.{no_rails}
+use Rattle.ncl_cell_roles.specs.Layout.{no_rails}
 use Rattle.ncl_base.proofs.NumberLists.{grows-along}
 use Rattle.ncl_sim.proofs.TouchedLaws.{rails-at, rails-next}
 use Rattle.ncl_sim.proofs.touched.put_sink.Goals as goal

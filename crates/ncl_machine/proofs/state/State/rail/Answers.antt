@@ -6,7 +6,7 @@ use Rattle.std.proofs.lemmas.Option.{slice_get_read}
 use Rattle.ncl_base.proofs.Members.{Contains-from_Member, Contains-from_slice_get, Member-from_Contains}
 use Rattle.ncl_shape.specs.declared.rails.Rails.{Rails}
 use Rattle.ncl_shape.specs.Stage.{rail_of, rail_nets}
-use Rattle.ncl_layout.specs.Layout.{no_rails}
+use Rattle.ncl_cell_roles.specs.Layout.{no_rails}
 use Rattle.ncl_machine.specs.Held.{Held}
 use Rattle.ncl_machine.specs.Steps.{rails_of_word}
 use Rattle.ncl_machine.specs.Tallies.{IsCounted, current_word}

@@ -5,8 +5,8 @@ use Rattle.ncl_diagram.specs.Diagram.{diagram_space}
 use Rattle.ncl_shape.specs.declared.rails.Rails.{Rails}
 use Rattle.ncl_shape.specs.Pipeline.{PipelineData}
 use Rattle.ncl_shape.specs.Shape.{Shape}
-use Rattle.ncl_layout.specs.Layout.{Layout, IsLayoutOf}
-use Rattle.ncl_layout.proofs.LaidOut.{laid_out_of}
+use Rattle.ncl_cell_roles.specs.Layout.{Layout, IsLayoutOf}
+use Rattle.ncl_cell_roles.proofs.LaidOut.{laid_out_of}
 use Rattle.ncl_space.specs.Space.{SpaceData}
 use Rattle.ncl_space.specs.Table.{words, table_of}
 use Rattle.ncl_match.specs.Circuit.{Circuit, circuit_of}

@@ -2,7 +2,7 @@
 ghost use Rattle.ncl_netlist.specs.Netlist.{NetlistData};
 ghost use Rattle.ncl_shape.specs.Pipeline.{PipelineData};
 ghost use Rattle.ncl_shape.specs.Shape.{Shape};
-ghost use Rattle.ncl_layout.specs.Layout.{Layout, IsLayoutOf};
+ghost use Rattle.ncl_cell_roles.specs.Layout.{Layout, IsLayoutOf};
 
 /// A netlist that has the shape of a pipeline can be laid out.
 pub fn shape_is_laid_out()

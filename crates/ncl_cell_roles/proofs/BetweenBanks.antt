@@ -19,11 +19,11 @@ use Rattle.ncl_shape.specs.Chain.{ShownOutputs}
 use Rattle.ncl_base.proofs.Members.{Member, All-from_members, Member-from_Contains, Contains-from_Member, Contains-from_slice_get, slice_get-from_Contains, slice_get-some, Member-append_cases, member_of_map}
 use Rattle.ncl_cell_rules.proofs.OriginLaws.{bank_of_rail}
 use Rattle.ncl_shape.proofs.ShapeLaws.{requests, request_at, same_cell}
-use Rattle.ncl_layout.specs.Layout.{rail_at, IsCellOf, IsRegisterOn, SomeCell}
-use Rattle.ncl_layout.proofs.RailNets.{rail-place}
-use Rattle.ncl_layout.proofs.BankBits.{IsRegisterOfRail, place_of_rail, drives_rail, reads_rail, has_bit, register_of_rail, bank_rails_differ}
-use Rattle.ncl_layout.proofs.Numbering.{wires_of, stage_at, root_at, inner_or_last, last_stage, bank_named, stage_after, bank_rails, bank_inputs, request_is_root}
-use Rattle.ncl_layout.proofs.EndLaws.{first_bank, inputs_differ}
+use Rattle.ncl_cell_roles.specs.Layout.{rail_at, IsCellOf, IsRegisterOn, SomeCell}
+use Rattle.ncl_cell_roles.proofs.RailNets.{rail-place}
+use Rattle.ncl_cell_roles.proofs.BankBits.{IsRegisterOfRail, place_of_rail, drives_rail, reads_rail, has_bit, register_of_rail, bank_rails_differ}
+use Rattle.ncl_cell_roles.proofs.Numbering.{wires_of, stage_at, root_at, inner_or_last, last_stage, bank_named, stage_after, bank_rails, bank_inputs, request_is_root}
+use Rattle.ncl_cell_roles.proofs.EndLaws.{first_bank, inputs_differ}
 
 -- wires are a stage
 wires_are_stage : (bits : List Rails) → 0 < length bits → length bits ≤ 128 → AllPairs (λ x y. x ≢ y) (rail_nets bits) → IsStage (wires_of bits)

@@ -18,8 +18,8 @@ use Rattle.ncl_shape.specs.declared.bank.Bit.{Bit}
 use Rattle.ncl_shape.specs.Held.{is_data_bank, value_or_low, word_held}
 use Rattle.ncl_shape.specs.Shape.{IsBankOf, IsBitOf}
 use Rattle.ncl_shape.proofs.ShapeLaws.{same_cell}
-use Rattle.ncl_layout.specs.Layout.{holds_rail}
-use Rattle.ncl_layout.proofs.BankBits.{IsRegisterOfRail, place_of_rail, two_pins}
+use Rattle.ncl_cell_roles.specs.Layout.{holds_rail}
+use Rattle.ncl_cell_roles.proofs.BankBits.{IsRegisterOfRail, place_of_rail, two_pins}
 
 -- the start of a bit by whether its cells are reset to 1
 abbrev start_by : Bool → Bool → Option Bool

@@ -14,10 +14,10 @@ use Rattle.ncl_shape.specs.Shape.{Shape}
 use Rattle.ncl_base.proofs.Members.{Member, member_cases, member_of_map, slice_get-some}
 use Rattle.ncl_cell_rules.proofs.OriginLaws.{origin_within}
 use Rattle.ncl_cell_rules.proofs.NetOrigins.{one_origin}
-use Rattle.ncl_layout.proofs.Numbering.{stage_at, banks_apart}
-use Rattle.ncl_layout.proofs.EndLaws.{input_is_port, ki_is_port, ki_is_no_input}
-use Rattle.ncl_layout.proofs.BetweenBanks.{stage_origin}
-use Rattle.ncl_layout.proofs.BankTrees.{tree_of, tree_of-acks, tree_of-has}
+use Rattle.ncl_cell_roles.proofs.Numbering.{stage_at, banks_apart}
+use Rattle.ncl_cell_roles.proofs.EndLaws.{input_is_port, ki_is_port, ki_is_no_input}
+use Rattle.ncl_cell_roles.proofs.BetweenBanks.{stage_origin}
+use Rattle.ncl_cell_roles.proofs.BankTrees.{tree_of, tree_of-acks, tree_of-has}
 
 -- the nets of stage k
 abbrev pub nets_at : PipelineData → ℕ → List ℕ

@@ -6,7 +6,7 @@ use Rattle.std.proofs.lemmas.Option.{slice_get_within}
 use Rattle.ncl_shape.specs.Stage.{StageData}
 use Rattle.ncl_shape.specs.Pipeline.{PipelineData}
 use Rattle.ncl_base.proofs.Members.{Contains-from_slice_get, slice_get-from_Contains, slice_get-some}
-use Rattle.ncl_layout.specs.Layout.{Layout, IsWires, IsLayoutOf}
+use Rattle.ncl_cell_roles.specs.Layout.{Layout, IsWires, IsLayoutOf}
 
 module _ (p : PipelineData) (l : Layout) (is : IsLayoutOf p l) where
   pub wires_or_stage : (k : ℕ) → k ≤ l.last → Contains p.stages (l.stage k) ⊎ IsWires (l.stage k)

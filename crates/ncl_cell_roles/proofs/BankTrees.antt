@@ -18,7 +18,7 @@ use Rattle.ncl_base.proofs.Lists.{Differ, differ_of_map}
 use Rattle.ncl_cell_rules.proofs.Drivers.{cell_fits, same_place, same_driver}
 use Rattle.ncl_cell_rules.proofs.OriginLaws.{place_of, has_origin, driver_of_ack}
 use Rattle.ncl_cell_rules.proofs.NetOrigins.{one_origin}
-use Rattle.ncl_layout.proofs.Numbering.{root_is_one}
+use Rattle.ncl_cell_roles.proofs.Numbering.{root_is_one}
 
 -- the outputs of the cells of a netlist differ
 outputs_differ : (n : NetlistData) → IsNetlist n → Differ net_of n.cells

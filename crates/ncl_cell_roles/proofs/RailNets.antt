@@ -5,7 +5,7 @@ use Rattle.std.proofs.lemmas.List.Kept.{AllPairs-cons}
 use Rattle.ncl_shape.specs.declared.rails.Rails.{Rails}
 use Rattle.ncl_shape.specs.Stage.{rail_of, rail_nets}
 use Rattle.ncl_base.proofs.Members.{Member, here, there, All-from_members}
-use Rattle.ncl_layout.specs.Layout.{rail_at}
+use Rattle.ncl_cell_roles.specs.Layout.{rail_at}
 
 -- each of them is a rail net
 pub rail-within : (bits : List Rails) (b : ℕ) (r : Bool) → b < length bits → Member (rail_at bits b r) (rail_nets bits)

@@ -3,3 +3,4 @@ pub mod Files
 pub mod Held
 pub mod Members
 pub mod NumberLists
+pub mod TextLines

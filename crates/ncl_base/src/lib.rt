@@ -13,6 +13,7 @@ mod null_sink;
 mod sink;
 mod source;
 mod steady_source;
+mod text_line;
 mod word;
 
 pub use items::Items;
@@ -25,4 +26,5 @@ pub use null_sink::NullSink;
 pub use sink::{Sink, SinkFault, deliver};
 pub use source::{Failed, LoadFault, MOST_BYTES, Source, load};
 pub use steady_source::SteadySource;
+pub use text_line::is_blank;
 pub use word::{MOST_BITS, Word};

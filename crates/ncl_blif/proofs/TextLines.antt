@@ -6,7 +6,8 @@ use Rattle.std.specs.List.{slice_split, onto_first, position_or_len, before_firs
 use Rattle.std.specs.Str.Lines.{lines, lines_of_parts, strip_carriage_return}
 use Rattle.std.proofs.lemmas.List.Splits.{slice_split_first}
 use Rattle.ncl_blif.specs.Line.{LineData}
-use Rattle.ncl_blif.specs.Lines.{NumberedText, uncommented, is_continued, blank_at_end, put_before, joined, in_words, words_of}
+use Rattle.ncl_base.specs.TextLines.{words_of, NumberedText}
+use Rattle.ncl_blif.specs.Lines.{uncommented, is_continued, blank_at_end, put_before, joined, in_words}
 use Rattle.ncl_blif.proofs.TextWords.{split-some, words_of-append, words_of-end}
 
 lines_of_parts-cons : (x : List ℕ) (parts : List (List ℕ)) → 0 < length parts → lines_of_parts (x ∷ parts) ≡ strip_carriage_return x ∷ lines_of_parts parts

@@ -3,7 +3,7 @@ use Rattle.std.proofs.Common.{◌≡◌, ℕ, ◌<◌, Bool, true, false, ltb, c
 use Rattle.std.proofs.lemmas.List.{append-nil}
 use Rattle.std.proofs.lemmas.List.Elements.{filter-append}
 use Rattle.std.specs.List.{slice_split, onto_first}
-use Rattle.ncl_blif.specs.Lines.{is_blank, words_of}
+use Rattle.ncl_base.specs.TextLines.{is_blank, words_of}
 
 -- a part put onto the first of some lists is put onto the first of the lists before more
 onto_first-append : {X : Type 0} (x : X) (parts more : List (List X)) → 0 < length parts → onto_first x (parts ++ more) ≡ onto_first x parts ++ more

@@ -8,7 +8,8 @@ use Rattle.std.specs.List.{slice_split, onto_first, position_or_len}
 use Rattle.std.specs.Str.Lines.{lines, lines_of_parts, strip_carriage_return}
 use Rattle.ncl_base.proofs.Growing.{last_of}
 use Rattle.ncl_blif.specs.Line.{LineData}
-use Rattle.ncl_blif.specs.Lines.{NumberedText, uncommented, is_continued, blank_at_end, put_before, joined, is_blank, words_of, in_words, lines_of}
+use Rattle.ncl_base.specs.TextLines.{is_blank, words_of, NumberedText}
+use Rattle.ncl_blif.specs.Lines.{uncommented, is_continued, blank_at_end, put_before, joined, in_words, lines_of}
 use Rattle.ncl_blif.specs.Named.{last_word, front_words, pattern_of}
 use Rattle.ncl_blif.proofs.Names.{last_word-end, front_words-end}
 

@@ -1,13 +1,9 @@
--- How a text falls into lines and words (Berkeley BLIF).
-use Rattle.std.specs.Prelude.{ℕ, ◌+◌, ◌-◌, List, [], ◌∷◌, ◌++◌, Bool, false, ◌||◌, ◌==◌, if◌then◌else◌, length, map, take, filter, nat_lt}
-use Rattle.std.specs.List.{slice_split, before_first}
+-- How a text falls into lines (Berkeley BLIF).
+use Rattle.std.specs.Prelude.{ℕ, ◌+◌, ◌-◌, List, [], ◌∷◌, ◌++◌, Bool, false, ◌==◌, if◌then◌else◌, length, map, take, filter, nat_lt}
+use Rattle.std.specs.List.{before_first}
 use Rattle.std.specs.Str.Lines.{lines}
+use Rattle.ncl_base.specs.TextLines.{NumberedText, words_of}
 use Rattle.ncl_blif.specs.Line.{LineData}
-
--- a line's text with its number, before it falls into words
-pub record NumberedText : Type 0 where
-  pub number : ℕ
-  pub text : List ℕ
 
 -- a line without its comment, which goes from the first # to the line's end
 abbrev pub uncommented : List ℕ → List ℕ
@@ -36,14 +32,6 @@ joined number (text ∷ texts) =
     if is_continued text
     then put_before (record { number = number; text = blank_at_end text }) (joined (number + 1) texts)
     else record { number = number; text = text } ∷ joined (number + 1) texts
-
--- whether a byte is a blank or a tab
-abbrev pub is_blank : ℕ → Bool
-is_blank b = b == 32 || b == 9
-
--- the words of a text: what stands between blanks and tabs and isn't empty
-abbrev pub words_of : List ℕ → List (List ℕ)
-words_of text = filter (λ word. nat_lt 0 (length word)) (slice_split is_blank text)
 
 -- the line as words
 abbrev pub in_words : NumberedText → LineData

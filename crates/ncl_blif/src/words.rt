@@ -1,9 +1,9 @@
 //! The words of a text.
 ghost use Rattle.std.specs.Prelude.{◌≡◌, ◌++◌, length, map, OnOk, MatchOption};
-ghost use Rattle.ncl_blif.specs.Lines.{is_blank, words_of};
+ghost use Rattle.ncl_base.specs.TextLines.{is_blank, words_of};
 ghost use Rattle.ncl_blif.specs.Named.{front_words, last_word};
 
-use ncl_base::Memory;
+use ncl_base::{Memory, is_blank};
 
 /// Puts the words of a text after others, in order. They are parts of the text.
 ///
@@ -18,13 +18,6 @@ pub(crate) fn push_words<'a>(words: &mut Vec<&'a [u8]>, text: &'a [u8]) -> Resul
         }
     }
     Ok(())
-}
-
-/// Whether a byte stands between words: a blank or a tab.
-fn is_blank(byte: u8) -> bool
-    ensures { result ≡ is_blank byte }
-{
-    byte == b' ' || byte == b'\t'
 }
 
 /// The words before the last, and the last, or `None` where there is none.

@@ -2,7 +2,7 @@
 use Rattle.std.proofs.Common.{◌≡◌, ℕ, true, List, [], ◌∷◌, ◌++◌, length, if◌then◌else◌, Some, None, refl, sym, ap, ◌∙◌}
 use Rattle.std.specs.Option.{option_or}
 use Rattle.ncl_netlist.specs.Names.{AllDiffer}
-use Rattle.ncl_blif.specs.Lines.{NumberedText}
+use Rattle.ncl_base.specs.TextLines.{NumberedText}
 use Rattle.ncl_delay.specs.declared.statement.Statement.{Statement}
 use Rattle.ncl_delay.specs.declared.fault.DelayFault.{DelayFault}
 use Rattle.ncl_delay.specs.declared.fault.DelayFault.TheVariants.{UnknownCell}

@@ -7,7 +7,7 @@ use Rattle.std.proofs.lemmas.Map.Keys.{IsDistinct-head, IsDistinct-tail}
 use Rattle.std.proofs.lemmas.Simd.{splat_is_map}
 use Rattle.ncl_netlist.specs.Names.{same_name, AllDiffer, name_number}
 use Rattle.ncl_netlist.proofs.NameLists.{equal_names}
-use Rattle.ncl_blif.specs.Lines.{NumberedText}
+use Rattle.ncl_base.specs.TextLines.{NumberedText}
 use Rattle.ncl_delay.specs.declared.delays.Edges.{Edges}
 use Rattle.ncl_delay.specs.declared.statement.Subject.{Subject}
 use Rattle.ncl_delay.specs.declared.statement.Subject.TheVariants.{Default, Source, Sink, Cell}

@@ -6,7 +6,7 @@ use Rattle.std.proofs.lemmas.Iterator.{YieldsList}
 use Rattle.std.proofs.lemmas.Iterator.Consumers.{YieldsList-so_far, YieldsList-turn, YieldsList-end}
 use Rattle.std.proofs.lemmas.List.{map-append, take_more, take-append-drop}
 use Rattle.std.proofs.lemmas.List.Elements.{filter-append}
-use Rattle.ncl_blif.specs.Lines.{NumberedText}
+use Rattle.ncl_base.specs.TextLines.{NumberedText}
 use Rattle.ncl_delay.specs.Lines.{is_feed, trimmed, tells, numbered, told_lines}
 
 -- the lines of a text with their places

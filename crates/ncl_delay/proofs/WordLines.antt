@@ -3,7 +3,7 @@ use Rattle.std.proofs.Common.{◌≡◌, ℕ, ◌+◌, Bool, List, [], ◌∷◌
 use Rattle.std.specs.Option.{option_or}
 use Rattle.std.proofs.lemmas.List.{length-map, map-append}
 use Rattle.ncl_base.specs.Words.{text_of}
-use Rattle.ncl_blif.specs.Lines.{NumberedText}
+use Rattle.ncl_base.specs.TextLines.{NumberedText}
 use Rattle.ncl_delay.specs.declared.fault.WordsFault.{WordsFault}
 use Rattle.ncl_delay.specs.WordText.{word_fault, words_fault}
 use Rattle.ncl_delay.proofs.FirstOf.{option_or-none, option_or_assoc}

@@ -7,7 +7,7 @@ use Rattle.std.specs.Str.{bytes_eq}
 use Rattle.std.specs.Str.Parse.{digits_value}
 use Rattle.ncl_netlist.specs.Names.{same_name}
 use Rattle.ncl_netlist.specs.Netlist.{NetlistData}
-use Rattle.ncl_blif.specs.Lines.{NumberedText, words_of}
+use Rattle.ncl_base.specs.TextLines.{words_of, NumberedText}
 use Rattle.ncl_delay.specs.declared.delays.Edges.{Edges}
 use Rattle.ncl_delay.specs.declared.delays.TheConstants.{MOST_DELAY}
 use Rattle.ncl_delay.specs.declared.number.TheConstants.{MOST_DIGITS}

@@ -1,7 +1,7 @@
 -- The lines of a file of delays or of words.
 use Rattle.std.specs.Prelude.{ℕ, ◌+◌, List, [], ◌∷◌, Bool, false, not, ◌||◌, ◌==◌, if◌then◌else◌, map, filter, reverse}
 use Rattle.std.specs.List.{slice_split, enumerate_from}
-use Rattle.ncl_blif.specs.Lines.{NumberedText, is_blank}
+use Rattle.ncl_base.specs.TextLines.{is_blank, NumberedText}
 
 -- whether a byte ends a line: a line feed
 abbrev pub is_feed : ℕ → Bool

@@ -2,7 +2,7 @@
 use Rattle.std.specs.Prelude.{ℕ, ◌+◌, List, [], ◌∷◌, Bool, ◌||◌, ◌==◌, if◌then◌else◌, Option, Some, None, length, nat_lt}
 use Rattle.std.specs.List.{list_all}
 use Rattle.std.specs.Option.{option_or}
-use Rattle.ncl_blif.specs.Lines.{NumberedText}
+use Rattle.ncl_base.specs.TextLines.{NumberedText}
 use Rattle.ncl_delay.specs.declared.fault.WordsFault.{WordsFault}
 use Rattle.ncl_delay.specs.declared.fault.WordsFault.TheVariants.{Syntax, Width, TooMany}
 use Rattle.ncl_delay.specs.declared.word_text.TheConstants.{MOST_WORDS}

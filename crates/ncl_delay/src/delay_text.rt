@@ -2,7 +2,7 @@
 ghost use Rattle.std.specs.Prelude.{◌≡◌, ◌<◌, ◌≤◌, ◌⊎◌, true, false, None, Some, IfOk, IfErr, OnOk, MatchOption, MatchResult, map, length};
 ghost use Rattle.std.specs.List.{list_any};
 ghost use Rattle.ncl_netlist.specs.Names.{AllDiffer, same_name, name_number};
-ghost use Rattle.ncl_blif.specs.Lines.{NumberedText};
+ghost use Rattle.ncl_base.specs.TextLines.{NumberedText};
 ghost use Rattle.ncl_delay.specs.declared.statement.Statement.{Statement};
 ghost use Rattle.ncl_delay.specs.declared.fault.DelayFault.TheVariants.{Memory as OutOfMemory};
 ghost use Rattle.ncl_delay.specs.Lines.{told_lines};

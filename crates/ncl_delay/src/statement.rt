@@ -1,12 +1,13 @@
 //! What a line of a file of delays states.
 ghost use Rattle.std.specs.Prelude.{◌≡◌, IfSome, map, take};
 ghost use Rattle.ncl_delay.specs.Delays.{AreDelays};
-ghost use Rattle.ncl_blif.specs.Lines.{is_blank, words_of};
+ghost use Rattle.ncl_base.specs.TextLines.{is_blank, words_of};
 ghost use Rattle.ncl_delay.specs.DelayText.{edges_text, subject_text, cell_text, stating, said};
 
 use crate::delays::Edges;
 use crate::number::read_delay;
 use arrayvec::ArrayVec;
+use ncl_base::is_blank;
 use std::marker::Model;
 
 /// A name as it stands in a text, which contracts see as the list of its bytes.
@@ -99,13 +100,6 @@ fn first_words(line: &[u8]) -> ArrayVec<&[u8], MOST_WORDS>
         }
     }
     words
-}
-
-/// Whether a byte stands between words: a blank or a tab.
-fn is_blank(byte: u8) -> bool
-    ensures { result ≡ is_blank byte }
-{
-    byte == b' ' || byte == b'\t'
 }
 
 /// The subject that a word stands for, or `None` where it stands for none.

@@ -2,7 +2,7 @@
 ghost use Rattle.std.specs.Prelude.{◌≡◌, ◌≤◌, ◌⊎◌, None, Some, IfOk, IfErr, OnOk, MatchResult, map, length};
 ghost use Rattle.std.specs.List.{list_all};
 ghost use Rattle.ncl_base.specs.Words.{text_of};
-ghost use Rattle.ncl_blif.specs.Lines.{NumberedText};
+ghost use Rattle.ncl_base.specs.TextLines.{NumberedText};
 ghost use Rattle.ncl_delay.specs.declared.fault.WordsFault.TheVariants.{Memory as OutOfMemory};
 ghost use Rattle.ncl_delay.specs.Lines.{told_lines};
 ghost use Rattle.ncl_delay.specs.WordText.{is_bit, word_fault, words_fault};

@@ -1,7 +1,7 @@
 use Rattle.std.proofs.Common.{length, take, filter, ltb, rules, ap, ◌∙◌}
 use Rattle.std.proofs.lemmas.Iterator.Splits.{YieldsList-from_slice_split}
 use Rattle.std.proofs.lemmas.Iterator.Consumers.{YieldsList-end}
-use Rattle.ncl_blif.specs.Lines.{is_blank}
+use Rattle.ncl_base.specs.TextLines.{is_blank}
 use Rattle.ncl_delay.proofs.statement.first_words.Goals as goal
 
 pub returns : goal.returns

@@ -1,5 +1,5 @@
 use Rattle.std.proofs.Common.{map, sym, ap, ◌∙◌}
-use Rattle.ncl_blif.specs.Lines.{words_of}
+use Rattle.ncl_base.specs.TextLines.{words_of}
 use Rattle.ncl_delay.specs.DelayText.{stating}
 use Rattle.ncl_delay.proofs.Saying.{said-three, said-four}
 use Rattle.ncl_delay.proofs.statement.said.Goals as goal

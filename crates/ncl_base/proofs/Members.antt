@@ -1,7 +1,7 @@
 -- The laws of members of a list.
 use Rattle.std.proofs.Common.{◌≡◌, ℕ, zero, suc, ◌+◌, ◌<◌, ◌≤◌, Bool, true, false, cond, List, [], ◌∷◌, ◌++◌, length, map, get_or, Some, ◌⊎◌, inl, inr, refl, sym, ap, subst, ◌∙◌, arith}
 use Rattle.std.specs.Prelude.{Contains, All, slice_get, count_by, filter}
-use Rattle.std.specs.List.{list_any, AllByRecursion}
+use Rattle.std.specs.List.{list_any, find, AllByRecursion}
 use Rattle.std.proofs.lemmas.Bool.{or_cases, or_left, or_right, both_ways, cases_Bool, cond-true, cond-false, cond_both}
 use Rattle.std.proofs.lemmas.List.Sums.{sum_by-cons}
 use Rattle.std.proofs.lemmas.Option.{slice_get_within, slice_get-get_or, get_or_from_slice_get}
@@ -149,3 +149,12 @@ first_passing {X} test x (there {y = y} {xs = xs} m) passes =
     earlier : (k : ℕ) → test y ≡ false → ((j : ℕ) (z : X) → j < k → slice_get xs j ≡ Some z → test z ≡ false) → (j : ℕ) (z : X) → j < suc k → slice_get (y ∷ xs) j ≡ Some z → test z ≡ false
     earlier k fails before zero z lt at = let same : y ≡ z = cc in subst (λ x. test x ≡ false) same fails
     earlier k fails before (suc j) z lt at = before j z (omega arith) at
+
+-- what is found is a member
+pub member-found : {X : Type 0} (test : X → Bool) (xs : List X) (x : X) → find test xs ≡ Some x → Member x xs
+member-found test [] x found = absurd cc
+member-found test (y ∷ ys) x found = by_first (test y) (member-found test ys x) found
+  where
+    by_first : (b : Bool) → (find test ys ≡ Some x → Member x ys) → cond b (Some y) (find test ys) ≡ Some x → Member x (y ∷ ys)
+    by_first true later found = let same : y ≡ x = cc in subst (λ z. Member z (y ∷ ys)) same here
+    by_first false later found = there (later found)

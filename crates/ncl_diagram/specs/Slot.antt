@@ -4,7 +4,7 @@ use Rattle.std.specs.List.{list_all, position_or_len}
 use Rattle.std.specs.Option.{option_map}
 use Rattle.std.specs.Str.{bytes_eq}
 use Rattle.ncl_gates.specs.declared.kind.Kind.{Kind}
-use Rattle.ncl_gates.specs.declared.kind.Kind.TheVariants.{Th12, Th22, Th13, Th23, Th33, Th23w2, Th33w2, Th14, Th24, Th34, Th44, Th24w2, Th34w2, Th44w2, Th34w3, Th44w3, Th24w22, Th34w22, Th44w22, Th54w22, Th34w32, Th54w32, Th44w322, Th54w322, ThXor0, ThAnd0, Th24comp}
+use Rattle.ncl_gates.specs.declared.kind.TheConstants.{KINDS}
 use Rattle.ncl_gates.specs.Name.{name_of}
 use Rattle.ncl_space.specs.declared.space.Ref.{Ref}
 use Rattle.ncl_diagram.specs.declared.memo.Key.{Key}
@@ -21,7 +21,7 @@ are_below floor ps = list_all (λ place. nat_lt place floor) ps
 
 -- the gates, in the order of their numbers
 unfoldable pub gates : List Kind
-gates = Th12 ∷ Th22 ∷ Th13 ∷ Th23 ∷ Th33 ∷ Th23w2 ∷ Th33w2 ∷ Th14 ∷ Th24 ∷ Th34 ∷ Th44 ∷ Th24w2 ∷ Th34w2 ∷ Th44w2 ∷ Th34w3 ∷ Th44w3 ∷ Th24w22 ∷ Th34w22 ∷ Th44w22 ∷ Th54w22 ∷ Th34w32 ∷ Th54w32 ∷ Th44w322 ∷ Th54w322 ∷ ThXor0 ∷ ThAnd0 ∷ Th24comp ∷ []
+gates = KINDS
 
 -- the number of a gate: its place among them, from 1
 unfoldable pub kind_number : Kind → ℕ

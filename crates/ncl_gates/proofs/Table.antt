@@ -3,17 +3,14 @@ use Rattle.std.proofs.Common.{◌≡◌, ℕ, List, [], ◌∷◌, Bool, true, O
 use Rattle.std.specs.List.{list_all, find}
 use Rattle.std.specs.Str.{bytes_eq}
 use Rattle.ncl_gates.specs.declared.kind.Kind.{Kind}
-use Rattle.ncl_gates.specs.declared.kind.Kind.TheVariants.{Th12, Th22, Th13, Th23, Th33, Th23w2, Th33w2, Th14, Th24, Th34, Th44, Th24w2, Th34w2, Th44w2, Th34w3, Th44w3, Th24w22, Th34w22, Th44w22, Th54w22, Th34w32, Th54w32, Th44w322, Th54w322, ThXor0, ThAnd0, Th24comp}
+use Rattle.ncl_gates.specs.declared.kind.Kind.TheVariants.{Th12}
+use Rattle.ncl_gates.specs.declared.kind.TheConstants.{KINDS}
 use Rattle.ncl_gates.specs.Name.{name_of}
 use Rattle.ncl_gates.proofs.ListTests.{find_passes}
 
--- all gates
-abbrev pub all_kinds : List Kind
-all_kinds = Th12 ∷ Th22 ∷ Th13 ∷ Th23 ∷ Th33 ∷ Th23w2 ∷ Th33w2 ∷ Th14 ∷ Th24 ∷ Th34 ∷ Th44 ∷ Th24w2 ∷ Th34w2 ∷ Th44w2 ∷ Th34w3 ∷ Th44w3 ∷ Th24w22 ∷ Th34w22 ∷ Th44w22 ∷ Th54w22 ∷ Th34w32 ∷ Th54w32 ∷ Th44w322 ∷ Th54w322 ∷ ThXor0 ∷ ThAnd0 ∷ Th24comp ∷ []
-
 -- the first gate of the table with a name
 abbrev pub kind_named : List ℕ → Option Kind
-kind_named name = find (λ kind. bytes_eq (name_of kind) name) all_kinds
+kind_named name = find (λ kind. bytes_eq (name_of kind) name) KINDS
 
 -- by its name each gate is found, and no other
 pub kind_named-name_of : (kind : Kind) → kind_named (name_of kind) ≡ Some kind
@@ -21,5 +18,5 @@ kind_named-name_of Th12 = refl
 kind_named-name_of _ = refl
 
 -- a test that the whole table passes holds of each gate
-pub every_kind : (test : Kind → Bool) → list_all test all_kinds ≡ true → (kind : Kind) → test kind ≡ true
-every_kind test all kind = find_passes (λ other. bytes_eq (name_of other) (name_of kind)) test all_kinds kind all (kind_named-name_of kind)
+pub every_kind : (test : Kind → Bool) → list_all test KINDS ≡ true → (kind : Kind) → test kind ≡ true
+every_kind test all kind = find_passes (λ other. bytes_eq (name_of other) (name_of kind)) test KINDS kind all (kind_named-name_of kind)

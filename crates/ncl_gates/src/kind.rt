@@ -64,6 +64,37 @@ pub enum Kind {
     Th24comp,
 }
 
+/// The 27 gates, in the order of `Kind`.
+pub const KINDS: [Kind; 27] = [
+    Kind::Th12,
+    Kind::Th22,
+    Kind::Th13,
+    Kind::Th23,
+    Kind::Th33,
+    Kind::Th23w2,
+    Kind::Th33w2,
+    Kind::Th14,
+    Kind::Th24,
+    Kind::Th34,
+    Kind::Th44,
+    Kind::Th24w2,
+    Kind::Th34w2,
+    Kind::Th44w2,
+    Kind::Th34w3,
+    Kind::Th44w3,
+    Kind::Th24w22,
+    Kind::Th34w22,
+    Kind::Th44w22,
+    Kind::Th54w22,
+    Kind::Th34w32,
+    Kind::Th54w32,
+    Kind::Th44w322,
+    Kind::Th54w322,
+    Kind::ThXor0,
+    Kind::ThAnd0,
+    Kind::Th24comp,
+];
+
 impl Kind {
     /// How many inputs the gate has: 2, 3 or 4.
     pub fn arity(self) -> usize

@@ -7,4 +7,4 @@ mod kind;
 pub mod laws;
 
 pub use cell_kind::CellKind;
-pub use kind::Kind;
+pub use kind::{KINDS, Kind};

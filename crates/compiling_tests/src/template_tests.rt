@@ -5,7 +5,7 @@ ghost use Rattle.ncl_decomp.specs.Split.{IsNarrow};
 use ncl_base::Items;
 use ncl_blif::Lit;
 use ncl_netlist::NetId;
-use ncl_network::{SignalSource, Node, Signal};
+use ncl_network::{Node, Signal, SignalSource};
 use ncl_shape::{Rails, StageCell};
 use ncl_template::*;
 use ncl_tree::Gates;

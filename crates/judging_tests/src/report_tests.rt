@@ -5,9 +5,9 @@ ghost use Rattle.ncl_report.specs.VerdictText.{NamesCellOf};
 
 use ncl_base::{Name, Word};
 use ncl_blif::BlifFault;
+use ncl_cell_rules::ShapeFault;
 use ncl_netlist::{BuildFault, CellId, NetId, Netlist};
 use ncl_network::CompileFault;
-use ncl_cell_rules::ShapeFault;
 use ncl_reader::{NetFault, read_netlist};
 use ncl_report::*;
 use ncl_shape::shape;

@@ -4,7 +4,7 @@ ghost use Rattle.ncl_network.specs.Network.{IsNetwork};
 
 use ncl_base::MOST_BYTES;
 use ncl_blif::{Lit, Row, read_blif};
-use ncl_network::{SignalSource, Network, Node, Signal, reduce};
+use ncl_network::{Network, Node, Signal, SignalSource, reduce};
 use std::alloc::AllocError;
 use std::process::Abort;
 use std::test::Fail;

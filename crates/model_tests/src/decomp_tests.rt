@@ -1,7 +1,7 @@
 //! Tests of splitting, by texts, words, counts and answers that were worked out by hand.
 use crate::answers::{answer, network};
 use ncl_decomp::split;
-use ncl_network::{SignalSource, Network};
+use ncl_network::{Network, SignalSource};
 use std::alloc::AllocError;
 use std::process::Abort;
 use std::test::Fail;

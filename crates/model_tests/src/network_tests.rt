@@ -1,6 +1,6 @@
 //! Tests of the folding, by texts, words and answers that were worked out by hand.
 use crate::answers::{answer, network};
-use ncl_network::{CompileFault, SignalSource, Network};
+use ncl_network::{CompileFault, Network, SignalSource};
 use std::process::Abort;
 use std::test::Fail;
 

@@ -15,7 +15,7 @@ use crate::rules::Planner;
 use crate::stop::Stop;
 use crate::trying::{Reached, Trial, added};
 use ncl_base::Memory;
-use ncl_network::{SignalSource, Network, Node, Signal};
+use ncl_network::{Network, Node, Signal, SignalSource};
 use std::alloc::Global;
 
 /// How the nodes are looked at.

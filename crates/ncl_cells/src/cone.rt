@@ -6,7 +6,7 @@ ghost use Rattle.ncl_cells.specs.Cones.{IsKnown, Respects, signal_in};
 
 use crate::cover::cover_bit;
 use crate::stop::Stop;
-use ncl_network::{SignalSource, Node, Signal};
+use ncl_network::{Node, Signal, SignalSource};
 use std::alloc::Global;
 
 /// A source whose bit is known.

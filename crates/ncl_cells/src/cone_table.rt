@@ -4,7 +4,7 @@ ghost use Rattle.std.specs.Prelude.{◌≡◌, ◌<◌, ◌≤◌, IfOk};
 use crate::cone::Leaves;
 use crate::stop::Stop;
 use crate::table::{cover_table, input};
-use ncl_network::{SignalSource, Node};
+use ncl_network::{Node, SignalSource};
 use std::alloc::Global;
 
 /// A source with its table.

@@ -2,7 +2,7 @@
 ghost use Rattle.std.specs.Prelude.{◌≡◌, ◌<◌, ◌≤◌, IfOk};
 
 use ncl_base::Memory;
-use ncl_network::{SignalSource, Network, Node};
+use ncl_network::{Network, Node, SignalSource};
 use std::alloc::Global;
 
 /// The most cuts of a node.

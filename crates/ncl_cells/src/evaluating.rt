@@ -5,7 +5,7 @@ ghost use Rattle.ncl_cells.specs.Cones.{Computes, ComputesAt, leaf_facts};
 use crate::cone::{Known, Leaves, known_bit, learn_all};
 use crate::plan::{Plan, plan_bit};
 use crate::stop::Stop;
-use ncl_network::{SignalSource, Node};
+use ncl_network::{Node, SignalSource};
 use std::alloc::Global;
 
 /// A way to compute a node: of four leaves, through nodes in order of which it is the last, and by a plan.

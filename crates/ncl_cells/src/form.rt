@@ -6,7 +6,7 @@ ghost use Rattle.ncl_cells.specs.declared.small.Op.TheVariants.{And, Differ, Maj
 ghost use Rattle.ncl_cells.specs.Forms.{ComesTo, IsPairOf, constant_signal, turned_by, where_one};
 
 use crate::small::{Op, Small, op_bit};
-use ncl_network::{SignalSource, Signal};
+use ncl_network::{Signal, SignalSource};
 
 /// What an operation on signals comes to.
 #[derive(Clone, Copy, Debug, PartialEq, Eq)]

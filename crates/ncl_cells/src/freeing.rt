@@ -5,7 +5,7 @@ use crate::cone::Leaves;
 use crate::costs::node_cells;
 use crate::stop::Stop;
 use ncl_base::Memory;
-use ncl_network::{SignalSource, Network, Node, Signal};
+use ncl_network::{Network, Node, Signal, SignalSource};
 use std::alloc::Global;
 
 /// The most nodes of a cone.

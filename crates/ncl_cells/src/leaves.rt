@@ -5,7 +5,7 @@ use crate::cone::Leaves;
 use crate::levels::signal_level;
 use crate::trying::Reached;
 use ncl_base::Memory;
-use ncl_network::{SignalSource, Signal};
+use ncl_network::{Signal, SignalSource};
 use std::alloc::Global;
 
 /// What stands where there are fewer than four leaves.

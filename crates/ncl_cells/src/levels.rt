@@ -3,7 +3,7 @@ ghost use Rattle.std.specs.Prelude.{◌≡◌, ◌<◌, ◌≤◌, IfOk};
 
 use crate::small::{Op, Small};
 use ncl_base::Memory;
-use ncl_network::{SignalSource, Signal};
+use ncl_network::{Signal, SignalSource};
 
 /// The gates on the longest way to a signal, where the nodes have these levels.
 pub(crate) fn signal_level(levels: &[u32], signal: Signal) -> u32 {

@@ -9,7 +9,7 @@ use crate::pool::Pool;
 use crate::small::{Op, op_bit};
 use crate::stop::Stop;
 use ncl_base::Memory;
-use ncl_network::{SignalSource, Signal};
+use ncl_network::{Signal, SignalSource};
 use std::alloc::Global;
 
 /// What a step reads: the leaf or the earlier step at this place, leaves first, or its inverse. Where none is, 0.

@@ -7,7 +7,7 @@ use crate::form::Form;
 use crate::small::{Op, Small};
 use crate::stop::Stop;
 use ncl_base::Memory;
-use ncl_network::{SignalSource, Signal};
+use ncl_network::{Signal, SignalSource};
 use std::alloc::Global;
 
 /// The most small nodes of a network.

@@ -13,7 +13,7 @@ use crate::pool::Pool;
 use crate::small::nodes_of;
 use crate::stop::Stop;
 use ncl_base::Items;
-use ncl_network::{SignalSource, Network, Signal, prune};
+use ncl_network::{Network, Signal, SignalSource, prune};
 use std::alloc::Global;
 
 /// The signal that a source is, where the nodes are these signals.

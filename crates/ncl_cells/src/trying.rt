@@ -7,7 +7,7 @@ use crate::plan::{Arg, Plan, Step};
 use crate::pool::Pool;
 use crate::small::Op;
 use ncl_base::Memory;
-use ncl_network::{SignalSource, Signal};
+use ncl_network::{Signal, SignalSource};
 
 /// A signal, if it is there, and the gates on the longest way to it.
 #[derive(Clone, Copy, Debug, PartialEq, Eq)]

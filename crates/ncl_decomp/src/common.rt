@@ -2,7 +2,7 @@
 ghost use Rattle.std.specs.Prelude.{◌<◌, IfOk, IfSome};
 
 use ncl_base::{Items, Memory};
-use ncl_network::{SignalSource, Signal};
+use ncl_network::{Signal, SignalSource};
 use std::alloc::Global;
 
 /// A number for each signal, by which signals are put in order.

@@ -5,7 +5,7 @@ ghost use Rattle.ncl_decomp.specs.Images.{image_of};
 
 use crate::literals::turned;
 use ncl_base::Memory;
-use ncl_network::{SignalSource, Signal};
+use ncl_network::{Signal, SignalSource};
 use std::alloc::Global;
 
 /// What a signal is, where the nodes are these signals.

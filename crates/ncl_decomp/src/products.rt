@@ -7,7 +7,7 @@ ghost use Rattle.ncl_decomp.specs.Products.{same_signal, other_than, without, is
 use crate::literals::literals;
 use ncl_base::{Items, Memory};
 use ncl_blif::Row;
-use ncl_network::{SignalSource, Signal};
+use ncl_network::{Signal, SignalSource};
 use std::alloc::Global;
 
 /// The products of the rows of a cover over some signals. Linear in the rows.

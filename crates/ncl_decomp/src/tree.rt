@@ -4,7 +4,7 @@ ghost use Rattle.ncl_decomp.specs.Pairs.{AddsTree};
 
 use crate::pair::{Joint, pair};
 use ncl_base::Memory;
-use ncl_network::{SignalSource, Node, Signal};
+use ncl_network::{Node, Signal, SignalSource};
 use std::alloc::Global;
 
 /// Adds a balanced tree over some signals to the nodes of a network, and gives its root. Each node takes the

@@ -12,7 +12,7 @@ use crate::products::{copied_product, products};
 use crate::rows::copied_rows;
 use crate::tree::join;
 use ncl_base::{Items, Memory};
-use ncl_network::{SignalSource, Node, Signal};
+use ncl_network::{Node, Signal, SignalSource};
 use std::alloc::Global;
 
 /// Adds the nodes that tell of each product whether it is 1, and gives their signals in order. Linear in the

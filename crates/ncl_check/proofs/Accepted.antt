@@ -5,7 +5,7 @@ use Rattle.ncl_shape.specs.Shape.{Shape}
 use Rattle.ncl_verdict.specs.declared.verdict.Verdict.{Verdict}
 use Rattle.ncl_verdict.specs.declared.verdict.Verdict.TheVariants as verdict
 use Rattle.ncl_verdict.proofs.Sound.{judgement-sound}
-use Rattle.ncl_machine.proofs.Headline.{delay_insensitive}
+use Rattle.ncl_insensitivity.proofs.Headline.{delay_insensitive}
 use Rattle.ncl_check.specs.declared.reply.Outcome.{Outcome}
 use Rattle.ncl_check.specs.declared.reply.Outcome.TheVariants.{Accepted, Refused, NoPipeline, Unjudged}
 use Rattle.ncl_check.specs.Reply.{outcome_of, verdict_on, IsCheckReply, refused, judged}

@@ -14,7 +14,7 @@ use Rattle.ncl_shape.specs.Pipeline.{PipelineData}
 use Rattle.ncl_shape.specs.Shape.{Shape}
 use Rattle.ncl_stage.specs.Faults.{IsSound}
 use Rattle.ncl_machine.specs.Composition.{stage_function, composed}
-use Rattle.ncl_machine.proofs.Headline.{is_composition}
+use Rattle.ncl_insensitivity.proofs.Headline.{is_composition}
 use Rattle.ncl_rails.specs.StageParts.{Answers}
 use Rattle.ncl_compile.specs.Compiled.{ComputesModel}
 

@@ -27,10 +27,10 @@ use Rattle.ncl_cell_roles.proofs.Numbering.{stage_at, wires_of, one_more_bank, i
 use Rattle.ncl_cell_roles.proofs.BetweenBanks.{register_on}
 use Rattle.ncl_machine.specs.Composition.{stage_function, composed}
 use Rattle.ncl_machine.specs.State.{reset_nets}
-use Rattle.ncl_machine.proofs.Composition.{word_at}
+use Rattle.ncl_insensitivity.proofs.Composition.{word_at}
 use Rattle.ncl_machine.proofs.NamedRails.{rail-is_one}
 use Rattle.ncl_machine.proofs.StageNets.{rail-listed, gate-listed, tree-listed}
-use Rattle.ncl_machine.proofs.WiresPass.{wires-pass}
+use Rattle.ncl_insensitivity.proofs.WiresPass.{wires-pass}
 use Rattle.ncl_hazard.specs.Trying.{HasNoDataBank}
 use Rattle.ncl_hazard.specs.Schedule.{is_high, registers_of, registers_at, joins}
 use Rattle.ncl_hazard.specs.Why.{brings}

@@ -20,9 +20,9 @@ use Rattle.ncl_stage.specs.Faults.{IsSound, Orphan, shows, holds_at, all_data}
 use Rattle.ncl_stage.specs.LeastWords.{least_word_by}
 use Rattle.ncl_stage.proofs.OrderLaws.{words_by-ascending}
 use Rattle.ncl_stage.proofs.ValueLaws.{rail-no_output}
-use Rattle.ncl_machine.proofs.Composition.{word_at}
+use Rattle.ncl_insensitivity.proofs.Composition.{word_at}
 use Rattle.ncl_machine.proofs.StageNets.{rail-listed, gate-listed}
-use Rattle.ncl_machine.proofs.WiresSound.{wires_sound}
+use Rattle.ncl_insensitivity.proofs.WiresSound.{wires_sound}
 use Rattle.ncl_hazard.specs.Joined.{named_as, rails_as, gate_as, inputs_of, cells_of, outputs_of, outputs_after, names_after, joined_cells, joined}
 use Rattle.ncl_hazard.specs.Search.{ascending}
 use Rattle.ncl_hazard.specs.Why.{brings, brings_orphan, least_input}

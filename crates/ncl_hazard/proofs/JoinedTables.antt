@@ -22,7 +22,7 @@ use Rattle.ncl_stage.specs.Faults.{IsSound, has_data}
 use Rattle.ncl_stage.specs.Tables.{WordFunction, ValuesAt, fronts, net_functions, data_functions, data_fronts, all_data_function, orphan_function}
 use Rattle.ncl_stage.proofs.OutputLaws.{fronts-map}
 use Rattle.ncl_machine.specs.Composition.{stage_function, composed}
-use Rattle.ncl_machine.proofs.Composition.{word_at}
+use Rattle.ncl_insensitivity.proofs.Composition.{word_at}
 use Rattle.ncl_machine.proofs.StageNets.{gate-listed, outputs-listed}
 use Rattle.ncl_hazard.specs.Joined.{rails_as, gate_as, names_after, joined_cells, joined}
 use Rattle.ncl_hazard.specs.Why.{Way, brings, values_on, functions_before, orphan_on, functions_at}

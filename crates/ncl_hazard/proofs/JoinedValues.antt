@@ -22,7 +22,7 @@ use Rattle.ncl_stage.specs.Values.{holds, kept_low, val}
 use Rattle.ncl_stage.specs.Faults.{IsSound, has_data, all_data}
 use Rattle.ncl_stage.proofs.Apart.{parts-differ, right-differ}
 use Rattle.ncl_stage.proofs.ValueLaws.{val-rail, val-output, rail-no_output}
-use Rattle.ncl_machine.proofs.Composition.{word_at}
+use Rattle.ncl_insensitivity.proofs.Composition.{word_at}
 use Rattle.ncl_machine.proofs.InOrder.{in_order}
 use Rattle.ncl_machine.proofs.StageNets.{gate-listed, out-listed, outputs-listed}
 use Rattle.ncl_hazard.specs.Joined.{Names, named_as, net_as, rails_as, gate_as}

@@ -30,12 +30,12 @@ use Rattle.ncl_stage.proofs.ValueLaws.{val-rail, same_output}
 use Rattle.ncl_machine.specs.State.{State, reset, reset_nets}
 use Rattle.ncl_machine.specs.Steps.{differ, next_value, is_excited, enabled}
 use Rattle.ncl_machine.specs.AtWork.{next_of_gate}
-use Rattle.ncl_machine.proofs.Composition.{word_at}
-use Rattle.ncl_machine.proofs.ListTests.{member-passes}
+use Rattle.ncl_insensitivity.proofs.Composition.{word_at}
+use Rattle.ncl_insensitivity.proofs.ListTests.{member-passes}
 use Rattle.ncl_machine.proofs.NamedRails.{bit_at, member-from_among, named-has, named-place}
-use Rattle.ncl_machine.proofs.NextValues.{gate-next}
+use Rattle.ncl_insensitivity.proofs.NextValues.{gate-next}
 use Rattle.ncl_machine.proofs.StageNets.{rail-listed, gate-listed, root-listed}
-use Rattle.ncl_machine.proofs.WiresSound.{wires_sound}
+use Rattle.ncl_insensitivity.proofs.WiresSound.{wires_sound}
 use Rattle.ncl_hazard.specs.Trying.{tried, HasNoDataBank, Loses}
 use Rattle.ncl_hazard.specs.Schedule.{registers_at, gates_of, gates_at, is_cell, forth, joins, chosen, swept, fires, raises, lowers, coming, going}
 use Rattle.ncl_hazard.specs.Why.{brings}

@@ -12,10 +12,10 @@ use Rattle.ncl_cell_roles.specs.Layout.{rail_at}
 use Rattle.ncl_machine.specs.State.{State}
 use Rattle.ncl_machine.specs.Steps.{differ, has_value, put_at, current_rails, rails_of_word, after_raise, after_lower, enabled, step}
 use Rattle.ncl_machine.proofs.AtWorkLaws.{with_net-elsewhere}
-use Rattle.ncl_machine.proofs.ListTests.{member-passes}
+use Rattle.ncl_insensitivity.proofs.ListTests.{member-passes}
 use Rattle.ncl_machine.proofs.LocalNets.{with_net-here, with_net-keeps}
 use Rattle.ncl_machine.proofs.NamedRails.{bit_at, named-get, named-has, named-place}
-use Rattle.ncl_machine.proofs.StepValues.{lowered-value}
+use Rattle.ncl_insensitivity.proofs.StepValues.{lowered-value}
 use Rattle.ncl_hazard.specs.Trying.{turned, tried}
 use Rattle.ncl_hazard.specs.Schedule.{raises, lowers}
 

@@ -22,11 +22,11 @@ use Rattle.ncl_stage.specs.Faults.{IsSound, Orphan, shows, holds_at, has_data, a
 use Rattle.ncl_stage.proofs.ValueLaws.{val-rail, val-output, rail-no_output}
 use Rattle.ncl_machine.specs.Steps.{differ}
 use Rattle.ncl_machine.specs.AtWork.{next_of_gate}
-use Rattle.ncl_machine.proofs.Composition.{word_at}
+use Rattle.ncl_insensitivity.proofs.Composition.{word_at}
 use Rattle.ncl_machine.proofs.FallingLaws.{next-from_unfed}
-use Rattle.ncl_machine.proofs.ListTests.{member-passes}
+use Rattle.ncl_insensitivity.proofs.ListTests.{member-passes}
 use Rattle.ncl_machine.proofs.NamedRails.{bit_at, some-rail, rail-data, data-same}
-use Rattle.ncl_machine.proofs.Phases.{output_high}
+use Rattle.ncl_insensitivity.proofs.Phases.{output_high}
 use Rattle.ncl_machine.proofs.StageNets.{in_bit, in_outputs, rail-listed, gate-listed, out-listed, root-listed, inputs-listed}
 use Rattle.ncl_hazard.specs.Schedule.{gates_of, swept}
 use Rattle.ncl_hazard.proofs.Handing.{wide-at, handed_on}

@@ -12,9 +12,9 @@ use crate::schedule::{coming_items, going_items};
 use crate::search::least_bringing;
 use crate::trying::losing_run;
 use ncl_base::{Items, Memory, Word};
+use ncl_cell_rules::{Origins, ShapeFault, find_origins};
 use ncl_machine::State;
 use ncl_netlist::{CellId, Netlist};
-use ncl_cell_rules::{Origins, ShapeFault, find_origins};
 use ncl_shape::{Item, Pipeline, Stage};
 use std::alloc::Global;
 

@@ -4,11 +4,8 @@ pub mod Run
 pub mod AtWork
 pub mod StageLaw
 pub mod DelayInsensitive
-pub mod Examples
-pub mod IllShaped
 pub mod Composition
 pub mod OneChange
-pub mod Unsound
 pub mod Held
 pub mod Tallies
 pub mod ResetValues

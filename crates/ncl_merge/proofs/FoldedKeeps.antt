@@ -26,7 +26,7 @@ use Rattle.ncl_shape.specs.Pipeline.{PipelineData}
 use Rattle.ncl_shape.specs.Shape.{Shape}
 use Rattle.ncl_stage.specs.Faults.{IsSound}
 use Rattle.ncl_machine.specs.Composition.{stage_function}
-use Rattle.ncl_machine.proofs.Headline.{is_composition}
+use Rattle.ncl_insensitivity.proofs.Headline.{is_composition}
 use Rattle.ncl_merge.specs.Fold.{with_cells}
 use Rattle.ncl_merge.specs.Folding.{AreFewer}
 use Rattle.ncl_merge.specs.Renamed.{renamed_rails}

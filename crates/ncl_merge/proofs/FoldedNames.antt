@@ -28,7 +28,7 @@ use Rattle.ncl_shape.proofs.ShapeLaws.{requests, request_at, last_bank}
 use Rattle.ncl_cell_roles.specs.Layout.{no_rails, rail_at}
 use Rattle.ncl_cell_roles.proofs.BankBits.{drives_rail, register_of_rail}
 use Rattle.ncl_cell_roles.proofs.EndLaws.{first_bank, input_is_port, ki_is_port}
-use Rattle.ncl_machine.proofs.ListTests.{map-same}
+use Rattle.ncl_insensitivity.proofs.ListTests.{map-same}
 use Rattle.ncl_merge.specs.Folding.{AreFewer}
 use Rattle.ncl_merge.specs.Renamed.{renamed_net, renamed_rails}
 use Rattle.ncl_merge.specs.Thinned.{moved}

@@ -26,12 +26,12 @@ use Rattle.ncl_cell_roles.proofs.StageNumbers.{wires_or_stage}
 use Rattle.ncl_cell_roles.proofs.LaidOut.{laid_out}
 use Rattle.ncl_stage.specs.Faults.{IsSound}
 use Rattle.ncl_machine.specs.Composition.{stage_function, composed}
-use Rattle.ncl_machine.proofs.Composition.{closed-is}
+use Rattle.ncl_insensitivity.proofs.Composition.{closed-is}
 use Rattle.ncl_machine.proofs.HeldCounts.{held_from}
-use Rattle.ncl_machine.proofs.HeldDue.{word-passes}
-use Rattle.ncl_machine.proofs.OfferedWords.{word_under, under-own}
-use Rattle.ncl_machine.proofs.WiresPass.{wires-pass}
-use Rattle.ncl_machine.proofs.WiresSound.{wires_sound}
+use Rattle.ncl_insensitivity.proofs.HeldDue.{word-passes}
+use Rattle.ncl_insensitivity.proofs.OfferedWords.{word_under, under-own}
+use Rattle.ncl_insensitivity.proofs.WiresPass.{wires-pass}
+use Rattle.ncl_insensitivity.proofs.WiresSound.{wires_sound}
 
 -- the rest of a list
 pub slice_get-drop : {X : Type 0} (k : ℕ) (xs : List X) (i : ℕ) → slice_get (drop k xs) i ≡ slice_get xs (k + i)

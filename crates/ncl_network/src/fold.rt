@@ -8,7 +8,7 @@ ghost use Rattle.ncl_network.specs.Fold.{two_level, folded_value, weight_of_fold
 
 use crate::columns::kept_columns;
 use crate::literals::{is_dash, lit_at, live_rows};
-use crate::network::{SignalSource, Node, Signal};
+use crate::network::{Node, Signal, SignalSource};
 use crate::select::{select, select_rows};
 use ncl_base::{Items, Memory};
 use ncl_blif::{Lit, Row};

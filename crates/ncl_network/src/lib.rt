@@ -14,6 +14,6 @@ mod select;
 mod walk;
 
 pub use fault::CompileFault;
-pub use network::{SignalSource, Network, Node, Signal};
+pub use network::{Network, Node, Signal, SignalSource};
 pub use pruning::prune;
 pub use reducing::{cover_order, reduce};

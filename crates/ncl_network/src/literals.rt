@@ -5,7 +5,7 @@ ghost use Rattle.ncl_blif.specs.Meaning.{lit_matches};
 ghost use Rattle.ncl_network.specs.Network.{is_dash, is_constant};
 ghost use Rattle.ncl_network.specs.Fold.{clashes, is_live};
 
-use crate::network::{SignalSource, Signal};
+use crate::network::{Signal, SignalSource};
 use ncl_base::Memory;
 use ncl_blif::{Lit, Row};
 use std::alloc::Global;

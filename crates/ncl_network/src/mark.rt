@@ -2,7 +2,7 @@
 ghost use Rattle.std.specs.Prelude.{◌≡◌, ℕ, ◌||◌, false, length, replicate, All, IfOk};
 ghost use Rattle.ncl_network.specs.Prune.{IsInOrder, IsPlaced, IsMarked, is_read, is_kept};
 
-use crate::network::{SignalSource, Network, Signal};
+use crate::network::{Network, Signal, SignalSource};
 use ncl_base::Memory;
 use std::alloc::Global;
 

@@ -6,7 +6,7 @@ ghost use Rattle.ncl_network.specs.Fold.{select};
 ghost use Rattle.ncl_network.specs.Prune.{IsInOrder, IsPlaced, AreLeft, new_place, moved_signal, moved_node};
 
 use crate::mark::kept_nodes;
-use crate::network::{SignalSource, Network, Node, Signal};
+use crate::network::{Network, Node, Signal, SignalSource};
 use ncl_base::{Items, Memory};
 use std::alloc::Global;
 

@@ -9,7 +9,7 @@ ghost use Rattle.ncl_blif.specs.declared.model.Model.{Model};
 ghost use Rattle.ncl_network.specs.Walk.{IsWalked, input_signal, nodes_with, signal_with};
 
 use crate::fold::{Folded, fold_cover};
-use crate::network::{SignalSource, Node, Signal};
+use crate::network::{Node, Signal, SignalSource};
 use ncl_base::Memory;
 use ncl_blif::{Cover, Model};
 use std::alloc::Global;

@@ -8,7 +8,7 @@ ghost use Rattle.ncl_rails.specs.Complete.{IsVarying, AnswersAs, true_node, repl
 use crate::copies::copied;
 use ncl_base::{Items, Memory};
 use ncl_blif::Lit;
-use ncl_network::{SignalSource, Network, Node, Signal};
+use ncl_network::{Network, Node, Signal, SignalSource};
 use std::alloc::Global;
 
 /// A node that is always 1: it reads the first input twice, and asks nothing of it.

@@ -6,7 +6,7 @@ ghost use Rattle.ncl_rails.specs.Layout.{input_pairs, signal_pair};
 
 use ncl_base::Memory;
 use ncl_netlist::NetId;
-use ncl_network::{SignalSource, Signal};
+use ncl_network::{Signal, SignalSource};
 use ncl_shape::Rails;
 use std::alloc::Global;
 

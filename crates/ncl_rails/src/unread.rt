@@ -4,7 +4,7 @@ ghost use Rattle.std.specs.List.{list_any, slice_index_or};
 ghost use Rattle.ncl_rails.specs.Complete.{IsVarying, IsInputBelow, is_among, is_input_read, unread_signals};
 
 use ncl_base::Memory;
-use ncl_network::{SignalSource, Network, Node, Signal};
+use ncl_network::{Network, Node, Signal, SignalSource};
 use std::alloc::Global;
 
 /// Marks the inputs that some signals are of. Linear in the signals.

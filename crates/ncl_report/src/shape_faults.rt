@@ -5,8 +5,8 @@ ghost use Rattle.ncl_report.specs.ShapeText.{NamesPlaceOf, shape_line};
 
 use crate::line::{line_of, numbered_line};
 use ncl_base::Memory;
-use ncl_netlist::{CellId, Netlist};
 use ncl_cell_rules::ShapeFault;
+use ncl_netlist::{CellId, Netlist};
 use std::alloc::Global;
 
 /// The line that tells which rule of shape a netlist breaks, with the port, cell, inner rule or bank that

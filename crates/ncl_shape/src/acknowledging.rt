@@ -5,8 +5,8 @@ ghost use Rattle.ncl_cell_rules.specs.Origins.{AreOrigins};
 ghost use Rattle.ncl_shape.specs.Chain.{HasEnds, IsAcknowledged, IsChain};
 ghost use Rattle.ncl_shape.specs.ChainSteps.{numbers_of};
 
-use ncl_netlist::{NetId, Netlist};
 use ncl_cell_rules::{Origins, Source, same_source};
+use ncl_netlist::{NetId, Netlist};
 
 /// Whether the request of each bank comes from the acknowledge cells of the next. That of the last is then the one
 /// that is an input port. Linear in the banks.

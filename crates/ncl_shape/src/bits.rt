@@ -13,9 +13,9 @@ use crate::bank::Bit;
 use crate::bank_lists::{empty_lists, number_of, put};
 use crate::chain::Chain;
 use ncl_base::Memory;
+use ncl_cell_rules::{Origins, is_data_behind, register_behind};
 use ncl_gates::CellKind;
 use ncl_netlist::{Cell, CellId, NetId, Netlist};
-use ncl_cell_rules::{Origins, is_data_behind, register_behind};
 use std::alloc::Global;
 
 /// The value to which the bit is reset whose rails are two nets; `None` for NULL.

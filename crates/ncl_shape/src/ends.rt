@@ -6,8 +6,8 @@ ghost use Rattle.ncl_shape.specs.Chain.{HasEnds, HasOne, IsFirstBank, IsLastBank
 ghost use Rattle.ncl_shape.specs.ChainSteps.{IsOnly};
 
 use crate::banks::feed;
-use ncl_netlist::{NetId, Netlist};
 use ncl_cell_rules::{Origins, Source, same_source};
+use ncl_netlist::{NetId, Netlist};
 
 /// Whether the bank of a request reads input ports.
 fn is_first_bank(netlist: &Netlist, origins: &Origins, bank: NetId) -> bool

@@ -17,8 +17,8 @@ use crate::stage_cells::gates_of_banks;
 use crate::staging::stages_between;
 use crate::widths::find_bits;
 use ncl_base::{Items, Memory};
-use ncl_netlist::Netlist;
 use ncl_cell_rules::{Origins, ShapeFault, find_origins};
+use ncl_netlist::Netlist;
 use std::alloc::Global;
 
 /// The banks of a chain, with their bits. Linear in the banks.

@@ -8,8 +8,8 @@ ghost use Rattle.ncl_shape.specs.ChainSteps.{AreOnly};
 use crate::banks::feed;
 use crate::entries::put_once;
 use ncl_base::Memory;
-use ncl_netlist::{NetId, Netlist};
 use ncl_cell_rules::{Origins, Source};
+use ncl_netlist::{NetId, Netlist};
 use std::alloc::Global;
 
 /// The bank that a bank follows; `None` at the first bank, and where the net is no request.

@@ -5,8 +5,8 @@ ghost use Rattle.ncl_cell_rules.specs.Origins.{AreOrigins};
 ghost use Rattle.ncl_shape.specs.Chain.{Follows, IsDataApart};
 ghost use Rattle.ncl_shape.specs.ChainSteps.{AreOnly};
 
-use ncl_netlist::{NetId, Netlist};
 use ncl_cell_rules::Origins;
+use ncl_netlist::{NetId, Netlist};
 
 /// Whether the bank of a request and the bank that follows it are not both reset to DATA.
 fn is_apart(netlist: &Netlist, origins: &Origins, followers: &[Option<NetId>], bank: NetId) -> bool

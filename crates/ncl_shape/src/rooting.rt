@@ -9,8 +9,8 @@ ghost use Rattle.ncl_shape.specs.ChainSteps.{AreOnly, AreRootsOf, HasMore, numbe
 
 use crate::entries::put_once;
 use ncl_base::Memory;
-use ncl_netlist::{NetId, Netlist};
 use ncl_cell_rules::{Origins, Source, is_output_port};
+use ncl_netlist::{NetId, Netlist};
 use std::alloc::Global;
 
 /// Whether a net is a request or an output port.

@@ -14,9 +14,9 @@ use crate::bank_lists::{empty_lists, number_of, put};
 use crate::chain::Chain;
 use crate::stage::StageCell;
 use ncl_base::Memory;
+use ncl_cell_rules::{Origins, Source};
 use ncl_gates::{CellKind, Kind};
 use ncl_netlist::{Cell, CellId, NetId, Netlist};
-use ncl_cell_rules::{Origins, Source};
 use std::alloc::Global;
 
 /// A gate cell as a cell of a stage.

@@ -7,8 +7,8 @@ ghost use Rattle.ncl_shape.specs.Chain.{Follows, HasChain, IsChain, IsFirstBank,
 ghost use Rattle.ncl_shape.specs.ChainSteps.{AreAllNumbered, AreNumbersOf, AreOnly, IsOnly, IsWalk, numbers_of};
 
 use ncl_base::Memory;
-use ncl_netlist::{NetId, Netlist};
 use ncl_cell_rules::Origins;
+use ncl_netlist::{NetId, Netlist};
 use std::alloc::Global;
 
 /// The banks from the first on, each the one that follows the bank before, in at most as many steps as there are

@@ -12,8 +12,8 @@ use crate::bank::{Bit, MOST_BANKS};
 use crate::bits::bits_of_banks;
 use crate::chain::Chain;
 use ncl_base::MOST_BITS;
-use ncl_netlist::Netlist;
 use ncl_cell_rules::{Origins, ShapeFault};
+use ncl_netlist::Netlist;
 use std::alloc::Global;
 
 /// The place of the first list of more bits than a word has. Linear in the lists.

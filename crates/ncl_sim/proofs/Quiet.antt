@@ -16,7 +16,7 @@ use Rattle.ncl_netlist.specs.Netlist.{NetlistData}
 use Rattle.ncl_shape.specs.Shape.{Shape}
 use Rattle.ncl_stage.specs.Faults.{IsSound}
 use Rattle.ncl_machine.specs.DelayInsensitive.{IsAtRest}
-use Rattle.ncl_machine.proofs.Headline.{rests_where_quiet, run_bound, safe}
+use Rattle.ncl_insensitivity.proofs.Headline.{rests_where_quiet, run_bound, safe}
 use Rattle.ncl_sim.specs.declared.trace.Taken.{Taken}
 use Rattle.ncl_sim.specs.TimedRun.{DeliversAll, Ends, IsLost, IsNext, IsTimedRun, TraceData, items_in, lost, most_steps, over, quiet, state_after, words_due}
 use Rattle.ncl_sim.specs.declared.trace.End.{End}

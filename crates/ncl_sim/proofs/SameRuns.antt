@@ -12,7 +12,7 @@ use Rattle.ncl_shape.proofs.ShapeLaws.{shape_is_one}
 use Rattle.ncl_machine.specs.State.{State, reset}
 use Rattle.ncl_machine.specs.Steps.{enabled, step}
 use Rattle.ncl_machine.specs.Run.{IsRunFrom, after}
-use Rattle.ncl_machine.proofs.SamePipelineLaws.{with_stages, enabled-same, step-same, after-same, run-same, other-is}
+use Rattle.ncl_insensitivity.proofs.SamePipelineLaws.{with_stages, enabled-same, step-same, after-same, run-same, other-is}
 use Rattle.ncl_delay.specs.Delays.{DelaysData, delay_of}
 use Rattle.ncl_delay.specs.declared.fired.Fired.{Fired}
 use Rattle.ncl_sim.specs.Numbers.{item_number, rises}

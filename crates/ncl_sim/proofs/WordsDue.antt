@@ -10,7 +10,7 @@ use Rattle.ncl_shape.specs.Shape.{Shape}
 use Rattle.ncl_shape.proofs.BankCounts.{data_banks-le}
 use Rattle.ncl_delay.specs.declared.word_text.TheConstants.{MOST_WORDS}
 use Rattle.ncl_machine.specs.DelayInsensitive.{due, held_words}
-use Rattle.ncl_machine.proofs.HeldDue.{held_words-length}
+use Rattle.ncl_insensitivity.proofs.HeldDue.{held_words-length}
 use Rattle.ncl_sim.specs.TimedRun.{words_due}
 
 -- as many as the list of those that are due has

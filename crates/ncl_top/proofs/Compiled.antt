@@ -9,7 +9,7 @@ use Rattle.ncl_shape.specs.Shape.{Shape}
 use Rattle.ncl_writer.specs.Text.{text_of}
 use Rattle.ncl_writer.proofs.ReadsBack.{reads_again}
 use Rattle.ncl_verdict.proofs.Accepting.{sound_verdict}
-use Rattle.ncl_machine.proofs.Headline.{delay_insensitive}
+use Rattle.ncl_insensitivity.proofs.Headline.{delay_insensitive}
 use Rattle.ncl_check.specs.Reply.{outcome_of}
 use Rattle.ncl_check.proofs.OneReply.{outcome_is}
 use Rattle.ncl_compile.specs.Compiled.{Compiled}

@@ -6,7 +6,7 @@ use Rattle.std.specs.Option.{option_or}
 use Rattle.std.proofs.lemmas.Bool.Decides.{nat_tests}
 use Rattle.std.proofs.lemmas.List.{length-map}
 use Rattle.ncl_base.specs.Words.{text_of, character_of}
-use Rattle.ncl_blif.specs.Lines.{NumberedText}
+use Rattle.ncl_base.specs.TextLines.{NumberedText}
 use Rattle.ncl_delay.specs.Lines.{told_lines}
 use Rattle.ncl_delay.specs.WordText.{is_bit, word_fault, words_fault}
 use Rattle.ncl_delay.specs.declared.word_text.TheConstants.{MOST_WORDS}

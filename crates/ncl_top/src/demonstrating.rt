@@ -9,6 +9,7 @@ ghost use Rattle.ncl_top.specs.Demonstrating.{IsDemoNetlist, IsDemoPipeline, IsD
 use crate::reply::{Fault, Reply};
 use ncl_base::Memory;
 use ncl_check::PARTS;
+use ncl_command::MOST_NODES;
 use ncl_compile::compile;
 use ncl_delay::Delays;
 use ncl_demo::{demo_models, demo_words};
@@ -18,7 +19,6 @@ use ncl_report::{demo_text, verdict_text};
 use ncl_shape::{Pipeline, ShapeFault, shape};
 use ncl_sim::simulate;
 use ncl_verdict::{Judge, Verdict, judge_par};
-use ncl_command::MOST_NODES;
 use ncl_writer::write_netlist;
 use std::alloc::Global;
 use std::thread::Threads;

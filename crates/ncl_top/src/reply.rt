@@ -14,8 +14,8 @@ use crate::models::models_in;
 use crate::simulating::sim_files;
 use ncl_base::{Memory, Source};
 use ncl_check::{Outcome, Refusal, check};
-use ncl_verdict::Judge;
 use ncl_command::Command;
+use ncl_verdict::Judge;
 use std::alloc::Global;
 use std::thread::Threads;
 

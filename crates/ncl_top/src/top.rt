@@ -7,8 +7,8 @@ ghost use Rattle.ncl_top.specs.Replies.{Gives};
 
 use crate::reply::{Fault, Reply, carry_out};
 use ncl_base::{Sink, Source, deliver};
-use ncl_verdict::{Judge, Stages};
 use ncl_command::Command;
+use ncl_verdict::{Judge, Stages};
 use std::alloc::Global;
 use std::thread::Threads;
 

@@ -10,7 +10,7 @@ use Rattle.ncl_shape.proofs.ShapeLaws.{shape_is_one}
 use Rattle.ncl_machine.specs.OneChange.{net_of_step}
 use Rattle.ncl_machine.specs.State.{State, reset}
 use Rattle.ncl_machine.specs.Steps.{step}
-use Rattle.ncl_machine.proofs.SamePipelineLaws.{with_stages, step-same, other-is}
+use Rattle.ncl_insensitivity.proofs.SamePipelineLaws.{with_stages, step-same, other-is}
 use Rattle.ncl_delay.specs.declared.fired.Fired.{Fired}
 use Rattle.ncl_vcd.specs.Dump.{dump_text}
 use Rattle.ncl_vcd.specs.RunDump.{change_by, changes_of, dump_of, values_in}

@@ -1,0 +1,11 @@
+use Rattle.std.proofs.Common.{refl, arith}
+use Rattle.ncl_insensitivity.specs.Examples.{fire}
+use Rattle.ncl_insensitivity.specs.IllShaped.{one_offered, with_two_drivers, excites_both}
+use Rattle.ncl_insensitivity.proofs.IllShapedLaws.{cells_differ, taken_back_is_unsafe}
+use Rattle.ncl_insensitivity.proofs.ill_shaped.two_drivers_of_a_net.Goals as goal
+
+pub returns-clause-not_safe : goal.returns-clause-not_safe
+returns-clause-not_safe c =
+    taken_back_is_unsafe with_two_drivers one_offered excites_both (refl, tt)
+    (refl, (refl, (refl, (refl, (refl, (refl, tt))))))
+    (fire 6) (fire 14) (record { differ = cells_differ 6 14 (omega arith); can = refl; other_can = refl; other_lost = refl })

@@ -1,0 +1,5 @@
+use Rattle.ncl_machine.proofs.FallingLaws.{falling-safely}
+use Rattle.ncl_insensitivity.proofs.laws.falling.Goals as goal
+
+pub returns : goal.returns
+returns c = falling-safely c.args.stage.now c.facts.ensures c.requires

@@ -1,0 +1,5 @@
+use Rattle.ncl_machine.proofs.ResetNets.{reset_of}
+use Rattle.ncl_insensitivity.proofs.laws.high_at_reset.Goals as goal
+
+pub returns : goal.returns
+returns c = reset_of

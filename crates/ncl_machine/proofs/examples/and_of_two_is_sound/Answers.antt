@@ -1,5 +1,0 @@
-use Rattle.ncl_machine.proofs.SoundAnd.{and_stage-sound}
-use Rattle.ncl_machine.proofs.examples.and_of_two_is_sound.Goals as goal
-
-pub returns : goal.returns
-returns c = and_stage-sound

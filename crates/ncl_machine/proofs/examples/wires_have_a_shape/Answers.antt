@@ -1,9 +1,0 @@
-use Rattle.ncl_machine.proofs.WiresOrigins.{wires_netlist}
-use Rattle.ncl_machine.proofs.WiresShape.{wires_shape}
-use Rattle.ncl_machine.proofs.examples.wires_have_a_shape.Goals as goal
-
-pub returns-clause-netlist : goal.returns-clause-netlist
-returns-clause-netlist c = wires_netlist
-
-pub returns-clause-shape : goal.returns-clause-shape
-returns-clause-shape c = wires_shape

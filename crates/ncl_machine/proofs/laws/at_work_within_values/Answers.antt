@@ -1,8 +1,0 @@
-use Rattle.ncl_machine.proofs.AtWorkLaws.{rising-within, falling-within}
-use Rattle.ncl_machine.proofs.laws.at_work_within_values.Goals as goal
-
-pub returns-clause-rising : goal.returns-clause-rising
-returns-clause-rising c = rising-within
-
-pub returns-clause-falling : goal.returns-clause-falling
-returns-clause-falling c = falling-within

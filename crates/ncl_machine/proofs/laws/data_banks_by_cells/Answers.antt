@@ -1,5 +1,0 @@
-use Rattle.ncl_machine.proofs.ResetNets.{data_bank_by_cells}
-use Rattle.ncl_machine.proofs.laws.data_banks_by_cells.Goals as goal
-
-pub returns : goal.returns
-returns c = data_bank_by_cells

@@ -1,5 +1,0 @@
-use Rattle.ncl_machine.proofs.ResetLaws.{quiet_at_reset_of}
-use Rattle.ncl_machine.proofs.laws.still_at_reset.Goals as goal
-
-pub returns : goal.returns
-returns c = quiet_at_reset_of

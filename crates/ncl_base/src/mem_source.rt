@@ -11,7 +11,7 @@ use std::marker::Model;
 
 /// Held files that are read in small pieces, and calls that fail where they are told to.
 ///
-/// Calls of `begin` and `read` are numbered together from 1. A name that no file has is a fault, and
+/// One count, from 1, goes through the calls of `begin` and of `read`. A name that no file has is a fault, and
 /// of two files with one name the first counts.
 #[derive(Drop)]
 pub struct MemSource {

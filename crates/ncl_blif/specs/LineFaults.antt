@@ -48,8 +48,8 @@ is_literal b = b == 48 || (b == 49 || b == 45)
 abbrev pub is_value : List ℕ → Bool
 is_value word = bytes_eq word (codes "0") || bytes_eq word (codes "1")
 
--- whether words are a row of a cover of this many inputs: a pattern with one 0, 1 or - per input, and then 0
--- or 1; for a cover without inputs the last word alone
+-- whether words are a row of a cover of this many inputs: a pattern, in which each input has its 0, 1 or -, before a
+-- last word that is a bit; of a cover that has no inputs that last word alone
 abbrev pub is_row_of : ℕ → List (List ℕ) → Bool
 is_row_of zero words = length words == 1 && is_value (last_word words)
 is_row_of (suc n) words =

@@ -24,8 +24,8 @@ cover_value on [] bits = false
 cover_value on (row ∷ rows) bits =
     let matches = list_any (row_matches bits) (row ∷ rows) in cond on matches (not matches)
 
--- an assignment of bits to the signals of a model fits a word: the inputs have its bits, and each cover's
--- signal has the value that its rows give
+-- bits of all signals fit a word: the inputs have the bits of the word, and each cover's signal has the value that
+-- its rows give
 pub record Fits (model : Model) (word : List Bool) (bits : ℕ → Bool) : Type 0 where
   pub inputs : map bits model.inputs ≡ word
   pub covers : All (λ cover. bits cover.out ≡ cover_value cover.on cover.rows (map bits cover.ins)) model.covers

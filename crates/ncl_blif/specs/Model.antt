@@ -43,7 +43,7 @@ pub record IsModel (model : Model) : Type 0 where
   pub row_widths : All (λ cover. All (λ row. length row ≡ length cover.ins) cover.rows) model.covers
   pub small : size_of_model model ≤ most_size
 
--- each model but the first has as many inputs as the model before has outputs
+-- the models can be joined: those that follow have an input for each output of the one in front of them
 abbrev pub AreJoined : List Model → Type 0
 AreJoined [] = Unit {0}
 AreJoined (model ∷ []) = Unit {0}

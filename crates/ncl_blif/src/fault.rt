@@ -3,8 +3,8 @@ use ncl_base::Memory;
 use std::alloc::{AllocError, AllocFailed};
 use thiserror::Error;
 
-/// Why a text is not read. Lines and models count from 1, and a continued line has the number of its
-/// first part.
+/// Why a text is not read. Lines and models count from 1. A line that is continued goes by the line that it
+/// begins in.
 #[derive(Clone, Copy, Debug, PartialEq, Eq, Error)]
 pub enum BlifFault {
     /// A line is of none of the forms, or stands where it may not. Line 0: no line has a word.

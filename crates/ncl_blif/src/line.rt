@@ -29,7 +29,7 @@ impl<'t, 'a> Model for Line<'t, 'a> {
 }
 
 impl<'t, 'a> Line<'t, 'a> {
-    /// The number of its first part. Lines count from 1.
+    /// Its number, counted from 1. One that is continued has that of its first part.
     pub fn number(&self) -> u32
         ensures { result ≡ self.now.number }
     {

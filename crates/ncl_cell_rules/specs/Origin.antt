@@ -54,7 +54,7 @@ IsInputPort n net = (p : Port) × (slice_get n.ports net ≡ Some p) × (p.outpu
 abbrev pub IsOutputPort : NetlistData → ℕ → Type 0
 IsOutputPort n net = (p : Port) × (slice_get n.ports net ≡ Some p) × (p.output ≡ true)
 
--- a bank is the set of register cells with one net on B, its request, and it is named by that net
+-- a register cell is of the bank that is named by its request, the net on its pin B: cells with one request are a bank
 abbrev pub IsOfBank : NetlistData → ℕ → Cell → Type 0
 IsOfBank n request c = IsCell n c × IsRegister c × OnPin c B request
 
@@ -72,7 +72,7 @@ pub data Origin : Type 0 where
   RailOf : ℕ → Origin
   AckOf : ℕ → Origin
 
--- some path of gate cells leads back from the net to this origin
+-- the net can be followed back, by gate cells alone, to this origin
 pub data ComesFrom (n : NetlistData) : ℕ → Origin → Type 0 where
   port : {net : ℕ} → IsInputPort n net → ComesFrom n net FromPort
   rail : {request : ℕ} → (c : Cell) → IsOfBank n request c → ComesFrom n c.out.0 (RailOf request)

@@ -31,8 +31,7 @@ ack_pins_of (Gate kind) net ins = 0
 abbrev pub ack_pins : NetlistData → ℕ → ℕ
 ack_pins n net = sum_by (λ (c : Cell). ack_pins_of c.kind net c.ins.items) n.cells
 
--- an acknowledge cell reads the outputs of two different register cells of one bank, of which one at most is reset
--- to 1
+-- an acknowledge cell reads two register cells of one bank, which differ, and of which one at most is reset to 1
 pub record ReadsOneBit (n : NetlistData) (c : Cell) : Type 0 where
   pub request : ℕ
   pub zero : Cell

@@ -9,9 +9,9 @@ use Rattle.ncl_shape.specs.Shape.{Shape}
 use Rattle.ncl_machine.specs.DelayInsensitive.{IsDelayInsensitive}
 
 -- the bytes are the text of parts that make a netlist, which has the shape of a pipeline, and the pipeline
--- is delay-insensitive: from reset, in every order of gate firings, no excited gate loses its excitation,
--- what is delivered is a first part of the function of the words offered, with NULL between any two, and
--- where nothing can move, all is delivered
+-- is delay-insensitive: from reset, however long each gate takes, a gate that is excited stays so until it fires, what
+-- is delivered is a first part of the function of the words offered, any two of them parted by NULL, and a run that
+-- can't go on has delivered all
 pub record IsDelayInsensitiveText (bytes : List ℕ) : Type 0 where
   pub parts : Parts
   pub reads : Reads bytes parts

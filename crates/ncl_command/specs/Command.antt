@@ -14,8 +14,8 @@ pub data Command : Type 0 where
   check : Text → ℕ → Bool → Command
   -- compile the models in the named file, and merge gates of the netlist, or not
   compile : Text → Bool → Command
-  -- simulate the netlist in the first file, under the delays in the second, on the words in the third, and write a value
-  -- change dump of the run in place of its list of steps, or not
+  -- simulate the netlist in the first file, under the delays in the second, on the words in the third, and write its
+  -- steps as a list or, where the flag is given, as a value change dump
   sim : Text → Text → Text → Bool → Command
   -- compare the netlist in the first file with the models in the second, where an output may have so many nodes
   matching : Text → Text → ℕ → Command

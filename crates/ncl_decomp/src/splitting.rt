@@ -36,8 +36,8 @@ fn decompose(alloc: Global, network: &Network) -> Result<Network, Memory>
     })
 }
 
-/// The network whose nodes have two to four inputs, and which gives the same answers. A node of five or more
-/// inputs becomes nodes of two: what most rows ask in common is taken out of them, and so on in both parts; then
+/// The network whose nodes have two to four inputs, and which gives the same answers. A wider node, of five inputs and
+/// more, is made of nodes of two: what most rows ask in common is taken out of them, and so on in both parts; then
 /// there is for each row a balanced tree over what it still asks, and one over the rows. An input that has a dash
 /// in every row of it is read no more, so nodes that reach no output by this are dropped.
 ///

@@ -33,8 +33,8 @@ abbrev pub happened : PipelineData → State → List Item → List Item
 happened p s [] = []
 happened p s (item ∷ items) = (if enabled p s item then item ∷ [] else []) ++ happened p (turned p s item) items
 
--- a run from a state in whose last step a cell loses its excitation: the cell is enabled before its last item and not
--- after it, and that item isn't the cell's own
+-- a run from a state that ends as a cell loses its excitation: the last item is another than the cell's, and takes from
+-- the cell that it is enabled
 pub record Loses (p : PipelineData) (s : State) (cell : CellId) (run : List Item) : Type 0 where
   pub first : List Item
   pub last : Item

@@ -7,7 +7,7 @@ use Rattle.ncl_shape.specs.Pipeline.{PipelineData}
 use Rattle.ncl_machine.specs.State.{State, reset}
 use Rattle.ncl_machine.specs.Steps.{enabled, step}
 
--- each item is enabled in the state that the items before it lead to
+-- the items can happen one after another from a state: each is enabled where those in front of it lead
 abbrev pub IsRunFrom : PipelineData → State → List Item → Type 0
 IsRunFrom p s [] = Unit {0}
 IsRunFrom p s (item ∷ items) = (enabled p s item ≡ true) × IsRunFrom p (step p s item) items

@@ -1,7 +1,7 @@
 //! What the sink takes.
 use ncl_base::Word;
 
-/// The values of all rails 0 and of all rails 1 of the outputs when the sink took them.
+/// What the sink took: the values of the outputs' rails, those for 0 and those for 1.
 #[derive(Clone, Debug, Drop)]
 pub struct Pair {
     pub rail0: Word,

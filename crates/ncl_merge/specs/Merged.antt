@@ -46,7 +46,7 @@ cell_name n place = slice_index_or (map (λ (c : Cell). c.name) n.cells) place [
 abbrev pub rail_names : NetlistData → Rails → NamePair
 rail_names n r = record { zero = name_at n r.zero.0; one = name_at n r.one.0 }
 
--- a stage cell of m has the name and the output net that one of n has
+-- a stage cell of m is called as one of n and drives the net that it drove
 pub record HasLabelOf (n m : NetlistData) (old g : StageCell) : Type 0 where
   pub name : cell_name m g.cell.0 ≡ cell_name n old.cell.0
   pub net : name_at m g.out.0 ≡ name_at n old.out.0

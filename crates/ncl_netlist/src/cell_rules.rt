@@ -12,7 +12,7 @@ use std::alloc::Global;
 /// The most cells of a netlist.
 pub const MOST_CELLS: usize = 131_072;
 
-/// The name of the first cell that repeats an earlier cell's name, or `None` where the names differ.
+/// The first name that a second cell has too, or `None` where the names differ.
 ///
 /// Linear in the bytes of the names, which are looked at where they stand.
 fn first_repeated(alloc: Global, cells: &[PartCell]) -> Result<Option<Name>, Memory>

@@ -40,7 +40,7 @@ down_from k (suc n) = k ∷ down_from (k - 1) n
 abbrev pub numbers_of : Span → List ℕ
 numbers_of span = if nat_le span.first span.last then up_from span.first (width span) else down_from span.first (width span)
 
--- what a number may be: at most five digits, and a value of at most 65,535
+-- a number that is refused: it has more than five digits, or its value is over 65,535
 abbrev pub IsTooLarge : List ℕ → Type 0
 IsTooLarge digits = (5 < length digits) ⊎ (65535 < digits_value 10 digits)
 
@@ -68,13 +68,13 @@ IsUsed before x = (front : List Lexeme) × (rest : List Lexeme) × (before ≡ f
 abbrev pub IsVector : List Lexeme → List ℕ → Range → Type 0
 IsVector before x range = IsDeclared before x (Some range)
 
--- the name of a bit of a vector that is declared
+-- a name that a declared vector's bit has
 abbrev pub IsBit : List Lexeme → List ℕ → Type 0
 IsBit before x =
     (vector : List ℕ) × (range : Range) × (k : ℕ) × (x ≡ bit_name vector k) × IsVector before vector range
     × Covers (span_of range) k
 
--- no name of a bit of a vector that is declared stands
+-- no name stands that a declared vector's bit has
 abbrev pub IsClear : List Lexeme → Type 0
 IsClear xs =
     (vector : List ℕ) (range : Range) (k : ℕ) → IsVector xs vector range → Covers (span_of range) k → ¬ Stands xs (bit_name vector k)

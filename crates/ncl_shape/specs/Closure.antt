@@ -51,7 +51,7 @@ function_of p word = map (λ (r : Rails). close p.netlist (among (named_rails p.
 abbrev pub held_nets : NetlistData → ℕ → Nets
 held_nets n request net = list_any (λ (c : Cell). data_test request c && nat_eq c.out.0 net) n.cells
 
--- what the stages after a bank make of the word that it holds at reset: the word whose bit j is 1 where rail 1 of
--- output j is high in the closure of the nets that the bank holds
+-- what the stages after a bank make of the word that it holds at reset: of each output rail 1, as a bit, in the closure
+-- of the nets that are high in the bank
 abbrev pub function_at : PipelineData → ℕ → List Bool
 function_at p request = map (λ (r : Rails). close p.netlist (held_nets p.netlist request) r.one.0) p.outputs

@@ -11,7 +11,7 @@ ghost use Rattle.ncl_delay.specs.Delays.{DelaysData};
 ghost use Rattle.ncl_sim.specs.TimedRun.{DeliversAll, IsTimedRun, TraceData};
 ghost use Rattle.ncl_sim.specs.declared.trace.End.TheVariants.{Hazard, Quiet};
 
-/// For each pipeline, delays and words there is exactly one timed run.
+/// A pipeline has one timed run, and no other, under given delays and over given words.
 pub fn one_timed_run()
     ensures some { (p : PipelineData) (d : DelaysData) (offered : List (List Bool)) → (t : TraceData) × IsTimedRun p d offered t }
     ensures one { (p : PipelineData) (d : DelaysData) (offered : List (List Bool)) (s t : TraceData) → IsTimedRun p d offered s → IsTimedRun p d offered t → s ≡ t }

@@ -1,5 +1,5 @@
 -- The bit order of a stage: its input bits in the order in which a walk from the outputs meets them. Words are compared,
--- and stand in tables, by their bits taken in this order, the first being the most significant.
+-- and stand in tables, as the numbers that their bits make in this order, from the most significant bit on.
 use Rattle.std.specs.Prelude.{◌≡◌, ℕ, zero, suc, ◌+◌, ◌<◌, Bool, false, ◌||◌, List, [], ◌∷◌, ◌++◌, length, map, Contains, Option, Some, None, nat_eq, if◌then◌else◌, position, unwrap_or}
 use Rattle.std.specs.List.{IsDistinct, find, flat_map, list_any, range_with_len, slice_index_or}
 use Rattle.ncl_netlist.specs.declared.ids.NetId.{NetId}

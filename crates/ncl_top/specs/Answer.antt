@@ -167,7 +167,7 @@ CompilesWhatWorks words sink sink_after status =
     (file : List ℕ) (merge : Bool) → command_of words ≡ Some (compile file merge) → status ≡ 0
     → (text : List ℕ) × WorksAndIsAccepted text × (merge ≡ true → IsMergedText text) × Grew sink.written text sink_after.written
 
--- where the words ask for the check of a file, the source tells its files and the status is 0, the bytes
+-- where the words ask for the check of a file, and a source that tells what it holds, status 0 says that the bytes
 -- under the file's name are the text of a netlist that is delay-insensitive
 abbrev pub AcceptsWhatWorks : Words → SourceState → ℕ → Type 0
 AcceptsWhatWorks words source status =
@@ -204,8 +204,8 @@ pub record HaveOneFunction (netlist blif : List ℕ) : Type 0 where
   pub widths : HaveWidths (circuit_of pipeline) models
   pub function : (word : List Bool) → length word ≡ length pipeline.inputs → Computes models word (function_of pipeline word)
 
--- where the words ask for a comparison, the source tells its files and the status is 0, the bytes under the first name and
--- those under the second are the texts of a pipeline and of models that have one function
+-- where the words ask for a comparison, and a source tells what it holds, status 0 says that the bytes under the first
+-- name and those under the second are the texts of a pipeline and of models that have one function
 abbrev pub MatchesWhatIsSame : Words → SourceState → ℕ → Type 0
 MatchesWhatIsSame words source status =
     (files : Files) (netlist blif : List ℕ) (limit : ℕ) → source.files ≡ Some files → command_of words ≡ Some (matching netlist blif limit)

@@ -93,7 +93,7 @@ impl Pool {
         })
     }
 
-    /// The place of a small node, if it is found.
+    /// The place of a small node, if it is found: in its chain at most `LONGEST` nodes are looked at.
     pub(crate) fn find(&self, small: &Small) -> Option<u32>
         ensures { IfSome result (λ place. slice_get self.now.smalls.items place ≡ Some small.now) }
     {

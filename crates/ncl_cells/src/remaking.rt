@@ -102,7 +102,8 @@ fn remake_node(
     apply(pool, &choice.plan, leaves)
 }
 
-/// Adds the small nodes that all nodes become, and gives their signals.
+/// Adds the small nodes that all nodes become, and gives their signals. Goes over the nodes once; what a node costs is
+/// what is tried for it, which is bounded.
 fn remake_nodes(
     alloc: Global,
     network: &Network,

@@ -307,7 +307,7 @@ fn put_folds(all: &mut AllFolds, next: StageFolds) -> Result<(), Memory>
     Ok(())
 }
 
-/// Folds what can be folded in each stage of a pipeline, once.
+/// Folds what can be folded in each stage of a pipeline, once. Near linear in the cells. The only error is want of memory.
 pub fn fold_stages(
     alloc: Global,
     pipeline: &Pipeline,
@@ -330,6 +330,8 @@ pub fn fold_stages(
 }
 
 /// Folds what can be folded in a pipeline, once: the cells of its stages after it, or `None` where nothing is foldable.
+///
+/// Near linear in the nets and cells. The only error is want of memory.
 pub fn fold_pipeline(
     alloc: Global,
     pipeline: &Pipeline,

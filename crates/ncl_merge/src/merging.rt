@@ -46,7 +46,8 @@ fn round(alloc: Global, netlist: &Netlist) -> Result<Option<Netlist>, Memory>
 /// Merges the gates of a netlist: folds each gate that one cell alone reads into that cell, where a gate is the fold, until
 /// no two cells can be folded.
 ///
-/// Each round but the last folds a cell, and makes the netlist anew. The only error is want of memory.
+/// Each round but the last folds a cell, and makes the netlist anew; a round is near linear in the bytes of the names.
+/// The only error is want of memory.
 pub fn merge(alloc: Global, netlist: &Netlist) -> Result<Netlist, Memory>
     requires { IsSoundNetlist netlist.now }
     ensures { IfOk result (Merged netlist.now) }

@@ -31,7 +31,7 @@ pub struct Instance<'a> {
 }
 
 impl<'a> Instance<'a> {
-    /// Whether the cell has the pin, and it isn't joined.
+    /// Whether the cell has the pin, and it isn't joined. A pass over its pins and over those that are joined.
     pub fn may_join(&self, pin: &[u8]) -> bool
         ensures { (conns : List Conn) → AreJoins conns self.now.joins.items → MayJoin result self.now.kind conns pin.now }
     {
@@ -60,7 +60,7 @@ impl<'a> Instance<'a> {
         }))
     }
 
-    /// The connection of a pin.
+    /// The connection of a pin. A pass over the pins that are joined, of which a cell has five at most.
     fn join_on(&self, pin: &[u8]) -> Option<Join<'a>>
         ensures { (conns : List Conn) → AreJoins conns self.now.joins.items
             → MatchOption result (net_on conns pin.now ≡ None)

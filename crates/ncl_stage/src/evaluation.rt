@@ -41,7 +41,7 @@ pub fn values<P: Space>(
 }
 
 /// The same in an order of the stage's bits that is given: the tables, and with them what `Full` counts and which words
-/// are least, are those of that order.
+/// are least, are those of that order. Costs as much.
 pub fn values_in<P: Space>(
     alloc: Global,
     space: &mut P,

@@ -1,4 +1,4 @@
-//! The signal that most products have.
+//! The signal that stands most often in some products.
 ghost use Rattle.std.specs.Prelude.{◌<◌, IfOk, IfSome};
 
 use ncl_base::{Items, Memory};
@@ -44,8 +44,8 @@ fn longest_run(signals: &[Signal]) -> Option<Signal> {
     found
 }
 
-/// The signal that most of some products have, at least two of them; none where nothing is left to try. The
-/// signals are sorted.
+/// The signal that stands most often in some products, and at least twice; none where nothing is left to try. The signals
+/// are sorted.
 pub(crate) fn common(
     alloc: Global,
     left: usize,

@@ -1,65 +1,88 @@
 //! Tests against tables that were written apart from the code.
 use ncl_gates::{CellKind, Kind};
 
-// Each gate with its name, its arity and its set function as a sum of products, as docs/formats.md has them.
-const GATES: [(Kind, &[u8], usize, &[u8]); 27] = [
-    (Kind::Th12, b"TH12", 2, b"A+B"),
-    (Kind::Th22, b"TH22", 2, b"AB"),
-    (Kind::Th13, b"TH13", 3, b"A+B+C"),
-    (Kind::Th23, b"TH23", 3, b"AB+AC+BC"),
-    (Kind::Th33, b"TH33", 3, b"ABC"),
-    (Kind::Th23w2, b"TH23w2", 3, b"A+BC"),
-    (Kind::Th33w2, b"TH33w2", 3, b"AB+AC"),
-    (Kind::Th14, b"TH14", 4, b"A+B+C+D"),
-    (Kind::Th24, b"TH24", 4, b"AB+AC+AD+BC+BD+CD"),
-    (Kind::Th34, b"TH34", 4, b"ABC+ABD+ACD+BCD"),
-    (Kind::Th44, b"TH44", 4, b"ABCD"),
-    (Kind::Th24w2, b"TH24w2", 4, b"A+BC+BD+CD"),
-    (Kind::Th34w2, b"TH34w2", 4, b"AB+AC+AD+BCD"),
-    (Kind::Th44w2, b"TH44w2", 4, b"ABC+ABD+ACD"),
-    (Kind::Th34w3, b"TH34w3", 4, b"A+BCD"),
-    (Kind::Th44w3, b"TH44w3", 4, b"AB+AC+AD"),
-    (Kind::Th24w22, b"TH24w22", 4, b"A+B+CD"),
-    (Kind::Th34w22, b"TH34w22", 4, b"AB+AC+AD+BC+BD"),
-    (Kind::Th44w22, b"TH44w22", 4, b"AB+ACD+BCD"),
-    (Kind::Th54w22, b"TH54w22", 4, b"ABC+ABD"),
-    (Kind::Th34w32, b"TH34w32", 4, b"A+BC+BD"),
-    (Kind::Th54w32, b"TH54w32", 4, b"AB+ACD"),
-    (Kind::Th44w322, b"TH44w322", 4, b"AB+AC+AD+BC"),
-    (Kind::Th54w322, b"TH54w322", 4, b"AB+AC+BCD"),
-    (Kind::ThXor0, b"THxor0", 4, b"AB+CD"),
-    (Kind::ThAnd0, b"THand0", 4, b"AB+BC+AD"),
-    (Kind::Th24comp, b"TH24comp", 4, b"AC+BC+AD+BD"),
+// Each gate with its name, its arity and its set function at the words of PINS, worked out from the sum of products
+// that docs/formats.md has for it.
+const GATES: [(Kind, &[u8], usize, &[u8; 16]); 27] = [
+    // A+B
+    (Kind::Th12, b"TH12", 2, b"0111011101110111"),
+    // AB
+    (Kind::Th22, b"TH22", 2, b"0001000100010001"),
+    // A+B+C
+    (Kind::Th13, b"TH13", 3, b"0111111101111111"),
+    // AB+AC+BC
+    (Kind::Th23, b"TH23", 3, b"0001011100010111"),
+    // ABC
+    (Kind::Th33, b"TH33", 3, b"0000000100000001"),
+    // A+BC
+    (Kind::Th23w2, b"TH23w2", 3, b"0101011101010111"),
+    // AB+AC
+    (Kind::Th33w2, b"TH33w2", 3, b"0001010100010101"),
+    // A+B+C+D
+    (Kind::Th14, b"TH14", 4, b"0111111111111111"),
+    // AB+AC+AD+BC+BD+CD
+    (Kind::Th24, b"TH24", 4, b"0001011101111111"),
+    // ABC+ABD+ACD+BCD
+    (Kind::Th34, b"TH34", 4, b"0000000100010111"),
+    // ABCD
+    (Kind::Th44, b"TH44", 4, b"0000000000000001"),
+    // A+BC+BD+CD
+    (Kind::Th24w2, b"TH24w2", 4, b"0101011101111111"),
+    // AB+AC+AD+BCD
+    (Kind::Th34w2, b"TH34w2", 4, b"0001010101010111"),
+    // ABC+ABD+ACD
+    (Kind::Th44w2, b"TH44w2", 4, b"0000000100010101"),
+    // A+BCD
+    (Kind::Th34w3, b"TH34w3", 4, b"0101010101010111"),
+    // AB+AC+AD
+    (Kind::Th44w3, b"TH44w3", 4, b"0001010101010101"),
+    // A+B+CD
+    (Kind::Th24w22, b"TH24w22", 4, b"0111011101111111"),
+    // AB+AC+AD+BC+BD
+    (Kind::Th34w22, b"TH34w22", 4, b"0001011101110111"),
+    // AB+ACD+BCD
+    (Kind::Th44w22, b"TH44w22", 4, b"0001000100010111"),
+    // ABC+ABD
+    (Kind::Th54w22, b"TH54w22", 4, b"0000000100010001"),
+    // A+BC+BD
+    (Kind::Th34w32, b"TH34w32", 4, b"0101011101110111"),
+    // AB+ACD
+    (Kind::Th54w32, b"TH54w32", 4, b"0001000100010101"),
+    // AB+AC+AD+BC
+    (Kind::Th44w322, b"TH44w322", 4, b"0001011101010111"),
+    // AB+AC+BCD
+    (Kind::Th54w322, b"TH54w322", 4, b"0001010100010111"),
+    // AB+CD
+    (Kind::ThXor0, b"THxor0", 4, b"0001000100011111"),
+    // AB+BC+AD
+    (Kind::ThAnd0, b"THand0", 4, b"0001001101010111"),
+    // AC+BC+AD+BD
+    (Kind::Th24comp, b"TH24comp", 4, b"0000011101110111"),
 ];
 
-// The inputs whose values are the binary digits of a number, the pin A being the lowest.
-fn inputs(number: u16) -> [bool; 4] {
-    [
-        number & 1 != 0,
-        number & 2 != 0,
-        number & 4 != 0,
-        number & 8 != 0,
-    ]
-}
+// The values of four pins.
+const O: bool = false;
 
-// The value of a sum of products of pins.
-fn value_of(sum: &[u8], pins: &[bool; 4]) -> bool {
-    let mut value = false;
-    let mut product = true;
-    for byte in sum {
-        match byte {
-            b'+' => {
-                value |= product;
-                product = true;
-            }
-            b'A' => product &= pins[0],
-            b'B' => product &= pins[1],
-            b'C' => product &= pins[2],
-            _ => product &= pins[3],
-        }
-    }
-    value | product
-}
+const I: bool = true;
+
+const PINS: [[bool; 4]; 16] = [
+    [O, O, O, O],
+    [I, O, O, O],
+    [O, I, O, O],
+    [I, I, O, O],
+    [O, O, I, O],
+    [I, O, I, O],
+    [O, I, I, O],
+    [I, I, I, O],
+    [O, O, O, I],
+    [I, O, O, I],
+    [O, I, O, I],
+    [I, I, O, I],
+    [O, O, I, I],
+    [I, O, I, I],
+    [O, I, I, I],
+    [I, I, I, I],
+];
 
 // The set function of a gate at the inputs that it has of these, and its next value from 0 and from 1.
 fn answers(kind: Kind, pins: &[bool; 4]) -> [bool; 3] {
@@ -74,41 +97,31 @@ fn some_high(pins: &[bool; 4], arity: usize) -> bool {
 
 #[test]
 fn gates_follow_their_sums_of_products(rt: HostRuntime) {
-    for (kind, _, arity, sum) in GATES {
-        for number in 0..16 {
-            let pins = inputs(number);
-            let set = value_of(sum, &pins);
-            let want = [set, set, set || some_high(&pins, arity)];
-            assert_eq!(rt; answers(kind, &pins), want, "{kind:?} at {number}");
+    for (kind, _, arity, values) in GATES {
+        for (pins, value) in PINS.iter().zip(values) {
+            let set = *value == b'1';
+            let want = [set, set, set || some_high(pins, arity)];
+            assert!(rt; answers(kind, pins) == want, "{kind:?}");
+        }
+    }
+}
+
+// A register rises where its first two inputs are 1, and falls where both are 0, whatever the reset.
+#[test]
+fn registers_follow_two_inputs(rt: HostRuntime) {
+    for cell in [CellKind::Register, CellKind::RegisterData] {
+        for [a, b, reset, _] in PINS {
+            assert!(rt; cell.next(&[a, b, reset], false) == (a && b));
+            assert!(rt; cell.next(&[a, b, reset], true) == (a || b));
         }
     }
 }
 
 #[test]
-fn cells_follow_their_truth_tables(rt: HostRuntime) {
-    // The cell, how many inputs it has, and the tables of its next value from 0 and from 1.
-    let cells = [
-        (CellKind::Register, 3, 0x88, 0xee),
-        (CellKind::RegisterData, 3, 0x88, 0xee),
-        (CellKind::Ack, 2, 0x1, 0x1),
-        (CellKind::Gate(Kind::Th23), 3, 0xe8, 0xfe),
-    ];
-    for (cell, count, from_low, from_high) in cells {
-        assert_eq!(rt; cell.pins().len(), count + 1, "{cell:?}");
-        for number in 0..1 << count {
-            let pins = inputs(number);
-            let ins = &pins[..cell.pins().len() - 1];
-            assert_eq!(rt;
-                cell.next(ins, false),
-                from_low >> number & 1 != 0,
-                "{cell:?} at {number}"
-            );
-            assert_eq!(rt;
-                cell.next(ins, true),
-                from_high >> number & 1 != 0,
-                "{cell:?} at {number}"
-            );
-        }
+fn an_acknowledge_is_1_where_both_inputs_are_0(rt: HostRuntime) {
+    for [a, b, _, _] in PINS {
+        assert!(rt; CellKind::Ack.next(&[a, b], false) == (!a && !b));
+        assert!(rt; CellKind::Ack.next(&[a, b], true) == (!a && !b));
     }
 }
 

@@ -1,4 +1,4 @@
-//! Orders and cycles of small graphs, and of long chains.
+//! Orders and cycles of long chains.
 ghost use Rattle.std.specs.Prelude.{◌≡◌, ◌<◌, ◌≤◌, ◌^◌, length, All, IfOk, EachIndex};
 ghost use Rattle.ncl_graph.specs.Graph.{IsGraph};
 
@@ -21,17 +21,6 @@ fn list(
         items.push(*next)?;
     }
     Ok(Items::from_vec(items))
-}
-
-/// The graph with these lists of successors.
-fn graph(rt: &(impl Abort + AllocGlobal), lists: &[&[u32]]) -> Result<Graph, Fail> {
-    let places = lists.len();
-    assert!(rt; places < 1000);
-    let mut all = Vec::new(rt.alloc());
-    for successors in lists {
-        all.push(list(rt, successors, places)?)?;
-    }
-    Ok(Graph::new(Items::from_vec(all)))
 }
 
 /// The place that one of so many places in a chain leads to: the next one, and the last leads to itself where
@@ -65,84 +54,8 @@ fn chain(rt: &(impl Abort + AllocGlobal), upward: bool, looped: bool) -> Result<
     Ok(Graph::new(Items::from_vec(all)))
 }
 
-/// Whether each place stands once in a list, after those that it leads to.
-fn is_order(rt: &(impl Abort + AllocGlobal), graph: &Graph, order: &[u32]) -> Result<bool, Fail> {
-    let mut seen = vec![in rt.alloc(); false; graph.len()]?;
-    for place in order {
-        let at = *place as usize;
-        assert!(rt; at < graph.len() && seen.len() == graph.len());
-        for next in graph.successors(at) {
-            assert!(rt; (*next as usize) < seen.len());
-            if !seen[*next as usize] {
-                return Ok(false);
-            }
-        }
-        if seen[at] {
-            return Ok(false);
-        }
-        seen[at] = true;
-    }
-    Ok(order.len() == graph.len())
-}
-
-#[test]
-fn orders_and_cycles(rt: HostRuntime) -> Result<(), Fail> {
-    let cases: [(&str, &[&[u32]], Option<u32>); 12] = [
-        ("no place", &[], None),
-        ("one place", &[&[]], None),
-        ("an arc to itself", &[&[0]], Some(0)),
-        ("two arcs from one place to another", &[&[1, 1], &[]], None),
-        ("a diamond", &[&[1, 2], &[3], &[3], &[]], None),
-        (
-            "a diamond whose end comes first",
-            &[&[], &[0], &[0], &[1, 2]],
-            None,
-        ),
-        (
-            "a place that leads to a cycle",
-            &[&[1], &[2], &[1]],
-            Some(1),
-        ),
-        (
-            "a place that a cycle leads to",
-            &[&[], &[2, 0], &[1]],
-            Some(1),
-        ),
-        (
-            "a place between two cycles",
-            &[&[1], &[2], &[1], &[0, 4], &[3]],
-            Some(1),
-        ),
-        (
-            "a chain from a cycle to a cycle",
-            &[&[1], &[2], &[5], &[4], &[3, 0], &[6], &[5]],
-            Some(3),
-        ),
-        (
-            "two cycles with one place in common",
-            &[&[1], &[], &[3, 4], &[2], &[5], &[2]],
-            Some(2),
-        ),
-        (
-            "a cycle met by a later root",
-            &[&[], &[0], &[4], &[1], &[5, 3], &[2]],
-            Some(2),
-        ),
-    ];
-    for (name, lists, first) in cases {
-        let graph = graph(&rt, lists)?;
-        assert_eq!(rt; graph.first_on_cycle(rt.alloc())?, first, "{name}");
-        match graph.order(rt.alloc())? {
-            Some(order) => assert!(rt;
-                first.is_none() && is_order(&rt, &graph, order.as_slice())?,
-                "{name}"
-            ),
-            None => assert!(rt; first.is_some(), "{name}"),
-        }
-    }
-    Ok(())
-}
-
+/// A search that begins anew at each place, or that calls itself along the chain, would not end in the time of a test,
+/// or not at all.
 #[test]
 fn long_chains(rt: HostRuntime) -> Result<(), Fail> {
     let cases = [
@@ -153,12 +66,8 @@ fn long_chains(rt: HostRuntime) -> Result<(), Fail> {
     ];
     for (upward, looped, first) in cases {
         let graph = chain(&rt, upward, looped)?;
-        assert!(rt; !graph.is_empty());
-        assert_eq!(rt; graph.first_on_cycle(rt.alloc())?, first);
-        match graph.order(rt.alloc())? {
-            Some(order) => assert!(rt; !looped && is_order(&rt, &graph, order.as_slice())?),
-            None => assert!(rt; looped),
-        }
+        assert!(rt; graph.first_on_cycle(rt.alloc())? == first);
+        assert!(rt; graph.order(rt.alloc())?.is_none() == looped);
     }
     Ok(())
 }

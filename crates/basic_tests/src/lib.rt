@@ -1,10 +1,8 @@
-//! Tests of the lowest crates, by their public calls: files and sinks, words of a call, graphs, tokens, gates.
+//! Tests of the lowest crates, by their public calls: files and sinks, graphs, tokens, gates.
 #![tactic(auto)]
 
 #[cfg(test)]
 mod base_tests;
-#[cfg(test)]
-mod command_tests;
 #[cfg(test)]
 mod gates_tests;
 #[cfg(test)]

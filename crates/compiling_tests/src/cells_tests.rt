@@ -1,6 +1,10 @@
 //! Tests of what networks become, by counts that were worked out by hand.
-use ncl_base::MOST_BYTES;
-use ncl_blif::read_blif;
+ghost use Rattle.std.specs.Prelude.{◌≤◌, IfOk};
+ghost use Rattle.ncl_blif.specs.Model.{AreModels, IsModel};
+ghost use Rattle.ncl_decomp.specs.Split.{IsSplit, cost_of_network};
+
+use ncl_base::{MOST_BYTES, Memory};
+use ncl_blif::{Model, read_blif};
 use ncl_cells::improve;
 use ncl_decomp::split;
 use ncl_network::{Network, reduce};
@@ -10,13 +14,30 @@ use std::test::Fail;
 /// More than any network costs.
 const BOUND: usize = 83_886_080;
 
-/// The improved network of the one model of a text.
-fn improved(rt: &(impl Abort + AllocGlobal), text: &str) -> Result<Network, Fail> {
+/// The models of a text.
+fn models_of(rt: &(impl Abort + AllocGlobal), text: &str) -> Result<Vec<Model>, Fail>
+    ensures { IfOk result (λ models. AreModels models.items) }
+{
     let bytes = text.as_bytes();
     assert!(rt; bytes.len() <= MOST_BYTES);
-    let models = read_blif(rt.alloc(), bytes)?;
+    Ok(read_blif(rt.alloc(), bytes)?)
+}
+
+/// The network that a model is split into.
+fn split_model(rt: &impl AllocGlobal, model: &Model) -> Result<Network, Memory>
+    requires { IsModel model.now }
+    ensures network { IfOk result IsSplit }
+    ensures cost { IfOk result (λ n. cost_of_network n ≤ 83886080) }
+{
+    let network = reduce(rt.alloc(), model)?;
+    split(rt.alloc(), &network)
+}
+
+/// The improved network of the one model of a text.
+fn improved(rt: &(impl Abort + AllocGlobal), text: &str) -> Result<Network, Fail> {
+    let models = models_of(rt, text)?;
     assert!(rt; models.len() == 1);
-    let network = split(rt.alloc(), &reduce(rt.alloc(), &models[0])?)?;
+    let network = split_model(rt, &models[0])?;
     Ok(improve(rt.alloc(), network, BOUND)?)
 }
 

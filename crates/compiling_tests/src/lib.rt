@@ -4,11 +4,7 @@
 #[cfg(test)]
 mod cells_tests;
 #[cfg(test)]
-mod compile_tests;
-#[cfg(test)]
 mod demo_tests;
-#[cfg(test)]
-mod rails_tests;
 #[cfg(test)]
 mod template_tests;
 #[cfg(test)]

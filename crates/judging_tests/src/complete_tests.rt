@@ -3,41 +3,33 @@ ghost use Rattle.std.specs.Prelude.{◌<◌, ◌≤◌, length};
 
 use ncl_complete::input_complete;
 use ncl_shape::Stage;
-use ncl_stage::testing::{Counting, and_of_two_bits, full_adder};
+use ncl_space::SpaceFault;
+use ncl_stage::testing::{Counting, full_adder};
 use ncl_stage::{Variant, values};
-use std::process::Abort;
-use std::test::*;
+use std::alloc::Global;
+use std::test::Fail;
 
-/// A bit of a stage has no fault, which takes at most so many gates.
-fn check(
-    rt: &(impl Abort + AllocGlobal),
-    stage: &Stage,
-    bit: usize,
-    most: usize,
-) -> Result<(), Fail>
+/// By how many gates a bit of a stage is judged, which has no fault.
+fn gates_for(alloc: Global, stage: &Stage, bit: usize) -> Result<Option<usize>, SpaceFault>
     requires few { length stage.now.inputs ≤ 10 }
     requires bit { bit < length stage.now.inputs }
 {
-    let mut space = Counting::new(rt.alloc(), stage.inputs.items().len());
-    let base = values(rt.alloc(), &mut space, stage, Variant::Base)?;
+    let mut space = Counting::new(alloc, stage.inputs.items().len());
+    let base = values(alloc, &mut space, stage, Variant::Base)?;
     let before = space.applied();
-    let word = input_complete(rt.alloc(), &mut space, stage, &base, bit)?;
-    assert!(rt; word.is_none());
-    assert!(rt; space.applied().saturating_sub(before) <= most);
-    Ok(())
+    match input_complete(alloc, &mut space, stage, &base, bit)? {
+        Some(_) => Ok(None),
+        None => Ok(Some(space.applied().saturating_sub(before))),
+    }
 }
 
-// All four gates of the adder read each bit, and both of the AND. Then come a DATA table for each output,
-// and the conjunction where there are two.
+// All four gates of the adder read each bit. Then come a DATA table for each output, and the conjunction.
 #[test]
 fn bits_by_few_gates(rt: HostRuntime) -> Result<(), Fail> {
     let adder = full_adder(rt.alloc())?;
     for bit in 0..3 {
-        check(&rt, &adder, bit, 4 + 3)?;
-    }
-    let and = and_of_two_bits(rt.alloc())?;
-    for bit in 0..2 {
-        check(&rt, &and, bit, 2 + 1)?;
+        let gates = gates_for(rt.alloc(), &adder, bit)?;
+        assert!(rt; gates.is_some_and(|count| count <= 4 + 3));
     }
     Ok(())
 }

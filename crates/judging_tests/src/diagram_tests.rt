@@ -1,158 +1,65 @@
-//! Tests of diagrams beside truth tables, and of how many nodes there are.
+//! Tests of how many nodes diagrams have, and that what was done once is not done again.
 ghost use Rattle.std.specs.Prelude.{◌≡◌, ◌<◌, ◌≤◌, ◌+◌, IfOk, OnOk};
 ghost use Rattle.ncl_gates.specs.Gate.{arity_of};
-ghost use Rattle.ncl_space.specs.Space.{IsLive, IsSpace, Keeps};
+ghost use Rattle.ncl_space.specs.Space.{IsLive, Keeps};
 
 use ncl_base::Word;
-use ncl_diagram::{Diagram, Plain, Ref, Space, SpaceFault, Steps};
+use ncl_diagram::{Diagram, Ref, Space, SpaceFault, Steps};
 use ncl_gates::Kind;
 use std::alloc::Global;
 use std::marker::Brand;
 use std::sync::ledger::{Blank, Ledger};
 use std::test::Fail;
 
-const GATES: [Kind; 27] = [
-    Kind::Th12,
-    Kind::Th22,
-    Kind::Th13,
-    Kind::Th23,
-    Kind::Th33,
-    Kind::Th23w2,
-    Kind::Th33w2,
-    Kind::Th14,
-    Kind::Th24,
-    Kind::Th34,
-    Kind::Th44,
-    Kind::Th24w2,
-    Kind::Th34w2,
-    Kind::Th44w2,
-    Kind::Th34w3,
-    Kind::Th44w3,
-    Kind::Th24w22,
-    Kind::Th34w22,
-    Kind::Th44w22,
-    Kind::Th54w22,
-    Kind::Th34w32,
-    Kind::Th54w32,
-    Kind::Th44w322,
-    Kind::Th54w322,
-    Kind::ThXor0,
-    Kind::ThAnd0,
-    Kind::Th24comp,
-];
-
-// The last of some gates, of which each has the four functions before it as its pins, and the first the
-// first bits of a word. In any space.
-fn last_of<P: Space>(space: &mut P, gates: &[Kind]) -> Result<Ref, SpaceFault>
-    requires { 4 ≤ (P.meaning space.old).width }
+/// The gate of a function, of a bit and of the one before it.
+fn next_of<P: Space>(
+    space: &mut P,
+    kind: Kind,
+    function: Ref,
+    bit: usize,
+) -> Result<Ref, SpaceFault>
+    requires arity { arity_of kind ≡ 3 }
+    requires live { IsLive (P.meaning space.old) function }
+    requires some { 1 ≤ bit }
+    requires bit { bit < (P.meaning space.old).width }
     ensures live { IfOk result (IsLive (P.meaning space.new)) }
     ensures kept { Keeps (P.meaning space.old) (P.meaning space.new) }
 {
-    let mut a = space.rail(0, true)?;
-    let mut b = space.rail(1, true)?;
-    let mut c = space.rail(2, true)?;
-    let mut d = space.rail(3, true)?;
-    for kind in gates {
-        let kind = *kind;
-        let next = match kind.arity() {
-            2 => space.apply(kind, &[a, b])?,
-            3 => space.apply(kind, &[a, b, c])?,
-            _ => space.apply(kind, &[a, b, c, d])?,
-        };
-        a = b;
-        b = c;
-        c = d;
-        d = next;
-    }
-    Ok(d)
+    let before = space.rail(bit - 1, true)?;
+    let own = space.rail(bit, true)?;
+    space.apply(kind, &[function, before, own])
 }
 
-// Some gates, by a generator of numbers.
-fn some_gates(rt: &HostRuntime, number: usize) -> Result<Vec<Kind>, Fail> {
-    let mut gates = Vec::new(rt.alloc());
-    let mut state = number as u64;
-    for _ in 0..10 {
-        state = state
-            .wrapping_mul(6_364_136_223_846_793_005)
-            .wrapping_add(1_442_695_040_888_963_407);
-        gates.push(GATES[(state >> 33) as usize % GATES.len()])?;
-    }
-    Ok(gates)
-}
-
-// Whether a function is 1 at the words that begin with the four bits of a number.
-fn is_one_at<P: Space>(space: &mut P, function: Ref, number: usize) -> Result<bool, SpaceFault>
-    requires width { 4 ≤ (P.meaning space.old).width }
-    requires live { IsLive (P.meaning space.old) function }
+/// A function of all bits of a word: the gate of what the bits so far give, of the last of them and of the next.
+fn chain<P: Space>(space: &mut P, kind: Kind) -> Result<Ref, SpaceFault>
+    requires arity { arity_of kind ≡ 3 }
+    requires some { 1 ≤ (P.meaning space.old).width }
+    ensures live { IfOk result (IsLive (P.meaning space.new)) }
     ensures kept { Keeps (P.meaning space.old) (P.meaning space.new) }
 {
-    let a = space.rail(0, number & 8 != 0)?;
-    let b = space.rail(1, number & 4 != 0)?;
-    let c = space.rail(2, number & 2 != 0)?;
-    let d = space.rail(3, number & 1 != 0)?;
-    let here = space.apply(Kind::Th44, &[a, b, c, d])?;
-    let both = space.apply(Kind::Th22, &[function, here])?;
-    Ok(space.least_one(both, &mut Word::new()))
+    let mut last = space.rail(0, true)?;
+    for bit in 1..space.width() {
+        last = next_of(space, kind, last, bit)?;
+    }
+    Ok(last)
 }
 
-// The values of the last of some gates at the words that begin with the four bits of each number.
-fn values_of<P: Space>(space: &mut P, gates: &[Kind]) -> Result<u16, SpaceFault>
-    requires { 4 ≤ (P.meaning space.old).width }
-{
-    let function = last_of(space, gates)?;
-    let mut values = 0;
-    for number in 0..16 {
-        if is_one_at(space, function, number)? {
-            values |= 1 << number;
-        }
-    }
-    Ok(values)
-}
+/// Gates, and the nodes of their chains over four bits, counted by truth tables.
+const CHAINS: [(Kind, u32); 5] = [
+    (Kind::Th13, 10),
+    (Kind::Th23, 12),
+    (Kind::Th33, 10),
+    (Kind::Th23w2, 9),
+    (Kind::Th33w2, 9),
+];
 
 #[test]
-fn diagrams_are_truth_tables(rt: HostRuntime) -> Result<(), Fail> {
-    for number in 0..100 {
-        let gates = some_gates(&rt, number)?;
-        let want = values_of(&mut Plain::new(rt.alloc(), 4), &gates)?;
-        let have = values_of(&mut Diagram::new(rt.alloc(), 4, 1_000), &gates)?;
-        assert_eq!(rt; have, want, "gates {number}");
-    }
-    Ok(())
-}
-
-#[test]
-fn the_limit_is_met_exactly(rt: HostRuntime) -> Result<(), Fail> {
-    for number in 0..100 {
-        let gates = some_gates(&rt, number)?;
-        let mut diagram = Diagram::new(rt.alloc(), 4, 1_000);
-        last_of(&mut diagram, &gates)?;
-        let nodes = diagram.nodes();
-        assert!(rt; nodes >= 4);
-        let mut enough = Diagram::new(rt.alloc(), 4, nodes);
-        assert!(rt; last_of(&mut enough, &gates).is_ok(), "gates {number}");
-        let mut few = Diagram::new(rt.alloc(), 4, nodes - 1);
-        let full = Some(SpaceFault::Full);
-        assert_eq!(rt; last_of(&mut few, &gates).err(), full, "gates {number}");
-    }
-    Ok(())
-}
-
-#[test]
-fn nodes_of_gates(rt: HostRuntime) -> Result<(), Fail> {
-    // A gate on four bits, and how many nodes there are with those of the bits: four, of which the last
-    // is the gate's own too.
-    let cases = [
-        (Kind::Th14, 7),
-        (Kind::Th44, 7),
-        (Kind::ThXor0, 7),
-        (Kind::Th24, 9),
-        (Kind::Th34, 9),
-        (Kind::Th24comp, 7),
-    ];
-    for (kind, nodes) in cases {
-        let mut diagram = Diagram::new(rt.alloc(), 4, 100);
+fn chains_have_so_many_nodes(rt: HostRuntime) -> Result<(), Fail> {
+    for (kind, nodes) in CHAINS {
+        assert!(rt; kind.arity() == 3);
+        let mut diagram = Diagram::new(rt.alloc(), 4, nodes);
         let mark = diagram.mark();
-        last_of(&mut diagram, &[kind])?;
+        chain(&mut diagram, kind)?;
         assert_eq!(rt; diagram.nodes(), nodes, "{kind:?}");
         diagram.release(mark);
         assert_eq!(rt; diagram.nodes(), 0, "{kind:?}");
@@ -160,23 +67,20 @@ fn nodes_of_gates(rt: HostRuntime) -> Result<(), Fail> {
     Ok(())
 }
 
-// The conjunction of the bits of a word, in any space.
-fn all_bits<P: Space>(space: &mut P) -> Result<Ref, SpaceFault>
-    ensures live { IfOk result (IsLive (P.meaning space.new)) }
-    ensures kept { Keeps (P.meaning space.old) (P.meaning space.new) }
-{
-    let mut all = space.constant(true);
-    for bit in 0..space.width() {
-        let rail = space.rail(bit, true)?;
-        all = space.apply(Kind::Th22, &[all, rail])?;
+#[test]
+fn one_node_less_is_too_few(rt: HostRuntime) {
+    for (kind, nodes) in CHAINS {
+        assert!(rt; kind.arity() == 3 && nodes >= 2);
+        let mut diagram = Diagram::new(rt.alloc(), 4, nodes - 1);
+        let full = Some(SpaceFault::Full);
+        assert_eq!(rt; chain(&mut diagram, kind).err(), full, "{kind:?}");
     }
-    Ok(all)
 }
 
 #[test]
 fn words_of_128_bits(rt: HostRuntime) -> Result<(), Fail> {
     let mut diagram = Diagram::new(rt.alloc(), 128, 20_000);
-    let all = all_bits(&mut diagram)?;
+    let all = chain(&mut diagram, Kind::Th33)?;
     let mut word = Word::new();
     assert!(rt; diagram.least_one(all, &mut word));
     assert!(rt; word.bits().len() == 128 && word.bits().iter().all(|bit| *bit));
@@ -188,33 +92,25 @@ fn words_of_128_bits(rt: HostRuntime) -> Result<(), Fail> {
     Ok(())
 }
 
-// A function of all bits of a word, in any space: the gate of what the bits so far give, of a bit and of the next.
-fn chain<P: Space>(space: &mut P, kind: Kind) -> Result<Ref, SpaceFault>
-    requires arity { arity_of kind ≡ 3 }
-    requires some { 1 ≤ (P.meaning space.old).width }
-    ensures live { IfOk result (IsLive (P.meaning space.new)) }
+/// Two gates of two functions.
+fn by_turns<P: Space>(space: &mut P, f: Ref, g: Ref) -> Result<(), SpaceFault>
+    requires f { IsLive (P.meaning space.old) f }
+    requires g { IsLive (P.meaning space.old) g }
     ensures kept { Keeps (P.meaning space.old) (P.meaning space.new) }
 {
-    let mut last = space.rail(0, true)?;
-    for bit in 1..space.width() {
-        let before = space.rail(bit - 1, true)?;
-        let next = space.rail(bit, true)?;
-        last = space.apply(kind, &[last, before, next])?;
-    }
-    Ok(last)
+    space.apply(Kind::Th22, &[f, g])?;
+    space.apply(Kind::Th12, &[f, g])?;
+    Ok(())
 }
 
-// Three gates of three functions of all bits, made so many times by turns.
+/// Gates of two functions of all bits, made so many times by turns.
 fn repeated<P: Space>(space: &mut P, times: usize) -> Result<(), SpaceFault>
     requires { 1 ≤ (P.meaning space.old).width }
 {
     let f = chain(space, Kind::Th23)?;
     let g = chain(space, Kind::Th33w2)?;
-    let h = chain(space, Kind::Th23w2)?;
     for _ in 0..times {
-        space.apply(Kind::Th13, &[f, g, h])?;
-        space.apply(Kind::Th23, &[f, g, h])?;
-        space.apply(Kind::Th33, &[f, g, h])?;
+        by_turns(space, f, g)?;
     }
     Ok(())
 }
@@ -223,7 +119,7 @@ fn repeated<P: Space>(space: &mut P, times: usize) -> Result<(), SpaceFault>
 fn operations_are_repeated_without_a_step(rt: HostRuntime) -> Result<(), Fail> {
     // Each of these goes through thousands of nodes where its answer isn't kept, and would take minutes.
     let mut diagram = Diagram::new(rt.alloc(), 128, 1_000_000);
-    repeated(&mut diagram, 1_000_000)?;
+    repeated(&mut diagram, 1_500_000)?;
     Ok(())
 }
 

@@ -6,8 +6,6 @@ mod complete_tests;
 #[cfg(test)]
 mod diagram_tests;
 #[cfg(test)]
-mod hazard_tests;
-#[cfg(test)]
 mod orphan_tests;
 #[cfg(test)]
 mod report_tests;

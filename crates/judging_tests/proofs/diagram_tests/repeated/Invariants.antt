@@ -2,7 +2,4 @@ use Rattle.ncl_space.specs.Space.{IsLive}
 use Rattle.judging_tests.proofs.diagram_tests.repeated.Given as goal
 
 abbrev pub invariant-loop : goal.invariant-loop
-invariant-loop g l =
-    IsLive (g.P.Space.meaning l.space) l.f
-    × IsLive (g.P.Space.meaning l.space) l.g
-    × IsLive (g.P.Space.meaning l.space) l.h
+invariant-loop g l = IsLive (g.P.Space.meaning l.space) l.f × IsLive (g.P.Space.meaning l.space) l.g

@@ -2,54 +2,35 @@
 ghost use Rattle.std.specs.Prelude.{IfOk, IsTrue};
 ghost use Rattle.ncl_merge.specs.Merged.{IsSoundNetlist};
 
-use crate::told::netlist;
+use crate::netlist_texts::{DATA, LAST, between, netlist};
 use ncl_merge::merge;
-use ncl_netlist::Netlist;
+use ncl_netlist::{Cell, Netlist};
 use ncl_shape::shape;
 use ncl_verdict::{Verdict, judge};
-use ncl_writer::{is_writable, write_netlist};
 use std::alloc::Global;
 use std::process::Abort;
 use std::test::*;
 
-/// A bank of two bits, whose rails are p0, p1, q0 and q1.
-const FIRST: &str = "in x0 x1 y0 y1 ki rst;out z0 z1 ko;TH22N r x0 c rst p0;TH22N s x1 c rst p1;\
-    TH22N i y0 c rst q0;TH22N j y1 c rst q1;TH12B k p0 p1 e;TH12B l q0 q1 f;TH22 m e f ko;";
-
-/// A bank behind the nets o and n.
-const LAST: &str = ";TH22N t o ki rst z0;TH22N u n ki rst z1;TH12B d z0 z1 c";
-
-/// A bank behind them that is reset to DATA, and wires to one more.
-const DATA: &str = ";TH22N t o b rst v0;TH22D u n b rst v1;TH12B d v0 v1 c;\
-    TH22N t2 v0 ki rst z0;TH22N u2 v1 ki rst z1;TH12B d2 z0 z1 b";
-
-/// The gates between two banks, and what becomes of them.
-struct Row {
-    gates: &'static str,
-    merged: &'static str,
-}
-
-const ROWS: [Row; 4] = [
+/// Gates between two banks, and what they are merged to.
+const ROWS: [(&str, &str); 3] = [
     // the AND as minterms, of which three have an OR
-    Row {
-        gates: "TH22 m1 p0 q0 n1;TH22 m2 q0 p1 n2;TH22 m3 p0 q1 n3;TH13 g0 n1 n2 n3 o;TH22 g1 p1 q1 n",
-        merged: "THand0 g0 p0 q0 p1 q1 o;TH22 g1 p1 q1 n",
-    },
-    // the AND by two gates
-    Row {
-        gates: "TH22 g1 p1 q1 n;THand0 g0 p0 q0 p1 q1 o",
-        merged: "TH22 g1 p1 q1 n;THand0 g0 p0 q0 p1 q1 o",
-    },
+    (
+        "TH22 m1(.A(p0),.B(q0),.Z(n1));TH22 m2(.A(q0),.B(p1),.Z(n2));TH22 m3(.A(p0),.B(q1),.Z(n3));\
+        TH13 g0(.A(n1),.B(n2),.C(n3),.Z(o));TH22 g1(.A(p1),.B(q1),.Z(n));",
+        "THand0 g0(.A(p0),.B(q0),.C(p1),.D(q1),.Z(o));TH22 g1(.A(p1),.B(q1),.Z(n));",
+    ),
     // each rail of the exclusive OR as two minterms and an OR
-    Row {
-        gates: "TH22 a p0 q0 n1;TH22 b p1 q1 n2;TH12 g n1 n2 o;TH22 v p0 q1 n3;TH22 w p1 q0 n4;TH12 h n3 n4 n",
-        merged: "THxor0 g p1 q1 p0 q0 o;THxor0 h p1 q0 p0 q1 n",
-    },
+    (
+        "TH22 a(.A(p0),.B(q0),.Z(n1));TH22 b(.A(p1),.B(q1),.Z(n2));TH12 g(.A(n1),.B(n2),.Z(o));\
+        TH22 v(.A(p0),.B(q1),.Z(n3));TH22 w(.A(p1),.B(q0),.Z(n4));TH12 h(.A(n3),.B(n4),.Z(n));",
+        "THxor0 g(.A(p1),.B(q1),.C(p0),.D(q0),.Z(o));THxor0 h(.A(p1),.B(q0),.C(p0),.D(q1),.Z(n));",
+    ),
     // a net that two gates read until one is folded into the other
-    Row {
-        gates: "TH12 a p0 p1 n1;TH22 g n1 q0 n2;TH23w2 h n2 n1 q1 o;TH22 w p0 p1 n",
-        merged: "TH24comp h p0 p1 q0 q1 o;TH22 w p0 p1 n",
-    },
+    (
+        "TH12 a(.A(p0),.B(p1),.Z(n1));TH22 g(.A(n1),.B(q0),.Z(n2));TH23w2 h(.A(n2),.B(n1),.C(q1),.Z(o));\
+        TH22 w(.A(p0),.B(p1),.Z(n));",
+        "TH24comp h(.A(p0),.B(p1),.C(q0),.D(q1),.Z(o));TH22 w(.A(p0),.B(p1),.Z(n));",
+    ),
 ];
 
 /// Whether a netlist has the shape of a pipeline, whose stages are sound and small.
@@ -63,63 +44,75 @@ fn is_accepted(alloc: Global, netlist: &Netlist) -> Result<bool, Fail>
     }
 }
 
-/// The netlist that a text tells, which has to be accepted.
-fn sound(rt: &impl Abort, alloc: Global, text: &str) -> Result<Netlist, Fail>
-    ensures { IfOk result IsSoundNetlist }
-{
-    let told = netlist(rt, alloc, text)?;
-    let accepted = is_accepted(alloc, &told)?;
-    assert!(rt; accepted, "{text}");
-    Ok(told)
+/// What a netlist, which has to be accepted, is merged to.
+fn merged(rt: &impl Abort, alloc: Global, netlist: &Netlist) -> Result<Netlist, Fail> {
+    let accepted = is_accepted(alloc, netlist)?;
+    assert!(rt; accepted);
+    Ok(merge(alloc, netlist)?)
 }
 
-/// What the netlist of a text, which has to be accepted, is merged to.
-fn merged(rt: &impl Abort, alloc: Global, text: &str) -> Result<Netlist, Fail>
-    ensures { IfOk result IsSoundNetlist }
-{
-    let told = sound(rt, alloc, text)?;
-    Ok(merge(alloc, &told)?)
+/// Whether two cells are the same.
+fn is_same_cell(one: &Cell, other: &Cell) -> bool {
+    one.kind == other.kind
+        && one.name == other.name
+        && one.ins.as_slice() == other.ins.as_slice()
+        && one.out == other.out
 }
 
-/// The text that is written of a netlist.
-fn written(rt: &impl Abort, alloc: Global, netlist: &Netlist) -> Result<Vec<u8>, Fail> {
-    let writable = is_writable(netlist);
-    assert!(rt; writable);
-    Ok(write_netlist(alloc, netlist)?)
+/// Whether two netlists have the same nets and cells.
+fn are_same(one: &Netlist, other: &Netlist) -> bool {
+    if one.nets() != other.nets() || one.cells().len() != other.cells().len() {
+        return false;
+    }
+    for (cell, same) in one.cells().iter().zip(other.cells()) {
+        if !is_same_cell(cell, same) {
+            return false;
+        }
+    }
+    true
 }
 
-/// A netlist is the one that a text tells.
-fn is_told(rt: &impl Abort, alloc: Global, found: &Netlist, text: &str) -> Result<(), Fail> {
-    let wanted = written(rt, alloc, &netlist(rt, alloc, text)?)?;
-    let found = written(rt, alloc, found)?;
-    assert!(rt; found.as_slice() == wanted.as_slice(), "{text}");
+/// A netlist of a text is merged to that of another.
+fn check(rt: &impl Abort, alloc: Global, text: &str, wanted: &str) -> Result<(), Fail> {
+    let found = merged(rt, alloc, &netlist(rt, alloc, text)?)?;
+    let wanted = netlist(rt, alloc, wanted)?;
+    assert!(rt; are_same(&found, &wanted), "{text}");
     Ok(())
 }
 
-/// The text of these gates between two banks.
-fn between(alloc: Global, gates: &str, last: &str) -> Result<String, Fail> {
-    Ok(format!(in alloc; "{FIRST}{gates}{last}")?)
+/// Gates between two banks are merged to others.
+fn check_gates(
+    rt: &impl Abort,
+    alloc: Global,
+    gates: &str,
+    wanted: &str,
+    last: &str,
+) -> Result<(), Fail> {
+    let text = between(alloc, gates, last)?;
+    let wanted = between(alloc, wanted, last)?;
+    check(rt, alloc, &text, &wanted)
 }
 
 #[test]
 fn netlists_are_merged(rt: HostRuntime) -> Result<(), Fail> {
-    let alloc = rt.alloc();
-    for row in &ROWS {
-        for last in [LAST, DATA] {
-            let found = merged(&rt, alloc, &between(alloc, row.gates, last)?)?;
-            is_told(&rt, alloc, &found, &between(alloc, row.merged, last)?)?;
-        }
+    for (gates, wanted) in ROWS {
+        check_gates(&rt, rt.alloc(), gates, wanted, LAST)?;
+    }
+    Ok(())
+}
+
+#[test]
+fn netlists_with_a_data_bank_are_merged(rt: HostRuntime) -> Result<(), Fail> {
+    for (gates, wanted) in ROWS {
+        check_gates(&rt, rt.alloc(), gates, wanted, DATA)?;
     }
     Ok(())
 }
 
 #[test]
 fn what_is_merged_stays(rt: HostRuntime) -> Result<(), Fail> {
-    let alloc = rt.alloc();
-    for row in &ROWS {
-        let once = merged(&rt, alloc, &between(alloc, row.gates, LAST)?)?;
-        let twice = merge(alloc, &once)?;
-        is_told(&rt, alloc, &twice, &between(alloc, row.merged, LAST)?)?;
+    for (_, merged) in ROWS {
+        check_gates(&rt, rt.alloc(), merged, merged, LAST)?;
     }
     Ok(())
 }
@@ -128,54 +121,35 @@ fn what_is_merged_stays(rt: HostRuntime) -> Result<(), Fail> {
 const CHAIN: usize = 2_000;
 
 /// Two banks of one bit, behind the nets n0 and n2000 of rail 0, and a gate that is never high.
-const ONE_BIT: &str = "in x0 x1 ki rst;out z0 z1 ko;TH22N r x0 c rst n0;TH22N s x1 c rst p1;\
-    TH12B k n0 p1 ko;TH22N t n2000 ki rst z0;TH22N u p1 ki rst z1;TH12B d z0 z1 c;TH22 q n0 p1 e";
+const ONE_BIT: &str = "module m(x0,x1,ki,rst,z0,z1,ko);input x0,x1,ki,rst;output z0,z1,ko;\
+    TH22N r(.A(x0),.B(c),.RST(rst),.Z(n0));TH22N s(.A(x1),.B(c),.RST(rst),.Z(p1));\
+    TH12B k(.A(n0),.B(p1),.Z(ko));TH22N t(.A(n2000),.B(ki),.RST(rst),.Z(z0));\
+    TH22N u(.A(p1),.B(ki),.RST(rst),.Z(z1));TH12B d(.A(z0),.B(z1),.Z(c));TH22 q(.A(n0),.B(p1),.Z(e));";
 
 /// A chain of gates on rail 0, each of which reads the one before it by both pins, or beside it the gate that is never high.
 fn chain(alloc: Global, twice: bool) -> Result<String, Fail> {
     let mut text = String::from_str(alloc, ONE_BIT)?;
     for k in 0..CHAIN {
         let gate = if twice {
-            format!(in alloc; ";TH12 g{k} n{k} n{k} n{}", k + 1)?
+            format!(in alloc; "TH12 g{k}(.A(n{k}),.B(n{k}),.Z(n{}));", k + 1)?
         } else {
-            format!(in alloc; ";TH12 g{k} n{k} e n{}", k + 1)?
+            format!(in alloc; "TH12 g{k}(.A(n{k}),.B(e),.Z(n{}));", k + 1)?
         };
         text.push_str(gate.as_str())?;
     }
+    text.push_str("endmodule")?;
     Ok(text)
 }
 
 #[test]
 fn a_chain_of_two_pins_each_stays(rt: HostRuntime) -> Result<(), Fail> {
-    let alloc = rt.alloc();
-    let text = chain(alloc, true)?;
-    let found = merged(&rt, alloc, &text)?;
-    is_told(&rt, alloc, &found, &text)
+    let text = chain(rt.alloc(), true)?;
+    check(&rt, rt.alloc(), &text, &text)
 }
 
 #[test]
 fn a_chain_becomes_one_gate(rt: HostRuntime) -> Result<(), Fail> {
-    let alloc = rt.alloc();
-    let found = merged(&rt, alloc, &chain(alloc, false)?)?;
-    let one = format!(in alloc; "{ONE_BIT};TH12 g1999 n0 e n2000")?;
-    is_told(&rt, alloc, &found, &one)
-}
-
-/// How the names of a bank's rails begin, where they are long and have to be written as escaped.
-const LONG: &str = " the[0]-th.of.the.bits.in.a.bank.that.has.very.long.names.for.p";
-
-#[test]
-fn long_names_are_written_less_often(rt: HostRuntime) -> Result<(), Fail> {
-    let alloc = rt.alloc();
-    for row in &ROWS[2..] {
-        let text = between(alloc, row.gates, LAST)?.replace(alloc, " p", LONG)?;
-        let wanted = between(alloc, row.merged, LAST)?.replace(alloc, " p", LONG)?;
-        let told = sound(&rt, alloc, &text)?;
-        let found = merge(alloc, &told)?;
-        is_told(&rt, alloc, &found, &wanted)?;
-        let before = written(&rt, alloc, &told)?.len();
-        let after = written(&rt, alloc, &found)?.len();
-        assert!(rt; after < before, "{text}");
-    }
-    Ok(())
+    let text = chain(rt.alloc(), false)?;
+    let one = format!(in rt.alloc(); "{ONE_BIT}TH12 g1999(.A(n0),.B(e),.Z(n2000));endmodule")?;
+    check(&rt, rt.alloc(), &text, &one)
 }

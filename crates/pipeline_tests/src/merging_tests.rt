@@ -111,8 +111,8 @@ fn netlists_with_a_data_bank_are_merged(rt: HostRuntime) -> Result<(), Fail> {
 
 #[test]
 fn what_is_merged_stays(rt: HostRuntime) -> Result<(), Fail> {
-    for (_, merged) in ROWS {
-        check_gates(&rt, rt.alloc(), merged, merged, LAST)?;
+    for (_, gates) in ROWS {
+        check_gates(&rt, rt.alloc(), gates, gates, LAST)?;
     }
     Ok(())
 }

@@ -3,7 +3,7 @@ use ncl_gates::{CellKind, Kind};
 
 // Each gate with its name, its arity and its set function at the words of PINS, worked out from the sum of products
 // that docs/formats.md has for it.
-const GATES: [(Kind, &[u8], usize, &[u8; 16]); 27] = [
+const GATES: [(Kind, &[u8], usize, &[u8]); 27] = [
     // A+B
     (Kind::Th12, b"TH12", 2, b"0111011101110111"),
     // AB

@@ -1,6 +1,5 @@
 //! The networks of texts of one model.
-ghost use Rattle.std.specs.Prelude.{◌≡◌, IfOk, length};
-ghost use Rattle.std.specs.List.{All};
+ghost use Rattle.std.specs.Prelude.{IfOk};
 ghost use Rattle.ncl_blif.specs.Model.{AreModels};
 ghost use Rattle.ncl_network.specs.Network.{IsNetwork};
 

@@ -2,6 +2,4 @@
 #![tactic(auto)]
 
 #[cfg(test)]
-mod sim_tests;
-#[cfg(test)]
 mod state_tests;

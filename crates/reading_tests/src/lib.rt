@@ -4,10 +4,12 @@
 #[cfg(test)]
 mod delay_tests;
 #[cfg(test)]
+mod fault_tests;
+#[cfg(test)]
+mod numbered;
+#[cfg(test)]
 mod reader_speed_tests;
 #[cfg(test)]
 mod reader_tests;
 #[cfg(test)]
 mod vector_tests;
-#[cfg(test)]
-mod writer_tests;

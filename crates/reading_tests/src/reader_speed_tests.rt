@@ -1,6 +1,7 @@
 //! Texts as long as may be, at which a walk that is much more than linear would not end.
 
-use ncl_base::{MOST_BYTES, Memory};
+use crate::numbered::{beside, numbered};
+use ncl_base::MOST_BYTES;
 use ncl_netlist::{BuildFault, Netlist};
 use ncl_reader::{NetFault, read_netlist};
 use std::alloc::{AllocError, Global};
@@ -12,37 +13,23 @@ fn repeated(alloc: Global, front: &str, piece: &str, back: &str) -> Result<Strin
     let room = MOST_BYTES
         .saturating_sub(front.len())
         .saturating_sub(back.len());
-    let mut text = String::from_str(alloc, front)?;
-    for _ in 0..room / piece.len().max(1) {
-        text.push_str(piece)?;
-    }
-    text.push_str(back)?;
-    Ok(text)
-}
-
-/// Adds a piece for each number below a count, with the number for each `?` in it.
-fn push_numbered(
-    text: &mut String,
-    alloc: Global,
-    piece: &str,
-    count: u32,
-) -> Result<(), AllocError> {
-    for number in 0..count {
-        let digits = format!(in alloc; "{number}")?;
-        for (place, part) in piece.split('?').enumerate() {
-            if place > 0 {
-                text.push_str(digits.as_str())?;
-            }
-            text.push_str(part)?;
-        }
-    }
-    Ok(())
+    let pieces = piece.repeat(alloc, room / piece.len().max(1))?;
+    format!(in alloc; "{front}{pieces}{back}")
 }
 
 /// What a text is read as, which has to be short enough.
 fn read(rt: &impl Abort, alloc: Global, text: &str) -> Result<Netlist, NetFault> {
     assert!(rt; text.len() <= MOST_BYTES);
     read_netlist(alloc, text.as_bytes())
+}
+
+/// The place of a syntax error in a text, or `None` where it is read. Another fault has place 0.
+fn place(rt: &impl Abort, alloc: Global, text: &str) -> Option<usize> {
+    match read(rt, alloc, text) {
+        Ok(_) => None,
+        Err(NetFault::Syntax(at)) => Some(at),
+        Err(_) => Some(0),
+    }
 }
 
 /// Long texts of one piece: the front, the piece and the back, and the place of a syntax error, or `None`
@@ -61,64 +48,52 @@ const LONG: [(&str, &str, &str, Option<usize>); 9] = [
 
 #[test]
 fn long_texts(rt: HostRuntime) -> Result<(), Fail> {
-    let alloc = rt.alloc();
-    for (front, piece, back, broken) in LONG {
-        let text = repeated(alloc, front, piece, back)?;
-        let place = match read(&rt, alloc, text.as_str()) {
-            Ok(_) => None,
-            Err(NetFault::Syntax(at)) => Some(at),
-            Err(_) => Some(0),
-        };
-        assert!(rt; place == broken, "at {front} {piece}");
+    for row in &LONG {
+        let (front, piece, back, broken) = *row;
+        let text = repeated(rt.alloc(), front, piece, back)?;
+        let found = place(&rt, rt.alloc(), text.as_str());
+        assert!(rt; found == broken, "at {front} {piece}");
     }
     Ok(())
 }
 
-/// A text with so many cells, each with names of its own.
-fn cells(alloc: Global, count: u32) -> Result<String, AllocError> {
-    let mut text = String::from_str(alloc, "module m(a);input a;\n")?;
-    push_numbered(&mut text, alloc, "TH12 g?(.B(a),.Z(n?),.A(a));\n", count)?;
-    text.push_str("endmodule\n")?;
-    Ok(text)
+/// Whether a text has too many cells.
+fn is_too_many(rt: &impl Abort, alloc: Global, text: &str) -> bool {
+    matches!(
+        &read(rt, alloc, text),
+        Err(NetFault::Build(BuildFault::TooMany))
+    )
 }
 
 #[test]
-fn many_cells(rt: HostRuntime) -> Result<(), Fail> {
-    let alloc = rt.alloc();
-    let netlist = read(&rt, alloc, cells(alloc, 131_072)?.as_str())?;
+fn as_many_cells_as_may_be(rt: HostRuntime) -> Result<(), Fail> {
+    let text = beside(rt.alloc(), 131_072)?;
+    let netlist = read(&rt, rt.alloc(), text.as_str())?;
     assert_eq!(rt; netlist.cells().len(), 131_072);
-    assert!(rt;
-        matches!(
-            &read(&rt, alloc, cells(alloc, 131_073)?.as_str()),
-            Err(NetFault::Build(BuildFault::TooMany))
-        )
-    );
-    // as many cells as a text can have
-    let text = repeated(
-        alloc,
-        "module m(a);input a;",
-        "TH12 g(.A(a),.B(a),.Z(a));",
-        "endmodule",
-    )?;
-    assert!(rt;
-        matches!(
-            &read(&rt, alloc, text.as_str()),
-            Err(NetFault::Build(BuildFault::TooMany))
-        )
-    );
+    Ok(())
+}
+
+#[test]
+fn a_cell_too_many(rt: HostRuntime) -> Result<(), Fail> {
+    let text = beside(rt.alloc(), 131_073)?;
+    assert!(rt; is_too_many(&rt, rt.alloc(), text.as_str()));
+    Ok(())
+}
+
+#[test]
+fn as_many_cells_as_a_text_can_have(rt: HostRuntime) -> Result<(), Fail> {
+    let cell = "TH12 g(.A(a),.B(a),.Z(a));";
+    let text = repeated(rt.alloc(), "module m(a);input a;", cell, "endmodule")?;
+    assert!(rt; is_too_many(&rt, rt.alloc(), text.as_str()));
     Ok(())
 }
 
 #[test]
 fn many_ports(rt: HostRuntime) -> Result<(), Fail> {
     let alloc = rt.alloc();
-    let mut text = String::from_str(alloc, "module m(a")?;
-    push_numbered(&mut text, alloc, ",p?", 1_000_000)?;
-    text.push_str(");output a;input p")?;
-    push_numbered(&mut text, alloc, "?,p", 999_999)?;
-    text.push_str("999999;")?;
+    let ports = numbered(alloc, ",p", "", 1_000_000)?;
     // an output without a driver
-    text.push_str("endmodule")?;
+    let text = format!(in alloc; "module m(a,b{ports});output a;input b{ports};endmodule")?;
     assert!(rt;
         matches!(
             &read(&rt, alloc, text.as_str()),

@@ -1,41 +1,42 @@
-//! Runs over files in memory, for tests.
-use ncl_base::{Items, MemFile, MemSink, MemSource, Name};
-use ncl_top::run;
+//! Files in memory, for tests.
+use ncl_base::{Items, MemFile, Memory, Name};
 use std::alloc::Global;
-use std::test::Fail;
-use std::thread::Threads;
 
-/// Files with these names and bytes.
-pub fn held(alloc: Global, files: &[(&str, &[u8])]) -> Result<Vec<MemFile>, Fail> {
-    let mut held = Vec::new(alloc);
-    for (name, bytes) in files {
-        held.push(MemFile {
-            name: Name::from_bytes(alloc, name.as_bytes())?,
-            bytes: Items::from_vec(bytes.to_vec(alloc)?),
-        })?;
-    }
-    Ok(held)
-}
+/// Two banks of one bit, joined by wires.
+pub const WIRES: &str = "module t(x1_0,x1_1,ki,rst,z1_0,z1_1,ko);
+input x1_0,x1_1,ki,rst;
+output z1_0,z1_1,ko;
+TH22N r1_0(.A(x1_0),.B(c),.RST(rst),.Z(p1_0));
+TH22N r1_1(.A(x1_1),.B(c),.RST(rst),.Z(p1_1));
+TH12B k1(.A(p1_0),.B(p1_1),.Z(ko));
+TH22N s1_0(.A(p1_0),.B(ki),.RST(rst),.Z(z1_0));
+TH22N s1_1(.A(p1_1),.B(ki),.RST(rst),.Z(z1_1));
+TH12B d1(.A(z1_0),.B(z1_1),.Z(c));
+endmodule
+";
 
-/// The status of these words, and what was written, where the file `f` has these bytes.
-pub fn ask<R: Threads + Sync>(
-    rt: &R,
-    alloc: Global,
-    words: &[&str],
-    bytes: &[u8],
-) -> Result<(u8, Vec<u8>), Fail> {
-    ask_of(rt, alloc, words, &[("f", bytes)])
-}
+/// Three banks of one bit, joined by wires.
+pub const THREE_BANKS: &str = "module three(x1_0,x1_1,ki,rst,z1_0,z1_1,ko);
+input x1_0,x1_1,ki,rst;
+output z1_0,z1_1,ko;
+TH22N r1_0(.A(x1_0),.B(c1),.RST(rst),.Z(p1_0));
+TH22N r1_1(.A(x1_1),.B(c1),.RST(rst),.Z(p1_1));
+TH12B k1(.A(p1_0),.B(p1_1),.Z(ko));
+TH22N q1_0(.A(p1_0),.B(c2),.RST(rst),.Z(v1_0));
+TH22N q1_1(.A(p1_1),.B(c2),.RST(rst),.Z(v1_1));
+TH12B h1(.A(v1_0),.B(v1_1),.Z(c1));
+TH22N s1_0(.A(v1_0),.B(ki),.RST(rst),.Z(z1_0));
+TH22N s1_1(.A(v1_1),.B(ki),.RST(rst),.Z(z1_1));
+TH12B d1(.A(z1_0),.B(z1_1),.Z(c2));
+endmodule
+";
 
-/// The status of these words, and what was written, where these files are held.
-pub fn ask_of<R: Threads + Sync>(
-    rt: &R,
-    alloc: Global,
-    words: &[&str],
-    files: &[(&str, &[u8])],
-) -> Result<(u8, Vec<u8>), Fail> {
-    let mut source = MemSource::new(held(alloc, files)?, 4096, Vec::new(alloc));
-    let mut sink = MemSink::new(alloc, 10_000, 4096, Vec::new(alloc))?;
-    let status = run(rt, alloc, words, &mut source, &mut sink);
-    Ok((status, sink.bytes().to_vec(alloc)?))
+/// The file `f` with these bytes.
+pub fn held(alloc: Global, bytes: Vec<u8>) -> Result<Vec<MemFile>, Memory> {
+    let file = MemFile {
+        name: Name::from_bytes(alloc, b"f")?,
+        bytes: Items::from_vec(bytes),
+    };
+    let files = vec![in alloc; file]?;
+    Ok(files)
 }

@@ -7,21 +7,9 @@
 #[cfg(test)]
 mod asking;
 #[cfg(test)]
-mod demo_tests;
-#[cfg(test)]
 mod edge_tests;
 #[cfg(test)]
-mod function_tests;
-#[cfg(test)]
-mod hostile_tests;
-#[cfg(test)]
-mod netlists;
-#[cfg(test)]
 mod parallel_tests;
-#[cfg(test)]
-mod space_tests;
-#[cfg(test)]
-mod vector_tests;
 
 use ncl_script::carry_out;
 use std::fs;

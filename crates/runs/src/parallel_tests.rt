@@ -1,13 +1,15 @@
-//! That stages are judged side by side, with the answer of one thread.
-use crate::asking::held;
-use crate::netlists::{netlist_of, three_banks};
+//! Judges of the tests' own: that stages are judged side by side, and each once. And a source and a sink that can't fail.
+ghost use Rattle.std.specs.Prelude.{◌≢◌};
+
+use crate::asking::{THREE_BANKS, held};
 use ncl_base::{Memory, NullSink, SteadySource};
-use ncl_shape::{Stage, shape};
+use ncl_shape::Stage;
 use ncl_top::run_by;
-use ncl_verdict::{Judge, Stages, Verdict, judge_par, judge_stage};
+use ncl_verdict::{Judge, Stages, Verdict, judge_stage};
 use std::alloc::Global;
 use std::sync::atomic::{AtomicBool, AtomicUsize, Ordering};
 use std::test::Fail;
+use std::thread::Threads;
 
 /// Judges the first and the second stage once it has seen that the other is being judged.
 #[derive(Drop)]
@@ -54,67 +56,72 @@ impl Judge for Meeting {
     }
 }
 
+/// Judges stages, and counts them.
+#[derive(Drop)]
+struct Counting {
+    judged: AtomicUsize,
+}
+
+impl Judge for Counting {
+    fn judge_one(&self, alloc: Global, stage: &Stage, limit: u32) -> Result<Verdict, Memory> {
+        self.judged.fetch_add(1, Ordering::SeqCst);
+        judge_stage(alloc, stage, limit)
+    }
+}
+
+/// The status where neither the source nor the sink can fail.
+fn steady_status<R: Threads + Sync, J: Judge + Sync>(
+    rt: &R,
+    alloc: Global,
+    words: &[&str],
+    source: &mut SteadySource,
+    judge: &J,
+) -> u8
+    ensures read { result ≢ 4 }
+    ensures write { result ≢ 5 }
+{
+    run_by(rt, alloc, words, source, &mut NullSink::new(), judge)
+}
+
+/// Three banks in the file `f` of a source that can't fail.
+fn three_banks(alloc: Global) -> Result<SteadySource, Memory> {
+    let bytes = THREE_BANKS.as_bytes().to_vec(alloc)?;
+    let files = held(alloc, bytes)?;
+    Ok(SteadySource::new(files))
+}
+
+#[test]
+fn an_absent_file_of_a_steady_source_is_empty(rt: HostRuntime) -> Result<(), Fail> {
+    let mut source = three_banks(rt.alloc())?;
+    for (file, status) in [("f", 0), ("absent", 3), ("f", 0)] {
+        let got = steady_status(&rt, rt.alloc(), &["check", file], &mut source, &Stages);
+        assert_eq!(rt; got, status, "{file}");
+    }
+    Ok(())
+}
+
 #[test]
 fn two_stages_are_judged_at_one_time(rt: HostRuntime) -> Result<(), Fail> {
-    let text = three_banks(rt.alloc(), "", "")?;
-    let netlist = netlist_of(rt.alloc(), &text)?;
-    let pipeline = shape(rt.alloc(), &netlist)?;
-    let judge = Meeting::new();
-    let verdict = judge_par(&rt, rt.alloc(), &judge, &pipeline, 100_000, 2)?;
-    assert!(rt; matches!(&verdict, Verdict::Accepted));
-    let met = judge.met.load(Ordering::SeqCst);
-    assert_eq!(rt; met, 2);
-    Ok(())
-}
-
-#[test]
-fn the_program_judges_two_stages_at_one_time(rt: HostRuntime) -> Result<(), Fail> {
-    let text = three_banks(rt.alloc(), "", "")?;
-    let mut source = SteadySource::new(held(rt.alloc(), &[("f", text.as_bytes())])?);
-    let judge = Meeting::new();
-    let words = ["check", "f"];
-    let mut sink = NullSink::new();
-    let status = run_by(&rt, rt.alloc(), &words, &mut source, &mut sink, &judge);
-    assert_eq!(rt; status, 0);
-    let met = judge.met.load(Ordering::SeqCst);
-    assert_eq!(rt; met, 2);
-    Ok(())
-}
-
-/// The number of the stage in which an orphan is told.
-fn stage_of_orphan(verdict: &Verdict) -> Option<u32> {
-    match verdict {
-        Verdict::Orphan { stage, .. } => Some(*stage),
-        _ => None,
-    }
-}
-
-#[test]
-fn as_many_parts_as_there_may_be_answer_as_one(rt: HostRuntime) -> Result<(), Fail> {
-    let first = "TH12 u1(.A(p1_0),.B(p1_1),.Z(n1));\n";
-    let second = "TH12 u2(.A(v1_0),.B(v1_1),.Z(n2));\n";
-    for (front, wanted) in [(first, 1u32), ("", 2)] {
-        let text = three_banks(rt.alloc(), front, second)?;
-        let netlist = netlist_of(rt.alloc(), &text)?;
-        let pipeline = shape(rt.alloc(), &netlist)?;
-        for parts in 1u32..17 {
-            let verdict = judge_par(&rt, rt.alloc(), &Stages, &pipeline, 100_000, parts)?;
-            let stage = stage_of_orphan(&verdict);
-            assert_eq!(rt; stage, Some(wanted), "{parts}");
-        }
+    let mut source = three_banks(rt.alloc())?;
+    for words in [["check", "f"], ["demo", "2"]] {
+        let judge = Meeting::new();
+        let status = steady_status(&rt, rt.alloc(), &words, &mut source, &judge);
+        assert_eq!(rt; status, 0);
+        let met = judge.met.load(Ordering::SeqCst);
+        assert_eq!(rt; met, 2);
     }
     Ok(())
 }
 
+// A stage that is accepted isn't noted as refused, so those behind it are judged too.
 #[test]
-fn a_demo_has_two_stages_judged_at_one_time(rt: HostRuntime) -> Result<(), Fail> {
+fn accepted_stages_are_judged_once(rt: HostRuntime) {
     let mut source = SteadySource::new(Vec::new(rt.alloc()));
-    let judge = Meeting::new();
-    let words = ["demo", "2"];
-    let mut sink = NullSink::new();
-    let status = run_by(&rt, rt.alloc(), &words, &mut source, &mut sink, &judge);
+    let judge = Counting {
+        judged: AtomicUsize::new(0),
+    };
+    let status = steady_status(&rt, rt.alloc(), &["demo", "8"], &mut source, &judge);
     assert_eq!(rt; status, 0);
-    let met = judge.met.load(Ordering::SeqCst);
-    assert_eq!(rt; met, 2);
-    Ok(())
+    let judged = judge.judged.load(Ordering::SeqCst);
+    assert_eq!(rt; judged, 8);
 }

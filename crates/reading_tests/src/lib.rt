@@ -6,6 +6,8 @@ mod delay_tests;
 #[cfg(test)]
 mod fault_tests;
 #[cfg(test)]
+mod hostile_tests;
+#[cfg(test)]
 mod numbered;
 #[cfg(test)]
 mod reader_speed_tests;

@@ -8,6 +8,8 @@ mod diagram_tests;
 #[cfg(test)]
 mod orphan_tests;
 #[cfg(test)]
+mod plain_tests;
+#[cfg(test)]
 mod report_tests;
 #[cfg(test)]
 mod stage_tests;

@@ -22,9 +22,6 @@ use ncl_gates::Kind;
 use std::alloc::Global;
 use std::marker::Model;
 
-#[cfg(test)]
-mod tests;
-
 // The function that is 0 everywhere.
 const ZERO: Ref = Ref { place: 0 };
 

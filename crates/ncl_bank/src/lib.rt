@@ -5,7 +5,5 @@ mod cells;
 mod completion;
 mod nets;
 mod parts;
-#[cfg(test)]
-mod tests;
 
 pub use parts::{BankParts, bank_parts};

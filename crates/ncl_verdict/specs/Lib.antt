@@ -1,4 +1,3 @@
 pub mod Judgement
 pub mod InSpace
 pub mod Within
-pub mod CellOrders

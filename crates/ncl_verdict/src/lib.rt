@@ -7,8 +7,6 @@ mod in_space;
 mod judging;
 pub mod laws;
 mod parallel;
-#[cfg(test)]
-mod tests;
 mod verdict;
 
 pub use in_space::first_answer;

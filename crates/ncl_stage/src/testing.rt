@@ -2,8 +2,7 @@
 //! space that counts the gates that are asked of it.
 ghost use Rattle.std.specs.Prelude.{◌≡◌, ◌≤◌, IfOk, length};
 ghost use Rattle.ncl_space.specs.Plain.{plain_space};
-ghost use Rattle.ncl_shape.specs.Stage.{IsStage};
-ghost use Rattle.ncl_stage.specs.Examples.{adder_stage, and_stage, beside_gate, gate, rails, straight_stage, swapped_stage, unmet_stage};
+ghost use Rattle.ncl_stage.specs.Examples.{adder_stage, and_stage, gate, rails, unmet_stage};
 
 use arrayvec::ArrayVec;
 use ncl_base::{Items, Memory, Word};
@@ -42,38 +41,6 @@ pub fn full_adder(alloc: Global) -> Result<Stage, Memory>
     let sum_one = cell(12, Kind::Th34w2, &[6, 1, 3, 5], 9);
     let cells = vec![in alloc; carry_zero, carry_one, sum_zero, sum_one]?;
     let outputs = vec![in alloc; pair(6, 7), pair(8, 9)]?;
-    Ok(Stage::new(
-        1,
-        Items::from_vec(inputs),
-        Items::from_vec(cells),
-        Items::from_vec(outputs),
-    ))
-}
-
-/// Wires from the second of two bits and from the first, and a gate that no output observes. An error is want of memory.
-pub fn swapped_bits(alloc: Global) -> Result<Stage, Memory>
-    ensures { IfOk result (λ stage. stage ≡ swapped_stage) }
-{
-    let outputs = vec![in alloc; pair(2, 3), pair(0, 1)]?;
-    beside_a_gate(alloc, outputs)
-}
-
-/// The same with the wires in the order of the bits. An error is want of memory.
-pub fn straight_bits(alloc: Global) -> Result<Stage, Memory>
-    ensures { IfOk result (λ stage. stage ≡ straight_stage) }
-{
-    let outputs = vec![in alloc; pair(0, 1), pair(2, 3)]?;
-    beside_a_gate(alloc, outputs)
-}
-
-// Outputs beside a gate of two bits.
-fn beside_a_gate(alloc: Global, outputs: Vec<Rails>) -> Result<Stage, Memory>
-    requires { IsStage (beside_gate outputs.items) }
-    ensures { IfOk result (λ stage. stage ≡ beside_gate outputs.items) }
-{
-    let inputs = vec![in alloc; pair(0, 1), pair(2, 3)]?;
-    let gate = cell(6, Kind::Th24comp, &[0, 2, 1, 3], 4);
-    let cells = vec![in alloc; gate]?;
     Ok(Stage::new(
         1,
         Items::from_vec(inputs),

@@ -126,35 +126,59 @@ fn an_acknowledge_is_1_where_both_inputs_are_0(rt: HostRuntime) {
 }
 
 #[test]
-fn names_and_pins(rt: HostRuntime) {
-    for (kind, name, arity, _) in GATES {
-        let cell = CellKind::Gate(kind);
-        let pins: &[&[u8]] = match arity {
-            2 => &[b"A", b"B", b"Z"],
-            3 => &[b"A", b"B", b"C", b"Z"],
-            _ => &[b"A", b"B", b"C", b"D", b"Z"],
-        };
-        assert_eq!(rt; kind.arity(), arity, "{kind:?}");
+fn gates_have_names(rt: HostRuntime) {
+    for (kind, name, _, _) in GATES {
         assert!(rt; kind.name() == name, "{kind:?}");
         assert_eq!(rt; Kind::from_name(name), Some(kind));
+    }
+}
+
+#[test]
+fn cells_have_the_names_of_their_gates(rt: HostRuntime) {
+    for (kind, name, _, _) in GATES {
+        let cell = CellKind::Gate(kind);
         assert!(rt; cell.name() == name, "{kind:?}");
         assert_eq!(rt; CellKind::from_name(name), Some(cell));
-        assert!(rt; cell.pins() == pins, "{kind:?}");
     }
+}
 
-    let register_pins: &[&[u8]] = &[b"A", b"B", b"RST", b"Z"];
-    let others: [(CellKind, &[u8], &[&[u8]]); 3] = [
-        (CellKind::Register, b"TH22N", register_pins),
-        (CellKind::RegisterData, b"TH22D", register_pins),
-        (CellKind::Ack, b"TH12B", &[b"A", b"B", b"Z"]),
-    ];
-    for (cell, name, pins) in others {
+/// The pins of a gate of so many inputs.
+fn pins_of(arity: usize) -> &'static [&'static [u8]] {
+    match arity {
+        2 => &[b"A", b"B", b"Z"],
+        3 => &[b"A", b"B", b"C", b"Z"],
+        _ => &[b"A", b"B", b"C", b"D", b"Z"],
+    }
+}
+
+#[test]
+fn gates_have_pins(rt: HostRuntime) {
+    for (kind, _, arity, _) in GATES {
+        assert_eq!(rt; kind.arity(), arity, "{kind:?}");
+        assert!(rt; CellKind::Gate(kind).pins() == pins_of(arity), "{kind:?}");
+    }
+}
+
+const REGISTER_PINS: &[&[u8]] = &[b"A", b"B", b"RST", b"Z"];
+
+const OTHERS: [(CellKind, &[u8], &[&[u8]]); 3] = [
+    (CellKind::Register, b"TH22N", REGISTER_PINS),
+    (CellKind::RegisterData, b"TH22D", REGISTER_PINS),
+    (CellKind::Ack, b"TH12B", &[b"A", b"B", b"Z"]),
+];
+
+#[test]
+fn other_cells_have_names_and_pins(rt: HostRuntime) {
+    for (cell, name, pins) in OTHERS {
         assert!(rt; cell.name() == name, "{cell:?}");
         assert_eq!(rt; CellKind::from_name(name), Some(cell));
         assert!(rt; cell.pins() == pins, "{cell:?}");
         assert_eq!(rt; Kind::from_name(name), None);
     }
+}
 
+#[test]
+fn other_names_are_no_cells(rt: HostRuntime) {
     let none: [&[u8]; 10] = [
         b"TH11",
         b"th22",

@@ -17,3 +17,4 @@ mod Demonstrated
 mod SimReplies
 mod Refusals
 mod MergedModels
+mod Answered

@@ -5,3 +5,4 @@ pub mod Matching
 pub mod Demonstrating
 pub mod Answer
 pub mod Replies
+pub mod Answered

@@ -1,8 +1,8 @@
 //! The top call: all that the program does, between a source of files and a sink of bytes.
 ghost use Rattle.std.specs.Prelude.{◌≡◌, ◌≤◌, map};
-ghost use Rattle.ncl_base.specs.Files.{Rose};
 ghost use Rattle.ncl_command.specs.Command.{AllowsNamed};
-ghost use Rattle.ncl_top.specs.Answer.{Says, CameOut, Ran, AnswersUnlessFaults, AnswersExactly, AcceptsWhatWorks, CompilesWhatWorks, SimulatesWhatWorks, MatchesWhatIsSame};
+ghost use Rattle.ncl_top.specs.Answer.{Says, CameOut, AcceptsWhatWorks};
+ghost use Rattle.ncl_top.specs.Answered.{IsAnswered};
 ghost use Rattle.ncl_top.specs.Replies.{Gives};
 
 use crate::reply::{Fault, Reply, carry_out};
@@ -22,10 +22,10 @@ use std::thread::Threads;
 /// be judged or an output to be compared; 7 where memory was refused; and 8 where a run has as many steps as it may and
 /// could go on.
 ///
-/// A netlist that is accepted works at every gate delay: clause `headline`. So does one that is compiled, and `check`
-/// accepts it: clause `compiles`. A run of a netlist of sound stages ends with status 0 at whatever delays: clause
-/// `simulates`. Models that match a netlist give what it gives at each word: clause `matches`. Costs what the command
-/// costs, and a pass over the text. Stages are judged, and outputs compared, by up to four threads.
+/// A netlist that is accepted works at every gate delay: clause `headline`. `IsAnswered` says all that a call keeps, of
+/// which that is a part. What is compiled works too, and `check` accepts it: `compiles`. A run of a netlist of sound stages ends with status 0 at
+/// whatever delays: `simulates`. Models that match a netlist give what it gives at each word: `matches`. Costs what the
+/// command costs, and a pass over the text. Stages are judged, and outputs compared, by up to four threads.
 pub fn run<R: Threads + Sync, S: Source, K: Sink>(
     rt: &R,
     alloc: Global,
@@ -34,44 +34,16 @@ pub fn run<R: Threads + Sync, S: Source, K: Sink>(
     sink: &mut K,
 ) -> u8
     requires { AllowsNamed (S.allowed source.old) (map (λ word. word.now) words.now) }
-    ensures ran { Ran (map (λ word. word.now) words.now)
+    ensures answered { IsAnswered (map (λ word. word.now) words.now)
         (record { files = S.files source.old; faults = S.faults source.old })
         (record { files = S.files source.new; faults = S.faults source.new })
-        (record { written = K.written sink.old; faults = K.faults sink.old })
-        (record { written = K.written sink.new; faults = K.faults sink.new })
-        result }
-    ensures complete { AnswersUnlessFaults (map (λ word. word.now) words.now)
-        (record { files = S.files source.old; faults = S.faults source.old })
-        (record { files = S.files source.new; faults = S.faults source.new })
-        (record { written = K.written sink.old; faults = K.faults sink.old })
-        (record { written = K.written sink.new; faults = K.faults sink.new })
-        result }
-    ensures exact { AnswersExactly (map (λ word. word.now) words.now)
-        (record { files = S.files source.old; faults = S.faults source.old })
         (record { written = K.written sink.old; faults = K.faults sink.old })
         (record { written = K.written sink.new; faults = K.faults sink.new })
         result }
     ensures headline { AcceptsWhatWorks (map (λ word. word.now) words.now)
         (record { files = S.files source.old; faults = S.faults source.old })
         result }
-    ensures compiles { CompilesWhatWorks (map (λ word. word.now) words.now)
-        (record { written = K.written sink.old; faults = K.faults sink.old })
-        (record { written = K.written sink.new; faults = K.faults sink.new })
-        result }
-    ensures simulates { SimulatesWhatWorks (map (λ word. word.now) words.now)
-        (record { files = S.files source.old; faults = S.faults source.old })
-        (record { written = K.written sink.old; faults = K.faults sink.old })
-        (record { written = K.written sink.new; faults = K.faults sink.new })
-        result }
-    ensures matches { MatchesWhatIsSame (map (λ word. word.now) words.now)
-        (record { files = S.files source.old; faults = S.faults source.old })
-        result }
-    ensures read_failed { result ≡ 4 → Rose (S.faults source.old) (S.faults source.new) }
-    ensures write_failed { result ≡ 5 → Rose (K.faults sink.old) (K.faults sink.new) }
-    ensures files { S.files source.new ≡ S.files source.old }
     ensures allowed { S.allowed source.new ≡ S.allowed source.old }
-    ensures source_faults { S.faults source.old ≤ S.faults source.new }
-    ensures sink_faults { K.faults sink.old ≤ K.faults sink.new }
 {
     run_by(rt, alloc, words, source, sink, &Stages)
 }
@@ -86,44 +58,13 @@ pub fn run_by<R: Threads + Sync, S: Source, K: Sink, J: Judge + Sync>(
     judge: &J,
 ) -> u8
     requires { AllowsNamed (S.allowed source.old) (map (λ word. word.now) words.now) }
-    ensures ran { Ran (map (λ word. word.now) words.now)
+    ensures answered { IsAnswered (map (λ word. word.now) words.now)
         (record { files = S.files source.old; faults = S.faults source.old })
         (record { files = S.files source.new; faults = S.faults source.new })
         (record { written = K.written sink.old; faults = K.faults sink.old })
         (record { written = K.written sink.new; faults = K.faults sink.new })
         result }
-    ensures complete { AnswersUnlessFaults (map (λ word. word.now) words.now)
-        (record { files = S.files source.old; faults = S.faults source.old })
-        (record { files = S.files source.new; faults = S.faults source.new })
-        (record { written = K.written sink.old; faults = K.faults sink.old })
-        (record { written = K.written sink.new; faults = K.faults sink.new })
-        result }
-    ensures exact { AnswersExactly (map (λ word. word.now) words.now)
-        (record { files = S.files source.old; faults = S.faults source.old })
-        (record { written = K.written sink.old; faults = K.faults sink.old })
-        (record { written = K.written sink.new; faults = K.faults sink.new })
-        result }
-    ensures headline { AcceptsWhatWorks (map (λ word. word.now) words.now)
-        (record { files = S.files source.old; faults = S.faults source.old })
-        result }
-    ensures compiles { CompilesWhatWorks (map (λ word. word.now) words.now)
-        (record { written = K.written sink.old; faults = K.faults sink.old })
-        (record { written = K.written sink.new; faults = K.faults sink.new })
-        result }
-    ensures simulates { SimulatesWhatWorks (map (λ word. word.now) words.now)
-        (record { files = S.files source.old; faults = S.faults source.old })
-        (record { written = K.written sink.old; faults = K.faults sink.old })
-        (record { written = K.written sink.new; faults = K.faults sink.new })
-        result }
-    ensures matches { MatchesWhatIsSame (map (λ word. word.now) words.now)
-        (record { files = S.files source.old; faults = S.faults source.old })
-        result }
-    ensures read_failed { result ≡ 4 → Rose (S.faults source.old) (S.faults source.new) }
-    ensures write_failed { result ≡ 5 → Rose (K.faults sink.old) (K.faults sink.new) }
-    ensures files { S.files source.new ≡ S.files source.old }
     ensures allowed { S.allowed source.new ≡ S.allowed source.old }
-    ensures source_faults { S.faults source.old ≤ S.faults source.new }
-    ensures sink_faults { K.faults sink.old ≤ K.faults sink.new }
 {
     match answer(rt, alloc, words, source, judge) {
         Reply::Made(status, text) => tell(sink, status, &text),

@@ -1,4 +1,4 @@
--- What `clap` does after the last word of a form: no defaults, and the check of what is needed.
+-- What `clap` does after the last argument of a form: no defaults, and the check of what is needed.
 use Rattle.std.proofs.Common.{◌≡◌, ◌∙◌, ℕ, ◌+◌, ◌++◌, Bool, true, false, List, [], ◌∷◌, Option, Some, None, map, refl, sym, ap, ap₂, not, slice_get, true≢false, ◌&&◌, ◌||◌, if◌then◌else◌}
 use Rattle.std.specs.List.{list_all, list_any, fold}
 use Rattle.std.specs.Str.{bytes_eq}
@@ -97,7 +97,7 @@ used_more (r ∷ have) more name default = by (bytes_eq r.id name) refl (used_mo
     by true e rest = rw e refl
     by false e rest = rw e rest
 
--- defaults are not of the words
+-- defaults are not of the arguments
 used_as_before : (have : List Row) (id : Text) (required flag : Bool) (name : Text)
     → is_used name (with_default have (any_arg id (Some id) None required flag)) ≡ is_used name have
 used_as_before have id required false name = ap (is_used name) (no_default have id (Some id) None required)
@@ -167,7 +167,7 @@ options_end have (option ∷ options) name =
     options_end (with_default have (option_arg option)) options name
     ∙ ends_one have option.name option.is_needed option.is_flag name (is_flag options name)
 
--- so the rows at the end have the values that the words say
+-- so the rows at the end have the values that the arguments say
 pub value_is : (form : Form) (given : List NamedValue) (name : Text) → first_of name (fold with_default (rows given) (args form)) ≡ value_given form given name
 value_is form given name =
     ap (first_of name) (places_stay (rows given) 1 form.places (map option_arg form.options)) ∙ options_end (rows given) form.options name

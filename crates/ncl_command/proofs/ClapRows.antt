@@ -33,7 +33,7 @@ pub has_row_is : (given : List NamedValue) (name : Text) → has_row name (rows 
 has_row_is [] name = refl
 has_row_is (one ∷ given) name = ap (λ b. bytes_eq one.name name || b) (has_row_is given name)
 
--- a row was made by the words where its name has a value
+-- a row was made by the arguments where its name has a value
 pub is_used_is : (given : List NamedValue) (name : Text) → is_used name (rows given) ≡ is_given given name
 is_used_is [] name = refl
 is_used_is (one ∷ given) name = by (bytes_eq one.name name) refl (is_used_is given name)

@@ -1,4 +1,4 @@
--- `clap` reads the words of a form as the definition says.
+-- `clap` reads the arguments of a form as the definition says.
 use Rattle.std.proofs.Common.{◌≡◌, ◌∙◌, ℕ, ◌+◌, length, min, arith, Bool, true, false, List, [], ◌∷◌, ◌++◌, Option, Some, None, refl, sym, ap, ap₂, subst, not, is_some, if◌then◌else◌, true≢false}
 use Rattle.std.specs.Prelude.{option_and_then}
 use Rattle.std.specs.List.{list_any, fold}
@@ -12,15 +12,15 @@ use Rattle.clap.specs.Walk.{settled as settled_held}
 use Rattle.clap.specs.Faults.{built_fault, entered_fault, fault_of, level_fault, check_fault, defaults_fault, long_fault, option_fault, positional_fault, settle_fault, step_fault, stray_fault, turn_fault, use_fault, walk_fault}
 use Rattle.clap.specs.Simple.{App, entered, matches_of, names_of}
 use Rattle.clap.specs.Kinds.{Kinds, or_else, check_kinds}
-use Rattle.ncl_command.specs.Reading.{Text, Words, Form, FormOption, NamedValue, Reading, WordKind, Refused, Plain, Named, Valued, after_name, after_value, given_flag, is_given, has_option, option_named, has_needed, kind_of}
-use Rattle.ncl_command.specs.Reading.{is_refused, is_refused_kind, after_kind, value_kind, put_value, put_next, read_on, read_words, settled, with_value, with_waiting}
+use Rattle.ncl_command.specs.Reading.{Text, Arguments, Form, FormOption, NamedValue, Reading, ArgumentKind, Refused, Plain, Named, Valued, after_name, after_value, given_flag, is_given, has_option, option_named, has_needed, kind_of}
+use Rattle.ncl_command.specs.Reading.{is_refused, is_refused_kind, after_kind, value_kind, put_value, put_next, read_on, read_arguments, settled, with_value, with_waiting}
 use Rattle.ncl_command.specs.Rules.{app_for, app_with}
 use Rattle.ncl_command.proofs.FormRules.{AreFew, any_arg, arg, flag_arg, args, built_is, counted_on, place_arg, shape}
 use Rattle.ncl_command.proofs.ClapEnds.{check_is, defaults_pass}
 use Rattle.ncl_command.proofs.ClapFinds.{IsFound, IsPlace, known_found, next_place, no_next_place, none_first, place_found, unknown_missed}
 use Rattle.ncl_command.proofs.ClapRows.{flag_passes, flag_repeats, flag_used_is, named, rows, use_passes, use_repeats, used_is}
 use Rattle.ncl_command.proofs.ClapSteps.{Pending, at, held, long_turn, long_walked, plain_turn, plain_walked, value_turn, value_walked}
-use Rattle.ncl_command.proofs.ClapWords.{IsLong, IsPlain, IsSeen, seen}
+use Rattle.ncl_command.proofs.ClapArguments.{IsLong, IsPlain, IsSeen, seen}
 
 -- there is a fault
 abbrev pub Fails : Kinds → Type 0
@@ -31,49 +31,49 @@ fails_first : (a b : Kinds) → Fails a → Fails (or_else a b)
 fails_first [] b fails = absurd fails
 fails_first (k ∷ kinds) b fails = tt
 
--- what fails after the last word
+-- what fails after the last argument
 unfoldable pub end_fault : List Rule → Held → Kinds
 end_fault c h =
     or_else (settle_fault c false h)
     (or_else (defaults_fault (settled_held c h).rows c) (check_fault (shape c) (finished c h) false))
 
--- what fails in the words that are left, and the rows at the end of them
-unfoldable pub rest_fault : List Rule → Walk → Words → Kinds
-rest_fault c w words = or_else (walk_fault (shape c) [] w words) (end_fault c (fold (walked c []) w words).held)
+-- what fails in the arguments that are left, and the rows at the end of them
+unfoldable pub rest_fault : List Rule → Walk → Arguments → Kinds
+rest_fault c w arguments = or_else (walk_fault (shape c) [] w arguments) (end_fault c (fold (walked c []) w arguments).held)
 
-unfoldable pub rest_rows : List Rule → Walk → Words → List Row
-rest_rows c w words = finished c (fold (walked c []) w words).held
+unfoldable pub rest_rows : List Rule → Walk → Arguments → List Row
+rest_rows c w arguments = finished c (fold (walked c []) w arguments).held
 
--- a walk from here on fails where the words are of no form, and else has the rows of what they give
+-- a walk from here on fails where the arguments are of no form, and else has the rows of what they give
 -- with the rows of what they give, and of the flags that they don't give
 abbrev pub ended : List Rule → List NamedValue → List Row
 ended c given = fold with_default (rows given) c
 
-abbrev pub Takes : List Rule → Option (List NamedValue) → Walk → Words → Type 0
-Takes c None w words = Fails (rest_fault c w words)
-Takes c (Some given) w words = (rest_fault c w words ≡ []) × (rest_rows c w words ≡ ended c given)
+abbrev pub Takes : List Rule → Option (List NamedValue) → Walk → Arguments → Type 0
+Takes c None w arguments = Fails (rest_fault c w arguments)
+Takes c (Some given) w arguments = (rest_fault c w arguments ≡ []) × (rest_rows c w arguments ≡ ended c given)
 
 -- a step that passes leaves all to the steps after it
-fault_on : (c : List Rule) (w after : Walk) (word : Text) (words : Words) → turn_fault (shape c) [] w word ≡ [] → walked c [] w word ≡ after
-    → rest_fault c w (word ∷ words) ≡ rest_fault c after words
+fault_on : (c : List Rule) (w after : Walk) (argument : Text) (arguments : Arguments) → turn_fault (shape c) [] w argument ≡ [] → walked c [] w argument ≡ after
+    → rest_fault c w (argument ∷ arguments) ≡ rest_fault c after arguments
 unfolding rest_fault walk_fault
-fault_on c w after word words passes is =
-    ap₂ (λ kinds v. or_else (or_else kinds (walk_fault (shape c) [] v words)) (end_fault c (fold (walked c []) v words).held)) passes is
+fault_on c w after argument arguments passes is =
+    ap₂ (λ kinds v. or_else (or_else kinds (walk_fault (shape c) [] v arguments)) (end_fault c (fold (walked c []) v arguments).held)) passes is
 
-rows_on : (c : List Rule) (w after : Walk) (word : Text) (words : Words) → walked c [] w word ≡ after → rest_rows c w (word ∷ words) ≡ rest_rows c after words
+rows_on : (c : List Rule) (w after : Walk) (argument : Text) (arguments : Arguments) → walked c [] w argument ≡ after → rest_rows c w (argument ∷ arguments) ≡ rest_rows c after arguments
 unfolding rest_rows
-rows_on c w after word words is = ap (λ v. finished c (fold (walked c []) v words).held) is
+rows_on c w after argument arguments is = ap (λ v. finished c (fold (walked c []) v arguments).held) is
 
-step_on : (c : List Rule) (o : Option (List NamedValue)) (w after : Walk) (word : Text) (words : Words)
-    → turn_fault (shape c) [] w word ≡ [] → walked c [] w word ≡ after → Takes c o after words → Takes c o w (word ∷ words)
-step_on c None w after word words passes is fails = subst Fails (sym (fault_on c w after word words passes is)) fails
-step_on c (Some given) w after word words passes is takes =
-    (fault_on c w after word words passes is ∙ takes.0, rows_on c w after word words is ∙ takes.1)
+step_on : (c : List Rule) (o : Option (List NamedValue)) (w after : Walk) (argument : Text) (arguments : Arguments)
+    → turn_fault (shape c) [] w argument ≡ [] → walked c [] w argument ≡ after → Takes c o after arguments → Takes c o w (argument ∷ arguments)
+step_on c None w after argument arguments passes is fails = subst Fails (sym (fault_on c w after argument arguments passes is)) fails
+step_on c (Some given) w after argument arguments passes is takes =
+    (fault_on c w after argument arguments passes is ∙ takes.0, rows_on c w after argument arguments is ∙ takes.1)
 
 -- a step that fails is the end
-step_fails : (c : List Rule) (w : Walk) (word : Text) (words : Words) → Fails (turn_fault (shape c) [] w word) → Fails (rest_fault c w (word ∷ words))
+step_fails : (c : List Rule) (w : Walk) (argument : Text) (arguments : Arguments) → Fails (turn_fault (shape c) [] w argument) → Fails (rest_fault c w (argument ∷ arguments))
 unfolding rest_fault walk_fault
-step_fails c w word words fails = fails_first _ _ (fails_first _ _ fails)
+step_fails c w argument arguments fails = fails_first _ _ (fails_first _ _ fails)
 
 -- what is read or waits fails at the end
 settle_fails : (c : List Rule) (w : Walk) → Fails (settle_fault c false w.held) → Fails (rest_fault c w [])
@@ -90,11 +90,11 @@ after done = 1 + length done
 
 module _ (form : Form) (alone : list_any (has_option form) form.places ≡ false) (few : AreFew form) where
   -- where what was read fails, a flag makes it fail
-  flag_fails : (have : List Row) (pending : Pending) (waiting : Waiting) (position : ℕ) (word name : Text) (v : Option Text)
-      → subcommand_met [] waiting word ≡ None → IsLong word name v → Fails (settle_fault (args form) false (held have pending))
-      → Fails (turn_fault (shape (args form)) [] (at have pending waiting position) word)
-  flag_fails have pending waiting position word name v no_command long fails =
-      subst Fails (sym (long_turn (args form) have pending waiting position word name v no_command long))
+  flag_fails : (have : List Row) (pending : Pending) (waiting : Waiting) (position : ℕ) (argument name : Text) (v : Option Text)
+      → subcommand_met [] waiting argument ≡ None → IsLong argument name v → Fails (settle_fault (args form) false (held have pending))
+      → Fails (turn_fault (shape (args form)) [] (at have pending waiting position) argument)
+  flag_fails have pending waiting position argument name v no_command long fails =
+      subst Fails (sym (long_turn (args form) have pending waiting position argument name v no_command long))
       (fails_first _ _ (by (option_named form name) refl))
     where
       known : (required flag : Bool) (v : Option Text) → Fails (long_fault (args form) false (Some (any_arg name (Some name) None required flag)) v (held have pending))
@@ -109,11 +109,11 @@ module _ (form : Form) (alone : list_any (has_option form) form.places ≡ false
           subst (λ o. Fails (long_fault (args form) false o v (held have pending))) (sym found.long) (known found.required one.is_flag v)
       by None e = subst (λ o. Fails (long_fault (args form) false o v (held have pending))) (sym (unknown_missed form name e)) tt
 
-  -- and so does a word that is no flag
-  plain_fails : (have : List Row) (pending : Pending) (done left : List Text) (word : Text) → done ++ left ≡ form.places → IsPlain word
-      → Fails (settle_fault (args form) false (held have pending)) → Fails (turn_fault (shape (args form)) [] (at have pending idle (after done)) word)
-  plain_fails have pending done left word is plain fails =
-      subst Fails (sym (plain_turn (args form) have pending (after done) word plain)) (by left is)
+  -- and so does an argument that is no flag
+  plain_fails : (have : List Row) (pending : Pending) (done left : List Text) (argument : Text) → done ++ left ≡ form.places → IsPlain argument
+      → Fails (settle_fault (args form) false (held have pending)) → Fails (turn_fault (shape (args form)) [] (at have pending idle (after done)) argument)
+  plain_fails have pending done left argument is plain fails =
+      subst Fails (sym (plain_turn (args form) have pending (after done) argument plain)) (by left is)
     where
       by : (left : List Text) → done ++ left ≡ form.places → Fails (step_fault (shape (args form)) (after done) (held have pending) to_place)
       by [] is = subst (λ o. Fails (option_map_or (λ a. positional_fault (args form) false a (held have pending)) o (stray_fault (shape (args form))))) (sym (no_next_place form done is)) tt
@@ -122,36 +122,36 @@ module _ (form : Form) (alone : list_any (has_option form) form.places ≡ false
           (subst Fails (sym (place_settles (args form) (after done) place (held have pending))) fails)
 
   -- so all is lost where what was read fails
-  lost : (words : Words) (have : List Row) (pending : Pending) (done left : List Text) → done ++ left ≡ form.places → list_any is_refused words ≡ false
-      → Fails (settle_fault (args form) false (held have pending)) → Fails (rest_fault (args form) (at have pending idle (after done)) words)
+  lost : (arguments : Arguments) (have : List Row) (pending : Pending) (done left : List Text) → done ++ left ≡ form.places → list_any is_refused arguments ≡ false
+      → Fails (settle_fault (args form) false (held have pending)) → Fails (rest_fault (args form) (at have pending idle (after done)) arguments)
   lost [] have pending done left is readable fails = settle_fails (args form) _ fails
-  lost (word ∷ words) have pending done left is readable fails =
-      step_fails (args form) _ word words (by (kind_of word) (seen word) (none_first (is_refused word) (list_any is_refused words) readable).0)
+  lost (argument ∷ arguments) have pending done left is readable fails =
+      step_fails (args form) _ argument arguments (by (kind_of argument) (seen argument) (none_first (is_refused argument) (list_any is_refused arguments) readable).0)
     where
-      by : (k : WordKind) → IsSeen word k → is_refused_kind k ≡ false → Fails (turn_fault (shape (args form)) [] (at have pending idle (after done)) word)
+      by : (k : ArgumentKind) → IsSeen argument k → is_refused_kind k ≡ false → Fails (turn_fault (shape (args form)) [] (at have pending idle (after done)) argument)
       by Refused sees readable = absurd (true≢false readable)
-      by Plain sees readable = plain_fails have pending done left word is sees fails
-      by (Named name) sees readable = flag_fails have pending idle (after done) word name None refl sees fails
-      by (Valued name v) sees readable = flag_fails have pending idle (after done) word name (Some v) refl sees fails
+      by Plain sees readable = plain_fails have pending done left argument is sees fails
+      by (Named name) sees readable = flag_fails have pending idle (after done) argument name None refl sees fails
+      by (Valued name v) sees readable = flag_fails have pending idle (after done) argument name (Some v) refl sees fails
 
   -- what was read so far has passed, and has its rows
   pub record Idle (given : List NamedValue) (have : List Row) (pending : Pending) : Type 0 where
     pub passes : settle_fault (args form) false (held have pending) ≡ []
     pub settles : settled_rows (args form) pending have ≡ rows given
 
-  -- what the words that are left come to
-  abbrev Comes : Option Reading → Walk → Words → Words → Type 0
-  Comes o w words all = Takes (args form) (option_and_then (settled form) (option_and_then (λ next. read_on form next words) o)) w all
+  -- what the arguments that are left come to
+  abbrev Comes : Option Reading → Walk → Arguments → Arguments → Type 0
+  Comes o w arguments all = Takes (args form) (option_and_then (settled form) (option_and_then (λ next. read_on form next arguments) o)) w all
 
-  -- the induction over the words that are left: where nothing waits, and where an option does
-  record Goes (words : Words) : Type 0 where
-    idle_goes : (done left : List Text) (given : List NamedValue) (have : List Row) (pending : Pending) → done ++ left ≡ form.places → list_any is_refused words ≡ false
+  -- the induction over the arguments that are left: where nothing waits, and where an option does
+  record Goes (arguments : Arguments) : Type 0 where
+    idle_goes : (done left : List Text) (given : List NamedValue) (have : List Row) (pending : Pending) → done ++ left ≡ form.places → list_any is_refused arguments ≡ false
         → Idle given have pending
-        → Takes (args form) (option_and_then (settled form) (read_on form (record { waiting = None; left = left; given = given }) words))
-        (at have pending idle (after done)) words
-    waits_goes : (done left : List Text) (given : List NamedValue) (name : Text) → done ++ left ≡ form.places → list_any is_refused words ≡ false → IsFound (args form) name false
-        → Takes (args form) (option_and_then (settled form) (read_on form (with_waiting left given name) words))
-        (at (rows given) (Some (name, [])) (option name) (after done)) words
+        → Takes (args form) (option_and_then (settled form) (read_on form (record { waiting = None; left = left; given = given }) arguments))
+        (at have pending idle (after done)) arguments
+    waits_goes : (done left : List Text) (given : List NamedValue) (name : Text) → done ++ left ≡ form.places → list_any is_refused arguments ≡ false → IsFound (args form) name false
+        → Takes (args form) (option_and_then (settled form) (read_on form (with_waiting left given name) arguments))
+        (at (rows given) (Some (name, [])) (option name) (after done)) arguments
 
   -- a pending value of a name that has none yet will pass
   pending_passes : (given : List NamedValue) (name text : Text) (long : Option Text) (index : Option ℕ) (required : Bool)
@@ -163,14 +163,14 @@ module _ (form : Form) (alone : list_any (has_option form) form.places ≡ false
   }
 
   -- a flag of no option fails
-  unknown_fails : (have : List Row) (pending : Pending) (waiting : Waiting) (position : ℕ) (word name : Text) (v : Option Text)
-      → subcommand_met [] waiting word ≡ None → IsLong word name v → option_named form name ≡ None
-      → Fails (turn_fault (shape (args form)) [] (at have pending waiting position) word)
-  unknown_fails have pending waiting position word name v no_command long unknown =
-      subst Fails (sym (long_turn (args form) have pending waiting position word name v no_command long))
+  unknown_fails : (have : List Row) (pending : Pending) (waiting : Waiting) (position : ℕ) (argument name : Text) (v : Option Text)
+      → subcommand_met [] waiting argument ≡ None → IsLong argument name v → option_named form name ≡ None
+      → Fails (turn_fault (shape (args form)) [] (at have pending waiting position) argument)
+  unknown_fails have pending waiting position argument name v no_command long unknown =
+      subst Fails (sym (long_turn (args form) have pending waiting position argument name v no_command long))
       (fails_first _ _ (subst (λ o. Fails (long_fault (args form) false o v (held have pending))) (sym (unknown_missed form name unknown)) tt))
 
-  -- one place more has a word
+  -- one place more has an argument
   place_more : (done : List Text) (place : Text) (left : List Text) → done ++ place ∷ left ≡ form.places → (done ++ place ∷ []) ++ left ≡ form.places
   place_more done place left is = append_assoc done (place ∷ []) left ∙ is
 
@@ -180,59 +180,59 @@ module _ (form : Form) (alone : list_any (has_option form) form.places ≡ false
       let more : length (done ++ place ∷ []) ≡ length done + 1 = length-append done (place ∷ []) in
       counted_on (after done) (omega (arith, all, few)) ∙ omega (arith, more)
 
-  -- a word that goes to a place
-  to_the_place : (have : List Row) (pending : Pending) (given : List NamedValue) (i : ℕ) (place word : Text) → Idle given have pending
-      → to_positional (args form) (Some (place_arg i place)) word (at have pending idle i) (held have pending)
-      ≡ at (rows given) (Some (place, word ∷ [])) idle (min (i + 1) usize_max)
-  to_the_place have pending given i place word passed =
+  -- an argument that goes to a place
+  to_the_place : (have : List Row) (pending : Pending) (given : List NamedValue) (i : ℕ) (place argument : Text) → Idle given have pending
+      → to_positional (args form) (Some (place_arg i place)) argument (at have pending idle i) (held have pending)
+      ≡ at (rows given) (Some (place, argument ∷ [])) idle (min (i + 1) usize_max)
+  to_the_place have pending given i place argument passed =
       ap (λ b. in_place (if b then held have pending else settled_held (args form) (held have pending))) (and-false (is_pending (place_arg i place) pending))
-      ∙ ap (λ rs. at rs (Some (place, word ∷ [])) idle (min (i + 1) usize_max)) passed.settles
+      ∙ ap (λ rs. at rs (Some (place, argument ∷ [])) idle (min (i + 1) usize_max)) passed.settles
     where
       in_place : Held → Walk
-      in_place h = record { held = pushed place word h; waiting = idle; position = min (i + 1) usize_max; is_trailing = false; stopped = None }
+      in_place h = record { held = pushed place argument h; waiting = idle; position = min (i + 1) usize_max; is_trailing = false; stopped = None }
 
-  plain_goes : (words : Words) (rest : Goes words) (done left : List Text) (given : List NamedValue) (have : List Row) (pending : Pending) (word : Text) → done ++ left ≡ form.places
-      → list_any is_refused words ≡ false → Idle given have pending → IsPlain word
-      → Comes (put_next left given word) (at have pending idle (after done)) words (word ∷ words)
-  plain_goes words rest done [] given have pending word is readable passed plain =
-      step_fails (args form) _ word words
-      (subst Fails (sym (plain_turn (args form) have pending (after done) word plain))
+  plain_goes : (arguments : Arguments) (rest : Goes arguments) (done left : List Text) (given : List NamedValue) (have : List Row) (pending : Pending) (argument : Text) → done ++ left ≡ form.places
+      → list_any is_refused arguments ≡ false → Idle given have pending → IsPlain argument
+      → Comes (put_next left given argument) (at have pending idle (after done)) arguments (argument ∷ arguments)
+  plain_goes arguments rest done [] given have pending argument is readable passed plain =
+      step_fails (args form) _ argument arguments
+      (subst Fails (sym (plain_turn (args form) have pending (after done) argument plain))
       (subst (λ o. Fails (option_map_or (λ a. positional_fault (args form) false a (held have pending)) o (stray_fault (shape (args form))))) (sym (no_next_place form done is)) tt))
-  plain_goes words rest done (place ∷ left) given have pending word is readable passed plain = by (is_given given place) refl
+  plain_goes arguments rest done (place ∷ left) given have pending argument is readable passed plain = by (is_given given place) refl
     where
       found : IsPlace (args form) place
       found = place_found form done place left is
 
-      turn : turn_fault (shape (args form)) [] (at have pending idle (after done)) word ≡ []
+      turn : turn_fault (shape (args form)) [] (at have pending idle (after done)) argument ≡ []
       turn =
-          plain_turn (args form) have pending (after done) word plain
+          plain_turn (args form) have pending (after done) argument plain
           ∙ ap (λ o. option_map_or (λ a. positional_fault (args form) false a (held have pending)) o (stray_fault (shape (args form)))) (next_place form done place left is)
           ∙ place_settles (args form) (after done) place (held have pending) ∙ passed.passes
 
-      walks : walked (args form) [] (at have pending idle (after done)) word ≡ at (rows given) (Some (place, word ∷ [])) idle (after (done ++ place ∷ []))
+      walks : walked (args form) [] (at have pending idle (after done)) argument ≡ at (rows given) (Some (place, argument ∷ [])) idle (after (done ++ place ∷ []))
       walks =
-          plain_walked (args form) have pending (after done) word plain
-          ∙ ap (λ o. to_positional (args form) o word (at have pending idle (after done)) (held have pending)) (next_place form done place left is)
-          ∙ to_the_place have pending given (after done) place word passed
-          ∙ ap (at (rows given) (Some (place, word ∷ [])) idle) (position_more done place left is)
+          plain_walked (args form) have pending (after done) argument plain
+          ∙ ap (λ o. to_positional (args form) o argument (at have pending idle (after done)) (held have pending)) (next_place form done place left is)
+          ∙ to_the_place have pending given (after done) place argument passed
+          ∙ ap (at (rows given) (Some (place, argument ∷ [])) idle) (position_more done place left is)
 
       by : (b : Bool) → is_given given place ≡ b
-          → Comes (if b then None else Some (with_value left given place word)) (at have pending idle (after done)) words (word ∷ words)
+          → Comes (if b then None else Some (with_value left given place argument)) (at have pending idle (after done)) arguments (argument ∷ arguments)
       by true old =
-          step_on (args form) None _ _ word words turn walks
-          (lost words (rows given) (Some (place, word ∷ [])) (done ++ place ∷ []) left (place_more done place left is) readable
-          (subst (λ o. Fails (option_map_or (λ a. use_fault false a (word ∷ []) (rows given)) o [])) (sym found.id)
-          (subst Fails (sym (use_repeats given place None (Some found.index) true word old)) tt)))
+          step_on (args form) None _ _ argument arguments turn walks
+          (lost arguments (rows given) (Some (place, argument ∷ [])) (done ++ place ∷ []) left (place_more done place left is) readable
+          (subst (λ o. Fails (option_map_or (λ a. use_fault false a (argument ∷ []) (rows given)) o [])) (sym found.id)
+          (subst Fails (sym (use_repeats given place None (Some found.index) true argument old)) tt)))
       by false new =
-          step_on (args form) _ _ _ word words turn walks
-          (rest.idle_goes (done ++ place ∷ []) left (given ++ named place word ∷ []) (rows given) (Some (place, word ∷ [])) (place_more done place left is) readable
-          (pending_passes given place word None (Some found.index) true found.id new))
+          step_on (args form) _ _ _ argument arguments turn walks
+          (rest.idle_goes (done ++ place ∷ []) left (given ++ named place argument ∷ []) (rows given) (Some (place, argument ∷ [])) (place_more done place left is) readable
+          (pending_passes given place argument None (Some found.index) true found.id new))
 
   -- `--NAME` of a flag
-  flag_goes : (words : Words) (rest : Goes words) (done left : List Text) (given : List NamedValue) (have : List Row) (pending : Pending) (word name : Text) → done ++ left ≡ form.places
-      → list_any is_refused words ≡ false → Idle given have pending → IsLong word name None → IsFound (args form) name true
-      → Comes (put_value left given name given_flag) (at have pending idle (after done)) words (word ∷ words)
-  flag_goes words rest done left given have pending word name is readable passed long found = by (is_given given name) refl
+  flag_goes : (arguments : Arguments) (rest : Goes arguments) (done left : List Text) (given : List NamedValue) (have : List Row) (pending : Pending) (argument name : Text) → done ++ left ≡ form.places
+      → list_any is_refused arguments ≡ false → Idle given have pending → IsLong argument name None → IsFound (args form) name true
+      → Comes (put_value left given name given_flag) (at have pending idle (after done)) arguments (argument ∷ arguments)
+  flag_goes arguments rest done left given have pending argument name is readable passed long found = by (is_given given name) refl
     where
       h : Held
       h = held have pending
@@ -243,66 +243,66 @@ module _ (form : Form) (alone : list_any (has_option form) form.places ≡ false
       flag : Rule
       flag = flag_arg name found.required
 
-      turn : turn_fault (shape (args form)) [] w word ≡ or_else (use_fault false flag [] (rows given)) []
+      turn : turn_fault (shape (args form)) [] w argument ≡ or_else (use_fault false flag [] (rows given)) []
       turn =
-          long_turn (args form) have pending idle (after done) word name None refl long
+          long_turn (args form) have pending idle (after done) argument name None refl long
           ∙ ap (λ o. or_else (long_fault (args form) false o None h)
-          (step_fault (shape (args form)) (after done) (after_flag (args form) idle word (long_met (args form) o None h).0 (long_met (args form) o None h).1).0
-          (after_flag (args form) idle word (long_met (args form) o None h).0 (long_met (args form) o None h).1).1)) found.long
+          (step_fault (shape (args form)) (after done) (after_flag (args form) idle argument (long_met (args form) o None h).0 (long_met (args form) o None h).1).0
+          (after_flag (args form) idle argument (long_met (args form) o None h).0 (long_met (args form) o None h).1).1)) found.long
           ∙ ap₂ (λ kinds rs. or_else (or_else kinds (use_fault false flag [] rs)) []) passed.passes passed.settles
 
-      walks : is_given given name ≡ false → walked (args form) [] w word ≡ at (rows (given ++ named name given_flag ∷ [])) None idle (after done)
+      walks : is_given given name ≡ false → walked (args form) [] w argument ≡ at (rows (given ++ named name given_flag ∷ [])) None idle (after done)
       walks new =
-          long_walked (args form) have pending idle (after done) word name None refl long
-          ∙ ap (λ o. after_step (args form) word w (after_flag (args form) idle word (long_met (args form) o None h).0 (long_met (args form) o None h).1).0
-          (after_flag (args form) idle word (long_met (args form) o None h).0 (long_met (args form) o None h).1).1) found.long
+          long_walked (args form) have pending idle (after done) argument name None refl long
+          ∙ ap (λ o. after_step (args form) argument w (after_flag (args form) idle argument (long_met (args form) o None h).0 (long_met (args form) o None h).1).0
+          (after_flag (args form) idle argument (long_met (args form) o None h).0 (long_met (args form) o None h).1).1) found.long
           ∙ ap (λ rs. at (used flag [] rs) None idle (after done)) passed.settles
           ∙ ap (λ rs. at rs None idle (after done)) (flag_used_is given name found.required new)
 
-      by : (b : Bool) → is_given given name ≡ b → Comes (if b then None else Some (with_value left given name given_flag)) w words (word ∷ words)
+      by : (b : Bool) → is_given given name ≡ b → Comes (if b then None else Some (with_value left given name given_flag)) w arguments (argument ∷ arguments)
       by true old =
-          step_fails (args form) _ word words (subst Fails (sym turn)
+          step_fails (args form) _ argument arguments (subst Fails (sym turn)
           (subst (λ kinds. Fails (or_else kinds [])) (sym (flag_repeats given name found.required old)) tt))
       by false new =
-          step_on (args form) _ _ (at (rows (given ++ named name given_flag ∷ [])) None idle (after done)) word words
+          step_on (args form) _ _ (at (rows (given ++ named name given_flag ∷ [])) None idle (after done)) argument arguments
           (turn ∙ ap (λ kinds. or_else kinds []) (flag_passes given name found.required new)) (walks new)
           (rest.idle_goes done left (given ++ named name given_flag ∷ []) (rows (given ++ named name given_flag ∷ [])) None is readable (record { passes = refl; settles = refl }))
 
   -- `--NAME`
-  named_goes : (words : Words) (rest : Goes words) (done left : List Text) (given : List NamedValue) (have : List Row) (pending : Pending) (word name : Text) → done ++ left ≡ form.places
-      → list_any is_refused words ≡ false
-      → Idle given have pending → IsLong word name None
-      → Comes (option_and_then (after_name left given name) (option_named form name)) (at have pending idle (after done)) words (word ∷ words)
-  named_goes words rest done left given have pending word name is readable passed long = by (option_named form name) refl
+  named_goes : (arguments : Arguments) (rest : Goes arguments) (done left : List Text) (given : List NamedValue) (have : List Row) (pending : Pending) (argument name : Text) → done ++ left ≡ form.places
+      → list_any is_refused arguments ≡ false
+      → Idle given have pending → IsLong argument name None
+      → Comes (option_and_then (after_name left given name) (option_named form name)) (at have pending idle (after done)) arguments (argument ∷ arguments)
+  named_goes arguments rest done left given have pending argument name is readable passed long = by (option_named form name) refl
     where
       known : (flag : Bool) → IsFound (args form) name flag
-          → Comes (if flag then put_value left given name given_flag else Some (with_waiting left given name)) (at have pending idle (after done)) words (word ∷ words)
-      known true found = flag_goes words rest done left given have pending word name is readable passed long found
+          → Comes (if flag then put_value left given name given_flag else Some (with_waiting left given name)) (at have pending idle (after done)) arguments (argument ∷ arguments)
+      known true found = flag_goes arguments rest done left given have pending argument name is readable passed long found
       known false found =
           let h = held have pending in
           let w = at have pending idle (after done) in
-          step_on (args form) _ _ (at (rows given) (Some (name, [])) (option name) (after done)) word words
-          (long_turn (args form) have pending idle (after done) word name None refl long
+          step_on (args form) _ _ (at (rows given) (Some (name, [])) (option name) (after done)) argument arguments
+          (long_turn (args form) have pending idle (after done) argument name None refl long
           ∙ ap (λ o. or_else (long_fault (args form) false o None h)
-          (step_fault (shape (args form)) (after done) (after_flag (args form) idle word (long_met (args form) o None h).0 (long_met (args form) o None h).1).0
-          (after_flag (args form) idle word (long_met (args form) o None h).0 (long_met (args form) o None h).1).1)) found.long
+          (step_fault (shape (args form)) (after done) (after_flag (args form) idle argument (long_met (args form) o None h).0 (long_met (args form) o None h).1).0
+          (after_flag (args form) idle argument (long_met (args form) o None h).0 (long_met (args form) o None h).1).1)) found.long
           ∙ ap (λ kinds. or_else kinds []) passed.passes)
-          (long_walked (args form) have pending idle (after done) word name None refl long
-          ∙ ap (λ o. after_step (args form) word w (after_flag (args form) idle word (long_met (args form) o None h).0 (long_met (args form) o None h).1).0
-          (after_flag (args form) idle word (long_met (args form) o None h).0 (long_met (args form) o None h).1).1) found.long
+          (long_walked (args form) have pending idle (after done) argument name None refl long
+          ∙ ap (λ o. after_step (args form) argument w (after_flag (args form) idle argument (long_met (args form) o None h).0 (long_met (args form) o None h).1).0
+          (after_flag (args form) idle argument (long_met (args form) o None h).0 (long_met (args form) o None h).1).1) found.long
           ∙ ap (λ rs. at rs (Some (name, [])) (option name) (after done)) passed.settles)
           (rest.waits_goes done left given name is readable found)
 
-      by : (o : Option FormOption) → option_named form name ≡ o → Comes (option_and_then (after_name left given name) o) (at have pending idle (after done)) words (word ∷ words)
-      by None e = step_fails (args form) _ word words (unknown_fails have pending idle (after done) word name None refl long e)
+      by : (o : Option FormOption) → option_named form name ≡ o → Comes (option_and_then (after_name left given name) o) (at have pending idle (after done)) arguments (argument ∷ arguments)
+      by None e = step_fails (args form) _ argument arguments (unknown_fails have pending idle (after done) argument name None refl long e)
       by (Some one) e = known one.is_flag (known_found form name one e alone)
 
   -- `--NAME=VALUE`
-  valued_goes : (words : Words) (rest : Goes words) (done left : List Text) (given : List NamedValue) (have : List Row) (pending : Pending) (word name text : Text) → done ++ left ≡ form.places
-      → list_any is_refused words ≡ false
-      → Idle given have pending → IsLong word name (Some text)
-      → Comes (option_and_then (after_value left given name text) (option_named form name)) (at have pending idle (after done)) words (word ∷ words)
-  valued_goes words rest done left given have pending word name text is readable passed long = by (option_named form name) refl
+  valued_goes : (arguments : Arguments) (rest : Goes arguments) (done left : List Text) (given : List NamedValue) (have : List Row) (pending : Pending) (argument name text : Text) → done ++ left ≡ form.places
+      → list_any is_refused arguments ≡ false
+      → Idle given have pending → IsLong argument name (Some text)
+      → Comes (option_and_then (after_value left given name text) (option_named form name)) (at have pending idle (after done)) arguments (argument ∷ arguments)
+  valued_goes arguments rest done left given have pending argument name text is readable passed long = by (option_named form name) refl
     where
       h : Held
       h = held have pending
@@ -311,86 +311,86 @@ module _ (form : Form) (alone : list_any (has_option form) form.places ≡ false
       w = at have pending idle (after done)
 
       turn : (required : Bool) → arg_by_long (args form) name ≡ Some (arg name (Some name) None required)
-          → turn_fault (shape (args form)) [] w word ≡ or_else (use_fault false (arg name (Some name) None required) (text ∷ []) (rows given)) []
+          → turn_fault (shape (args form)) [] w argument ≡ or_else (use_fault false (arg name (Some name) None required) (text ∷ []) (rows given)) []
       turn required found =
-          long_turn (args form) have pending idle (after done) word name (Some text) refl long
+          long_turn (args form) have pending idle (after done) argument name (Some text) refl long
           ∙ ap (λ o. or_else (long_fault (args form) false o (Some text) h)
-          (step_fault (shape (args form)) (after done) (after_flag (args form) idle word (long_met (args form) o (Some text) h).0 (long_met (args form) o (Some text) h).1).0
-          (after_flag (args form) idle word (long_met (args form) o (Some text) h).0 (long_met (args form) o (Some text) h).1).1)) found
+          (step_fault (shape (args form)) (after done) (after_flag (args form) idle argument (long_met (args form) o (Some text) h).0 (long_met (args form) o (Some text) h).1).0
+          (after_flag (args form) idle argument (long_met (args form) o (Some text) h).0 (long_met (args form) o (Some text) h).1).1)) found
           ∙ ap₂ (λ kinds rs. or_else (or_else kinds (use_fault false (arg name (Some name) None required) (text ∷ []) rs)) []) passed.passes passed.settles
 
       walks : (required : Bool) → arg_by_long (args form) name ≡ Some (arg name (Some name) None required) → is_given given name ≡ false
-          → walked (args form) [] w word ≡ at (rows (given ++ named name text ∷ [])) None idle (after done)
+          → walked (args form) [] w argument ≡ at (rows (given ++ named name text ∷ [])) None idle (after done)
       walks required found new =
-          long_walked (args form) have pending idle (after done) word name (Some text) refl long
-          ∙ ap (λ o. after_step (args form) word w (after_flag (args form) idle word (long_met (args form) o (Some text) h).0 (long_met (args form) o (Some text) h).1).0
-          (after_flag (args form) idle word (long_met (args form) o (Some text) h).0 (long_met (args form) o (Some text) h).1).1) found
+          long_walked (args form) have pending idle (after done) argument name (Some text) refl long
+          ∙ ap (λ o. after_step (args form) argument w (after_flag (args form) idle argument (long_met (args form) o (Some text) h).0 (long_met (args form) o (Some text) h).1).0
+          (after_flag (args form) idle argument (long_met (args form) o (Some text) h).0 (long_met (args form) o (Some text) h).1).1) found
           ∙ ap (λ rs. at (used (arg name (Some name) None required) (text ∷ []) rs) None idle (after done)) passed.settles
           ∙ ap (λ rs. at rs None idle (after done)) (used_is given name (Some name) None required text new)
 
       known : (required : Bool) → arg_by_long (args form) name ≡ Some (arg name (Some name) None required) → (b : Bool) → is_given given name ≡ b
-          → Comes (if b then None else Some (with_value left given name text)) w words (word ∷ words)
+          → Comes (if b then None else Some (with_value left given name text)) w arguments (argument ∷ arguments)
       known required found true old =
-          step_fails (args form) _ word words (subst Fails (sym (turn required found))
+          step_fails (args form) _ argument arguments (subst Fails (sym (turn required found))
           (subst (λ kinds. Fails (or_else kinds [])) (sym (use_repeats given name (Some name) None required text old)) tt))
       known required found false new =
-          step_on (args form) _ _ (at (rows (given ++ named name text ∷ [])) None idle (after done)) word words
+          step_on (args form) _ _ (at (rows (given ++ named name text ∷ [])) None idle (after done)) argument arguments
           (turn required found ∙ ap (λ kinds. or_else kinds []) (use_passes given name (Some name) None required text new))
           (walks required found new)
           (rest.idle_goes done left (given ++ named name text ∷ []) (rows (given ++ named name text ∷ [])) None is readable (record { passes = refl; settles = refl }))
 
-      sorted : (flag : Bool) → IsFound (args form) name flag → Comes (if flag then None else put_value left given name text) w words (word ∷ words)
+      sorted : (flag : Bool) → IsFound (args form) name flag → Comes (if flag then None else put_value left given name text) w arguments (argument ∷ arguments)
       sorted true found =
-          step_fails (args form) _ word words (subst Fails (sym (long_turn (args form) have pending idle (after done) word name (Some text) refl long))
+          step_fails (args form) _ argument arguments (subst Fails (sym (long_turn (args form) have pending idle (after done) argument name (Some text) refl long))
           (fails_first _ _ (subst (λ o. Fails (long_fault (args form) false o (Some text) h)) (sym found.long) tt)))
       sorted false found = known found.required found.long (is_given given name) refl
 
-      by : (o : Option FormOption) → option_named form name ≡ o → Comes (option_and_then (after_value left given name text) o) w words (word ∷ words)
-      by None e = step_fails (args form) _ word words (unknown_fails have pending idle (after done) word name (Some text) refl long e)
+      by : (o : Option FormOption) → option_named form name ≡ o → Comes (option_and_then (after_value left given name text) o) w arguments (argument ∷ arguments)
+      by None e = step_fails (args form) _ argument arguments (unknown_fails have pending idle (after done) argument name (Some text) refl long e)
       by (Some one) e = sorted one.is_flag (known_found form name one e alone)
 
-  -- a word where nothing waits
-  word_goes : (words : Words) (rest : Goes words) (done left : List Text) (given : List NamedValue) (have : List Row) (pending : Pending) (word : Text) → done ++ left ≡ form.places
-      → list_any is_refused words ≡ false
-      → Idle given have pending → (k : WordKind) → IsSeen word k → is_refused_kind k ≡ false
-      → Comes (after_kind form left given word k) (at have pending idle (after done)) words (word ∷ words)
-  word_goes words rest done left given have pending word is readable passed Refused sees kind = absurd (true≢false kind)
-  word_goes words rest done left given have pending word is readable passed Plain sees kind = plain_goes words rest done left given have pending word is readable passed sees
-  word_goes words rest done left given have pending word is readable passed (Named name) sees kind = named_goes words rest done left given have pending word name is readable passed sees
-  word_goes words rest done left given have pending word is readable passed (Valued name text) sees kind = valued_goes words rest done left given have pending word name text is readable passed sees
+  -- an argument where nothing waits
+  argument_goes : (arguments : Arguments) (rest : Goes arguments) (done left : List Text) (given : List NamedValue) (have : List Row) (pending : Pending) (argument : Text) → done ++ left ≡ form.places
+      → list_any is_refused arguments ≡ false
+      → Idle given have pending → (k : ArgumentKind) → IsSeen argument k → is_refused_kind k ≡ false
+      → Comes (after_kind form left given argument k) (at have pending idle (after done)) arguments (argument ∷ arguments)
+  argument_goes arguments rest done left given have pending argument is readable passed Refused sees kind = absurd (true≢false kind)
+  argument_goes arguments rest done left given have pending argument is readable passed Plain sees kind = plain_goes arguments rest done left given have pending argument is readable passed sees
+  argument_goes arguments rest done left given have pending argument is readable passed (Named name) sees kind = named_goes arguments rest done left given have pending argument name is readable passed sees
+  argument_goes arguments rest done left given have pending argument is readable passed (Valued name text) sees kind = valued_goes arguments rest done left given have pending argument name text is readable passed sees
 
-  -- a word where an option waits for its value
-  value_goes : (words : Words) (rest : Goes words) (done left : List Text) (given : List NamedValue) (name word : Text) → done ++ left ≡ form.places → list_any is_refused words ≡ false → IsFound (args form) name false
-      → (k : WordKind) → IsSeen word k → is_refused_kind k ≡ false
-      → Comes (value_kind left given name word k) (at (rows given) (Some (name, [])) (option name) (after done)) words (word ∷ words)
-  value_goes words rest done left given name word is readable found Refused sees kind = absurd (true≢false kind)
-  value_goes words rest done left given name word is readable found (Named other) sees kind =
-      step_fails (args form) _ word words (flag_fails (rows given) (Some (name, [])) (option name) (after done) word other None refl sees
+  -- an argument where an option waits for its value
+  value_goes : (arguments : Arguments) (rest : Goes arguments) (done left : List Text) (given : List NamedValue) (name argument : Text) → done ++ left ≡ form.places → list_any is_refused arguments ≡ false → IsFound (args form) name false
+      → (k : ArgumentKind) → IsSeen argument k → is_refused_kind k ≡ false
+      → Comes (value_kind left given name argument k) (at (rows given) (Some (name, [])) (option name) (after done)) arguments (argument ∷ arguments)
+  value_goes arguments rest done left given name argument is readable found Refused sees kind = absurd (true≢false kind)
+  value_goes arguments rest done left given name argument is readable found (Named other) sees kind =
+      step_fails (args form) _ argument arguments (flag_fails (rows given) (Some (name, [])) (option name) (after done) argument other None refl sees
       (subst (λ o. Fails (option_map_or (λ a. use_fault false a [] (rows given)) o [])) (sym found.id) tt))
-  value_goes words rest done left given name word is readable found (Valued other text) sees kind =
-      step_fails (args form) _ word words (flag_fails (rows given) (Some (name, [])) (option name) (after done) word other (Some text) refl sees
+  value_goes arguments rest done left given name argument is readable found (Valued other text) sees kind =
+      step_fails (args form) _ argument arguments (flag_fails (rows given) (Some (name, [])) (option name) (after done) argument other (Some text) refl sees
       (subst (λ o. Fails (option_map_or (λ a. use_fault false a [] (rows given)) o [])) (sym found.id) tt))
-  value_goes words rest done left given name word is readable found Plain plain kind = by (is_given given name) refl
+  value_goes arguments rest done left given name argument is readable found Plain plain kind = by (is_given given name) refl
     where
       w : Walk
       w = at (rows given) (Some (name, [])) (option name) (after done)
 
-      turn : turn_fault (shape (args form)) [] w word ≡ []
-      turn = value_turn (args form) (rows given) (after done) name word found.required found.id plain
+      turn : turn_fault (shape (args form)) [] w argument ≡ []
+      turn = value_turn (args form) (rows given) (after done) name argument found.required found.id plain
 
-      walks : walked (args form) [] w word ≡ at (rows given) (Some (name, word ∷ [])) idle (after done)
-      walks = value_walked (args form) (rows given) (after done) name word found.required found.id plain
+      walks : walked (args form) [] w argument ≡ at (rows given) (Some (name, argument ∷ [])) idle (after done)
+      walks = value_walked (args form) (rows given) (after done) name argument found.required found.id plain
 
-      by : (b : Bool) → is_given given name ≡ b → Comes (if b then None else Some (with_value left given name word)) w words (word ∷ words)
+      by : (b : Bool) → is_given given name ≡ b → Comes (if b then None else Some (with_value left given name argument)) w arguments (argument ∷ arguments)
       by true old =
-          step_on (args form) None w _ word words turn walks
-          (lost words (rows given) (Some (name, word ∷ [])) done left is readable
-          (subst (λ o. Fails (option_map_or (λ a. use_fault false a (word ∷ []) (rows given)) o [])) (sym found.id)
-          (subst Fails (sym (use_repeats given name (Some name) None found.required word old)) tt)))
+          step_on (args form) None w _ argument arguments turn walks
+          (lost arguments (rows given) (Some (name, argument ∷ [])) done left is readable
+          (subst (λ o. Fails (option_map_or (λ a. use_fault false a (argument ∷ []) (rows given)) o [])) (sym found.id)
+          (subst Fails (sym (use_repeats given name (Some name) None found.required argument old)) tt)))
       by false new =
-          step_on (args form) _ w _ word words turn walks
-          (rest.idle_goes done left (given ++ named name word ∷ []) (rows given) (Some (name, word ∷ [])) is readable
-          (pending_passes given name word (Some name) None found.required found.id new))
+          step_on (args form) _ w _ argument arguments turn walks
+          (rest.idle_goes done left (given ++ named name argument ∷ []) (rows given) (Some (name, argument ∷ [])) is readable
+          (pending_passes given name argument (Some name) None found.required found.id new))
 
   -- at the end what is needed must be there
   idle_ends : (left : List Text) (given : List NamedValue) (have : List Row) (pending : Pending) (position : ℕ) → Idle given have pending
@@ -418,50 +418,50 @@ module _ (form : Form) (alone : list_any (has_option form) form.places ≡ false
   waits_ends given name position found =
       settle_fails (args form) _ (subst (λ o. Fails (option_map_or (λ a. use_fault false a [] (rows given)) o [])) (sym found.id) tt)
 
-  goes : (words : Words) → Goes words
+  goes : (arguments : Arguments) → Goes arguments
   goes [] = record {
     idle_goes = λ done left given have pending is readable passed. idle_ends left given have pending (after done) passed;
     waits_goes = λ done left given name is readable found. waits_ends given name (after done) found;
   }
-  goes (word ∷ words) = record {
+  goes (argument ∷ arguments) = record {
     idle_goes = λ done left given have pending is readable passed.
-        let both = none_first (is_refused word) (list_any is_refused words) readable in
-        word_goes words (goes words) done left given have pending word is both.1 passed (kind_of word) (seen word) both.0;
+        let both = none_first (is_refused argument) (list_any is_refused arguments) readable in
+        argument_goes arguments (goes arguments) done left given have pending argument is both.1 passed (kind_of argument) (seen argument) both.0;
     waits_goes = λ done left given name is readable found.
-        let both = none_first (is_refused word) (list_any is_refused words) readable in
-        value_goes words (goes words) done left given name word is both.1 found (kind_of word) (seen word) both.0;
+        let both = none_first (is_refused argument) (list_any is_refused arguments) readable in
+        value_goes arguments (goes arguments) done left given name argument is both.1 found (kind_of argument) (seen argument) both.0;
   }
 
--- the words of a form fail, or give rows
+-- the arguments of a form fail, or give rows
 abbrev pub Reads : Form → Option (List NamedValue) → Kinds → List Row → Type 0
 Reads form None kinds have = Fails kinds
 Reads form (Some given) kinds have = (kinds ≡ []) × (have ≡ ended (args form) given)
 
 -- a form has no commands below it
-fault_is : (form : Form) → AreFew form → (words : Words) → fault_of (app_for form) words ≡ rest_fault (args form) (at [] None idle 1) words
+fault_is : (form : Form) → AreFew form → (arguments : Arguments) → fault_of (app_for form) arguments ≡ rest_fault (args form) (at [] None idle 1) arguments
 unfolding rest_fault end_fault app_with
-fault_is form few words =
-    ap (λ b. built_fault b nothing_held words) (built_is form few)
-    ∙ by (fold (walked (args form) []) (at [] None idle 1) words).stopped
+fault_is form few arguments =
+    ap (λ b. built_fault b nothing_held arguments) (built_is form few)
+    ∙ by (fold (walked (args form) []) (at [] None idle 1) arguments).stopped
   where
     leaf : App
     leaf = record { top = shape (args form); subs = [] }
 
-    by : (stop : Option (Text × List Text)) → level_fault (shape (args form)) [] nothing_held words (is_some (entered leaf stop)) (entered_fault leaf stop)
-        ≡ or_else (walk_fault (shape (args form)) [] (at [] None idle 1) words) (end_fault (args form) (fold (walked (args form) []) (at [] None idle 1) words).held)
+    by : (stop : Option (Text × List Text)) → level_fault (shape (args form)) [] nothing_held arguments (is_some (entered leaf stop)) (entered_fault leaf stop)
+        ≡ or_else (walk_fault (shape (args form)) [] (at [] None idle 1) arguments) (end_fault (args form) (fold (walked (args form) []) (at [] None idle 1) arguments).held)
     by None = refl
     by (Some stop) = refl
 
-rows_are : (form : Form) → AreFew form → (words : Words) → matches_of (app_for form) words ≡ rest_rows (args form) (at [] None idle 1) words
+rows_are : (form : Form) → AreFew form → (arguments : Arguments) → matches_of (app_for form) arguments ≡ rest_rows (args form) (at [] None idle 1) arguments
 unfolding rest_rows app_with
-rows_are form few words = ap (λ (b : App). rows_after b.top.rules (names_of b) words) (built_is form few)
+rows_are form few arguments = ap (λ (b : App). rows_after b.top.rules (names_of b) arguments) (built_is form few)
 
--- `clap` reads words of which none is refused at once as the definition does
-pub form_reads : (form : Form) → list_any (has_option form) form.places ≡ false → AreFew form → (words : Words) → list_any is_refused words ≡ false
-    → Reads form (read_words form words) (fault_of (app_for form) words) (matches_of (app_for form) words)
-form_reads form alone few words readable =
-    by (read_words form words) ((goes form alone few words).idle_goes [] form.places [] [] None refl readable (record { passes = refl; settles = refl }))
+-- `clap` reads arguments of which none is refused at once as the definition does
+pub form_reads : (form : Form) → list_any (has_option form) form.places ≡ false → AreFew form → (arguments : Arguments) → list_any is_refused arguments ≡ false
+    → Reads form (read_arguments form arguments) (fault_of (app_for form) arguments) (matches_of (app_for form) arguments)
+form_reads form alone few arguments readable =
+    by (read_arguments form arguments) ((goes form alone few arguments).idle_goes [] form.places [] [] None refl readable (record { passes = refl; settles = refl }))
   where
-    by : (o : Option (List NamedValue)) → Takes (args form) o (at [] None idle 1) words → Reads form o (fault_of (app_for form) words) (matches_of (app_for form) words)
-    by None fails = subst Fails (sym (fault_is form few words)) fails
-    by (Some given) takes = (fault_is form few words ∙ takes.0, rows_are form few words ∙ takes.1)
+    by : (o : Option (List NamedValue)) → Takes (args form) o (at [] None idle 1) arguments → Reads form o (fault_of (app_for form) arguments) (matches_of (app_for form) arguments)
+    by None fails = subst Fails (sym (fault_is form few arguments)) fails
+    by (Some given) takes = (fault_is form few arguments ∙ takes.0, rows_are form few arguments ∙ takes.1)

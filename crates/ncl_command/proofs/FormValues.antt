@@ -15,7 +15,7 @@ use Rattle.clap.specs.declared.error.kind.ErrorKind.{ErrorKind}
 use Rattle.clap.specs.declared.parser.matches.ArgMatches.{ArgMatches}
 use Rattle.clap.proofs.WalkLemmas.{first_value-rows}
 use Rattle.ncl_command.specs.Meaning.{values_found}
-use Rattle.ncl_command.specs.Reading.{Words, Form, NamedValue, has_option, is_refused, read_words, value_given, values_of}
+use Rattle.ncl_command.specs.Reading.{Arguments, Form, NamedValue, has_option, is_refused, read_arguments, value_given, values_of}
 use Rattle.ncl_command.specs.Rules.{app_for}
 use Rattle.ncl_command.proofs.FormRules.{AreFew}
 use Rattle.ncl_command.proofs.ClapEnds.{value_is}
@@ -30,20 +30,20 @@ pub fails_by : (kinds : Kinds) (error : Error) → HasKind kinds error → (kind
 fails_by kinds error (inl memory) other = absurd (other memory)
 fails_by kinds error (inr among) other = fails_among (kind_of error) kinds among
 
-module _ (form : Form) (alone : list_any (has_option form) form.places ≡ false) (few : AreFew form) (words : Words) (readable : list_any is_refused words ≡ false) where
-  -- where nothing fails, each name has the value that the words give it
-  pub found : (m : ArgMatches) → fault_of (app_for form) words ≡ [] → rows_of (found_of m) ≡ matches_of (app_for form) words → Some (values_found m) ≡ values_of form words
-  found m passes found_rows = by (read_words form words) (form_reads form alone few words readable)
+module _ (form : Form) (alone : list_any (has_option form) form.places ≡ false) (few : AreFew form) (arguments : Arguments) (readable : list_any is_refused arguments ≡ false) where
+  -- where nothing fails, each name has the value that the arguments give it
+  pub found : (m : ArgMatches) → fault_of (app_for form) arguments ≡ [] → rows_of (found_of m) ≡ matches_of (app_for form) arguments → Some (values_found m) ≡ values_of form arguments
+  found m passes found_rows = by (read_arguments form arguments) (form_reads form alone few arguments readable)
     where
-      by : (o : Option (List NamedValue)) → Reads form o (fault_of (app_for form) words) (matches_of (app_for form) words) → Some (values_found m) ≡ option_map (value_given form) o
+      by : (o : Option (List NamedValue)) → Reads form o (fault_of (app_for form) arguments) (matches_of (app_for form) arguments) → Some (values_found m) ≡ option_map (value_given form) o
       by None fails = absurd (subst Fails passes fails)
       by (Some given) reads =
           ap Some (fun_ext (λ name. first_value-rows (found_of m) name ∙ ap (first_of name) (found_rows ∙ reads.1) ∙ value_is form given name))
 
-  -- where something fails, the words are not of the form
-  pub not_found : Fails (fault_of (app_for form) words) → None ≡ values_of form words
-  not_found fails = by (read_words form words) (form_reads form alone few words readable)
+  -- where something fails, the arguments are not of the form
+  pub not_found : Fails (fault_of (app_for form) arguments) → None ≡ values_of form arguments
+  not_found fails = by (read_arguments form arguments) (form_reads form alone few arguments readable)
     where
-      by : (o : Option (List NamedValue)) → Reads form o (fault_of (app_for form) words) (matches_of (app_for form) words) → None ≡ option_map (value_given form) o
+      by : (o : Option (List NamedValue)) → Reads form o (fault_of (app_for form) arguments) (matches_of (app_for form) arguments) → None ≡ option_map (value_given form) o
       by None failed = refl
       by (Some given) reads = absurd (subst Fails reads.0 fails)

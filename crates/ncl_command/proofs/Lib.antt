@@ -1,12 +1,12 @@
 mod FormRules
-mod ClapWords
+mod ClapArguments
 mod ClapRows
 mod ClapEnds
 mod ClapFinds
 mod ClapSteps
 mod FormReads
-mod RefusedWords
+mod RefusedArguments
 mod Numbers
-mod WordKinds
+mod ArgumentKinds
 mod CommandRules
 mod FormValues

@@ -1,11 +1,11 @@
--- Commands, and how words give them.
+-- Commands, and how arguments give them.
 use Rattle.std.specs.Prelude.{ℕ, ◌≤◌, Bool, true, false, List, [], ◌∷◌, Option, Some, None, if◌then◌else◌, ◌&&◌, nat_le, option_and_then, length, All, IfSome, IsTrue, codes}
 use Rattle.std.specs.List.{list_all}
 use Rattle.std.specs.Char.{is_ascii_digit}
 use Rattle.std.specs.Str.{bytes_eq}
 use Rattle.std.specs.Str.Parse.{digits_value}
 use Rattle.ncl_command.specs.Reading.{Text, Form, FormOption, Values, given_flag, values_of}
-pub use Rattle.ncl_command.specs.Reading.{Words}
+pub use Rattle.ncl_command.specs.Reading.{Arguments}
 use Rattle.ncl_command.specs.declared.command.TheConstants.{MOST_NODES, LARGEST_LIMIT, MOST_DEMO_BITS}
 
 -- what the program can be asked to do
@@ -99,19 +99,19 @@ demo_form = record { places = codes "bits" ∷ []; options = [] }
 abbrev pub demo_of : Values → Option Command
 demo_of values = option_and_then (λ text. option_and_then (λ bits. Some (demo bits)) (counted 2 MOST_DEMO_BITS text)) (values (codes "bits"))
 
--- the command of this name with the words after it
-abbrev pub form_of : Text → Words → Option Command
-form_of name words =
-    if bytes_eq name (codes "check") then option_and_then check_of (values_of check_form words)
-    else (if bytes_eq name (codes "compile") then option_and_then compile_of (values_of compile_form words)
-    else (if bytes_eq name (codes "sim") then option_and_then sim_of (values_of sim_form words)
-    else (if bytes_eq name (codes "match") then option_and_then match_of (values_of match_form words)
-    else (if bytes_eq name (codes "demo") then option_and_then demo_of (values_of demo_form words) else None))))
+-- the command of this name with the arguments after it
+abbrev pub form_of : Text → Arguments → Option Command
+form_of name arguments =
+    if bytes_eq name (codes "check") then option_and_then check_of (values_of check_form arguments)
+    else (if bytes_eq name (codes "compile") then option_and_then compile_of (values_of compile_form arguments)
+    else (if bytes_eq name (codes "sim") then option_and_then sim_of (values_of sim_form arguments)
+    else (if bytes_eq name (codes "match") then option_and_then match_of (values_of match_form arguments)
+    else (if bytes_eq name (codes "demo") then option_and_then demo_of (values_of demo_form arguments) else None))))
 
--- the command that the words give, if they are of a form
-abbrev pub command_of : Words → Option Command
+-- the command that the arguments give, if they are of a form
+abbrev pub command_of : Arguments → Option Command
 command_of [] = None
-command_of (name ∷ words) = form_of name words
+command_of (name ∷ arguments) = form_of name arguments
 
 -- the limit that a command has is at least 1
 abbrev pub HasLimit : Command → Type 0
@@ -141,6 +141,6 @@ files_named (demo bits) = []
 abbrev pub AllowsFiles : (Text → Bool) → Command → Type 0
 AllowsFiles allowed command = All (λ file. IsTrue (allowed file)) (files_named command)
 
--- where the words are of a form, the files that they name may be begun
-abbrev pub AllowsNamed : (Text → Bool) → Words → Type 0
-AllowsNamed allowed words = IfSome (command_of words) (AllowsFiles allowed)
+-- where the arguments are of a form, the files that they name may be begun
+abbrev pub AllowsNamed : (Text → Bool) → Arguments → Type 0
+AllowsNamed allowed arguments = IfSome (command_of arguments) (AllowsFiles allowed)

@@ -21,7 +21,7 @@ form_meant places options = record { places = map (λ place. place.now) places; 
 abbrev pub values_found : ArgMatches → Values
 values_found matches = first_value (found_of matches)
 
--- a command that was read from words
+-- a command that was read from arguments
 abbrev pub command_meant : CommandRead → Command
 command_meant (Check file limit why) = check file.now limit why
 command_meant (Compile file merge) = compile file.now merge

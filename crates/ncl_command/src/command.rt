@@ -1,4 +1,4 @@
-//! Commands, and how they are read from words.
+//! Commands, and how they are read from arguments.
 ghost use Rattle.std.specs.Prelude.{◌≡◌, ◌≤◌, map, option_map, option_and_then, IfOk, IfSome};
 ghost use Rattle.ncl_command.specs.Command.{command_of, check_form, check_of, compile_form, compile_of, sim_form, sim_of, match_form, match_of, demo_form, demo_of};
 ghost use Rattle.ncl_command.specs.Command.{is_set, limit_of, HasLimit, HasBits};
@@ -11,16 +11,16 @@ use clap::ArgMatches;
 use ncl_base::Memory;
 use std::alloc::Global;
 
-/// The most nodes that a stage may have in a check, or an output in a comparison, where the words give no limit.
+/// The most nodes that a stage may have in a check, or an output in a comparison, where the arguments give no limit.
 pub const MOST_NODES: u32 = 100_000;
 
-/// The largest limit of nodes that the words may give.
+/// The largest limit of nodes that the arguments may give.
 pub const LARGEST_LIMIT: u32 = 1_000_000;
 
 /// The most bits that the adder of a demo may have.
 pub const MOST_DEMO_BITS: u32 = 32;
 
-/// What the words after the program's name ask for.
+/// What the arguments after the program's name ask for.
 #[derive(Clone, Copy, Debug)]
 pub enum Command<'a> {
     /// Judge the netlist in this file, where a stage may have so many nodes, and tell why a cell is an orphan if asked
@@ -141,37 +141,37 @@ fn demo<'a>(values: &ArgMatches<'a>) -> Option<Command<'a>>
 }
 
 /// `check FILE [--limit N] [--why]`.
-fn check_words<'a>(alloc: Global, words: &'a [&'a str]) -> Result<Option<Command<'a>>, Memory>
+fn check_arguments<'a>(alloc: Global, arguments: &'a [&'a str]) -> Result<Option<Command<'a>>, Memory>
     ensures command { IfOk result (λ command. option_map command_meant command
-        ≡ option_and_then check_of (values_of check_form (map (λ word. word.now) words.now))) }
+        ≡ option_and_then check_of (values_of check_form (map (λ argument. argument.now) arguments.now))) }
     ensures limit { IfOk result (λ command. IfSome command (λ c. HasLimit (command_meant c))) }
     ensures bits { IfOk result (λ command. IfSome command (λ c. HasBits (command_meant c))) }
 {
     let options = [FormOption::optional("limit"), FormOption::flag("why")];
-    match form_values(alloc, &["file"], &options, words)? {
+    match form_values(alloc, &["file"], &options, arguments)? {
         Some(values) => Ok(check(&values)),
         None => Ok(None),
     }
 }
 
 /// `compile FILE [--merge]`.
-fn compile_words<'a>(alloc: Global, words: &'a [&'a str]) -> Result<Option<Command<'a>>, Memory>
+fn compile_arguments<'a>(alloc: Global, arguments: &'a [&'a str]) -> Result<Option<Command<'a>>, Memory>
     ensures command { IfOk result (λ command. option_map command_meant command
-        ≡ option_and_then compile_of (values_of compile_form (map (λ word. word.now) words.now))) }
+        ≡ option_and_then compile_of (values_of compile_form (map (λ argument. argument.now) arguments.now))) }
     ensures limit { IfOk result (λ command. IfSome command (λ c. HasLimit (command_meant c))) }
     ensures bits { IfOk result (λ command. IfSome command (λ c. HasBits (command_meant c))) }
 {
     let options = [FormOption::flag("merge")];
-    match form_values(alloc, &["file"], &options, words)? {
+    match form_values(alloc, &["file"], &options, arguments)? {
         Some(values) => Ok(compile(&values)),
         None => Ok(None),
     }
 }
 
 /// `sim FILE --delays FILE --words FILE [--vcd]`.
-fn sim_words<'a>(alloc: Global, words: &'a [&'a str]) -> Result<Option<Command<'a>>, Memory>
+fn sim_arguments<'a>(alloc: Global, arguments: &'a [&'a str]) -> Result<Option<Command<'a>>, Memory>
     ensures command { IfOk result (λ command. option_map command_meant command
-        ≡ option_and_then sim_of (values_of sim_form (map (λ word. word.now) words.now))) }
+        ≡ option_and_then sim_of (values_of sim_form (map (λ argument. argument.now) arguments.now))) }
     ensures limit { IfOk result (λ command. IfSome command (λ c. HasLimit (command_meant c))) }
     ensures bits { IfOk result (λ command. IfSome command (λ c. HasBits (command_meant c))) }
 {
@@ -180,57 +180,56 @@ fn sim_words<'a>(alloc: Global, words: &'a [&'a str]) -> Result<Option<Command<'
         FormOption::needed("words"),
         FormOption::flag("vcd"),
     ];
-    match form_values(alloc, &["netlist"], &options, words)? {
+    match form_values(alloc, &["netlist"], &options, arguments)? {
         Some(values) => Ok(sim(&values)),
         None => Ok(None),
     }
 }
 
 /// `match FILE FILE [--limit N]`.
-fn match_words<'a>(alloc: Global, words: &'a [&'a str]) -> Result<Option<Command<'a>>, Memory>
+fn match_arguments<'a>(alloc: Global, arguments: &'a [&'a str]) -> Result<Option<Command<'a>>, Memory>
     ensures command { IfOk result (λ command. option_map command_meant command
-        ≡ option_and_then match_of (values_of match_form (map (λ word. word.now) words.now))) }
+        ≡ option_and_then match_of (values_of match_form (map (λ argument. argument.now) arguments.now))) }
     ensures limit { IfOk result (λ command. IfSome command (λ c. HasLimit (command_meant c))) }
     ensures bits { IfOk result (λ command. IfSome command (λ c. HasBits (command_meant c))) }
 {
     let options = [FormOption::optional("limit")];
-    match form_values(alloc, &["netlist", "blif"], &options, words)? {
+    match form_values(alloc, &["netlist", "blif"], &options, arguments)? {
         Some(values) => Ok(matching(&values)),
         None => Ok(None),
     }
 }
 
 /// `demo N`.
-fn demo_words<'a>(alloc: Global, words: &'a [&'a str]) -> Result<Option<Command<'a>>, Memory>
+fn demo_arguments<'a>(alloc: Global, arguments: &'a [&'a str]) -> Result<Option<Command<'a>>, Memory>
     ensures command { IfOk result (λ command. option_map command_meant command
-        ≡ option_and_then demo_of (values_of demo_form (map (λ word. word.now) words.now))) }
+        ≡ option_and_then demo_of (values_of demo_form (map (λ argument. argument.now) arguments.now))) }
     ensures limit { IfOk result (λ command. IfSome command (λ c. HasLimit (command_meant c))) }
     ensures bits { IfOk result (λ command. IfSome command (λ c. HasBits (command_meant c))) }
 {
     let options: [FormOption<'a>; 0] = [];
-    match form_values(alloc, &["bits"], &options, words)? {
+    match form_values(alloc, &["bits"], &options, arguments)? {
         Some(values) => Ok(demo(&values)),
         None => Ok(None),
     }
 }
 
 impl<'a> Command<'a> {
-    /// The command of the words, or `None` where they are of no form. Linear in the words. The only error is want
-    /// of memory.
-    pub fn parse(alloc: Global, words: &'a [&'a str]) -> Result<Option<Command<'a>>, Memory>
-        ensures command { IfOk result (λ command. option_map command_meant command ≡ command_of (map (λ word. word.now) words.now)) }
+    /// The command of the arguments, or `None` where they are of no form. Linear in them. The only error is want of memory.
+    pub fn parse(alloc: Global, arguments: &'a [&'a str]) -> Result<Option<Command<'a>>, Memory>
+        ensures command { IfOk result (λ command. option_map command_meant command ≡ command_of (map (λ argument. argument.now) arguments.now)) }
         ensures limit { IfOk result (λ command. IfSome command (λ c. HasLimit (command_meant c))) }
         ensures bits { IfOk result (λ command. IfSome command (λ c. HasBits (command_meant c))) }
     {
-        let [name, rest @ ..] = words else {
+        let [name, rest @ ..] = arguments else {
             return Ok(None);
         };
         match *name {
-            "check" => check_words(alloc, rest),
-            "compile" => compile_words(alloc, rest),
-            "sim" => sim_words(alloc, rest),
-            "match" => match_words(alloc, rest),
-            "demo" => demo_words(alloc, rest),
+            "check" => check_arguments(alloc, rest),
+            "compile" => compile_arguments(alloc, rest),
+            "sim" => sim_arguments(alloc, rest),
+            "match" => match_arguments(alloc, rest),
+            "demo" => demo_arguments(alloc, rest),
             _ => Ok(None),
         }
     }

@@ -1,4 +1,4 @@
-//! The words after a command's name, read by `clap`.
+//! The arguments after a command's name, read by `clap`.
 ghost use Rattle.std.specs.Prelude.{◌≡◌, ◌≤◌, map, length, true, false, IfOk, option_map};
 ghost use Rattle.std.specs.List.{list_any};
 ghost use Rattle.clap.specs.Simple.{app_of};
@@ -57,7 +57,7 @@ impl<'a> FormOption<'a> {
     }
 }
 
-/// Whether no form has a word that has this after two dashes.
+/// Whether no form has an argument that has this after two dashes.
 fn is_refused_option(text: &str) -> bool
     ensures { result ≡ is_refused_kind (option_kind text.now) }
 {
@@ -67,13 +67,13 @@ fn is_refused_option(text: &str) -> bool
     }
 }
 
-/// Whether no form has this word: it is empty, or `--`, or has a dash before something else, or is `--NAME=`.
+/// Whether no form has this argument: it is empty, or `--`, or has a dash before something else, or is `--NAME=`.
 /// Linear in its bytes.
-fn is_refused(word: &str) -> bool
-    ensures { result ≡ is_refused word.now }
+fn is_refused(argument: &str) -> bool
+    ensures { result ≡ is_refused argument.now }
 {
-    let Some(dashed) = word.strip_prefix('-') else {
-        return word.is_empty();
+    let Some(dashed) = argument.strip_prefix('-') else {
+        return argument.is_empty();
     };
     match dashed.strip_prefix('-') {
         Some(option) => is_refused_option(option),
@@ -81,14 +81,14 @@ fn is_refused(word: &str) -> bool
     }
 }
 
-/// Whether no form has one of these words. Linear in their bytes.
-fn any_is_refused(words: &[&str]) -> bool
-    ensures { result ≡ list_any (λ word. is_refused word.now) words.now }
+/// Whether no form has one of these arguments. Linear in their bytes.
+fn any_is_refused(arguments: &[&str]) -> bool
+    ensures { result ≡ list_any (λ argument. is_refused argument.now) arguments.now }
 {
-    words.iter().any(|word| is_refused(word))
+    arguments.iter().any(|argument| is_refused(argument))
 }
 
-/// The argument of `clap` for an option.
+/// What `clap` is told of an option.
 fn option_arg(alloc: Global, option: FormOption<'_>) -> Arg<'_>
     ensures rule { rule_of result ≡ option_rule (option_meant option.entry) }
     ensures local { result.global ≡ false }
@@ -103,7 +103,7 @@ fn option_arg(alloc: Global, option: FormOption<'_>) -> Arg<'_>
     }
 }
 
-/// The argument of `clap` for a word that is no option.
+/// What `clap` is told of an argument that is no option.
 fn place_arg(alloc: Global, place: &str) -> Arg<'_>
     ensures rule { rule_of result ≡ place_rule place.now }
     ensures local { result.global ≡ false }
@@ -111,8 +111,8 @@ fn place_arg(alloc: Global, place: &str) -> Arg<'_>
     Arg::new(alloc, place).required(true)
 }
 
-/// The command of `clap` for a form: words that are no options, in this order, and these options. One call of `clap` for
-/// each.
+/// The command of `clap` for a form: arguments that are no options, in this order, and these options. One call of `clap`
+/// for each.
 fn form_command<'a>(
     alloc: Global,
     places: &[&'a str],
@@ -132,24 +132,24 @@ fn form_command<'a>(
     Ok(command)
 }
 
-/// The values of the form's names in the words, or `None` where they aren't of the form. The only error is want of
+/// The values of the form's names in the arguments, or `None` where they aren't of the form. The only error is want of
 /// memory.
 pub fn form_values<'a>(
     alloc: Global,
     places: &[&'a str],
     options: &[FormOption<'a>],
-    words: &'a [&'a str],
+    arguments: &'a [&'a str],
 ) -> Result<Option<ArgMatches<'a>>, Memory>
     requires apart { is_apart (form_meant places.now options.now) ≡ true }
     requires few { length places.now ≤ 65535 }
     ensures { IfOk result (λ found. option_map values_found found
-        ≡ values_of (form_meant places.now options.now) (map (λ word. word.now) words.now)) }
+        ≡ values_of (form_meant places.now options.now) (map (λ argument. argument.now) arguments.now)) }
 {
-    if any_is_refused(words) {
+    if any_is_refused(arguments) {
         return Ok(None);
     }
     let command = form_command(alloc, places, options)?;
-    match command.try_get_matches_from(words) {
+    match command.try_get_matches_from(arguments) {
         Ok(matches) => Ok(Some(matches)),
         Err(error) => match error.kind() {
             ErrorKind::OutOfMemory => Err(Memory),

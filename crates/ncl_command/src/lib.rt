@@ -1,4 +1,4 @@
-//! The words that nclc is called with, read with `clap` as a command.
+//! The arguments that nclc is called with, read with `clap` as a command.
 #![tactic(auto)]
 
 mod command;

@@ -23,25 +23,25 @@ fn file(alloc: Global, name: &str, bytes: Vec<u8>) -> anyhow::Result<MemFile> {
     })
 }
 
-/// What stands after the `=` of a word such as `--words=FILE`, and else the word.
-fn value_of(word: &str) -> &str {
-    match word.split_once('=') {
+/// What stands after the `=` of an argument such as `--words=FILE`, and else the argument.
+fn value_of(argument: &str) -> &str {
+    match argument.split_once('=') {
         Some((_, value)) => value,
-        None => word,
+        None => argument,
     }
 }
 
-/// The files that these words name: those that were kept, and those that lie in the folder. A pass over the kept files
-/// for each word.
+/// The files that these arguments name: those that were kept, and those that lie in the folder. A pass over the kept
+/// files for each argument.
 fn files_of<R: Files + AllocGlobal>(
     rt: &R,
     alloc: Global,
-    words: &[&str],
+    arguments: &[&str],
     kept: &[MemFile],
 ) -> anyhow::Result<Vec<MemFile>> {
     let mut files = Vec::new(alloc);
-    for word in words {
-        let name = value_of(word);
+    for argument in arguments {
+        let name = value_of(argument);
         if let Some(one) = kept.iter().find(|one| one.name.bytes() == name.as_bytes()) {
             files.push(one.clone()?)?;
         } else if let Ok(bytes) = fs::read(rt, name) {
@@ -58,16 +58,16 @@ fn status_and_text<R: Threads + Sync + Files + AllocGlobal>(
     command: &str,
     kept: &[MemFile],
 ) -> anyhow::Result<(u8, Vec<u8>)> {
-    let words: Vec<&str> = command.split(' ').collect(alloc)?;
-    let files = files_of(rt, alloc, &words, kept)?;
+    let arguments: Vec<&str> = command.split(' ').collect(alloc)?;
+    let files = files_of(rt, alloc, &arguments, kept)?;
     let mut source = MemSource::new(files, AT_ONCE, Vec::new(alloc));
     let mut sink = MemSink::new(alloc, ROOM, AT_ONCE, Vec::new(alloc))?;
-    let status = run(rt, alloc, &words, &mut source, &mut sink);
+    let status = run(rt, alloc, &arguments, &mut source, &mut sink);
     Ok((status, sink.bytes().to_vec(alloc)?))
 }
 
-/// Carries out a line, the words of a command with blanks between them, and prints it, what it writes, and its status. Where
-/// the line ends with `> NAME`, what is written is kept as a file of this name for the lines that follow.
+/// Carries out a line, the arguments of a command with blanks between them, and prints it, what it writes, and its
+/// status. Where the line ends with `> NAME`, what is written is kept as a file of this name for the lines that follow.
 fn carry_out_line<R: Threads + Sync + Files + AllocGlobal + Print>(
     rt: &R,
     line: &str,

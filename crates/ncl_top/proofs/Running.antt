@@ -8,9 +8,9 @@ use Rattle.ncl_sim.specs.declared.trace.End.TheVariants.{Quiet}
 use Rattle.ncl_sim.specs.TimedRun.{TraceData, DeliversAll, words_due}
 use Rattle.ncl_sim.proofs.Existence.{some_run}
 use Rattle.ncl_sim.proofs.Quiet.{sound-ends_quiet, sound-delivers}
-use Rattle.ncl_command.specs.Command.{Words, sim, command_of}
+use Rattle.ncl_command.specs.Command.{Arguments, sim, command_of}
 use Rattle.ncl_top.specs.Simulating.{end_status, run_status, run_text, IsRunReply, ran, delayed, piped}
-use Rattle.ncl_top.specs.Answer.{Answer, replied, words_determine_text, words_determine_status, SourceState, SinkState, Ran, AnswersExactly, SimulatesWhatWorks}
+use Rattle.ncl_top.specs.Answer.{Answer, replied, arguments_determine_text, arguments_determine_status, SourceState, SinkState, Ran, AnswersExactly, SimulatesWhatWorks}
 use Rattle.ncl_top.proofs.Ends.{answers_exactly}
 use Rattle.ncl_top.proofs.WordsRead.{words_fit}
 
@@ -21,8 +21,8 @@ whole_status p t offered quiet all = ap (λ e. end_status e (length t.delivered 
     same : (m n : ℕ) → m ≡ n → (m == n) ≡ true
     same m n e = grind (arith, nat_tests)
 
-module _ (words : Words) (source : SourceState) (sink sink' : SinkState) (status : ℕ) (exact : AnswersExactly words source sink sink' status) where
-  runs_through : SimulatesWhatWorks words source sink sink' status
+module _ (arguments : Arguments) (source : SourceState) (sink sink' : SinkState) (status : ℕ) (exact : AnswersExactly arguments source sink sink' status) where
+  runs_through : SimulatesWhatWorks arguments source sink sink' status
   runs_through files netlist delays offers vcd told asked p text sound d stated offered said =
       let (t, run) = some_run p d offered in
       let wide : AreWordsOf p offered = (words_fit (length p.inputs) (bytes_of files offers) offered said).1 in
@@ -31,7 +31,7 @@ module _ (words : Words) (source : SourceState) (sink sink' : SinkState) (status
       let ends : run_status p t offered ≡ 0 = whole_status p t offered quiet delivers.as_many in
       let lines = run_text vcd p t offered in
       let reply : IsRunReply p d offered vcd 0 lines = record { trace = t; run = run; ends = sym ends; told = refl } in
-      let answer : Answer words (Some files) 0 lines =
+      let answer : Answer arguments (Some files) 0 lines =
       replied (sim netlist delays offers vcd) asked 0 lines
       (piped (bytes_of files netlist) refl p text 0 lines (delayed (bytes_of files delays) refl d stated 0 lines (ran (bytes_of files offers) refl offered said 0 lines reply))) in
       elim (exact files 0 lines told answer (status_determined asked)) [
@@ -39,12 +39,12 @@ module _ (words : Words) (source : SourceState) (sink sink' : SinkState) (status
         | inr kept ↦ inr kept
       ]
     where
-      status_determined : command_of words ≡ Some (sim netlist delays offers vcd) → IsTrue (words_determine_status (command_of words))
-      status_determined is = subst (λ c. IsTrue (words_determine_status c)) (sym is) refl
+      status_determined : command_of arguments ≡ Some (sim netlist delays offers vcd) → IsTrue (arguments_determine_status (command_of arguments))
+      status_determined is = subst (λ c. IsTrue (arguments_determine_status c)) (sym is) refl
 
-      determined : command_of words ≡ Some (sim netlist delays offers vcd) → IsTrue (words_determine_text (command_of words))
-      determined is = subst (λ c. IsTrue (words_determine_text c)) (sym is) refl
+      determined : command_of arguments ≡ Some (sim netlist delays offers vcd) → IsTrue (arguments_determine_text (command_of arguments))
+      determined is = subst (λ c. IsTrue (arguments_determine_text c)) (sym is) refl
 
 -- whatever call ended, ended so
-pub simulates_what_works : (words : Words) (source source' : SourceState) (sink sink' : SinkState) (status : ℕ) → Ran words source source' sink sink' status → SimulatesWhatWorks words source sink sink' status
-simulates_what_works words source source' sink sink' status how = runs_through words source sink sink' status (answers_exactly words source source' sink sink' status how)
+pub simulates_what_works : (arguments : Arguments) (source source' : SourceState) (sink sink' : SinkState) (status : ℕ) → Ran arguments source source' sink sink' status → SimulatesWhatWorks arguments source sink sink' status
+simulates_what_works arguments source source' sink sink' status how = runs_through arguments source sink sink' status (answers_exactly arguments source source' sink sink' status how)

@@ -1,15 +1,15 @@
--- The words and the files have at most one status, and at most one text where they determine it.
+-- The arguments and the files have at most one status, and at most one text where they determine it.
 use Rattle.std.proofs.Common.{◌≡◌, ℕ, List, Some, None, IsTrue, Bool, true, false, not, refl, sym, ap, ◌∙◌, subst}
 use Rattle.std.proofs.lemmas.Bool.{both_ways}
 use Rattle.ncl_base.specs.Files.{Files}
 use Rattle.ncl_check.specs.Reply.{IsCheckReply}
 use Rattle.ncl_check.proofs.OneReply.{same_reply}
-use Rattle.ncl_command.specs.Command.{Words, Command, check, compile, sim, matching, demo, command_of}
+use Rattle.ncl_command.specs.Command.{Arguments, Command, check, compile, sim, matching, demo, command_of}
 use Rattle.ncl_top.specs.Compiling.{IsCompileReply}
 use Rattle.ncl_top.proofs.CompileStatus.{same_compile_status}
 use Rattle.ncl_top.proofs.Matched.{one_match_reply}
 use Rattle.ncl_top.proofs.Simulated.{one_sim_reply}
-use Rattle.ncl_top.specs.Answer.{status_of, IsFileReply, IsReply, Answer, not_understood, replied, words_determine_text, determines_text, words_determine_status, determines_status}
+use Rattle.ncl_top.specs.Answer.{status_of, IsFileReply, IsReply, Answer, not_understood, replied, arguments_determine_text, determines_text, arguments_determine_status, determines_status}
 
 -- the bytes that both replies are to
 same_file_reply : (files : Files) (file : List ℕ) (limit : ℕ) (why : Bool) (status other : ℕ) (text line : List ℕ) → IsFileReply (Some files) file limit why status text → IsFileReply (Some files) file limit why other line → (status ≡ other) × (why ≡ false → text ≡ line)
@@ -38,22 +38,22 @@ same_command_text files (sim netlist delays words vcd) determined status other t
 same_command_text files (matching netlist blif limit) determined status other text line one two = (one_match_reply files netlist blif limit one two).1
 same_command_text files (demo bits) determined status other text line one two = absurd (both_ways false refl determined)
 
-module _ (words : Words) (files : Files) where
-  -- two commands that the words give are one
-  one_command : (command named : Command) → command_of words ≡ Some command → command_of words ≡ Some named → command ≡ named
+module _ (arguments : Arguments) (files : Files) where
+  -- two commands that the arguments give are one
+  one_command : (command named : Command) → command_of arguments ≡ Some command → command_of arguments ≡ Some named → command ≡ named
   one_command command named is is' = let both : Some command ≡ Some named = sym is ∙ is' in cc
 
-  pub same_status : IsTrue (words_determine_status (command_of words)) → {status other : ℕ} {text line : List ℕ} → Answer words (Some files) status text → Answer words (Some files) other line → status ≡ other
+  pub same_status : IsTrue (arguments_determine_status (command_of arguments)) → {status other : ℕ} {text line : List ℕ} → Answer arguments (Some files) status text → Answer arguments (Some files) other line → status ≡ other
   same_status determined (not_understood e) (not_understood e') = refl
   same_status determined (not_understood e) (replied command is status text reply) = let differ : None ≡ Some command = sym e ∙ is in cc
   same_status determined (replied command is status text reply) (not_understood e) = let differ : None ≡ Some command = sym e ∙ is in cc
   same_status determined (replied command is status text reply) (replied command' is' status' text' reply') =
-      same_command_status files command' (subst (λ o. IsTrue (words_determine_status o)) is' determined) status status' text text' (subst (λ m. IsReply m (Some files) status text) (one_command command command' is is') reply) reply'
+      same_command_status files command' (subst (λ o. IsTrue (arguments_determine_status o)) is' determined) status status' text text' (subst (λ m. IsReply m (Some files) status text) (one_command command command' is is') reply) reply'
 
-  pub same_text : IsTrue (words_determine_text (command_of words)) → {status other : ℕ} {text line : List ℕ} → Answer words (Some files) status text → Answer words (Some files) other line → text ≡ line
+  pub same_text : IsTrue (arguments_determine_text (command_of arguments)) → {status other : ℕ} {text line : List ℕ} → Answer arguments (Some files) status text → Answer arguments (Some files) other line → text ≡ line
   same_text determined (not_understood e) (not_understood e') = refl
   same_text determined (not_understood e) (replied command is status text reply) = let differ : None ≡ Some command = sym e ∙ is in cc
   same_text determined (replied command is status text reply) (not_understood e) = let differ : None ≡ Some command = sym e ∙ is in cc
   same_text determined (replied command is status text reply) (replied command' is' status' text' reply') =
-      same_command_text files command' (subst (λ o. IsTrue (words_determine_text o)) is' determined) status status' text text'
+      same_command_text files command' (subst (λ o. IsTrue (arguments_determine_text o)) is' determined) status status' text text'
       (subst (λ m. IsReply m (Some files) status text) (one_command command command' is is') reply) reply'

@@ -8,7 +8,7 @@ use Rattle.ncl_shape.specs.Pipeline.{PipelineData}
 use Rattle.ncl_delay.specs.Delays.{DelaysData}
 use Rattle.ncl_sim.specs.declared.trace.End.{End}
 use Rattle.ncl_sim.specs.declared.trace.End.TheVariants.{Quiet, Hazard, Over}
-use Rattle.ncl_command.specs.Command.{Words, Command, check, compile, sim, matching, demo}
+use Rattle.ncl_command.specs.Command.{Arguments, Command, check, compile, sim, matching, demo}
 use Rattle.ncl_top.specs.Compiling.{IsModelsReply, IsCompileReply, too_large, compiled, no_models, modelled}
 use Rattle.ncl_top.specs.Demonstrating.{IsDemoReply}
 use Rattle.ncl_top.specs.Demonstrating as demonstrating
@@ -60,7 +60,7 @@ of_sim told netlist delays words vcd (piped bytes given p is status text reply) 
 of_matched : (c : Circuit) (models : List Model) (limit : ℕ) {status : ℕ} {text : List ℕ} → IsMatched c models limit status text → IsOfNoFault status
 of_matched c models limit (compares.widths is) = (λ e. absurd (omega arith), λ e. absurd (omega arith))
 of_matched c models limit (compares.full output is) = (λ e. absurd (omega arith), λ e. absurd (omega arith))
-of_matched c models limit (compares.differs word output is) = (λ e. absurd (omega arith), λ e. absurd (omega arith))
+of_matched c models limit (compares.differs argument output is) = (λ e. absurd (omega arith), λ e. absurd (omega arith))
 of_matched c models limit (compares.same is) = (λ e. absurd (omega arith), λ e. absurd (omega arith))
 
 of_compared : (told : Option Files) (p : PipelineData) (blif : List ℕ) (limit : ℕ) {status : ℕ} {text : List ℕ} → IsModelsMatched told p blif limit status text → IsOfNoFault status
@@ -83,26 +83,26 @@ of_reply (matching netlist blif limit) told status text reply = of_match told ne
 of_reply (demo bits) told status text reply = of_demo bits reply
 
 -- what is answered where nothing fails has no such status
-of_answer : (words : Words) (told : Option Files) {status : ℕ} {text : List ℕ} → Answer words told status text → IsOfNoFault status
-of_answer words told (not_understood none) = (λ e. absurd (omega arith), λ e. absurd (omega arith))
-of_answer words told (replied command is status text reply) = of_reply command told status text reply
+of_answer : (arguments : Arguments) (told : Option Files) {status : ℕ} {text : List ℕ} → Answer arguments told status text → IsOfNoFault status
+of_answer arguments told (not_understood none) = (λ e. absurd (omega arith), λ e. absurd (omega arith))
+of_answer arguments told (replied command is status text reply) = of_reply command told status text reply
 
-read_rose : (words : Words) (source source' : SourceState) (sink sink' : SinkState) {said status : ℕ} {text : List ℕ} → Says words source source' said text → CameOut sink sink' said text status → status ≡ 4 → Rose source.faults source'.faults
-read_rose words source source' sink sink' (answered status text answer) (whole grew) e = absurd ((of_answer words source.files answer).0 e)
-read_rose words source source' sink sink' says (cut_short rose grew) e = absurd (omega arith)
-read_rose words source source' sink sink' (read_failed command of named rose) (whole grew) e = rose
-read_rose words source source' sink sink' no_memory (whole grew) e = absurd (omega arith)
+read_rose : (arguments : Arguments) (source source' : SourceState) (sink sink' : SinkState) {said status : ℕ} {text : List ℕ} → Says arguments source source' said text → CameOut sink sink' said text status → status ≡ 4 → Rose source.faults source'.faults
+read_rose arguments source source' sink sink' (answered status text answer) (whole grew) e = absurd ((of_answer arguments source.files answer).0 e)
+read_rose arguments source source' sink sink' says (cut_short rose grew) e = absurd (omega arith)
+read_rose arguments source source' sink sink' (read_failed command of named rose) (whole grew) e = rose
+read_rose arguments source source' sink sink' no_memory (whole grew) e = absurd (omega arith)
 
-write_rose : (words : Words) (source source' : SourceState) (sink sink' : SinkState) {said status : ℕ} {text : List ℕ} → Says words source source' said text → CameOut sink sink' said text status → status ≡ 5 → Rose sink.faults sink'.faults
-write_rose words source source' sink sink' (answered status text answer) (whole grew) e = absurd ((of_answer words source.files answer).1 e)
-write_rose words source source' sink sink' says (cut_short rose grew) e = rose
-write_rose words source source' sink sink' (read_failed command of named rose) (whole grew) e = absurd (omega arith)
-write_rose words source source' sink sink' no_memory (whole grew) e = absurd (omega arith)
+write_rose : (arguments : Arguments) (source source' : SourceState) (sink sink' : SinkState) {said status : ℕ} {text : List ℕ} → Says arguments source source' said text → CameOut sink sink' said text status → status ≡ 5 → Rose sink.faults sink'.faults
+write_rose arguments source source' sink sink' (answered status text answer) (whole grew) e = absurd ((of_answer arguments source.files answer).1 e)
+write_rose arguments source source' sink sink' says (cut_short rose grew) e = rose
+write_rose arguments source source' sink sink' (read_failed command of named rose) (whole grew) e = absurd (omega arith)
+write_rose arguments source source' sink sink' no_memory (whole grew) e = absurd (omega arith)
 
 -- a call that ended with 4 had a source that failed
-pub read_has_failed : (words : Words) (source source' : SourceState) (sink sink' : SinkState) (status : ℕ) → Ran words source source' sink sink' status → status ≡ 4 → Rose source.faults source'.faults
-read_has_failed words source source' sink sink' status call = read_rose words source source' sink sink' call.says call.tells
+pub read_has_failed : (arguments : Arguments) (source source' : SourceState) (sink sink' : SinkState) (status : ℕ) → Ran arguments source source' sink sink' status → status ≡ 4 → Rose source.faults source'.faults
+read_has_failed arguments source source' sink sink' status call = read_rose arguments source source' sink sink' call.says call.tells
 
 -- a call that ended with 5 had a sink that failed
-pub write_has_failed : (words : Words) (source source' : SourceState) (sink sink' : SinkState) (status : ℕ) → Ran words source source' sink sink' status → status ≡ 5 → Rose sink.faults sink'.faults
-write_has_failed words source source' sink sink' status call = write_rose words source source' sink sink' call.says call.tells
+pub write_has_failed : (arguments : Arguments) (source source' : SourceState) (sink sink' : SinkState) (status : ℕ) → Ran arguments source source' sink sink' status → status ≡ 5 → Rose sink.faults sink'.faults
+write_has_failed arguments source source' sink sink' status call = write_rose arguments source source' sink sink' call.says call.tells

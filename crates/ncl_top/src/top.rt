@@ -12,53 +12,54 @@ use ncl_verdict::{Judge, Stages};
 use std::alloc::Global;
 use std::thread::Threads;
 
-/// Answers the words that follow the program's name, and gives the status to end with.
+/// Answers the arguments that follow the program's name, and gives the status to end with.
 ///
-/// Reads the files that the words name from the source, makes the whole text, and writes it to the
+/// Reads the files that the arguments name from the source, makes the whole text, and writes it to the
 /// sink. The status is 0 where a netlist is accepted, models are compiled, a run delivers every word that is due and
 /// comes to rest, or a netlist and models have one function; 1 where a stage has a fault, a run loses an item or stalls,
-/// or a netlist and models differ in their function or in the numbers of bits of their words; 2 where the words are of no
-/// form; 3 where a file is refused; 4 where the source failed; 5 where the sink failed; 6 where a stage is too large to
-/// be judged or an output to be compared; 7 where memory was refused; and 8 where a run has as many steps as it may and
-/// could go on.
+/// or a netlist and models differ in their function or in the numbers of bits of their words; 2 where the arguments are
+/// of no form; 3 where a file is refused; 4 where the source failed; 5 where the sink failed; 6 where a stage is too
+/// large to be judged or an output to be compared; 7 where memory was refused; and 8 where a run has as many steps as it
+/// may and could go on.
 ///
 /// A netlist that is accepted works at every gate delay: clause `headline`. `IsAnswered` says all that a call keeps, of
-/// which that is a part. What is compiled works too, and `check` accepts it: `compiles`. A run of a netlist of sound stages ends with status 0 at
-/// whatever delays: `simulates`. Models that match a netlist give what it gives at each word: `matches`. Costs what the
-/// command costs, and a pass over the text. Stages are judged, and outputs compared, by up to four threads.
+/// which that is a part. What is compiled works too, and `check` accepts it: `compiles`. A run of a netlist of sound
+/// stages ends with status 0 at whatever delays: `simulates`. Models that match a netlist give what it gives at each
+/// word: `matches`. Costs what the command costs, and a pass over the text. Stages are judged, and outputs compared, by
+/// up to four threads.
 pub fn run<R: Threads + Sync, S: Source, K: Sink>(
     rt: &R,
     alloc: Global,
-    words: &[&str],
+    arguments: &[&str],
     source: &mut S,
     sink: &mut K,
 ) -> u8
-    requires { AllowsNamed (S.allowed source.old) (map (λ word. word.now) words.now) }
-    ensures answered { IsAnswered (map (λ word. word.now) words.now)
+    requires { AllowsNamed (S.allowed source.old) (map (λ argument. argument.now) arguments.now) }
+    ensures answered { IsAnswered (map (λ argument. argument.now) arguments.now)
         (record { files = S.files source.old; faults = S.faults source.old })
         (record { files = S.files source.new; faults = S.faults source.new })
         (record { written = K.written sink.old; faults = K.faults sink.old })
         (record { written = K.written sink.new; faults = K.faults sink.new })
         result }
-    ensures headline { AcceptsWhatWorks (map (λ word. word.now) words.now)
+    ensures headline { AcceptsWhatWorks (map (λ argument. argument.now) arguments.now)
         (record { files = S.files source.old; faults = S.faults source.old })
         result }
     ensures allowed { S.allowed source.new ≡ S.allowed source.old }
 {
-    run_by(rt, alloc, words, source, sink, &Stages)
+    run_by(rt, alloc, arguments, source, sink, &Stages)
 }
 
 /// Answers as `run` does, and has each stage judged by a judge of the caller's.
 pub fn run_by<R: Threads + Sync, S: Source, K: Sink, J: Judge + Sync>(
     rt: &R,
     alloc: Global,
-    words: &[&str],
+    arguments: &[&str],
     source: &mut S,
     sink: &mut K,
     judge: &J,
 ) -> u8
-    requires { AllowsNamed (S.allowed source.old) (map (λ word. word.now) words.now) }
-    ensures answered { IsAnswered (map (λ word. word.now) words.now)
+    requires { AllowsNamed (S.allowed source.old) (map (λ argument. argument.now) arguments.now) }
+    ensures answered { IsAnswered (map (λ argument. argument.now) arguments.now)
         (record { files = S.files source.old; faults = S.faults source.old })
         (record { files = S.files source.new; faults = S.faults source.new })
         (record { written = K.written sink.old; faults = K.faults sink.old })
@@ -66,29 +67,29 @@ pub fn run_by<R: Threads + Sync, S: Source, K: Sink, J: Judge + Sync>(
         result }
     ensures allowed { S.allowed source.new ≡ S.allowed source.old }
 {
-    match answer(rt, alloc, words, source, judge) {
+    match answer(rt, alloc, arguments, source, judge) {
         Reply::Made(status, text) => tell(sink, status, &text),
         Reply::Fixed(status, text) => tell(sink, status, text),
     }
 }
 
-/// What the words are answered.
+/// What the arguments are answered.
 fn answer<R: Threads + Sync, S: Source, J: Judge + Sync>(
     rt: &R,
     alloc: Global,
-    words: &[&str],
+    arguments: &[&str],
     source: &mut S,
     judge: &J,
 ) -> Reply
-    requires { AllowsNamed (S.allowed source.old) (map (λ word. word.now) words.now) }
-    ensures says { Gives (Says (map (λ word. word.now) words.now)
+    requires { AllowsNamed (S.allowed source.old) (map (λ argument. argument.now) arguments.now) }
+    ensures says { Gives (Says (map (λ argument. argument.now) arguments.now)
         (record { files = S.files source.old; faults = S.faults source.old })
         (record { files = S.files source.new; faults = S.faults source.new })) result }
     ensures files { S.files source.new ≡ S.files source.old }
     ensures allowed { S.allowed source.new ≡ S.allowed source.old }
     ensures faults { S.faults source.old ≤ S.faults source.new }
 {
-    let command = match Command::parse(alloc, words) {
+    let command = match Command::parse(alloc, arguments) {
         Ok(Some(command)) => command,
         Ok(None) => return Reply::Fixed(2, b"words not understood\n"),
         Err(_) => return Reply::Fixed(7, b"out of memory\n"),

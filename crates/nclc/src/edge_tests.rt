@@ -1,4 +1,4 @@
-//! Real files, printers that fail and words that are no text.
+//! Real files, printers that fail and arguments that are no text.
 use crate::answer;
 use crate::file_source::FileSource;
 use crate::stdout_sink::StdoutSink;
@@ -143,14 +143,14 @@ impl Env for NoText {
 }
 
 #[test]
-fn words_that_are_no_text_are_of_no_form(rt: HostRuntime) {
+fn arguments_that_are_no_text_are_of_no_form(rt: HostRuntime) {
     let given = (NoText, rt.alloc());
     let answered = answer(&rt, env::args(&given));
     assert_eq!(rt; answered, Ok(2));
 }
 
 #[test]
-fn words_without_memory_have_status_7(rt: HostRuntime) {
+fn arguments_without_memory_have_status_7(rt: HostRuntime) {
     let answered = answer(&rt, Err(io::Error::from(ErrorKind::OutOfMemory)));
     assert_eq!(rt; answered, Err(7));
 }

@@ -9,7 +9,7 @@ mod edge_tests;
 mod file_source;
 mod stdout_sink;
 mod tally;
-mod words;
+mod arguments;
 
 use file_source::FileSource;
 use ncl_top::run;
@@ -19,14 +19,14 @@ use std::rt::Files;
 use std::thread::Threads;
 use std::{env, io};
 use stdout_sink::StdoutSink;
-use words::{views, words_given};
+use arguments::{arguments_given, views};
 
-/// Answers the words of the command line and ends with the answer's status.
+/// Answers the arguments of the command line and ends with the answer's status.
 fn main(rt: HostRuntime) -> ExitCode {
     code_of(answer(&rt, env::args(&rt)))
 }
 
-/// The code of this status, whether there was memory for the words or not.
+/// The code of this status, whether there was memory for the arguments or not.
 fn code_of(answered: Result<u8, u8>) -> ExitCode
     ensures { MatchResult answered (λ status. exit_status result ≡ status) (λ status. exit_status result ≡ status) }
 {
@@ -35,17 +35,17 @@ fn code_of(answered: Result<u8, u8>) -> ExitCode
     }
 }
 
-/// Answers these words of a command line, the program's name first, from the system's files to standard output.
+/// Answers these arguments of a command line, the program's name first, from the system's files to standard output.
 ///
-/// The status to end with is an error where there was no memory for the words, and then it is 7.
+/// The status to end with is an error where there was no memory for the arguments, and then it is 7.
 fn answer<R>(rt: &R, args: io::Result<Args>) -> Result<u8, u8>
 where
     R: Threads + Sync + Files + Print + AllocGlobal,
     ensures no_memory { IfErr result (λ status. status ≡ 7) }
 {
-    let words = words_given(rt.alloc(), args)?;
-    let words = views(rt.alloc(), &words)?;
+    let arguments = arguments_given(rt.alloc(), args)?;
+    let arguments = views(rt.alloc(), &arguments)?;
     let mut source = FileSource::new(rt);
     let mut sink = StdoutSink::new(rt);
-    Ok(run(rt, rt.alloc(), &words, &mut source, &mut sink))
+    Ok(run(rt, rt.alloc(), &arguments, &mut source, &mut sink))
 }

@@ -73,14 +73,14 @@ impl Judge for Counting {
 fn steady_status<R: Threads + Sync, J: Judge + Sync>(
     rt: &R,
     alloc: Global,
-    words: &[&str],
+    arguments: &[&str],
     source: &mut SteadySource,
     judge: &J,
 ) -> u8
     ensures read { result ≢ 4 }
     ensures write { result ≢ 5 }
 {
-    run_by(rt, alloc, words, source, &mut NullSink::new(), judge)
+    run_by(rt, alloc, arguments, source, &mut NullSink::new(), judge)
 }
 
 /// Three banks in the file `f` of a source that can't fail.
@@ -103,9 +103,9 @@ fn an_absent_file_of_a_steady_source_is_empty(rt: HostRuntime) -> Result<(), Fai
 #[test]
 fn two_stages_are_judged_at_one_time(rt: HostRuntime) -> Result<(), Fail> {
     let mut source = three_banks(rt.alloc())?;
-    for words in [["check", "f"], ["demo", "2"]] {
+    for arguments in [["check", "f"], ["demo", "2"]] {
         let judge = Meeting::new();
-        let status = steady_status(&rt, rt.alloc(), &words, &mut source, &judge);
+        let status = steady_status(&rt, rt.alloc(), &arguments, &mut source, &judge);
         assert_eq!(rt; status, 0);
         let met = judge.met.load(Ordering::SeqCst);
         assert_eq!(rt; met, 2);

@@ -4,7 +4,7 @@ use Rattle.ncl_command.specs.Rules.{app_with, place_rule}
 use Rattle.ncl_command.proofs.CommandRules.{places_more, rules_more}
 use Rattle.ncl_command.proofs.form.form_command.Goals as goal
 
--- every word is an argument, and none asks for help
+-- every argument is an argument, and none asks for help
 plain : Shape → Shape
 plain s = record s { no_binary_name = true; disable_help_flag = true }
 

@@ -13,7 +13,7 @@ use Rattle.ncl_command.specs.Rules.{app_for}
 use Rattle.ncl_command.proofs.FormRules.{is_free}
 use Rattle.ncl_command.proofs.FormReads.{Fails}
 use Rattle.ncl_command.proofs.FormValues.{fails_by, found, not_found}
-use Rattle.ncl_command.proofs.RefusedWords.{refused_meant, refused_reads}
+use Rattle.ncl_command.proofs.RefusedArguments.{refused_meant, refused_reads}
 use Rattle.ncl_command.proofs.form.form_values.Goals as goal
 
 -- no option has the name of a place
@@ -30,30 +30,30 @@ are_few places few = subst (λ n. n ≤ 65535) (sym (length-map places (λ (plac
 pub returns-then-any_is_refused : goal.returns-then-any_is_refused
 returns-then-any_is_refused c =
     let form = form_meant c.args.places.now c.args.options.now in
-    let words = map (λ word. word.now) c.args.words.now in
-    sym (ap (option_map (value_given form)) (refused_reads form words (sym (refused_meant c.args.words.now) ∙ sym c.any_is_refused.ensures ∙ c.if-any_is_refused.true)))
+    let arguments = map (λ argument. argument.now) c.args.arguments.now in
+    sym (ap (option_map (value_given form)) (refused_reads form arguments (sym (refused_meant c.args.arguments.now) ∙ sym c.any_is_refused.ensures ∙ c.if-any_is_refused.true)))
 
 pub returns-in-Ok : goal.returns-in-Ok
 returns-in-Ok c =
     let form = form_meant c.args.places.now c.args.options.now in
     let apart = apart_is form c.requires.apart in
     let few = are_few c.args.places.now c.requires.few in
-    let words = map (λ word. word.now) c.args.words.now in
+    let arguments = map (λ argument. argument.now) c.args.arguments.now in
     let app_is : app_of c.in_ok-command.command ≡ app_for form = c.in_ok-command.ensures in
     let simple = and_parts (is_simple (app_for form)) (is_free_app (built (app_for form))) (is_free form few) in
     let passes = c.in-Ok.ensures.kinds (ap is_simple_and_free app_is ∙ is_free form few) in
     let matches = c.in-Ok.ensures.matches (ap is_simple app_is ∙ simple.0) in
-    found form apart few words (sym (refused_meant c.args.words.now) ∙ sym c.any_is_refused.ensures ∙ c.if-any_is_refused.false) c.in-Ok.matches
-    (subst (λ app. fault_of app words ≡ []) app_is passes) (subst (λ app. rows_of (found_of c.in-Ok.matches) ≡ matches_of app words) app_is matches.0)
+    found form apart few arguments (sym (refused_meant c.args.arguments.now) ∙ sym c.any_is_refused.ensures ∙ c.if-any_is_refused.false) c.in-Ok.matches
+    (subst (λ app. fault_of app arguments ≡ []) app_is passes) (subst (λ app. rows_of (found_of c.in-Ok.matches) ≡ matches_of app arguments) app_is matches.0)
 
 pub returns : goal.returns
 returns c =
     let form = form_meant c.args.places.now c.args.options.now in
     let apart = apart_is form c.requires.apart in
     let few = are_few c.args.places.now c.requires.few in
-    let words = map (λ word. word.now) c.args.words.now in
+    let arguments = map (λ argument. argument.now) c.args.arguments.now in
     let app_is : app_of c.in_ok-command.command ≡ app_for form = c.in_ok-command.ensures in
     let kinds = c.in-Err.ensures.kinds (ap is_simple_and_free app_is ∙ is_free form few) in
-    let fails = fails_by (fault_of (app_of c.in_ok-command.command) words) c.in-Err.error kinds (λ e. c.in_default.not-OutOfMemory (c.kind.ensures ∙ e)) in
-    not_found form apart few words (sym (refused_meant c.args.words.now) ∙ sym c.any_is_refused.ensures ∙ c.if-any_is_refused.false)
-    (subst (λ app. Fails (fault_of app words)) app_is fails)
+    let fails = fails_by (fault_of (app_of c.in_ok-command.command) arguments) c.in-Err.error kinds (λ e. c.in_default.not-OutOfMemory (c.kind.ensures ∙ e)) in
+    not_found form apart few arguments (sym (refused_meant c.args.arguments.now) ∙ sym c.any_is_refused.ensures ∙ c.if-any_is_refused.false)
+    (subst (λ app. Fails (fault_of app arguments)) app_is fails)

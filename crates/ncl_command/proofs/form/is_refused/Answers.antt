@@ -2,11 +2,11 @@ use Rattle.std.proofs.Common.{◌≡◌, ◌≢◌, ◌∙◌, ℕ, List, [], �
 use Rattle.std.proofs.lemmas.Bool.{ne_eqb}
 use Rattle.std.proofs.lemmas.Str.Pattern.{strip_prefix_char}
 use Rattle.ncl_command.specs.Reading.{is_refused, is_refused_kind}
-use Rattle.ncl_command.proofs.WordKinds.{plain_kind, refused_kind}
+use Rattle.ncl_command.proofs.ArgumentKinds.{plain_kind, refused_kind}
 use Rattle.ncl_command.proofs.form.is_refused.Goals as goal
 
--- a word with no dash in front is refused where it is empty
-undashed : (word : List ℕ) → ((rest : List ℕ) → word ≢ 45 ∷ rest) → (length word == 0) ≡ is_refused word
+-- an argument with no dash in front is refused where it is empty
+undashed : (argument : List ℕ) → ((rest : List ℕ) → argument ≢ 45 ∷ rest) → (length argument == 0) ≡ is_refused argument
 undashed [] no_dash = refl
 undashed (byte ∷ rest) no_dash =
     ne_eqb (length (byte ∷ rest)) 0 (λ e. absurd (omega (arith, e)))
@@ -14,10 +14,10 @@ undashed (byte ∷ rest) no_dash =
 
 pub returns-in_default : goal.returns-in_default
 returns-in_default c =
-    c.is_empty.ensures ∙ undashed c.args.word.now (strip_prefix_char 45 c.args.word.now None c.in_default.ensures.cases (lit< tt))
+    c.is_empty.ensures ∙ undashed c.args.argument.now (strip_prefix_char 45 c.args.argument.now None c.in_default.ensures.cases (lit< tt))
 
 pub returns-in-None : goal.returns-in-None
 returns-in-None c =
-    sym (ap is_refused_kind (refused_kind c.args.word.now c.in-Some.dashed.now
-    (strip_prefix_char 45 c.args.word.now (Some c.in-Some.dashed) c.in-Some.ensures.cases (lit< tt))
+    sym (ap is_refused_kind (refused_kind c.args.argument.now c.in-Some.dashed.now
+    (strip_prefix_char 45 c.args.argument.now (Some c.in-Some.dashed) c.in-Some.ensures.cases (lit< tt))
     (strip_prefix_char 45 c.in-Some.dashed.now None c.in-None.ensures.cases (lit< tt))))

@@ -1,4 +1,4 @@
-//! The words that the program is called with.
+//! The arguments that the program is called with.
 ghost use Rattle.std.specs.Prelude.{◌≡◌, ◌≢◌, [], map, drop, string_bytes, Ok, Err, IfOk, IfErr, IsOkAnd, MatchResult};
 ghost use Rattle.std.specs.Vec.Iter.{into_iter_items};
 ghost use Rattle.std.specs.IoError.{error_kind};
@@ -11,18 +11,18 @@ use std::io::ErrorKind;
 /// The status where memory was refused before there was anything to say.
 const OUT_OF_MEMORY: u8 = 7;
 
-/// The words after the program's name, or the status to end with where there was no memory for them.
+/// The arguments after the program's name, or the status to end with where there was no memory for them.
 ///
-/// Where an argument is no text they are no words at all, and these are of no form.
-pub fn words_given(alloc: Global, args: io::Result<Args>) -> Result<Vec<String>, u8>
-    ensures words { IfOk args (λ args. MatchResult result
-        (λ words. words.items ≡ drop 1 (into_iter_items args)) (λ status. status ≡ OUT_OF_MEMORY)) }
-    ensures no_text { IfErr args (λ error. error_kind error ≡ ErrorKind.InvalidData → IsOkAnd result (λ words. words.items ≡ [])) }
+/// Where one is no text there are none at all, which is of no form.
+pub fn arguments_given(alloc: Global, args: io::Result<Args>) -> Result<Vec<String>, u8>
+    ensures arguments { IfOk args (λ args. MatchResult result
+        (λ arguments. arguments.items ≡ drop 1 (into_iter_items args)) (λ status. status ≡ OUT_OF_MEMORY)) }
+    ensures no_text { IfErr args (λ error. error_kind error ≡ ErrorKind.InvalidData → IsOkAnd result (λ arguments. arguments.items ≡ [])) }
     ensures no_memory { IfErr args (λ error. error_kind error ≢ ErrorKind.InvalidData → result ≡ Err OUT_OF_MEMORY) }
 {
     match args {
         Ok(args) => match after_name(alloc, args) {
-            Ok(words) => Ok(words),
+            Ok(arguments) => Ok(arguments),
             Err(_) => Err(OUT_OF_MEMORY),
         },
         Err(error) if error.kind() == ErrorKind::InvalidData => Ok(Vec::new(alloc)),
@@ -32,20 +32,20 @@ pub fn words_given(alloc: Global, args: io::Result<Args>) -> Result<Vec<String>,
 
 /// The arguments but the first, which is the program's name.
 fn after_name(alloc: Global, args: Args) -> Result<Vec<String>, AllocError>
-    ensures { IfOk result (λ words. words.items ≡ drop 1 (into_iter_items args)) }
+    ensures { IfOk result (λ arguments. arguments.items ≡ drop 1 (into_iter_items args)) }
 {
     args.skip(1).collect(alloc)
 }
 
-/// The words as views of their texts, or the status to end with where there was no memory for them. Linear in their
+/// The arguments as views of their texts, or the status to end with where there was no memory for them. Linear in their
 /// number; no text is copied.
-pub fn views<'a>(alloc: Global, words: &'a [String]) -> Result<Vec<&'a str>, u8>
-    ensures views { IfOk result (λ views. map (λ view. view.now) views.items ≡ map (λ word. string_bytes word) words.now) }
+pub fn views<'a>(alloc: Global, arguments: &'a [String]) -> Result<Vec<&'a str>, u8>
+    ensures views { IfOk result (λ views. map (λ view. view.now) views.items ≡ map (λ argument. string_bytes argument) arguments.now) }
     ensures no_memory { IfErr result (λ status. status ≡ OUT_OF_MEMORY) }
 {
     let mut views = Vec::new(alloc);
-    for word in words {
-        if views.push(word.as_str()).is_err() {
+    for argument in arguments {
+        if views.push(argument.as_str()).is_err() {
             return Err(OUT_OF_MEMORY);
         }
     }

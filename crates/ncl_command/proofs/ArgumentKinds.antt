@@ -1,9 +1,9 @@
--- What a word is, from the dashes that it begins with.
+-- What an argument is, from the dashes that it begins with.
 use Rattle.std.proofs.Common.{◌≡◌, ◌≢◌, ℕ, List, [], ◌∷◌, Bool, true, false, ◌==◌, refl, ap, ◌∙◌, eqb-true, if◌then◌else◌}
 use Rattle.ncl_command.specs.Reading.{Plain, Refused, kind_of, dashed_kind, option_kind}
 
--- a word that has bytes and no dash in front is no option
-pub plain_kind : (word : List ℕ) → ((rest : List ℕ) → word ≢ 45 ∷ rest) → word ≢ [] → kind_of word ≡ Plain
+-- an argument that has bytes and no dash in front is no option
+pub plain_kind : (argument : List ℕ) → ((rest : List ℕ) → argument ≢ 45 ∷ rest) → argument ≢ [] → kind_of argument ≡ Plain
 plain_kind [] no_dash full = absurd (full refl)
 plain_kind (byte ∷ rest) no_dash full = by (byte == 45) refl
   where
@@ -11,10 +11,10 @@ plain_kind (byte ∷ rest) no_dash full = by (byte == 45) refl
     by true e = absurd (no_dash rest (ap (λ b. b ∷ rest) (eqb-true byte 45 e)))
     by false e = rw e refl
 
--- a word with one dash in front is of no form
-pub refused_kind : (word rest : List ℕ) → word ≡ 45 ∷ rest → ((more : List ℕ) → rest ≢ 45 ∷ more) → kind_of word ≡ Refused
-refused_kind word [] is no_dash = ap kind_of is
-refused_kind word (byte ∷ rest) is no_dash = ap kind_of is ∙ by (byte == 45) refl
+-- an argument with one dash in front is of no form
+pub refused_kind : (argument rest : List ℕ) → argument ≡ 45 ∷ rest → ((more : List ℕ) → rest ≢ 45 ∷ more) → kind_of argument ≡ Refused
+refused_kind argument [] is no_dash = ap kind_of is
+refused_kind argument (byte ∷ rest) is no_dash = ap kind_of is ∙ by (byte == 45) refl
   where
     by : (dash : Bool) → byte == 45 ≡ dash → (if byte == 45 then option_kind rest else Refused) ≡ Refused
     by true e = absurd (no_dash rest (ap (λ b. b ∷ rest) (eqb-true byte 45 e)))

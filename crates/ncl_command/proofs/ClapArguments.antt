@@ -1,4 +1,4 @@
--- What `clap` sees in a word, by the kind of the word.
+-- What `clap` sees in an argument, by the kind of the argument.
 use Rattle.std.proofs.Common.{◌≡◌, ◌∙◌, ◌+◌, Bool, true, false, List, [], ◌∷◌, Option, Some, None, refl, sym, ap, ap₂, subst, length, not, ◌==◌, if◌then◌else◌, cond, eqb-true, ◌||◌, true≢false, arith}
 use Rattle.std.specs.List.{list_any, position_or_len, before_first, after_first}
 use Rattle.std.specs.Str.{bytes_eq}
@@ -6,27 +6,27 @@ use Rattle.std.proofs.lemmas.Bool.{eqb-false}
 use Rattle.std.proofs.Math.Seq.{take-length}
 use Rattle.std.specs.Prelude.{take}
 use Rattle.clap.specs.Lexer.{long_of, short_of}
-use Rattle.ncl_command.specs.Reading.{Text, WordKind, Refused, Plain, Named, Valued, kind_of, dashed_kind, option_kind, valued, is_equals}
+use Rattle.ncl_command.specs.Reading.{Text, ArgumentKind, Refused, Plain, Named, Valued, kind_of, dashed_kind, option_kind, valued, is_equals}
 
 abbrev pub dashes : Text
 dashes = 45 ∷ 45 ∷ []
 
--- a word that is no flag
-pub record IsPlain (word : Text) : Type 0 where
-  pub long : long_of word ≡ None
-  pub short : short_of word ≡ None
-  pub no_dashes : bytes_eq word dashes ≡ false
+-- an argument that is no flag
+pub record IsPlain (argument : Text) : Type 0 where
+  pub long : long_of argument ≡ None
+  pub short : short_of argument ≡ None
+  pub no_dashes : bytes_eq argument dashes ≡ false
 
--- a word `--NAME` or `--NAME=VALUE`
-pub record IsLong (word name : Text) (value : Option Text) : Type 0 where
-  pub long : long_of word ≡ Some (name, value)
-  pub no_dashes : bytes_eq word dashes ≡ false
+-- an argument `--NAME` or `--NAME=VALUE`
+pub record IsLong (argument name : Text) (value : Option Text) : Type 0 where
+  pub long : long_of argument ≡ Some (name, value)
+  pub no_dashes : bytes_eq argument dashes ≡ false
 
-abbrev pub IsSeen : Text → WordKind → Type 0
-IsSeen word Refused = Unit {0}
-IsSeen word Plain = IsPlain word
-IsSeen word (Named name) = IsLong word name None
-IsSeen word (Valued name value) = IsLong word name (Some value)
+abbrev pub IsSeen : Text → ArgumentKind → Type 0
+IsSeen argument Refused = Unit {0}
+IsSeen argument Plain = IsPlain argument
+IsSeen argument (Named name) = IsLong argument name None
+IsSeen argument (Valued name value) = IsLong argument name (Some value)
 
 -- where no element passes, the first that does stands at the end
 position_past : {X : Type 0} (p : X → Bool) (xs : List X) → list_any p xs ≡ false → position_or_len p xs ≡ length xs
@@ -95,8 +95,8 @@ dashed_seen (byte ∷ rest) = by (byte == 45) refl
     by true e = subst (λ first. IsSeen (45 ∷ first ∷ rest) (option_kind rest)) (sym (eqb-true byte 45 e)) (option_seen rest)
     by false e = tt
 
--- every word is seen as its kind says
-pub seen : (word : Text) → IsSeen word (kind_of word)
+-- every argument is seen as its kind says
+pub seen : (argument : Text) → IsSeen argument (kind_of argument)
 seen [] = tt
 seen (byte ∷ rest) = by (byte == 45) refl
   where

@@ -4,14 +4,14 @@ use Rattle.std.proofs.lemmas.List.{append-nil, map_push}
 use Rattle.std.specs.Str.{bytes_eq}
 use Rattle.ncl_blif.specs.declared.command.Command.{Command}
 use Rattle.ncl_blif.specs.declared.command.Command.TheVariants.{Model, Inputs, Outputs, Names, End}
-use Rattle.ncl_blif.specs.Commands.{word_of}
+use Rattle.ncl_blif.specs.Commands.{field_of}
 use Rattle.ncl_blif.specs.Line.{LineData}
-use Rattle.ncl_blif.specs.Parts.{PartData, first_word, is_names, is_command}
+use Rattle.ncl_blif.specs.Parts.{PartData, first_field, is_names, is_command}
 use Rattle.std.specs.List.{list_any}
 use Rattle.ncl_blif.specs.LineFaults.{has_twins}
 use Rattle.ncl_blif.specs.Numbered.{is_driven}
 use Rattle.ncl_blif.proofs.Twins.{twins-middle}
-use Rattle.ncl_blif.specs.Named.{NamedModel, NamedCover, drivers_of, later_words, cover_of, inputs_said, outputs_said, covers_said}
+use Rattle.ncl_blif.specs.Named.{NamedModel, NamedCover, drivers_of, later_fields, cover_of, inputs_said, outputs_said, covers_said}
 
 -- the model with what a part says added
 abbrev pub with_part : NamedModel → PartData → NamedModel
@@ -22,11 +22,11 @@ with_part model part = record model {
 }
 
 -- what .outputs and .names add
-pub with_part-outputs : (model : NamedModel) (part : PartData) → first_word part.head ≡ codes ".outputs" → with_part model part ≡ record model { outputs = model.outputs ++ map (λ signal. record { line = part.head.number; signal = signal }) (later_words part.head) }
-with_part-outputs model part word = rw (word, append-nil model.inputs, append-nil model.covers)
+pub with_part-outputs : (model : NamedModel) (part : PartData) → first_field part.head ≡ codes ".outputs" → with_part model part ≡ record model { outputs = model.outputs ++ map (λ signal. record { line = part.head.number; signal = signal }) (later_fields part.head) }
+with_part-outputs model part field = rw (field, append-nil model.inputs, append-nil model.covers)
 
-pub with_part-names : (model : NamedModel) (part : PartData) → first_word part.head ≡ codes ".names" → with_part model part ≡ record model { covers = model.covers ++ cover_of part ∷ [] }
-with_part-names model part word = rw (word, append-nil model.inputs, append-nil model.outputs)
+pub with_part-names : (model : NamedModel) (part : PartData) → first_field part.head ≡ codes ".names" → with_part model part ≡ record model { covers = model.covers ++ cover_of part ∷ [] }
+with_part-names model part field = rw (field, append-nil model.inputs, append-nil model.outputs)
 
 pub or-false : (b : Bool) → (b || false) ≡ b
 or-false true = refl
@@ -40,19 +40,19 @@ cover-twins model cover once =
     ap (λ outs. model.inputs ++ outs) (map_push (λ (cover : NamedCover). cover.out) model.covers cover) ∙ sym (append_assoc model.inputs (map (λ (cover : NamedCover). cover.out) model.covers) (cover.out ∷ [])) in
     ap has_twins more ∙ twins-middle before [] cover.out ∙ (λ i. list_any (bytes_eq cover.out) (append-nil before i) || has_twins (append-nil before i)) ∙ ap (λ b. list_any (bytes_eq cover.out) before || b) once ∙ or-false (list_any (bytes_eq cover.out) before)
 
--- a line with the word of a command is one
-pub command-is : (command : Command) (line : LineData) → first_word line ≡ word_of command → is_command line ≡ true
-command-is Model line word = rw word
-command-is Inputs line word = rw word
-command-is Outputs line word = rw word
-command-is Names line word = rw word
-command-is End line word = rw word
+-- a line with the field of a command is one
+pub command-is : (command : Command) (line : LineData) → first_field line ≡ field_of command → is_command line ≡ true
+command-is Model line field = rw field
+command-is Inputs line field = rw field
+command-is Outputs line field = rw field
+command-is Names line field = rw field
+command-is End line field = rw field
 
--- a .names line that has not one word has two
-pub names-two : (line : LineData) → is_names line ≡ true → (length line.words ≡ 1 → ⊥) → 2 ≤ length line.words
-names-two line names more = at_least line.words names more
+-- a .names line that has not one field has two
+pub names-two : (line : LineData) → is_names line ≡ true → (length line.fields ≡ 1 → ⊥) → 2 ≤ length line.fields
+names-two line names more = at_least line.fields names more
   where
-    at_least : (words : List (List ℕ)) → bytes_eq (unwrap_or (slice_get words 0) []) (codes ".names") ≡ true → (length words ≡ 1 → ⊥) → 2 ≤ length words
+    at_least : (fields : List (List ℕ)) → bytes_eq (unwrap_or (slice_get fields 0) []) (codes ".names") ≡ true → (length fields ≡ 1 → ⊥) → 2 ≤ length fields
     at_least [] names more = absurd cc
-    at_least (word ∷ []) names more = absurd (more refl)
-    at_least (word ∷ next ∷ words) names more = omega arith
+    at_least (field ∷ []) names more = absurd (more refl)
+    at_least (field ∷ next ∷ fields) names more = omega arith

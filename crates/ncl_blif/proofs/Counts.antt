@@ -9,7 +9,7 @@ use Rattle.ncl_blif.specs.Lines.{lines_of}
 use Rattle.ncl_blif.specs.Parts.{PartData, is_row, begins_model, parts_of, up_to_model, named_sections, unnamed_section, sections_of}
 use Rattle.ncl_blif.specs.Named.{named_model}
 use Rattle.ncl_blif.specs.Answer.{models_said}
-use Rattle.ncl_blif.proofs.WordSizes.{share, lines_of-size}
+use Rattle.ncl_blif.proofs.FieldSizes.{share, lines_of-size}
 
 abbrev goes_on : PartData → Bool
 goes_on part = not (begins_model part)

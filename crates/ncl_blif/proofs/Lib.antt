@@ -1,6 +1,6 @@
 pub mod TextLines
 pub mod Counted
-pub mod TextWords
+pub mod TextFields
 pub mod Names
 pub mod RowSteps
 pub mod Places
@@ -9,7 +9,7 @@ pub mod DriverPlaces
 pub mod BodySteps
 pub mod Commands
 pub mod PartSteps
-pub mod WordSizes
+pub mod FieldSizes
 pub mod ModelSizes
 pub mod Sections
 pub mod DependenceLaws

@@ -8,11 +8,11 @@ use Rattle.std.specs.List.{take_while, flat_map}
 use Rattle.ncl_blif.specs.declared.model.Lit.{Lit}
 use Rattle.ncl_blif.specs.Line.{LineData}
 use Rattle.ncl_blif.specs.Lines.{lines_of}
-use Rattle.ncl_blif.specs.Parts.{PartData, first_word, is_row, is_inputs, is_outputs, is_names, parts_of, begins_model, up_to_model, named_sections, unnamed_section, sections_of}
+use Rattle.ncl_blif.specs.Parts.{PartData, first_field, is_row, is_inputs, is_outputs, is_names, parts_of, begins_model, up_to_model, named_sections, unnamed_section, sections_of}
 use Rattle.ncl_blif.specs.Model.{weight_of_rows}
-use Rattle.ncl_blif.specs.Named.{NamedCover, NamedOutput, later_words, cover_ins, lit_of, lits_of, pattern_of, cover_of, inputs_said, outputs_said, covers_said, named_model, drivers_of, size_of_named}
+use Rattle.ncl_blif.specs.Named.{NamedCover, NamedOutput, later_fields, cover_ins, lit_of, lits_of, pattern_of, cover_of, inputs_said, outputs_said, covers_said, named_model, drivers_of, size_of_named}
 use Rattle.ncl_blif.specs.Answer.{models_said}
-use Rattle.ncl_blif.proofs.WordSizes.{share, lines_of-size}
+use Rattle.ncl_blif.proofs.FieldSizes.{share, lines_of-size}
 
 -- a part's share: those of its lines
 abbrev pub part_share : PartData → ℕ
@@ -45,35 +45,35 @@ rows-parts (line ∷ lines) =
 pub parts_of-size : (lines : List LineData) → parts_share (parts_of lines) ≤ sum_by share lines
 parts_of-size lines = let all = rows-parts lines in omega arith
 
-rows-size : (rows : List LineData) → weight_of_rows (map (λ row. lits_of row.words) rows) ≤ sum_by share rows
+rows-size : (rows : List LineData) → weight_of_rows (map (λ row. lits_of row.fields) rows) ≤ sum_by share rows
 rows-size [] = omega arith
 rows-size (row ∷ rows) =
-    let rest : weight_of_rows (map (λ row. lits_of row.words) rows) ≤ sum_by share rows = rows-size rows in
-    omega (arith, sum_by-cons (λ (lits : List Lit). 1 + length lits) (lits_of row.words) (map (λ row. lits_of row.words) rows), sum_by-cons share row rows, length-map (pattern_of row.words) lit_of)
+    let rest : weight_of_rows (map (λ row. lits_of row.fields) rows) ≤ sum_by share rows = rows-size rows in
+    omega (arith, sum_by-cons (λ (lits : List Lit). 1 + length lits) (lits_of row.fields) (map (λ row. lits_of row.fields) rows), sum_by-cons share row rows, length-map (pattern_of row.fields) lit_of)
 
 -- what a part says
 abbrev said_size : PartData → ℕ
 said_size part = length (inputs_said part) + length (outputs_said part) + sum_by cover_size (covers_said part)
 
-later-size : (line : LineData) → length (later_words line) ≤ share line
-later-size line = omega (arith, length-drop 1 line.words)
+later-size : (line : LineData) → length (later_fields line) ≤ share line
+later-size line = omega (arith, length-drop 1 line.fields)
 
 -- a cover is no larger than the share of its part
 cover-size : (part : PartData) → cover_size (cover_of part) ≤ part_share part
 cover-size part =
-    let ins : 1 + length (cover_ins part.head) ≤ share part.head = omega (arith, length-take (length (later_words part.head) - 1) (later_words part.head), length-drop 1 part.head.words) in
+    let ins : 1 + length (cover_ins part.head) ≤ share part.head = omega (arith, length-take (length (later_fields part.head) - 1) (later_fields part.head), length-drop 1 part.head.fields) in
     let rows = rows-size part.rows in
     omega arith
 
 -- what a part says is no more than its share
 part-size : (part : PartData) → said_size part ≤ part_share part
 part-size part = elim (cases_Bool (is_inputs part.head)) [
-  | inl inputs ↦ rw ((bytes_eq-Decides (first_word part.head) (codes ".inputs")).0 inputs) (let later = later-size part.head in omega arith)
+  | inl inputs ↦ rw ((bytes_eq-Decides (first_field part.head) (codes ".inputs")).0 inputs) (let later = later-size part.head in omega arith)
   | inr inputs ↦ elim (cases_Bool (is_outputs part.head)) [
-    | inl outputs ↦ rw ((bytes_eq-Decides (first_word part.head) (codes ".outputs")).0 outputs)
-        (let later = later-size part.head in omega (arith, length-map (later_words part.head) (λ signal. output part.head.number signal)))
+    | inl outputs ↦ rw ((bytes_eq-Decides (first_field part.head) (codes ".outputs")).0 outputs)
+        (let later = later-size part.head in omega (arith, length-map (later_fields part.head) (λ signal. output part.head.number signal)))
     | inr outputs ↦ elim (cases_Bool (is_names part.head)) [
-      | inl names ↦ rw ((bytes_eq-Decides (first_word part.head) (codes ".names")).0 names) (let cover = cover-size part in omega arith)
+      | inl names ↦ rw ((bytes_eq-Decides (first_field part.head) (codes ".names")).0 names) (let cover = cover-size part in omega arith)
       | inr names ↦ rw (inputs, outputs, names) (omega arith)
     ]
   ]

@@ -1,19 +1,19 @@
--- The words of a line, by the last of them.
+-- The fields of a line, by the last of them.
 use Rattle.std.proofs.Common.{◌≡◌, ℕ, ◌-◌, ◌≤◌, List, [], ◌∷◌, ◌++◌, length, refl, arith, Option, Some, None}
 use Rattle.std.proofs.lemmas.List.{take-append-le, length-append, take_all}
 use Rattle.std.specs.List.{last_or}
-use Rattle.ncl_blif.specs.Named.{last_word, front_words}
+use Rattle.ncl_blif.specs.Named.{last_field, front_fields}
 
 last_or-end : {X : Type 0} (before : Option X) (xs : List X) (x : X) → last_or before (xs ++ x ∷ []) ≡ Some x
 last_or-end before [] x = refl
 last_or-end before (y ∷ ys) x = last_or-end (Some y) ys x
 
--- the last word, and those before it
-pub last_word-end : (front : List (List ℕ)) (last : List ℕ) → last_word (front ++ last ∷ []) ≡ last
-last_word-end front last = rw (last_or-end None front last)
+-- the last field, and those before it
+pub last_field-end : (front : List (List ℕ)) (last : List ℕ) → last_field (front ++ last ∷ []) ≡ last
+last_field-end front last = rw (last_or-end None front last)
 
-pub front_words-end : (front : List (List ℕ)) (last : List ℕ) → front_words (front ++ last ∷ []) ≡ front
-front_words-end front last =
+pub front_fields-end : (front : List (List ℕ)) (last : List ℕ) → front_fields (front ++ last ∷ []) ≡ front
+front_fields-end front last =
     let count : length (front ++ last ∷ []) - 1 ≡ length front = omega (arith, length-append front (last ∷ [])) in
     let all : length front ≤ length front = omega arith in
     rw (count, take-append-le (length front) front (last ∷ []) all, take_all)

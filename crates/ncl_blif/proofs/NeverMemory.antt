@@ -8,7 +8,7 @@ use Rattle.ncl_blif.specs.declared.fault.BlifFault.TheVariants.{Syntax, MixedCov
 use Rattle.ncl_blif.specs.Line.{LineData}
 use Rattle.ncl_blif.specs.Lines.{lines_of}
 use Rattle.ncl_blif.specs.Parts.{PartData, is_row, is_command, is_names, parts_of, sections_of}
-use Rattle.ncl_blif.specs.Named.{NamedModel, last_word, cover_ins}
+use Rattle.ncl_blif.specs.Named.{NamedModel, last_field, cover_ins}
 use Rattle.ncl_blif.specs.LineFaults.{has_twins, signals_driven, is_malformed, is_row_of, row_fault, first_row_fault, head_fault, rows_fault, first_part_fault, first_section_fault, first_line_fault}
 use Rattle.ncl_blif.specs.Answer.{IsModelFault, no_bits, undriven, cycle, IsRefused, line, model, width}
 
@@ -29,8 +29,8 @@ no_fault e = absurd cc
 
 row_not : (inputs : ℕ) (first row : LineData) → NotMemory (row_fault inputs first row)
 row_not inputs first row =
-    first_of (not (is_row_of inputs row.words)) _ _ (λ e. cc)
-    (elim (bytes_eq (last_word row.words) (last_word first.words)) as (λ b. NotMemory (cond b None (Some (MixedCover row.number)))) [ true ↦ no_fault | false ↦ λ e. cc ])
+    first_of (not (is_row_of inputs row.fields)) _ _ (λ e. cc)
+    (elim (bytes_eq (last_field row.fields) (last_field first.fields)) as (λ b. NotMemory (cond b None (Some (MixedCover row.number)))) [ true ↦ no_fault | false ↦ λ e. cc ])
 
 rows_not : (inputs : ℕ) (first : LineData) (rows : List LineData) → NotMemory (first_row_fault inputs first rows)
 rows_not inputs first [] = no_fault

@@ -10,8 +10,8 @@ use Rattle.std.specs.Option.{option_or}
 use Rattle.ncl_blif.specs.declared.fault.BlifFault.{BlifFault}
 use Rattle.ncl_blif.specs.declared.fault.BlifFault.TheVariants.{Syntax, Unsupported, TwoDrivers}
 use Rattle.ncl_blif.specs.Line.{LineData}
-use Rattle.ncl_blif.specs.Parts.{PartData, first_word, is_names, is_inputs, is_command, is_end}
-use Rattle.ncl_blif.specs.Named.{NamedModel, NamedCover, later_words, cover_of, cover_out, inputs_said, outputs_said, covers_said, named_model, drivers_of}
+use Rattle.ncl_blif.specs.Parts.{PartData, first_field, is_names, is_inputs, is_command, is_end}
+use Rattle.ncl_blif.specs.Named.{NamedModel, NamedCover, later_fields, cover_of, cover_out, inputs_said, outputs_said, covers_said, named_model, drivers_of}
 use Rattle.ncl_blif.specs.LineFaults.{has_twins, signals_driven, has_ended, is_malformed, first_part_fault, rows_fault, part_fault}
 use Rattle.ncl_blif.proofs.Twins.{twins-middle}
 use Rattle.ncl_blif.proofs.Commands.{with_part, or-false}
@@ -50,15 +50,15 @@ same-twice xs ys zs one two = record { any = λ p. one.any p ∙ two.any p; twin
 
 -- .inputs is not .names
 inputs-names : (line : LineData) → is_inputs line ≡ true → is_names line ≡ false
-inputs-names line inputs = ap (λ word. bytes_eq word (codes ".names")) ((bytes_eq-Decides (first_word line) (codes ".inputs")).0 inputs)
+inputs-names line inputs = ap (λ field. bytes_eq field (codes ".names")) ((bytes_eq-Decides (first_field line) (codes ".inputs")).0 inputs)
 
 named-step : (part : PartData) (signals inputs : List (List ℕ)) (covers : List NamedCover) (b c : Bool) → (b ≡ true → c ≡ false)
     → SameNames signals (inputs ++ map (λ (cover : NamedCover). cover.out) covers)
-    → SameNames (cond b (later_words part.head) (cond c (cover_out part.head ∷ []) []) ++ signals) ((cond b (later_words part.head) [] ++ inputs) ++ map (λ (cover : NamedCover). cover.out) (cond c (cover_of part ∷ []) [] ++ covers))
+    → SameNames (cond b (later_fields part.head) (cond c (cover_out part.head ∷ []) []) ++ signals) ((cond b (later_fields part.head) [] ++ inputs) ++ map (λ (cover : NamedCover). cover.out) (cond c (cover_of part ∷ []) [] ++ covers))
 named-step part signals inputs covers true true apart same = absurd (let never : true ≡ false = apart refl in cc)
 named-step part signals inputs covers true false apart same =
     let outs = map (λ (cover : NamedCover). cover.out) covers in
-    subst (SameNames (later_words part.head ++ signals)) (sym (append_assoc (later_words part.head) inputs outs)) (same-front (later_words part.head) signals (inputs ++ outs) same)
+    subst (SameNames (later_fields part.head ++ signals)) (sym (append_assoc (later_fields part.head) inputs outs)) (same-front (later_fields part.head) signals (inputs ++ outs) same)
 named-step part signals inputs covers false true apart same =
     let outs = map (λ (cover : NamedCover). cover.out) covers in
     same-twice (cover_out part.head ∷ signals) (cover_out part.head ∷ inputs ++ outs) (inputs ++ cover_out part.head ∷ outs) (same-front (cover_out part.head ∷ []) signals (inputs ++ outs) same) (same-middle inputs outs (cover_out part.head))

@@ -11,20 +11,20 @@ use Rattle.ncl_blif.specs.declared.fault.BlifFault.TheVariants.{BadRow, MixedCov
 use Rattle.ncl_blif.specs.declared.model.Lit.{Lit}
 use Rattle.ncl_blif.specs.Line.{LineData}
 use Rattle.ncl_blif.specs.Parts.{is_names}
-use Rattle.ncl_blif.specs.Named.{last_word, pattern_of, lits_of, is_on, lists_on, cover_ins}
+use Rattle.ncl_blif.specs.Named.{last_field, pattern_of, lits_of, is_on, lists_on, cover_ins}
 use Rattle.ncl_blif.specs.LineFaults.{is_literal, is_value, is_row_of, row_fault, first_row_fault, rows_fault}
 
 -- the value of a row is 0 or 1
-pub row_value : (inputs : ℕ) (words : List (List ℕ)) → is_row_of inputs words ≡ true → is_value (last_word words) ≡ true
-row_value zero words is = (and_parts (eqb (length words) 1) (is_value (last_word words)) is).1
-row_value (suc n) words is =
-    (and_parts (eqb (length words) 2 && (eqb (length (pattern_of words)) (suc n) && list_all is_literal (pattern_of words))) (is_value (last_word words)) is).1
+pub row_value : (inputs : ℕ) (fields : List (List ℕ)) → is_row_of inputs fields ≡ true → is_value (last_field fields) ≡ true
+row_value zero fields is = (and_parts (eqb (length fields) 1) (is_value (last_field fields)) is).1
+row_value (suc n) fields is =
+    (and_parts (eqb (length fields) 2 && (eqb (length (pattern_of fields)) (suc n) && list_all is_literal (pattern_of fields))) (is_value (last_field fields)) is).1
 
--- a word that is 0 or 1 is one of them
-value_cases : (word : List ℕ) → is_value word ≡ true → (word ≡ codes "0") ⊎ (word ≡ codes "1")
-value_cases word is = elim (or_cases (bytes_eq word (codes "0")) (bytes_eq word (codes "1")) is) [
-  | inl e ↦ inl ((bytes_eq-Decides word (codes "0")).0 e)
-  | inr e ↦ inr ((bytes_eq-Decides word (codes "1")).0 e)
+-- a field that is 0 or 1 is one of them
+value_cases : (field : List ℕ) → is_value field ≡ true → (field ≡ codes "0") ⊎ (field ≡ codes "1")
+value_cases field is = elim (or_cases (bytes_eq field (codes "0")) (bytes_eq field (codes "1")) is) [
+  | inl e ↦ inl ((bytes_eq-Decides field (codes "0")).0 e)
+  | inr e ↦ inr ((bytes_eq-Decides field (codes "1")).0 e)
 ]
 
 -- two values are the same where both are 1 or both are not
@@ -55,11 +55,11 @@ rows_fault-is head inputs (row ∷ rows) names count = rw names (ap (λ n. first
 -- the value that the first row ends with
 abbrev pub first_value : List LineData → List ℕ
 first_value [] = []
-first_value (first ∷ lines) = last_word first.words
+first_value (first ∷ lines) = last_field first.fields
 
 -- the first n rows are read
 pub record AreRead (inputs : ℕ) (lines : List LineData) (n : ℕ) (rows : List (List Lit)) (on : Bool) : Type 0 where
-  pub lits : rows ≡ map (λ line. lits_of line.words) (take n lines)
+  pub lits : rows ≡ map (λ line. lits_of line.fields) (take n lines)
   pub fault : fault_from inputs lines lines ≡ fault_from inputs lines (drop n lines)
   pub value : 0 < n → is_value (first_value lines) ≡ true
   pub lists : on ≡ lists_on lines
@@ -72,11 +72,11 @@ fault-more : (inputs : ℕ) (lines : List LineData) (n : ℕ) (d : LineData) →
 fault-more inputs lines n d lt = at_drop_more (fault_from inputs lines) lines n d lt
 
 -- the fault of a row is that of the rows from it on
-fault-found : (inputs : ℕ) (lines rest : List LineData) (row : LineData) (fault : BlifFault) → 0 < length lines → ((first : LineData) → last_word first.words ≡ first_value lines → row_fault inputs first row ≡ Some fault) → fault_from inputs lines (row ∷ rest) ≡ Some fault
+fault-found : (inputs : ℕ) (lines rest : List LineData) (row : LineData) (fault : BlifFault) → 0 < length lines → ((first : LineData) → last_field first.fields ≡ first_value lines → row_fault inputs first row ≡ Some fault) → fault_from inputs lines (row ∷ rest) ≡ Some fault
 fault-found inputs [] rest row fault some is = absurd (omega arith)
 fault-found inputs (first ∷ lines) rest row fault some is = rw (is first refl)
 
-fault-passed : (inputs : ℕ) (lines rest : List LineData) (row : LineData) → 0 < length lines → ((first : LineData) → last_word first.words ≡ first_value lines → row_fault inputs first row ≡ None) → fault_from inputs lines (row ∷ rest) ≡ fault_from inputs lines rest
+fault-passed : (inputs : ℕ) (lines rest : List LineData) (row : LineData) → 0 < length lines → ((first : LineData) → last_field first.fields ≡ first_value lines → row_fault inputs first row ≡ None) → fault_from inputs lines (row ∷ rest) ≡ fault_from inputs lines rest
 fault-passed inputs [] rest row some is = absurd (omega arith)
 fault-passed inputs (first ∷ lines) rest row some is = rw (is first refl)
 
@@ -85,55 +85,55 @@ lists-first [] some = absurd (omega arith)
 lists-first (first ∷ lines) some = refl
 
 -- after n rows that are read the next is the first of all, or the first is 0 or 1
-first-value : (inputs : ℕ) (lines : List LineData) (n : ℕ) (rows : List (List Lit)) (on : Bool) (line : LineData) → AreRead inputs lines n rows on → n < length lines → line ≡ get_or lines n line → is_row_of inputs line.words ≡ true → is_value (first_value lines) ≡ true
+first-value : (inputs : ℕ) (lines : List LineData) (n : ℕ) (rows : List (List Lit)) (on : Bool) (line : LineData) → AreRead inputs lines n rows on → n < length lines → line ≡ get_or lines n line → is_row_of inputs line.fields ≡ true → is_value (first_value lines) ≡ true
 first-value inputs [] n rows on line read lt at is = absurd (omega arith)
-first-value inputs (first ∷ lines) zero rows on line read lt at is = rw (sym at) (row_value inputs line.words is)
+first-value inputs (first ∷ lines) zero rows on line read lt at is = rw (sym at) (row_value inputs line.fields is)
 first-value inputs (first ∷ lines) (suc n) rows on line read lt at is = read.value (omega arith)
 
-row_fault-none : (inputs : ℕ) (first row : LineData) → is_row_of inputs row.words ≡ true → bytes_eq (last_word row.words) (last_word first.words) ≡ true → row_fault inputs first row ≡ None
+row_fault-none : (inputs : ℕ) (first row : LineData) → is_row_of inputs row.fields ≡ true → bytes_eq (last_field row.fields) (last_field first.fields) ≡ true → row_fault inputs first row ≡ None
 row_fault-none inputs first row is same = rw (is, same)
 
-row_fault-bad : (inputs : ℕ) (first row : LineData) → is_row_of inputs row.words ≡ false → row_fault inputs first row ≡ Some (BadRow row.number)
+row_fault-bad : (inputs : ℕ) (first row : LineData) → is_row_of inputs row.fields ≡ false → row_fault inputs first row ≡ Some (BadRow row.number)
 row_fault-bad inputs first row is = rw is
 
-row_fault-mixed : (inputs : ℕ) (first row : LineData) → is_row_of inputs row.words ≡ true → bytes_eq (last_word row.words) (last_word first.words) ≡ false → row_fault inputs first row ≡ Some (MixedCover row.number)
+row_fault-mixed : (inputs : ℕ) (first row : LineData) → is_row_of inputs row.fields ≡ true → bytes_eq (last_field row.fields) (last_field first.fields) ≡ false → row_fault inputs first row ≡ Some (MixedCover row.number)
 row_fault-mixed inputs first row is differs = rw (is, differs)
 
 -- one more row is read
-pub read-more : (inputs : ℕ) (lines : List LineData) (n : ℕ) (rows : List (List Lit)) (on : Bool) (line : LineData) (row : List Lit) → AreRead inputs lines n rows on → n < length lines → line ≡ get_or lines n line → is_row_of inputs line.words ≡ true → row ≡ lits_of line.words → is_on line ≡ on → AreRead inputs lines (n + 1) (rows ++ row ∷ []) on
+pub read-more : (inputs : ℕ) (lines : List LineData) (n : ℕ) (rows : List (List Lit)) (on : Bool) (line : LineData) (row : List Lit) → AreRead inputs lines n rows on → n < length lines → line ≡ get_or lines n line → is_row_of inputs line.fields ≡ true → row ≡ lits_of line.fields → is_on line ≡ on → AreRead inputs lines (n + 1) (rows ++ row ∷ []) on
 read-more inputs lines n rows on line row read lt at is lits ends =
     let value = first-value inputs lines n rows on line read lt at is in
     let some : 0 < length lines = omega arith in
-    let same : bytes_eq (last_word line.words) (first_value lines) ≡ true =
-    values_same (last_word line.words) (first_value lines) (row_value inputs line.words is) value (ends ∙ read.lists ∙ lists-first lines some) in
-    let passed : (first : LineData) → last_word first.words ≡ first_value lines → row_fault inputs first line ≡ None =
-    λ first e. row_fault-none inputs first line is (ap (bytes_eq (last_word line.words)) e ∙ same) in
+    let same : bytes_eq (last_field line.fields) (first_value lines) ≡ true =
+    values_same (last_field line.fields) (first_value lines) (row_value inputs line.fields is) value (ends ∙ read.lists ∙ lists-first lines some) in
+    let passed : (first : LineData) → last_field first.fields ≡ first_value lines → row_fault inputs first line ≡ None =
+    λ first e. row_fault-none inputs first line is (ap (bytes_eq (last_field line.fields)) e ∙ same) in
     record {
-      lits = ap (λ rs. rs ++ row ∷ []) read.lits ∙ ap (λ r. map (λ line. lits_of line.words) (take n lines) ++ r ∷ []) (lits ∙ ap (λ (l : LineData). lits_of l.words) at)
-          ∙ sym (map_more (λ line. lits_of line.words) lines n line lt);
+      lits = ap (λ rs. rs ++ row ∷ []) read.lits ∙ ap (λ r. map (λ line. lits_of line.fields) (take n lines) ++ r ∷ []) (lits ∙ ap (λ (l : LineData). lits_of l.fields) at)
+          ∙ sym (map_more (λ line. lits_of line.fields) lines n line lt);
       fault = read.fault ∙ fault-more inputs lines n line lt ∙ ap (λ l. fault_from inputs lines (l ∷ drop (n + 1) lines)) (sym at) ∙ fault-passed inputs lines (drop (n + 1) lines) line some passed;
       value = λ more. value;
       lists = read.lists;
     }
 
 -- the next row is none
-pub read-bad : (inputs : ℕ) (lines : List LineData) (n : ℕ) (rows : List (List Lit)) (on : Bool) (line : LineData) → AreRead inputs lines n rows on → n < length lines → line ≡ get_or lines n line → is_row_of inputs line.words ≡ false → fault_from inputs lines lines ≡ Some (BadRow line.number)
+pub read-bad : (inputs : ℕ) (lines : List LineData) (n : ℕ) (rows : List (List Lit)) (on : Bool) (line : LineData) → AreRead inputs lines n rows on → n < length lines → line ≡ get_or lines n line → is_row_of inputs line.fields ≡ false → fault_from inputs lines lines ≡ Some (BadRow line.number)
 read-bad inputs lines n rows on line read lt at is =
     read.fault ∙ fault-more inputs lines n line lt ∙ ap (λ l. fault_from inputs lines (l ∷ drop (n + 1) lines)) (sym at)
     ∙ fault-found inputs lines (drop (n + 1) lines) line (BadRow line.number) (omega arith) (λ first e. row_fault-bad inputs first line is)
 
 -- the next row ends otherwise than the first
-pub read-mixed : (inputs : ℕ) (lines : List LineData) (n : ℕ) (rows : List (List Lit)) (on : Bool) (line : LineData) → AreRead inputs lines n rows on → n < length lines → line ≡ get_or lines n line → is_row_of inputs line.words ≡ true → (is_on line ≡ on → ⊥) → fault_from inputs lines lines ≡ Some (MixedCover line.number)
+pub read-mixed : (inputs : ℕ) (lines : List LineData) (n : ℕ) (rows : List (List Lit)) (on : Bool) (line : LineData) → AreRead inputs lines n rows on → n < length lines → line ≡ get_or lines n line → is_row_of inputs line.fields ≡ true → (is_on line ≡ on → ⊥) → fault_from inputs lines lines ≡ Some (MixedCover line.number)
 read-mixed inputs lines n rows on line read lt at is ends =
     let some : 0 < length lines = omega arith in
-    let differs : bytes_eq (last_word line.words) (first_value lines) ≡ false =
-    values_differ (last_word line.words) (first_value lines) (λ e. ends (e ∙ sym (read.lists ∙ lists-first lines some))) in
+    let differs : bytes_eq (last_field line.fields) (first_value lines) ≡ false =
+    values_differ (last_field line.fields) (first_value lines) (λ e. ends (e ∙ sym (read.lists ∙ lists-first lines some))) in
     read.fault ∙ fault-more inputs lines n line lt ∙ ap (λ l. fault_from inputs lines (l ∷ drop (n + 1) lines)) (sym at)
-    ∙ fault-found inputs lines (drop (n + 1) lines) line (MixedCover line.number) some (λ first e. row_fault-mixed inputs first line is (ap (bytes_eq (last_word line.words)) e ∙ differs))
+    ∙ fault-found inputs lines (drop (n + 1) lines) line (MixedCover line.number) some (λ first e. row_fault-mixed inputs first line is (ap (bytes_eq (last_field line.fields)) e ∙ differs))
 
 -- all rows are read
-pub read-all : (inputs : ℕ) (lines : List LineData) (n : ℕ) (rows : List (List Lit)) (on : Bool) → AreRead inputs lines n rows on → length lines ≤ n → (fault_from inputs lines lines ≡ None) × (rows ≡ map (λ line. lits_of line.words) lines)
-read-all inputs lines n rows on read all = (read.fault ∙ ap (fault_from inputs lines) (drop_all n lines all) ∙ none inputs lines, read.lits ∙ ap (map (λ line. lits_of line.words)) (take_all n lines all))
+pub read-all : (inputs : ℕ) (lines : List LineData) (n : ℕ) (rows : List (List Lit)) (on : Bool) → AreRead inputs lines n rows on → length lines ≤ n → (fault_from inputs lines lines ≡ None) × (rows ≡ map (λ line. lits_of line.fields) lines)
+read-all inputs lines n rows on read all = (read.fault ∙ ap (fault_from inputs lines) (drop_all n lines all) ∙ none inputs lines, read.lits ∙ ap (map (λ line. lits_of line.fields)) (take_all n lines all))
   where
     none : (inputs : ℕ) (lines : List LineData) → fault_from inputs lines [] ≡ None
     none inputs [] = refl

@@ -27,29 +27,29 @@ fails_then true x rest h = absurd cc
 fails_then false x rest h = h
 
 -- a row of a cover has as many literals as there are inputs
-row_width : (inputs : ℕ) (words : List (List ℕ)) → is_row_of inputs words ≡ true → length (lits_of words) ≡ inputs
+row_width : (inputs : ℕ) (fields : List (List ℕ)) → is_row_of inputs fields ≡ true → length (lits_of fields) ≡ inputs
 row_width zero [] h = absurd cc
 row_width zero (w ∷ []) h = refl
-row_width zero (w ∷ v ∷ words) h = absurd (let e = eqb-true (length (w ∷ v ∷ words)) 1 (and_parts _ _ h).0 in omega arith)
-row_width (suc n) words h =
-    let shaped = (and_parts (eqb (length words) 2) _ (and_parts _ _ h).0).1 in
-    length-map (pattern_of words) lit_of ∙ eqb-true (length (pattern_of words)) (suc n) (and_parts _ _ shaped).0
+row_width zero (w ∷ v ∷ fields) h = absurd (let e = eqb-true (length (w ∷ v ∷ fields)) 1 (and_parts _ _ h).0 in omega arith)
+row_width (suc n) fields h =
+    let shaped = (and_parts (eqb (length fields) 2) _ (and_parts _ _ h).0).1 in
+    length-map (pattern_of fields) lit_of ∙ eqb-true (length (pattern_of fields)) (suc n) (and_parts _ _ shaped).0
 
 -- rows without a fault have as many literals as there are inputs
 abbrev Wide : ℕ → List Lit → Type 0
 Wide inputs row = length row ≡ inputs
 
-rows_wide : (inputs : ℕ) (first : LineData) (rows : List LineData) → first_row_fault inputs first rows ≡ None → AllByRecursion (Wide inputs) (map (λ row. lits_of row.words) rows)
+rows_wide : (inputs : ℕ) (first : LineData) (rows : List LineData) → first_row_fault inputs first rows ≡ None → AllByRecursion (Wide inputs) (map (λ row. lits_of row.fields) rows)
 rows_wide inputs first [] h = tt
 rows_wide inputs first (row ∷ rows) h =
     let (here, later) = both_missing (row_fault inputs first row) (first_row_fault inputs first rows) h in
-    (row_width inputs row.words (missing_if_not (is_row_of inputs row.words) _ _ here), rows_wide inputs first rows later)
+    (row_width inputs row.fields (missing_if_not (is_row_of inputs row.fields) _ _ here), rows_wide inputs first rows later)
 
 -- the cover of a part without a fault
 abbrev Fits : NamedCover → Type 0
 Fits cover = All (Wide (length cover.ins)) cover.rows
 
-part_wide : (head : LineData) (rows : List LineData) → is_names head ≡ true → rows_fault head rows ≡ None → AllByRecursion (Wide (length (cover_ins head))) (map (λ row. lits_of row.words) rows)
+part_wide : (head : LineData) (rows : List LineData) → is_names head ≡ true → rows_fault head rows ≡ None → AllByRecursion (Wide (length (cover_ins head))) (map (λ row. lits_of row.fields) rows)
 part_wide head [] names h = tt
 part_wide head (row ∷ rows) names h =
     rows_wide (length (cover_ins head)) row (row ∷ rows) (subst (λ b. cond b (first_row_fault (length (cover_ins head)) row (row ∷ rows)) (Some (Syntax row.number)) ≡ None) names h)
@@ -61,7 +61,7 @@ covers_fit before (part ∷ parts) h =
     let rest = covers_fit (before ++ part ∷ []) parts later in
     elim (is_names part.head) as (λ b. is_names part.head ≡ b → AllByRecursion Fits (cond b (cover_of part ∷ []) [] ++ flat_map covers_said parts)) [
       | true ↦ λ names. (
-        All-from_recursion (Wide (length (cover_ins part.head))) (map (λ row. lits_of row.words) part.rows)
+        All-from_recursion (Wide (length (cover_ins part.head))) (map (λ row. lits_of row.fields) part.rows)
             (part_wide part.head part.rows names (both_missing (head_fault before part) (rows_fault part.head part.rows) here).1),
         rest,
       )

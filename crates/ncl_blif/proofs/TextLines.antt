@@ -6,9 +6,9 @@ use Rattle.std.specs.List.{slice_split, onto_first, position_or_len, before_firs
 use Rattle.std.specs.Str.Lines.{lines, lines_of_parts, strip_carriage_return}
 use Rattle.std.proofs.lemmas.List.Splits.{slice_split_first}
 use Rattle.ncl_blif.specs.Line.{LineData}
-use Rattle.ncl_base.specs.TextLines.{words_of, NumberedText}
-use Rattle.ncl_blif.specs.Lines.{uncommented, is_continued, blank_at_end, put_before, joined, in_words}
-use Rattle.ncl_blif.proofs.TextWords.{split-some, words_of-append, words_of-end}
+use Rattle.ncl_base.specs.TextLines.{fields_of, NumberedText}
+use Rattle.ncl_blif.specs.Lines.{uncommented, is_continued, blank_at_end, put_before, joined, in_fields}
+use Rattle.ncl_blif.proofs.TextFields.{split-some, fields_of-append, fields_of-end}
 
 lines_of_parts-cons : (x : List ℕ) (parts : List (List ℕ)) → 0 < length parts → lines_of_parts (x ∷ parts) ≡ strip_carriage_return x ∷ lines_of_parts parts
 lines_of_parts-cons x [] some = absurd (omega arith)
@@ -50,18 +50,18 @@ continued-end [] b = refl
 continued-end (c ∷ []) b = refl
 continued-end (c ∷ d ∷ front) b = continued-end (d ∷ front) b
 
--- lines with words put before those of the first, which gets this number
+-- lines with fields put before those of the first, which gets this number
 abbrev pub carried : ℕ → List (List ℕ) → List LineData → List LineData
-carried number words [] = record { number = number; words = words } ∷ []
-carried number words (line ∷ rest) = record { number = number; words = words ++ line.words } ∷ rest
+carried number fields [] = record { number = number; fields = fields } ∷ []
+carried number fields (line ∷ rest) = record { number = number; fields = fields ++ line.fields } ∷ rest
 
--- the lines that a text makes where the first has this number, as words
+-- the lines that a text makes where the first has this number, as fields
 abbrev pub numbered : ℕ → List ℕ → List LineData
-numbered number text = map in_words (joined number (map uncommented (lines text)))
+numbered number text = map in_fields (joined number (map uncommented (lines text)))
 
-pub carried-twice : (m n : ℕ) (words more : List (List ℕ)) (rest : List LineData) → carried m words (carried n more rest) ≡ carried m (words ++ more) rest
-carried-twice m n words more [] = refl
-carried-twice m n words more (line ∷ rest) = ap (λ ws. record { number = m; words = ws } ∷ rest) (sym (append_assoc words more line.words))
+pub carried-twice : (m n : ℕ) (fields more : List (List ℕ)) (rest : List LineData) → carried m fields (carried n more rest) ≡ carried m (fields ++ more) rest
+carried-twice m n fields more [] = refl
+carried-twice m n fields more (line ∷ rest) = ap (λ ws. record { number = m; fields = ws } ∷ rest) (sym (append_assoc fields more line.fields))
 
 blank_end : (part : List ℕ) → blank_at_end (part ++ 92 ∷ []) ≡ part ++ 32 ∷ []
 blank_end part =
@@ -78,29 +78,29 @@ joined-whole number part texts whole = rw whole
 joined-lines : (number : ℕ) (text line part left : List ℕ) → lines text ≡ line ∷ lines left → part ≡ uncommented line → joined number (map uncommented (lines text)) ≡ joined number (part ∷ map uncommented (lines left))
 joined-lines number text line part left first is = ap (λ ls. joined number (map uncommented ls)) first ∙ ap (λ t. joined number (t ∷ map uncommented (lines left))) (sym is)
 
-put_before-words : (number : ℕ) (part : List ℕ) (rest : List NumberedText) → map in_words (put_before (record { number = number; text = part ++ 32 ∷ [] }) rest) ≡ carried number (words_of part) (map in_words rest)
-put_before-words number part [] = ap (λ ws. record { number = number; words = ws } ∷ []) (words_of-end part)
-put_before-words number part (line ∷ rest) =
-    ap (λ ws. record { number = number; words = ws } ∷ map in_words rest) (ap words_of (append_assoc part (32 ∷ []) line.text) ∙ words_of-append part line.text)
+put_before-fields : (number : ℕ) (part : List ℕ) (rest : List NumberedText) → map in_fields (put_before (record { number = number; text = part ++ 32 ∷ [] }) rest) ≡ carried number (fields_of part) (map in_fields rest)
+put_before-fields number part [] = ap (λ ws. record { number = number; fields = ws } ∷ []) (fields_of-end part)
+put_before-fields number part (line ∷ rest) =
+    ap (λ ws. record { number = number; fields = ws } ∷ map in_fields rest) (ap fields_of (append_assoc part (32 ∷ []) line.text) ∙ fields_of-append part line.text)
 
 -- the lines where the first part ends with \, and where it doesn't
-pub numbered-continued : (number : ℕ) (text line part left : List ℕ) → lines text ≡ line ∷ lines left → part ++ 92 ∷ [] ≡ uncommented line → numbered number text ≡ carried number (words_of part) (numbered (number + 1) left)
+pub numbered-continued : (number : ℕ) (text line part left : List ℕ) → lines text ≡ line ∷ lines left → part ++ 92 ∷ [] ≡ uncommented line → numbered number text ≡ carried number (fields_of part) (numbered (number + 1) left)
 numbered-continued number text line part left first is =
-    ap (map in_words) (joined-lines number text line (part ++ 92 ∷ []) left first is ∙ joined-continued number part (map uncommented (lines left)))
-    ∙ put_before-words number part (joined (number + 1) (map uncommented (lines left)))
+    ap (map in_fields) (joined-lines number text line (part ++ 92 ∷ []) left first is ∙ joined-continued number part (map uncommented (lines left)))
+    ∙ put_before-fields number part (joined (number + 1) (map uncommented (lines left)))
 
-pub numbered-whole : (number : ℕ) (text line part left : List ℕ) → lines text ≡ line ∷ lines left → part ≡ uncommented line → is_continued part ≡ false → numbered number text ≡ record { number = number; words = words_of part } ∷ numbered (number + 1) left
+pub numbered-whole : (number : ℕ) (text line part left : List ℕ) → lines text ≡ line ∷ lines left → part ≡ uncommented line → is_continued part ≡ false → numbered number text ≡ record { number = number; fields = fields_of part } ∷ numbered (number + 1) left
 numbered-whole number text line part left first is whole =
-    ap (map in_words) (joined-lines number text line part left first is ∙ joined-whole number part (map uncommented (lines left)) whole)
+    ap (map in_fields) (joined-lines number text line part left first is ∙ joined-whole number part (map uncommented (lines left)) whole)
 
 -- the first of joined lines has the number
-put_before-first : (part : NumberedText) (rest : List NumberedText) → map in_words (put_before part rest) ≡ carried part.number [] (map in_words (put_before part rest))
+put_before-first : (part : NumberedText) (rest : List NumberedText) → map in_fields (put_before part rest) ≡ carried part.number [] (map in_fields (put_before part rest))
 put_before-first part [] = refl
 put_before-first part (line ∷ rest) = refl
 
-joined-first : (number : ℕ) (text : List ℕ) (texts : List (List ℕ)) → map in_words (joined number (text ∷ texts)) ≡ carried number [] (map in_words (joined number (text ∷ texts)))
+joined-first : (number : ℕ) (text : List ℕ) (texts : List (List ℕ)) → map in_fields (joined number (text ∷ texts)) ≡ carried number [] (map in_fields (joined number (text ∷ texts)))
 joined-first number text texts =
-    elim (is_continued text) as (λ b. let here = cond b (put_before (record { number = number; text = blank_at_end text }) (joined (number + 1) texts)) (record { number = number; text = text } ∷ joined (number + 1) texts) in map in_words here ≡ carried number [] (map in_words here))
+    elim (is_continued text) as (λ b. let here = cond b (put_before (record { number = number; text = blank_at_end text }) (joined (number + 1) texts)) (record { number = number; text = text } ∷ joined (number + 1) texts) in map in_fields here ≡ carried number [] (map in_fields here))
     [ true ↦ put_before-first (record { number = number; text = blank_at_end text }) (joined (number + 1) texts) | false ↦ refl ]
 
 -- the first line of a text has the number
@@ -109,9 +109,9 @@ numbered-first number text some =
     let (line, left, first) = lines-some text some in
     rw first (joined-first number (uncommented line) (map uncommented (lines left)))
 
--- how far the first line is read: the words of its parts so far, and what is left of the text
-pub record IsBegun (number : ℕ) (text : List ℕ) (words : List (List ℕ)) (next : ℕ) (rest : List ℕ) : Type 0 where
-  pub said : numbered number text ≡ carried number words (numbered next rest)
+-- how far the first line is read: the fields of its parts so far, and what is left of the text
+pub record IsBegun (number : ℕ) (text : List ℕ) (fields : List (List ℕ)) (next : ℕ) (rest : List ℕ) : Type 0 where
+  pub said : numbered number text ≡ carried number fields (numbered next rest)
   pub count : next + length rest ≤ number + length text
   pub within : length rest ≤ length text
 
@@ -119,26 +119,26 @@ pub begun-none : (number : ℕ) (text : List ℕ) → 0 < length text → IsBegu
 begun-none number text some = record { said = numbered-first number text some; count = omega arith; within = omega arith }
 
 -- a continued part is read
-pub begun-more : (number : ℕ) (text : List ℕ) (words : List (List ℕ)) (next : ℕ) (rest line part left : List ℕ) → IsBegun number text words next rest → lines rest ≡ line ∷ lines left → part ++ 92 ∷ [] ≡ uncommented line → length left < length rest → IsBegun number text (words ++ words_of part) (next + 1) left
-begun-more number text words next rest line part left begun first is shorter = record {
-  said = begun.said ∙ ap (carried number words) (numbered-continued next rest line part left first is) ∙ carried-twice number next words (words_of part) (numbered (next + 1) left);
+pub begun-more : (number : ℕ) (text : List ℕ) (fields : List (List ℕ)) (next : ℕ) (rest line part left : List ℕ) → IsBegun number text fields next rest → lines rest ≡ line ∷ lines left → part ++ 92 ∷ [] ≡ uncommented line → length left < length rest → IsBegun number text (fields ++ fields_of part) (next + 1) left
+begun-more number text fields next rest line part left begun first is shorter = record {
+  said = begun.said ∙ ap (carried number fields) (numbered-continued next rest line part left first is) ∙ carried-twice number next fields (fields_of part) (numbered (next + 1) left);
   count = let most = begun.count in omega arith;
   within = let most = begun.within in omega arith;
 }
 
 -- the first line of a text is read
-pub record IsFirst (number : ℕ) (text : List ℕ) (words : List (List ℕ)) (next : ℕ) (rest : List ℕ) : Type 0 where
-  pub said : numbered number text ≡ record { number = number; words = words } ∷ numbered next rest
+pub record IsFirst (number : ℕ) (text : List ℕ) (fields : List (List ℕ)) (next : ℕ) (rest : List ℕ) : Type 0 where
+  pub said : numbered number text ≡ record { number = number; fields = fields } ∷ numbered next rest
   pub count : next + length rest ≤ number + length text
   pub shorter : length rest < length text
 
-pub first-whole : (number : ℕ) (text : List ℕ) (words : List (List ℕ)) (next : ℕ) (rest line part left : List ℕ) → IsBegun number text words next rest → lines rest ≡ line ∷ lines left → part ≡ uncommented line → is_continued part ≡ false → length left < length rest → IsFirst number text (words ++ words_of part) (next + 1) left
-first-whole number text words next rest line part left begun first is whole shorter = record {
-  said = begun.said ∙ ap (carried number words) (numbered-whole next rest line part left first is whole);
+pub first-whole : (number : ℕ) (text : List ℕ) (fields : List (List ℕ)) (next : ℕ) (rest line part left : List ℕ) → IsBegun number text fields next rest → lines rest ≡ line ∷ lines left → part ≡ uncommented line → is_continued part ≡ false → length left < length rest → IsFirst number text (fields ++ fields_of part) (next + 1) left
+first-whole number text fields next rest line part left begun first is whole shorter = record {
+  said = begun.said ∙ ap (carried number fields) (numbered-whole next rest line part left first is whole);
   count = let most = begun.count in omega arith;
   shorter = let most = begun.within in omega arith;
 }
 
-pub first-end : (number : ℕ) (text : List ℕ) (words : List (List ℕ)) (next : ℕ) (rest : List ℕ) → 0 < length text → IsBegun number text words next rest → length rest ≡ 0 → IsFirst number text words next rest
-first-end number text words next [] some begun end = record { said = begun.said; count = begun.count; shorter = some }
-first-end number text words next (b ∷ bs) some begun end = absurd (omega arith)
+pub first-end : (number : ℕ) (text : List ℕ) (fields : List (List ℕ)) (next : ℕ) (rest : List ℕ) → 0 < length text → IsBegun number text fields next rest → length rest ≡ 0 → IsFirst number text fields next rest
+first-end number text fields next [] some begun end = record { said = begun.said; count = begun.count; shorter = some }
+first-end number text fields next (b ∷ bs) some begun end = absurd (omega arith)

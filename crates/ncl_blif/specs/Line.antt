@@ -1,7 +1,7 @@
 -- A line of a text.
 use Rattle.std.specs.Prelude.{ℕ, List}
 
--- a line that has words: its number, counted from 1, and the words
+-- a line that has fields: its number, counted from 1, and the fields
 pub record LineData : Type 0 where
   pub number : ℕ
-  pub words : List (List ℕ)
+  pub fields : List (List ℕ)

@@ -7,7 +7,7 @@ use Rattle.ncl_blif.specs.declared.fault.BlifFault.{BlifFault}
 use Rattle.ncl_blif.specs.declared.fault.BlifFault.TheVariants.{Syntax, Unsupported, BadRow, MixedCover, TwoDrivers}
 use Rattle.ncl_blif.specs.Line.{LineData}
 use Rattle.ncl_blif.specs.Parts.{PartData, is_row, is_command, is_model, is_inputs, is_names, is_end, parts_of, sections_of}
-use Rattle.ncl_blif.specs.Named.{later_words, last_word, pattern_of, cover_ins, cover_out}
+use Rattle.ncl_blif.specs.Named.{later_fields, last_field, pattern_of, cover_ins, cover_out}
 
 -- whether some name stands twice
 abbrev pub has_twins : List (List ℕ) → Bool
@@ -17,19 +17,19 @@ has_twins (x ∷ xs) = list_any (bytes_eq x) xs || has_twins xs
 -- the signals that a part gives a driver
 abbrev pub signals_driven : PartData → List (List ℕ)
 signals_driven part =
-    if is_inputs part.head then later_words part.head
+    if is_inputs part.head then later_fields part.head
     else (if is_names part.head then cover_out part.head ∷ [] else [])
 
 -- whether the model has ended before
 abbrev pub has_ended : List PartData → Bool
 has_ended before = list_any (λ part. is_end part.head) before
 
--- whether a command has the wrong number of words, or follows .end and doesn't begin a model
+-- whether a command has the wrong number of fields, or follows .end and doesn't begin a model
 abbrev pub is_malformed : List PartData → LineData → Bool
 is_malformed before line =
-    (is_model line && not (length line.words == 2))
-    || ((is_names line && length line.words == 1)
-    || ((is_end line && not (length line.words == 1))
+    (is_model line && not (length line.fields == 2))
+    || ((is_names line && length line.fields == 1)
+    || ((is_end line && not (length line.fields == 1))
     || (has_ended before && not (is_model line))))
 
 -- what breaks the command of a part, after the parts of the model before it
@@ -44,24 +44,24 @@ head_fault before part =
 abbrev pub is_literal : ℕ → Bool
 is_literal b = b == 48 || (b == 49 || b == 45)
 
--- whether a word is 0 or 1
+-- whether a field is 0 or 1
 abbrev pub is_value : List ℕ → Bool
-is_value word = bytes_eq word (codes "0") || bytes_eq word (codes "1")
+is_value field = bytes_eq field (codes "0") || bytes_eq field (codes "1")
 
--- whether words are a row of a cover of this many inputs: a pattern, in which each input has its 0, 1 or -, before a
--- last word that is a bit; of a cover that has no inputs that last word alone
+-- whether fields are a row of a cover of this many inputs: a pattern, in which each input has its 0, 1 or -, before a
+-- last field that is a bit; of a cover that has no inputs that last field alone
 abbrev pub is_row_of : ℕ → List (List ℕ) → Bool
-is_row_of zero words = length words == 1 && is_value (last_word words)
-is_row_of (suc n) words =
-    length words == 2
-    && (length (pattern_of words) == suc n && list_all is_literal (pattern_of words))
-    && is_value (last_word words)
+is_row_of zero fields = length fields == 1 && is_value (last_field fields)
+is_row_of (suc n) fields =
+    length fields == 2
+    && (length (pattern_of fields) == suc n && list_all is_literal (pattern_of fields))
+    && is_value (last_field fields)
 
 -- what breaks a row of a cover of this many inputs whose first row is this one
 abbrev pub row_fault : ℕ → LineData → LineData → Option BlifFault
 row_fault inputs first row =
-    if not (is_row_of inputs row.words) then Some (BadRow row.number)
-    else (if bytes_eq (last_word row.words) (last_word first.words) then None
+    if not (is_row_of inputs row.fields) then Some (BadRow row.number)
+    else (if bytes_eq (last_field row.fields) (last_field first.fields) then None
     else Some (MixedCover row.number))
 
 -- what breaks the first broken one of rows of a cover

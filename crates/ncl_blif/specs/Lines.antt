@@ -2,7 +2,7 @@
 use Rattle.std.specs.Prelude.{ℕ, ◌+◌, ◌-◌, List, [], ◌∷◌, ◌++◌, Bool, false, ◌==◌, if◌then◌else◌, length, map, take, filter, nat_lt}
 use Rattle.std.specs.List.{before_first}
 use Rattle.std.specs.Str.Lines.{lines}
-use Rattle.ncl_base.specs.TextLines.{NumberedText, words_of}
+use Rattle.ncl_base.specs.TextLines.{NumberedText, fields_of}
 use Rattle.ncl_blif.specs.Line.{LineData}
 
 -- a line without its comment, which goes from the first # to the line's end
@@ -33,12 +33,12 @@ joined number (text ∷ texts) =
     then put_before (record { number = number; text = blank_at_end text }) (joined (number + 1) texts)
     else record { number = number; text = text } ∷ joined (number + 1) texts
 
--- the line as words
-abbrev pub in_words : NumberedText → LineData
-in_words line = record { number = line.number; words = words_of line.text }
+-- the line as fields
+abbrev pub in_fields : NumberedText → LineData
+in_fields line = record { number = line.number; fields = fields_of line.text }
 
--- the lines of a text that have words. Lines end with a line feed, and a carriage return before it is
+-- the lines of a text that have fields. Lines end with a line feed, and a carriage return before it is
 -- dropped; lines are counted from 1
 abbrev pub lines_of : List ℕ → List LineData
 lines_of text =
-    filter (λ line. nat_lt 0 (length line.words)) (map in_words (joined 1 (map uncommented (lines text))))
+    filter (λ line. nat_lt 0 (length line.fields)) (map in_fields (joined 1 (map uncommented (lines text))))

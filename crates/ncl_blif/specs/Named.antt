@@ -8,40 +8,40 @@ use Rattle.ncl_blif.specs.Model.{weight_of_rows}
 use Rattle.ncl_blif.specs.Line.{LineData}
 use Rattle.ncl_blif.specs.Parts.{PartData, is_inputs, is_outputs, is_names, is_model}
 
--- the words of a line after the first
-abbrev pub later_words : LineData → List (List ℕ)
-later_words line = drop 1 line.words
+-- the fields of a line after the first
+abbrev pub later_fields : LineData → List (List ℕ)
+later_fields line = drop 1 line.fields
 
--- the last of some words
-abbrev pub last_word : List (List ℕ) → List ℕ
-last_word words = unwrap_or (last_or None words) []
+-- the last of some fields
+abbrev pub last_field : List (List ℕ) → List ℕ
+last_field fields = unwrap_or (last_or None fields) []
 
--- all words but the last
-abbrev pub front_words : List (List ℕ) → List (List ℕ)
-front_words words = take (length words - 1) words
+-- all fields but the last
+abbrev pub front_fields : List (List ℕ) → List (List ℕ)
+front_fields fields = take (length fields - 1) fields
 
 -- the signals that a cover's command says that it reads, in order, and the signal that it drives
 abbrev pub cover_ins : LineData → List (List ℕ)
-cover_ins line = front_words (later_words line)
+cover_ins line = front_fields (later_fields line)
 
 abbrev pub cover_out : LineData → List ℕ
-cover_out line = last_word (later_words line)
+cover_out line = last_field (later_fields line)
 
 -- the literal of a character of a row
 abbrev pub lit_of : ℕ → Lit
 lit_of b = if b == 48 then Zero else (if b == 49 then One else Dash)
 
--- the characters of a row for the inputs: the word before the last, or none
+-- the characters of a row for the inputs: the field before the last, or none
 abbrev pub pattern_of : List (List ℕ) → List ℕ
-pattern_of words = last_word (front_words words)
+pattern_of fields = last_field (front_fields fields)
 
 -- the literals of a row
 abbrev pub lits_of : List (List ℕ) → List Lit
-lits_of words = map lit_of (pattern_of words)
+lits_of fields = map lit_of (pattern_of fields)
 
 -- whether a row is of the ON-set: it ends with 1
 abbrev pub is_on : LineData → Bool
-is_on row = bytes_eq (last_word row.words) (codes "1")
+is_on row = bytes_eq (last_field row.fields) (codes "1")
 
 -- whether the rows list the ON-set, by the first of them. Where there is none either would do
 abbrev pub lists_on : List LineData → Bool
@@ -69,12 +69,12 @@ pub record NamedModel : Type 0 where
 
 -- what a part says: inputs, outputs, or a cover
 abbrev pub inputs_said : PartData → List (List ℕ)
-inputs_said part = if is_inputs part.head then later_words part.head else []
+inputs_said part = if is_inputs part.head then later_fields part.head else []
 
 abbrev pub outputs_said : PartData → List NamedOutput
 outputs_said part =
     if is_outputs part.head
-    then map (λ signal. record { line = part.head.number; signal = signal }) (later_words part.head)
+    then map (λ signal. record { line = part.head.number; signal = signal }) (later_fields part.head)
     else []
 
 abbrev pub cover_of : PartData → NamedCover
@@ -83,7 +83,7 @@ cover_of part = record {
   ins = cover_ins part.head;
   out = cover_out part.head;
   on = lists_on part.rows;
-  rows = map (λ row. lits_of row.words) part.rows;
+  rows = map (λ row. lits_of row.fields) part.rows;
 }
 
 abbrev pub covers_said : PartData → List NamedCover
@@ -92,7 +92,7 @@ covers_said part = if is_names part.head then cover_of part ∷ [] else []
 -- the name of a model: what its .model says, or none
 abbrev pub name_said : List PartData → List ℕ
 name_said [] = []
-name_said (part ∷ parts) = if is_model part.head then unwrap_or (slice_get part.head.words 1) [] else []
+name_said (part ∷ parts) = if is_model part.head then unwrap_or (slice_get part.head.fields 1) [] else []
 
 -- the model that these parts say
 abbrev pub named_model : List PartData → NamedModel

@@ -5,22 +5,22 @@ use Rattle.std.specs.List.{take_while}
 use Rattle.std.specs.Str.{bytes_eq}
 use Rattle.ncl_blif.specs.Line.{LineData}
 
--- the first word of a line
-abbrev pub first_word : LineData → List ℕ
-first_word line = unwrap_or (slice_get line.words 0) []
+-- the first field of a line
+abbrev pub first_field : LineData → List ℕ
+first_field line = unwrap_or (slice_get line.fields 0) []
 
--- whether the first word of a line is this one
+-- whether the first field of a line is this one
 abbrev pub begins_with : List ℕ → LineData → Bool
-begins_with word line = bytes_eq (first_word line) word
+begins_with field line = bytes_eq (first_field line) field
 
--- whether a word begins with a dot
+-- whether a field begins with a dot
 abbrev pub has_dot : List ℕ → Bool
 has_dot [] = false
 has_dot (b ∷ bs) = b == 46
 
--- whether a line is a row: its first word doesn't begin with a dot
+-- whether a line is a row: its first field doesn't begin with a dot
 abbrev pub is_row : LineData → Bool
-is_row line = not (has_dot (first_word line))
+is_row line = not (has_dot (first_field line))
 
 abbrev pub is_model : LineData → Bool
 is_model = begins_with (codes ".model")

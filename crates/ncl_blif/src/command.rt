@@ -1,9 +1,9 @@
 //! The commands that are read.
 ghost use Rattle.std.specs.Prelude.{◌≡◌, ◌≢◌, List, true, false, length, MatchOption};
 ghost use Rattle.ncl_blif.specs.Line.{LineData};
-ghost use Rattle.ncl_blif.specs.Parts.{PartData, is_command, is_model, is_names, is_end, first_word};
+ghost use Rattle.ncl_blif.specs.Parts.{PartData, is_command, is_model, is_names, is_end, first_field};
 ghost use Rattle.ncl_blif.specs.LineFaults.{has_ended, is_malformed};
-ghost use Rattle.ncl_blif.specs.Commands.{word_of};
+ghost use Rattle.ncl_blif.specs.Commands.{field_of};
 
 use crate::line::Line;
 
@@ -35,39 +35,39 @@ const END: &[u8] = b".end";
 impl Command {
     /// The command that a line begins with, or `None` where it begins with none that is read.
     pub(crate) fn of_line(line: &Line) -> Option<Command>
-        ensures { MatchOption result (is_command line.now ≡ false) (λ command. first_word line.now ≡ word_of command) }
+        ensures { MatchOption result (is_command line.now ≡ false) (λ command. first_field line.now ≡ field_of command) }
     {
-        let word = line.first_word();
-        if word == MODEL {
+        let field = line.first_field();
+        if field == MODEL {
             return Some(Command::Model);
         }
-        if word == INPUTS {
+        if field == INPUTS {
             return Some(Command::Inputs);
         }
-        if word == OUTPUTS {
+        if field == OUTPUTS {
             return Some(Command::Outputs);
         }
-        if word == NAMES {
+        if field == NAMES {
             return Some(Command::Names);
         }
-        if word == END {
+        if field == END {
             return Some(Command::End);
         }
         None
     }
 
-    /// Whether its line, of this many words, may not stand where it does, in a model that has ended
-    /// before or not: it has the wrong number of words, or follows `.end` and doesn't begin a model.
-    pub(crate) fn is_malformed(self, ended: bool, words: usize) -> bool
-        ensures malformed { (before : List PartData) (line : LineData) → first_word line ≡ word_of self
-            → words ≡ length line.words → ended ≡ has_ended before → result ≡ is_malformed before line }
-        ensures names { (line : LineData) → first_word line ≡ word_of self → is_names line ≡ true
-            → result ≡ false → words ≢ 1 }
+    /// Whether its line, of this many fields, may not stand where it does, in a model that has ended
+    /// before or not: it has the wrong number of fields, or follows `.end` and doesn't begin a model.
+    pub(crate) fn is_malformed(self, ended: bool, fields: usize) -> bool
+        ensures malformed { (before : List PartData) (line : LineData) → first_field line ≡ field_of self
+            → fields ≡ length line.fields → ended ≡ has_ended before → result ≡ is_malformed before line }
+        ensures names { (line : LineData) → first_field line ≡ field_of self → is_names line ≡ true
+            → result ≡ false → fields ≢ 1 }
     {
         let is_miscounted = match self {
-            Command::Model => words != 2,
-            Command::Names => words == 1,
-            Command::End => words != 1,
+            Command::Model => fields != 2,
+            Command::Names => fields == 1,
+            Command::End => fields != 1,
             Command::Inputs | Command::Outputs => false,
         };
         is_miscounted || ended && self != Command::Model
@@ -75,7 +75,7 @@ impl Command {
 
     /// Whether it ends a model.
     pub(crate) fn is_end(self) -> bool
-        ensures { (line : LineData) → first_word line ≡ word_of self → result ≡ is_end line }
+        ensures { (line : LineData) → first_field line ≡ field_of self → result ≡ is_end line }
     {
         matches!(self, Command::End)
     }
@@ -85,5 +85,5 @@ impl Command {
 pub(crate) fn is_model(line: &Line) -> bool
     ensures { result ≡ is_model line.now }
 {
-    line.first_word() == MODEL
+    line.first_field() == MODEL
 }

@@ -13,7 +13,7 @@ use crate::draft_body::DraftBody;
 use crate::draft_cover::{DraftCover, DraftOutput};
 use crate::drivers::Driver;
 use crate::fault::BlifFault;
-use crate::line::{Line, counted_lines, read_words};
+use crate::line::{Line, counted_lines, read_fields};
 use crate::part::{Part, parts};
 use crate::section::section_length;
 use ncl_base::MOST_BYTES;
@@ -118,17 +118,17 @@ fn name_of<'a>(parts: &[Part<'_, 'a>]) -> &'a [u8]
     ensures { result.now ≡ name_said parts.now }
 {
     match parts.first() {
-        Some(part) if is_model(part.head()) => second_word(part.head()),
+        Some(part) if is_model(part.head()) => second_field(part.head()),
         _ => &[],
     }
 }
 
-/// The second word of a line, or no bytes where it has none.
-fn second_word<'a>(line: &Line<'_, 'a>) -> &'a [u8]
-    ensures { result.now ≡ unwrap_or (slice_get line.now.words 1) [] }
+/// The second field of a line, or no bytes where it has none.
+fn second_field<'a>(line: &Line<'_, 'a>) -> &'a [u8]
+    ensures { result.now ≡ unwrap_or (slice_get line.now.fields 1) [] }
 {
-    match line.words().get(1) {
-        Some(word) => word,
+    match line.fields().get(1) {
+        Some(field) => field,
         None => &[],
     }
 }
@@ -142,8 +142,8 @@ pub(crate) fn drafts<'a>(alloc: Global, text: &'a [u8]) -> Result<Vec<Draft<'a>>
         (λ drafts. (first_line_fault (lines_of text.now) ≡ None) × (drafts.items ≡ models_said text.now))
         (λ fault. (fault ≡ OutOfMemory) ⊎ (first_line_fault (lines_of text.now) ≡ Some fault)) }
 {
-    let (words, counts) = read_words(alloc, text)?;
-    let lines = counted_lines(alloc, &words, counts)?;
+    let (fields, counts) = read_fields(alloc, text)?;
+    let lines = counted_lines(alloc, &fields, counts)?;
     begin(&lines)?;
     let parts = parts(alloc, &lines)?;
     drafts_of(alloc, &parts)

@@ -1,9 +1,9 @@
 //! What the parts of a model say so far.
 ghost use Rattle.std.specs.Prelude.{◌≡◌, List, ◌⊎◌, ◌+◌, ◌<◌, ◌≤◌, [], ◌∷◌, ◌++◌, Some, None, true, false, length, map, OnOk, MatchResult};
 ghost use Rattle.ncl_blif.specs.declared.fault.BlifFault.TheVariants.{Memory as OutOfMemory};
-ghost use Rattle.ncl_blif.specs.Parts.{PartData, first_word, is_names};
-ghost use Rattle.ncl_blif.specs.Commands.{word_of};
-ghost use Rattle.ncl_blif.specs.Named.{NamedModel, later_words, cover_of, cover_out, inputs_said, outputs_said, covers_said, named_model, drivers_of};
+ghost use Rattle.ncl_blif.specs.Parts.{PartData, first_field, is_names};
+ghost use Rattle.ncl_blif.specs.Commands.{field_of};
+ghost use Rattle.ncl_blif.specs.Named.{NamedModel, later_fields, cover_of, cover_out, inputs_said, outputs_said, covers_said, named_model, drivers_of};
 ghost use Rattle.ncl_blif.specs.Numbered.{is_driven};
 ghost use Rattle.ncl_blif.specs.LineFaults.{rows_fault, has_twins, signals_driven, has_ended, part_fault};
 ghost use Rattle.ncl_blif.specs.Body.{said_by, AreDriversKept};
@@ -15,7 +15,7 @@ use crate::fault::BlifFault;
 use crate::line::Line;
 use crate::part::Part;
 use crate::rows::no_rows;
-use crate::words::front_and_last;
+use crate::fields::front_and_last;
 use ncl_base::MOST_BYTES;
 use std::alloc::Global;
 
@@ -64,14 +64,14 @@ impl<'a> DraftBody<'a> {
         let Some(command) = Command::of_line(head) else {
             return Err(BlifFault::Unsupported(head.number()));
         };
-        if command.is_malformed(ended, head.words().len()) {
+        if command.is_malformed(ended, head.fields().len()) {
             return Err(BlifFault::Syntax(head.number()));
         }
         self.add_command(alloc, command, part)?;
         Ok(ended || command.is_end())
     }
 
-    /// Adds what a part says that begins with this command, which has the right number of words. It
+    /// Adds what a part says that begins with this command, which has the right number of fields. It
     /// answers `TwoDrivers` where a signal gets a driver and has one, and then the first fault of the
     /// rows.
     ///
@@ -84,8 +84,8 @@ impl<'a> DraftBody<'a> {
     ) -> Result<(), BlifFault>
         requires kept { AreDriversKept self.old }
         requires room { length (drivers_of (said_by self.old)) + length (signals_driven part.now) ≤ MOST_BYTES }
-        requires word { first_word part.now.head ≡ word_of command }
-        requires words { is_names part.now.head ≡ true → 2 ≤ length part.now.head.words }
+        requires field { first_field part.now.head ≡ field_of command }
+        requires fields { is_names part.now.head ≡ true → 2 ≤ length part.now.head.fields }
         ensures { let old = said_by self.old in
             let more = record old {
               inputs = old.inputs ++ inputs_said part.now;
@@ -102,11 +102,11 @@ impl<'a> DraftBody<'a> {
         let head = part.head();
         match command {
             Command::Inputs => {
-                self.add_inputs(head.number(), later_words(head))?;
+                self.add_inputs(head.number(), later_fields(head))?;
                 no_rows(part.rows())
             }
             Command::Outputs => {
-                self.add_outputs(head.number(), later_words(head))?;
+                self.add_outputs(head.number(), later_fields(head))?;
                 no_rows(part.rows())
             }
             Command::Names => self.add_cover(alloc, part),
@@ -167,14 +167,14 @@ impl<'a> DraftBody<'a> {
         Ok(())
     }
 
-    /// Adds the cover that a `.names` line of at least two words and the rows after it say. It answers
+    /// Adds the cover that a `.names` line of at least two fields and the rows after it say. It answers
     /// `TwoDrivers` where the cover's signal has a driver already, and then the first fault of the rows.
     ///
     /// Linear in the lines, and logarithmic in the signals.
     pub(crate) fn add_cover(&mut self, alloc: Global, part: &Part<'_, 'a>) -> Result<(), BlifFault>
         requires kept { AreDriversKept self.old }
         requires names { is_names part.now.head ≡ true }
-        requires words { 2 ≤ length part.now.head.words }
+        requires fields { 2 ≤ length part.now.head.fields }
         requires room { length (drivers_of (said_by self.old)) < MOST_BYTES }
         ensures { let old = said_by self.old in let driven = is_driven old (cover_out part.now.head) in MatchResult result
             (λ _. AreDriversKept self.new × (said_by self.new ≡ record old { covers = old.covers ++ cover_of part.now ∷ [] })
@@ -195,20 +195,20 @@ impl<'a> DraftBody<'a> {
     }
 }
 
-/// The words of a line after the first.
-fn later_words<'t, 'a>(head: &Line<'t, 'a>) -> &'t [&'a [u8]]
-    requires { 1 ≤ length head.now.words }
-    ensures { map (λ word. word.now) result.now ≡ later_words head.now }
+/// The fields of a line after the first.
+fn later_fields<'t, 'a>(head: &Line<'t, 'a>) -> &'t [&'a [u8]]
+    requires { 1 ≤ length head.now.fields }
+    ensures { map (λ field. field.now) result.now ≡ later_fields head.now }
 {
-    &head.words()[1..]
+    &head.fields()[1..]
 }
 
-/// The signal that a `.names` line of at least two words drives.
+/// The signal that a `.names` line of at least two fields drives.
 fn signal_driven<'a>(head: &Line<'_, 'a>) -> &'a [u8]
-    requires { 2 ≤ length head.now.words }
+    requires { 2 ≤ length head.now.fields }
     ensures { result.now ≡ cover_out head.now }
 {
-    match front_and_last(later_words(head)) {
+    match front_and_last(later_fields(head)) {
         Some((_, out)) => out,
         None => unreachable!(),
     }

@@ -9,7 +9,7 @@ use crate::fault::BlifFault;
 use crate::model::Row;
 use crate::part::Part;
 use crate::rows::read_rows;
-use crate::words::front_and_last;
+use crate::fields::front_and_last;
 use ncl_base::Items;
 use std::alloc::Global;
 use std::marker::Model;
@@ -78,18 +78,18 @@ impl<'a> Model for DraftCover<'a> {
 }
 
 impl<'a> DraftCover<'a> {
-    /// The cover that a `.names` line of at least two words and the rows after it say. It answers the
+    /// The cover that a `.names` line of at least two fields and the rows after it say. It answers the
     /// first fault of the rows.
     ///
     /// Linear in the lines.
     pub(crate) fn read(alloc: Global, part: &Part<'_, 'a>) -> Result<DraftCover<'a>, BlifFault>
         requires names { is_names part.now.head ≡ true }
-        requires words { 2 ≤ length part.now.head.words }
+        requires fields { 2 ≤ length part.now.head.fields }
         ensures { MatchResult result
             (λ cover. (rows_fault part.now.head part.now.rows ≡ None) × (cover ≡ cover_of part.now))
             (λ fault. (fault ≡ OutOfMemory) ⊎ (rows_fault part.now.head part.now.rows ≡ Some fault)) }
     {
-        let Some((ins, out)) = front_and_last(&part.head().words()[1..]) else {
+        let Some((ins, out)) = front_and_last(&part.head().fields()[1..]) else {
             unreachable!()
         };
         let (rows, on) = read_rows(alloc, ins.len(), part.rows())?;

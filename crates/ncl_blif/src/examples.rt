@@ -8,11 +8,11 @@ ghost use Rattle.ncl_blif.specs.Meaning.{Gives, Computes};
 ghost use Rattle.ncl_blif.specs.Answer.{models_said, IsRefused};
 ghost use Rattle.ncl_blif.specs.Examples.{text_of, going_on, half_adder, half, rest, with_lines};
 
-/// A line that is continued has the number of its first part. Comments and lines without words say nothing.
+/// A line that is continued has the number of its first part. Comments and lines without fields say nothing.
 pub fn lines_of_a_text()
     ensures { lines_of (text_of (going_on (codes ".inputs a") ∷ codes " b # two" ∷ codes "  " ∷ codes ".end" ∷ []))
-        ≡ record { number = 1; words = codes ".inputs" ∷ codes "a" ∷ codes "b" ∷ [] }
-        ∷ record { number = 4; words = codes ".end" ∷ [] } ∷ [] }
+        ≡ record { number = 1; fields = codes ".inputs" ∷ codes "a" ∷ codes "b" ∷ [] }
+        ∷ record { number = 4; fields = codes ".end" ∷ [] } ∷ [] }
 {}
 
 /// The half adder says two models. At 1 and 1 the first gives a carry and no sum, and both one after another

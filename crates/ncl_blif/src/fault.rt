@@ -7,10 +7,10 @@ use thiserror::Error;
 /// begins in.
 #[derive(Clone, Copy, Debug, PartialEq, Eq, Error)]
 pub enum BlifFault {
-    /// A line is of none of the forms, or stands where it may not. Line 0: no line has a word.
+    /// A line is of none of the forms, or stands where it may not. Line 0: no line has a field.
     #[error("syntax in line {0}")]
     Syntax(u32),
-    /// A line begins with a word that is a command of BLIF, but none that is read.
+    /// A line begins with a field that is a command of BLIF, but none that is read.
     #[error("unsupported in line {0}")]
     Unsupported(u32),
     /// A row is not of the form that its cover wants.

@@ -20,7 +20,7 @@ mod reader;
 mod row;
 mod rows;
 mod section;
-mod words;
+mod fields;
 
 pub use dependence::dependencies;
 pub use fault::BlifFault;

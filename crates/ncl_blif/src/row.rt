@@ -3,17 +3,17 @@ ghost use Rattle.std.specs.Prelude.{◌≡◌, ℕ, ◌==◌, ◌⊎◌, true, f
 ghost use Rattle.std.specs.List.{list_all};
 ghost use Rattle.std.specs.Str.{bytes_eq};
 ghost use Rattle.ncl_blif.specs.declared.fault.BlifFault.TheVariants.{Memory as OutOfMemory};
-ghost use Rattle.ncl_blif.specs.Named.{lit_of, pattern_of, last_word, lits_of, is_on};
+ghost use Rattle.ncl_blif.specs.Named.{lit_of, pattern_of, last_field, lits_of, is_on};
 ghost use Rattle.ncl_blif.specs.LineFaults.{is_literal, is_value, is_row_of};
 
 use crate::fault::BlifFault;
 use crate::line::Line;
 use crate::model::{Lit, Row};
-use crate::words::front_and_last;
+use crate::fields::front_and_last;
 use ncl_base::{Items, Memory};
 use std::alloc::Global;
 
-/// The word that ends a row of the ON-set.
+/// The field that ends a row of the ON-set.
 const ONE: &[u8] = b"1";
 
 /// The literals of a row of a cover of this many inputs, and whether it is of the ON-set. It answers
@@ -22,11 +22,11 @@ const ONE: &[u8] = b"1";
 /// Linear in the row.
 pub(crate) fn read_row(alloc: Global, inputs: usize, line: &Line) -> Result<(Row, bool), BlifFault>
     ensures { MatchResult result
-        (λ row. (is_row_of inputs line.now.words ≡ true) × (row.0 ≡ lits_of line.now.words) × (row.1 ≡ is_on line.now))
-        (λ fault. (fault ≡ OutOfMemory) ⊎ ((is_row_of inputs line.now.words ≡ false) × (fault ≡ BlifFault.BadRow line.now.number))) }
+        (λ row. (is_row_of inputs line.now.fields ≡ true) × (row.0 ≡ lits_of line.now.fields) × (row.1 ≡ is_on line.now))
+        (λ fault. (fault ≡ OutOfMemory) ⊎ ((is_row_of inputs line.now.fields ≡ false) × (fault ≡ BlifFault.BadRow line.now.number))) }
 {
     let bad = BlifFault::BadRow(line.number());
-    let Some((pattern, word)) = row_words(inputs, line.words()) else {
+    let Some((pattern, field)) = row_fields(inputs, line.fields()) else {
         return Err(bad);
     };
     if pattern.len() != inputs {
@@ -35,20 +35,20 @@ pub(crate) fn read_row(alloc: Global, inputs: usize, line: &Line) -> Result<(Row
     let Some(row) = read_pattern(alloc, pattern)? else {
         return Err(bad);
     };
-    let Some(on) = read_value(word) else {
+    let Some(on) = read_value(field) else {
         return Err(bad);
     };
     Ok((row, on))
 }
 
 /// The pattern and the value of a row of a cover of this many inputs, or `None` where it has another
-/// number of words. Without inputs the pattern is empty and no word.
-fn row_words<'a>(inputs: usize, words: &[&'a [u8]]) -> Option<(&'a [u8], &'a [u8])>
-    ensures { let said = map (λ word. word.now) words.now in
+/// number of fields. Without inputs the pattern is empty and no field.
+fn row_fields<'a>(inputs: usize, fields: &[&'a [u8]]) -> Option<(&'a [u8], &'a [u8])>
+    ensures { let said = map (λ field. field.now) fields.now in
         MatchOption result ((length said == (if inputs == 0 then 1 else 2)) ≡ false)
-        (λ row. (length said ≡ (if inputs == 0 then 1 else 2)) × (row.0.now ≡ pattern_of said) × (row.1.now ≡ last_word said)) }
+        (λ row. (length said ≡ (if inputs == 0 then 1 else 2)) × (row.0.now ≡ pattern_of said) × (row.1.now ≡ last_field said)) }
 {
-    match words {
+    match fields {
         [value] if inputs == 0 => Some((&[], *value)),
         [pattern, value] if inputs > 0 => Some((*pattern, *value)),
         _ => None,
@@ -82,24 +82,24 @@ fn read_lit(byte: u8) -> Option<Lit>
     }
 }
 
-/// Whether the word that ends a row is 1, or `None` where it is neither 0 nor 1.
-fn read_value(word: &[u8]) -> Option<bool>
-    ensures { MatchOption result (is_value word.now ≡ false)
-        (λ on. (is_value word.now ≡ true) × (on ≡ bytes_eq word.now (codes "1"))) }
+/// Whether the field that ends a row is 1, or `None` where it is neither 0 nor 1.
+fn read_value(field: &[u8]) -> Option<bool>
+    ensures { MatchOption result (is_value field.now ≡ false)
+        (λ on. (is_value field.now ≡ true) × (on ≡ bytes_eq field.now (codes "1"))) }
 {
-    match word {
+    match field {
         b"0" => Some(false),
         b"1" => Some(true),
         _ => None,
     }
 }
 
-/// Whether the last word of a line is 1.
+/// Whether the last field of a line is 1.
 pub(crate) fn ends_with_one(line: &Line) -> bool
     ensures { result ≡ is_on line.now }
 {
-    match front_and_last(line.words()) {
-        Some((_, word)) => word == ONE,
+    match front_and_last(line.fields()) {
+        Some((_, field)) => field == ONE,
         None => false,
     }
 }

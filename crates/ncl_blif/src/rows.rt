@@ -25,7 +25,7 @@ pub(crate) fn read_rows(
 ) -> Result<(Items<Row>, bool), BlifFault>
     ensures { (head : LineData) → is_names head ≡ true → inputs ≡ length (cover_ins head) → MatchResult result
         (λ read. (rows_fault head lines.now ≡ None)
-        × (read.0 ≡ map (λ line. lits_of line.words) lines.now) × (read.1 ≡ lists_on lines.now))
+        × (read.0 ≡ map (λ line. lits_of line.fields) lines.now) × (read.1 ≡ lists_on lines.now))
         (λ fault. (fault ≡ OutOfMemory) ⊎ (rows_fault head lines.now ≡ Some fault)) }
 {
     let mut rows = Vec::with_capacity(alloc, lines.len())?;

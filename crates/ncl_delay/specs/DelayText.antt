@@ -7,7 +7,7 @@ use Rattle.std.specs.Str.{bytes_eq}
 use Rattle.std.specs.Str.Parse.{digits_value}
 use Rattle.ncl_netlist.specs.Names.{same_name}
 use Rattle.ncl_netlist.specs.Netlist.{NetlistData}
-use Rattle.ncl_base.specs.TextLines.{words_of, NumberedText}
+use Rattle.ncl_base.specs.TextLines.{fields_of, NumberedText}
 use Rattle.ncl_delay.specs.declared.delays.Edges.{Edges}
 use Rattle.ncl_delay.specs.declared.delays.TheConstants.{MOST_DELAY}
 use Rattle.ncl_delay.specs.declared.number.TheConstants.{MOST_DIGITS}
@@ -22,35 +22,35 @@ use Rattle.ncl_delay.specs.Delays.{DelaysData}
 abbrev pub cell_names : NetlistData → List (List ℕ)
 cell_names n = map (λ cell. cell.name) n.cells
 
--- whether a word is a delay: a number from 1 to MOST_DELAY, in at most MOST_DIGITS digits
+-- whether a field is a delay: a number from 1 to MOST_DELAY, in at most MOST_DIGITS digits
 abbrev pub is_delay_text : List ℕ → Bool
-is_delay_text word =
-    nat_le 1 (length word) && nat_le (length word) MOST_DIGITS && list_all is_ascii_digit word
-    && nat_le 1 (digits_value 10 word) && nat_le (digits_value 10 word) MOST_DELAY
+is_delay_text field =
+    nat_le 1 (length field) && nat_le (length field) MOST_DIGITS && list_all is_ascii_digit field
+    && nat_le 1 (digits_value 10 field) && nat_le (digits_value 10 field) MOST_DELAY
 
--- the delay of a word
+-- the delay of a field
 abbrev pub delay_text : List ℕ → Option ℕ
-delay_text word = if is_delay_text word then Some (digits_value 10 word) else None
+delay_text field = if is_delay_text field then Some (digits_value 10 field) else None
 
 abbrev pub both_edges : Option ℕ → Option ℕ → Option Edges
 both_edges None fall = None
 both_edges (Some rise) None = None
 both_edges (Some rise) (Some fall) = Some (record { rise = rise; fall = fall })
 
--- the delays of two words, rising first
+-- the delays of two fields, rising first
 abbrev pub edges_text : List ℕ → List ℕ → Option Edges
 edges_text rise fall = both_edges (delay_text rise) (delay_text fall)
 
--- the subject that a word stands for
+-- the subject that a field stands for
 abbrev pub subject_text : List ℕ → Option Subject
-subject_text word =
-    if bytes_eq word (codes "default") then Some Default
-    else (if bytes_eq word (codes "source") then Some Source
-    else (if bytes_eq word (codes "sink") then Some Sink else None))
+subject_text field =
+    if bytes_eq field (codes "default") then Some Default
+    else (if bytes_eq field (codes "source") then Some Source
+    else (if bytes_eq field (codes "sink") then Some Sink else None))
 
--- the cell that a word and a name stand for
+-- the cell that a field and a name stand for
 abbrev pub cell_text : List ℕ → List ℕ → Option Subject
-cell_text word name = if bytes_eq word (codes "cell") then Some (Cell name) else None
+cell_text field name = if bytes_eq field (codes "cell") then Some (Cell name) else None
 
 -- the statement of a subject and its delays, where both are there
 abbrev pub stating : Option Subject → Option Edges → Option Statement
@@ -58,15 +58,15 @@ stating None edges = None
 stating (Some subject) None = None
 stating (Some subject) (Some edges) = Some (record { subject = subject; edges = edges })
 
--- what the words of a line state: `default R F`, `source R F`, `sink R F` or `cell NAME R F`
+-- what the fields of a line state: `default R F`, `source R F`, `sink R F` or `cell NAME R F`
 abbrev pub said : List (List ℕ) → Option Statement
-said (word ∷ rise ∷ fall ∷ []) = stating (subject_text word) (edges_text rise fall)
-said (word ∷ name ∷ rise ∷ fall ∷ []) = stating (cell_text word name) (edges_text rise fall)
-said words = None
+said (field ∷ rise ∷ fall ∷ []) = stating (subject_text field) (edges_text rise fall)
+said (field ∷ name ∷ rise ∷ fall ∷ []) = stating (cell_text field name) (edges_text rise fall)
+said fields = None
 
 -- what a line states
 abbrev pub said_in : NumberedText → Option Statement
-said_in line = said (words_of line.text)
+said_in line = said (fields_of line.text)
 
 -- whether a cell has the name
 abbrev pub is_known : List (List ℕ) → Subject → Bool

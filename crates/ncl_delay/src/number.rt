@@ -8,18 +8,18 @@ use crate::delays::MOST_DELAY;
 /// The most digits of a delay.
 const MOST_DIGITS: usize = 7;
 
-/// The delay of a word, or `None` where it is none: a number from 1 to `MOST_DELAY`, in at most `MOST_DIGITS` digits.
+/// The delay of a field, or `None` where it is none: a number from 1 to `MOST_DELAY`, in at most `MOST_DIGITS` digits.
 ///
 /// Looks at seven bytes at most.
-pub(crate) fn read_delay(word: &[u8]) -> Option<u32>
-    ensures value { result ≡ delay_text word.now }
+pub(crate) fn read_delay(field: &[u8]) -> Option<u32>
+    ensures value { result ≡ delay_text field.now }
     ensures range { IfSome result IsDelay }
 {
-    if word.len() > MOST_DIGITS {
+    if field.len() > MOST_DIGITS {
         return None;
     }
     let mut value: u32 = 0;
-    for byte in word {
+    for byte in field {
         if !byte.is_ascii_digit() {
             return None;
         }

@@ -1,7 +1,7 @@
 //! What a line of a file of delays states.
 ghost use Rattle.std.specs.Prelude.{◌≡◌, IfSome, map, take};
 ghost use Rattle.ncl_delay.specs.Delays.{AreDelays};
-ghost use Rattle.ncl_base.specs.TextLines.{is_blank, words_of};
+ghost use Rattle.ncl_base.specs.TextLines.{is_blank, fields_of};
 ghost use Rattle.ncl_delay.specs.DelayText.{edges_text, subject_text, cell_text, stating, said};
 
 use crate::delays::Edges;
@@ -53,8 +53,8 @@ pub(crate) struct Statement<'a> {
     pub(crate) edges: Edges,
 }
 
-/// The most words of a line that are told apart.
-const MOST_WORDS: usize = 5;
+/// The most fields of a line that are told apart.
+const MOST_FIELDS: usize = 5;
 
 const DEFAULT: &[u8] = b"default";
 
@@ -68,12 +68,12 @@ const CELL: &[u8] = b"cell";
 ///
 /// Linear in the line.
 pub(crate) fn said(line: &[u8]) -> Option<Statement<'_>>
-    ensures value { result ≡ said (words_of line.now) }
+    ensures value { result ≡ said (fields_of line.now) }
     ensures range { IfSome result (λ statement. AreDelays statement.edges) }
 {
-    match first_words(line).as_slice() {
-        [word, rise, fall] => stating(read_subject(word), read_edges(rise, fall)),
-        [word, name, rise, fall] => stating(read_cell(word, name), read_edges(rise, fall)),
+    match first_fields(line).as_slice() {
+        [field, rise, fall] => stating(read_subject(field), read_edges(rise, fall)),
+        [field, name, rise, fall] => stating(read_cell(field, name), read_edges(rise, fall)),
         _ => None,
     }
 }
@@ -89,46 +89,46 @@ fn stating<'a>(subject: Option<Subject<'a>>, edges: Option<Edges>) -> Option<Sta
     Some(Statement { subject, edges })
 }
 
-/// The first words of a line, five at most. Linear in the line.
-fn first_words(line: &[u8]) -> ArrayVec<&[u8], MOST_WORDS>
-    ensures { map (λ word. word.now) result.items ≡ take MOST_WORDS (words_of line.now) }
+/// The first fields of a line, five at most. Linear in the line.
+fn first_fields(line: &[u8]) -> ArrayVec<&[u8], MOST_FIELDS>
+    ensures { map (λ field. field.now) result.items ≡ take MOST_FIELDS (fields_of line.now) }
 {
-    let mut words = ArrayVec::new();
+    let mut fields = ArrayVec::new();
     for part in line.split(|byte| is_blank(*byte)) {
-        if !part.is_empty() && words.len() < MOST_WORDS {
-            words.push(part);
+        if !part.is_empty() && fields.len() < MOST_FIELDS {
+            fields.push(part);
         }
     }
-    words
+    fields
 }
 
-/// The subject that a word stands for, or `None` where it stands for none.
-fn read_subject(word: &[u8]) -> Option<Subject<'static>>
-    ensures { result ≡ subject_text word.now }
+/// The subject that a field stands for, or `None` where it stands for none.
+fn read_subject(field: &[u8]) -> Option<Subject<'static>>
+    ensures { result ≡ subject_text field.now }
 {
-    if word == DEFAULT {
+    if field == DEFAULT {
         return Some(Subject::Default);
     }
-    if word == SOURCE {
+    if field == SOURCE {
         return Some(Subject::Source);
     }
-    if word == SINK {
+    if field == SINK {
         return Some(Subject::Sink);
     }
     None
 }
 
-/// The cell of a name, or `None` where the word before the name is not `cell`.
-fn read_cell<'a>(word: &[u8], name: &'a [u8]) -> Option<Subject<'a>>
-    ensures { result ≡ cell_text word.now name.now }
+/// The cell of a name, or `None` where the field before the name is not `cell`.
+fn read_cell<'a>(field: &[u8], name: &'a [u8]) -> Option<Subject<'a>>
+    ensures { result ≡ cell_text field.now name.now }
 {
-    if word == CELL {
+    if field == CELL {
         return Some(Subject::Cell(Written { bytes: name }));
     }
     None
 }
 
-/// The delays of two words, the first of rising and the second of falling, or `None` where one is none.
+/// The delays of two fields, the first of rising and the second of falling, or `None` where one is none.
 fn read_edges(rise: &[u8], fall: &[u8]) -> Option<Edges>
     ensures value { result ≡ edges_text rise.now fall.now }
     ensures range { IfSome result AreDelays }

@@ -14,7 +14,7 @@ use Rattle.ncl_blif.proofs.draft.drafts.Goals as goal
 pub drafts_of-requires : goal.drafts_of-requires
 drafts_of-requires c =
     let text = c.args.text.now in
-    let counted = subst (λ ws. AreCounted (lines_of text) (map (λ word. word.now) ws) c.in_ok-words.counts.items) (sym c.deref.ensures.value) c.in_ok-words.ensures in
+    let counted = subst (λ ws. AreCounted (lines_of text) (map (λ field. field.now) ws) c.in_ok-fields.counts.items) (sym c.deref.ensures.value) c.in_ok-fields.ensures in
     let lines = c.deref-3.ensures.value ∙ c.in_ok-lines.ensures (lines_of text) counted in
     let parts = c.deref-4.ensures.value ∙ c.in_ok-parts.ensures ∙ ap parts_of lines in
     omega (arith, drivers-size text, ap (λ ps. length (drivers_of (named_model ps))) parts, c.requires)
@@ -22,7 +22,7 @@ drafts_of-requires c =
 pub returns-in_err-begin : goal.returns-in_err-begin
 returns-in_err-begin c =
     let text = c.args.text.now in
-    let counted = subst (λ ws. AreCounted (lines_of text) (map (λ word. word.now) ws) c.in_ok-words.counts.items) (sym c.deref.ensures.value) c.in_ok-words.ensures in
+    let counted = subst (λ ws. AreCounted (lines_of text) (map (λ field. field.now) ws) c.in_ok-fields.counts.items) (sym c.deref.ensures.value) c.in_ok-fields.ensures in
     let lines = c.deref-2.ensures.value ∙ c.in_ok-lines.ensures (lines_of text) counted in
     let p = err_from_is_err_and c.from_residual-in_err-begin.result c.from_residual-in_err-begin.ensures.1 in
     rw (p.1, p.2) (inr (ap first_line_fault (sym lines) ∙ c.in_err-begin.ensures))
@@ -30,7 +30,7 @@ returns-in_err-begin c =
 pub returns : goal.returns
 returns c =
     let text = c.args.text.now in
-    let counted = subst (λ ws. AreCounted (lines_of text) (map (λ word. word.now) ws) c.in_ok-words.counts.items) (sym c.deref.ensures.value) c.in_ok-words.ensures in
+    let counted = subst (λ ws. AreCounted (lines_of text) (map (λ field. field.now) ws) c.in_ok-fields.counts.items) (sym c.deref.ensures.value) c.in_ok-fields.ensures in
     let made = c.in_ok-lines.ensures (lines_of text) counted in
     let lines = c.deref-2.ensures.value ∙ made in
     let parts = c.deref-4.ensures.value ∙ c.in_ok-parts.ensures ∙ ap parts_of (c.deref-3.ensures.value ∙ made) in

@@ -11,29 +11,29 @@ loop-count-init c =
 
 pub overflow_add-to : goal.overflow_add-to
 overflow_add-to c =
-    let fits = cut-fits _ _ _ _ _ (record { number = 0; words = 0 }) c.loop-count.invariant c.loop-count-test.true in
-    omega (arith, fits, length-map c.args.words.now (λ word. word.now))
+    let fits = cut-fits _ _ _ _ _ (record { number = 0; fields = 0 }) c.loop-count.invariant c.loop-count-test.true in
+    omega (arith, fits, length-map c.args.fields.now (λ field. field.now))
 
 pub slice_bounds-push-end : goal.slice_bounds-push-end
 slice_bounds-push-end c =
-    let fits = cut-fits _ _ _ _ _ (record { number = 0; words = 0 }) c.loop-count.invariant c.loop-count-test.true in
-    omega (arith, fits, length-map c.args.words.now (λ word. word.now))
+    let fits = cut-fits _ _ _ _ _ (record { number = 0; fields = 0 }) c.loop-count.invariant c.loop-count-test.true in
+    omega (arith, fits, length-map c.args.fields.now (λ field. field.now))
 
 pub loop-count-preserved : goal.loop-count-preserved
 loop-count-preserved c =
-    let words = map (λ word. word.now) c.args.words.now in
+    let fields = map (λ field. field.now) c.args.fields.now in
     let counts = c.as_slice-count-items.result.now in
-    let count = get_or counts c.loop-count.count-index (record { number = 0; words = 0 }) in
-    let span : c.loop-count.from + count.words - c.loop-count.from ≡ count.words = omega arith in
-    let own : map (λ word. word.now) (take (c.loop-count.from + count.words - c.loop-count.from) (drop c.loop-count.from c.args.words.now)) ≡ take count.words (drop c.loop-count.from words) =
-    ap (λ n. map (λ word. word.now) (take n (drop c.loop-count.from c.args.words.now))) span
-    ∙ sym (take-map (λ word. word.now) count.words (drop c.loop-count.from c.args.words.now)) ∙ sym (ap (take count.words) (drop-map (λ word. word.now) c.loop-count.from c.args.words.now)) in
-    let pushed : c.push.new.self.items ≡ c.loop-count.lines.items ++ record { number = count.number; words = take count.words (drop c.loop-count.from words) } ∷ [] = c.in_ok-push.ensures.items ∙ ap (λ ws. c.loop-count.lines.items ++ record { number = count.number; words = ws } ∷ []) own in
-    subst (AreCut words counts (c.loop-count.count-index + 1) (c.loop-count.from + count.words)) (sym pushed)
-    (cut-more words counts c.loop-count.count-index c.loop-count.from c.loop-count.lines.items (record { number = 0; words = 0 }) c.loop-count.invariant c.loop-count-test.true)
+    let count = get_or counts c.loop-count.count-index (record { number = 0; fields = 0 }) in
+    let span : c.loop-count.from + count.fields - c.loop-count.from ≡ count.fields = omega arith in
+    let own : map (λ field. field.now) (take (c.loop-count.from + count.fields - c.loop-count.from) (drop c.loop-count.from c.args.fields.now)) ≡ take count.fields (drop c.loop-count.from fields) =
+    ap (λ n. map (λ field. field.now) (take n (drop c.loop-count.from c.args.fields.now))) span
+    ∙ sym (take-map (λ field. field.now) count.fields (drop c.loop-count.from c.args.fields.now)) ∙ sym (ap (take count.fields) (drop-map (λ field. field.now) c.loop-count.from c.args.fields.now)) in
+    let pushed : c.push.new.self.items ≡ c.loop-count.lines.items ++ record { number = count.number; fields = take count.fields (drop c.loop-count.from fields) } ∷ [] = c.in_ok-push.ensures.items ∙ ap (λ ws. c.loop-count.lines.items ++ record { number = count.number; fields = ws } ∷ []) own in
+    subst (AreCut fields counts (c.loop-count.count-index + 1) (c.loop-count.from + count.fields)) (sym pushed)
+    (cut-more fields counts c.loop-count.count-index c.loop-count.from c.loop-count.lines.items (record { number = 0; fields = 0 }) c.loop-count.invariant c.loop-count-test.true)
 
 pub returns : goal.returns
 returns c lines counted =
-    let words = map (λ word. word.now) c.args.words.now in
-    let all = subst (AreCounted c.loop-count.lines.items words) c.as_slice-count-items.ensures.value (cut-all words c.as_slice-count-items.result.now _ _ _ c.loop-count.invariant c.loop-count-test.false) in
-    one_counted c.loop-count.lines.items lines words c.args.counts.items all counted
+    let fields = map (λ field. field.now) c.args.fields.now in
+    let all = subst (AreCounted c.loop-count.lines.items fields) c.as_slice-count-items.ensures.value (cut-all fields c.as_slice-count-items.result.now _ _ _ c.loop-count.invariant c.loop-count-test.false) in
+    one_counted c.loop-count.lines.items lines fields c.args.counts.items all counted

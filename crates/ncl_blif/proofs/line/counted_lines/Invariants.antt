@@ -3,4 +3,4 @@ use Rattle.ncl_blif.proofs.Counted.{AreCut}
 use Rattle.ncl_blif.proofs.line.counted_lines.Given as goal
 
 abbrev pub invariant-loop-count : goal.invariant-loop-count
-invariant-loop-count l = AreCut (map (λ word. word.now) l.words) l.count-items l.count-index l.from l.lines.items
+invariant-loop-count l = AreCut (map (λ field. field.now) l.fields) l.count-items l.count-index l.from l.lines.items

@@ -1,8 +1,8 @@
 use Rattle.std.proofs.Common.{◌≡◌, ◌++◌, map, false, sym, ap, ◌∙◌, inl, inr, ⊎_elim}
 use Rattle.std.proofs.lemmas.Result.{MatchResult-weaker}
-use Rattle.ncl_blif.specs.Commands.{word_of}
+use Rattle.ncl_blif.specs.Commands.{field_of}
 use Rattle.ncl_blif.specs.Parts.{is_names}
-use Rattle.ncl_blif.specs.Named.{drivers_of, cover_of, later_words}
+use Rattle.ncl_blif.specs.Named.{drivers_of, cover_of, later_fields}
 use Rattle.ncl_blif.specs.LineFaults.{has_twins}
 use Rattle.ncl_blif.specs.Body.{said_by}
 use Rattle.ncl_blif.proofs.Commands.{with_part, with_part-outputs, with_part-names, cover-twins}
@@ -12,14 +12,14 @@ pub returns-in_ok-add_outputs-in-Outputs : goal.returns-in_ok-add_outputs-in-Out
 returns-in_ok-add_outputs-in-Outputs c =
     let old = said_by c.args.self.now in
     let part = c.args.part.now in
-    let word = c.requires.word ∙ ap word_of c.in-Outputs.is in
-    let words = c.later_words-in-Outputs.ensures ∙ ap later_words c.head-head.ensures in
+    let field = c.requires.field ∙ ap field_of c.in-Outputs.is in
+    let fields = c.later_fields-in-Outputs.ensures ∙ ap later_fields c.head-head.ensures in
     let line = c.number-in-Outputs.ensures ∙ ap (λ head. head.number) c.head-head.ensures in
     let said = c.in_ok-add_outputs-in-Outputs.ensures.1
-    ∙ (λ i. record old { outputs = old.outputs ++ map (λ signal. record { line = line i; signal = signal }) (words i) })
-    ∙ sym (with_part-outputs old part word) in
+    ∙ (λ i. record old { outputs = old.outputs ++ map (λ signal. record { line = line i; signal = signal }) (fields i) })
+    ∙ sym (with_part-outputs old part field) in
     let once : has_twins (drivers_of (with_part old part)) ≡ false = sym (ap (λ model. has_twins (drivers_of model)) said) ∙ c.in_ok-add_outputs-in-Outputs.ensures.0.once in
-    let none : is_names part.head ≡ false = rw word in
+    let none : is_names part.head ≡ false = rw field in
     let rows = rw c.rows-in-Outputs.ensures at (c.no_rows-in-Outputs.ensures part.head none) in
     MatchResult-weaker c.no_rows-in-Outputs.result rows (λ x is. (c.in_ok-add_outputs-in-Outputs.ensures.0, said, once, is)) (λ fault is. inr (inr (once, is)))
 
@@ -27,7 +27,7 @@ pub returns-in-Names : goal.returns-in-Names
 returns-in-Names c =
     let old = said_by c.args.self.now in
     let part = c.args.part.now in
-    let whole = with_part-names old part (c.requires.word ∙ ap word_of c.in-Names.is) in
+    let whole = with_part-names old part (c.requires.field ∙ ap field_of c.in-Names.is) in
     let twins = ap (λ model. has_twins (drivers_of model)) whole ∙ cover-twins old (cover_of part) c.requires.kept.once in
     MatchResult-weaker c.add_cover.result c.add_cover.ensures
     (λ x is. (is.0, is.1 ∙ sym whole, twins ∙ is.2, is.3))

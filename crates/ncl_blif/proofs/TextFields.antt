@@ -1,9 +1,9 @@
--- The words of a text in two parts.
+-- The fields of a text in two parts.
 use Rattle.std.proofs.Common.{◌≡◌, ℕ, ◌<◌, Bool, true, false, ltb, cond, List, [], ◌∷◌, ◌++◌, length, filter, refl, ap, ◌∙◌, arith}
 use Rattle.std.proofs.lemmas.List.{append-nil}
 use Rattle.std.proofs.lemmas.List.Elements.{filter-append}
 use Rattle.std.specs.List.{slice_split, onto_first}
-use Rattle.ncl_base.specs.TextLines.{is_blank, words_of}
+use Rattle.ncl_base.specs.TextLines.{is_blank, fields_of}
 
 -- a part put onto the first of some lists is put onto the first of the lists before more
 onto_first-append : {X : Type 0} (x : X) (parts more : List (List X)) → 0 < length parts → onto_first x (parts ++ more) ≡ onto_first x parts ++ more
@@ -27,9 +27,9 @@ split-append p (x ∷ xs) y ys passes =
     (elim (p x) as (λ b. cond b ([] ∷ (slice_split p xs ++ slice_split p ys)) (onto_first x (slice_split p xs ++ slice_split p ys)) ≡ cond b ([] ∷ slice_split p xs) (onto_first x (slice_split p xs)) ++ slice_split p ys)
     [ true ↦ refl | false ↦ onto_first-append x (slice_split p xs) (slice_split p ys) (split-some p xs) ])
 
--- the words on both sides of a blank
-pub words_of-append : (a b : List ℕ) → words_of (a ++ 32 ∷ b) ≡ words_of a ++ words_of b
-words_of-append a b = ap (filter (λ word. ltb 0 (length word))) (split-append is_blank a 32 b refl) ∙ filter-append _ (slice_split is_blank a) (slice_split is_blank b)
+-- the fields on both sides of a blank
+pub fields_of-append : (a b : List ℕ) → fields_of (a ++ 32 ∷ b) ≡ fields_of a ++ fields_of b
+fields_of-append a b = ap (filter (λ field. ltb 0 (length field))) (split-append is_blank a 32 b refl) ∙ filter-append _ (slice_split is_blank a) (slice_split is_blank b)
 
-pub words_of-end : (a : List ℕ) → words_of (a ++ 32 ∷ []) ≡ words_of a
-words_of-end a = words_of-append a [] ∙ append-nil (words_of a)
+pub fields_of-end : (a : List ℕ) → fields_of (a ++ 32 ∷ []) ≡ fields_of a
+fields_of-end a = fields_of-append a [] ∙ append-nil (fields_of a)

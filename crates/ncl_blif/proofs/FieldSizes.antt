@@ -1,4 +1,4 @@
--- How many words a line has, and how long they are: no more than its text.
+-- How many fields a line has, and how long they are: no more than its text.
 use Rattle.std.proofs.Common.{◌≡◌, ℕ, ◌+◌, ◌-◌, ◌<◌, ◌≤◌, Bool, true, false, eqb, ltb, cond, List, [], ◌∷◌, ◌++◌, length, map, take, filter, get_or, sum_by, max, refl, sym, ap, ◌∙◌, arith, inl, inr}
 use Rattle.std.proofs.lemmas.Bool.{ltb-true}
 use Rattle.std.proofs.lemmas.List.{length-append, length-take}
@@ -8,10 +8,10 @@ use Rattle.std.specs.List.{slice_split, onto_first, position_or_len}
 use Rattle.std.specs.Str.Lines.{lines, lines_of_parts, strip_carriage_return}
 use Rattle.ncl_base.proofs.Growing.{last_of}
 use Rattle.ncl_blif.specs.Line.{LineData}
-use Rattle.ncl_base.specs.TextLines.{is_blank, words_of, NumberedText}
-use Rattle.ncl_blif.specs.Lines.{uncommented, is_continued, blank_at_end, put_before, joined, in_words, lines_of}
-use Rattle.ncl_blif.specs.Named.{last_word, front_words, pattern_of}
-use Rattle.ncl_blif.proofs.Names.{last_word-end, front_words-end}
+use Rattle.ncl_base.specs.TextLines.{is_blank, fields_of, NumberedText}
+use Rattle.ncl_blif.specs.Lines.{uncommented, is_continued, blank_at_end, put_before, joined, in_fields, lines_of}
+use Rattle.ncl_blif.specs.Named.{last_field, front_fields, pattern_of}
+use Rattle.ncl_blif.proofs.Names.{last_field-end, front_fields-end}
 
 -- how long some texts are together
 abbrev pub bytes_in : List (List ℕ) → ℕ
@@ -43,7 +43,7 @@ filter-size f p (x ∷ xs) =
 
 -- whether a text isn't empty
 abbrev some_bytes : List ℕ → Bool
-some_bytes word = ltb 0 (length word)
+some_bytes field = ltb 0 (length field)
 
 filter-twice : {X : Type 0} (p : X → Bool) (xs : List X) → filter p (filter p xs) ≡ filter p xs
 filter-twice p [] = refl
@@ -53,49 +53,49 @@ filter-twice p (x ∷ xs) = step (p x) refl (filter-twice p xs)
     step true is rest = rw (is, rest)
     step false is rest = rest
 
--- there are no more words than bytes in them
-words-count : (xs : List (List ℕ)) → length (filter some_bytes xs) ≤ bytes_in (filter some_bytes xs)
-words-count [] = omega arith
-words-count (x ∷ xs) = step (some_bytes x) refl (words-count xs)
+-- there are no more fields than bytes in them
+fields-count : (xs : List (List ℕ)) → length (filter some_bytes xs) ≤ bytes_in (filter some_bytes xs)
+fields-count [] = omega arith
+fields-count (x ∷ xs) = step (some_bytes x) refl (fields-count xs)
   where
     step : (b : Bool) → some_bytes x ≡ b → length (filter some_bytes xs) ≤ bytes_in (filter some_bytes xs) → length (cond b (x ∷ filter some_bytes xs) (filter some_bytes xs)) ≤ bytes_in (cond b (x ∷ filter some_bytes xs) (filter some_bytes xs))
     step true is rest = omega (arith, ltb-true 0 (length x) is, sum_by-cons length x (filter some_bytes xs))
     step false is rest = rest
 
--- the last of words isn't empty
+-- the last of fields isn't empty
 last-some : (front : List (List ℕ)) (last : List ℕ) → filter some_bytes (front ++ last ∷ []) ≡ front ++ last ∷ [] → 0 < length last
 last-some front [] kept =
     let fewer : length (filter some_bytes (front ++ [] ∷ [])) ≡ length (filter some_bytes front) = ap length (filter-append some_bytes front ([] ∷ [])) ∙ (omega (arith, length-append (filter some_bytes front) [])) in
     absurd (omega (arith, fewer, ap length kept, length-append front ([] ∷ []), length-filter some_bytes front, count_by-le-length some_bytes front))
 last-some front (b ∷ bs) kept = omega arith
 
--- a row's characters and its value are no longer than its words
-pattern-size : (words : List (List ℕ)) → filter some_bytes words ≡ words → 0 < length words → 1 + length (pattern_of words) ≤ bytes_in words
-pattern-size words kept some = elim (last_of words) [
+-- a row's characters and its value are no longer than its fields
+pattern-size : (fields : List (List ℕ)) → filter some_bytes fields ≡ fields → 0 < length fields → 1 + length (pattern_of fields) ≤ bytes_in fields
+pattern-size fields kept some = elim (last_of fields) [
   | inl none ↦ absurd (omega (arith, ap length none))
   | inr found ↦ by_last found.0 found.1 found.2
 ]
   where
-    by_last : (front : List (List ℕ)) (last : List ℕ) → words ≡ front ++ last ∷ [] → 1 + length (pattern_of words) ≤ bytes_in words
+    by_last : (front : List (List ℕ)) (last : List ℕ) → fields ≡ front ++ last ∷ [] → 1 + length (pattern_of fields) ≤ bytes_in fields
     by_last front last is =
         let bytes : 0 < length last = last-some front last (sym (ap (filter some_bytes) is) ∙ kept ∙ is) in
-        let before : pattern_of words ≡ last_word front = ap last_word (ap front_words is ∙ front_words-end front last) in
-        let all : bytes_in words ≡ bytes_in front + length last = ap bytes_in is ∙ sum_by_push length front last in
+        let before : pattern_of fields ≡ last_field front = ap last_field (ap front_fields is ∙ front_fields-end front last) in
+        let all : bytes_in fields ≡ bytes_in front + length last = ap bytes_in is ∙ sum_by_push length front last in
         elim (last_of front) [
-          | inl none ↦ omega (arith, ap length before, ap (λ ws. length (last_word ws)) none)
-          | inr found ↦ omega (arith, ap length before, ap (λ ws. length (last_word ws)) found.2, ap length (last_word-end found.0 found.1), ap bytes_in found.2, sum_by_push length found.0 found.1)
+          | inl none ↦ omega (arith, ap length before, ap (λ ws. length (last_field ws)) none)
+          | inr found ↦ omega (arith, ap length before, ap (λ ws. length (last_field ws)) found.2, ap length (last_field-end found.0 found.1), ap bytes_in found.2, sum_by_push length found.0 found.1)
         ]
 
 -- a line's share: what it can add to a model
 abbrev pub share : LineData → ℕ
-share line = max (length line.words) (1 + length (pattern_of line.words))
+share line = max (length line.fields) (1 + length (pattern_of line.fields))
 
 -- a line's share is no more than its text has bytes
-line-share : (line : NumberedText) → 0 < length (words_of line.text) → share (in_words line) ≤ length line.text
+line-share : (line : NumberedText) → 0 < length (fields_of line.text) → share (in_fields line) ≤ length line.text
 line-share line some =
-    let all : bytes_in (words_of line.text) ≤ length line.text = let kept = filter-size length some_bytes (slice_split is_blank line.text) in let parts = split-size is_blank line.text in omega arith in
-    let count : length (words_of line.text) ≤ bytes_in (words_of line.text) = words-count (slice_split is_blank line.text) in
-    let pattern = pattern-size (words_of line.text) (filter-twice some_bytes (slice_split is_blank line.text)) some in
+    let all : bytes_in (fields_of line.text) ≤ length line.text = let kept = filter-size length some_bytes (slice_split is_blank line.text) in let parts = split-size is_blank line.text in omega arith in
+    let count : length (fields_of line.text) ≤ bytes_in (fields_of line.text) = fields-count (slice_split is_blank line.text) in
+    let pattern = pattern-size (fields_of line.text) (filter-twice some_bytes (slice_split is_blank line.text)) some in
     omega arith
 
 put-size : (part : NumberedText) (rest : List NumberedText) → sum_by (λ line. length line.text) (put_before part rest) ≡ length part.text + sum_by (λ line. length line.text) rest
@@ -132,13 +132,13 @@ lines-size (x ∷ y ∷ more) =
     let rest : bytes_in (lines_of_parts (y ∷ more)) ≤ bytes_in (y ∷ more) = lines-size (y ∷ more) in
     omega (arith, sum_by-cons length (strip_carriage_return x) (lines_of_parts (y ∷ more)), sum_by-cons length x (y ∷ more), strip-size x)
 
-shares-size : (texts : List NumberedText) → sum_by share (filter (λ line. ltb 0 (length line.words)) (map in_words texts)) ≤ sum_by (λ line. length line.text) texts
+shares-size : (texts : List NumberedText) → sum_by share (filter (λ line. ltb 0 (length line.fields)) (map in_fields texts)) ≤ sum_by (λ line. length line.text) texts
 shares-size [] = omega arith
-shares-size (text ∷ texts) = step (ltb 0 (length (words_of text.text))) refl (shares-size texts)
+shares-size (text ∷ texts) = step (ltb 0 (length (fields_of text.text))) refl (shares-size texts)
   where
-    step : (b : Bool) → ltb 0 (length (words_of text.text)) ≡ b → sum_by share (filter (λ line. ltb 0 (length line.words)) (map in_words texts)) ≤ sum_by (λ line. length line.text) texts
-        → sum_by share (cond b (in_words text ∷ filter (λ line. ltb 0 (length line.words)) (map in_words texts)) (filter (λ line. ltb 0 (length line.words)) (map in_words texts))) ≤ sum_by (λ line. length line.text) (text ∷ texts)
-    step true is rest = omega (arith, sum_by-cons share (in_words text) (filter (λ line. ltb 0 (length line.words)) (map in_words texts)), sum_by-cons (λ line. length line.text) text texts, line-share text (ltb-true 0 (length (words_of text.text)) is))
+    step : (b : Bool) → ltb 0 (length (fields_of text.text)) ≡ b → sum_by share (filter (λ line. ltb 0 (length line.fields)) (map in_fields texts)) ≤ sum_by (λ line. length line.text) texts
+        → sum_by share (cond b (in_fields text ∷ filter (λ line. ltb 0 (length line.fields)) (map in_fields texts)) (filter (λ line. ltb 0 (length line.fields)) (map in_fields texts))) ≤ sum_by (λ line. length line.text) (text ∷ texts)
+    step true is rest = omega (arith, sum_by-cons share (in_fields text) (filter (λ line. ltb 0 (length line.fields)) (map in_fields texts)), sum_by-cons (λ line. length line.text) text texts, line-share text (ltb-true 0 (length (fields_of text.text)) is))
     step false is rest = omega (arith, sum_by-cons (λ line. length line.text) text texts)
 
 -- the shares of the lines of a text are together no more than its bytes

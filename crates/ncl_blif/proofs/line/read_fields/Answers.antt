@@ -1,0 +1,16 @@
+use Rattle.std.proofs.Common.{◌≡◌, length, map, sym, ap, subst, arith, length-append}
+use Rattle.std.proofs.lemmas.Bool.{eqb-true}
+use Rattle.std.proofs.lemmas.List.{length-map}
+use Rattle.ncl_blif.proofs.Counted.{AreRead, read-empty, read-all}
+use Rattle.ncl_blif.proofs.line.read_fields.Goals as goal
+
+pub loop-rest-preserved : goal.loop-rest-preserved
+loop-rest-preserved c =
+    let (said, fields, first, shorter, less) = c.in_ok-next.ensures in
+    let old = map (λ field. field.now) c.loop-rest.fields.items in
+    let none : length said ≡ 0 = omega (arith, c.if-len-before.false, ap length fields, length-append old said, length-map c.loop-rest.fields.items (λ field. field.now), length-map c.next_line.new.fields.items (λ field. field.now)) in
+    subst (λ ws. AreRead c.args.text.now ws c.loop-rest.counts.items c.in_ok-next.next c.in_ok-next.left.now) (sym fields)
+    (read-empty _ _ _ _ _ _ _ said c.loop-rest.invariant first shorter none)
+
+pub returns : goal.returns
+returns c = read-all _ _ _ _ _ c.loop-rest.invariant (eqb-true _ 0 (sym c.loop-rest-test.ensures))

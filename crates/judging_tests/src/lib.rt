@@ -13,3 +13,5 @@ mod plain_tests;
 mod report_tests;
 #[cfg(test)]
 mod stage_tests;
+#[cfg(test)]
+mod testing;

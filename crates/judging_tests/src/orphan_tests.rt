@@ -1,10 +1,10 @@
 //! By how many gates observability is judged.
 ghost use Rattle.std.specs.Prelude.{◌<◌, ◌≤◌, length};
 
+use crate::testing::{Counting, full_adder};
 use ncl_orphan::orphan;
 use ncl_shape::Stage;
 use ncl_space::SpaceFault;
-use ncl_stage::testing::{Counting, full_adder};
 use ncl_stage::{Variant, values};
 use std::alloc::Global;
 use std::test::Fail;

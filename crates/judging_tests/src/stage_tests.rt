@@ -2,12 +2,12 @@
 ghost use Rattle.std.specs.Prelude.{◌≡◌, ◌≤◌, IfOk, length};
 ghost use Rattle.std.specs.List.{range_with_len};
 
+use crate::testing::{Counting, full_adder, unmet_bits};
 use indexmap::IndexSet;
 use ncl_base::Memory;
 use ncl_netlist::NetId;
 use ncl_shape::Stage;
 use ncl_space::SpaceFault;
-use ncl_stage::testing::{Counting, full_adder, unmet_bits};
 use ncl_stage::{Variant, bit_order, place_of, revalue, values};
 use std::alloc::Global;
 use std::test::*;

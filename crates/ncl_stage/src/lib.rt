@@ -9,7 +9,6 @@ mod net_values;
 mod nets;
 mod outputs;
 mod readers;
-pub mod testing;
 mod variant;
 mod walk;
 mod wiring;

@@ -1,8 +1,7 @@
-//! What tests of this crate, and of those that stand on it, are run with: worked examples of stages, and a
-//! space that counts the gates that are asked of it.
+//! What the tests are run with: worked examples of stages, and a space that counts the gates that are asked of it.
 ghost use Rattle.std.specs.Prelude.{◌≡◌, ◌≤◌, IfOk, length};
 ghost use Rattle.ncl_space.specs.Plain.{plain_space};
-ghost use Rattle.ncl_stage.specs.Examples.{adder_stage, and_stage, gate, rails, unmet_stage};
+ghost use Rattle.ncl_stage.specs.Examples.{adder_stage, gate, rails, unmet_stage};
 
 use arrayvec::ArrayVec;
 use ncl_base::{Items, Memory, Word};
@@ -12,23 +11,6 @@ use ncl_shape::{Rails, Stage, StageCell};
 use ncl_space::{Mark, Plain, Ref, Space, SpaceFault};
 use std::alloc::Global;
 use std::marker::Model;
-
-/// The AND of two bits, by two gates. An error is want of memory.
-pub fn and_of_two_bits(alloc: Global) -> Result<Stage, Memory>
-    ensures { IfOk result (λ stage. stage ≡ and_stage) }
-{
-    let inputs = vec![in alloc; pair(0, 1), pair(2, 3)]?;
-    let one = cell(6, Kind::Th22, &[1, 3], 4);
-    let zero = cell(7, Kind::ThAnd0, &[0, 2, 1, 3], 5);
-    let cells = vec![in alloc; one, zero]?;
-    let outputs = vec![in alloc; pair(5, 4)]?;
-    Ok(Stage::new(
-        1,
-        Items::from_vec(inputs),
-        Items::from_vec(cells),
-        Items::from_vec(outputs),
-    ))
-}
 
 /// The carry and the sum of three bits, by two gates each. An error is want of memory.
 pub fn full_adder(alloc: Global) -> Result<Stage, Memory>

@@ -2,7 +2,7 @@ use Rattle.std.proofs.Common.{◌≡◌, [], ◌∷◌, sym, ◌∙◌, subst}
 use Rattle.ncl_shape.specs.Stage.{IsStage}
 use Rattle.ncl_stage.specs.Examples.{adder_stage}
 use Rattle.ncl_stage.proofs.ExampleLaws.{adder_stage-is}
-use Rattle.ncl_stage.proofs.testing.full_adder.Goals as goal
+use Rattle.judging_tests.proofs.testing.full_adder.Goals as goal
 
 pub new-requires : goal.new-requires
 new-requires c =

@@ -2,7 +2,7 @@ use Rattle.std.proofs.Common.{◌≡◌, [], ◌∷◌, sym, ◌∙◌, subst}
 use Rattle.ncl_shape.specs.Stage.{IsStage}
 use Rattle.ncl_stage.specs.Examples.{unmet_stage}
 use Rattle.ncl_stage.proofs.ExampleLaws.{unmet_stage-is}
-use Rattle.ncl_stage.proofs.testing.unmet_bits.Goals as goal
+use Rattle.judging_tests.proofs.testing.unmet_bits.Goals as goal
 
 pub new-requires : goal.new-requires
 new-requires c =

@@ -1,6 +1,6 @@
 use Rattle.std.proofs.Common.{◌≡◌, map, take}
 use Rattle.ncl_stage.specs.Examples.{net_id}
-use Rattle.ncl_stage.proofs.testing.cell.Given as goal
+use Rattle.judging_tests.proofs.testing.cell.Given as goal
 
 -- the inputs so far
 abbrev pub invariant-loop-net : goal.invariant-loop-net

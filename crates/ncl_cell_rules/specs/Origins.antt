@@ -2,8 +2,8 @@
 use Rattle.std.specs.Prelude.{◌≡◌, ℕ, List}
 use Rattle.ncl_netlist.specs.declared.cell.Cell.{Cell}
 use Rattle.ncl_netlist.specs.Netlist.{NetlistData}
-use Rattle.ncl_cell_rules.specs.declared.fault.ShapeFault.{ShapeFault}
-use Rattle.ncl_cell_rules.specs.declared.fault.ShapeFault.TheVariants.{UnusedPort, Cycle, Unpaired, Mixed, Loose, NoChain, TooWide, TooLong, Memory}
+use Rattle.ncl_cell_rules.specs.declared.fault.CellFault.{CellFault}
+use Rattle.ncl_cell_rules.specs.declared.fault.CellFault.TheVariants.{UnusedPort, Cycle, Unpaired, Mixed, Loose, Memory}
 use Rattle.ncl_cell_rules.specs.declared.origins.Origins.{Origins}
 use Rattle.ncl_cell_rules.specs.declared.source.Source.{Source}
 use Rattle.ncl_cell_rules.specs.Origin.{OnPin, A, B}
@@ -48,26 +48,20 @@ abbrev pub AreUnmixed : NetlistData → Type 0
 AreUnmixed n = (k : ℕ) → AtCell IsUnmixed n k
 
 -- what is answered where there is no order of the cells: the first gate cell on a cycle
-abbrev pub IsOrderFault : NetlistData → ShapeFault → Type 0
+abbrev pub IsOrderFault : NetlistData → CellFault → Type 0
 IsOrderFault n (Cycle cell) = FailsFirst (AtCell IsOffCycles n) cell.0
 IsOrderFault n (UnusedPort net) = ⊥
 IsOrderFault n (Unpaired cell) = ⊥
 IsOrderFault n (Mixed cell) = ⊥
 IsOrderFault n (Loose cell) = ⊥
-IsOrderFault n (NoChain rule) = ⊥
-IsOrderFault n (TooWide number) = ⊥
-IsOrderFault n TooLong = ⊥
 IsOrderFault n Memory = Unit {0}
 
 -- what is answered where one of the first five rules is broken: the first of them, at its first place. Want of
 -- memory is no fault of the netlist, and may come at all of them
-abbrev pub IsCellFault : NetlistData → ShapeFault → Type 0
+abbrev pub IsCellFault : NetlistData → CellFault → Type 0
 IsCellFault n (UnusedPort net) = FailsFirst (IsReadPort n) net.0
 IsCellFault n (Cycle cell) = ArePortsRead n × FailsFirst (AtCell IsOffCycles n) cell.0
 IsCellFault n (Unpaired cell) = ArePortsRead n × AreOffCycles n × FailsFirst (AtCell IsPaired n) cell.0
 IsCellFault n (Mixed cell) = ArePortsRead n × AreOffCycles n × ArePaired n × FailsFirst (AtCell IsUnmixed n) cell.0
 IsCellFault n (Loose cell) = ArePortsRead n × AreOffCycles n × ArePaired n × AreUnmixed n × FailsFirst (AtCell IsTied n) cell.0
-IsCellFault n (NoChain rule) = ⊥
-IsCellFault n (TooWide number) = ⊥
-IsCellFault n TooLong = ⊥
 IsCellFault n Memory = Unit {0}

@@ -1,11 +1,11 @@
-//! Why a netlist has no shape.
+//! The rules of single cells that a netlist breaks.
 use ncl_base::Memory;
 use ncl_netlist::{CellId, NetId};
 use thiserror::Error;
 
-/// The first rule of shape that a netlist breaks, in the order in which the rules are tried.
+/// The first rule of single cells that a netlist breaks, in the order in which the rules are tried.
 #[derive(Clone, Copy, Debug, PartialEq, Eq, Error)]
-pub enum ShapeFault {
+pub enum CellFault {
     /// An input port that no pin reads.
     #[error("an input port is read by no pin")]
     UnusedPort(NetId),
@@ -21,27 +21,18 @@ pub enum ShapeFault {
     /// A cell of a completion tree that nothing reads.
     #[error("a cell of a completion tree is read by nothing")]
     Loose(CellId),
-    /// The banks form no chain; the number of the inner rule, from 1 to 9.
-    #[error("the banks form no chain, inner rule {0}")]
-    NoChain(u8),
-    /// A bank of more than 128 bits; its number in the chain, from 1.
-    #[error("bank {0} has more than 128 bits")]
-    TooWide(u32),
-    /// More than 256 banks.
-    #[error("there are more than 256 banks")]
-    TooLong,
     /// Memory was refused.
     #[error("out of memory")]
     Memory,
 }
 
-impl From<Memory> for ShapeFault {
+impl From<Memory> for CellFault {
     ghost use Rattle.std.specs.Prelude.{◌≡◌};
-    ghost use Rattle.ncl_cell_rules.specs.declared.fault.ShapeFault.TheVariants.{Memory as OutOfMemory};
+    ghost use Rattle.ncl_cell_rules.specs.declared.fault.CellFault.TheVariants.{Memory as OutOfMemory};
 
     ghost from_gives = { λ _ fault. fault ≡ OutOfMemory };
 
-    fn from(_memory: Memory) -> ShapeFault {
-        ShapeFault::Memory
+    fn from(_memory: Memory) -> CellFault {
+        CellFault::Memory
     }
 }

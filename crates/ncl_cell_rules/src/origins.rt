@@ -11,7 +11,7 @@ ghost use Rattle.ncl_cell_rules.specs.Origins.{AreOffCycles, AreOrigins, ArePair
 use crate::ack_pins::ack_pins;
 use crate::data_banks::data_banks;
 use crate::driver_table::drivers;
-use crate::fault::ShapeFault;
+use crate::fault::CellFault;
 use crate::first_registers::first_registers;
 use crate::gate_graph::gate_graph;
 use crate::mixing::first_mixed;
@@ -88,7 +88,7 @@ fn cell_order(
     alloc: Global,
     netlist: &Netlist,
     drivers: &[Option<u32>],
-) -> Result<Vec<u32>, ShapeFault>
+) -> Result<Vec<u32>, CellFault>
     requires { AreDrivers netlist.now drivers.now }
     ensures order { IfOk result (λ order. IsCellOrder netlist.now order.items) }
     ensures off_cycles { OnOk result (AreOffCycles netlist.now) }
@@ -99,7 +99,7 @@ fn cell_order(
         return Ok(order);
     }
     match graph.first_on_cycle(alloc)? {
-        Some(place) => Err(ShapeFault::Cycle(CellId(place))),
+        Some(place) => Err(CellFault::Cycle(CellId(place))),
         None => unreachable!(),
     }
 }
@@ -132,25 +132,25 @@ fn tables(
 /// it breaks, at its first port or cell.
 ///
 /// Linear in nets and pins, without recursion. The one other error is want of memory.
-pub fn find_origins(alloc: Global, netlist: &Netlist) -> Result<Origins, ShapeFault>
+pub fn find_origins(alloc: Global, netlist: &Netlist) -> Result<Origins, CellFault>
     ensures origins { IfOk result (AreOrigins netlist.now) }
     ensures free { OnOk result (IsFree netlist.now) }
     ensures fault { IfErr result (IsCellFault netlist.now) }
 {
     if let Some(net) = first_unread(netlist, &reads(alloc, netlist)?) {
-        return Err(ShapeFault::UnusedPort(net));
+        return Err(CellFault::UnusedPort(net));
     }
     let drivers = drivers(alloc, netlist)?;
     let order = cell_order(alloc, netlist, &drivers)?;
     if let Some(cell) = first_unpaired(netlist, &drivers, &ack_pins(alloc, netlist)?) {
-        return Err(ShapeFault::Unpaired(cell));
+        return Err(CellFault::Unpaired(cell));
     }
     let origins = tables(alloc, netlist, drivers, order)?;
     if let Some(cell) = first_mixed(netlist, &origins) {
-        return Err(ShapeFault::Mixed(cell));
+        return Err(CellFault::Mixed(cell));
     }
     if let Some(cell) = first_loose(netlist, &origins, &gate_reads(alloc, netlist)?) {
-        return Err(ShapeFault::Loose(cell));
+        return Err(CellFault::Loose(cell));
     }
     Ok(origins)
 }

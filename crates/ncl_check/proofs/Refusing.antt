@@ -5,8 +5,8 @@ use Rattle.ncl_netlist.specs.Netlist.{NetlistData, IsNetlist}
 use Rattle.ncl_reader.specs.declared.net_fault.NetFault.{NetFault}
 use Rattle.ncl_reader.specs.declared.net_fault.NetFault.TheVariants as net
 use Rattle.ncl_reader.specs.Reads.{IsNetFault}
-use Rattle.ncl_cell_rules.specs.declared.fault.ShapeFault.{ShapeFault}
-use Rattle.ncl_cell_rules.specs.declared.fault.ShapeFault.TheVariants.{UnusedPort, Cycle, Unpaired, Mixed, Loose, NoChain, TooWide, TooLong, Memory}
+use Rattle.ncl_shape.specs.declared.fault.ShapeFault.{ShapeFault}
+use Rattle.ncl_shape.specs.declared.fault.ShapeFault.TheVariants.{CellRule, NoChain, TooWide, TooLong, Memory}
 use Rattle.ncl_shape.specs.Shape.{IsShapeFault}
 use Rattle.ncl_report.specs.NetText.{net_line}
 use Rattle.ncl_report.specs.ShapeText.{shape_line}
@@ -22,11 +22,7 @@ TellsLine-weaker kind other follows refusal.Memory h = tt
 
 -- the first rule of shape that a netlist breaks is told
 pub shape_told : (n : NetlistData) → IsNetlist n → (fault : ShapeFault) → fault ≢ Memory → IsShapeFault n fault → IsShapeless n (shape_line n fault)
-shape_told n is (UnusedPort net) own broken = record { is_netlist = is; fault = UnusedPort net; broken = broken; told = refl }
-shape_told n is (Cycle cell) own broken = record { is_netlist = is; fault = Cycle cell; broken = broken; told = refl }
-shape_told n is (Unpaired cell) own broken = record { is_netlist = is; fault = Unpaired cell; broken = broken; told = refl }
-shape_told n is (Mixed cell) own broken = record { is_netlist = is; fault = Mixed cell; broken = broken; told = refl }
-shape_told n is (Loose cell) own broken = record { is_netlist = is; fault = Loose cell; broken = broken; told = refl }
+shape_told n is (CellRule fault) own broken = record { is_netlist = is; fault = CellRule fault; broken = broken; told = refl }
 shape_told n is (NoChain rule) own broken = record { is_netlist = is; fault = NoChain rule; broken = broken; told = refl }
 shape_told n is (TooWide number) own broken = record { is_netlist = is; fault = TooWide number; broken = broken; told = refl }
 shape_told n is TooLong own broken = record { is_netlist = is; fault = TooLong; broken = broken; told = refl }

@@ -10,7 +10,7 @@ use Rattle.ncl_netlist.specs.Faults.{IsFaultless, IsFaultOf}
 use Rattle.ncl_reader.specs.declared.net_fault.NetFault.{NetFault}
 use Rattle.ncl_reader.specs.declared.net_fault.NetFault.TheVariants.{Build}
 use Rattle.ncl_reader.specs.Reads.{Reads, IsRefused}
-use Rattle.ncl_cell_rules.specs.declared.fault.ShapeFault.{ShapeFault}
+use Rattle.ncl_shape.specs.declared.fault.ShapeFault.{ShapeFault}
 use Rattle.ncl_shape.specs.Pipeline.{PipelineData}
 use Rattle.ncl_shape.specs.Shape.{Shape, Broken}
 use Rattle.ncl_report.specs.Line.{line}

@@ -12,7 +12,7 @@ use crate::schedule::{coming_items, going_items};
 use crate::search::least_bringing;
 use crate::trying::losing_run;
 use ncl_base::{Items, Memory, Word};
-use ncl_cell_rules::{Origins, ShapeFault, find_origins};
+use ncl_cell_rules::{CellFault, Origins, find_origins};
 use ncl_machine::State;
 use ncl_netlist::{CellId, Netlist};
 use ncl_shape::{Item, Pipeline, Stage};
@@ -51,7 +51,7 @@ fn origins_of(alloc: Global, netlist: &Netlist) -> Result<Origins, Memory>
 {
     match find_origins(alloc, netlist) {
         Ok(origins) => Ok(origins),
-        Err(ShapeFault::Memory) => Err(Memory),
+        Err(CellFault::Memory) => Err(Memory),
         Err(_) => unreachable!(),
     }
 }

@@ -4,7 +4,8 @@
 ghost use Rattle.std.specs.Prelude.{◌≡◌, [], ◌∷◌};
 ghost use Rattle.ncl_shape.specs.declared.item.Item.TheVariants.{Lower, Raise};
 ghost use Rattle.ncl_netlist.specs.Netlist.{IsNetlist, drivers_of};
-ghost use Rattle.ncl_cell_rules.specs.declared.fault.ShapeFault.TheVariants.{Loose};
+ghost use Rattle.ncl_cell_rules.specs.declared.fault.CellFault.TheVariants.{Loose};
+ghost use Rattle.ncl_shape.specs.declared.fault.ShapeFault.TheVariants.{CellRule};
 ghost use Rattle.ncl_cell_rules.specs.Free.{AtCell};
 ghost use Rattle.ncl_cell_rules.specs.Rules.{IsUnmixed};
 ghost use Rattle.ncl_shape.specs.Chain.{HasOne, IsRoot};
@@ -20,7 +21,7 @@ ghost use Rattle.ncl_insensitivity.specs.IllShaped.{TakesBack, one_offered, two_
 /// acknowledges without that bit, and the source lowers its rail while the register cell is still to rise.
 pub fn tree_without_a_bit()
     ensures netlist { IsNetlist bit_left_out }
-    ensures loose { BreaksRule bit_left_out (Loose (record { 0 = 5 })) }
+    ensures loose { BreaksRule bit_left_out (CellRule (Loose (record { 0 = 5 }))) }
     ensures run { IsRun without_a_bit one_offered acknowledges_one_bit }
     ensures taken_back { TakesBack without_a_bit (after without_a_bit (reset without_a_bit one_offered) acknowledges_one_bit) (Lower 1) (fire 3) }
     ensures not_safe { IsSafe without_a_bit → ⊥ }

@@ -4,8 +4,8 @@ use Rattle.std.specs.Prelude.{All}
 use Rattle.std.proofs.lemmas.List.Sorted.{Contains-permutation, IsPermutation-sym}
 use Rattle.ncl_base.proofs.Members.{Contains-from_Member, Member-from_Contains}
 use Rattle.ncl_netlist.specs.Netlist.{NetlistData, IsNetlist}
-use Rattle.ncl_cell_rules.specs.declared.fault.ShapeFault.{ShapeFault}
-use Rattle.ncl_cell_rules.specs.declared.fault.ShapeFault.TheVariants.{UnusedPort, Cycle, Unpaired, Mixed, Loose, NoChain, TooWide, TooLong, Memory}
+use Rattle.ncl_shape.specs.declared.fault.ShapeFault.{ShapeFault}
+use Rattle.ncl_shape.specs.declared.fault.ShapeFault.TheVariants.{CellRule, NoChain, TooWide, TooLong, Memory}
 use Rattle.ncl_shape.specs.declared.stage.StageCell.{StageCell}
 use Rattle.ncl_shape.specs.Pipeline.{PipelineData}
 use Rattle.ncl_shape.specs.SamePipeline.{IsSameStage}
@@ -23,11 +23,7 @@ use Rattle.ncl_merge.proofs.FoldedKeeps.{folded-smaller}
 
 -- a netlist with a shape has no fault of shape but want of memory
 broken : (n : NetlistData) (fault : ShapeFault) → fault ≢ Memory → IsShapeFault n fault → Broken n fault
-broken n (UnusedPort net) named is = is
-broken n (Cycle cell) named is = is
-broken n (Unpaired cell) named is = is
-broken n (Mixed cell) named is = is
-broken n (Loose cell) named is = is
+broken n (CellRule fault) named is = is
 broken n (NoChain rule) named is = is
 broken n (TooWide number) named is = is
 broken n TooLong named is = is

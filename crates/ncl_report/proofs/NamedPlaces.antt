@@ -5,8 +5,9 @@ use Rattle.std.proofs.lemmas.Option.{slice_get_within}
 use Rattle.ncl_netlist.specs.declared.cell.Cell.{Cell}
 use Rattle.ncl_netlist.specs.Netlist.{NetlistData, IsNetlist}
 use Rattle.ncl_netlist.proofs.NetlistLaws.{ports-le-nets}
-use Rattle.ncl_cell_rules.specs.declared.fault.ShapeFault.{ShapeFault}
-use Rattle.ncl_cell_rules.specs.declared.fault.ShapeFault.TheVariants.{UnusedPort, Cycle, Unpaired, Mixed, Loose, NoChain, TooWide, TooLong, Memory}
+use Rattle.ncl_cell_rules.specs.declared.fault.CellFault.TheVariants.{UnusedPort, Cycle, Unpaired, Mixed, Loose, Memory as CellMemory}
+use Rattle.ncl_shape.specs.declared.fault.ShapeFault.{ShapeFault}
+use Rattle.ncl_shape.specs.declared.fault.ShapeFault.TheVariants.{CellRule, NoChain, TooWide, TooLong, Memory}
 use Rattle.ncl_cell_rules.specs.Rules.{IsOffCycles, IsPaired, IsUnmixed, IsTied}
 use Rattle.ncl_cell_rules.specs.Free.{AtCell, FailsFirst}
 use Rattle.ncl_shape.specs.Pipeline.{PipelineData}
@@ -40,15 +41,16 @@ cell_within n Rule k first = by (cases_lt k (length n.cells))
 
 -- the fault of a netlist's shape names no net and no cell but those of the netlist
 pub names_place_of : (n : NetlistData) (fault : ShapeFault) → IsNetlist n → IsShapeFault n fault → NamesPlaceOf n fault
-names_place_of n (UnusedPort net) ok broken = by (cases_lt net.0 (length n.nets))
+names_place_of n (CellRule (UnusedPort net)) ok broken = by (cases_lt net.0 (length n.nets))
   where
     by : (net.0 < length n.nets) ⊎ (length n.nets ≤ net.0) → net.0 < length n.nets
     by (inl within) = within
     by (inr past) = absurd (broken.breaks.fails (λ (port, at, input). let within = slice_get_within n.ports net.0 port at in absurd (omega (arith, ports-le-nets n ok))))
-names_place_of n (Cycle cell) ok broken = cell_within n IsOffCycles cell.0 broken.breaks
-names_place_of n (Unpaired cell) ok broken = cell_within n IsPaired cell.0 broken.breaks
-names_place_of n (Mixed cell) ok broken = cell_within n IsUnmixed cell.0 broken.breaks
-names_place_of n (Loose cell) ok broken = cell_within n IsTied cell.0 broken.breaks
+names_place_of n (CellRule (Cycle cell)) ok broken = cell_within n IsOffCycles cell.0 broken.breaks
+names_place_of n (CellRule (Unpaired cell)) ok broken = cell_within n IsPaired cell.0 broken.breaks
+names_place_of n (CellRule (Mixed cell)) ok broken = cell_within n IsUnmixed cell.0 broken.breaks
+names_place_of n (CellRule (Loose cell)) ok broken = cell_within n IsTied cell.0 broken.breaks
+names_place_of n (CellRule CellMemory) ok broken = tt
 names_place_of n (NoChain rule) ok broken = tt
 names_place_of n (TooWide bank) ok broken = tt
 names_place_of n TooLong ok broken = tt

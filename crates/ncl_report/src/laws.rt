@@ -1,7 +1,7 @@
 //! That what is told names what is there. Each function states a law, and does nothing.
 ghost use Rattle.std.specs.Prelude.{ℕ};
 ghost use Rattle.ncl_netlist.specs.Netlist.{NetlistData, IsNetlist};
-ghost use Rattle.ncl_cell_rules.specs.declared.fault.ShapeFault.{ShapeFault};
+ghost use Rattle.ncl_shape.specs.declared.fault.ShapeFault.{ShapeFault};
 ghost use Rattle.ncl_shape.specs.Pipeline.{PipelineData};
 ghost use Rattle.ncl_shape.specs.Shape.{Shape, IsShapeFault};
 ghost use Rattle.ncl_verdict.specs.Judgement.{judgement};

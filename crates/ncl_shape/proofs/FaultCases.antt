@@ -1,11 +1,13 @@
 -- The fault that a pass answers is that of the netlist: the rules of the passes before it hold.
 use Rattle.ncl_netlist.specs.Netlist.{NetlistData}
-use Rattle.ncl_cell_rules.specs.declared.fault.ShapeFault.{ShapeFault}
-use Rattle.ncl_cell_rules.specs.declared.fault.ShapeFault.TheVariants.{UnusedPort, Cycle, Unpaired, Mixed, Loose, NoChain, TooWide, TooLong, Memory}
+use Rattle.ncl_cell_rules.specs.declared.fault.CellFault.{CellFault}
+use Rattle.ncl_cell_rules.specs.declared.fault.CellFault.TheVariants.{UnusedPort, Cycle, Unpaired, Mixed, Loose, Memory as CellMemory}
+use Rattle.ncl_shape.specs.declared.fault.ShapeFault.{ShapeFault}
+use Rattle.ncl_shape.specs.declared.fault.ShapeFault.TheVariants.{CellRule, NoChain, TooWide, TooLong, Memory}
 use Rattle.ncl_cell_rules.specs.Free.{IsFree}
 use Rattle.ncl_cell_rules.specs.Origins.{ArePortsRead, AreOffCycles, ArePaired, AreUnmixed, IsCellFault}
 use Rattle.ncl_shape.specs.FoundChain.{IsChainFault}
-use Rattle.ncl_shape.specs.Shape.{PortsRead, OffCycles, InPairs, Unmixed, IsShapeFault}
+use Rattle.ncl_shape.specs.Shape.{PortsRead, OffCycles, InPairs, Unmixed, IsShapeFault, shape_fault_of}
 use Rattle.ncl_shape.proofs.RuleOrder.{RulesBelow, no_rule_below, one_rule_more}
 use Rattle.ncl_shape.proofs.WidthLaws.{rules_before}
 
@@ -23,25 +25,18 @@ module _ (n : NetlistData) where
   after_mixed ports off paired unmixed = one_rule_more n Unmixed unmixed (after_pairs ports off paired)
 
   -- a fault of a port or of a cell
-  pub of_cells : (fault : ShapeFault) → IsCellFault n fault → IsShapeFault n fault
+  pub of_cells : (fault : CellFault) → IsCellFault n fault → IsShapeFault n (shape_fault_of fault)
   of_cells (UnusedPort net) first = record { breaks = first; before = no_rule_below n }
   of_cells (Cycle cell) (ports, first) = record { breaks = first; before = after_ports ports }
   of_cells (Unpaired cell) (ports, off, first) = record { breaks = first; before = after_cycles ports off }
   of_cells (Mixed cell) (ports, off, paired, first) = record { breaks = first; before = after_pairs ports off paired }
   of_cells (Loose cell) (ports, off, paired, unmixed, first) = record { breaks = first; before = after_mixed ports off paired unmixed }
-  of_cells (NoChain rule) none = absurd none
-  of_cells (TooWide number) none = absurd none
-  of_cells TooLong none = absurd none
-  of_cells Memory none = tt
+  of_cells CellMemory none = tt
 
   -- and one of the chain
   pub of_chain : IsFree n → (fault : ShapeFault) → IsChainFault n fault → IsShapeFault n fault
   of_chain free (NoChain rule) breaks = record { breaks = breaks; before = rules_before n free }
-  of_chain free (UnusedPort net) none = absurd none
-  of_chain free (Cycle cell) none = absurd none
-  of_chain free (Unpaired cell) none = absurd none
-  of_chain free (Mixed cell) none = absurd none
-  of_chain free (Loose cell) none = absurd none
+  of_chain free (CellRule fault) none = absurd none
   of_chain free (TooWide number) none = absurd none
   of_chain free TooLong none = absurd none
   of_chain free Memory none = tt

@@ -6,8 +6,9 @@ use Rattle.std.proofs.lemmas.List.{length-map}
 use Rattle.std.proofs.lemmas.Option.{slice_get_within}
 use Rattle.ncl_netlist.specs.Netlist.{NetlistData, IsNetlist}
 use Rattle.ncl_shape.specs.declared.bank.Bank.{Bank}
-use Rattle.ncl_cell_rules.specs.declared.fault.ShapeFault.{ShapeFault}
-use Rattle.ncl_cell_rules.specs.declared.fault.ShapeFault.TheVariants.{UnusedPort, Cycle, Unpaired, Mixed, Loose, NoChain, TooWide, TooLong, Memory}
+use Rattle.ncl_cell_rules.specs.declared.fault.CellFault.TheVariants.{UnusedPort, Cycle, Unpaired, Mixed, Loose, Memory as CellMemory}
+use Rattle.ncl_shape.specs.declared.fault.ShapeFault.{ShapeFault}
+use Rattle.ncl_shape.specs.declared.fault.ShapeFault.TheVariants.{CellRule, NoChain, TooWide, TooLong, Memory}
 use Rattle.ncl_cell_rules.specs.Rules.{IsReadPort, IsOffCycles, IsPaired, IsUnmixed, IsTied}
 use Rattle.ncl_shape.specs.Chain.{IsChain, InnerRule, TwoEnds, inner_number, InnerHolds, BreaksInner}
 use Rattle.ncl_shape.specs.Pipeline.{PipelineData}
@@ -20,14 +21,15 @@ use Rattle.ncl_shape.proofs.ShapeLaws.{requests, request_at, bits_are_one}
 
 -- the rule of a fault doesn't hold
 rule_fails : (n : NetlistData) (fault : ShapeFault) → BreaksRule n fault → ((r : Rule) → rule_number r ≡ rule_of fault → RuleHolds n r) → ⊥
-rule_fails n (UnusedPort net) breaks holds = breaks.fails (holds PortsRead refl net.0)
-rule_fails n (Cycle cell) breaks holds = breaks.fails (holds OffCycles refl cell.0)
-rule_fails n (Unpaired cell) breaks holds = breaks.fails (holds InPairs refl cell.0)
-rule_fails n (Mixed cell) breaks holds = breaks.fails (holds Unmixed refl cell.0)
-rule_fails n (Loose cell) breaks holds = breaks.fails (holds Tied refl cell.0)
+rule_fails n (CellRule (UnusedPort net)) breaks holds = breaks.fails (holds PortsRead refl net.0)
+rule_fails n (CellRule (Cycle cell)) breaks holds = breaks.fails (holds OffCycles refl cell.0)
+rule_fails n (CellRule (Unpaired cell)) breaks holds = breaks.fails (holds InPairs refl cell.0)
+rule_fails n (CellRule (Mixed cell)) breaks holds = breaks.fails (holds Unmixed refl cell.0)
+rule_fails n (CellRule (Loose cell)) breaks holds = breaks.fails (holds Tied refl cell.0)
 rule_fails n (NoChain number) breaks holds = breaks.broken (holds Chained refl breaks.rule)
 rule_fails n (TooWide number) (banks, chain, positive, first) holds = first.fails (λ bank at. holds NarrowBanks refl banks (number - 1) bank chain at)
 rule_fails n TooLong breaks holds = breaks (holds FewBanks refl)
+rule_fails n (CellRule CellMemory) breaks holds = breaks
 rule_fails n Memory breaks holds = breaks
 
 module _ (n : NetlistData) (is : IsNetlist n) where
@@ -87,22 +89,23 @@ first_is_one Holds j k at_j at_k =
 
 -- the fault at a place of the rule with a number
 abbrev faults : ℕ → List ShapeFault
-faults place = Memory ∷ UnusedPort (record { 0 = place }) ∷ Cycle (record { 0 = place }) ∷ Unpaired (record { 0 = place }) ∷ Mixed (record { 0 = place }) ∷ Loose (record { 0 = place }) ∷ NoChain place ∷ TooWide place ∷ TooLong ∷ []
+faults place = Memory ∷ CellRule (UnusedPort (record { 0 = place })) ∷ CellRule (Cycle (record { 0 = place })) ∷ CellRule (Unpaired (record { 0 = place })) ∷ CellRule (Mixed (record { 0 = place })) ∷ CellRule (Loose (record { 0 = place })) ∷ NoChain place ∷ TooWide place ∷ TooLong ∷ []
 
 abbrev fault_at : ℕ → ℕ → ShapeFault
 fault_at number place = get_or (faults place) number Memory
 
--- each fault is that of its rule at some place
-has_place : (fault : ShapeFault) → (place : ℕ) × (fault_at (rule_of fault) place ≡ fault)
-has_place (UnusedPort net) = (net.0, refl)
-has_place (Cycle cell) = (cell.0, refl)
-has_place (Unpaired cell) = (cell.0, refl)
-has_place (Mixed cell) = (cell.0, refl)
-has_place (Loose cell) = (cell.0, refl)
-has_place (NoChain rule) = (rule, refl)
-has_place (TooWide number) = (number, refl)
-has_place TooLong = (0, refl)
-has_place Memory = (0, refl)
+-- each fault of a rule is that of the rule at some place
+has_place : (n : NetlistData) (fault : ShapeFault) → BreaksRule n fault → (place : ℕ) × (fault_at (rule_of fault) place ≡ fault)
+has_place n (CellRule (UnusedPort net)) breaks = (net.0, refl)
+has_place n (CellRule (Cycle cell)) breaks = (cell.0, refl)
+has_place n (CellRule (Unpaired cell)) breaks = (cell.0, refl)
+has_place n (CellRule (Mixed cell)) breaks = (cell.0, refl)
+has_place n (CellRule (Loose cell)) breaks = (cell.0, refl)
+has_place n (CellRule CellMemory) breaks = absurd breaks
+has_place n (NoChain rule) breaks = (rule, refl)
+has_place n (TooWide number) breaks = (number, refl)
+has_place n TooLong breaks = (0, refl)
+has_place n Memory breaks = (0, refl)
 
 module _ (n : NetlistData) (is : IsNetlist n) where
   -- the first five rules leave the netlist free
@@ -135,11 +138,12 @@ module _ (n : NetlistData) (is : IsNetlist n) where
 
   -- a rule breaks first at one place, so the places give one fault
   same_at_places : (f : ShapeFault) (j : ℕ) → RulesBelow n (rule_of f) → BreaksRule n f → BreaksRule n (fault_at (rule_of f) j) → f ≡ fault_at (rule_of f) j
-  same_at_places (UnusedPort net) j before at_i at_j = ap (fault_at 1) (first_is_one (IsReadPort n) net.0 j at_i at_j)
-  same_at_places (Cycle cell) j before at_i at_j = ap (fault_at 2) (first_is_one (AtCell IsOffCycles n) cell.0 j at_i at_j)
-  same_at_places (Unpaired cell) j before at_i at_j = ap (fault_at 3) (first_is_one (AtCell IsPaired n) cell.0 j at_i at_j)
-  same_at_places (Mixed cell) j before at_i at_j = ap (fault_at 4) (first_is_one (AtCell IsUnmixed n) cell.0 j at_i at_j)
-  same_at_places (Loose cell) j before at_i at_j = ap (fault_at 5) (first_is_one (AtCell IsTied n) cell.0 j at_i at_j)
+  same_at_places (CellRule (UnusedPort net)) j before at_i at_j = ap (fault_at 1) (first_is_one (IsReadPort n) net.0 j at_i at_j)
+  same_at_places (CellRule (Cycle cell)) j before at_i at_j = ap (fault_at 2) (first_is_one (AtCell IsOffCycles n) cell.0 j at_i at_j)
+  same_at_places (CellRule (Unpaired cell)) j before at_i at_j = ap (fault_at 3) (first_is_one (AtCell IsPaired n) cell.0 j at_i at_j)
+  same_at_places (CellRule (Mixed cell)) j before at_i at_j = ap (fault_at 4) (first_is_one (AtCell IsUnmixed n) cell.0 j at_i at_j)
+  same_at_places (CellRule (Loose cell)) j before at_i at_j = ap (fault_at 5) (first_is_one (AtCell IsTied n) cell.0 j at_i at_j)
+  same_at_places (CellRule CellMemory) j before at_i at_j = absurd at_i
   same_at_places (NoChain i) j before at_i at_j = ap NoChain (inner_is_one i j at_i at_j)
   same_at_places (TooWide i) j before at_i at_j = ap TooWide (number_is_one i j before at_i at_j)
   same_at_places TooLong j before at_i at_j = refl
@@ -148,7 +152,7 @@ module _ (n : NetlistData) (is : IsNetlist n) where
   -- faults of one rule are the same
   same_of_rule : (f g : ShapeFault) → rule_of f ≡ rule_of g → Broken n f → Broken n g → f ≡ g
   same_of_rule f g rules broken_f broken_g =
-      let (j, at_j) = has_place g in
+      let (j, at_j) = has_place n g broken_g.breaks in
       let at_g : fault_at (rule_of f) j ≡ g = ap (λ r. fault_at r j) rules ∙ at_j in
       same_at_places f j broken_f.before broken_f.breaks (subst (BreaksRule n) (sym at_g) broken_g.breaks) ∙ at_g
 

@@ -7,7 +7,7 @@ use Rattle.std.proofs.lemmas.List.{get_or_past}
 use Rattle.ncl_base.specs.declared.word.TheConstants.{MOST_BITS}
 use Rattle.ncl_base.proofs.Members.{slice_get-some}
 use Rattle.ncl_netlist.specs.Netlist.{NetlistData, IsNetlist}
-use Rattle.ncl_cell_rules.specs.declared.fault.ShapeFault.TheVariants.{TooWide, TooLong}
+use Rattle.ncl_shape.specs.declared.fault.ShapeFault.TheVariants.{TooWide, TooLong}
 use Rattle.ncl_cell_rules.specs.Free.{IsFree, FailsFirst}
 use Rattle.ncl_shape.specs.declared.bank.TheConstants.{MOST_BANKS}
 use Rattle.ncl_shape.specs.declared.bank.Bit.{Bit}

@@ -4,8 +4,8 @@ use Rattle.std.specs.Prelude.{◌≡◌, ℕ, List, map, length, slice_get, Opti
 use Rattle.std.specs.List.{slice_index_or}
 use Rattle.ncl_netlist.specs.declared.ids.NetId.{NetId}
 use Rattle.ncl_netlist.specs.Netlist.{NetlistData}
-use Rattle.ncl_cell_rules.specs.declared.fault.ShapeFault.{ShapeFault}
-use Rattle.ncl_cell_rules.specs.declared.fault.ShapeFault.TheVariants.{UnusedPort, Cycle, Unpaired, Mixed, Loose, NoChain, TooWide, TooLong, Memory}
+use Rattle.ncl_shape.specs.declared.fault.ShapeFault.{ShapeFault}
+use Rattle.ncl_shape.specs.declared.fault.ShapeFault.TheVariants.{CellRule, NoChain, TooWide, TooLong, Memory}
 use Rattle.ncl_shape.specs.declared.chain.Chain.{Chain}
 use Rattle.ncl_shape.specs.Chain.{IsChain, IsRoot, BreaksInner}
 
@@ -30,11 +30,7 @@ pub record IsChainOf (n : NetlistData) (c : Chain) : Type 0 where
 -- the netlist, and may come at all of them
 abbrev pub IsChainFault : NetlistData → ShapeFault → Type 0
 IsChainFault n (NoChain rule) = BreaksInner n rule
-IsChainFault n (UnusedPort net) = ⊥
-IsChainFault n (Cycle cell) = ⊥
-IsChainFault n (Unpaired cell) = ⊥
-IsChainFault n (Mixed cell) = ⊥
-IsChainFault n (Loose cell) = ⊥
+IsChainFault n (CellRule fault) = ⊥
 IsChainFault n (TooWide number) = ⊥
 IsChainFault n TooLong = ⊥
 IsChainFault n Memory = Unit {0}

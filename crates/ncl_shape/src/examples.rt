@@ -1,6 +1,7 @@
 //! Worked examples of shape: what chains, what does not, and a completion tree that leaves out a bit.
 ghost use Rattle.std.specs.Prelude.{[], ◌∷◌};
-ghost use Rattle.ncl_cell_rules.specs.declared.fault.ShapeFault.TheVariants.{Loose};
+ghost use Rattle.ncl_cell_rules.specs.declared.fault.CellFault.TheVariants.{Loose};
+ghost use Rattle.ncl_shape.specs.declared.fault.ShapeFault.TheVariants.{CellRule};
 ghost use Rattle.ncl_shape.specs.Chain.{BreaksInner, HasChain, IsChain};
 ghost use Rattle.ncl_shape.specs.Shape.{BreaksRule};
 ghost use Rattle.ncl_shape.specs.Examples.{bit_left_out, cut, three};
@@ -16,5 +17,5 @@ pub fn chain_of_three()
 /// Where the completion tree of a bank leaves out its second bit, the acknowledge cell of that bit, the
 /// cell number 5, is the first loose cell.
 pub fn tree_that_leaves_out_a_bit()
-    ensures { BreaksRule bit_left_out (Loose (record { 0 = 5 })) }
+    ensures { BreaksRule bit_left_out (CellRule (Loose (record { 0 = 5 }))) }
 {}

@@ -11,13 +11,14 @@ ghost use Rattle.ncl_shape.specs.Shape.{IsShapeFault, Shape};
 
 use crate::bank::{Bank, Bit};
 use crate::chain::{Chain, find_chain};
+use crate::fault::ShapeFault;
 use crate::pipeline::{Parts, Pipeline};
 use crate::rail_lists::{inputs_of, rails_of};
 use crate::stage_cells::gates_of_banks;
 use crate::staging::stages_between;
 use crate::widths::find_bits;
 use ncl_base::{Items, Memory};
-use ncl_cell_rules::{Origins, ShapeFault, find_origins};
+use ncl_cell_rules::{Origins, find_origins};
 use ncl_netlist::Netlist;
 use std::alloc::Global;
 

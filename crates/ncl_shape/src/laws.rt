@@ -2,7 +2,7 @@
 ghost use Rattle.std.specs.Prelude.{◌≡◌, ◌⊎◌, ℕ, true, All, Contains};
 ghost use Rattle.ncl_netlist.specs.declared.cell.Cell.{Cell};
 ghost use Rattle.ncl_netlist.specs.Netlist.{IsNetlist, NetlistData};
-ghost use Rattle.ncl_cell_rules.specs.declared.fault.ShapeFault.{ShapeFault};
+ghost use Rattle.ncl_shape.specs.declared.fault.ShapeFault.{ShapeFault};
 ghost use Rattle.ncl_shape.specs.Nets.{Nets, IsBelow};
 ghost use Rattle.ncl_shape.specs.Pipeline.{PipelineData};
 ghost use Rattle.ncl_shape.specs.Shape.{Shape, Broken};

@@ -11,8 +11,9 @@ ghost use Rattle.ncl_shape.specs.Shape.{IsShapeFault};
 use crate::bank::{Bit, MOST_BANKS};
 use crate::bits::bits_of_banks;
 use crate::chain::Chain;
+use crate::fault::ShapeFault;
 use ncl_base::MOST_BITS;
-use ncl_cell_rules::{Origins, ShapeFault};
+use ncl_cell_rules::Origins;
 use ncl_netlist::Netlist;
 use std::alloc::Global;
 

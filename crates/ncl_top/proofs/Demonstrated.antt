@@ -9,8 +9,8 @@ use Rattle.ncl_base.proofs.Members.{recursion_from_members, Contains-from_Member
 use Rattle.ncl_blif.specs.declared.model.Model.{Model}
 use Rattle.ncl_blif.specs.Meaning.{width_of}
 use Rattle.ncl_netlist.specs.Netlist.{NetlistData}
-use Rattle.ncl_cell_rules.specs.declared.fault.ShapeFault.{ShapeFault}
-use Rattle.ncl_cell_rules.specs.declared.fault.ShapeFault.TheVariants.{Memory as ShapeMemory}
+use Rattle.ncl_shape.specs.declared.fault.ShapeFault.{ShapeFault}
+use Rattle.ncl_shape.specs.declared.fault.ShapeFault.TheVariants.{Memory as ShapeMemory}
 use Rattle.ncl_shape.specs.Pipeline.{PipelineData}
 use Rattle.ncl_shape.specs.Shape.{IsShapeFault}
 use Rattle.ncl_shape.proofs.ShapeLaws.{shape_is_one}

@@ -1,5 +1,6 @@
 //! The whole shape of a netlist, and that a long line of gates is followed.
 use crate::netlist_texts::netlist;
+use ncl_cell_rules::CellFault;
 use ncl_gates::Kind;
 use ncl_netlist::{CellId, NetId};
 use ncl_shape::{Bank, Bit, Pipeline, Rails, ShapeFault, Stage, StageCell, shape};
@@ -187,7 +188,7 @@ fn cycle_in_line(
     let netlist = netlist(rt, alloc, &line(alloc, against, closed)?)?;
     match shape(alloc, &netlist) {
         Ok(_) => Ok(None),
-        Err(ShapeFault::Cycle(cell)) => Ok(Some(cell)),
+        Err(ShapeFault::CellRule(CellFault::Cycle(cell))) => Ok(Some(cell)),
         Err(_) => Err(Fail::new("another fault")),
     }
 }

@@ -2,8 +2,8 @@ use Rattle.std.proofs.Common.{◌≡◌, sym, subst}
 use Rattle.std.specs.Prelude.{IfErr, IsErrAnd}
 use Rattle.std.specs.declared.result.Result.{Result}
 use Rattle.std.specs.declared.result.Result.TheVariants.{Ok, Err}
-use Rattle.ncl_cell_rules.specs.declared.fault.ShapeFault.{ShapeFault}
-use Rattle.ncl_shape.specs.Shape.{IsShapeFault}
+use Rattle.ncl_shape.specs.declared.fault.ShapeFault.{ShapeFault}
+use Rattle.ncl_shape.specs.Shape.{IsShapeFault, shape_fault_of}
 use Rattle.ncl_shape.proofs.FaultCases.{of_cells, of_chain}
 use Rattle.ncl_shape.proofs.finding.shape.Goals as goal
 
@@ -14,7 +14,7 @@ handed P (Err e) fault is holds = subst P (sym is) holds
 
 pub returns-in_err-origins-clause-fault : goal.returns-in_err-origins-clause-fault
 returns-in_err-origins-clause-fault c =
-    handed (IsShapeFault c.args.netlist.now) c.from_residual.result c.in_err-origins.field-0.0 c.from_residual.ensures.1 (of_cells c.args.netlist.now c.in_err-origins.field-0.0 c.in_err-origins.ensures.fault)
+    handed (IsShapeFault c.args.netlist.now) c.from_residual.result (shape_fault_of c.in_err-origins.field-0.0) c.from_residual.ensures.1 (of_cells c.args.netlist.now c.in_err-origins.field-0.0 c.in_err-origins.ensures.fault)
 
 pub returns-in_err-chain-clause-fault : goal.returns-in_err-chain-clause-fault
 returns-in_err-chain-clause-fault c =

@@ -52,3 +52,14 @@ on_pin c pin lt = slice_get-get_or c.ins.items pin no_net lt
 
 pub on_pin_of : (c : Cell) (pin : ℕ) (pins : List NetId) → pins ≡ c.ins.items → pin < length c.ins.items → OnPin c pin (get_or pins pin no_net).0
 on_pin_of c pin pins are lt = subst (λ l. OnPin c pin (get_or l pin no_net).0) (sym are) (on_pin c pin lt)
+
+-- the nets that are read on the pins of register and acknowledge cells
+module _ (n : NetlistData) (is : IsNetlist n) (c : Cell) (in_c : IsCell n c) (pin : ℕ) (pins : List NetId) (are : pins ≡ c.ins.items) where
+  pub register_on : IsRegister c → pin < 3 → OnPin c pin (get_or pins pin no_net).0
+  register_on register few = let three = register_pins n is c in_c register in on_pin_of c pin pins are (omega (arith, few, three))
+
+  pub register_inside : IsRegister c → pin < 3 → (get_or pins pin no_net).0 < length n.nets
+  register_inside register few = let three = register_pins n is c in_c register in pin_inside n is c in_c pin pins are (omega (arith, few, three))
+
+  pub ack_on : IsAck c → pin < 2 → OnPin c pin (get_or pins pin no_net).0
+  ack_on is_ack few = let two = ack_pins n is c in_c is_ack in on_pin_of c pin pins are (omega (arith, few, two))

@@ -1,14 +1,14 @@
 -- Tables of nets that grow cell by cell.
-use Rattle.std.proofs.Common.{◌≡◌, ◌≢◌, ℕ, ◌+◌, ◌<◌, ◌≤◌, List, length, get_or, set, Option, Some, None, inl, inr, sym, ap, ◌∙◌, subst, arith, get_or-set_same, get_or-set_other, length-set}
+use Rattle.std.proofs.Common.{◌≡◌, ◌≢◌, ℕ, ◌+◌, ◌<◌, ◌≤◌, Bool, true, false, List, length, get_or, set, Option, Some, None, inl, inr, sym, ap, ◌∙◌, subst, arith, get_or-set_same, get_or-set_other, length-set, below_more}
 use Rattle.std.specs.Prelude.{slice_get}
-use Rattle.std.proofs.lemmas.Bool.{cases_eq}
+use Rattle.std.proofs.lemmas.Bool.{both_ways, cases_eq}
 use Rattle.std.proofs.lemmas.Option.{slice_get_within, slice_get-get_or}
 use Rattle.ncl_netlist.specs.declared.cell.Cell.{Cell}
 use Rattle.ncl_netlist.specs.Netlist.{NetlistData, IsNetlist}
 use Rattle.ncl_cell_rules.specs.Origin.{CellAt}
 use Rattle.ncl_base.proofs.Members.{Contains-from_slice_get}
 use Rattle.ncl_cell_rules.proofs.Drivers.{same_place, cell_fits}
-use Rattle.ncl_cell_rules.specs.Free.{AtCell}
+use Rattle.ncl_cell_rules.specs.Free.{AtCell, FailsFirst}
 use Rattle.ncl_cell_rules.specs.CellOrder.{IsCellOrder}
 use Rattle.ncl_cell_rules.specs.GateGraph.{Drives, driver_at, AreDriversBelow, AreDrivers}
 
@@ -89,3 +89,18 @@ rule_at n Rule k c at holds = λ d at_d.
     let same : Some c ≡ Some d = sym at ∙ at_d in
     let one : c ≡ d = cc in
     subst (Rule n) one holds
+
+-- a rule that is asked of one cell after another
+module _ (n : NetlistData) (Rule : NetlistData → Cell → Type 0) (cells : List Cell) (same : cells ≡ n.cells) (k : ℕ) (before : (j : ℕ) → j < k → AtCell Rule n j) where
+  module _ (c : Cell) (within : k < length cells) (read : c ≡ get_or cells k c) where
+    -- fails first at the first cell that its test refuses
+    pub first_refused : (passes : Bool) → passes ≡ false → (Rule n c → passes ≡ true) → FailsFirst (AtCell Rule n) k
+    first_refused passes refused test = record { fails = λ all. both_ways passes refused (test (all c (cell_read n cells k c same within read))); before = before }
+
+    -- holds below the next where it holds here
+    pub one_cell_more : Rule n c → (j : ℕ) → j < k + 1 → AtCell Rule n j
+    one_cell_more holds = below_more (AtCell Rule n) k before (rule_at n Rule k c (cell_read n cells k c same within read) holds)
+
+  -- and holds everywhere after the last
+  pub after_last : length cells ≤ k → (j : ℕ) → AtCell Rule n j
+  after_last past j c at = let within = slice_get_within n.cells j c at in before j (omega (arith, within, past, ap length same)) c at

@@ -1,7 +1,7 @@
 use Rattle.std.proofs.Common.{◌≡◌, false, ◌<◌, length, get_or, refl, sym, ap, ◌∙◌, subst, arith}
 use Rattle.std.proofs.lemmas.Bool.{both_ways}
 use Rattle.ncl_cell_rules.specs.Origin.{OnPin, A}
-use Rattle.ncl_cell_rules.proofs.PinNumbers.{no_net, ack_pins, on_pin_of, on_pin_within}
+use Rattle.ncl_cell_rules.proofs.PinNumbers.{no_net, ack_on, on_pin_within}
 use Rattle.ncl_cell_rules.proofs.BitTests.{behind_pin, same_behind, of_bank_behind}
 use Rattle.ncl_cell_rules.proofs.DataBanks.{mark_of_bank, bank_of_mark}
 use Rattle.ncl_cell_rules.proofs.mixing.is_ack_of_one.Goals as goal
@@ -11,8 +11,7 @@ returns-in_default c = (
   (λ holds request acks is_data.
       let n = c.args.netlist.now in
       let is = c.requires.origins.drivers.netlist in
-      let pins = ack_pins n is c.args.cell.now c.requires.in_netlist c.requires.ack in
-      let on : OnPin c.args.cell.now A (get_or c.deref-2.result.now 0 no_net).0 = on_pin_of c.args.cell.now 0 c.deref-2.result.now c.deref-2.ensures.0 (omega (arith, pins)) in
+      let on : OnPin c.args.cell.now A (get_or c.deref-2.result.now 0 no_net).0 = ack_on n is c.args.cell.now c.requires.in_netlist 0 c.deref-2.result.now c.deref-2.ensures.0 c.requires.ack (omega arith) in
       let (r, of_bank, on_r) = acks.2 in
       let (k, behind) = behind_pin n is c.args.cell.now r A _ request on of_bank on_r in
       absurd (c.in_default.ensures.none k request behind)),
@@ -34,8 +33,7 @@ returns-then-not-is_data_bank c = (
   (λ holds request acks is_data.
       let n = c.args.netlist.now in
       let is = c.requires.origins.drivers.netlist in
-      let pins = ack_pins n is c.args.cell.now c.requires.in_netlist c.requires.ack in
-      let on : OnPin c.args.cell.now A (get_or c.deref-2.result.now 0 no_net).0 = on_pin_of c.args.cell.now 0 c.deref-2.result.now c.deref-2.ensures.0 (omega (arith, pins)) in
+      let on : OnPin c.args.cell.now A (get_or c.deref-2.result.now 0 no_net).0 = ack_on n is c.args.cell.now c.requires.in_netlist 0 c.deref-2.result.now c.deref-2.ensures.0 c.requires.ack (omega arith) in
       let (r, of_bank, on_r) = acks.2 in
       let (k, behind) = behind_pin n is c.args.cell.now r A _ request on of_bank on_r in
       let same : c.in-Some.bank.0 ≡ request = (same_behind n is _ _ k c.in-Some.bank.0 request c.in-Some.ensures.some behind).1 in
@@ -51,8 +49,7 @@ returns c = (
   λ one.
       let n = c.args.netlist.now in
       let is = c.requires.origins.drivers.netlist in
-      let pins = ack_pins n is c.args.cell.now c.requires.in_netlist c.requires.ack in
-      let on : OnPin c.args.cell.now A (get_or c.deref-2.result.now 0 no_net).0 = on_pin_of c.args.cell.now 0 c.deref-2.result.now c.deref-2.ensures.0 (omega (arith, pins)) in
+      let on : OnPin c.args.cell.now A (get_or c.deref-2.result.now 0 no_net).0 = ack_on n is c.args.cell.now c.requires.in_netlist 0 c.deref-2.result.now c.deref-2.ensures.0 c.requires.ack (omega arith) in
       let behind = c.in-Some.ensures.some in
       let of_bank = of_bank_behind n is _ _ _ behind in
       let within : c.in-Some.bank.0 < length n.nets = on_pin_within n is behind.cell of_bank.0 1 c.in-Some.bank.0 behind.on_b in

@@ -5,7 +5,7 @@ use Rattle.ncl_gates.specs.Cell.{is_data_register}
 use Rattle.ncl_netlist.specs.declared.ids.NetId.{NetId}
 use Rattle.ncl_cell_rules.specs.Origin.{OnPin, A, B}
 use Rattle.ncl_cell_rules.specs.GateGraph.{IsDataBehind}
-use Rattle.ncl_cell_rules.proofs.PinNumbers.{no_net, ack_pins, on_pin_of}
+use Rattle.ncl_cell_rules.proofs.PinNumbers.{no_net, ack_on}
 use Rattle.ncl_cell_rules.proofs.BitTests.{behind_pin, one_bit_of, banks_are_one, cells_differ, plain_behind, data_is_one}
 use Rattle.ncl_cell_rules.proofs.pairing.reads_one_bit.Goals as goal
 
@@ -13,8 +13,7 @@ pub returns-in_default : goal.returns-in_default
 returns-in_default c = (
   (λ never. absurd cc),
   λ bit.
-      let pins = ack_pins c.args.netlist.now c.requires.drivers.netlist c.args.cell.now c.requires.in_netlist c.requires.ack in
-      let on = on_pin_of c.args.cell.now 0 c.deref.result.now c.deref.ensures.0 (omega (arith, pins)) in
+      let on = ack_on c.args.netlist.now c.requires.drivers.netlist c.args.cell.now c.requires.in_netlist 0 c.deref.result.now c.deref.ensures.0 c.requires.ack (omega arith) in
       let (k, behind) = behind_pin c.args.netlist.now c.requires.drivers.netlist c.args.cell.now bit.zero A _ bit.request on bit.zero_of bit.on_a in
       absurd (c.in_default.ensures.none k bit.request behind),
 )
@@ -23,8 +22,7 @@ pub returns-in_default-register_behind : goal.returns-in_default-register_behind
 returns-in_default-register_behind c = (
   (λ never. absurd cc),
   λ bit.
-      let pins = ack_pins c.args.netlist.now c.requires.drivers.netlist c.args.cell.now c.requires.in_netlist c.requires.ack in
-      let on = on_pin_of c.args.cell.now 1 c.deref-2.result.now c.deref-2.ensures.0 (omega (arith, pins)) in
+      let on = ack_on c.args.netlist.now c.requires.drivers.netlist c.args.cell.now c.requires.in_netlist 1 c.deref-2.result.now c.deref-2.ensures.0 c.requires.ack (omega arith) in
       let (k, behind) = behind_pin c.args.netlist.now c.requires.drivers.netlist c.args.cell.now bit.one B _ bit.request on bit.one_of bit.on_b in
       absurd (c.in_default-register_behind.ensures.none k bit.request behind),
 )
@@ -33,9 +31,8 @@ pub returns-then-zero-one : goal.returns-then-zero-one
 returns-then-zero-one c = (
   (λ never. absurd cc),
   λ bit.
-      let pins = ack_pins c.args.netlist.now c.requires.drivers.netlist c.args.cell.now c.requires.in_netlist c.requires.ack in
-      let on_a : OnPin c.args.cell.now A (get_or c.deref.result.now 0 no_net).0 = on_pin_of c.args.cell.now 0 c.deref.result.now c.deref.ensures.0 (omega (arith, pins)) in
-      let on_b : OnPin c.args.cell.now B (get_or c.deref-2.result.now 1 no_net).0 = on_pin_of c.args.cell.now 1 c.deref-2.result.now c.deref-2.ensures.0 (omega (arith, pins)) in
+      let on_a : OnPin c.args.cell.now A (get_or c.deref.result.now 0 no_net).0 = ack_on c.args.netlist.now c.requires.drivers.netlist c.args.cell.now c.requires.in_netlist 0 c.deref.result.now c.deref.ensures.0 c.requires.ack (omega arith) in
+      let on_b : OnPin c.args.cell.now B (get_or c.deref-2.result.now 1 no_net).0 = ack_on c.args.netlist.now c.requires.drivers.netlist c.args.cell.now c.requires.in_netlist 1 c.deref-2.result.now c.deref-2.ensures.0 c.requires.ack (omega arith) in
       absurd (cells_differ c.args.netlist.now c.requires.drivers.netlist c.args.cell.now _ _ on_a on_b _ _ _ _ c.in-Some.ensures.some c.in-Some-register_behind.ensures.some bit c.if-zero-one.true),
 )
 
@@ -43,9 +40,8 @@ pub returns-then-ne : goal.returns-then-ne
 returns-then-ne c = (
   (λ never. absurd cc),
   λ bit.
-      let pins = ack_pins c.args.netlist.now c.requires.drivers.netlist c.args.cell.now c.requires.in_netlist c.requires.ack in
-      let on_a : OnPin c.args.cell.now A (get_or c.deref.result.now 0 no_net).0 = on_pin_of c.args.cell.now 0 c.deref.result.now c.deref.ensures.0 (omega (arith, pins)) in
-      let on_b : OnPin c.args.cell.now B (get_or c.deref-2.result.now 1 no_net).0 = on_pin_of c.args.cell.now 1 c.deref-2.result.now c.deref-2.ensures.0 (omega (arith, pins)) in
+      let on_a : OnPin c.args.cell.now A (get_or c.deref.result.now 0 no_net).0 = ack_on c.args.netlist.now c.requires.drivers.netlist c.args.cell.now c.requires.in_netlist 0 c.deref.result.now c.deref.ensures.0 c.requires.ack (omega arith) in
+      let on_b : OnPin c.args.cell.now B (get_or c.deref-2.result.now 1 no_net).0 = ack_on c.args.netlist.now c.requires.drivers.netlist c.args.cell.now c.requires.in_netlist 1 c.deref-2.result.now c.deref-2.ensures.0 c.requires.ack (omega arith) in
       let same = banks_are_one c.args.netlist.now c.requires.drivers.netlist c.args.cell.now _ _ on_a on_b _ _ _ _ c.in-Some.ensures.some c.in-Some-register_behind.ensures.some bit in
       absurd (both_ways c.ne.result (c.ne.ensures ∙ ap not (eq-eqb c.in-Some.bank.0 c.in-Some-register_behind.other.0 same)) c.if-ne.true),
 )
@@ -58,9 +54,8 @@ pub returns-then-not-is_data_behind : goal.returns-then-not-is_data_behind
 returns-then-not-is_data_behind c =
     let n = c.args.netlist.now in
     let is = c.requires.drivers.netlist in
-    let pins = ack_pins n is c.args.cell.now c.requires.in_netlist c.requires.ack in
-    let on_a : OnPin c.args.cell.now A (get_or c.deref.result.now 0 no_net).0 = on_pin_of c.args.cell.now 0 c.deref.result.now c.deref.ensures.0 (omega (arith, pins)) in
-    let on_b : OnPin c.args.cell.now B (get_or c.deref-2.result.now 1 no_net).0 = on_pin_of c.args.cell.now 1 c.deref-2.result.now c.deref-2.ensures.0 (omega (arith, pins)) in
+    let on_a : OnPin c.args.cell.now A (get_or c.deref.result.now 0 no_net).0 = ack_on n is c.args.cell.now c.requires.in_netlist 0 c.deref.result.now c.deref.ensures.0 c.requires.ack (omega arith) in
+    let on_b : OnPin c.args.cell.now B (get_or c.deref-2.result.now 1 no_net).0 = ack_on n is c.args.cell.now c.requires.in_netlist 1 c.deref-2.result.now c.deref-2.ensures.0 c.requires.ack (omega arith) in
     let zero = c.in-Some.ensures.some in
     let one = c.in-Some-register_behind.ensures.some in
     let low = plain_behind n is _ _ _ zero
@@ -75,9 +70,8 @@ pub returns : goal.returns
 returns c =
     let n = c.args.netlist.now in
     let is = c.requires.drivers.netlist in
-    let pins = ack_pins n is c.args.cell.now c.requires.in_netlist c.requires.ack in
-    let on_a : OnPin c.args.cell.now A (get_or c.deref.result.now 0 no_net).0 = on_pin_of c.args.cell.now 0 c.deref.result.now c.deref.ensures.0 (omega (arith, pins)) in
-    let on_b : OnPin c.args.cell.now B (get_or c.deref-2.result.now 1 no_net).0 = on_pin_of c.args.cell.now 1 c.deref-2.result.now c.deref-2.ensures.0 (omega (arith, pins)) in
+    let on_a : OnPin c.args.cell.now A (get_or c.deref.result.now 0 no_net).0 = ack_on n is c.args.cell.now c.requires.in_netlist 0 c.deref.result.now c.deref.ensures.0 c.requires.ack (omega arith) in
+    let on_b : OnPin c.args.cell.now B (get_or c.deref-2.result.now 1 no_net).0 = ack_on n is c.args.cell.now c.requires.in_netlist 1 c.deref-2.result.now c.deref-2.ensures.0 c.requires.ack (omega arith) in
     let zero = c.in-Some.ensures.some in
     let one = c.in-Some-register_behind.ensures.some in
     let high : IsDataBehind n (get_or c.deref.result.now 0 no_net).0

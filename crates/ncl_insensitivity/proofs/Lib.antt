@@ -45,4 +45,5 @@ pub mod Alternation
 pub mod Headline
 pub mod StepLaws
 pub mod SamePipelineLaws
+mod ByComputation
 mod UnsoundLaws

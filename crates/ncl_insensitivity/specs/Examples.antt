@@ -1,14 +1,14 @@
 -- Worked examples: a word goes through two banks joined by wires, and through two joined by a chain of gates; and the
 -- word that a bank holds at reset goes before the one that is offered.
-use Rattle.std.specs.Prelude.{ℕ, true, false, Bool, Some, List, [], ◌∷◌, take, codes}
+use Rattle.std.specs.Prelude.{ℕ, true, false, Bool, Some, List, [], ◌∷◌, ◌++◌, take, codes}
 use Rattle.ncl_gates.specs.declared.kind.Kind.TheVariants.{Th22}
-use Rattle.ncl_gates.specs.declared.cell_kind.CellKind.TheVariants.{Gate, Register, RegisterData, Ack}
+use Rattle.ncl_gates.specs.declared.cell_kind.CellKind.TheVariants.{Gate, Register, RegisterData}
 use Rattle.ncl_netlist.specs.Netlist.{NetlistData}
 use Rattle.ncl_shape.specs.Stage.{StageData}
 use Rattle.ncl_shape.specs.Pipeline.{PipelineData}
 use Rattle.ncl_shape.specs.declared.item.Item.{Item}
 use Rattle.ncl_shape.specs.declared.item.Item.TheVariants.{Cell, Raise, Lower, Take, Ready}
-use Rattle.ncl_shape.specs.Examples.{net_id, rails, bit, cell, one_bit_ports, wires_pipeline, three}
+use Rattle.ncl_shape.specs.Examples.{rails, bit, cell, ack_of, one_bit, with_ports, bank, wired, one_bit_ports, one_bit_pipeline, wires_pipeline, three}
 use Rattle.ncl_stage.specs.Examples.{gate, stage}
 use Rattle.ncl_machine.specs.State.{State, reset}
 use Rattle.ncl_machine.specs.Run.{after}
@@ -39,25 +39,15 @@ where_two_may_move = after wires_pipeline (reset wires_pipeline one_word) (take 
 -- rst 3, z1_0 4, z1_1 5, ko 6, c 7, p1_0 8, p1_1 9, g1 10, g2 11, g3 12, g4 13
 
 abbrev pub chain : NetlistData
-chain = record {
-  name = codes "chain";
-  ports = one_bit_ports;
-  nets =
-      codes "x1_0" ∷ codes "x1_1" ∷ codes "ki" ∷ codes "rst" ∷ codes "z1_0" ∷ codes "z1_1" ∷ codes "ko" ∷ codes "c"
-      ∷ codes "p1_0" ∷ codes "p1_1" ∷ codes "g1" ∷ codes "g2" ∷ codes "g3" ∷ codes "g4" ∷ [];
-  cells =
-      cell Register (codes "r1_0") (0 ∷ 7 ∷ 3 ∷ []) 8
-      ∷ cell Register (codes "r1_1") (1 ∷ 7 ∷ 3 ∷ []) 9
-      ∷ cell Ack (codes "k1") (8 ∷ 9 ∷ []) 6
-      ∷ cell (Gate Th22) (codes "t1") (9 ∷ 9 ∷ []) 10
-      ∷ cell (Gate Th22) (codes "t2") (10 ∷ 10 ∷ []) 11
-      ∷ cell (Gate Th22) (codes "t3") (11 ∷ 11 ∷ []) 12
-      ∷ cell (Gate Th22) (codes "t4") (12 ∷ 12 ∷ []) 13
-      ∷ cell Register (codes "s1_0") (8 ∷ 2 ∷ 3 ∷ []) 4
-      ∷ cell Register (codes "s1_1") (13 ∷ 2 ∷ 3 ∷ []) 5
-      ∷ cell Ack (codes "d1") (4 ∷ 5 ∷ []) 7
-      ∷ [];
-}
+chain =
+    with_ports (codes "chain") one_bit_ports
+    (codes "c" ∷ codes "p1_0" ∷ codes "p1_1" ∷ codes "g1" ∷ codes "g2" ∷ codes "g3" ∷ codes "g4" ∷ [])
+    (one_bit (codes "r1") (rails 0 1) 7 (rails 8 9) (codes "k1") 6
+    ++ cell (Gate Th22) (codes "t1") (9 ∷ 9 ∷ []) 10
+    ∷ cell (Gate Th22) (codes "t2") (10 ∷ 10 ∷ []) 11
+    ∷ cell (Gate Th22) (codes "t3") (11 ∷ 11 ∷ []) 12
+    ∷ cell (Gate Th22) (codes "t4") (12 ∷ 12 ∷ []) 13
+    ∷ one_bit (codes "s1") (rails 8 13) 2 (rails 4 5) (codes "d1") 7)
 
 abbrev pub chain_stage : StageData
 chain_stage =
@@ -66,18 +56,7 @@ chain_stage =
     (rails 8 13 ∷ [])
 
 abbrev pub chain_pipeline : PipelineData
-chain_pipeline = record {
-  netlist = chain;
-  banks =
-      record { bits = bit 0 1 2 ∷ []; request = net_id 7; root = net_id 6 }
-      ∷ record { bits = bit 7 8 9 ∷ []; request = net_id 2; root = net_id 7 }
-      ∷ [];
-  stages = chain_stage ∷ [];
-  inputs = rails 0 1 ∷ [];
-  outputs = rails 4 5 ∷ [];
-  ki = 2;
-  ko = 6;
-}
+chain_pipeline = one_bit_pipeline chain 7 chain_stage
 
 -- the word 1 and the NULL after it go through
 abbrev pub through_chain : List Item
@@ -92,35 +71,21 @@ where_the_chain_rests = after chain_pipeline (reset chain_pipeline one_word) thr
 -- `three`: x1_0 0, x1_1 1, ki 2, rst 3, z1_0 4, z1_1 5, ko 6, c1 7, p1_0 8, p1_1 9, c2 10, v1_0 11, v1_1 12
 
 abbrev pub holding : NetlistData
-holding = record {
+holding = record three {
   name = codes "holding";
-  ports = one_bit_ports;
-  nets = three.nets;
   cells =
-      cell Register (codes "r1_0") (0 ∷ 7 ∷ 3 ∷ []) 8
-      ∷ cell Register (codes "r1_1") (1 ∷ 7 ∷ 3 ∷ []) 9
-      ∷ cell Ack (codes "k1") (8 ∷ 9 ∷ []) 6
-      ∷ cell Register (codes "q1_0") (8 ∷ 10 ∷ 3 ∷ []) 11
+      one_bit (codes "r1") (rails 0 1) 7 (rails 8 9) (codes "k1") 6
+      ++ cell Register (codes "q1_0") (8 ∷ 10 ∷ 3 ∷ []) 11
       ∷ cell RegisterData (codes "q1_1") (9 ∷ 10 ∷ 3 ∷ []) 12
-      ∷ cell Ack (codes "h1") (11 ∷ 12 ∷ []) 7
-      ∷ cell Register (codes "s1_0") (11 ∷ 2 ∷ 3 ∷ []) 4
-      ∷ cell Register (codes "s1_1") (12 ∷ 2 ∷ 3 ∷ []) 5
-      ∷ cell Ack (codes "d1") (4 ∷ 5 ∷ []) 10
-      ∷ [];
+      ∷ ack_of (codes "h1") (rails 11 12) 7
+      ∷ one_bit (codes "s1") (rails 11 12) 2 (rails 4 5) (codes "d1") 10;
 }
 
 abbrev pub holding_pipeline : PipelineData
 holding_pipeline = record {
   netlist = holding;
-  banks =
-      record { bits = bit 0 1 2 ∷ []; request = net_id 7; root = net_id 6 }
-      ∷ record { bits = record { rail0 = record { 0 = 3 }; rail1 = record { 0 = 4 }; ack = record { 0 = 5 }; start = Some true } ∷ []; request = net_id 10; root = net_id 7 }
-      ∷ record { bits = bit 6 7 8 ∷ []; request = net_id 2; root = net_id 10 }
-      ∷ [];
-  stages =
-      record { number = 1; inputs = rails 8 9 ∷ []; cells = []; outputs = rails 8 9 ∷ [] }
-      ∷ record { number = 2; inputs = rails 11 12 ∷ []; cells = []; outputs = rails 11 12 ∷ [] }
-      ∷ [];
+  banks = bank (bit 0 1 2 ∷ []) 7 6 ∷ bank (record (bit 3 4 5) { start = Some true } ∷ []) 10 7 ∷ bank (bit 6 7 8 ∷ []) 2 10 ∷ [];
+  stages = wired 1 (rails 8 9 ∷ []) ∷ wired 2 (rails 11 12 ∷ []) ∷ [];
   inputs = rails 0 1 ∷ [];
   outputs = rails 4 5 ∷ [];
   ki = 2;

@@ -1,14 +1,15 @@
 -- Pipelines with a stage that breaks one condition of soundness each, and for each a run that goes wrong.
-use Rattle.std.specs.Prelude.{◌≡◌, ◌≢◌, ℕ, true, false, Bool, List, [], ◌∷◌, codes}
+use Rattle.std.specs.Prelude.{◌≡◌, ◌≢◌, ℕ, true, false, Bool, List, [], ◌∷◌, ◌++◌, codes}
 use Rattle.ncl_gates.specs.declared.kind.Kind.TheVariants.{Th12, Th22}
-use Rattle.ncl_gates.specs.declared.cell_kind.CellKind.TheVariants.{Gate, Register, Ack}
+use Rattle.ncl_gates.specs.declared.cell_kind.CellKind.TheVariants.{Gate}
 use Rattle.ncl_netlist.specs.declared.cell.Cell.{Cell}
 use Rattle.ncl_netlist.specs.Netlist.{NetlistData}
 use Rattle.ncl_shape.specs.declared.item.Item.{Item}
 use Rattle.ncl_shape.specs.declared.item.Item.TheVariants.{Raise, Lower, Take}
+use Rattle.ncl_shape.specs.declared.rails.Rails.{Rails}
 use Rattle.ncl_shape.specs.Stage.{StageData}
 use Rattle.ncl_shape.specs.Pipeline.{PipelineData}
-use Rattle.ncl_shape.specs.Examples.{net_id, rails, bit, cell, input, output, one_bit_ports}
+use Rattle.ncl_shape.specs.Examples.{rails, bit, cell, input, output, registers, ack_of, one_bit, with_ports, bank, two_banks, one_bit_ports, one_bit_pipeline}
 use Rattle.ncl_stage.specs.Examples.{gate, stage}
 use Rattle.ncl_stage.specs.Faults.{StageFault, BothRails, NoRail, Incomplete, Orphan, shows, IsWordOf}
 use Rattle.ncl_machine.specs.State.{State, reset}
@@ -37,32 +38,13 @@ after_run p offered items = after p (reset p offered) items
 -- p1_1 9, and g 10, the output of a gate
 
 abbrev pub with_one_bit : List Cell → NetlistData
-with_one_bit cells = record {
-  name = codes "t";
-  ports = one_bit_ports;
-  nets =
-      codes "x1_0" ∷ codes "x1_1" ∷ codes "ki" ∷ codes "rst" ∷ codes "z1_0" ∷ codes "z1_1" ∷ codes "ko" ∷ codes "c"
-      ∷ codes "p1_0" ∷ codes "p1_1" ∷ codes "g" ∷ [];
-  cells =
-      cell Register (codes "r1_0") (0 ∷ 7 ∷ 3 ∷ []) 8
-      ∷ cell Register (codes "r1_1") (1 ∷ 7 ∷ 3 ∷ []) 9
-      ∷ cell Ack (codes "k1") (8 ∷ 9 ∷ []) 6
-      ∷ cells;
-}
+with_one_bit cells =
+    with_ports (codes "t") one_bit_ports (codes "c" ∷ codes "p1_0" ∷ codes "p1_1" ∷ codes "g" ∷ [])
+    (one_bit (codes "r1") (rails 0 1) 7 (rails 8 9) (codes "k1") 6 ++ cells)
 
-abbrev pub from_one_bit : NetlistData → StageData → PipelineData
-from_one_bit n s = record {
-  netlist = n;
-  banks =
-      record { bits = bit 0 1 2 ∷ []; request = net_id 7; root = net_id 6 }
-      ∷ record { bits = bit 4 5 6 ∷ []; request = net_id 2; root = net_id 7 }
-      ∷ [];
-  stages = s ∷ [];
-  inputs = rails 0 1 ∷ [];
-  outputs = rails 4 5 ∷ [];
-  ki = 2;
-  ko = 6;
-}
+-- with a gate, and a second bank of one bit that reads two nets
+abbrev pub with_gate : Cell → Rails → StageData → PipelineData
+with_gate g ins s = one_bit_pipeline (with_one_bit (g ∷ one_bit (codes "s1") ins 2 (rails 4 5) (codes "d1") 7)) 4 s
 
 -- ---- an orphan: besides wires the stage has a TH12 that drives nothing
 
@@ -70,15 +52,7 @@ abbrev pub orphan_stage : StageData
 orphan_stage = stage (rails 8 9 ∷ []) (gate 3 Th12 (8 ∷ 9 ∷ []) 10 ∷ []) (rails 8 9 ∷ [])
 
 abbrev pub with_orphan : PipelineData
-with_orphan =
-    from_one_bit
-    (with_one_bit
-    (cell (Gate Th12) (codes "g1") (8 ∷ 9 ∷ []) 10
-    ∷ cell Register (codes "s1_0") (8 ∷ 2 ∷ 3 ∷ []) 4
-    ∷ cell Register (codes "s1_1") (9 ∷ 2 ∷ 3 ∷ []) 5
-    ∷ cell Ack (codes "d1") (4 ∷ 5 ∷ []) 7
-    ∷ []))
-    orphan_stage
+with_orphan = with_gate (cell (Gate Th12) (codes "g1") (8 ∷ 9 ∷ []) 10) (rails 8 9) orphan_stage
 
 -- the word 1 has gone through both banks while the gate is still to rise, and the source has lowered it
 abbrev pub leaves_a_gate_behind : List Item
@@ -90,15 +64,7 @@ abbrev pub dead_stage : StageData
 dead_stage = stage (rails 8 9 ∷ []) (gate 3 Th22 (8 ∷ 9 ∷ []) 10 ∷ []) (rails 10 9 ∷ [])
 
 abbrev pub with_dead_rail : PipelineData
-with_dead_rail =
-    from_one_bit
-    (with_one_bit
-    (cell (Gate Th22) (codes "g1") (8 ∷ 9 ∷ []) 10
-    ∷ cell Register (codes "s1_0") (10 ∷ 2 ∷ 3 ∷ []) 4
-    ∷ cell Register (codes "s1_1") (9 ∷ 2 ∷ 3 ∷ []) 5
-    ∷ cell Ack (codes "d1") (4 ∷ 5 ∷ []) 7
-    ∷ []))
-    dead_stage
+with_dead_rail = with_gate (cell (Gate Th22) (codes "g1") (8 ∷ 9 ∷ []) 10) (rails 10 9) dead_stage
 
 -- the word 0 is in the first bank, which has acknowledged it, and the source has lowered it
 abbrev pub one_zero : List (List Bool)
@@ -115,40 +81,21 @@ abbrev pub illegal_stage : StageData
 illegal_stage = stage (rails 10 11 ∷ []) (gate 3 Th12 (10 ∷ 11 ∷ []) 12 ∷ []) (rails 12 11 ∷ rails 12 10 ∷ [])
 
 abbrev pub with_both_rails : PipelineData
-with_both_rails = record {
-  netlist = record {
-    name = codes "t";
-    ports =
-        input (codes "x1_0") ∷ input (codes "x1_1") ∷ input (codes "ki") ∷ input (codes "rst") ∷ output (codes "z1_0")
-        ∷ output (codes "z1_1") ∷ output (codes "z2_0") ∷ output (codes "z2_1") ∷ output (codes "ko") ∷ [];
-    nets =
-        codes "x1_0" ∷ codes "x1_1" ∷ codes "ki" ∷ codes "rst" ∷ codes "z1_0" ∷ codes "z1_1" ∷ codes "z2_0"
-        ∷ codes "z2_1" ∷ codes "ko" ∷ codes "c" ∷ codes "p1_0" ∷ codes "p1_1" ∷ codes "g" ∷ codes "e1" ∷ codes "e2"
-        ∷ [];
-    cells =
-        cell Register (codes "r1_0") (0 ∷ 9 ∷ 3 ∷ []) 10
-        ∷ cell Register (codes "r1_1") (1 ∷ 9 ∷ 3 ∷ []) 11
-        ∷ cell Ack (codes "k1") (10 ∷ 11 ∷ []) 8
-        ∷ cell (Gate Th12) (codes "g1") (10 ∷ 11 ∷ []) 12
-        ∷ cell Register (codes "s1_0") (12 ∷ 2 ∷ 3 ∷ []) 4
-        ∷ cell Register (codes "s1_1") (11 ∷ 2 ∷ 3 ∷ []) 5
-        ∷ cell Register (codes "s2_0") (12 ∷ 2 ∷ 3 ∷ []) 6
-        ∷ cell Register (codes "s2_1") (10 ∷ 2 ∷ 3 ∷ []) 7
-        ∷ cell Ack (codes "d1") (4 ∷ 5 ∷ []) 13
-        ∷ cell Ack (codes "d2") (6 ∷ 7 ∷ []) 14
-        ∷ cell (Gate Th22) (codes "dt") (13 ∷ 14 ∷ []) 9
-        ∷ [];
-  };
-  banks =
-      record { bits = bit 0 1 2 ∷ []; request = net_id 9; root = net_id 8 }
-      ∷ record { bits = bit 4 5 8 ∷ bit 6 7 9 ∷ []; request = net_id 2; root = net_id 9 }
-      ∷ [];
-  stages = illegal_stage ∷ [];
-  inputs = rails 0 1 ∷ [];
-  outputs = rails 4 5 ∷ rails 6 7 ∷ [];
-  ki = 2;
-  ko = 8;
-}
+with_both_rails =
+    two_banks
+    (with_ports (codes "t")
+    (input (codes "x1_0") ∷ input (codes "x1_1") ∷ input (codes "ki") ∷ input (codes "rst") ∷ output (codes "z1_0")
+    ∷ output (codes "z1_1") ∷ output (codes "z2_0") ∷ output (codes "z2_1") ∷ output (codes "ko") ∷ [])
+    (codes "c" ∷ codes "p1_0" ∷ codes "p1_1" ∷ codes "g" ∷ codes "e1" ∷ codes "e2" ∷ [])
+    (one_bit (codes "r1") (rails 0 1) 9 (rails 10 11) (codes "k1") 8
+    ++ cell (Gate Th12) (codes "g1") (10 ∷ 11 ∷ []) 12
+    ∷ registers (codes "s1") (rails 12 11) 2 3 (rails 4 5)
+    ++ registers (codes "s2") (rails 12 10) 2 3 (rails 6 7)
+    ++ ack_of (codes "d1") (rails 4 5) 13
+    ∷ ack_of (codes "d2") (rails 6 7) 14
+    ∷ cell (Gate Th22) (codes "dt") (13 ∷ 14 ∷ []) 9
+    ∷ []))
+    (bank (bit 0 1 2 ∷ []) 9 8) (bank (bit 4 5 8 ∷ bit 6 7 9 ∷ []) 2 9) illegal_stage (rails 0 1 ∷ []) (rails 4 5 ∷ rails 6 7 ∷ [])
 
 -- the word 1 comes to the sink, with both rails of the first output
 abbrev pub delivers_both_rails : List Item
@@ -164,41 +111,23 @@ eager_stage =
     (rails 17 16 ∷ [])
 
 abbrev pub with_eager_and : PipelineData
-with_eager_and = record {
-  netlist = record {
-    name = codes "t";
-    ports =
-        input (codes "x1_0") ∷ input (codes "x1_1") ∷ input (codes "x2_0") ∷ input (codes "x2_1") ∷ input (codes "ki")
-        ∷ input (codes "rst") ∷ output (codes "z1_0") ∷ output (codes "z1_1") ∷ output (codes "ko") ∷ [];
-    nets =
-        codes "x1_0" ∷ codes "x1_1" ∷ codes "x2_0" ∷ codes "x2_1" ∷ codes "ki" ∷ codes "rst" ∷ codes "z1_0"
-        ∷ codes "z1_1" ∷ codes "ko" ∷ codes "c" ∷ codes "p1_0" ∷ codes "p1_1" ∷ codes "p2_0" ∷ codes "p2_1"
-        ∷ codes "e1" ∷ codes "e2" ∷ codes "a1" ∷ codes "a0" ∷ [];
-    cells =
-        cell Register (codes "r1_0") (0 ∷ 9 ∷ 5 ∷ []) 10
-        ∷ cell Register (codes "r1_1") (1 ∷ 9 ∷ 5 ∷ []) 11
-        ∷ cell Register (codes "r2_0") (2 ∷ 9 ∷ 5 ∷ []) 12
-        ∷ cell Register (codes "r2_1") (3 ∷ 9 ∷ 5 ∷ []) 13
-        ∷ cell Ack (codes "k1") (10 ∷ 11 ∷ []) 14
-        ∷ cell Ack (codes "k2") (12 ∷ 13 ∷ []) 15
-        ∷ cell (Gate Th22) (codes "kt") (14 ∷ 15 ∷ []) 8
-        ∷ cell (Gate Th22) (codes "g1") (11 ∷ 13 ∷ []) 16
-        ∷ cell (Gate Th12) (codes "g0") (10 ∷ 12 ∷ []) 17
-        ∷ cell Register (codes "s1_0") (17 ∷ 4 ∷ 5 ∷ []) 6
-        ∷ cell Register (codes "s1_1") (16 ∷ 4 ∷ 5 ∷ []) 7
-        ∷ cell Ack (codes "d1") (6 ∷ 7 ∷ []) 9
-        ∷ [];
-  };
-  banks =
-      record { bits = bit 0 1 4 ∷ bit 2 3 5 ∷ []; request = net_id 9; root = net_id 8 }
-      ∷ record { bits = bit 9 10 11 ∷ []; request = net_id 4; root = net_id 9 }
-      ∷ [];
-  stages = eager_stage ∷ [];
-  inputs = rails 0 1 ∷ rails 2 3 ∷ [];
-  outputs = rails 6 7 ∷ [];
-  ki = 4;
-  ko = 8;
-}
+with_eager_and =
+    two_banks
+    (with_ports (codes "t")
+    (input (codes "x1_0") ∷ input (codes "x1_1") ∷ input (codes "x2_0") ∷ input (codes "x2_1") ∷ input (codes "ki")
+    ∷ input (codes "rst") ∷ output (codes "z1_0") ∷ output (codes "z1_1") ∷ output (codes "ko") ∷ [])
+    (codes "c" ∷ codes "p1_0" ∷ codes "p1_1" ∷ codes "p2_0" ∷ codes "p2_1" ∷ codes "e1" ∷ codes "e2" ∷ codes "a1" ∷ codes "a0" ∷ [])
+    (registers (codes "r1") (rails 0 1) 9 5 (rails 10 11)
+    ++ registers (codes "r2") (rails 2 3) 9 5 (rails 12 13)
+    ++ ack_of (codes "k1") (rails 10 11) 14
+    ∷ ack_of (codes "k2") (rails 12 13) 15
+    ∷ cell (Gate Th22) (codes "kt") (14 ∷ 15 ∷ []) 8
+    ∷ cell (Gate Th22) (codes "g1") (11 ∷ 13 ∷ []) 16
+    ∷ cell (Gate Th12) (codes "g0") (10 ∷ 12 ∷ []) 17
+    ∷ registers (codes "s1") (rails 17 16) 4 5 (rails 6 7)
+    ++ ack_of (codes "d1") (rails 6 7) 9
+    ∷ []))
+    (bank (bit 0 1 4 ∷ bit 2 3 5 ∷ []) 9 8) (bank (bit 9 10 11 ∷ []) 4 9) eager_stage (rails 0 1 ∷ rails 2 3 ∷ []) (rails 6 7 ∷ [])
 
 abbrev pub two_zeros : List (List Bool)
 two_zeros = (false ∷ false ∷ []) ∷ []

@@ -1,8 +1,8 @@
 -- The only net of which something holds, and the only net that stands in a relation to each bank, found net by net.
-use Rattle.std.proofs.Common.{◌≡◌, ℕ, ◌+◌, ◌<◌, ◌≤◌, List, length, set, replicate, Option, Some, None, is_some, true, false, inl, inr, refl, sym, ap, ◌∙◌, subst, arith, get_or-set_same, get_or-set_other, length-set}
+use Rattle.std.proofs.Common.{◌≡◌, ℕ, ◌+◌, ◌<◌, ◌≤◌, List, ◌++◌, length, set, replicate, take, drop, Option, Some, None, is_some, true, false, inl, inr, refl, sym, ap, ◌∙◌, subst, arith, get_or-set_same, get_or-set_other, length-set}
 use Rattle.std.specs.Prelude.{MatchOption}
 use Rattle.std.proofs.lemmas.Bool.{cases_lt, cases_eq, both_ways}
-use Rattle.std.proofs.lemmas.List.{length-replicate, get_or-replicate}
+use Rattle.std.proofs.lemmas.List.{length-replicate, get_or-replicate, take_at}
 use Rattle.ncl_netlist.specs.declared.ids.NetId.{NetId}
 use Rattle.ncl_netlist.specs.Netlist.{NetlistData}
 use Rattle.ncl_shape.specs.Chain.{HasOne}
@@ -112,6 +112,13 @@ module _ (n : NetlistData) (R : ℕ → ℕ → Type 0) where
               (one_pass (R other) i (net_at table other) (so_far.each other lt) (λ also. differ (only other (subst (R other) (sym is) also))))
         ];
   }
+
+  -- as it is put down through a part of a list that is as long as the list
+  pub only_put_back : (i : ℕ) (table old new : List (Option NetId)) (long : ℕ) (bank : ℕ) (net : NetId) → AreOnlyBelow n R i table → old ≡ table → length old ≡ long → new ≡ set old bank (Some net) → net.0 ≡ i → bank < length n.nets → net_at old bank ≡ None
+      → R bank net.0 → ((other : ℕ) → R other net.0 → other ≡ bank) → AreOnlyBelow n R (i + 1) (take long (new ++ drop (length new) table))
+  only_put_back i table old new long bank net so_far same sized put is inside free holds only =
+      let back = take_at new (drop (length new) table) long (ap length put ∙ length-set old bank (Some net) ∙ sized) in
+      subst (AreOnlyBelow n R (i + 1)) (sym (back ∙ put)) (only_put i old bank net (subst (AreOnlyBelow n R i) (sym same) so_far) is inside free holds only)
 
   -- a bank with a second net
   pub only_second : (i : ℕ) (table : List (Option NetId)) (bank : ℕ) (net other : NetId) → AreOnlyBelow n R i table → net.0 ≡ i → bank < length n.nets → net_at table bank ≡ Some other → R bank net.0 → HasMore R

@@ -1,10 +1,9 @@
-use Rattle.std.proofs.Common.{◌+◌, Some, length, drop, length-set, refl, sym, ap, ◌∙◌, subst, arith}
-use Rattle.std.proofs.lemmas.List.{take_at}
+use Rattle.std.proofs.Common.{◌+◌, length, refl, sym, ap, subst, arith}
 use Rattle.ncl_shape.specs.Chain.{Follows}
 use Rattle.ncl_shape.proofs.ChainLaws.{one_before}
 use Rattle.ncl_shape.proofs.BankNets.{follower_within, followed_within}
 use Rattle.ncl_shape.proofs.Followers.{unforked_of_only, forked}
-use Rattle.ncl_shape.proofs.OnlyNets.{AreOnlyBelow, only_pass, only_put, only_second, only_whole}
+use Rattle.ncl_shape.proofs.OnlyNets.{AreOnlyBelow, only_pass, only_put_back, only_second, only_whole}
 use Rattle.ncl_shape.proofs.following.followers.Goals as goal
 use Rattle.ncl_shape.proofs.following.followers.Goals.{in-Some+else-not-put_once, in_default}
 
@@ -30,14 +29,9 @@ loop-net-preserved c =
           let before = w.in-Some.before in
           let follows : Follows n before.0 net = w.in-Some.ensures in
           let inside = followed_within n c.nets-net-end.ensures.netlist before.0 net follows in
-          let old = subst (AreOnlyBelow n (Follows n) net) (sym w.deref_mut.ensures.value) c.loop-net.invariant in
-          let put = w.put_once.ensures.put w.if-not-put_once.false in
-          let long = ap length put ∙ length-set w.deref_mut.result.now before.0 (Some (record { 0 = net })) ∙ w.deref_mut.ensures.len in
-          let back = take_at w.put_once.new.table (drop (length w.put_once.new.table) c.loop-net.followers.items) c.loop-net.followers.len long in
           subst (λ v. AreOnlyBelow n (Follows n) (net + 1) v.items) (sym w.followers-is)
-          (subst (AreOnlyBelow n (Follows n) (net + 1)) (sym (back ∙ put))
-          (only_put n (Follows n) net w.deref_mut.result.now before.0 (record { 0 = net }) old refl inside (w.put_once.ensures.free w.if-not-put_once.false) follows
-          (λ other also. one_before n c.nets-net-end.ensures.netlist c.requires.free net other before.0 also follows)))
+          (only_put_back n (Follows n) net c.loop-net.followers.items w.deref_mut.result.now w.put_once.new.table c.loop-net.followers.len before.0 (record { 0 = net }) c.loop-net.invariant w.deref_mut.ensures.value w.deref_mut.ensures.len (w.put_once.ensures.put w.if-not-put_once.false)
+          refl inside (w.put_once.ensures.free w.if-not-put_once.false) follows (λ other also. one_before n c.nets-net-end.ensures.netlist c.requires.free net other before.0 also follows))
       | in_default w ↦
           subst (λ v. AreOnlyBelow n (Follows n) (net + 1) v.items) (sym w.followers-is)
           (only_pass n (Follows n) net c.loop-net.followers.items c.loop-net.invariant w.in_default.ensures)

@@ -1,8 +1,7 @@
-use Rattle.std.proofs.Common.{◌+◌, Some, length, drop, length-set, refl, sym, ap, ◌∙◌, subst, arith}
-use Rattle.std.proofs.lemmas.List.{take_at}
+use Rattle.std.proofs.Common.{◌+◌, length, refl, sym, ap, subst, arith}
 use Rattle.ncl_shape.specs.Chain.{IsRoot}
 use Rattle.ncl_shape.proofs.RootLaws.{root_within, rooted_within, bank_of_root_is_one}
-use Rattle.ncl_shape.proofs.OnlyNets.{AreOnlyBelow, only_pass, only_put, only_second, only_whole}
+use Rattle.ncl_shape.proofs.OnlyNets.{AreOnlyBelow, only_pass, only_put_back, only_second, only_whole}
 use Rattle.ncl_shape.proofs.rooting.roots_of_banks.Goals as goal
 use Rattle.ncl_shape.proofs.rooting.roots_of_banks.Goals.{in-Some+else-not-put_once, in_default}
 
@@ -28,14 +27,9 @@ loop-net-preserved c =
           let bank = w.in-Some.bank in
           let root : IsRoot n bank.0 net = w.in-Some.ensures in
           let inside = rooted_within n c.nets-net-end.ensures.netlist c.requires.free bank.0 net root in
-          let old = subst (AreOnlyBelow n (IsRoot n) net) (sym w.deref_mut.ensures.value) c.loop-net.invariant in
-          let put = w.put_once.ensures.put w.if-not-put_once.false in
-          let long = ap length put ∙ length-set w.deref_mut.result.now bank.0 (Some (record { 0 = net })) ∙ w.deref_mut.ensures.len in
-          let back = take_at w.put_once.new.table (drop (length w.put_once.new.table) c.loop-net.roots.items) c.loop-net.roots.len long in
           subst (λ v. AreOnlyBelow n (IsRoot n) (net + 1) v.items) (sym w.roots-is)
-          (subst (AreOnlyBelow n (IsRoot n) (net + 1)) (sym (back ∙ put))
-          (only_put n (IsRoot n) net w.deref_mut.result.now bank.0 (record { 0 = net }) old refl inside (w.put_once.ensures.free w.if-not-put_once.false) root
-          (λ other also. bank_of_root_is_one n c.nets-net-end.ensures.netlist c.requires.free net other bank.0 also root)))
+          (only_put_back n (IsRoot n) net c.loop-net.roots.items w.deref_mut.result.now w.put_once.new.table c.loop-net.roots.len bank.0 (record { 0 = net }) c.loop-net.invariant w.deref_mut.ensures.value w.deref_mut.ensures.len (w.put_once.ensures.put w.if-not-put_once.false)
+          refl inside (w.put_once.ensures.free w.if-not-put_once.false) root (λ other also. bank_of_root_is_one n c.nets-net-end.ensures.netlist c.requires.free net other bank.0 also root))
       | in_default w ↦
           subst (λ v. AreOnlyBelow n (IsRoot n) (net + 1) v.items) (sym w.roots-is)
           (only_pass n (IsRoot n) net c.loop-net.roots.items c.loop-net.invariant w.in_default.ensures)

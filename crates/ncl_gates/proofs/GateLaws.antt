@@ -1,13 +1,13 @@
 -- The laws of the set functions. Only one fact about the table is computed, that each product has pins
 -- of its gate; the rest follows from the form, a sum of products.
-use Rattle.std.proofs.Common.{◌≡◌, ◌≢◌, ◌<◌, ◌+◌, ℕ, zero, suc, List, [], ◌∷◌, Bool, true, false, ◌&&◌, ◌||◌, ltb, map, length, get_or, if◌then◌else◌, ap, refl, ◌∙◌, arith}
-use Rattle.std.specs.List.{list_all, All, AllByRecursion}
+use Rattle.std.proofs.Common.{◌≡◌, ◌≢◌, ◌<◌, ◌+◌, ℕ, zero, suc, List, [], ◌∷◌, Bool, true, false, ◌&&◌, ◌||◌, ltb, map, length, get_or, slice_index_or, if◌then◌else◌, ap, refl, ◌∙◌, arith}
+use Rattle.std.specs.List.{list_any, list_all, All, AllByRecursion}
 use Rattle.std.proofs.lemmas.Bool.{and_parts, and_left, or_parts, ltb-true}
 use Rattle.std.proofs.lemmas.List.Sums.{AllPass-from_list_all, list_all-from_AllPass}
 use Rattle.std.proofs.lemmas.List.Folds.{list_any_none, list_any_at}
 use Rattle.ncl_gates.specs.declared.kind.Kind.{Kind}
 use Rattle.ncl_gates.specs.declared.kind.Kind.TheVariants.{Th12, Th13, Th14, Th22, Th33, Th44}
-use Rattle.ncl_gates.specs.Gate.{Pin, arity_of, products, place_of, at_pin, set_of, some_high}
+use Rattle.ncl_gates.specs.Gate.{Pin, A, B, C, D, arity_of, products, place_of, at_pin, set_of, some_high}
 use Rattle.ncl_gates.specs.GateLaw.{all_high, IsBelow, IsMonotone, HasHysteresis, IsConjunction, IsDisjunction, IsProductWithin, HasProducts}
 use Rattle.ncl_gates.proofs.ListTests.{list_all_more, list_any_more}
 use Rattle.ncl_gates.proofs.Table.{every_kind}
@@ -56,6 +56,16 @@ pub set_of-monotone : (kind : Kind) → IsMonotone (set_of kind)
 set_of-monotone kind ins more below =
     list_any_more (list_all (at_pin ins)) (list_all (at_pin more))
     (list_all_more (at_pin ins) (at_pin more) (λ pin. below.rises (place_of pin))) (products kind)
+
+-- a set function asks no more than four pins
+pub set_of-four : (kind : Kind) (ins : List Bool) → set_of kind (slice_index_or ins 0 false ∷ slice_index_or ins 1 false ∷ slice_index_or ins 2 false ∷ slice_index_or ins 3 false ∷ []) ≡ set_of kind ins
+set_of-four kind ins = λ i. list_any (λ product. list_all (λ pin. at pin i) product) (products kind)
+  where
+    at : (pin : Pin) → at_pin (slice_index_or ins 0 false ∷ slice_index_or ins 1 false ∷ slice_index_or ins 2 false ∷ slice_index_or ins 3 false ∷ []) pin ≡ at_pin ins pin
+    at A = refl
+    at B = refl
+    at C = refl
+    at D = refl
 
 -- where no input is 1, each is 0
 low_at : (ins : List Bool) → some_high ins ≡ false → (place : ℕ) → get_or ins place false ≡ false

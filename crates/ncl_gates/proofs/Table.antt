@@ -1,5 +1,5 @@
 -- The table of gates as a list, so that one test that computes covers all of it.
-use Rattle.std.proofs.Common.{◌≡◌, ℕ, List, [], ◌∷◌, Bool, true, Option, Some, refl}
+use Rattle.std.proofs.Common.{◌≡◌, ℕ, List, Bool, true, Option, Some, refl}
 use Rattle.std.specs.List.{list_all, find}
 use Rattle.std.specs.Str.{bytes_eq}
 use Rattle.ncl_gates.specs.declared.kind.Kind.{Kind}

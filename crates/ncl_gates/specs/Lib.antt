@@ -2,3 +2,4 @@ pub mod Gate
 pub mod GateLaw
 pub mod Cell
 pub mod Name
+pub mod Bits

@@ -1,6 +1,7 @@
 //! The gates.
-ghost use Rattle.std.specs.Prelude.{◌≡◌, ◌≢◌, IfNone, IfSome, length};
+ghost use Rattle.std.specs.Prelude.{◌≡◌, ◌≢◌, ℕ, false, [], ◌∷◌, IfNone, IfSome, length, slice_index_or};
 ghost use Rattle.ncl_gates.specs.declared.kind.Kind.{Kind};
+ghost use Rattle.ncl_gates.specs.Bits.{is_set};
 ghost use Rattle.ncl_gates.specs.Gate.{arity_of, next_of, set_of, some_high};
 ghost use Rattle.ncl_gates.specs.Name.{name_of};
 
@@ -131,10 +132,22 @@ impl Kind {
         requires { length ins.now ≡ arity_of self }
         ensures { result ≡ set_of self ins.now }
     {
-        let a = ins[0];
-        let b = ins[1];
-        let c = ins.len() > 2 && ins[2];
-        let d = ins.len() > 3 && ins[3];
+        let values = self.set_values(
+            word_at(ins, 0),
+            word_at(ins, 1),
+            word_at(ins, 2),
+            word_at(ins, 3),
+        );
+        values & 1 == 1
+    }
+
+    /// The set function of the gate at 64 values of each of four pins, value k at bit k. Pins that the gate doesn't
+    /// have aren't read.
+    #[tactic(auto, using(crate::proofs::BitLaws::word_bits))]
+    pub fn set_values(self, a: u64, b: u64, c: u64, d: u64) -> u64
+        ensures { (k : ℕ) →
+            is_set result k ≡ set_of self (is_set a k ∷ is_set b k ∷ is_set c k ∷ is_set d k ∷ []) }
+    {
         match self {
             Kind::Th12 => a | b,
             Kind::Th22 => a & b,
@@ -254,4 +267,11 @@ pub(crate) fn is_some_high(ins: &[bool]) -> bool
     ensures { result ≡ some_high ins.now }
 {
     ins.iter().any(|high| *high)
+}
+
+/// The value at a place as a word, 0 where there is none.
+fn word_at(ins: &[bool], place: usize) -> u64
+    ensures { is_set result 0 ≡ slice_index_or ins.now place false }
+{
+    u64::from(place < ins.len() && ins[place])
 }

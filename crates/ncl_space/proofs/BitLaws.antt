@@ -1,42 +1,14 @@
--- Bits of numbers: of `&` and `|`, of masks, and of words as numbers.
-use Rattle.std.proofs.Common.{◌≡◌, ℕ, zero, suc, ◌+◌, ◌-◌, ◌*◌, ◌^◌, ◌<◌, ◌≤◌, Bool, true, false, not, ◌&&◌, ◌||◌, List, [], ◌∷◌, Some, None, if◌then◌else◌, inl, inr, length, min, max, nat_eq, nat_lt, slice_index_or, sym, subst, ap, ◌∙◌, refl, arith}
-use Rattle.std.specs.Prelude.{bit_and, bit_or}
+-- Bits of numbers: of masks, and of words as numbers.
+use Rattle.std.proofs.Common.{◌≡◌, ℕ, zero, suc, ◌+◌, ◌-◌, ◌*◌, ◌^◌, ◌<◌, ◌≤◌, Bool, true, false, not, ◌&&◌, List, [], ◌∷◌, Some, None, if◌then◌else◌, inl, inr, length, nat_eq, nat_lt, slice_index_or, sym, subst, ap, ◌∙◌, refl, arith}
 use Rattle.std.specs.Int.{bit_at, w64}
 use Rattle.std.specs.List.{find}
 use Rattle.std.specs.Option.{option_or, option_map}
 use Rattle.std.proofs.lemmas.Bool.{and_parts, cases_lt, lt-ltb, le-ltb}
-use Rattle.std.proofs.lemmas.Nat.Bits.{bit_at_and, bit_at_or, bit_at-lt, bit_at_above, bit_at_cat_low, bit_at_cat_high, same_from_bits_below, bit_at_not, bit_at_ones, bit_at_ones_above}
+use Rattle.std.proofs.lemmas.Nat.Bits.{bit_at-lt, bit_at_above, bit_at_cat_low, bit_at_cat_high, same_from_bits_below, bit_at_not, bit_at_ones, bit_at_ones_above}
 use Rattle.ncl_space.specs.Table.{words, table_of, word_number}
-use Rattle.ncl_space.specs.Bits.{is_set, word_of}
+use Rattle.ncl_gates.specs.Bits.{is_set}
+use Rattle.ncl_space.specs.Bits.{word_of}
 use Rattle.ncl_space.proofs.TableLaws.{pow_suc, at_table, find-words, find-same}
-
--- a bit of `&` and of `|`
-pub is_set-and : (a b k : ℕ) → is_set (bit_and a b) k ≡ (is_set a k && is_set b k)
-is_set-and a b k = ap (λ (n : ℕ). nat_eq n 1) (bit_at_and a b k) ∙ by (bit_at a k) (bit_at b k) (bit_at-lt a k) (bit_at-lt b k)
-  where
-    by : (x y : ℕ) → x < 2 → y < 2 → nat_eq (min x y) 1 ≡ (nat_eq x 1 && nat_eq y 1)
-    by zero zero p q = refl
-    by zero (suc zero) p q = refl
-    by (suc zero) zero p q = refl
-    by (suc zero) (suc zero) p q = refl
-    by (suc (suc x)) y p q = absurd (omega arith)
-    by zero (suc (suc y)) p q = absurd (omega arith)
-    by (suc zero) (suc (suc y)) p q = absurd (omega arith)
-
-pub is_set-or : (a b k : ℕ) → is_set (bit_or a b) k ≡ (is_set a k || is_set b k)
-is_set-or a b k = ap (λ (n : ℕ). nat_eq n 1) (bit_at_or a b k) ∙ by (bit_at a k) (bit_at b k) (bit_at-lt a k) (bit_at-lt b k)
-  where
-    by : (x y : ℕ) → x < 2 → y < 2 → nat_eq (max x y) 1 ≡ (nat_eq x 1 || nat_eq y 1)
-    by zero zero p q = refl
-    by zero (suc zero) p q = refl
-    by (suc zero) zero p q = refl
-    by (suc zero) (suc zero) p q = refl
-    by (suc (suc x)) y p q = absurd (omega arith)
-    by zero (suc (suc y)) p q = absurd (omega arith)
-    by (suc zero) (suc (suc y)) p q = absurd (omega arith)
-
--- by these a word made by `&` and `|` is taken apart
-pub ruleset word_bits = (is_set-and, is_set-or)
 
 -- a bit of a number below 2 ^ k, at or past k
 pub is_set-past : (n k i : ℕ) → n < 2 ^ k → k ≤ i → is_set n i ≡ false

@@ -13,7 +13,7 @@ use Rattle.ncl_space.specs.Table.{words}
 use Rattle.ncl_space.specs.Beads.{Beads, beads_of, is_bead, distinct_beads}
 use Rattle.ncl_space.specs.Functions.{constant_table}
 use Rattle.ncl_space.specs.Space.{IsLive, IsSpace, Keeps, Makes, MarksNow, Releases, Adds, Within}
-use Rattle.ncl_space.specs.Bits.{is_set}
+use Rattle.ncl_gates.specs.Bits.{is_set}
 use Rattle.ncl_space.specs.Plain.{PlainData, plain_space, table_at, stride_of, row_table, tables_in, AreTables}
 use Rattle.ncl_space.specs.declared.space.Ref.{Ref}
 use Rattle.ncl_space.specs.declared.space.Mark.{Mark}

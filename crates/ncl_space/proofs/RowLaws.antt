@@ -11,7 +11,8 @@ use Rattle.std.proofs.lemmas.List.FromFn.{length-map-range_with_len, get_or-map-
 use Rattle.ncl_gates.specs.declared.kind.Kind.{Kind}
 use Rattle.ncl_gates.specs.Gate.{Pin, A, B, C, D, at_pin, products, set_of, some_high}
 use Rattle.ncl_gates.proofs.GateLaws.{set_of-low}
-use Rattle.ncl_space.specs.Bits.{is_set, word_of}
+use Rattle.ncl_gates.specs.Bits.{is_set}
+use Rattle.ncl_space.specs.Bits.{word_of}
 use Rattle.ncl_space.specs.Functions.{at, constant_table, gate_table, is_value, rail_table}
 use Rattle.ncl_space.specs.Plain.{stride_of, value_in, row_table, tables_in, AreTables, EndsAt, Holds, IsRow}
 use Rattle.ncl_space.proofs.TableLaws.{length-table_of}

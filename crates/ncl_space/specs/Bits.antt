@@ -1,10 +1,6 @@
--- Bits of numbers, the least significant first, and words of bits as numbers.
-use Rattle.std.specs.Prelude.{ℕ, zero, suc, Bool, List, [], ◌∷◌, nat_eq}
-use Rattle.std.specs.Int.{bit_at}
-
--- bit i of a number is 1
-abbrev pub is_set : ℕ → ℕ → Bool
-is_set number i = nat_eq (bit_at number i) 1
+-- Words of bits of numbers, the first the most significant.
+use Rattle.std.specs.Prelude.{ℕ, zero, suc, Bool, List, [], ◌∷◌}
+use Rattle.ncl_gates.specs.Bits.{is_set}
 
 -- the word of n bits whose bits, the last one first, are those of a number
 abbrev pub word_of : ℕ → ℕ → List Bool

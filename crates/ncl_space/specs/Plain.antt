@@ -2,7 +2,7 @@
 use Rattle.std.specs.Prelude.{◌≡◌, ℕ, zero, suc, ◌+◌, ◌-◌, ◌*◌, ◌/◌, ◌%◌, ◌^◌, ◌<◌, ◌≤◌, Bool, true, false, List, [], length, map, take, None, nat_lt, nat_le, slice_index_or}
 use Rattle.std.specs.List.{range_with_len}
 use Rattle.ncl_space.specs.Beads.{distinct_beads}
-use Rattle.ncl_space.specs.Bits.{is_set}
+use Rattle.ncl_gates.specs.Bits.{is_set}
 use Rattle.ncl_space.specs.Functions.{constant_table, is_value}
 use Rattle.ncl_space.specs.Space.{SpaceData}
 

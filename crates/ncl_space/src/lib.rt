@@ -8,4 +8,3 @@ mod values;
 
 pub use plain::Plain;
 pub use space::{Mark, Ref, Space, SpaceFault};
-pub use values::set_values;

@@ -1,7 +1,8 @@
 //! The space of truth tables.
 ghost use Rattle.std.specs.Prelude.{◌≡◌, ◌≢◌, ℕ, ◌+◌, ◌*◌, ◌^◌, ◌<◌, ◌≤◌, ◌++◌, ◌&&◌, [], ◌∷◌, false, Some, None, Err, length, map, nat_lt, take, IfOk, OnOk, OnErr, IfSome, IfNone, IsTrue, All, slice_index_or, if◌then◌else◌};
 ghost use Rattle.ncl_gates.specs.Gate.{arity_of};
-ghost use Rattle.ncl_space.specs.Bits.{is_set, word_of};
+ghost use Rattle.ncl_gates.specs.Bits.{is_set};
+ghost use Rattle.ncl_space.specs.Bits.{word_of};
 ghost use Rattle.ncl_space.specs.Functions.{gate_table, is_value, least, rail_table};
 ghost use Rattle.ncl_space.specs.Space.{IsLive, IsNew, IsSpace};
 ghost use Rattle.ncl_space.specs.Plain.{
@@ -15,7 +16,7 @@ ghost use Rattle.ncl_space.specs.Plain.{
 };
 
 use crate::space::{Mark, Ref, Space, SpaceFault};
-use crate::values::{all_ones, bit_values, set_values};
+use crate::values::{all_ones, bit_values};
 use arrayvec::ArrayVec;
 use ncl_base::Word;
 use ncl_gates::Kind;
@@ -115,7 +116,7 @@ impl Plain {
             let b = self.word(ins[1], j);
             let c = self.word(third, j);
             let d = self.word(fourth, j);
-            row.push(set_values(kind, a, b, c, d));
+            row.push(kind.set_values(a, b, c, d));
         }
         row
     }

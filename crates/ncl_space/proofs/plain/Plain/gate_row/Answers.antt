@@ -1,6 +1,6 @@
-use Rattle.std.proofs.Common.{◌≡◌, ◌<◌, ◌+◌, ◌*◌, ◌∙◌, ℕ, List, Bool, false, map, length, slice_index_or, sym, ap, subst, arith}
+use Rattle.std.proofs.Common.{◌≡◌, ◌<◌, ◌+◌, ◌*◌, ◌∙◌, ℕ, List, Bool, false, map, slice_index_or, sym, ap, subst, arith}
 use Rattle.ncl_space.specs.declared.space.Ref.{Ref}
-use Rattle.ncl_space.specs.Bits.{is_set}
+use Rattle.ncl_gates.specs.Bits.{is_set}
 use Rattle.ncl_space.specs.Functions.{constant_table, gate_table}
 use Rattle.ncl_space.specs.Plain.{PlainData, plain_space}
 use Rattle.ncl_space.proofs.RowLaws.{FillsTo, FillsTo-push, index-gate, stride_of-few}

@@ -1,7 +1,8 @@
 use Rattle.std.proofs.Common.{◌≡◌, ◌+◌, ◌*◌, ◌^◌, ◌∙◌, ◌&&◌, ℕ, List, Bool, true, false, not, nat_lt, length, slice_index_or, sym, ap, refl}
 use Rattle.ncl_space.specs.Functions.{is_value}
 use Rattle.ncl_space.specs.Plain.{PlainData, table_at}
-use Rattle.ncl_space.proofs.BitLaws.{is_set-and, is_set-not}
+use Rattle.ncl_gates.proofs.BitLaws.{is_set-and}
+use Rattle.ncl_space.proofs.BitLaws.{is_set-not}
 use Rattle.ncl_space.proofs.RowLaws.{ones_at}
 use Rattle.ncl_space.proofs.PlainLaws.{IsPlain-view, from_nat_lt, length-table_at}
 use Rattle.ncl_space.proofs.plain.Plain.places.Goals as goal

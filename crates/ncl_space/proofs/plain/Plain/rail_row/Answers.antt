@@ -1,8 +1,9 @@
-use Rattle.std.proofs.Common.{◌≡◌, ◌<◌, ◌+◌, ◌-◌, ◌*◌, ◌^◌, ◌∙◌, ◌&&◌, ℕ, List, nat_lt, length, sym, ap, subst, arith}
-use Rattle.ncl_space.specs.Bits.{is_set}
+use Rattle.std.proofs.Common.{◌≡◌, ◌<◌, ◌+◌, ◌-◌, ◌*◌, ◌^◌, ◌∙◌, ◌&&◌, ℕ, List, nat_lt, sym, ap, subst, arith}
+use Rattle.ncl_gates.specs.Bits.{is_set}
 use Rattle.ncl_space.specs.Functions.{is_value, rail_table}
 use Rattle.ncl_space.specs.Plain.{PlainData, stride_of}
-use Rattle.ncl_space.proofs.BitLaws.{is_set-and, is_set-not}
+use Rattle.ncl_gates.proofs.BitLaws.{is_set-and}
+use Rattle.ncl_space.proofs.BitLaws.{is_set-not}
 use Rattle.ncl_space.proofs.RowLaws.{FillsTo, FillsTo-push, rail_bit, stride_of-few}
 use Rattle.ncl_space.proofs.plain.Plain.rail_row.Goals as goal
 use Rattle.ncl_space.proofs.plain.Plain.rail_row.Goals.{then-value, else-value}

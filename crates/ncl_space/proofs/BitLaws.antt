@@ -69,12 +69,12 @@ agree true false e = absurd cc
 agree false true e = absurd cc
 agree false false e = refl
 
--- the mask whose bits are a bit of their own places
-pub is_set-mask : (mask i shift : ℕ) → shift ≡ i → i < 6 → all_below (λ k. both_or_none (is_set mask k) (is_set k i)) 64 ≡ true → (j k : ℕ) → k < 64 → is_set mask k ≡ is_set (64 * j + k) shift
-is_set-mask mask i shift is lt all j k below =
-    agree (is_set mask k) (is_set k i) (all_below-at (λ k. both_or_none (is_set mask k) (is_set k i)) 64 all k below)
+-- masks of which each has at the places below 64 the bits that these have at the mask's number
+pub is_set-mask : (masks : List ℕ) → all_below (λ i. all_below (λ k. both_or_none (is_set (slice_index_or masks i 0) k) (is_set k i)) 64) 6 ≡ true → (i j k : ℕ) → i < 6 → k < 64 → is_set (slice_index_or masks i 0) k ≡ is_set (64 * j + k) i
+is_set-mask masks all i j k lt below =
+    let mask = slice_index_or masks i 0 in
+    agree (is_set mask k) (is_set k i) (all_below-at (λ k. both_or_none (is_set mask k) (is_set k i)) 64 (all_below-at (λ i. all_below (λ k. both_or_none (is_set (slice_index_or masks i 0) k) (is_set k i)) 64) 6 all i lt) k below)
     ∙ sym (is_set-within j k i lt)
-    ∙ ap (is_set (64 * j + k)) (sym is)
 
 -- the bits of a word are those of its number
 pub word_of-same : (n a b : ℕ) → ((i : ℕ) → i < n → is_set a i ≡ is_set b i) → word_of n a ≡ word_of n b

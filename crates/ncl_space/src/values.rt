@@ -16,24 +16,26 @@ pub(crate) fn all_ones(width: usize) -> u64
     }
 }
 
+// The bits of the numbers below 64, a word for each of their six bits.
+const MASKS: [u64; 6] = [
+    0xAAAA_AAAA_AAAA_AAAA,
+    0xCCCC_CCCC_CCCC_CCCC,
+    0xF0F0_F0F0_F0F0_F0F0,
+    0xFF00_FF00_FF00_FF00,
+    0xFFFF_0000_FFFF_0000,
+    0xFFFF_FFFF_0000_0000,
+];
+
 /// The bit `shift` of each of the numbers from `64 * j` on.
 pub(crate) fn bit_values(shift: usize, j: usize) -> u64
     requires { shift < 10 }
     ensures { (k : ℕ) → k < 64 → is_set result k ≡ is_set (64 * j + k) shift }
 {
-    match shift {
-        0 => 0xAAAA_AAAA_AAAA_AAAA,
-        1 => 0xCCCC_CCCC_CCCC_CCCC,
-        2 => 0xF0F0_F0F0_F0F0_F0F0,
-        3 => 0xFF00_FF00_FF00_FF00,
-        4 => 0xFFFF_0000_FFFF_0000,
-        5 => 0xFFFF_FFFF_0000_0000,
-        _ => {
-            if (j >> (shift - 6)) & 1 == 1 {
-                u64::MAX
-            } else {
-                0
-            }
-        }
+    if shift < 6 {
+        MASKS[shift]
+    } else if (j >> (shift - 6)) & 1 == 1 {
+        u64::MAX
+    } else {
+        0
     }
 }

@@ -8,10 +8,7 @@ use Rattle.ncl_space.proofs.PlainLaws.{IsPlain-view, index-pins, long_pins}
 use Rattle.ncl_space.proofs.plain.Plain.gate_row.Goals as goal
 
 pub push-requires : goal.push-requires
-push-requires c =
-    let few = stride_of-few c.self.inside.width c.self.invariant.few_bits in
-    let room : length c.loop-j.row.items < 16 = omega (arith, c.loop-j.invariant.long, c.self.invariant.stride_is) in
-    (omega arith, room)
+push-requires c = (omega arith, omega (arith, stride_of-few c.self.inside.width c.self.invariant.few_bits, c.loop-j.invariant.long, c.self.invariant.stride_is))
 
 pub loop-j-preserved : goal.loop-j-preserved
 loop-j-preserved c =

@@ -9,10 +9,7 @@ use Rattle.ncl_space.proofs.plain.Plain.rail_row.Goals as goal
 use Rattle.ncl_space.proofs.plain.Plain.rail_row.Goals.{then-value, else-value}
 
 pub push-requires : goal.push-requires
-push-requires c =
-    let few = stride_of-few c.self.inside.width c.self.invariant.few_bits in
-    let room : length c.loop-j.row.items < 16 = omega (arith, c.loop-j.invariant.long, c.self.invariant.stride_is) in
-    (omega arith, room)
+push-requires c = (omega arith, omega (arith, stride_of-few c.self.inside.width c.self.invariant.few_bits, c.loop-j.invariant.long, c.self.invariant.stride_is))
 
 pub loop-j-preserved : goal.loop-j-preserved
 loop-j-preserved c =

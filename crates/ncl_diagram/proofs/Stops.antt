@@ -1,5 +1,5 @@
 -- The answers that need no reading.
-use Rattle.std.proofs.Common.{if◌then◌else◌, ◌≡◌, ℕ, zero, suc, ◌+◌, ◌^◌, ◌<◌, ◌≤◌, ◌||◌, inl, inr, List, [], ◌∷◌, ◌++◌, Bool, true, false, not, nat_eq, length, map, slice_index_or, sym, ◌∙◌, ap, refl, arith, subst}
+use Rattle.std.proofs.Common.{if◌then◌else◌, ◌≡◌, ℕ, zero, suc, ◌+◌, ◌<◌, ◌≤◌, ◌||◌, inl, inr, List, [], ◌∷◌, ◌++◌, Bool, true, false, not, nat_eq, length, map, slice_index_or, sym, ◌∙◌, ap, refl, arith, subst}
 use Rattle.std.proofs.lemmas.Bool.{and_parts}
 use Rattle.std.proofs.lemmas.Bool.Decides.{nat_tests}
 use Rattle.std.specs.List.{list_any, list_all}
@@ -13,11 +13,8 @@ use Rattle.ncl_diagram.specs.declared.nodes.Node.{Node}
 use Rattle.ncl_diagram.specs.Nodes.{level_of, branch, table_from}
 use Rattle.ncl_diagram.specs.Operands.{Above, There, IsStop, only_one}
 use Rattle.ncl_diagram.specs.Finding.{IsAnswer}
-use Rattle.ncl_diagram.proofs.Canonical.{length-table_from}
-use Rattle.ncl_space.proofs.TableLaws.{table_of-halves, table_of-same, at-low, at-high}
-
-long : (nodes : List Node) (m level p : ℕ) (w : List Bool) → length w ≡ m → length (table_from nodes m level p) ≡ 2 ^ length w
-long nodes m level p w e = length-table_from nodes m level p ∙ ap (λ (k : ℕ). 2 ^ k) (sym e)
+use Rattle.ncl_diagram.proofs.Words.{at_branch}
+use Rattle.ncl_space.proofs.TableLaws.{table_of-halves, table_of-same}
 
 -- a table is that of its values
 pub table_of_at : (nodes : List Node) (m level p : ℕ) → table_of (words m) (λ w. at (table_from nodes m level p) w) ≡ table_from nodes m level p
@@ -25,23 +22,22 @@ table_of_at nodes zero level p = refl
 table_of_at nodes (suc m) level p =
     let l = branch nodes level false p in
     let h = branch nodes level true p in
-    let a = table_of-same m (λ w. at (table_from nodes (suc m) level p) (false ∷ w)) (λ w. at (table_from nodes m (level + 1) l) w) (λ w e. at-low (table_from nodes m (level + 1) l) (table_from nodes m (level + 1) h) w (long nodes m (level + 1) l w e)) ∙ table_of_at nodes m (level + 1) l in
-    let b = table_of-same m (λ w. at (table_from nodes (suc m) level p) (true ∷ w)) (λ w. at (table_from nodes m (level + 1) h) w) (λ w e. at-high (table_from nodes m (level + 1) l) (table_from nodes m (level + 1) h) w (long nodes m (level + 1) l w e)) ∙ table_of_at nodes m (level + 1) h in
+    let a = table_of-same m (λ w. at (table_from nodes (suc m) level p) (false ∷ w)) (λ w. at (table_from nodes m (level + 1) l) w) (at_branch nodes m level false p) ∙ table_of_at nodes m (level + 1) l in
+    let b = table_of-same m (λ w. at (table_from nodes (suc m) level p) (true ∷ w)) (λ w. at (table_from nodes m (level + 1) h) w) (at_branch nodes m level true p) ∙ table_of_at nodes m (level + 1) h in
     table_of-halves m (λ w. at (table_from nodes (suc m) level p) w) ∙ (λ i. a i ++ b i)
 
+-- a place that is its own branches has one value everywhere
+at_constant : (nodes : List Node) (p : ℕ) (value : Bool) → ((level : ℕ) (v : Bool) → branch nodes level v p ≡ p) → ((level : ℕ) → at (table_from nodes zero level p) [] ≡ value) → (m level : ℕ) (w : List Bool) → length w ≡ m → at (table_from nodes m level p) w ≡ value
+at_constant nodes p value own here zero level [] e = here level
+at_constant nodes p value own here zero level (v ∷ w) e = absurd (omega arith)
+at_constant nodes p value own here (suc m) level [] e = absurd (omega arith)
+at_constant nodes p value own here (suc m) level (v ∷ w) e = at_branch nodes m level v p w (omega arith) ∙ ap (λ (q : ℕ). at (table_from nodes m (level + 1) q) w) (own level v) ∙ at_constant nodes p value own here m (level + 1) w (omega arith)
+
 pub at_zero : (nodes : List Node) (m level : ℕ) (w : List Bool) → length w ≡ m → at (table_from nodes m level 0) w ≡ false
-at_zero nodes zero level [] e = refl
-at_zero nodes zero level (b ∷ w) e = absurd (omega arith)
-at_zero nodes (suc m) level [] e = absurd (omega arith)
-at_zero nodes (suc m) level (false ∷ w) e = at-low (table_from nodes m (level + 1) 0) (table_from nodes m (level + 1) 0) w (long nodes m (level + 1) 0 w (omega arith)) ∙ at_zero nodes m (level + 1) w (omega arith)
-at_zero nodes (suc m) level (true ∷ w) e = at-high (table_from nodes m (level + 1) 0) (table_from nodes m (level + 1) 0) w (long nodes m (level + 1) 0 w (omega arith)) ∙ at_zero nodes m (level + 1) w (omega arith)
+at_zero nodes = at_constant nodes 0 false (λ level v. refl) (λ level. refl)
 
 pub at_one : (nodes : List Node) (m level : ℕ) (w : List Bool) → length w ≡ m → at (table_from nodes m level 1) w ≡ true
-at_one nodes zero level [] e = refl
-at_one nodes zero level (b ∷ w) e = absurd (omega arith)
-at_one nodes (suc m) level [] e = absurd (omega arith)
-at_one nodes (suc m) level (false ∷ w) e = at-low (table_from nodes m (level + 1) 1) (table_from nodes m (level + 1) 1) w (long nodes m (level + 1) 1 w (omega arith)) ∙ at_one nodes m (level + 1) w (omega arith)
-at_one nodes (suc m) level (true ∷ w) e = at-high (table_from nodes m (level + 1) 1) (table_from nodes m (level + 1) 1) w (long nodes m (level + 1) 1 w (omega arith)) ∙ at_one nodes m (level + 1) w (omega arith)
+at_one nodes = at_constant nodes 1 true (λ level v. refl) (λ level. refl)
 
 -- values that rise together
 below : (f g : ℕ → Bool) (ps : List ℕ) → ((p : ℕ) → f p ≡ true → g p ≡ true) → IsBelow (map f ps) (map g ps)

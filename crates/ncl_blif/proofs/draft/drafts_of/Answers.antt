@@ -1,21 +1,21 @@
-use Rattle.std.proofs.Common.{◌≡◌, ◌+◌, ◌-◌, take, drop, ap, inl, inr, ⊎_elim, arith}
+use Rattle.std.proofs.Common.{◌≡◌, ℕ, List, ◌+◌, ◌-◌, take, drop, ap, inl, inr, ⊎_elim, arith}
 use Rattle.std.proofs.lemmas.Result.{err_from_is_err_and}
 use Rattle.std.proofs.lemmas.List.{take_rest}
 use Rattle.ncl_blif.proofs.Sections.{drafted-more, drafted-broken, section-room}
 use Rattle.ncl_blif.proofs.draft.drafts_of.Goals as goal
 
+-- the parts from a place on, up to one that is so many places further
+section_of : {A : Type 0} (parts : List A) (at n : ℕ) → take (at + n - at) (drop at parts) ≡ take n (drop at parts)
+section_of parts at n = let count : at + n - at ≡ n = omega arith in ap (λ n. take n (drop at parts)) count
+
 pub of_parts-requires : goal.of_parts-requires
 of_parts-requires c =
-    let rest = drop c.loop-at.at c.args.parts.now in
-    let count : c.loop-at.at + c.section_length.result - c.loop-at.at ≡ c.section_length.result = omega arith in
-    let section = ap (λ n. take n rest) count in
+    let section = section_of c.args.parts.now c.loop-at.at c.section_length.result in
     omega (arith, section-room c.args.parts.now _ c.loop-at.at c.section_length.result section, c.requires)
 
 pub returns-in_err-of_parts : goal.returns-in_err-of_parts
 returns-in_err-of_parts c =
-    let rest = drop c.loop-at.at c.args.parts.now in
-    let count : c.loop-at.at + c.section_length.result - c.loop-at.at ≡ c.section_length.result = omega arith in
-    let section = ap (λ n. take n rest) count in
+    let section = section_of c.args.parts.now c.loop-at.at c.section_length.result in
     let cut = rw (take_rest c.args.parts.now c.loop-at.at) at c.section_length.ensures.cut in
     let p = err_from_is_err_and c.from_residual.result c.from_residual.ensures.1 in
     rw (p.1, p.2) (⊎_elim (λ memory. inl memory)
@@ -24,9 +24,7 @@ returns-in_err-of_parts c =
 
 pub loop-at-preserved : goal.loop-at-preserved
 loop-at-preserved c =
-    let rest = drop c.loop-at.at c.args.parts.now in
-    let count : c.loop-at.at + c.section_length.result - c.loop-at.at ≡ c.section_length.result = omega arith in
-    let section = ap (λ n. take n rest) count in
+    let section = section_of c.args.parts.now c.loop-at.at c.section_length.result in
     let cut = rw (take_rest c.args.parts.now c.loop-at.at) at c.section_length.ensures.cut in
     let fits = rw (take_rest c.args.parts.now c.loop-at.at) at c.section_length.ensures.within in
     rw c.in_ok-push.ensures.items

@@ -1,8 +1,8 @@
-use Rattle.std.proofs.Common.{◌<◌, length, get_or, map, inl, inr, ⊎_elim, sym, ap, ◌∙◌, subst, arith}
+use Rattle.std.proofs.Common.{◌<◌, ◌≤◌, ℕ, List, length, get_or, map, inl, inr, ⊎_elim, sym, ap, ◌∙◌, subst, arith}
 use Rattle.std.specs.Prelude.{All}
 use Rattle.std.proofs.lemmas.Result.{err_from_is_err_and}
 use Rattle.std.proofs.lemmas.List.Sums.{sum_by_more_le}
-use Rattle.ncl_blif.specs.Named.{size_of_named}
+use Rattle.ncl_blif.specs.Named.{NamedModel, size_of_named}
 use Rattle.ncl_blif.specs.Numbered.{numbered_model}
 use Rattle.ncl_blif.specs.Model.{AreModels}
 use Rattle.ncl_blif.specs.Answer.{models_said, IsFaultless, IsFirstModelFault, unjoined_model, line, model, width}
@@ -23,16 +23,14 @@ first_unjoined-unjoined-requires c =
 pub finish_all-requires-clause-few : goal.finish_all-requires-clause-few
 finish_all-requires-clause-few c = omega (arith, ap length c.in_ok-drafts.ensures.1, models_few c.args.text.now)
 
+-- a model among those that a text says is no larger than the text
+sized : (text : List ℕ) (k : ℕ) (d : NamedModel) → k < length (models_said text) → size_of_named (get_or (models_said text) k d) ≤ length text
+sized text k d within = omega (arith, models_said-size text, sum_by_more_le size_of_named (models_said text) k d within)
+
 pub finish_all-requires-clause-few_inputs : goal.finish_all-requires-clause-few_inputs
 finish_all-requires-clause-few_inputs c = λ k d within.
-    let text = c.args.text.now in
     let is = c.in_ok-drafts.ensures.1 in
-    omega (
-      arith,
-      models_said-size text,
-      sum_by_more_le size_of_named (models_said text) k d (subst (λ xs. k < length xs) is within),
-      ap (λ xs. length (get_or xs k d).inputs) is,
-    )
+    omega (arith, sized c.args.text.now k d (subst (λ xs. k < length xs) is within), ap (λ xs. length (get_or xs k d).inputs) is)
 
 pub finish_all-requires-clause-few_covers : goal.finish_all-requires-clause-few_covers
 finish_all-requires-clause-few_covers c = λ k d within.
@@ -40,8 +38,7 @@ finish_all-requires-clause-few_covers c = λ k d within.
     let is = c.in_ok-drafts.ensures.1 in
     omega (
       arith,
-      models_said-size text,
-      sum_by_more_le size_of_named (models_said text) k d (subst (λ xs. k < length xs) is within),
+      sized text k d (subst (λ xs. k < length xs) is within),
       covers_sized (get_or (models_said text) k d).covers,
       ap (λ xs. length (get_or xs k d).covers) is,
     )

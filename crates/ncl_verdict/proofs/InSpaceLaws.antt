@@ -17,7 +17,7 @@ use Rattle.ncl_stage.specs.declared.variant.Variant.{Variant}
 use Rattle.ncl_stage.specs.declared.variant.Variant.TheVariants.{Base, Bit, Cell}
 use Rattle.ncl_stage.specs.Faults.{StageFault, BothRails, NoRail}
 use Rattle.ncl_stage.specs.BitOrder.{bit_order}
-use Rattle.ncl_stage.specs.LeastWords.{below, faults_of, first_of, least_word}
+use Rattle.ncl_stage.specs.LeastWords.{below, faults_of, first_of, least_word, least_word_by}
 use Rattle.ncl_stage.specs.StageTables.{ValuesData, net_tables, net_tables_by}
 use Rattle.ncl_stage.specs.Tables.{count, data_functions, data_fronts, function_tables_by, illegal_functions, tables_by, tables_of}
 use Rattle.ncl_stage.proofs.OutputLaws.{values_at, shared-tables}
@@ -138,6 +138,19 @@ ready-restored a b s base back ready = record {
   order = ready.order;
   held = back.held ∙ ready.held;
 }
+
+-- what is said at a variant of one fault: by the least word, where its tables fit
+pub said-asked : (a : SpaceData) (s : StageData) (base : ValuesData) → IsReady a s base → (limit : Option ℕ) → a.limit ≡ limit → (variant : Variant) (fault : StageFault) (least : Option (List Bool)) → faults_of s variant ≡ fault ∷ []
+    → least ≡ least_word_by base.wiring.order s fault → fits a (tables_by base.wiring.order s variant) ≡ true → at_variant (stopped_within limit) s variant ≡ option_and_then (λ word. Some (verdict_of s fault word)) least
+said-asked a s base ready limit same variant fault least only is fit =
+    at-asked (stopped_within limit) s variant (goes_on limit s variant (ap (λ l. is_within l (count s variant)) (sym same) ∙ sym (fits-ready a s base ready variant) ∙ fit))
+    ∙ ap (λ faults. first_of (map (found s) faults)) only
+    ∙ found-by s fault least (ap (λ order. least_word_by order s fault) (sym ready.order) ∙ sym is)
+
+-- and that the limit is passed, where they don't
+pub said-full : (a : SpaceData) (s : StageData) (base : ValuesData) → IsReady a s base → (limit : Option ℕ) → a.limit ≡ limit → (variant : Variant) → fits a (tables_by base.wiring.order s variant) ≡ false → at_variant (stopped_within limit) s variant ≡ Some (verdict.Limit s.number)
+said-full a s base ready limit same variant full =
+    at-stopped (stopped_within limit) s variant (verdict.Limit s.number) (stops limit s variant (ap (λ l. is_within l (count s variant)) (sym same) ∙ sym (fits-ready a s base ready variant) ∙ full))
 
 -- ---- the faults of the outputs
 -- what is said of them is what is found of them

@@ -1,17 +1,18 @@
 //! The judgement of a stage in a space.
-ghost use Rattle.std.specs.Prelude.{◌≡◌, ◌<◌, IfOk, IfNone, length, map};
+ghost use Rattle.std.specs.Prelude.{◌≡◌, ◌<◌, IfOk, IfNone, length, map, slice_get};
 ghost use Rattle.ncl_space.specs.Beads.{distinct_beads};
 ghost use Rattle.ncl_space.specs.Space.{IsNew, Keeps, Restores};
 ghost use Rattle.ncl_stage.specs.BitOrder.{bit_order};
 ghost use Rattle.ncl_stage.specs.LeastWords.{below, first_of};
 ghost use Rattle.ncl_stage.specs.StageTables.{AreValues, net_tables};
 ghost use Rattle.ncl_verdict.specs.InSpace.{IsReady, output_of, rail_verdict, stopped_within};
-ghost use Rattle.ncl_verdict.specs.Judgement.{at_variant, file_order, of_stage};
+ghost use Rattle.ncl_verdict.specs.Judgement.{at_variant, cell_number, file_order, of_stage};
 
 use crate::file_order::cells_in_file_order;
 use crate::verdict::Verdict;
 use ncl_base::Memory;
 use ncl_complete::{RailFault, input_complete, valid_rails};
+use ncl_netlist::CellId;
 use ncl_orphan::orphan;
 use ncl_shape::Stage;
 use ncl_space::{Space, SpaceFault};
@@ -113,38 +114,21 @@ fn at_bits<P: Space>(
     ensures ready { IsReady (P.meaning space.new) stage.now base.now }
     ensures kept { Keeps (P.meaning space.old) (P.meaning space.new) }
 {
+    stage.facts();
     for bit in 0..stage.inputs.items().len() {
-        if let Some(verdict) = at_bit(alloc, space, stage, base, bit)? {
-            return Ok(Some(verdict));
+        match input_complete(alloc, space, stage, base, bit) {
+            Ok(Some(word)) => {
+                return Ok(Some(Verdict::Incomplete {
+                    stage: stage.number,
+                    bit: bit as u32 + 1,
+                    word,
+                }));
+            }
+            Ok(None) => {}
+            Err(fault) => return stopped(stage, fault),
         }
     }
     Ok(None)
-}
-
-// What is said without an input bit.
-fn at_bit<P: Space>(
-    alloc: Global,
-    space: &mut P,
-    stage: &Stage,
-    base: &Values,
-    bit: usize,
-) -> Result<Option<Verdict>, Memory>
-    requires ready { IsReady (P.meaning space.old) stage.now base.now }
-    requires bit { bit < length stage.now.inputs }
-    ensures answer { IfOk result (λ answer. answer ≡ at_variant (stopped_within (P.meaning space.old).limit) stage.now (Variant.Bit bit)) }
-    ensures ready { IsReady (P.meaning space.new) stage.now base.now }
-    ensures kept { Keeps (P.meaning space.old) (P.meaning space.new) }
-{
-    stage.facts();
-    match input_complete(alloc, space, stage, base, bit) {
-        Ok(Some(word)) => Ok(Some(Verdict::Incomplete {
-            stage: stage.number,
-            bit: bit as u32 + 1,
-            word,
-        })),
-        Ok(None) => Ok(None),
-        Err(fault) => stopped(stage, fault),
-    }
 }
 
 // The first that is said without a cell, in the order of the file. A variant for each cell.
@@ -159,35 +143,26 @@ fn at_cells<P: Space>(
         IfOk result (λ answer. answer ≡ first_of (map (at_variant stop stage.now) (map Variant.Cell (file_order stage.now)))) }
 {
     let cells = cells_in_file_order(alloc, stage)?;
-    for cell in cells.as_slice() {
-        if let Some(verdict) = at_cell(alloc, space, stage, base, cell.1)? {
-            return Ok(Some(verdict));
+    for (_, place) in cells.as_slice() {
+        match orphan(alloc, space, stage, base, *place) {
+            Ok(Some(word)) => {
+                return Ok(Some(Verdict::Orphan {
+                    stage: stage.number,
+                    cell: cell_at(stage, *place),
+                    word,
+                }));
+            }
+            Ok(None) => {}
+            Err(fault) => return stopped(stage, fault),
         }
     }
     Ok(None)
 }
 
-// What is said without a cell.
-fn at_cell<P: Space>(
-    alloc: Global,
-    space: &mut P,
-    stage: &Stage,
-    base: &Values,
-    cell: usize,
-) -> Result<Option<Verdict>, Memory>
-    requires ready { IsReady (P.meaning space.old) stage.now base.now }
-    requires cell { cell < length stage.now.cells }
-    ensures answer { IfOk result (λ answer. answer ≡ at_variant (stopped_within (P.meaning space.old).limit) stage.now (Variant.Cell cell)) }
-    ensures ready { IsReady (P.meaning space.new) stage.now base.now }
-    ensures kept { Keeps (P.meaning space.old) (P.meaning space.new) }
+// The cell at a place of a stage, by its number.
+fn cell_at(stage: &Stage, place: usize) -> CellId
+    requires { place < length stage.now.cells }
+    ensures { result ≡ cell_number (slice_get stage.now.cells place) }
 {
-    match orphan(alloc, space, stage, base, cell) {
-        Ok(Some(word)) => Ok(Some(Verdict::Orphan {
-            stage: stage.number,
-            cell: stage.cells.items()[cell].cell,
-            word,
-        })),
-        Ok(None) => Ok(None),
-        Err(fault) => stopped(stage, fault),
-    }
+    stage.cells.items()[place].cell
 }

@@ -1,23 +1,70 @@
-use Rattle.std.proofs.Common.{◌≡◌, ◌<◌, ◌≤◌, Some, length, sym, ◌∙◌, ap, subst, arith}
+use Rattle.std.proofs.Common.{◌≡◌, ℕ, ◌+◌, ◌<◌, ◌≤◌, Some, None, Err, length, map, refl, sym, ◌∙◌, ap, subst, arith, below_more}
+use Rattle.std.proofs.lemmas.Result.{IfOk-weaker}
 use Rattle.ncl_shape.specs.Stage.{StageData}
+use Rattle.ncl_space.specs.Space.{SpaceData}
+use Rattle.ncl_space.proofs.SpaceLaws.{keeps_along}
 use Rattle.ncl_stage.specs.declared.variant.Variant.TheVariants.{Bit}
+use Rattle.ncl_stage.specs.Faults.{Incomplete}
 use Rattle.ncl_stage.specs.LeastWords.{below, first_of}
 use Rattle.ncl_stage.proofs.LeastLaws.{first_below-none, first_below-some}
+use Rattle.ncl_verdict.specs.declared.verdict.Verdict.{Verdict}
+use Rattle.ncl_verdict.specs.declared.verdict.Verdict.TheVariants as verdict
 use Rattle.ncl_verdict.specs.Judgement.{Stop, at_variant}
 use Rattle.ncl_verdict.specs.InSpace.{stopped_within}
-use Rattle.ncl_verdict.proofs.InSpaceLaws.{map_map}
+use Rattle.ncl_verdict.proofs.InSpaceLaws.{map_map, ready-restored, said-asked, said-full}
 use Rattle.ncl_verdict.proofs.in_space.at_bits.Goals as goal
 
-pub returns-in-Some-clause-answer : goal.returns-in-Some-clause-answer
-returns-in-Some-clause-answer g c =
+-- the answer at the first bit that has one
+first-bit : (stop : Stop) (s : StageData) (bit many : ℕ) (v : Verdict) → many ≡ length s.inputs → bit < many → ((k : ℕ) → k < bit → at_variant stop s (Bit k) ≡ None) → at_variant stop s (Bit bit) ≡ Some v → Some v ≡ first_of (map (at_variant stop s) (map Bit (below (length s.inputs))))
+first-bit stop s bit many v all within none is =
+    sym (ap first_of (map_map (at_variant stop s) Bit (below (length s.inputs))) ∙ first_below-some (λ k. at_variant stop s (Bit k)) (length s.inputs) bit v (subst (λ n. bit < n) all within) none is)
+
+pub returns-in-Ok-Some : goal.returns-in-Ok-Some
+returns-in-Ok-Some g c =
     let s : StageData = c.args.stage.now in
-    let stop : Stop = stopped_within (g.P.Space.meaning c.args.space.now).limit in
+    let old : SpaceData = g.P.Space.meaning c.args.space.now in
+    let now : SpaceData = g.P.Space.meaning c.loop-bit.space in
+    let new : SpaceData = g.P.Space.meaning c.input_complete.new.space in
     let bit = c.loop-bit.bit in
-    let inputs : c.items-bit-end.result.now ≡ s.inputs = c.items-bit-end.ensures ∙ ap (λ (t : StageData). t.inputs) c.stage.view_is in
-    let within : bit < length s.inputs = subst (λ xs. bit < length xs) inputs c.loop-bit-test.true in
-    let answer : at_variant stop s (Bit bit) ≡ Some c.in-Some.verdict =
-    sym (c.in_ok-verdict.ensures.answer ∙ ap (λ limit. at_variant (stopped_within limit) s (Bit bit)) c.loop-bit.invariant.kept.limit) ∙ c.in-Some.is in
-    sym (ap first_of (map_map (at_variant stop s) Bit (below (length s.inputs))) ∙ first_below-some (λ k. at_variant stop s (Bit k)) (length s.inputs) bit c.in-Some.verdict within c.loop-bit.invariant.none answer)
+    let inputs = c.items-bit-end.ensures ∙ ap (λ (t : StageData). t.inputs) c.stage.view_is in
+    let said = said-asked now s c.args.base.now c.loop-bit.invariant.ready old.limit c.loop-bit.invariant.kept.limit (Bit bit) (Incomplete bit) (Some c.in-Ok-Some.word) refl (sym c.in-Ok-Some.field-0-is ∙ c.in-Ok-Some.ensures.word) c.in-Ok-Some.ensures.fits in
+    record {
+      answer = ap (λ (t : StageData). Some (verdict.Incomplete t.number (bit + 1) c.in-Ok-Some.word)) c.stage.view_is
+          ∙ first-bit (stopped_within old.limit) s bit _ (verdict.Incomplete s.number (bit + 1) c.in-Ok-Some.word) (ap length inputs) c.loop-bit-test.true c.loop-bit.invariant.none said;
+      ready = ready-restored now new s c.args.base.now c.input_complete.ensures.back c.loop-bit.invariant.ready;
+      kept = keeps_along old now new c.loop-bit.invariant.kept c.input_complete.ensures.back.keeps;
+    }
+
+pub returns-in-Err : goal.returns-in-Err
+returns-in-Err g c =
+    let s : StageData = c.args.stage.now in
+    let old : SpaceData = g.P.Space.meaning c.args.space.now in
+    let now : SpaceData = g.P.Space.meaning c.loop-bit.space in
+    let new : SpaceData = g.P.Space.meaning c.input_complete.new.space in
+    let stop : Stop = stopped_within old.limit in
+    let inputs = c.items-bit-end.ensures ∙ ap (λ (t : StageData). t.inputs) c.stage.view_is in
+    record {
+      answer = IfOk-weaker c.stopped.result _ (λ answer. answer ≡ first_of (map (at_variant stop s) (map Bit (below (length s.inputs)))))
+          (λ answer said. said.1 ∙ first-bit stop s c.loop-bit.bit _ (verdict.Limit s.number) (ap length inputs) c.loop-bit-test.true c.loop-bit.invariant.none
+          (said-full now s c.args.base.now c.loop-bit.invariant.ready old.limit c.loop-bit.invariant.kept.limit (Bit c.loop-bit.bit) (c.in-Err.ensures.full (ap Err said.0))))
+          c.stopped.ensures;
+      ready = ready-restored now new s c.args.base.now c.input_complete.ensures.back c.loop-bit.invariant.ready;
+      kept = keeps_along old now new c.loop-bit.invariant.kept c.input_complete.ensures.back.keeps;
+    }
+
+pub loop-bit-preserved : goal.loop-bit-preserved
+loop-bit-preserved g c =
+    let s : StageData = c.args.stage.now in
+    let old : SpaceData = g.P.Space.meaning c.args.space.now in
+    let now : SpaceData = g.P.Space.meaning c.loop-bit.space in
+    let new : SpaceData = g.P.Space.meaning c.input_complete.new.space in
+    let bit = c.loop-bit.bit in
+    record {
+      ready = ready-restored now new s c.args.base.now c.input_complete.ensures.back c.loop-bit.invariant.ready;
+      kept = keeps_along old now new c.loop-bit.invariant.kept c.input_complete.ensures.back.keeps;
+      none = below_more (λ k. at_variant (stopped_within old.limit) s (Bit k) ≡ None) bit c.loop-bit.invariant.none
+          (said-asked now s c.args.base.now c.loop-bit.invariant.ready old.limit c.loop-bit.invariant.kept.limit (Bit bit) (Incomplete bit) None refl (sym c.in-Ok-None.field-0-is ∙ c.in-Ok-None.ensures.word) c.in-Ok-None.ensures.fits);
+    }
 
 pub returns-clause-answer : goal.returns-clause-answer
 returns-clause-answer g c =

@@ -1,66 +1,98 @@
-use Rattle.std.proofs.Common.{◌≡◌, ℕ, ◌<◌, ◌≤◌, List, None, Some, length, map, get_or, sym, ◌∙◌, ap, subst, arith, below_more}
+use Rattle.std.proofs.Common.{◌≡◌, ℕ, ◌<◌, ◌≤◌, List, None, Some, Err, length, map, get_or, refl, sym, ◌∙◌, ap, subst, arith, below_more}
+use Rattle.std.specs.Prelude.{slice_get}
 use Rattle.std.proofs.lemmas.List.{get_or-map, length-map}
+use Rattle.std.proofs.lemmas.Result.{IfOk-weaker}
 use Rattle.ncl_base.proofs.Members.{Member-get_or}
 use Rattle.ncl_shape.specs.Stage.{StageData}
+use Rattle.ncl_space.specs.Space.{SpaceData}
 use Rattle.ncl_space.proofs.SpaceLaws.{keeps_along}
 use Rattle.ncl_stage.specs.declared.variant.Variant.TheVariants.{Cell}
+use Rattle.ncl_stage.specs.Faults.{Orphan}
 use Rattle.ncl_stage.specs.LeastWords.{first_of}
-use Rattle.ncl_verdict.specs.Judgement.{Stop, at_variant, file_order}
+use Rattle.ncl_verdict.specs.declared.verdict.Verdict.{Verdict}
+use Rattle.ncl_verdict.specs.declared.verdict.Verdict.TheVariants as verdict
+use Rattle.ncl_verdict.specs.Judgement.{Stop, at_variant, cell_number, file_order}
 use Rattle.ncl_verdict.specs.InSpace.{stopped_within}
 use Rattle.ncl_verdict.proofs.FileOrder.{file_order-within}
-use Rattle.ncl_verdict.proofs.InSpaceLaws.{map_map, first-none_at, first-some_at}
+use Rattle.ncl_verdict.proofs.InSpaceLaws.{map_map, first-none_at, first-some_at, ready-restored, said-asked, said-full}
 use Rattle.ncl_verdict.proofs.in_space.at_cells.Goals as goal
 
 -- the place at an index of the cells that are sorted
 place-at : (items : List (ℕ × ℕ)) (order : List ℕ) → map (λ (p : ℕ × ℕ). p.1) items ≡ order → (i : ℕ) → i < length items → (d : ℕ) → (get_or items i (0, 0)).1 ≡ get_or order i d
 place-at items order is i lt d = sym (get_or-map (λ (p : ℕ × ℕ). p.1) items i (0, 0) d lt) ∙ ap (λ l. get_or l i d) is
 
-pub at_cell-requires-clause-cell : goal.at_cell-requires-clause-cell
-at_cell-requires-clause-cell g c =
-    let s : StageData = c.args.stage.now in
-    let stop : Stop = stopped_within (g.P.Space.meaning c.args.space.now).limit in
-    let i = c.loop-cell.cell-index in
-    let items = c.as_slice-cell-items.result.now in
-    let order : map (λ (p : ℕ × ℕ). p.1) items ≡ file_order s = ap (map (λ (p : ℕ × ℕ). p.1)) c.as_slice-cell-items.ensures.value ∙ c.in_ok-cells.ensures in
-    let many : length (file_order s) ≡ length items = ap length (sym order) ∙ length-map items (λ (p : ℕ × ℕ). p.1) in
-    let place = place-at items (file_order s) order i c.loop-cell-test.true 0 in
-    subst (λ k. k < length s.cells) (sym place) (file_order-within s (get_or (file_order s) i 0) (Member-get_or (file_order s) i 0 (omega arith)))
+many-places : (items : List (ℕ × ℕ)) (order : List ℕ) → map (λ (p : ℕ × ℕ). p.1) items ≡ order → length order ≡ length items
+many-places items order is = ap length (sym is) ∙ length-map items (λ (p : ℕ × ℕ). p.1)
 
-pub returns-in-Some : goal.returns-in-Some
-returns-in-Some g c =
-    let s : StageData = c.args.stage.now in
-    let stop : Stop = stopped_within (g.P.Space.meaning c.args.space.now).limit in
-    let i = c.loop-cell.cell-index in
-    let items = c.as_slice-cell-items.result.now in
-    let order : map (λ (p : ℕ × ℕ). p.1) items ≡ file_order s = ap (map (λ (p : ℕ × ℕ). p.1)) c.as_slice-cell-items.ensures.value ∙ c.in_ok-cells.ensures in
-    let many : length (file_order s) ≡ length items = ap length (sym order) ∙ length-map items (λ (p : ℕ × ℕ). p.1) in
-    let place = place-at items (file_order s) order i c.loop-cell-test.true 0 in
-    let answer : at_variant stop s (Cell (get_or (file_order s) i 0)) ≡ Some c.in-Some.verdict =
-    sym (c.in_ok-verdict.ensures.answer ∙ (λ k. at_variant (stopped_within (c.loop-cell.invariant.kept.limit k)) s (Cell (place k)))) ∙ c.in-Some.is in
-    sym (ap first_of (map_map (at_variant stop s) Cell (file_order s)) ∙ first-some_at (λ k. at_variant stop s (Cell k)) (file_order s) i 0 c.in-Some.verdict (omega arith) (λ k d lt. c.loop-cell.invariant.none k lt d) answer)
+place-within : (s : StageData) (items : List (ℕ × ℕ)) → map (λ (p : ℕ × ℕ). p.1) items ≡ file_order s → (i : ℕ) → i < length items → (get_or items i (0, 0)).1 < length s.cells
+place-within s items is i lt =
+    subst (λ k. k < length s.cells) (sym (place-at items (file_order s) is i lt 0))
+    (file_order-within s (get_or (file_order s) i 0) (Member-get_or (file_order s) i 0 (let many = many-places items (file_order s) is in omega (arith, many, lt))))
 
-pub loop-cell-preserved : goal.loop-cell-preserved
-loop-cell-preserved g c =
+-- the answer at the first place that has one
+first-cell : (stop : Stop) (s : StageData) (items : List (ℕ × ℕ)) → map (λ (p : ℕ × ℕ). p.1) items ≡ file_order s → (i : ℕ) (v : Verdict) → i < length items → ((k : ℕ) → k < i → (d : ℕ) → at_variant stop s (Cell (get_or (file_order s) k d)) ≡ None) → at_variant stop s (Cell (get_or items i (0, 0)).1) ≡ Some v
+    → Some v ≡ first_of (map (at_variant stop s) (map Cell (file_order s)))
+first-cell stop s items is i v lt none at =
+    let many = many-places items (file_order s) is in
+    sym (
+    ap first_of (map_map (at_variant stop s) Cell (file_order s))
+    ∙ first-some_at (λ k. at_variant stop s (Cell k)) (file_order s) i 0 v (omega (arith, many, lt)) (λ k d before. none k before d)
+    (ap (λ k. at_variant stop s (Cell k)) (sym (place-at items (file_order s) is i lt 0)) ∙ at))
+
+pub orphan-requires-clause-cell : goal.orphan-requires-clause-cell
+orphan-requires-clause-cell g c =
+    place-within c.args.stage.now c.as_slice-place-items.result.now (ap (map (λ (p : ℕ × ℕ). p.1)) c.as_slice-place-items.ensures.value ∙ c.in_ok-cells.ensures) c.loop-place.place-index c.loop-place-test.true
+
+pub cell_at-requires : goal.cell_at-requires
+cell_at-requires g c =
+    place-within c.args.stage.now c.as_slice-place-items.result.now (ap (map (λ (p : ℕ × ℕ). p.1)) c.as_slice-place-items.ensures.value ∙ c.in_ok-cells.ensures) c.loop-place.place-index c.loop-place-test.true
+
+pub returns-in-Ok-Some : goal.returns-in-Ok-Some
+returns-in-Ok-Some g c =
     let s : StageData = c.args.stage.now in
+    let items = c.as_slice-place-items.result.now in
+    let order = ap (map (λ (p : ℕ × ℕ). p.1)) c.as_slice-place-items.ensures.value ∙ c.in_ok-cells.ensures in
+    let i = c.loop-place.place-index in
+    let place : ℕ = (get_or items i (0, 0)).1 in
+    let now : SpaceData = g.P.Space.meaning c.loop-place.space in
+    ap (λ (t : StageData). Some (verdict.Orphan t.number c.cell_at.result c.in-Ok-Some.word)) c.stage.view_is
+    ∙ ap (λ n. Some (verdict.Orphan s.number n c.in-Ok-Some.word)) c.cell_at.ensures
+    ∙ first-cell (stopped_within (g.P.Space.meaning c.args.space.now).limit) s items order i (verdict.Orphan s.number (cell_number (slice_get s.cells place)) c.in-Ok-Some.word) c.loop-place-test.true c.loop-place.invariant.none
+    (said-asked now s c.args.base.now c.loop-place.invariant.ready _ c.loop-place.invariant.kept.limit (Cell place) (Orphan place) (Some c.in-Ok-Some.word) refl (sym c.in-Ok-Some.field-0-is ∙ c.in-Ok-Some.ensures.word) c.in-Ok-Some.ensures.fits)
+
+pub returns-in-Err : goal.returns-in-Err
+returns-in-Err g c =
+    let s : StageData = c.args.stage.now in
+    let items = c.as_slice-place-items.result.now in
+    let order = ap (map (λ (p : ℕ × ℕ). p.1)) c.as_slice-place-items.ensures.value ∙ c.in_ok-cells.ensures in
     let stop : Stop = stopped_within (g.P.Space.meaning c.args.space.now).limit in
-    let i = c.loop-cell.cell-index in
-    let items = c.as_slice-cell-items.result.now in
-    let order : map (λ (p : ℕ × ℕ). p.1) items ≡ file_order s = ap (map (λ (p : ℕ × ℕ). p.1)) c.as_slice-cell-items.ensures.value ∙ c.in_ok-cells.ensures in
-    let many : length (file_order s) ≡ length items = ap length (sym order) ∙ length-map items (λ (p : ℕ × ℕ). p.1) in
+    IfOk-weaker c.stopped.result _ (λ answer. answer ≡ first_of (map (at_variant stop s) (map Cell (file_order s))))
+    (λ answer said. said.1 ∙ first-cell stop s items order c.loop-place.place-index (verdict.Limit s.number) c.loop-place-test.true c.loop-place.invariant.none
+    (said-full (g.P.Space.meaning c.loop-place.space) s c.args.base.now c.loop-place.invariant.ready _ c.loop-place.invariant.kept.limit (Cell (get_or items c.loop-place.place-index (0, 0)).1) (c.in-Err.ensures.full (ap Err said.0))))
+    c.stopped.ensures
+
+pub loop-place-preserved : goal.loop-place-preserved
+loop-place-preserved g c =
+    let s : StageData = c.args.stage.now in
+    let items = c.as_slice-place-items.result.now in
+    let order = ap (map (λ (p : ℕ × ℕ). p.1)) c.as_slice-place-items.ensures.value ∙ c.in_ok-cells.ensures in
+    let i = c.loop-place.place-index in
+    let place : ℕ = (get_or items i (0, 0)).1 in
+    let old : SpaceData = g.P.Space.meaning c.args.space.now in
+    let now : SpaceData = g.P.Space.meaning c.loop-place.space in
+    let new : SpaceData = g.P.Space.meaning c.orphan.new.space in
+    let said = said-asked now s c.args.base.now c.loop-place.invariant.ready old.limit c.loop-place.invariant.kept.limit (Cell place) (Orphan place) None refl (sym c.in-Ok-None.field-0-is ∙ c.in-Ok-None.ensures.word) c.in-Ok-None.ensures.fits in
     record {
-      ready = c.in_ok-verdict.ensures.ready;
-      kept = keeps_along (g.P.Space.meaning c.args.space.now) (g.P.Space.meaning c.loop-cell.space) (g.P.Space.meaning c.at_cell.new.space) c.loop-cell.invariant.kept c.in_ok-verdict.ensures.kept;
-      none = below_more (λ k. (d : ℕ) → at_variant stop s (Cell (get_or (file_order s) k d)) ≡ None) i c.loop-cell.invariant.none (λ d.
-          sym (c.in_ok-verdict.ensures.answer ∙ (λ k. at_variant (stopped_within (c.loop-cell.invariant.kept.limit k)) s (Cell (place-at items (file_order s) order i c.loop-cell-test.true d k)))) ∙ c.in_default.is);
+      ready = ready-restored now new s c.args.base.now c.orphan.ensures.back c.loop-place.invariant.ready;
+      kept = keeps_along old now new c.loop-place.invariant.kept c.orphan.ensures.back.keeps;
+      none = below_more (λ k. (d : ℕ) → at_variant (stopped_within old.limit) s (Cell (get_or (file_order s) k d)) ≡ None) i c.loop-place.invariant.none
+          (λ d. ap (λ k. at_variant (stopped_within old.limit) s (Cell k)) (sym (place-at items (file_order s) order i c.loop-place-test.true d)) ∙ said);
     }
 
 pub returns : goal.returns
 returns g c =
     let s : StageData = c.args.stage.now in
     let stop : Stop = stopped_within (g.P.Space.meaning c.args.space.now).limit in
-    let i = c.loop-cell.cell-index in
-    let items = c.as_slice-cell-items.result.now in
-    let order : map (λ (p : ℕ × ℕ). p.1) items ≡ file_order s = ap (map (λ (p : ℕ × ℕ). p.1)) c.as_slice-cell-items.ensures.value ∙ c.in_ok-cells.ensures in
-    let many : length (file_order s) ≡ length items = ap length (sym order) ∙ length-map items (λ (p : ℕ × ℕ). p.1) in
-    let past : length items ≤ i = c.loop-cell-test.false in
-    sym (ap first_of (map_map (at_variant stop s) Cell (file_order s)) ∙ first-none_at (λ k. at_variant stop s (Cell k)) (file_order s) (λ k d lt. c.loop-cell.invariant.none k (omega arith) d))
+    let many = many-places c.as_slice-place-items.result.now (file_order s) (ap (map (λ (p : ℕ × ℕ). p.1)) c.as_slice-place-items.ensures.value ∙ c.in_ok-cells.ensures) in
+    let past : length c.as_slice-place-items.result.now ≤ c.loop-place.place-index = c.loop-place-test.false in
+    sym (ap first_of (map_map (at_variant stop s) Cell (file_order s)) ∙ first-none_at (λ k. at_variant stop s (Cell k)) (file_order s) (λ k d lt. c.loop-place.invariant.none k (omega (arith, many, past, lt)) d))

@@ -6,9 +6,9 @@ use Rattle.ncl_verdict.specs.InSpace.{IsReady, stopped_within}
 use Rattle.ncl_verdict.proofs.in_space.at_cells.Given as goal
 
 -- the space is ready, and nothing is said without any of the cells so far
-abbrev pub invariant-loop-cell : goal.invariant-loop-cell
-invariant-loop-cell g l = record {
+abbrev pub invariant-loop-place : goal.invariant-loop-place
+invariant-loop-place g l = record {
   ready : IsReady (g.P.Space.meaning l.space) l.stage l.base;
   kept : Keeps (g.P.Space.meaning l.fn.space) (g.P.Space.meaning l.space);
-  none : (k : ℕ) → k < l.cell-index → (d : ℕ) → at_variant (stopped_within (g.P.Space.meaning l.fn.space).limit) l.stage (Cell (get_or (file_order l.stage) k d)) ≡ None;
+  none : (k : ℕ) → k < l.place-index → (d : ℕ) → at_variant (stopped_within (g.P.Space.meaning l.fn.space).limit) l.stage (Cell (get_or (file_order l.stage) k d)) ≡ None;
 }

@@ -11,6 +11,7 @@ pub mod FindLaws
 pub mod MarkLaws
 pub mod NetLaws
 pub mod PlanSteps
+mod Before
 pub mod BitLaws
 pub mod SideLaws
 pub mod WiredLaws

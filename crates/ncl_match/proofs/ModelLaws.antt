@@ -32,8 +32,10 @@ use Rattle.ncl_match.specs.Pairs.{WordFunction, HasFunction, both_tables, invers
 use Rattle.ncl_match.specs.Plan.{pair_at}
 use Rattle.ncl_match.specs.Sides.{HasSignal, HoldsSignals}
 use Rattle.ncl_match.specs.Signals.{first_tables, functions_read, tables_of_step, step_tables, HaveBits, HaveSignals, HaveSteps}
+use Rattle.ncl_match.specs.Answer.{outputs_of}
 use Rattle.ncl_match.specs.Steps.{bit_at, signal_function, AreOrdered, HasStep, AreNumbered}
 use Rattle.ncl_match.specs.Turns.{gathered}
+use Rattle.ncl_match.proofs.StepLaws.{outs_many}
 use Rattle.ncl_match.proofs.GatherLaws.{gathers-more, overflows-after}
 use Rattle.ncl_match.proofs.NetlistLaws.{gathered-all, has-held}
 use Rattle.ncl_match.proofs.NumberLaws.{bits_of, bits-map, value_of, number, at_place, model_at, assigns_at, IsCounted, input, driven, HasRoot, has_root, needed-counted, counted-marked}
@@ -299,7 +301,12 @@ pub bits-signals : (old mid : SpaceData) (steps : List Step) (marks : List Bool)
 bits-signals old mid steps marks pairs n wide h x lt mark =
     same-function mid (pair_at pairs x) (bit_function x) (signal_function steps x) (λ w long. bit-function n steps x (omega (arith, lt, wide)) w (long ∙ wide)) (h.have x (omega (arith, lt, wide)) mark)
 
-module _ (models : List Model) (are : AreModels models) (steps : List Step) (outs : List ℕ) (output : ℕ) (within : output < length outs) (marks : List Bool) (row : IsRow (width_of models) models steps outs output marks) (c : Circuit) (wide : length c.inputs ≡ width_of models) (old : SpaceData) (old_wide : old.width ≡ width_of models) where
+module _ (models : List Model) (are : AreModels models) (steps : List Step) (outs : List ℕ) (output : ℕ) (within : output < outputs_of models) (marks : List Bool) (row : IsRow (width_of models) models steps outs output marks) (c : Circuit) (wide : length c.inputs ≡ width_of models) (old : SpaceData) (old_wide : old.width ≡ width_of models) where
+  inside : output < length outs
+  inside =
+      let many = outs_many (width_of models) steps models (range_with_len 0 (width_of models)) outs row.numbered are.some in
+      omega (arith, many, within)
+
   own : IsRow (length c.inputs) models steps outs output marks
   own = subst (λ k. IsRow k models steps outs output marks) (sym wide) row
 
@@ -312,7 +319,7 @@ module _ (models : List Model) (are : AreModels models) (steps : List Step) (out
   first-tables-listed : All Listed (gathered (first_tables old.width marks) (width_of models))
   first-tables-listed =
       subst (λ k. All Listed (gathered (first_tables old.width marks) k)) wide
-      (subst (λ k. All Listed (gathered (first_tables k marks) (length c.inputs))) (sym old_is) (bits-listed c models are wide steps outs own.numbered own.ordered output within marks own.needed))
+      (subst (λ k. All Listed (gathered (first_tables k marks) (length c.inputs))) (sym old_is) (bits-listed c models are wide steps outs own.numbered own.ordered output inside marks own.needed))
 
   pub bits-overflow : fits old (gathered (first_tables old.width marks) (width_of models)) ≡ false → Overflows Listed old
   bits-overflow full = record { tables = gathered (first_tables old.width marks) (width_of models); each = first-tables-listed; over = full }
@@ -326,7 +333,7 @@ module _ (models : List Model) (are : AreModels models) (steps : List Step) (out
 
     step-tables-listed : All Listed (gathered (step_tables mid.width steps marks) (length steps))
     step-tables-listed =
-        subst (λ k. All Listed (gathered (step_tables k steps marks) (length steps))) (sym mid_is) (steps-listed c models are wide steps outs own.numbered own.ordered output within marks own.needed)
+        subst (λ k. All Listed (gathered (step_tables k steps marks) (length steps))) (sym mid_is) (steps-listed c models are wide steps outs own.numbered own.ordered output inside marks own.needed)
 
     pub steps-overflow : fits mid (gathered (step_tables mid.width steps marks) (length steps)) ≡ false → Overflows Listed old
     steps-overflow full =
@@ -343,7 +350,7 @@ module _ (models : List Model) (are : AreModels models) (steps : List Step) (out
       own_have = subst (λ k. HaveSignals new steps marks pairs (k + length steps)) mid_is s.have
 
       pub all-held : HoldsSignals new c models output
-      all-held = signals-held c models are wide steps outs own.numbered own.ordered output within marks own.needed mid new pairs mid_is later.width space own_held own_have
+      all-held = signals-held c models are wide steps outs own.numbered own.ordered output inside marks own.needed mid new pairs mid_is later.width space own_held own_have
 
       pub output-had : HasSignal new (pair_at pairs (get_or outs output 0)) c models output
-      output-had = signal-had c models are wide steps outs own.numbered own.ordered output within marks own.needed mid new pairs mid_is later.width space own_held own_have
+      output-had = signal-had c models are wide steps outs own.numbered own.ordered output inside marks own.needed mid new pairs mid_is later.width space own_held own_have

@@ -1,8 +1,7 @@
-use Rattle.std.proofs.Common.{◌≡◌, ℕ, ◌+◌, ◌-◌, ◌<◌, List, length, Some, refl, ap, ◌∙◌, subst, arith, ◌||◌}
-use Rattle.std.specs.Prelude.{slice_get}
-use Rattle.std.proofs.lemmas.Option.{slice_get_read}
+use Rattle.std.proofs.Common.{◌-◌, List, length, ap, ◌∙◌, ◌||◌}
 use Rattle.ncl_match.specs.declared.planning.DataCell.{DataCell}
 use Rattle.ncl_match.specs.Plan.{AreMarks, is_marked, is_on}
+use Rattle.ncl_match.proofs.Before.{member-before}
 use Rattle.ncl_match.proofs.MarkLaws.{marks-root, marks-passed, marks-more}
 use Rattle.ncl_match.proofs.marks.mark_reaching.Goals as goal
 
@@ -13,26 +12,14 @@ loop-place-init c =
 pub loop-place-preserved : goal.loop-place-preserved
 loop-place-preserved c =
     let plan : List DataCell = c.args.plan.now in
-    let place : ℕ = c.loop-place.place - 1 in
     let cell : DataCell = c.index-plan-place.result in
-    let most = c.loop-place.auto.place in
-    let some = c.loop-place-test.true in
-    let within : place < length plan = omega (arith, most, some) in
-    let at : slice_get plan place ≡ Some cell = slice_get_read plan (length plan) place cell refl within c.index-plan-place.is in
-    let from : c.loop-place.place ≡ place + 1 = omega (arith, some) in
-    marks-passed plan (length c.args.marks.now) c.args.root.0 c.loop-place.marks place cell at c.if-marks-cell.false
-    (subst (AreMarks plan (length c.args.marks.now) c.args.root.0 c.loop-place.marks) from c.loop-place.invariant)
+    let (at, case) = member-before plan c.loop-place.place cell (AreMarks plan (length c.args.marks.now) c.args.root.0 c.loop-place.marks) c.loop-place.auto.place c.loop-place-test.true c.index-plan-place.is c.loop-place.invariant in
+    marks-passed plan (length c.args.marks.now) c.args.root.0 c.loop-place.marks (c.loop-place.place - 1) cell at c.if-marks-cell.false case
 
 pub loop-place-preserved-then-marks-cell : goal.loop-place-preserved-then-marks-cell
 loop-place-preserved-then-marks-cell c =
     let plan : List DataCell = c.args.plan.now in
-    let place : ℕ = c.loop-place.place - 1 in
     let cell : DataCell = c.index-plan-place.result in
-    let most = c.loop-place.auto.place in
-    let some = c.loop-place-test.true in
-    let within : place < length plan = omega (arith, most, some) in
-    let at : slice_get plan place ≡ Some cell = slice_get_read plan (length plan) place cell refl within c.index-plan-place.is in
-    let from : c.loop-place.place ≡ place + 1 = omega (arith, some) in
-    marks-more plan (length c.args.marks.now) c.args.root.0 c.loop-place.marks c.mark-then-marks-cell.new.marks place cell c.requires.ordered at c.if-marks-cell.true c.mark-then-marks-cell.auto.marks
-    (λ net. c.mark-then-marks-cell.ensures net ∙ ap (λ ins. is_marked c.loop-place.marks net || is_on ins net) c.as_slice.ensures.value)
-    (subst (AreMarks plan (length c.args.marks.now) c.args.root.0 c.loop-place.marks) from c.loop-place.invariant)
+    let (at, case) = member-before plan c.loop-place.place cell (AreMarks plan (length c.args.marks.now) c.args.root.0 c.loop-place.marks) c.loop-place.auto.place c.loop-place-test.true c.index-plan-place.is c.loop-place.invariant in
+    marks-more plan (length c.args.marks.now) c.args.root.0 c.loop-place.marks c.mark-then-marks-cell.new.marks (c.loop-place.place - 1) cell c.requires.ordered at c.if-marks-cell.true c.mark-then-marks-cell.auto.marks
+    (λ net. c.mark-then-marks-cell.ensures net ∙ ap (λ ins. is_marked c.loop-place.marks net || is_on ins net) c.as_slice.ensures.value) case

@@ -1,9 +1,8 @@
-use Rattle.std.proofs.Common.{◌≡◌, ℕ, ◌+◌, ◌-◌, ◌<◌, List, length, Some, refl, ap, ◌∙◌, subst, arith, ◌||◌}
-use Rattle.std.specs.Prelude.{slice_get}
-use Rattle.std.proofs.lemmas.Option.{slice_get_read}
+use Rattle.std.proofs.Common.{◌-◌, List, ap, ◌∙◌, ◌||◌}
 use Rattle.ncl_match.specs.declared.steps.Step.{Step}
 use Rattle.ncl_match.specs.Needed.{AreNeeded, is_among}
 use Rattle.ncl_match.specs.Steps.{bit_at}
+use Rattle.ncl_match.proofs.Before.{member-before}
 use Rattle.ncl_match.proofs.NeededLaws.{needed-root, needed-passed, needed-more}
 use Rattle.ncl_match.proofs.needed.mark_needed.Goals as goal
 
@@ -14,26 +13,14 @@ loop-place-init c =
 pub loop-place-preserved : goal.loop-place-preserved
 loop-place-preserved c =
     let steps : List Step = c.args.steps.now in
-    let place : ℕ = c.loop-place.place - 1 in
     let step : Step = c.index-steps-place.result in
-    let most = c.loop-place.auto.place in
-    let some = c.loop-place-test.true in
-    let within : place < length steps = omega (arith, most, some) in
-    let at : slice_get steps place ≡ Some step = slice_get_read steps (length steps) place step refl within c.index-steps-place.is in
-    let from : c.loop-place.place ≡ place + 1 = omega (arith, some) in
-    needed-passed c.args.inputs steps c.args.root c.loop-place.marks place step at c.if-marks-inputs.false
-    (subst (AreNeeded c.args.inputs steps c.args.root c.loop-place.marks) from c.loop-place.invariant)
+    let (at, case) = member-before steps c.loop-place.place step (AreNeeded c.args.inputs steps c.args.root c.loop-place.marks) c.loop-place.auto.place c.loop-place-test.true c.index-steps-place.is c.loop-place.invariant in
+    needed-passed c.args.inputs steps c.args.root c.loop-place.marks (c.loop-place.place - 1) step at c.if-marks-inputs.false case
 
 pub loop-place-preserved-then-marks-inputs : goal.loop-place-preserved-then-marks-inputs
 loop-place-preserved-then-marks-inputs c =
     let steps : List Step = c.args.steps.now in
-    let place : ℕ = c.loop-place.place - 1 in
     let step : Step = c.index-steps-place.result in
-    let most = c.loop-place.auto.place in
-    let some = c.loop-place-test.true in
-    let within : place < length steps = omega (arith, most, some) in
-    let at : slice_get steps place ≡ Some step = slice_get_read steps (length steps) place step refl within c.index-steps-place.is in
-    let from : c.loop-place.place ≡ place + 1 = omega (arith, some) in
-    needed-more c.args.inputs steps c.args.root c.loop-place.marks c.mark-then-marks-inputs.new.marks place step c.requires.ordered at c.if-marks-inputs.true c.mark-then-marks-inputs.auto.marks
-    (λ number. c.mark-then-marks-inputs.ensures number ∙ ap (λ ins. bit_at c.loop-place.marks number || is_among ins number) c.items.ensures)
-    (subst (AreNeeded c.args.inputs steps c.args.root c.loop-place.marks) from c.loop-place.invariant)
+    let (at, case) = member-before steps c.loop-place.place step (AreNeeded c.args.inputs steps c.args.root c.loop-place.marks) c.loop-place.auto.place c.loop-place-test.true c.index-steps-place.is c.loop-place.invariant in
+    needed-more c.args.inputs steps c.args.root c.loop-place.marks c.mark-then-marks-inputs.new.marks (c.loop-place.place - 1) step c.requires.ordered at c.if-marks-inputs.true c.mark-then-marks-inputs.auto.marks
+    (λ number. c.mark-then-marks-inputs.ensures number ∙ ap (λ ins. bit_at c.loop-place.marks number || is_among ins number) c.items.ensures) case

@@ -1,4 +1,4 @@
-use Rattle.std.proofs.Common.{◌≡◌, ◌≢◌, ℕ, ◌<◌, Bool, false, List, Err, length, get_or, sym, ap, ◌∙◌, subst}
+use Rattle.std.proofs.Common.{◌≡◌, ◌≢◌, ℕ, ◌<◌, Bool, false, List, Err, length, get_or, sym, ap, ◌∙◌, subst, rules}
 use Rattle.std.specs.Prelude.{All, AllPairs}
 use Rattle.std.proofs.lemmas.Option.{get_or_from_slice_get, slice_get-get_or}
 use Rattle.ncl_shape.specs.declared.rails.Rails.{Rails}
@@ -86,36 +86,8 @@ returns-in_err-plan_pairs-clause-full g c = λ models e.
     cells-over is c.args.output marks c.requires.marks models old bits c.requires.width c.inputs.ensures.inputs now pairs c.in_ok-input_pairs.ensures.kept c.in_ok-input_pairs.ensures.have
     (subst (λ (cells : List DataCell). fits now (gathered (plan_tables now.width (values p) marks cells) (length cells)) ≡ false) c.requires.plan full)
 
-pub returns-clause-nets : goal.returns-clause-nets
-returns-clause-nets g c =
-    let p : PipelineData = c.args.pipeline.now in
-    let (l, is) = laid_out_of p.netlist p c.facts.ensures in
-    let old : SpaceData = g.P.Space.meaning c.args.space.now in
-    let now : SpaceData = g.P.Space.meaning c.input_pairs.new.space in
-    let new : SpaceData = g.P.Space.meaning c.plan_pairs.new.space in
-    let marks : List Bool = c.args.marks.now in
-    let pairs : List Pair = c.input_pairs.new.pairs in
-    let after : List Pair = c.plan_pairs.new.pairs in
-    let case = inputs-case is c.args.output marks c.requires.marks old now pairs (c.in_ok-input_pairs.ensures.kept.width ∙ c.requires.width) (with_inputs old now c.inputs.result.now p.inputs marks pairs c.inputs.ensures.inputs c.in_ok-input_pairs.ensures.have) in
-    let over_plan = subst (λ (cells : List DataCell). IsCase now cells marks pairs (rail_nets p.inputs) (values p) → AreDone now new cells marks after (rail_nets p.inputs) (values p) (length cells)) c.requires.plan (c.in_ok-plan_pairs.ensures.done (rail_nets p.inputs) (values p)) in
-    nets-held is c.args.output marks c.requires.marks now new after c.in_ok-plan_pairs.ensures.space (over_plan case)
-
-pub returns-clause-gathers : goal.returns-clause-gathers
-returns-clause-gathers g c = λ models.
-    let p : PipelineData = c.args.pipeline.now in
-    let (l, is) = laid_out_of p.netlist p c.facts.ensures in
-    let old : SpaceData = g.P.Space.meaning c.args.space.now in
-    let now : SpaceData = g.P.Space.meaning c.input_pairs.new.space in
-    let new : SpaceData = g.P.Space.meaning c.plan_pairs.new.space in
-    let marks : List Bool = c.args.marks.now in
-    let pairs : List Pair = c.input_pairs.new.pairs in
-    let after : List Pair = c.plan_pairs.new.pairs in
-    let case = inputs-case is c.args.output marks c.requires.marks old now pairs (c.in_ok-input_pairs.ensures.kept.width ∙ c.requires.width) (with_inputs old now c.inputs.result.now p.inputs marks pairs c.inputs.ensures.inputs c.in_ok-input_pairs.ensures.have) in
-    let over_plan = subst (λ (cells : List DataCell). IsCase now cells marks pairs (rail_nets p.inputs) (values p) → AreDone now new cells marks after (rail_nets p.inputs) (values p) (length cells)) c.requires.plan (c.in_ok-plan_pairs.ensures.done (rail_nets p.inputs) (values p)) in
-    cells-gather is c.args.output marks c.requires.marks models old c.inputs.result.now c.requires.width c.inputs.ensures.inputs now pairs c.in_ok-input_pairs.ensures.kept c.in_ok-input_pairs.ensures.have new after (over_plan case)
-
-pub returns-clause-rail : goal.returns-clause-rail
-returns-clause-rail g c =
+pub returns : goal.returns
+returns g c =
     let p : PipelineData = c.args.pipeline.now in
     let (l, is) = laid_out_of p.netlist p c.facts.ensures in
     let old : SpaceData = g.P.Space.meaning c.args.space.now in
@@ -128,7 +100,14 @@ returns-clause-rail g c =
     let over_plan = subst (λ (cells : List DataCell). IsCase now cells marks pairs (rail_nets p.inputs) (values p) → AreDone now new cells marks after (rail_nets p.inputs) (values p) (length cells)) c.requires.plan (c.in_ok-plan_pairs.ensures.done (rail_nets p.inputs) (values p)) in
     let had = rail-had is c.args.output marks c.requires.marks now new after c.in_ok-plan_pairs.ensures.space (over_plan case) in
     let own : c.requires.marks.rails ≡ get_or c.outputs.result.now c.args.output no_rails = sym (ap (λ xs. get_or xs c.args.output no_rails) c.outputs.ensures.outputs ∙ get_or_from_slice_get p.outputs c.args.output c.requires.marks.rails no_rails c.requires.marks.at) in
-    subst (λ (r : Rails). HasRail new (pair_at after r.one.0) (circuit_of p) c.args.output) own had
+    record {
+      rail = subst (λ (r : Rails). HasRail new (pair_at after r.one.0) (circuit_of p) c.args.output) own had;
+      nets = nets-held is c.args.output marks c.requires.marks now new after c.in_ok-plan_pairs.ensures.space (over_plan case);
+      gathers = λ models. cells-gather is c.args.output marks c.requires.marks models old c.inputs.result.now c.requires.width c.inputs.ensures.inputs now pairs c.in_ok-input_pairs.ensures.kept c.in_ok-input_pairs.ensures.have new after (over_plan case);
+      kept = search rules;
+      space = search rules;
+      full = search rules;
+    }
 
 pub slice_copy_out-result : goal.slice_copy_out-result
 slice_copy_out-result g c =

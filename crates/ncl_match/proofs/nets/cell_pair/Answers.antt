@@ -1,4 +1,4 @@
-use Rattle.std.proofs.Common.{◌≡◌, Bool, List, length, map, get_or, Option, Some, None, sym, ap, ◌∙◌, subst, arith}
+use Rattle.std.proofs.Common.{◌≡◌, Bool, List, length, map, get_or, Option, Some, None, sym, ap, ◌∙◌, subst, arith, rules}
 use Rattle.std.specs.Prelude.{All}
 use Rattle.std.proofs.lemmas.Result.{IfOk-weaker}
 use Rattle.std.proofs.lemmas.List.{length-map}
@@ -35,8 +35,8 @@ gate_pair-requires-clause-pairs g c =
     subst (All (IsPair old)) (sym (c.as_slice-in-Some.ensures.value ∙ c.pins-ins.ensures ∙ ap (map (λ (x : NetId). pair_at c.args.pairs.now x.0)) c.as_slice.ensures.value))
     (pins-pairs old c.args.pairs.now c.args.cell.now.ins.items c.requires.pairs c.requires.within)
 
-pub returns-in-Some-clause-made : goal.returns-in-Some-clause-made
-returns-in-Some-clause-made g c =
+pub returns-in-Some : goal.returns-in-Some
+returns-in-Some g c =
     let old : SpaceData = g.P.Space.meaning c.args.space.now in
     let new : SpaceData = g.P.Space.meaning c.gate_pair.new.space in
     let nets : List NetId = c.args.cell.now.ins.items in
@@ -44,19 +44,15 @@ returns-in-Some-clause-made g c =
     let gate : WordFunction = gate_function c.in-Some.kind (functions_at old items) in
     let f : WordFunction = wanted old c.args.pairs.now nets c.args.cell.now.kind in
     let e = c.as_slice-in-Some.ensures.value ∙ c.pins-ins.ensures ∙ ap (map (λ (x : NetId). pair_at c.args.pairs.now x.0)) c.as_slice.ensures.value in
-    IfOk-weaker c.gate_pair.result (λ p. MakesPair old new p gate (both_tables old.width gate)) (λ p. MakesPair old new p f (both_tables old.width f))
-    (λ p m. makes-same old new p gate f c.gate_pair.ensures.kept (λ w wide. by_gate old c.args.pairs.now nets c.args.cell.now.kind c.in-Some.kind c.in-Some.is items e w) m)
-    c.gate_pair.ensures.made
-
-pub returns-in-Some-clause-full : goal.returns-in-Some-clause-full
-returns-in-Some-clause-full g c = λ full.
-    let old : SpaceData = g.P.Space.meaning c.args.space.now in
-    let nets : List NetId = c.args.cell.now.ins.items in
-    let items : List Pair = c.as_slice-in-Some.result.now in
-    let gate : WordFunction = gate_function c.in-Some.kind (functions_at old items) in
-    let f : WordFunction = wanted old c.args.pairs.now nets c.args.cell.now.kind in
-    let e = c.as_slice-in-Some.ensures.value ∙ c.pins-ins.ensures ∙ ap (map (λ (x : NetId). pair_at c.args.pairs.now x.0)) c.as_slice.ensures.value in
-    fits-same old gate f (λ w wide. by_gate old c.args.pairs.now nets c.args.cell.now.kind c.in-Some.kind c.in-Some.is items e w) (c.gate_pair.ensures.full full)
+    let same = by_gate old c.args.pairs.now nets c.args.cell.now.kind c.in-Some.kind c.in-Some.is items e in
+    record {
+      made = IfOk-weaker c.gate_pair.result (λ p. MakesPair old new p gate (both_tables old.width gate)) (λ p. MakesPair old new p f (both_tables old.width f))
+          (λ p m. makes-same old new p gate f c.gate_pair.ensures.kept (λ w wide. same w) m)
+          c.gate_pair.ensures.made;
+      kept = search rules;
+      space = search rules;
+      full = λ full. fits-same old gate f (λ w wide. same w) (c.gate_pair.ensures.full full);
+    }
 
 pub returns-in-None-clause-made : goal.returns-in-None-clause-made
 returns-in-None-clause-made g c =

@@ -1,4 +1,4 @@
-use Rattle.std.proofs.Common.{◌≡◌, ℕ, ◌-◌, ◌&&◌, ◌||◌, not, Bool, List, Err, ◌++◌, false, length, sym, ap, ◌∙◌, subst}
+use Rattle.std.proofs.Common.{◌≡◌, ℕ, ◌-◌, ◌&&◌, ◌||◌, not, Bool, List, Err, ◌++◌, false, length, sym, ap, ◌∙◌, subst, rules}
 use Rattle.std.specs.Prelude.{All}
 use Rattle.std.proofs.lemmas.List.Elements.{recursion_from_All}
 use Rattle.ncl_blif.specs.Model.{IsModel}
@@ -53,7 +53,7 @@ module _ (circuit : Circuit) (models : List Model) (output : ℕ) (old a b : Spa
   third-over full = overflows-after (IsListed circuit models (output - 1)) old b (apart_tables b.width (function_at b f) (function_at b g)) both (keeps_along old a b k l) listed full
 
   module _ (new : SpaceData) (p : Pair) (m : Keeps b new) (made : MakesPair b new p (apart_function (function_at b f) (function_at b g)) (apart_tables b.width (function_at b f) (function_at b g))) where
-    pub third-has : HasApart new p circuit models (output - 1)
+    third-has : HasApart new p circuit models (output - 1)
     third-has = record {
       f = rail.f;
       g = sig.g;
@@ -62,10 +62,10 @@ module _ (circuit : Circuit) (models : List Model) (output : ℕ) (old a b : Spa
           (λ w h. λ j. (f_is w (h ∙ m.width) j && not (g_is w (h ∙ m.width) j)) || (g_is w (h ∙ m.width) j && not (f_is w (h ∙ m.width) j))) made.has;
     }
 
-    pub third-gathers : Gathers (IsListed circuit models (output - 1)) old new
+    third-gathers : Gathers (IsListed circuit models (output - 1)) old new
     third-gathers = gathers-more (IsListed circuit models (output - 1)) old b new (apart_tables b.width (function_at b f) (function_at b g)) both (keeps_along old a b k l) listed made.held
 
-    pub third-whole : All IsModel models → HoldsNets a circuit (output - 1) → HoldsSignals b circuit models (output - 1) → (table : List Bool) → IsListed circuit models (output - 1) table → IsHeld new table
+    third-whole : All IsModel models → HoldsNets a circuit (output - 1) → HoldsSignals b circuit models (output - 1) → (table : List Bool) → IsListed circuit models (output - 1) table → IsHeld new table
     third-whole are_models nets signals =
         let n_wide : new.width ≡ length circuit.inputs = m.width ∙ b_wide in
         let same : apart_tables b.width (function_at b f) (function_at b g) ≡ apart_tables b.width rail.f sig.g = tables ∙ ap (λ n. apart_tables n rail.f sig.g) (sym b_wide) in
@@ -74,61 +74,40 @@ module _ (circuit : Circuit) (models : List Model) (output : ℕ) (old a b : Spa
         (nets-kept a new circuit (output - 1) (keeps_along a b new l m) nets) (signals-kept b new circuit models (output - 1) m signals)
         rail.f sig.g are held.0 held.1 held.2
 
-pub returns-clause-apart : goal.returns-clause-apart
-returns-clause-apart g c =
-    let circuit : Circuit = circuit_of c.args.pipeline.now in
-    let models : List Model = c.args.models.now in
-    let old : SpaceData = g.P.Space.meaning c.args.space.now in
-    let a : SpaceData = g.P.Space.meaning c.netlist_pair.new.space in
-    let b : SpaceData = g.P.Space.meaning c.models_pair.new.space in
-    third-has circuit models c.args.output old a b c.in_ok-f.f c.in_ok-g.g c.requires.width c.in_ok-f.ensures.kept c.in_ok-g.ensures.kept c.in_ok-f.ensures.rail (c.in_ok-g.ensures.signal circuit c.requires.widths.inputs) (c.in_ok-f.ensures.gathers models) (c.in_ok-g.ensures.gathers circuit c.requires.widths.inputs)
-    (g.P.Space.meaning c.apart.new.space) c.in_ok-either.either c.in_ok-either.ensures.kept c.in_ok-either.ensures.made
+    pub third-all : HasApart new p circuit models (output - 1) × (Gathers (IsListed circuit models (output - 1)) old new × (All IsModel models → HoldsNets a circuit (output - 1) → HoldsSignals b circuit models (output - 1) → (table : List Bool) → IsListed circuit models (output - 1) table → IsHeld new table))
+    third-all = (third-has, (third-gathers, third-whole))
 
 pub returns-in_err-g-clause-full : goal.returns-in_err-g-clause-full
 returns-in_err-g-clause-full g c = λ e.
     let circuit : Circuit = circuit_of c.args.pipeline.now in
-    let models : List Model = c.args.models.now in
-    let old : SpaceData = g.P.Space.meaning c.args.space.now in
-    let a : SpaceData = g.P.Space.meaning c.netlist_pair.new.space in
-    overflows-along (IsListed circuit models (c.args.output - 1)) old a (c.in_ok-f.ensures.gathers models) c.in_ok-f.ensures.kept
+    overflows-along (IsListed circuit c.args.models.now (c.args.output - 1)) (g.P.Space.meaning c.args.space.now) (g.P.Space.meaning c.netlist_pair.new.space) (c.in_ok-f.ensures.gathers c.args.models.now) c.in_ok-f.ensures.kept
     (c.in_err-g.ensures.full circuit c.requires.widths.inputs (ap Err (handed_on c.from_residual-in_err-g.result c.in_err-g.field-0.0 c.from_residual-in_err-g.ensures.1 e)))
 
 pub returns-in_err-either-clause-full : goal.returns-in_err-either-clause-full
 returns-in_err-either-clause-full g c = λ e.
     let circuit : Circuit = circuit_of c.args.pipeline.now in
     let models : List Model = c.args.models.now in
-    let old : SpaceData = g.P.Space.meaning c.args.space.now in
-    let a : SpaceData = g.P.Space.meaning c.netlist_pair.new.space in
-    let b : SpaceData = g.P.Space.meaning c.models_pair.new.space in
-    third-over circuit models c.args.output old a b c.in_ok-f.f c.in_ok-g.g c.requires.width c.in_ok-f.ensures.kept c.in_ok-g.ensures.kept c.in_ok-f.ensures.rail (c.in_ok-g.ensures.signal circuit c.requires.widths.inputs) (c.in_ok-f.ensures.gathers models) (c.in_ok-g.ensures.gathers circuit c.requires.widths.inputs)
+    third-over circuit models c.args.output (g.P.Space.meaning c.args.space.now) (g.P.Space.meaning c.netlist_pair.new.space) (g.P.Space.meaning c.models_pair.new.space) c.in_ok-f.f c.in_ok-g.g c.requires.width c.in_ok-f.ensures.kept c.in_ok-g.ensures.kept c.in_ok-f.ensures.rail (c.in_ok-g.ensures.signal circuit c.requires.widths.inputs) (c.in_ok-f.ensures.gathers models) (c.in_ok-g.ensures.gathers circuit c.requires.widths.inputs)
     (c.in_err-either.ensures.full (ap Err (handed_on c.from_residual-in_err-either.result c.in_err-either.field-0.0 c.from_residual-in_err-either.ensures.1 e)))
 
-pub returns-clause-whole : goal.returns-clause-whole
-returns-clause-whole g c =
+pub returns : goal.returns
+returns g c =
     let circuit : Circuit = circuit_of c.args.pipeline.now in
     let models : List Model = c.args.models.now in
     let old : SpaceData = g.P.Space.meaning c.args.space.now in
     let a : SpaceData = g.P.Space.meaning c.netlist_pair.new.space in
     let b : SpaceData = g.P.Space.meaning c.models_pair.new.space in
-    third-whole circuit models c.args.output old a b c.in_ok-f.f c.in_ok-g.g c.requires.width c.in_ok-f.ensures.kept c.in_ok-g.ensures.kept c.in_ok-f.ensures.rail (c.in_ok-g.ensures.signal circuit c.requires.widths.inputs) (c.in_ok-f.ensures.gathers models) (c.in_ok-g.ensures.gathers circuit c.requires.widths.inputs)
-    (g.P.Space.meaning c.apart.new.space) c.in_ok-either.either c.in_ok-either.ensures.kept c.in_ok-either.ensures.made c.requires.models.each c.in_ok-f.ensures.nets (c.in_ok-g.ensures.signals circuit c.requires.widths.inputs)
-
-pub returns-clause-gathers : goal.returns-clause-gathers
-returns-clause-gathers g c =
-    let circuit : Circuit = circuit_of c.args.pipeline.now in
-    let models : List Model = c.args.models.now in
-    let old : SpaceData = g.P.Space.meaning c.args.space.now in
-    let a : SpaceData = g.P.Space.meaning c.netlist_pair.new.space in
-    let b : SpaceData = g.P.Space.meaning c.models_pair.new.space in
-    third-gathers circuit models c.args.output old a b c.in_ok-f.f c.in_ok-g.g c.requires.width c.in_ok-f.ensures.kept c.in_ok-g.ensures.kept c.in_ok-f.ensures.rail (c.in_ok-g.ensures.signal circuit c.requires.widths.inputs) (c.in_ok-f.ensures.gathers models) (c.in_ok-g.ensures.gathers circuit c.requires.widths.inputs)
-    (g.P.Space.meaning c.apart.new.space) c.in_ok-either.either c.in_ok-either.ensures.kept c.in_ok-either.ensures.made
-
-pub returns-clause-kept : goal.returns-clause-kept
-returns-clause-kept g c =
-    let old : SpaceData = g.P.Space.meaning c.args.space.now in
-    let a : SpaceData = g.P.Space.meaning c.netlist_pair.new.space in
-    let b : SpaceData = g.P.Space.meaning c.models_pair.new.space in
-    keeps_along old b (g.P.Space.meaning c.apart.new.space) (keeps_along old a b c.in_ok-f.ensures.kept c.in_ok-g.ensures.kept) c.in_ok-either.ensures.kept
+    let new : SpaceData = g.P.Space.meaning c.apart.new.space in
+    let (has, (gathers, whole)) = third-all circuit models c.args.output old a b c.in_ok-f.f c.in_ok-g.g c.requires.width c.in_ok-f.ensures.kept c.in_ok-g.ensures.kept c.in_ok-f.ensures.rail (c.in_ok-g.ensures.signal circuit c.requires.widths.inputs) (c.in_ok-f.ensures.gathers models) (c.in_ok-g.ensures.gathers circuit c.requires.widths.inputs)
+    new c.in_ok-either.either c.in_ok-either.ensures.kept c.in_ok-either.ensures.made in
+    record {
+      apart = has;
+      whole = whole c.requires.models.each c.in_ok-f.ensures.nets (c.in_ok-g.ensures.signals circuit c.requires.widths.inputs);
+      gathers = gathers;
+      kept = keeps_along old b new (keeps_along old a b c.in_ok-f.ensures.kept c.in_ok-g.ensures.kept) c.in_ok-either.ensures.kept;
+      space = search rules;
+      full = search rules;
+    }
 
 pub apart-requires-clause-g : goal.apart-requires-clause-g
 apart-requires-clause-g g c = (c.in_ok-g.ensures.signal (circuit_of c.args.pipeline.now) c.requires.widths.inputs).has.pair

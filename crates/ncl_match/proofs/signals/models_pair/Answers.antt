@@ -1,4 +1,4 @@
-use Rattle.std.proofs.Common.{◌≡◌, ℕ, ◌<◌, Bool, false, List, Err, length, get_or, sym, ap, ◌∙◌, subst, arith}
+use Rattle.std.proofs.Common.{◌≡◌, ℕ, Bool, false, List, Err, length, get_or, sym, ap, ◌∙◌, subst, subst₂, arith, rules}
 use Rattle.std.specs.List.{range_with_len}
 use Rattle.ncl_blif.specs.declared.model.Model.{Model}
 use Rattle.ncl_blif.specs.Meaning.{width_of}
@@ -9,6 +9,7 @@ use Rattle.ncl_match.specs.declared.steps.Step.{Step}
 use Rattle.ncl_match.specs.Needed.{AreNeeded}
 use Rattle.ncl_match.specs.Plan.{pair_at}
 use Rattle.ncl_match.specs.Sides.{HasSignal}
+use Rattle.ncl_match.specs.Steps.{AreNumbered, AreOrdered}
 use Rattle.ncl_match.specs.Signals.{HaveBits, HaveSteps, first_tables, step_tables}
 use Rattle.ncl_match.specs.Turns.{gathered}
 use Rattle.ncl_match.proofs.ModelLaws.{IsRow, bits-signals, bits-overflow, steps-overflow, steps-gather, all-held, output-had}
@@ -16,9 +17,16 @@ use Rattle.ncl_match.proofs.StepLaws.{outputs_size, outs_many}
 use Rattle.ncl_match.proofs.signals.models_pair.Goals as goal
 
 -- the row with its marks, from what the calls say
-row-of : (n w : ℕ) (models : List Model) (steps read : List Step) (outs now : List ℕ) (output : ℕ) (marks : List Bool) → n ≡ w → read ≡ steps → now ≡ outs → AreNeeded n read (get_or now output 0) marks 0 → AreNeeded w steps (get_or outs output 0) marks 0
-row-of n w models steps read outs now output marks e f h needed =
-    subst (λ k. AreNeeded k steps (get_or outs output 0) marks 0) e (subst (λ l. AreNeeded n l (get_or outs output 0) marks 0) f (subst (λ l. AreNeeded n read (get_or l output 0) marks 0) h needed))
+row-of : (n w : ℕ) (models : List Model) (steps read : List Step) (outs now : List ℕ) (output : ℕ) (marks : List Bool) → n ≡ w → read ≡ steps → now ≡ outs → AreNumbered w steps models (range_with_len 0 w) outs → AreOrdered w steps → AreNeeded n read (get_or now output 0) marks 0 → IsRow w models steps outs output marks
+row-of n w models steps read outs now output marks e f h numbered ordered needed = record {
+  numbered = numbered;
+  ordered = ordered;
+  needed = subst (λ k. AreNeeded k steps (get_or outs output 0) marks 0) e (subst₂ (λ l outs. AreNeeded n l (get_or outs output 0) marks 0) f h needed);
+}
+
+-- the inputs by the marks and the width that are theirs
+bits-of : (old mid : SpaceData) (l marks : List Bool) (pairs : List Pair) (n w : ℕ) → l ≡ marks → n ≡ w → HaveBits old mid l pairs n → HaveBits old mid marks pairs w
+bits-of old mid l marks pairs n w same wide have = subst₂ (λ l n. HaveBits old mid l pairs n) same wide have
 
 pub offset_bounds-outputs-output : goal.offset_bounds-outputs-output
 offset_bounds-outputs-output g c =
@@ -36,22 +44,11 @@ pub returns-in_err-pairs-clause-full : goal.returns-in_err-pairs-clause-full
 returns-in_err-pairs-clause-full g c = λ circuit wide e.
     let old : SpaceData = g.P.Space.meaning c.args.space.now in
     let models : List Model = c.args.models.now in
-    let w : ℕ = width_of models in
-    let n : ℕ = c.first_width-inputs.result in
-    let steps : List Step = c.in_ok-all.all.steps.items in
-    let outs : List ℕ = c.in_ok-all.all.outputs.items in
     let marks : List Bool = c.in_ok-marks.marks.items in
-    let many = outs_many w steps models (range_with_len 0 w) outs c.in_ok-all.ensures.numbered c.requires.models.some in
-    let within : c.args.output < length outs = omega (arith, many, c.requires.output) in
-    let row : IsRow w models steps outs c.args.output marks = record {
-      numbered = c.in_ok-all.ensures.numbered;
-      ordered = c.in_ok-all.ensures.ordered;
-      needed = row-of n w models steps c.deref.result.now outs c.as_slice-outputs.result.now c.args.output marks c.first_width-inputs.ensures c.deref.ensures.value c.as_slice-outputs.ensures.value c.in_ok-marks.ensures;
-    } in
-    let full : fits old (gathered (first_tables old.width c.deref-2.result.now) n) ≡ false =
-    c.in_err-pairs.ensures.full (ap Err (handed_on c.from_residual-in_err-pairs.result c.in_err-pairs.field-0.0 c.from_residual-in_err-pairs.ensures.1 e)) in
-    bits-overflow models c.requires.models steps outs c.args.output within marks row circuit wide old c.requires.width
-    (subst (λ k. fits old (gathered (first_tables old.width marks) k) ≡ false) c.first_width-inputs.ensures (subst (λ l. fits old (gathered (first_tables old.width l) n) ≡ false) c.deref-2.ensures.value full))
+    let row = row-of _ _ models _ _ _ _ c.args.output marks c.first_width-inputs.ensures c.deref.ensures.value c.as_slice-outputs.ensures.value c.in_ok-all.ensures.numbered c.in_ok-all.ensures.ordered c.in_ok-marks.ensures in
+    bits-overflow models c.requires.models _ _ c.args.output c.requires.output marks row circuit wide old c.requires.width
+    (subst₂ (λ l n. fits old (gathered (first_tables old.width l) n) ≡ false) c.deref-2.ensures.value c.first_width-inputs.ensures
+    (c.in_err-pairs.ensures.full (ap Err (handed_on c.from_residual-in_err-pairs.result c.in_err-pairs.field-0.0 c.from_residual-in_err-pairs.ensures.1 e))))
 
 pub step_pairs-requires-clause-have : goal.step_pairs-requires-clause-have
 step_pairs-requires-clause-have g c =
@@ -68,106 +65,32 @@ returns-in_err-step_pairs-clause-full g c = λ circuit wide e.
     let old : SpaceData = g.P.Space.meaning c.args.space.now in
     let mid : SpaceData = g.P.Space.meaning c.bit_pairs.new.space in
     let models : List Model = c.args.models.now in
-    let w : ℕ = width_of models in
-    let n : ℕ = c.first_width-inputs.result in
-    let steps : List Step = c.in_ok-all.all.steps.items in
-    let outs : List ℕ = c.in_ok-all.all.outputs.items in
     let marks : List Bool = c.in_ok-marks.marks.items in
-    let first : List Pair = c.in_ok-pairs.pairs.items in
-    let many = outs_many w steps models (range_with_len 0 w) outs c.in_ok-all.ensures.numbered c.requires.models.some in
-    let within : c.args.output < length outs = omega (arith, many, c.requires.output) in
-    let row : IsRow w models steps outs c.args.output marks = record {
-      numbered = c.in_ok-all.ensures.numbered;
-      ordered = c.in_ok-all.ensures.ordered;
-      needed = row-of n w models steps c.deref.result.now outs c.as_slice-outputs.result.now c.args.output marks c.first_width-inputs.ensures c.deref.ensures.value c.as_slice-outputs.ensures.value c.in_ok-marks.ensures;
-    } in
-    let bits : HaveBits old mid marks first w =
-    subst (λ k. HaveBits old mid marks first k) c.first_width-inputs.ensures (subst (λ l. HaveBits old mid l first n) c.deref-2.ensures.value c.in_ok-pairs.ensures.have) in
-    let full : fits mid (gathered (step_tables mid.width c.deref-3.result.now c.deref-4.result.now) (length c.deref-3.result.now)) ≡ false =
-    c.in_err-step_pairs.ensures.full (ap Err (handed_on c.from_residual-in_err-step_pairs.result c.in_err-step_pairs.field-0.0 c.from_residual-in_err-step_pairs.ensures.1 e)) in
-    steps-overflow models c.requires.models steps outs c.args.output within marks row circuit wide old c.requires.width mid first c.in_ok-pairs.ensures.kept bits
-    (subst (λ l. fits mid (gathered (step_tables mid.width steps l) (length steps)) ≡ false) c.deref-4.ensures.value
-    (subst (λ l. fits mid (gathered (step_tables mid.width l c.deref-4.result.now) (length l)) ≡ false) c.deref-3.ensures.value full))
+    let row = row-of _ _ models _ _ _ _ c.args.output marks c.first_width-inputs.ensures c.deref.ensures.value c.as_slice-outputs.ensures.value c.in_ok-all.ensures.numbered c.in_ok-all.ensures.ordered c.in_ok-marks.ensures in
+    let bits = bits-of old mid _ marks c.in_ok-pairs.pairs.items _ _ c.deref-2.ensures.value c.first_width-inputs.ensures c.in_ok-pairs.ensures.have in
+    steps-overflow models c.requires.models _ _ c.args.output c.requires.output marks row circuit wide old c.requires.width mid _ c.in_ok-pairs.ensures.kept bits
+    (subst₂ (λ steps l. fits mid (gathered (step_tables mid.width steps l) (length steps)) ≡ false) c.deref-3.ensures.value c.deref-4.ensures.value
+    (c.in_err-step_pairs.ensures.full (ap Err (handed_on c.from_residual-in_err-step_pairs.result c.in_err-step_pairs.field-0.0 c.from_residual-in_err-step_pairs.ensures.1 e))))
 
-pub returns-clause-signals : goal.returns-clause-signals
-returns-clause-signals g c = λ circuit wide.
+pub returns : goal.returns
+returns g c =
     let old : SpaceData = g.P.Space.meaning c.args.space.now in
     let mid : SpaceData = g.P.Space.meaning c.bit_pairs.new.space in
     let new : SpaceData = g.P.Space.meaning c.step_pairs.new.space in
     let models : List Model = c.args.models.now in
-    let w : ℕ = width_of models in
-    let n : ℕ = c.first_width-inputs.result in
-    let steps : List Step = c.in_ok-all.all.steps.items in
     let outs : List ℕ = c.in_ok-all.all.outputs.items in
     let marks : List Bool = c.in_ok-marks.marks.items in
-    let first : List Pair = c.in_ok-pairs.pairs.items in
     let pairs : List Pair = c.step_pairs.new.pairs.items in
-    let many = outs_many w steps models (range_with_len 0 w) outs c.in_ok-all.ensures.numbered c.requires.models.some in
-    let within : c.args.output < length outs = omega (arith, many, c.requires.output) in
-    let row : IsRow w models steps outs c.args.output marks = record {
-      numbered = c.in_ok-all.ensures.numbered;
-      ordered = c.in_ok-all.ensures.ordered;
-      needed = row-of n w models steps c.deref.result.now outs c.as_slice-outputs.result.now c.args.output marks c.first_width-inputs.ensures c.deref.ensures.value c.as_slice-outputs.ensures.value c.in_ok-marks.ensures;
-    } in
-    let bits : HaveBits old mid marks first w =
-    subst (λ k. HaveBits old mid marks first k) c.first_width-inputs.ensures (subst (λ l. HaveBits old mid l first n) c.deref-2.ensures.value c.in_ok-pairs.ensures.have) in
-    let done : HaveSteps mid new steps marks pairs (length steps) =
-    subst (λ l. HaveSteps mid new steps l pairs (length steps)) c.deref-4.ensures.value
-    (subst (λ l. HaveSteps mid new l c.deref-4.result.now pairs (length l)) c.deref-3.ensures.value c.in_ok-step_pairs.ensures.have) in
-    all-held models c.requires.models steps outs c.args.output within marks row circuit wide old c.requires.width mid first c.in_ok-pairs.ensures.kept bits new pairs c.in_ok-step_pairs.ensures.kept c.in_ok-step_pairs.ensures.space done
-
-pub returns-clause-gathers : goal.returns-clause-gathers
-returns-clause-gathers g c = λ circuit wide.
-    let old : SpaceData = g.P.Space.meaning c.args.space.now in
-    let mid : SpaceData = g.P.Space.meaning c.bit_pairs.new.space in
-    let new : SpaceData = g.P.Space.meaning c.step_pairs.new.space in
-    let models : List Model = c.args.models.now in
-    let w : ℕ = width_of models in
-    let n : ℕ = c.first_width-inputs.result in
-    let steps : List Step = c.in_ok-all.all.steps.items in
-    let outs : List ℕ = c.in_ok-all.all.outputs.items in
-    let marks : List Bool = c.in_ok-marks.marks.items in
-    let first : List Pair = c.in_ok-pairs.pairs.items in
-    let pairs : List Pair = c.step_pairs.new.pairs.items in
-    let many = outs_many w steps models (range_with_len 0 w) outs c.in_ok-all.ensures.numbered c.requires.models.some in
-    let within : c.args.output < length outs = omega (arith, many, c.requires.output) in
-    let row : IsRow w models steps outs c.args.output marks = record {
-      numbered = c.in_ok-all.ensures.numbered;
-      ordered = c.in_ok-all.ensures.ordered;
-      needed = row-of n w models steps c.deref.result.now outs c.as_slice-outputs.result.now c.args.output marks c.first_width-inputs.ensures c.deref.ensures.value c.as_slice-outputs.ensures.value c.in_ok-marks.ensures;
-    } in
-    let bits : HaveBits old mid marks first w =
-    subst (λ k. HaveBits old mid marks first k) c.first_width-inputs.ensures (subst (λ l. HaveBits old mid l first n) c.deref-2.ensures.value c.in_ok-pairs.ensures.have) in
-    let done : HaveSteps mid new steps marks pairs (length steps) =
-    subst (λ l. HaveSteps mid new steps l pairs (length steps)) c.deref-4.ensures.value
-    (subst (λ l. HaveSteps mid new l c.deref-4.result.now pairs (length l)) c.deref-3.ensures.value c.in_ok-step_pairs.ensures.have) in
-    steps-gather models c.requires.models steps outs c.args.output within marks row circuit wide old c.requires.width mid first c.in_ok-pairs.ensures.kept bits new pairs c.in_ok-step_pairs.ensures.kept c.in_ok-step_pairs.ensures.space done
-
-pub returns-clause-signal : goal.returns-clause-signal
-returns-clause-signal g c = λ circuit wide.
-    let old : SpaceData = g.P.Space.meaning c.args.space.now in
-    let mid : SpaceData = g.P.Space.meaning c.bit_pairs.new.space in
-    let new : SpaceData = g.P.Space.meaning c.step_pairs.new.space in
-    let models : List Model = c.args.models.now in
-    let w : ℕ = width_of models in
-    let n : ℕ = c.first_width-inputs.result in
-    let steps : List Step = c.in_ok-all.all.steps.items in
-    let outs : List ℕ = c.in_ok-all.all.outputs.items in
-    let marks : List Bool = c.in_ok-marks.marks.items in
-    let first : List Pair = c.in_ok-pairs.pairs.items in
-    let pairs : List Pair = c.step_pairs.new.pairs.items in
-    let many = outs_many w steps models (range_with_len 0 w) outs c.in_ok-all.ensures.numbered c.requires.models.some in
-    let within : c.args.output < length outs = omega (arith, many, c.requires.output) in
-    let row : IsRow w models steps outs c.args.output marks = record {
-      numbered = c.in_ok-all.ensures.numbered;
-      ordered = c.in_ok-all.ensures.ordered;
-      needed = row-of n w models steps c.deref.result.now outs c.as_slice-outputs.result.now c.args.output marks c.first_width-inputs.ensures c.deref.ensures.value c.as_slice-outputs.ensures.value c.in_ok-marks.ensures;
-    } in
-    let bits : HaveBits old mid marks first w =
-    subst (λ k. HaveBits old mid marks first k) c.first_width-inputs.ensures (subst (λ l. HaveBits old mid l first n) c.deref-2.ensures.value c.in_ok-pairs.ensures.have) in
-    let done : HaveSteps mid new steps marks pairs (length steps) =
-    subst (λ l. HaveSteps mid new steps l pairs (length steps)) c.deref-4.ensures.value
-    (subst (λ l. HaveSteps mid new l c.deref-4.result.now pairs (length l)) c.deref-3.ensures.value c.in_ok-step_pairs.ensures.have) in
-    let own = output-had models c.requires.models steps outs c.args.output within marks row circuit wide old c.requires.width mid first c.in_ok-pairs.ensures.kept bits new pairs c.in_ok-step_pairs.ensures.kept c.in_ok-step_pairs.ensures.space done in
-    subst (λ ps. HasSignal new (pair_at ps (get_or c.as_slice-outputs.result.now c.args.output 0)) circuit models c.args.output) (sym c.as_slice-made.ensures.value)
-    (subst (λ l. HasSignal new (pair_at pairs (get_or l c.args.output 0)) circuit models c.args.output) (sym c.as_slice-outputs.ensures.value) own)
+    let row = row-of _ _ models _ _ outs _ c.args.output marks c.first_width-inputs.ensures c.deref.ensures.value c.as_slice-outputs.ensures.value c.in_ok-all.ensures.numbered c.in_ok-all.ensures.ordered c.in_ok-marks.ensures in
+    let bits = bits-of old mid _ marks c.in_ok-pairs.pairs.items _ _ c.deref-2.ensures.value c.first_width-inputs.ensures c.in_ok-pairs.ensures.have in
+    let done = subst₂ (λ steps l. HaveSteps mid new steps l pairs (length steps)) c.deref-3.ensures.value c.deref-4.ensures.value c.in_ok-step_pairs.ensures.have in
+    record {
+      signal = λ circuit wide.
+          subst₂ (λ ps outs. HasSignal new (pair_at ps (get_or outs c.args.output 0)) circuit models c.args.output) (sym c.as_slice-made.ensures.value) (sym c.as_slice-outputs.ensures.value)
+          (output-had models c.requires.models _ outs c.args.output c.requires.output marks row circuit wide old c.requires.width mid _ c.in_ok-pairs.ensures.kept bits new pairs c.in_ok-step_pairs.ensures.kept c.in_ok-step_pairs.ensures.space done);
+      signals = λ circuit wide. all-held models c.requires.models _ outs c.args.output c.requires.output marks row circuit wide old c.requires.width mid _ c.in_ok-pairs.ensures.kept bits new pairs c.in_ok-step_pairs.ensures.kept c.in_ok-step_pairs.ensures.space done;
+      gathers = λ circuit wide. steps-gather models c.requires.models _ outs c.args.output c.requires.output marks row circuit wide old c.requires.width mid _ c.in_ok-pairs.ensures.kept bits new pairs c.in_ok-step_pairs.ensures.kept c.in_ok-step_pairs.ensures.space done;
+      kept = search rules;
+      space = search rules;
+      full = search rules;
+    }

@@ -1,4 +1,4 @@
-use Rattle.std.proofs.Common.{◌≡◌, ℕ, List, Option, map, get_or, take, sym, ap, ◌∙◌, subst, arith}
+use Rattle.std.proofs.Common.{◌≡◌, ℕ, ◌≤◌, List, Option, length, map, get_or, take, sym, ap, ◌∙◌, subst}
 use Rattle.std.specs.Prelude.{All, IsSome}
 use Rattle.std.specs.Ordering.{nat_cmp}
 use Rattle.std.specs.BTreeMap.{get}
@@ -41,28 +41,22 @@ loop-place-preserved c =
     (added-more n old steps c.add_step.new.steps.items m c.args.ins.now number (get nat_cmp c.add_step.new.numbers) (take i order) (get_or order i 0) cover
     (turn_done m c.requires.model order ordered i c.loop-place-test.true cover at) c.in_ok-add_step.ensures.step c.in_ok-add_step.ensures.numbers fresh widths c.loop-place.invariant)
 
+-- the order as it is read, and that all of it is added
+whole-order : (n : ℕ) (old steps : List Step) (m : Model) (ins : List ℕ) (number : ℕ → Option ℕ) (read order : List ℕ) (i : ℕ) → read ≡ order → IsOrder (dependency_graph m.covers) order → length read ≤ i → AreAdded n old steps m ins number (take i read)
+    → IsOrder (dependency_graph m.covers) read × AreAdded n old steps m ins number read
+whole-order n old steps m ins number read order i same ordered past added =
+    (subst (IsOrder (dependency_graph m.covers)) (sym same) ordered, subst (AreAdded n old steps m ins number) (take_all i read past) added)
+
 pub look_up-requires : goal.look_up-requires
 look_up-requires c =
-    let m : Model = c.args.model.now in
-    let order : List ℕ = c.deref-place-items.result.now in
-    let ordered : IsOrder (dependency_graph m.covers) order = subst (IsOrder (dependency_graph m.covers)) (sym c.deref-place-items.ensures.value) c.in_ok-order.ensures in
-    let i : ℕ = c.loop-place.place-index in
     let number : ℕ → Option ℕ = get nat_cmp c.loop-place.numbers in
-    let past = c.loop-place-test.false in
-    let all : AreAdded c.args.inputs c.args.steps.now.items c.loop-place.steps.items m c.args.ins.now number order =
-    subst (AreAdded c.args.inputs c.args.steps.now.items c.loop-place.steps.items m c.args.ins.now number) (take_all i order (omega (arith, past))) c.loop-place.invariant in
+    let (ordered, all) = whole-order c.args.inputs c.args.steps.now.items c.loop-place.steps.items c.args.model.now c.args.ins.now number c.deref-place-items.result.now _ c.loop-place.place-index c.deref-place-items.ensures.value c.in_ok-order.ensures c.loop-place-test.false c.loop-place.invariant in
     subst (All (λ signal. IsSome (number signal))) (sym c.items.ensures)
-    (outputs_known c.args.inputs c.args.steps.now.items c.loop-place.steps.items m c.requires.model c.args.ins.now c.requires.ins number order ordered all)
+    (outputs_known c.args.inputs c.args.steps.now.items c.loop-place.steps.items c.args.model.now c.requires.model c.args.ins.now c.requires.ins number _ ordered all)
 
 pub returns : goal.returns
 returns c =
-    let m : Model = c.args.model.now in
-    let order : List ℕ = c.deref-place-items.result.now in
-    let ordered : IsOrder (dependency_graph m.covers) order = subst (IsOrder (dependency_graph m.covers)) (sym c.deref-place-items.ensures.value) c.in_ok-order.ensures in
-    let i : ℕ = c.loop-place.place-index in
     let number : ℕ → Option ℕ = get nat_cmp c.loop-place.numbers in
-    let past = c.loop-place-test.false in
-    let all : AreAdded c.args.inputs c.args.steps.now.items c.loop-place.steps.items m c.args.ins.now number order =
-    subst (AreAdded c.args.inputs c.args.steps.now.items c.loop-place.steps.items m c.args.ins.now number) (take_all i order (omega (arith, past))) c.loop-place.invariant in
-    added-whole c.args.inputs c.args.steps.now.items c.loop-place.steps.items m c.requires.model c.args.ins.now c.requires.ins number order ordered all c.in_ok-outs.outs.items
+    let (ordered, all) = whole-order c.args.inputs c.args.steps.now.items c.loop-place.steps.items c.args.model.now c.args.ins.now number c.deref-place-items.result.now _ c.loop-place.place-index c.deref-place-items.ensures.value c.in_ok-order.ensures c.loop-place-test.false c.loop-place.invariant in
+    added-whole c.args.inputs c.args.steps.now.items c.loop-place.steps.items c.args.model.now c.requires.model c.args.ins.now c.requires.ins number _ ordered all c.in_ok-outs.outs.items
     (c.in_ok-outs.ensures ∙ ap (map number) c.items.ensures)

@@ -1,4 +1,4 @@
-use Rattle.std.proofs.Common.{◌≡◌, ℕ, ◌<◌, Bool, true, false, List, [], ◌∷◌, Err, length, get_or, sym, ◌∙◌, ap, subst, arith}
+use Rattle.std.proofs.Common.{◌≡◌, ℕ, ◌<◌, Bool, true, false, List, [], ◌∷◌, Err, length, get_or, sym, ◌∙◌, ap, subst, arith, rules}
 use Rattle.std.specs.Prelude.{Contains}
 use Rattle.std.proofs.lemmas.Result.{IfOk-weaker, on_ok_weaker}
 use Rattle.ncl_gates.specs.declared.kind.Kind.TheVariants.{Th22}
@@ -44,25 +44,8 @@ of-high-requires g c =
     (subst (λ nets. Contains nets (out_of (get_or s.cells cell d))) (sym c.requires.base.wired.nets)
     (Contains-from_Member (out_of (get_or s.cells cell d)) (Member-append_right (rail_nets s.inputs) (out_of (get_or s.cells cell d)) (Member-map out_of (get_or s.cells cell d) (Member-get_or s.cells cell d c.requires.cell)))))
 
-pub returns-clause-least : goal.returns-clause-least
-returns-clause-least g c =
-    let s : StageData = c.args.stage.now in
-    let cell = c.args.cell in
-    let d : StageCell = c.index-items-cell.result in
-    let old : SpaceData = g.P.Space.meaning c.args.space.now in
-    let mid : SpaceData = g.P.Space.meaning c.all_data.new.space in
-    let high = c.of-high.result in
-    let cells : c.items.result.now ≡ s.cells = c.items.ensures ∙ ap (λ (t : StageData). t.cells) c.stage.view_is in
-    let shown = c.of-high.ensures.shown old s Base c.requires.base in
-    let one : mid.table high ≡ net_table_by c.args.base.now.wiring.order s Base (get_or s.cells cell d).out.0 = c.in_ok-all.ensures.kept.tables high shown.0 ∙ shown.1 ∙ ap (λ xs. net_table_by c.args.base.now.wiring.order s Base (get_or xs cell d).out.0) cells in
-    let last : List Bool = unobserved_table c.args.base.now.wiring.order s cell (get_or s.cells cell d) in
-    let is : gate_table mid.width Th22 (mid.table high ∷ mid.table c.in_ok-all.all ∷ []) ≡ last =
-    (λ k. gate_table ((c.in_ok-all.ensures.kept.width ∙ c.requires.width) k) Th22 (one k ∷ c.in_ok-all.ensures.table k ∷ [])) ∙ unobserved-made s c.args.base.now.wiring.order c.requires.base.wired.order cell (get_or s.cells cell d) in
-    IfOk-weaker c.apply.result _ (λ r. option_map (placed c.args.base.now.wiring.order) (least true (length s.inputs) ((g.P.Space.meaning c.apply.new.self).table r)) ≡ least_word_by c.args.base.now.wiring.order s (Orphan cell))
-    (λ r made. ap (λ t. option_map (placed c.args.base.now.wiring.order) (least true (length s.inputs) t)) (made.table ∙ is) ∙ unobserved-least s c.args.base.now.wiring.order c.requires.base.wired.order cell d c.requires.cell) c.apply.ensures.made
-
-pub returns-clause-full : goal.returns-clause-full
-returns-clause-full g c = λ e.
+pub returns : goal.returns
+returns g c =
     let s : StageData = c.args.stage.now in
     let cell = c.args.cell in
     let d : StageCell = c.index-items-cell.result in
@@ -77,22 +60,12 @@ returns-clause-full g c = λ e.
     (λ k. gate_table ((c.in_ok-all.ensures.kept.width ∙ c.requires.width) k) Th22 (one k ∷ c.in_ok-all.ensures.table k ∷ [])) ∙ unobserved-made s c.args.base.now.wiring.order c.requires.base.wired.order cell (get_or s.cells cell d) in
     let along : fits mid (last ∷ []) ≡ fits old (tables_by c.args.base.now.wiring.order s (Cell cell)) =
     fits-along old mid (shared_tables_by c.args.base.now.wiring.order s (Cell cell)) (last ∷ []) c.in_ok-all.ensures.kept c.in_ok-all.ensures.held ∙ ap (fits old) (sym (cell-tables s c.args.base.now.wiring.order cell d c.requires.cell)) in
-    sym along ∙ ap (λ t. fits mid (t ∷ [])) (sym is) ∙ c.apply.ensures.full e
-
-pub returns-clause-fits : goal.returns-clause-fits
-returns-clause-fits g c =
-    let s : StageData = c.args.stage.now in
-    let cell = c.args.cell in
-    let d : StageCell = c.index-items-cell.result in
-    let old : SpaceData = g.P.Space.meaning c.args.space.now in
-    let mid : SpaceData = g.P.Space.meaning c.all_data.new.space in
-    let high = c.of-high.result in
-    let cells : c.items.result.now ≡ s.cells = c.items.ensures ∙ ap (λ (t : StageData). t.cells) c.stage.view_is in
-    let shown = c.of-high.ensures.shown old s Base c.requires.base in
-    let one : mid.table high ≡ net_table_by c.args.base.now.wiring.order s Base (get_or s.cells cell d).out.0 = c.in_ok-all.ensures.kept.tables high shown.0 ∙ shown.1 ∙ ap (λ xs. net_table_by c.args.base.now.wiring.order s Base (get_or xs cell d).out.0) cells in
-    let last : List Bool = unobserved_table c.args.base.now.wiring.order s cell (get_or s.cells cell d) in
-    let is : gate_table mid.width Th22 (mid.table high ∷ mid.table c.in_ok-all.all ∷ []) ≡ last =
-    (λ k. gate_table ((c.in_ok-all.ensures.kept.width ∙ c.requires.width) k) Th22 (one k ∷ c.in_ok-all.ensures.table k ∷ [])) ∙ unobserved-made s c.args.base.now.wiring.order c.requires.base.wired.order cell (get_or s.cells cell d) in
-    let along : fits mid (last ∷ []) ≡ fits old (tables_by c.args.base.now.wiring.order s (Cell cell)) =
-    fits-along old mid (shared_tables_by c.args.base.now.wiring.order s (Cell cell)) (last ∷ []) c.in_ok-all.ensures.kept c.in_ok-all.ensures.held ∙ ap (fits old) (sym (cell-tables s c.args.base.now.wiring.order cell d c.requires.cell)) in
-    on_ok_weaker c.apply.result (λ e. sym along ∙ ap (λ t. fits mid (t ∷ [])) (sym is) ∙ e) c.apply.ensures.fits
+    record {
+      live = search rules;
+      least = IfOk-weaker c.apply.result _ (λ r. option_map (placed c.args.base.now.wiring.order) (least true (length s.inputs) ((g.P.Space.meaning c.apply.new.self).table r)) ≡ least_word_by c.args.base.now.wiring.order s (Orphan cell))
+          (λ r made. ap (λ t. option_map (placed c.args.base.now.wiring.order) (least true (length s.inputs) t)) (made.table ∙ is) ∙ unobserved-least s c.args.base.now.wiring.order c.requires.base.wired.order cell d c.requires.cell) c.apply.ensures.made;
+      kept = search rules;
+      space = search rules;
+      full = λ e. sym along ∙ ap (λ t. fits mid (t ∷ [])) (sym is) ∙ c.apply.ensures.full e;
+      fits = on_ok_weaker c.apply.result (λ e. sym along ∙ ap (λ t. fits mid (t ∷ [])) (sym is) ∙ e) c.apply.ensures.fits;
+    }

@@ -1,5 +1,5 @@
 -- What may come next, by the form of what stands before it.
-use Rattle.std.proofs.Common.{◌≡◌, ℕ, List, [], ◌∷◌, Option, Some, None, false, inl, inr, ◌⊎◌, refl, sym, ap, ◌∙◌}
+use Rattle.std.proofs.Common.{◌≡◌, ℕ, List, [], ◌∷◌, Option, Some, None, false, inl, inr, ◌⊎◌, refl, sym, ap, ◌∙◌, subst}
 use Rattle.std.proofs.lemmas.Bool.{false≢true}
 use Rattle.ncl_reader.specs.declared.place.Place.{Place}
 use Rattle.ncl_reader.specs.declared.place.Place.TheVariants as place
@@ -12,110 +12,58 @@ use Rattle.ncl_reader.specs.Forms.{IsDeclaring, IsAtItem, IsAtConn, IsAtPin, IsA
 use Rattle.ncl_reader.proofs.Viable.{same_tree}
 use Rattle.ncl_reader.proofs.Declares.{part_range, range_here, declaring_tree, declaring-here}
 
-pub close-form : (p : Partial) → place_of p ≡ place.AfterConnection → IsAtClose (spelled p)
-close-form (inside head items (joined cell name conns conn)) e = (head, items, cell, name, record { before = conns; last = conn }, refl)
-close-form (listing name []) e = absurd cc
-close-form (listing name (x ∷ names)) e = absurd cc
-close-form (heading name groups (leading part)) e = absurd cc
-close-form (heading name groups (naming spec names last)) e = absurd cc
-close-form (heading name groups (going spec row)) e = absurd cc
-close-form (inside head items (declaring (leading part))) e = absurd cc
-close-form (inside head items (declaring (naming spec names last))) e = absurd cc
-close-form (inside head items (declaring (going spec row))) e = absurd cc
-close-form p e = absurd cc
+-- the form of what stands before a place, for those at which a fault asks for it
+abbrev pub FormAt : Place → List Lexeme → Type 0
+FormAt place.Item xs = IsAtItem xs
+FormAt place.Connection xs = IsAtConn xs
+FormAt place.Pin xs = IsAtPin xs
+FormAt place.Net xs = IsAtNet xs
+FormAt place.AfterNet xs = (net : List ℕ) × IsBehindNet xs net
+FormAt place.Index xs = (net : List ℕ) × IsAtIndex xs net
+FormAt place.AfterConnection xs = IsAtClose xs
+FormAt at xs = Unit {0}
 
-pub close-place : (p : Partial) → IsAtClose (spelled p) → place_of p ≡ place.AfterConnection
-close-place p (head, items, cell, name, conns, is) = ap place_of (same_tree p (inside head items (joined cell name conns.before conns.last)) is)
+form_here : (p : Partial) → FormAt (place_of p) (spelled p)
+form_here (at_item head items) = (head, items, refl)
+form_here (inside head items (joining cell name conns)) = (head, items, cell, name, conns, refl)
+form_here (inside head items (dotted cell name conns)) = (head, items, cell, name, conns, refl)
+form_here (inside head items (opened cell name conns pin)) = (head, items, cell, name, conns, pin, refl)
+form_here (inside head items (netted cell name conns pin net)) = (net, (head, items, cell, name, conns, pin, refl))
+form_here (inside head items (indexing cell name conns pin net)) = (net, (head, items, cell, name, conns, pin, refl))
+form_here (inside head items (joined cell name conns conn)) = (head, items, cell, name, record { before = conns; last = conn }, refl)
+form_here (listing name []) = tt
+form_here (listing name (x ∷ names)) = tt
+form_here (heading name groups (leading part)) = tt
+form_here (heading name groups (naming spec names last)) = tt
+form_here (heading name groups (going spec row)) = tt
+form_here (inside head items (declaring (leading part))) = tt
+form_here (inside head items (declaring (naming spec names last))) = tt
+form_here (inside head items (declaring (going spec row))) = tt
+form_here p = tt
 
-pub net-form : (p : Partial) → place_of p ≡ place.Net → IsAtNet (spelled p)
-net-form (inside head items (opened cell name conns pin)) e = (head, items, cell, name, conns, pin, refl)
-net-form (listing name []) e = absurd cc
-net-form (listing name (x ∷ names)) e = absurd cc
-net-form (heading name groups (leading part)) e = absurd cc
-net-form (heading name groups (naming spec names last)) e = absurd cc
-net-form (heading name groups (going spec row)) e = absurd cc
-net-form (inside head items (declaring (leading part))) e = absurd cc
-net-form (inside head items (declaring (naming spec names last))) e = absurd cc
-net-form (inside head items (declaring (going spec row))) e = absurd cc
-net-form p e = absurd cc
-
-pub net-place : (p : Partial) → IsAtNet (spelled p) → place_of p ≡ place.Net
-net-place p (head, items, cell, name, conns, pin, is) = ap place_of (same_tree p (inside head items (opened cell name conns pin)) is)
-
-pub item-form : (p : Partial) → place_of p ≡ place.Item → IsAtItem (spelled p)
-item-form (at_item head items) e = (head, items, refl)
-item-form (listing name []) e = absurd cc
-item-form (listing name (x ∷ names)) e = absurd cc
-item-form (heading name groups (leading part)) e = absurd cc
-item-form (heading name groups (naming spec names last)) e = absurd cc
-item-form (heading name groups (going spec row)) e = absurd cc
-item-form (inside head items (declaring (leading part))) e = absurd cc
-item-form (inside head items (declaring (naming spec names last))) e = absurd cc
-item-form (inside head items (declaring (going spec row))) e = absurd cc
-item-form p e = absurd cc
+pub form_at : (p : Partial) (at : Place) → place_of p ≡ at → FormAt at (spelled p)
+form_at p at e = subst (λ here. FormAt here (spelled p)) e (form_here p)
 
 pub item-place : (p : Partial) → IsAtItem (spelled p) → place_of p ≡ place.Item
 item-place p (head, items, is) = ap place_of (same_tree p (at_item head items) is)
 
-pub pin-form : (p : Partial) → place_of p ≡ place.Pin → IsAtPin (spelled p)
-pin-form (inside head items (dotted cell name conns)) e = (head, items, cell, name, conns, refl)
-pin-form (listing name []) e = absurd cc
-pin-form (listing name (x ∷ names)) e = absurd cc
-pin-form (heading name groups (leading part)) e = absurd cc
-pin-form (heading name groups (naming spec names last)) e = absurd cc
-pin-form (heading name groups (going spec row)) e = absurd cc
-pin-form (inside head items (declaring (leading part))) e = absurd cc
-pin-form (inside head items (declaring (naming spec names last))) e = absurd cc
-pin-form (inside head items (declaring (going spec row))) e = absurd cc
-pin-form p e = absurd cc
+pub conn-place : (p : Partial) → IsAtConn (spelled p) → place_of p ≡ place.Connection
+conn-place p (head, items, cell, name, conns, is) = ap place_of (same_tree p (inside head items (joining cell name conns)) is)
 
 pub pin-place : (p : Partial) → IsAtPin (spelled p) → place_of p ≡ place.Pin
 pin-place p (head, items, cell, name, conns, is) = ap place_of (same_tree p (inside head items (dotted cell name conns)) is)
 
-pub conn-form : (p : Partial) → place_of p ≡ place.Connection → IsAtConn (spelled p)
-conn-form (inside head items (joining cell name conns)) e = (head, items, cell, name, conns, refl)
-conn-form (listing name []) e = absurd cc
-conn-form (listing name (x ∷ names)) e = absurd cc
-conn-form (heading name groups (leading part)) e = absurd cc
-conn-form (heading name groups (naming spec names last)) e = absurd cc
-conn-form (heading name groups (going spec row)) e = absurd cc
-conn-form (inside head items (declaring (leading part))) e = absurd cc
-conn-form (inside head items (declaring (naming spec names last))) e = absurd cc
-conn-form (inside head items (declaring (going spec row))) e = absurd cc
-conn-form p e = absurd cc
-
-pub conn-place : (p : Partial) → IsAtConn (spelled p) → place_of p ≡ place.Connection
-conn-place p (head, items, cell, name, conns, is) = ap place_of (same_tree p (inside head items (joining cell name conns)) is)
-
-pub behind-form : (p : Partial) → place_of p ≡ place.AfterNet → (net : List ℕ) × IsBehindNet (spelled p) net
-behind-form (inside head items (netted cell name conns pin net)) e = (net, (head, items, cell, name, conns, pin, refl))
-behind-form (listing name []) e = absurd cc
-behind-form (listing name (x ∷ names)) e = absurd cc
-behind-form (heading name groups (leading part)) e = absurd cc
-behind-form (heading name groups (naming spec names last)) e = absurd cc
-behind-form (heading name groups (going spec row)) e = absurd cc
-behind-form (inside head items (declaring (leading part))) e = absurd cc
-behind-form (inside head items (declaring (naming spec names last))) e = absurd cc
-behind-form (inside head items (declaring (going spec row))) e = absurd cc
-behind-form p e = absurd cc
+pub net-place : (p : Partial) → IsAtNet (spelled p) → place_of p ≡ place.Net
+net-place p (head, items, cell, name, conns, pin, is) = ap place_of (same_tree p (inside head items (opened cell name conns pin)) is)
 
 pub behind-place : (p : Partial) → ((net : List ℕ) × IsBehindNet (spelled p) net) → place_of p ≡ place.AfterNet
 behind-place p (net, (head, items, cell, name, conns, pin, is)) = ap place_of (same_tree p (inside head items (netted cell name conns pin net)) is)
 
-pub index-form : (p : Partial) → place_of p ≡ place.Index → (net : List ℕ) × IsAtIndex (spelled p) net
-index-form (inside head items (indexing cell name conns pin net)) e = (net, (head, items, cell, name, conns, pin, refl))
-index-form (listing name []) e = absurd cc
-index-form (listing name (x ∷ names)) e = absurd cc
-index-form (heading name groups (leading part)) e = absurd cc
-index-form (heading name groups (naming spec names last)) e = absurd cc
-index-form (heading name groups (going spec row)) e = absurd cc
-index-form (inside head items (declaring (leading part))) e = absurd cc
-index-form (inside head items (declaring (naming spec names last))) e = absurd cc
-index-form (inside head items (declaring (going spec row))) e = absurd cc
-index-form p e = absurd cc
-
 pub index-place : (p : Partial) → ((net : List ℕ) × IsAtIndex (spelled p) net) → place_of p ≡ place.Index
 index-place p (net, (head, items, cell, name, conns, pin, is)) = ap place_of (same_tree p (inside head items (indexing cell name conns pin net)) is)
+
+pub close-place : (p : Partial) → IsAtClose (spelled p) → place_of p ≡ place.AfterConnection
+close-place p (head, items, cell, name, conns, is) = ap place_of (same_tree p (inside head items (joined cell name conns.before conns.last)) is)
 
 -- a name is declared at these places alone
 abbrev pub DeclaresAt : Place → Type 0

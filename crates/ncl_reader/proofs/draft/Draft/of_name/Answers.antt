@@ -13,20 +13,20 @@ use Rattle.ncl_reader.proofs.Places as places
 use Rattle.ncl_reader.proofs.draft.Draft.of_name.Goals as goal
 
 pub returns-in-Item : goal.returns-in-Item
-returns-in-Item c = λ p holds. (refl, places.item-form p (holds-place c.args.place c.args.self.now p holds ∙ c.in-Item.is))
+returns-in-Item c = λ p holds. (refl, places.form_at p place.Item (holds-place c.args.place c.args.self.now p holds ∙ c.in-Item.is))
 
 pub returns-in-Pin : goal.returns-in-Pin
 returns-in-Pin c = λ p holds.
     let at = holds-place c.args.place c.args.self.now p holds ∙ c.in-Pin.is in (
       refl,
       λ item. let wrong : place.Item ≡ place.Pin = sym (places.item-place p item) ∙ at in absurd cc,
-      places.pin-form p at,
+      places.form_at p place.Pin at,
     )
 
 pub returns-in-Connection : goal.returns-in-Connection
 returns-in-Connection c = λ p holds.
     let at = holds-place c.args.place c.args.self.now p holds ∙ c.in-Connection.is in
-    let conn = places.conn-form p at in (
+    let conn = places.form_at p place.Connection at in (
       refl,
       λ item. let wrong : place.Item ≡ place.Connection = sym (places.item-place p item) ∙ at in absurd cc,
       λ pin. let wrong : place.Pin ≡ place.Connection = sym (places.pin-place p pin) ∙ at in absurd cc,

@@ -1,5 +1,5 @@
 -- What is kept of a header and of items, with a name or a declaration more.
-use Rattle.std.proofs.Common.{◌≡◌, ℕ, ◌+◌, ◌*◌, ◌<◌, List, [], ◌∷◌, ◌++◌, length, map, sum, Bool, true, false, Option, Some, None, inl, inr, ◌⊎◌, refl, sym, ap, ◌∙◌, subst, append_assoc, arith, Contains}
+use Rattle.std.proofs.Common.{◌≡◌, ℕ, ◌+◌, ◌*◌, ◌<◌, ◌≤◌, List, [], ◌∷◌, ◌++◌, length, map, sum, Bool, true, false, Option, Some, None, inl, inr, ◌⊎◌, refl, sym, ap, ◌∙◌, subst, append_assoc, arith, Contains}
 use Rattle.std.specs.List.{flat_map}
 use Rattle.std.specs.Option.{option_map}
 use Rattle.std.proofs.Math.Nat.{mul-suc}
@@ -127,15 +127,17 @@ pub no_groups : (ports : Option Listing) → is_ansi ports ≡ false → groups_
 no_groups (Some (Ansi groups)) e = absurd cc
 no_groups ports e = refl
 
+-- ports have too many bits only by those of a range
+few-ranged : (range : Option Range) (span : Option Span) (bits : ℕ) → bits ≤ MOST_PORT_BITS → option_map span_of range ≡ span → ((r : Range) (s : Span) → range ≡ Some r → span_of r ≡ s → MOST_PORT_BITS < bits + width s → ⊥) → MOST_PORT_BITS < bits + span_width span → ⊥
+few-ranged None None bits few numbers ranged many = omega (arith, many, few)
+few-ranged None (Some s) bits few numbers ranged many = absurd (none-some s numbers)
+few-ranged (Some range) None bits few numbers ranged many = absurd (none-some (span_of range) (sym numbers))
+few-ranged (Some range) (Some s) bits few numbers ranged many = ranged range s refl (same_Some (span_of range) s numbers) many
+
 -- where a name breaks no rule, ports don't have too many bits
 pub few-grouped : (xs : List Lexeme) (title : List ℕ) (groups : List (Group Direction)) (spec : Spec Direction) (names : List (List ℕ)) (x : List ℕ) (header : Header) (span : Option Span) → xs ≡ in_ansi title groups spec names → IsHeader header (flat_map group_names groups ++ names) (flat_map said_in_header groups ++ said_of spec.lead spec.range names) → option_map span_of spec.range ≡ span → (Contains (flat_map group_names groups ++ names) x → ⊥) → (BreaksRule xs (Name x) → ⊥) → MOST_PORT_BITS < bits_said (flat_map said_in_header groups ++ said_of spec.lead spec.range names) + span_width span → ⊥
-few-grouped xs title groups spec names x header span is kept same new fine = by spec.range refl span same
-  where
-    by : (range : Option Range) → spec.range ≡ range → (s : Option Span) → option_map span_of spec.range ≡ s → MOST_PORT_BITS < bits_said (flat_map said_in_header groups ++ said_of spec.lead spec.range names) + span_width s → ⊥
-    by None e None numbers many = let few = kept.few in omega (arith, many, few)
-    by None e (Some s) numbers many = absurd (none-some s (ap (option_map span_of) (sym e) ∙ numbers))
-    by (Some range) e None numbers many = absurd (none-some (span_of range) (sym numbers ∙ ap (option_map span_of) e))
-    by (Some range) e (Some s) numbers many = fine (inr (inr (inr (inr (inr (inr (inr (inl (record {
+few-grouped xs title groups spec names x header span is kept same new fine =
+    few-ranged spec.range span (bits_said (flat_map said_in_header groups ++ said_of spec.lead spec.range names)) kept.few same (λ range s e numbers many. fine (inr (inr (inr (inr (inr (inr (inr (inl (record {
       title = title;
       groups = groups;
       direction = spec.lead;
@@ -143,8 +145,8 @@ few-grouped xs title groups spec names x header span is kept same new fine = by 
       names = names;
       is = is ∙ ap (λ r. in_ansi title groups (record { lead = spec.lead; range = r }) names) e;
       new = new;
-      many = subst (λ n. MOST_PORT_BITS < n) (bits-grouped_more groups spec names range s e (same_Some (span_of range) s (ap (option_map span_of) (sym e) ∙ numbers))) many;
-    })))))))))
+      many = subst (λ n. MOST_PORT_BITS < n) (bits-grouped_more groups spec names range s e numbers) many;
+    }))))))))))
 
 pub ansi_groups : (ports : Option Listing) → is_ansi ports ≡ true → (groups : Row (Group Direction)) × (ports ≡ Some (Ansi groups))
 ansi_groups (Some (Ansi groups)) e = (groups, refl)
@@ -186,13 +188,8 @@ module _ (head : Head) (items : List Item) (spec : Spec Lead) (names : List (Lis
       by (inr absent) = absurd (against (inl absent))
 
   pub few-body : (header : Header) (span : Option Span) → groups_of head.ports ≡ [] → IsHeader header (header_of head) (said_by (record { head = head; items = items }) ++ said_with spec names) → option_map span_of spec.range ≡ span → Contains (header_of head) x × (Contains (directed_by head items ++ names) x → ⊥) → (BreaksRule (at_declared head items spec names) (Name x) → ⊥) → MOST_PORT_BITS < bits_said (said_by (record { head = head; items = items }) ++ said_with spec names) + span_width span → ⊥
-  few-body header span none kept same known fine = by spec.range refl span same
-    where
-      by : (range : Option Range) → spec.range ≡ range → (s : Option Span) → option_map span_of spec.range ≡ s → MOST_PORT_BITS < bits_said (said_by (record { head = head; items = items }) ++ said_with spec names) + span_width s → ⊥
-      by None e None numbers many = let few = kept.few in omega (arith, many, few)
-      by None e (Some s) numbers many = absurd (none-some s (ap (option_map span_of) (sym e) ∙ numbers))
-      by (Some range) e None numbers many = absurd (none-some (span_of range) (sym numbers ∙ ap (option_map span_of) e))
-      by (Some range) e (Some s) numbers many = fine (inr (inr (inr (inr (inr (inr (inr (inr (record {
+  few-body header span none kept same known fine =
+      few-ranged spec.range span (bits_said (said_by (record { head = head; items = items }) ++ said_with spec names)) kept.few same (λ range s e numbers many. fine (inr (inr (inr (inr (inr (inr (inr (inr (record {
         head = head;
         items = items;
         direction = direction;
@@ -201,5 +198,5 @@ module _ (head : Head) (items : List Item) (spec : Spec Lead) (names : List (Lis
         is = same_form ∙ ap (λ r. at_declared head items (record { lead = Gives direction; range = r }) names) e;
         stands = known.0;
         new = known.1;
-        many = subst (λ n. MOST_PORT_BITS < n) (bits-body head items spec names direction gives none range s e (same_Some (span_of range) s (ap (option_map span_of) (sym e) ∙ numbers))) many;
-      })))))))))
+        many = subst (λ n. MOST_PORT_BITS < n) (bits-body head items spec names direction gives none range s e numbers) many;
+      }))))))))))

@@ -8,15 +8,14 @@ use Rattle.std.proofs.lemmas.Option.{same_Some, none-some}
 use Rattle.std.proofs.lemmas.Slice.Eq.{bytes_eq-Decides}
 use Rattle.ncl_reader.specs.Lexemes.{Lexeme, Name}
 use Rattle.ncl_reader.specs.Grammar.{Range}
-use Rattle.ncl_reader.specs.Forms.{IsDeclaring, IsAtNet}
+use Rattle.ncl_reader.specs.Forms.{IsDeclaring}
 use Rattle.ncl_reader.specs.declared.span.Span.{Span}
 use Rattle.ncl_reader.specs.Vectors.{span_of, Covers}
-use Rattle.ncl_reader.specs.Partial.{Partial, start, inside, opened, spelled, place_of}
-use Rattle.ncl_reader.specs.declared.place.Place.TheVariants as place
+use Rattle.ncl_reader.specs.Partial.{Partial, start, spelled}
 use Rattle.ncl_reader.proofs.Steps.{run}
 use Rattle.ncl_reader.proofs.Runs.{run-spelled}
 use Rattle.ncl_reader.proofs.Grows.{grows-run}
-use Rattle.ncl_reader.proofs.Viable.{same_tree}
+use Rattle.ncl_reader.proofs.Breaking.{front_or_last}
 use Rattle.ncl_reader.proofs.Declares.{range_here, declaring_tree, declaring-here, here-declaring}
 
 -- a fact holds or it doesn't
@@ -46,20 +45,6 @@ same_or_not x y = by (bytes_eq x y) refl
 -- a name stands with what holds of what stands in front of it
 abbrev pub Any : (List Lexeme → List ℕ → Type 0) → List Lexeme → Type 0
 Any P xs = (front : List Lexeme) × (y : List ℕ) × (rest : List Lexeme) × (xs ≡ front ++ Name y ∷ rest) × P front y
-
--- one token more is behind what stood, or is the last
-pub front_or_last : (xs before : List Lexeme) (t u : Lexeme) (after : List Lexeme) → xs ++ t ∷ [] ≡ before ++ u ∷ after → ((ys : List Lexeme) × (xs ≡ before ++ u ∷ ys)) ⊎ ((xs ≡ before) × (t ≡ u))
-front_or_last [] [] t u after e = inr (refl, let same : t ≡ u = cc in same)
-front_or_last [] (b ∷ []) t u after e = absurd cc
-front_or_last [] (b ∷ c ∷ bs) t u after e = absurd cc
-front_or_last (x ∷ xs) [] t u after e = inl (xs, let same : x ≡ u = cc in ap (λ z. z ∷ xs) same)
-front_or_last (x ∷ xs) (b ∷ bs) t u after e =
-    let same : x ≡ b = cc in
-    let rest : xs ++ t ∷ [] ≡ bs ++ u ∷ after = cc in
-    elim (front_or_last xs bs t u after rest) [
-      | inl found ↦ inl (found.0, ap (λ l. x ∷ l) found.1 ∙ ap (λ z. z ∷ (bs ++ u ∷ found.0)) same)
-      | inr found ↦ inr (ap (λ l. x ∷ l) found.0 ∙ ap (λ z. z ∷ bs) same, found.1)
-    ]
 
 module _ (P : List Lexeme → List ℕ → Type 0) where
   pub any-more : (xs : List Lexeme) (t : Lexeme) → Any P (xs ++ t ∷ []) → Any P xs ⊎ ((y : List ℕ) × (t ≡ Name y) × P xs y)
@@ -180,7 +165,3 @@ bit_or_not P decided span = elim (number_or_not (λ k. Covers span k × P k) (λ
     below : (k : ℕ) → Covers span k → k < span.first + span.last + 1
     below k (inl both) = omega (arith, both.0, both.1)
     below k (inr both) = omega (arith, both.0, both.1)
-
--- the net of a connection is next, or not
-pub net-place : (p : Partial) → IsAtNet (spelled p) → place_of p ≡ place.Net
-net-place p (head, items, cell, name, conns, pin, is) = ap place_of (same_tree p (inside head items (opened cell name conns pin)) is)

@@ -223,20 +223,24 @@ module _ {L : Type 0} (site : Site L) (kept : Led) where
     pub keeps : IsSaid site.output spec kept
     pub takes : lead_step site.more part (Name x) ≡ Some (naming spec [] x)
 
-  pub begins : (part : LeadPart L) (x : List ℕ) → takes_name (lead_place site.of part) ≡ true → IsLed site.output part kept → Begins part x
-  begins (led l) x e keeps = record {
+  begins_led : (part : LeadPart L) (x : List ℕ) → takes_name (lead_place site.of part) ≡ true → IsLed site.output part kept → Begins part x
+  begins_led (led l) x e keeps = record {
     spec = record { lead = l; range = None };
     says = refl;
     keeps = (keeps.0, record { same = sym keeps.1; few = λ s is. absurd (none-some s (sym keeps.1 ∙ is)) });
     takes = refl;
   }
-  begins (ranged l range) x e keeps = record {
+  begins_led (ranged l range) x e keeps = record {
     spec = record { lead = l; range = Some range };
     says = refl;
     keeps = keeps;
     takes = refl;
   }
-  begins part x e keeps = absurd (false≢true e)
+  begins_led part x e keeps = absurd (false≢true e)
+
+  -- where a name may be next
+  pub begins : (part : LeadPart L) (x : List ℕ) (at : LeadPlace) (takes : Bool) → lead_place site.of part ≡ at → takes ≡ takes_name at → takes ≡ true → IsLed site.output part kept → Begins part x
+  begins part x at takes here says taken keeps = begins_led part x (ap takes_name here ∙ sym says ∙ taken) keeps
 
 -- numbers that are taken
 module _ {L : Type 0} (site : Site L) (old new : Led) where

@@ -4,7 +4,8 @@ use Rattle.ncl_reader.specs.Lexemes.{Lexeme, Name}
 use Rattle.ncl_reader.specs.Grammar.{Range}
 use Rattle.ncl_reader.specs.Forms.{IsDeclaring, IsAtNet}
 use Rattle.ncl_reader.specs.Vectors.{Stands, IsDeclared, IsUsed}
-use Rattle.ncl_reader.proofs.Facts.{front_or_last, declaring_or_not}
+use Rattle.ncl_reader.proofs.Breaking.{front_or_last}
+use Rattle.ncl_reader.proofs.Facts.{declaring_or_not}
 
 pub declared-more : (xs : List Lexeme) (t : Lexeme) (y : List ℕ) (range : Option Range) → IsDeclared (xs ++ t ∷ []) y range → IsDeclared xs y range ⊎ ((t ≡ Name y) × IsDeclaring xs range)
 declared-more xs t y range (front, rest, e, declares) = elim (front_or_last xs front t (Name y) rest e) [

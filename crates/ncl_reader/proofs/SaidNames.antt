@@ -7,7 +7,7 @@ use Rattle.std.specs.List.{flat_map, sum_by}
 use Rattle.std.proofs.lemmas.List.Sums.{sum_by-append, sum_by-cons, sum-map}
 use Rattle.std.proofs.Math.Nat.{mul-suc}
 use Rattle.std.proofs.lemmas.List.{map-append}
-use Rattle.ncl_reader.specs.Grammar.{Row, all_of, Direction, Lead, Gives, Wires, Range, Group, group_names, Item, Declares, Joins, Head, groups_of}
+use Rattle.ncl_reader.specs.Grammar.{Row, all_of, Direction, Lead, Gives, Wires, Range, Group, group_names, Conn, Item, Declares, Joins, Head, groups_of}
 use Rattle.ncl_reader.specs.Vectors.{span_of, range_width}
 use Rattle.ncl_reader.specs.Rules.{directed_in, directed_by, group_bits, item_bits}
 use Rattle.ncl_reader.specs.Says.{Said, is_output, said_of, said_in_header, said_in, said_by}
@@ -52,21 +52,22 @@ pub bits-header : (groups : List (Group Direction)) → bits_said (flat_map said
 bits-header groups = bits_header groups ∙ sym (sum-map group_bits groups)
 
 -- of items
-names_led : (lead : Lead) (range : Option Range) (names : Row (List ℕ)) → names_said (said_in (Declares (record { spec = record { lead = lead; range = range }; names = names }))) ≡ directed_in (Declares (record { spec = record { lead = lead; range = range }; names = names }))
-names_led (Gives direction) range names = names-said_of direction range (all_of names)
-names_led Wires range names = refl
+abbrev declared_by : Lead → Option Range → Row (List ℕ) → Item
+declared_by lead range names = Declares (record { spec = record { lead = lead; range = range }; names = names })
+
+said-item : {A : Type 0} (of_said : List Said → A) (of_item : Item → A) → ((direction : Direction) (range : Option Range) (names : Row (List ℕ)) → of_said (said_of direction range (all_of names)) ≡ of_item (declared_by (Gives direction) range names)) → ((range : Option Range) (names : Row (List ℕ)) → of_said [] ≡ of_item (declared_by Wires range names)) → ((cell name : List ℕ) (conns : Row Conn) → of_said [] ≡ of_item (Joins cell name conns)) → (item : Item) → of_said (said_in item) ≡ of_item item
+said-item of_said of_item gives wires joins (Joins cell name conns) = joins cell name conns
+said-item of_said of_item gives wires joins (Declares group) = by group.spec.lead
+  where
+    by : (lead : Lead) → of_said (said_in (declared_by lead group.spec.range group.names)) ≡ of_item (declared_by lead group.spec.range group.names)
+    by (Gives direction) = gives direction group.spec.range group.names
+    by Wires = wires group.spec.range group.names
 
 names-item : (item : Item) → names_said (said_in item) ≡ directed_in item
-names-item (Declares group) = names_led group.spec.lead group.spec.range group.names
-names-item (Joins cell name conns) = refl
-
-bits_led : (lead : Lead) (range : Option Range) (names : Row (List ℕ)) → bits_said (said_in (Declares (record { spec = record { lead = lead; range = range }; names = names }))) ≡ item_bits (Declares (record { spec = record { lead = lead; range = range }; names = names }))
-bits_led (Gives direction) range names = bits-said_of direction range (all_of names)
-bits_led Wires range names = refl
+names-item = said-item names_said directed_in (λ direction range names. names-said_of direction range (all_of names)) (λ range names. refl) (λ cell name conns. refl)
 
 bits-item : (item : Item) → bits_said (said_in item) ≡ item_bits item
-bits-item (Declares group) = bits_led group.spec.lead group.spec.range group.names
-bits-item (Joins cell name conns) = refl
+bits-item = said-item bits_said item_bits (λ direction range names. bits-said_of direction range (all_of names)) (λ range names. refl) (λ cell name conns. refl)
 
 pub names-items : (items : List Item) → names_said (flat_map said_in items) ≡ flat_map directed_in items
 names-items [] = refl

@@ -1,4 +1,4 @@
-use Rattle.std.proofs.Common.{◌≡◌, [], refl, sym, ap, ◌∙◌, subst, true, false, None}
+use Rattle.std.proofs.Common.{◌≡◌, [], refl, sym, ap, ◌∙◌, subst, false, None}
 use Rattle.std.specs.Option.{option_map}
 use Rattle.std.proofs.lemmas.Bool.{false≢true}
 use Rattle.ncl_reader.specs.declared.place.Place.TheVariants as place
@@ -44,27 +44,21 @@ returns-then-not-takes_name c = λ p (kept, (groups, part, is, at, led, read)).
 pub returns-then-breaks_header : goal.returns-then-breaks_header
 returns-then-breaks_header c = λ p (kept, (groups, part, is, at, led, read)).
     let d = c.args.self.now in
-    let title = d.title.now in
     let t = meant c.args.lexeme.now in
     let x = c.in-Some.name.now in
-    let takes : takes_name (lead_place direction_place part) ≡ true = ap takes_name at ∙ sym c.takes_name.ensures ∙ c.if-not-takes_name.false in
-    let start = begins (in_header title groups) d.lead part x takes led in
-    let spec = start.spec in
-    let form = headed_form p t x d d groups spec [] (leading part) is (at_part direction_phrase (leading part) spec start.says) c.in-Some.ensures in
-    name_left (place.HeaderLead c.args.at) p t x (in_ansi title groups spec []) d form c.in-Some.ensures ((c.breaks_header.ensures groups spec [] (subst (KeepsNames d.known) form kept) start.keeps (grouped-begins d groups spec read)).0 c.if-breaks_header.true) (kept, (groups, part, is, at, led, read))
+    let start = begins (in_header d.title.now groups) d.lead part x c.args.at c.takes_name.result at c.takes_name.ensures c.if-not-takes_name.false led in
+    let form = headed_form p t x d d groups start.spec [] (leading part) is (at_part direction_phrase (leading part) start.spec start.says) c.in-Some.ensures in
+    name_left (place.HeaderLead c.args.at) p t x (in_ansi d.title.now groups start.spec []) d form c.in-Some.ensures ((c.breaks_header.ensures groups start.spec [] (subst (KeepsNames d.known) form kept) start.keeps (grouped-begins d groups start.spec read)).0 c.if-breaks_header.true) (kept, (groups, part, is, at, led, read))
 
 pub returns : goal.returns
 returns c = λ p (kept, (groups, part, is, at, led, read)).
     let d = c.args.self.now in
-    let title = d.title.now in
     let t = meant c.args.lexeme.now in
     let x = c.in-Some.name.now in
-    let takes : takes_name (lead_place direction_place part) ≡ true = ap takes_name at ∙ sym c.takes_name.ensures ∙ c.if-not-takes_name.false in
-    let start = begins (in_header title groups) d.lead part x takes led in
-    let spec = start.spec in
-    let group = at_part direction_phrase (leading part) spec start.says in
-    let form = headed_form p t x d d groups spec [] (leading part) is group c.in-Some.ensures in
+    let start = begins (in_header d.title.now groups) d.lead part x c.args.at c.takes_name.result at c.takes_name.ensures c.if-not-takes_name.false led in
+    let group = at_part direction_phrase (leading part) start.spec start.says in
+    let form = headed_form p t x d d groups start.spec [] (leading part) is group c.in-Some.ensures in
     let here = subst (KeepsNames d.known) form kept in
-    let read_here = grouped-begins d groups spec read in
-    let fine : BreaksRule (in_ansi title groups spec []) (Name x) → ⊥ = λ breaks. false≢true (sym c.if-breaks_header.false ∙ (c.breaks_header.ensures groups spec [] here start.keeps read_here).1 breaks) in
-    headed_taken p t x d c.take_header_name.new.self groups spec [] (leading part) is group c.in-Some.ensures (ap (λ found. or_else (option_map (heading title groups) found) None) start.takes) (c.in_ok-take_header_name.ensures groups spec [] here start.keeps read_here fine) fine
+    let read_here = grouped-begins d groups start.spec read in
+    let fine : BreaksRule (in_ansi d.title.now groups start.spec []) (Name x) → ⊥ = λ breaks. false≢true (sym c.if-breaks_header.false ∙ (c.breaks_header.ensures groups start.spec [] here start.keeps read_here).1 breaks) in
+    headed_taken p t x d c.take_header_name.new.self groups start.spec [] (leading part) is group c.in-Some.ensures (ap (λ found. or_else (option_map (heading d.title.now groups) found) None) start.takes) (c.in_ok-take_header_name.ensures groups start.spec [] here start.keeps read_here fine) fine

@@ -1,4 +1,4 @@
-use Rattle.std.proofs.Common.{◌≡◌, [], refl, sym, ap, ◌∙◌, subst, true, false, None}
+use Rattle.std.proofs.Common.{◌≡◌, [], refl, sym, ap, ◌∙◌, subst, false, None}
 use Rattle.std.specs.Option.{option_map}
 use Rattle.std.proofs.lemmas.Bool.{false≢true}
 use Rattle.ncl_reader.specs.declared.place.Place.TheVariants as place
@@ -45,23 +45,19 @@ returns-then-breaks_declared c = λ p (kept, (head, items, part, is, at, led, ea
     let d = c.args.self.now in
     let t = meant c.args.lexeme.now in
     let x = c.in-Some.name.now in
-    let takes : takes_name (lead_place word_place part) ≡ true = ap takes_name at ∙ sym c.takes_name.ensures ∙ c.if-not-takes_name.false in
-    let start = begins (in_item head items) d.lead part x takes led in
-    let spec = start.spec in
-    let form = declared_form p t x d head items spec [] (leading part) is (at_part lead_phrase (leading part) spec start.says) c.in-Some.ensures in
-    name_left (place.Lead c.args.at) p t x (at_declared head items spec []) d form c.in-Some.ensures ((c.breaks_declared.ensures head items spec [] (subst (KeepsNames d.known) form kept) start.keeps early (body-begins d head items spec body)).0 c.if-breaks_declared.true) (kept, (head, items, part, is, at, led, early, body))
+    let start = begins (in_item head items) d.lead part x c.args.at c.takes_name.result at c.takes_name.ensures c.if-not-takes_name.false led in
+    let form = declared_form p t x d head items start.spec [] (leading part) is (at_part lead_phrase (leading part) start.spec start.says) c.in-Some.ensures in
+    name_left (place.Lead c.args.at) p t x (at_declared head items start.spec []) d form c.in-Some.ensures ((c.breaks_declared.ensures head items start.spec [] (subst (KeepsNames d.known) form kept) start.keeps early (body-begins d head items start.spec body)).0 c.if-breaks_declared.true) (kept, (head, items, part, is, at, led, early, body))
 
 pub returns : goal.returns
 returns c = λ p (kept, (head, items, part, is, at, led, early, body)).
     let d = c.args.self.now in
     let t = meant c.args.lexeme.now in
     let x = c.in-Some.name.now in
-    let takes : takes_name (lead_place word_place part) ≡ true = ap takes_name at ∙ sym c.takes_name.ensures ∙ c.if-not-takes_name.false in
-    let start = begins (in_item head items) d.lead part x takes led in
-    let spec = start.spec in
-    let group = at_part lead_phrase (leading part) spec start.says in
-    let form = declared_form p t x d head items spec [] (leading part) is group c.in-Some.ensures in
+    let start = begins (in_item head items) d.lead part x c.args.at c.takes_name.result at c.takes_name.ensures c.if-not-takes_name.false led in
+    let group = at_part lead_phrase (leading part) start.spec start.says in
+    let form = declared_form p t x d head items start.spec [] (leading part) is group c.in-Some.ensures in
     let here = subst (KeepsNames d.known) form kept in
-    let read_here = body-begins d head items spec body in
-    let fine : BreaksRule (at_declared head items spec []) (Name x) → ⊥ = λ breaks. false≢true (sym c.if-breaks_declared.false ∙ (c.breaks_declared.ensures head items spec [] here start.keeps early read_here).1 breaks) in
-    declared_taken p t x c.take_declared.new.self head items spec [] (leading part) is group c.in-Some.ensures (ap (λ found. or_else (option_map (λ more. inside head items (declaring more)) found) None) start.takes) (c.in_ok-take_declared.ensures head items spec [] here start.keeps early read_here fine) fine
+    let read_here = body-begins d head items start.spec body in
+    let fine : BreaksRule (at_declared head items start.spec []) (Name x) → ⊥ = λ breaks. false≢true (sym c.if-breaks_declared.false ∙ (c.breaks_declared.ensures head items start.spec [] here start.keeps early read_here).1 breaks) in
+    declared_taken p t x c.take_declared.new.self head items start.spec [] (leading part) is group c.in-Some.ensures (ap (λ found. or_else (option_map (λ more. inside head items (declaring more)) found) None) start.takes) (c.in_ok-take_declared.ensures head items start.spec [] here start.keeps early read_here fine) fine

@@ -1,4 +1,4 @@
-use Rattle.std.proofs.Common.{◌≡◌, [], true, None, inl, refl, sym, ap, ◌∙◌, subst}
+use Rattle.std.proofs.Common.{◌≡◌, [], None, inl, refl, sym, ap, ◌∙◌, subst}
 use Rattle.ncl_reader.specs.declared.place.Place.TheVariants as place
 use Rattle.ncl_reader.specs.Lexemes.{Name}
 use Rattle.ncl_reader.specs.Grammar.{direction_phrase}
@@ -17,8 +17,7 @@ use Rattle.ncl_reader.proofs.draft.Draft.of_header_lead.Goals as goal
 pub returns-then-takes_name : goal.returns-then-takes_name
 returns-then-takes_name c = λ p (kept, (groups, part, is, at, led, read)).
     let x = c.args.name.now in
-    let takes : takes_name (lead_place direction_place part) ≡ true = ap takes_name at ∙ sym c.takes_name.ensures ∙ c.if-takes_name.true in
-    let start = begins (in_header c.args.self.now.title.now groups) c.args.self.now.lead part x takes led in
+    let start = begins (in_header c.args.self.now.title.now groups) c.args.self.now.lead part x c.args.lead c.takes_name.result at c.takes_name.ensures c.if-takes_name.true led in
     let spec = start.spec in
     let form : spelled p ≡ in_ansi c.args.self.now.title.now groups spec [] = ap spelled is ∙ heading_form c.args.self.now.title.now groups (leading part) spec [] (at_part direction_phrase (leading part) spec start.says) in
     subst (λ xs. IsFaultAt xs (record { lexeme = Name x; place = c.args.at }) c.of_declared.result) (sym form)

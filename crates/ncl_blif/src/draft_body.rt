@@ -12,10 +12,10 @@ use crate::command::Command;
 use crate::draft_cover::{DraftCover, DraftOutput};
 use crate::drivers::{Driver, Drivers};
 use crate::fault::BlifFault;
+use crate::fields::front_and_last;
 use crate::line::Line;
 use crate::part::Part;
 use crate::rows::no_rows;
-use crate::fields::front_and_last;
 use ncl_base::MOST_BYTES;
 use std::alloc::Global;
 

@@ -6,10 +6,10 @@ ghost use Rattle.ncl_blif.specs.Named.{cover_of};
 ghost use Rattle.ncl_blif.specs.LineFaults.{rows_fault};
 
 use crate::fault::BlifFault;
+use crate::fields::front_and_last;
 use crate::model::Row;
 use crate::part::Part;
 use crate::rows::read_rows;
-use crate::fields::front_and_last;
 use ncl_base::Items;
 use std::alloc::Global;
 use std::marker::Model;

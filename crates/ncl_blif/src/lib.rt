@@ -10,6 +10,7 @@ mod draft_cover;
 mod drivers;
 pub mod examples;
 mod fault;
+mod fields;
 mod finish;
 pub mod laws;
 mod line;
@@ -20,7 +21,6 @@ mod reader;
 mod row;
 mod rows;
 mod section;
-mod fields;
 
 pub use dependence::dependencies;
 pub use fault::BlifFault;

@@ -6,8 +6,8 @@ ghost use Rattle.ncl_blif.specs.Parts.{first_field, is_row};
 ghost use Rattle.ncl_blif.specs.Lines.{lines_of, uncommented, joined, in_fields};
 ghost use Rattle.ncl_blif.specs.Counted.{AreCounted};
 
-use crate::piece::{first_piece, without_mark};
 use crate::fields::push_fields;
+use crate::piece::{first_piece, without_mark};
 use ncl_base::{MOST_BYTES, Memory};
 use std::alloc::Global;
 use std::marker::Model;

@@ -7,9 +7,9 @@ ghost use Rattle.ncl_blif.specs.Named.{lit_of, pattern_of, last_field, lits_of, 
 ghost use Rattle.ncl_blif.specs.LineFaults.{is_literal, is_value, is_row_of};
 
 use crate::fault::BlifFault;
+use crate::fields::front_and_last;
 use crate::line::Line;
 use crate::model::{Lit, Row};
-use crate::fields::front_and_last;
 use ncl_base::{Items, Memory};
 use std::alloc::Global;
 

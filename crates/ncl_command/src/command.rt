@@ -141,7 +141,10 @@ fn demo<'a>(values: &ArgMatches<'a>) -> Option<Command<'a>>
 }
 
 /// `check FILE [--limit N] [--why]`.
-fn check_arguments<'a>(alloc: Global, arguments: &'a [&'a str]) -> Result<Option<Command<'a>>, Memory>
+fn check_arguments<'a>(
+    alloc: Global,
+    arguments: &'a [&'a str],
+) -> Result<Option<Command<'a>>, Memory>
     ensures command { IfOk result (λ command. option_map command_meant command
         ≡ option_and_then check_of (values_of check_form (map (λ argument. argument.now) arguments.now))) }
     ensures limit { IfOk result (λ command. IfSome command (λ c. HasLimit (command_meant c))) }
@@ -155,7 +158,10 @@ fn check_arguments<'a>(alloc: Global, arguments: &'a [&'a str]) -> Result<Option
 }
 
 /// `compile FILE [--merge]`.
-fn compile_arguments<'a>(alloc: Global, arguments: &'a [&'a str]) -> Result<Option<Command<'a>>, Memory>
+fn compile_arguments<'a>(
+    alloc: Global,
+    arguments: &'a [&'a str],
+) -> Result<Option<Command<'a>>, Memory>
     ensures command { IfOk result (λ command. option_map command_meant command
         ≡ option_and_then compile_of (values_of compile_form (map (λ argument. argument.now) arguments.now))) }
     ensures limit { IfOk result (λ command. IfSome command (λ c. HasLimit (command_meant c))) }
@@ -187,7 +193,10 @@ fn sim_arguments<'a>(alloc: Global, arguments: &'a [&'a str]) -> Result<Option<C
 }
 
 /// `match FILE FILE [--limit N]`.
-fn match_arguments<'a>(alloc: Global, arguments: &'a [&'a str]) -> Result<Option<Command<'a>>, Memory>
+fn match_arguments<'a>(
+    alloc: Global,
+    arguments: &'a [&'a str],
+) -> Result<Option<Command<'a>>, Memory>
     ensures command { IfOk result (λ command. option_map command_meant command
         ≡ option_and_then match_of (values_of match_form (map (λ argument. argument.now) arguments.now))) }
     ensures limit { IfOk result (λ command. IfSome command (λ c. HasLimit (command_meant c))) }
@@ -201,7 +210,10 @@ fn match_arguments<'a>(alloc: Global, arguments: &'a [&'a str]) -> Result<Option
 }
 
 /// `demo N`.
-fn demo_arguments<'a>(alloc: Global, arguments: &'a [&'a str]) -> Result<Option<Command<'a>>, Memory>
+fn demo_arguments<'a>(
+    alloc: Global,
+    arguments: &'a [&'a str],
+) -> Result<Option<Command<'a>>, Memory>
     ensures command { IfOk result (λ command. option_map command_meant command
         ≡ option_and_then demo_of (values_of demo_form (map (λ argument. argument.now) arguments.now))) }
     ensures limit { IfOk result (λ command. IfSome command (λ c. HasLimit (command_meant c))) }

@@ -4,13 +4,14 @@
 ghost use Rattle.std.specs.Prelude.{◌≡◌, IfErr, MatchResult};
 ghost use Rattle.std.specs.Process.{exit_status};
 
+mod arguments;
 #[cfg(test)]
 mod edge_tests;
 mod file_source;
 mod stdout_sink;
 mod tally;
-mod arguments;
 
+use arguments::{arguments_given, views};
 use file_source::FileSource;
 use ncl_top::run;
 use std::env::Args;
@@ -19,7 +20,6 @@ use std::rt::Files;
 use std::thread::Threads;
 use std::{env, io};
 use stdout_sink::StdoutSink;
-use arguments::{arguments_given, views};
 
 /// Answers the arguments of the command line and ends with the answer's status.
 fn main(rt: HostRuntime) -> ExitCode {

@@ -1,48 +1,31 @@
 -- The stages that break one condition of soundness break no other: by computation, at each word and fault.
-use Rattle.std.proofs.Common.{◌≡◌, ◌≢◌, zero, suc, Bool, true, false, [], ◌∷◌, refl}
+use Rattle.std.proofs.Common.{◌≡◌, ◌≢◌, zero, suc, Bool, true, false, [], ◌∷◌, refl, ◌∙◌, sym, length}
+use Rattle.ncl_shape.specs.Stage.{StageData}
 use Rattle.ncl_stage.specs.Faults.{StageFault, BothRails, NoRail, Incomplete, Orphan, shows}
 use Rattle.ncl_insensitivity.specs.Unsound.{condition_of, BreaksOnly, orphan_stage, dead_stage, illegal_stage, eager_stage}
 use Rattle.ncl_insensitivity.proofs.SoundAnd.{of_two_bits, of_each}
 use Rattle.ncl_insensitivity.proofs.ByComputation.{IsHiddenAtOne, IsHiddenAtOne-word, other_faults}
 
-pub orphan_stage-breaks : BreaksOnly orphan_stage (Orphan 0)
-orphan_stage-breaks = record {
-  word = true ∷ [];
-  right = refl;
-  shown = refl;
-  others = λ word other right differs.
-      IsHiddenAtOne-word orphan_stage other
-      (other_faults 3 (IsHiddenAtOne orphan_stage) 1 1 1 0
-      (λ differs. ((refl, refl), λ k. (refl, refl))) (λ differs. ((refl, refl), λ k. (refl, refl))) (λ differs. ((refl, refl), λ k. (refl, refl))) (λ differs. absurd (differs refl)) other differs)
-      word right;
+-- a stage of one bit breaks one condition alone where a bit shows a fault of it and none shows one of another
+breaks_at_one : (s : StageData) (fault : StageFault) (bit : Bool) → length s.inputs ≡ 1 → shows s (bit ∷ []) fault ≡ true → ((other : StageFault) → condition_of other ≢ condition_of fault → IsHiddenAtOne s other) → BreaksOnly s fault
+breaks_at_one s fault bit one shown hidden = record {
+  word = bit ∷ [];
+  right = sym one;
+  shown = shown;
+  others = λ word other right differs. IsHiddenAtOne-word s other (hidden other differs) word (right ∙ one);
 }
 
-pub dead_stage-breaks : BreaksOnly dead_stage (NoRail 0)
-dead_stage-breaks = record {
-  word = false ∷ [];
-  right = refl;
-  shown = refl;
-  others = λ word other right differs.
-      IsHiddenAtOne-word dead_stage other
-      (other_faults 1 (IsHiddenAtOne dead_stage) 1 0 1 1
-      (λ differs. ((refl, refl), λ k. (refl, refl))) (λ differs. absurd (differs refl)) (λ differs. ((refl, refl), λ k. (refl, refl))) (λ differs. ((refl, refl), λ k. (refl, refl))) other differs)
-      word right;
-}
+pub orphan_stage_breaks : BreaksOnly orphan_stage (Orphan 0)
+orphan_stage_breaks = breaks_at_one orphan_stage (Orphan 0) true refl refl (other_faults 3 (IsHiddenAtOne orphan_stage) 1 1 1 0 (λ differs. ((refl, refl), λ k. (refl, refl))) (λ differs. ((refl, refl), λ k. (refl, refl))) (λ differs. ((refl, refl), λ k. (refl, refl))) (λ differs. absurd (differs refl)))
 
-pub illegal_stage-breaks : BreaksOnly illegal_stage (BothRails 0)
-illegal_stage-breaks = record {
-  word = true ∷ [];
-  right = refl;
-  shown = refl;
-  others = λ word other right differs.
-      IsHiddenAtOne-word illegal_stage other
-      (other_faults 0 (IsHiddenAtOne illegal_stage) 0 2 1 1
-      (λ differs. absurd (differs refl)) (λ differs. ((refl, refl), ((refl, refl), λ k. (refl, refl)))) (λ differs. ((refl, refl), λ k. (refl, refl))) (λ differs. ((refl, refl), λ k. (refl, refl))) other differs)
-      word right;
-}
+pub dead_stage_breaks : BreaksOnly dead_stage (NoRail 0)
+dead_stage_breaks = breaks_at_one dead_stage (NoRail 0) false refl refl (other_faults 1 (IsHiddenAtOne dead_stage) 1 0 1 1 (λ differs. ((refl, refl), λ k. (refl, refl))) (λ differs. absurd (differs refl)) (λ differs. ((refl, refl), λ k. (refl, refl))) (λ differs. ((refl, refl), λ k. (refl, refl))))
 
-pub eager_stage-breaks : BreaksOnly eager_stage (Incomplete 0)
-eager_stage-breaks = record {
+pub illegal_stage_breaks : BreaksOnly illegal_stage (BothRails 0)
+illegal_stage_breaks = breaks_at_one illegal_stage (BothRails 0) true refl refl (other_faults 0 (IsHiddenAtOne illegal_stage) 0 2 1 1 (λ differs. absurd (differs refl)) (λ differs. ((refl, refl), ((refl, refl), λ k. (refl, refl)))) (λ differs. ((refl, refl), λ k. (refl, refl))) (λ differs. ((refl, refl), λ k. (refl, refl))))
+
+pub eager_stage_breaks : BreaksOnly eager_stage (Incomplete 0)
+eager_stage_breaks = record {
   word = false ∷ false ∷ [];
   right = refl;
   shown = refl;

@@ -12,6 +12,7 @@ ghost use Rattle.ncl_insensitivity.specs.Unsound.{BreaksOnly, after_run, orphan_
 
 /// A stage that doesn't need all its inputs: an AND whose output is 0 as soon as one bit is. A word is taken
 /// before the source has raised it all, and so too early.
+#[tactic(auto, using(crate::proofs::UnsoundLaws::eager_stage_breaks))]
 pub fn incomplete_stage()
     ensures netlist { IsNetlist with_eager_and.netlist }
     ensures stage { IsStage eager_stage }
@@ -23,6 +24,7 @@ pub fn incomplete_stage()
 
 /// A stage with an orphan, a gate that nothing observes: a word goes through both banks while the gate is still
 /// to rise, and the NULL behind it takes the gate's excitation away.
+#[tactic(auto, using(crate::proofs::UnsoundLaws::orphan_stage_breaks))]
 pub fn orphan_in_a_stage()
     ensures netlist { IsNetlist with_orphan.netlist }
     ensures stage { IsStage orphan_stage }
@@ -33,6 +35,7 @@ pub fn orphan_in_a_stage()
 {}
 
 /// A stage with an output of which both rails rise: what is taken has both, and is no word.
+#[tactic(auto, using(crate::proofs::UnsoundLaws::illegal_stage_breaks))]
 pub fn both_rails_of_an_output()
     ensures netlist { IsNetlist with_both_rails.netlist }
     ensures stage { IsStage illegal_stage }
@@ -45,6 +48,7 @@ pub fn both_rails_of_an_output()
 
 /// A stage with an output of which at some word no rail rises: the word never leaves the first bank. Nothing can
 /// move, and nothing is delivered.
+#[tactic(auto, using(crate::proofs::UnsoundLaws::dead_stage_breaks))]
 pub fn no_rail_of_an_output()
     ensures netlist { IsNetlist with_dead_rail.netlist }
     ensures stage { IsStage dead_stage }

@@ -4,7 +4,6 @@ use Rattle.ncl_machine.specs.DelayInsensitive.{DeliversWhatIsDue}
 use Rattle.ncl_insensitivity.specs.Examples.{one_word}
 use Rattle.ncl_insensitivity.specs.Unsound.{illegal_stage, with_both_rails, delivers_both_rails, after_run}
 use Rattle.ncl_insensitivity.proofs.WrittenNetlists.{netlist_from_tests}
-use Rattle.ncl_insensitivity.proofs.UnsoundLaws.{illegal_stage-breaks}
 use Rattle.ncl_insensitivity.proofs.unsound.both_rails_of_an_output.Goals as goal
 
 pub returns-clause-netlist : goal.returns-clause-netlist
@@ -12,9 +11,6 @@ returns-clause-netlist c = netlist_from_tests with_both_rails.netlist (record { 
 
 pub returns-clause-stage : goal.returns-clause-stage
 returns-clause-stage c = IsStage-from_test illegal_stage refl
-
-pub returns-clause-breaks : goal.returns-clause-breaks
-returns-clause-breaks c = illegal_stage-breaks
 
 -- the pair taken carries no word
 not_due : DeliversWhatIsDue with_both_rails one_word (after_run with_both_rails one_word delivers_both_rails) → ⊥

@@ -2,7 +2,6 @@ use Rattle.std.proofs.Common.{refl, arith}
 use Rattle.ncl_stage.proofs.StageTest.{IsStage-from_test}
 use Rattle.ncl_insensitivity.specs.Unsound.{eager_stage, two_zeros, delivers_too_early, with_eager_and}
 use Rattle.ncl_insensitivity.proofs.WrittenNetlists.{netlist_from_tests}
-use Rattle.ncl_insensitivity.proofs.UnsoundLaws.{eager_stage-breaks}
 use Rattle.ncl_insensitivity.proofs.unsound.incomplete_stage.Goals as goal
 
 pub returns-clause-netlist : goal.returns-clause-netlist
@@ -10,9 +9,6 @@ returns-clause-netlist c = netlist_from_tests with_eager_and.netlist (record { d
 
 pub returns-clause-stage : goal.returns-clause-stage
 returns-clause-stage c = IsStage-from_test eager_stage refl
-
-pub returns-clause-breaks : goal.returns-clause-breaks
-returns-clause-breaks c = eager_stage-breaks
 
 pub returns-clause-not_safe : goal.returns-clause-not_safe
 returns-clause-not_safe c = λ safe.

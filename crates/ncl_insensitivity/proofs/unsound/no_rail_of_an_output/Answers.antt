@@ -3,7 +3,6 @@ use Rattle.ncl_stage.proofs.StageTest.{IsStage-from_test}
 use Rattle.ncl_machine.specs.Run.{IsQuiet}
 use Rattle.ncl_insensitivity.specs.Unsound.{dead_stage, with_dead_rail, one_zero, gets_stuck, after_run}
 use Rattle.ncl_insensitivity.proofs.WrittenNetlists.{netlist_from_tests}
-use Rattle.ncl_insensitivity.proofs.UnsoundLaws.{dead_stage-breaks}
 use Rattle.ncl_insensitivity.proofs.ByComputation.{quiet_by_cells}
 use Rattle.ncl_insensitivity.proofs.unsound.no_rail_of_an_output.Goals as goal
 
@@ -12,9 +11,6 @@ returns-clause-netlist c = netlist_from_tests with_dead_rail.netlist (record { d
 
 pub returns-clause-stage : goal.returns-clause-stage
 returns-clause-stage c = IsStage-from_test dead_stage refl
-
-pub returns-clause-breaks : goal.returns-clause-breaks
-returns-clause-breaks c = dead_stage-breaks
 
 nothing_moves : IsQuiet with_dead_rail (after_run with_dead_rail one_zero gets_stuck)
 nothing_moves = quiet_by_cells with_dead_rail (after_run with_dead_rail one_zero gets_stuck) 7 (refl, (refl, (refl, (refl, (refl, (refl, (refl, λ n. refl))))))) (λ bit. refl) (λ bit. refl) refl refl

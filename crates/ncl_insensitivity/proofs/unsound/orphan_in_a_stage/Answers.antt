@@ -4,7 +4,6 @@ use Rattle.ncl_insensitivity.specs.Examples.{fire, one_word}
 use Rattle.ncl_insensitivity.specs.Unsound.{orphan_stage, with_orphan, leaves_a_gate_behind}
 use Rattle.ncl_insensitivity.proofs.IllShapedLaws.{taken_back_is_unsafe, cells_differ}
 use Rattle.ncl_insensitivity.proofs.WrittenNetlists.{netlist_from_tests}
-use Rattle.ncl_insensitivity.proofs.UnsoundLaws.{orphan_stage-breaks}
 use Rattle.ncl_insensitivity.proofs.unsound.orphan_in_a_stage.Goals as goal
 
 pub returns-clause-netlist : goal.returns-clause-netlist
@@ -12,9 +11,6 @@ returns-clause-netlist c = netlist_from_tests with_orphan.netlist (record { driv
 
 pub returns-clause-stage : goal.returns-clause-stage
 returns-clause-stage c = IsStage-from_test orphan_stage refl
-
-pub returns-clause-breaks : goal.returns-clause-breaks
-returns-clause-breaks c = orphan_stage-breaks
 
 pub returns-clause-not_safe : goal.returns-clause-not_safe
 returns-clause-not_safe c =

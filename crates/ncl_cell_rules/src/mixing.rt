@@ -131,6 +131,7 @@ fn is_unmixed(netlist: &Netlist, origins: &Origins, cell: &Cell) -> bool
 }
 
 /// The first cell that breaks the rule. Linear in the cells.
+#[tactic(auto, using(crate::proofs::TableSteps::after_last))]
 pub(crate) fn first_mixed(netlist: &Netlist, origins: &Origins) -> Option<CellId>
     requires { AreOrigins netlist.now origins.now }
     ensures { MatchOption result ((k : ℕ) → AtCell IsUnmixed netlist.now k) (λ c. FailsFirst (AtCell IsUnmixed netlist.now) c.0) }

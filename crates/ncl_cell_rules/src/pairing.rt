@@ -85,6 +85,7 @@ fn is_paired(netlist: &Netlist, drivers: &[Option<u32>], ack_pins: &[u32], cell:
 }
 
 /// The first register or acknowledge cell that isn't one of a pair. Linear in the cells.
+#[tactic(auto, using(crate::proofs::TableSteps::after_last))]
 pub(crate) fn first_unpaired(
     netlist: &Netlist,
     drivers: &[Option<u32>],

@@ -45,6 +45,7 @@ fn is_tied(netlist: &Netlist, origins: &Origins, gate_reads: &[bool], cell: &Cel
 }
 
 /// The first acknowledge or completion cell that is left unread. Linear in the cells.
+#[tactic(auto, using(crate::proofs::TableSteps::after_last))]
 pub(crate) fn first_loose(
     netlist: &Netlist,
     origins: &Origins,

@@ -1,5 +1,5 @@
 use Rattle.ncl_cell_rules.specs.Rules.{IsUnmixed}
-use Rattle.ncl_cell_rules.proofs.TableSteps.{first_refused, one_cell_more, after_last}
+use Rattle.ncl_cell_rules.proofs.TableSteps.{first_refused, one_cell_more}
 use Rattle.ncl_cell_rules.proofs.mixing.first_mixed.Goals as goal
 
 pub returns-then-not-is_unmixed : goal.returns-then-not-is_unmixed
@@ -7,6 +7,3 @@ returns-then-not-is_unmixed c = first_refused c.args.netlist.now IsUnmixed _ c.c
 
 pub loop-place-preserved : goal.loop-place-preserved
 loop-place-preserved c = one_cell_more c.args.netlist.now IsUnmixed _ c.cells-cell-items.ensures.cells _ c.loop-place.invariant _ c.loop-place-test.true c.cell-item.is (c.is_unmixed.ensures.0 c.if-not-is_unmixed.false)
-
-pub returns : goal.returns
-returns c = after_last c.args.netlist.now IsUnmixed _ c.cells-cell-items.ensures.cells _ c.loop-place.invariant c.loop-place-test.false

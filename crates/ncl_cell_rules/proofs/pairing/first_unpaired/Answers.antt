@@ -1,5 +1,5 @@
 use Rattle.ncl_cell_rules.specs.Rules.{IsPaired}
-use Rattle.ncl_cell_rules.proofs.TableSteps.{first_refused, one_cell_more, after_last}
+use Rattle.ncl_cell_rules.proofs.TableSteps.{first_refused, one_cell_more}
 use Rattle.ncl_cell_rules.proofs.pairing.first_unpaired.Goals as goal
 
 pub returns-then-not-is_paired : goal.returns-then-not-is_paired
@@ -7,6 +7,3 @@ returns-then-not-is_paired c = first_refused c.args.netlist.now IsPaired _ c.cel
 
 pub loop-place-preserved : goal.loop-place-preserved
 loop-place-preserved c = one_cell_more c.args.netlist.now IsPaired _ c.cells-cell-items.ensures.cells _ c.loop-place.invariant _ c.loop-place-test.true c.cell-item.is (c.is_paired.ensures.0 c.if-not-is_paired.false)
-
-pub returns : goal.returns
-returns c = after_last c.args.netlist.now IsPaired _ c.cells-cell-items.ensures.cells _ c.loop-place.invariant c.loop-place-test.false

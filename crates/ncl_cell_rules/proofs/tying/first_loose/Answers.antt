@@ -1,5 +1,5 @@
 use Rattle.ncl_cell_rules.specs.Rules.{IsTied}
-use Rattle.ncl_cell_rules.proofs.TableSteps.{first_refused, one_cell_more, after_last}
+use Rattle.ncl_cell_rules.proofs.TableSteps.{first_refused, one_cell_more}
 use Rattle.ncl_cell_rules.proofs.tying.first_loose.Goals as goal
 
 pub returns-then-not-is_tied : goal.returns-then-not-is_tied
@@ -7,6 +7,3 @@ returns-then-not-is_tied c = first_refused c.args.netlist.now IsTied _ c.cells-c
 
 pub loop-place-preserved : goal.loop-place-preserved
 loop-place-preserved c = one_cell_more c.args.netlist.now IsTied _ c.cells-cell-items.ensures.cells _ c.loop-place.invariant _ c.loop-place-test.true c.cell-item.is (c.is_tied.ensures.0 c.if-not-is_tied.false)
-
-pub returns : goal.returns
-returns c = after_last c.args.netlist.now IsTied _ c.cells-cell-items.ensures.cells _ c.loop-place.invariant c.loop-place-test.false

@@ -1,6 +1,6 @@
 -- The register cells of a bit of a bank, as they are read: they are there, and have the rails of the bit on Z and its
 -- inputs on A.
-use Rattle.std.proofs.Common.{◌≡◌, ℕ, ◌<◌, List, length, get_or, Some, ap, subst, arith}
+use Rattle.std.proofs.Common.{◌≡◌, ℕ, ◌<◌, List, length, get_or, Some, None, ap, subst, arith}
 use Rattle.std.specs.Prelude.{slice_get}
 use Rattle.std.proofs.lemmas.Option.{slice_get_within}
 use Rattle.ncl_base.proofs.Members.{Contains-from_slice_get}
@@ -13,6 +13,10 @@ use Rattle.ncl_cell_rules.proofs.TableSteps.{cell_read}
 use Rattle.ncl_shape.specs.declared.bank.Bit.{Bit}
 use Rattle.ncl_shape.specs.Shape.{IsBitOf, AreBitsOf, AreRailsOf, AreInputsOf}
 use Rattle.ncl_shape.proofs.ShapeLaws.{same_cell}
+
+-- a bit that is none
+abbrev pub no_bit : Bit
+no_bit = record { rail0 = record { 0 = 0 }; rail1 = record { 0 = 0 }; ack = record { 0 = 0 }; start = None }
 
 module _ (n : NetlistData) (bank : ℕ) (bits : List Bit) (are : AreBitsOf n bank bits) (k : ℕ) (bit : Bit) (at_bit : slice_get bits k ≡ Some bit) (cells : List Cell) (are_cells : cells ≡ n.cells) where
   is_bit : IsBitOf n bank bit

@@ -1,5 +1,5 @@
 -- Two banks joined by wires have the shape of a linear pipeline: their banks and their stage.
-use Rattle.std.proofs.Common.{◌≡◌, ◌≢◌, ℕ, zero, suc, ◌+◌, ◌≤◌, [], ◌∷◌, length, Some, refl, sym, ◌∙◌, arith}
+use Rattle.std.proofs.Common.{◌≡◌, ◌≢◌, ℕ, zero, suc, ◌+◌, ◌≤◌, [], ◌∷◌, length, None, Some, refl, sym, ◌∙◌, arith}
 use Rattle.std.specs.Prelude.{AllPairs, Contains, slice_get}
 use Rattle.std.specs.List.{AllZip}
 use Rattle.std.proofs.lemmas.List.Elements.{All-from_recursion}
@@ -7,10 +7,11 @@ use Rattle.ncl_netlist.specs.declared.cell.Cell.{Cell}
 use Rattle.ncl_shape.specs.declared.bank.Bank.{Bank}
 use Rattle.ncl_shape.specs.declared.bank.Bit.{Bit}
 use Rattle.ncl_shape.specs.declared.rails.Rails.{Rails}
-use Rattle.ncl_cell_rules.specs.Origin.{CellAt, AcksBank, OnPin, A, ack}
+use Rattle.ncl_cell_rules.specs.Origin.{CellAt, AcksBank, IsOfBank, OnPin, A, B, ack}
 use Rattle.ncl_shape.specs.Stage.{StageData, IsStage, IsInOrder}
 use Rattle.ncl_shape.specs.Shape.{IsBitOf, AreBitsOf, IsBankOf, AreRailsOf, AreInputsOf, IsGateOf, IsStageOf, Shape}
 use Rattle.ncl_shape.specs.Examples.{wires, wires_pipeline, bit, rails, net_id}
+use Rattle.ncl_shape.specs.Held.{start_of}
 use Rattle.ncl_cell_rules.proofs.Drivers.{same_place}
 use Rattle.ncl_base.proofs.Members.{Contains-from_slice_get}
 use Rattle.ncl_insensitivity.proofs.ShortLists.{written, of_none, of_one, of_two, of_pair, of_last}
@@ -32,37 +33,29 @@ bits_of_one bank b is place = record {
   every = λ k c at acks. (b, (0, omega arith, refl), place k c at acks);
 }
 
-first_bit : IsBitOf wires 7 (bit 0 1 2)
-first_bit = record {
-  ack = cell_at 2;
-  zero = cell_at 0;
-  one = cell_at 1;
-  ack_at = refl;
-  zero_at = refl;
-  one_at = refl;
-  acks = first_acks;
-  zero_of = of_bank 0 7 refl refl refl;
-  one_of = of_bank 1 7 refl refl refl;
-  on_a = refl;
-  on_b = refl;
-  start = refl;
+-- a bit of three cells one after the other, the last of them its acknowledge cell
+written_bit : (k request : ℕ) → CellAt wires (k + 2) (cell_at (k + 2)) → CellAt wires k (cell_at k) → CellAt wires (k + 1) (cell_at (k + 1)) → AcksBank wires request (cell_at (k + 2)) → IsOfBank wires request (cell_at k) → IsOfBank wires request (cell_at (k + 1))
+    → OnPin (cell_at (k + 2)) A (cell_at k).out.0 → OnPin (cell_at (k + 2)) B (cell_at (k + 1)).out.0 → None ≡ start_of (cell_at k).kind (cell_at (k + 1)).kind → IsBitOf wires request (bit k (k + 1) (k + 2))
+written_bit k request ack_at zero_at one_at acks zero_of one_of on_a on_b start = record {
+  ack = cell_at (k + 2);
+  zero = cell_at k;
+  one = cell_at (k + 1);
+  ack_at = ack_at;
+  zero_at = zero_at;
+  one_at = one_at;
+  acks = acks;
+  zero_of = zero_of;
+  one_of = one_of;
+  on_a = on_a;
+  on_b = on_b;
+  start = start;
 }
 
+first_bit : IsBitOf wires 7 (bit 0 1 2)
+first_bit = written_bit 0 7 refl refl refl first_acks (of_bank 0 7 refl refl refl) (of_bank 1 7 refl refl refl) refl refl refl
+
 last_bit : IsBitOf wires 2 (bit 3 4 5)
-last_bit = record {
-  ack = cell_at 5;
-  zero = cell_at 3;
-  one = cell_at 4;
-  ack_at = refl;
-  zero_at = refl;
-  one_at = refl;
-  acks = last_acks;
-  zero_of = of_bank 3 2 refl refl refl;
-  one_of = of_bank 4 2 refl refl refl;
-  on_a = refl;
-  on_b = refl;
-  start = refl;
-}
+last_bit = written_bit 3 2 refl refl refl last_acks (of_bank 3 2 refl refl refl) (of_bank 4 2 refl refl refl) refl refl refl
 
 abbrev bank_of : Bit → ℕ → ℕ → Bank
 bank_of b request root = record { bits = b ∷ []; request = net_id request; root = net_id root }

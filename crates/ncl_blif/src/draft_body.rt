@@ -68,7 +68,7 @@ impl<'a> DraftBody<'a> {
             return Err(BlifFault::Syntax(head.number()));
         }
         self.add_command(alloc, command, part)?;
-        Ok(ended || command.is_end())
+        Ok(ended | command.is_end())
     }
 
     /// Adds what a part says that begins with this command, which has the right number of fields. It

@@ -27,8 +27,8 @@ returns-in_err-add_command c = λ before said ended.
     (λ rows. inr (fault-rows before part command formed (twins ∙ rows.0) ∙ rows.1)))
     c.in_err-add_command.ensures)
 
-pub returns-then-ended : goal.returns-then-ended
-returns-then-ended c = λ before said ended.
+pub returns : goal.returns
+returns c = λ before said ended.
     let part = c.args.part.now in
     let field = ap first_field (sym c.head-head.ensures) ∙ c.in-Some.ensures in
     let count = sym (length-map c.fields.result.now (λ field. field.now)) ∙ ap length c.fields.ensures ∙ ap (λ head. length head.fields) c.head-head.ensures in
@@ -38,19 +38,5 @@ returns-then-ended c = λ before said ended.
       added.0,
       added.1 ∙ with_part-is _ before part said,
       fault-rows before part command formed (twins-after _ before part said ∙ added.2) ∙ added.3,
-      c.if-ended.true ∙ sym (ended-more before part ∙ ap (λ b. b || is_end part.head) (sym ended ∙ c.if-ended.true)),
-    )
-
-pub returns-else-ended : goal.returns-else-ended
-returns-else-ended c = λ before said ended.
-    let part = c.args.part.now in
-    let field = ap first_field (sym c.head-head.ensures) ∙ c.in-Some.ensures in
-    let count = sym (length-map c.fields.result.now (λ field. field.now)) ∙ ap length c.fields.ensures ∙ ap (λ head. length head.fields) c.head-head.ensures in
-    let command = command-is c.in-Some.command part.head field in
-    let formed = sym (c.is_malformed.ensures.malformed before part.head field count ended) ∙ c.if-is_malformed.false in
-    let added = c.in_ok-add_command.ensures in (
-      added.0,
-      added.1 ∙ with_part-is _ before part said,
-      fault-rows before part command formed (twins-after _ before part said ∙ added.2) ∙ added.3,
-      c.is_end.ensures part.head field ∙ sym (ended-more before part ∙ ap (λ b. b || is_end part.head) (sym ended ∙ c.if-ended.false)),
+      ap (λ b. c.args.ended || b) (c.is_end.ensures part.head field) ∙ sym (ended-more before part ∙ ap (λ b. b || is_end part.head) (sym ended)),
     )

@@ -66,7 +66,7 @@ module _ (network : Network) (is : IsNetwork network) (nodes : List Node) (image
 
 -- ---- without what reaches no output
 
-IsNarrow-moved : (places : ℕ → ℕ) (node : Node) → IsNarrow node → IsNarrow (moved_node places node)
+pub IsNarrow-moved : (places : ℕ → ℕ) (node : Node) → IsNarrow node → IsNarrow (moved_node places node)
 IsNarrow-moved places node is =
     let width = length-map node.ins (moved_signal places) in
     record {

@@ -68,14 +68,6 @@ pub(crate) fn without(
     Ok(rest)
 }
 
-/// A copy of a product. Linear in it.
-pub(crate) fn copied_product(alloc: Global, product: &[Signal]) -> Result<Vec<Signal>, Memory>
-    ensures { IfOk result (λ copy. copy.items ≡ product.now) }
-{
-    let copy = product.iter().copied().collect(alloc)?;
-    Ok(copy)
-}
-
 /// Whether one of some products has no signal.
 pub(crate) fn has_empty(sum: &[Items<Signal>]) -> bool
     ensures { result ≡ list_any is_empty sum.now }

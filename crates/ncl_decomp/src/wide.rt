@@ -8,7 +8,7 @@ ghost use Rattle.ncl_decomp.specs.Splitting.{AddsTerms, AddsSum, AddsNode};
 use crate::factoring::factored;
 use crate::literals::turned;
 use crate::pair::Joint;
-use crate::products::{copied_product, products};
+use crate::products::products;
 use crate::rows::copied_rows;
 use crate::tree::join;
 use ncl_base::{Items, Memory};
@@ -24,7 +24,7 @@ fn terms(alloc: Global, nodes: &mut Vec<Node>, sum: &[Items<Signal>]) -> Result<
 {
     let mut terms = Vec::new(alloc);
     for product in sum {
-        let leaves = copied_product(alloc, product.items())?;
+        let leaves = product.items().to_vec(alloc)?;
         let term = join(alloc, nodes, Joint::And, leaves)?;
         terms.push(term)?;
     }

@@ -13,12 +13,12 @@ loop-product-init c = subst (λ terms. AddsTerms [] c.args.nodes.now.items c.arg
 
 pub join-requires-clause-some : goal.join-requires-clause-some
 join-requires-clause-some c =
-    let is : c.in_ok-leaves.leaves.items ≡ c.product-item.result = c.in_ok-leaves.ensures ∙ c.items.ensures in
+    let is : c.in_ok-leaves.leaves.items ≡ c.product-item.result = c.in_ok-leaves.ensures.items_if_clones_equal (λ x y is. is) ∙ c.items.ensures in
     subst (λ leaves. 0 < length leaves) (sym is) (subst (λ product. 0 < length product) (sym c.product-item.is) (c.requires.filled c.loop-product.product-index c.product-item.result c.loop-product-test.true))
 
 pub join-requires-clause-few : goal.join-requires-clause-few
 join-requires-clause-few c =
-    let is : c.in_ok-leaves.leaves.items ≡ c.product-item.result = c.in_ok-leaves.ensures ∙ c.items.ensures in
+    let is : c.in_ok-leaves.leaves.items ≡ c.product-item.result = c.in_ok-leaves.ensures.items_if_clones_equal (λ x y is. is) ∙ c.items.ensures in
     omega (arith, ap length is, terms_room c.args.sum.now c.loop-product.product-index c.args.nodes.now.items c.loop-product.nodes.items c.loop-product.terms.items c.product-item.result c.loop-product-test.true c.product-item.is c.loop-product.invariant, c.requires.few)
 
 pub loop-product-preserved : goal.loop-product-preserved
@@ -26,7 +26,7 @@ loop-product-preserved c =
     let product : List Signal = c.product-item.result in
     let sum : List (List Signal) = c.args.sum.now in
     let i : ℕ = c.loop-product.product-index in
-    let is : c.in_ok-leaves.leaves.items ≡ product = c.in_ok-leaves.ensures ∙ c.items.ensures in
+    let is : c.in_ok-leaves.leaves.items ≡ product = c.in_ok-leaves.ensures.items_if_clones_equal (λ x y is. is) ∙ c.items.ensures in
     let grown : AddsTree And product c.loop-product.nodes.items c.join.new.nodes.items c.in_ok-term.term =
     subst (λ leaves. AddsTree And leaves c.loop-product.nodes.items c.join.new.nodes.items c.in_ok-term.term) is c.in_ok-term.ensures in
     let pushed : c.push.new.self.items ≡ c.loop-product.terms.items ++ c.in_ok-term.term ∷ [] = grind (arith, common_steps) in

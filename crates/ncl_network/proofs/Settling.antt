@@ -90,30 +90,24 @@ by_asked on bit rows has_one has_zero widths e with_one with_zero =
     ap (λ m. cond on m (not m)) (one_input bit rows widths e)
     ∙ (λ i. asked_value on (with_one i) (with_zero i) bit)
 
+-- what is so at the four pairs of values is so
+at_four : (f g : Bool → Bool → Bool) → f true true ≡ g true true → f true false ≡ g true false → f false true ≡ g false true → f false false ≡ g false false → (on bit : Bool) → f on bit ≡ g on bit
+at_four f g both first second none true true = both
+at_four f g both first second none true false = first
+at_four f g both first second none false true = second
+at_four f g both first second none false false = none
+
 pub both_asked : (on bit : Bool) (rows : List (List Lit)) → All (λ row. length row ≡ 1) rows → list_any (list_all is_dash) rows ≡ false → ones rows ≡ true → zeros rows ≡ true → two_level on rows (bit ∷ []) ≡ on
-both_asked on bit rows widths e with_one with_zero = by_asked on bit rows true true widths e with_one with_zero ∙ both on bit
-  where
-    both : (on bit : Bool) → asked_value on true true bit ≡ on
-    both true true = refl
-    both true false = refl
-    both false true = refl
-    both false false = refl
+both_asked on bit rows widths e with_one with_zero =
+    by_asked on bit rows true true widths e with_one with_zero
+    ∙ at_four (λ on bit. asked_value on true true bit) (λ on bit. on) refl refl refl refl on bit
 
 pub one_asked : (on bit : Bool) (rows : List (List Lit)) → All (λ row. length row ≡ 1) rows → list_any (list_all is_dash) rows ≡ false → ones rows ≡ true → zeros rows ≡ false → two_level on rows (bit ∷ []) ≡ cond (not (beq true on)) (not bit) bit
-one_asked on bit rows widths e with_one no_zero = by_asked on bit rows true false widths e with_one no_zero ∙ same on bit
-  where
-    same : (on bit : Bool) → asked_value on true false bit ≡ cond (not (beq true on)) (not bit) bit
-    same true true = refl
-    same true false = refl
-    same false true = refl
-    same false false = refl
+one_asked on bit rows widths e with_one no_zero =
+    by_asked on bit rows true false widths e with_one no_zero
+    ∙ at_four (λ on bit. asked_value on true false bit) (λ on bit. cond (not (beq true on)) (not bit) bit) refl refl refl refl on bit
 
 pub zero_asked : (on bit : Bool) (rows : List (List Lit)) → 0 < length rows → All (λ row. length row ≡ 1) rows → list_any (list_all is_dash) rows ≡ false → ones rows ≡ false → two_level on rows (bit ∷ []) ≡ cond (not (beq false on)) (not bit) bit
 zero_asked on bit rows some widths e no_one =
-    by_asked on bit rows false true widths e no_one (asks_some rows some widths e no_one) ∙ inverse on bit
-  where
-    inverse : (on bit : Bool) → asked_value on false true bit ≡ cond (not (beq false on)) (not bit) bit
-    inverse true true = refl
-    inverse true false = refl
-    inverse false true = refl
-    inverse false false = refl
+    by_asked on bit rows false true widths e no_one (asks_some rows some widths e no_one)
+    ∙ at_four (λ on bit. asked_value on false true bit) (λ on bit. cond (not (beq false on)) (not bit) bit) refl refl refl refl on bit

@@ -1,4 +1,4 @@
-use Rattle.std.proofs.Common.{◌≡◌, ℕ, ◌+◌, ◌-◌, ◌<◌, ◌≤◌, ◌||◌, length, Some, refl, sym, ap, ◌∙◌, subst, arith}
+use Rattle.std.proofs.Common.{◌≡◌, ℕ, ◌+◌, ◌-◌, ◌<◌, ◌≤◌, ◌||◌, length, get_or, List, Some, refl, sym, ap, ◌∙◌, subst, arith}
 use Rattle.std.specs.Prelude.{slice_get}
 use Rattle.std.proofs.lemmas.List.{length-replicate}
 use Rattle.std.proofs.lemmas.Option.{slice_get_read}
@@ -14,14 +14,15 @@ loop-place-init c =
     (IsMarked-outputs c.args.network.now c.mark.new.kept (c.mark.auto.kept ∙ ap length c.requires.fresh ∙ length-replicate count _) (λ k.
     c.mark.ensures k ∙ (λ i. is_kept (c.requires.fresh i) k || is_read (c.items.ensures i) k)))
 
+-- the node that is read of some nodes stands in these
+read_at : (nodes read : List Node) (place : ℕ) (node : Node) → read ≡ nodes → place < length read → node ≡ get_or read place node → slice_get nodes place ≡ Some node
+read_at nodes read place node same within is = ap (λ ns. slice_get ns place) (sym same) ∙ slice_get_read read (length read) place node refl within is
+
 pub mark-requires-then-kept-place : goal.mark-requires-then-kept-place
 mark-requires-then-kept-place c =
     let place : ℕ = c.loop-place.place - 1 in
     let node : Node = c.index-nodes-place.result in
-    let within : place < length c.items-nodes.result.now = omega arith in
-    let at : slice_get c.args.network.now.nodes place ≡ Some node =
-    ap (λ nodes. slice_get nodes place) (sym c.items-nodes.ensures)
-    ∙ slice_get_read c.items-nodes.result.now (length c.items-nodes.result.now) place node refl within c.index-nodes-place.is in
+    let at : slice_get c.args.network.now.nodes place ≡ Some node = read_at c.args.network.now.nodes c.items-nodes.result.now place node c.items-nodes.ensures (omega arith) c.index-nodes-place.is in
     let less : place ≤ length c.loop-place.kept = omega (arith, ap length c.items-nodes.ensures, c.loop-place.invariant.as_many) in
     turn_placed c.args.network.now place node c.items-then-kept-place.result.now (length c.loop-place.kept) c.requires.network at (c.items-then-kept-place.ensures ∙ ap (λ (n : Node). n.ins) (sym c.index-nodes-place.is)) less
 
@@ -29,10 +30,7 @@ pub loop-place-preserved-then-kept-place : goal.loop-place-preserved-then-kept-p
 loop-place-preserved-then-kept-place c =
     let place : ℕ = c.loop-place.place - 1 in
     let node : Node = c.index-nodes-place.result in
-    let within : place < length c.items-nodes.result.now = omega arith in
-    let at : slice_get c.args.network.now.nodes place ≡ Some node =
-    ap (λ nodes. slice_get nodes place) (sym c.items-nodes.ensures)
-    ∙ slice_get_read c.items-nodes.result.now (length c.items-nodes.result.now) place node refl within c.index-nodes-place.is in
+    let at : slice_get c.args.network.now.nodes place ≡ Some node = read_at c.args.network.now.nodes c.items-nodes.result.now place node c.items-nodes.ensures (omega arith) c.index-nodes-place.is in
     let from : c.loop-place.place ≡ place + 1 = omega arith in
     let ins : c.items-then-kept-place.result.now ≡ node.ins =
     c.items-then-kept-place.ensures ∙ ap (λ (n : Node). n.ins) (sym c.index-nodes-place.is) in

@@ -1,5 +1,5 @@
 -- The text of a folded netlist is no longer than that of the netlist.
-use Rattle.std.proofs.Common.{◌≡◌, ◌≢◌, ◌≤◌, ◌+◌, ◌-◌, ℕ, suc, List, [], ◌∷◌, ◌++◌, length, map, take, drop, Option, Some, inl, inr, refl, sym, ap, ◌∙◌, subst, arith}
+use Rattle.std.proofs.Common.{◌≡◌, ◌≢◌, ◌≤◌, ◌+◌, ◌-◌, ℕ, suc, List, [], ◌∷◌, ◌++◌, length, map, take, drop, Some, inl, inr, refl, sym, ap, ◌∙◌, subst, arith}
 use Rattle.std.specs.Prelude.{Contains, slice_get, sum_by, codes}
 use Rattle.std.specs.List.{flat_map, join_with_byte, zip}
 use Rattle.std.proofs.lemmas.Bool.{cases_lt}
@@ -151,12 +151,6 @@ module _ (p : PipelineData) (shape : Shape p.netlist p) (lists : List (List Stag
   abbrev m : NetlistData
   m = folded_netlist p lists
 
-  abbrev choice : Cell → Option Cell
-  choice = choice_of p lists
-
-  abbrev to : ℕ → ℕ
-  to = net_there p lists
-
   abbrev line : Cell → ℕ
   line c = length (cell_line n.nets c)
 
@@ -166,7 +160,7 @@ module _ (p : PipelineData) (shape : Shape p.netlist p) (lists : List (List Stag
   -- ---- cells
 
   -- the line of a kept cell is as long as it would be in n
-  line-kept : (d : Cell) → Member d (kept choice n.cells) → length (cell_line m.nets (moved to d)) ≡ line d
+  line-kept : (d : Cell) → Member d (kept (choice_of p lists) n.cells) → length (cell_line m.nets (moved (net_there p lists) d)) ≡ line d
   line-kept d m-d = ap (λ (part : PartCell). length (line_of part)) (part-kept p shape lists fewer is_m d m-d)
     where
       line_of : PartCell → List ℕ
@@ -174,11 +168,11 @@ module _ (p : PipelineData) (shape : Shape p.netlist p) (lists : List (List Stag
 
   cells-short : length (flat_map (cell_line m.nets) m.cells) ≤ length (flat_map (cell_line n.nets) n.cells)
   cells-short =
-      let left : length (flat_map (cell_line m.nets) m.cells) ≡ sum_by line (kept choice n.cells) =
+      let left : length (flat_map (cell_line m.nets) m.cells) ≡ sum_by line (kept (choice_of p lists) n.cells) =
       length-flat_map (cell_line m.nets) m.cells
-      ∙ ap (sum_by (λ c. length (cell_line m.nets c))) (cells-moved n shape.is_netlist shape.free choice (is-choice p shape lists fewer))
-      ∙ sum_by-map (λ c. length (cell_line m.nets c)) (moved to) (kept choice n.cells)
-      ∙ sum-same (λ d. length (cell_line m.nets (moved to d))) line (kept choice n.cells) line-kept in
+      ∙ ap (sum_by (λ c. length (cell_line m.nets c))) (cells-moved n shape.is_netlist shape.free (choice_of p lists) (is-choice p shape lists fewer))
+      ∙ sum_by-map (λ c. length (cell_line m.nets c)) (moved (net_there p lists)) (kept (choice_of p lists) n.cells)
+      ∙ sum-same (λ d. length (cell_line m.nets (moved (net_there p lists) d))) line (kept (choice_of p lists) n.cells) line-kept in
       let right : length (flat_map (cell_line n.nets) n.cells) ≡ sum_by line n.cells = length-flat_map (cell_line n.nets) n.cells in
       let law = weighed p shape lists fewer line weight (λ g c at_c out arity. line-is n g c at_c out arity) in
       let stages : sum_by weight (flat_map (λ (s : StageData). s.cells) p.stages) ≡ sum_by (λ (s : StageData). sum_by weight s.cells) p.stages = sum_by-flat_map weight (λ (s : StageData). s.cells) p.stages in
@@ -202,10 +196,10 @@ module _ (p : PipelineData) (shape : Shape p.netlist p) (lists : List (List Stag
             Member-from_Contains (drop count n.nets) x (Contains-from_slice_get (drop count n.nets) (j - count) x (slice_get-drop count n.nets (j - count) ∙ ap (slice_get n.nets) place ∙ at_j))
         | inl port ↦
             let there_is : name_at m j ≡ x =
-            port-name n shape.is_netlist shape.free choice (is-choice p shape lists fewer) m is_m refl j port
-            ∙ sym (port-name n shape.is_netlist shape.free choice (is-choice p shape lists fewer) n shape.is_netlist refl j port)
+            port-name n shape.is_netlist shape.free (choice_of p lists) (is-choice p shape lists fewer) m is_m refl j port
+            ∙ sym (port-name n shape.is_netlist shape.free (choice_of p lists) (is-choice p shape lists fewer) n shape.is_netlist refl j port)
             ∙ get_or_from_slice_get n.nets j x [] at_j in
-            let one : name_number m.nets x ≡ j = ap (name_number m.nets) (sym there_is) ∙ name_number-get_or m.nets j [] is_m.net_names (port-within n shape.is_netlist shape.free choice (is-choice p shape lists fewer) m is_m refl j port) in
+            let one : name_number m.nets x ≡ j = ap (name_number m.nets) (sym there_is) ∙ name_number-get_or m.nets j [] is_m.net_names (port-within n shape.is_netlist shape.free (choice_of p lists) (is-choice p shape lists fewer) m is_m refl j port) in
             let other = number-there (count + i) x at_m in
             absurd (omega (arith, one, other, port))
       ]

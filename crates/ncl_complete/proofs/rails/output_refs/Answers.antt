@@ -1,11 +1,11 @@
-use Rattle.std.proofs.Common.{◌≡◌, ℕ, ◌<◌, Bool, false, List, ◌++◌, Err, length, map, sym, ◌∙◌, ap, subst}
+use Rattle.std.proofs.Common.{◌≡◌, ℕ, ◌<◌, Bool, false, List, ◌++◌, Err, length, map, sym, ◌∙◌, ap, subst, rules}
 use Rattle.std.specs.Prelude.{All}
 use Rattle.std.proofs.lemmas.List.{length-map}
 use Rattle.std.proofs.lemmas.List.Elements.{All-append}
 use Rattle.ncl_gates.specs.declared.kind.Kind.TheVariants.{Th12, Th22}
 use Rattle.ncl_shape.specs.Stage.{StageData, IsStage, nets_of}
 use Rattle.ncl_space.specs.Space.{SpaceData, IsSpace, Keeps, fits, with_tables}
-use Rattle.ncl_space.specs.Making.{HaveTables, IsNamed}
+use Rattle.ncl_space.specs.Making.{HaveTables, IsNamed, MakesAll}
 use Rattle.ncl_space.specs.declared.space.Ref.{Ref}
 use Rattle.ncl_space.proofs.SpaceLaws.{keeps_all, keeps_along, too_much_by_front}
 use Rattle.ncl_space.proofs.MakingLaws.{have-length, have-kept, tables-kept, held-along, too_much-after, handed_on, with_tables-live, named-all}
@@ -54,6 +54,60 @@ made-both s is old now kept width v are refs e outputs f =
     ∙ (λ k. map (pair_table (length s.inputs) Th22 ((tables-kept old now kept v.refs are.shown.live ∙ are.shown.tables) k)) v.wiring.outputs)
     ∙ illegal-tables s v.wiring.order are.wired.order is v.wiring are.wired Base
 
+-- ---- what is made in turn, by the tables of the stage
+module _ (s : StageData) (is : IsStage s) (old : SpaceData) (space : IsSpace old) (width : old.width ≡ length s.inputs) (v : ValuesData) (are : AreValues old s Base v) where
+  abbrev nets : List (List Bool)
+  nets = net_tables_by v.wiring.order s Base
+
+  abbrev some : List (List Bool)
+  some = some_tables v.wiring.order s
+
+  abbrev fronts : List (List Bool)
+  fronts = fronts_of v.wiring.order s
+
+  abbrev both : List (List Bool)
+  both = both_tables v.wiring.order s
+
+  whole-over : fits old ((nets ++ some) ++ fronts) ≡ false → fits old (tables_by v.wiring.order s Base) ≡ false
+  whole-over full = ap (fits old) (base-parts v.wiring.order s) ∙ too_much_by_front old ((nets ++ some) ++ fronts) both full
+
+  some-over : fits old some ≡ false → fits old (tables_by v.wiring.order s Base) ≡ false
+  some-over full = whole-over (too_much_by_front old (nets ++ some) fronts (too_much-after old old nets some (keeps_all old) (nets-held old space s v are) full))
+
+  module _ (mid : SpaceData) (kept : Keeps old mid) (firsts : List Ref) (first : MakesAll old mid firsts some) where
+    first-held : mid.held ≡ with_tables old (nets ++ some)
+    first-held = held-along old old mid nets some (keeps_all old) (nets-held old space s v are) first.held
+
+    fronts-over : fits mid fronts ≡ false → fits old (tables_by v.wiring.order s Base) ≡ false
+    fronts-over full = whole-over (too_much-after old mid (nets ++ some) fronts kept first-held full)
+
+    module _ (now : SpaceData) (kept_too : Keeps mid now) (seconds : List Ref) (second : MakesAll mid now seconds fronts) where
+      second-kept : Keeps old now
+      second-kept = keeps_along old mid now kept kept_too
+
+      second-held : now.held ≡ with_tables old ((nets ++ some) ++ fronts)
+      second-held = held-along old mid now (nets ++ some) fronts kept first-held second.held
+
+      both-over : fits now both ≡ false → fits old (tables_by v.wiring.order s Base) ≡ false
+      both-over full = ap (fits old) (base-parts v.wiring.order s) ∙ too_much-after old now ((nets ++ some) ++ fronts) both second-kept second-held full
+
+      module _ (new : SpaceData) (last : Keeps now new) (thirds : List Ref) (third : MakesAll now new thirds both) where
+        some-there : HaveTables new firsts some
+        some-there = have-kept mid new firsts some (keeps_along mid now new kept_too last) first.refs_of
+
+        all-named : All (IsNamed new) (tables_by v.wiring.order s Base)
+        all-named =
+            subst (All (IsNamed new)) (sym (base-parts v.wiring.order s))
+            (All-append (IsNamed new) ((nets ++ some) ++ fronts) both
+            (All-append (IsNamed new) (nets ++ some) fronts
+            (All-append (IsNamed new) nets some
+            (named-all new v.refs nets (have-kept old new v.refs nets (keeps_along old now new second-kept last) are.shown)) (named-all new firsts some some-there))
+            (named-all new seconds fronts (have-kept now new seconds fronts last second.refs_of)))
+            (named-all new thirds both third.refs_of))
+
+        all-held : new.held ≡ with_tables old (tables_by v.wiring.order s Base)
+        all-held = held-along old now new ((nets ++ some) ++ fronts) both second-kept second-held third.held ∙ ap (with_tables old) (sym (base-parts v.wiring.order s))
+
 pub data_tables-requires-clause-within : goal.data_tables-requires-clause-within
 data_tables-requires-clause-within g c =
     let s : StageData = c.args.stage.now in
@@ -63,31 +117,19 @@ data_tables-requires-clause-within g c =
 
 pub returns-in_err-some-clause-full : goal.returns-in_err-some-clause-full
 returns-in_err-some-clause-full g c = λ e.
-    let s : StageData = c.args.stage.now in
-    let v : ValuesData = c.args.base.now in
     let old : SpaceData = g.P.Space.meaning c.args.space.now in
-    let is = made-some s c.facts.ensures old c.requires.width v c.requires.base c.refs.result.now c.refs.ensures.refs c.wiring.result.now c.wiring.ensures in
-    subst (λ tables. fits old tables ≡ false) (sym (base-parts v.wiring.order s))
-    (too_much_by_front old ((net_tables_by v.wiring.order s Base ++ some_tables v.wiring.order s) ++ fronts_of v.wiring.order s) (both_tables v.wiring.order s)
-    (too_much_by_front old (net_tables_by v.wiring.order s Base ++ some_tables v.wiring.order s) (fronts_of v.wiring.order s)
-    (too_much-after old old (net_tables_by v.wiring.order s Base) (some_tables v.wiring.order s) (keeps_all old) (nets-held old c.requires.space s v c.requires.base)
-    (subst (λ tables. fits old tables ≡ false) is
-    (c.in_err-some.ensures.full (ap Err (handed_on c.from_residual.result c.in_err-some.field-0.0 c.from_residual.ensures.1 e)))))))
+    some-over c.args.stage.now c.facts.ensures old c.requires.space c.requires.width c.args.base.now c.requires.base
+    (subst (λ tables. fits old tables ≡ false) (made-some c.args.stage.now c.facts.ensures old c.requires.width c.args.base.now c.requires.base c.refs.result.now c.refs.ensures.refs c.wiring.result.now c.wiring.ensures)
+    (c.in_err-some.ensures.full (ap Err (handed_on c.from_residual.result c.in_err-some.field-0.0 c.from_residual.ensures.1 e))))
 
 pub returns-in_err-data_fronts-clause-full : goal.returns-in_err-data_fronts-clause-full
 returns-in_err-data_fronts-clause-full g c = λ e.
-    let s : StageData = c.args.stage.now in
-    let v : ValuesData = c.args.base.now in
     let old : SpaceData = g.P.Space.meaning c.args.space.now in
     let mid : SpaceData = g.P.Space.meaning c.data_tables.new.space in
-    let some = made-some s c.facts.ensures old c.requires.width v c.requires.base c.refs.result.now c.refs.ensures.refs c.wiring.result.now c.wiring.ensures in
-    let first : mid.held ≡ with_tables old (net_tables_by v.wiring.order s Base ++ some_tables v.wiring.order s) = held-along old old mid (net_tables_by v.wiring.order s Base) (some_tables v.wiring.order s) (keeps_all old) (nets-held old c.requires.space s v c.requires.base) (c.in_ok-some.ensures.made.held ∙ ap (with_tables old) some) in
-    let fronts = made-fronts v.wiring.order s c.requires.base.wired.order mid (c.in_ok-some.ensures.kept.width ∙ c.requires.width) c.as_slice.result.now (ap (map mid.table) c.as_slice.ensures.value ∙ c.in_ok-some.ensures.made.refs_of.tables ∙ some) in
-    subst (λ tables. fits old tables ≡ false) (sym (base-parts v.wiring.order s))
-    (too_much_by_front old ((net_tables_by v.wiring.order s Base ++ some_tables v.wiring.order s) ++ fronts_of v.wiring.order s) (both_tables v.wiring.order s)
-    (too_much-after old mid (net_tables_by v.wiring.order s Base ++ some_tables v.wiring.order s) (fronts_of v.wiring.order s) c.in_ok-some.ensures.kept first
-    (subst (λ tables. fits mid tables ≡ false) fronts
-    (c.in_err-data_fronts.ensures.full (ap Err (handed_on c.from_residual-in_err-data_fronts.result c.in_err-data_fronts.field-0.0 c.from_residual-in_err-data_fronts.ensures.1 e))))))
+    let first = subst (MakesAll old mid c.in_ok-some.some.items) (made-some c.args.stage.now c.facts.ensures old c.requires.width c.args.base.now c.requires.base c.refs.result.now c.refs.ensures.refs c.wiring.result.now c.wiring.ensures) c.in_ok-some.ensures.made in
+    fronts-over c.args.stage.now c.facts.ensures old c.requires.space c.requires.width c.args.base.now c.requires.base mid c.in_ok-some.ensures.kept c.in_ok-some.some.items first
+    (subst (λ tables. fits mid tables ≡ false) (made-fronts c.args.base.now.wiring.order c.args.stage.now c.requires.base.wired.order mid (c.in_ok-some.ensures.kept.width ∙ c.requires.width) c.as_slice.result.now (ap (map mid.table) c.as_slice.ensures.value ∙ first.refs_of.tables))
+    (c.in_err-data_fronts.ensures.full (ap Err (handed_on c.from_residual-in_err-data_fronts.result c.in_err-data_fronts.field-0.0 c.from_residual-in_err-data_fronts.ensures.1 e))))
 
 pub pair_refs-requires-clause-within : goal.pair_refs-requires-clause-within
 pair_refs-requires-clause-within g c =
@@ -98,81 +140,30 @@ pair_refs-requires-clause-within g c =
 
 pub returns-in_err-both-clause-full : goal.returns-in_err-both-clause-full
 returns-in_err-both-clause-full g c = λ e.
-    let s : StageData = c.args.stage.now in
-    let v : ValuesData = c.args.base.now in
     let old : SpaceData = g.P.Space.meaning c.args.space.now in
     let mid : SpaceData = g.P.Space.meaning c.data_tables.new.space in
-    let some = made-some s c.facts.ensures old c.requires.width v c.requires.base c.refs.result.now c.refs.ensures.refs c.wiring.result.now c.wiring.ensures in
-    let first : mid.held ≡ with_tables old (net_tables_by v.wiring.order s Base ++ some_tables v.wiring.order s) = held-along old old mid (net_tables_by v.wiring.order s Base) (some_tables v.wiring.order s) (keeps_all old) (nets-held old c.requires.space s v c.requires.base) (c.in_ok-some.ensures.made.held ∙ ap (with_tables old) some) in
-    let fronts = made-fronts v.wiring.order s c.requires.base.wired.order mid (c.in_ok-some.ensures.kept.width ∙ c.requires.width) c.as_slice.result.now (ap (map mid.table) c.as_slice.ensures.value ∙ c.in_ok-some.ensures.made.refs_of.tables ∙ some) in
     let now : SpaceData = g.P.Space.meaning c.data_fronts.new.space in
-    let kept : Keeps old now = keeps_along old mid now c.in_ok-some.ensures.kept c.in_ok-data_fronts.ensures.kept in
-    let second : now.held ≡ with_tables old ((net_tables_by v.wiring.order s Base ++ some_tables v.wiring.order s) ++ fronts_of v.wiring.order s) = held-along old mid now (net_tables_by v.wiring.order s Base ++ some_tables v.wiring.order s) (fronts_of v.wiring.order s) c.in_ok-some.ensures.kept first (c.in_ok-data_fronts.ensures.made.held ∙ ap (with_tables mid) fronts) in
-    let both = made-both s c.facts.ensures old now kept c.requires.width v c.requires.base c.refs-2.result.now c.refs-2.ensures.refs c.outputs.result.now (c.outputs.ensures ∙ ap (λ (w : WiringData). w.outputs) c.wiring-2.ensures) in
-    subst (λ tables. fits old tables ≡ false) (sym (base-parts v.wiring.order s))
-    (too_much-after old now ((net_tables_by v.wiring.order s Base ++ some_tables v.wiring.order s) ++ fronts_of v.wiring.order s) (both_tables v.wiring.order s) kept second
-    (subst (λ tables. fits now tables ≡ false) both
-    (c.in_err-both.ensures.full (ap Err (handed_on c.from_residual-in_err-both.result c.in_err-both.field-0.0 c.from_residual-in_err-both.ensures.1 e)))))
+    let first = subst (MakesAll old mid c.in_ok-some.some.items) (made-some c.args.stage.now c.facts.ensures old c.requires.width c.args.base.now c.requires.base c.refs.result.now c.refs.ensures.refs c.wiring.result.now c.wiring.ensures) c.in_ok-some.ensures.made in
+    let second = subst (MakesAll mid now c.in_ok-data_fronts.field-0.items) (made-fronts c.args.base.now.wiring.order c.args.stage.now c.requires.base.wired.order mid (c.in_ok-some.ensures.kept.width ∙ c.requires.width) c.as_slice.result.now (ap (map mid.table) c.as_slice.ensures.value ∙ first.refs_of.tables)) c.in_ok-data_fronts.ensures.made in
+    both-over c.args.stage.now c.facts.ensures old c.requires.space c.requires.width c.args.base.now c.requires.base mid c.in_ok-some.ensures.kept c.in_ok-some.some.items first now c.in_ok-data_fronts.ensures.kept c.in_ok-data_fronts.field-0.items second
+    (subst (λ tables. fits now tables ≡ false) (made-both c.args.stage.now c.facts.ensures old now (keeps_along old mid now c.in_ok-some.ensures.kept c.in_ok-data_fronts.ensures.kept) c.requires.width c.args.base.now c.requires.base c.refs-2.result.now c.refs-2.ensures.refs c.outputs.result.now (c.outputs.ensures ∙ ap (λ (w : WiringData). w.outputs) c.wiring-2.ensures))
+    (c.in_err-both.ensures.full (ap Err (handed_on c.from_residual-in_err-both.result c.in_err-both.field-0.0 c.from_residual-in_err-both.ensures.1 e))))
 
-pub returns-clause-some : goal.returns-clause-some
-returns-clause-some g c =
-    let s : StageData = c.args.stage.now in
-    let v : ValuesData = c.args.base.now in
+pub returns : goal.returns
+returns g c =
     let old : SpaceData = g.P.Space.meaning c.args.space.now in
     let mid : SpaceData = g.P.Space.meaning c.data_tables.new.space in
     let now : SpaceData = g.P.Space.meaning c.data_fronts.new.space in
     let new : SpaceData = g.P.Space.meaning c.pair_refs.new.space in
-    let some = made-some s c.facts.ensures old c.requires.width v c.requires.base c.refs.result.now c.refs.ensures.refs c.wiring.result.now c.wiring.ensures in
-    subst (HaveTables new c.in_ok-some.some.items) some
-    (have-kept mid new c.in_ok-some.some.items _ (keeps_along mid now new c.in_ok-data_fronts.ensures.kept c.in_ok-both.ensures.kept) c.in_ok-some.ensures.made.refs_of)
-
-pub returns-clause-both : goal.returns-clause-both
-returns-clause-both g c =
-    let s : StageData = c.args.stage.now in
-    let v : ValuesData = c.args.base.now in
-    let old : SpaceData = g.P.Space.meaning c.args.space.now in
-    let mid : SpaceData = g.P.Space.meaning c.data_tables.new.space in
-    let now : SpaceData = g.P.Space.meaning c.data_fronts.new.space in
-    let kept : Keeps old now = keeps_along old mid now c.in_ok-some.ensures.kept c.in_ok-data_fronts.ensures.kept in
-    let both = made-both s c.facts.ensures old now kept c.requires.width v c.requires.base c.refs-2.result.now c.refs-2.ensures.refs c.outputs.result.now (c.outputs.ensures ∙ ap (λ (w : WiringData). w.outputs) c.wiring-2.ensures) in
-    subst (HaveTables (g.P.Space.meaning c.pair_refs.new.space) c.in_ok-both.both.items) both c.in_ok-both.ensures.made.refs_of
-
-pub returns-clause-live : goal.returns-clause-live
-returns-clause-live g c =
-    let s : StageData = c.args.stage.now in
-    let v : ValuesData = c.args.base.now in
-    let old : SpaceData = g.P.Space.meaning c.args.space.now in
-    let mid : SpaceData = g.P.Space.meaning c.data_tables.new.space in
-    let some = made-some s c.facts.ensures old c.requires.width v c.requires.base c.refs.result.now c.refs.ensures.refs c.wiring.result.now c.wiring.ensures in
-    let first : mid.held ≡ with_tables old (net_tables_by v.wiring.order s Base ++ some_tables v.wiring.order s) = held-along old old mid (net_tables_by v.wiring.order s Base) (some_tables v.wiring.order s) (keeps_all old) (nets-held old c.requires.space s v c.requires.base) (c.in_ok-some.ensures.made.held ∙ ap (with_tables old) some) in
-    let fronts = made-fronts v.wiring.order s c.requires.base.wired.order mid (c.in_ok-some.ensures.kept.width ∙ c.requires.width) c.as_slice.result.now (ap (map mid.table) c.as_slice.ensures.value ∙ c.in_ok-some.ensures.made.refs_of.tables ∙ some) in
-    let now : SpaceData = g.P.Space.meaning c.data_fronts.new.space in
-    let kept : Keeps old now = keeps_along old mid now c.in_ok-some.ensures.kept c.in_ok-data_fronts.ensures.kept in
-    let second : now.held ≡ with_tables old ((net_tables_by v.wiring.order s Base ++ some_tables v.wiring.order s) ++ fronts_of v.wiring.order s) = held-along old mid now (net_tables_by v.wiring.order s Base ++ some_tables v.wiring.order s) (fronts_of v.wiring.order s) c.in_ok-some.ensures.kept first (c.in_ok-data_fronts.ensures.made.held ∙ ap (with_tables mid) fronts) in
-    let both = made-both s c.facts.ensures old now kept c.requires.width v c.requires.base c.refs-2.result.now c.refs-2.ensures.refs c.outputs.result.now (c.outputs.ensures ∙ ap (λ (w : WiringData). w.outputs) c.wiring-2.ensures) in
-    let new : SpaceData = g.P.Space.meaning c.pair_refs.new.space in
-    let last : Keeps now new = c.in_ok-both.ensures.kept in
-    let P : List Bool → Type 0 = IsNamed new in
-    let nets = named-all new v.refs (net_tables_by v.wiring.order s Base) (have-kept old new v.refs (net_tables_by v.wiring.order s Base) (keeps_along old now new kept last) c.requires.base.shown) in
-    let some_named = named-all new c.in_ok-some.some.items (some_tables v.wiring.order s) (subst (HaveTables new c.in_ok-some.some.items) some (have-kept mid new c.in_ok-some.some.items _ (keeps_along mid now new c.in_ok-data_fronts.ensures.kept last) c.in_ok-some.ensures.made.refs_of)) in
-    let fronts_named = named-all new c.in_ok-data_fronts.field-0.items (fronts_of v.wiring.order s) (subst (HaveTables new c.in_ok-data_fronts.field-0.items) fronts (have-kept now new c.in_ok-data_fronts.field-0.items _ last c.in_ok-data_fronts.ensures.made.refs_of)) in
-    let both_named = named-all new c.in_ok-both.both.items (both_tables v.wiring.order s) (subst (HaveTables new c.in_ok-both.both.items) both c.in_ok-both.ensures.made.refs_of) in
-    subst (All P) (sym (base-parts v.wiring.order s))
-    (All-append P ((net_tables_by v.wiring.order s Base ++ some_tables v.wiring.order s) ++ fronts_of v.wiring.order s) (both_tables v.wiring.order s)
-    (All-append P (net_tables_by v.wiring.order s Base ++ some_tables v.wiring.order s) (fronts_of v.wiring.order s) (All-append P (net_tables_by v.wiring.order s Base) (some_tables v.wiring.order s) nets some_named) fronts_named) both_named)
-
-pub returns-clause-held : goal.returns-clause-held
-returns-clause-held g c =
-    let s : StageData = c.args.stage.now in
-    let v : ValuesData = c.args.base.now in
-    let old : SpaceData = g.P.Space.meaning c.args.space.now in
-    let mid : SpaceData = g.P.Space.meaning c.data_tables.new.space in
-    let some = made-some s c.facts.ensures old c.requires.width v c.requires.base c.refs.result.now c.refs.ensures.refs c.wiring.result.now c.wiring.ensures in
-    let first : mid.held ≡ with_tables old (net_tables_by v.wiring.order s Base ++ some_tables v.wiring.order s) = held-along old old mid (net_tables_by v.wiring.order s Base) (some_tables v.wiring.order s) (keeps_all old) (nets-held old c.requires.space s v c.requires.base) (c.in_ok-some.ensures.made.held ∙ ap (with_tables old) some) in
-    let fronts = made-fronts v.wiring.order s c.requires.base.wired.order mid (c.in_ok-some.ensures.kept.width ∙ c.requires.width) c.as_slice.result.now (ap (map mid.table) c.as_slice.ensures.value ∙ c.in_ok-some.ensures.made.refs_of.tables ∙ some) in
-    let now : SpaceData = g.P.Space.meaning c.data_fronts.new.space in
-    let kept : Keeps old now = keeps_along old mid now c.in_ok-some.ensures.kept c.in_ok-data_fronts.ensures.kept in
-    let second : now.held ≡ with_tables old ((net_tables_by v.wiring.order s Base ++ some_tables v.wiring.order s) ++ fronts_of v.wiring.order s) = held-along old mid now (net_tables_by v.wiring.order s Base ++ some_tables v.wiring.order s) (fronts_of v.wiring.order s) c.in_ok-some.ensures.kept first (c.in_ok-data_fronts.ensures.made.held ∙ ap (with_tables mid) fronts) in
-    let both = made-both s c.facts.ensures old now kept c.requires.width v c.requires.base c.refs-2.result.now c.refs-2.ensures.refs c.outputs.result.now (c.outputs.ensures ∙ ap (λ (w : WiringData). w.outputs) c.wiring-2.ensures) in
-    held-along old now (g.P.Space.meaning c.pair_refs.new.space) ((net_tables_by v.wiring.order s Base ++ some_tables v.wiring.order s) ++ fronts_of v.wiring.order s) (both_tables v.wiring.order s) kept second (c.in_ok-both.ensures.made.held ∙ ap (with_tables now) both)
-    ∙ ap (with_tables old) (sym (base-parts v.wiring.order s))
+    let first = subst (MakesAll old mid c.in_ok-some.some.items) (made-some c.args.stage.now c.facts.ensures old c.requires.width c.args.base.now c.requires.base c.refs.result.now c.refs.ensures.refs c.wiring.result.now c.wiring.ensures) c.in_ok-some.ensures.made in
+    let second = subst (MakesAll mid now c.in_ok-data_fronts.field-0.items) (made-fronts c.args.base.now.wiring.order c.args.stage.now c.requires.base.wired.order mid (c.in_ok-some.ensures.kept.width ∙ c.requires.width) c.as_slice.result.now (ap (map mid.table) c.as_slice.ensures.value ∙ first.refs_of.tables)) c.in_ok-data_fronts.ensures.made in
+    let third = subst (MakesAll now new c.in_ok-both.both.items) (made-both c.args.stage.now c.facts.ensures old now (keeps_along old mid now c.in_ok-some.ensures.kept c.in_ok-data_fronts.ensures.kept) c.requires.width c.args.base.now c.requires.base c.refs-2.result.now c.refs-2.ensures.refs c.outputs.result.now (c.outputs.ensures ∙ ap (λ (w : WiringData). w.outputs) c.wiring-2.ensures)) c.in_ok-both.ensures.made in
+    record {
+      some = some-there c.args.stage.now c.facts.ensures old c.requires.space c.requires.width c.args.base.now c.requires.base mid c.in_ok-some.ensures.kept c.in_ok-some.some.items first now c.in_ok-data_fronts.ensures.kept c.in_ok-data_fronts.field-0.items second new c.in_ok-both.ensures.kept c.in_ok-both.both.items third;
+      both = third.refs_of;
+      live = all-named c.args.stage.now c.facts.ensures old c.requires.space c.requires.width c.args.base.now c.requires.base mid c.in_ok-some.ensures.kept c.in_ok-some.some.items first now c.in_ok-data_fronts.ensures.kept c.in_ok-data_fronts.field-0.items second new c.in_ok-both.ensures.kept c.in_ok-both.both.items third;
+      held = all-held c.args.stage.now c.facts.ensures old c.requires.space c.requires.width c.args.base.now c.requires.base mid c.in_ok-some.ensures.kept c.in_ok-some.some.items first now c.in_ok-data_fronts.ensures.kept c.in_ok-data_fronts.field-0.items second new c.in_ok-both.ensures.kept c.in_ok-both.both.items third;
+      kept = search rules;
+      space = search rules;
+      full = search rules;
+    }

@@ -162,19 +162,28 @@ module _ (p : PipelineData) (shape : Shape p.netlist p) (l : Layout) (is : IsLay
           | inr apart ↦ apart_stage k lk apart net (Member-append_left net (map out_of (l.stage k).cells) m)
         ]
 
+        base_before : (k : ℕ) → k < top → variant k ≡ Base
+        base_before k lt = ap (λ b. cond b (Without place) Base) (ne_eqb k top (λ e. absurd (omega (arith, e, lt))))
+
+        first_rails : (net : ℕ) → Member net (rail_nets j.inputs) → kept_low j (Without place_j) net ≡ false
+        first_rails net m = low_j net ∙ apart_rail 0 (omega arith) net (subst (λ bits. Member net (rail_nets bits)) (sym is.source) m)
+
+        later_rails : (k : ℕ) → k ≤ top → (net : ℕ) → Member net (rail_nets (l.stage k).inputs) → kept_low (l.stage k) (variant k) net ≡ false
+        later_rails k le net m = elim (cases_eq k top) [
+          | inl e ↦ subst (λ x. kept_low (l.stage x) (variant x) net ≡ false) (sym e) (low_top net ∙ apart_rail k (omega (arith, le, in_last)) net m)
+          | inr apart ↦ low_before k apart net
+        ]
+
+        same_gates : (k : ℕ) → k ≤ top → (c : StageCell) → Member c (l.stage k).cells → kept_low j (Without place_j) (out_of c) ≡ kept_low (l.stage k) (variant k) (out_of c)
+        same_gates k le c m = elim (cases_eq k top) [
+          | inl e ↦ subst (λ x. kept_low j (Without place_j) (out_of c) ≡ kept_low (l.stage x) (variant x) (out_of c)) (sym e) (low_j (out_of c) ∙ sym (low_top (out_of c)))
+          | inr apart ↦ low_j (out_of c) ∙ apart_stage k (omega (arith, le, in_last)) apart (out_of c) (gate-listed (l.stage k) c m) ∙ sym (low_before k apart (out_of c))
+        ]
+
         pub values-without : (k : ℕ) → k ≤ top → (net : ℕ) → Member net (stage_nets l k) → val j word (Without place_j) (names_after p k net) ≡ val (l.stage k) (word_at l word k) (variant k) net
         values-without =
             values-joined is top in_last (names_after p) start_names next_names word wide sound j joined-is_stage refl has (Without place_j) variant
-            (λ k lt. ap (λ b. cond b (Without place) Base) (ne_eqb k top (λ e. absurd (omega (arith, e, lt)))))
-            (λ net m. low_j net ∙ apart_rail 0 (omega arith) net (subst (λ bits. Member net (rail_nets bits)) (sym is.source) m))
-            (λ k le net m. elim (cases_eq k top) [
-              | inl e ↦ subst (λ x. kept_low (l.stage x) (variant x) net ≡ false) (sym e) (low_top net ∙ apart_rail k (omega (arith, le, in_last)) net m)
-              | inr apart ↦ low_before k apart net
-            ])
-            (λ k le c m. elim (cases_eq k top) [
-              | inl e ↦ subst (λ x. kept_low j (Without place_j) (out_of c) ≡ kept_low (l.stage x) (variant x) (out_of c)) (sym e) (low_j (out_of c) ∙ sym (low_top (out_of c)))
-              | inr apart ↦ low_j (out_of c) ∙ apart_stage k (omega (arith, le, in_last)) apart (out_of c) (gate-listed (l.stage k) c m) ∙ sym (low_before k apart (out_of c))
-            ])
+            base_before first_rails later_rails same_gates
 
         high-same : val j word Base (out_of g) ≡ val (l.stage top) (word_at l word top) Base (out_of g)
         high-same =
@@ -184,16 +193,7 @@ module _ (p : PipelineData) (shape : Shape p.netlist p) (l : Layout) (is : IsLay
         data-same : all_data j (val j word (Without place_j)) ≡ all_data (l.stage top) (val (l.stage top) (word_at l word top) (Without place))
         data-same =
             all_data-joined is top in_last (names_after p) start_names next_names word wide sound j joined-is_stage refl has (Without place_j) variant
-            (λ k lt. ap (λ b. cond b (Without place) Base) (ne_eqb k top (λ e. absurd (omega (arith, e, lt)))))
-            (λ net m. low_j net ∙ apart_rail 0 (omega arith) net (subst (λ bits. Member net (rail_nets bits)) (sym is.source) m))
-            (λ k le net m. elim (cases_eq k top) [
-              | inl e ↦ subst (λ x. kept_low (l.stage x) (variant x) net ≡ false) (sym e) (low_top net ∙ apart_rail k (omega (arith, le, in_last)) net m)
-              | inr apart ↦ low_before k apart net
-            ])
-            (λ k le c m. elim (cases_eq k top) [
-              | inl e ↦ subst (λ x. kept_low j (Without place_j) (out_of c) ≡ kept_low (l.stage x) (variant x) (out_of c)) (sym e) (low_j (out_of c) ∙ sym (low_top (out_of c)))
-              | inr apart ↦ low_j (out_of c) ∙ apart_stage k (omega (arith, le, in_last)) apart (out_of c) (gate-listed (l.stage k) c m) ∙ sym (low_before k apart (out_of c))
-            ])
+            base_before first_rails later_rails same_gates
             outputs-joined
             ∙ ap (λ b. all_data (l.stage top) (val (l.stage top) (word_at l word top) (cond b (Without place) Base))) (eq-eqb top top refl)
 

@@ -4,6 +4,7 @@ use Rattle.std.specs.Prelude.{slice_get}
 use Rattle.std.specs.List.{list_all, range_with_len}
 use Rattle.std.proofs.lemmas.Bool.{both_ways, cases_Bool, cases_eq, and_from, and_right, false_from_ne_true}
 use Rattle.ncl_base.proofs.Members.{Member, here, there}
+use Rattle.ncl_shape.specs.declared.item.Item.{Item}
 use Rattle.ncl_shape.specs.declared.item.Item.TheVariants.{Raise, Lower}
 use Rattle.ncl_shape.specs.Nets.{Nets, with_net}
 use Rattle.ncl_shape.specs.Stage.{named_rails}
@@ -50,6 +51,27 @@ module _ (p : PipelineData) (word : List Bool) (wide : length word ≡ length p.
   rail-in : (b : ℕ) → b < length p.inputs → Member (rail b) rails
   rail-in b lt = named-has p.inputs word wide b lt
 
+  -- ---- all rails in turn
+
+  -- where an event gives a rail a value that no other event takes away, the events of all bits give it to all rails
+  each-turn : (turn : ℕ → Item) (bit : Bool) (Is : State → Type 0)
+      → ((s : State) → Is s → (b : ℕ) → b < length p.inputs → Is (turned p s (turn b)) × ((turned p s (turn b)).value (rail b) ≡ bit) × ((net : ℕ) → s.value net ≡ bit → (turned p s (turn b)).value net ≡ bit))
+      → (n from : ℕ) → from + n ≤ length p.inputs → (s : State) → Is s
+      → Is (tried p s (map turn (range_with_len from n)))
+      × ((b : ℕ) → from ≤ b → b < from + n → (tried p s (map turn (range_with_len from n))).value (rail b) ≡ bit)
+      × ((net : ℕ) → s.value net ≡ bit → (tried p s (map turn (range_with_len from n))).value net ≡ bit)
+  each-turn turn bit Is one zero from le s is = (is, λ b past before. absurd (omega (arith, past, before)), λ net h. h)
+  each-turn turn bit Is one (suc n) from le s is =
+      let (turned_is, given, kept) = one s is from (omega (arith, le)) in
+      let (all, bits, keeps) = each-turn turn bit Is one n (from + 1) (omega (arith, le)) (turned p s (turn from)) turned_is in (
+        all,
+        λ b past before. elim (cases_eq from b) [
+          | inl e ↦ subst (λ x. (tried p (turned p s (turn from)) (map turn (range_with_len (from + 1) n))).value (rail x) ≡ bit) e (keeps (rail from) given)
+          | inr apart ↦ bits b (omega (arith, past, apart)) (omega (arith, before))
+        ],
+        λ net h. keeps net (kept net h),
+      )
+
   -- ---- raising
 
   record IsRaising (start : Nets) (s : State) : Type 0 where
@@ -87,28 +109,12 @@ module _ (p : PipelineData) (word : List Bool) (wide : length word ≡ length p.
           )
     ]
 
-    raise-all : (n from : ℕ) → from + n ≤ length p.inputs → (s : State) → IsRaising start s
-        → IsRaising start (tried p s (map (λ bit. Raise bit) (range_with_len from n)))
-        × ((b : ℕ) → from ≤ b → b < from + n → (tried p s (map (λ bit. Raise bit) (range_with_len from n))).value (rail b) ≡ true)
-        × ((net : ℕ) → s.value net ≡ true → (tried p s (map (λ bit. Raise bit) (range_with_len from n))).value net ≡ true)
-    raise-all zero from le s ing = (ing, λ b past before. absurd (omega (arith, past, before)), λ net h. h)
-    raise-all (suc n) from le s ing =
-        let (one, here_high, kept) = raise-one s ing from (omega (arith, le)) in
-        let (all, highs, keeps) = raise-all n (from + 1) (omega (arith, le)) (turned p s (Raise from)) one in (
-          all,
-          λ b past before. elim (cases_eq from b) [
-            | inl e ↦ subst (λ x. (tried p (turned p s (Raise from)) (map (λ bit. Raise bit) (range_with_len (from + 1) n))).value (rail x) ≡ true) e (keeps (rail from) here_high)
-            | inr apart ↦ highs b (omega (arith, past, apart)) (omega (arith, before))
-          ],
-          λ net h. keeps net (kept net h),
-        )
-
     -- once all bits were tried, the source lowers, each rail of the word is high, and nothing else has changed
     pub raised : (s : State) → s.offered ≡ word ∷ [] → s.done ≡ 0 → s.falling ≡ list_all s.value rails → s.value ≡ start
         → let t : State = tried p s (raises (length p.inputs)) in
         (t.offered ≡ word ∷ []) × (t.done ≡ 0) × (t.falling ≡ true) × ((net : ℕ) → Member net rails → t.value net ≡ true) × ((net : ℕ) → (Member net rails → ⊥) → t.value net ≡ start net)
     raised s offered done falling value =
-        let (all, highs, keeps) = raise-all (length p.inputs) 0 (omega arith) s (record { is = record { offered = offered; done = done }; falling = falling; others = λ net none. ap (λ v. v net) value }) in
+        let (all, highs, keeps) = each-turn (λ bit. Raise bit) true (IsRaising start) raise-one (length p.inputs) 0 (omega arith) s (record { is = record { offered = offered; done = done }; falling = falling; others = λ net none. ap (λ v. v net) value }) in
         let high : (net : ℕ) → Member net rails → (tried p s (raises (length p.inputs))).value net ≡ true = all_rails (λ net. (tried p s (raises (length p.inputs))).value net ≡ true) (λ b lt. highs b (omega arith) (omega (arith, lt))) in
         (all.is.offered, all.is.done, all.falling ∙ passes_all (tried p s (raises (length p.inputs))).value rails high, high, all.others)
 
@@ -166,26 +172,10 @@ module _ (p : PipelineData) (word : List Bool) (wide : length word ≡ length p.
             let same : turned p s (Lower b) ≡ s = ap (λ e. if e then step p s (Lower b) else s) not_now in
             subst (λ t. IsLowering start t × (t.value (rail b) ≡ false) × ((net : ℕ) → s.value net ≡ false → t.value net ≡ false)) (sym same) (ing, low, λ net h. h)
 
-    lower-all : (n from : ℕ) → from + n ≤ length p.inputs → (s : State) → IsLowering start s
-        → IsLowering start (tried p s (map (λ bit. Lower bit) (range_with_len from n)))
-        × ((b : ℕ) → from ≤ b → b < from + n → (tried p s (map (λ bit. Lower bit) (range_with_len from n))).value (rail b) ≡ false)
-        × ((net : ℕ) → s.value net ≡ false → (tried p s (map (λ bit. Lower bit) (range_with_len from n))).value net ≡ false)
-    lower-all zero from le s ing = (ing, λ b past before. absurd (omega (arith, past, before)), λ net h. h)
-    lower-all (suc n) from le s ing =
-        let (one, here_low, kept) = lower-one s ing from (omega (arith, le)) in
-        let (all, lows, keeps) = lower-all n (from + 1) (omega (arith, le)) (turned p s (Lower from)) one in (
-          all,
-          λ b past before. elim (cases_eq from b) [
-            | inl e ↦ subst (λ x. (tried p (turned p s (Lower from)) (map (λ bit. Lower bit) (range_with_len (from + 1) n))).value (rail x) ≡ false) e (keeps (rail from) here_low)
-            | inr apart ↦ lows b (omega (arith, past, apart)) (omega (arith, before))
-          ],
-          λ net h. keeps net (kept net h),
-        )
-
     -- once all bits were tried, each rail of the word is low, and nothing else has changed
     pub lowered : (s : State) → s.offered ≡ word ∷ [] → s.done ≡ 0 → s.falling ≡ true → s.value ≡ start
         → let t : State = tried p s (lowers (length p.inputs)) in
         ((net : ℕ) → Member net rails → t.value net ≡ false) × ((net : ℕ) → (Member net rails → ⊥) → t.value net ≡ start net)
     lowered s offered done falls value =
-        let (all, lows, keeps) = lower-all (length p.inputs) 0 (omega arith) s (record { either = inl (record { offered = offered; done = done }, falls); others = λ net none. ap (λ v. v net) value }) in
+        let (all, lows, keeps) = each-turn (λ bit. Lower bit) false (IsLowering start) lower-one (length p.inputs) 0 (omega arith) s (record { either = inl (record { offered = offered; done = done }, falls); others = λ net none. ap (λ v. v net) value }) in
         (all_rails (λ net. (tried p s (lowers (length p.inputs))).value net ≡ false) (λ b lt. lows b (omega arith) (omega (arith, lt))), all.others)

@@ -1,7 +1,9 @@
-use Rattle.std.proofs.Common.{◌≡◌, ℕ, ◌-◌, ◌<◌, Result, Ok, Err, Option, None, Some, [], ◌∷◌, length, refl, sym, ap, ◌∙◌, subst}
-use Rattle.std.specs.Prelude.{IsErrAnd}
+use Rattle.std.proofs.Common.{◌≡◌, ℕ, ◌-◌, Result, Ok, Err, Option, None, Some, List, [], ◌∷◌, get_or, refl, sym, ap, ◌∙◌, subst}
+use Rattle.std.specs.Prelude.{IsErrAnd, slice_get}
 use Rattle.std.proofs.lemmas.Option.{slice_get_within}
+use Rattle.ncl_netlist.specs.declared.ids.CellId.{CellId}
 use Rattle.ncl_shape.specs.Stage.{StageData}
+use Rattle.ncl_shape.specs.Pipeline.{PipelineData}
 use Rattle.ncl_space.specs.declared.space.SpaceFault.{SpaceFault}
 use Rattle.ncl_space.specs.declared.space.SpaceFault.TheVariants as space
 use Rattle.ncl_machine.specs.State.{reset}
@@ -29,49 +31,45 @@ none-is : {X : Type 0} (o : Option X) → ((x : X) → o ≡ Some x → ⊥) →
 none-is None not = refl
 none-is (Some x) not = absurd (not x refl)
 
+-- the stage that is read, and the place of the cell there
+own-read : (p : PipelineData) (stages : List StageData) (before : ℕ) (read own : StageData) → stages ≡ p.stages → read ≡ get_or stages before read → slice_get p.stages before ≡ Some own → read ≡ own
+own-read p stages before read own same is at = stage-at p stages before read own same is (slice_get_within p.stages before own at) at
+
+place-own : (p : PipelineData) (stages : List StageData) (before : ℕ) (cell : CellId) (place : ℕ) (read own : StageData) → stages ≡ p.stages → read ≡ get_or stages before read → StandsAt read cell place → slice_get p.stages before ≡ Some own → IsPlaceOf p before cell own place
+place-own p stages before cell place read own same is stands at =
+    (at, subst (λ (s : StageData). StandsAt s cell place) (own-read p stages before read own same is at) stands)
+
 pub place_of-place-requires : goal.place_of-place-requires
 place_of-place-requires c =
-    let p = c.args.pipeline.now in
     let o = c.requires.orphan in
-    let within : c.args.stage - 1 < length p.stages = slice_get_within p.stages (c.args.stage - 1) o.own o.at in
-    let own : c.index-stages-before.result ≡ o.own = stage-at p c.stages.result.now (c.args.stage - 1) c.index-stages-before.result o.own c.stages.ensures.stages c.index-stages-before.is within o.at in
-    subst (λ (s : StageData). (place : ℕ) × StandsAt s c.args.cell place) (sym own) (stands-somewhere o.own o.limit o.number c.args.cell o.word o.judged)
+    subst (λ (s : StageData). (place : ℕ) × StandsAt s c.args.cell place) (sym (own-read c.args.pipeline.now c.stages.result.now (c.args.stage - 1) c.index-stages-before.result o.own c.stages.ensures.stages c.index-stages-before.is o.at))
+    (stands-somewhere o.own o.limit o.number c.args.cell o.word o.judged)
 
 pub least_bringing-requires-clause-within : goal.least_bringing-requires-clause-within
 least_bringing-requires-clause-within c = slice_get_within c.args.pipeline.now.stages (c.args.stage - 1) c.requires.orphan.own c.requires.orphan.at
 
 pub least_bringing-requires-clause-cell : goal.least_bringing-requires-clause-cell
 least_bringing-requires-clause-cell c = λ s at.
-    let p = c.args.pipeline.now in
-    let o = c.requires.orphan in
-    let within : c.args.stage - 1 < length p.stages = slice_get_within p.stages (c.args.stage - 1) o.own o.at in
-    let own : c.index-stages-before.result ≡ s = stage-at p c.stages.result.now (c.args.stage - 1) c.index-stages-before.result s c.stages.ensures.stages c.index-stages-before.is within at in
-    let stands : StandsAt s c.args.cell c.place_of-place.result = subst (λ (x : StageData). StandsAt x c.args.cell c.place_of-place.result) own c.place_of-place.ensures in
+    let (_, stands) = place-own c.args.pipeline.now c.stages.result.now (c.args.stage - 1) c.args.cell c.place_of-place.result c.index-stages-before.result s c.stages.ensures.stages c.index-stages-before.is c.place_of-place.ensures at in
     slice_get_within s.cells c.place_of-place.result stands.0 stands.1
 
 pub returns-in_err-input-clause-full : goal.returns-in_err-input-clause-full
 returns-in_err-input-clause-full c = λ e.
-    let p = c.args.pipeline.now in
     let o = c.requires.orphan in
-    let within : c.args.stage - 1 < length p.stages = slice_get_within p.stages (c.args.stage - 1) o.own o.at in
-    let own : c.index-stages-before.result ≡ o.own = stage-at p c.stages.result.now (c.args.stage - 1) c.index-stages-before.result o.own c.stages.ensures.stages c.index-stages-before.is within o.at in
     record {
       own = o.own;
       place = c.place_of-place.result;
-      of_cell = (o.at, subst (λ (x : StageData). StandsAt x c.args.cell c.place_of-place.result) own c.place_of-place.ensures);
+      of_cell = place-own c.args.pipeline.now c.stages.result.now (c.args.stage - 1) c.args.cell c.place_of-place.result c.index-stages-before.result o.own c.stages.ensures.stages c.index-stages-before.is c.place_of-place.ensures o.at;
       past = c.in_err-input.ensures.full (ap Err (full-given c.from_residual.result c.in_err-input.field-0.0 c.from_residual.ensures.1 e));
     }
 
 pub returns-in_default-clause-explained : goal.returns-in_default-clause-explained
 returns-in_default-clause-explained c =
-    let p = c.args.pipeline.now in
     let o = c.requires.orphan in
-    let within : c.args.stage - 1 < length p.stages = slice_get_within p.stages (c.args.stage - 1) o.own o.at in
-    let own : c.index-stages-before.result ≡ o.own = stage-at p c.stages.result.now (c.args.stage - 1) c.index-stages-before.result o.own c.stages.ensures.stages c.index-stages-before.is within o.at in
     record {
       own = o.own;
       place = c.place_of-place.result;
-      of_cell = (o.at, subst (λ (x : StageData). StandsAt x c.args.cell c.place_of-place.result) own c.place_of-place.ensures);
+      of_cell = place-own c.args.pipeline.now c.stages.result.now (c.args.stage - 1) c.args.cell c.place_of-place.result c.index-stages-before.result o.own c.stages.ensures.stages c.index-stages-before.is c.place_of-place.ensures o.at;
       within = c.in_ok-input.ensures.few;
       tells = sym (c.in_ok-input.ensures.word o.own o.at) ∙ none-is c.in_ok-input.field-0 c.in_default.not-Some;
     }
@@ -83,21 +81,17 @@ pub shown_run-requires-clause-brings : goal.shown_run-requires-clause-brings
 shown_run-requires-clause-brings c =
     let p = c.args.pipeline.now in
     let o = c.requires.orphan in
-    let within : c.args.stage - 1 < length p.stages = slice_get_within p.stages (c.args.stage - 1) o.own o.at in
-    let own : c.index-stages-before.result ≡ o.own = stage-at p c.stages.result.now (c.args.stage - 1) c.index-stages-before.result o.own c.stages.ensures.stages c.index-stages-before.is within o.at in
-    let of_cell : IsPlaceOf p (c.args.stage - 1) c.args.cell o.own c.place_of-place.result = (o.at, subst (λ (x : StageData). StandsAt x c.args.cell c.place_of-place.result) own c.place_of-place.ensures) in
+    let of_cell : IsPlaceOf p (c.args.stage - 1) c.args.cell o.own c.place_of-place.result = place-own c.args.pipeline.now c.stages.result.now (c.args.stage - 1) c.args.cell c.place_of-place.result c.index-stages-before.result o.own c.stages.ensures.stages c.index-stages-before.is c.place_of-place.ensures o.at in
     brings-least p (c.args.stage - 1) c.args.cell o.own c.place_of-place.result c.in-Some.input of_cell (sym (c.in_ok-input.ensures.word o.own o.at) ∙ c.in-Some.is)
 
 pub returns-clause-explained : goal.returns-clause-explained
 returns-clause-explained c =
     let p = c.args.pipeline.now in
     let o = c.requires.orphan in
-    let within : c.args.stage - 1 < length p.stages = slice_get_within p.stages (c.args.stage - 1) o.own o.at in
-    let own : c.index-stages-before.result ≡ o.own = stage-at p c.stages.result.now (c.args.stage - 1) c.index-stages-before.result o.own c.stages.ensures.stages c.index-stages-before.is within o.at in
     record {
       own = o.own;
       place = c.place_of-place.result;
-      of_cell = (o.at, subst (λ (x : StageData). StandsAt x c.args.cell c.place_of-place.result) own c.place_of-place.ensures);
+      of_cell = place-own c.args.pipeline.now c.stages.result.now (c.args.stage - 1) c.args.cell c.place_of-place.result c.index-stages-before.result o.own c.stages.ensures.stages c.index-stages-before.is c.place_of-place.ensures o.at;
       within = c.in_ok-input.ensures.few;
       tells = (
         sym (c.in_ok-input.ensures.word o.own o.at) ∙ c.in-Some.is,

@@ -1,4 +1,4 @@
-use Rattle.std.proofs.Common.{◌≡◌, ℕ, ◌+◌, ◌<◌, All, List, Some, length, get_or, map, sym, ap, ◌∙◌, subst, arith}
+use Rattle.std.proofs.Common.{◌≡◌, ℕ, ◌+◌, ◌<◌, ◌≤◌, All, List, Some, length, get_or, map, sym, ap, ◌∙◌, subst, arith}
 use Rattle.std.specs.Prelude.{slice_get}
 use Rattle.std.proofs.lemmas.Option.{slice_get-get_or}
 use Rattle.ncl_shape.specs.declared.rails.Rails.{Rails}
@@ -8,19 +8,18 @@ use Rattle.ncl_hazard.specs.Joined.{rails_as, name_in, names_after, outputs_afte
 use Rattle.ncl_hazard.proofs.JoiningLaws.{names-next, cells-next, outputs-next, rails-within, as-many, is_stage-of, parts-are}
 use Rattle.ncl_hazard.proofs.joining.joined_stage.Goals as goal
 
--- the stage at a place
-stage_at : (p : PipelineData) (stages : List StageData) (k : ℕ) (s : StageData) → stages ≡ p.stages → s ≡ get_or stages k s → k < length p.stages → slice_get p.stages k ≡ Some s
-stage_at p stages k s same is lt = slice_get-get_or p.stages k s lt ∙ ap (λ xs. Some (get_or xs k s)) (sym same) ∙ ap Some (sym is)
+-- the stage at a place that is within those that are joined
+stage_in : (p : PipelineData) (stages : List StageData) (k many : ℕ) (s : StageData) → stages ≡ p.stages → s ≡ get_or stages k s → many ≤ length p.stages → k < many → (k < length p.stages) × (slice_get p.stages k ≡ Some s)
+stage_in p stages k many s same is most test =
+    let lt : k < length p.stages = omega (arith, test, most) in
+    (lt, slice_get-get_or p.stages k s lt ∙ ap (λ xs. Some (get_or xs k s)) (sym same) ∙ ap Some (sym is))
 
 pub rename-requires-clause-many : goal.rename-requires-clause-many
 rename-requires-clause-many c =
     let p = c.args.pipeline.now in
     let k = c.loop-k.k in
     let s : StageData = c.index-stages-k.result in
-    let most = c.requires.within in
-    let test = c.loop-k-test.true in
-    let lt : k < length p.stages = omega (arith, test, most) in
-    let at = stage_at p c.stages.result.now k s c.stages.ensures.stages c.index-stages-k.is lt in
+    let (lt, at) = stage_in p c.stages.result.now k c.args.stages s c.stages.ensures.stages c.index-stages-k.is c.requires.within c.loop-k-test.true in
     ap length (c.deref-in-loop-k.ensures.value ∙ c.in_ok-taken.ensures ∙ ap (map (rails_as (name_in c.deref.result.now))) c.loop-k.invariant.3)
     ∙ as-many p c.facts.ensures k s (name_in c.deref.result.now) lt at
     ∙ sym (ap length (c.items.ensures ∙ ap (λ (t : StageData). t.inputs) c.stage.view_is))
@@ -30,10 +29,7 @@ rename-requires-clause-within c =
     let p = c.args.pipeline.now in
     let k = c.loop-k.k in
     let s : StageData = c.index-stages-k.result in
-    let most = c.requires.within in
-    let test = c.loop-k-test.true in
-    let lt : k < length p.stages = omega (arith, test, most) in
-    let at = stage_at p c.stages.result.now k s c.stages.ensures.stages c.index-stages-k.is lt in
+    let (lt, at) = stage_in p c.stages.result.now k c.args.stages s c.stages.ensures.stages c.index-stages-k.is c.requires.within c.loop-k-test.true in
     subst (λ (bits : List Rails). All (λ net. net < length c.loop-k.names.items) (rail_nets bits)) (sym (c.items.ensures ∙ ap (λ (t : StageData). t.inputs) c.stage.view_is))
     (subst (λ n. All (λ net. net < n) (rail_nets s.inputs)) (sym c.loop-k.invariant.0) (rails-within p c.facts.ensures k s lt at))
 
@@ -42,10 +38,7 @@ loop-k-preserved c =
     let p = c.args.pipeline.now in
     let k = c.loop-k.k in
     let s : StageData = c.index-stages-k.result in
-    let most = c.requires.within in
-    let test = c.loop-k-test.true in
-    let lt : k < length p.stages = omega (arith, test, most) in
-    let at = stage_at p c.stages.result.now k s c.stages.ensures.stages c.index-stages-k.is lt in
+    let (lt, at) = stage_in p c.stages.result.now k c.args.stages s c.stages.ensures.stages c.index-stages-k.is c.requires.within c.loop-k-test.true in
     let old = c.loop-k.names.items in
     let new = c.rename.new.names.items in
     let taken : c.deref-in-loop-k.result.now ≡ map (rails_as (name_in old)) (outputs_after p k) =

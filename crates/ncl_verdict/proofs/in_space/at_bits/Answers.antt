@@ -1,5 +1,6 @@
-use Rattle.std.proofs.Common.{◌≡◌, ℕ, ◌+◌, ◌<◌, ◌≤◌, Some, None, Err, length, map, refl, sym, ◌∙◌, ap, subst, arith, below_more}
+use Rattle.std.proofs.Common.{◌≡◌, ℕ, List, ◌+◌, ◌<◌, ◌≤◌, Some, None, Err, length, map, refl, sym, ◌∙◌, ap, subst, arith, below_more}
 use Rattle.std.proofs.lemmas.Result.{IfOk-weaker}
+use Rattle.ncl_shape.specs.declared.rails.Rails.{Rails}
 use Rattle.ncl_shape.specs.Stage.{StageData}
 use Rattle.ncl_space.specs.Space.{SpaceData}
 use Rattle.ncl_space.proofs.SpaceLaws.{keeps_along}
@@ -15,24 +16,22 @@ use Rattle.ncl_verdict.proofs.InSpaceLaws.{map_map, ready-restored, said-asked, 
 use Rattle.ncl_verdict.proofs.in_space.at_bits.Goals as goal
 
 -- the answer at the first bit that has one
-first-bit : (stop : Stop) (s : StageData) (bit many : ℕ) (v : Verdict) → many ≡ length s.inputs → bit < many → ((k : ℕ) → k < bit → at_variant stop s (Bit k) ≡ None) → at_variant stop s (Bit bit) ≡ Some v → Some v ≡ first_of (map (at_variant stop s) (map Bit (below (length s.inputs))))
-first-bit stop s bit many v all within none is =
-    sym (ap first_of (map_map (at_variant stop s) Bit (below (length s.inputs))) ∙ first_below-some (λ k. at_variant stop s (Bit k)) (length s.inputs) bit v (subst (λ n. bit < n) all within) none is)
+first-bit : (stop : Stop) (s : StageData) (bit : ℕ) (bits : List Rails) (v : Verdict) → bits ≡ s.inputs → bit < length bits → ((k : ℕ) → k < bit → at_variant stop s (Bit k) ≡ None) → at_variant stop s (Bit bit) ≡ Some v → Some v ≡ first_of (map (at_variant stop s) (map Bit (below (length s.inputs))))
+first-bit stop s bit bits v all within none is =
+    sym (ap first_of (map_map (at_variant stop s) Bit (below (length s.inputs))) ∙ first_below-some (λ k. at_variant stop s (Bit k)) (length s.inputs) bit v (subst (λ xs. bit < length xs) all within) none is)
 
 pub returns-in-Ok-Some : goal.returns-in-Ok-Some
 returns-in-Ok-Some g c =
     let s : StageData = c.args.stage.now in
     let old : SpaceData = g.P.Space.meaning c.args.space.now in
     let now : SpaceData = g.P.Space.meaning c.loop-bit.space in
-    let new : SpaceData = g.P.Space.meaning c.input_complete.new.space in
     let bit = c.loop-bit.bit in
-    let inputs = c.items-bit-end.ensures ∙ ap (λ (t : StageData). t.inputs) c.stage.view_is in
     let said = said-asked now s c.args.base.now c.loop-bit.invariant.ready old.limit c.loop-bit.invariant.kept.limit (Bit bit) (Incomplete bit) (Some c.in-Ok-Some.word) refl (sym c.in-Ok-Some.field-0-is ∙ c.in-Ok-Some.ensures.word) c.in-Ok-Some.ensures.fits in
     record {
       answer = ap (λ (t : StageData). Some (verdict.Incomplete t.number (bit + 1) c.in-Ok-Some.word)) c.stage.view_is
-          ∙ first-bit (stopped_within old.limit) s bit _ (verdict.Incomplete s.number (bit + 1) c.in-Ok-Some.word) (ap length inputs) c.loop-bit-test.true c.loop-bit.invariant.none said;
-      ready = ready-restored now new s c.args.base.now c.input_complete.ensures.back c.loop-bit.invariant.ready;
-      kept = keeps_along old now new c.loop-bit.invariant.kept c.input_complete.ensures.back.keeps;
+          ∙ first-bit (stopped_within old.limit) s bit c.items-bit-end.result.now (verdict.Incomplete s.number (bit + 1) c.in-Ok-Some.word) (c.items-bit-end.ensures ∙ ap (λ (t : StageData). t.inputs) c.stage.view_is) c.loop-bit-test.true c.loop-bit.invariant.none said;
+      ready = ready-restored now (g.P.Space.meaning c.input_complete.new.space) s c.args.base.now c.input_complete.ensures.back c.loop-bit.invariant.ready;
+      kept = keeps_along old now (g.P.Space.meaning c.input_complete.new.space) c.loop-bit.invariant.kept c.input_complete.ensures.back.keeps;
     }
 
 pub returns-in-Err : goal.returns-in-Err
@@ -40,16 +39,13 @@ returns-in-Err g c =
     let s : StageData = c.args.stage.now in
     let old : SpaceData = g.P.Space.meaning c.args.space.now in
     let now : SpaceData = g.P.Space.meaning c.loop-bit.space in
-    let new : SpaceData = g.P.Space.meaning c.input_complete.new.space in
-    let stop : Stop = stopped_within old.limit in
-    let inputs = c.items-bit-end.ensures ∙ ap (λ (t : StageData). t.inputs) c.stage.view_is in
     record {
-      answer = IfOk-weaker c.stopped.result _ (λ answer. answer ≡ first_of (map (at_variant stop s) (map Bit (below (length s.inputs)))))
-          (λ answer said. said.1 ∙ first-bit stop s c.loop-bit.bit _ (verdict.Limit s.number) (ap length inputs) c.loop-bit-test.true c.loop-bit.invariant.none
+      answer = IfOk-weaker c.stopped.result _ (λ answer. answer ≡ first_of (map (at_variant (stopped_within old.limit) s) (map Bit (below (length s.inputs)))))
+          (λ answer said. said.1 ∙ first-bit (stopped_within old.limit) s c.loop-bit.bit c.items-bit-end.result.now (verdict.Limit s.number) (c.items-bit-end.ensures ∙ ap (λ (t : StageData). t.inputs) c.stage.view_is) c.loop-bit-test.true c.loop-bit.invariant.none
           (said-full now s c.args.base.now c.loop-bit.invariant.ready old.limit c.loop-bit.invariant.kept.limit (Bit c.loop-bit.bit) (c.in-Err.ensures.full (ap Err said.0))))
           c.stopped.ensures;
-      ready = ready-restored now new s c.args.base.now c.input_complete.ensures.back c.loop-bit.invariant.ready;
-      kept = keeps_along old now new c.loop-bit.invariant.kept c.input_complete.ensures.back.keeps;
+      ready = ready-restored now (g.P.Space.meaning c.input_complete.new.space) s c.args.base.now c.input_complete.ensures.back c.loop-bit.invariant.ready;
+      kept = keeps_along old now (g.P.Space.meaning c.input_complete.new.space) c.loop-bit.invariant.kept c.input_complete.ensures.back.keeps;
     }
 
 pub loop-bit-preserved : goal.loop-bit-preserved

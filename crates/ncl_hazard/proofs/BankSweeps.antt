@@ -1,11 +1,10 @@
 -- The register cells of a bank, tried in turn, and the cells of the completion trees.
-use Rattle.std.proofs.Common.{◌≡◌, ◌≢◌, ℕ, suc, ◌<◌, ◌≤◌, Bool, true, false, not, ◌||◌, if◌then◌else◌, take, Some, List, [], ◌∷◌, ◌++◌, map, ◌⊎◌, inl, inr, refl, sym, ap, ◌∙◌, subst, append_assoc, arith}
+use Rattle.std.proofs.Common.{◌≡◌, ◌≢◌, ℕ, suc, ◌<◌, ◌≤◌, Bool, true, false, not, ◌||◌, if◌then◌else◌, List, [], ◌∷◌, ◌++◌, map, ◌⊎◌, inl, inr, refl, sym, ap, ◌∙◌, subst, append_assoc, arith}
 use Rattle.std.specs.Prelude.{slice_get}
 use Rattle.std.proofs.lemmas.Bool.{both_ways, cases_eq}
 use Rattle.std.proofs.lemmas.List.{append-nil}
 use Rattle.ncl_base.proofs.Members.{Member, here, there, Member-append_right, Member-append_cases, member_cases}
 use Rattle.ncl_gates.proofs.GateLaws.{next_of-hysteresis}
-use Rattle.ncl_gates.proofs.RegisterLaws.{at_register}
 use Rattle.ncl_gates.specs.declared.kind.Kind.{Kind}
 use Rattle.ncl_gates.specs.declared.kind.Kind.TheVariants.{Th22}
 use Rattle.ncl_gates.specs.declared.cell_kind.CellKind.TheVariants.{Gate}
@@ -20,31 +19,16 @@ use Rattle.ncl_shape.specs.Stage.{out_of}
 use Rattle.ncl_shape.specs.Closure.{pin_values}
 use Rattle.ncl_shape.specs.Pipeline.{PipelineData}
 use Rattle.ncl_shape.proofs.PinLaws.{some_high-low}
-use Rattle.ncl_cell_roles.specs.Layout.{in_rail, out_rail, Layout, IsRegisterOn, IsLayoutOf, IsRegisterOf, IsAckOf, TreePart, acks, completes, width, stage_nets}
+use Rattle.ncl_cell_roles.specs.Layout.{in_rail, out_rail, Layout, IsLayoutOf, IsRegisterOf, IsAckOf, TreePart, acks, completes, width, stage_nets}
 use Rattle.ncl_stage.specs.Faults.{has_data}
 use Rattle.ncl_machine.specs.Steps.{next_value, fired}
 use Rattle.ncl_machine.proofs.AtWorkLaws.{with_net-elsewhere}
 use Rattle.ncl_machine.proofs.NamedRails.{rail-is_one, data-same}
 use Rattle.ncl_machine.proofs.LocalNets.{with_net-here}
 use Rattle.ncl_machine.proofs.StageNets.{in_bit, rail-listed, out-listed, root-listed, tree-listed}
+use Rattle.ncl_insensitivity.proofs.NextValues.{register-next}
 use Rattle.ncl_hazard.specs.Schedule.{chosen, swept}
 use Rattle.ncl_hazard.proofs.Sweeps.{fired-at}
-
--- a register cell is a TH22 on A and B
-two-pins : (v : Nets) (ins : List NetId) (a b : ℕ) → slice_get ins 0 ≡ Some (record { 0 = a }) → slice_get ins 1 ≡ Some (record { 0 = b })
-    → take 2 (pin_values v ins) ≡ v a ∷ v b ∷ []
-two-pins v [] a b at_a at_b = absurd cc
-two-pins v (x ∷ []) a b at_a at_b = absurd cc
-two-pins v (x ∷ y ∷ rest) a b at_a at_b =
-    let first : x ≡ record { 0 = a } = cc in
-    let second : y ≡ record { 0 = b } = cc in
-    ap (λ (z : NetId). v z.0 ∷ v y.0 ∷ []) first ∙ ap (λ (z : NetId). v a ∷ v z.0 ∷ []) second
-
-register-next : (v : Nets) (cell : Cell) (a b z : ℕ) → IsRegisterOn cell a b z → next_value v cell ≡ next_of Th22 (v a ∷ v b ∷ []) (v z)
-register-next v cell a b z on =
-    at_register (λ k. next_of_cell k (pin_values v cell.ins.items) (v cell.out.0)) (next_of Th22 (take 2 (pin_values v cell.ins.items)) (v cell.out.0)) refl refl cell.kind on.register
-    ∙ ap (λ pins. next_of Th22 pins (v cell.out.0)) (two-pins v cell.ins.items a b on.on_a on.on_b)
-    ∙ ap (λ x. next_of Th22 (v a ∷ v b ∷ []) (v x)) on.out
 
 -- the cells are the register cells of the bank after stage k, each of them
 pub record AreRegisters (p : PipelineData) (l : Layout) (k : ℕ) (ids : List CellId) : Type 0 where

@@ -51,7 +51,7 @@ two-pins v (x ∷ y ∷ rest) a b at_a at_b =
     let second : y ≡ record { 0 = b } = cc in
     ap (λ (z : NetId). v z.0 ∷ v y.0 ∷ []) first ∙ ap (λ (z : NetId). v a ∷ v z.0 ∷ []) second
 
-register-next : (v : Nets) (cell : Cell) (a b z : ℕ) → IsRegisterOn cell a b z → next_value v cell ≡ next_of Th22 (v a ∷ v b ∷ []) (v z)
+pub register-next : (v : Nets) (cell : Cell) (a b z : ℕ) → IsRegisterOn cell a b z → next_value v cell ≡ next_of Th22 (v a ∷ v b ∷ []) (v z)
 register-next v cell a b z on =
     at_register (λ k. next_of_cell k (pin_values v cell.ins.items) (v cell.out.0)) (next_of Th22 (take 2 (pin_values v cell.ins.items)) (v cell.out.0)) refl refl cell.kind on.register
     ∙ ap (λ pins. next_of Th22 pins (v cell.out.0)) (two-pins v cell.ins.items a b on.on_a on.on_b)

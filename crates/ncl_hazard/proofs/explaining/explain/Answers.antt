@@ -1,4 +1,4 @@
-use Rattle.std.proofs.Common.{◌≡◌, ℕ, ◌-◌, Result, Ok, Err, Option, None, Some, List, [], ◌∷◌, get_or, refl, sym, ap, ◌∙◌, subst}
+use Rattle.std.proofs.Common.{◌≡◌, ℕ, ◌-◌, ◌≤◌, Result, Ok, Err, Option, None, Some, List, [], ◌∷◌, get_or, refl, sym, ap, ◌∙◌, subst}
 use Rattle.std.specs.Prelude.{IsErrAnd, slice_get}
 use Rattle.std.proofs.lemmas.Option.{slice_get_within}
 use Rattle.ncl_netlist.specs.declared.ids.CellId.{CellId}
@@ -9,8 +9,10 @@ use Rattle.ncl_space.specs.declared.space.SpaceFault.TheVariants as space
 use Rattle.ncl_machine.specs.State.{reset}
 use Rattle.ncl_hazard.specs.declared.fault.ExplainFault.{ExplainFault}
 use Rattle.ncl_hazard.specs.declared.fault.ExplainFault.TheVariants as explain
+use Rattle.ncl_hazard.specs.declared.explaining.Explained.{Explained}
+use Rattle.ncl_hazard.specs.Why.{why_count}
 use Rattle.ncl_hazard.specs.Trying.{Loses}
-use Rattle.ncl_hazard.specs.Explained.{IsPlaceOf, StandsAt}
+use Rattle.ncl_hazard.specs.Explained.{IsExplained, IsPlaceOf, StandsAt, TellsOfCell}
 use Rattle.ncl_hazard.specs.Refusals.{told_as}
 use Rattle.ncl_hazard.proofs.InputLaws.{stage-at}
 use Rattle.ncl_hazard.proofs.OrphanPlaces.{stands-somewhere}
@@ -39,6 +41,9 @@ place-own : (p : PipelineData) (stages : List StageData) (before : ℕ) (cell : 
 place-own p stages before cell place read own same is stands at =
     (at, subst (λ (s : StageData). StandsAt s cell place) (own-read p stages before read own same is at) stands)
 
+explained-at : (p : PipelineData) (before : ℕ) (cell : CellId) (limit : ℕ) (own : StageData) (place : ℕ) (told : Explained) → IsPlaceOf p before cell own place → why_count p before place ≤ limit → TellsOfCell p before cell own place told → IsExplained p before cell limit told
+explained-at p before cell limit own place told of_cell within tells = record { own = own; place = place; of_cell = of_cell; within = within; tells = tells }
+
 pub place_of-place-requires : goal.place_of-place-requires
 place_of-place-requires c =
     let o = c.requires.orphan in
@@ -66,13 +71,8 @@ returns-in_err-input-clause-full c = λ e.
 pub returns-in_default-clause-explained : goal.returns-in_default-clause-explained
 returns-in_default-clause-explained c =
     let o = c.requires.orphan in
-    record {
-      own = o.own;
-      place = c.place_of-place.result;
-      of_cell = place-own c.args.pipeline.now c.stages.result.now (c.args.stage - 1) c.args.cell c.place_of-place.result c.index-stages-before.result o.own c.stages.ensures.stages c.index-stages-before.is c.place_of-place.ensures o.at;
-      within = c.in_ok-input.ensures.few;
-      tells = sym (c.in_ok-input.ensures.word o.own o.at) ∙ none-is c.in_ok-input.field-0 c.in_default.not-Some;
-    }
+    explained-at c.args.pipeline.now (c.args.stage - 1) c.args.cell c.args.limit o.own c.place_of-place.result _ (place-own c.args.pipeline.now c.stages.result.now (c.args.stage - 1) c.args.cell c.place_of-place.result c.index-stages-before.result o.own c.stages.ensures.stages c.index-stages-before.is c.place_of-place.ensures o.at) c.in_ok-input.ensures.few
+    (sym (c.in_ok-input.ensures.word o.own o.at) ∙ none-is c.in_ok-input.field-0 c.in_default.not-Some)
 
 pub shown_run-requires-clause-within : goal.shown_run-requires-clause-within
 shown_run-requires-clause-within c = slice_get_within c.args.pipeline.now.stages (c.args.stage - 1) c.requires.orphan.own c.requires.orphan.at
@@ -88,13 +88,5 @@ pub returns-clause-explained : goal.returns-clause-explained
 returns-clause-explained c =
     let p = c.args.pipeline.now in
     let o = c.requires.orphan in
-    record {
-      own = o.own;
-      place = c.place_of-place.result;
-      of_cell = place-own c.args.pipeline.now c.stages.result.now (c.args.stage - 1) c.args.cell c.place_of-place.result c.index-stages-before.result o.own c.stages.ensures.stages c.index-stages-before.is c.place_of-place.ensures o.at;
-      within = c.in_ok-input.ensures.few;
-      tells = (
-        sym (c.in_ok-input.ensures.word o.own o.at) ∙ c.in-Some.is,
-        subst (Loses p (reset p (c.in-Some.input ∷ [])) c.args.cell) (sym c.from_vec.ensures) c.in_ok-run.ensures,
-      );
-    }
+    explained-at p (c.args.stage - 1) c.args.cell c.args.limit o.own c.place_of-place.result _ (place-own c.args.pipeline.now c.stages.result.now (c.args.stage - 1) c.args.cell c.place_of-place.result c.index-stages-before.result o.own c.stages.ensures.stages c.index-stages-before.is c.place_of-place.ensures o.at) c.in_ok-input.ensures.few
+    (sym (c.in_ok-input.ensures.word o.own o.at) ∙ c.in-Some.is, subst (Loses p (reset p (c.in-Some.input ∷ [])) c.args.cell) (sym c.from_vec.ensures) c.in_ok-run.ensures)

@@ -14,24 +14,19 @@ stage_in p stages k many s same is most test =
     let lt : k < length p.stages = omega (arith, test, most) in
     (lt, slice_get-get_or p.stages k s lt ∙ ap (λ xs. Some (get_or xs k s)) (sym same) ∙ ap Some (sym is))
 
-pub rename-requires-clause-many : goal.rename-requires-clause-many
-rename-requires-clause-many c =
+pub rename-requires : goal.rename-requires
+rename-requires c =
     let p = c.args.pipeline.now in
     let k = c.loop-k.k in
     let s : StageData = c.index-stages-k.result in
     let (lt, at) = stage_in p c.stages.result.now k c.args.stages s c.stages.ensures.stages c.index-stages-k.is c.requires.within c.loop-k-test.true in
-    ap length (c.deref-in-loop-k.ensures.value ∙ c.in_ok-taken.ensures ∙ ap (map (rails_as (name_in c.deref.result.now))) c.loop-k.invariant.3)
-    ∙ as-many p c.facts.ensures k s (name_in c.deref.result.now) lt at
-    ∙ sym (ap length (c.items.ensures ∙ ap (λ (t : StageData). t.inputs) c.stage.view_is))
-
-pub rename-requires-clause-within : goal.rename-requires-clause-within
-rename-requires-clause-within c =
-    let p = c.args.pipeline.now in
-    let k = c.loop-k.k in
-    let s : StageData = c.index-stages-k.result in
-    let (lt, at) = stage_in p c.stages.result.now k c.args.stages s c.stages.ensures.stages c.index-stages-k.is c.requires.within c.loop-k-test.true in
-    subst (λ (bits : List Rails). All (λ net. net < length c.loop-k.names.items) (rail_nets bits)) (sym (c.items.ensures ∙ ap (λ (t : StageData). t.inputs) c.stage.view_is))
-    (subst (λ n. All (λ net. net < n) (rail_nets s.inputs)) (sym c.loop-k.invariant.0) (rails-within p c.facts.ensures k s lt at))
+    record {
+      many = ap length (c.deref-in-loop-k.ensures.value ∙ c.in_ok-taken.ensures ∙ ap (map (rails_as (name_in c.deref.result.now))) c.loop-k.invariant.3)
+          ∙ as-many p c.facts.ensures k s (name_in c.deref.result.now) lt at
+          ∙ sym (ap length (c.items.ensures ∙ ap (λ (t : StageData). t.inputs) c.stage.view_is));
+      within = subst (λ (bits : List Rails). All (λ net. net < length c.loop-k.names.items) (rail_nets bits)) (sym (c.items.ensures ∙ ap (λ (t : StageData). t.inputs) c.stage.view_is))
+          (subst (λ n. All (λ net. net < n) (rail_nets s.inputs)) (sym c.loop-k.invariant.0) (rails-within p c.facts.ensures k s lt at));
+    }
 
 pub loop-k-preserved : goal.loop-k-preserved
 loop-k-preserved c =

@@ -1,5 +1,5 @@
 -- The netlist of the kept cells has the shape of the pipeline of the folded stages.
-use Rattle.std.proofs.Common.{◌≡◌, ◌≢◌, ◌<◌, ℕ, zero, suc, List, [], ◌∷◌, length, map, Option, Some, inl, inr, refl, sym, ap, ◌∙◌, subst, arith}
+use Rattle.std.proofs.Common.{◌≡◌, ◌≢◌, ◌<◌, ℕ, zero, suc, List, [], ◌∷◌, length, map, Some, inl, inr, refl, sym, ap, ◌∙◌, subst, arith}
 use Rattle.std.specs.Prelude.{AllPairs, Contains, slice_get}
 use Rattle.std.specs.List.{AllZip}
 use Rattle.std.proofs.lemmas.List.Kept.{AllPairs-cons}
@@ -72,9 +72,6 @@ module _ (p : PipelineData) (shape : Shape p.netlist p) (lists : List (List Stag
   abbrev m : NetlistData
   m = folded_netlist p lists
 
-  abbrev choice : Cell → Option Cell
-  choice = choice_of p lists
-
   abbrev to : ℕ → ℕ
   to = net_there p lists
 
@@ -85,7 +82,7 @@ module _ (p : PipelineData) (shape : Shape p.netlist p) (lists : List (List Stag
   at = place_there p lists
 
   abbrev pub is-thinned : IsThinned n m
-  is-thinned = thinned-rebuilt n shape.is_netlist shape.free choice (is-choice p shape lists fewer) is_m
+  is-thinned = thinned-rebuilt n shape.is_netlist shape.free (choice_of p lists) (is-choice p shape lists fewer) is_m
 
   -- a net that has a number there leads back
   back-there : (x : ℕ) → x < length n.nets → to x < length m.nets → from (to x) ≡ x
@@ -97,13 +94,13 @@ module _ (p : PipelineData) (shape : Shape p.netlist p) (lists : List (List Stag
     cell-there g m-g =
         let (c, at_c, out, rail) = gate-cell p shape lists fewer k s cells of g m-g in
         let chosen = choice-found p shape lists fewer c g (in-all p shape lists fewer k s cells of g m-g) (ap (λ (x : NetId). x.0) (sym out)) in
-        let stands = at_map (moved to) (kept choice n.cells) (at g.cell.0) (with_gate_of c g) (kept_at choice n.cells g.cell.0 c (with_gate_of c g) at_c chosen) in
+        let stands = at_map (moved to) (kept (choice_of p lists) n.cells) (at g.cell.0) (with_gate_of c g) (kept_at (choice_of p lists) n.cells g.cell.0 c (with_gate_of c g) at_c chosen) in
         let in_c : IsCell n c = Contains-from_slice_get n.cells g.cell.0 c at_c in
         let fits = cell_fits n shape.is_netlist c in_c in
-        let among = in-kept n shape.is_netlist shape.free choice (is-choice p shape lists fewer) g.cell.0 c (with_gate_of c g) at_c chosen in
-        let leads : from (to c.out.0) ≡ c.out.0 = back n shape.is_netlist shape.free choice (is-choice p shape lists fewer) c.out.0 fits.output (named n shape.is_netlist shape.free choice (is-choice p shape lists fewer) (with_gate_of c g) among c.out (out-in n shape.is_netlist shape.free choice (is-choice p shape lists fewer) (with_gate_of c g))) in (
+        let among = in-kept n shape.is_netlist shape.free (choice_of p lists) (is-choice p shape lists fewer) g.cell.0 c (with_gate_of c g) at_c chosen in
+        let leads : from (to c.out.0) ≡ c.out.0 = back n shape.is_netlist shape.free (choice_of p lists) (is-choice p shape lists fewer) c.out.0 fits.output (named n shape.is_netlist shape.free (choice_of p lists) (is-choice p shape lists fewer) (with_gate_of c g) among c.out (out-in n shape.is_netlist shape.free (choice_of p lists) (is-choice p shape lists fewer) (with_gate_of c g))) in (
           c,
-          subst (λ xs. slice_get xs (at g.cell.0) ≡ Some (moved to (with_gate_of c g))) (sym (cells-moved n shape.is_netlist shape.free choice (is-choice p shape lists fewer))) stands,
+          subst (λ xs. slice_get xs (at g.cell.0) ≡ Some (moved to (with_gate_of c g))) (sym (cells-moved n shape.is_netlist shape.free (choice_of p lists) (is-choice p shape lists fewer))) stands,
           out,
           subst (λ (x : NetId). from (to x.0) ≡ x.0) out leads,
         )
@@ -154,10 +151,10 @@ module _ (p : PipelineData) (shape : Shape p.netlist p) (lists : List (List Stag
     every-there : (i : ℕ) (kind : Kind) (d : Cell) → CellAt m i d → d.kind ≡ Gate kind → (old : StageCell) → Contains s.cells old → d.out.0 ≡ to old.out.0 → (g : StageCell) × Contains (map (moved_gate to at) cells) g × (g.cell.0 ≡ i)
     every-there i kind d at_d is_gate old among out =
         let chosen = is-choice p shape lists fewer in
-        let (j, c, e, at_c, is, place, moved-e) = source n shape.is_netlist shape.free choice chosen i d at_d in
+        let (j, c, e, at_c, is, place, moved-e) = source n shape.is_netlist shape.free (choice_of p lists) chosen i d at_d in
         let in_c : IsCell n c = Contains-from_slice_get n.cells j c at_c in
         let in_d : IsCell m d = Contains-from_slice_get m.cells i d at_d in
-        let e-out : e.out ≡ c.out = out-source n shape.is_netlist shape.free choice chosen j c e at_c is in
+        let e-out : e.out ≡ c.out = out-source n shape.is_netlist shape.free (choice_of p lists) chosen j c e at_c is in
         let within_d : d.out.0 < length m.nets = (cell_fits m is_m d in_d).output in
         let m-old = Member-from_Contains s.cells old among in
         let (b, at_b, out_b, rail) = old-cell p shape lists fewer k s cells of old m-old in

@@ -1,5 +1,5 @@
 -- A folded netlist keeps what the netlist has.
-use Rattle.std.proofs.Common.{◌≡◌, ◌<◌, ◌+◌, ℕ, Bool, true, false, not, List, [], ◌∷◌, length, map, drop, Option, None, Some, is_some, inl, inr, refl, sym, ap, ◌∙◌, subst, arith}
+use Rattle.std.proofs.Common.{◌≡◌, ◌<◌, ◌+◌, ℕ, Bool, true, false, not, List, [], ◌∷◌, length, map, drop, None, Some, is_some, inl, inr, refl, sym, ap, ◌∙◌, subst, arith}
 use Rattle.std.specs.Prelude.{All, filter, slice_get, nat_eq, sum_by, if◌then◌else◌}
 use Rattle.std.specs.List.{AllZip, list_any, flat_map}
 use Rattle.std.proofs.lemmas.Bool.{cases_Bool, both_ways, eq-eqb, eqb-true, false_from_ne_true}
@@ -87,14 +87,8 @@ module _ (p : PipelineData) (shape : Shape p.netlist p) (lists : List (List Stag
   abbrev q : PipelineData
   q = folded_pipeline p lists
 
-  abbrev choice : Cell → Option Cell
-  choice = choice_of p lists
-
   abbrev to : ℕ → ℕ
   to = net_there p lists
-
-  abbrev from : ℕ → ℕ
-  from = number_in m n
 
   abbrev at : ℕ → ℕ
   at = place_there p lists
@@ -112,7 +106,7 @@ module _ (p : PipelineData) (shape : Shape p.netlist p) (lists : List (List Stag
   -- ---- which cells are cells of stages
 
   -- what a cell of a stage has become is one
-  staged-there : (c d : Cell) → IsCell n c → is_stage_cell p c ≡ true → choice c ≡ Some d → is_stage_cell q (moved to d) ≡ true
+  staged-there : (c d : Cell) → IsCell n c → is_stage_cell p c ≡ true → choice_of p lists c ≡ Some d → is_stage_cell q (moved to d) ≡ true
   staged-there c d in_c staged is =
       let (g, m-g, out, same) = choice-rail p shape lists fewer c d in_c (staged-rail p shape lists fewer c in_c staged) is in
       let u = place-in p shape lists fewer g m-g in
@@ -128,7 +122,7 @@ module _ (p : PipelineData) (shape : Shape p.netlist p) (lists : List (List Stag
       (list_any-from_member (λ (f : StageCell). nat_eq f.out.0 (moved to d).out.0) (moved_gate to at g) among (eq-eqb (to g.out.0) (moved to d).out.0 drives))
 
   -- and no other cell is
-  other-there : (c : Cell) → IsCell n c → is_stage_cell p c ≡ false → choice c ≡ Some c → is_stage_cell q (moved to c) ≡ false
+  other-there : (c : Cell) → IsCell n c → is_stage_cell p c ≡ false → choice_of p lists c ≡ Some c → is_stage_cell q (moved to c) ≡ false
   other-there c in_c other is =
       false_from_ne_true (is_stage_cell q (moved to c)) (λ staged.
       let (t, m-t, some) = member_from_list_any (λ (s : StageData). list_any (λ (f : StageCell). nat_eq f.out.0 (moved to c).out.0) s.cells) q.stages staged in
@@ -138,10 +132,10 @@ module _ (p : PipelineData) (shape : Shape p.netlist p) (lists : List (List Stag
       let (f, m-f, e) = member_of_map (moved_gate to at) cells g (subst (λ (u : StageData). Member g u.cells) (sym moved_t) m-g) in
       let no_rail : IsRailGate n c → ⊥ = λ rail. both_ways (is_stage_cell p c) other (rail-staged p shape lists fewer c in_c rail) in
       let (i, at_c) = place_of n c in_c in
-      let leads : from (to c.out.0) ≡ c.out.0 = ((is-thinned p shape lists fewer is_m).stood i c at_c no_rail).out in
-      let back : from (to f.out.0) ≡ f.out.0 = net-back p shape lists fewer is_m k s cells of f.out.0 (out-known p shape lists fewer k s cells of f m-f) in
+      let leads : number_in m n (to c.out.0) ≡ c.out.0 = ((is-thinned p shape lists fewer is_m).stood i c at_c no_rail).out in
+      let back : number_in m n (to f.out.0) ≡ f.out.0 = net-back p shape lists fewer is_m k s cells of f.out.0 (out-known p shape lists fewer k s cells of f m-f) in
       let there_is : to f.out.0 ≡ to c.out.0 = ap (λ (x : StageCell). x.out.0) e ∙ eqb-true g.out.0 (moved to c).out.0 same in
-      let outs : f.out.0 ≡ c.out.0 = sym back ∙ ap from there_is ∙ leads in
+      let outs : f.out.0 ≡ c.out.0 = sym back ∙ ap (number_in m n) there_is ∙ leads in
       let (b, at_b, out_b, rail) = gate-cell p shape lists fewer k s cells of f m-f in
       let one : b ≡ c = same_driver n shape.is_netlist b c (Contains-from_slice_get n.cells f.cell.0 b at_b) in_c (ap (λ (x : NetId). x.0) out_b ∙ outs) in
       no_rail (subst (IsRailGate n) one rail))
@@ -153,41 +147,41 @@ module _ (p : PipelineData) (shape : Shape p.netlist p) (lists : List (List Stag
   stays_here c = not (is_stage_cell p c)
 
   -- all others stand, in their order
-  standing-part : (cells : List Cell) → ((c : Cell) → Member c cells → IsCell n c) → ((d : Cell) → Member d (kept choice cells) → Member d (kept choice n.cells))
-      → map (part_of m.nets) (filter stays_there (map (moved to) (kept choice cells))) ≡ map (part_of n.nets) (filter stays_here cells)
+  standing-part : (cells : List Cell) → ((c : Cell) → Member c cells → IsCell n c) → ((d : Cell) → Member d (kept (choice_of p lists) cells) → Member d (kept (choice_of p lists) n.cells))
+      → map (part_of m.nets) (filter stays_there (map (moved to) (kept (choice_of p lists) cells))) ≡ map (part_of n.nets) (filter stays_here cells)
   standing-part [] among kept_among = refl
   standing-part (c ∷ cells) among kept_among =
       let in_c = among c here in
       elim (cases_Bool (is_stage_cell p c)) [
         | inl staged ↦
             let right : filter stays_here (c ∷ cells) ≡ filter stays_here cells = filter-out stays_here c cells (ap not staged) in
-            elim (decide (choice c)) [
+            elim (decide (choice_of p lists c)) [
               | inl gone ↦
-                  let left = kept_none choice c cells gone in
+                  let left = kept_none (choice_of p lists) c cells gone in
                   ap (λ xs. map (part_of m.nets) (filter stays_there (map (moved to) xs))) left
                   ∙ standing-part cells (λ b m-b. among b (there m-b)) (λ b m-b. kept_among b (subst (Member b) (sym left) m-b))
                   ∙ ap (map (part_of n.nets)) (sym right)
               | inr (d, is) ↦
-                  let left = kept_some choice c d cells is in
+                  let left = kept_some (choice_of p lists) c d cells is in
                   ap (λ xs. map (part_of m.nets) (filter stays_there (map (moved to) xs))) left
-                  ∙ ap (map (part_of m.nets)) (filter-out stays_there (moved to d) (map (moved to) (kept choice cells)) (ap not (staged-there c d in_c staged is)))
+                  ∙ ap (map (part_of m.nets)) (filter-out stays_there (moved to d) (map (moved to) (kept (choice_of p lists) cells)) (ap not (staged-there c d in_c staged is)))
                   ∙ standing-part cells (λ b m-b. among b (there m-b)) (λ b m-b. kept_among b (subst (Member b) (sym left) (there m-b)))
                   ∙ ap (map (part_of n.nets)) (sym right)
             ]
         | inr other ↦
-            let is : choice c ≡ Some c = choice-stands p shape lists fewer c in_c (λ rail. both_ways (is_stage_cell p c) other (rail-staged p shape lists fewer c in_c rail)) in
-            let left = kept_some choice c c cells is in
+            let is : choice_of p lists c ≡ Some c = choice-stands p shape lists fewer c in_c (λ rail. both_ways (is_stage_cell p c) other (rail-staged p shape lists fewer c in_c rail)) in
+            let left = kept_some (choice_of p lists) c c cells is in
             let own : part_of m.nets (moved to c) ≡ part_of n.nets c = part-kept p shape lists fewer is_m c (kept_among c (subst (Member c) (sym left) here)) in
             let rest = standing-part cells (λ b m-b. among b (there m-b)) (λ b m-b. kept_among b (subst (Member b) (sym left) (there m-b))) in
             ap (λ xs. map (part_of m.nets) (filter stays_there (map (moved to) xs))) left
-            ∙ ap (map (part_of m.nets)) (filter-in stays_there (moved to c) (map (moved to) (kept choice cells)) (ap not (other-there c in_c other is)))
+            ∙ ap (map (part_of m.nets)) (filter-in stays_there (moved to c) (map (moved to) (kept (choice_of p lists) cells)) (ap not (other-there c in_c other is)))
             ∙ (λ i. own i ∷ rest i)
             ∙ ap (map (part_of n.nets)) (sym (filter-in stays_here c cells (ap not other)))
       ]
 
   standing-kept : standing q ≡ standing p
   standing-kept =
-      ap (λ cells. map (part_of m.nets) (filter stays_there cells)) (cells-moved n shape.is_netlist shape.free choice (is-choice p shape lists fewer))
+      ap (λ cells. map (part_of m.nets) (filter stays_there cells)) (cells-moved n shape.is_netlist shape.free (choice_of p lists) (is-choice p shape lists fewer))
       ∙ standing-part n.cells (λ c m-c. Contains-from_Member c m-c) (λ d m-d. m-d)
 
   -- ---- stages
@@ -200,7 +194,7 @@ module _ (p : PipelineData) (shape : Shape p.netlist p) (lists : List (List Stag
         (old, in_old, subst (HasLabelOf n m old) e label);
     inputs = length-map s.inputs (renamed_rails to);
     function = λ word.
-        function-renamed to from (with_cells s cells) (moved_stage to at s cells) (is-folded p shape lists fewer k s cells of) (renamed-at p shape lists fewer is_m k s cells of) word
+        function-renamed to (number_in m n) (with_cells s cells) (moved_stage to at s cells) (is-folded p shape lists fewer k s cells of) (renamed-at p shape lists fewer is_m k s cells of) word
         ∙ function-folded s of.between.is_stage word cells (folds p shape lists fewer k s cells of);
   }
 
@@ -215,14 +209,14 @@ module _ (p : PipelineData) (shape : Shape p.netlist p) (lists : List (List Stag
   pub cells-fewer : length m.cells < length n.cells
   cells-fewer =
       let law = weighed p shape lists fewer (λ c. 1) (λ g. 1) (λ g c at_c out arity. refl) in
-      let a = ones (kept choice n.cells) in
+      let a = ones (kept (choice_of p lists) n.cells) in
       let b = ones (flat_map (λ (s : StageData). s.cells) p.stages) in
       let c = ones n.cells in
       let d = ones (flat_map (λ (cells : List StageCell). cells) lists) in
       let e : length (flat_map (λ (s : StageData). s.cells) p.stages) ≡ sum_by (λ (s : StageData). length s.cells) p.stages = length-flat_map (λ (s : StageData). s.cells) p.stages in
       let f : length (flat_map (λ (cells : List StageCell). cells) lists) ≡ sum_by (λ (cells : List StageCell). length cells) lists = length-flat_map (λ (cells : List StageCell). cells) lists in
       let less = fewer.fewer in
-      let own : length m.cells ≡ length (kept choice n.cells) = ap length (cells-moved n shape.is_netlist shape.free choice (is-choice p shape lists fewer)) ∙ length-map (kept choice n.cells) (moved to) in
+      let own : length m.cells ≡ length (kept (choice_of p lists) n.cells) = ap length (cells-moved n shape.is_netlist shape.free (choice_of p lists) (is-choice p shape lists fewer)) ∙ length-map (kept (choice_of p lists) n.cells) (moved to) in
       omega (arith, law, a, b, c, d, e, f, less, own)
 
   module _ (sound : All IsSound p.stages) where
@@ -233,7 +227,7 @@ module _ (p : PipelineData) (shape : Shape p.netlist p) (lists : List (List Stag
         let of = folded-stage p shape lists fewer k s cells at_s at_l in
         let own : IsSound s = All-contains IsSound p.stages s sound (Contains-from_slice_get p.stages k s at_s) in
         subst IsSound is
-        (sound-renamed to from (with_cells s cells) (moved_stage to at s cells) (is-folded p shape lists fewer k s cells of) (renamed-at p shape lists fewer is_m k s cells of)
+        (sound-renamed to (number_in m n) (with_cells s cells) (moved_stage to at s cells) (is-folded p shape lists fewer k s cells of) (renamed-at p shape lists fewer is_m k s cells of)
         (sound-folded s of.between.is_stage own cells (folds p shape lists fewer k s cells of))))
 
     bank-kept : (k : ℕ) (b : Bank) → slice_get p.banks k ≡ Some b → IsMergedBank p q b (moved_bank to at b)

@@ -31,25 +31,20 @@ values p word net = closed (circuit_of p) word net
 with_inputs : (old now : SpaceData) (bits inputs : List Rails) (marks : List Bool) (pairs : List Pair) → bits ≡ inputs → HaveInputs old now bits marks pairs (length bits) → HaveInputs old now inputs marks pairs (length inputs)
 with_inputs old now bits inputs marks pairs same have = subst (λ xs. HaveInputs old now xs marks pairs (length xs)) same have
 
-pub input_pairs-requires-clause-differ : goal.input_pairs-requires-clause-differ
-input_pairs-requires-clause-differ g c =
-    let p : PipelineData = c.args.pipeline.now in
-    let (l, is) = laid_out_of p.netlist p c.facts.ensures in
-    subst (λ bits. AllPairs (λ (x y : ℕ). x ≢ y) (rail_nets bits)) (sym c.inputs.ensures.inputs) (inputs-differ is)
-
-pub input_pairs-requires-clause-zeros : goal.input_pairs-requires-clause-zeros
-input_pairs-requires-clause-zeros g c =
+pub input_pairs-requires : goal.input_pairs-requires
+input_pairs-requires g c =
     let p : PipelineData = c.args.pipeline.now in
     let (l, is) = laid_out_of p.netlist p c.facts.ensures in
     let many : length p.netlist.nets ≡ length c.args.pairs.now = sym c.requires.marks.are.many ∙ c.requires.many in
-    subst (All (λ (r : Rails). r.zero.0 < length c.args.pairs.now)) (sym c.inputs.ensures.inputs) (subst (λ n. All (λ (r : Rails). r.zero.0 < n) p.inputs) many (zeros-within is))
-
-pub input_pairs-requires-clause-ones : goal.input_pairs-requires-clause-ones
-input_pairs-requires-clause-ones g c =
-    let p : PipelineData = c.args.pipeline.now in
-    let (l, is) = laid_out_of p.netlist p c.facts.ensures in
-    let many : length p.netlist.nets ≡ length c.args.pairs.now = sym c.requires.marks.are.many ∙ c.requires.many in
-    subst (All (λ (r : Rails). r.one.0 < length c.args.pairs.now)) (sym c.inputs.ensures.inputs) (subst (λ n. All (λ (r : Rails). r.one.0 < n) p.inputs) many (ones-within is))
+    record {
+      space = search rules;
+      width = search rules;
+      differ = subst (λ bits. AllPairs (λ (x y : ℕ). x ≢ y) (rail_nets bits)) (sym c.inputs.ensures.inputs) (inputs-differ is);
+      zeros = subst (All (λ (r : Rails). r.zero.0 < length c.args.pairs.now)) (sym c.inputs.ensures.inputs) (subst (λ n. All (λ (r : Rails). r.zero.0 < n) p.inputs) many (zeros-within is));
+      ones = subst (All (λ (r : Rails). r.one.0 < length c.args.pairs.now)) (sym c.inputs.ensures.inputs) (subst (λ n. All (λ (r : Rails). r.one.0 < n) p.inputs) many (ones-within is));
+      marks = search rules;
+      pairs = search rules;
+    }
 
 pub returns-in_err-input_pairs-clause-full : goal.returns-in_err-input_pairs-clause-full
 returns-in_err-input_pairs-clause-full g c = λ models e.

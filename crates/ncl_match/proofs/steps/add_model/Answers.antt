@@ -13,24 +13,26 @@ use Rattle.ncl_match.specs.Steps.{AreAdded}
 use Rattle.ncl_match.proofs.StepLaws.{added-more, added-whole, outputs_known, turn_fresh, turn_known, turn_widths}
 use Rattle.ncl_match.proofs.steps.add_model.Goals as goal
 
+-- the order as it is read, and the cover at a place of it
+turn-read : (m : Model) (read order : List ℕ) (covers : List Cover) (i : ℕ) (cover : Cover) → read ≡ order → IsOrder (dependency_graph m.covers) order → covers ≡ m.covers → cover ≡ get_or covers (get_or read i 0) cover
+    → IsOrder (dependency_graph m.covers) read × (cover ≡ get_or m.covers (get_or read i 0) cover)
+turn-read m read order covers i cover same ordered are at =
+    (subst (IsOrder (dependency_graph m.covers)) (sym same) ordered, at ∙ ap (λ covers. get_or covers (get_or read i 0) cover) are)
+
 pub add_step-requires-clause-known : goal.add_step-requires-clause-known
 add_step-requires-clause-known c =
-    let m : Model = c.args.model.now in
     let order : List ℕ = c.deref-place-items.result.now in
-    let ordered : IsOrder (dependency_graph m.covers) order = subst (IsOrder (dependency_graph m.covers)) (sym c.deref-place-items.ensures.value) c.in_ok-order.ensures in
-    let i : ℕ = c.loop-place.place-index in
     let cover : Cover = c.index-covers-place.result in
-    let at : cover ≡ get_or m.covers (get_or order i 0) cover = c.index-covers-place.is ∙ ap (λ covers. get_or covers (get_or order i 0) cover) c.items-covers.ensures in
-    turn_known c.args.inputs c.args.steps.now.items c.loop-place.steps.items m c.requires.model c.args.ins.now c.requires.ins (get nat_cmp c.loop-place.numbers) order ordered i c.loop-place-test.true c.loop-place.invariant cover at
+    let (ordered, at) = turn-read c.args.model.now order _ c.items-covers.result.now c.loop-place.place-index cover c.deref-place-items.ensures.value c.in_ok-order.ensures c.items-covers.ensures c.index-covers-place.is in
+    turn_known c.args.inputs c.args.steps.now.items c.loop-place.steps.items c.args.model.now c.requires.model c.args.ins.now c.requires.ins (get nat_cmp c.loop-place.numbers) order ordered c.loop-place.place-index c.loop-place-test.true c.loop-place.invariant cover at
 
 pub loop-place-preserved : goal.loop-place-preserved
 loop-place-preserved c =
     let m : Model = c.args.model.now in
     let order : List ℕ = c.deref-place-items.result.now in
-    let ordered : IsOrder (dependency_graph m.covers) order = subst (IsOrder (dependency_graph m.covers)) (sym c.deref-place-items.ensures.value) c.in_ok-order.ensures in
     let i : ℕ = c.loop-place.place-index in
     let cover : Cover = c.index-covers-place.result in
-    let at : cover ≡ get_or m.covers (get_or order i 0) cover = c.index-covers-place.is ∙ ap (λ covers. get_or covers (get_or order i 0) cover) c.items-covers.ensures in
+    let (ordered, at) = turn-read m order _ c.items-covers.result.now i cover c.deref-place-items.ensures.value c.in_ok-order.ensures c.items-covers.ensures c.index-covers-place.is in
     let n : ℕ = c.args.inputs in
     let old : List Step = c.args.steps.now.items in
     let steps : List Step = c.loop-place.steps.items in

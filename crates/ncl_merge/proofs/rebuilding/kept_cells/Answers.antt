@@ -1,8 +1,9 @@
-use Rattle.std.proofs.Common.{◌≡◌, ◌<◌, false, [], ◌++◌, length, map, get_or, sym, ap, ◌∙◌, subst}
+use Rattle.std.proofs.Common.{◌≡◌, ◌<◌, false, [], ◌++◌, length, map, get_or, sym, subst}
 use Rattle.ncl_netlist.specs.declared.cell.Cell.{Cell}
 use Rattle.ncl_netlist.specs.Parts.{part_of}
 use Rattle.ncl_merge.specs.Rebuilt.{with_kept}
 use Rattle.ncl_merge.specs.Choice.{becomes}
+use Rattle.ncl_merge.proofs.Lists.{member-read}
 use Rattle.ncl_merge.proofs.NetTables.{kept-more}
 use Rattle.ncl_merge.proofs.rebuilding.kept_cells.Goals as goal
 
@@ -11,9 +12,7 @@ loop-cell-preserved c =
     let n = c.args.netlist.now in
     let k = c.loop-cell.cell-index in
     let cell = c.cell-item.result in
-    let items = c.cells-cell-items.ensures.cells in
-    let lt : k < length n.cells = subst (λ xs. k < length xs) items c.loop-cell-test.true in
-    let is : cell ≡ get_or n.cells k cell = c.cell-item.is ∙ ap (λ xs. get_or xs k cell) items in
+    let (lt, is) = member-read c.cells-cell-items.result.now n.cells k cell c.cells-cell-items.ensures.cells c.loop-cell-test.true c.cell-item.is in
     let fits = c.cells-cell-items.ensures.netlist.fits k cell lt in
     let out : cell.out.0 < length n.nets = subst (λ (x : Cell). x.out.0 < length n.nets) (sym is) fits.output in
     kept-more n.nets c.args.gates.now c.args.staged.now n.cells k cell c.index-gates-net.result c.loop-cell.parts.items c.add_kept.new.parts.items lt is (subst (λ size. cell.out.0 < size) (sym c.requires.gates) out) c.index-gates-net.is c.loop-cell.invariant

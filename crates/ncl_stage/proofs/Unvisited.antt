@@ -1,6 +1,6 @@
 -- Nets that a variant leaves as they are, so that nobody has to look at them.
 use Rattle.std.proofs.Common.{◌≡◌, ◌≢◌, ℕ, zero, suc, ◌+◌, ◌-◌, ◌*◌, ◌<◌, ◌≤◌, Bool, true, false, List, [], ◌∷◌, ◌++◌, length, map, take, drop, get_or, inl, inr, refl, sym, ap, ◌∙◌, subst, arith}
-use Rattle.std.specs.Prelude.{All, Contains, ◌||◌, ◌==◌, ◌↔◌, Some}
+use Rattle.std.specs.Prelude.{Contains, ◌||◌, ◌==◌, ◌↔◌, Some}
 use Rattle.std.proofs.lemmas.Bool.{cases_lt, ne_eqb}
 use Rattle.std.proofs.lemmas.List.{get_or_append_left, get_or-append_right, length-append, map-append}
 use Rattle.std.specs.List.{take-map, drop-map}

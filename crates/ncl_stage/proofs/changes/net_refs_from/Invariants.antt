@@ -1,4 +1,4 @@
-use Rattle.std.proofs.Common.{◌≡◌, ℕ, ◌-◌, ◌<◌, ◌≤◌, true, false, length, take, get_or}
+use Rattle.std.proofs.Common.{◌≡◌, ◌-◌, ◌≤◌, length, take}
 use Rattle.ncl_space.proofs.MakingLaws.{Making}
 use Rattle.ncl_stage.specs.Changes.{MarksChanges}
 use Rattle.ncl_stage.specs.StageTables.{net_tables_by}

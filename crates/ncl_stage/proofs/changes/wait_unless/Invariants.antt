@@ -1,4 +1,4 @@
-use Rattle.std.proofs.Common.{◌≡◌, ◌⊎◌, ℕ, ◌<◌, true, false, length, take, get_or}
+use Rattle.std.proofs.Common.{◌≡◌, ℕ, true, false, length, take, get_or}
 use Rattle.std.specs.Prelude.{Contains}
 use Rattle.ncl_stage.proofs.changes.wait_unless.Given as goal
 

@@ -1,8 +1,7 @@
-use Rattle.std.proofs.Common.{◌≡◌, ℕ, ◌+◌, ◌-◌, ◌<◌, List, [], length, map, sym, ap, ◌∙◌, subst, arith}
+use Rattle.std.proofs.Common.{ℕ, ◌+◌, ◌-◌, ◌<◌, [], length, sym, subst}
 use Rattle.std.specs.Prelude.{All, Contains, slice_index_or}
 use Rattle.std.proofs.lemmas.List.{length-map}
 use Rattle.ncl_base.proofs.Members.{All-from_members, Contains-from_Member}
-use Rattle.ncl_base.specs.NumberLists.{numbers_at}
 use Rattle.ncl_stage.specs.Wiring.{WiringData}
 use Rattle.ncl_stage.proofs.wiring.Wiring.readers.Goals as goal
 

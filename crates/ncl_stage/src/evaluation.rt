@@ -4,7 +4,6 @@ ghost use Rattle.std.specs.Option.{ForSome};
 ghost use Rattle.ncl_space.specs.Space.{IsSpace, Keeps, Restores, fits, with_tables};
 ghost use Rattle.ncl_stage.specs.BitOrder.{IsOrderOf, bit_order};
 ghost use Rattle.ncl_stage.specs.StageTables.{AreValues, net_tables, net_tables_by};
-ghost use Rattle.ncl_stage.specs.Wiring.{IsWiring};
 
 use crate::changes::net_refs_from;
 use crate::input_order::BitOrder;
@@ -12,7 +11,6 @@ use crate::net_values::Values;
 use crate::nets::net_refs;
 use crate::variant::Variant;
 use crate::wiring::Wiring;
-use ncl_base::Memory;
 use ncl_shape::Stage;
 use ncl_space::{Space, SpaceFault};
 use std::alloc::Global;
@@ -110,22 +108,10 @@ fn make_values<P: Space>(
     ensures space { IsSpace (P.meaning space.new) }
     ensures full { IsErrOf result SpaceFault.Full → fits (P.meaning space.old) (net_tables_by (unwrap_or order (bit_order stage.now)) stage.now variant) ≡ false }
 {
-    let wiring = wiring_by(alloc, stage, order)?;
+    let wiring = Wiring::in_order(alloc, stage, order)?;
     let refs = net_refs(alloc, space, stage, &wiring, variant)?;
     let values = Values::new(alloc, wiring, refs)?;
     Ok(values)
-}
-
-// The wiring of a stage in the order that is given, or else in its bit order.
-fn wiring_by(alloc: Global, stage: &Stage, order: Option<BitOrder>) -> Result<Wiring, Memory>
-    requires { ForSome order (IsOrderOf (length stage.now.inputs)) }
-    ensures wiring { IfOk result (IsWiring stage.now) }
-    ensures order { IfOk result (λ wiring. wiring.order ≡ unwrap_or order (bit_order stage.now)) }
-{
-    match order {
-        Some(order) => Wiring::in_order(alloc, stage, order),
-        None => Wiring::new(alloc, stage),
-    }
 }
 
 /// The functions of all nets of a stage under a variant, from those under Base, which `base` has, in the order of

@@ -1,5 +1,5 @@
 //! Orders of the bits of a word, and the bit order of a stage.
-ghost use Rattle.std.specs.Prelude.{◌≡◌, ◌<◌, ◌≤◌, Contains, IfOk, length, map};
+ghost use Rattle.std.specs.Prelude.{◌≡◌, ◌<◌, ◌≤◌, Contains, IfOk, length, map, unwrap_or};
 ghost use Rattle.std.specs.List.{range_with_len};
 ghost use Rattle.ncl_shape.specs.Stage.{nets_of};
 ghost use Rattle.ncl_stage.specs.BitOrder.{IsOrderOf, bit_order, place_in, placed};
@@ -86,7 +86,7 @@ impl BitOrder {
     }
 }
 
-/// The same, from the places of what its cells and outputs read.
+/// An order that is given, or else the bit order of the stage, from the places of what its cells and outputs read.
 ///
 /// Linear in the cells and what they read.
 pub(crate) fn order_of(
@@ -94,11 +94,15 @@ pub(crate) fn order_of(
     stage: &Stage,
     pins: &[ArrayVec<usize, 4>],
     outputs: &[(usize, usize)],
+    given: Option<BitOrder>,
 ) -> Result<BitOrder, Memory>
     requires pins { map (λ p. p.items) pins.now ≡ map (pin_places (nets_of stage.now.inputs stage.now.cells)) stage.now.cells }
     requires outputs { outputs.now ≡ map (rail_places (nets_of stage.now.inputs stage.now.cells)) stage.now.outputs }
-    ensures { IfOk result (λ order. order ≡ bit_order stage.now) }
+    ensures { IfOk result (λ order. order ≡ unwrap_or given (bit_order stage.now)) }
 {
+    if let Some(order) = given {
+        return Ok(order);
+    }
     stage.facts();
     let places = walked(alloc, stage.inputs.items().len(), pins, outputs)?;
     Ok(BitOrder { places })

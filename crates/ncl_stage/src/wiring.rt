@@ -1,5 +1,6 @@
 //! The nets of a stage by their places.
-ghost use Rattle.std.specs.Prelude.{◌≡◌, ◌-◌, ◌+◌, ◌<◌, ◌≤◌, ℕ, IfOk, [], All, Contains, length, map, slice_index_or};
+ghost use Rattle.std.specs.Prelude.{◌≡◌, ◌-◌, ◌+◌, ◌<◌, ◌≤◌, ℕ, IfOk, [], All, Contains, length, map, slice_index_or, unwrap_or};
+ghost use Rattle.std.specs.Option.{ForSome};
 ghost use Rattle.ncl_netlist.specs.declared.ids.NetId.{NetId};
 ghost use Rattle.ncl_shape.specs.Stage.{nets_of, rail_nets};
 ghost use Rattle.ncl_stage.specs.BitOrder.{IsOrderOf, bit_order};
@@ -49,26 +50,26 @@ impl Wiring {
         ensures wiring { IfOk result (IsWiring stage.now) }
         ensures order { IfOk result (λ wiring. wiring.order ≡ bit_order stage.now) }
     {
-        stage.facts();
-        let nets = number_nets(alloc, stage)?;
-        let pins = places_of_cells(alloc, &nets, stage)?;
-        let outputs = places_of_outputs(alloc, &nets, stage)?;
-        let order = order_of(alloc, stage, &pins, &outputs)?;
-        Wiring::of_parts(alloc, nets, pins, outputs, order)
+        Wiring::in_order(alloc, stage, None)
     }
 
-    /// The wiring of a stage, in an order of its bits that is given. An error is want of memory.
+    /// The wiring of a stage, in an order of its bits that is given, or else in its bit order. An error is want of memory.
     ///
     /// Linear in the stage: each net is looked up once for each cell or output that reads it.
-    pub(crate) fn in_order(alloc: Global, stage: &Stage, order: BitOrder) -> Result<Wiring, Memory>
-        requires { IsOrderOf (length stage.now.inputs) order }
+    pub(crate) fn in_order(
+        alloc: Global,
+        stage: &Stage,
+        order: Option<BitOrder>,
+    ) -> Result<Wiring, Memory>
+        requires { ForSome order (IsOrderOf (length stage.now.inputs)) }
         ensures wiring { IfOk result (IsWiring stage.now) }
-        ensures order { IfOk result (λ wiring. wiring.order ≡ order) }
+        ensures order { IfOk result (λ wiring. wiring.order ≡ unwrap_or order (bit_order stage.now)) }
     {
         stage.facts();
         let nets = number_nets(alloc, stage)?;
         let pins = places_of_cells(alloc, &nets, stage)?;
         let outputs = places_of_outputs(alloc, &nets, stage)?;
+        let order = order_of(alloc, stage, &pins, &outputs, order)?;
         Wiring::of_parts(alloc, nets, pins, outputs, order)
     }
 

@@ -1,5 +1,5 @@
 use Rattle.std.proofs.Common.{◌≡◌, ℕ, ◌+◌, ◌*◌, ◌<◌, ◌≤◌, ◌++◌, [], List, length, map, sym, ap, ◌∙◌, subst, refl, arith}
-use Rattle.std.specs.Prelude.{All}
+use Rattle.std.specs.Prelude.{All, unwrap_or}
 use Rattle.std.specs.List.{flat_map, range_with_len}
 use Rattle.std.proofs.lemmas.List.{length-map}
 use Rattle.ncl_shape.specs.Stage.{StageData, nets_of}
@@ -42,6 +42,7 @@ returns c =
     c.in_ok-places.ensures f are
     ∙ (λ k. with_bits [] (flat_map (λ (pair : ℕ × ℕ). f pair.0 ++ f pair.1) (c.requires.outputs k) ++ range_with_len 0 (inputs k)))
     ∙ order-walked s c.facts.ensures
+    ∙ ap (λ given. unwrap_or given (bit_order s)) (sym c.in_default.is)
 
 pub invariant_of-result : goal.invariant_of-result
 invariant_of-result c =

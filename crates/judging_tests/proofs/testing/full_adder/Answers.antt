@@ -1,7 +1,7 @@
-use Rattle.std.proofs.Common.{◌≡◌, [], ◌∷◌, sym, ◌∙◌, subst}
+use Rattle.std.proofs.Common.{◌≡◌, [], ◌∷◌, refl, sym, ◌∙◌, subst}
 use Rattle.ncl_shape.specs.Stage.{IsStage}
 use Rattle.ncl_stage.specs.Examples.{adder_stage}
-use Rattle.ncl_stage.proofs.ExampleLaws.{adder_stage-is}
+use Rattle.ncl_stage.proofs.StageTest.{IsStage-from_test}
 use Rattle.judging_tests.proofs.testing.full_adder.Goals as goal
 
 pub new-requires : goal.new-requires
@@ -11,4 +11,4 @@ new-requires c =
     c.from_vec-2.ensures ∙ c.in_ok-cells.ensures.items
     ∙ (λ i. c.cell-carry_zero.ensures i ∷ c.cell-carry_one.ensures i ∷ c.cell-sum_zero.ensures i ∷ c.cell-sum_one.ensures i ∷ []) in
     let outputs : c.from_vec-3.result ≡ adder_stage.outputs = c.from_vec-3.ensures ∙ c.in_ok-outputs.ensures.items ∙ (λ i. c.pair-4.ensures i ∷ c.pair-5.ensures i ∷ []) in
-    subst IsStage (λ i. record { number = 1; inputs = sym inputs i; cells = sym cells i; outputs = sym outputs i }) adder_stage-is
+    subst IsStage (λ i. record { number = 1; inputs = sym inputs i; cells = sym cells i; outputs = sym outputs i }) (IsStage-from_test adder_stage refl)

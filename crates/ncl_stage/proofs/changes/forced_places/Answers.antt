@@ -1,4 +1,4 @@
-use Rattle.std.proofs.Common.{◌≡◌, ℕ, ◌<◌, ◌≤◌, List, Some, None, length, get_or, sym, ap, ◌∙◌, subst}
+use Rattle.std.proofs.Common.{◌≡◌, ℕ, ◌<◌, ◌≤◌, List, Some, length, get_or, refl, sym, ap, ◌∙◌, subst}
 use Rattle.std.specs.Prelude.{Contains, slice_get}
 use Rattle.std.proofs.lemmas.Option.{slice_get-get_or, slice_get_past}
 use Rattle.ncl_base.proofs.Members.{Member, Contains-from_Member, Member-append_left, Member-append_right, Member-get_or, Member-map}
@@ -12,30 +12,21 @@ use Rattle.ncl_stage.proofs.Unvisited.{other-rail, other-output, place-within, s
 use Rattle.ncl_stage.proofs.WiringLaws.{zero-member, one-member}
 use Rattle.ncl_stage.proofs.changes.forced_places.Goals as goal
 
--- the rails of an input are nets
-zero-net : (s : StageData) (bit : ℕ) (pair : Rails) → bit < length s.inputs → pair ≡ get_or s.inputs bit pair → Contains (nets_of s.inputs s.cells) pair.zero.0
-zero-net s bit pair lt at =
-    Contains-from_Member pair.zero.0 (Member-append_left pair.zero.0 _ (subst (λ (r : Rails). Member r.zero.0 (rail_nets s.inputs)) (sym at) (zero-member s.inputs bit pair lt)))
-
-one-net : (s : StageData) (bit : ℕ) (pair : Rails) → bit < length s.inputs → pair ≡ get_or s.inputs bit pair → Contains (nets_of s.inputs s.cells) pair.one.0
-one-net s bit pair lt at =
-    Contains-from_Member pair.one.0 (Member-append_left pair.one.0 _ (subst (λ (r : Rails). Member r.one.0 (rail_nets s.inputs)) (sym at) (one-member s.inputs bit pair lt)))
+-- the rails of an input that is read are nets
+rails-named : (s : StageData) (nets : List ℕ) → nets ≡ nets_of s.inputs s.cells → (bits : List Rails) → bits ≡ s.inputs → (bit : ℕ) (pair : Rails) → bit < length bits → pair ≡ get_or bits bit pair → Contains nets pair.zero.0 × Contains nets pair.one.0
+rails-named s nets named bits same bit pair lt at =
+    let within : bit < length s.inputs = subst (λ xs. bit < length xs) same lt in
+    let is : pair ≡ get_or s.inputs bit pair = at ∙ ap (λ xs. get_or xs bit pair) same in
+    let zero = subst (λ (r : Rails). Member r.zero.0 (rail_nets s.inputs)) (sym is) (zero-member s.inputs bit pair within) in
+    let one = subst (λ (r : Rails). Member r.one.0 (rail_nets s.inputs)) (sym is) (one-member s.inputs bit pair within) in
+    subst (λ nets. Contains nets pair.zero.0 × Contains nets pair.one.0) (sym named)
+    (Contains-from_Member pair.zero.0 (Member-append_left pair.zero.0 _ zero), Contains-from_Member pair.one.0 (Member-append_left pair.one.0 _ one))
 
 pub place_of-zero-requires : goal.place_of-zero-requires
-place_of-zero-requires c =
-    let s : StageData = c.args.stage.now in
-    let bits : c.items.result.now ≡ s.inputs = c.items.ensures ∙ ap (λ (t : StageData). t.inputs) c.stage.view_is in
-    let pair : Rails = c.in-Some.pair.now in
-    subst (λ nets. Contains nets pair.zero.0) (sym c.requires.nets)
-    (zero-net s c.in-Bit.bit pair (subst (λ xs. c.in-Bit.bit < length xs) bits c.in-Some.ensures.lookup.3.0) (c.in-Some.ensures.lookup.1 ∙ ap (λ xs. get_or xs c.in-Bit.bit pair) bits))
+place_of-zero-requires c = (rails-named c.args.stage.now c.args.wiring.now.nets c.requires.nets c.items.result.now (c.items.ensures ∙ ap (λ (t : StageData). t.inputs) c.stage.view_is) c.in-Bit.bit c.in-Some.pair.now c.in-Some.ensures.lookup.3.0 c.in-Some.ensures.lookup.1).0
 
 pub place_of-one-requires : goal.place_of-one-requires
-place_of-one-requires c =
-    let s : StageData = c.args.stage.now in
-    let bits : c.items.result.now ≡ s.inputs = c.items.ensures ∙ ap (λ (t : StageData). t.inputs) c.stage.view_is in
-    let pair : Rails = c.in-Some.pair.now in
-    subst (λ nets. Contains nets pair.one.0) (sym c.requires.nets)
-    (one-net s c.in-Bit.bit pair (subst (λ xs. c.in-Bit.bit < length xs) bits c.in-Some.ensures.lookup.3.0) (c.in-Some.ensures.lookup.1 ∙ ap (λ xs. get_or xs c.in-Bit.bit pair) bits))
+place_of-one-requires c = (rails-named c.args.stage.now c.args.wiring.now.nets c.requires.nets c.items.result.now (c.items.ensures ∙ ap (λ (t : StageData). t.inputs) c.stage.view_is) c.in-Bit.bit c.in-Some.pair.now c.in-Some.ensures.lookup.3.0 c.in-Some.ensures.lookup.1).1
 
 pub place_of-place-requires : goal.place_of-place-requires
 place_of-place-requires c =
@@ -112,6 +103,6 @@ returns-in-Some-clause-within c =
     let lt : c.in-Bit.bit < length s.inputs = subst (λ xs. c.in-Bit.bit < length xs) bits c.in-Some.ensures.lookup.3.0 in
     let at : pair ≡ get_or s.inputs c.in-Bit.bit pair = c.in-Some.ensures.lookup.1 ∙ ap (λ xs. get_or xs c.in-Bit.bit pair) bits in
     let stands : (net : ℕ) → Contains (nets_of s.inputs s.cells) net → place_in nets net < length nets = λ net has. subst (λ ns. place_in ns net < length ns) (sym c.requires.nets) (place-within s net has) in (
-      subst (λ n. n < length nets) (sym c.place_of-zero.ensures) (stands pair.zero.0 (zero-net s c.in-Bit.bit pair lt at)),
-      subst (λ n. n < length nets) (sym c.place_of-one.ensures) (stands pair.one.0 (one-net s c.in-Bit.bit pair lt at)),
+      subst (λ n. n < length nets) (sym c.place_of-zero.ensures) (stands pair.zero.0 (rails-named s (nets_of s.inputs s.cells) refl s.inputs refl c.in-Bit.bit pair lt at).0),
+      subst (λ n. n < length nets) (sym c.place_of-one.ensures) (stands pair.one.0 (rails-named s (nets_of s.inputs s.cells) refl s.inputs refl c.in-Bit.bit pair lt at).1),
     )

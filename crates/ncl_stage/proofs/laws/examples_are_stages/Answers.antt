@@ -1,32 +1,18 @@
-use Rattle.ncl_stage.proofs.ExampleLaws.{and_stage-is, eager_and_stage-is, orphan_and_stage-is, crossed_stage-is, dead_rail_stage-is, adder_stage-is, sum_stage-is, swapped_stage-is, straight_stage-is, unmet_stage-is}
+use Rattle.std.proofs.Common.{refl}
+use Rattle.ncl_stage.specs.Examples.{and_stage, eager_and_stage, orphan_and_stage, crossed_stage, dead_rail_stage, adder_stage, sum_stage, swapped_stage, straight_stage, unmet_stage}
+use Rattle.ncl_stage.proofs.StageTest.{IsStage-from_test}
 use Rattle.ncl_stage.proofs.laws.examples_are_stages.Goals as goal
 
-pub returns-clause-and_of_two : goal.returns-clause-and_of_two
-returns-clause-and_of_two c = and_stage-is
-
-pub returns-clause-eager_and : goal.returns-clause-eager_and
-returns-clause-eager_and c = eager_and_stage-is
-
-pub returns-clause-unobserved_cell : goal.returns-clause-unobserved_cell
-returns-clause-unobserved_cell c = orphan_and_stage-is
-
-pub returns-clause-crossed : goal.returns-clause-crossed
-returns-clause-crossed c = crossed_stage-is
-
-pub returns-clause-dead_rail : goal.returns-clause-dead_rail
-returns-clause-dead_rail c = dead_rail_stage-is
-
-pub returns-clause-adder : goal.returns-clause-adder
-returns-clause-adder c = adder_stage-is
-
-pub returns-clause-sum : goal.returns-clause-sum
-returns-clause-sum c = sum_stage-is
-
-pub returns-clause-swapped : goal.returns-clause-swapped
-returns-clause-swapped c = swapped_stage-is
-
-pub returns-clause-straight : goal.returns-clause-straight
-returns-clause-straight c = straight_stage-is
-
-pub returns-clause-unmet : goal.returns-clause-unmet
-returns-clause-unmet c = unmet_stage-is
+pub returns : goal.returns
+returns c = record {
+  and_of_two = IsStage-from_test and_stage refl;
+  eager_and = IsStage-from_test eager_and_stage refl;
+  unobserved_cell = IsStage-from_test orphan_and_stage refl;
+  crossed = IsStage-from_test crossed_stage refl;
+  dead_rail = IsStage-from_test dead_rail_stage refl;
+  adder = IsStage-from_test adder_stage refl;
+  sum = IsStage-from_test sum_stage refl;
+  swapped = IsStage-from_test swapped_stage refl;
+  straight = IsStage-from_test straight_stage refl;
+  unmet = IsStage-from_test unmet_stage refl;
+}

@@ -1,4 +1,4 @@
-use Rattle.std.proofs.Common.{◌≡◌, ℕ, ◌<◌, true, false, List, [], ◌∷◌, length, get_or, map, sym, ◌∙◌, ap, subst}
+use Rattle.std.proofs.Common.{◌≡◌, ℕ, ◌<◌, true, false, List, [], ◌∷◌, length, get_or, map, sym, ◌∙◌, ap, subst, rules}
 use Rattle.std.specs.Prelude.{All, IfOk}
 use Rattle.ncl_netlist.specs.declared.ids.NetId.{NetId}
 use Rattle.ncl_shape.specs.declared.stage.StageCell.{StageCell}
@@ -56,8 +56,8 @@ apply-requires-clause-live g c =
     let places : c.pins.result.now ≡ pin_places (nets_of s.inputs s.cells) (get_or s.cells i gate) = c.pins.ensures.pins ∙ pins-of s c.args.wiring.now c.requires.wiring i gate c.requires.cell in
     subst (All (IsLive old)) (sym (c.as_slice.ensures.value ∙ c.refs_at-ins.ensures ∙ ap (map (ref_at c.args.refs.now)) places)) shown.live
 
-pub returns-clause-made : goal.returns-clause-made
-returns-clause-made g c =
+pub returns : goal.returns
+returns g c =
     let s : StageData = c.args.stage.now in
     let i = c.args.cell in
     let gate : StageCell = c.index-items-cell.result in
@@ -67,23 +67,16 @@ returns-clause-made g c =
     let free : kept_low s c.args.variant (out_of gate) ≡ false = sym c.is_kept_low.ensures ∙ c.if-is_kept_low.false in
     let shown = cell-refs old s c.facts.ensures (net_table_by c.args.wiring.now.order s c.args.variant) i gate c.requires.cell c.args.refs.now c.requires.refs in
     let places : c.pins.result.now ≡ pin_places (nets_of s.inputs s.cells) (get_or s.cells i gate) = c.pins.ensures.pins ∙ pins-of s c.args.wiring.now c.requires.wiring i gate c.requires.cell in
-    subst (λ t. IfOk c.apply.result (λ r. Makes old (g.P.Space.meaning c.apply.new.self) r t))
-    (made s c.args.wiring.now.order c.requires.wiring.order c.facts.ensures c.args.variant i gate c.requires.cell at free old c.requires.width c.as_slice.result.now
-    (ap (map old.table) (c.as_slice.ensures.value ∙ c.refs_at-ins.ensures ∙ ap (map (ref_at c.args.refs.now)) places) ∙ shown.tables))
-    c.apply.ensures.made
-
-pub returns-clause-full : goal.returns-clause-full
-returns-clause-full g c = λ e.
-    let s : StageData = c.args.stage.now in
-    let i = c.args.cell in
-    let gate : StageCell = c.index-items-cell.result in
-    let old : SpaceData = g.P.Space.meaning c.args.space.now in
-    let cells : c.items.result.now ≡ s.cells = c.items.ensures ∙ ap (λ (t : StageData). t.cells) c.stage.view_is in
-    let at : gate ≡ get_or s.cells i gate = c.index-items-cell.is ∙ ap (λ xs. get_or xs i gate) cells in
-    let free : kept_low s c.args.variant (out_of gate) ≡ false = sym c.is_kept_low.ensures ∙ c.if-is_kept_low.false in
-    let shown = cell-refs old s c.facts.ensures (net_table_by c.args.wiring.now.order s c.args.variant) i gate c.requires.cell c.args.refs.now c.requires.refs in
-    let places : c.pins.result.now ≡ pin_places (nets_of s.inputs s.cells) (get_or s.cells i gate) = c.pins.ensures.pins ∙ pins-of s c.args.wiring.now c.requires.wiring i gate c.requires.cell in
-    subst (λ t. fits old (t ∷ []) ≡ false)
-    (made s c.args.wiring.now.order c.requires.wiring.order c.facts.ensures c.args.variant i gate c.requires.cell at free old c.requires.width c.as_slice.result.now
-    (ap (map old.table) (c.as_slice.ensures.value ∙ c.refs_at-ins.ensures ∙ ap (map (ref_at c.args.refs.now)) places) ∙ shown.tables))
-    (c.apply.ensures.full e)
+    record {
+      made = subst (λ t. IfOk c.apply.result (λ r. Makes old (g.P.Space.meaning c.apply.new.self) r t))
+          (made s c.args.wiring.now.order c.requires.wiring.order c.facts.ensures c.args.variant i gate c.requires.cell at free old c.requires.width c.as_slice.result.now
+          (ap (map old.table) (c.as_slice.ensures.value ∙ c.refs_at-ins.ensures ∙ ap (map (ref_at c.args.refs.now)) places) ∙ shown.tables))
+          c.apply.ensures.made;
+      kept = search rules;
+      space = search rules;
+      full = λ e.
+          subst (λ t. fits old (t ∷ []) ≡ false)
+          (made s c.args.wiring.now.order c.requires.wiring.order c.facts.ensures c.args.variant i gate c.requires.cell at free old c.requires.width c.as_slice.result.now
+          (ap (map old.table) (c.as_slice.ensures.value ∙ c.refs_at-ins.ensures ∙ ap (map (ref_at c.args.refs.now)) places) ∙ shown.tables))
+          (c.apply.ensures.full e);
+    }

@@ -1,4 +1,4 @@
-use Rattle.std.proofs.Common.{◌≡◌, ◌<◌, true, false, [], ◌∷◌, length, get_or, map, sym, ◌∙◌, ap, subst}
+use Rattle.std.proofs.Common.{◌≡◌, ◌<◌, true, false, [], ◌∷◌, length, get_or, map, sym, ◌∙◌, ap, subst, rules}
 use Rattle.std.specs.Prelude.{IfOk}
 use Rattle.ncl_shape.specs.declared.rails.Rails.{Rails}
 use Rattle.ncl_shape.specs.Stage.{StageData, out_of, rail_of}
@@ -23,29 +23,25 @@ returns-then-is_kept_low-clause-made g c =
     (c.constant.ensures.table ∙ ap (λ n. constant_table n false) c.requires.width
     ∙ sym (low-net s c.args.wiring.now.order c.requires.wiring.order c.facts.ensures c.args.variant (rail_at s c.args.bit c.args.value) (Member-append_left _ (map out_of s.cells) (rail-member s.inputs c.args.bit d c.args.value c.requires.bit)) low))
 
-pub returns-clause-made : goal.returns-clause-made
-returns-clause-made g c =
+pub returns : goal.returns
+returns g c =
     let d : Rails = record { zero = record { 0 = 0 }; one = record { 0 = 0 } } in
     let s : StageData = c.args.stage.now in
     let old : SpaceData = g.P.Space.meaning c.args.space.now in
     let inputs : c.items.result.now ≡ s.inputs = c.items.ensures ∙ ap (λ (t : StageData). t.inputs) c.stage.view_is in
     let net : c.named_rail-net.result.0 ≡ rail_at s c.args.bit c.args.value = c.named_rail-net.ensures ∙ ap (λ rs. rail_of (get_or rs c.args.bit d) c.args.value) inputs in
     let free : kept_low s c.args.variant (rail_at s c.args.bit c.args.value) ≡ false = ap (kept_low s c.args.variant) (sym net) ∙ sym c.is_kept_low.ensures ∙ c.if-is_kept_low.false in
-    subst (λ t. IfOk c.rail.result (λ r. Makes old (g.P.Space.meaning c.rail.new.self) r t))
-    (ap (λ n. rail_table n c.place_of.result c.args.value) c.requires.width ∙ ap (λ place. rail_table (length s.inputs) place c.args.value) (c.place_of.ensures.place ∙ ap (λ order. place_in order c.args.bit) c.order.ensures) ∙ rail-net s c.args.wiring.now.order c.requires.wiring.order c.facts.ensures c.args.variant c.args.bit c.args.value c.requires.bit free)
-    c.rail.ensures.made
-
-pub returns-clause-full : goal.returns-clause-full
-returns-clause-full g c = λ e.
-    let d : Rails = record { zero = record { 0 = 0 }; one = record { 0 = 0 } } in
-    let s : StageData = c.args.stage.now in
-    let old : SpaceData = g.P.Space.meaning c.args.space.now in
-    let inputs : c.items.result.now ≡ s.inputs = c.items.ensures ∙ ap (λ (t : StageData). t.inputs) c.stage.view_is in
-    let net : c.named_rail-net.result.0 ≡ rail_at s c.args.bit c.args.value = c.named_rail-net.ensures ∙ ap (λ rs. rail_of (get_or rs c.args.bit d) c.args.value) inputs in
-    let free : kept_low s c.args.variant (rail_at s c.args.bit c.args.value) ≡ false = ap (kept_low s c.args.variant) (sym net) ∙ sym c.is_kept_low.ensures ∙ c.if-is_kept_low.false in
-    subst (λ t. fits old (t ∷ []) ≡ false)
-    (ap (λ n. rail_table n c.place_of.result c.args.value) c.requires.width ∙ ap (λ place. rail_table (length s.inputs) place c.args.value) (c.place_of.ensures.place ∙ ap (λ order. place_in order c.args.bit) c.order.ensures) ∙ rail-net s c.args.wiring.now.order c.requires.wiring.order c.facts.ensures c.args.variant c.args.bit c.args.value c.requires.bit free)
-    (c.rail.ensures.full e)
+    record {
+      made = subst (λ t. IfOk c.rail.result (λ r. Makes old (g.P.Space.meaning c.rail.new.self) r t))
+          (ap (λ n. rail_table n c.place_of.result c.args.value) c.requires.width ∙ ap (λ place. rail_table (length s.inputs) place c.args.value) (c.place_of.ensures.place ∙ ap (λ order. place_in order c.args.bit) c.order.ensures) ∙ rail-net s c.args.wiring.now.order c.requires.wiring.order c.facts.ensures c.args.variant c.args.bit c.args.value c.requires.bit free)
+          c.rail.ensures.made;
+      kept = search rules;
+      space = search rules;
+      full = λ e.
+          subst (λ t. fits old (t ∷ []) ≡ false)
+          (ap (λ n. rail_table n c.place_of.result c.args.value) c.requires.width ∙ ap (λ place. rail_table (length s.inputs) place c.args.value) (c.place_of.ensures.place ∙ ap (λ order. place_in order c.args.bit) c.order.ensures) ∙ rail-net s c.args.wiring.now.order c.requires.wiring.order c.facts.ensures c.args.variant c.args.bit c.args.value c.requires.bit free)
+          (c.rail.ensures.full e);
+    }
 
 pub place_of-requires : goal.place_of-requires
 place_of-requires g c = subst (λ n. c.args.bit < n) (sym (ap length c.order.ensures ∙ c.requires.wiring.order.many)) c.requires.bit

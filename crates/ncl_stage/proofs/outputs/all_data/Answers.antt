@@ -1,4 +1,4 @@
-use Rattle.std.proofs.Common.{◌≡◌, ℕ, ◌-◌, Bool, false, List, [], ◌++◌, Err, length, get_or, map, sym, ◌∙◌, ap, subst, arith}
+use Rattle.std.proofs.Common.{◌≡◌, ℕ, ◌-◌, Bool, false, List, [], ◌++◌, Err, length, get_or, map, sym, ◌∙◌, ap, subst, arith, rules}
 use Rattle.std.specs.Prelude.{unwrap_or}
 use Rattle.std.specs.List.{list_all}
 use Rattle.std.specs.Option.{option_map}
@@ -103,8 +103,8 @@ unwrap-requires g c =
     let size : length c.as_slice-3.result.now ≡ length s.outputs = ap length c.as_slice-3.ensures.value ∙ many in
     c.last.ensures.item.2 (omega arith)
 
-pub returns-clause-table : goal.returns-clause-table
-returns-clause-table g c =
+pub returns : goal.returns
+returns g c =
     let s : StageData = c.args.stage.now in
     let variant = c.args.variant in
     let mid : SpaceData = g.P.Space.meaning c.net_refs_from.new.space in
@@ -123,21 +123,16 @@ returns-clause-table g c =
     let item : unwrap_or (option_map (λ (x : Bor Ref). x.now) c.last.result) r ≡ get_or c.as_slice-3.result.now (length c.as_slice-3.result.now - 1) r = c.last.ensures.item.4 (omega arith) r in
     let at : r ≡ get_or refs k r =
     ap (λ o. unwrap_or (option_map (λ (x : Bor Ref). x.now) o) r) (sym c.unwrap.ensures) ∙ item ∙ (λ j. get_or (items j) (length (items j) - 1) r) ∙ ap (λ n. get_or refs (n - 1) r) many in
-    ap new.table at ∙ have-at new refs tables have k r [] (omega arith) ∙ last-front s c.args.base.now.wiring.order c.requires.base.wired.order (values_at s variant) some
-
-pub returns-clause-held : goal.returns-clause-held
-returns-clause-held g c =
-    let s : StageData = c.args.stage.now in
-    let variant = c.args.variant in
     let old : SpaceData = g.P.Space.meaning c.args.space.now in
-    let mid : SpaceData = g.P.Space.meaning c.net_refs_from.new.space in
-    let now : SpaceData = g.P.Space.meaning c.data_tables.new.space in
-    let new : SpaceData = g.P.Space.meaning c.data_fronts.new.space in
     let own : List (List Bool) = function_tables_by c.args.base.now.wiring.order (data_functions s (values_at s variant)) in
-    let tables : List (List Bool) = function_tables_by c.args.base.now.wiring.order (data_fronts s (values_at s variant)) in
-    let made = of_data s c.args.base.now.wiring.order c.requires.base.wired.order c.facts.ensures c.wiring.result.now (subst (IsWiring s) (sym c.wiring.ensures) c.requires.base.wired) variant mid (c.in_ok-refs.ensures.kept.width ∙ c.requires.width) c.as_slice.result.now (ap (map mid.table) c.as_slice.ensures.value ∙ c.in_ok-refs.ensures.made.refs_of.tables) in
     let kept : Keeps old now = keeps_along old mid now c.in_ok-refs.ensures.kept c.in_ok-data.ensures.kept in
     let held : now.held ≡ with_tables old (net_tables_by c.args.base.now.wiring.order s variant ++ own) = held-along old mid now (net_tables_by c.args.base.now.wiring.order s variant) own c.in_ok-refs.ensures.kept c.in_ok-refs.ensures.made.held (c.in_ok-data.ensures.made.held ∙ ap (with_tables mid) made) in
-    let is = of_fronts s c.args.base.now.wiring.order c.requires.base.wired.order variant now (kept.width ∙ c.requires.width) c.as_slice-2.result.now (ap (map now.table) c.as_slice-2.ensures.value ∙ c.in_ok-data.ensures.made.refs_of.tables ∙ made) in
-    held-along old now new (net_tables_by c.args.base.now.wiring.order s variant ++ own) tables kept held (c.in_ok-fronts.ensures.made.held ∙ ap (with_tables now) is)
-    ∙ ap (with_tables old) (sym (shared-tables s c.args.base.now.wiring.order variant))
+    record {
+      live = search rules;
+      table = ap new.table at ∙ have-at new refs tables have k r [] (omega arith) ∙ last-front s c.args.base.now.wiring.order c.requires.base.wired.order (values_at s variant) some;
+      held = held-along old now new (net_tables_by c.args.base.now.wiring.order s variant ++ own) tables kept held (c.in_ok-fronts.ensures.made.held ∙ ap (with_tables now) is)
+          ∙ ap (with_tables old) (sym (shared-tables s c.args.base.now.wiring.order variant));
+      kept = search rules;
+      space = search rules;
+      full = search rules;
+    }

@@ -84,3 +84,7 @@ one-member (r ∷ rs) (suc i) d lt = there (there (one-member rs i d (omega arit
 
 pub at_rail : (P : ℕ → Type 0) (rails : List Rails) → All P (rail_nets rails) → (i : ℕ) (d : Rails) → i < length rails → P (get_or rails i d).zero.0 × P (get_or rails i d).one.0
 at_rail P rails all i d lt = (All-contains P (rail_nets rails) _ all (Contains-from_Member _ (zero-member rails i d lt)), All-contains P (rail_nets rails) _ all (Contains-from_Member _ (one-member rails i d lt)))
+
+-- a cell of a list that is read, as one of the stage
+pub cell-read : (s : StageData) (cells : List StageCell) (i : ℕ) (cell : StageCell) → cells ≡ s.cells → i < length cells → cell ≡ get_or cells i cell → (i < length s.cells) × (cell ≡ get_or s.cells i cell)
+cell-read s cells i cell same lt is = (subst (λ xs. i < length xs) same lt, is ∙ ap (λ xs. get_or xs i cell) same)

@@ -54,9 +54,6 @@ loop-place-init g c =
       };
     }
 
-pub ref_from-requires-clause-base : goal.ref_from-requires-clause-base
-ref_from-requires-clause-base g c = values-kept (g.P.Space.meaning c.args.space.now) (g.P.Space.meaning c.loop-place.space) c.args.stage.now Base c.args.base.now c.loop-place.invariant.making.kept c.requires.base
-
 -- the first place that waits, told of the marks themselves
 abbrev IsFirst : List Bool → ℕ → ℕ → Type 0
 IsFirst waiting from place = (from ≤ place) × (place < length waiting) × ((other : ℕ) → from ≤ other → other < place → get_or waiting other true ≡ false)
@@ -77,24 +74,23 @@ made-up-to old now s v variant is base refs all more waiting len place making wa
     let long = length-take-le place (net_tables_by v.wiring.order s variant) (omega (arith, all, nets, found.1, waits.many)) in
     (made, rest.1, have-length now more (take place (net_tables_by v.wiring.order s variant)) made.all.refs_of ∙ long)
 
-pub ref_from-requires-clause-refs : goal.ref_from-requires-clause-refs
-ref_from-requires-clause-refs g c =
+pub ref_from-requires : goal.ref_from-requires
+ref_from-requires g c =
     let s : StageData = c.args.stage.now in
     let now : SpaceData = g.P.Space.meaning c.loop-place.space in
     let inv = c.loop-place.invariant in
     let found = first c.loop-place.waiting.items c.as_slice.result.now c.len.result (length c.loop-place.refs.items) c.in-Some.place c.as_slice.ensures.value (omega (arith, c.len.ensures)) c.in-Some.ensures in
     let up = made-up-to (g.P.Space.meaning c.args.space.now) now s c.args.base.now c.args.variant c.facts.ensures c.requires.base c.loop-place.refs.items c.refs-all.result.now c.extend_from_slice.new.self.items c.loop-place.waiting.items c.len-in-Some.result c.in-Some.place inv.making inv.waiting found c.refs-all.ensures.refs (omega (arith, c.len-in-Some.ensures)) c.in_ok-extend_from_slice.ensures.items in
-    subst (λ items. HaveTables now items (take c.in-Some.place (net_tables_by c.args.base.now.wiring.order s c.args.variant))) (sym c.as_slice-in-Some.ensures.value) up.0.all.refs_of
-
-pub ref_from-requires-clause-changed : goal.ref_from-requires-clause-changed
-ref_from-requires-clause-changed g c =
-    let s : StageData = c.args.stage.now in
-    let now : SpaceData = g.P.Space.meaning c.loop-place.space in
-    let inv = c.loop-place.invariant in
-    let found = first c.loop-place.waiting.items c.as_slice.result.now c.len.result (length c.loop-place.refs.items) c.in-Some.place c.as_slice.ensures.value (omega (arith, c.len.ensures)) c.in-Some.ensures in
-    let up = made-up-to (g.P.Space.meaning c.args.space.now) now s c.args.base.now c.args.variant c.facts.ensures c.requires.base c.loop-place.refs.items c.refs-all.result.now c.extend_from_slice.new.self.items c.loop-place.waiting.items c.len-in-Some.result c.in-Some.place inv.making inv.waiting found c.refs-all.ensures.refs (omega (arith, c.len-in-Some.ensures)) c.in_ok-extend_from_slice.ensures.items in
-    subst (MarksChanges c.args.base.now.wiring.order s c.args.variant) (sym c.as_slice-in-Some-2.ensures.value)
-    (unmarked s c.args.base.now.wiring.order c.args.variant c.loop-place.changed.items c.resize.new.self.items c.in-Some.place _ inv.marks (omega (arith, inv.many, found.0)) (λ place behind before. up.1 place (omega (arith, behind, inv.many)) before) c.in_ok-resize.ensures.items (omega (arith, c.in_ok-resize.ensures.len)))
+    record {
+      width = search rules;
+      base = values-kept (g.P.Space.meaning c.args.space.now) (g.P.Space.meaning c.loop-place.space) c.args.stage.now Base c.args.base.now c.loop-place.invariant.making.kept c.requires.base;
+      place = search rules;
+      space = search rules;
+      refs = subst (λ items. HaveTables now items (take c.in-Some.place (net_tables_by c.args.base.now.wiring.order s c.args.variant))) (sym c.as_slice-in-Some.ensures.value) up.0.all.refs_of;
+      many = search rules;
+      changed = subst (MarksChanges c.args.base.now.wiring.order s c.args.variant) (sym c.as_slice-in-Some-2.ensures.value)
+          (unmarked s c.args.base.now.wiring.order c.args.variant c.loop-place.changed.items c.resize.new.self.items c.in-Some.place _ inv.marks (omega (arith, inv.many, found.0)) (λ place behind before. up.1 place (omega (arith, behind, inv.many)) before) c.in_ok-resize.ensures.items (omega (arith, c.in_ok-resize.ensures.len)));
+    }
 
 pub returns-in_err-made-clause-full : goal.returns-in_err-made-clause-full
 returns-in_err-made-clause-full g c = λ e.

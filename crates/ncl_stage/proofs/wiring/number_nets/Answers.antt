@@ -1,9 +1,9 @@
-use Rattle.std.proofs.Common.{◌≡◌, ◌<◌, length, take, get_or, ◌∙◌, ap, subst}
+use Rattle.std.proofs.Common.{take, ◌∙◌, ap}
 use Rattle.std.specs.Prelude.{nat_eq}
 use Rattle.indexmap.specs.IndexSet.{insert_key}
 use Rattle.ncl_shape.specs.declared.stage.StageCell.{StageCell}
 use Rattle.ncl_shape.specs.Stage.{StageData, nets_of}
-use Rattle.ncl_stage.proofs.WiringLaws.{insert_out}
+use Rattle.ncl_stage.proofs.WiringLaws.{insert_out, cell-read}
 use Rattle.ncl_stage.proofs.wiring.number_nets.Goals as goal
 
 pub loop-cell-preserved : goal.loop-cell-preserved
@@ -11,9 +11,7 @@ loop-cell-preserved c =
     let s : StageData = c.args.stage.now in
     let i = c.loop-cell.cell-index in
     let cell : StageCell = c.cell-item.result in
-    let cells : c.items-cell-items.result.now ≡ s.cells = c.items-cell-items.ensures ∙ ap (λ (t : StageData). t.cells) c.stage.view_is in
-    let within : i < length s.cells = subst (λ xs. i < length xs) cells c.loop-cell-test.true in
-    let at : cell ≡ get_or s.cells i cell = c.cell-item.is ∙ ap (λ xs. get_or xs i cell) cells in
+    let (within, at) = cell-read s c.items-cell-items.result.now i cell (c.items-cell-items.ensures ∙ ap (λ (t : StageData). t.cells) c.stage.view_is) c.loop-cell-test.true c.cell-item.is in
     c.in_ok-insert.ensures.keys
     ∙ ap (λ ks. insert_key nat_eq ks cell.out.0) c.loop-cell.invariant
     ∙ ap (λ (x : StageCell). insert_key nat_eq (nets_of s.inputs (take i s.cells)) x.out.0) at

@@ -1,9 +1,9 @@
-use Rattle.std.proofs.Common.{◌≡◌, ◌<◌, length, get_or, sym, ◌∙◌, ap, subst}
+use Rattle.std.proofs.Common.{get_or, sym, ◌∙◌, ap, subst}
 use Rattle.std.specs.Prelude.{All, Contains}
 use Rattle.ncl_netlist.specs.declared.ids.NetId.{NetId}
 use Rattle.ncl_shape.specs.declared.stage.StageCell.{StageCell}
 use Rattle.ncl_shape.specs.Stage.{StageData}
-use Rattle.ncl_stage.proofs.WiringLaws.{reads-within}
+use Rattle.ncl_stage.proofs.WiringLaws.{reads-within, cell-read}
 use Rattle.ncl_stage.proofs.wiring.places_of_cells.Goals as goal
 
 pub places_of_pins-requires : goal.places_of_pins-requires
@@ -11,8 +11,6 @@ places_of_pins-requires c =
     let s : StageData = c.args.stage.now in
     let i = c.loop-cell.cell-index in
     let cell : StageCell = c.cell-item.result in
-    let cells : c.items-cell-items.result.now ≡ s.cells = c.items-cell-items.ensures ∙ ap (λ (t : StageData). t.cells) c.stage.view_is in
-    let within : i < length s.cells = subst (λ xs. i < length xs) cells c.loop-cell-test.true in
-    let at : cell ≡ get_or s.cells i cell = c.cell-item.is ∙ ap (λ xs. get_or xs i cell) cells in
+    let (within, at) = cell-read s c.items-cell-items.result.now i cell (c.items-cell-items.ensures ∙ ap (λ (t : StageData). t.cells) c.stage.view_is) c.loop-cell-test.true c.cell-item.is in
     subst (λ (x : StageCell). All (λ (net : NetId). Contains c.args.nets.now.keys net.0) x.ins.items) (sym at)
     (subst (λ nets. All (λ (net : NetId). Contains nets net.0) (get_or s.cells i cell).ins.items) (sym c.requires) (reads-within s c.facts.ensures i cell within))

@@ -10,10 +10,13 @@ use Rattle.ncl_stage.specs.StageTables.{pair_table}
 use Rattle.ncl_stage.proofs.outputs.pair_refs.Goals as goal
 
 -- the gate on two Refs that were live at first
-turn : (old now : SpaceData) → Keeps old now → (refs : List Ref) → All (IsLive old) refs → (kind : Kind) (p q : ℕ) → p < length refs → q < length refs → (d : Ref) → gate_table now.width kind (now.table (get_or refs p d) ∷ now.table (get_or refs q d) ∷ []) ≡ pair_table old.width kind (map old.table refs) (p, q)
-turn old now k refs live kind p q lt_p lt_q d =
-    let one : now.table (get_or refs p d) ≡ get_or (map old.table refs) p [] = k.tables (get_or refs p d) (live p d lt_p) ∙ sym (get_or-map old.table refs p d [] lt_p) in
-    let two : now.table (get_or refs q d) ≡ get_or (map old.table refs) q [] = k.tables (get_or refs q d) (live q d lt_q) ∙ sym (get_or-map old.table refs q d [] lt_q) in
+turn : (old now : SpaceData) → Keeps old now → (refs : List Ref) → All (IsLive old) refs → (kind : Kind) (pairs : List (ℕ × ℕ)) → All (λ (pair : ℕ × ℕ). (pair.0 < length refs) × (pair.1 < length refs)) pairs → (i : ℕ) → i < length pairs → (d : Ref)
+    → gate_table now.width kind (now.table (get_or refs (get_or pairs i (0, 0)).0 d) ∷ now.table (get_or refs (get_or pairs i (0, 0)).1 d) ∷ []) ≡ pair_table old.width kind (map old.table refs) (get_or pairs i (0, 0))
+turn old now k refs live kind pairs each i lt d =
+    let (p, q) = get_or pairs i (0, 0) in
+    let within = each i (0, 0) lt in
+    let one : now.table (get_or refs p d) ≡ get_or (map old.table refs) p [] = k.tables (get_or refs p d) (live p d within.0) ∙ sym (get_or-map old.table refs p d [] within.0) in
+    let two : now.table (get_or refs q d) ≡ get_or (map old.table refs) q [] = k.tables (get_or refs q d) (live q d within.1) ∙ sym (get_or-map old.table refs q d [] within.1) in
     λ i. gate_table (k.width i) kind (one i ∷ two i ∷ [])
 
 pub loop-pair-init : goal.loop-pair-init
@@ -30,10 +33,9 @@ returns-in_err-one-clause-full g c = λ e.
     let i = c.loop-pair.pair-index in
     let pair : ℕ × ℕ = get_or pairs i (0, 0) in
     let f : ℕ × ℕ → List Bool = pair_table old.width c.args.kind (map old.table refs) in
-    let within = c.requires.within i (0, 0) c.loop-pair-test.true in
     too_much-front old now c.loop-pair.made.items (map f (take i pairs)) (f pair) (map f (drop (i + 1) pairs)) (map f pairs)
     (map-cut f pairs i (0, 0) c.loop-pair-test.true) c.loop-pair.invariant
-    (subst (λ t. fits now (t ∷ []) ≡ false) (turn old now c.loop-pair.invariant.kept refs c.requires.live c.args.kind pair.0 pair.1 within.0 within.1 (record { place = 0 }))
+    (subst (λ t. fits now (t ∷ []) ≡ false) (turn old now c.loop-pair.invariant.kept refs c.requires.live c.args.kind pairs c.requires.within i c.loop-pair-test.true (record { place = 0 }))
     (c.in_err-one.ensures.full (ap Err (handed_on c.from_residual-in_err-one.result c.in_err-one.field-0.0 c.from_residual-in_err-one.ensures.1 e))))
 
 pub loop-pair-preserved : goal.loop-pair-preserved
@@ -46,9 +48,8 @@ loop-pair-preserved g c =
     let i = c.loop-pair.pair-index in
     let pair : ℕ × ℕ = get_or pairs i (0, 0) in
     let f : ℕ × ℕ → List Bool = pair_table old.width c.args.kind (map old.table refs) in
-    let within = c.requires.within i (0, 0) c.loop-pair-test.true in
     let made : Makes now new c.in_ok-one.one (f pair) =
-    subst (Makes now new c.in_ok-one.one) (turn old now c.loop-pair.invariant.kept refs c.requires.live c.args.kind pair.0 pair.1 within.0 within.1 (record { place = 0 })) c.in_ok-one.ensures.made in
+    subst (Makes now new c.in_ok-one.one) (turn old now c.loop-pair.invariant.kept refs c.requires.live c.args.kind pairs c.requires.within i c.loop-pair-test.true (record { place = 0 })) c.in_ok-one.ensures.made in
     subst (λ items. Making old new items (map f (take (i + 1) pairs))) (sym c.in_ok-push.ensures.items)
     (subst (Making old new (c.loop-pair.made.items ++ c.in_ok-one.one ∷ [])) (sym (map_more f pairs i (0, 0) c.loop-pair-test.true))
     (making-one old now new c.loop-pair.made.items (map f (take i pairs)) c.in_ok-one.one (f pair) c.loop-pair.invariant c.in_ok-one.ensures.kept c.in_ok-one.ensures.space made))

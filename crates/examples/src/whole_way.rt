@@ -9,9 +9,10 @@ use ncl_base::{MOST_BITS, MOST_BYTES, Word};
 use ncl_blif::{Model, read_blif};
 use ncl_check::{PARTS, check};
 use ncl_compile::compile;
-use ncl_delay::{MOST_WORDS, read_delays, read_words};
+use ncl_delay::{Delays, MOST_WORDS, read_delays, read_words};
 use ncl_match::{Bits, Compared, compare};
 use ncl_merge::merge;
+use ncl_netlist::Netlist;
 use ncl_reader::read_netlist;
 use ncl_report::trace_text;
 use ncl_shape::{Pipeline, shape};
@@ -35,25 +36,43 @@ pub fn go_all_the_way<R: Threads + Sync + AllocGlobal + Print>(
     words: &[u8],
 ) -> anyhow::Result<()> {
     let alloc = rt.alloc();
-    anyhow::ensure!(blif.len() <= MOST_BYTES, "models that are too long");
-    let models = read_blif(alloc, blif)?;
+    let models = models_of(alloc, blif)?;
     let text = merged_text(alloc, &models)?;
-    anyhow::ensure!(text.len() <= MOST_BYTES, "a netlist that is too long");
-    rt.write_all(&check(rt, alloc, &Stages, &text, NODES, false)?.text)?;
+    print_checked(rt, &text)?;
     let netlist = read_netlist(alloc, &text)?;
     let pipeline = shape(alloc, &netlist)?;
     print_compared(rt, &pipeline, &models)?;
     print_run(rt, &pipeline, delays, words)
 }
 
+/// The models of a text of BLIF.
+fn models_of(alloc: Global, blif: &[u8]) -> anyhow::Result<Vec<Model>>
+    ensures { IfOk result (λ models. AreModels models.items) }
+{
+    anyhow::ensure!(blif.len() <= MOST_BYTES, "models that are too long");
+    Ok(read_blif(alloc, blif)?)
+}
+
 /// The text of the netlist that models compile to, with its gates merged.
 fn merged_text(alloc: Global, models: &[Model]) -> anyhow::Result<Vec<u8>>
     requires { AreModels models.now }
+    ensures { IfOk result (λ text. length text.items ≤ MOST_BYTES) }
 {
     let netlist = compile(alloc, models)?;
     let merged = merge(alloc, &netlist)?;
     anyhow::ensure!(is_writable(&merged), "a name that can't be written");
-    Ok(write_netlist(alloc, &merged)?)
+    let text = write_netlist(alloc, &merged)?;
+    anyhow::ensure!(text.len() <= MOST_BYTES, "a netlist that is too long");
+    Ok(text)
+}
+
+/// Prints the verdict on the text of a netlist.
+fn print_checked<R: Threads + Sync + AllocGlobal + Print>(rt: &R, text: &[u8]) -> anyhow::Result<()>
+    requires { length text.now ≤ MOST_BYTES }
+{
+    let told = check(rt, rt.alloc(), &Stages, text, NODES, false)?;
+    rt.write_all(&told.text)?;
+    Ok(())
 }
 
 /// Prints whether a netlist computes what models say.
@@ -82,6 +101,12 @@ fn are_words(pipeline: &Pipeline, words: &[Word]) -> bool
         .all(|word| word.bits().len() == pipeline.inputs().len())
 }
 
+/// The delays that a text states for the cells of a netlist.
+fn delays_of(alloc: Global, netlist: &Netlist, text: &[u8]) -> anyhow::Result<Delays> {
+    anyhow::ensure!(text.len() <= MOST_BYTES, "delays that are too long");
+    Ok(read_delays(alloc, text, netlist)?)
+}
+
 /// The words of a text for a pipeline.
 fn offered(alloc: Global, pipeline: &Pipeline, text: &[u8]) -> anyhow::Result<Vec<Word>>
     ensures wide { IfOk result (λ words. AreWordsOf pipeline.now words.items) }
@@ -107,8 +132,7 @@ fn print_run<R: AllocGlobal + Print>(
 {
     let alloc = rt.alloc();
     pipeline.facts();
-    anyhow::ensure!(delays.len() <= MOST_BYTES, "delays that are too long");
-    let delays = read_delays(alloc, delays, pipeline.netlist())?;
+    let delays = delays_of(alloc, pipeline.netlist(), delays)?;
     let words = offered(alloc, pipeline, words)?;
     let trace = simulate(alloc, pipeline, &delays, &words)?;
     let due = pipeline.data_banks() + words.len();

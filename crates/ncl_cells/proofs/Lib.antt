@@ -1,4 +1,3 @@
-pub mod Covers
 pub mod Smalls
 pub mod Forms
 pub mod Pools

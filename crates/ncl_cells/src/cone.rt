@@ -4,9 +4,8 @@ ghost use Rattle.ncl_blif.specs.Meaning.{cover_value};
 ghost use Rattle.ncl_network.specs.declared.network.SignalSource.{SignalSource};
 ghost use Rattle.ncl_cells.specs.Cones.{IsKnown, Respects, signal_in};
 
-use crate::cover::cover_bit;
 use crate::stop::Stop;
-use ncl_network::{Node, Signal, SignalSource};
+use ncl_network::{Node, Signal, SignalSource, cover_bit};
 use std::alloc::Global;
 
 /// A source whose bit is known.

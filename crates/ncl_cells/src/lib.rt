@@ -6,7 +6,6 @@ mod choice;
 mod cone;
 mod cone_table;
 mod costs;
-mod cover;
 mod cut;
 mod drafting;
 mod evaluating;

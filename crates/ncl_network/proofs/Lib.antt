@@ -1,3 +1,4 @@
+pub mod Covers
 pub mod Selecting
 pub mod LiveRows
 pub mod Settling

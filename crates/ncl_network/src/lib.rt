@@ -2,6 +2,7 @@
 #![tactic(auto)]
 
 mod columns;
+mod cover;
 pub mod examples;
 mod fault;
 mod fold;
@@ -13,6 +14,7 @@ mod reducing;
 mod select;
 mod walk;
 
+pub use cover::cover_bit;
 pub use fault::CompileFault;
 pub use network::{Network, Node, Signal, SignalSource};
 pub use pruning::prune;

@@ -1,10 +1,10 @@
 //! Literals at signals.
 ghost use Rattle.std.specs.Prelude.{◌≡◌, map, IfOk};
 ghost use Rattle.std.specs.List.{slice_index_or};
-ghost use Rattle.ncl_blif.specs.Meaning.{lit_matches};
 ghost use Rattle.ncl_network.specs.Network.{is_dash, is_constant};
 ghost use Rattle.ncl_network.specs.Fold.{clashes, is_live};
 
+use crate::cover::lets_through;
 use crate::network::{Signal, SignalSource};
 use ncl_base::Memory;
 use ncl_blif::{Lit, Row};
@@ -24,17 +24,6 @@ pub(crate) fn is_constant(signal: Signal) -> bool
     match signal.from {
         SignalSource::Const(_) => true,
         _ => false,
-    }
-}
-
-/// Whether a literal lets a bit through.
-fn lets_through(lit: Lit, bit: bool) -> bool
-    ensures { result ≡ lit_matches lit bit }
-{
-    match lit {
-        Lit::Zero => !bit,
-        Lit::One => bit,
-        Lit::Dash => true,
     }
 }
 

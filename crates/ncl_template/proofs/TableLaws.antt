@@ -10,31 +10,6 @@ use Rattle.ncl_template.specs.declared.table.TableRow.{TableRow}
 use Rattle.ncl_template.specs.declared.table.Table.{Table}
 use Rattle.ncl_template.specs.Tables.{bit_at, row_at, inverse_row, inverse_table, column_at, transposed, same_row}
 
--- ---- the bit of a node
-
-row_matches-zip : (row : List Lit) (word : List Bool) → list_all (λ (pair : Lit × Bool). lit_matches pair.0 pair.1) (zip row word) ≡ row_matches word row
-row_matches-zip [] word = refl
-row_matches-zip (lit ∷ row) [] = refl
-row_matches-zip (lit ∷ row) (bit ∷ word) = ap (λ b. lit_matches lit bit && b) (row_matches-zip row word)
-
-some_matches-rows : (rows : List (List Lit)) (word : List Bool) → list_any (λ (row : List Lit). list_all (λ (pair : Lit × Bool). lit_matches pair.0 pair.1) (zip row word)) rows ≡ list_any (row_matches word) rows
-some_matches-rows [] word = refl
-some_matches-rows (row ∷ rows) word =
-    let first = row_matches-zip row word in
-    let rest = some_matches-rows rows word in
-    λ i. first i || rest i
-
-beq-cond : (b on : Bool) → beq b on ≡ cond on b (not b)
-beq-cond true true = refl
-beq-cond true false = refl
-beq-cond false true = refl
-beq-cond false false = refl
-
--- what some row gives, compared with what the rows list
-pub cover_value-by_rows : (on : Bool) (rows : List (List Lit)) (word : List Bool) → 0 < length rows → beq (list_any (λ (row : List Lit). list_all (λ (pair : Lit × Bool). lit_matches pair.0 pair.1) (zip row word)) rows) on ≡ cover_value on rows word
-cover_value-by_rows on [] word some = absurd (omega (arith, some))
-cover_value-by_rows on (row ∷ rows) word some = ap (λ b. beq b on) (some_matches-rows (row ∷ rows) word) ∙ beq-cond (list_any (row_matches word) (row ∷ rows)) on
-
 -- ---- rows and columns
 
 pub bit_at-transposed : (table : Table) (i j : ℕ) → bit_at (row_at (transposed table) j) i ≡ bit_at (row_at table i) j

@@ -1,14 +1,11 @@
 //! Tables of nodes.
 ghost use Rattle.std.specs.Prelude.{◌≡◌, ◌<◌, ◌∷◌, [], length};
-ghost use Rattle.std.specs.List.{list_all, list_any, zip};
-ghost use Rattle.ncl_blif.specs.Meaning.{lit_matches};
 ghost use Rattle.ncl_template.specs.Template.{node_function};
 ghost use Rattle.ncl_template.specs.Orders.{placed};
 ghost use Rattle.ncl_template.specs.Tables.{bit_at, row_at, column_at, inverse_row, inverse_table, transposed, row_of, short_row, table_of};
 
 use crate::order::Order;
-use ncl_blif::{Lit, Row};
-use ncl_network::Node;
+use ncl_network::{Node, cover_bit};
 
 /// The values of a function of two bits at 00, 01, 10 and 11, which have the numbers 0 to 3.
 #[derive(Clone, Copy, Debug, PartialEq, Eq)]
@@ -104,37 +101,11 @@ impl Table {
     }
 }
 
-/// Whether a literal lets a bit through.
-fn passes(lit: Lit, bit: bool) -> bool
-    ensures { result ≡ lit_matches lit bit }
-{
-    match lit {
-        Lit::Zero => !bit,
-        Lit::One => bit,
-        Lit::Dash => true,
-    }
-}
-
-/// Whether a row of a node matches a word. Linear in it.
-fn matches(row: &[Lit], word: &[bool]) -> bool
-    ensures { result ≡ list_all (λ pair. lit_matches pair.0 pair.1) (zip row.now word.now) }
-{
-    row.iter().zip(word).all(|(lit, bit)| passes(*lit, *bit))
-}
-
-/// Whether some row matches a word. Linear in the rows.
-fn some_matches(rows: &[Row], word: &[bool]) -> bool
-    ensures { result ≡ list_any (λ row. list_all (λ pair. lit_matches pair.0 pair.1) (zip row word.now)) rows.now }
-{
-    rows.iter().any(|row| matches(row.items(), word))
-}
-
 /// The bit of a node at a word. Linear in the rows.
 fn node_bit(node: &Node, word: &[bool]) -> bool
-    requires { 0 < length node.now.rows }
     ensures { result ≡ node_function node.now word.now }
 {
-    some_matches(node.rows.items(), word) == node.on
+    cover_bit(node.on, node.rows.items(), word)
 }
 
 /// The values of a node of two inputs.

@@ -1,8 +1,8 @@
 use Rattle.std.proofs.Common.{◌<◌, length, ap, ◌∙◌, arith}
 use Rattle.std.specs.Bool.{beq}
 use Rattle.std.proofs.lemmas.Bool.Decides.{nat_tests}
-use Rattle.ncl_cells.proofs.Covers.{cover_value-by_rows}
-use Rattle.ncl_cells.proofs.cover.cover_bit.Goals as goal
+use Rattle.ncl_network.proofs.Covers.{cover_value-by_rows}
+use Rattle.ncl_network.proofs.cover.cover_bit.Goals as goal
 
 pub returns : goal.returns
 returns c =

@@ -6,7 +6,7 @@ ghost use Rattle.ncl_blif.specs.Meaning.{lit_matches, cover_value};
 use ncl_blif::{Lit, Row};
 
 /// Whether a literal lets a bit through.
-fn passes(lit: Lit, bit: bool) -> bool
+pub(crate) fn lets_through(lit: Lit, bit: bool) -> bool
     ensures { result ≡ lit_matches lit bit }
 {
     match lit {
@@ -20,7 +20,9 @@ fn passes(lit: Lit, bit: bool) -> bool
 fn matches(row: &[Lit], bits: &[bool]) -> bool
     ensures { result ≡ list_all (λ pair. lit_matches pair.0 pair.1) (zip row.now bits.now) }
 {
-    row.iter().zip(bits).all(|(lit, bit)| passes(*lit, *bit))
+    row.iter()
+        .zip(bits)
+        .all(|(lit, bit)| lets_through(*lit, *bit))
 }
 
 /// Whether some row matches bits. Linear in the rows.
@@ -31,7 +33,7 @@ fn some_matches(rows: &[Row], bits: &[bool]) -> bool
 }
 
 /// The value of a cover. Linear in its rows.
-pub(crate) fn cover_bit(on: bool, rows: &[Row], bits: &[bool]) -> bool
+pub fn cover_bit(on: bool, rows: &[Row], bits: &[bool]) -> bool
     ensures { result ≡ cover_value on rows.now bits.now }
 {
     if rows.is_empty() {

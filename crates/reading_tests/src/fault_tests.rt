@@ -3,7 +3,19 @@
 use ncl_delay::{DelayFault, WordsFault};
 use ncl_netlist::BuildFault;
 use ncl_reader::NetFault;
+use std::alloc::Global;
+use std::fmt::Display;
+use std::process::Abort;
 use std::test::*;
+
+/// Each fault is shown as the text beside it.
+fn are_told<F: Display>(rt: &impl Abort, alloc: Global, cases: &[(F, &str)]) -> Result<(), Fail> {
+    for (fault, text) in cases {
+        let told = format!(in alloc; "{fault}")?;
+        assert!(rt; told.as_str() == *text, "at {text}");
+    }
+    Ok(())
+}
 
 #[test]
 fn faults_of_netlists_are_told(rt: HostRuntime) -> Result<(), Fail> {
@@ -15,11 +27,7 @@ fn faults_of_netlists_are_told(rt: HostRuntime) -> Result<(), Fail> {
         (NetFault::Build(BuildFault::TooMany), "no netlist"),
         (NetFault::Memory, "out of memory"),
     ];
-    for (fault, text) in &cases {
-        let told = format!(in rt.alloc(); "{fault}")?;
-        assert!(rt; told.as_str() == *text, "at {text}");
-    }
-    Ok(())
+    are_told(&rt, rt.alloc(), &cases)
 }
 
 #[test]
@@ -29,11 +37,7 @@ fn faults_of_delays_are_told(rt: HostRuntime) -> Result<(), Fail> {
         (DelayFault::UnknownCell(2), "unknown cell in line 2"),
         (DelayFault::Memory, "out of memory"),
     ];
-    for (fault, text) in &cases {
-        let told = format!(in rt.alloc(); "{fault}")?;
-        assert!(rt; told.as_str() == *text, "at {text}");
-    }
-    Ok(())
+    are_told(&rt, rt.alloc(), &cases)
 }
 
 #[test]
@@ -44,9 +48,5 @@ fn faults_of_words_are_told(rt: HostRuntime) -> Result<(), Fail> {
         (WordsFault::TooMany(3), "too many words in line 3"),
         (WordsFault::Memory, "out of memory"),
     ];
-    for (fault, text) in &cases {
-        let told = format!(in rt.alloc(); "{fault}")?;
-        assert!(rt; told.as_str() == *text, "at {text}");
-    }
-    Ok(())
+    are_told(&rt, rt.alloc(), &cases)
 }

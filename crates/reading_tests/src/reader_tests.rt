@@ -9,12 +9,22 @@ use std::process::Abort;
 use std::test::*;
 
 /// What is written of a text once it is read.
-pub fn rewritten(rt: &impl Abort, alloc: Global, text: &str) -> Result<Vec<u8>, Fail> {
+fn rewritten(rt: &impl Abort, alloc: Global, text: &str) -> Result<Vec<u8>, Fail> {
     assert!(rt; text.len() <= MOST_BYTES);
     let netlist = read_netlist(alloc, text.as_bytes())?;
     let fits = is_writable(&netlist);
     assert!(rt; fits);
     Ok(write_netlist(alloc, &netlist)?)
+}
+
+/// Each text is written as the one beside it, once it is read.
+pub fn are_rewritten(rt: &impl Abort, alloc: Global, rows: &[(&str, &str)]) -> Result<(), Fail> {
+    for row in rows {
+        let (text, wanted) = *row;
+        let written = rewritten(rt, alloc, text)?;
+        assert!(rt; written.as_slice() == wanted.as_bytes(), "at {text}");
+    }
+    Ok(())
 }
 
 const READ: [(&str, &str); 18] = [
@@ -174,12 +184,7 @@ endmodule
 
 #[test]
 fn reads(rt: HostRuntime) -> Result<(), Fail> {
-    for row in &READ {
-        let (text, wanted) = *row;
-        let written = rewritten(&rt, rt.alloc(), text)?;
-        assert!(rt; written.as_slice() == wanted.as_bytes(), "at {text}");
-    }
-    Ok(())
+    are_rewritten(&rt, rt.alloc(), &READ)
 }
 
 /// A gate whose pins stand in another order.

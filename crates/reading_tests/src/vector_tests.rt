@@ -1,6 +1,6 @@
 //! Texts with vectors and with declarations in their headers: each bit is written by a name of its own.
 
-use crate::reader_tests::rewritten;
+use crate::reader_tests::are_rewritten;
 use std::test::*;
 
 const READ: [(&str, &str); 7] = [
@@ -106,10 +106,5 @@ endmodule
 
 #[test]
 fn reads_vectors(rt: HostRuntime) -> Result<(), Fail> {
-    for row in &READ {
-        let (text, wanted) = *row;
-        let written = rewritten(&rt, rt.alloc(), text)?;
-        assert!(rt; written.as_slice() == wanted.as_bytes(), "at {text}");
-    }
-    Ok(())
+    are_rewritten(&rt, rt.alloc(), &READ)
 }

@@ -1,9 +1,10 @@
 -- The ends and the drivers of a pipeline that its netlist has the shape of.
-use Rattle.std.proofs.Common.{◌≡◌, ◌≢◌, ℕ, suc, ◌<◌, ◌≤◌, List, [], ◌∷◌, length, map, sym, subst, ◌∙◌, arith}
+use Rattle.std.proofs.Common.{◌≡◌, ◌≢◌, ℕ, suc, ◌<◌, ◌≤◌, List, [], ◌∷◌, length, map, sym, ap, subst, ◌∙◌, arith}
 use Rattle.std.specs.Prelude.{AllPairs}
 use Rattle.ncl_base.specs.declared.word.TheConstants.{MOST_BITS}
 use Rattle.ncl_netlist.specs.declared.cell.Cell.{Cell}
-use Rattle.ncl_netlist.specs.Netlist.{most_cells}
+use Rattle.ncl_netlist.specs.Netlist.{NetlistData, most_cells}
+use Rattle.ncl_shape.specs.declared.rails.Rails.{Rails}
 use Rattle.ncl_cell_rules.proofs.Drivers.{same_place}
 use Rattle.ncl_shape.specs.declared.stage.StageCell.{StageCell}
 use Rattle.ncl_shape.specs.Closure.{net_of}
@@ -121,3 +122,9 @@ inputs-few p shape =
 
 pub cells-few : (p : PipelineData) → Shape p.netlist p → length p.netlist.cells ≤ most_cells
 cells-few p shape = shape.is_netlist.few_cells
+
+-- so the items of a pipeline are few, where they are counted
+pub items-few : (p : PipelineData) {n : NetlistData} {inputs : List Rails} {cells : List Cell} → Shape p.netlist p → inputs ≡ p.inputs → cells ≡ n.cells → n ≡ p.netlist → (length inputs ≤ MOST_BITS) × (length cells ≤ most_cells)
+items-few p shape bits cells netlist =
+    let own = ap length cells ∙ ap (λ (n : NetlistData). length n.cells) netlist in
+    (omega (arith, inputs-few p shape, ap length bits), omega (arith, cells-few p shape, own))

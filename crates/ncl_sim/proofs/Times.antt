@@ -18,12 +18,12 @@ pub last_time-more : (time : ℕ) (steps : List Fired) (f : Fired) → last_time
 last_time-more time [] f = refl
 last_time-more time (g ∷ steps) f = last_time-more g.time steps f
 
-not-after : (p : PipelineData) (f : Fired) (due : ℕ) (item : Item) → ComesFirst p f due item → f.time ≤ due
+pub not-after : (p : PipelineData) (f : Fired) (due : ℕ) (item : Item) → ComesFirst p f due item → f.time ≤ due
 not-after p f due item (inl earlier) = omega arith
 not-after p f due item (inr same) = let e : f.time ≡ due = same.0 in omega arith
 
 -- what the look gives began just now, or waited
-fresh_or_old : (p : PipelineData) (d : DelaysData) (s : State) (item : Item) (time due : ℕ) (own : Bool) (waits : Option ℕ) → look p d s item time (popped own waits) ≡ Some due → (time + delay_of d item (rises p s.value item) ≡ due) ⊎ (waits ≡ Some due)
+pub fresh_or_old : (p : PipelineData) (d : DelaysData) (s : State) (item : Item) (time due : ℕ) (own : Bool) (waits : Option ℕ) → look p d s item time (popped own waits) ≡ Some due → (time + delay_of d item (rises p s.value item) ≡ due) ⊎ (waits ≡ Some due)
 fresh_or_old p d s item time due own waits is =
     elim (cases_Bool (enabled p s item)) [
       | inl on ↦ by_own own waits (sym (cond-true (enabled p s item) (due_next p d s item false time (popped own waits)) None on) ∙ is)

@@ -1,11 +1,10 @@
 -- What the changes of a run come to: the values of its states, and that times never fall.
-use Rattle.std.proofs.Common.{◌≡◌, ◌≢◌, ◌⊎◌, ℕ, ◌+◌, ◌^◌, ◌<◌, ◌≤◌, Bool, true, false, cond, eqb, List, [], ◌∷◌, ◌++◌, length, get_or, Option, Some, None, inl, inr, refl, sym, ap, ◌∙◌, subst, arith, append_assoc}
+use Rattle.std.proofs.Common.{◌≡◌, ◌≢◌, ◌⊎◌, ℕ, ◌+◌, ◌^◌, ◌<◌, ◌≤◌, Bool, true, false, cond, eqb, List, [], ◌∷◌, ◌++◌, length, get_or, Some, inl, inr, refl, sym, ap, ◌∙◌, subst, arith, append_assoc}
 use Rattle.std.specs.Prelude.{nat_eq, nat_le, nat_lt}
 use Rattle.std.specs.List.{AllByRecursion, range_with_len}
-use Rattle.std.proofs.lemmas.Bool.{cases_Bool, cases_eq, cases_lt, cond-true, eq-eqb, ne_eqb}
+use Rattle.std.proofs.lemmas.Bool.{cases_eq, cases_lt, eq-eqb, ne_eqb}
 use Rattle.std.proofs.lemmas.List.{get_or-map, length-map}
 use Rattle.std.proofs.lemmas.List.FromFn.{get_or-range_with_len, length-range_with_len}
-use Rattle.std.proofs.lemmas.Option.{none-some, same_Some}
 use Rattle.ncl_shape.specs.declared.item.Item.{Item}
 use Rattle.ncl_shape.specs.Pipeline.{PipelineData}
 use Rattle.ncl_machine.specs.OneChange.{net_of_step}
@@ -13,14 +12,13 @@ use Rattle.ncl_machine.specs.Run.{IsRunFrom, after}
 use Rattle.ncl_machine.specs.State.{State}
 use Rattle.ncl_machine.specs.Steps.{enabled, step}
 use Rattle.ncl_machine.proofs.AtWorkLaws.{with_net-elsewhere}
-use Rattle.ncl_delay.specs.Delays.{DelaysData, delay_of}
+use Rattle.ncl_delay.specs.Delays.{DelaysData}
 use Rattle.ncl_delay.specs.declared.fired.Fired.{Fired}
-use Rattle.ncl_sim.specs.Candidates.{look, popped}
-use Rattle.ncl_sim.specs.Numbers.{item_number, rises}
-use Rattle.ncl_sim.specs.TimedRun.{ComesFirst, IsNext, due_after, due_next, items_in, last_time, state_after}
+use Rattle.ncl_sim.specs.Numbers.{item_number}
+use Rattle.ncl_sim.specs.TimedRun.{IsNext, due_after, items_in, last_time, state_after}
 use Rattle.ncl_sim.proofs.Locality.{enabled-net, step-value}
-use Rattle.ncl_sim.proofs.Looks.{due-looked, look-off}
-use Rattle.ncl_sim.proofs.Times.{last_time-more}
+use Rattle.ncl_sim.proofs.Looks.{due-looked}
+use Rattle.ncl_sim.proofs.Times.{fresh_or_old, last_time-more, not-after}
 use Rattle.ncl_vcd.proofs.Changes.{Rise, value_at}
 use Rattle.ncl_vcd.specs.RunDump.{change_by, changes_of, until_time, values_in}
 use Rattle.ncl_vcd.proofs.LevelLaws.{value_at-later}
@@ -35,23 +33,6 @@ NeverFall last (f ∷ steps) = (last ≤ f.time) × NeverFall f.time steps
 -- they fit in 64 bits
 abbrev pub AreSmall : List Fired → Type 0
 AreSmall steps = AllByRecursion (λ (f : Fired). f.time < 2 ^ 64) steps
-
--- what the look gives began just now, or waited
-fresh_or_old : (p : PipelineData) (d : DelaysData) (s : State) (item : Item) (time due : ℕ) (own : Bool) (waits : Option ℕ) → look p d s item time (popped own waits) ≡ Some due → (time + delay_of d item (rises p s.value item) ≡ due) ⊎ (waits ≡ Some due)
-fresh_or_old p d s item time due own waits is =
-    elim (cases_Bool (enabled p s item)) [
-      | inl on ↦ by_own own waits (sym (cond-true (enabled p s item) (due_next p d s item false time (popped own waits)) None on) ∙ is)
-      | inr off ↦ absurd (none-some due (sym (look-off p d s item time (popped own waits) off) ∙ is))
-    ]
-  where
-    by_own : (own : Bool) (waits : Option ℕ) → due_next p d s item false time (popped own waits) ≡ Some due → (time + delay_of d item (rises p s.value item) ≡ due) ⊎ (waits ≡ Some due)
-    by_own true waits e = inl (same_Some (time + delay_of d item (rises p s.value item)) due e)
-    by_own false None e = inl (same_Some (time + delay_of d item (rises p s.value item)) due e)
-    by_own false (Some old) e = inr e
-
-not-after : (p : PipelineData) (f : Fired) (due : ℕ) (item : Item) → ComesFirst p f due item → f.time ≤ due
-not-after p f due item (inl earlier) = omega arith
-not-after p f due item (inr same) = let e : f.time ≡ due = same.0 in omega arith
 
 -- nothing is due before the last step, at any delays
 abbrev NotBefore : PipelineData → DelaysData → List (List Bool) → List Fired → Type 0

@@ -6,6 +6,8 @@ mod cells_tests;
 #[cfg(test)]
 mod demo_tests;
 #[cfg(test)]
+mod fault_tests;
+#[cfg(test)]
 mod template_tests;
 #[cfg(test)]
 mod tree_tests;

@@ -1,7 +1,7 @@
 //! The texts that no stored run shows.
 use ncl_blif::BlifFault;
+use ncl_compile::CompileFault;
 use ncl_netlist::BuildFault;
-use ncl_network::CompileFault;
 use ncl_reader::NetFault;
 use ncl_report::{blif_text, compile_text, net_text};
 use std::test::Fail;

@@ -1,6 +1,6 @@
 //! Tests of the folding, by texts and counts that were worked out by hand.
 use crate::networks::network;
-use ncl_network::{CompileFault, Network};
+use ncl_network::Network;
 use std::process::Abort;
 use std::test::Fail;
 
@@ -95,22 +95,4 @@ fn many_rows_are_folded(rt: HostRuntime) -> Result<(), Fail> {
         text.push_str("1-- 0\n11- 0\n")?;
     }
     try_text(&rt, text.as_str(), 1, 2)
-}
-
-#[test]
-fn faults_are_told(rt: HostRuntime) -> Result<(), Fail> {
-    let cases = [
-        (
-            CompileFault::TooWide(2),
-            "model 2 has more than 128 inputs or outputs",
-        ),
-        (CompileFault::TooLong, "more than 255 models"),
-        (CompileFault::TooMany, "too many cells"),
-        (CompileFault::Memory, "out of memory"),
-    ];
-    for (fault, text) in cases {
-        let told = format!(in rt.alloc(); "{fault}")?;
-        assert_eq!(rt; told.as_str(), text);
-    }
-    Ok(())
 }

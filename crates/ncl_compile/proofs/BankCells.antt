@@ -14,27 +14,19 @@ use Rattle.ncl_compile.proofs.ListPlaces.{holds_at, at-map, at_of_map}
 use Rattle.ncl_compile.proofs.StandingCells.{StandAt, StandAt-whole, StandAt-left, StandAt-right}
 
 -- the pins of the two register cells of a bit
-pins_zero : (request rst : List ℕ) (ins outs : List NamePair) (j : ℕ) (x y : NamePair) → slice_get ins j ≡ Some x → slice_get outs j ≡ Some y → slice_get (bank_pins ins outs request rst) (2 * j) ≡ Some (x.zero ∷ request ∷ rst ∷ y.zero ∷ [])
-pins_zero request rst [] outs j x y at_x at_y = absurd cc
-pins_zero request rst (a ∷ ins) [] j x y at_x at_y = absurd cc
-pins_zero request rst (a ∷ ins) (b ∷ outs) zero x y at_x at_y =
+pins_of_bit : (request rst : List ℕ) (ins outs : List NamePair) (j : ℕ) (x y : NamePair) → slice_get ins j ≡ Some x → slice_get outs j ≡ Some y → (slice_get (bank_pins ins outs request rst) (2 * j) ≡ Some (x.zero ∷ request ∷ rst ∷ y.zero ∷ [])) × (slice_get (bank_pins ins outs request rst) (2 * j + 1) ≡ Some (x.one ∷ request ∷ rst ∷ y.one ∷ []))
+pins_of_bit request rst [] outs j x y at_x at_y = absurd cc
+pins_of_bit request rst (a ∷ ins) [] j x y at_x at_y = absurd cc
+pins_of_bit request rst (a ∷ ins) (b ∷ outs) zero x y at_x at_y =
     let first : a ≡ x = cc in
     let second : b ≡ y = cc in
-    λ i. Some ((first i).zero ∷ request ∷ rst ∷ (second i).zero ∷ [])
-pins_zero request rst (a ∷ ins) (b ∷ outs) (suc j) x y at_x at_y =
-    let twice : 2 * suc j ≡ suc (suc (2 * j)) = omega arith in
-    ap (slice_get (bank_pins (a ∷ ins) (b ∷ outs) request rst)) twice ∙ pins_zero request rst ins outs j x y at_x at_y
-
-pins_one : (request rst : List ℕ) (ins outs : List NamePair) (j : ℕ) (x y : NamePair) → slice_get ins j ≡ Some x → slice_get outs j ≡ Some y → slice_get (bank_pins ins outs request rst) (2 * j + 1) ≡ Some (x.one ∷ request ∷ rst ∷ y.one ∷ [])
-pins_one request rst [] outs j x y at_x at_y = absurd cc
-pins_one request rst (a ∷ ins) [] j x y at_x at_y = absurd cc
-pins_one request rst (a ∷ ins) (b ∷ outs) zero x y at_x at_y =
-    let first : a ≡ x = cc in
-    let second : b ≡ y = cc in
-    λ i. Some ((first i).one ∷ request ∷ rst ∷ (second i).one ∷ [])
-pins_one request rst (a ∷ ins) (b ∷ outs) (suc j) x y at_x at_y =
-    let twice : 2 * suc j + 1 ≡ suc (suc (2 * j + 1)) = omega arith in
-    ap (slice_get (bank_pins (a ∷ ins) (b ∷ outs) request rst)) twice ∙ pins_one request rst ins outs j x y at_x at_y
+    (λ i. Some ((first i).zero ∷ request ∷ rst ∷ (second i).zero ∷ []), λ i. Some ((first i).one ∷ request ∷ rst ∷ (second i).one ∷ []))
+pins_of_bit request rst (a ∷ ins) (b ∷ outs) (suc j) x y at_x at_y =
+    let pins = slice_get (bank_pins (a ∷ ins) (b ∷ outs) request rst) in
+    let first : 2 * suc j ≡ suc (suc (2 * j)) = omega arith in
+    let second : 2 * suc j + 1 ≡ suc (suc (2 * j + 1)) = omega arith in
+    let rest = pins_of_bit request rst ins outs j x y at_x at_y in
+    (ap pins first ∙ rest.0, ap pins second ∙ rest.1)
 
 length-bank_pins : (request rst : List ℕ) (ins outs : List NamePair) → length ins ≡ length outs → length (bank_pins ins outs request rst) ≡ 2 * length ins
 length-bank_pins request rst [] outs same = refl
@@ -63,12 +55,12 @@ module _ (ins outs : List NamePair) (request rst root prefix : List ℕ) (parts 
   -- the register cells of a bit
   pub register_zero : (j : ℕ) (x y : NamePair) → slice_get ins j ≡ Some x → slice_get outs j ≡ Some y → (c : PartCell) × (slice_get are.registers (2 * j) ≡ Some c) × (c.kind ≡ Register) × (c.pins ≡ x.zero ∷ request ∷ rst ∷ y.zero ∷ [])
   register_zero j x y at_x at_y =
-      let (c, at, pins) = at_of_map (λ (cell : PartCell). cell.pins) are.registers (2 * j) (x.zero ∷ request ∷ rst ∷ y.zero ∷ []) (ap (λ l. slice_get l (2 * j)) are.register_pins ∙ pins_zero request rst ins outs j x y at_x at_y) in
+      let (c, at, pins) = at_of_map (λ (cell : PartCell). cell.pins) are.registers (2 * j) (x.zero ∷ request ∷ rst ∷ y.zero ∷ []) (ap (λ l. slice_get l (2 * j)) are.register_pins ∙ (pins_of_bit request rst ins outs j x y at_x at_y).0) in
       (c, at, holds_at (λ (cell : PartCell). cell.kind ≡ Register) are.registers are.register_kinds (2 * j) c at, pins)
 
   pub register_one : (j : ℕ) (x y : NamePair) → slice_get ins j ≡ Some x → slice_get outs j ≡ Some y → (c : PartCell) × (slice_get are.registers (2 * j + 1) ≡ Some c) × (c.kind ≡ Register) × (c.pins ≡ x.one ∷ request ∷ rst ∷ y.one ∷ [])
   register_one j x y at_x at_y =
-      let (c, at, pins) = at_of_map (λ (cell : PartCell). cell.pins) are.registers (2 * j + 1) (x.one ∷ request ∷ rst ∷ y.one ∷ []) (ap (λ l. slice_get l (2 * j + 1)) are.register_pins ∙ pins_one request rst ins outs j x y at_x at_y) in
+      let (c, at, pins) = at_of_map (λ (cell : PartCell). cell.pins) are.registers (2 * j + 1) (x.one ∷ request ∷ rst ∷ y.one ∷ []) (ap (λ l. slice_get l (2 * j + 1)) are.register_pins ∙ (pins_of_bit request rst ins outs j x y at_x at_y).1) in
       (c, at, holds_at (λ (cell : PartCell). cell.kind ≡ Register) are.registers are.register_kinds (2 * j + 1) c at, pins)
 
   -- and its acknowledge cell

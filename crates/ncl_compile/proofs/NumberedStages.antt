@@ -28,7 +28,7 @@ use Rattle.ncl_compile.specs.Pieces.{IsStageOfModel}
 use Rattle.ncl_compile.specs.Assembled.{IsWiredStage}
 use Rattle.ncl_compile.proofs.ListPlaces.{holds_of, member_at, member_of_flat_map, pairs_of_map, Rise}
 use Rattle.ncl_compile.proofs.StandingCells.{StandAt, StandAt-left, StandAt-right}
-use Rattle.ncl_compile.proofs.BankCells.{register_zero, register_one}
+use Rattle.ncl_compile.proofs.BankNames.{bank_all_pins, bank_drives_rails}
 use Rattle.ncl_compile.proofs.Numbering.{numbered_gates, stage_from, stages_from}
 use Rattle.ncl_compile.proofs.NumberedGates.{IsGatePart, gates_have, gate_numbers-row, are_numbered}
 use Rattle.ncl_compile.proofs.NumberedNames.{pins_of_parts, net_number, same_number, pin_among, output_among}
@@ -42,28 +42,17 @@ row_rises first count i j d less within =
     let at_j = get_or-range_with_len first count j d (omega (arith, within, long)) in
     omega (arith, at_i, at_j, less)
 
--- the rails that a bank drives are on pins of its register cells
+-- what cells drive, that stand with all their pins in the parts, is on pins of these
+outputs_among : (parts : Parts) (cells : List PartCell) → ((c : PartCell) → Member c cells → Member c parts.cells) → ((c : PartCell) → Member c cells → HasAllPins c) → (x : List ℕ) → Member x (map output_name cells) → Member x (pins_of_parts parts)
+outputs_among parts cells in_parts pins x m =
+    let (c, in_cells, same) = member_of_map output_name cells x m in
+    subst (λ z. Member z (pins_of_parts parts)) same (output_among parts c (in_parts c in_cells) (pins c in_cells))
+
+-- the rails that a bank drives are among these
 pub driven_among : (parts : Parts) (ins outs : List NamePair) (request rst root prefix : List ℕ) (bank : BankParts) (are : AreBankParts ins outs request rst root prefix bank) (width : ℕ) → length ins ≡ width → length outs ≡ width
     → ((c : PartCell) → Member c bank.cells → Member c parts.cells) → (x : List ℕ) → Member x (pair_names outs) → Member x (pins_of_parts parts)
 driven_among parts ins outs request rst root prefix bank are width long_ins long_outs in_parts x m =
-    let (j, y, at_y, in_pair) = member_of_flat_map pair_list outs x m in
-    let within = slice_get_within outs j y at_y in
-    let (z, at_z) = slice_get-some ins j (omega (arith, within, long_ins, long_outs)) in
-    elim (member_cases x y.zero (y.one ∷ []) in_pair) [
-      | inl zero_is ↦
-          let (c, at, kind, pins) = register_zero ins outs request rst root prefix bank are width long_ins long_outs j z y at_z at_y in
-          pin_among parts x c (in_parts c (of_registers c (2 * j) at)) (subst (λ l. Member x l) (sym pins) (subst (λ a. Member a (z.zero ∷ request ∷ rst ∷ y.zero ∷ [])) zero_is (there (there (there here)))))
-      | inr rest ↦
-          elim (member_cases x y.one [] rest) [
-            | inl one_is ↦
-                let (c, at, kind, pins) = register_one ins outs request rst root prefix bank are width long_ins long_outs j z y at_z at_y in
-                pin_among parts x c (in_parts c (of_registers c (2 * j + 1) at)) (subst (λ l. Member x l) (sym pins) (subst (λ a. Member a (z.one ∷ request ∷ rst ∷ y.one ∷ [])) one_is (there (there (there here)))))
-            | inr none ↦ elim none [ ]
-          ]
-    ]
-  where
-    of_registers : (c : PartCell) (i : ℕ) → slice_get are.registers i ≡ Some c → Member c bank.cells
-    of_registers c i at = subst (Member c) (sym are.cells) (Member-append_left c (are.acks ++ are.tree) (member_at are.registers i c at))
+    outputs_among parts bank.cells in_parts (bank_all_pins ins outs request rst root prefix bank are) x (bank_drives_rails ins outs request rst root prefix bank are width long_ins long_outs x m)
 
 module _ (parts : Parts) (ins : List NamePair) (stage : StageParts) (known : (x : List ℕ) → Member x (pair_names ins) → Member x (pins_of_parts parts))
     (in_parts : (c : PartCell) → Member c stage.cells → Member c parts.cells) (gates : All IsGatePart stage.cells) (pins : All HasAllPins stage.cells) where
@@ -71,9 +60,7 @@ module _ (parts : Parts) (ins : List NamePair) (stage : StageParts) (known : (x 
   name_known x met =
       elim (Member-append_cases x (pair_names ins) (map output_name stage.cells) (Member-from_Contains (names_known ins stage.cells) x met)) [
         | inl rail ↦ known x rail
-        | inr made ↦
-            let (c, in_cells, same) = member_of_map output_name stage.cells x made in
-            subst (λ z. Member z (pins_of_parts parts)) same (output_among parts c (in_parts c in_cells) (holds_of HasAllPins stage.cells pins c in_cells))
+        | inr made ↦ outputs_among parts stage.cells in_parts (holds_of HasAllPins stage.cells pins) x made
       ]
 
   -- such a stage is numbered

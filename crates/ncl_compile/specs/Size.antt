@@ -3,8 +3,8 @@ use Rattle.std.specs.Prelude.{◌≡◌, ℕ, ◌+◌, ◌<◌, ◌≤◌, List,
 use Rattle.ncl_base.specs.declared.word.TheConstants.{MOST_BITS}
 use Rattle.ncl_blif.specs.declared.model.Model.{Model}
 use Rattle.ncl_network.specs.Network.{weight_of_model}
-use Rattle.ncl_network.specs.declared.fault.CompileFault.{CompileFault}
-use Rattle.ncl_network.specs.declared.fault.CompileFault.TheVariants.{TooWide, TooLong, TooMany, Memory}
+use Rattle.ncl_compile.specs.declared.fault.CompileFault.{CompileFault}
+use Rattle.ncl_compile.specs.declared.fault.CompileFault.TheVariants.{TooWide, TooLong, TooMany, Memory}
 
 -- the widths of the banks: one before each model, as wide as its inputs, and one after the last
 abbrev pub widths_of : List Model → List ℕ

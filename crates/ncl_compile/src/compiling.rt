@@ -5,12 +5,12 @@ ghost use Rattle.ncl_compile.specs.Size.{IsCompileFault, CanBeCompiled};
 ghost use Rattle.ncl_compile.specs.Compiled.{Compiled};
 
 use crate::banks::banks_of;
+use crate::fault::CompileFault;
 use crate::putting::put_together;
 use crate::sizing::check_size;
 use crate::stages::stages_of;
 use ncl_blif::Model;
 use ncl_netlist::{BuildFault, Netlist, build};
-use ncl_network::CompileFault;
 use std::alloc::Global;
 
 /// Compiles models, each as one stage of a pipeline of clockless gates. Whatever netlist this is, its stages are

@@ -18,6 +18,7 @@
 
 mod banks;
 mod compiling;
+mod fault;
 pub mod laws;
 mod naming;
 mod putting;
@@ -25,3 +26,4 @@ mod sizing;
 mod stages;
 
 pub use compiling::compile;
+pub use fault::CompileFault;

@@ -4,9 +4,9 @@ ghost use Rattle.ncl_blif.specs.Model.{AreModels, most_size, weight_of_rows};
 ghost use Rattle.ncl_network.specs.Network.{weight_of_model};
 ghost use Rattle.ncl_compile.specs.Size.{compile_size, IsSlim, IsCompileFault, CanBeCompiled};
 
+use crate::fault::CompileFault;
 use ncl_base::MOST_BITS;
 use ncl_blif::{Model, Row};
-use ncl_network::CompileFault;
 
 /// The most models that are compiled.
 const MOST_MODELS: usize = 255;

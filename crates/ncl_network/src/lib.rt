@@ -4,7 +4,6 @@
 mod columns;
 mod cover;
 pub mod examples;
-mod fault;
 mod fold;
 mod literals;
 mod mark;
@@ -15,7 +14,6 @@ mod select;
 mod walk;
 
 pub use cover::cover_bit;
-pub use fault::CompileFault;
 pub use network::{Network, Node, Signal, SignalSource};
 pub use pruning::prune;
 pub use reducing::{cover_order, reduce};

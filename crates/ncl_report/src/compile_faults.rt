@@ -4,7 +4,7 @@ ghost use Rattle.ncl_report.specs.CompileText.{compile_line};
 
 use crate::line::{line_of, numbered_line};
 use ncl_base::Memory;
-use ncl_network::CompileFault;
+use ncl_compile::CompileFault;
 use std::alloc::Global;
 
 /// The line that tells which limit models pass, with the number of the first model that is too wide. Fails where

@@ -3,8 +3,8 @@ use Rattle.std.proofs.Common.{◌≡◌, ◌≢◌, ℕ, Bool, List, refl, subst
 use Rattle.std.proofs.lemmas.List.Elements.{All-contains}
 use Rattle.ncl_base.proofs.Members.{Contains-from_slice_get}
 use Rattle.ncl_blif.specs.declared.model.Model.{Model}
-use Rattle.ncl_network.specs.declared.fault.CompileFault.{CompileFault}
-use Rattle.ncl_network.specs.declared.fault.CompileFault.TheVariants.{TooWide, TooLong, TooMany, Memory}
+use Rattle.ncl_compile.specs.declared.fault.CompileFault.{CompileFault}
+use Rattle.ncl_compile.specs.declared.fault.CompileFault.TheVariants.{TooWide, TooLong, TooMany, Memory}
 use Rattle.ncl_compile.specs.Size.{IsSlim, IsCompileFault, CanBeCompiled}
 use Rattle.ncl_top.specs.Compiling.{IsModelsReply, too_large, compiled, IsCompileReply, no_models, modelled}
 use Rattle.ncl_top.proofs.ModelsText.{one_models, refused_models_none}

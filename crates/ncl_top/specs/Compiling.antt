@@ -7,8 +7,8 @@ use Rattle.ncl_blif.specs.Model.{AreModels}
 use Rattle.ncl_blif.specs.Answer.{IsRead, IsRefused}
 use Rattle.ncl_netlist.specs.Netlist.{NetlistData}
 use Rattle.ncl_writer.specs.Text.{text_of}
-use Rattle.ncl_network.specs.declared.fault.CompileFault.{CompileFault}
-use Rattle.ncl_network.specs.declared.fault.CompileFault.TheVariants.{Memory}
+use Rattle.ncl_compile.specs.declared.fault.CompileFault.{CompileFault}
+use Rattle.ncl_compile.specs.declared.fault.CompileFault.TheVariants.{Memory}
 use Rattle.ncl_report.specs.Line.{line}
 use Rattle.ncl_report.specs.BlifText.{blif_line}
 use Rattle.ncl_report.specs.CompileText.{compile_line}

@@ -1,7 +1,7 @@
 //! What `compile` replies to models.
 ghost use Rattle.std.specs.Prelude.{◌≡◌, ◌≢◌, true, false, IfOk, IsErrOf, OnOk};
 ghost use Rattle.ncl_blif.specs.Model.{AreModels};
-ghost use Rattle.ncl_network.specs.declared.fault.CompileFault.TheVariants.{Memory as CompileMemory};
+ghost use Rattle.ncl_compile.specs.declared.fault.CompileFault.TheVariants.{Memory as CompileMemory};
 ghost use Rattle.ncl_report.specs.CompileText.{compile_line};
 ghost use Rattle.ncl_compile.specs.Compiled.{Compiled};
 ghost use Rattle.ncl_top.specs.Compiling.{IsCompiledText, IsModelsReply};
@@ -10,10 +10,9 @@ ghost use Rattle.ncl_top.specs.Replies.{Gives};
 use crate::reply::{Fault, Reply};
 use ncl_base::Memory;
 use ncl_blif::Model;
-use ncl_compile::compile;
+use ncl_compile::{CompileFault, compile};
 use ncl_merge::merge;
 use ncl_netlist::Netlist;
-use ncl_network::CompileFault;
 use ncl_report::compile_text;
 use ncl_writer::write_netlist;
 use std::alloc::Global;

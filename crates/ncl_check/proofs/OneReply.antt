@@ -1,11 +1,11 @@
 -- There is at most one reply to the bytes of a file.
-use Rattle.std.proofs.Common.{◌≡◌, ℕ, ◌<◌, ◌≤◌, Bool, false, List, length, inl, inr, refl, sym, ap, ◌∙◌, subst, arith}
+use Rattle.std.proofs.Common.{◌≡◌, ℕ, Bool, false, List, length, inl, inr, refl, sym, ap, ◌∙◌, subst, arith}
 use Rattle.ncl_netlist.specs.declared.parts.Parts.{Parts}
 use Rattle.ncl_netlist.specs.declared.build_fault.BuildFault.{BuildFault}
 use Rattle.ncl_netlist.specs.declared.build_fault.BuildFault.TheVariants as build
 use Rattle.ncl_netlist.specs.Netlist.{NetlistData}
 use Rattle.ncl_netlist.specs.Parts.{netlist_of}
-use Rattle.ncl_netlist.specs.Faults.{IsFaultless, IsFaultOf}
+use Rattle.ncl_netlist.specs.Faults.{IsFaultOf}
 use Rattle.ncl_netlist.proofs.FaultLaws.{IsFaultOf-excludes, IsFaultOf-unique}
 use Rattle.ncl_reader.specs.declared.net_fault.NetFault.TheVariants.{Build}
 use Rattle.ncl_reader.specs.Reads.{Reads}

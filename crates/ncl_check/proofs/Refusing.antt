@@ -20,6 +20,10 @@ pub TellsLine-weaker : (kind other : List ℕ → Type 0) → ((text : List ℕ)
 TellsLine-weaker kind other follows (refusal.Told text) h = follows text.items h
 TellsLine-weaker kind other follows refusal.Memory h = tt
 
+-- what tells one line tells it where something holds besides
+pub TellsLine-with : {A : Type 0} → A → (line : List ℕ) → (r : Refusal) → TellsLine (λ text. text ≡ line) r → TellsLine (λ text. A × (text ≡ line)) r
+TellsLine-with {A} holds line r h = TellsLine-weaker (λ text. text ≡ line) (λ text. A × (text ≡ line)) (λ text is. (holds, is)) r h
+
 -- the first rule of shape that a netlist breaks is told
 pub shape_told : (n : NetlistData) → IsNetlist n → (fault : ShapeFault) → fault ≢ Memory → IsShapeFault n fault → IsShapeless n (shape_line n fault)
 shape_told n is (CellRule fault) own broken = record { is_netlist = is; fault = CellRule fault; broken = broken; told = refl }

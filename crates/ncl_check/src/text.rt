@@ -23,6 +23,18 @@ pub enum Refusal {
     Memory,
 }
 
+impl Refusal {
+    /// The refusal that tells a line, once that is made.
+    pub fn of(made: Result<Vec<u8>, Memory>) -> Refusal
+        ensures { (line : List ℕ) → IfOk made (λ text. text.items ≡ line) → TellsLine (λ text. text ≡ line) result }
+    {
+        match made {
+            Ok(text) => Refusal::Told(text),
+            Err(Memory) => Refusal::Memory,
+        }
+    }
+}
+
 /// The netlist of which the bytes are the text, or the line that tells the first thing that keeps them from being one.
 ///
 /// Costs as reading does: near linear in the bytes. The one other error is want of memory.
@@ -52,16 +64,6 @@ pub fn pipeline_in<'a>(alloc: Global, netlist: &'a Netlist) -> Result<Pipeline<'
     }
 }
 
-/// The line that was made.
-fn told(made: Result<Vec<u8>, Memory>) -> Refusal
-    ensures { (line : List ℕ) → IfOk made (λ text. text.items ≡ line) → TellsLine (λ text. text ≡ line) result }
-{
-    match made {
-        Ok(text) => Refusal::Told(text),
-        Err(Memory) => Refusal::Memory,
-    }
-}
-
 /// The line for more bytes than are read.
 fn too_long(alloc: Global) -> Refusal
     ensures { TellsLine (λ text. text ≡ line (codes "netlist: too long")) result }
@@ -78,7 +80,7 @@ fn unread(alloc: Global, fault: NetFault) -> Refusal
 {
     match fault {
         NetFault::Memory => Refusal::Memory,
-        fault => told(net_text(alloc, &fault)),
+        fault => Refusal::of(net_text(alloc, &fault)),
     }
 }
 
@@ -91,6 +93,6 @@ fn no_shape(alloc: Global, netlist: &Netlist, fault: ShapeFault) -> Refusal
     let _ = netlist.cells();
     match fault {
         ShapeFault::Memory => Refusal::Memory,
-        fault => told(shape_text(alloc, netlist, &fault)),
+        fault => Refusal::of(shape_text(alloc, netlist, &fault)),
     }
 }

@@ -1,5 +1,5 @@
 -- What the end of a timed run names is there.
-use Rattle.std.proofs.Common.{◌≡◌, ℕ, Bool, List, refl}
+use Rattle.std.proofs.Common.{◌≡◌, Bool, List, refl}
 use Rattle.ncl_shape.specs.Pipeline.{PipelineData}
 use Rattle.ncl_delay.specs.Delays.{DelaysData}
 use Rattle.ncl_sim.specs.declared.trace.End.{End}

@@ -5,9 +5,7 @@ use Rattle.ncl_netlist.specs.Netlist.{NetlistData}
 use Rattle.ncl_shape.specs.declared.item.Item.{Item}
 use Rattle.ncl_shape.specs.declared.item.Item.TheVariants.{Cell as Fire, Raise, Lower, Take, Ready}
 use Rattle.ncl_shape.specs.Pipeline.{PipelineData}
-use Rattle.ncl_machine.specs.declared.pair.Pair.{Pair}
 use Rattle.ncl_machine.specs.Held.{InRange}
-use Rattle.ncl_delay.specs.declared.fired.Fired.{Fired}
 use Rattle.ncl_sim.specs.declared.trace.Taken.{Taken}
 use Rattle.ncl_sim.specs.declared.trace.End.{End}
 use Rattle.ncl_sim.specs.declared.trace.End.TheVariants.{Quiet, Hazard, Over}

@@ -5,9 +5,8 @@ ghost use Rattle.ncl_machine.specs.Held.{InRange};
 ghost use Rattle.ncl_report.specs.Line.{line};
 ghost use Rattle.ncl_report.specs.WhyText.{IsWhyText, NamesItemsOf, explained_lines, item_words, shown_lines, step_line, step_lines};
 
-use crate::line::line_of;
+use crate::line::{line_of, push_word};
 use crate::traces::push_number;
-use crate::verdicts::push_word;
 use itoa::Buffer;
 use ncl_base::{Memory, Word};
 use ncl_hazard::{ExplainFault, Explained, explain};

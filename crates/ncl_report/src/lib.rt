@@ -19,6 +19,7 @@ pub use compile_faults::compile_text;
 pub use delay_faults::{delay_text, words_text};
 pub use demos::demo_text;
 pub use explanations::why_text;
+pub use line::{limit_text, push_word};
 pub use net_faults::net_text;
 pub use shape_faults::shape_text;
 pub use traces::trace_text;

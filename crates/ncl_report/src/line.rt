@@ -1,9 +1,10 @@
-//! Lines of two pieces.
-ghost use Rattle.std.specs.Prelude.{◌≡◌, ◌++◌, IfOk, decimal};
+//! Lines of a few pieces, and words in them.
+ghost use Rattle.std.specs.Prelude.{◌≡◌, ◌++◌, IfOk, OnOk, codes, decimal};
+ghost use Rattle.ncl_base.specs.Words.{character_of, text_of as word_text};
 ghost use Rattle.ncl_report.specs.Line.{line};
 
 use itoa::Buffer;
-use ncl_base::Memory;
+use ncl_base::{Memory, Word};
 use std::alloc::Global;
 
 /// The line of two pieces, one after the other. Fails where memory is refused. Linear in the line.
@@ -22,4 +23,37 @@ pub fn numbered_line(alloc: Global, front: &[u8], number: usize) -> Result<Vec<u
 {
     let mut digits = Buffer::new();
     line_of(alloc, front, digits.format(number).as_bytes())
+}
+
+/// The line for something that has more nodes than the limit: a piece and a number tell of what. Fails where memory is
+/// refused. Linear in the line.
+pub fn limit_text(alloc: Global, front: &[u8], number: u32, limit: u32) -> Result<Vec<u8>, Memory>
+    ensures { IfOk result (λ text. text.items
+        ≡ line (front.now ++ decimal number ++ codes ": more than " ++ decimal limit ++ codes " nodes")) }
+{
+    let mut digits = Buffer::new();
+    let mut text = Vec::from_slice(alloc, front)?;
+    text.extend_from_slice(digits.format(number).as_bytes())?;
+    text.extend_from_slice(b": more than ")?;
+    text.extend_from_slice(digits.format(limit).as_bytes())?;
+    text.extend_from_slice(b" nodes")?;
+    text.extend_from_slice(b"\n")?;
+    Ok(text)
+}
+
+/// Appends a word, its first bit leftmost. Linear in its bits.
+pub fn push_word(text: &mut Vec<u8>, word: &Word) -> Result<(), Memory>
+    ensures { OnOk result (text.new.items ≡ text.old.items ++ word_text word.now) }
+{
+    for bit in word.bits() {
+        text.push(character(*bit))?;
+    }
+    Ok(())
+}
+
+/// A bit as a character.
+fn character(bit: bool) -> u8
+    ensures { result ≡ character_of bit }
+{
+    if bit { b'1' } else { b'0' }
 }

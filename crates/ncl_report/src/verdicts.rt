@@ -1,9 +1,10 @@
 //! The line that tells a verdict on a pipeline.
 ghost use Rattle.std.specs.Prelude.{◌≡◌, ◌+◌, ◌<◌, ◌^◌, ◌++◌, IfOk, OnOk, codes, decimal, length};
-ghost use Rattle.ncl_base.specs.Words.{character_of, text_of as word_text};
+ghost use Rattle.ncl_base.specs.Words.{text_of as word_text};
 ghost use Rattle.ncl_report.specs.Line.{line};
 ghost use Rattle.ncl_report.specs.VerdictText.{verdict_line, refusal, NamesCellOf};
 
+use crate::line::{limit_text, push_word};
 use itoa::Buffer;
 use ncl_base::{Memory, Word};
 use ncl_shape::Pipeline;
@@ -49,7 +50,7 @@ pub fn verdict_text(
             let cell = &netlist.cells()[cell.0 as usize];
             refusal(alloc, *stage, b"orphan, cell ", cell.name.bytes(), word)
         }
-        Verdict::Limit { stage } => over_limit(alloc, *stage, limit),
+        Verdict::Limit { stage } => limit_text(alloc, b"limit stage ", *stage, limit),
     }
 }
 
@@ -91,36 +92,4 @@ fn refusal(
     push_word(&mut text, word)?;
     text.extend_from_slice(b"\n")?;
     Ok(text)
-}
-
-/// The line for a stage with more nodes than the limit.
-fn over_limit(alloc: Global, stage: u32, limit: u32) -> Result<Vec<u8>, Memory>
-    ensures { IfOk result (λ text. text.items
-        ≡ line (codes "limit stage " ++ decimal stage ++ codes ": more than " ++ decimal limit ++ codes " nodes")) }
-{
-    let mut digits = Buffer::new();
-    let mut text = Vec::from_slice(alloc, b"limit stage ")?;
-    text.extend_from_slice(digits.format(stage).as_bytes())?;
-    text.extend_from_slice(b": more than ")?;
-    text.extend_from_slice(digits.format(limit).as_bytes())?;
-    text.extend_from_slice(b" nodes")?;
-    text.extend_from_slice(b"\n")?;
-    Ok(text)
-}
-
-/// Appends a word, its first bit leftmost. Linear in its bits.
-pub(crate) fn push_word(text: &mut Vec<u8>, word: &Word) -> Result<(), Memory>
-    ensures { OnOk result (text.new.items ≡ text.old.items ++ word_text word.now) }
-{
-    for bit in word.bits() {
-        text.push(character(*bit))?;
-    }
-    Ok(())
-}
-
-/// A bit as a character.
-fn character(bit: bool) -> u8
-    ensures { result ≡ character_of bit }
-{
-    if bit { b'1' } else { b'0' }
 }

@@ -1,17 +1,34 @@
--- How what is refused comes to a reply.
-use Rattle.std.proofs.Common.{ℕ, List, Result, IfOk, sym, subst}
+-- How a file that is refused comes to what a command answers.
+use Rattle.std.proofs.Common.{◌≡◌, ℕ, ◌<◌, List, length, Option, Result, Ok, Err, sym, subst}
+use Rattle.std.specs.Prelude.{IsErrAnd}
+use Rattle.ncl_base.specs.Files.{Files}
+use Rattle.ncl_base.specs.declared.source.TheConstants.{MOST_BYTES}
 use Rattle.ncl_check.specs.declared.text.Refusal.{Refusal}
-use Rattle.ncl_check.specs.declared.text.Refusal.TheVariants.{Told, Memory}
+use Rattle.ncl_check.specs.declared.text.Refusal.TheVariants as refusal
 use Rattle.ncl_check.specs.Refusals.{TellsLine}
+use Rattle.ncl_top.specs.declared.fault.Fault.{Fault}
+use Rattle.ncl_top.specs.declared.fault.Fault.TheVariants as fault
 use Rattle.ncl_top.specs.declared.reply.Reply.{Reply}
-use Rattle.ncl_top.specs.declared.reply.Fault.{Fault}
-use Rattle.ncl_top.specs.Replies.{Gives, TellsRefusal}
-use Rattle.ncl_top.proofs.SimReplies.{gives_from}
+use Rattle.ncl_top.specs.Given.{IsGiven, IsTooLong}
+use Rattle.ncl_top.specs.Replies.{Refuses, Replies, fault_of}
 
-told_refusal : (kind : List ℕ → Type 0) (relation : ℕ → List ℕ → Type 0) → ((text : List ℕ) → kind text → relation 3 text) → (r : Refusal) → TellsLine kind r → (status : ℕ) (text : List ℕ) → TellsRefusal r status text → relation status text
-told_refusal kind relation follows (Told told) tells status text (three, is) = subst (λ s. relation s text) (sym three) (follows text (subst kind (sym is) tells))
-told_refusal kind relation follows Memory tells status text (three, none) = absurd none
+-- a line of one kind is of another that follows
+pub Refuses-weaker : (kind other : List ℕ → Type 0) → ((line : List ℕ) → kind line → other line) → (f : Fault) → Refuses kind f → Refuses other f
+Refuses-weaker kind other follows (fault.Refused line) h = follows line.items h
+Refuses-weaker kind other follows fault.Read h = tt
+Refuses-weaker kind other follows fault.Memory h = tt
 
--- where a line of this kind is a reply of status 3, so is what a refusal that tells such a line comes to
-pub refused_from : (kind : List ℕ → Type 0) (relation : ℕ → List ℕ → Type 0) → ((text : List ℕ) → kind text → relation 3 text) → (r : Refusal) → TellsLine kind r → (reply : Result Reply Fault) → IfOk reply (Gives (TellsRefusal r)) → IfOk reply (Gives relation)
-refused_from kind relation follows r tells reply h = gives_from (TellsRefusal r) relation (told_refusal kind relation follows r tells) reply h
+-- a fault that is handed on answers as it refuses
+Replies-refused : (kind : List ℕ → Type 0) (relation : ℕ → List ℕ → Type 0) → ((line : List ℕ) → kind line → relation 3 line) → (f : Fault) → Refuses kind f → (r : Result Reply Fault) → IsErrAnd r (λ e. e ≡ f) → Replies relation r
+Replies-refused kind relation follows f h (Ok reply) is = absurd is
+Replies-refused kind relation follows f h (Err e) is = subst (Refuses (relation 3)) (sym is) (Refuses-weaker kind (relation 3) follows f h)
+
+-- the answer to a file that has more bytes than are read
+pub Replies-long : (told : Option Files) (file long : List ℕ) (relation : ℕ → List ℕ → Type 0) → ((bytes : List ℕ) → IsGiven told file bytes → MOST_BYTES < length bytes → relation 3 long) → (f : Fault) → Refuses (λ line. (line ≡ long) × IsTooLong told file) f → (r : Result Reply Fault) → IsErrAnd r (λ e. e ≡ f) → Replies relation r
+Replies-long told file long relation follows f h r is =
+    Replies-refused (λ line. (line ≡ long) × IsTooLong told file) relation (λ line refused. subst (relation 3) (sym refused.0) (follows refused.1.bytes refused.1.given refused.1.many)) f h r is
+
+-- the answer to bytes that are refused with a line of some kind
+pub Replies-told : (kind : List ℕ → Type 0) (relation : ℕ → List ℕ → Type 0) → ((line : List ℕ) → kind line → relation 3 line) → (refusal : Refusal) → TellsLine kind refusal → (r : Result Reply Fault) → IsErrAnd r (λ e. e ≡ fault_of refusal) → Replies relation r
+Replies-told kind relation follows (refusal.Told line) tells r is = Replies-refused kind relation follows (fault.Refused line) tells r is
+Replies-told kind relation follows refusal.Memory tells r is = Replies-refused kind relation follows fault.Memory tt r is

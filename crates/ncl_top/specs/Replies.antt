@@ -1,10 +1,9 @@
 -- What the parts of a call give, as the whole call's relations see it.
-use Rattle.std.specs.Prelude.{◌≡◌, ℕ, List, Option}
-use Rattle.ncl_base.specs.Files.{Files}
+use Rattle.std.specs.Prelude.{ℕ, List, Result, Ok, Err}
 use Rattle.ncl_check.specs.declared.text.Refusal.{Refusal}
-use Rattle.ncl_check.specs.declared.text.Refusal.TheVariants.{Told, Memory}
-use Rattle.ncl_command.specs.Command.{Command}
-use Rattle.ncl_top.specs.Answer.{IsReply}
+use Rattle.ncl_check.specs.declared.text.Refusal.TheVariants as refusal
+use Rattle.ncl_top.specs.declared.fault.Fault.{Fault}
+use Rattle.ncl_top.specs.declared.fault.Fault.TheVariants as fault
 use Rattle.ncl_top.specs.declared.reply.Reply.{Reply}
 use Rattle.ncl_top.specs.declared.reply.Reply.TheVariants.{Made, Fixed}
 
@@ -13,15 +12,18 @@ abbrev pub Gives : (ℕ → List ℕ → Type 0) → Reply → Type 0
 Gives relation (Made status text) = relation status text.items
 Gives relation (Fixed status text) = relation status text.now
 
--- a reply to a command, where the source tells this of its files
-abbrev pub AnswersCommand : Option Files → Command → Reply → Type 0
-AnswersCommand told command reply = Gives (IsReply command told) reply
+-- the fault that a refusal of bytes is
+abbrev pub fault_of : Refusal → Fault
+fault_of (refusal.Told line) = fault.Refused line
+fault_of refusal.Memory = fault.Memory
 
--- the text is the line that a refusal tells; where memory was refused there is none
-abbrev pub IsToldBy : Refusal → List ℕ → Type 0
-IsToldBy (Told told) text = text ≡ told.items
-IsToldBy Memory text = ⊥
+-- where a file is refused, the line that tells why is of this kind; a source may fail and memory be refused at any time
+abbrev pub Refuses : (List ℕ → Type 0) → Fault → Type 0
+Refuses kind (fault.Refused line) = kind line.items
+Refuses kind fault.Read = Unit {0}
+Refuses kind fault.Memory = Unit {0}
 
--- the status and the text that a refusal comes to
-abbrev pub TellsRefusal : Refusal → ℕ → List ℕ → Type 0
-TellsRefusal refusal status text = (status ≡ 3) × IsToldBy refusal text
+-- a reply's status and text stand in a relation, and so do status 3 and the line of a file that is refused
+abbrev pub Replies : (ℕ → List ℕ → Type 0) → Result Reply Fault → Type 0
+Replies relation (Ok reply) = Gives relation reply
+Replies relation (Err fault) = Refuses (relation 3) fault

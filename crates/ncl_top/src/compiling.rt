@@ -1,5 +1,5 @@
 //! What `compile` replies to models.
-ghost use Rattle.std.specs.Prelude.{◌≡◌, ◌≢◌, true, false, IfOk, IsErrOf, OnOk};
+ghost use Rattle.std.specs.Prelude.{◌≡◌, ◌≢◌, true, false, IfOk, OnOk};
 ghost use Rattle.ncl_blif.specs.Model.{AreModels};
 ghost use Rattle.ncl_compile.specs.declared.fault.CompileFault.TheVariants.{Memory as CompileMemory};
 ghost use Rattle.ncl_report.specs.CompileText.{compile_line};
@@ -7,7 +7,7 @@ ghost use Rattle.ncl_compile.specs.Compiled.{Compiled};
 ghost use Rattle.ncl_top.specs.Compiling.{IsCompiledText, IsModelsReply};
 ghost use Rattle.ncl_top.specs.Replies.{Gives};
 
-use crate::reply::{Fault, Reply};
+use crate::reply::Reply;
 use ncl_base::Memory;
 use ncl_blif::Model;
 use ncl_compile::{CompileFault, compile};
@@ -21,10 +21,9 @@ use std::alloc::Global;
 /// from being compiled.
 ///
 /// Costs what compiling, merging and writing cost.
-pub fn compile_models(alloc: Global, models: &[Model], merged: bool) -> Result<Reply, Fault>
+pub fn compile_models(alloc: Global, models: &[Model], merged: bool) -> Result<Reply, Memory>
     requires { AreModels models.now }
-    ensures ok { IfOk result (Gives (IsModelsReply models.now merged)) }
-    ensures memory { IsErrOf result Fault.Read → ⊥ }
+    ensures { IfOk result (Gives (IsModelsReply models.now merged)) }
 {
     match compile(alloc, models) {
         Ok(netlist) => Ok(Reply::Made(0, compiled_text(alloc, models, &netlist, merged)?)),

@@ -1,12 +1,12 @@
 //! What `demo` replies.
-ghost use Rattle.std.specs.Prelude.{◌≡◌, ◌≤◌, ◌++◌, ℕ, IfOk, IsErrOf};
+ghost use Rattle.std.specs.Prelude.{◌≡◌, ◌≤◌, ◌++◌, ℕ, IfOk};
 ghost use Rattle.ncl_verdict.specs.declared.verdict.Verdict.TheVariants.{Accepted as IsAccepted, Limit as PassesLimit};
 ghost use Rattle.ncl_check.specs.Reply.{verdict_on};
 ghost use Rattle.ncl_command.specs.declared.command.TheConstants.{MOST_NODES as LIMIT};
 ghost use Rattle.ncl_top.specs.Replies.{Gives};
 ghost use Rattle.ncl_top.specs.Demonstrating.{IsDemoNetlist, IsDemoPipeline, IsDemoReply};
 
-use crate::reply::{Fault, Reply};
+use crate::reply::Reply;
 use ncl_base::Memory;
 use ncl_check::PARTS;
 use ncl_command::MOST_NODES;
@@ -32,10 +32,9 @@ pub fn demonstrate<R: Threads + Sync, J: Judge + Sync>(
     alloc: Global,
     judge: &J,
     bits: u32,
-) -> Result<Reply, Fault>
+) -> Result<Reply, Memory>
     requires { (1 ≤ bits) × (bits ≤ 32) }
-    ensures ok { IfOk result (Gives (IsDemoReply bits)) }
-    ensures memory { IsErrOf result Fault.Read → ⊥ }
+    ensures { IfOk result (Gives (IsDemoReply bits)) }
 {
     let netlist = demo_netlist(alloc, bits)?;
     let pipeline = demo_pipeline(alloc, &netlist, bits)?;
@@ -43,30 +42,28 @@ pub fn demonstrate<R: Threads + Sync, J: Judge + Sync>(
 }
 
 /// The netlist that is compiled from the models of the adder of so many bits.
-fn demo_netlist(alloc: Global, bits: u32) -> Result<Netlist, Fault>
+fn demo_netlist(alloc: Global, bits: u32) -> Result<Netlist, Memory>
     requires { (1 ≤ bits) × (bits ≤ 32) }
-    ensures netlist { IfOk result (IsDemoNetlist bits) }
-    ensures memory { IsErrOf result Fault.Read → ⊥ }
+    ensures { IfOk result (IsDemoNetlist bits) }
 {
     let models = demo_models(alloc, bits)?;
     match compile(alloc, &models) {
         Ok(netlist) => Ok(netlist),
-        Err(CompileFault::Memory) => Err(Fault::Memory),
+        Err(CompileFault::Memory) => Err(Memory),
         Err(_) => unreachable!(),
     }
 }
 
 /// The pipeline of that netlist.
-fn demo_pipeline<'a>(alloc: Global, netlist: &'a Netlist, bits: u32) -> Result<Pipeline<'a>, Fault>
+fn demo_pipeline<'a>(alloc: Global, netlist: &'a Netlist, bits: u32) -> Result<Pipeline<'a>, Memory>
     requires { IsDemoNetlist bits netlist.now }
-    ensures pipeline { IfOk result (λ p. IsDemoPipeline bits p) }
-    ensures memory { IsErrOf result Fault.Read → ⊥ }
+    ensures { IfOk result (λ p. IsDemoPipeline bits p) }
 {
     let _ = bits;
     match shape(alloc, netlist) {
         Ok(pipeline) => Ok(pipeline),
         Err(fault) => match fault {
-            ShapeFault::Memory => Err(Fault::Memory),
+            ShapeFault::Memory => Err(Memory),
             _ => unreachable!(),
         },
     }
@@ -79,11 +76,10 @@ fn judged<R: Threads + Sync, J: Judge + Sync>(
     judge: &J,
     pipeline: &Pipeline,
     bits: u32,
-) -> Result<Reply, Fault>
+) -> Result<Reply, Memory>
     requires bits { (1 ≤ bits) × (bits ≤ 32) }
     requires pipeline { IsDemoPipeline bits pipeline.now }
-    ensures ok { IfOk result (Gives (IsDemoReply bits)) }
-    ensures memory { IsErrOf result Fault.Read → ⊥ }
+    ensures { IfOk result (Gives (IsDemoReply bits)) }
 {
     let verdict = judge_par(rt, alloc, judge, pipeline, MOST_NODES, PARTS)?;
     match &verdict {
@@ -94,12 +90,11 @@ fn judged<R: Threads + Sync, J: Judge + Sync>(
 }
 
 /// The reply to the demo of a pipeline that is accepted: its run.
-fn shown(alloc: Global, pipeline: &Pipeline, bits: u32) -> Result<Reply, Fault>
+fn shown(alloc: Global, pipeline: &Pipeline, bits: u32) -> Result<Reply, Memory>
     requires bits { (1 ≤ bits) × (bits ≤ 32) }
     requires pipeline { IsDemoPipeline bits pipeline.now }
     requires accepted { verdict_on LIMIT pipeline.now ≡ IsAccepted }
-    ensures ok { IfOk result (Gives (IsDemoReply bits)) }
-    ensures memory { IsErrOf result Fault.Read → ⊥ }
+    ensures { IfOk result (Gives (IsDemoReply bits)) }
 {
     let words = demo_words(alloc, bits)?;
     let delays = Delays::unit(alloc);
@@ -114,11 +109,10 @@ fn too_large(
     pipeline: &Pipeline,
     verdict: &Verdict,
     bits: u32,
-) -> Result<Reply, Fault>
+) -> Result<Reply, Memory>
     requires pipeline { IsDemoPipeline bits pipeline.now }
     requires limit { (stage : ℕ) × (verdict.now ≡ PassesLimit stage) × (verdict_on LIMIT pipeline.now ≡ PassesLimit stage) }
-    ensures ok { IfOk result (Gives (IsDemoReply bits)) }
-    ensures memory { IsErrOf result Fault.Read → ⊥ }
+    ensures { IfOk result (Gives (IsDemoReply bits)) }
 {
     let _ = bits;
     let line = verdict_text(alloc, pipeline, verdict, MOST_NODES)?;

@@ -3,10 +3,12 @@
 
 mod compiling;
 mod demonstrating;
+mod fault;
+mod files;
 mod loading;
 mod match_text;
 mod matching;
-mod models;
+mod reading;
 mod reply;
 mod simulating;
 mod top;

@@ -1,13 +1,13 @@
 //! The lines that tell what a comparison finds.
-ghost use Rattle.std.specs.Prelude.{◌≡◌, ◌++◌, IfOk, OnOk};
-ghost use Rattle.ncl_base.specs.Words.{character_of, text_of};
+ghost use Rattle.std.specs.Prelude.{◌≡◌, IfOk};
 ghost use Rattle.ncl_match.specs.Circuit.{circuit_of};
-ghost use Rattle.ncl_top.specs.Matching.{differ_line, limit_line, widths_line};
+ghost use Rattle.ncl_top.specs.Matching.{differ_line, widths_line};
 
 use itoa::Buffer;
 use ncl_base::{Memory, Word};
 use ncl_blif::Model;
 use ncl_match::{first_width, last_width};
+use ncl_report::push_word;
 use ncl_shape::Pipeline;
 use std::alloc::Global;
 
@@ -28,20 +28,6 @@ pub fn widths_text(alloc: Global, pipeline: &Pipeline, models: &[Model]) -> Resu
     Ok(text)
 }
 
-/// The line for an output, from 1, that has more nodes than the limit. Fails where memory is refused.
-pub fn limit_text(alloc: Global, output: u32, limit: u32) -> Result<Vec<u8>, Memory>
-    ensures { IfOk result (λ text. text.items ≡ limit_line output limit) }
-{
-    let mut digits = Buffer::new();
-    let mut text = Vec::from_slice(alloc, b"limit output ")?;
-    text.extend_from_slice(digits.format(output).as_bytes())?;
-    text.extend_from_slice(b": more than ")?;
-    text.extend_from_slice(digits.format(limit).as_bytes())?;
-    text.extend_from_slice(b" nodes")?;
-    text.extend_from_slice(b"\n")?;
-    Ok(text)
-}
-
 /// The line for functions that differ at a word in an output, from 1. Fails where memory is refused. Linear in the word.
 pub fn differ_text(alloc: Global, word: &Word, output: u32) -> Result<Vec<u8>, Memory>
     ensures { IfOk result (λ text. text.items ≡ differ_line word.now output) }
@@ -53,21 +39,4 @@ pub fn differ_text(alloc: Global, word: &Word, output: u32) -> Result<Vec<u8>, M
     text.extend_from_slice(digits.format(output).as_bytes())?;
     text.extend_from_slice(b"\n")?;
     Ok(text)
-}
-
-/// Appends a word, its first bit leftmost. Linear in its bits.
-fn push_word(text: &mut Vec<u8>, word: &Word) -> Result<(), Memory>
-    ensures { OnOk result (text.new.items ≡ text.old.items ++ text_of word.now) }
-{
-    for bit in word.bits() {
-        text.push(character(*bit))?;
-    }
-    Ok(())
-}
-
-/// A bit as a character.
-fn character(bit: bool) -> u8
-    ensures { result ≡ character_of bit }
-{
-    if bit { b'1' } else { b'0' }
 }

@@ -5,7 +5,8 @@ ghost use Rattle.ncl_top.specs.Answer.{Says, CameOut, AcceptsWhatWorks};
 ghost use Rattle.ncl_top.specs.Answered.{IsAnswered};
 ghost use Rattle.ncl_top.specs.Replies.{Gives};
 
-use crate::reply::{Fault, Reply, carry_out};
+use crate::fault::Fault;
+use crate::reply::{Reply, carry_out};
 use ncl_base::{Sink, Source, deliver};
 use ncl_command::Command;
 use ncl_verdict::{Judge, Stages};
@@ -96,6 +97,7 @@ fn answer<R: Threads + Sync, S: Source, J: Judge + Sync>(
     };
     match carry_out(rt, alloc, source, judge, command) {
         Ok(reply) => reply,
+        Err(Fault::Refused(line)) => Reply::Made(3, line),
         Err(Fault::Read) => Reply::Fixed(4, b"read failed\n"),
         Err(Fault::Memory) => Reply::Fixed(7, b"out of memory\n"),
     }

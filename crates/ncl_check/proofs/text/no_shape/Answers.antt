@@ -13,4 +13,4 @@ returns-in_default c =
     let n = c.args.netlist.now in
     let line = shape_line n c.args.fault in
     TellsLine-weaker (λ text. text ≡ line) (IsShapeless n) (λ text is. subst (IsShapeless n) (sym is) (shape_told n c.cells.ensures.netlist c.args.fault c.in_default.not-Memory c.requires))
-    c.told.result (c.told.ensures line c.shape_text.ensures)
+    c.of.result (c.of.ensures line c.shape_text.ensures)

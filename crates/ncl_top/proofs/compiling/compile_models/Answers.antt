@@ -2,11 +2,11 @@ use Rattle.std.proofs.Common.{sym, subst}
 use Rattle.ncl_top.specs.Compiling.{IsModelsReply, too_large, compiled}
 use Rattle.ncl_top.proofs.compiling.compile_models.Goals as goal
 
-pub returns-in_ok-compiled_text-in-Ok-clause-ok : goal.returns-in_ok-compiled_text-in-Ok-clause-ok
-returns-in_ok-compiled_text-in-Ok-clause-ok c =
+pub returns-in_ok-compiled_text-in-Ok : goal.returns-in_ok-compiled_text-in-Ok
+returns-in_ok-compiled_text-in-Ok c =
     compiled c.in-Ok.ensures.small c.in-Ok.netlist c.in-Ok.ensures.compiled c.in_ok-compiled_text-in-Ok.field-0.items c.in_ok-compiled_text-in-Ok.ensures
 
-pub returns-in_ok-too_large_text-in-Err-clause-ok : goal.returns-in_ok-too_large_text-in-Err-clause-ok
-returns-in_ok-too_large_text-in-Err-clause-ok c =
+pub returns-in_ok-too_large_text-in-Err : goal.returns-in_ok-too_large_text-in-Err
+returns-in_ok-too_large_text-in-Err c =
     subst (λ text. IsModelsReply c.args.models.now c.args.merged 3 text) (sym c.in_ok-too_large_text-in-Err.ensures.text)
     (too_large c.in-Err.fault c.in_ok-too_large_text-in-Err.ensures.memory c.in-Err.ensures.fault)

@@ -18,8 +18,8 @@ simulate-requires-clause-wide c =
 pub demo_text-requires : goal.demo_text-requires
 demo_text-requires c = names_item c.args.pipeline.now c.unit-delays.result c.deref.result.now c.in_ok-trace.trace c.in_ok-trace.ensures.run
 
-pub returns-clause-ok : goal.returns-clause-ok
-returns-clause-ok c =
+pub returns : goal.returns
+returns c =
     let p = c.args.pipeline.now in
     let t = c.in_ok-trace.trace in
     let words = c.deref.ensures.value ∙ c.in_ok-words.ensures.words in

@@ -12,8 +12,8 @@ write_netlist-requires c =
     let made = c.requires.pipeline.made in
     subst IsWritable (sym c.netlist.ensures.netlist) (writable made.models c.args.pipeline.now.netlist made.compiled)
 
-pub returns-clause-ok : goal.returns-clause-ok
-returns-clause-ok c =
+pub returns : goal.returns
+returns c =
     let p = c.args.pipeline.now in
     let (stage, told, over) = c.requires.limit in
     let line = c.in_ok-line.ensures ∙ ap (verdict_line p.netlist (length p.stages) MOST_NODES) (told ∙ sym over) in

@@ -1,5 +1,7 @@
-use Rattle.std.proofs.Common.{Err, ap, rules}
-use Rattle.ncl_top.specs.Answer.{answered, not_understood, read_failed, no_memory}
+use Rattle.std.proofs.Common.{Err, ap, rules, subst}
+use Rattle.ncl_command.specs.Meaning.{command_meant}
+use Rattle.ncl_top.specs.Answer.{IsReply, answered, replied, not_understood, read_failed, no_memory}
+use Rattle.ncl_top.specs.Replies.{Refuses}
 use Rattle.ncl_top.proofs.Saying.{says_reply}
 use Rattle.ncl_top.proofs.top.answer.Goals as goal
 
@@ -10,7 +12,13 @@ pub returns-in-Ok-None-clause-says : goal.returns-in-Ok-None-clause-says
 returns-in-Ok-None-clause-says g c = answered 2 _ (not_understood (search rules))
 
 pub returns-in-Ok-clause-says : goal.returns-in-Ok-clause-says
-returns-in-Ok-clause-says g c = says_reply _ _ _ _ c.in-Ok.reply (search rules) c.in-Ok.ensures.ok
+returns-in-Ok-clause-says g c = says_reply _ _ _ _ c.in-Ok.reply (search rules) c.in-Ok.ensures.replies
+
+pub returns-in-Err-Refused-clause-says : goal.returns-in-Err-Refused-clause-says
+returns-in-Err-Refused-clause-says g c =
+    let command = command_meant c.in-Ok-Some.command in
+    let relation = IsReply command (g.S.Source.files c.args.source.now) in
+    answered 3 _ (replied command (search rules) 3 c.in-Err-Refused.line.items (subst (Refuses (relation 3)) c.in-Err-Refused.field-0-is c.in-Err-Refused.ensures.replies))
 
 pub returns-in-Err-Read-clause-says : goal.returns-in-Err-Read-clause-says
 returns-in-Err-Read-clause-says g c =

@@ -2,12 +2,4 @@
 #![tactic(auto)]
 
 #[cfg(test)]
-mod blif_tests;
-#[cfg(test)]
-mod decomp_tests;
-#[cfg(test)]
-mod network_tests;
-#[cfg(test)]
-mod networks;
-#[cfg(test)]
-mod signal_tests;
+mod tests;

@@ -1,5 +1,5 @@
 //! Tests of the folding, by texts and counts that were worked out by hand.
-use crate::networks::network;
+use super::networks::network;
 use ncl_network::Network;
 use std::process::Abort;
 use std::test::Fail;

@@ -1,5 +1,5 @@
 //! Tests of the reader of models, on long texts.
-use crate::networks::models;
+use super::networks::models;
 use ncl_base::MOST_BYTES;
 use ncl_blif::{BlifFault, read_blif};
 use std::process::Abort;

@@ -1,5 +1,5 @@
 //! Tests of splitting, by texts and counts that were worked out by hand.
-use crate::networks::network;
+use super::networks::network;
 use ncl_decomp::split;
 use ncl_network::{Network, SignalSource};
 use std::alloc::AllocError;

@@ -1,0 +1,6 @@
+//! The tests, a file for each crate, and what they share.
+mod blif_tests;
+mod decomp_tests;
+mod network_tests;
+mod networks;
+mod signal_tests;

@@ -9,7 +9,7 @@ use Rattle.clap.specs.Lexer.{usize_max}
 use Rattle.clap.specs.Walk.{Held, Rule, Row, Waiting, Walk, idle, option, finished, value as to_place, settled_rows, subcommand_met, used_by_id, walked}
 use Rattle.clap.specs.Walk.{with_default, arg_by_id, arg_by_long, is_pending, pushed, to_positional, used, after_flag, after_step, long_met, nothing_held, rows_after}
 use Rattle.clap.specs.Walk.{settled as settled_held}
-use Rattle.clap.specs.Faults.{built_fault, entered_fault, fault_of, level_fault, check_fault, defaults_fault, long_fault, option_fault, positional_fault, settle_fault, step_fault, stray_fault, turn_fault, use_fault, walk_fault}
+use Rattle.clap.specs.Faults.{built_fault, entered_fault, fault_of, level_fault, check_fault, defaults_fault, long_fault, positional_fault, settle_fault, step_fault, stray_fault, turn_fault, use_fault, walk_fault}
 use Rattle.clap.specs.Simple.{App, entered, matches_of, names_of}
 use Rattle.clap.specs.Kinds.{Kinds, or_else, check_kinds}
 use Rattle.ncl_command.specs.Reading.{Text, Arguments, Form, FormOption, NamedValue, Reading, ArgumentKind, Refused, Plain, Named, Valued, after_name, after_value, given_flag, is_given, has_option, option_named, has_needed, kind_of}

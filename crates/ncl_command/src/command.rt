@@ -1,9 +1,9 @@
 //! Commands, and how they are read from arguments.
 ghost use Rattle.std.specs.Prelude.{◌≡◌, ◌≤◌, map, option_map, option_and_then, IfOk, IfSome};
-ghost use Rattle.ncl_command.specs.Command.{command_of, check_form, check_of, compile_form, compile_of, sim_form, sim_of, match_form, match_of, demo_form, demo_of};
+ghost use Rattle.ncl_command.specs.Command.{command_of, check_of, compile_of, sim_of, match_of, demo_of, form_of};
 ghost use Rattle.ncl_command.specs.Command.{is_set, limit_of, HasLimit, HasBits};
-ghost use Rattle.ncl_command.specs.Reading.{values_of};
-ghost use Rattle.ncl_command.specs.Meaning.{command_meant, values_found};
+ghost use Rattle.ncl_command.specs.Reading.{Arguments, values_of};
+ghost use Rattle.ncl_command.specs.Meaning.{command_by, command_meant, command_said, form_read, values_found};
 
 use crate::form::{FormOption, form_values};
 use crate::number::counted;
@@ -75,9 +75,7 @@ fn is_set(values: &ArgMatches<'_>, flag: &str) -> bool
 
 /// The check that the values say.
 fn check<'a>(values: &ArgMatches<'a>) -> Option<Command<'a>>
-    ensures command { option_map command_meant result ≡ check_of (values_found values.now) }
-    ensures limit { IfSome result (λ c. HasLimit (command_meant c)) }
-    ensures bits { IfSome result (λ c. HasBits (command_meant c)) }
+    ensures { option_map command_meant result ≡ check_of (values_found values.now) }
 {
     let file = values.get_str("file")?;
     let limit = limit(values.get_str("limit"))?;
@@ -87,9 +85,7 @@ fn check<'a>(values: &ArgMatches<'a>) -> Option<Command<'a>>
 
 /// The compilation that the values say.
 fn compile<'a>(values: &ArgMatches<'a>) -> Option<Command<'a>>
-    ensures command { option_map command_meant result ≡ compile_of (values_found values.now) }
-    ensures limit { IfSome result (λ c. HasLimit (command_meant c)) }
-    ensures bits { IfSome result (λ c. HasBits (command_meant c)) }
+    ensures { option_map command_meant result ≡ compile_of (values_found values.now) }
 {
     let file = values.get_str("file")?;
     let merge = is_set(values, "merge");
@@ -98,9 +94,7 @@ fn compile<'a>(values: &ArgMatches<'a>) -> Option<Command<'a>>
 
 /// The simulation that the values say.
 fn sim<'a>(values: &ArgMatches<'a>) -> Option<Command<'a>>
-    ensures command { option_map command_meant result ≡ sim_of (values_found values.now) }
-    ensures limit { IfSome result (λ c. HasLimit (command_meant c)) }
-    ensures bits { IfSome result (λ c. HasBits (command_meant c)) }
+    ensures { option_map command_meant result ≡ sim_of (values_found values.now) }
 {
     let netlist = values.get_str("netlist")?;
     let delays = values.get_str("delays")?;
@@ -116,9 +110,7 @@ fn sim<'a>(values: &ArgMatches<'a>) -> Option<Command<'a>>
 
 /// The comparison that the values say.
 fn matching<'a>(values: &ArgMatches<'a>) -> Option<Command<'a>>
-    ensures command { option_map command_meant result ≡ match_of (values_found values.now) }
-    ensures limit { IfSome result (λ c. HasLimit (command_meant c)) }
-    ensures bits { IfSome result (λ c. HasBits (command_meant c)) }
+    ensures { option_map command_meant result ≡ match_of (values_found values.now) }
 {
     let netlist = values.get_str("netlist")?;
     let blif = values.get_str("blif")?;
@@ -132,97 +124,85 @@ fn matching<'a>(values: &ArgMatches<'a>) -> Option<Command<'a>>
 
 /// The demo that the values say.
 fn demo<'a>(values: &ArgMatches<'a>) -> Option<Command<'a>>
-    ensures command { option_map command_meant result ≡ demo_of (values_found values.now) }
-    ensures limit { IfSome result (λ c. HasLimit (command_meant c)) }
-    ensures bits { IfSome result (λ c. HasBits (command_meant c)) }
+    ensures { option_map command_meant result ≡ demo_of (values_found values.now) }
 {
     let bits = counted(values.get_str("bits")?, 2, MOST_DEMO_BITS)?;
     Some(Command::Demo { bits })
 }
 
-/// `check FILE [--limit N] [--why]`.
-fn check_arguments<'a>(
-    alloc: Global,
-    arguments: &'a [&'a str],
-) -> Result<Option<Command<'a>>, Memory>
-    ensures command { IfOk result (λ command. option_map command_meant command
-        ≡ option_and_then check_of (values_of check_form (map (λ argument. argument.now) arguments.now))) }
-    ensures limit { IfOk result (λ command. IfSome command (λ c. HasLimit (command_meant c))) }
-    ensures bits { IfOk result (λ command. IfSome command (λ c. HasBits (command_meant c))) }
-{
-    let options = [FormOption::optional("limit"), FormOption::flag("why")];
-    match form_values(alloc, &["file"], &options, arguments)? {
-        Some(values) => Ok(check(&values)),
-        None => Ok(None),
-    }
+/// The form of the arguments that follow a command's name.
+#[derive(Clone, Copy, Debug)]
+enum Form {
+    /// `check FILE [--limit N] [--why]`.
+    Check,
+    /// `compile FILE [--merge]`.
+    Compile,
+    /// `sim FILE --delays FILE --words FILE [--vcd]`.
+    Sim,
+    /// `match FILE FILE [--limit N]`.
+    Match,
+    /// `demo N`.
+    Demo,
 }
 
-/// `compile FILE [--merge]`.
-fn compile_arguments<'a>(
-    alloc: Global,
-    arguments: &'a [&'a str],
-) -> Result<Option<Command<'a>>, Memory>
-    ensures command { IfOk result (λ command. option_map command_meant command
-        ≡ option_and_then compile_of (values_of compile_form (map (λ argument. argument.now) arguments.now))) }
-    ensures limit { IfOk result (λ command. IfSome command (λ c. HasLimit (command_meant c))) }
-    ensures bits { IfOk result (λ command. IfSome command (λ c. HasBits (command_meant c))) }
-{
-    let options = [FormOption::flag("merge")];
-    match form_values(alloc, &["file"], &options, arguments)? {
-        Some(values) => Ok(compile(&values)),
-        None => Ok(None),
+impl Form {
+    /// The form of the command of this name, if there is one.
+    fn named(name: &str) -> Option<Form>
+        ensures { (arguments : Arguments) → form_of name.now arguments ≡ option_and_then (λ form. command_by form arguments) result }
+    {
+        match name {
+            "check" => Some(Form::Check),
+            "compile" => Some(Form::Compile),
+            "sim" => Some(Form::Sim),
+            "match" => Some(Form::Match),
+            "demo" => Some(Form::Demo),
+            _ => None,
+        }
     }
-}
 
-/// `sim FILE --delays FILE --words FILE [--vcd]`.
-fn sim_arguments<'a>(alloc: Global, arguments: &'a [&'a str]) -> Result<Option<Command<'a>>, Memory>
-    ensures command { IfOk result (λ command. option_map command_meant command
-        ≡ option_and_then sim_of (values_of sim_form (map (λ argument. argument.now) arguments.now))) }
-    ensures limit { IfOk result (λ command. IfSome command (λ c. HasLimit (command_meant c))) }
-    ensures bits { IfOk result (λ command. IfSome command (λ c. HasBits (command_meant c))) }
-{
-    let options = [
-        FormOption::needed("delays"),
-        FormOption::needed("words"),
-        FormOption::flag("vcd"),
-    ];
-    match form_values(alloc, &["netlist"], &options, arguments)? {
-        Some(values) => Ok(sim(&values)),
-        None => Ok(None),
+    /// The values of the form's names in the arguments, or `None` where they aren't of the form.
+    fn values<'a>(
+        self,
+        alloc: Global,
+        arguments: &'a [&'a str],
+    ) -> Result<Option<ArgMatches<'a>>, Memory>
+        ensures { IfOk result (λ found. option_map values_found found ≡ values_of (form_read self) (map (λ argument. argument.now) arguments.now)) }
+    {
+        match self {
+            Form::Check => {
+                let options = [FormOption::Optional("limit"), FormOption::Flag("why")];
+                form_values(alloc, &["file"], &options, arguments)
+            }
+            Form::Compile => {
+                form_values(alloc, &["file"], &[FormOption::Flag("merge")], arguments)
+            }
+            Form::Sim => {
+                let options = [
+                    FormOption::Needed("delays"),
+                    FormOption::Needed("words"),
+                    FormOption::Flag("vcd"),
+                ];
+                form_values(alloc, &["netlist"], &options, arguments)
+            }
+            Form::Match => {
+                let options = [FormOption::Optional("limit")];
+                form_values(alloc, &["netlist", "blif"], &options, arguments)
+            }
+            Form::Demo => form_values(alloc, &["bits"], &[], arguments),
+        }
     }
-}
 
-/// `match FILE FILE [--limit N]`.
-fn match_arguments<'a>(
-    alloc: Global,
-    arguments: &'a [&'a str],
-) -> Result<Option<Command<'a>>, Memory>
-    ensures command { IfOk result (λ command. option_map command_meant command
-        ≡ option_and_then match_of (values_of match_form (map (λ argument. argument.now) arguments.now))) }
-    ensures limit { IfOk result (λ command. IfSome command (λ c. HasLimit (command_meant c))) }
-    ensures bits { IfOk result (λ command. IfSome command (λ c. HasBits (command_meant c))) }
-{
-    let options = [FormOption::optional("limit")];
-    match form_values(alloc, &["netlist", "blif"], &options, arguments)? {
-        Some(values) => Ok(matching(&values)),
-        None => Ok(None),
-    }
-}
-
-/// `demo N`.
-fn demo_arguments<'a>(
-    alloc: Global,
-    arguments: &'a [&'a str],
-) -> Result<Option<Command<'a>>, Memory>
-    ensures command { IfOk result (λ command. option_map command_meant command
-        ≡ option_and_then demo_of (values_of demo_form (map (λ argument. argument.now) arguments.now))) }
-    ensures limit { IfOk result (λ command. IfSome command (λ c. HasLimit (command_meant c))) }
-    ensures bits { IfOk result (λ command. IfSome command (λ c. HasBits (command_meant c))) }
-{
-    let options: [FormOption<'a>; 0] = [];
-    match form_values(alloc, &["bits"], &options, arguments)? {
-        Some(values) => Ok(demo(&values)),
-        None => Ok(None),
+    /// The command that the values of the form's names say.
+    fn command<'a>(self, values: &ArgMatches<'a>) -> Option<Command<'a>>
+        ensures { option_map command_meant result ≡ command_said self (values_found values.now) }
+    {
+        match self {
+            Form::Check => check(values),
+            Form::Compile => compile(values),
+            Form::Sim => sim(values),
+            Form::Match => matching(values),
+            Form::Demo => demo(values),
+        }
     }
 }
 
@@ -236,13 +216,12 @@ impl<'a> Command<'a> {
         let [name, rest @ ..] = arguments else {
             return Ok(None);
         };
-        match *name {
-            "check" => check_arguments(alloc, rest),
-            "compile" => compile_arguments(alloc, rest),
-            "sim" => sim_arguments(alloc, rest),
-            "match" => match_arguments(alloc, rest),
-            "demo" => demo_arguments(alloc, rest),
-            _ => Ok(None),
+        let Some(form) = Form::named(name) else {
+            return Ok(None);
+        };
+        match form.values(alloc, rest)? {
+            Some(values) => Ok(form.command(&values)),
+            None => Ok(None),
         }
     }
 }

@@ -4,7 +4,6 @@ ghost use Rattle.std.specs.List.{list_any};
 ghost use Rattle.clap.specs.Simple.{app_of};
 ghost use Rattle.clap.specs.Walk.{rule_of};
 ghost use Rattle.ncl_command.specs.Reading.{is_apart, is_refused, is_refused_kind, option_kind, values_of};
-ghost use Rattle.ncl_command.specs.Command.{flag, needed, optional};
 ghost use Rattle.ncl_command.specs.Rules.{app_for, option_rule, place_rule};
 ghost use Rattle.ncl_command.specs.Meaning.{form_meant, option_meant, values_found};
 
@@ -13,48 +12,15 @@ use clap::{Arg, ArgAction, ArgMatches, Command};
 use ncl_base::Memory;
 use std::alloc::{AllocError, Global};
 
-/// An option of a form.
+/// An option of a form, by its name.
 #[derive(Clone, Copy, Debug)]
-pub struct FormOption<'a> {
-    pub name: &'a str,
-    pub is_needed: bool,
+pub enum FormOption<'a> {
+    /// It may be given, with a value.
+    Optional(&'a str),
+    /// It must be given, with a value.
+    Needed(&'a str),
     /// It takes no value, and says only whether it was given.
-    pub is_flag: bool,
-}
-
-impl<'a> FormOption<'a> {
-    /// An option that may be given.
-    pub fn optional(name: &'a str) -> FormOption<'a>
-        ensures { option_meant result ≡ optional name.now }
-    {
-        FormOption {
-            name,
-            is_needed: false,
-            is_flag: false,
-        }
-    }
-
-    /// An option that must be given.
-    pub fn needed(name: &'a str) -> FormOption<'a>
-        ensures { option_meant result ≡ needed name.now }
-    {
-        FormOption {
-            name,
-            is_needed: true,
-            is_flag: false,
-        }
-    }
-
-    /// An option that takes no value.
-    pub fn flag(name: &'a str) -> FormOption<'a>
-        ensures { option_meant result ≡ flag name.now }
-    {
-        FormOption {
-            name,
-            is_needed: false,
-            is_flag: true,
-        }
-    }
+    Flag(&'a str),
 }
 
 /// Whether no form has an argument that has this after two dashes.
@@ -93,13 +59,10 @@ fn option_arg(alloc: Global, option: FormOption<'_>) -> Arg<'_>
     ensures rule { rule_of result ≡ option_rule (option_meant option.entry) }
     ensures local { result.global ≡ false }
 {
-    let arg = Arg::new(alloc, option.name)
-        .long(option.name)
-        .required(option.is_needed);
-    if option.is_flag {
-        arg.action(ArgAction::SetTrue)
-    } else {
-        arg
+    match option {
+        FormOption::Optional(name) => Arg::new(alloc, name).long(name),
+        FormOption::Needed(name) => Arg::new(alloc, name).long(name).required(true),
+        FormOption::Flag(name) => Arg::new(alloc, name).long(name).action(ArgAction::SetTrue),
     }
 }
 

@@ -3,9 +3,9 @@ use Rattle.std.proofs.Common.{◌≡◌, ℕ, ◌+◌, ◌<◌, ◌≤◌, Bool,
 use Rattle.std.specs.List.{list_any, IsDistinct, AllByRecursion}
 use Rattle.std.specs.Cmp.{IsEquivalence, nat_eq_equiv}
 use Rattle.std.specs.Cmp.Lexicographic.{lists_equiv, same_text}
-use Rattle.std.proofs.lemmas.List.{append-nil, take_at, map-append}
+use Rattle.std.proofs.lemmas.List.{append-nil, take_at, map-append, map_more}
 use Rattle.std.proofs.lemmas.List.Folds.{list_any-append}
-use Rattle.std.proofs.lemmas.List.Sums.{fold-append, position_or_len_is, passes_at_first}
+use Rattle.std.proofs.lemmas.List.Sums.{fold-append, fold_push, position_or_len_is, passes_at_first}
 use Rattle.std.proofs.lemmas.Map.Keys.{IsDistinct-head, IsDistinct-tail, apart_from_distinct, IsDistinct-push}
 use Rattle.std.proofs.lemmas.Grind.{common_steps}
 use Rattle.indexmap.specs.IndexSet.{insert_key, insert_all}
@@ -108,6 +108,14 @@ insert_all-grows ks (x ∷ xs) = by (list_any (same_name x) ks) refl (λ l. inse
         ∙ append_assoc ks (x ∷ []) (filter (fresh (ks ++ x ∷ [])) (once_each xs))
         ∙ ap (λ l. ks ++ (x ∷ l)) (sym (filter-filter (fresh ks) (λ y. not (same_name y x)) (fresh (ks ++ x ∷ [])) (λ y. pushed_test (list_any (same_name y) ks) (same_name y x) ∙ ap not (sym (list_any-append (same_name y) ks (x ∷ [])))) (once_each xs)))
         ∙ ap (λ l. ks ++ l) (tested false e)
+
+-- the names of one item more are inserted after those of the items in front of it
+pub insert_all-turn : {X : Type 0} (name_of : X → List ℕ) (xs : List X) (i : ℕ) (x : X) (keys new : List (List ℕ)) (name : List ℕ) → keys ≡ insert_all same_name [] (map name_of (take i xs)) → new ≡ insert_key same_name keys name → name ≡ name_of (get_or xs i x) → i < length xs → new ≡ insert_all same_name [] (map name_of (take (i + 1) xs))
+insert_all-turn name_of xs i x keys new name before inserted is within =
+    inserted
+    ∙ (λ j. insert_key same_name (before j) (is j))
+    ∙ sym (fold_push (insert_key same_name) [] (map name_of (take i xs)) (name_of (get_or xs i x)))
+    ∙ ap (insert_all same_name []) (sym (map_more name_of xs i x within))
 
 -- names inserted into none are there once each
 pub insert_all-none : (xs : List (List ℕ)) → insert_all same_name [] xs ≡ once_each xs

@@ -1,7 +1,12 @@
 -- What the loops keep, and their steps.
-use Rattle.std.proofs.Common.{unwrap_or, true≢false, ◌-◌, ◌≡◌, ℕ, ◌+◌, ◌<◌, ◌≤◌, Bool, true, false, not, List, [], ◌∷◌, ◌++◌, length, map, take, filter, slice_get, get_or, Some, sym, refl, ap, ◌∙◌, arith, append_assoc}
+use Rattle.std.proofs.Common.{unwrap_or, true≢false, ◌-◌, ◌≡◌, ℕ, ◌+◌, ◌<◌, ◌≤◌, Bool, true, false, not, List, [], ◌∷◌, ◌++◌, length, map, take, filter, slice_get, get_or, Option, None, Some, sym, refl, ap, ◌∙◌, arith, append_assoc}
+use Rattle.std.specs.Iterator.{Yields}
 use Rattle.std.specs.List.{flat_map, list_any}
-use Rattle.std.proofs.lemmas.List.{map-append, flat_map_more, length-take, get_or-take}
+use Rattle.std.specs.Vec.Iter.{into_iter_items, into_iter_len, into_iter_steps}
+use Rattle.std.specs.declared.vec.IntoIter.{IntoIter}
+use Rattle.std.proofs.lemmas.Iterator.Adapters.{YieldsList-from_vec}
+use Rattle.std.proofs.lemmas.Iterator.Consumers.{YieldsList-end}
+use Rattle.std.proofs.lemmas.List.{map-append, map-id, flat_map_more, length-take, get_or-take}
 use Rattle.std.proofs.lemmas.List.Sums.{fold-append}
 use Rattle.std.proofs.lemmas.List.Folds.{Any-from_list_any}
 use Rattle.std.proofs.lemmas.Map.Keys.{apart_from_distinct}
@@ -43,6 +48,11 @@ Numbered-more number names_of first xs keys ys x y new old e at = record {
 pub flat_map-one : (xs : List (List ℕ)) → flat_map (λ x. x ∷ []) xs ≡ xs
 flat_map-one [] = refl
 flat_map-one (x ∷ xs) = ap (λ l. x ∷ l) (flat_map-one xs)
+
+-- a loop that uses up a list has gone through all of it at its end
+pub all_gone : {X Z : Type 0} (s t : IntoIter X Z) (xs ys : List X) → into_iter_items s ≡ xs → into_iter_len s ≡ length xs → Yields into_iter_steps s ys t → (r : Option X) (u : IntoIter X Z) → r ≡ None → into_iter_steps t r u → ys ≡ xs
+all_gone {X} {Z} s t xs ys items len gone r u none last =
+    sym (map-id ys) ∙ (YieldsList-end (YieldsList-from_vec {Z = Z} {s = s} xs items len) ys t gone r u none last).0
 
 -- ---- the pins of a cell
 

@@ -1,12 +1,10 @@
-use Rattle.std.proofs.Common.{◌≡◌, [], map, sym, ap, ◌∙◌, arith}
+use Rattle.std.proofs.Common.{◌≡◌, [], map, ap, ◌∙◌, arith, rules}
 use Rattle.std.specs.List.{flat_map}
-use Rattle.std.proofs.lemmas.List.{length_push, map-id, append-nil}
-use Rattle.std.proofs.lemmas.Iterator.Consumers.{YieldsList-end}
-use Rattle.std.proofs.lemmas.Iterator.Adapters.{YieldsList-from_vec}
+use Rattle.std.proofs.lemmas.List.{length_push, append-nil}
 use Rattle.indexmap.specs.IndexSet.{insert_all}
 use Rattle.ncl_netlist.specs.Names.{same_name}
 use Rattle.ncl_netlist.specs.Parts.{cell_of}
-use Rattle.ncl_netlist.proofs.Steps.{Numbered-more}
+use Rattle.ncl_netlist.proofs.Steps.{all_gone, Numbered-more}
 use Rattle.ncl_netlist.proofs.numbering.number_cells.Goals as goal
 
 pub loop-cell-preserved : goal.loop-cell-preserved
@@ -19,10 +17,7 @@ loop-cell-preserved c =
 
 -- all cells were gone through
 all_done : (c : goal.After-drop-cell-iterator-2) → c.loop-cell.yielded ≡ c.args.cells.items
-all_done c =
-    let gives = c.into_iter-cell-iterator.ensures.into_iter_gives in
-    let e = YieldsList-end (YieldsList-from_vec {s = c.into_iter-cell-iterator.result} c.args.cells.items gives.0 (omega (arith, gives.1, c.args.cells.ok.0))) c.loop-cell.yielded c.loop-cell.cell-iterator c.loop-cell.yielded_by c.next.result c.next.new.self c.in-None.is c.next.ensures.steps in
-    sym (map-id c.loop-cell.yielded) ∙ e.0
+all_done c = all_gone _ _ c.args.cells.items c.loop-cell.yielded (search rules) (search rules) c.loop-cell.yielded_by c.next.result c.next.new.self c.in-None.is c.next.ensures.steps
 
 pub returns-clause-names : goal.returns-clause-names
 returns-clause-names c =

@@ -1,12 +1,10 @@
-use Rattle.std.proofs.Common.{◌≡◌, ◌+◌, ◌≤◌, [], ◌∷◌, ◌++◌, length, map, sym, ap, ◌∙◌, arith}
-use Rattle.std.proofs.lemmas.List.{length_push, map-id}
-use Rattle.std.proofs.lemmas.Iterator.Consumers.{YieldsList-end}
-use Rattle.std.proofs.lemmas.Iterator.Adapters.{YieldsList-from_vec}
+use Rattle.std.proofs.Common.{◌≡◌, ◌+◌, ◌≤◌, [], ◌∷◌, ◌++◌, length, map, ap, ◌∙◌, arith, rules}
+use Rattle.std.proofs.lemmas.List.{length_push}
 use Rattle.indexmap.specs.IndexSet.{insert_all}
 use Rattle.ncl_netlist.specs.Names.{same_name}
 use Rattle.ncl_netlist.specs.Parts.{net_of}
 use Rattle.ncl_netlist.proofs.NameLists.{length-insert_all}
-use Rattle.ncl_netlist.proofs.Steps.{Numbered-more, flat_map-one}
+use Rattle.ncl_netlist.proofs.Steps.{all_gone, Numbered-more, flat_map-one}
 use Rattle.ncl_netlist.proofs.numbering.number_inputs.Goals as goal
 
 pub loop-input-preserved : goal.loop-input-preserved
@@ -22,10 +20,7 @@ loop-input-preserved c =
 
 -- all names were gone through
 all_done : (c : goal.After-drop-input-iterator-2) → c.loop-input.yielded ≡ c.args.inputs.items
-all_done c =
-    let gives = c.into_iter-input-iterator.ensures.into_iter_gives in
-    let e = YieldsList-end (YieldsList-from_vec {s = c.into_iter-input-iterator.result} c.args.inputs.items gives.0 (omega (arith, gives.1, c.args.inputs.ok.0))) c.loop-input.yielded c.loop-input.input-iterator c.loop-input.yielded_by c.next.result c.next.new.self c.in-None.is c.next.ensures.steps in
-    sym (map-id c.loop-input.yielded) ∙ e.0
+all_done c = all_gone _ _ c.args.inputs.items c.loop-input.yielded (search rules) (search rules) c.loop-input.yielded_by c.next.result c.next.new.self c.in-None.is c.next.ensures.steps
 
 pub returns-clause-names : goal.returns-clause-names
 returns-clause-names c =

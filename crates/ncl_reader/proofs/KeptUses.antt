@@ -3,11 +3,12 @@ use Rattle.std.proofs.Common.{◌≡◌, ℕ, List, [], ◌∷◌, ◌++◌, Boo
 use Rattle.std.specs.Str.{bytes_eq}
 use Rattle.std.proofs.lemmas.Bool.{false≢true}
 use Rattle.std.proofs.lemmas.Slice.Eq.{bytes_eq-Decides}
-use Rattle.ncl_reader.specs.declared.uses.Uses.{Uses}
+use Rattle.ncl_reader.specs.declared.name_set.NameSet.{NameSet}
 use Rattle.ncl_reader.specs.Lexemes.{Lexeme, Name}
 use Rattle.ncl_reader.specs.Forms.{IsAtNet}
 use Rattle.ncl_reader.specs.Vectors.{IsUsed}
-use Rattle.ncl_reader.specs.Uses.{IsUses, used_at}
+use Rattle.ncl_reader.specs.NameSet.{has_name}
+use Rattle.ncl_reader.specs.Uses.{IsUses}
 use Rattle.ncl_reader.proofs.Said.{used-more}
 
 used-old : (xs ys : List Lexeme) (y : List ℕ) → IsUsed xs y → IsUsed (xs ++ ys) y
@@ -16,23 +17,23 @@ used-old xs ys y (front, rest, e, net) = (front, rest ++ ys, ap (λ l. l ++ ys) 
 name_in : {a b : List ℕ} → Name a ≡ Name b → a ≡ b
 name_in e = cc
 
-pub uses-more : (old new : Uses) (xs : List Lexeme) (x : List ℕ) → ((y : List ℕ) → used_at new y ≡ cond (bytes_eq x y) true (used_at old y)) → IsUses old xs → IsAtNet xs → IsUses new (xs ++ Name x ∷ [])
+pub uses-more : (old new : NameSet) (xs : List Lexeme) (x : List ℕ) → ((y : List ℕ) → has_name new y ≡ cond (bytes_eq x y) true (has_name old y)) → IsUses old xs → IsAtNet xs → IsUses new (xs ++ Name x ∷ [])
 uses-more old new xs x updates is net = record {
   used = λ y used. updates y ∙ known y (bytes_eq x y) refl (used-more xs (Name x) y used);
   only = λ y e. only y (bytes_eq x y) refl (sym (updates y) ∙ e);
 }
   where
-    known : (y : List ℕ) (b : Bool) → bytes_eq x y ≡ b → IsUsed xs y ⊎ ((Name x ≡ Name y) × IsAtNet xs) → cond b true (used_at old y) ≡ true
+    known : (y : List ℕ) (b : Bool) → bytes_eq x y ≡ b → IsUsed xs y ⊎ ((Name x ≡ Name y) × IsAtNet xs) → cond b true (has_name old y) ≡ true
     known y true e used = refl
     known y false e (inl before) = is.used y before
     known y false e (inr (same, at)) = absurd (false≢true (sym e ∙ (bytes_eq-Decides x y).1 (name_in same)))
 
-    only : (y : List ℕ) (b : Bool) → bytes_eq x y ≡ b → cond b true (used_at old y) ≡ true → IsUsed (xs ++ Name x ∷ []) y
+    only : (y : List ℕ) (b : Bool) → bytes_eq x y ≡ b → cond b true (has_name old y) ≡ true → IsUsed (xs ++ Name x ∷ []) y
     only y true e found = subst (IsUsed (xs ++ Name x ∷ [])) ((bytes_eq-Decides x y).0 e) (xs, [], refl, net)
     only y false e found = used-old xs (Name x ∷ []) y (is.only y found)
 
 -- a token that is no name on a pin
-pub uses-other : (uses : Uses) (xs : List Lexeme) (t : Lexeme) → ((y : List ℕ) → t ≡ Name y → IsAtNet xs → ⊥) → IsUses uses xs → IsUses uses (xs ++ t ∷ [])
+pub uses-other : (uses : NameSet) (xs : List Lexeme) (t : Lexeme) → ((y : List ℕ) → t ≡ Name y → IsAtNet xs → ⊥) → IsUses uses xs → IsUses uses (xs ++ t ∷ [])
 uses-other uses xs t other is = record {
   used = λ y used. elim (used-more xs t y used) [
     | inl before ↦ is.used y before
@@ -41,7 +42,7 @@ uses-other uses xs t other is = record {
   only = λ y e. used-old xs (t ∷ []) y (is.only y e);
 }
 
-pub uses-none : (uses : Uses) → ((y : List ℕ) → used_at uses y ≡ false) → IsUses uses []
+pub uses-none : (uses : NameSet) → ((y : List ℕ) → has_name uses y ≡ false) → IsUses uses []
 uses-none uses none = record {
   used = λ y (front, rest, e, net). absurd (nothing front y rest e);
   only = λ y e. absurd (false≢true (sym (none y) ∙ e));
@@ -52,7 +53,7 @@ uses-none uses none = record {
     nothing (f ∷ front) y rest e = absurd cc
 
 -- the same names
-pub uses-same : (old new : Uses) (xs : List Lexeme) → ((y : List ℕ) → used_at new y ≡ used_at old y) → IsUses old xs → IsUses new xs
+pub uses-same : (old new : NameSet) (xs : List Lexeme) → ((y : List ℕ) → has_name new y ≡ has_name old y) → IsUses old xs → IsUses new xs
 uses-same old new xs same is = record {
   used = λ y used. same y ∙ is.used y used;
   only = λ y e. is.only y (sym (same y) ∙ e);

@@ -11,10 +11,10 @@ ghost use Rattle.ncl_reader.specs.Lead.{IsSpanOf};
 ghost use Rattle.ncl_reader.specs.Known.{KeepsNames};
 
 use crate::kept_bits::KeptBits;
+use crate::name_set::NameSet;
 use crate::names::is_bit;
 use crate::ranges::Ranges;
 use crate::span::Span;
-use crate::uses::Uses;
 use ncl_base::Memory;
 use std::alloc::Global;
 
@@ -23,7 +23,7 @@ use std::alloc::Global;
 pub struct Known<'a> {
     pub ranges: Ranges<'a>,
     pub bits: KeptBits<'a>,
-    pub uses: Uses<'a>,
+    pub uses: NameSet<'a>,
 }
 
 impl<'a> Known<'a> {
@@ -34,12 +34,12 @@ impl<'a> Known<'a> {
         Known {
             ranges: Ranges::new(alloc),
             bits: KeptBits::new(alloc),
-            uses: Uses::new(alloc),
+            uses: NameSet::new(alloc),
         }
     }
 
     /// Whether a name that is declared was declared with another range, or used before it gets one. Costs as
-    /// `agrees` of `Ranges`, and where a range is given as `has` of `Uses`.
+    /// `agrees` of `Ranges`, and where a range is given as `has` of `NameSet`.
     pub fn redeclares(&self, name: &[u8], span: Option<Span>) -> bool
         ensures { (xs : List Lexeme) (range : Option Range) → KeepsNames self.now xs → IsDeclaring xs range
             → option_map span_of range ≡ span → Decides result (Redeclares xs name.now) }

@@ -24,7 +24,6 @@ mod ranges;
 mod reader;
 mod refusal;
 mod span;
-mod uses;
 
 pub use keyword::{Keyword, Way};
 pub use lexeme::Sign;

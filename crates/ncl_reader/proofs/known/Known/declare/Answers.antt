@@ -1,7 +1,7 @@
 use Rattle.std.proofs.Common.{◌++◌, ◌∷◌, []}
 use Rattle.ncl_reader.specs.Lexemes.{Name}
 use Rattle.ncl_reader.proofs.KeptNames.{agrees_fine, declared_unused}
-use Rattle.ncl_reader.proofs.KeptUses.{uses-other}
+use Rattle.ncl_reader.proofs.KeptUses.{uses-other, uses-same}
 use Rattle.ncl_reader.proofs.KeptClear.{clear-name}
 use Rattle.ncl_reader.proofs.known.Known.declare.Goals as goal
 
@@ -9,7 +9,7 @@ pub returns-in_ok-sort : goal.returns-in_ok-sort
 returns-in_ok-sort c = λ xs range kept declares is redeclares fine. record {
   ranges = c.in_ok-declare.ensures xs range kept.ranges declares is.same (agrees_fine xs c.args.name.now range c.args.span declares is.same redeclares) is.few;
   standing = c.in_ok-stand.ensures xs kept.standing;
-  uses = c.in_ok-sort.ensures (xs ++ Name c.args.name.now ∷ []) (uses-other c.args.self.now.uses xs (Name c.args.name.now) (λ y same at. declared_unused xs range declares at) kept.uses);
+  uses = uses-same c.args.self.now.uses _ (xs ++ Name c.args.name.now ∷ []) (c.in_ok-sort.ensures {u = tt}) (uses-other c.args.self.now.uses xs (Name c.args.name.now) (λ y same at. declared_unused xs range declares at) kept.uses);
   clear = clear-name xs c.args.name.now kept.clear fine;
 }
 

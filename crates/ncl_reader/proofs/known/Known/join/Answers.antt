@@ -1,6 +1,7 @@
 use Rattle.ncl_reader.specs.Lexemes.{Name}
 use Rattle.ncl_reader.proofs.KeptNames.{declared_unused}
 use Rattle.ncl_reader.proofs.KeptRanges.{ranges-other}
+use Rattle.ncl_reader.proofs.KeptUses.{uses-more}
 use Rattle.ncl_reader.proofs.KeptClear.{clear-name}
 use Rattle.ncl_reader.proofs.known.Known.join.Goals as goal
 
@@ -8,6 +9,6 @@ pub returns : goal.returns
 returns c = λ xs kept net fine. record {
   ranges = ranges-other c.args.self.now.ranges xs (Name c.args.name.now) (λ y range same declares. declared_unused xs range declares net) kept.ranges;
   standing = c.in_ok-stand.ensures xs kept.standing;
-  uses = c.in_ok-add.ensures xs kept.uses net;
+  uses = uses-more c.args.self.now.uses _ xs c.args.name.now (c.in_ok-add.ensures {u = tt}) kept.uses net;
   clear = clear-name xs c.args.name.now kept.clear fine;
 }

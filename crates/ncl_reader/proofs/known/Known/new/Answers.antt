@@ -1,5 +1,6 @@
 use Rattle.ncl_reader.proofs.KeptClear.{clear-none}
+use Rattle.ncl_reader.proofs.KeptUses.{uses-none}
 use Rattle.ncl_reader.proofs.known.Known.new.Goals as goal
 
 pub returns : goal.returns
-returns c = record { ranges = c.new.ensures; standing = c.new-2.ensures; uses = c.new-3.ensures; clear = clear-none }
+returns c = record { ranges = c.new.ensures; standing = c.new-2.ensures; uses = uses-none _ c.new-3.ensures; clear = clear-none }

@@ -14,8 +14,8 @@ returns-then-not-agrees c = λ xs range kept declares same. (
 
 pub returns-in-Some : goal.returns-in-Some
 returns-in-Some c = λ xs range kept declares same. (
-  λ e. (range, declares, inr (λ none. none-some _ (ap (option_map span_of) (sym none) ∙ same ∙ c.in-Some.is), (c.has.ensures xs kept.uses).0 e)),
-  λ redeclares. (c.has.ensures xs kept.uses).1 (redeclares_used c.args.self.now xs c.args.name.now range c.args.span kept declares same ((c.agrees.ensures xs kept.ranges).0 c.if-not-agrees.false) redeclares).1,
+  λ e. (range, declares, inr (λ none. none-some _ (ap (option_map span_of) (sym none) ∙ same ∙ c.in-Some.is), kept.uses.only c.args.name.now (sym c.has.ensures ∙ e))),
+  λ redeclares. c.has.ensures ∙ kept.uses.used c.args.name.now (redeclares_used c.args.self.now xs c.args.name.now range c.args.span kept declares same ((c.agrees.ensures xs kept.ranges).0 c.if-not-agrees.false) redeclares).1,
 )
 
 pub returns-in-None : goal.returns-in-None

@@ -1,11 +1,11 @@
 -- The loop over tokens, and what is left of them.
-use Rattle.std.proofs.Common.{◌≡◌, ℕ, ◌+◌, ◌≤◌, arith, List, [], ◌∷◌, ◌++◌, map, drop, length, refl, sym, ap, ◌∙◌, subst, append_assoc, Option, Some, None, Ok, Err, Result}
+use Rattle.std.proofs.Common.{◌≡◌, ℕ, ◌+◌, ◌≤◌, arith, List, [], ◌∷◌, ◌++◌, map, drop, length, refl, sym, ap, ◌∙◌, subst, append_assoc, Option, Some, None, Ok, Err, Result, slice_range}
 use Rattle.std.proofs.lemmas.List.{length-append, length-map}
 use Rattle.ncl_netlist.specs.declared.parts.Parts.{Parts}
 use Rattle.ncl_token.specs.declared.token.Token.{Token}
 use Rattle.ncl_token.specs.Spaces.{IsSpace}
 use Rattle.ncl_token.specs.Tokens.{AreTokens, TokensOf, IsNextToken, IsBadByte, Stop, End as at_end, Bad as at_bad, at_end as none_left, at_bad_byte}
-use Rattle.ncl_token.specs.Reading.{IsAnswer}
+use Rattle.ncl_token.specs.Reading.{TokensData, IsAnswer, place_after, name_of}
 use Rattle.ncl_token.proofs.OneList.{list_once}
 use Rattle.ncl_token.proofs.Left.{next_left, tokens_few}
 use Rattle.ncl_reader.specs.declared.place.Place.{Place}
@@ -16,7 +16,8 @@ use Rattle.ncl_token.specs.declared.token.TokenFault.{TokenFault}
 use Rattle.ncl_token.specs.declared.token.TokenFault.TheVariants.{BadByte}
 use Rattle.ncl_reader.specs.declared.draft.Draft.{Draft}
 use Rattle.ncl_reader.specs.Rules.{Breaks}
-use Rattle.ncl_reader.specs.Lexemes.{Placed}
+use Rattle.ncl_reader.specs.Lexemes.{Lexeme, Placed}
+use Rattle.ncl_reader.specs.Words.{lexeme_of}
 use Rattle.ncl_reader.specs.Refusals.{IsFaultAt}
 use Rattle.ncl_reader.specs.Reads.{placed_of, stop_of, placed_in, IsLexed, Reads, IsRefused, IsReadFault}
 use Rattle.ncl_reader.specs.Partial.{Partial, spelled, start, place_of}
@@ -83,6 +84,22 @@ module _ (bytes b : List ℕ) (at : ℕ) (result : Result (Option Token) TokenFa
 
   pub next-bad : (bad : ℕ) → result ≡ Err (BadByte bad) → IsBadByte at (drop at bytes) bad
   next-bad bad is = subst (λ b. IsBadByte at (drop at b) bad) same (subst (IsAnswer b at) is answer)
+
+-- a token that was read is the next, and the reader stands behind it
+pub record IsReadAt (bytes : List ℕ) (at : ℕ) (token : Token) (new : TokensData) : Type 0 where
+  pub next : IsNextToken at (drop at bytes) token (drop token.end bytes)
+  pub text : new.bytes ≡ bytes
+  pub behind : new.place ≡ token.end
+
+pub read-token : (bytes : List ℕ) (old new : TokensData) (result : Result (Option Token) TokenFault) (token : Token) → old.bytes ≡ bytes → IsAnswer old.bytes old.place result → new ≡ record { bytes = old.bytes; place = place_after old result } → result ≡ Ok (Some token) → IsReadAt bytes old.place token new
+read-token bytes old new result token same answer after is = record {
+  next = next-token bytes old.bytes old.place result same answer token is;
+  text = ap (λ d. d.bytes) after ∙ same;
+  behind = ap (λ d. d.place) after ∙ ap (place_after old) is;
+}
+
+pub placed-token : (bytes b : List ℕ) (token : Token) (t : Lexeme) → b ≡ bytes → t ≡ lexeme_of token.kind (name_of token.kind (slice_range b token.start token.end)) → t ≡ (placed_of bytes token).lexeme
+placed-token bytes b token t same is = is ∙ ap (λ l. lexeme_of token.kind (name_of token.kind (slice_range l token.start token.end))) same
 
 pub refused-fault : (bytes : List ℕ) (fault : NetFault) → IsRefused bytes fault → IsReadFault bytes fault
 refused-fault bytes Memory is = tt

@@ -1,16 +1,13 @@
-use Rattle.std.proofs.Common.{◌≡◌, arith, Ok, Err, sym, ap, ◌∙◌, subst, slice_range}
-use Rattle.ncl_token.specs.Reading.{name_of, place_after}
+use Rattle.std.proofs.Common.{arith, Ok, Err, sym, ap, ◌∙◌, subst}
 use Rattle.ncl_token.proofs.SomeList.{some_list}
 use Rattle.ncl_reader.specs.declared.place.Place.TheVariants as place
 use Rattle.ncl_reader.specs.Meant.{meant}
 use Rattle.ncl_reader.specs.Refusals.{IsFaultAt}
-use Rattle.ncl_reader.specs.Words.{lexeme_of}
-use Rattle.ncl_reader.specs.Reads.{placed_of}
 use Rattle.ncl_reader.specs.Rules.{Breaks}
 use Rattle.ncl_reader.specs.Partial.{spelled}
 use Rattle.ncl_reader.specs.Draft.{HoldsAt, Takes, TakesOrBreaks}
 use Rattle.ncl_reader.proofs.Loop.{holds-place}
-use Rattle.ncl_reader.proofs.LoopTokens.{LoopAt, loop-first, loop-more, loop-broken, loop-bad, loop-short, few_before, next-token, next-space, next-bad, refused-fault, whole-at}
+use Rattle.ncl_reader.proofs.LoopTokens.{LoopAt, loop-first, loop-more, loop-broken, loop-bad, loop-short, few_before, read-token, placed-token, next-space, next-bad, refused-fault, whole-at}
 use Rattle.ncl_reader.proofs.reader.read_parts.Goals as goal
 
 pub loop-token-init : goal.loop-token-init
@@ -23,25 +20,20 @@ loop-token-preserved c =
     let bytes = c.args.bytes.now in
     let token = c.in-Ok-Some.token in
     let loop = c.loop-token.invariant.1 in
-    let r = c.in-Ok-Some.is ∙ ap Ok c.in-Ok-Some.field-0-is in
-    let next = next-token bytes c.loop-token.tokens.bytes c.loop-token.tokens.place c.next.result c.loop-token.invariant.0 c.next.ensures.answer token r in
-    let bs : c.next.new.self.bytes ≡ bytes = ap (λ d. d.bytes) c.next.ensures.after ∙ c.loop-token.invariant.0 in
-    let pl : c.next.new.self.place ≡ token.end = ap (λ d. d.place) c.next.ensures.after ∙ ap (place_after c.loop-token.tokens) r in
-    let t : meant c.lexeme_of-lexeme.result ≡ (placed_of bytes token).lexeme = c.lexeme_of-lexeme.ensures ∙ ap (λ b. lexeme_of token.kind (name_of token.kind (slice_range b token.start token.end))) bs in
+    let here = read-token bytes c.loop-token.tokens c.next.new.self c.next.result token c.loop-token.invariant.0 c.next.ensures.answer c.next.ensures.after (c.in-Ok-Some.is ∙ ap Ok c.in-Ok-Some.field-0-is) in
+    let t = placed-token bytes c.next.new.self.bytes token (meant c.lexeme_of-lexeme.result) here.text c.lexeme_of-lexeme.ensures in
     let takes : Takes loop.kept.stands.tree (meant c.lexeme_of-lexeme.result) c.in-Some.after c.step.new.self = subst (λ o. TakesOrBreaks c.loop-token.place loop.kept.stands.tree (meant c.lexeme_of-lexeme.result) o c.step.new.self) c.in-Some.is (c.in_ok-after-in-Ok-Some.ensures loop.kept.stands.tree loop.kept.holds) in
-    (bs, subst (λ p. LoopAt bytes p c.in-Some.after c.step.new.self) (sym pl) (loop-more bytes c.loop-token.tokens.place c.loop-token.place c.loop-token.draft loop c.in-Some.after c.step.new.self token next (subst (λ u. Takes loop.kept.stands.tree u c.in-Some.after c.step.new.self) t takes)))
+    (here.text, subst (λ p. LoopAt bytes p c.in-Some.after c.step.new.self) (sym here.behind) (loop-more bytes c.loop-token.tokens.place c.loop-token.place c.loop-token.draft loop c.in-Some.after c.step.new.self token here.next (subst (λ u. Takes loop.kept.stands.tree u c.in-Some.after c.step.new.self) t takes)))
 
 pub returns-in-None-clause-fault : goal.returns-in-None-clause-fault
 returns-in-None-clause-fault c =
     let bytes = c.args.bytes.now in
     let token = c.in-Ok-Some.token in
     let loop = c.loop-token.invariant.1 in
-    let r = c.in-Ok-Some.is ∙ ap Ok c.in-Ok-Some.field-0-is in
-    let next = next-token bytes c.loop-token.tokens.bytes c.loop-token.tokens.place c.next.result c.loop-token.invariant.0 c.next.ensures.answer token r in
-    let bs : c.next.new.self.bytes ≡ bytes = ap (λ d. d.bytes) c.next.ensures.after ∙ c.loop-token.invariant.0 in
-    let t : meant c.lexeme_of-lexeme.result ≡ (placed_of bytes token).lexeme = c.lexeme_of-lexeme.ensures ∙ ap (λ b. lexeme_of token.kind (name_of token.kind (slice_range b token.start token.end))) bs in
+    let here = read-token bytes c.loop-token.tokens c.next.new.self c.next.result token c.loop-token.invariant.0 c.next.ensures.answer c.next.ensures.after (c.in-Ok-Some.is ∙ ap Ok c.in-Ok-Some.field-0-is) in
+    let t = placed-token bytes c.next.new.self.bytes token (meant c.lexeme_of-lexeme.result) here.text c.lexeme_of-lexeme.ensures in
     let (breaks, holds) = subst (λ o. TakesOrBreaks c.loop-token.place loop.kept.stands.tree (meant c.lexeme_of-lexeme.result) o c.step.new.self) c.in-None.is (c.in_ok-after-in-Ok-Some.ensures loop.kept.stands.tree loop.kept.holds) in
-    refused-fault bytes c.refusal.result (loop-broken bytes c.loop-token.tokens.place c.loop-token.place c.loop-token.draft loop token c.refusal.result next (subst (Breaks (spelled loop.kept.stands.tree)) t breaks)
+    refused-fault bytes c.refusal.result (loop-broken bytes c.loop-token.tokens.place c.loop-token.place c.loop-token.draft loop token c.refusal.result here.next (subst (Breaks (spelled loop.kept.stands.tree)) t breaks)
     (subst (λ u. IsFaultAt (spelled loop.kept.stands.tree) (record { lexeme = u; place = token.start }) c.refusal.result) t (c.refusal.ensures loop.kept.stands.tree holds breaks)))
 
 pub returns-in-End-clause-parts : goal.returns-in-End-clause-parts

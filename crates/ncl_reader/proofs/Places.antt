@@ -1,14 +1,17 @@
 -- What may come next, by the form of what stands before it.
-use Rattle.std.proofs.Common.{◌≡◌, ℕ, List, [], ◌∷◌, Option, Some, None, false, inl, inr, ◌⊎◌, refl, sym, ap, ◌∙◌, subst}
+use Rattle.std.proofs.Common.{◌≡◌, ◌≢◌, ℕ, List, [], ◌∷◌, Option, Some, None, false, inl, inr, ◌⊎◌, refl, sym, ap, ◌∙◌, subst}
 use Rattle.std.proofs.lemmas.Bool.{false≢true}
 use Rattle.ncl_reader.specs.declared.place.Place.{Place}
 use Rattle.ncl_reader.specs.declared.place.Place.TheVariants as place
 use Rattle.ncl_reader.specs.declared.place.LeadPlace.{LeadPlace}
-use Rattle.ncl_reader.specs.Lexemes.{Lexeme}
+use Rattle.ncl_reader.specs.declared.net_fault.NetFault.TheVariants.{Syntax, Unsupported}
+use Rattle.ncl_reader.specs.Lexemes.{Lexeme, Name}
 use Rattle.ncl_reader.specs.Grammar.{Direction, Plain, Wired, Lead, Gives, Wires, Range}
 use Rattle.ncl_reader.specs.Lead.{takes_name}
 use Rattle.ncl_reader.specs.Partial.{LeadPart, led, ranged, lead_place, direction_place, word_place, leading, naming, going, Partial, listing, heading, at_item, inside, declaring, joining, dotted, opened, netted, indexing, joined, spelled, place_of}
 use Rattle.ncl_reader.specs.Forms.{IsDeclaring, IsAtItem, IsAtConn, IsAtPin, IsAtNet, IsBehindNet, IsAtIndex, IsAtClose}
+use Rattle.ncl_reader.specs.Rules.{Redeclares, Clashes, Crowds}
+use Rattle.ncl_reader.specs.Refusals.{IsLeftOut, IsFaultAt}
 use Rattle.ncl_reader.proofs.Viable.{same_tree}
 use Rattle.ncl_reader.proofs.Declares.{part_range, range_here, declaring_tree, declaring-here}
 
@@ -65,6 +68,14 @@ index-place p (net, (head, items, cell, name, conns, pin, is)) = ap place_of (sa
 pub close-place : (p : Partial) → IsAtClose (spelled p) → place_of p ≡ place.AfterConnection
 close-place p (head, items, cell, name, conns, is) = ap place_of (same_tree p (inside head items (joined cell name conns.before conns.last)) is)
 
+-- no item, no pin and no connection is next at another place
+pub elsewhere : (p : Partial) (at : Place) → place_of p ≡ at → at ≢ place.Item → at ≢ place.Pin → at ≢ place.Connection → ¬ IsAtItem (spelled p) × ¬ IsAtPin (spelled p) × ¬ IsAtConn (spelled p)
+elsewhere p at is item pin conn = (
+  λ form. item (sym is ∙ item-place p form),
+  λ form. pin (sym is ∙ pin-place p form),
+  λ form. conn (sym is ∙ conn-place p form),
+)
+
 -- a name is declared at these places alone
 abbrev pub DeclaresAt : Place → Type 0
 DeclaresAt at = ((lead : LeadPlace) × (at ≡ place.HeaderLead lead)) ⊎ ((at ≡ place.HeaderName) ⊎ (((lead : LeadPlace) × (at ≡ place.Lead lead)) ⊎ (at ≡ place.Declared)))
@@ -111,3 +122,10 @@ module _ (xs : List Lexeme) (range : Option Range) (declares : IsDeclaring xs ra
 
   pub declared_no_conn : IsAtConn xs → ⊥
   declared_no_conn (head, items, cell, name, conns, is) = tree_here (inside head items (joining cell name conns)) is refl
+
+  -- so its fault is one of syntax, or that it is left out
+  pub misdeclared : (x : List ℕ) (at : ℕ) → Redeclares xs x ⊎ ¬ IsLeftOut xs (Name x) → IsFaultAt xs (record { lexeme = Name x; place = at }) (Syntax at)
+  misdeclared x at why = (refl, declared_no_item, declared_no_pin, why)
+
+  pub undeclarable : (x : List ℕ) (at : ℕ) → ¬ Redeclares xs x → Clashes xs x ⊎ Crowds xs x → IsFaultAt xs (record { lexeme = Name x; place = at }) (Unsupported at)
+  undeclarable x at agrees why = (refl, declared_no_item, declared_no_pin, agrees, inr why)

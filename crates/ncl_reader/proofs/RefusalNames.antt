@@ -1,5 +1,6 @@
 -- Names that make the bits of ports too many, and what a refusal asks of tokens.
-use Rattle.std.proofs.Common.{◌≡◌, ◌≢◌, ℕ, ◌+◌, ◌*◌, ◌<◌, List, ◌++◌, length, map, sum, Option, Some, None, inl, inr, refl, sym, ap, subst, Contains}
+use Rattle.std.proofs.Common.{◌≡◌, ◌≢◌, ℕ, ◌+◌, ◌*◌, ◌<◌, List, ◌++◌, length, map, sum, Bool, Option, Some, None, inl, inr, refl, sym, ap, subst, Contains}
+use Rattle.std.specs.Bool.{Decides}
 use Rattle.std.specs.List.{flat_map}
 use Rattle.std.specs.Option.{option_map}
 use Rattle.std.proofs.lemmas.Option.{same_Some}
@@ -76,6 +77,11 @@ module _ (head : Head) (items : List Item) (spec : Spec Lead) (names : List (Lis
 
   pub crowds_item : ItemCrowds → Crowds (at_declared head items spec names) x
   crowds_item h = inr (record { head = head; items = items; direction = h.direction; range = h.range; names = names; is = (λ i. at_declared head items (record { lead = h.gives i; range = h.is i }) names); stands = h.stands; new = h.new; many = h.many })
+
+-- a name is declared, and crowds or not, whatever the form of what stands before it
+pub declared_as : (xs ys : List Lexeme) (x : List ℕ) (range : Option Range) (span : Option Span) (crowds : Bool) → xs ≡ ys → IsDeclaring ys range → option_map span_of range ≡ span → Decides crowds (Crowds ys x) → (range : Option Range) × IsDeclaring xs range × (option_map span_of range ≡ span) × Decides crowds (Crowds xs x)
+declared_as xs ys x range span crowds form declares same decides =
+    (range, subst (λ zs. IsDeclaring zs range) (sym form) declares, same, subst (λ zs. Decides crowds (Crowds zs x)) (sym form) decides)
 
 -- signs and words that are left out or not
 pub plain_sign : (xs : List Lexeme) (sign : Sign) (at : ℕ) → sign ≢ RParen → sign ≢ Other → sign ≢ LBracket → sign ≢ RBracket → sign ≢ Colon → IsFaultAt xs (record { lexeme = Mark sign; place = at }) (Syntax at)

@@ -1,5 +1,6 @@
 -- What is kept of what a declaration begins with.
 use Rattle.std.specs.Prelude.{◌≡◌, ℕ, ◌<◌, List, [], ◌∷◌, ◌++◌, Option, Some, None, Bool, true, false}
+use Rattle.std.specs.Bool.{Decides}
 use Rattle.std.specs.Option.{option_map}
 use Rattle.std.specs.Str.Parse.{digits_value}
 use Rattle.ncl_reader.specs.declared.place.LeadPlace.{LeadPlace}
@@ -10,7 +11,8 @@ use Rattle.ncl_reader.specs.Lexemes.{Lexeme}
 use Rattle.ncl_reader.specs.Grammar.{Direction, Lead, Gives, Wires, Range, Spec}
 use Rattle.ncl_reader.specs.Says.{is_output}
 use Rattle.ncl_reader.specs.Vectors.{span_of}
-use Rattle.ncl_reader.specs.Rules.{Breaks}
+use Rattle.ncl_reader.specs.Forms.{IsDeclaring}
+use Rattle.ncl_reader.specs.Rules.{Breaks, Crowds}
 use Rattle.ncl_reader.specs.Partial.{LeadPart, led, bracketed, firsted, coloned, lasted, ranged, lead_place, Partial, spelled}
 
 -- whether a declaration tells outputs: `wire` gives no direction
@@ -56,3 +58,10 @@ LeadTakes {L} tree output of part t (Some after) new =
     (next : LeadPart L) × (lead_place of next ≡ after) × IsLed output next new
     × (spelled (tree next) ≡ spelled (tree part) ++ t ∷ []) × ¬ Breaks (spelled (tree part)) t
 LeadTakes tree output of part t None new = Breaks (spelled (tree part)) t × IsLed output part new
+
+-- a name that is next behind what a declaration begins with is declared, and crowds or not; or none may be next
+abbrev pub IsLedBy : List Lexeme → LeadPlace → Option Span → Bool → List ℕ → Type 0
+IsLedBy xs at span crowds x =
+    (takes_name at ≡ true
+    → (range : Option Range) × IsDeclaring xs range × (option_map span_of range ≡ span) × Decides crowds (Crowds xs x))
+    × (takes_name at ≡ false → (range : Option Range) → ¬ IsDeclaring xs range)

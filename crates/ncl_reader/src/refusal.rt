@@ -9,7 +9,7 @@ ghost use Rattle.ncl_reader.specs.Vectors.{span_of};
 ghost use Rattle.ncl_reader.specs.Partial.{Partial, spelled, place_of};
 ghost use Rattle.ncl_reader.specs.Refusals.{IsFaultAt};
 ghost use Rattle.ncl_reader.specs.Rules.{Breaks, IsOutside, Crowds};
-ghost use Rattle.ncl_reader.specs.Lead.{IsSaid, direction_output, lead_output};
+ghost use Rattle.ncl_reader.specs.Lead.{IsSaid, IsLedBy, direction_output, lead_output};
 ghost use Rattle.ncl_reader.specs.Known.{KeepsNames};
 ghost use Rattle.ncl_reader.specs.Draft.{HoldsAt, IsGroupedWith, IsBodyWith, IsEarly};
 ghost use Rattle.ncl_reader.specs.Meant.{meant};
@@ -45,32 +45,23 @@ impl<'a> Draft<'a> {
             Place::Item => NetFault::UnknownCell(at),
             Place::Pin => NetFault::BadPins(at),
             Place::Connection => NetFault::Unsupported(at),
-            Place::HeaderLead(lead) => self.of_header_lead(lead, name, at),
+            Place::HeaderLead(lead) => self.of_led(lead, name, self.crowds_header(name), at),
             Place::HeaderName => self.of_declared(name, self.crowds_header(name), at),
-            Place::Lead(lead) => self.of_lead(lead, name, at),
+            Place::Lead(lead) => self.of_led(lead, name, self.crowds_items(name), at),
             Place::Declared => self.of_declared(name, self.crowds_items(name), at),
             _ => self.of_plain(name, at),
         }
     }
 
-    /// The fault of a name behind what a declaration of the header begins with.
-    fn of_header_lead(&self, lead: LeadPlace, name: &[u8], at: usize) -> NetFault
-        ensures { (p : Partial) → HoldsAt (Place.HeaderLead lead) self.now p
-            → IsFaultAt (spelled p) (record { lexeme = NameToken name.now; place = at }) result }
+    /// The fault of a name behind what a declaration begins with, by whether it makes the bits of ports too many where it
+    /// is declared.
+    fn of_led(&self, lead: LeadPlace, name: &[u8], crowds: bool, at: usize) -> NetFault
+        ensures { (xs : List Token) → KeepsNames self.now.known xs → IsLedBy xs lead self.now.lead.span crowds name.now
+            → ¬ IsAtItem xs → ¬ IsAtPin xs → ¬ IsAtConn xs
+            → IsFaultAt xs (record { lexeme = NameToken name.now; place = at }) result }
     {
         if takes_name(lead) {
-            return self.of_declared(name, self.crowds_header(name), at);
-        }
-        self.of_plain(name, at)
-    }
-
-    /// The fault of a name behind what a declaration of an item begins with.
-    fn of_lead(&self, lead: LeadPlace, name: &[u8], at: usize) -> NetFault
-        ensures { (p : Partial) → HoldsAt (Place.Lead lead) self.now p
-            → IsFaultAt (spelled p) (record { lexeme = NameToken name.now; place = at }) result }
-    {
-        if takes_name(lead) {
-            return self.of_declared(name, self.crowds_items(name), at);
+            return self.of_declared(name, crowds, at);
         }
         self.of_plain(name, at)
     }
@@ -107,7 +98,7 @@ impl<'a> Draft<'a> {
     }
 
     /// Whether a name that a declaration of the header has makes the bits of ports too many.
-    fn crowds_header(&self, name: &[u8]) -> bool
+    pub fn crowds_header(&self, name: &[u8]) -> bool
         ensures { (groups : List (Group Direction)) (spec : Spec Direction) (names : List (List ℕ))
             → IsSaid direction_output spec self.now.lead → IsGroupedWith self.now groups spec names
             → Decides result (Crowds (in_ansi self.now.title.now groups spec names) name.now) }
@@ -122,7 +113,7 @@ impl<'a> Draft<'a> {
     }
 
     /// Whether a name that a declaration of an item has makes the bits of ports too many.
-    fn crowds_items(&self, name: &[u8]) -> bool
+    pub fn crowds_items(&self, name: &[u8]) -> bool
         ensures { (head : Head) (items : List Item) (spec : Spec LeadOf) (names : List (List ℕ))
             → IsSaid lead_output spec self.now.lead → IsEarly self.now → IsBodyWith self.now head items spec names
             → Decides result (Crowds (at_declared head items spec names) name.now) }
@@ -202,18 +193,10 @@ fn of_word(place: Place, word: Keyword, at: usize) -> NetFault
         → IsFaultAt (spelled p) (record { lexeme = WordToken word; place = at }) result }
 {
     match word {
-        Keyword::EndModule => of_end(place, at),
-        _ => NetFault::Unsupported(at),
-    }
-}
-
-/// The fault of an `endmodule`.
-fn of_end(place: Place, at: usize) -> NetFault
-    ensures { (p : Partial) → place_of p ≡ place
-        → IsFaultAt (spelled p) (record { lexeme = WordToken Keyword.EndModule; place = at }) result }
-{
-    match place {
-        Place::Item => NetFault::Syntax(at),
+        Keyword::EndModule => match place {
+            Place::Item => NetFault::Syntax(at),
+            _ => NetFault::Unsupported(at),
+        },
         _ => NetFault::Unsupported(at),
     }
 }

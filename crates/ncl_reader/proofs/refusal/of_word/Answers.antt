@@ -1,9 +1,15 @@
+use Rattle.std.proofs.Common.{inl, refl, sym, ◌∙◌}
+use Rattle.ncl_reader.specs.declared.place.Place.TheVariants as place
 use Rattle.ncl_reader.specs.Partial.{spelled}
+use Rattle.ncl_reader.proofs.Places as places
 use Rattle.ncl_reader.proofs.RefusalNames as refused
 use Rattle.ncl_reader.proofs.refusal.of_word.Goals as goal
 
-pub returns-in-EndModule : goal.returns-in-EndModule
-returns-in-EndModule c = λ p at. rw c.in-EndModule.is (c.of_end.ensures p at)
+pub returns-in-Item : goal.returns-in-Item
+returns-in-Item c = λ p at. rw c.in-EndModule.is (refl, λ none. none, λ none. none, inl (places.form_at p place.Item (at ∙ c.in-Item.is)))
+
+pub returns-in_default-place : goal.returns-in_default-place
+returns-in_default-place c = λ p at. rw c.in-EndModule.is (refl, λ none. none, λ none. none, λ item. c.in_default-place.not-Item (sym at ∙ places.item-place p item), tt)
 
 pub returns-in_default : goal.returns-in_default
 returns-in_default c = λ p at. refused.other_word (spelled p) c.args.word c.args.at c.in_default.not-EndModule

@@ -1,15 +1,24 @@
-use Rattle.std.proofs.Common.{◌≡◌, inl, inr, refl, sym, ap, ◌∙◌, subst}
+use Rattle.std.proofs.Common.{◌≡◌, [], Option, true, inl, inr, refl, sym, ap, ◌∙◌, subst}
+use Rattle.std.specs.Bool.{Decides}
+use Rattle.std.specs.Option.{option_map}
 use Rattle.ncl_reader.specs.declared.place.Place.TheVariants as place
 use Rattle.ncl_reader.specs.Lexemes.{Name}
-use Rattle.ncl_reader.specs.Grammar.{all_of, direction_phrase, lead_phrase}
-use Rattle.ncl_reader.specs.Forms.{in_ansi, at_declared}
+use Rattle.ncl_reader.specs.Grammar.{all_of, direction_phrase, lead_phrase, Range}
+use Rattle.ncl_reader.specs.Forms.{in_ansi, at_declared, IsDeclaring}
+use Rattle.ncl_reader.specs.Vectors.{span_of}
+use Rattle.ncl_reader.specs.Rules.{Crowds}
+use Rattle.ncl_reader.specs.Lead.{takes_name}
 use Rattle.ncl_reader.specs.Refusals.{IsFaultAt}
 use Rattle.ncl_reader.specs.Known.{KeepsNames}
 use Rattle.ncl_reader.specs.Draft.{HoldsAt}
-use Rattle.ncl_reader.specs.Partial.{going, spelled}
-use Rattle.ncl_reader.proofs.Declares.{at_part, heading_form, declaring_form}
+use Rattle.ncl_reader.specs.Partial.{going, leading, spelled}
+use Rattle.ncl_reader.proofs.Declares.{at_part, heading_form, declaring_form, range_here}
+use Rattle.ncl_reader.proofs.DraftBody.{grouped-begins, body-begins}
+use Rattle.ncl_reader.proofs.LeadSteps.{in_header, in_item, begins}
+use Rattle.ncl_reader.proofs.NameRules.{not_declaring}
 use Rattle.ncl_reader.proofs.Loop.{holds-place}
 use Rattle.ncl_reader.proofs.Places as places
+use Rattle.ncl_reader.proofs.RefusalNames as refused
 use Rattle.ncl_reader.proofs.draft.Draft.of_name.Goals as goal
 
 pub returns-in-Item : goal.returns-in-Item
@@ -35,7 +44,17 @@ returns-in-Connection c = λ p holds.
     )
 
 pub returns-in-HeaderLead : goal.returns-in-HeaderLead
-returns-in-HeaderLead c = λ p holds. c.of_header_lead.ensures p (subst (λ at. HoldsAt at c.args.self.now p) c.in-HeaderLead.is holds)
+returns-in-HeaderLead c = λ p holds.
+    let d = c.args.self.now in
+    let lead = c.in-HeaderLead.lead in
+    let (item, pin, conn) = places.elsewhere p (place.HeaderLead lead) (holds-place c.args.place d p holds ∙ c.in-HeaderLead.is) (λ e. absurd cc) (λ e. absurd cc) (λ e. absurd cc) in
+    let (kept, (groups, part, is, at, led, read)) = subst (λ at. HoldsAt at d p) c.in-HeaderLead.is holds in
+    let takes : takes_name lead ≡ true → (range : Option Range) × IsDeclaring (spelled p) range × (option_map span_of range ≡ d.lead.span) × Decides c.crowds_header.result (Crowds (spelled p) c.args.name.now) = λ may.
+    let start = begins (in_header d.title.now groups) d.lead part c.args.name.now lead (takes_name lead) at refl may led in
+    let form : spelled p ≡ in_ansi d.title.now groups start.spec [] = ap spelled is ∙ heading_form d.title.now groups (leading part) start.spec [] (at_part direction_phrase (leading part) start.spec start.says) in
+    let decides = c.crowds_header.ensures groups start.spec [] start.keeps (grouped-begins d groups start.spec read) in
+    refused.declared_as (spelled p) _ c.args.name.now start.spec.range d.lead.span c.crowds_header.result form (inl (d.title.now, groups, start.spec.lead, [], refl)) start.keeps.1.same decides in
+    c.of_led.ensures (spelled p) kept (takes, λ may_not. not_declaring p (ap range_here is ∙ places.no_range_header part (ap takes_name at ∙ may_not))) item pin conn
 
 pub returns-in-HeaderName : goal.returns-in-HeaderName
 returns-in-HeaderName c = λ p holds.
@@ -43,10 +62,20 @@ returns-in-HeaderName c = λ p holds.
     let names = all_of row in
     let form : spelled p ≡ in_ansi c.args.self.now.title.now groups spec names = ap spelled is ∙ heading_form c.args.self.now.title.now groups (going spec row) spec names (at_part direction_phrase (going spec row) spec refl) in
     subst (λ xs. IsFaultAt xs (record { lexeme = Name c.args.name.now; place = c.args.at }) c.of_declared.result) (sym form)
-    (c.of_declared.ensures (in_ansi c.args.self.now.title.now groups spec names) spec.range (subst (KeepsNames c.args.self.now.known) form kept) (inl (c.args.self.now.title.now, groups, spec.lead, names, refl)) said.1.same (c.crowds_header.ensures groups spec names said read))
+    (c.of_declared.ensures (in_ansi c.args.self.now.title.now groups spec names) spec.range (subst (KeepsNames c.args.self.now.known) form kept) (inl (c.args.self.now.title.now, groups, spec.lead, names, refl)) said.1.same (c.crowds_header-in-HeaderName.ensures groups spec names said read))
 
 pub returns-in-Lead : goal.returns-in-Lead
-returns-in-Lead c = λ p holds. c.of_lead.ensures p (subst (λ at. HoldsAt at c.args.self.now p) c.in-Lead.is holds)
+returns-in-Lead c = λ p holds.
+    let d = c.args.self.now in
+    let lead = c.in-Lead.lead in
+    let (item, pin, conn) = places.elsewhere p (place.Lead lead) (holds-place c.args.place d p holds ∙ c.in-Lead.is) (λ e. absurd cc) (λ e. absurd cc) (λ e. absurd cc) in
+    let (kept, (head, items, part, is, at, led, early, body)) = subst (λ at. HoldsAt at d p) c.in-Lead.is holds in
+    let takes : takes_name lead ≡ true → (range : Option Range) × IsDeclaring (spelled p) range × (option_map span_of range ≡ d.lead.span) × Decides c.crowds_items.result (Crowds (spelled p) c.args.name.now) = λ may.
+    let start = begins (in_item head items) d.lead part c.args.name.now lead (takes_name lead) at refl may led in
+    let form : spelled p ≡ at_declared head items start.spec [] = ap spelled is ∙ declaring_form head items (leading part) start.spec [] (at_part lead_phrase (leading part) start.spec start.says) in
+    let decides = c.crowds_items.ensures head items start.spec [] start.keeps early (body-begins d head items start.spec body) in
+    refused.declared_as (spelled p) _ c.args.name.now start.spec.range d.lead.span c.crowds_items.result form (inr (head, items, start.spec.lead, [], refl)) start.keeps.1.same decides in
+    c.of_led-in-Lead.ensures (spelled p) kept (takes, λ may_not. not_declaring p (ap range_here is ∙ places.no_range_item part (ap takes_name at ∙ may_not))) item pin conn
 
 pub returns-in-Declared : goal.returns-in-Declared
 returns-in-Declared c = λ p holds.
@@ -54,13 +83,14 @@ returns-in-Declared c = λ p holds.
     let names = all_of row in
     let form : spelled p ≡ at_declared head items spec names = ap spelled is ∙ declaring_form head items (going spec row) spec names (at_part lead_phrase (going spec row) spec refl) in
     subst (λ xs. IsFaultAt xs (record { lexeme = Name c.args.name.now; place = c.args.at }) c.of_declared-in-Declared.result) (sym form)
-    (c.of_declared-in-Declared.ensures (at_declared head items spec names) spec.range (subst (KeepsNames c.args.self.now.known) form kept) (inr (head, items, spec.lead, names, refl)) said.1.same (c.crowds_items.ensures head items spec names said early body))
+    (c.of_declared-in-Declared.ensures (at_declared head items spec names) spec.range (subst (KeepsNames c.args.self.now.known) form kept) (inr (head, items, spec.lead, names, refl)) said.1.same (c.crowds_items-in-Declared.ensures head items spec names said early body))
 
 pub returns-in_default : goal.returns-in_default
 returns-in_default c = λ p holds.
-    let at = sym (holds-place c.args.place c.args.self.now p holds) in
-    c.of_plain.ensures (spelled p) holds.0
-    (λ range declares. elim (places.declares_at p range declares) [
+    let here = holds-place c.args.place c.args.self.now p holds in
+    let at = sym here in
+    let (item, pin, conn) = places.elsewhere p c.args.place here c.in_default.not-Item c.in_default.not-Pin c.in_default.not-Connection in
+    let free : (range : Option Range) → ¬ IsDeclaring (spelled p) range = λ range declares. elim (places.declares_at p range declares) [
       | inl (lead, is) ↦ c.in_default.not-HeaderLead lead (at ∙ is)
       | inr more ↦ elim more [
         | inl is ↦ c.in_default.not-HeaderName (at ∙ is)
@@ -69,7 +99,5 @@ returns-in_default c = λ p holds.
           | inr is ↦ c.in_default.not-Declared (at ∙ is)
         ]
       ]
-    ])
-    (λ item. c.in_default.not-Item (at ∙ places.item-place p item))
-    (λ pin. c.in_default.not-Pin (at ∙ places.pin-place p pin))
-    (λ conn. c.in_default.not-Connection (at ∙ places.conn-place p conn))
+    ] in
+    c.of_plain.ensures (spelled p) holds.0 free item pin conn

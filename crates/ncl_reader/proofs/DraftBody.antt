@@ -17,9 +17,10 @@ use Rattle.ncl_reader.specs.Vectors.{span_of, width, range_width, MOST_PORT_BITS
 use Rattle.ncl_reader.specs.Rules.{directed_by, group_bits, item_bits, BreaksRule}
 use Rattle.ncl_reader.specs.Says.{Said, is_output, said_of, said_in_header, said_in, said_by, joined_in, Joined, AreCellsOf}
 use Rattle.ncl_reader.specs.Header.{IsHeader, names_said, bits_said, span_width}
-use Rattle.ncl_reader.specs.Draft.{said_with, is_ansi, IsRead, IsGrouped, IsGroupedWith, IsBody, IsBodyWith}
+use Rattle.ncl_reader.specs.Draft.{said_with, is_ansi, IsRead, IsGrouped, IsGroupedWith, IsBody, IsBodyWith, IsEarly, IsDeclaredNext}
 use Rattle.ncl_reader.specs.declared.lead.Lead.{Lead as Led}
-use Rattle.ncl_reader.specs.Lead.{lead_output}
+use Rattle.ncl_reader.specs.Lead.{IsSaid, lead_output}
+use Rattle.ncl_reader.specs.Known.{KeepsNames}
 use Rattle.ncl_reader.proofs.Among.{among_or_not}
 use Rattle.ncl_reader.proofs.SaidNames.{names-append, bits-append, names-said_of, bits-said_of, said_of-push, names-header, bits-header, names-said_by, bits-said_by}
 
@@ -200,3 +201,8 @@ module _ (head : Head) (items : List Item) (spec : Spec Lead) (names : List (Lis
         new = known.1;
         many = subst (λ n. MOST_PORT_BITS < n) (bits-body head items spec names direction gives none range s e numbers) many;
       }))))))))))
+
+-- what holds of a draft that takes a name of a declaration of an item
+pub declared_next : (head : Head) (items : List Item) (spec : Spec Lead) (names : List (List ℕ)) (x : List ℕ) (new : Draft) → KeepsNames new.known (at_declared head items spec names ++ Name x ∷ []) → IsSaid lead_output spec new.lead → IsEarly new → new.title.now ≡ head.name → new.ansi ≡ is_ansi head.ports → IsHeader new.header (header_of head) (said_by (record { head = head; items = items }) ++ said_with spec (names ++ x ∷ [])) → AreCellsOf (flat_map joined_in items) new.cells.items → IsDeclaredNext head items spec names x new
+declared_next head items spec names x new kept said early title ansi header cells =
+    (kept, said, early, (title, record { ansi = ansi; header = header; cells = cells }))

@@ -129,7 +129,7 @@ impl<'a> Draft<'a> {
         None
     }
 
-    /// Whether a name that is declared breaks a rule. Five look-ups of O(log n) comparisons.
+    /// Whether a name that is declared breaks a rule. Six look-ups of O(log n) comparisons.
     fn breaks_declared(&self, name: &[u8]) -> bool
         ensures { (head : Head) (items : List Item) (spec : Spec LeadOf) (names : List (List ℕ))
             → KeepsNames self.now.known (at_declared head items spec names) → IsSaid lead_output spec self.now.lead
@@ -149,10 +149,7 @@ impl<'a> Draft<'a> {
         if !self.header.lacks_way(name) {
             return true;
         }
-        match span {
-            Some(span) => self.header.crowds(span),
-            None => false,
-        }
+        self.crowds_items(name)
     }
 
     /// Takes a name that is declared and breaks no rule. Five look-ups of O(log n) comparisons.

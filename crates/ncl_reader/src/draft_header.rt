@@ -147,7 +147,7 @@ impl<'a> Draft<'a> {
         None
     }
 
-    /// Whether a name of a declaration of the header breaks a rule. Five look-ups of O(log n) comparisons.
+    /// Whether a name of a declaration of the header breaks a rule. Six look-ups of O(log n) comparisons.
     fn breaks_header(&self, name: &[u8]) -> bool
         ensures { (groups : List (Group Direction)) (spec : Spec Direction) (names : List (List ℕ))
             → KeepsNames self.now.known (in_ansi self.now.title.now groups spec names)
@@ -164,10 +164,7 @@ impl<'a> Draft<'a> {
         if self.known.clashes_declared(name, span) {
             return true;
         }
-        match span {
-            Some(span) => self.header.crowds(span),
-            None => false,
-        }
+        self.crowds_header(name)
     }
 
     /// Takes a name of a declaration of the header that breaks no rule. Five look-ups of O(log n) comparisons.

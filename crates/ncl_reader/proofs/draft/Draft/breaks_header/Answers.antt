@@ -1,16 +1,12 @@
-use Rattle.std.proofs.Common.{◌<◌, ◌++◌, Contains, inl, inr, refl, sym, ap, ◌∙◌, subst}
+use Rattle.std.proofs.Common.{◌++◌, Contains, inl, inr, refl, sym, ◌∙◌}
 use Rattle.std.specs.List.{flat_map}
-use Rattle.std.specs.Option.{option_map}
 use Rattle.std.proofs.lemmas.Bool.{false≢true}
-use Rattle.std.proofs.lemmas.Option.{none-some, same_Some}
 use Rattle.ncl_reader.specs.Grammar.{group_names}
 use Rattle.ncl_reader.specs.Forms.{in_ansi, IsDeclaring}
-use Rattle.ncl_reader.specs.Vectors.{span_of, MOST_PORT_BITS}
 use Rattle.ncl_reader.specs.Rules.{Redeclares, Clashes}
 use Rattle.ncl_reader.specs.Says.{said_in_header, said_of}
-use Rattle.ncl_reader.proofs.KeptNames.{some_range}
 use Rattle.ncl_reader.proofs.NameRules.{headed_rule, clash_rule}
-use Rattle.ncl_reader.proofs.DraftBody.{bits-grouped_more}
+use Rattle.ncl_reader.proofs.RefusalNames as refused
 use Rattle.ncl_reader.proofs.draft.Draft.breaks_header.Goals as goal
 
 pub returns-then-has : goal.returns-then-has
@@ -36,8 +32,8 @@ returns-then-clashes_declared c = λ groups spec names kept said read.
       λ breaks. refl,
     )
 
-pub returns-in-Some : goal.returns-in-Some
-returns-in-Some c = λ groups spec names kept said read.
+pub returns : goal.returns
+returns c = λ groups spec names kept said read.
     let title = c.args.self.now.title.now in
     let x = c.args.name.now in
     let xs = in_ansi title groups spec names in
@@ -47,36 +43,9 @@ returns-in-Some c = λ groups spec names kept said read.
     let agrees : Redeclares xs x → ⊥ = λ r. false≢true (sym c.if-redeclares.false ∙ (c.redeclares.ensures xs spec.range kept declares said.1.same).1 r) in
     let fine : Clashes xs x → ⊥ = λ r. false≢true (sym c.if-clashes_declared.false ∙ (c.clashes_declared.ensures xs spec.range kept declares said.1.same agrees).1 r) in
     let new : Contains listed x → ⊥ = λ r. false≢true (sym c.if-has.false ∙ (c.has.ensures listed told read.header).1 r) in
-    let (range, is, numbers) = some_range c.args.self.now.known xs x spec.range c.args.self.now.lead.span kept declares said.1.same c.in-Some.span c.in-Some.is in
-    let bits = bits-grouped_more groups spec names range c.in-Some.span is numbers in (
-      λ e. inr (inr (inr (inr (inr (inr (inr (inl (record {
-        title = title;
-        groups = groups;
-        direction = spec.lead;
-        range = range;
-        names = names;
-        is = ap (λ r. in_ansi title groups (record { lead = spec.lead; range = r }) names) is;
-        new = new;
-        many = subst (λ n. MOST_PORT_BITS < n) bits ((c.crowds.ensures listed told read.header).0 e);
-      })))))))),
-      λ breaks.
-          let (other, same, many) = headed_rule title groups spec names x new agrees fine breaks in
-          (c.crowds.ensures listed told read.header).1 (subst (λ n. MOST_PORT_BITS < n) (sym (bits-grouped_more groups spec names other c.in-Some.span same (same_Some (span_of other) c.in-Some.span (ap (option_map span_of) (sym same) ∙ said.1.same ∙ c.in-Some.is)))) many),
-    )
-
-pub returns-in-None : goal.returns-in-None
-returns-in-None c = λ groups spec names kept said read.
-    let title = c.args.self.now.title.now in
-    let x = c.args.name.now in
-    let xs = in_ansi title groups spec names in
-    let told = flat_map said_in_header groups ++ said_of spec.lead spec.range names in
-    let listed = flat_map group_names groups ++ names in
-    let declares : IsDeclaring xs spec.range = inl (title, groups, spec.lead, names, refl) in
-    let agrees : Redeclares xs x → ⊥ = λ r. false≢true (sym c.if-redeclares.false ∙ (c.redeclares.ensures xs spec.range kept declares said.1.same).1 r) in
-    let fine : Clashes xs x → ⊥ = λ r. false≢true (sym c.if-clashes_declared.false ∙ (c.clashes_declared.ensures xs spec.range kept declares said.1.same agrees).1 r) in
-    let new : Contains listed x → ⊥ = λ r. false≢true (sym c.if-has.false ∙ (c.has.ensures listed told read.header).1 r) in (
-      λ e. absurd (false≢true e),
+    let decides = c.crowds_header.ensures groups spec names said read in (
+      λ e. inr (inr (inr (inr (inr (inr (inr (decides.0 e))))))),
       λ breaks.
           let (range, is, many) = headed_rule title groups spec names x new agrees fine breaks in
-          absurd (none-some (span_of range) (sym c.in-None.is ∙ sym said.1.same ∙ ap (option_map span_of) is)),
+          decides.1 (refused.crowds_head title groups spec names x (record { range = range; is = is; new = new; many = many })),
     )

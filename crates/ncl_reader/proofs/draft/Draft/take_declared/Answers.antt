@@ -6,7 +6,7 @@ use Rattle.ncl_reader.specs.Says.{said_by}
 use Rattle.ncl_reader.specs.Header.{IsHeader, names_said}
 use Rattle.ncl_reader.specs.Draft.{said_with}
 use Rattle.ncl_reader.proofs.NameRules.{clash_rule}
-use Rattle.ncl_reader.proofs.DraftBody.{names-body, no_groups, few-body, told-more, said_with-wire, wires_of, gives_some, listed-fine}
+use Rattle.ncl_reader.proofs.DraftBody.{names-body, no_groups, few-body, told-more, said_with-wire, wires_of, gives_some, listed-fine, declared_next}
 use Rattle.ncl_reader.proofs.draft.Draft.take_declared.Goals as goal
 
 pub returns-in_default : goal.returns-in_default
@@ -17,19 +17,9 @@ returns-in_default c = λ head items spec names kept said early body fine.
     let agrees : Redeclares xs x → ⊥ = λ r. fine (inr (inr (inr (inr (inr (inl r)))))) in
     let clear : Clashes xs x → ⊥ = λ r. fine (clash_rule xs x r) in
     let wire = wires_of spec.lead (sym said.0 ∙ c.in_default.is) in
-    let same : said_with spec names ≡ said_with spec (names ++ x ∷ []) = said_with-wire spec names wire ∙ sym (said_with-wire spec (names ++ x ∷ []) wire) in (
-      c.in_ok-declare.ensures xs spec.range kept declares said.1 agrees clear,
-      said,
-      early,
-      (
-        body.0,
-        record {
-          ansi = body.1.ansi;
-          header = subst (λ l. IsHeader c.args.self.now.header (header_of head) (said_by (record { head = head; items = items }) ++ l)) same body.1.header;
-          cells = body.1.cells;
-        },
-      ),
-    )
+    let same : said_with spec names ≡ said_with spec (names ++ x ∷ []) = said_with-wire spec names wire ∙ sym (said_with-wire spec (names ++ x ∷ []) wire) in
+    let header = subst (λ l. IsHeader c.args.self.now.header (header_of head) (said_by (record { head = head; items = items }) ++ l)) same body.1.header in
+    declared_next head items spec names x (record c.args.self.now { known = c.declare.new.self }) (c.in_ok-declare.ensures xs spec.range kept declares said.1 agrees clear) said early body.0 body.1.ansi header body.1.cells
 
 pub returns : goal.returns
 returns c = λ head items spec names kept said early body fine.
@@ -45,16 +35,6 @@ returns c = λ head items spec names kept said early body fine.
     let free : Contains (names_said told) x → ⊥ = λ r. known.1 (subst (λ l. Contains l x) (names-body head items spec names direction gives) r) in
     let none = no_groups head.ports (sym body.1.ansi ∙ early c.in-Some.output c.in-Some.is) in
     let few = few-body head items spec names direction gives x d.header d.lead.span none body.1.header said.1.same known fine in
-    let more = c.in_ok-direct.ensures (header_of head) told spec.range body.1.header said.1.same known.0 free few in (
-      c.in_ok-declare.ensures xs spec.range kept declares said.1 agrees clear,
-      said,
-      early,
-      (
-        body.0,
-        record {
-          ansi = body.1.ansi;
-          header = subst (λ l. IsHeader c.direct.new.self (header_of head) l) (ap (λ o. told ++ record { name = x; output = o; range = spec.range } ∷ []) output ∙ told-more head items spec names direction gives x) more;
-          cells = body.1.cells;
-        },
-      ),
-    )
+    let more = c.in_ok-direct.ensures (header_of head) told spec.range body.1.header said.1.same known.0 free few in
+    let header = subst (λ l. IsHeader c.direct.new.self (header_of head) l) (ap (λ o. told ++ record { name = x; output = o; range = spec.range } ∷ []) output ∙ told-more head items spec names direction gives x) more in
+    declared_next head items spec names x (record d { header = c.direct.new.self; known = c.declare.new.self }) (c.in_ok-declare.ensures xs spec.range kept declares said.1 agrees clear) said early body.0 body.1.ansi header body.1.cells

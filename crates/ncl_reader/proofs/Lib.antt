@@ -42,6 +42,8 @@ pub mod PortsFew
 pub mod LeadSteps
 pub mod DraftBody
 pub mod HeaderSteps
+pub mod SignSteps
+pub mod PlainSteps
 mod Loop
 mod LoopTokens
 pub mod GraphicNames

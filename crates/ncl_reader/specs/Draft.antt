@@ -195,9 +195,11 @@ TakesOrBreaks at p t (Some after) new = Takes p t after new
 TakesOrBreaks at p t None new = Breaks (spelled p) t × HoldsAt at new p
 
 -- one step of the reader
+abbrev pub StepsAt : Place → Draft → Lexeme → Result (Option Place) Memory → Draft → Type 0
+StepsAt at old t result new = (p : Partial) → HoldsAt at old p → IfOk result (λ after. TakesOrBreaks at p t after new)
+
 abbrev pub Steps : Place → Draft → Read → Result (Option Place) Memory → Draft → Type 0
-Steps at old read result new =
-    (p : Partial) → HoldsAt at old p → IfOk result (λ after. TakesOrBreaks at p (meant read) after new)
+Steps at old read result new = StepsAt at old (meant read) result new
 
 -- a name of a declaration of the header is taken
 abbrev pub IsHeadedNext : Draft → List (Group Direction) → Spec Direction → List (List ℕ) → List ℕ → Draft → Type 0

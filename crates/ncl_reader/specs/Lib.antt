@@ -19,6 +19,7 @@ pub mod Partial
 pub mod Lead
 pub mod Known
 pub mod Draft
+pub mod Next
 pub mod Meant
 pub mod Faults
 pub mod GraphicNames

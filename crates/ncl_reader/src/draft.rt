@@ -1,8 +1,11 @@
 //! What was read so far.
-ghost use Rattle.std.specs.Prelude.{◌≡◌, ◌≤◌, ◌+◌, length, Ok, IfOk};
+ghost use Rattle.std.specs.Prelude.{◌≡◌, ◌≤◌, ◌+◌, true, length, Ok, IfOk};
 ghost use Rattle.ncl_netlist.specs.Names.{AllDiffer};
 ghost use Rattle.ncl_netlist.specs.Parts.{port_names};
-ghost use Rattle.ncl_reader.specs.Draft.{Steps, HoldsAt, SaysAt};
+ghost use Rattle.ncl_reader.specs.Lexemes.{Name as NameLexeme};
+ghost use Rattle.ncl_reader.specs.Rules.{BreaksRule};
+ghost use Rattle.ncl_reader.specs.Draft.{Steps, StepsAt, HoldsAt, HoldsBy, SaysAt, Takes};
+ghost use Rattle.ncl_reader.specs.Next.{takes_sign, after_sign, takes_plain, takes_name_alone, MayStand};
 ghost use Rattle.ncl_reader.specs.Partial.{Partial, start, spelled};
 
 use crate::header::Header;
@@ -16,6 +19,9 @@ use ncl_base::{Items, Memory, Name};
 use ncl_gates::CellKind;
 use ncl_netlist::{PartCell, Parts};
 use std::alloc::Global;
+
+/// What a step comes to: the next place, `None` where the token breaks, or want of memory.
+pub type Step = Result<Option<Place>, Memory>;
 
 /// What was read so far: the name of the module, its header and whether declarations stand there, what the declaration
 /// that is read begins with, the names that stand, the instance that is read, and the cells.
@@ -58,42 +64,27 @@ impl<'a> Draft<'a> {
     }
 
     /// One token more, or `None` where it breaks, and then nothing changes.
-    pub fn step(
-        &mut self,
-        alloc: Global,
-        place: Place,
-        lexeme: &Lexeme<'a>,
-    ) -> Result<Option<Place>, Memory>
+    pub fn step(&mut self, alloc: Global, place: Place, lexeme: &Lexeme<'a>) -> Step
         ensures { Steps place self.old lexeme.now result self.new }
     {
         match place {
             Place::Module => Ok(self.at_module(lexeme)),
-            Place::ModuleName => self.at_module_name(alloc, lexeme),
-            Place::AfterModuleName => Ok(self.after_module_name(lexeme)),
             Place::FirstPort => self.at_first_port(alloc, lexeme),
-            Place::Port => self.at_port(alloc, lexeme),
-            Place::AfterPort => Ok(self.after_port(lexeme)),
             Place::HeaderLead(at) => self.at_header_lead(alloc, at, lexeme),
             Place::HeaderName => self.at_header_name(alloc, lexeme),
-            Place::AfterHeaderName => Ok(self.after_header_name(lexeme)),
-            Place::AfterPorts => Ok(self.after_ports(lexeme)),
             Place::Item => self.at_item(alloc, lexeme),
             Place::Lead(at) => self.at_lead(alloc, at, lexeme),
             Place::Declared => self.at_declared(alloc, lexeme),
-            Place::AfterDeclared => Ok(self.after_declared(lexeme)),
-            Place::InstanceName => self.at_instance_name(alloc, lexeme),
-            Place::Connections => Ok(self.at_connections(lexeme)),
-            Place::Connection => Ok(self.at_connection(lexeme)),
-            Place::Pin => self.at_pin(alloc, lexeme),
-            Place::PinNet => Ok(self.at_pin_net(lexeme)),
             Place::Net => self.at_net(alloc, lexeme),
             Place::AfterNet => self.after_net(lexeme),
             Place::Index => Ok(self.at_index(lexeme)),
-            Place::AfterIndex => Ok(self.after_index(lexeme)),
             Place::NetEnd => self.net_end(lexeme),
             Place::AfterConnection => self.after_connection(alloc, lexeme),
-            Place::AfterInstance => Ok(self.after_instance(lexeme)),
             Place::End => Ok(None),
+            Place::ModuleName | Place::Port | Place::InstanceName | Place::Pin => {
+                self.at_name(alloc, place, lexeme)
+            }
+            _ => Ok(self.at_sign(place, lexeme)),
         }
     }
 
@@ -130,35 +121,101 @@ impl<'a> Draft<'a> {
         None
     }
 
-    /// At the name of the module.
-    fn at_module_name(
-        &mut self,
-        alloc: Global,
-        lexeme: &Lexeme<'a>,
-    ) -> Result<Option<Place>, Memory>
-        ensures { Steps Place.ModuleName self.old lexeme.now result self.new }
+    /// At a place where a sign alone says what comes next.
+    fn at_sign(&self, place: Place, lexeme: &Lexeme<'a>) -> Option<Place>
+        requires { takes_sign place ≡ true }
+        ensures { Steps place self.now lexeme.now (Ok result) self.now }
+    {
+        match lexeme {
+            Lexeme::Mark(sign) => after_sign(place, *sign),
+            _ => None,
+        }
+    }
+
+    /// At a place where no token stands but a name that isn't declared.
+    fn at_name(&mut self, alloc: Global, place: Place, lexeme: &Lexeme<'a>) -> Step
+        requires { takes_name_alone place ≡ true }
+        ensures { Steps place self.old lexeme.now result self.new }
     {
         let Some(name) = lexeme.name() else {
             return Ok(None);
         };
+        self.at_plain(alloc, place, name)
+    }
+
+    /// A name that isn't declared.
+    pub fn at_plain(&mut self, alloc: Global, place: Place, name: &'a [u8]) -> Step
+        requires { takes_plain place ≡ true }
+        ensures { StepsAt place self.old (NameLexeme name.now) result self.new }
+    {
         if self.known.clashes(name) {
             return Ok(None);
         }
-        self.known.stand(alloc, name)?;
-        self.title = name;
-        Ok(Some(Place::AfterModuleName))
+        if !self.may_stand(place, name) {
+            return Ok(None);
+        }
+        Ok(Some(self.take_plain(alloc, place, name)?))
     }
 
-    /// Behind the name of the module.
-    fn after_module_name(&self, lexeme: &Lexeme<'a>) -> Option<Place>
-        ensures { Steps Place.AfterModuleName self.now lexeme.now (Ok result) self.now }
+    /// Whether a name that isn't declared may stand, but for a clash.
+    fn may_stand(&self, place: Place, name: &[u8]) -> bool
+        requires { takes_plain place ≡ true }
+        ensures { (p : Partial) → HoldsBy place self.now p → MayStand result (spelled p) name.now }
     {
-        if lexeme.is_mark(Sign::LParen) {
-            return Some(Place::FirstPort);
+        match place {
+            Place::Port => !self.header.has(name),
+            Place::Pin => self.instance.may_join(name),
+            _ => true,
         }
-        if lexeme.is_mark(Sign::Semi) {
-            return Some(Place::Item);
+    }
+
+    /// Takes a name that isn't declared and breaks no rule.
+    fn take_plain(&mut self, alloc: Global, place: Place, name: &'a [u8]) -> Result<Place, Memory>
+        requires { takes_plain place ≡ true }
+        ensures { (p : Partial) → HoldsAt place self.old p → ¬ BreaksRule (spelled p) (NameLexeme name.now)
+            → IfOk result (λ after. Takes p (NameLexeme name.now) after self.new) }
+    {
+        self.known.stand(alloc, name)?;
+        match place {
+            Place::ModuleName => {
+                self.title = name;
+                Ok(Place::AfterModuleName)
+            }
+            Place::InstanceName => {
+                self.instance.name = name;
+                Ok(Place::Connections)
+            }
+            Place::Pin => {
+                self.instance.pin = name;
+                Ok(Place::PinNet)
+            }
+            _ => {
+                self.header.add(name)?;
+                Ok(Place::AfterPort)
+            }
         }
-        None
+    }
+}
+
+/// The place behind a sign, at a place where a sign alone says what comes next.
+fn after_sign(place: Place, sign: Sign) -> Option<Place>
+    ensures { result ≡ after_sign place sign }
+{
+    match (place, sign) {
+        (Place::AfterModuleName, Sign::LParen) => Some(Place::FirstPort),
+        (Place::AfterModuleName, Sign::Semi) => Some(Place::Item),
+        (Place::AfterPort, Sign::Comma) => Some(Place::Port),
+        (Place::AfterPort, Sign::RParen) => Some(Place::AfterPorts),
+        (Place::AfterHeaderName, Sign::Comma) => Some(Place::HeaderName),
+        (Place::AfterHeaderName, Sign::RParen) => Some(Place::AfterPorts),
+        (Place::AfterPorts, Sign::Semi) => Some(Place::Item),
+        (Place::AfterDeclared, Sign::Comma) => Some(Place::Declared),
+        (Place::AfterDeclared, Sign::Semi) => Some(Place::Item),
+        (Place::Connections, Sign::LParen) => Some(Place::Connection),
+        (Place::Connection, Sign::Dot) => Some(Place::Pin),
+        (Place::PinNet, Sign::LParen) => Some(Place::Net),
+        (Place::AfterIndex, Sign::RBracket) => Some(Place::NetEnd),
+        (Place::AfterInstance, Sign::Semi) => Some(Place::Item),
+        _ => None,
     }
 }

@@ -10,7 +10,7 @@ ghost use Rattle.ncl_reader.specs.Lead.{IsSaid, lead_output};
 ghost use Rattle.ncl_reader.specs.Draft.{Steps, IsBodyWith, IsDeclaredNext, IsEarly};
 ghost use Rattle.ncl_reader.specs.Meant.{meant};
 
-use crate::draft::Draft;
+use crate::draft::{Draft, Step};
 use crate::draft_header::begun;
 use crate::keyword::Keyword;
 use crate::lead::{Lead, takes_name};
@@ -22,7 +22,7 @@ use std::alloc::Global;
 
 impl<'a> Draft<'a> {
     /// In front of an item.
-    pub fn at_item(&mut self, alloc: Global, lexeme: &Lexeme<'a>) -> Result<Option<Place>, Memory>
+    pub fn at_item(&mut self, alloc: Global, lexeme: &Lexeme<'a>) -> Step
         ensures { Steps Place.Item self.old lexeme.now result self.new }
     {
         if let Some(name) = lexeme.name() {
@@ -53,12 +53,7 @@ impl<'a> Draft<'a> {
     }
 
     /// At the name of a cell.
-    fn at_cell(
-        &mut self,
-        alloc: Global,
-        name: &'a [u8],
-        lexeme: &Lexeme<'a>,
-    ) -> Result<Option<Place>, Memory>
+    fn at_cell(&mut self, alloc: Global, name: &'a [u8], lexeme: &Lexeme<'a>) -> Step
         ensures { meant lexeme.now ≡ NameLexeme name.now → Steps Place.Item self.old lexeme.now result self.new }
     {
         let Some(kind) = CellKind::from_name(name) else {
@@ -74,12 +69,7 @@ impl<'a> Draft<'a> {
     }
 
     /// Behind the word that begins a declaration.
-    pub fn at_lead(
-        &mut self,
-        alloc: Global,
-        at: LeadPlace,
-        lexeme: &Lexeme<'a>,
-    ) -> Result<Option<Place>, Memory>
+    pub fn at_lead(&mut self, alloc: Global, at: LeadPlace, lexeme: &Lexeme<'a>) -> Step
         ensures { Steps (Place.Lead at) self.old lexeme.now result self.new }
     {
         let Some(name) = lexeme.name() else {
@@ -99,11 +89,7 @@ impl<'a> Draft<'a> {
     }
 
     /// At a further name of a declaration.
-    pub fn at_declared(
-        &mut self,
-        alloc: Global,
-        lexeme: &Lexeme<'a>,
-    ) -> Result<Option<Place>, Memory>
+    pub fn at_declared(&mut self, alloc: Global, lexeme: &Lexeme<'a>) -> Step
         ensures { Steps Place.Declared self.old lexeme.now result self.new }
     {
         let Some(name) = lexeme.name() else {
@@ -114,19 +100,6 @@ impl<'a> Draft<'a> {
         }
         self.take_declared(alloc, name)?;
         Ok(Some(Place::AfterDeclared))
-    }
-
-    /// Behind a name of a declaration.
-    pub fn after_declared(&self, lexeme: &Lexeme<'a>) -> Option<Place>
-        ensures { Steps Place.AfterDeclared self.now lexeme.now (Ok result) self.now }
-    {
-        if lexeme.is_mark(Sign::Comma) {
-            return Some(Place::Declared);
-        }
-        if lexeme.is_mark(Sign::Semi) {
-            return Some(Place::Item);
-        }
-        None
     }
 
     /// Whether a name that is declared breaks a rule. Six look-ups of O(log n) comparisons.

@@ -10,7 +10,7 @@ ghost use Rattle.ncl_reader.specs.Known.{KeepsNames};
 ghost use Rattle.ncl_reader.specs.Lead.{IsSaid, direction_output};
 ghost use Rattle.ncl_reader.specs.Draft.{Steps, IsGroupedWith, IsHeadedNext};
 
-use crate::draft::Draft;
+use crate::draft::{Draft, Step};
 use crate::keyword::Way;
 use crate::lead::{Lead, takes_name};
 use crate::lexeme::{Lexeme, Sign};
@@ -20,11 +20,7 @@ use std::alloc::Global;
 
 impl<'a> Draft<'a> {
     /// Where a header begins.
-    pub fn at_first_port(
-        &mut self,
-        alloc: Global,
-        lexeme: &Lexeme<'a>,
-    ) -> Result<Option<Place>, Memory>
+    pub fn at_first_port(&mut self, alloc: Global, lexeme: &Lexeme<'a>) -> Step
         ensures { Steps Place.FirstPort self.old lexeme.now result self.new }
     {
         if lexeme.is_mark(Sign::RParen) {
@@ -38,52 +34,11 @@ impl<'a> Draft<'a> {
         let Some(name) = lexeme.name() else {
             return Ok(None);
         };
-        if self.known.clashes(name) {
-            return Ok(None);
-        }
-        self.header.add(name)?;
-        self.known.stand(alloc, name)?;
-        Ok(Some(Place::AfterPort))
-    }
-
-    /// At a further name of a header of names.
-    pub fn at_port(&mut self, alloc: Global, lexeme: &Lexeme<'a>) -> Result<Option<Place>, Memory>
-        ensures { Steps Place.Port self.old lexeme.now result self.new }
-    {
-        let Some(name) = lexeme.name() else {
-            return Ok(None);
-        };
-        if self.known.clashes(name) {
-            return Ok(None);
-        }
-        if self.header.has(name) {
-            return Ok(None);
-        }
-        self.header.add(name)?;
-        self.known.stand(alloc, name)?;
-        Ok(Some(Place::AfterPort))
-    }
-
-    /// Behind a name of a header of names.
-    pub fn after_port(&self, lexeme: &Lexeme<'a>) -> Option<Place>
-        ensures { Steps Place.AfterPort self.now lexeme.now (Ok result) self.now }
-    {
-        if lexeme.is_mark(Sign::Comma) {
-            return Some(Place::Port);
-        }
-        if lexeme.is_mark(Sign::RParen) {
-            return Some(Place::AfterPorts);
-        }
-        None
+        self.at_plain(alloc, Place::FirstPort, name)
     }
 
     /// Behind a direction of the header.
-    pub fn at_header_lead(
-        &mut self,
-        alloc: Global,
-        at: LeadPlace,
-        lexeme: &Lexeme<'a>,
-    ) -> Result<Option<Place>, Memory>
+    pub fn at_header_lead(&mut self, alloc: Global, at: LeadPlace, lexeme: &Lexeme<'a>) -> Step
         ensures { Steps (Place.HeaderLead at) self.old lexeme.now result self.new }
     {
         let Some(name) = lexeme.name() else {
@@ -103,11 +58,7 @@ impl<'a> Draft<'a> {
     }
 
     /// At a further name of a header of declarations, or at the next declaration.
-    pub fn at_header_name(
-        &mut self,
-        alloc: Global,
-        lexeme: &Lexeme<'a>,
-    ) -> Result<Option<Place>, Memory>
+    pub fn at_header_name(&mut self, alloc: Global, lexeme: &Lexeme<'a>) -> Step
         ensures { Steps Place.HeaderName self.old lexeme.now result self.new }
     {
         if let Some(way) = lexeme.way() {
@@ -122,29 +73,6 @@ impl<'a> Draft<'a> {
         }
         self.take_header_name(alloc, name)?;
         Ok(Some(Place::AfterHeaderName))
-    }
-
-    /// Behind a name of a header of declarations.
-    pub fn after_header_name(&self, lexeme: &Lexeme<'a>) -> Option<Place>
-        ensures { Steps Place.AfterHeaderName self.now lexeme.now (Ok result) self.now }
-    {
-        if lexeme.is_mark(Sign::Comma) {
-            return Some(Place::HeaderName);
-        }
-        if lexeme.is_mark(Sign::RParen) {
-            return Some(Place::AfterPorts);
-        }
-        None
-    }
-
-    /// Behind the parentheses of the header.
-    pub fn after_ports(&self, lexeme: &Lexeme<'a>) -> Option<Place>
-        ensures { Steps Place.AfterPorts self.now lexeme.now (Ok result) self.now }
-    {
-        if lexeme.is_mark(Sign::Semi) {
-            return Some(Place::Item);
-        }
-        None
     }
 
     /// Whether a name of a declaration of the header breaks a rule. Six look-ups of O(log n) comparisons.

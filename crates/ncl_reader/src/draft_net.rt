@@ -6,18 +6,17 @@ ghost use Rattle.ncl_reader.specs.Vectors.{IsVector, span_of};
 ghost use Rattle.ncl_reader.specs.Known.{KeepsNames};
 ghost use Rattle.ncl_reader.specs.Draft.{Steps};
 
-use crate::draft::Draft;
+use crate::draft::{Draft, Step};
 use crate::instance::Join;
 use crate::lexeme::{Lexeme, Sign};
 use crate::number::{is_outside, small};
 use crate::place::Place;
 use crate::span::Span;
-use ncl_base::Memory;
 use std::alloc::Global;
 
 impl<'a> Draft<'a> {
     /// At the name of a net.
-    pub fn at_net(&mut self, alloc: Global, lexeme: &Lexeme<'a>) -> Result<Option<Place>, Memory>
+    pub fn at_net(&mut self, alloc: Global, lexeme: &Lexeme<'a>) -> Step
         ensures { Steps Place.Net self.old lexeme.now result self.new }
     {
         let Some(name) = lexeme.name() else {
@@ -32,7 +31,7 @@ impl<'a> Draft<'a> {
     }
 
     /// Behind the name of a net.
-    pub fn after_net(&mut self, lexeme: &Lexeme<'a>) -> Result<Option<Place>, Memory>
+    pub fn after_net(&mut self, lexeme: &Lexeme<'a>) -> Step
         ensures { Steps Place.AfterNet self.old lexeme.now result self.new }
     {
         let range = self.net_range();
@@ -77,18 +76,8 @@ impl<'a> Draft<'a> {
         Some(Place::AfterIndex)
     }
 
-    /// Behind the number of a bit.
-    pub fn after_index(&self, lexeme: &Lexeme<'a>) -> Option<Place>
-        ensures { Steps Place.AfterIndex self.now lexeme.now (Ok result) self.now }
-    {
-        if lexeme.is_mark(Sign::RBracket) {
-            return Some(Place::NetEnd);
-        }
-        None
-    }
-
     /// Behind a bit.
-    pub fn net_end(&mut self, lexeme: &Lexeme<'a>) -> Result<Option<Place>, Memory>
+    pub fn net_end(&mut self, lexeme: &Lexeme<'a>) -> Step
         ensures { Steps Place.NetEnd self.old lexeme.now result self.new }
     {
         if !lexeme.is_mark(Sign::RParen) {

@@ -1,4 +1,5 @@
-use Rattle.std.proofs.Common.{◌≢◌, [], true, refl, sym, ap, ◌∙◌, arith}
+use Rattle.std.proofs.Common.{◌≢◌, [], true, refl, sym, ◌∙◌, subst}
+use Rattle.std.specs.Prelude.{IfOk}
 use Rattle.std.proofs.lemmas.Bool.{false≢true}
 use Rattle.ncl_reader.specs.declared.place.Place.TheVariants as place
 use Rattle.ncl_reader.specs.declared.place.LeadPlace.TheVariants as lead
@@ -6,11 +7,10 @@ use Rattle.ncl_reader.specs.declared.keyword.Keyword.TheVariants.{Way as word_of
 use Rattle.ncl_reader.specs.declared.lexeme.Sign.TheVariants.{RParen}
 use Rattle.ncl_reader.specs.Lexemes.{Mark, Word}
 use Rattle.ncl_reader.specs.Grammar.{Plain, Empty}
-use Rattle.ncl_reader.specs.Rules.{Clashes}
 use Rattle.ncl_reader.specs.Meant.{meant}
-use Rattle.ncl_reader.specs.Partial.{listing, listed, heading, headed, leading, led, spelled}
-use Rattle.ncl_reader.proofs.Declares.{range_here}
-use Rattle.ncl_reader.proofs.NameRules.{opens, close_free, not_late, port_rule_at, not_declaring, not_net}
+use Rattle.ncl_reader.specs.Partial.{listing, heading, headed, leading, led}
+use Rattle.ncl_reader.specs.Draft.{TakesOrBreaks}
+use Rattle.ncl_reader.proofs.NameRules.{close_free, not_late}
 use Rattle.ncl_reader.proofs.DraftSteps as steps
 use Rattle.ncl_reader.proofs.draft.Draft.at_first_port.Goals as goal
 
@@ -33,17 +33,6 @@ returns-in_default-name c = λ p (kept, (is, bare)).
     let one : meant c.args.lexeme.now ≢ Mark RParen = λ e. false≢true (sym c.if-is_mark.false ∙ c.is_mark.ensures.1 e) in
     steps.untaken place.FirstPort p (listing title []) (meant c.args.lexeme.now) c.args.self.now is (steps.others-first title (meant c.args.lexeme.now) one c.in_default.ensures c.in_default-name.ensures) (kept, (is, bare))
 
-pub returns-then-clashes : goal.returns-then-clashes
-returns-then-clashes c = λ p (kept, (is, bare)).
-    steps.clashing place.FirstPort p (meant c.args.lexeme.now) c.in-Some-name.name.now c.args.self.now c.in-Some-name.ensures ((c.clashes.ensures (spelled p) kept (not_declaring p (ap range_here is))).0 c.if-clashes.true) (kept, (is, bare))
-
 pub returns : goal.returns
-returns c = λ p (kept, (is, bare)).
-    let title = c.args.self.now.title.now in
-    let x = c.in-Some-name.name.now in
-    let plain = not_declaring p (ap range_here is) in
-    let fine : Clashes (spelled p) x → ⊥ = λ clashes. false≢true (sym c.if-clashes.false ∙ (c.clashes.ensures (spelled p) kept plain).1 clashes) in
-    steps.taken_name p (listing title []) (listed title [] x) (meant c.args.lexeme.now) x place.AfterPort (record c.args.self.now { header = c.add.new.self; known = c.stand.new.self }) is c.in-Some-name.ensures refl
-    (c.in_ok-stand.ensures (spelled p) kept plain (not_net p (ap opens is)) fine)
-    ([], x, refl, record { ansi = bare.ansi; header = c.in_ok-add.ensures [] [] bare.header (λ found. omega (arith, found.1)); cells = bare.cells })
-    (port_rule_at p title [] x is (λ found. omega (arith, found.1)) fine)
+returns c = λ p holds.
+    subst (λ t. IfOk c.at_plain.result (λ after. TakesOrBreaks place.FirstPort p t after c.at_plain.new.self)) (sym c.in-Some-name.ensures) (c.at_plain.ensures p holds)

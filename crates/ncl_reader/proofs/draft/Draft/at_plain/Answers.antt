@@ -1,0 +1,30 @@
+use Rattle.std.proofs.Common.{refl, sym, ◌∙◌, subst}
+use Rattle.std.proofs.lemmas.Bool.{false≢true}
+use Rattle.ncl_reader.specs.Lexemes.{Name}
+use Rattle.ncl_reader.specs.Rules.{Clashes}
+use Rattle.ncl_reader.specs.Partial.{spelled}
+use Rattle.ncl_reader.specs.Next.{MayStand}
+use Rattle.ncl_reader.proofs.NameRules.{not_declaring}
+use Rattle.ncl_reader.proofs.PlainSteps.{plain_free}
+use Rattle.ncl_reader.proofs.DraftSteps as steps
+use Rattle.ncl_reader.proofs.draft.Draft.at_plain.Goals as goal
+
+pub returns-then-clashes : goal.returns-then-clashes
+returns-then-clashes c = λ p (kept, by).
+    let x = c.args.name.now in
+    let undeclared = not_declaring p (plain_free c.args.place c.args.self.now p c.requires by).0 in
+    steps.clashing c.args.place p (Name x) x c.args.self.now refl ((c.clashes.ensures (spelled p) kept undeclared).0 c.if-clashes.true) (kept, by)
+
+pub returns-then-not-may_stand : goal.returns-then-not-may_stand
+returns-then-not-may_stand c = λ p (kept, by).
+    let x = c.args.name.now in
+    let breaks = subst (λ may. MayStand may (spelled p) x) c.if-not-may_stand.true (c.may_stand.ensures p by) in
+    steps.against c.args.place p p (Name x) c.args.self.now refl (Name x) refl breaks (kept, by)
+
+pub returns : goal.returns
+returns c = λ p (kept, by).
+    let x = c.args.name.now in
+    let undeclared = not_declaring p (plain_free c.args.place c.args.self.now p c.requires by).0 in
+    let clear : ¬ Clashes (spelled p) x = λ clashes. false≢true (sym c.if-clashes.false ∙ (c.clashes.ensures (spelled p) kept undeclared).1 clashes) in
+    let may = subst (λ may. MayStand may (spelled p) x) c.if-not-may_stand.false (c.may_stand.ensures p by) in
+    c.in_ok-take_plain.ensures p (kept, by) (may clear)

@@ -1,16 +1,18 @@
 -- The register cells behind the pins of an acknowledge cell.
-use Rattle.std.proofs.Common.{◌≡◌, ℕ, true, false, ◌&&◌, Some, sym, ap, ◌∙◌, subst}
-use Rattle.std.proofs.lemmas.Bool.{and_from, both_ways, false_from_ne_true}
+use Rattle.std.proofs.Common.{◌≡◌, ℕ, ◌<◌, true, false, ◌&&◌, List, length, get_or, Some, sym, ap, ◌∙◌, subst, arith}
+use Rattle.std.proofs.lemmas.Bool.{and_from, both_ways}
 use Rattle.ncl_gates.specs.Cell.{is_data_register}
+use Rattle.ncl_netlist.specs.declared.ids.NetId.{NetId}
 use Rattle.ncl_netlist.specs.declared.cell.Cell.{Cell}
 use Rattle.ncl_netlist.specs.Netlist.{NetlistData, IsNetlist}
 use Rattle.ncl_base.proofs.Members.{Contains-from_slice_get}
-use Rattle.ncl_cell_rules.specs.Origin.{IsCell, CellAt, OnPin, A, B, IsOfBank}
+use Rattle.ncl_cell_rules.specs.Origin.{IsCell, CellAt, IsAck, OnPin, A, B, IsOfBank, AcksBank}
 use Rattle.ncl_cell_rules.specs.Rules.{ReadsOneBit}
 use Rattle.ncl_cell_rules.specs.GateGraph.{IsDataBehind, IsRegisterBehind}
 use Rattle.ncl_cell_rules.proofs.Drivers.{same_driver, same_place}
 use Rattle.ncl_cell_rules.proofs.OriginLaws.{place_of}
 use Rattle.ncl_cell_rules.proofs.CellTests.{same_net}
+use Rattle.ncl_cell_rules.proofs.PinNumbers.{no_net, ack_on, on_pin_within}
 
 module _ (n : NetlistData) (is : IsNetlist n) where
   -- one cell stands at a place
@@ -34,10 +36,22 @@ module _ (n : NetlistData) (is : IsNetlist n) where
   pub of_bank_behind : (net place request : ℕ) → (behind : IsRegisterBehind n net place request) → IsOfBank n request behind.cell
   of_bank_behind net place request behind = (Contains-from_slice_get n.cells place behind.cell behind.at, behind.register, behind.on_b)
 
-  -- and it is reset to 1 where some such cell is behind the net
-  pub plain_behind : (net place request : ℕ) (behind : IsRegisterBehind n net place request) → (IsDataBehind n net → ⊥) → is_data_register behind.cell.kind ≡ false
-  plain_behind net place request behind none =
-      false_from_ne_true _ (λ data_is. none record { cell = behind.cell; is_cell = Contains-from_slice_get n.cells place behind.cell behind.at; out = behind.out; resets_high = data_is })
+  pub behind_within : (net place request : ℕ) → IsRegisterBehind n net place request → request < length n.nets
+  behind_within net place request behind = on_pin_within n is behind.cell (of_bank_behind net place request behind).0 B request behind.on_b
+
+  -- what is behind pin A of an acknowledge cell, by a list that is read in place of its pins, says which bank it is of
+  module _ (c : Cell) (in_c : IsCell n c) (is_ack : IsAck c) (pins : List NetId) (are : pins ≡ c.ins.items) where
+    pub acks_behind : (request : ℕ) → AcksBank n request c → (place : ℕ) × IsRegisterBehind n (get_or pins 0 no_net).0 place request
+    acks_behind request (_, _, (r, of_bank, on_r)) = behind_pin c r A _ request (ack_on n is c in_c 0 pins are is_ack (omega arith)) of_bank on_r
+
+    pub acks_by_behind : (place request : ℕ) → IsRegisterBehind n (get_or pins 0 no_net).0 place request → AcksBank n request c
+    acks_by_behind place request behind =
+        (in_c, is_ack, (behind.cell, of_bank_behind _ place request behind, subst (OnPin c A) (sym behind.out) (ack_on n is c in_c 0 pins are is_ack (omega arith))))
+
+  -- where it is reset to 1 such a cell is behind the net
+  pub data_behind : (net place request : ℕ) (behind : IsRegisterBehind n net place request) → is_data_register behind.cell.kind ≡ true → IsDataBehind n net
+  data_behind net place request behind high =
+      record { cell = behind.cell; is_cell = Contains-from_slice_get n.cells place behind.cell behind.at; out = behind.out; resets_high = high }
 
   pub data_of_driver : (r : Cell) (net : ℕ) → IsCell n r → r.out.0 ≡ net → IsDataBehind n net → is_data_register r.kind ≡ true
   data_of_driver r net in_r out behind =

@@ -1,20 +1,22 @@
 -- The first register cell of each bank, found cell by cell.
-use Rattle.std.proofs.Common.{◌≡◌, ℕ, ◌+◌, ◌<◌, ◌≤◌, Bool, true, false, cond, not, List, [], length, take, get_or, set, replicate, Option, None, Some, is_some, inl, inr, refl, sym, ap, ◌∙◌, subst, arith, get_or-set_same, get_or-set_other, length-set}
+use Rattle.std.proofs.Common.{◌≡◌, ℕ, ◌+◌, ◌<◌, ◌≤◌, Bool, true, false, cond, List, [], length, take, get_or, set, replicate, Option, None, Some, is_some, inl, inr, refl, sym, ap, ◌∙◌, subst, arith, get_or-set_same, get_or-set_other, length-set}
 use Rattle.std.specs.Prelude.{position}
 use Rattle.std.specs.List.{position_from}
 use Rattle.std.specs.Option.{option_or}
 use Rattle.std.proofs.lemmas.Bool.{cases_eq, and_from, and_parts, both_ways, eq-eqb, eqb-true}
 use Rattle.ncl_gates.specs.declared.cell_kind.CellKind.TheVariants.{Register}
 use Rattle.ncl_gates.specs.Cell.{is_register}
-use Rattle.std.proofs.lemmas.List.{take_all, length-replicate, get_or-replicate, get_or_read}
+use Rattle.std.proofs.lemmas.List.{take_all, length-replicate, get_or-replicate}
 use Rattle.std.proofs.lemmas.Option.{slice_get_within, get_or_from_slice_get}
 use Rattle.ncl_base.proofs.Growing.{position_from-more, position_from-found}
 use Rattle.ncl_base.proofs.Members.{Member-from_Contains, Contains-from_slice_get, slice_get-some, first_passing}
+use Rattle.ncl_cell_rules.proofs.PinNumbers.{no_net, register_on, register_inside}
 use Rattle.ncl_cell_rules.proofs.TableSteps.{cell_read}
 use Rattle.ncl_cell_rules.proofs.CellTests.{of_bank_passes, of_bank-from_test}
 use Rattle.ncl_netlist.specs.declared.cell.Cell.{Cell}
-use Rattle.ncl_netlist.specs.Netlist.{NetlistData}
-use Rattle.ncl_cell_rules.specs.Origin.{CellAt, IsRegister, OnPin, B, IsOfBank}
+use Rattle.ncl_netlist.specs.declared.ids.NetId.{NetId}
+use Rattle.ncl_netlist.specs.Netlist.{NetlistData, IsNetlist}
+use Rattle.ncl_cell_rules.specs.Origin.{IsCell, CellAt, IsRegister, OnPin, B, IsOfBank}
 use Rattle.ncl_cell_rules.specs.CellTests.{has_net, bank_test}
 use Rattle.ncl_cell_rules.specs.Tables.{AreFirsts, first_at}
 use Rattle.ncl_cell_rules.specs.Rules.{IsFirstOfBank}
@@ -55,25 +57,28 @@ module _ (n : NetlistData) where
       stays None false h = refl
       stays (Some x) b h = refl
 
-  -- the first register cell of a bank is put down
+  -- a register cell is put down for its bank, unless one stands there
   pub firsts_put : (k : ℕ) (c : Cell) (request : ℕ) (firsts : List (Option ℕ)) → AreFirstsOf n k firsts → CellAt n k c → request < length n.nets
-      → get_or firsts request None ≡ None → ((net : ℕ) → bank_test net c ≡ true → net ≡ request) → bank_test request c ≡ true
-      → AreFirstsOf n (k + 1) (set firsts request (Some k))
-  firsts_put k c request firsts so_far at within none only is = record {
-    sized = length-set firsts request (Some k) ∙ so_far.sized;
+      → ((net : ℕ) → bank_test net c ≡ true → net ≡ request) → bank_test request c ≡ true
+      → AreFirstsOf n (k + 1) (set firsts request (option_or (get_or firsts request None) (Some k)))
+  firsts_put k c request firsts so_far at within only is = record {
+    sized = length-set firsts request put ∙ so_far.sized;
     each = λ net lt.
         let sized = so_far.sized in
         let more = first_more k c firsts so_far at net lt in
         elim (cases_eq net request) [
           | inl same ↦
-              ap (λ x. get_or (set firsts request (Some k)) x None) same ∙ get_or-set_same firsts request (Some k) None (omega (arith, within, sized))
-              ∙ sym (more ∙ ap (λ x. option_or (get_or firsts x None) (cond (bank_test x c) (Some k) None)) same ∙ ap (λ o. option_or o (cond (bank_test request c) (Some k) None)) none ∙ ap (λ b. cond b (Some k) None) is)
+              ap (λ x. get_or (set firsts request put) x None) same ∙ get_or-set_same firsts request put None (omega (arith, within, sized))
+              ∙ sym (more ∙ ap (λ x. option_or (get_or firsts x None) (cond (bank_test x c) (Some k) None)) same ∙ ap (λ b. option_or (get_or firsts request None) (cond b (Some k) None)) is)
           | inr other ↦
-              get_or-set_other firsts request net (Some k) None other
+              get_or-set_other firsts request net put None other
               ∙ sym (more ∙ skips (get_or firsts net None) (bank_test net c) (λ yes. other (only net yes)))
         ];
   }
     where
+      put : Option ℕ
+      put = option_or (get_or firsts request None) (Some k)
+
       skips : (o : Option ℕ) (b : Bool) → (b ≡ true → ⊥) → option_or o (cond b (Some k) None) ≡ o
       skips o true h = absurd (h refl)
       skips None false h = refl
@@ -160,13 +165,19 @@ module _ (n : NetlistData) (firsts : List (Option ℕ)) (are : AreFirsts n first
       let clash : None ≡ Some place = sym none ∙ are.each request inside ∙ found in
       cc
 
--- what a read of an entry tells
-pub none_read : (firsts : List (Option ℕ)) (net : ℕ) (read : Option ℕ) (none : Bool) → net < length firsts → read ≡ get_or firsts net read → is_some read ≡ not none → none ≡ true → get_or firsts net None ≡ None
-none_read firsts net read none inside is tells holds = sym (get_or_read firsts net read inside is None) ∙ empty read (tells ∙ ap not holds)
-  where
-    empty : (o : Option ℕ) → is_some o ≡ false → o ≡ None
-    empty None e = refl
-    empty (Some x) e = absurd (both_ways false refl (sym e))
+-- the first register cell of the bank of a register cell, by a list that is read in place of its pins
+module _ (n : NetlistData) (is : IsNetlist n) (firsts : List (Option ℕ)) (are : AreFirsts n firsts) (c : Cell) (in_c : IsCell n c) (register : IsRegister c) (pins : List NetId) (same_pins : pins ≡ c.ins.items) where
+  abbrev own_request : ℕ
+  own_request = (get_or pins 1 no_net).0
 
-pub some_read : (firsts : List (Option ℕ)) (net : ℕ) (read : Option ℕ) (none : Bool) → net < length firsts → read ≡ get_or firsts net read → is_some read ≡ not none → none ≡ false → is_some (get_or firsts net None) ≡ true
-some_read firsts net read none inside is tells fails = ap is_some (sym (get_or_read firsts net read inside is None)) ∙ tells ∙ ap not fails
+  inside : own_request < length n.nets
+  inside = register_inside n is c in_c 1 pins same_pins register (omega arith)
+
+  pub own_first_within : (k : ℕ) (cells : List Cell) → first_at firsts own_request ≡ Some k → cells ≡ n.cells → k < length cells
+  own_first_within = first_within n firsts are own_request inside
+
+  pub own_first_read : (k : ℕ) (cells : List Cell) (first : Cell) → first_at firsts own_request ≡ Some k → cells ≡ n.cells → first ≡ get_or cells k first → IsFirstOfBank n own_request first
+  own_first_read = first_read n firsts are own_request inside
+
+  pub own_first_there : first_at firsts own_request ≡ None → ⊥
+  own_first_there none = first_none n firsts are own_request inside none c (in_c, register, register_on n is c in_c 1 pins same_pins register (omega arith))

@@ -1,4 +1,4 @@
--- How many pins of acknowledge cells have a net, counted pin by pin and cell by cell.
+-- How many pins have a net, counted pin by pin and cell by cell.
 use Rattle.std.proofs.Common.{◌≡◌, ℕ, ◌+◌, ◌*◌, ◌<◌, ◌≤◌, List, length, take, get_or, set, replicate, inl, inr, sym, ap, ◌∙◌, arith, get_or-set_same, get_or-set_other}
 use Rattle.std.specs.Prelude.{sum_by}
 use Rattle.std.proofs.lemmas.Bool.{cases_eq, cases_lt, eq-eqb, ne_eqb}
@@ -11,8 +11,9 @@ use Rattle.ncl_netlist.specs.Netlist.{NetlistData, IsNetlist}
 use Rattle.ncl_gates.specs.declared.cell_kind.CellKind.{CellKind}
 use Rattle.ncl_gates.specs.declared.cell_kind.CellKind.TheVariants.{Gate, Register, RegisterData, Ack}
 use Rattle.ncl_gates.specs.Cell.{pins_of}
+use Rattle.ncl_gates.proofs.PinLaws.{pins_of-few}
 use Rattle.ncl_cell_rules.specs.Origin.{CellAt}
-use Rattle.ncl_cell_rules.specs.Rules.{pins_with, ack_pins_of, ack_pins}
+use Rattle.ncl_cell_rules.specs.Rules.{pins_with, ack_pins_of}
 use Rattle.ncl_cell_rules.specs.Tables.{IsTable}
 use Rattle.ncl_cell_rules.proofs.ReadTables.{has_pin}
 
@@ -33,59 +34,73 @@ counted_more counts was pins i d net lt within so_far =
           get_or-set_other counts pin net (get_or counts pin 0 + 1) 0 other ∙ so_far ∙ ap (λ x. was + x) (sym more)
     ]
 
--- the counts of the first k cells
-pub record AreCountsOf (n : NetlistData) (k : ℕ) (counts : List ℕ) : Type 0 where
+-- the counts of the first k cells, of which each adds to a net's count
+pub record AreCountsOf (n : NetlistData) (pins : ℕ → Cell → ℕ) (k : ℕ) (counts : List ℕ) : Type 0 where
   pub sized : length counts ≡ length n.nets
-  pub each : (net : ℕ) → net < length n.nets → get_or counts net 0 ≡ sum_by (λ (c : Cell). ack_pins_of c.kind net c.ins.items) (take k n.cells)
+  pub each : (net : ℕ) → net < length n.nets → get_or counts net 0 ≡ sum_by (pins net) (take k n.cells)
 
-module _ (n : NetlistData) where
-  pub counts_begin : (counts : List ℕ) → counts ≡ replicate (length n.nets) 0 → AreCountsOf n 0 counts
+-- how many pins a cell has with a net, if it is an acknowledge cell
+abbrev pub own_ack_pins : ℕ → Cell → ℕ
+own_ack_pins net c = ack_pins_of c.kind net c.ins.items
+
+-- how many pins a cell has with a net
+abbrev pub own_pins : ℕ → Cell → ℕ
+own_pins net c = pins_with net c.ins.items
+
+module _ (n : NetlistData) (pins : ℕ → Cell → ℕ) where
+  pub counts_begin : (counts : List ℕ) → counts ≡ replicate (length n.nets) 0 → AreCountsOf n pins 0 counts
   counts_begin counts none = record {
     sized = ap length none ∙ length-replicate (length n.nets) 0;
     each = λ net lt. ap (λ l. get_or l net 0) none ∙ get_or-replicate (length n.nets) net 0 0 lt;
   }
 
   -- one cell more
-  pub counts_more : (k : ℕ) (c : Cell) (counts new : List ℕ) → AreCountsOf n k counts → CellAt n k c → length new ≡ length counts
-      → ((net : ℕ) → net < length counts → get_or new net 0 ≡ get_or counts net 0 + ack_pins_of c.kind net c.ins.items) → AreCountsOf n (k + 1) new
+  pub counts_more : (k : ℕ) (c : Cell) (counts new : List ℕ) → AreCountsOf n pins k counts → CellAt n k c → length new ≡ length counts
+      → ((net : ℕ) → net < length counts → get_or new net 0 ≡ get_or counts net 0 + pins net c) → AreCountsOf n pins (k + 1) new
   counts_more k c counts new so_far at long counted = record {
     sized = long ∙ so_far.sized;
     each = λ net lt.
         let within : k < length n.cells = slice_get_within n.cells k c at in
         let sized = so_far.sized in
-        let pins : Cell → ℕ = λ c. ack_pins_of c.kind net c.ins.items in
-        let here : pins (get_or n.cells k c) ≡ pins c = ap pins (get_or_from_slice_get n.cells k c c at) in
-        let more : sum_by pins (take (k + 1) n.cells) ≡ sum_by pins (take k n.cells) + pins (get_or n.cells k c) = sum_by_more pins n.cells k c within in
-        let now : get_or new net 0 ≡ get_or counts net 0 + pins c = counted net (omega (arith, lt, sized)) in
-        let was : get_or counts net 0 ≡ sum_by pins (take k n.cells) = so_far.each net lt in
+        let here : pins net (get_or n.cells k c) ≡ pins net c = ap (pins net) (get_or_from_slice_get n.cells k c c at) in
+        let more : sum_by (pins net) (take (k + 1) n.cells) ≡ sum_by (pins net) (take k n.cells) + pins net (get_or n.cells k c) = sum_by_more (pins net) n.cells k c within in
+        let now : get_or new net 0 ≡ get_or counts net 0 + pins net c = counted net (omega (arith, lt, sized)) in
+        let was : get_or counts net 0 ≡ sum_by (pins net) (take k n.cells) = so_far.each net lt in
         omega (arith, now, was, more, here);
   }
 
-  pub counts_whole : (k : ℕ) (counts : List ℕ) → length n.cells ≤ k → AreCountsOf n k counts → IsTable n 0 (ack_pins n) counts
+  pub counts_whole : (k : ℕ) (counts : List ℕ) → length n.cells ≤ k → AreCountsOf n pins k counts → IsTable n 0 (λ net. sum_by (pins net) n.cells) counts
   counts_whole k counts all so_far = record {
     sized = so_far.sized;
-    each = λ net lt. so_far.each net lt ∙ ap (sum_by (λ (c : Cell). ack_pins_of c.kind net c.ins.items)) (take_all k n.cells all);
+    each = λ net lt. so_far.each net lt ∙ ap (sum_by (pins net)) (take_all k n.cells all);
   }
 
--- an acknowledge cell has two input pins, so the counts stay small
-pins-few : (kind : CellKind) (net : ℕ) (ins : List NetId) → length ins + 1 ≡ length (pins_of kind) → ack_pins_of kind net ins ≤ 2
-pins-few Ack net ins pins = let most = count_by-le-length (has_pin net) ins in omega (arith, most, pins)
-pins-few Register net ins pins = omega arith
-pins-few RegisterData net ins pins = omega arith
-pins-few (Gate kind) net ins pins = omega arith
+  -- where a cell adds at most its pins, of which it has at most four, the counts stay small
+  pub few_counts : ((net : ℕ) (c : Cell) → pins net c ≤ own_pins net c) → IsNetlist n → (k : ℕ) (counts : List ℕ) → AreCountsOf n pins k counts → (net : ℕ) → get_or counts net 0 ≤ 4 * 131072
+  few_counts own is k counts so_far net =
+      elim (cases_lt net (length counts)) [
+        | inl inside ↦
+            let sized = so_far.sized in
+            let sum : get_or counts net 0 ≡ sum_by (pins net) (take k n.cells) = so_far.each net (omega (arith, inside, sized)) in
+            let most = sum_by-take-le (pins net) n.cells k in
+            let whole = sum_by-le (pins net) 4 n.cells (λ i d lt. four (get_or n.cells i d) (is.fits i d lt).pins) in
+            let few = is.few_cells in
+            omega (arith, sum, most, whole, few)
+        | inr past ↦ let none : get_or counts net 0 ≡ 0 = get_or_past counts net 0 past in omega (arith, none)
+      ]
+    where
+      four : (c : Cell) → length c.ins.items + 1 ≡ length (pins_of c.kind) → pins net c ≤ 4
+      four c fits =
+          let most = count_by-le-length (has_pin net) c.ins.items in
+          let few = pins_of-few c.kind in
+          omega (arith, own net c, most, fits, few)
 
-pub few_counts : (n : NetlistData) → IsNetlist n → (k : ℕ) (counts : List ℕ) → AreCountsOf n k counts → (net : ℕ) → get_or counts net 0 ≤ 2 * 131072
-few_counts n is k counts so_far net =
-    elim (cases_lt net (length counts)) [
-      | inl inside ↦
-          let sized = so_far.sized in
-          let sum : get_or counts net 0 ≡ sum_by pins (take k n.cells) = so_far.each net (omega (arith, inside, sized)) in
-          let most = sum_by-take-le pins n.cells k in
-          let whole = sum_by-le pins 2 n.cells (λ i d lt. pins-few (get_or n.cells i d).kind net (get_or n.cells i d).ins.items (is.fits i d lt).pins) in
-          let few = is.few_cells in
-          omega (arith, sum, most, whole, few)
-      | inr past ↦ let none : get_or counts net 0 ≡ 0 = get_or_past counts net 0 past in omega (arith, none)
-    ]
+-- no more pins are of acknowledge cells than there are
+pub ack_pins-le : (net : ℕ) (c : Cell) → own_ack_pins net c ≤ own_pins net c
+ack_pins-le net c = by c.kind
   where
-    pins : Cell → ℕ
-    pins c = ack_pins_of c.kind net c.ins.items
+    by : (kind : CellKind) → ack_pins_of kind net c.ins.items ≤ own_pins net c
+    by Ack = omega arith
+    by Register = omega arith
+    by RegisterData = omega arith
+    by (Gate kind) = omega arith

@@ -46,20 +46,20 @@ module _ (n : NetlistData) (is : IsNetlist n) where
   pub port_source : (net : ℕ) → IsInputPort n net → IsSourceOf n net Port
   port_source net at = record { comes = port at; only = λ other from. port_origin n is net other at from }
 
+  -- of the banks of a cell there is one, so an origin that is named by such a bank is named by this one
+  of_one_bank : (IsOf : ℕ → Type 0) (name : ℕ → Origin) → ((x y : ℕ) → IsOf x → IsOf y → x ≡ y) → (bank : ℕ) → IsOf bank → (o : Origin) → ((request : ℕ) × IsOf request × (o ≡ name request)) → o ≡ name bank
+  of_one_bank IsOf name one bank of_bank o (request, of_request, named) = named ∙ ap name (one request bank of_request of_bank)
+
   pub register_source : (c : Cell) (bank : NetId) → IsOfBank n bank.0 c → IsSourceOf n c.out.0 (Rail bank)
   register_source c bank of_bank = record {
     comes = rail c of_bank;
-    only = λ other from.
-        let (request, of_request, named) = register_origin n is c of_bank.0 of_bank.1 c.out.0 other refl from in
-        named ∙ ap RailOf (bank_is_one n is c request bank.0 of_request of_bank);
+    only = λ other from. of_one_bank (λ b. IsOfBank n b c) RailOf (bank_is_one n is c) bank.0 of_bank other (register_origin n is c of_bank.0 of_bank.1 c.out.0 other refl from);
   }
 
   pub ack_source : (c : Cell) (bank : NetId) → AcksBank n bank.0 c → IsSourceOf n c.out.0 (Ack bank)
   ack_source c bank acks = record {
     comes = ack c acks;
-    only = λ other from.
-        let (request, of_request, named) = ack_origin n is c acks.0 acks.1 c.out.0 other refl from in
-        named ∙ ap AckOf (acked_is_one n is c request bank.0 of_request acks);
+    only = λ other from. of_one_bank (λ b. AcksBank n b c) AckOf (acked_is_one n is c) bank.0 acks other (ack_origin n is c acks.0 acks.1 c.out.0 other refl from);
   }
 
   pub gate_source : (c : Cell) → IsCell n c → IsGate c → (s : Source) → IsSummary (OfNets n c.ins.items) s → IsSourceOf n c.out.0 s

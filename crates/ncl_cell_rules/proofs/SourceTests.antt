@@ -2,13 +2,14 @@
 use Rattle.std.proofs.Common.{◌≡◌, ℕ, ◌<◌, Bool, true, false, not, List, length, Option, None, Some, is_some, inl, inr, refl, sym, ap, subst, ◌∙◌}
 use Rattle.std.proofs.lemmas.Bool.{both_ways}
 use Rattle.ncl_netlist.specs.declared.ids.NetId.{NetId}
-use Rattle.ncl_netlist.specs.Netlist.{NetlistData}
+use Rattle.ncl_netlist.specs.Netlist.{NetlistData, IsNetlist}
 use Rattle.ncl_base.proofs.Members.{Contains-from_slice_get}
 use Rattle.ncl_cell_rules.specs.declared.source.Source.{Source}
 use Rattle.ncl_cell_rules.specs.declared.source.Source.TheVariants.{Port, Rail, Ack, Many}
 use Rattle.ncl_cell_rules.specs.Origin.{IsInputPort, RailOf, AckOf}
 use Rattle.ncl_cell_rules.specs.Rules.{IsFromOneRail, IsFromOneAck}
-use Rattle.ncl_cell_rules.specs.Sources.{IsSourceOf}
+use Rattle.ncl_cell_rules.specs.Sources.{IsSourceOf, source_at}
+use Rattle.ncl_cell_rules.specs.CellOrder.{AreSources}
 use Rattle.ncl_cell_rules.specs.GateGraph.{driver_at, AreDrivers}
 use Rattle.ncl_cell_rules.proofs.Drivers.{driver_of, no_cell_drives_port}
 use Rattle.ncl_cell_rules.proofs.OriginLaws.{place_of}
@@ -62,20 +63,24 @@ module _ (n : NetlistData) (drivers : List (Option ℕ)) (are : AreDrivers n dri
           let (c, at, out) = are.drives net k e in
           absurd (no_cell_drives_port n are.netlist c (Contains-from_slice_get n.cells k c at) (subst (IsInputPort n) (sym out) input))
 
-  module _ (s : Source) (is_s : IsSourceOf n net s) where
-    pub from_one_ack : (r : NetId) → s ≡ Ack r → IsFromOneAck n net
-    from_one_ack r e = inr (r.0, only_from_source n are.netlist net s (AckOf r.0) is_s (ap named e))
+-- what a source tells of a net that comes from one bank, and from no port
+module _ (n : NetlistData) (is : IsNetlist n) (sources : List Source) (are : AreSources n sources) (net : ℕ) (inside : net < length n.nets) (s : Source) (read : s ≡ source_at sources net) where
+  is_s : IsSourceOf n net s
+  is_s = subst (IsSourceOf n net) (sym read) (are.each net inside)
 
-    pub from_one_rail : (r : NetId) → s ≡ Rail r → IsFromOneRail n net
-    from_one_rail r e = inr (r.0, only_from_source n are.netlist net s (RailOf r.0) is_s (ap named e))
+  pub from_one_ack : (r : NetId) → s ≡ Ack r → IsFromOneAck n net
+  from_one_ack r e = inr (r.0, only_from_source n is net s (AckOf r.0) is_s (ap named e))
 
-    -- what is no input port and has another source doesn't
-    pub not_from_one_ack : (driver_at drivers net ≡ None → ⊥) → ((r : NetId) → s ≡ Ack r → ⊥) → IsFromOneAck n net → ⊥
-    not_from_one_ack driven other (inl input) = driven (none_of_port input)
-    not_from_one_ack driven other (inr (request, only)) =
-        let (r, e) = names_ack s request (source_from_only n are.netlist net s (AckOf request) is_s only) in other r e
+  pub from_one_rail : (r : NetId) → s ≡ Rail r → IsFromOneRail n net
+  from_one_rail r e = inr (r.0, only_from_source n is net s (RailOf r.0) is_s (ap named e))
 
-    pub not_from_one_rail : (driver_at drivers net ≡ None → ⊥) → ((r : NetId) → s ≡ Rail r → ⊥) → IsFromOneRail n net → ⊥
-    not_from_one_rail driven other (inl input) = driven (none_of_port input)
-    not_from_one_rail driven other (inr (request, only)) =
-        let (r, e) = names_rail s request (source_from_only n are.netlist net s (RailOf request) is_s only) in other r e
+  -- what is no input port and has another source doesn't
+  pub not_from_one_ack : (IsInputPort n net → ⊥) → ((r : NetId) → s ≡ Ack r → ⊥) → IsFromOneAck n net → ⊥
+  not_from_one_ack driven other (inl input) = driven input
+  not_from_one_ack driven other (inr (request, only)) =
+      let (r, e) = names_ack s request (source_from_only n is net s (AckOf request) is_s only) in other r e
+
+  pub not_from_one_rail : (IsInputPort n net → ⊥) → ((r : NetId) → s ≡ Rail r → ⊥) → IsFromOneRail n net → ⊥
+  not_from_one_rail driven other (inl input) = driven input
+  not_from_one_rail driven other (inr (request, only)) =
+      let (r, e) = names_rail s request (source_from_only n is net s (RailOf request) is_s only) in other r e

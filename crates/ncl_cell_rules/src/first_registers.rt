@@ -15,9 +15,7 @@ pub(crate) fn first_registers(alloc: Global, netlist: &Netlist) -> Result<Vec<Op
     for (place, cell) in netlist.cells().iter().enumerate() {
         if cell.kind.is_register() {
             let request = cell.ins[1].0 as usize;
-            if firsts[request].is_none() {
-                firsts[request] = Some(place as u32);
-            }
+            firsts[request] = firsts[request].or(Some(place as u32));
         }
     }
     Ok(firsts)

@@ -33,13 +33,22 @@ fn is_gate_of_one(netlist: &Netlist, origins: &Origins, cell: &Cell, kind: Kind)
     }
 }
 
+/// Whether a net is an input port, as it is where no cell drives it.
+fn is_input_port(netlist: &Netlist, origins: &Origins, net: NetId) -> bool
+    requires inside { net.0 < length netlist.now.nets }
+    requires origins { AreOrigins netlist.now origins.now }
+    ensures { IsTrue result ↔ IsInputPort netlist.now net.0 }
+{
+    origins.driver(net).is_none()
+}
+
 /// Whether a net is an input port, or comes from the acknowledge cells of one bank.
 fn is_from_one_ack(netlist: &Netlist, origins: &Origins, net: NetId) -> bool
     requires inside { net.0 < length netlist.now.nets }
     requires origins { AreOrigins netlist.now origins.now }
     ensures { IsTrue result ↔ IsFromOneAck netlist.now net.0 }
 {
-    origins.driver(net).is_none() || matches!(origins.source(net), Source::Ack(_))
+    is_input_port(netlist, origins, net) || matches!(origins.source(net), Source::Ack(_))
 }
 
 /// Whether a net is an input port, or comes from the rails of one bank.
@@ -48,7 +57,7 @@ fn is_from_one_rail(netlist: &Netlist, origins: &Origins, net: NetId) -> bool
     requires origins { AreOrigins netlist.now origins.now }
     ensures { IsTrue result ↔ IsFromOneRail netlist.now net.0 }
 {
-    origins.driver(net).is_none() || matches!(origins.source(net), Source::Rail(_))
+    is_input_port(netlist, origins, net) || matches!(origins.source(net), Source::Rail(_))
 }
 
 /// Whether the rail that a register cell reads comes from where that of the first register cell of its bank does.
@@ -75,16 +84,10 @@ fn is_register_of_one(netlist: &Netlist, origins: &Origins, cell: &Cell) -> bool
     requires origins { AreOrigins netlist.now origins.now }
     ensures { IsTrue result ↔ IsRegisterOfOne netlist.now cell.now }
 {
-    if origins.driver(cell.ins[2]).is_some() {
-        return false;
-    }
-    if !is_from_one_ack(netlist, origins, cell.ins[1]) {
-        return false;
-    }
-    if !is_from_one_rail(netlist, origins, cell.ins[0]) {
-        return false;
-    }
-    is_as_first(netlist, origins, cell)
+    let reset = is_input_port(netlist, origins, cell.ins[2]);
+    let request = is_from_one_ack(netlist, origins, cell.ins[1]);
+    let rail = is_from_one_rail(netlist, origins, cell.ins[0]);
+    reset & request & rail & is_as_first(netlist, origins, cell)
 }
 
 /// Whether an acknowledge cell reads a register cell that is reset to 1.

@@ -63,10 +63,7 @@ fn reads_one_bit(netlist: &Netlist, drivers: &[Option<u32>], cell: &Cell) -> boo
     if bank != other {
         return false;
     }
-    if !is_data_behind(netlist, drivers, cell.ins[0]) {
-        return true;
-    }
-    !is_data_behind(netlist, drivers, cell.ins[1])
+    !is_data_behind(netlist, drivers, cell.ins[0]) | !is_data_behind(netlist, drivers, cell.ins[1])
 }
 
 /// Whether the output of a register cell is on one pin of all acknowledge cells, and an acknowledge cell reads one

@@ -1,19 +1,9 @@
-use Rattle.std.proofs.Common.{inl, sym, ◌∙◌, subst}
-use Rattle.ncl_cell_rules.specs.Sources.{IsSourceOf}
-use Rattle.ncl_cell_rules.proofs.SourceTests.{none_from, some_from, port_of_none, not_from_one_ack}
+use Rattle.std.proofs.lemmas.Bool.{both_ways}
+use Rattle.ncl_cell_rules.proofs.SourceTests.{not_from_one_ack}
 use Rattle.ncl_cell_rules.proofs.mixing.is_from_one_ack.Goals as goal
 
-pub returns-then-is_none : goal.returns-then-is_none
-returns-then-is_none c = (
-  (λ holds. inl (port_of_none c.args.netlist.now c.args.origins.now.drivers.items c.requires.origins.drivers c.args.net.0 c.requires.inside (sym c.driver.ensures ∙ none_from c.driver.result c.is_none.result c.is_none.ensures holds))),
-  λ from. c.if-is_none.true,
-)
-
 pub returns-in_default : goal.returns-in_default
-returns-in_default c = (
-  (λ never. absurd cc),
-  λ from.
-      absurd (not_from_one_ack c.args.netlist.now c.args.origins.now.drivers.items c.requires.origins.drivers c.args.net.0 c.source.result
-      (subst (IsSourceOf c.args.netlist.now c.args.net.0) (sym c.source.ensures) (c.requires.origins.sources.each c.args.net.0 c.requires.inside))
-      (λ none. some_from c.driver.result c.is_none.result c.is_none.ensures c.if-is_none.false (c.driver.ensures ∙ none)) c.in_default.not-Ack from),
-)
+returns-in_default c =
+    let other = not_from_one_ack c.args.netlist.now c.requires.origins.drivers.netlist _ c.requires.origins.sources c.args.net.0 c.requires.inside c.source.result c.source.ensures
+    (λ input. both_ways c.is_input_port.result c.if-is_input_port.false (c.is_input_port.ensures.1 input)) c.in_default.not-Ack in
+    (λ never. absurd cc, λ from. absurd (other from))

@@ -1,6 +1,6 @@
 use Rattle.std.proofs.Common.{◌≡◌, ℕ, ◌+◌, ◌<◌, length, take, get_or}
 use Rattle.ncl_cell_rules.specs.Rules.{pins_with}
-use Rattle.ncl_cell_rules.proofs.ack_pins.count.Given as goal
+use Rattle.ncl_cell_rules.proofs.counting.count_pins.Given as goal
 
 -- each net is counted once for each of the pins so far that have it
 abbrev pub invariant-loop-net : goal.invariant-loop-net

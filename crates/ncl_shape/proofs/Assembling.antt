@@ -15,7 +15,7 @@ use Rattle.ncl_shape.specs.declared.chain.Chain.{Chain}
 use Rattle.ncl_shape.specs.declared.rails.Rails.{Rails}
 use Rattle.ncl_shape.specs.Stage.{StageData}
 use Rattle.ncl_shape.specs.Chain.{IsChain, IsChained, IsRoot}
-use Rattle.ncl_shape.specs.Shape.{AreRailsOf, AreInputsOf, Shape}
+use Rattle.ncl_shape.specs.Shape.{AreBitsOf, AreRailsOf, AreInputsOf, Shape}
 use Rattle.ncl_shape.specs.FoundChain.{requests_of, IsChainOf}
 use Rattle.ncl_shape.specs.FoundParts.{AreFewBitsOf, IsFewBitBank, AreStagesOf}
 use Rattle.ncl_shape.proofs.ChainNumbers.{as_many_requests}
@@ -35,6 +35,12 @@ requests_are n (bank ∷ chain) (b ∷ banks) all =
 
 pub own_requests : (n : NetlistData) (chain : List ℕ) (banks : List Bank) → AllZip (IsFewBitBank n) chain banks → AllZip (IsFewBitBank n) (requests banks) banks
 own_requests n chain banks all = subst (λ l. AllZip (IsFewBitBank n) l banks) (sym (requests_are n chain banks all)) all
+
+-- and the bits of such a bank, by a list that is read in place of them
+pub bits_of_bank : (n : NetlistData) (chain : List ℕ) (banks : List Bank) → AllZip (IsFewBitBank n) chain banks → (k : ℕ) (b : Bank) → slice_get banks k ≡ Some b → (bits : List Bit) → bits ≡ b.bits → (bank : ℕ) × AreBitsOf n bank bits
+bits_of_bank n chain banks all k b at bits are =
+    let found = bank_at n banks (own_requests n chain banks all) k b at in
+    (b.request.0, subst (AreBitsOf n b.request.0) (sym are) found.0.bits)
 
 module _ (n : NetlistData) (c : Chain) (is_chain : IsChainOf n c) (lists : List (Vec Bit Global)) (are : AllZip (AreFewBitsOf n) (requests_of c) (map (λ l. l.items) lists)) where
   -- as many lists of bits as banks and roots

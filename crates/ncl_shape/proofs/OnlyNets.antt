@@ -1,5 +1,5 @@
 -- The only net of which something holds, and the only net that stands in a relation to each bank, found net by net.
-use Rattle.std.proofs.Common.{◌≡◌, ℕ, ◌+◌, ◌<◌, ◌≤◌, List, ◌++◌, length, set, replicate, take, drop, Option, Some, None, is_some, true, false, inl, inr, refl, sym, ap, ◌∙◌, subst, arith, get_or-set_same, get_or-set_other, length-set}
+use Rattle.std.proofs.Common.{◌≡◌, ℕ, ◌+◌, ◌<◌, ◌≤◌, Bool, true, false, cond, List, ◌++◌, length, set, replicate, take, drop, Option, Some, None, is_some, inl, inr, refl, sym, ap, ◌∙◌, subst, arith, get_or-set_same, get_or-set_other, length-set}
 use Rattle.std.specs.Prelude.{MatchOption}
 use Rattle.std.proofs.lemmas.Bool.{cases_lt, cases_eq, both_ways}
 use Rattle.std.proofs.lemmas.List.{length-replicate, get_or-replicate, take_at}
@@ -50,6 +50,13 @@ module _ (P : ℕ → Type 0) where
     ];
   }
   one_first i (Some other) net none is so_far holds = absurd (both_ways true none refl)
+
+  -- the next net, as it is put down if P holds of it, which is the first
+  pub one_kept : (i : ℕ) (found new : Option NetId) (net : NetId) (holds : Bool) → net.0 ≡ i → IsOneBelow P i found → (holds ≡ true → P net.0) → (P net.0 → holds ≡ true)
+      → new ≡ cond holds (Some net) found → (holds ≡ true → found ≡ None) → IsOneBelow P (i + 1) new
+  one_kept i found new net true is so_far to from kept free = subst (IsOneBelow P (i + 1)) (sym kept) (one_first i found net (ap is_some (free refl)) is so_far (to refl))
+  one_kept i found new net false is so_far to from kept free =
+      subst (IsOneBelow P (i + 1)) (sym kept) (one_pass i found so_far (λ holds. both_ways false refl (from (subst P (sym is) holds))))
 
   -- a second one
   pub one_second : (i : ℕ) (found : Option NetId) (net other : NetId) → found ≡ Some other → net.0 ≡ i → IsOneBelow P i found → P other.0 × (other.0 ≡ net.0 → ⊥)

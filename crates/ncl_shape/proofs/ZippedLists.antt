@@ -63,3 +63,12 @@ AllZip-and P Q d [] [] all each = tt
 AllZip-and P Q d [] (y ∷ ys) all each = absurd all
 AllZip-and P Q d (x ∷ xs) [] all each = absurd all
 AllZip-and P Q d (x ∷ xs) (y ∷ ys) all each = ((all.0, each zero), AllZip-and P Q d xs ys all.1 (λ k. each (suc k)))
+
+-- where the second of two lists that go together is cut, so is the first
+pub zip_split : {X Y : Type 0} (R : X → Y → Type 0) (xs : List X) (before : List Y) (y : Y) (after : List Y) → AllZip R xs (before ++ y ∷ after) → (left : List X) × (x : X) × (right : List X) × (xs ≡ left ++ x ∷ right) × AllZip R left before × R x y
+zip_split R [] [] y after zip = absurd zip
+zip_split R (x ∷ xs) [] y after zip = ([], x, xs, refl, tt, zip.0)
+zip_split R [] (z ∷ before) y after zip = absurd zip
+zip_split R (x ∷ xs) (z ∷ before) y after zip =
+    let (left, w, right, is, zipped, holds) = zip_split R xs before y after zip.1 in
+    (x ∷ left, w, right, (λ i. x ∷ is i), (zip.0, zipped), holds)

@@ -1,8 +1,8 @@
 //! The second inner rule: one bank reads input ports, and the request of one bank is an input port.
-ghost use Rattle.std.specs.Prelude.{◌<◌, ◌↔◌, IsTrue, MatchOption, length};
+ghost use Rattle.std.specs.Prelude.{◌≡◌, ◌<◌, ◌↔◌, cond, IsFalse, IsSome, IsTrue, MatchOption, None, Some, length};
 ghost use Rattle.ncl_cell_rules.specs.Free.{IsFree};
 ghost use Rattle.ncl_cell_rules.specs.Origins.{AreOrigins};
-ghost use Rattle.ncl_shape.specs.Chain.{HasEnds, HasOne, IsFirstBank, IsLastBank};
+ghost use Rattle.ncl_shape.specs.Chain.{HasEnds, IsFirstBank, IsLastBank};
 ghost use Rattle.ncl_shape.specs.ChainSteps.{IsOnly};
 
 use crate::banks::feed;
@@ -31,54 +31,42 @@ fn is_last_bank(netlist: &Netlist, origins: &Origins, bank: NetId) -> bool
     origins.first(bank).is_some() && origins.driver(bank).is_none()
 }
 
-/// The only bank that reads input ports; `None` where there is none, or another. Linear in the nets.
-fn only_first_bank(netlist: &Netlist, origins: &Origins) -> Option<NetId>
-    requires free { IsFree netlist.now }
-    requires origins { AreOrigins netlist.now origins.now }
-    ensures { MatchOption result (HasOne (IsFirstBank netlist.now) → ⊥) (λ bank. IsOnly (IsFirstBank netlist.now) bank.0) }
+/// Puts down a net if a test holds of it, and tells whether no other was put down before.
+fn keep_one(found: &mut Option<NetId>, holds: bool, net: NetId) -> bool
+    ensures kept { IsTrue result → found.new ≡ cond holds (Some net) found.old }
+    ensures free { IsTrue result → IsTrue holds → found.old ≡ None }
+    ensures taken { IsFalse result → IsTrue holds × IsSome found.old }
 {
-    let mut found: Option<NetId> = None;
-    for net in 0..netlist.nets().len() {
-        let bank = NetId(net as u32);
-        if is_first_bank(netlist, origins, bank) {
-            if found.is_some() {
-                return None;
-            }
-            found = Some(bank);
-        }
+    if !holds {
+        return true;
     }
-    found
+    if found.is_some() {
+        return false;
+    }
+    *found = Some(net);
+    true
 }
 
-/// The only bank whose request is an input port; `None` where there is none, or another. Linear in the nets.
-fn only_last_bank(netlist: &Netlist, origins: &Origins) -> Option<NetId>
-    requires { AreOrigins netlist.now origins.now }
-    ensures { MatchOption result (HasOne (IsLastBank netlist.now) → ⊥) (λ bank. IsOnly (IsLastBank netlist.now) bank.0) }
-{
-    let mut found: Option<NetId> = None;
-    for net in 0..netlist.nets().len() {
-        let bank = NetId(net as u32);
-        if is_last_bank(netlist, origins, bank) {
-            if found.is_some() {
-                return None;
-            }
-            found = Some(bank);
-        }
-    }
-    found
-}
-
-/// The bank that reads input ports, where there is one such bank and one whose request is an input port.
+/// The bank that reads input ports, where there is one such bank and one whose request is an input port. Linear in
+/// the nets.
 pub(crate) fn first_of_ends(netlist: &Netlist, origins: &Origins) -> Option<NetId>
     requires free { IsFree netlist.now }
     requires origins { AreOrigins netlist.now origins.now }
     ensures { MatchOption result (HasEnds netlist.now → ⊥) (λ first. HasEnds netlist.now × IsOnly (IsFirstBank netlist.now) first.0) }
 {
-    let Some(first) = only_first_bank(netlist, origins) else {
+    let mut first = None;
+    let mut last = None;
+    for net in 0..netlist.nets().len() {
+        let bank = NetId(net as u32);
+        if !keep_one(&mut first, is_first_bank(netlist, origins, bank), bank) {
+            return None;
+        }
+        if !keep_one(&mut last, is_last_bank(netlist, origins, bank), bank) {
+            return None;
+        }
+    }
+    if last.is_none() {
         return None;
-    };
-    let Some(_) = only_last_bank(netlist, origins) else {
-        return None;
-    };
-    Some(first)
+    }
+    first
 }

@@ -14,6 +14,7 @@ use Rattle.ncl_shape.proofs.AcknowledgeLaws.{acknowledged, acknowledged_more, ac
 use Rattle.ncl_shape.proofs.NetSources.{source_of_origin}
 use Rattle.ncl_shape.proofs.BankNets.{chain_within}
 use Rattle.ncl_shape.proofs.acknowledging.is_acknowledged.Goals as goal
+use Rattle.ncl_shape.proofs.acknowledging.is_acknowledged.Goals.{After-source}
 
 pub source-requires : goal.source-requires
 source-requires c =
@@ -22,6 +23,13 @@ source-requires c =
     let sized = c.requires.origins.sources.sized in
     omega (arith, inside, sized)
 
+-- the source that is read is that of the request
+is_source : (c : After-source) → IsSourceOf c.args.netlist.now (get_or c.args.banks.now (c.loop-next.next - 1) no_net).0 c.source.result
+is_source c =
+    let some = c.loop-next.auto.next in
+    let inside = chain_within c.args.netlist.now c.requires.origins.drivers.netlist c.args.banks.now c.requires.chain (c.loop-next.next - 1) no_net (omega (arith, some, c.loop-next-test.true)) in
+    subst (IsSourceOf c.args.netlist.now _) (sym c.source.ensures) (c.requires.origins.sources.each _ inside)
+
 pub returns-then-not-same_source : goal.returns-then-not-same_source
 returns-then-not-same_source c = (
   (λ never. absurd cc),
@@ -29,13 +37,9 @@ returns-then-not-same_source c = (
       let n = c.args.netlist.now in
       let banks = c.args.banks.now in
       let i = c.loop-next.next in
-      let is = c.requires.origins.drivers.netlist in
-      let some = c.loop-next.auto.next in
-      let inside = chain_within n is banks c.requires.chain (i - 1) no_net (omega (arith, some, c.loop-next-test.true)) in
-      let is_s = subst (IsSourceOf n (get_or banks (i - 1) no_net).0) (sym c.source.ensures) (c.requires.origins.sources.each (get_or banks (i - 1) no_net).0 inside) in
-      let only = acknowledged_at n banks i no_net acks some c.loop-next-test.true in
+      let only = acknowledged_at n banks i no_net acks c.loop-next.auto.next c.loop-next-test.true in
       absurd (both_ways c.same_source.result c.if-not-same_source.true
-      (c.same_source.ensures.1 (source_of_origin n is c.requires.free (get_or banks (i - 1) no_net).0 c.source.result (Ack (get_or banks i no_net)) (AckOf (get_or banks i no_net).0) is_s only.comes refl))),
+      (c.same_source.ensures.1 (source_of_origin n c.requires.origins.drivers.netlist c.requires.free (get_or banks (i - 1) no_net).0 c.source.result (Ack (get_or banks i no_net)) (AckOf (get_or banks i no_net).0) (is_source (goal.at.returns-then-not-same_source c).After-source) only.comes refl))),
 )
 
 pub loop-next-preserved : goal.loop-next-preserved
@@ -43,12 +47,9 @@ loop-next-preserved c =
     let n = c.args.netlist.now in
     let banks = c.args.banks.now in
     let i = c.loop-next.next in
-    let is = c.requires.origins.drivers.netlist in
-    let some = c.loop-next.auto.next in
-    let inside = chain_within n is banks c.requires.chain (i - 1) no_net (omega (arith, some, c.loop-next-test.true)) in
-    let is_s = subst (IsSourceOf n (get_or banks (i - 1) no_net).0) (sym c.source.ensures) (c.requires.origins.sources.each (get_or banks (i - 1) no_net).0 inside) in
-    let only = only_from_source n is (get_or banks (i - 1) no_net).0 c.source.result (AckOf (get_or banks i no_net).0) is_s (ap named (c.same_source.ensures.0 c.if-not-same_source.false)) in
-    acknowledged_more n banks i no_net c.loop-next.invariant some c.loop-next-test.true only
+    let is_s = is_source (goal.at.loop-next-preserved c).After-source in
+    let only = only_from_source n c.requires.origins.drivers.netlist (get_or banks (i - 1) no_net).0 c.source.result (AckOf (get_or banks i no_net).0) is_s (ap named (c.same_source.ensures.0 c.if-not-same_source.false)) in
+    acknowledged_more n banks i no_net c.loop-next.invariant c.loop-next.auto.next c.loop-next-test.true only
 
 pub returns : goal.returns
 returns c = (

@@ -10,7 +10,7 @@ use Rattle.ncl_cell_rules.proofs.Summaries.{named}
 use Rattle.ncl_netlist.proofs.NetlistLaws.{ports-le-nets}
 use Rattle.ncl_shape.specs.ChainSteps.{IsShownPort}
 use Rattle.ncl_shape.proofs.NetSources.{source_of_origin}
-use Rattle.ncl_shape.proofs.PortRoles.{no_output}
+use Rattle.ncl_shape.proofs.PortRoles.{no_output, ports_passed}
 use Rattle.ncl_shape.proofs.ShownNets.{nets_differ, nets_same}
 use Rattle.ncl_shape.proofs.closing.are_ports_shown.Goals as goal
 use Rattle.ncl_shape.proofs.closing.are_ports_shown.Goals.{else-port-via-then-port+then-ne+else-not-same_source, else-port-via-then-port+else-ne, else-port-via-else-port}
@@ -51,10 +51,6 @@ loop-place-preserved c =
 
 pub returns : goal.returns
 returns c = (
-  (λ holds net output.
-      let (p, at, is_output) = output in
-      let within = slice_get_within c.args.netlist.now.ports net p at in
-      let same = ap length c.ports-port-items.ensures.ports in
-      c.loop-place.invariant net (omega (arith, within, same, c.loop-place-test.false)) output),
+  (λ holds net output. c.loop-place.invariant net (ports_passed c.args.netlist.now _ c.ports-port-items.ensures.ports _ c.loop-place-test.false net output.0 output.1) output),
   λ shown. refl,
 )

@@ -2,13 +2,13 @@ use Rattle.std.proofs.Common.{◌≡◌, ◌≤◌, ◌+◌, ◌-◌, length, ma
 use Rattle.std.specs.List.{AllZip}
 use Rattle.ncl_shape.specs.declared.bank.TheConstants.{MOST_BANKS}
 use Rattle.ncl_shape.specs.Chain.{IsChain, IsPath}
-use Rattle.ncl_shape.specs.Shape.{AreBitsOf, AreRailsOf, AreInputsOf, Shape}
+use Rattle.ncl_shape.specs.Shape.{AreRailsOf, AreInputsOf, Shape}
 use Rattle.ncl_shape.specs.FoundChain.{requests_of}
 use Rattle.ncl_shape.specs.FoundParts.{AreGatesOf, AreStagesOf, IsFewBitBank}
 use Rattle.ncl_shape.proofs.ChainNumbers.{as_many_requests}
 use Rattle.ncl_shape.proofs.ShapeLaws.{requests}
-use Rattle.ncl_shape.proofs.Assembling.{requests_are, own_requests, shape_is}
-use Rattle.ncl_shape.proofs.StageLists.{bank_read, bank_at}
+use Rattle.ncl_shape.proofs.Assembling.{requests_are, own_requests, bits_of_bank, shape_is}
+use Rattle.ncl_shape.proofs.StageLists.{bank_read}
 use Rattle.ncl_shape.proofs.ZippedLists.{AllZip-length}
 use Rattle.ncl_shape.proofs.finding.assemble.Goals as goal
 
@@ -40,23 +40,14 @@ stages_between-requires-clause-gates c =
 
 pub inputs_of-requires : goal.inputs_of-requires
 inputs_of-requires c =
-    let n = c.args.netlist.now in
-    let banks = c.in_ok-banks.banks.items in
-    let chain = requests_of c.args.chain.now in
-    let as_many = c.in_ok-stages.ensures.as_many in
-    let at = bank_read banks 0 c.index-first.result.now (omega (arith, as_many, ap length c.deref.ensures.value)) c.index-first.ensures in
-    let found = bank_at n banks (own_requests n chain banks c.in_ok-banks.ensures) 0 c.index-first.result.now at in
-    (c.index-first.result.now.request.0, subst (AreBitsOf n c.index-first.result.now.request.0) (sym c.items.ensures) found.0.bits)
+    let at = bank_read c.in_ok-banks.banks.items 0 c.index-first.result.now (omega (arith, c.in_ok-stages.ensures.as_many, ap length c.deref.ensures.value)) c.index-first.ensures in
+    bits_of_bank c.args.netlist.now (requests_of c.args.chain.now) c.in_ok-banks.banks.items c.in_ok-banks.ensures _ c.index-first.result.now at _ c.items.ensures
 
 pub rails_of-requires : goal.rails_of-requires
 rails_of-requires c =
-    let n = c.args.netlist.now in
-    let banks = c.in_ok-banks.banks.items in
-    let chain = requests_of c.args.chain.now in
-    let as_many = c.in_ok-stages.ensures.as_many in
-    let at = bank_read banks (c.len.result - 1) c.index-last.result.now (omega (arith, as_many, ap length c.deref.ensures.value, c.len.ensures, c.in_ok-banks.banks.ok.0)) c.index-last.ensures in
-    let found = bank_at n banks (own_requests n chain banks c.in_ok-banks.ensures) (c.len.result - 1) c.index-last.result.now at in
-    (c.index-last.result.now.request.0, subst (AreBitsOf n c.index-last.result.now.request.0) (sym c.items-2.ensures) found.0.bits)
+    let last = c.len.result - 1 in
+    let at = bank_read c.in_ok-banks.banks.items last c.index-last.result.now (omega (arith, c.in_ok-stages.ensures.as_many, ap length c.deref.ensures.value, c.len.ensures, c.in_ok-banks.banks.ok.0)) c.index-last.ensures in
+    bits_of_bank c.args.netlist.now (requests_of c.args.chain.now) c.in_ok-banks.banks.items c.in_ok-banks.ensures last c.index-last.result.now at _ c.items-2.ensures
 
 pub returns : goal.returns
 returns c =

@@ -1,10 +1,9 @@
-use Rattle.std.proofs.Common.{length, refl, ap, arith, below_more}
+use Rattle.std.proofs.Common.{refl, below_more}
 use Rattle.std.proofs.lemmas.Bool.{both_ways}
-use Rattle.std.proofs.lemmas.Option.{slice_get_within}
 use Rattle.ncl_cell_rules.specs.Origin.{IsInputPort}
 use Rattle.ncl_cell_rules.proofs.PortReads.{port_read}
 use Rattle.ncl_shape.specs.Chain.{HasOneRole}
-use Rattle.ncl_shape.proofs.PortRoles.{role_of_counts, no_input}
+use Rattle.ncl_shape.proofs.PortRoles.{role_of_counts, no_input, ports_passed}
 use Rattle.ncl_shape.proofs.roles.have_one_role.Goals as goal
 use Rattle.ncl_shape.proofs.roles.have_one_role.Goals.{else-not-port-via-then-not-port+else-not-is_one_role, else-not-port-via-else-not-port}
 
@@ -36,10 +35,6 @@ loop-net-preserved c =
 
 pub returns : goal.returns
 returns c = (
-  (λ holds net input.
-      let (p, at, is_input) = input in
-      let within = slice_get_within c.args.netlist.now.ports net p at in
-      let same = ap length c.ports-port-items.ensures.ports in
-      c.loop-net.invariant net (omega (arith, within, same, c.loop-net-test.false)) input),
+  (λ holds net input. c.loop-net.invariant net (ports_passed c.args.netlist.now _ c.ports-port-items.ensures.ports _ c.loop-net-test.false net input.0 input.1) input),
   λ roles. refl,
 )

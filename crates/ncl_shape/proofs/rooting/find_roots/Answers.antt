@@ -1,36 +1,40 @@
-use Rattle.std.proofs.Common.{◌+◌, None, get_or, sym, ◌∙◌, subst, arith}
+use Rattle.std.proofs.Common.{◌≡◌, ◌+◌, None, get_or, sym, ◌∙◌, subst, arith}
 use Rattle.std.proofs.lemmas.List.{get_or_read}
 use Rattle.std.proofs.lemmas.Option.{slice_get-get_or, MatchOption-at_some, MatchOption-at_none}
 use Rattle.ncl_cell_rules.proofs.PinNumbers.{no_net}
 use Rattle.ncl_shape.specs.Chain.{IsRoot}
-use Rattle.ncl_shape.specs.ChainSteps.{AreOnly, IsOnly, IsOnlyOf}
+use Rattle.ncl_shape.specs.ChainSteps.{AreOnly, IsOnly, IsOnlyOf, net_at}
 use Rattle.ncl_shape.proofs.Places.{no_entry}
 use Rattle.ncl_shape.proofs.BankNets.{chain_within}
 use Rattle.ncl_shape.proofs.RootLaws.{AreOnlyRoots, two_roots, no_root, roots_more, all_rooted}
 use Rattle.ncl_shape.proofs.rooting.find_roots.Goals as goal
+use Rattle.ncl_shape.proofs.rooting.find_roots.Goals.{After-index, In-Some}
 
 pub returns-in_default : goal.returns-in_default
 returns-in_default c =
     two_roots c.args.netlist.now c.requires.origins.drivers.netlist c.requires.free c.args.banks.now c.requires.chain
     (MatchOption-at_none _ _ (no_entry c.in_ok-found.field-0 c.in_default.not-Some) c.in_ok-found.ensures)
 
+-- the table that was found
+table : (c : In-Some) → AreOnly c.args.netlist.now (IsRoot c.args.netlist.now) c.in-Some.found.items
+table c = MatchOption-at_some _ _ c.in-Some.found c.in-Some.is c.in_ok-found.ensures
+
 pub index-requires : goal.index-requires
 index-requires c =
     let inside = chain_within c.args.netlist.now c.requires.origins.drivers.netlist c.args.banks.now c.requires.chain c.loop-bank.bank-index no_net c.loop-bank-test.true in
-    let are : AreOnly c.args.netlist.now (IsRoot c.args.netlist.now) c.in-Some.found.items = MatchOption-at_some _ _ c.in-Some.found c.in-Some.is c.in_ok-found.ensures in
-    let sized = are.sized in
+    let sized = (table (goal.at.index-requires c).In-Some).sized in
     omega (arith, inside, sized)
+
+-- what is read of it at a bank
+read : (c : After-index) → AreOnly c.args.netlist.now (IsRoot c.args.netlist.now) c.in-Some.found.items → c.index.result.now ≡ net_at c.in-Some.found.items (get_or c.args.banks.now c.loop-bank.bank-index no_net).0
+read c are =
+    let inside = chain_within c.args.netlist.now c.requires.origins.drivers.netlist c.args.banks.now c.requires.chain c.loop-bank.bank-index no_net c.loop-bank-test.true in
+    get_or_read c.in-Some.found.items _ c.index.result.now (omega (arith, inside, are.sized)) c.index.ensures None
 
 pub returns-in_default-index : goal.returns-in_default-index
 returns-in_default-index c =
-    let n = c.args.netlist.now in
-    let banks = c.args.banks.now in
-    let i = c.loop-bank.bank-index in
-    let are : AreOnly n (IsRoot n) c.in-Some.found.items = MatchOption-at_some _ _ c.in-Some.found c.in-Some.is c.in_ok-found.ensures in
-    let inside = chain_within n c.requires.origins.drivers.netlist banks c.requires.chain i no_net c.loop-bank-test.true in
-    let sized = are.sized in
-    let read = get_or_read c.in-Some.found.items (get_or banks i no_net).0 c.index.result.now (omega (arith, inside, sized)) c.index.ensures None in
-    no_root n c.requires.origins.drivers.netlist c.requires.free banks c.requires.chain c.in-Some.found.items are i no_net c.loop-bank-test.true (sym read ∙ no_entry c.index.result.now c.in_default-index.not-Some)
+    let at = goal.at.returns-in_default-index c in
+    no_root c.args.netlist.now c.requires.origins.drivers.netlist c.requires.free c.args.banks.now c.requires.chain c.in-Some.found.items (table at.In-Some) c.loop-bank.bank-index no_net c.loop-bank-test.true (sym (read at.After-index (table at.In-Some)) ∙ no_entry c.index.result.now c.in_default-index.not-Some)
 
 pub loop-bank-preserved : goal.loop-bank-preserved
 loop-bank-preserved c =
@@ -38,11 +42,9 @@ loop-bank-preserved c =
     let banks = c.args.banks.now in
     let i = c.loop-bank.bank-index in
     let bank = get_or banks i no_net in
-    let are : AreOnly n (IsRoot n) c.in-Some.found.items = MatchOption-at_some _ _ c.in-Some.found c.in-Some.is c.in_ok-found.ensures in
+    let at = goal.at.loop-bank-preserved c in
     let inside = chain_within n c.requires.origins.drivers.netlist banks c.requires.chain i no_net c.loop-bank-test.true in
-    let sized = are.sized in
-    let read = get_or_read c.in-Some.found.items bank.0 c.index.result.now (omega (arith, inside, sized)) c.index.ensures None in
-    let only : IsOnly (IsRoot n bank.0) c.in-Some-index.root.0 = subst (IsOnlyOf (IsRoot n) bank.0) (sym read ∙ c.in-Some-index.is) (are.each bank.0 inside) in
+    let only : IsOnly (IsRoot n bank.0) c.in-Some-index.root.0 = subst (IsOnlyOf (IsRoot n) bank.0) (sym (read at.After-index (table at.In-Some)) ∙ c.in-Some-index.is) ((table at.In-Some).each bank.0 inside) in
     subst (AreOnlyRoots n banks (i + 1)) (sym c.in_ok-push.ensures.items)
     (roots_more n banks i c.loop-bank.roots.items bank c.in-Some-index.root c.loop-bank.invariant (slice_get-get_or banks i no_net c.loop-bank-test.true) only)
 

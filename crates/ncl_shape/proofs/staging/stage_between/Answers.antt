@@ -4,23 +4,25 @@ use Rattle.ncl_shape.specs.FoundParts.{AreGatesOf}
 use Rattle.ncl_shape.specs.Shape.{AreRailsOf, AreInputsOf, IsStageOf}
 use Rattle.ncl_shape.proofs.StageLaws.{between_is_stage, between_is_stage_of}
 use Rattle.ncl_shape.proofs.staging.stage_between.Goals as goal
+use Rattle.ncl_shape.proofs.staging.stage_between.Goals.{After-from_vec}
+
+-- the rails, the nets and the gate cells that were found
+rails : (c : After-from_vec) → AllZip (AreRailsOf c.args.netlist.now) c.args.bank.now.bits c.in_ok-inputs.inputs
+rails c = subst (λ bits. AllZip (AreRailsOf c.args.netlist.now) bits c.in_ok-inputs.inputs) c.items.ensures c.in_ok-inputs.ensures
+
+nets : (c : After-from_vec) → AllZip (AreInputsOf c.args.netlist.now) c.args.next.now.bits c.in_ok-outputs.outputs
+nets c = subst (λ bits. AllZip (AreInputsOf c.args.netlist.now) bits c.in_ok-outputs.outputs) c.items-2.ensures c.in_ok-outputs.ensures
+
+gates : (c : After-from_vec) → AreGatesOf c.args.netlist.now c.args.bank.now.request.0 c.from_vec.result
+gates c = subst (AreGatesOf c.args.netlist.now c.args.bank.now.request.0) (sym c.from_vec.ensures) c.requires.cells
 
 pub new-requires : goal.new-requires
 new-requires c =
-    let n = c.args.netlist.now in
-    let b = c.args.bank.now in
-    let next = c.args.next.now in
-    let rails = subst (λ bits. AllZip (AreRailsOf n) bits c.in_ok-inputs.inputs) c.items.ensures c.in_ok-inputs.ensures in
-    let nets = subst (λ bits. AllZip (AreInputsOf n) bits c.in_ok-outputs.outputs) c.items-2.ensures c.in_ok-outputs.ensures in
-    let gates = subst (AreGatesOf n b.request.0) (sym c.from_vec.ensures) c.requires.cells in
-    between_is_stage n c.requires.netlist c.requires.free b next c.requires.bank c.requires.next c.requires.follows c.from_vec.result gates c.args.number c.in_ok-inputs.inputs c.in_ok-outputs.outputs rails nets
+    let at = (goal.at.new-requires c).After-from_vec in
+    between_is_stage c.args.netlist.now c.requires.netlist c.requires.free c.args.bank.now c.args.next.now c.requires.bank c.requires.next c.requires.follows c.from_vec.result (gates at) c.args.number c.in_ok-inputs.inputs c.in_ok-outputs.outputs (rails at) (nets at)
 
 pub returns-clause-stage : goal.returns-clause-stage
 returns-clause-stage c =
-    let n = c.args.netlist.now in
-    let b = c.args.bank.now in
-    let next = c.args.next.now in
-    let rails = subst (λ bits. AllZip (AreRailsOf n) bits c.in_ok-inputs.inputs) c.items.ensures c.in_ok-inputs.ensures in
-    let nets = subst (λ bits. AllZip (AreInputsOf n) bits c.in_ok-outputs.outputs) c.items-2.ensures c.in_ok-outputs.ensures in
-    let gates = subst (AreGatesOf n b.request.0) (sym c.from_vec.ensures) c.requires.cells in
-    subst (IsStageOf n b next) (sym c.new.ensures) (between_is_stage_of n c.requires.netlist c.requires.free b next c.requires.bank c.requires.next c.requires.follows c.from_vec.result gates c.args.number c.in_ok-inputs.inputs c.in_ok-outputs.outputs rails nets)
+    let at = (goal.at.returns-clause-stage c).After-from_vec in
+    subst (IsStageOf c.args.netlist.now c.args.bank.now c.args.next.now) (sym c.new.ensures)
+    (between_is_stage_of c.args.netlist.now c.requires.netlist c.requires.free c.args.bank.now c.args.next.now c.requires.bank c.requires.next c.requires.follows c.from_vec.result (gates at) c.args.number c.in_ok-inputs.inputs c.in_ok-outputs.outputs (rails at) (nets at))

@@ -1,0 +1,32 @@
+-- The nets of a stage whose nets have other numbers are those of the stage, renamed.
+use Rattle.std.proofs.Common.{◌≡◌, ℕ, List, [], ◌∷◌, ◌++◌, map, refl, sym, ap, ◌∙◌}
+use Rattle.std.specs.Prelude.{Contains}
+use Rattle.std.specs.List.{AllZip}
+use Rattle.std.proofs.lemmas.List.{map-append}
+use Rattle.ncl_base.proofs.Members.{Member-map, Contains-from_Member, Member-from_Contains}
+use Rattle.ncl_shape.specs.declared.rails.Rails.{Rails}
+use Rattle.ncl_shape.specs.declared.stage.StageCell.{StageCell}
+use Rattle.ncl_shape.specs.Stage.{rail_nets, nets_of, out_of}
+use Rattle.ncl_shape.specs.Renamed.{renamed_net, renamed_rails, IsRenamedCell}
+
+module _ (to : ℕ → ℕ) where
+  pub rail_nets-renamed : (rs : List Rails) → rail_nets (map (renamed_rails to) rs) ≡ map to (rail_nets rs)
+  rail_nets-renamed [] = refl
+  rail_nets-renamed (r ∷ rs) = ap (λ rest. to r.zero.0 ∷ to r.one.0 ∷ rest) (rail_nets-renamed rs)
+
+  outs-renamed : (cells others : List StageCell) → AllZip (IsRenamedCell to) cells others → map out_of others ≡ map to (map out_of cells)
+  outs-renamed [] [] zip = refl
+  outs-renamed [] (d ∷ others) zip = absurd zip
+  outs-renamed (c ∷ cells) [] zip = absurd zip
+  outs-renamed (c ∷ cells) (d ∷ others) zip =
+      let first : d.out ≡ renamed_net to c.out = zip.0.out in
+      let rest = outs-renamed cells others zip.1 in
+      λ i. (first i).0 ∷ rest i
+
+  pub nets-renamed : (inputs : List Rails) (cells others : List StageCell) → AllZip (IsRenamedCell to) cells others → nets_of (map (renamed_rails to) inputs) others ≡ map to (nets_of inputs cells)
+  nets-renamed inputs cells others zip =
+      (λ i. rail_nets-renamed inputs i ++ outs-renamed cells others zip i) ∙ sym (map-append to (rail_nets inputs) (map out_of cells))
+
+  -- what is among some nets is, renamed, among these renamed
+  pub known-renamed : (nets : List ℕ) (net : ℕ) → Contains nets net → Contains (map to nets) (to net)
+  known-renamed nets net known = Contains-from_Member (to net) (Member-map to net (Member-from_Contains nets net known))

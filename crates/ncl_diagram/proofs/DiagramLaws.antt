@@ -1,11 +1,10 @@
 -- A diagram is a space, and how the space changes where nodes come or the last ones go.
-use Rattle.std.proofs.Common.{◌≡◌, ℕ, zero, suc, ◌+◌, ◌*◌, ◌^◌, ◌<◌, ◌≤◌, ◌⊎◌, inl, inr, Bool, true, false, ◌||◌, List, [], ◌∷◌, length, map, take, nat_lt, nat_le, IsTrue, sym, ap, ◌∙◌, refl, arith}
+use Rattle.std.proofs.Common.{◌≡◌, ℕ, zero, suc, ◌+◌, ◌*◌, ◌^◌, ◌<◌, ◌≤◌, ◌⊎◌, inl, inr, Bool, true, false, ◌||◌, List, [], ◌∷◌, length, map, take, nat_le, sym, ap, ◌∙◌, refl, arith}
 use Rattle.std.specs.Prelude.{Result, Ok, Err, IfOk, OnOk, IsErrOf}
 use Rattle.std.specs.FinSet as set
 use Rattle.std.specs.List.{All}
 use Rattle.std.proofs.lemmas.Bool.Decides.{nat_tests}
-use Rattle.std.proofs.lemmas.List.{length-take-le, take-take}
-use Rattle.std.proofs.Math.Seq.{take-length}
+use Rattle.std.proofs.lemmas.List.{length-take-le}
 use Rattle.ncl_space.specs.declared.space.Ref.{Ref}
 use Rattle.ncl_space.specs.declared.space.Mark.{Mark}
 use Rattle.ncl_space.specs.declared.space.SpaceFault.{SpaceFault}
@@ -14,6 +13,7 @@ use Rattle.ncl_space.specs.Beads.{bead_count, beads_of, distinct_beads, is_bead}
 use Rattle.ncl_space.specs.Functions.{constant_table}
 use Rattle.ncl_space.specs.Space.{IsLive, IsNew, IsSpace, Keeps, Makes, MarksNow, Releases, Adds, Within, fits}
 use Rattle.ncl_space.proofs.BeadLaws.{contains-distinct_beads, table_order}
+use Rattle.ncl_space.proofs.CountedMarks.{CountsMarks, from_nat_le, from_nat_lt, marks_now, nat_le-from, nat_lt-from, releases_to}
 use Rattle.ncl_diagram.specs.declared.nodes.Node.{Node}
 use Rattle.ncl_diagram.specs.Nodes.{table_from, IsCanonical, Grown}
 use Rattle.ncl_diagram.specs.Operands.{There}
@@ -28,18 +28,6 @@ use Rattle.ncl_diagram.proofs.Holding.{beads_held, held_grown}
 use Rattle.ncl_diagram.proofs.HeldSets.{fits_all, fits_not, held_from_set, held_is, len-held, set_from_held}
 use Rattle.ncl_diagram.proofs.Rails.{table_from-constant}
 use Rattle.ncl_diagram.proofs.Taking.{canonical_take, grown_take, take_grown}
-
-pub from_nat_lt : (a b : ℕ) → IsTrue (nat_lt a b) → a < b
-from_nat_lt a b h = grind (arith, nat_tests)
-
-nat_lt-from : (a b : ℕ) → a < b → IsTrue (nat_lt a b)
-nat_lt-from a b h = grind (arith, nat_tests)
-
-pub from_nat_le : (a b : ℕ) → IsTrue (nat_le a b) → a ≤ b
-from_nat_le a b h = grind (arith, nat_tests)
-
-nat_le-from : (a b : ℕ) → a ≤ b → IsTrue (nat_le a b)
-nat_le-from a b h = grind (arith, nat_tests)
 
 nat_le-true : (a b : ℕ) → a ≤ b → nat_le a b ≡ true
 nat_le-true a b h = grind (arith, nat_tests)
@@ -127,33 +115,18 @@ fits_by d new made (Ok r) leaves = fits_all d.width d.nodes new made d.limit lea
 fits_by d new made (Err e) leaves = tt
 
 -- the number of nodes is a mark of now
+diagram-counts : (d : DiagramData) → CountsMarks (diagram_space d) (held_of d.width) d.nodes
+diagram-counts d = record { live = λ r. refl; held = refl; stands = λ m. refl; live_at = λ m r. refl; held_at = λ m. refl }
+
 pub MarksNow-diagram : (d : DiagramData) (m : Mark) → m.count ≡ length d.nodes → MarksNow (diagram_space d) m
-MarksNow-diagram d m is = record {
-  stands = nat_le-from m.count (length d.nodes) (omega (arith, is));
-  live_at = λ r. ap (λ (k : ℕ). nat_lt r.place (k + 2)) is;
-  held_at = ap (λ (k : ℕ). held_of d.width (take k d.nodes)) is ∙ ap (held_of d.width) (take-length d.nodes);
-  latest = λ n stands. let le : n.count ≤ length d.nodes = from_nat_le n.count (length d.nodes) stands in omega (arith, is);
-}
+MarksNow-diagram d = marks_now (diagram_space d) (held_of d.width) d.nodes (diagram-counts d)
 
 -- the first nodes alone are the space at a mark
 pub Releases-diagram : (d : DiagramData) (m : Mark) → IsCanonical d.width d.nodes → m.count ≤ length d.nodes → Releases (diagram_space d) (diagram_space (with_nodes d (take m.count d.nodes))) m
-Releases-diagram d m can le = record {
-  width = refl;
-  limit = refl;
-  live = λ r. ap (λ (k : ℕ). nat_lt r.place (k + 2)) long;
-  tables = λ r live.
-      let place : r.place < m.count + 2 = from_nat_lt r.place (m.count + 2) live in
-      sym (table_grown d.width (take m.count d.nodes) d.nodes (canonical_take d.width d.nodes m.count le can) (grown_take d.nodes m.count le) d.width 0 r.place (omega (arith, long)));
-  held = refl;
-  marks = λ n stands earlier. record {
-    stands = nat_le-from n.count (length (take m.count d.nodes)) (omega (arith, long, earlier));
-    live_at = λ r. refl;
-    held_at = ap (held_of d.width) (take-take n.count m.count d.nodes earlier);
-  };
-}
-  where
-    long : length (take m.count d.nodes) ≡ m.count
-    long = length-take-le m.count d.nodes le
+Releases-diagram d m can le =
+    let first : DiagramData = with_nodes d (take m.count d.nodes) in
+    releases_to (diagram_space d) (diagram_space first) (held_of d.width) d.nodes m (diagram-counts d) (diagram-counts first) le refl refl
+    (λ r place. sym (table_grown d.width first.nodes d.nodes (canonical_take d.width d.nodes m.count le can) (grown_take d.nodes m.count le) d.width 0 r.place (omega (arith, length-take-le m.count d.nodes le))))
 
 pub IsDiagram-take : (n limit : ℕ) (nodes : List Node) (c : ℕ) → IsDiagram n limit nodes → c ≤ length nodes → IsDiagram n limit (take c nodes)
 IsDiagram-take n limit nodes c is le = record {

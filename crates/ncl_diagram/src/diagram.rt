@@ -88,20 +88,8 @@ impl Diagram {
     ) -> Result<Ref, SpaceFault>
         requires arity { length ins.now ≡ arity_of kind }
         requires live { All (IsLive (diagram_space self.old)) ins.now }
-        ensures made { let s = diagram_space self.old in
-            let t = gate_table s.width kind (map s.table ins.now) in
-            IfOk result (λ r. Makes s (diagram_space self.new) r t) }
-        ensures kept { Keeps (diagram_space self.old) (diagram_space self.new) }
-        ensures adds { let s = diagram_space self.old in
-            let t = gate_table s.width kind (map s.table ins.now) in
-            Adds s (diagram_space self.new) (t ∷ []) }
-        ensures space { IsSpace (diagram_space self.new) }
-        ensures full { let s = diagram_space self.old in
-            let t = gate_table s.width kind (map s.table ins.now) in
-            IsErrOf result SpaceFault.Full → fits s (t ∷ []) ≡ false }
-        ensures fits { let s = diagram_space self.old in
-            let t = gate_table s.width kind (map s.table ins.now) in
-            OnOk result (fits s (t ∷ []) ≡ true) }
+        ensures applies { let s = diagram_space self.old in
+            Applies s (diagram_space self.new) (gate_table s.width kind (map s.table ins.now)) result }
 
         // How many steps it takes, whatever it answers: no more than the bound, and one for each bead that comes.
         ensures steps { steps.new ≤ steps.old + 5 * operand_bound (diagram_space self.old) ins.now }

@@ -4,4 +4,5 @@ pub mod SpaceLaws
 pub mod MakingLaws
 pub mod BitLaws
 pub mod RowLaws
+pub mod CountedMarks
 pub mod PlainLaws

@@ -1,14 +1,12 @@
 -- A space of tables is a space, and how it changes where a table is put after the others or the last ones go.
-use Rattle.std.proofs.Common.{◌≡◌, ℕ, zero, suc, ◌+◌, ◌-◌, ◌*◌, ◌^◌, ◌<◌, ◌≤◌, Bool, true, false, ◌||◌, List, [], ◌∷◌, ◌++◌, length, map, take, drop, inl, inr, nat_lt, nat_le, slice_index_or, IsTrue, sym, subst, ap, ◌∙◌, refl, arith}
+use Rattle.std.proofs.Common.{◌≡◌, ℕ, zero, suc, ◌+◌, ◌-◌, ◌*◌, ◌^◌, ◌<◌, ◌≤◌, Bool, true, false, ◌||◌, List, [], ◌∷◌, ◌++◌, length, map, take, drop, inl, inr, slice_index_or, sym, subst, ap, ◌∙◌, refl, arith}
 use Rattle.std.specs.FinSet as set
 use Rattle.std.specs.List.{All, AllByRecursion, list_any}
 use Rattle.std.specs.Prelude.{Result, Ok, Err, IfOk, OnOk, OnErr}
 use Rattle.std.proofs.lemmas.Bool.{cases_lt}
 use Rattle.std.proofs.lemmas.Nat.{mul-add-lt}
 use Rattle.std.proofs.Math.Nat.{mul_comm}
-use Rattle.std.proofs.lemmas.Bool.Decides.{nat_tests}
-use Rattle.std.proofs.lemmas.List.{get_or_append_left, get_or_push, get_or-take, length_push, length-take-le, take-append-le, take-append-drop, take-take}
-use Rattle.std.proofs.Math.Seq.{take-length}
+use Rattle.std.proofs.lemmas.List.{get_or_append_left, get_or_push, get_or-take, length_push, length-take-le, take-append-le, take-append-drop}
 use Rattle.ncl_space.specs.Table.{words}
 use Rattle.ncl_space.specs.Beads.{Beads, beads_of, is_bead, distinct_beads}
 use Rattle.ncl_space.specs.Functions.{constant_table}
@@ -22,19 +20,7 @@ use Rattle.ncl_space.proofs.BeadLaws.{table_order, contains-distinct_beads, dist
 use Rattle.ncl_space.proofs.TableLaws.{length-table_of, distinct_beads-constant}
 use Rattle.ncl_space.proofs.RowLaws.{length-row_table, get_or-tables_in, length-tables_in, tables_in-push, tables_in-take, bit_of_row}
 use Rattle.ncl_space.proofs.SpaceLaws.{keeps_all}
-
--- the tests of the record and what they say
-pub from_nat_lt : (a b : ℕ) → IsTrue (nat_lt a b) → a < b
-from_nat_lt a b h = grind (arith, nat_tests)
-
-pub nat_lt-from : (a b : ℕ) → a < b → IsTrue (nat_lt a b)
-nat_lt-from a b h = grind (arith, nat_tests)
-
-pub from_nat_le : (a b : ℕ) → IsTrue (nat_le a b) → a ≤ b
-from_nat_le a b h = grind (arith, nat_tests)
-
-pub nat_le-from : (a b : ℕ) → a ≤ b → IsTrue (nat_le a b)
-nat_le-from a b h = grind (arith, nat_tests)
+use Rattle.ncl_space.proofs.CountedMarks.{CountsMarks, from_nat_le, from_nat_lt, marks_now, nat_le-from, nat_lt-from, releases_to}
 
 -- the width is one of these spaces', and each table has a value for each word
 pub record IsPlain (p : PlainData) : Type 0 where
@@ -161,31 +147,18 @@ IsPlain-pushed p t is long = record {
 }
 
 -- the number of tables is a mark of now
+plain-counts : (p : PlainData) → CountsMarks (plain_space p) (distinct_beads p.width) p.tables
+plain-counts p = record { live = λ r. refl; held = refl; stands = λ m. refl; live_at = λ m r. refl; held_at = λ m. refl }
+
 pub MarksNow-plain : (p : PlainData) (m : Mark) → m.count ≡ length p.tables → MarksNow (plain_space p) m
-MarksNow-plain p m is = record {
-  stands = nat_le-from m.count (length p.tables) (omega (arith, is));
-  live_at = λ r. ap (λ (k : ℕ). nat_lt r.place (k + 2)) is;
-  held_at = ap (λ (k : ℕ). distinct_beads p.width (take k p.tables)) is ∙ ap (distinct_beads p.width) (take-length p.tables);
-  latest = λ n stands. let le : n.count ≤ length p.tables = from_nat_le n.count (length p.tables) stands in omega (arith, is);
-}
+MarksNow-plain p = marks_now (plain_space p) (distinct_beads p.width) p.tables (plain-counts p)
 
 -- the first tables alone are the space at a mark
 pub Releases-plain : (p : PlainData) (m : Mark) → m.count ≤ length p.tables → Releases (plain_space p) (plain_space (record { width = p.width; tables = take m.count p.tables })) m
-Releases-plain p m le = record {
-  width = refl;
-  limit = refl;
-  live = λ r. ap (λ (k : ℕ). nat_lt r.place (k + 2)) long;
-  tables = λ r live. table_at-take p.width m.count p.tables r.place (from_nat_lt r.place (m.count + 2) live);
-  held = refl;
-  marks = λ n stands earlier. record {
-    stands = nat_le-from n.count (length (take m.count p.tables)) (omega (arith, long, earlier));
-    live_at = λ r. refl;
-    held_at = ap (distinct_beads p.width) (take-take n.count m.count p.tables earlier);
-  };
-}
-  where
-    long : length (take m.count p.tables) ≡ m.count
-    long = length-take-le m.count p.tables le
+Releases-plain p m le =
+    let first : PlainData = record { width = p.width; tables = take m.count p.tables } in
+    releases_to (plain_space p) (plain_space first) (distinct_beads p.width) p.tables m (plain-counts p) (plain-counts first) le refl refl
+    (λ r place. table_at-take p.width m.count p.tables r.place place)
 
 pub IsPlain-take : (p : PlainData) (c : ℕ) → IsPlain p → c ≤ length p.tables → IsPlain (record { width = p.width; tables = take c p.tables })
 IsPlain-take p c is le = record {

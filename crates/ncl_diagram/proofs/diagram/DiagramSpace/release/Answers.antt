@@ -2,7 +2,8 @@ use Rattle.std.proofs.Common.{◌≤◌, List, length, take, sym, subst}
 use Rattle.ncl_space.specs.Space.{IsSpace, Releases}
 use Rattle.ncl_diagram.specs.declared.nodes.Node.{Node}
 use Rattle.ncl_diagram.specs.Diagram.{DiagramData, IsDiagram, diagram_space}
-use Rattle.ncl_diagram.proofs.DiagramLaws.{IsDiagram-take, IsSpace-diagram, Releases-diagram, from_nat_le, with_nodes}
+use Rattle.ncl_space.proofs.CountedMarks.{from_nat_le}
+use Rattle.ncl_diagram.proofs.DiagramLaws.{IsDiagram-take, IsSpace-diagram, Releases-diagram, with_nodes}
 use Rattle.ncl_diagram.specs.Kept.{AreKept}
 use Rattle.ncl_diagram.proofs.KeptLaws.{kept_taken}
 use Rattle.ncl_diagram.proofs.diagram.DiagramSpace.release.Goals as goal

@@ -3,7 +3,8 @@ use Rattle.ncl_space.specs.Bits.{word_of}
 use Rattle.ncl_space.specs.Functions.{is_value}
 use Rattle.ncl_space.specs.Plain.{PlainData, table_at}
 use Rattle.ncl_space.proofs.BitLaws.{find-first, find-nowhere}
-use Rattle.ncl_space.proofs.PlainLaws.{IsPlain-view, from_nat_lt, length-table_at}
+use Rattle.ncl_space.proofs.CountedMarks.{from_nat_lt}
+use Rattle.ncl_space.proofs.PlainLaws.{IsPlain-view, length-table_at}
 use Rattle.ncl_space.proofs.plain.Plain.find_least.Goals as goal
 
 pub returns-in-Some-clause-word : goal.returns-in-Some-clause-word

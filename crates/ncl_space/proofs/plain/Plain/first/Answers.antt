@@ -7,7 +7,8 @@ use Rattle.ncl_space.specs.Functions.{is_value}
 use Rattle.ncl_space.specs.Plain.{PlainData, IsFirst, stride_of, table_at}
 use Rattle.ncl_space.proofs.BitLaws.{is_set-past}
 use Rattle.ncl_space.proofs.RowLaws.{values_below}
-use Rattle.ncl_space.proofs.PlainLaws.{IsPlain-view, from_nat_lt, length-table_at}
+use Rattle.ncl_space.proofs.CountedMarks.{from_nat_lt}
+use Rattle.ncl_space.proofs.PlainLaws.{IsPlain-view, length-table_at}
 use Rattle.ncl_space.proofs.plain.Plain.first.Goals as goal
 
 -- the place of the lowest 1 among the values of a word is the first, where the words before have none

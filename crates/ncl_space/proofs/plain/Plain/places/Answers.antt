@@ -4,7 +4,8 @@ use Rattle.ncl_space.specs.Plain.{PlainData, table_at}
 use Rattle.ncl_gates.proofs.BitLaws.{is_set-and}
 use Rattle.ncl_space.proofs.BitLaws.{is_set-not}
 use Rattle.ncl_space.proofs.RowLaws.{ones_at}
-use Rattle.ncl_space.proofs.PlainLaws.{IsPlain-view, from_nat_lt, length-table_at}
+use Rattle.ncl_space.proofs.CountedMarks.{from_nat_lt}
+use Rattle.ncl_space.proofs.PlainLaws.{IsPlain-view, length-table_at}
 use Rattle.ncl_space.proofs.plain.Plain.places.Goals as goal
 
 and_turned : (a b : Bool) → (a && b) ≡ (b && a)

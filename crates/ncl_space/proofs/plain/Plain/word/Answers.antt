@@ -4,7 +4,8 @@ use Rattle.ncl_gates.specs.Bits.{is_set}
 use Rattle.ncl_space.specs.Plain.{PlainData, stride_of, table_at}
 use Rattle.ncl_space.proofs.BitLaws.{is_set-past}
 use Rattle.ncl_space.proofs.RowLaws.{index-zero, index-one}
-use Rattle.ncl_space.proofs.PlainLaws.{bit_of_place, from_nat_lt, length-view, place_there}
+use Rattle.ncl_space.proofs.CountedMarks.{from_nat_lt}
+use Rattle.ncl_space.proofs.PlainLaws.{bit_of_place, length-view, place_there}
 use Rattle.ncl_space.proofs.plain.Plain.word.Goals as goal
 
 pub index-requires : goal.index-requires

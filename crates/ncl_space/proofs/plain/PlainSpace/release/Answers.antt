@@ -4,7 +4,8 @@ use Rattle.ncl_space.specs.Plain.{AreTables, PlainData, stride_of, tables_in, pl
 use Rattle.ncl_space.specs.Space.{Releases, IsSpace}
 use Rattle.ncl_space.specs.declared.space.Mark.{Mark}
 use Rattle.ncl_space.proofs.RowLaws.{AreTables-take}
-use Rattle.ncl_space.proofs.PlainLaws.{IsPlain-take, IsPlain-view, IsSpace-plain, Releases-plain, from_nat_le, length-view, released-view}
+use Rattle.ncl_space.proofs.CountedMarks.{from_nat_le}
+use Rattle.ncl_space.proofs.PlainLaws.{IsPlain-take, IsPlain-view, IsSpace-plain, Releases-plain, length-view, released-view}
 use Rattle.ncl_space.proofs.plain.PlainSpace.release.Goals as goal
 
 pub invariant_of-self : goal.invariant_of-self

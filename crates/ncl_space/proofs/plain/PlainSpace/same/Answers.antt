@@ -5,7 +5,8 @@ use Rattle.ncl_gates.specs.Bits.{is_set}
 use Rattle.ncl_space.specs.Plain.{PlainData, stride_of, table_at}
 use Rattle.ncl_space.proofs.BitLaws.{same_from_is_set}
 use Rattle.ncl_space.proofs.RowLaws.{values_below}
-use Rattle.ncl_space.proofs.PlainLaws.{IsPlain-view, from_nat_lt, length-table_at}
+use Rattle.ncl_space.proofs.CountedMarks.{from_nat_lt}
+use Rattle.ncl_space.proofs.PlainLaws.{IsPlain-view, length-table_at}
 use Rattle.ncl_space.proofs.plain.PlainSpace.same.Goals as goal
 
 pub returns-then-word : goal.returns-then-word

@@ -1,6 +1,6 @@
 -- What a variant leaves unchanged, net by net in the order of a stage.
-use Rattle.std.proofs.Common.{◌≡◌, ℕ, zero, suc, ◌+◌, ◌*◌, ◌<◌, Bool, true, false, not, ◌&&◌, List, [], ◌∷◌, ◌++◌, length, map, take, drop, get_or, inl, inr, refl, sym, ap, ◌∙◌, subst, arith}
-use Rattle.std.specs.Prelude.{All, Contains, ◌↔◌}
+use Rattle.std.proofs.Common.{◌≡◌, ℕ, zero, suc, ◌+◌, ◌*◌, ◌/◌, ◌%◌, ◌<◌, Bool, true, false, not, ◌&&◌, List, [], ◌∷◌, ◌++◌, length, map, take, drop, get_or, inl, inr, refl, sym, ap, ◌∙◌, subst, arith}
+use Rattle.std.specs.Prelude.{All, Contains, ◌↔◌, nat_eq}
 use Rattle.std.specs.List.{list_any, take-map}
 use Rattle.std.proofs.lemmas.Bool.{cases_lt, or_parts}
 use Rattle.std.proofs.lemmas.List.{get_or-map, get_or_append_left, get_or_push, get_or-append-add, length-map, length-append, length-take-le}
@@ -8,9 +8,10 @@ use Rattle.std.proofs.lemmas.List.Elements.{All-head, All-tail, All-nil, All-con
 use Rattle.std.proofs.Math.Seq.{take-append-add}
 use Rattle.ncl_gates.specs.declared.kind.Kind.TheVariants.{Th12}
 use Rattle.ncl_netlist.specs.declared.ids.NetId.{NetId}
+use Rattle.ncl_shape.specs.declared.rails.Rails.{Rails}
 use Rattle.ncl_shape.specs.declared.stage.StageCell.{StageCell}
 use Rattle.ncl_shape.specs.Nets.{among}
-use Rattle.ncl_shape.specs.Stage.{StageData, IsStage, named_rails, rail_nets, nets_of, out_of}
+use Rattle.ncl_shape.specs.Stage.{StageData, IsStage, named_rails, rail_nets, rail_of, nets_of, out_of}
 use Rattle.ncl_shape.proofs.RailLaws.{rails-length}
 use Rattle.ncl_base.proofs.Members.{Member, Member-get_or}
 use Rattle.ncl_space.specs.Functions.{gate_table}
@@ -23,7 +24,7 @@ use Rattle.ncl_stage.specs.declared.variant.Variant.{Variant}
 use Rattle.ncl_stage.specs.declared.variant.Variant.TheVariants.{Base}
 use Rattle.ncl_stage.specs.Examples.{gate}
 use Rattle.ncl_stage.specs.Changes.{net_at, IsUnchanged, IsUnreached, MarksChanges}
-use Rattle.ncl_stage.specs.StageTables.{ValuesData, AreValues, net_table_by, net_tables_by}
+use Rattle.ncl_stage.specs.StageTables.{ValuesData, AreValues, net_table_by, net_tables_by, rail_at}
 use Rattle.ncl_stage.specs.Values.{val}
 use Rattle.ncl_stage.specs.Wiring.{WiringData, IsWiring, place_in, pin_places}
 use Rattle.ncl_stage.proofs.NetLaws.{cell-net, nets-cut, out_at, out_at-is, pins-of, place_in-front, reads-before}
@@ -39,6 +40,21 @@ pub net_at-rail : (s : StageData) (place : ℕ) → place < 2 * length s.inputs 
 net_at-rail s place lt =
     let within : place < length (rail_nets s.inputs) = subst (λ n. place < n) (sym (rails-length s.inputs)) lt in
     subst (λ net. Member net (rail_nets s.inputs)) (sym (get_or_append_left (rail_nets s.inputs) (map out_of s.cells) 0 place within)) (Member-get_or (rail_nets s.inputs) place 0 within)
+
+-- the rail at a place is that of the bit there
+rail-place : (rails : List Rails) (d : Rails) (place : ℕ) → place < 2 * length rails → get_or (rail_nets rails) place 0 ≡ rail_of (get_or rails (place / 2) d) (nat_eq (place % 2) 1)
+rail-place [] d place lt = absurd (omega (arith, lt))
+rail-place (r ∷ rs) d zero lt = refl
+rail-place (r ∷ rs) d (suc zero) lt = refl
+rail-place (r ∷ rs) d (suc (suc place)) lt =
+    let bit : suc (place / 2) ≡ suc (suc place) / 2 = omega arith in
+    let side : place % 2 ≡ suc (suc place) % 2 = omega arith in
+    rail-place rs d place (omega (arith, lt)) ∙ (λ i. rail_of (get_or (r ∷ rs) (bit i) d) (nat_eq (side i) 1))
+
+pub net_at-place : (s : StageData) (place : ℕ) → place < 2 * length s.inputs → net_at s place ≡ rail_at s (place / 2) (nat_eq (place % 2) 1)
+net_at-place s place lt =
+    get_or_append_left (rail_nets s.inputs) (map out_of s.cells) 0 place (subst (λ n. place < n) (sym (rails-length s.inputs)) lt)
+    ∙ rail-place s.inputs (record { zero = record { 0 = 0 }; one = record { 0 = 0 } }) place lt
 
 pub net_at-cell : (s : StageData) (i : ℕ) → net_at s (2 * length s.inputs + i) ≡ out_at s i
 net_at-cell s i = ap (λ n. get_or (nets_of s.inputs s.cells) (n + i) 0) (sym (rails-length s.inputs)) ∙ get_or-append-add (rail_nets s.inputs) (map out_of s.cells) i 0

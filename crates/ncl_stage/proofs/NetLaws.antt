@@ -3,7 +3,7 @@
 use Rattle.std.proofs.Common.{◌≡◌, ◌≢◌, ℕ, zero, suc, ◌+◌, ◌<◌, Bool, true, false, not, ◌||◌, ◌&&◌, List, [], ◌∷◌, ◌++◌, length, map, take, drop, get_or, inl, inr, refl, sym, ap, ◌∙◌, subst, arith}
 use Rattle.std.specs.Prelude.{All, Contains, nat_eq}
 use Rattle.std.proofs.lemmas.Bool.{cases_eq, cases_lt, eq-eqb, ne_eqb, false_from_ne_true}
-use Rattle.std.proofs.lemmas.List.{get_or-map, get_or_append_left, length-map, length-append, map-append, append_assoc, take-append-drop, take_more, drop_more}
+use Rattle.std.proofs.lemmas.List.{get_or-map, get_or_append_left, length-map, length-append, map-append, append_assoc, take-append-drop, drop_more}
 use Rattle.std.proofs.lemmas.List.Elements.{All-head, All-tail, All-nil, All-cons}
 use Rattle.ncl_gates.specs.Gate.{set_of}
 use Rattle.ncl_netlist.specs.declared.ids.NetId.{NetId}
@@ -29,7 +29,7 @@ use Rattle.ncl_stage.proofs.OrderLaws.{placed-at}
 use Rattle.ncl_stage.proofs.OrderedTables.{ordered-at, ordered-same, placed-length}
 use Rattle.ncl_stage.proofs.ValueLaws.{val-rail, val-output}
 use Rattle.ncl_stage.proofs.PlaceLaws.{place_in-at}
-use Rattle.ncl_stage.proofs.WiringLaws.{AllDiffer, zero-member, one-member, rail_nets-append, rail_nets-more}
+use Rattle.ncl_stage.proofs.WiringLaws.{AllDiffer, zero-member, one-member}
 
 pub rail-member : (rails : List Rails) (i : ℕ) (d : Rails) (value : Bool) → i < length rails → Member (rail_of (get_or rails i d) value) (rail_nets rails)
 rail-member rails i d true lt = one-member rails i d lt
@@ -197,48 +197,9 @@ pub pins-of : (s : StageData) (w : WiringData) → IsWiring s w → (i : ℕ) (d
 pins-of s w wired i d lt =
     ap (λ pins. get_or pins i []) wired.pins ∙ get_or-map (pin_places w.nets) s.cells i d [] lt ∙ ap (λ nets. pin_places nets (get_or s.cells i d)) wired.nets
 
--- the tables of the rails of one bit more, and of all rails cut there
-pub rail-tables-more : (f : ℕ → List Bool) (rails : List Rails) (i : ℕ) (d : Rails) → i < length rails → map f (rail_nets (take (i + 1) rails)) ≡ (map f (rail_nets (take i rails)) ++ f (get_or rails i d).zero.0 ∷ []) ++ f (get_or rails i d).one.0 ∷ []
-rail-tables-more f rails i d lt =
-    let front : List ℕ = rail_nets (take i rails) in
-    let z : ℕ = (get_or rails i d).zero.0 in
-    let o : ℕ = (get_or rails i d).one.0 in
-    ap (map f) (rail_nets-more rails i d lt) ∙ map-append f (front ++ z ∷ []) (o ∷ []) ∙ ap (λ l. l ++ f o ∷ []) (map-append f front (z ∷ []))
-
-pub rail-tables-cut : (f : ℕ → List Bool) (rails : List Rails) (i : ℕ) (d : Rails) → i < length rails → map f (rail_nets rails) ≡ ((map f (rail_nets (take i rails)) ++ f (get_or rails i d).zero.0 ∷ []) ++ f (get_or rails i d).one.0 ∷ []) ++ map f (rail_nets (drop (i + 1) rails))
-rail-tables-cut f rails i d lt =
-    ap (λ l. map f (rail_nets l)) (sym (take-append-drop (i + 1) rails))
-    ∙ ap (map f) (rail_nets-append (take (i + 1) rails) (drop (i + 1) rails))
-    ∙ map-append f (rail_nets (take (i + 1) rails)) (rail_nets (drop (i + 1) rails))
-    ∙ ap (λ l. l ++ map f (rail_nets (drop (i + 1) rails))) (rail-tables-more f rails i d lt)
-
 -- the output of the cell at a place
 abbrev pub out_at : StageData → ℕ → ℕ
 out_at s i = get_or (map out_of s.cells) i 0
 
 pub out_at-is : (s : StageData) (i : ℕ) (d : StageCell) → i < length s.cells → out_at s i ≡ out_of (get_or s.cells i d)
 out_at-is s i d lt = get_or-map out_of s.cells i d 0 lt
-
-take-outs : (cells : List StageCell) (i : ℕ) → map out_of (take i cells) ≡ take i (map out_of cells)
-take-outs [] zero = refl
-take-outs [] (suc i) = refl
-take-outs (c ∷ cells) zero = refl
-take-outs (c ∷ cells) (suc i) = ap (λ l. out_of c ∷ l) (take-outs cells i)
-
--- the nets with the output of one cell more, and all nets cut there
-nets-more : (s : StageData) (i : ℕ) → i < length s.cells → nets_of s.inputs (take (i + 1) s.cells) ≡ nets_of s.inputs (take i s.cells) ++ out_at s i ∷ []
-nets-more s i lt =
-    ap (λ outs. rail_nets s.inputs ++ outs)
-    (take-outs s.cells (i + 1) ∙ take_more (map out_of s.cells) i 0 (subst (λ n. i < n) (sym (length-map s.cells out_of)) lt) ∙ ap (λ outs. outs ++ out_at s i ∷ []) (sym (take-outs s.cells i)))
-    ∙ sym (append_assoc (rail_nets s.inputs) (map out_of (take i s.cells)) (out_at s i ∷ []))
-
-pub net-tables-more : (f : ℕ → List Bool) (s : StageData) (i : ℕ) → i < length s.cells → map f (nets_of s.inputs (take (i + 1) s.cells)) ≡ map f (nets_of s.inputs (take i s.cells)) ++ f (out_at s i) ∷ []
-net-tables-more f s i lt = ap (map f) (nets-more s i lt) ∙ map-append f (nets_of s.inputs (take i s.cells)) (out_at s i ∷ [])
-
-pub net-tables-cut : (f : ℕ → List Bool) (s : StageData) (i : ℕ) → i < length s.cells → map f (nets_of s.inputs s.cells) ≡ (map f (nets_of s.inputs (take i s.cells)) ++ f (out_at s i) ∷ []) ++ map f (map out_of (drop (i + 1) s.cells))
-net-tables-cut f s i lt =
-    ap (λ cells. map f (rail_nets s.inputs ++ map out_of cells)) (sym (take-append-drop (i + 1) s.cells))
-    ∙ ap (λ outs. map f (rail_nets s.inputs ++ outs)) (map-append out_of (take (i + 1) s.cells) (drop (i + 1) s.cells))
-    ∙ ap (map f) (sym (append_assoc (rail_nets s.inputs) (map out_of (take (i + 1) s.cells)) (map out_of (drop (i + 1) s.cells))))
-    ∙ map-append f (nets_of s.inputs (take (i + 1) s.cells)) (map out_of (drop (i + 1) s.cells))
-    ∙ ap (λ l. l ++ map f (map out_of (drop (i + 1) s.cells))) (net-tables-more f s i lt)

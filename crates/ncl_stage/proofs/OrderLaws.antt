@@ -145,28 +145,29 @@ same_words (x ∷ xs) (y ∷ ys) e same =
     let rest : xs ≡ ys = same_words xs ys (omega arith) (λ i lt. same (suc i) (omega arith)) in
     λ k. first k ∷ rest k
 
+-- a word that has the bits of another at all places
+words_agree : (n : ℕ) (order : List ℕ) → IsOrderOf n order → (other word : List Bool) → length other ≡ length order → length word ≡ n → ((i : ℕ) → i < n → i < length order → get_or other i false ≡ get_or word i false) → other ≡ word
+words_agree n order is other word many long same =
+    let size = is.many in
+    same_words other word (many ∙ size ∙ sym long) (λ i lt. same i (omega arith) (omega arith))
+
 -- there and back
 pub placed-taken : (n : ℕ) (order : List ℕ) → IsOrderOf n order → (word : List Bool) → length word ≡ n → placed order (taken order word) ≡ word
 placed-taken n order is word long =
-    let size = is.many in
-    same_words (placed order (taken order word)) word (length-placed order (taken order word) ∙ size ∙ sym long) (λ i lt.
-    let many = length-placed order (taken order word) in
-    let within : i < length order = omega arith in
-    let found = place_in-at order i (is.each i (omega arith)) in
+    words_agree n order is (placed order (taken order word)) word (length-placed order (taken order word)) long (λ i lt within.
+    let found = place_in-at order i (is.each i lt) in
     placed-at order (taken order word) i within
     ∙ taken-at order word (place_in order i) found.0
     ∙ ap (λ b. get_or word b false) (found.1 0))
 
 pub taken-placed : (n : ℕ) (order : List ℕ) → IsOrderOf n order → (word : List Bool) → length word ≡ n → taken order (placed order word) ≡ word
 taken-placed n order is word long =
-    let size = is.many in
-    same_words (taken order (placed order word)) word (length-taken order (placed order word) ∙ size ∙ sym long) (λ i lt.
-    let many = length-taken order (placed order word) in
-    let within : i < length order = omega arith in
+    words_agree n order is (taken order (placed order word)) word (length-taken order (placed order word)) long (λ i lt within.
     let bit : ℕ = get_or order i 0 in
     let among : Contains order bit = (i, within, same_default order i bit within) in
     let bound : bit < n = is.bits bit among in
     let found = place_in-at order bit among in
+    let size = is.many in
     taken-at order (placed order word) i within
     ∙ placed-at order word bit (omega arith)
     ∙ ap (λ k. get_or word k false) (one_place order is.once (place_in order bit) i 0 0 found.0 within (found.1 0)))

@@ -242,6 +242,10 @@ cell_within bits pins start place entered found left next past walk =
     let sized : length entered ≡ length pins = walk.sized in
     (omega arith, omega arith)
 
+-- the same of what was taken off the stack
+pub cell_there : (bits : ℕ) (pins : List (List ℕ)) (start : List ℕ) (place : ℕ) (entered : List Bool) (found stack left : List ℕ) (next : ℕ) → stack ≡ left ++ next ∷ [] → IsWalk bits pins start place entered (reverse stack) found → 2 * bits ≤ next → (next - 2 * bits < length entered) × (next - 2 * bits < length pins)
+cell_there bits pins start place entered found stack left next e walk past = cell_within bits pins start place entered found (reverse left) next past (walk_at bits pins start place entered found stack left next e walk)
+
 -- one output more
 pub with_bits-pair : (met : ℕ → List ℕ) (outputs : List (ℕ × ℕ)) (i : ℕ) (d : ℕ × ℕ) → i < length outputs → with_bits (with_bits (with_bits [] (flat_map (λ (pair : ℕ × ℕ). met pair.0 ++ met pair.1) (take i outputs))) (met (get_or outputs i d).0)) (met (get_or outputs i d).1) ≡ with_bits [] (flat_map (λ (pair : ℕ × ℕ). met pair.0 ++ met pair.1) (take (i + 1) outputs))
 with_bits-pair met outputs i d lt =

@@ -10,7 +10,7 @@ ghost use Rattle.ncl_stage.specs.Values.{kept_low};
 ghost use Rattle.ncl_stage.specs.Wiring.{IsWiring};
 
 use crate::net_values::Values;
-use crate::nets::cell_ref;
+use crate::nets::net_ref;
 use crate::variant::{Variant, is_kept_low};
 use crate::wiring::Wiring;
 use ncl_base::Memory;
@@ -168,8 +168,8 @@ fn ref_from<P: Space>(
 {
     stage.facts();
     let wiring = base.wiring();
-    if let Some(cell) = reached_cell(stage, wiring, place, changed) {
-        return cell_ref(space, stage, wiring, variant, cell, refs);
+    if is_reached(stage, wiring, place, changed) {
+        return net_ref(space, stage, wiring, variant, place, refs);
     }
     if is_kept_low(stage, variant, wiring.net(place)) {
         return Ok(space.constant(false));
@@ -177,25 +177,19 @@ fn ref_from<P: Space>(
     Ok(base.refs()[place])
 }
 
-// The cell whose output is the net at a place, where a net that it reads has changed. Linear in its pins.
-fn reached_cell(stage: &Stage, wiring: &Wiring, place: usize, changed: &[bool]) -> Option<usize>
+// Whether the net at a place is the output of a cell that reads a net that has changed. Linear in its pins.
+fn is_reached(stage: &Stage, wiring: &Wiring, place: usize, changed: &[bool]) -> bool
     requires wiring { IsWiring stage.now wiring.now }
     requires place { place < length (nets_of stage.now.inputs stage.now.cells) }
     requires many { length changed.now ≡ place }
-    ensures reached { IfSome result (λ cell. (cell < length stage.now.cells) × (place ≡ 2 * length stage.now.inputs + cell)) }
-    ensures unreached { (variant : Variant) → MarksChanges wiring.now.order stage.now variant changed.now → IfNone result (IsUnreached wiring.now.order stage.now variant (net_at stage.now place)) }
+    ensures { result ≡ false → (variant : Variant) → MarksChanges wiring.now.order stage.now variant changed.now → IsUnreached wiring.now.order stage.now variant (net_at stage.now place) }
 {
     stage.facts();
     let rails = 2 * stage.inputs.items().len();
     if place < rails {
-        return None;
+        return false;
     }
-    let cell = place - rails;
-    if is_marked(changed, wiring.pins(cell)) {
-        Some(cell)
-    } else {
-        None
-    }
+    is_marked(changed, wiring.pins(place - rails))
 }
 
 // Whether a mark stands at one of the places. Linear in the places.

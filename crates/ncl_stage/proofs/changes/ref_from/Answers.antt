@@ -1,4 +1,4 @@
-use Rattle.std.proofs.Common.{◌≡◌, true, false, [], ◌∷◌, get_or, map, take, sym, ◌∙◌, ap, subst}
+use Rattle.std.proofs.Common.{◌≡◌, true, false, [], ◌∷◌, get_or, take, sym, ◌∙◌, ap, subst}
 use Rattle.std.specs.Prelude.{IfOk}
 use Rattle.ncl_base.proofs.Members.{Member-get_or}
 use Rattle.ncl_shape.specs.Stage.{StageData, nets_of}
@@ -9,36 +9,25 @@ use Rattle.ncl_space.specs.declared.space.Ref.{Ref}
 use Rattle.ncl_space.proofs.MakingLaws.{makes-live}
 use Rattle.ncl_stage.specs.declared.variant.Variant.TheVariants.{Base}
 use Rattle.ncl_stage.specs.Changes.{IsUnreached, MarksChanges, net_at}
-use Rattle.ncl_stage.specs.StageTables.{net_table_by}
+use Rattle.ncl_stage.specs.StageTables.{net_table_by, net_tables_by}
 use Rattle.ncl_stage.specs.Values.{kept_low}
 use Rattle.ncl_stage.specs.Wiring.{WiringData}
-use Rattle.ncl_stage.proofs.ChangedLaws.{net_at-cell, tables-before, value-at}
-use Rattle.ncl_stage.proofs.NetLaws.{low-net, out_at}
+use Rattle.ncl_stage.proofs.ChangedLaws.{value-at}
+use Rattle.ncl_stage.proofs.NetLaws.{low-net}
 use Rattle.ncl_stage.proofs.changes.ref_from.Goals as goal
 
-pub cell_ref-requires-clause-refs : goal.cell_ref-requires-clause-refs
-cell_ref-requires-clause-refs g c =
-    let s : StageData = c.args.stage.now in
-    let old : SpaceData = g.P.Space.meaning c.args.space.now in
-    subst (λ (w : WiringData). HaveTables old c.args.refs.now (map (net_table_by w.order s c.args.variant) (nets_of s.inputs (take c.in-Some.cell s.cells)))) (sym c.wiring-wiring.ensures)
-    (subst (HaveTables old c.args.refs.now) (tables-before s c.args.base.now.wiring.order c.args.variant c.args.place c.in-Some.cell c.in-Some.ensures.reached.1) c.requires.refs)
+pub net_ref-requires-clause-refs : goal.net_ref-requires-clause-refs
+net_ref-requires-clause-refs g c = subst (λ (w : WiringData). HaveTables (g.P.Space.meaning c.args.space.now) c.args.refs.now (take c.args.place (net_tables_by w.order c.args.stage.now c.args.variant))) (sym c.wiring-wiring.ensures) c.requires.refs
 
-pub returns-in-Some-clause-made : goal.returns-in-Some-clause-made
-returns-in-Some-clause-made g c =
+pub returns-then-is_reached-clause-made : goal.returns-then-is_reached-clause-made
+returns-then-is_reached-clause-made g c =
     let s : StageData = c.args.stage.now in
-    let old : SpaceData = g.P.Space.meaning c.args.space.now in
-    let new : SpaceData = g.P.Space.meaning c.cell_ref.new.space in
-    let is : net_at s c.args.place ≡ out_at s c.in-Some.cell = ap (net_at s) c.in-Some.ensures.reached.1 ∙ net_at-cell s c.in-Some.cell in
-    subst (λ net. IfOk c.cell_ref.result (λ r. Makes old new r (net_table_by c.args.base.now.wiring.order s c.args.variant net))) (sym is)
-    (subst (λ (w : WiringData). IfOk c.cell_ref.result (λ r. Makes old new r (net_table_by w.order s c.args.variant (out_at s c.in-Some.cell)))) c.wiring-wiring.ensures c.cell_ref.ensures.made)
+    subst (λ (w : WiringData). IfOk c.net_ref.result (λ r. Makes (g.P.Space.meaning c.args.space.now) (g.P.Space.meaning c.net_ref.new.space) r (net_table_by w.order s c.args.variant (net_at s c.args.place)))) c.wiring-wiring.ensures c.net_ref.ensures.made
 
-pub returns-in-Some-clause-full : goal.returns-in-Some-clause-full
-returns-in-Some-clause-full g c = λ e.
+pub returns-then-is_reached-clause-full : goal.returns-then-is_reached-clause-full
+returns-then-is_reached-clause-full g c = λ e.
     let s : StageData = c.args.stage.now in
-    let old : SpaceData = g.P.Space.meaning c.args.space.now in
-    let is : net_at s c.args.place ≡ out_at s c.in-Some.cell = ap (net_at s) c.in-Some.ensures.reached.1 ∙ net_at-cell s c.in-Some.cell in
-    subst (λ net. fits old (net_table_by c.args.base.now.wiring.order s c.args.variant net ∷ []) ≡ false) (sym is)
-    (subst (λ (w : WiringData). fits old (net_table_by w.order s c.args.variant (out_at s c.in-Some.cell) ∷ []) ≡ false) c.wiring-wiring.ensures (c.cell_ref.ensures.full e))
+    subst (λ (w : WiringData). fits (g.P.Space.meaning c.args.space.now) (net_table_by w.order s c.args.variant (net_at s c.args.place) ∷ []) ≡ false) c.wiring-wiring.ensures (c.net_ref.ensures.full e)
 
 pub returns-then-is_kept_low-clause-made : goal.returns-then-is_kept_low-clause-made
 returns-then-is_kept_low-clause-made g c =
@@ -58,6 +47,6 @@ returns-clause-made g c =
     let free : kept_low s c.args.variant (net_at s c.args.place) ≡ false = ap (kept_low s c.args.variant) (sym net) ∙ sym c.is_kept_low.ensures ∙ c.if-is_kept_low.false in
     let value = value-at old s Base c.args.base.now c.requires.base c.args.place none c.requires.place in
     let r : get_or c.refs.result.now c.args.place none ≡ get_or c.args.base.now.refs c.args.place none = ap (λ refs. get_or refs c.args.place none) c.refs.ensures.refs in
-    let unreached = subst (λ (w : WiringData). MarksChanges w.order s c.args.variant c.args.changed.now → IsUnreached w.order s c.args.variant (net_at s c.args.place)) c.wiring-wiring.ensures (c.in_default.ensures.unreached c.args.variant) in
+    let unreached = subst (λ (w : WiringData). MarksChanges w.order s c.args.variant c.args.changed.now → IsUnreached w.order s c.args.variant (net_at s c.args.place)) c.wiring-wiring.ensures (c.is_reached.ensures c.if-is_reached.false c.args.variant) in
     makes-live old (get_or c.refs.result.now c.args.place none) (net_table_by c.args.base.now.wiring.order s c.args.variant (net_at s c.args.place)) c.requires.space (subst (IsLive old) (sym r) value.0)
     (ap old.table r ∙ value.1 ∙ sym (unreached c.requires.changed free))

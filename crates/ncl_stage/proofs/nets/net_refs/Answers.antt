@@ -1,47 +1,55 @@
-use Rattle.std.proofs.Common.{◌≡◌, ℕ, ◌<◌, ◌+◌, Bool, false, List, [], ◌∷◌, ◌++◌, Err, length, map, take, drop, sym, ◌∙◌, ap, subst}
-use Rattle.std.proofs.lemmas.List.{map-append}
-use Rattle.ncl_shape.specs.Stage.{StageData, rail_nets, nets_of, out_of}
-use Rattle.ncl_space.specs.Space.{SpaceData, fits}
-use Rattle.ncl_space.specs.declared.space.Ref.{Ref}
-use Rattle.ncl_space.proofs.SpaceLaws.{too_much_by_front}
-use Rattle.ncl_space.proofs.MakingLaws.{Making, making-one, too_much-front, handed_on}
-use Rattle.ncl_stage.specs.StageTables.{net_table_by}
-use Rattle.ncl_stage.proofs.NetLaws.{out_at, net-tables-more, net-tables-cut}
+use Rattle.std.proofs.Common.{◌≡◌, ℕ, ◌+◌, ◌<◌, ◌≤◌, Bool, List, [], Err, length, take, sym, ◌∙◌, ap, subst}
+use Rattle.std.proofs.lemmas.List.{length-map, take_all}
+use Rattle.ncl_shape.specs.Stage.{StageData, nets_of}
+use Rattle.ncl_space.specs.Making.{MakesAll}
+use Rattle.ncl_space.specs.Space.{SpaceData}
+use Rattle.ncl_space.proofs.MakingLaws.{Making, making-none, making-next, too_much-next, handed_on}
+use Rattle.ncl_stage.specs.declared.variant.Variant.{Variant}
+use Rattle.ncl_stage.specs.Changes.{net_at}
+use Rattle.ncl_stage.specs.StageTables.{net_table_by, net_tables_by}
+use Rattle.ncl_stage.proofs.ChangedLaws.{table-at}
 use Rattle.ncl_stage.proofs.nets.net_refs.Goals as goal
 
-pub returns-in_err-refs-clause-full : goal.returns-in_err-refs-clause-full
-returns-in_err-refs-clause-full g c = λ e.
-    let s : StageData = c.args.stage.now in
-    let f : ℕ → List Bool = net_table_by c.args.wiring.now.order s c.args.variant in
+-- there is a table for each net
+as_many : (s : StageData) (order : List ℕ) (variant : Variant) (nets : List ℕ) → nets ≡ nets_of s.inputs s.cells → length nets ≡ length (net_tables_by order s variant)
+as_many s order variant nets are = ap length are ∙ sym (length-map (nets_of s.inputs s.cells) (net_table_by order s variant))
+
+pub loop-place-init : goal.loop-place-init
+loop-place-init g c =
     let old : SpaceData = g.P.Space.meaning c.args.space.now in
-    subst (λ tables. fits old tables ≡ false) (sym (map-append f (rail_nets s.inputs) (map out_of s.cells)))
-    (too_much_by_front old (map f (rail_nets s.inputs)) (map f (map out_of s.cells))
-    (c.in_err-refs.ensures.full (ap Err (handed_on c.from_residual.result c.in_err-refs.field-0.0 c.from_residual.ensures.1 e))))
+    subst (λ items. Making old old items []) (sym c.in_ok-refs.ensures.items) (making-none old c.requires.space)
+
+pub net_ref-requires-clause-place : goal.net_ref-requires-clause-place
+net_ref-requires-clause-place g c = subst (λ n. c.loop-place.place < n) (c.len-place-end.ensures ∙ ap length c.requires.wiring.nets) c.loop-place-test.true
 
 pub returns-in_err-made-clause-full : goal.returns-in_err-made-clause-full
 returns-in_err-made-clause-full g c = λ e.
     let s : StageData = c.args.stage.now in
-    let i = c.loop-cell.cell in
-    let f : ℕ → List Bool = net_table_by c.args.wiring.now.order s c.args.variant in
-    let cells : c.items-cell-end.result.now ≡ s.cells = c.items-cell-end.ensures ∙ ap (λ (t : StageData). t.cells) c.stage.view_is in
-    let within : i < length s.cells = subst (λ xs. i < length xs) cells c.loop-cell-test.true in
-    too_much-front (g.P.Space.meaning c.args.space.now) (g.P.Space.meaning c.loop-cell.space) c.loop-cell.refs.items (map f (nets_of s.inputs (take i s.cells))) (f (out_at s i)) (map f (map out_of (drop (i + 1) s.cells))) (map f (nets_of s.inputs s.cells))
-    (net-tables-cut f s i within) c.loop-cell.invariant
+    let order : List ℕ = c.args.wiring.now.order in
+    let place = c.loop-place.place in
+    let within : place < length c.args.wiring.now.nets = subst (λ n. place < n) c.len-place-end.ensures c.loop-place-test.true in
+    too_much-next (g.P.Space.meaning c.args.space.now) (g.P.Space.meaning c.loop-place.space) (net_tables_by order s c.args.variant) place c.loop-place.refs.items (net_table_by order s c.args.variant (net_at s place))
+    (subst (λ n. place < n) (as_many s order c.args.variant c.args.wiring.now.nets c.requires.wiring.nets) within)
+    (table-at s order c.args.variant place (subst (λ nets. place < length nets) c.requires.wiring.nets within)) c.loop-place.invariant
     (c.in_err-made.ensures.full (ap Err (handed_on c.from_residual-in_err-made.result c.in_err-made.field-0.0 c.from_residual-in_err-made.ensures.1 e)))
 
-pub loop-cell-preserved : goal.loop-cell-preserved
-loop-cell-preserved g c =
+pub loop-place-preserved : goal.loop-place-preserved
+loop-place-preserved g c =
     let s : StageData = c.args.stage.now in
-    let i = c.loop-cell.cell in
-    let f : ℕ → List Bool = net_table_by c.args.wiring.now.order s c.args.variant in
+    let order : List ℕ = c.args.wiring.now.order in
+    let tables : List (List Bool) = net_tables_by order s c.args.variant in
     let old : SpaceData = g.P.Space.meaning c.args.space.now in
-    let now : SpaceData = g.P.Space.meaning c.loop-cell.space in
-    let new : SpaceData = g.P.Space.meaning c.cell_ref.new.space in
-    let cells : c.items-cell-end.result.now ≡ s.cells = c.items-cell-end.ensures ∙ ap (λ (t : StageData). t.cells) c.stage.view_is in
-    let within : i < length s.cells = subst (λ xs. i < length xs) cells c.loop-cell-test.true in
-    let items : List Ref = c.loop-cell.refs.items in
-    let front : List (List Bool) = map f (nets_of s.inputs (take i s.cells)) in
-    let more : Making old new (items ++ c.in_ok-made.made ∷ []) (front ++ f (out_at s i) ∷ []) =
-    making-one old now new items front c.in_ok-made.made (f (out_at s i)) c.loop-cell.invariant c.in_ok-made.ensures.kept c.in_ok-made.ensures.space c.in_ok-made.ensures.made in
-    subst (λ refs. Making old new refs (map f (nets_of s.inputs (take (i + 1) s.cells)))) (sym c.in_ok-push.ensures.items)
-    (subst (Making old new (items ++ c.in_ok-made.made ∷ [])) (sym (net-tables-more f s i within)) more)
+    let new : SpaceData = g.P.Space.meaning c.net_ref.new.space in
+    let place = c.loop-place.place in
+    let within : place < length c.args.wiring.now.nets = subst (λ n. place < n) c.len-place-end.ensures c.loop-place-test.true in
+    subst (λ items. Making old new items (take (place + 1) tables)) (sym c.in_ok-push.ensures.items)
+    (making-next old (g.P.Space.meaning c.loop-place.space) new tables place c.loop-place.refs.items c.in_ok-made.made (net_table_by order s c.args.variant (net_at s place))
+    (subst (λ n. place < n) (as_many s order c.args.variant c.args.wiring.now.nets c.requires.wiring.nets) within)
+    (table-at s order c.args.variant place (subst (λ nets. place < length nets) c.requires.wiring.nets within))
+    c.loop-place.invariant c.in_ok-made.ensures.kept c.in_ok-made.ensures.space c.in_ok-made.ensures.made)
+
+pub returns-clause-made : goal.returns-clause-made
+returns-clause-made g c =
+    let tables : List (List Bool) = net_tables_by c.args.wiring.now.order c.args.stage.now c.args.variant in
+    let past : length tables ≤ c.loop-place.place = subst (λ n. n ≤ c.loop-place.place) (c.len-place-end.ensures ∙ as_many c.args.stage.now c.args.wiring.now.order c.args.variant c.args.wiring.now.nets c.requires.wiring.nets) c.loop-place-test.false in
+    subst (MakesAll (g.P.Space.meaning c.args.space.now) (g.P.Space.meaning c.loop-place.space) c.loop-place.refs.items) (take_all c.loop-place.place tables past) c.loop-place.invariant.all

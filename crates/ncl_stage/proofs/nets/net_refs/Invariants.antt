@@ -1,9 +1,8 @@
-use Rattle.std.proofs.Common.{map, take}
-use Rattle.ncl_shape.specs.Stage.{nets_of}
+use Rattle.std.proofs.Common.{take}
 use Rattle.ncl_space.proofs.MakingLaws.{Making}
-use Rattle.ncl_stage.specs.StageTables.{net_table_by}
+use Rattle.ncl_stage.specs.StageTables.{net_tables_by}
 use Rattle.ncl_stage.proofs.nets.net_refs.Given as goal
 
--- the functions of the rails and of the outputs of the cells so far have been made
-abbrev pub invariant-loop-cell : goal.invariant-loop-cell
-invariant-loop-cell g l = Making (g.P.Space.meaning l.fn.space) (g.P.Space.meaning l.space) l.refs.items (map (net_table_by l.wiring.order l.stage l.variant) (nets_of l.stage.inputs (take l.cell l.stage.cells)))
+-- the functions of the nets at the places so far have been made
+abbrev pub invariant-loop-place : goal.invariant-loop-place
+invariant-loop-place g l = Making (g.P.Space.meaning l.fn.space) (g.P.Space.meaning l.space) l.refs.items (take l.place (net_tables_by l.wiring.order l.stage l.variant))

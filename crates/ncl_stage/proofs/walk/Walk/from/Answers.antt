@@ -2,7 +2,7 @@ use Rattle.std.proofs.Common.{◌≡◌, ℕ, ◌+◌, ◌-◌, ◌*◌, ◌<◌
 use Rattle.std.specs.Prelude.{count_by}
 use Rattle.std.proofs.lemmas.List.{length-map, length-reverse, length-append, get_or_read}
 use Rattle.ncl_stage.specs.Walk.{IsWalk, turns}
-use Rattle.ncl_stage.proofs.WalkLaws.{walk_begins, walk_ends, walk_at, walk_rail, cell_within, turn_enters, turn_known, turns-enter}
+use Rattle.ncl_stage.proofs.WalkLaws.{walk_begins, walk_ends, walk_at, walk_rail, cell_there, cell_within, turn_enters, turn_known, turns-enter}
 use Rattle.ncl_stage.proofs.walk.Walk.from.Goals as goal
 
 pub loop-next-init : goal.loop-next-init
@@ -22,24 +22,18 @@ loop-next-preserved-in_ok-insert c =
 
 pub index-requires : goal.index-requires
 index-requires c =
-    let pins : List (List ℕ) = map (λ p. p.items) c.args.pins.now in
-    let walk = walk_at c.args.bits pins c.args.self.now.found.keys c.args.place c.loop-next.self.entered.items c.loop-next.self.found.keys c.loop-next.self.waiting.items c.pop.new.self.items c.in-Some.next c.in-Some.ensures.items c.loop-next.invariant in
-    let within : c.in-Some.next - 2 * c.args.bits < length c.loop-next.self.entered.items = (cell_within c.args.bits pins c.args.self.now.found.keys c.args.place c.loop-next.self.entered.items c.loop-next.self.found.keys (reverse c.pop.new.self.items) c.in-Some.next c.if-next-bits.false walk).0 in
+    let within = (cell_there c.args.bits (map (λ p. p.items) c.args.pins.now) c.args.self.now.found.keys c.args.place c.loop-next.self.entered.items c.loop-next.self.found.keys c.loop-next.self.waiting.items c.pop.new.self.items c.in-Some.next c.in-Some.ensures.items c.loop-next.invariant c.if-next-bits.false).0 in
     search rules
 
 pub index_mut-requires : goal.index_mut-requires
 index_mut-requires c =
-    let pins : List (List ℕ) = map (λ p. p.items) c.args.pins.now in
-    let walk = walk_at c.args.bits pins c.args.self.now.found.keys c.args.place c.loop-next.self.entered.items c.loop-next.self.found.keys c.loop-next.self.waiting.items c.pop.new.self.items c.in-Some.next c.in-Some.ensures.items c.loop-next.invariant in
-    let within : c.in-Some.next - 2 * c.args.bits < length c.loop-next.self.entered.items = (cell_within c.args.bits pins c.args.self.now.found.keys c.args.place c.loop-next.self.entered.items c.loop-next.self.found.keys (reverse c.pop.new.self.items) c.in-Some.next c.if-next-bits.false walk).0 in
+    let within = (cell_there c.args.bits (map (λ p. p.items) c.args.pins.now) c.args.self.now.found.keys c.args.place c.loop-next.self.entered.items c.loop-next.self.found.keys c.loop-next.self.waiting.items c.pop.new.self.items c.in-Some.next c.in-Some.ensures.items c.loop-next.invariant c.if-next-bits.false).0 in
     search rules
 
 pub pins_of-ins-requires : goal.pins_of-ins-requires
 pins_of-ins-requires c =
-    let pins : List (List ℕ) = map (λ p. p.items) c.args.pins.now in
-    let walk = walk_at c.args.bits pins c.args.self.now.found.keys c.args.place c.loop-next.self.entered.items c.loop-next.self.found.keys c.loop-next.self.waiting.items c.pop.new.self.items c.in-Some.next c.in-Some.ensures.items c.loop-next.invariant in
     subst (λ n. c.in-Some.next - 2 * c.args.bits < n) (length-map c.args.pins.now (λ p. p.items))
-    (cell_within c.args.bits pins c.args.self.now.found.keys c.args.place c.loop-next.self.entered.items c.loop-next.self.found.keys (reverse c.pop.new.self.items) c.in-Some.next c.if-next-bits.false walk).1
+    (cell_there c.args.bits (map (λ p. p.items) c.args.pins.now) c.args.self.now.found.keys c.args.place c.loop-next.self.entered.items c.loop-next.self.found.keys c.loop-next.self.waiting.items c.pop.new.self.items c.in-Some.next c.in-Some.ensures.items c.loop-next.invariant c.if-next-bits.false).1
 
 pub loop-next-smaller-in-Continue-branch-3 : goal.loop-next-smaller-in-Continue-branch-3
 loop-next-smaller-in-Continue-branch-3 c =

@@ -6,10 +6,10 @@ use Rattle.ncl_shape.specs.Stage.{StageData}
 use Rattle.ncl_stage.specs.Changes.{IsUnreached, net_at}
 use Rattle.ncl_stage.specs.Wiring.{WiringData, pin_places}
 use Rattle.ncl_stage.proofs.ChangedLaws.{nets-length, net_at-rail, net_at-cell, pins-before, rail-unreached, unmarked-unreached}
-use Rattle.ncl_stage.proofs.changes.reached_cell.Goals as goal
+use Rattle.ncl_stage.proofs.changes.is_reached.Goals as goal
 
-pub returns-then-place-rails-clause-unreached : goal.returns-then-place-rails-clause-unreached
-returns-then-place-rails-clause-unreached c = λ variant marks.
+pub returns-then-place-rails : goal.returns-then-place-rails
+returns-then-place-rails c = λ none variant marks.
     let s : StageData = c.args.stage.now in
     let place = c.args.place in
     let bits : length c.items.result.now ≡ length s.inputs = ap length (c.items.ensures ∙ ap (λ (t : StageData). t.inputs) c.stage.view_is) in
@@ -37,8 +37,8 @@ is_marked-requires c =
     subst (All (λ p. p < length c.args.changed.now)) (sym c.pins.ensures.pins)
     (pins-before s c.facts.ensures c.args.wiring.now c.requires.wiring (c.args.place - 2 * length c.items.result.now) (omega arith) (length c.args.changed.now) (omega arith))
 
-pub returns-else-is_marked-clause-unreached : goal.returns-else-is_marked-clause-unreached
-returns-else-is_marked-clause-unreached c = λ variant marks.
+pub returns : goal.returns
+returns c = λ none variant marks.
     let s : StageData = c.args.stage.now in
     let i : ℕ = c.args.place - 2 * length c.items.result.now in
     let bits : length c.items.result.now ≡ length s.inputs = ap length (c.items.ensures ∙ ap (λ (t : StageData). t.inputs) c.stage.view_is) in
@@ -48,4 +48,4 @@ returns-else-is_marked-clause-unreached c = λ variant marks.
     let at : c.args.place ≡ 2 * length s.inputs + i = omega arith in
     subst (IsUnreached c.args.wiring.now.order s variant) (sym (ap (net_at s) at ∙ net_at-cell s i))
     (unmarked-unreached s c.args.wiring.now.order c.requires.wiring.order c.facts.ensures c.args.wiring.now c.requires.wiring variant c.args.changed.now marks i (omega arith)
-    (ap (list_any (λ p. get_or c.args.changed.now p true)) (sym c.pins.ensures.pins) ∙ sym c.is_marked.ensures ∙ c.if-is_marked.false))
+    (ap (list_any (λ p. get_or c.args.changed.now p true)) (sym c.pins.ensures.pins) ∙ sym c.is_marked.ensures ∙ none))

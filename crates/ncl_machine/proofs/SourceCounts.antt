@@ -10,7 +10,7 @@ use Rattle.ncl_shape.specs.Stage.{rail_nets}
 use Rattle.ncl_machine.specs.declared.pair.Pair.{Pair}
 use Rattle.ncl_machine.specs.Steps.{rails_of_word}
 use Rattle.ncl_machine.specs.Held.{Held, net_values}
-use Rattle.ncl_machine.specs.Tallies.{count_of, current_word, other_rails, IsCounted}
+use Rattle.ncl_machine.specs.Tallies.{count_of, current_word, other_rails, rails_beside, IsCounted}
 use Rattle.ncl_machine.proofs.AtWorkLaws.{with_net-elsewhere}
 use Rattle.ncl_machine.proofs.Counts.{count-all, count-few, count-none, count-same, count-some, count-nothing, count-rises, count-falls}
 use Rattle.ncl_machine.proofs.SourceRails.{current-within, beside-within, current-apart, beside-apart, all_rails, length-current}
@@ -34,21 +34,28 @@ module _ (h : Held) (raised : ℕ) (is : IsCounted h raised) where
     all_inside : All (λ x. x < length (set h.values net value)) (rail_nets h.inputs)
     all_inside = subst (λ n. All (λ x. x < n) (rail_nets h.inputs)) (sym (length-set h.values net value)) is.within
 
-    -- a net that is no rail of the inputs
-    pub apart-counted : (Contains (rail_nets h.inputs) net → ⊥) → (delivered : List Pair)
-        → IsCounted (record h { values = set h.values net value; delivered = delivered }) raised
-    apart-counted apart delivered = record {
+    -- the other nets are where they were, with what is counted then
+    counted : (falling : Bool) (done : ℕ) (delivered : List Pair) (count : ℕ) → count ≡ count_of (net_values (set h.values net value)) (rails_of_word h.inputs (slice_get h.offered done))
+        → ((x : ℕ) → Member x (rails_beside h.inputs (slice_get h.offered done)) → net_values (set h.values net value) x ≡ false)
+        → IsCounted (record h { values = set h.values net value; falling = falling; done = done; delivered = delivered }) count
+    counted falling done delivered count so low = record {
       words = is.words;
       apart = is.apart;
       within = all_inside;
       ki_apart = is.ki_apart;
       ki_within = inside h.ki is.ki_within;
       ko_within = inside h.ko is.ko_within;
-      count = is.count ∙ sym (count-same (net_values h.values) (net_values (set h.values net value)) (current_word h)
-          (λ x m. elsewhere x (off x (current-within h.inputs (slice_get h.offered h.done) x m))));
-      others = All-from_members (λ x. net_values (set h.values net value) x ≡ false) (other_rails h)
-          (λ x m. elsewhere x (off x (beside-within h.inputs (slice_get h.offered h.done) x m)) ∙ All-contains (λ y. net_values h.values y ≡ false) (other_rails h) x is.others (Contains-from_Member x m));
+      count = so;
+      others = All-from_members (λ x. net_values (set h.values net value) x ≡ false) (rails_beside h.inputs (slice_get h.offered done)) low;
     }
+
+    -- a net that is no rail of the inputs
+    pub apart-counted : (Contains (rail_nets h.inputs) net → ⊥) → (delivered : List Pair)
+        → IsCounted (record h { values = set h.values net value; delivered = delivered }) raised
+    apart-counted apart delivered = counted h.falling h.done delivered raised
+        (is.count ∙ sym (count-same (net_values h.values) (net_values (set h.values net value)) (current_word h)
+        (λ x m. elsewhere x (off x (current-within h.inputs (slice_get h.offered h.done) x m)))))
+        (λ x m. elsewhere x (off x (beside-within h.inputs (slice_get h.offered h.done) x m)) ∙ All-contains (λ y. net_values h.values y ≡ false) (other_rails h) x is.others (Contains-from_Member x m))
       where
         off : (x : ℕ) → Member x (rail_nets h.inputs) → net ≢ x
         off x m e = apart (Contains-from_Member net (subst (λ y. Member y (rail_nets h.inputs)) (sym e) m))
@@ -66,16 +73,7 @@ module _ (h : Held) (raised : ℕ) (is : IsCounted h raised) where
       -- with the count that there is then
       pub named-counted : (falling : Bool) (count : ℕ) → count ≡ count_of (net_values (set h.values net value)) (current_word h)
           → IsCounted (record h { values = set h.values net value; falling = falling }) count
-      named-counted falling count so = record {
-        words = is.words;
-        apart = is.apart;
-        within = all_inside;
-        ki_apart = is.ki_apart;
-        ki_within = inside h.ki is.ki_within;
-        ko_within = inside h.ko is.ko_within;
-        count = so;
-        others = All-from_members (λ x. net_values (set h.values net value) x ≡ false) (other_rails h) others_low;
-      }
+      named-counted falling count so = counted falling h.done h.delivered count so others_low
 
       -- where none is high, the next word begins
       all_low : 0 ≡ count_of (net_values (set h.values net value)) (current_word h) → (x : ℕ) → Member x (rail_nets h.inputs) → net_values (set h.values net value) x ≡ false
@@ -86,17 +84,9 @@ module _ (h : Held) (raised : ℕ) (is : IsCounted h raised) where
 
       pub next-counted : 0 ≡ count_of (net_values (set h.values net value)) (current_word h)
           → IsCounted (record h { values = set h.values net value; falling = false; done = h.done + 1 }) 0
-      next-counted none = record {
-        words = is.words;
-        apart = is.apart;
-        within = all_inside;
-        ki_apart = is.ki_apart;
-        ki_within = inside h.ki is.ki_within;
-        ko_within = inside h.ko is.ko_within;
-        count = sym (count-nothing (net_values (set h.values net value)) _ (λ x m. all_low none x (current-within h.inputs (slice_get h.offered (h.done + 1)) x m)));
-        others = All-from_members (λ x. net_values (set h.values net value) x ≡ false) _
-            (λ x m. all_low none x (beside-within h.inputs (slice_get h.offered (h.done + 1)) x m));
-      }
+      next-counted none = counted false (h.done + 1) h.delivered 0
+          (sym (count-nothing (net_values (set h.values net value)) _ (λ x m. all_low none x (current-within h.inputs (slice_get h.offered (h.done + 1)) x m))))
+          (λ x m. all_low none x (beside-within h.inputs (slice_get h.offered (h.done + 1)) x m))
 
       -- all are high where the count is that of the inputs, and all are low where it is 0
       pub all_raised : (count : ℕ) → count ≡ count_of (net_values (set h.values net value)) (current_word h)

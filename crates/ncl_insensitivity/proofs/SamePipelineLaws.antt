@@ -27,19 +27,18 @@ module _ (p : PipelineData) (stages : List StageData) where
 
   -- ---- it moves as the pipeline does
 
+  both-same : (s : State) (item : Item) → (enabled q s item ≡ enabled p s item) × (step q s item ≡ step p s item)
+  both-same s (Fire i) = (refl, refl)
+  both-same s (Raise b) = (refl, refl)
+  both-same s (Lower b) = (refl, refl)
+  both-same s Take = (refl, refl)
+  both-same s Ready = (refl, refl)
+
   pub enabled-same : (s : State) (item : Item) → enabled q s item ≡ enabled p s item
-  enabled-same s (Fire i) = refl
-  enabled-same s (Raise b) = refl
-  enabled-same s (Lower b) = refl
-  enabled-same s Take = refl
-  enabled-same s Ready = refl
+  enabled-same s item = (both-same s item).0
 
   pub step-same : (s : State) (item : Item) → step q s item ≡ step p s item
-  step-same s (Fire i) = refl
-  step-same s (Raise b) = refl
-  step-same s (Lower b) = refl
-  step-same s Take = refl
-  step-same s Ready = refl
+  step-same s item = (both-same s item).1
 
   pub after-same : (items : List Item) (s : State) → after q s items ≡ after p s items
   after-same [] s = refl

@@ -3,17 +3,17 @@ use Rattle.std.specs.Prelude.{◌≡◌, ◌≢◌, ℕ, true, false, Bool, List
 use Rattle.ncl_gates.specs.declared.kind.Kind.TheVariants.{Th12, Th22}
 use Rattle.ncl_gates.specs.declared.cell_kind.CellKind.TheVariants.{Gate}
 use Rattle.ncl_netlist.specs.declared.cell.Cell.{Cell}
-use Rattle.ncl_netlist.specs.Netlist.{NetlistData}
+use Rattle.ncl_netlist.specs.Netlist.{IsNetlist, NetlistData}
 use Rattle.ncl_shape.specs.declared.item.Item.{Item}
 use Rattle.ncl_shape.specs.declared.item.Item.TheVariants.{Raise, Lower, Take}
 use Rattle.ncl_shape.specs.declared.rails.Rails.{Rails}
-use Rattle.ncl_shape.specs.Stage.{StageData}
+use Rattle.ncl_shape.specs.Stage.{IsStage, StageData}
 use Rattle.ncl_shape.specs.Pipeline.{PipelineData}
 use Rattle.ncl_shape.specs.Examples.{rails, bit, cell, input, output, registers, ack_of, one_bit, with_ports, bank, two_banks, one_bit_ports, one_bit_pipeline}
 use Rattle.ncl_stage.specs.Examples.{gate, stage}
 use Rattle.ncl_stage.specs.Faults.{StageFault, BothRails, NoRail, Incomplete, Orphan, shows, IsWordOf}
 use Rattle.ncl_machine.specs.State.{State, reset}
-use Rattle.ncl_machine.specs.Run.{after}
+use Rattle.ncl_machine.specs.Run.{IsRun, after}
 use Rattle.ncl_insensitivity.specs.Examples.{fire}
 
 -- the condition that a fault breaks, of four
@@ -29,6 +29,14 @@ pub record BreaksOnly (s : StageData) (fault : StageFault) : Type 0 where
   pub right : IsWordOf s word
   pub shown : shows s word fault ≡ true
   pub others : (w : List Bool) (other : StageFault) → IsWordOf s w → condition_of other ≢ condition_of fault → shows s w other ≡ false
+
+-- what shows that a condition of soundness is needed: a netlist whose one stage breaks it and keeps the others, and a run
+-- over some words
+pub record IsCounterexample (p : PipelineData) (s : StageData) (fault : StageFault) (words : List (List Bool)) (items : List Item) : Type 0 where
+  pub netlist : IsNetlist p.netlist
+  pub stage : IsStage s
+  pub breaks : BreaksOnly s fault
+  pub run : IsRun p words items
 
 -- the state after a run
 abbrev pub after_run : PipelineData → List (List Bool) → List Item → State

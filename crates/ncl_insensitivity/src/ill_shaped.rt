@@ -32,6 +32,7 @@ pub fn tree_without_a_bit()
 /// A TH12 in a completion tree: the cell is of a tree, and its gate is none of TH22, TH33 and TH44. The first
 /// bank asks for the next word with its first NULL bit, and the source raises a rail while the register cell
 /// is still to fall.
+#[tactic(auto, using(crate::proofs::IllShapedLaws::th12_netlist, crate::proofs::IllShapedLaws::th12_is_mixed))]
 pub fn th12_in_a_tree()
     ensures netlist { IsNetlist with_th12.netlist }
     ensures mixed { AtCell IsUnmixed with_th12.netlist 6 → ⊥ }
@@ -50,6 +51,7 @@ pub fn two_drivers_of_a_net()
 
 /// A bank with two roots: the source goes by the one that tells of the first bit alone, and lowers the rail of
 /// the second while its register cell is still to rise.
+#[tactic(auto, using(crate::proofs::IllShapedLaws::two_roots_netlist, crate::proofs::IllShapedLaws::roots_are_two))]
 pub fn two_roots_of_a_bank()
     ensures netlist { IsNetlist two_roots }
     ensures roots { HasOne (IsRoot two_roots 12) → ⊥ }

@@ -2,14 +2,8 @@ use Rattle.std.proofs.Common.{refl}
 use Rattle.ncl_shape.specs.declared.item.Item.TheVariants.{Raise}
 use Rattle.ncl_insensitivity.specs.Examples.{fire}
 use Rattle.ncl_insensitivity.specs.IllShaped.{two_offered, with_th12, asks_too_early}
-use Rattle.ncl_insensitivity.proofs.IllShapedLaws.{th12_netlist, taken_back_is_unsafe, th12_is_mixed}
+use Rattle.ncl_insensitivity.proofs.IllShapedLaws.{taken_back_is_unsafe}
 use Rattle.ncl_insensitivity.proofs.ill_shaped.th12_in_a_tree.Goals as goal
-
-pub returns-clause-netlist : goal.returns-clause-netlist
-returns-clause-netlist c = th12_netlist
-
-pub returns-clause-mixed : goal.returns-clause-mixed
-returns-clause-mixed c = th12_is_mixed
 
 pub returns-clause-not_safe : goal.returns-clause-not_safe
 returns-clause-not_safe c =

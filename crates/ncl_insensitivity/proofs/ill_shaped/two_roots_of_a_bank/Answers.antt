@@ -2,14 +2,8 @@ use Rattle.std.proofs.Common.{refl}
 use Rattle.ncl_shape.specs.declared.item.Item.TheVariants.{Lower}
 use Rattle.ncl_insensitivity.specs.Examples.{fire}
 use Rattle.ncl_insensitivity.specs.IllShaped.{one_offered, with_two_roots, one_bit_seen}
-use Rattle.ncl_insensitivity.proofs.IllShapedLaws.{two_roots_netlist, taken_back_is_unsafe, roots_are_two}
+use Rattle.ncl_insensitivity.proofs.IllShapedLaws.{taken_back_is_unsafe}
 use Rattle.ncl_insensitivity.proofs.ill_shaped.two_roots_of_a_bank.Goals as goal
-
-pub returns-clause-netlist : goal.returns-clause-netlist
-returns-clause-netlist c = two_roots_netlist
-
-pub returns-clause-roots : goal.returns-clause-roots
-returns-clause-roots c = roots_are_two
 
 pub returns-clause-not_safe : goal.returns-clause-not_safe
 returns-clause-not_safe c =

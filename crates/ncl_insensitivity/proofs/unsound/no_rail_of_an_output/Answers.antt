@@ -1,16 +1,17 @@
 use Rattle.std.proofs.Common.{refl, arith}
 use Rattle.ncl_stage.proofs.StageTest.{IsStage-from_test}
-use Rattle.ncl_machine.specs.Run.{IsQuiet}
+use Rattle.ncl_machine.specs.Run.{IsQuiet, IsRun}
 use Rattle.ncl_insensitivity.specs.Unsound.{dead_stage, with_dead_rail, one_zero, gets_stuck, after_run}
+use Rattle.ncl_insensitivity.proofs.UnsoundLaws.{dead_stage_breaks}
 use Rattle.ncl_insensitivity.proofs.WrittenNetlists.{netlist_from_tests}
 use Rattle.ncl_insensitivity.proofs.ByComputation.{quiet_by_cells}
 use Rattle.ncl_insensitivity.proofs.unsound.no_rail_of_an_output.Goals as goal
 
-pub returns-clause-netlist : goal.returns-clause-netlist
-returns-clause-netlist c = netlist_from_tests with_dead_rail.netlist (record { driven = refl; fits = refl; ports_first = refl; in_order = refl; net_names = refl; cell_names = refl; few_cells = omega arith; few_nets = omega arith; few_ports = omega arith })
+run : IsRun with_dead_rail one_zero gets_stuck
+run = (refl, (refl, (refl, (refl, tt))))
 
-pub returns-clause-stage : goal.returns-clause-stage
-returns-clause-stage c = IsStage-from_test dead_stage refl
+pub returns-clause-counterexample : goal.returns-clause-counterexample
+returns-clause-counterexample c = record { netlist = netlist_from_tests with_dead_rail.netlist (record { driven = refl; fits = refl; ports_first = refl; in_order = refl; net_names = refl; cell_names = refl; few_cells = omega arith; few_nets = omega arith; few_ports = omega arith }); stage = IsStage-from_test dead_stage refl; breaks = dead_stage_breaks; run = run }
 
 nothing_moves : IsQuiet with_dead_rail (after_run with_dead_rail one_zero gets_stuck)
 nothing_moves = quiet_by_cells with_dead_rail (after_run with_dead_rail one_zero gets_stuck) 7 (refl, (refl, (refl, (refl, (refl, (refl, (refl, λ n. refl))))))) (λ bit. refl) (λ bit. refl) refl refl
@@ -20,5 +21,5 @@ returns-clause-quiet c = nothing_moves
 
 pub returns-clause-not_insensitive : goal.returns-clause-not_insensitive
 returns-clause-not_insensitive c = λ insensitive.
-    let none = (insensitive.at_rest one_zero gets_stuck (refl, tt) (refl, (refl, (refl, (refl, tt)))) nothing_moves).delivered in
+    let none = (insensitive.at_rest one_zero gets_stuck (refl, tt) run nothing_moves).delivered in
     absurd cc

@@ -1,4 +1,5 @@
 use Rattle.std.proofs.Common.{◌≡◌, ℕ, ◌<◌, ◌≤◌, Bool, true, false, List, Option, None, length, get_or, sym, ◌∙◌, ap, subst, arith, below_more}
+use Rattle.ncl_shape.specs.declared.rails.Rails.{Rails}
 use Rattle.ncl_shape.specs.Stage.{StageData}
 use Rattle.ncl_space.specs.Functions.{least}
 use Rattle.ncl_space.specs.Space.{SpaceData}
@@ -15,11 +16,12 @@ use Rattle.ncl_complete.specs.declared.rail_fault.RailFault.TheVariants as rail
 use Rattle.ncl_complete.proofs.OutputFaults.{output_fault, both-found, none-found, fault-both, fault-empty, fault-none, first-fault, no-fault}
 use Rattle.ncl_complete.proofs.rails.first_fault.Goals as goal
 
--- the least words that are asked of the functions of an output
-both-asked : (s : StageData) (order : List ℕ) → IsOrderOf (length s.inputs) order → (space : SpaceData) → space.width ≡ length s.inputs → (refs : List Ref) → HaveTables space refs (function_tables_by order (illegal_functions s (values_at s Base))) → (i : ℕ) → i < length s.outputs → (r : Ref) (word : Option (List Bool))
-    → word ≡ option_map (placed order) (least true space.width (space.table r)) → r ≡ get_or refs i r → least_word_by order s (BothRails i) ≡ word
-both-asked s order ordered space width refs have i lt r word is at =
-    sym (is ∙ ap (λ r. option_map (placed order) (least true space.width (space.table r))) at ∙ both-found s order ordered space width refs have i lt r)
+-- the least words that are asked of the functions of an output, which is one of the stage
+both-asked : (s : StageData) (order : List ℕ) → IsOrderOf (length s.inputs) order → (space : SpaceData) → space.width ≡ length s.inputs → (refs : List Ref) → HaveTables space refs (function_tables_by order (illegal_functions s (values_at s Base))) → (outputs : List Rails) → outputs ≡ s.outputs → (i : ℕ) → i < length outputs → (r : Ref) (word : Option (List Bool))
+    → word ≡ option_map (placed order) (least true space.width (space.table r)) → r ≡ get_or refs i r → (i < length s.outputs) × (least_word_by order s (BothRails i) ≡ word)
+both-asked s order ordered space width refs have outputs same i lt r word is at =
+    let within = subst (λ xs. i < length xs) same lt in
+    (within, sym (is ∙ ap (λ r. option_map (placed order) (least true space.width (space.table r))) at ∙ both-found s order ordered space width refs have i within r))
 
 none-asked : (s : StageData) (order : List ℕ) → IsOrderOf (length s.inputs) order → (space : SpaceData) → space.width ≡ length s.inputs → (refs : List Ref) → HaveTables space refs (function_tables_by order (data_functions s (values_at s Base))) → (i : ℕ) → i < length s.outputs → (r : Ref) (word : Option (List Bool))
     → word ≡ option_map (placed order) (least false space.width (space.table r)) → r ≡ get_or refs i r → least_word_by order s (NoRail i) ≡ word
@@ -29,28 +31,22 @@ none-asked s order ordered space width refs have i lt r word is at =
 pub returns-in-Some : goal.returns-in-Some
 returns-in-Some g c =
     let s : StageData = c.args.stage.now in
-    let i = c.loop-output.output in
-    let within = subst (λ xs. i < length xs) (c.items-output-end.ensures ∙ ap (λ (t : StageData). t.outputs) c.stage.view_is) c.loop-output-test.true in
-    let both = both-asked s c.args.order.now c.requires.order (g.P.Space.meaning c.args.space.now) c.requires.width c.args.refs.now.both.items c.requires.both i within c.index.result.now c.least_one.result c.least_one.ensures c.index.ensures in
-    sym (first-fault s c.args.order.now i (rail.BothRails i c.in-Some.word) within c.loop-output.invariant (fault-both s c.args.order.now i c.in-Some.word (both ∙ c.in-Some.is)))
+    let (within, both) = both-asked s c.args.order.now c.requires.order (g.P.Space.meaning c.args.space.now) c.requires.width c.args.refs.now.both.items c.requires.both c.items-output-end.result.now (c.items-output-end.ensures ∙ ap (λ (t : StageData). t.outputs) c.stage.view_is) c.loop-output.output c.loop-output-test.true c.index.result.now c.least_one.result c.least_one.ensures c.index.ensures in
+    sym (first-fault s c.args.order.now c.loop-output.output (rail.BothRails c.loop-output.output c.in-Some.word) within c.loop-output.invariant (fault-both s c.args.order.now c.loop-output.output c.in-Some.word (both ∙ c.in-Some.is)))
 
 pub returns-in-Some-least_zero : goal.returns-in-Some-least_zero
 returns-in-Some-least_zero g c =
     let s : StageData = c.args.stage.now in
-    let i = c.loop-output.output in
-    let within = subst (λ xs. i < length xs) (c.items-output-end.ensures ∙ ap (λ (t : StageData). t.outputs) c.stage.view_is) c.loop-output-test.true in
-    let both = both-asked s c.args.order.now c.requires.order (g.P.Space.meaning c.args.space.now) c.requires.width c.args.refs.now.both.items c.requires.both i within c.index.result.now c.least_one.result c.least_one.ensures c.index.ensures in
-    let neither = none-asked s c.args.order.now c.requires.order (g.P.Space.meaning c.args.space.now) c.requires.width c.args.refs.now.some.items c.requires.some i within c.index-in-loop-output.result.now c.least_zero.result c.least_zero.ensures c.index-in-loop-output.ensures in
-    sym (first-fault s c.args.order.now i (rail.NoRail i c.in-Some-least_zero.word) within c.loop-output.invariant (fault-empty s c.args.order.now i c.in-Some-least_zero.word (both ∙ c.in_default.is) (neither ∙ c.in-Some-least_zero.is)))
+    let (within, both) = both-asked s c.args.order.now c.requires.order (g.P.Space.meaning c.args.space.now) c.requires.width c.args.refs.now.both.items c.requires.both c.items-output-end.result.now (c.items-output-end.ensures ∙ ap (λ (t : StageData). t.outputs) c.stage.view_is) c.loop-output.output c.loop-output-test.true c.index.result.now c.least_one.result c.least_one.ensures c.index.ensures in
+    let neither = none-asked s c.args.order.now c.requires.order (g.P.Space.meaning c.args.space.now) c.requires.width c.args.refs.now.some.items c.requires.some c.loop-output.output within c.index-in-loop-output.result.now c.least_zero.result c.least_zero.ensures c.index-in-loop-output.ensures in
+    sym (first-fault s c.args.order.now c.loop-output.output (rail.NoRail c.loop-output.output c.in-Some-least_zero.word) within c.loop-output.invariant (fault-empty s c.args.order.now c.loop-output.output c.in-Some-least_zero.word (both ∙ c.in_default.is) (neither ∙ c.in-Some-least_zero.is)))
 
 pub loop-output-preserved : goal.loop-output-preserved
 loop-output-preserved g c =
     let s : StageData = c.args.stage.now in
-    let i = c.loop-output.output in
-    let within = subst (λ xs. i < length xs) (c.items-output-end.ensures ∙ ap (λ (t : StageData). t.outputs) c.stage.view_is) c.loop-output-test.true in
-    let both = both-asked s c.args.order.now c.requires.order (g.P.Space.meaning c.args.space.now) c.requires.width c.args.refs.now.both.items c.requires.both i within c.index.result.now c.least_one.result c.least_one.ensures c.index.ensures in
-    let neither = none-asked s c.args.order.now c.requires.order (g.P.Space.meaning c.args.space.now) c.requires.width c.args.refs.now.some.items c.requires.some i within c.index-in-loop-output.result.now c.least_zero.result c.least_zero.ensures c.index-in-loop-output.ensures in
-    below_more (λ k. output_fault c.args.order.now s k ≡ None) i c.loop-output.invariant (fault-none s c.args.order.now i (both ∙ c.in_default.is) (neither ∙ c.in_default-least_zero.is))
+    let (within, both) = both-asked s c.args.order.now c.requires.order (g.P.Space.meaning c.args.space.now) c.requires.width c.args.refs.now.both.items c.requires.both c.items-output-end.result.now (c.items-output-end.ensures ∙ ap (λ (t : StageData). t.outputs) c.stage.view_is) c.loop-output.output c.loop-output-test.true c.index.result.now c.least_one.result c.least_one.ensures c.index.ensures in
+    let neither = none-asked s c.args.order.now c.requires.order (g.P.Space.meaning c.args.space.now) c.requires.width c.args.refs.now.some.items c.requires.some c.loop-output.output within c.index-in-loop-output.result.now c.least_zero.result c.least_zero.ensures c.index-in-loop-output.ensures in
+    below_more (λ k. output_fault c.args.order.now s k ≡ None) c.loop-output.output c.loop-output.invariant (fault-none s c.args.order.now c.loop-output.output (both ∙ c.in_default.is) (neither ∙ c.in_default-least_zero.is))
 
 pub returns : goal.returns
 returns g c =

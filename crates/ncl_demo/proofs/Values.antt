@@ -18,24 +18,19 @@ half_sum false true = refl
 half_sum true false = refl
 half_sum true true = refl
 
--- the carry of three bits
-pub full_carry : (c a b : Bool) → cover_value true FULL_CARRY (c ∷ a ∷ b ∷ []) ≡ carry_of c a b
-full_carry false false false = refl
-full_carry false false true = refl
-full_carry false true false = refl
-full_carry false true true = refl
-full_carry true false false = refl
-full_carry true false true = refl
-full_carry true true false = refl
-full_carry true true true = refl
+-- the carry of three bits, and their sum
+full_adder : (c a b : Bool) → (cover_value true FULL_CARRY (c ∷ a ∷ b ∷ []) ≡ carry_of c a b) × (cover_value true FULL_SUM (c ∷ a ∷ b ∷ []) ≡ sum_of c a b)
+full_adder false false false = (refl, refl)
+full_adder false false true = (refl, refl)
+full_adder false true false = (refl, refl)
+full_adder false true true = (refl, refl)
+full_adder true false false = (refl, refl)
+full_adder true false true = (refl, refl)
+full_adder true true false = (refl, refl)
+full_adder true true true = (refl, refl)
 
--- the sum of three bits
+pub full_carry : (c a b : Bool) → cover_value true FULL_CARRY (c ∷ a ∷ b ∷ []) ≡ carry_of c a b
+full_carry c a b = (full_adder c a b).0
+
 pub full_sum : (c a b : Bool) → cover_value true FULL_SUM (c ∷ a ∷ b ∷ []) ≡ sum_of c a b
-full_sum false false false = refl
-full_sum false false true = refl
-full_sum false true false = refl
-full_sum false true true = refl
-full_sum true false false = refl
-full_sum true false true = refl
-full_sum true true false = refl
-full_sum true true true = refl
+full_sum c a b = (full_adder c a b).1

@@ -1,5 +1,5 @@
 -- Products under frames: a frame more, and one less.
-use Rattle.std.proofs.Common.{◌≡◌, ℕ, ◌+◌, ◌<◌, ◌≤◌, true, List, [], ◌∷◌, ◌++◌, length, ap, refl, sym, subst, ◌∙◌, arith, length-append}
+use Rattle.std.proofs.Common.{◌≡◌, ◌+◌, ◌<◌, ◌≤◌, true, List, [], ◌∷◌, ◌++◌, length, ap, refl, sym, subst, ◌∙◌, arith, length-append}
 use Rattle.std.specs.List.{list_any}
 use Rattle.std.proofs.lemmas.List.{append-nil}
 use Rattle.ncl_network.specs.declared.network.Signal.{Signal}
@@ -7,7 +7,7 @@ use Rattle.ncl_network.specs.declared.network.Node.{Node}
 use Rattle.ncl_decomp.specs.declared.factoring.Frame.{Frame}
 use Rattle.ncl_decomp.specs.Products.{under, total, whole, is_empty}
 use Rattle.ncl_decomp.specs.Splitting.{IsSameSum, AddsSum}
-use Rattle.ncl_decomp.proofs.Sums.{AddsSum-same, AddsSum-then, AddsSum-among, AddsSum-under, AddsSum-whole, AddsSum-always, whole_push, whole_room}
+use Rattle.ncl_decomp.proofs.Sums.{AddsSum-same, AddsSum-then, AddsSum-under, AddsSum-whole, AddsSum-always, whole_push, whole_room}
 
 pub AddsSum-parted : (given sum others rests : List (List Signal)) (before nodes : List Node) (frames longer : List Frame) (frame : Frame) → AddsSum given before nodes (whole frames sum) → IsSameSum sum (others ++ under frame.literal rests) → frame.others ≡ others → longer ≡ frames ++ frame ∷ [] → AddsSum given before nodes (whole longer rests)
 AddsSum-parted given sum others rests before nodes frames longer frame so_far same is pushed =

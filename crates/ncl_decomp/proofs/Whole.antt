@@ -3,6 +3,7 @@ use Rattle.std.proofs.Common.{◌≡◌, ℕ, ◌+◌, ◌*◌, ◌<◌, ◌≤�
 use Rattle.std.specs.Prelude.{All}
 use Rattle.std.proofs.lemmas.List.{take_more, length-take-le, length-map}
 use Rattle.std.proofs.lemmas.List.Sums.{sum_by_more, sum_by-take-le}
+use Rattle.std.proofs.lemmas.Bool.Decides.{nat_tests}
 use Rattle.std.proofs.lemmas.Option.{slice_get-get_or}
 use Rattle.ncl_blif.specs.Model.{most_size, weight_of_rows}
 use Rattle.ncl_network.specs.declared.network.Signal.{Signal}
@@ -66,7 +67,7 @@ module _ (network : Network) (is : IsNetwork network) (nodes : List Node) (image
 
 -- ---- without what reaches no output
 
-pub IsNarrow-moved : (places : ℕ → ℕ) (node : Node) → IsNarrow node → IsNarrow (moved_node places node)
+IsNarrow-moved : (places : ℕ → ℕ) (node : Node) → IsNarrow node → IsNarrow (moved_node places node)
 IsNarrow-moved places node is =
     let width = length-map node.ins (moved_signal places) in
     record {
@@ -77,6 +78,9 @@ IsNarrow-moved places node is =
       row_widths = subst (λ n. All (λ row. length row ≡ n) node.rows) (sym width) is.row_widths;
     }
 
+pub narrow_left : (nodes left : List Node) → AreLeft nodes left → All IsNarrow nodes → All IsNarrow left
+narrow_left = All-left IsNarrow IsNarrow-moved
+
 kinds_moved : (nodes : List Node) (places : ℕ → ℕ) (node : Node) → IsOfTwoOr nodes node → IsOfTwoOr nodes (moved_node places node)
 kinds_moved nodes places node (inl two) = inl (length-map node.ins (moved_signal places) ∙ two)
 kinds_moved nodes places node (inr (from, among, kept)) =
@@ -85,6 +89,13 @@ kinds_moved nodes places node (inr (from, among, kept)) =
 pub kinds_left : (old nodes left : List Node) → AreLeft nodes left → All (IsOfTwoOr old) nodes → All (IsOfTwoOr old) left
 kinds_left old = All-left (IsOfTwoOr old) (kinds_moved old)
 
+-- a narrow node costs two cells or more
+pub IsNarrow-cost : (node : Node) → IsNarrow node → 2 ≤ cost_of_inputs (length node.ins)
+IsNarrow-cost node is = some_cost (length node.ins) is.two_inputs is.four_inputs
+  where
+    some_cost : (n : ℕ) → 2 ≤ n → n ≤ 4 → 2 ≤ cost_of_inputs n
+    some_cost n two four = grind (arith, nat_tests)
+
 pub cost_left : (nodes left : List Node) → AreLeft nodes left → cost_of_nodes left ≤ cost_of_nodes nodes
 cost_left =
     sum_by-left (λ (node : Node). cost_of_inputs (length node.ins)) (λ places node.
@@ -92,7 +103,7 @@ cost_left =
 
 pub IsSplit-left : (nodes : List Node) (network : Network) (weight : ℕ) → IsInOrder network → ((k : ℕ) → k < length network.nodes → ReachesOutput network k) → AreLeft nodes network.nodes → All IsNarrow nodes → cost_of_nodes nodes ≤ 5 * weight → weight ≤ most_size → IsSplit network
 IsSplit-left nodes network weight ordered reach left narrow cost small = record {
-  nodes = All-left IsNarrow IsNarrow-moved nodes network.nodes left narrow;
+  nodes = narrow_left nodes network.nodes left narrow;
   reads_before = ordered.reads_before;
   outputs_exist = ordered.outputs_exist;
   reach = reach;

@@ -48,51 +48,8 @@ pub(crate) fn summed(
     Ok(signal)
 }
 
-/// Adds the nodes of a wide node, and gives its signal. Costs as `factored` does.
-fn split_wide(
-    alloc: Global,
-    nodes: &mut Vec<Node>,
-    ins: &[Signal],
-    node: &Node,
-) -> Result<Signal, Memory>
-    requires node { IsNode node.now }
-    requires inputs { length ins.now ≡ length node.now.ins }
-    requires few { length nodes.old.items + weight_of_rows node.now.rows < 2 ^ 32 }
-    ensures { IfOk result (AddsNode ins.now node.now nodes.old.items nodes.new.items) }
-{
-    let given = products(alloc, ins, node.rows.items())?;
-    let factors = factored(alloc, nodes, given)?;
-    let signal = summed(alloc, nodes, &factors)?;
-    Ok(if node.on { signal } else { turned(signal) })
-}
-
-/// Adds a node with these inputs as it is. Linear in it.
-fn keep(
-    alloc: Global,
-    nodes: &mut Vec<Node>,
-    ins: Vec<Signal>,
-    node: &Node,
-) -> Result<Signal, Memory>
-    requires node { IsNode node.now }
-    requires inputs { length ins.items ≡ length node.now.ins }
-    requires narrow { length node.now.ins ≤ 4 }
-    requires few { length nodes.old.items < 2 ^ 32 }
-    ensures { IfOk result (AddsNode ins.items node.now nodes.old.items nodes.new.items) }
-{
-    let from = SignalSource::Node(nodes.len() as u32);
-    let rows = copied_rows(alloc, node.rows.items())?;
-    nodes.push(Node {
-        ins: Items::from_vec(ins),
-        on: node.on,
-        rows,
-    })?;
-    Ok(Signal {
-        from,
-        inverted: false,
-    })
-}
-
-/// Adds the nodes that a node becomes whose inputs are these signals, and gives its signal. Linear in the node.
+/// Adds the nodes that a node becomes whose inputs are these signals, and gives its signal: the node as it is, linear
+/// in it, or the nodes of its sum of products, which cost as `factored` does.
 pub(crate) fn split_node(
     alloc: Global,
     nodes: &mut Vec<Node>,
@@ -105,8 +62,20 @@ pub(crate) fn split_node(
     ensures { IfOk result (AddsNode ins.items node.now nodes.old.items nodes.new.items) }
 {
     if ins.len() <= 4 {
-        keep(alloc, nodes, ins, node)
-    } else {
-        split_wide(alloc, nodes, &ins, node)
+        let from = SignalSource::Node(nodes.len() as u32);
+        let rows = copied_rows(alloc, node.rows.items())?;
+        nodes.push(Node {
+            ins: Items::from_vec(ins),
+            on: node.on,
+            rows,
+        })?;
+        return Ok(Signal {
+            from,
+            inverted: false,
+        });
     }
+    let given = products(alloc, &ins, node.rows.items())?;
+    let factors = factored(alloc, nodes, given)?;
+    let signal = summed(alloc, nodes, &factors)?;
+    Ok(if node.on { signal } else { turned(signal) })
 }

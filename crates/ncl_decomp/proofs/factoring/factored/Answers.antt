@@ -1,4 +1,4 @@
-use Rattle.std.proofs.Common.{◌≡◌, ◌++◌, ◌∷◌, [], length, sym, ap, ◌∙◌, subst, arith}
+use Rattle.std.proofs.Common.{◌++◌, ap, subst, arith}
 use Rattle.ncl_decomp.specs.declared.factoring.Frame.{Frame}
 use Rattle.ncl_decomp.specs.Products.{under, total}
 use Rattle.ncl_decomp.specs.Splitting.{IsSameSum, AddsSum}

@@ -1,4 +1,4 @@
-use Rattle.std.proofs.Common.{ap, arith}
+use Rattle.std.proofs.Common.{arith}
 use Rattle.ncl_decomp.proofs.Terms.{terms_count}
 use Rattle.ncl_decomp.proofs.Parts.{AddsSum-tree}
 use Rattle.ncl_decomp.proofs.wide.summed.Goals as goal

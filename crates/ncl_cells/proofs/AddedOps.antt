@@ -1,18 +1,22 @@
 -- Operations on signals, added to small nodes.
-use Rattle.std.proofs.Common.{◌≡◌, ℕ, Bool, true, false, not, cond, ◌&&◌, ◌||◌, List, length, refl, ◌∙◌}
+use Rattle.std.proofs.Common.{◌≡◌, Bool, true, false, not, cond, ◌&&◌, ◌||◌, List, length, refl, ◌∙◌}
+use Rattle.std.specs.Prelude.{IfOk, Result}
+use Rattle.std.proofs.lemmas.Result.{IfOk-weaker}
 use Rattle.ncl_network.specs.declared.network.Signal.{Signal}
 use Rattle.ncl_network.specs.Network.{signal_value, IsSource}
 use Rattle.ncl_cells.specs.declared.small.Op.{Op}
 use Rattle.ncl_cells.specs.declared.small.Op.TheVariants.{And, Differ, Majority, Choose}
 use Rattle.ncl_cells.specs.declared.small.Small.{Small}
 use Rattle.ncl_cells.specs.declared.form.Form.{Form}
+use Rattle.ncl_cells.specs.declared.stop.Stop.{Stop}
 use Rattle.ncl_cells.specs.Smalls.{op_value, bits_of}
-use Rattle.ncl_cells.specs.Forms.{form_value, IsFormOver, ComesTo}
-use Rattle.ncl_cells.specs.Pools.{IsPool, Adds}
+use Rattle.ncl_cells.specs.Forms.{form_value, ComesTo}
+use Rattle.ncl_cells.specs.Pools.{Adds, PutsForm}
 use Rattle.ncl_cells.specs.Adding.{AddsOp}
+use Rattle.ncl_cells.proofs.Smalls.{three_bits}
 use Rattle.ncl_cells.proofs.Pools.{Adds-exists, Adds-keeps, Adds-then}
 
-pub AddsOp-form : (op : Op) (s t u : Signal) (form : Form) (before after : List Small) (signal : Signal) → ComesTo op s t u form → ((inputs : ℕ) → IsPool inputs before → IsFormOver inputs (length before) form → Adds inputs before after (λ word nodes. form_value word nodes form) signal) → AddsOp op s t u before after signal
+AddsOp-form : (op : Op) (s t u : Signal) (form : Form) (before after : List Small) (signal : Signal) → ComesTo op s t u form → PutsForm form before after signal → AddsOp op s t u before after signal
 AddsOp-form op s t u form before after signal comes put = λ inputs pool s_there t_there u_there.
     let adds : Adds inputs before after (λ word nodes. form_value word nodes form) signal = put inputs pool (comes.over inputs (length before) s_there t_there u_there) in
     record {
@@ -23,15 +27,14 @@ AddsOp-form op s t u form before after signal comes put = λ inputs pool s_there
       gives = λ word. adds.gives word ∙ comes.value word (bits_of word before);
     }
 
+-- what an operation comes to, if it is put
+pub put_op : (op : Op) (s t u : Signal) (form : Form) (before after : List Small) (result : Result Signal Stop) → ComesTo op s t u form → IfOk result (PutsForm form before after) → IfOk result (AddsOp op s t u before after)
+put_op op s t u form before after result comes =
+    IfOk-weaker result (PutsForm form before after) (AddsOp op s t u before after) (λ signal. AddsOp-form op s t u form before after signal comes)
+
 choose_by_pairs : (s t u : Bool) → cond t (not (s && cond t (not u) u)) (s && cond t (not u) u) ≡ cond s u t
-choose_by_pairs true true true = refl
-choose_by_pairs true true false = refl
-choose_by_pairs true false true = refl
-choose_by_pairs true false false = refl
-choose_by_pairs false true true = refl
-choose_by_pairs false true false = refl
-choose_by_pairs false false true = refl
-choose_by_pairs false false false = refl
+choose_by_pairs =
+    three_bits (λ s t u. cond t (not (s && cond t (not u) u)) (s && cond t (not u) u) ≡ cond s u t) refl refl refl refl refl refl refl refl
 
 majority_by_choice : (s t u : Bool) → cond (cond s (not t) t) u s ≡ cond s (t || u) (t && u)
 majority_by_choice true true u = refl
@@ -39,7 +42,7 @@ majority_by_choice true false u = refl
 majority_by_choice false true u = refl
 majority_by_choice false false u = refl
 
-module _ (s t u apart change result : Signal) (before one two after : List Small) (first : (third : Signal) → AddsOp Differ t u third before one apart) (second : (third : Signal) → AddsOp And s apart third one two change) (last : (third : Signal) → AddsOp Differ t change third two after result) where
+module _ (s t u apart change result : Signal) (before one two after : List Small) (first : (third : Signal) → AddsOp Differ t u third before one apart) (second : (third : Signal) → AddsOp And s apart third one two change) (last : AddsOp Differ t change t two after result) where
   pub AddsOp-choose_by_pairs : AddsOp Choose s t u before after result
   AddsOp-choose_by_pairs = λ inputs pool s_there t_there u_there.
       let differs = λ (a b : Signal) (word nodes : List Bool). op_value Differ (signal_value word nodes a) (signal_value word nodes b) (signal_value word nodes a) in
@@ -49,7 +52,7 @@ module _ (s t u apart change result : Signal) (before one two after : List Small
       let both = λ (word nodes : List Bool). op_value And (signal_value word nodes s) (signal_value word nodes apart) (signal_value word nodes s) in
       let adds2 : Adds inputs one two both change = second s inputs adds1.fine s_one adds1.exists s_one in
       let t_two : IsSource inputs (length two) t.from = Adds-exists inputs one two both change adds2 t t_one in
-      let adds3 : Adds inputs two after (differs t change) result = last t inputs adds2.fine t_two adds2.exists t_two in
+      let adds3 : Adds inputs two after (differs t change) result = last inputs adds2.fine t_two adds2.exists t_two in
       let adds23 : Adds inputs one after (λ word nodes. cond (signal_value word nodes t) (not (both word nodes)) (both word nodes)) result =
       Adds-then inputs one two both change adds2 after (differs t change) result (λ word nodes. cond (signal_value word nodes t) (not (both word nodes)) (both word nodes)) adds3
       (λ word. (λ i. cond (Adds-keeps inputs one two both change adds2 word t t_one i) (not (adds2.gives word i)) (adds2.gives word i))) in

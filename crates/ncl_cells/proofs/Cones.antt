@@ -9,7 +9,7 @@ use Rattle.ncl_network.specs.Network.{source_value, node_values, ReadBefore}
 use Rattle.ncl_cells.specs.declared.cone.Known.{Known}
 use Rattle.ncl_cells.specs.declared.cone.Leaves.{Leaves}
 use Rattle.ncl_cells.specs.declared.plan.Plan.{Plan}
-use Rattle.ncl_cells.specs.Cones.{Respects, IsKnown, leaf_facts, Computes, ComputesAt}
+use Rattle.ncl_cells.specs.Cones.{Respects, IsKnown, fact, leaf_facts, Computes, ComputesAt}
 use Rattle.ncl_cells.proofs.Smalls.{bit_of_node}
 
 -- the bits of a network at a word respect its nodes
@@ -24,11 +24,9 @@ IsKnown-push value known new fact is here pushed =
 pub leaves_known : (value : SignalSource → Bool) (leaves : Leaves) (a b c d : Bool) → value leaves.first ≡ a → value leaves.second ≡ b → value leaves.third ≡ c → value leaves.fourth ≡ d → IsKnown value (leaf_facts leaves a b c d)
 leaves_known value leaves a b c d first second third fourth =
     let F = λ (fact : Known). value fact.from ≡ fact.bit in
-    let k1 : Known = record { from = leaves.first; bit = a } in
-    let k2 : Known = record { from = leaves.second; bit = b } in
-    let k3 : Known = record { from = leaves.third; bit = c } in
-    let k4 : Known = record { from = leaves.fourth; bit = d } in
-    All-cons F k1 (k2 ∷ k3 ∷ k4 ∷ []) first (All-cons F k2 (k3 ∷ k4 ∷ []) second (All-cons F k3 (k4 ∷ []) third (All-cons F k4 [] fourth (All-nil F))))
+    let second_on = fact leaves.second b ∷ fact leaves.third c ∷ fact leaves.fourth d ∷ [] in
+    let third_on = fact leaves.third c ∷ fact leaves.fourth d ∷ [] in
+    All-cons F (fact leaves.first a) second_on first (All-cons F (fact leaves.second b) third_on second (All-cons F (fact leaves.third c) (fact leaves.fourth d ∷ []) third (All-cons F (fact leaves.fourth d) [] fourth (All-nil F))))
 
 -- what holds of both bits of each leaf holds
 pub Computes-all : (nodes : List Node) (k : ℕ) (leaves : Leaves) (plan : Plan) → ((a b c d : Bool) → ComputesAt nodes k leaves plan a b c d) → Computes nodes k leaves plan

@@ -10,9 +10,9 @@ use Rattle.ncl_network.specs.declared.network.Signal.{Signal}
 use Rattle.ncl_network.specs.declared.network.Node.{Node}
 use Rattle.ncl_network.specs.declared.network.Network.{Network}
 use Rattle.ncl_network.specs.Network.{source_value, signal_value, node_values, IsSource, ReadBefore}
-use Rattle.ncl_network.specs.Prune.{IsInOrder, AreLeft, moved_signal, moved_node}
-use Rattle.ncl_network.proofs.Pruned.{All-left, moved_constant}
+use Rattle.ncl_network.specs.Prune.{IsInOrder}
 use Rattle.ncl_decomp.specs.Split.{IsNarrow, IsSplit, cost_of_inputs, cost_of_nodes}
+use Rattle.ncl_decomp.proofs.Whole.{IsNarrow-cost}
 use Rattle.ncl_cells.specs.declared.small.Small.{Small}
 use Rattle.ncl_cells.specs.declared.cone.Leaves.{Leaves}
 use Rattle.ncl_cells.specs.declared.plan.Plan.{Plan}
@@ -139,31 +139,7 @@ module _ (network : Network) (ordered : IsInOrder network) where
         same_length xs ys equal =
             omega (arith, length-map xs (signal_value [] (bits_of [] smalls)), length-map ys (signal_value [] (node_values [] [] network.nodes)), ap length (equal []))
 
--- ---- without what reaches no output
-
-IsNarrow-renumbered : (places : ℕ → ℕ) (node : Node) → IsNarrow node → IsNarrow (moved_node places node)
-IsNarrow-renumbered places node is =
-    let width = length-map node.ins (moved_signal places) in
-    record {
-      two_inputs = omega (arith, is.two_inputs);
-      four_inputs = omega (arith, is.four_inputs);
-      no_constant = moved_constant places node.ins is.no_constant;
-      some_row = is.some_row;
-      row_widths = subst (λ n. All (λ row. length row ≡ n) node.rows) (sym width) is.row_widths;
-    }
-
-pub narrow_left : (nodes left : List Node) → AreLeft nodes left → All IsNarrow nodes → All IsNarrow left
-narrow_left = All-left IsNarrow IsNarrow-renumbered
-
 -- ---- a split network is in order
-
-some_cost : (n : ℕ) → 2 ≤ n → n ≤ 4 → 1 ≤ cost_of_inputs n
-some_cost zero two four = absurd (omega arith)
-some_cost (suc zero) two four = absurd (omega arith)
-some_cost (suc (suc zero)) two four = omega arith
-some_cost (suc (suc (suc zero))) two four = omega arith
-some_cost (suc (suc (suc (suc zero)))) two four = omega arith
-some_cost (suc (suc (suc (suc (suc n))))) two four = absurd (omega arith)
 
 pub IsInOrder-narrow : (network : Network) → IsSplit network → IsInOrder network
 IsInOrder-narrow network is = record {
@@ -176,6 +152,6 @@ IsInOrder-narrow network is = record {
     few_nodes [] all = omega arith
     few_nodes (node ∷ nodes) all =
         let here : IsNarrow node = All-head IsNarrow node nodes all in
-        let costs = some_cost (length node.ins) here.two_inputs here.four_inputs in
+        let costs = IsNarrow-cost node here in
         let rest = few_nodes nodes (All-tail IsNarrow node nodes all) in
         omega (arith, costs, rest, sum_by-cons (λ (node : Node). cost_of_inputs (length node.ins)) node nodes)

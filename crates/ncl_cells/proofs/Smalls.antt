@@ -33,25 +33,24 @@ differ_rows true false = refl
 differ_rows false true = refl
 differ_rows false false = refl
 
+-- what holds at the eight words of three bits
+pub three_bits : (P : Bool → Bool → Bool → Type 0) → P true true true → P true true false → P true false true → P true false false → P false true true → P false true false → P false false true → P false false false → (a b c : Bool) → P a b c
+three_bits P p7 p6 p5 p4 p3 p2 p1 p0 true true true = p7
+three_bits P p7 p6 p5 p4 p3 p2 p1 p0 true true false = p6
+three_bits P p7 p6 p5 p4 p3 p2 p1 p0 true false true = p5
+three_bits P p7 p6 p5 p4 p3 p2 p1 p0 true false false = p4
+three_bits P p7 p6 p5 p4 p3 p2 p1 p0 false true true = p3
+three_bits P p7 p6 p5 p4 p3 p2 p1 p0 false true false = p2
+three_bits P p7 p6 p5 p4 p3 p2 p1 p0 false false true = p1
+three_bits P p7 p6 p5 p4 p3 p2 p1 p0 false false false = p0
+
 majority_rows : (a b c : Bool) → cover_value true (rows_of Majority) (a ∷ b ∷ c ∷ []) ≡ op_value Majority a b c
-majority_rows true true true = refl
-majority_rows true true false = refl
-majority_rows true false true = refl
-majority_rows true false false = refl
-majority_rows false true true = refl
-majority_rows false true false = refl
-majority_rows false false true = refl
-majority_rows false false false = refl
+majority_rows =
+    three_bits (λ a b c. cover_value true (rows_of Majority) (a ∷ b ∷ c ∷ []) ≡ op_value Majority a b c) refl refl refl refl refl refl refl refl
 
 choose_rows : (a b c : Bool) → cover_value true (rows_of Choose) (a ∷ b ∷ c ∷ []) ≡ op_value Choose a b c
-choose_rows true true true = refl
-choose_rows true true false = refl
-choose_rows true false true = refl
-choose_rows true false false = refl
-choose_rows false true true = refl
-choose_rows false true false = refl
-choose_rows false false true = refl
-choose_rows false false false = refl
+choose_rows =
+    three_bits (λ a b c. cover_value true (rows_of Choose) (a ∷ b ∷ c ∷ []) ≡ op_value Choose a b c) refl refl refl refl refl refl refl refl
 
 by_op : (op : Op) (s t u : Signal) (word bits : List Bool) → node_value word bits (record { ins = ins_of op s t u; on = true; rows = rows_of op }) ≡ op_value op (signal_value word bits s) (signal_value word bits t) (signal_value word bits u)
 by_op And s t u word bits = and_rows (signal_value word bits s) (signal_value word bits t)

@@ -23,10 +23,13 @@ Respects nodes value =
 abbrev pub IsKnown : (SignalSource → Bool) → List Known → Type 0
 IsKnown value known = All (λ fact. value fact.from ≡ fact.bit) known
 
--- that four leaves have these bits
+-- that a source has this bit, and that four leaves have these
+abbrev pub fact : SignalSource → Bool → Known
+fact from bit = record { from = from; bit = bit }
+
 abbrev pub leaf_facts : Leaves → Bool → Bool → Bool → Bool → List Known
 leaf_facts leaves a b c d =
-    record { from = leaves.first; bit = a } ∷ record { from = leaves.second; bit = b } ∷ record { from = leaves.third; bit = c } ∷ record { from = leaves.fourth; bit = d } ∷ []
+    fact leaves.first a ∷ fact leaves.second b ∷ fact leaves.third c ∷ fact leaves.fourth d ∷ []
 
 -- the bits of four leaves
 abbrev pub leaf_bits : (SignalSource → Bool) → Leaves → List Bool

@@ -12,7 +12,7 @@ use ncl_network::Signal;
 
 /// Adds whether both of two signals are 1.
 fn add_and(pool: &mut Pool, first: Signal, second: Signal) -> Result<Signal, Stop>
-    ensures { IfOk result (λ signal. (third : Signal) → AddsOp And first second third pool.old.smalls.items pool.new.smalls.items signal) }
+    ensures { (third : Signal) → IfOk result (AddsOp And first second third pool.old.smalls.items pool.new.smalls.items) }
 {
     let form = and(first, second);
     pool.put(form)
@@ -20,19 +20,14 @@ fn add_and(pool: &mut Pool, first: Signal, second: Signal) -> Result<Signal, Sto
 
 /// Adds whether two signals differ.
 fn add_differ(pool: &mut Pool, first: Signal, second: Signal) -> Result<Signal, Stop>
-    ensures { IfOk result (λ signal. (third : Signal) → AddsOp Differ first second third pool.old.smalls.items pool.new.smalls.items signal) }
+    ensures { (third : Signal) → IfOk result (AddsOp Differ first second third pool.old.smalls.items pool.new.smalls.items) }
 {
     let form = differ(first, second);
     pool.put(form)
 }
 
 /// Adds the second signal where the first is 0, or the third, by nodes of two inputs.
-fn add_choose_by_pairs(
-    pool: &mut Pool,
-    first: Signal,
-    second: Signal,
-    third: Signal,
-) -> Result<Signal, Stop>
+fn add_choose(pool: &mut Pool, first: Signal, second: Signal, third: Signal) -> Result<Signal, Stop>
     ensures { IfOk result (AddsOp Choose first second third pool.old.smalls.items pool.new.smalls.items) }
 {
     let apart = add_differ(pool, second, third)?;
@@ -40,45 +35,7 @@ fn add_choose_by_pairs(
     add_differ(pool, second, change)
 }
 
-/// Adds what most of three signals are, by nodes of two inputs.
-fn add_majority_by_pairs(
-    pool: &mut Pool,
-    first: Signal,
-    second: Signal,
-    third: Signal,
-) -> Result<Signal, Stop>
-    ensures { IfOk result (AddsOp Majority first second third pool.old.smalls.items pool.new.smalls.items) }
-{
-    let apart = add_differ(pool, first, second)?;
-    add_choose_by_pairs(pool, apart, first, third)
-}
-
-/// Adds what most of three signals are.
-fn add_majority(
-    pool: &mut Pool,
-    first: Signal,
-    second: Signal,
-    third: Signal,
-) -> Result<Signal, Stop>
-    ensures { IfOk result (AddsOp Majority first second third pool.old.smalls.items pool.new.smalls.items) }
-{
-    match majority(first, second, third) {
-        Some(form) => pool.put(form),
-        None => add_majority_by_pairs(pool, first, second, third),
-    }
-}
-
-/// Adds the second signal where the first is 0, or the third.
-fn add_choose(pool: &mut Pool, first: Signal, second: Signal, third: Signal) -> Result<Signal, Stop>
-    ensures { IfOk result (AddsOp Choose first second third pool.old.smalls.items pool.new.smalls.items) }
-{
-    match choose(first, second, third) {
-        Some(form) => pool.put(form),
-        None => add_choose_by_pairs(pool, first, second, third),
-    }
-}
-
-/// Adds an operation on signals, and gives its signal.
+/// Adds an operation on signals, and gives its signal. What has no small node of its own is made of nodes of two inputs.
 pub(crate) fn add(
     pool: &mut Pool,
     op: Op,
@@ -91,7 +48,18 @@ pub(crate) fn add(
     match op {
         Op::And => add_and(pool, first, second),
         Op::Differ => add_differ(pool, first, second),
-        Op::Majority => add_majority(pool, first, second, third),
-        Op::Choose => add_choose(pool, first, second, third),
+        Op::Majority => {
+            if let Some(form) = majority(first, second, third) {
+                return pool.put(form);
+            }
+            let apart = add_differ(pool, first, second)?;
+            add_choose(pool, apart, first, third)
+        }
+        Op::Choose => {
+            if let Some(form) = choose(first, second, third) {
+                return pool.put(form);
+            }
+            add_choose(pool, first, second, third)
+        }
     }
 }

@@ -39,6 +39,15 @@ pub(crate) struct Chooser {
     levels: Vec<u32>,
 }
 
+/// A node of a network, with the signals that the nodes before it have become.
+#[derive(Clone, Copy)]
+pub(crate) struct Turn<'a> {
+    pub network: &'a Network,
+    pub pool: &'a Pool,
+    pub images: &'a [Signal],
+    pub place: u32,
+}
+
 /// A choice, the cells that it frees, and what it adds.
 #[derive(Drop)]
 struct Weighed {
@@ -162,18 +171,17 @@ impl Chooser {
     fn weighed(
         &mut self,
         alloc: Global,
-        nodes: &[Node],
-        pool: &Pool,
-        images: &[Signal],
+        turn: &Turn,
         leaves: Leaves,
         cone: Vec<u32>,
     ) -> Result<Weighed, Stop> {
+        let nodes = turn.network.nodes.items();
         let table = cone_table(alloc, nodes, &cone, leaves)?;
-        let reached = reached_leaves(alloc, self.made(images), leaves)?;
+        let reached = reached_leaves(alloc, self.made(turn.images), leaves)?;
         let plan = self.plan(alloc, table, levels_of(&reached))?;
         let freed = freed(alloc, nodes, &self.readers, &cone)?;
-        let lost = images_of(alloc, images, &freed.places)?;
-        let added = added(pool, &self.levels, &lost, &plan, reached)?;
+        let lost = images_of(alloc, turn.images, &freed.places)?;
+        let added = added(turn.pool, &self.levels, &lost, &plan, reached)?;
         let choice = Choice { leaves, cone, plan };
         Ok(Weighed {
             choice,
@@ -183,60 +191,37 @@ impl Chooser {
     }
 
     /// What a node becomes of the sources that it reads.
-    fn own_choice(
-        &mut self,
-        alloc: Global,
-        nodes: &[Node],
-        pool: &Pool,
-        images: &[Signal],
-        place: u32,
-    ) -> Result<Weighed, Stop> {
-        let Some(node) = nodes.get(place as usize) else {
+    fn own_choice(&mut self, alloc: Global, turn: &Turn) -> Result<Weighed, Stop> {
+        let Some(node) = turn.network.nodes.items().get(turn.place as usize) else {
             return Err(Stop::GivenUp);
         };
         let sources = sources_of(alloc, node)?;
-        let leaves = leaves_of(self.made(images), self.is_last(), &sources);
-        let cone = vec![in alloc; place]?;
-        self.weighed(alloc, nodes, pool, images, leaves, cone)
+        let leaves = leaves_of(self.made(turn.images), self.is_last(), &sources);
+        let cone = vec![in alloc; turn.place]?;
+        self.weighed(alloc, turn, leaves, cone)
     }
 
     /// What a node becomes of the sources of a cut, if this can be seen.
-    fn cut_choice(
-        &mut self,
-        alloc: Global,
-        network: &Network,
-        pool: &Pool,
-        images: &[Signal],
-        place: u32,
-        cut: Cut,
-    ) -> Result<Weighed, Stop> {
+    fn cut_choice(&mut self, alloc: Global, turn: &Turn, cut: Cut) -> Result<Weighed, Stop> {
         let mut sources = Vec::new(alloc);
         for code in cut.codes {
-            sources.push(source_of(network.inputs, code))?;
+            sources.push(source_of(turn.network.inputs, code))?;
         }
-        let leaves = leaves_of(self.made(images), self.is_last(), &sources);
-        let nodes = network.nodes.items();
-        let cone = cone_of(alloc, nodes, place, leaves)?;
-        self.weighed(alloc, nodes, pool, images, leaves, cone)
+        let leaves = leaves_of(self.made(turn.images), self.is_last(), &sources);
+        let cone = cone_of(alloc, turn.network.nodes.items(), turn.place, leaves)?;
+        self.weighed(alloc, turn, leaves, cone)
     }
 
     /// What a node becomes: of the sources that it reads, or of those of a cut of it, what saves the most cells.
-    pub(crate) fn choose(
-        &mut self,
-        alloc: Global,
-        network: &Network,
-        pool: &Pool,
-        images: &[Signal],
-        place: u32,
-    ) -> Result<Choice, Stop> {
-        add_levels(&mut self.levels, &pool.smalls)?;
-        let mut best = self.own_choice(alloc, network.nodes.items(), pool, images, place)?;
-        let cuts = match self.cuts.get(place as usize) {
+    pub(crate) fn choose(&mut self, alloc: Global, turn: &Turn) -> Result<Choice, Stop> {
+        add_levels(&mut self.levels, &turn.pool.smalls)?;
+        let mut best = self.own_choice(alloc, turn)?;
+        let cuts = match self.cuts.get(turn.place as usize) {
             Some(cuts) => *cuts,
             None => return Ok(best.choice),
         };
         for cut in cuts.cuts.iter().take(cuts.count) {
-            match self.cut_choice(alloc, network, pool, images, place, *cut) {
+            match self.cut_choice(alloc, turn, *cut) {
                 Ok(other) => best = better(best, other),
                 Err(Stop::GivenUp) => {}
                 Err(Stop::Memory) => return Err(Stop::Memory),

@@ -1,7 +1,6 @@
 //! Small nodes that grow in number, none of them twice.
-ghost use Rattle.std.specs.Prelude.{◌≡◌, ℕ, ◌++◌, ◌∷◌, [], IfOk, IfSome, Some, slice_get, length, true};
-ghost use Rattle.ncl_cells.specs.Forms.{form_value, IsFormOver};
-ghost use Rattle.ncl_cells.specs.Pools.{IsPool, Adds};
+ghost use Rattle.std.specs.Prelude.{◌≡◌, ◌++◌, ◌∷◌, [], IfOk, IfSome, Some, slice_get, length, true};
+ghost use Rattle.ncl_cells.specs.Pools.{PutsForm};
 
 use crate::form::Form;
 use crate::small::{Op, Small};
@@ -131,7 +130,7 @@ impl Pool {
 
     /// The signal of a form. Its small node is added where it isn't found.
     pub(crate) fn put(&mut self, form: Form) -> Result<Signal, Stop>
-        ensures { IfOk result (λ signal. (inputs : ℕ) → IsPool inputs self.old.smalls.items → IsFormOver inputs (length self.old.smalls.items) form → Adds inputs self.old.smalls.items self.new.smalls.items (λ word nodes. form_value word nodes form) signal) }
+        ensures { IfOk result (PutsForm form self.old.smalls.items self.new.smalls.items) }
     {
         match form {
             Form::Known(signal) => Ok(signal),

@@ -4,7 +4,7 @@ ghost use Rattle.ncl_network.specs.Prune.{IsInOrder};
 ghost use Rattle.ncl_cells.specs.Pools.{Adds};
 ghost use Rattle.ncl_cells.specs.Remade.{IsImageOf, AreImagesOf, AreRemade, IsRebuiltOf, IsRemadeOf, bit_at, plain, leaf_signals};
 
-use crate::choice::Chooser;
+use crate::choice::{Chooser, Turn};
 use crate::cone::Leaves;
 use crate::evaluating::test;
 use crate::form::turned_by;
@@ -95,7 +95,13 @@ fn remake_node(
     requires within { place < length network.now.nodes }
     ensures { IfOk result (λ signal. AreRemade network.now pool.old.smalls.items images.now → Adds network.now.inputs pool.old.smalls.items pool.new.smalls.items (λ word _. bit_at network.now word place) signal) }
 {
-    let choice = chooser.choose(alloc, network, pool, images, place)?;
+    let turn = Turn {
+        network,
+        pool,
+        images,
+        place,
+    };
+    let choice = chooser.choose(alloc, &turn)?;
     test(alloc, network.nodes.items(), place, &choice)?;
     let signals = leaf_signals(alloc, choice.leaves)?;
     let leaves = images_of(alloc, network.inputs, images, &signals)?;

@@ -1,17 +1,17 @@
-use Rattle.std.proofs.Common.{ℕ, length}
 use Rattle.std.proofs.lemmas.Result.{IfOk-weaker}
-use Rattle.ncl_cells.specs.declared.small.Op.TheVariants.{Choose}
-use Rattle.ncl_cells.specs.Forms.{form_value, IsFormOver}
-use Rattle.ncl_cells.specs.Pools.{IsPool, Adds}
+use Rattle.ncl_cells.specs.declared.small.Op.TheVariants.{Differ, Choose}
 use Rattle.ncl_cells.specs.Adding.{AddsOp}
-use Rattle.ncl_cells.proofs.AddedOps.{AddsOp-form}
+use Rattle.ncl_cells.proofs.AddedOps.{AddsOp-choose_by_pairs}
 use Rattle.ncl_cells.proofs.adding.add_choose.Goals as goal
 
-pub returns-in-Some : goal.returns-in-Some
-returns-in-Some c =
+pub returns : goal.returns
+returns c =
     let before = c.args.pool.now.smalls.items in
-    let after = c.put.new.self.smalls.items in
-    let form = c.in-Some.form in
-    IfOk-weaker c.put.result (λ signal. (inputs : ℕ) → IsPool inputs before → IsFormOver inputs (length before) form → Adds inputs before after (λ word nodes. form_value word nodes form) signal) (AddsOp Choose c.args.first c.args.second c.args.third before after)
-    (λ signal put. AddsOp-form Choose c.args.first c.args.second c.args.third form before after signal c.in-Some.ensures put)
-    c.put.ensures
+    let one = c.add_differ.new.pool.smalls.items in
+    let two = c.add_and.new.pool.smalls.items in
+    let after = c.add_differ-2.new.pool.smalls.items in
+    let apart = c.in_ok-apart.apart in
+    let change = c.in_ok-change.change in
+    IfOk-weaker c.add_differ-2.result (AddsOp Differ c.args.second change c.args.second two after) (AddsOp Choose c.args.first c.args.second c.args.third before after)
+    (λ signal last. AddsOp-choose_by_pairs c.args.first c.args.second c.args.third apart change signal before one two after c.in_ok-apart.ensures c.in_ok-change.ensures last)
+    (c.add_differ-2.ensures c.args.second)

@@ -1,5 +1,5 @@
 use Rattle.std.proofs.Common.{◌∙◌}
-use Rattle.ncl_cells.proofs.Remade.{narrow_left}
+use Rattle.ncl_decomp.proofs.Whole.{narrow_left}
 use Rattle.ncl_cells.proofs.remaking.remake.Goals as goal
 
 pub returns : goal.returns

@@ -2,13 +2,13 @@ use Rattle.std.proofs.Common.{◌≡◌, ap, sym, subst, ◌∙◌}
 use Rattle.ncl_cells.specs.Cones.{IsKnown}
 use Rattle.ncl_cells.specs.Plans.{plan_value}
 use Rattle.ncl_cells.proofs.Cones.{leaves_known, same_bits}
-use Rattle.ncl_cells.proofs.evaluating.test_word.Goals as goal
+use Rattle.ncl_cells.proofs.evaluating.Tried.test_word.Goals as goal
 
 pub returns-then-bit-planned : goal.returns-then-bit-planned
 returns-then-bit-planned c = λ value respects first second third fourth.
-    let leaves = c.args.choice.now.leaves in
+    let leaves = c.args.self.now.choice.now.leaves in
     let begins : IsKnown value c.in_ok-known.known.items = subst (IsKnown value) (sym c.in_ok-known.ensures) (leaves_known value leaves c.args.a c.args.b c.args.c c.args.d first second third fourth) in
     let known : IsKnown value c.learn_all.new.known.items = c.in_ok-learn_all.ensures value respects begins in
     let bit = c.in_ok-bit.ensures value (subst (IsKnown value) (sym c.deref-2.ensures.value) known) in
     let same : c.in_ok-bit.bit ≡ c.in_ok-planned.planned = same_bits c.in_ok-bit.bit c.in_ok-planned.planned c.if-bit-planned.true in
-    bit ∙ same ∙ c.in_ok-planned.ensures ∙ ap (plan_value c.args.choice.now.plan) c.in_ok-vec.ensures.items
+    bit ∙ same ∙ c.in_ok-planned.ensures ∙ ap (plan_value c.args.self.now.choice.now.plan) c.in_ok-vec.ensures.items

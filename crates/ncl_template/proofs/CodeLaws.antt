@@ -154,21 +154,22 @@ length_parts (x ∷ xs) ys [] len = absurd (omega (arith, len))
 length_parts (x ∷ xs) ys (b ∷ word) len = let rest = length_parts xs ys word (omega (arith, len)) in ((let first = rest.0 in omega (arith, first)), rest.1)
 
 module _ (first second : List Bool → ℕ) (xs ys : List Rails) (gx gy : List StageCell) (cs ds : List NetId) (c_code : IsCode first xs gx cs) (d_code : IsCode second ys gy ds) where
-  case_first : (base v : Nets) (word : List Bool) → IsCase base v (xs ++ ys) (gx ++ gy) word → IsCase base v xs gx (front xs word)
-  case_first base v word case = record {
-    obeys = Obeys-some base (gx ++ gy) gx (λ c m. Member-append_left c gy m) case.obeys;
-    shown = (shown_parts base xs ys word case.shown).0;
+  -- what is known of all inputs and gates is known of some
+  some_case : (ins : List Rails) (gates : List StageCell) → ((c : StageCell) → Member c gates → Member c (gx ++ gy)) → (base v : Nets) (word part : List Bool) → ShowWord base ins part → IsCase base v (xs ++ ys) (gx ++ gy) word → IsCase base v ins gates part
+  some_case ins gates among base v word part shown case = record {
+    obeys = Obeys-some base (gx ++ gy) gates among case.obeys;
+    shown = shown;
     below = case.below;
-    supported = IsSupported-some v (gx ++ gy) gx (λ c m. Member-append_left c gy m) case.supported;
+    supported = IsSupported-some v (gx ++ gy) gates among case.supported;
   }
 
+  case_first : (base v : Nets) (word : List Bool) → IsCase base v (xs ++ ys) (gx ++ gy) word → IsCase base v xs gx (front xs word)
+  case_first base v word case =
+      some_case xs gx (λ c m. Member-append_left c gy m) base v word (front xs word) (shown_parts base xs ys word case.shown).0 case
+
   case_second : (base v : Nets) (word : List Bool) → IsCase base v (xs ++ ys) (gx ++ gy) word → IsCase base v ys gy (back xs word)
-  case_second base v word case = record {
-    obeys = Obeys-some base (gx ++ gy) gy (λ c m. Member-append_right gx c m) case.obeys;
-    shown = (shown_parts base xs ys word case.shown).1;
-    below = case.below;
-    supported = IsSupported-some v (gx ++ gy) gy (λ c m. Member-append_right gx c m) case.supported;
-  }
+  case_second base v word case =
+      some_case ys gy (λ c m. Member-append_right gx c m) base v word (back xs word) (shown_parts base xs ys word case.shown).1 case
 
   leaf_waits : (leaf : PairLeaf) → IsPairLeaf cs ds leaf → (base v : Nets) (word : List Bool) → IsCase base v (xs ++ ys) (gx ++ gy) word → AreLow v cs ⊎ AreLow v ds → holds v leaf.cell ≡ false
   leaf_waits leaf is base v word case =

@@ -1,46 +1,25 @@
 -- The laws of tables.
-use Rattle.std.proofs.Common.{◌≡◌, ℕ, zero, suc, ◌<◌, Bool, true, false, not, cond, List, [], ◌∷◌, length, refl, ap, ◌∙◌, arith}
+use Rattle.std.proofs.Common.{◌≡◌, ℕ, zero, suc, Bool, true, false, not, refl}
 use Rattle.std.specs.Bool.{beq}
-use Rattle.std.specs.Prelude.{◌&&◌, ◌||◌}
-use Rattle.std.specs.List.{list_any, list_all, zip}
+use Rattle.std.specs.Prelude.{◌&&◌}
 use Rattle.std.proofs.lemmas.Bool.{and_parts}
-use Rattle.ncl_blif.specs.Meaning.{lit_matches, row_matches, cover_value}
-use Rattle.ncl_blif.specs.declared.model.Lit.{Lit}
 use Rattle.ncl_template.specs.declared.table.TableRow.{TableRow}
 use Rattle.ncl_template.specs.declared.table.Table.{Table}
 use Rattle.ncl_template.specs.Tables.{bit_at, row_at, inverse_row, inverse_table, column_at, transposed, same_row}
 
 -- ---- rows and columns
 
+bit_at-column : (table : Table) (i j : ℕ) → bit_at (column_at table j) i ≡ bit_at (row_at table i) j
+bit_at-column table zero j = refl
+bit_at-column table (suc zero) j = refl
+bit_at-column table (suc (suc zero)) j = refl
+bit_at-column table (suc (suc (suc i))) j = refl
+
 pub bit_at-transposed : (table : Table) (i j : ℕ) → bit_at (row_at (transposed table) j) i ≡ bit_at (row_at table i) j
-bit_at-transposed table i zero = column i
-  where
-    column : (i : ℕ) → bit_at (column_at table 0) i ≡ bit_at (row_at table i) 0
-    column zero = refl
-    column (suc zero) = refl
-    column (suc (suc zero)) = refl
-    column (suc (suc (suc i))) = refl
-bit_at-transposed table i (suc zero) = column i
-  where
-    column : (i : ℕ) → bit_at (column_at table 1) i ≡ bit_at (row_at table i) 1
-    column zero = refl
-    column (suc zero) = refl
-    column (suc (suc zero)) = refl
-    column (suc (suc (suc i))) = refl
-bit_at-transposed table i (suc (suc zero)) = column i
-  where
-    column : (i : ℕ) → bit_at (column_at table 2) i ≡ bit_at (row_at table i) 2
-    column zero = refl
-    column (suc zero) = refl
-    column (suc (suc zero)) = refl
-    column (suc (suc (suc i))) = refl
-bit_at-transposed table i (suc (suc (suc j))) = column i
-  where
-    column : (i : ℕ) → bit_at (column_at table 3) i ≡ bit_at (row_at table i) (suc (suc (suc j)))
-    column zero = refl
-    column (suc zero) = refl
-    column (suc (suc zero)) = refl
-    column (suc (suc (suc i))) = refl
+bit_at-transposed table i zero = bit_at-column table i 0
+bit_at-transposed table i (suc zero) = bit_at-column table i 1
+bit_at-transposed table i (suc (suc zero)) = bit_at-column table i 2
+bit_at-transposed table i (suc (suc (suc j))) = bit_at-column table i 3
 
 pub bit_at-inverse_row : (row : TableRow) (j : ℕ) → bit_at (inverse_row row) j ≡ not (bit_at row j)
 bit_at-inverse_row row zero = refl

@@ -70,22 +70,23 @@ taken-straight (a ∷ []) = refl
 taken-straight (a ∷ b ∷ []) = refl
 taken-straight (a ∷ b ∷ c ∷ rest) = refl
 
+-- what holds of lists of fewer than three, and of longer ones in each order
+by_order : {X : Type 0} (P : Order → List X → Type 0) → ((order : Order) → P order []) → ((order : Order) (a : X) → P order (a ∷ [])) → ((order : Order) (a b : X) → P order (a ∷ b ∷ [])) → ((a b c : X) (rest : List X) → P Straight (a ∷ b ∷ c ∷ rest) × P Crossed (a ∷ b ∷ c ∷ rest) × P Turned (a ∷ b ∷ c ∷ rest)) → (order : Order) (xs : List X) → P order xs
+by_order P none one two more order [] = none order
+by_order P none one two more order (a ∷ []) = one order a
+by_order P none one two more order (a ∷ b ∷ []) = two order a b
+by_order P none one two more Straight (a ∷ b ∷ c ∷ rest) = (more a b c rest).0
+by_order P none one two more Crossed (a ∷ b ∷ c ∷ rest) = (more a b c rest).1
+by_order P none one two more Turned (a ∷ b ∷ c ∷ rest) = (more a b c rest).2
+
 pub length-taken : {X : Type 0} (order : Order) (xs : List X) → length (taken order xs) ≡ length xs
-length-taken order [] = refl
-length-taken order (a ∷ []) = refl
-length-taken order (a ∷ b ∷ []) = refl
-length-taken Straight (a ∷ b ∷ c ∷ rest) = refl
-length-taken Crossed (a ∷ b ∷ c ∷ rest) = refl
-length-taken Turned (a ∷ b ∷ c ∷ rest) = refl
+length-taken =
+    by_order (λ order xs. length (taken order xs) ≡ length xs) (λ order. refl) (λ order a. refl) (λ order a b. refl) (λ a b c rest. (refl, refl, refl))
 
 -- what is taken and put back
 pub placed-taken : {X : Type 0} (order : Order) (xs : List X) → placed order (taken order xs) ≡ xs
-placed-taken order [] = refl
-placed-taken order (a ∷ []) = refl
-placed-taken order (a ∷ b ∷ []) = refl
-placed-taken Straight (a ∷ b ∷ c ∷ rest) = refl
-placed-taken Crossed (a ∷ b ∷ c ∷ rest) = refl
-placed-taken Turned (a ∷ b ∷ c ∷ rest) = refl
+placed-taken =
+    by_order (λ order xs. placed order (taken order xs) ≡ xs) (λ order. refl) (λ order a. refl) (λ order a b. refl) (λ a b c rest. (refl, refl, refl))
 
 -- a fourth stays where it is
 pub taken-fourth : {X : Type 0} (order : Order) (a b c d : X) → taken order (a ∷ b ∷ c ∷ []) ++ d ∷ [] ≡ taken order (a ∷ b ∷ c ∷ d ∷ [])

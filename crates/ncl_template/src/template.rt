@@ -34,18 +34,16 @@ fn add_three(
     alloc: Global,
     gates: &mut Gates,
     table: Table,
-    a: Rails,
-    b: Rails,
-    c: Rails,
+    pairs: (Rails, Rails, Rails),
 ) -> Result<Rails, Memory>
     requires room { nets_so_far gates.old + 24 < 2 ^ 32 }
-    ensures template { IfOk result (AddsTemplate (table_value table) (a ∷ b ∷ c ∷ []) 12
+    ensures template { IfOk result (AddsTemplate (table_value table) (pairs.0 ∷ pairs.1 ∷ pairs.2 ∷ []) 12
         gates.old.cells gates.new.cells) }
     ensures first { gates.new.first ≡ gates.old.first }
 {
-    let first = add_code(alloc, gates, table, a, b)?;
-    let second = code_of_rails(alloc, c)?;
-    let out = add_rails(alloc, gates, table, &first, &second, a)?;
+    let first = add_code(alloc, gates, table, pairs.0, pairs.1)?;
+    let second = code_of_rails(alloc, pairs.2)?;
+    let out = add_rails(alloc, gates, table, &first, &second, pairs.0)?;
     Ok(out)
 }
 
@@ -55,19 +53,17 @@ fn add_four(
     alloc: Global,
     gates: &mut Gates,
     table: Table,
-    a: Rails,
-    b: Rails,
-    c: Rails,
-    d: Rails,
+    pairs: (Rails, Rails, Rails),
+    last: Rails,
 ) -> Result<Rails, Memory>
     requires room { nets_so_far gates.old + 28 < 2 ^ 32 }
-    ensures template { IfOk result (AddsTemplate (table_value table) (a ∷ b ∷ c ∷ d ∷ []) 22
+    ensures template { IfOk result (AddsTemplate (table_value table) (pairs.0 ∷ pairs.1 ∷ pairs.2 ∷ last ∷ []) 22
         gates.old.cells gates.new.cells) }
     ensures first { gates.new.first ≡ gates.old.first }
 {
-    let first = add_code(alloc, gates, table, a, b)?;
-    let second = add_code(alloc, gates, table.transposed(), c, d)?;
-    let out = add_rails(alloc, gates, table, &first, &second, a)?;
+    let first = add_code(alloc, gates, table, pairs.0, pairs.1)?;
+    let second = add_code(alloc, gates, table.transposed(), pairs.2, last)?;
+    let out = add_rails(alloc, gates, table, &first, &second, pairs.0)?;
     Ok(out)
 }
 
@@ -77,71 +73,6 @@ fn pair(ins: &[Rails], place: usize) -> Rails
     ensures { slice_get ins.now place ≡ Some result }
 {
     ins[place]
-}
-
-/// Adds the gates of a node of two inputs.
-fn add_node_of_two(gates: &mut Gates, node: &Node, ins: &[Rails]) -> Result<Rails, Memory>
-    requires some { 0 < length node.now.rows }
-    requires two { length ins.now ≡ 2 }
-    requires room { nets_so_far gates.old + 2 < 2 ^ 32 }
-    ensures template { IfOk result (AddsTemplate (node_function node.now) ins.now 2
-        gates.old.cells gates.new.cells) }
-    ensures first { gates.new.first ≡ gates.old.first }
-{
-    let a = pair(ins, 0);
-    let b = pair(ins, 1);
-    let values = row_of_two(node);
-    let out = add_two(gates, values, a, b)?;
-    Ok(out)
-}
-
-/// Adds the gates of a node of three inputs, which are taken in this order.
-fn add_node_of_three(
-    alloc: Global,
-    gates: &mut Gates,
-    node: &Node,
-    ins: &[Rails],
-    order: Order,
-) -> Result<Rails, Memory>
-    requires some { 0 < length node.now.rows }
-    requires three { length ins.now ≡ 3 }
-    requires room { nets_so_far gates.old + 24 < 2 ^ 32 }
-    ensures template { IfOk result (AddsTemplate (node_function node.now) ins.now 12
-        gates.old.cells gates.new.cells) }
-    ensures first { gates.new.first ≡ gates.old.first }
-{
-    let a = pair(ins, 0);
-    let b = pair(ins, 1);
-    let c = pair(ins, 2);
-    let table = table_of_three(node, order);
-    let pairs = order.taken(a, b, c);
-    let out = add_three(alloc, gates, table, pairs.0, pairs.1, pairs.2)?;
-    Ok(out)
-}
-
-/// Adds the gates of a node of four inputs, which are taken in this order.
-fn add_node_of_four(
-    alloc: Global,
-    gates: &mut Gates,
-    node: &Node,
-    ins: &[Rails],
-    order: Order,
-) -> Result<Rails, Memory>
-    requires some { 0 < length node.now.rows }
-    requires four { length ins.now ≡ 4 }
-    requires room { nets_so_far gates.old + 28 < 2 ^ 32 }
-    ensures template { IfOk result (AddsTemplate (node_function node.now) ins.now 22
-        gates.old.cells gates.new.cells) }
-    ensures first { gates.new.first ≡ gates.old.first }
-{
-    let a = pair(ins, 0);
-    let b = pair(ins, 1);
-    let c = pair(ins, 2);
-    let d = pair(ins, 3);
-    let table = table_of_four(node, order);
-    let pairs = order.taken(a, b, c);
-    let out = add_four(alloc, gates, table, pairs.0, pairs.1, pairs.2, d)?;
-    Ok(out)
 }
 
 /// Adds the gates of a node whose inputs are taken in this order.
@@ -158,13 +89,24 @@ fn add_in_order(
     ensures template { IfOk result (AddsTemplate (node_function node.now) ins.now (cost_of_inputs (length node.now.ins)) gates.old.cells gates.new.cells) }
     ensures first { gates.new.first ≡ gates.old.first }
 {
+    let a = pair(ins, 0);
+    let b = pair(ins, 1);
     if ins.len() == 2 {
-        return add_node_of_two(gates, node, ins);
+        let values = row_of_two(node);
+        let of_two = add_two(gates, values, a, b)?;
+        return Ok(of_two);
     }
+    let c = pair(ins, 2);
+    let pairs = order.taken(a, b, c);
     if ins.len() == 3 {
-        return add_node_of_three(alloc, gates, node, ins, order);
+        let table = table_of_three(node, order);
+        let of_three = add_three(alloc, gates, table, pairs)?;
+        return Ok(of_three);
     }
-    add_node_of_four(alloc, gates, node, ins, order)
+    let d = pair(ins, 3);
+    let table = table_of_four(node, order);
+    let of_four = add_four(alloc, gates, table, pairs, d)?;
+    Ok(of_four)
 }
 
 /// How many gates a node takes whose inputs are taken in this order.

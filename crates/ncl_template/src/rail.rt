@@ -14,26 +14,27 @@ use ncl_shape::Rails;
 use ncl_tree::{Family, Gates, add_tree};
 use std::alloc::Global;
 
-/// Adds the gates of the rail that is high at the pairs of classes where the table has a 1.
-fn add_rail(
-    alloc: Global,
-    gates: &mut Gates,
-    table: Table,
-    first: &[Class],
-    second: &[Class],
+/// Two codes, and the pair of an input that the first shows.
+#[derive(Clone, Copy)]
+struct Codes<'a> {
+    first: &'a [Class],
+    second: &'a [Class],
     input: Rails,
-) -> Result<NetId, Memory>
-    requires few { length second.now ≤ 4 }
+}
+
+/// Adds the gates of the rail that is high at the pairs of classes where the table has a 1.
+fn add_rail(alloc: Global, gates: &mut Gates, table: Table, codes: &Codes) -> Result<NetId, Memory>
+    requires few { length codes.now.second.now ≤ 4 }
     requires room { nets_so_far gates.old
-        + 2 * gates_below (one_at table first.now second.now) (length first.now) (length second.now) + 1 < 2 ^ 32 }
-    ensures rail { IfOk result (AddsRail (one_at table first.now second.now)
-        (map class_net first.now) (map class_net second.now)
-        input gates.old.cells gates.new.cells) }
+        + 2 * gates_below (one_at table codes.now.first.now codes.now.second.now) (length codes.now.first.now) (length codes.now.second.now) + 1 < 2 ^ 32 }
+    ensures rail { IfOk result (AddsRail (one_at table codes.now.first.now codes.now.second.now)
+        (map class_net codes.now.first.now) (map class_net codes.now.second.now)
+        codes.now.input gates.old.cells gates.new.cells) }
     ensures first { gates.new.first ≡ gates.old.first }
 {
-    let leaves = add_leaves(alloc, gates, table, first, second)?;
+    let leaves = add_leaves(alloc, gates, table, codes.first, codes.second)?;
     if leaves.is_empty() {
-        let root = add_never(gates, input)?;
+        let root = add_never(gates, codes.input)?;
         return Ok(root);
     }
     let root = add_tree(gates, Family::Any, &leaves)?;
@@ -55,7 +56,12 @@ pub(crate) fn add_rails(
     ensures rails { IfOk result (AddsRails table first.now second.now input gates.old.cells gates.new.cells) }
     ensures first { gates.new.first ≡ gates.old.first }
 {
-    let zero = add_rail(alloc, gates, table.inverse(), first, second, input)?;
-    let one = add_rail(alloc, gates, table, first, second, input)?;
+    let codes = Codes {
+        first,
+        second,
+        input,
+    };
+    let zero = add_rail(alloc, gates, table.inverse(), &codes)?;
+    let one = add_rail(alloc, gates, table, &codes)?;
     Ok(Rails { zero, one })
 }

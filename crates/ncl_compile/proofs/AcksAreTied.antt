@@ -47,8 +47,8 @@ module _ (n : NetlistData) (p : PipelineData) (is : IsAssembled n p) where
   tied i c at request (inr is_gate) from =
       elim (gate_role n p is i c at is_gate) [
         | inl r ↦
-            let in_nets : Member r.gate.out.0 (ack_nets r.bank.bits r.bank.tree) = Member-append_right (map (λ (w : WiredBit). w.ack.0) r.bank.bits) r.gate.out.0 (Member-map out_of r.gate (member_at r.bank.tree r.j r.gate r.at_gate)) in
-            net_is_tied r.k r.bank r.at_bank c.out.0 (subst (λ (x : NetId). Member x.0 (ack_nets r.bank.bits r.bank.tree)) (sym r.on.out) in_nets)
+            let in_nets : Member r.own.gate.out.0 (ack_nets r.bank.bits r.bank.tree) = Member-append_right (map (λ (w : WiredBit). w.ack.0) r.bank.bits) r.own.gate.out.0 (Member-map out_of r.own.gate (member_at r.bank.tree r.own.j r.own.gate r.own.at)) in
+            net_is_tied r.k r.bank r.at_bank c.out.0 (subst (λ (x : NetId). Member x.0 (ack_nets r.bank.bits r.bank.tree)) (sym r.own.on.out) in_nets)
         | inr r ↦
             let (b, at_b, only) = gate_of_stage_only n p is i c r in
             let clash : AckOf request ≡ RailOf b.request.0 = only.only (AckOf request) from in

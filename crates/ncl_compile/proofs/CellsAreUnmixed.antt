@@ -29,22 +29,22 @@ module _ (n : NetlistData) (p : PipelineData) (is : IsAssembled n p) where
   pub gate_of_stage_only : (i : ℕ) (c : Cell) → (r : GateAt n p is i c) → (b : WiredBank) × BankAt n p is r.k b × HasOnlyOrigin n c.out.0 (RailOf b.request.0)
   gate_of_stage_only i c r =
       let (b, at) = bank_before n p is r.k r.stage r.at_stage in
-      let in_nets : Member r.gate.out.0 (nets_of r.stage.inputs r.stage.cells) = Member-append_right (rail_nets r.stage.inputs) r.gate.out.0 (Member-map out_of r.gate (member_at r.stage.cells r.j r.gate r.at_gate)) in
-      (b, at, subst (λ (x : NetId). HasOnlyOrigin n x.0 (RailOf b.request.0)) (sym r.on.out) (stage_only n p is r.k r.stage b r.at_stage at r.gate.out.0 in_nets))
+      let in_nets : Member r.own.gate.out.0 (nets_of r.stage.inputs r.stage.cells) = Member-append_right (rail_nets r.stage.inputs) r.own.gate.out.0 (Member-map out_of r.own.gate (member_at r.stage.cells r.own.j r.own.gate r.own.at)) in
+      (b, at, subst (λ (x : NetId). HasOnlyOrigin n x.0 (RailOf b.request.0)) (sym r.own.on.out) (stage_only n p is r.k r.stage b r.at_stage at r.own.gate.out.0 in_nets))
 
   -- and that of a cell of a tree from the acknowledge cells of its bank alone
   pub cell_of_tree_only : (i : ℕ) (c : Cell) → (r : TreeAt n p is i c) → HasOnlyOrigin n c.out.0 (AckOf r.bank.request.0)
   cell_of_tree_only i c r =
-      let in_nets : Member r.gate.out.0 (ack_nets r.bank.bits r.bank.tree) = Member-append_right (map (λ (w : WiredBit). w.ack.0) r.bank.bits) r.gate.out.0 (Member-map out_of r.gate (member_at r.bank.tree r.j r.gate r.at_gate)) in
-      subst (λ (x : NetId). HasOnlyOrigin n x.0 (AckOf r.bank.request.0)) (sym r.on.out) (tree_only n p is r.k r.bank r.at_bank r.gate.out.0 in_nets)
+      let in_nets : Member r.own.gate.out.0 (ack_nets r.bank.bits r.bank.tree) = Member-append_right (map (λ (w : WiredBit). w.ack.0) r.bank.bits) r.own.gate.out.0 (Member-map out_of r.own.gate (member_at r.bank.tree r.own.j r.own.gate r.own.at)) in
+      subst (λ (x : NetId). HasOnlyOrigin n x.0 (AckOf r.bank.request.0)) (sym r.own.on.out) (tree_only n p is r.k r.bank r.at_bank r.own.gate.out.0 in_nets)
 
   gate_of_one : (i : ℕ) (c : Cell) → CellAt n i c → (kind : Kind) → c.kind ≡ Gate kind → IsGateOfOne n kind c
   gate_of_one i c at kind is_gate =
       elim (gate_role n p is i c at (kind, is_gate)) [
         | inl r ↦
-            let kinds : c.kind ≡ Gate r.gate.kind = r.on.kind in
-            let same : r.gate.kind ≡ kind = cc in
-            let tree = holds_at (λ (g : StageCell). IsTreeKind g.kind) r.bank.tree (wired_bank n p is r.k r.bank r.at_bank).tree_kinds r.j r.gate r.at_gate in
+            let kinds : c.kind ≡ Gate r.own.gate.kind = r.own.on.kind in
+            let same : r.own.gate.kind ≡ kind = cc in
+            let tree = holds_at (λ (g : StageCell). IsTreeKind g.kind) r.bank.tree (wired_bank n p is r.k r.bank r.at_bank).tree_kinds r.own.j r.own.gate r.own.at in
             inr (r.bank.request.0, cell_of_tree_only i c r, subst IsTreeKind same tree)
         | inr r ↦ let (b, at_b, only) = gate_of_stage_only i c r in inl (b.request.0, only)
       ]

@@ -71,15 +71,15 @@ module _ (n : NetlistData) (p : PipelineData) (is : IsAssembled n p) where
       elim (gate_role n p is i c at_c gate_c) [
         | inl r ↦
             let wired = wired_bank n p is r.k r.bank r.at_bank in
-            let less = drives_before (map (λ (w : WiredBit). w.ack.0) r.bank.bits) r.bank.tree wired.tree (tree_rises n p is r.k r.bank r.at_bank) wired.tree_reads (ack_no_output r.k r.bank r.at_bank) r.j r.gate r.at_gate (record { 0 = d.out.0 }) (subst (Member (record { 0 = d.out.0 })) r.on.ins read) j d at_d gate_d refl in
-            omega (arith, less, r.number)
+            let less = drives_before (map (λ (w : WiredBit). w.ack.0) r.bank.bits) r.bank.tree wired.tree (tree_rises n p is r.k r.bank r.at_bank) wired.tree_reads (ack_no_output r.k r.bank r.at_bank) r.own.j r.own.gate r.own.at (record { 0 = d.out.0 }) (subst (Member (record { 0 = d.out.0 })) r.own.on.ins read) j d at_d gate_d refl in
+            omega (arith, less, r.own.number)
         | inr r ↦
             let wired = wired_stage n p is r.k r.stage r.at_stage in
             let (b, at_b) = bank_before n p is r.k r.stage r.at_stage in
             let driven = stage_driven n p is r.k r.stage b r.at_stage at_b in
             let less = drives_before (rail_nets r.stage.inputs) r.stage.cells wired.gates (stage_rises n p is r.k r.stage r.at_stage) wired.is_stage.in_order
-            (λ net m. rail_no_output r.k b at_b net (subst (λ l. Member net (rail_nets l)) (sym driven) m)) r.j r.gate r.at_gate (record { 0 = d.out.0 }) (subst (Member (record { 0 = d.out.0 })) r.on.ins read) j d at_d gate_d refl in
-            omega (arith, less, r.number)
+            (λ net m. rail_no_output r.k b at_b net (subst (λ l. Member net (rail_nets l)) (sym driven) m)) r.own.j r.own.gate r.own.at (record { 0 = d.out.0 }) (subst (Member (record { 0 = d.out.0 })) r.own.on.ins read) j d at_d gate_d refl in
+            omega (arith, less, r.own.number)
       ]
 
   -- so does the end of a path of gates after its beginning

@@ -74,7 +74,7 @@ module _ (models : List Model) (are : AreModels models) (small : CanBeCompiled m
   output_short c m =
       elim (bank_or_stage models are small parts put c m) [
         | inl b ↦
-            let within = slice_get_within put.banks b.k b.bank b.at in
+            let within = slice_get_within put.banks b.k b.piece b.at in
             let many = put.are_banks.as_many in
             elim (bank_drives models are small parts put c b) [
               | inl rail ↦ driven_short b.k (omega (arith, within, many)) (output_name c) rail

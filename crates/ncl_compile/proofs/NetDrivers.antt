@@ -38,36 +38,44 @@ use Rattle.ncl_compile.proofs.PartPins.{all_pins}
 use Rattle.ncl_compile.proofs.BankNames.{bank_output_cases}
 use Rattle.ncl_compile.proofs.PlainNames.{part_plain, root_plain, inner_plain, port_plain}
 
+-- a cell is one of those of a piece, a bank or a stage, of which there are fewer than a thousand
+pub record OfPiece {X : Type 0} (cells : X → List PartCell) (pieces : List X) (c : PartCell) : Type 0 where
+  pub k : ℕ
+  pub piece : X
+  pub at : slice_get pieces k ≡ Some piece
+  pub inside : Member c (cells piece)
+  pub below : k < 999
+
+piece_of : {X : Type 0} (cells : X → List PartCell) (pieces : List X) → length pieces ≤ 999 → (c : PartCell) → Member c (flat_map cells pieces) → OfPiece cells pieces c
+piece_of cells pieces few c m =
+    let (k, piece, at, inside) = member_of_flat_map cells pieces c m in
+    let within = slice_get_within pieces k piece at in
+    record { k = k; piece = piece; at = at; inside = inside; below = omega (arith, within, few) }
+
+-- cells of pieces at one place are of one piece
+inside_of : {X : Type 0} (cells : X → List PartCell) (pieces : List X) (c d : PartCell) (of_c : OfPiece cells pieces c) (of_d : OfPiece cells pieces d) → of_d.k ≡ of_c.k → Member d (cells of_c.piece)
+inside_of cells pieces c d of_c of_d places =
+    let moved : slice_get pieces of_c.k ≡ Some of_d.piece = subst (λ k. slice_get pieces k ≡ Some of_d.piece) places of_d.at in
+    let at = of_c.at in
+    let one : of_d.piece ≡ of_c.piece = cc in
+    subst (λ piece. Member d (cells piece)) one of_d.inside
+
 module _ (models : List Model) (are : AreModels models) (small : CanBeCompiled models) (parts : Parts) (put : IsPutTogether models parts) where
   -- a cell is of a bank, or of a stage
-  pub record OfBank (c : PartCell) : Type 0 where
-    pub k : ℕ
-    pub bank : BankParts
-    pub at : slice_get put.banks k ≡ Some bank
-    pub inside : Member c bank.cells
-    pub below : k < 999
+  abbrev pub OfBank : PartCell → Type 0
+  OfBank = OfPiece (λ (bank : BankParts). bank.cells) put.banks
 
-  pub record OfStage (c : PartCell) : Type 0 where
-    pub k : ℕ
-    pub stage : StageParts
-    pub at : slice_get put.stages k ≡ Some stage
-    pub inside : Member c stage.cells
-    pub below : k < 999
+  abbrev pub OfStage : PartCell → Type 0
+  OfStage = OfPiece (λ (stage : StageParts). stage.cells) put.stages
 
   pub bank_or_stage : (c : PartCell) → Member c parts.cells → OfBank c ⊎ OfStage c
   bank_or_stage c m =
       let few = small.few in
+      let banks = put.are_banks.as_many in
+      let stages = put.are_stages.as_many in
       elim (Member-append_cases c (flat_map (λ (bank : BankParts). bank.cells) put.banks) (flat_map (λ (stage : StageParts). stage.cells) put.stages) (subst (Member c) put.cells m)) [
-        | inl of_banks ↦
-            let (k, bank, at, inside) = member_of_flat_map (λ (bank : BankParts). bank.cells) put.banks c of_banks in
-            let within = slice_get_within put.banks k bank at in
-            let many = put.are_banks.as_many in
-            inl record { k = k; bank = bank; at = at; inside = inside; below = omega (arith, within, many, few) }
-        | inr of_stages ↦
-            let (k, stage, at, inside) = member_of_flat_map (λ (stage : StageParts). stage.cells) put.stages c of_stages in
-            let within = slice_get_within put.stages k stage at in
-            let many = put.are_stages.as_many in
-            inr record { k = k; stage = stage; at = at; inside = inside; below = omega (arith, within, many, few) }
+        | inl of_banks ↦ inl (piece_of (λ (bank : BankParts). bank.cells) put.banks (omega (arith, banks, few)) c of_banks)
+        | inr of_stages ↦ inr (piece_of (λ (stage : StageParts). stage.cells) put.stages (omega (arith, stages, few)) c of_stages)
       ]
 
   abbrev pub outs_of : ℕ → List NamePair
@@ -75,21 +83,21 @@ module _ (models : List Model) (are : AreModels models) (small : CanBeCompiled m
 
   -- what a cell of a bank is called and drives
   pub bank_name : (c : PartCell) (b : OfBank c) → IsPartName (bank_prefix b.k) c.name
-  bank_name c b = holds_of (λ (cell : PartCell). IsPartName (bank_prefix b.k) cell.name) b.bank.cells (put.are_banks.each b.k b.bank b.at).cell_names c b.inside
+  bank_name c b = holds_of (λ (cell : PartCell). IsPartName (bank_prefix b.k) cell.name) b.piece.cells (put.are_banks.each b.k b.piece b.at).cell_names c b.inside
 
   pub bank_drives : (c : PartCell) (b : OfBank c) → Member (output_name c) (pair_names (outs_of b.k)) ⊎ ((output_name c ≡ root_name b.k) ⊎ IsPartName (bank_prefix b.k) (output_name c))
-  bank_drives c b = bank_output_cases _ _ _ _ _ _ b.bank (put.are_banks.each b.k b.bank b.at) (output_name c) (Member-map output_name c b.inside)
+  bank_drives c b = bank_output_cases _ _ _ _ _ _ b.piece (put.are_banks.each b.k b.piece b.at) (output_name c) (Member-map output_name c b.inside)
 
   -- and a cell of a stage
   pub stage_name : (c : PartCell) (s : OfStage c) → IsPartName (stage_prefix s.k) c.name
   stage_name c s =
-      let (model, at_model) = model_of_stage models are small put.stages put.are_stages s.k s.stage s.at in
-      holds_of (λ (cell : PartCell). IsPartName (stage_prefix s.k) cell.name) s.stage.cells (put.are_stages.each s.k model s.stage at_model s.at).are.cell_names c s.inside
+      let (model, at_model) = model_of_stage models are small put.stages put.are_stages s.k s.piece s.at in
+      holds_of (λ (cell : PartCell). IsPartName (stage_prefix s.k) cell.name) s.piece.cells (put.are_stages.each s.k model s.piece at_model s.at).are.cell_names c s.inside
 
   pub stage_drives : (c : PartCell) (s : OfStage c) → IsPartName (stage_prefix s.k) (output_name c)
   stage_drives c s =
-      let (model, at_model) = model_of_stage models are small put.stages put.are_stages s.k s.stage s.at in
-      holds_of (λ (cell : PartCell). IsPartName (stage_prefix s.k) (output_name cell)) s.stage.cells (put.are_stages.each s.k model s.stage at_model s.at).are.net_names c s.inside
+      let (model, at_model) = model_of_stage models are small put.stages put.are_stages s.k s.piece s.at in
+      holds_of (λ (cell : PartCell). IsPartName (stage_prefix s.k) (output_name cell)) s.piece.cells (put.are_stages.each s.k model s.piece at_model s.at).are.net_names c s.inside
 
   pub widths_few : (k : ℕ) → k ≤ length models → slice_index (widths_of models) k ≤ MOST_BITS
   widths_few k within = (width_bounds models are small k within).1
@@ -111,7 +119,7 @@ module _ (models : List Model) (are : AreModels models) (small : CanBeCompiled m
   output_plain c m =
       elim (bank_or_stage c m) [
         | inl b ↦
-            let within = slice_get_within put.banks b.k b.bank b.at in
+            let within = slice_get_within put.banks b.k b.piece b.at in
             let many = put.are_banks.as_many in
             elim (bank_drives c b) [
               | inl rail ↦ driven_plain b.k (omega (arith, within, many)) (output_name c) rail
@@ -218,39 +226,28 @@ module _ (models : List Model) (are : AreModels models) (small : CanBeCompiled m
         ]
 
     cell_no_net : (c : PartCell) → Member c parts.cells → (d : PartCell) → Member d parts.cells → output_name d ≡ c.name → ⊥
-    cell_no_net c in_c d in_d same =
-        elim (bank_or_stage c in_c) [
-          | inl b ↦
-              let named = bank_name c b in
-              let first = ap first_of same ∙ part_first 98 b.k c.name named in
-              elim (bank_or_stage d in_d) [
-                | inl e ↦
-                    let own = bank_first d e 98 (λ z. absurd (omega (arith, z))) (λ z. absurd (omega (arith, z))) (λ z. absurd (omega (arith, z))) (λ z. absurd (omega (arith, z))) first in
-                    let places : e.k ≡ b.k = same_part 98 e.k b.k c.name e.below b.below (subst (IsPartName (bank_prefix e.k)) same own) named in
-                    let moved : slice_get put.banks b.k ≡ Some e.bank = subst (λ z. slice_get put.banks z ≡ Some e.bank) places e.at in
-                    let at = b.at in
-                    let one : e.bank ≡ b.bank = cc in
-                    let inside : Member d b.bank.cells = subst (λ (z : BankParts). Member d z.cells) one e.inside in
-                    (put.are_banks.each b.k b.bank b.at).no_cell_is_net c d (Contains-from_Member c b.inside) (Contains-from_Member d inside) (sym same)
-                | inr s ↦ let clash : ◌≡◌ {A = ℕ} 115 98 = sym (part_first 115 s.k (output_name d) (stage_drives d s)) ∙ first in omega (arith, clash)
-              ]
-          | inr t ↦
-              let named = stage_name c t in
-              let first = ap first_of same ∙ part_first 115 t.k c.name named in
-              elim (bank_or_stage d in_d) [
-                | inl e ↦
-                    let own = bank_first d e 115 (λ z. absurd (omega (arith, z))) (λ z. absurd (omega (arith, z))) (λ z. absurd (omega (arith, z))) (λ z. absurd (omega (arith, z))) first in
-                    let clash : ◌≡◌ {A = ℕ} 98 115 = sym (part_first 98 e.k (output_name d) own) ∙ first in omega (arith, clash)
-                | inr s ↦
-                    let places : s.k ≡ t.k = same_part 115 s.k t.k c.name s.below t.below (subst (IsPartName (stage_prefix s.k)) same (stage_drives d s)) named in
-                    let moved : slice_get put.stages t.k ≡ Some s.stage = subst (λ z. slice_get put.stages z ≡ Some s.stage) places s.at in
-                    let at = t.at in
-                    let one : s.stage ≡ t.stage = cc in
-                    let inside : Member d t.stage.cells = subst (λ (z : StageParts). Member d z.cells) one s.inside in
-                    let (model, at_model) = model_of_stage models are small put.stages put.are_stages t.k t.stage t.at in
-                    (put.are_stages.each t.k model t.stage at_model t.at).are.no_cell_is_net c d (Contains-from_Member c t.inside) (Contains-from_Member d inside) (sym same)
-              ]
-        ]
+    cell_no_net c in_c d in_d same = by (bank_or_stage c in_c) (bank_or_stage d in_d)
+      where
+        by : OfBank c ⊎ OfStage c → OfBank d ⊎ OfStage d → ⊥
+        by (inl b) (inl e) =
+            let first = ap first_of same ∙ part_first 98 b.k c.name (bank_name c b) in
+            let own = bank_first d e 98 (λ z. absurd (omega (arith, z))) (λ z. absurd (omega (arith, z))) (λ z. absurd (omega (arith, z))) (λ z. absurd (omega (arith, z))) first in
+            let places : e.k ≡ b.k = same_part 98 e.k b.k c.name e.below b.below (subst (IsPartName (bank_prefix e.k)) same own) (bank_name c b) in
+            let inside = inside_of (λ (bank : BankParts). bank.cells) put.banks c d b e places in
+            (put.are_banks.each b.k b.piece b.at).no_cell_is_net c d (Contains-from_Member c b.inside) (Contains-from_Member d inside) (sym same)
+        by (inl b) (inr s) =
+            let clash : ◌≡◌ {A = ℕ} 115 98 = sym (part_first 115 s.k (output_name d) (stage_drives d s)) ∙ ap first_of same ∙ part_first 98 b.k c.name (bank_name c b) in
+            omega (arith, clash)
+        by (inr t) (inl e) =
+            let first = ap first_of same ∙ part_first 115 t.k c.name (stage_name c t) in
+            let own = bank_first d e 115 (λ z. absurd (omega (arith, z))) (λ z. absurd (omega (arith, z))) (λ z. absurd (omega (arith, z))) (λ z. absurd (omega (arith, z))) first in
+            let clash : ◌≡◌ {A = ℕ} 98 115 = sym (part_first 98 e.k (output_name d) own) ∙ first in
+            omega (arith, clash)
+        by (inr t) (inr s) =
+            let places : s.k ≡ t.k = same_part 115 s.k t.k c.name s.below t.below (subst (IsPartName (stage_prefix s.k)) same (stage_drives d s)) (stage_name c t) in
+            let inside = inside_of (λ (stage : StageParts). stage.cells) put.stages c d t s places in
+            let (model, at_model) = model_of_stage models are small put.stages put.are_stages t.k t.piece t.at in
+            (put.are_stages.each t.k model t.piece at_model t.at).are.no_cell_is_net c d (Contains-from_Member c t.inside) (Contains-from_Member d inside) (sym same)
 
     -- no cell has the name of a net
     pub apart : (cell : Cell) → Contains (map (cell_of (nets_of parts)) parts.cells) cell → Contains (nets_of parts) cell.name → ⊥

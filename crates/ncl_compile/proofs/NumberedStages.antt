@@ -1,13 +1,12 @@
 -- Stages of which the cells stand in the parts of a netlist are stages of that netlist, sound, and give the answers of
 -- their networks.
-use Rattle.std.proofs.Common.{◌≡◌, ℕ, zero, suc, ◌+◌, ◌*◌, ◌<◌, List, [], ◌∷◌, ◌++◌, length, map, Some, inl, inr, refl, sym, ap, ◌∙◌, subst, arith}
+use Rattle.std.proofs.Common.{◌≡◌, ℕ, zero, suc, ◌+◌, ◌<◌, List, [], ◌∷◌, length, map, Some, inl, inr, refl, sym, ap, ◌∙◌, subst, arith}
 use Rattle.std.specs.Prelude.{All, AllPairs, Contains, slice_get, slice_index}
 use Rattle.std.specs.List.{AllZip, flat_map, range_with_len}
 use Rattle.std.proofs.lemmas.List.{length-map}
 use Rattle.std.proofs.lemmas.List.Elements.{All-nil, All-cons}
 use Rattle.std.proofs.lemmas.List.FromFn.{length-range_with_len, get_or-range_with_len, length-map-range_with_len}
-use Rattle.std.proofs.lemmas.Option.{slice_get_within}
-use Rattle.ncl_base.proofs.Members.{Member, here, there, slice_get-some, member_cases, Member-append_left, Member-append_cases, member_of_map, Member-from_Contains}
+use Rattle.ncl_base.proofs.Members.{Member, Member-append_cases, member_of_map, Member-from_Contains}
 use Rattle.ncl_blif.specs.declared.model.Model.{Model}
 use Rattle.ncl_netlist.specs.declared.parts.NamePair.{NamePair}
 use Rattle.ncl_netlist.specs.declared.parts.PartCell.{PartCell}
@@ -18,7 +17,7 @@ use Rattle.ncl_shape.specs.Stage.{StageData}
 use Rattle.ncl_stage.specs.Faults.{IsSound}
 use Rattle.ncl_rails.specs.Naming.{named_pair, names_known, IsNumberedStage}
 use Rattle.ncl_rails.specs.declared.StageParts.{StageParts}
-use Rattle.ncl_tree.specs.NamePairs.{pair_list, pair_names}
+use Rattle.ncl_tree.specs.NamePairs.{pair_names}
 use Rattle.ncl_bank.specs.declared.BankParts.{BankParts}
 use Rattle.ncl_bank.specs.BankParts.{AreBankParts}
 use Rattle.ncl_compile.specs.Size.{widths_of}
@@ -26,12 +25,12 @@ use Rattle.ncl_compile.specs.Compiled.{ComputesModel}
 use Rattle.ncl_compile.specs.InnerNames.{inner_pair, inner_pairs, stage_prefix}
 use Rattle.ncl_compile.specs.Pieces.{IsStageOfModel}
 use Rattle.ncl_compile.specs.Assembled.{IsWiredStage}
-use Rattle.ncl_compile.proofs.ListPlaces.{holds_of, member_at, member_of_flat_map, pairs_of_map, Rise}
+use Rattle.ncl_compile.proofs.ListPlaces.{holds_of, pairs_of_map, Rise}
 use Rattle.ncl_compile.proofs.StandingCells.{StandAt, StandAt-left, StandAt-right}
 use Rattle.ncl_compile.proofs.BankNames.{bank_all_pins, bank_drives_rails}
 use Rattle.ncl_compile.proofs.Numbering.{numbered_gates, stage_from, stages_from}
 use Rattle.ncl_compile.proofs.NumberedGates.{IsGatePart, gates_have, gate_numbers-row, are_numbered}
-use Rattle.ncl_compile.proofs.NumberedNames.{pins_of_parts, net_number, same_number, pin_among, output_among}
+use Rattle.ncl_compile.proofs.NumberedNames.{pins_of_parts, net_number, same_number, output_among}
 use Rattle.ncl_compile.proofs.StageFunctions.{ComputesModel-from_network}
 
 -- numbers in a row rise

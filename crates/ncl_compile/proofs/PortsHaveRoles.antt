@@ -133,11 +133,11 @@ module _ (n : NetlistData) (p : PipelineData) (is : IsAssembled n p) where
         by (to_keep r) = (r, use_of_pin i c r pin on)
         by (to_acknowledge a) = absurd (no_ack i c a pin (sym (ap (λ l. slice_get l pin) a.on.ins) ∙ on))
         by (to_complete r) =
-            let clash = no_gate c pin (AckOf r.bank.request.0) in_c (r.gate.kind, r.on.kind) on (cell_of_tree_only n p is i c r) in
+            let clash = no_gate c pin (AckOf r.bank.request.0) in_c (r.own.gate.kind, r.own.on.kind) on (cell_of_tree_only n p is i c r) in
             absurd cc
         by (to_compute r) =
             let (b, at_b, only) = gate_of_stage_only n p is i c r in
-            let clash = no_gate c pin (RailOf b.request.0) in_c (r.gate.kind, r.on.kind) on only in
+            let clash = no_gate c pin (RailOf b.request.0) in_c (r.own.gate.kind, r.own.on.kind) on only in
             absurd cc
 
     one_name : (c d : Cell) (x y : List ℕ) → IsCell n c → IsCell n d → OnPinNamed c x net → OnPinNamed d y net → x ≡ y

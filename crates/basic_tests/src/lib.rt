@@ -2,10 +2,4 @@
 #![tactic(auto)]
 
 #[cfg(test)]
-mod base_tests;
-#[cfg(test)]
-mod gates_tests;
-#[cfg(test)]
-mod graph_tests;
-#[cfg(test)]
-mod token_tests;
+mod tests;

@@ -2,16 +2,4 @@
 #![tactic(auto)]
 
 #[cfg(test)]
-mod comparing_tests;
-#[cfg(test)]
-mod merge_tests;
-#[cfg(test)]
-mod merging_tests;
-#[cfg(test)]
-mod netlist_tests;
-#[cfg(test)]
-mod netlist_texts;
-#[cfg(test)]
-mod shape_tests;
-#[cfg(test)]
-mod signal_tests;
+mod tests;

@@ -2,16 +2,4 @@
 #![tactic(auto)]
 
 #[cfg(test)]
-mod delay_tests;
-#[cfg(test)]
-mod fault_tests;
-#[cfg(test)]
-mod hostile_tests;
-#[cfg(test)]
-mod numbered;
-#[cfg(test)]
-mod reader_speed_tests;
-#[cfg(test)]
-mod reader_tests;
-#[cfg(test)]
-mod vector_tests;
+mod tests;

@@ -1,0 +1,5 @@
+//! The tests, a file for each crate, and what they share.
+mod base_tests;
+mod gates_tests;
+mod graph_tests;
+mod token_tests;

@@ -1,0 +1,6 @@
+//! The tests, a file for each crate, and what they share.
+mod cells_tests;
+mod demo_tests;
+mod fault_tests;
+mod template_tests;
+mod tree_tests;

@@ -1,0 +1,14 @@
+use Rattle.std.proofs.Common.{◌≡◌, [], ◌∷◌, refl, sym, ◌∙◌, subst}
+use Rattle.ncl_shape.specs.Stage.{IsStage}
+use Rattle.ncl_stage.specs.Examples.{adder_stage}
+use Rattle.ncl_stage.proofs.StageTest.{IsStage-from_test}
+use Rattle.judging_tests.proofs.tests.testing.full_adder.Goals as goal
+
+pub new-requires : goal.new-requires
+new-requires c =
+    let inputs : c.from_vec.result ≡ adder_stage.inputs = c.from_vec.ensures ∙ c.in_ok-inputs.ensures.items ∙ (λ i. c.pair.ensures i ∷ c.pair-2.ensures i ∷ c.pair-3.ensures i ∷ []) in
+    let cells : c.from_vec-2.result ≡ adder_stage.cells =
+    c.from_vec-2.ensures ∙ c.in_ok-cells.ensures.items
+    ∙ (λ i. c.cell-carry_zero.ensures i ∷ c.cell-carry_one.ensures i ∷ c.cell-sum_zero.ensures i ∷ c.cell-sum_one.ensures i ∷ []) in
+    let outputs : c.from_vec-3.result ≡ adder_stage.outputs = c.from_vec-3.ensures ∙ c.in_ok-outputs.ensures.items ∙ (λ i. c.pair-4.ensures i ∷ c.pair-5.ensures i ∷ []) in
+    subst IsStage (λ i. record { number = 1; inputs = sym inputs i; cells = sym cells i; outputs = sym outputs i }) (IsStage-from_test adder_stage refl)

@@ -1,0 +1,8 @@
+//! The tests, a file for each crate, and what they share.
+mod comparing_tests;
+mod merge_tests;
+mod merging_tests;
+mod netlist_tests;
+mod netlist_texts;
+mod shape_tests;
+mod signal_tests;

@@ -1,0 +1,121 @@
+//! Netlists are compared with models by several threads, with one answer for every number of parts.
+use super::netlist_texts::netlist;
+use ncl_base::Memory;
+use ncl_blif::{Model, read_blif};
+use ncl_match::{BitAnswer, Bits, CompareBit, CompareFault, Compared, compare};
+use ncl_shape::{Pipeline, shape};
+use std::alloc::Global;
+use std::sync::atomic::{AtomicBool, AtomicUsize, Ordering};
+use std::test::Fail;
+
+/// The AND of two bits, at three outputs.
+const THREE: &str = "module m(x0,x1,y0,y1,ki,rst,z0,z1,v0,v1,w0,w1,ko);input x0,x1,y0,y1,ki,rst;\
+    output z0,z1,v0,v1,w0,w1,ko;TH22N r(.A(x0),.B(c),.RST(rst),.Z(p0));\
+    TH22N s(.A(x1),.B(c),.RST(rst),.Z(p1));TH22N i(.A(y0),.B(c),.RST(rst),.Z(q0));\
+    TH22N j(.A(y1),.B(c),.RST(rst),.Z(q1));TH12B k(.A(p0),.B(p1),.Z(e));TH12B l(.A(q0),.B(q1),.Z(f));\
+    TH22 m(.A(e),.B(f),.Z(ko));THand0 g(.A(p0),.B(q0),.C(p1),.D(q1),.Z(o));TH22 h(.A(p1),.B(q1),.Z(n));\
+    TH22N t(.A(o),.B(ki),.RST(rst),.Z(z0));TH22N u(.A(n),.B(ki),.RST(rst),.Z(z1));\
+    TH22N t2(.A(o),.B(ki),.RST(rst),.Z(v0));TH22N u2(.A(n),.B(ki),.RST(rst),.Z(v1));\
+    TH22N t3(.A(o),.B(ki),.RST(rst),.Z(w0));TH22N u3(.A(n),.B(ki),.RST(rst),.Z(w1));\
+    TH12B d(.A(z0),.B(z1),.Z(a1));TH12B d2(.A(v0),.B(v1),.Z(a2));TH12B d3(.A(w0),.B(w1),.Z(a3));\
+    TH33 b(.A(a1),.B(a2),.C(a3),.Z(c));endmodule";
+
+/// Of three outputs the first is another one than the AND at 10, the second at 01, the third at both.
+const THREE_MODEL: &[u8] = b".model m
+.inputs a b
+.outputs a b y
+.names a b y
+1- 1
+-1 1
+";
+
+/// Whether the least word at which the functions differ is 01, and there the second output is the first that differs.
+fn differ_at_01(found: &Result<Compared, CompareFault>) -> bool {
+    match found {
+        Ok(Compared::Differ { word, bit }) => word.bits() == [false, true].as_slice() && *bit == 2,
+        _ => false,
+    }
+}
+
+/// Whether the third output is the first that passes the limit.
+fn is_third_over(found: &Result<Compared, CompareFault>) -> bool {
+    match found {
+        Err(CompareFault::Full(output)) => *output == 3,
+        _ => false,
+    }
+}
+
+#[test]
+fn all_numbers_of_parts_answer_alike(rt: HostRuntime) -> Result<(), Fail> {
+    let netlist = netlist(&rt, rt.alloc(), THREE)?;
+    let pipeline = shape(rt.alloc(), &netlist)?;
+    let models = read_blif(rt.alloc(), THREE_MODEL)?;
+    for parts in 1..=16 {
+        let found = compare(&rt, rt.alloc(), &Bits, &pipeline, &models, 10, parts);
+        assert!(rt; differ_at_01(&found), "{parts}");
+        let found = compare(&rt, rt.alloc(), &Bits, &pipeline, &models, 9, parts);
+        assert!(rt; is_third_over(&found), "{parts}");
+    }
+    Ok(())
+}
+
+/// Compares the first output and the others once it has seen that one of the others, or the first, is being compared.
+#[derive(Drop)]
+struct Meeting {
+    first: AtomicBool,
+    other: AtomicBool,
+    met: AtomicUsize,
+}
+
+impl Meeting {
+    /// Whether another output is begun before this one has looked for it often enough.
+    fn meets(&self, own: &AtomicBool, other: &AtomicBool) -> bool {
+        own.store(true, Ordering::SeqCst);
+        for _ in 0..100_000_000u32 {
+            if other.load(Ordering::SeqCst) {
+                self.met.fetch_add(1, Ordering::SeqCst);
+                return true;
+            }
+        }
+        false
+    }
+}
+
+impl CompareBit for Meeting {
+    fn compare_bit(
+        &self,
+        alloc: Global,
+        pipeline: &Pipeline,
+        models: &[Model],
+        limit: u32,
+        bit: u32,
+    ) -> Result<BitAnswer, Memory> {
+        let meets = if bit == 1 {
+            self.meets(&self.first, &self.other)
+        } else {
+            self.meets(&self.other, &self.first)
+        };
+        if meets {
+            Bits.compare_bit(alloc, pipeline, models, limit, bit)
+        } else {
+            Err(Memory)
+        }
+    }
+}
+
+#[test]
+fn two_outputs_are_compared_at_one_time(rt: HostRuntime) -> Result<(), Fail> {
+    let netlist = netlist(&rt, rt.alloc(), THREE)?;
+    let pipeline = shape(rt.alloc(), &netlist)?;
+    let models = read_blif(rt.alloc(), THREE_MODEL)?;
+    let bits = Meeting {
+        first: AtomicBool::new(false),
+        other: AtomicBool::new(false),
+        met: AtomicUsize::new(0),
+    };
+    let found = compare(&rt, rt.alloc(), &bits, &pipeline, &models, 100_000, 2);
+    assert!(rt; differ_at_01(&found));
+    let met = bits.met.load(Ordering::SeqCst);
+    assert_eq!(rt; met, 3);
+    Ok(())
+}

@@ -1,0 +1,8 @@
+//! The tests, a file for each crate, and what they share.
+mod delay_tests;
+mod fault_tests;
+mod hostile_tests;
+mod numbered;
+mod reader_speed_tests;
+mod reader_tests;
+mod vector_tests;

@@ -13,9 +13,10 @@ use Rattle.ncl_insensitivity.proofs.Headline.{delay_insensitive}
 use Rattle.ncl_check.specs.Reply.{outcome_of}
 use Rattle.ncl_check.proofs.OneReply.{outcome_is}
 use Rattle.ncl_compile.specs.Compiled.{Compiled}
-use Rattle.ncl_command.specs.Command.{Arguments, Command, check, compile, sim, matching, demo, command_of}
+use Rattle.ncl_command.specs.Command.{Arguments, compile}
 use Rattle.ncl_top.specs.Compiling.{IsCompiledText, plain, merged, IsModelsReply, too_large, compiled, IsCompileReply, no_models, modelled}
-use Rattle.ncl_top.specs.Answer.{Answer, not_understood, replied, WorksAndIsAccepted, IsMergedText, SourceState, SinkState, Says, answered, read_failed, no_memory, CameOut, whole, cut_short, Ran, CompilesWhatWorks}
+use Rattle.ncl_top.specs.Answer.{WorksAndIsAccepted, IsMergedText, SourceState, SinkState, Ran, CompilesWhatWorks}
+use Rattle.ncl_top.proofs.Ends.{replied_well}
 use Rattle.ncl_top.proofs.PlainNames.{writable}
 
 -- the text of a compiled netlist
@@ -51,31 +52,9 @@ file_works : (bytes : List ℕ) (merge : Bool) {status : ℕ} {text : List ℕ} 
 file_works bytes merge (no_models text none) e = absurd (omega arith)
 file_works bytes merge (modelled models said status text reply) e = models_work models merge reply e
 
--- the command is this one for compiling
-abbrev IsCompiling : List ℕ → Bool → Option Command → Type 0
-IsCompiling file merge None = ⊥
-IsCompiling file merge (Some (check named limit why)) = ⊥
-IsCompiling file merge (Some (compile named own)) = own ≡ merge
-IsCompiling file merge (Some (sim netlist delays offers vcd)) = ⊥
-IsCompiling file merge (Some (matching netlist blif limit)) = ⊥
-IsCompiling file merge (Some (demo bits)) = ⊥
-
-answer_works : (arguments : Arguments) (told : Option Files) (file : List ℕ) (merge : Bool) {status : ℕ} {text : List ℕ} → command_of arguments ≡ Some (compile file merge) → Answer arguments told status text → status ≡ 0 → IsGood merge text
-answer_works arguments told file merge asked (not_understood none) e = absurd (omega arith)
-answer_works arguments told file merge asked (replied (check named limit why) is status text reply) e = absurd (subst (IsCompiling file merge) (sym asked ∙ is) refl)
-answer_works arguments told file merge asked (replied (demo bits) is status text reply) e = absurd (subst (IsCompiling file merge) (sym asked ∙ is) refl)
-answer_works arguments told file merge asked (replied (sim netlist delays offers vcd) is status text reply) e = absurd (subst (IsCompiling file merge) (sym asked ∙ is) refl)
-answer_works arguments told file merge asked (replied (matching netlist blif limit) is status text reply) e = absurd (subst (IsCompiling file merge) (sym asked ∙ is) refl)
-answer_works arguments told file merge asked (replied (compile named own) is status text reply) e =
-    let same : own ≡ merge = subst (IsCompiling file merge) (sym asked ∙ is) refl in
-    subst (λ flag. IsGood flag text) same (file_works reply.bytes own reply.reply e)
-
-end_works : (arguments : Arguments) (source source' : SourceState) (sink sink' : SinkState) {said status : ℕ} {text : List ℕ} → Says arguments source source' said text → CameOut sink sink' said text status → CompilesWhatWorks arguments sink sink' status
-end_works arguments source source' sink sink' (answered status text answer) (whole grew) file merge asked e = let (works, from) = answer_works arguments source.files file merge asked answer e in (text, works, from, grew)
-end_works arguments source source' sink sink' says (cut_short rose grew) file merge asked e = absurd (omega arith)
-end_works arguments source source' sink sink' (read_failed command of named rose) (whole grew) file merge asked e = absurd (omega arith)
-end_works arguments source source' sink sink' no_memory (whole grew) file merge asked e = absurd (omega arith)
-
 -- whatever ended with status 0 on compiling, ended so with a text that works
 pub compiles_what_works : (arguments : Arguments) (source source' : SourceState) (sink sink' : SinkState) (status : ℕ) → Ran arguments source source' sink sink' status → CompilesWhatWorks arguments sink sink' status
-compiles_what_works arguments source source' sink sink' status ran = end_works arguments source source' sink sink' ran.says ran.tells
+compiles_what_works arguments source source' sink sink' status ran file merge asked e =
+    let (text, reply, grew) = replied_well arguments source source' sink sink' status ran (compile file merge) asked e in
+    let (works, from) = file_works reply.bytes merge reply.reply refl in
+    (text, works, from, grew)

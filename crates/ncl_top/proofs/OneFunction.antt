@@ -14,9 +14,10 @@ use Rattle.ncl_match.specs.Answer.{IsAnswer, DiffersAt, HaveWidths, bit_of, outp
 use Rattle.ncl_match.specs.Runs.{Agree}
 use Rattle.ncl_match.specs.declared.answer.Compared.TheVariants.{Same}
 use Rattle.ncl_check.specs.Text.{IsPipelineText}
-use Rattle.ncl_command.specs.Command.{Arguments, Command, check, compile, sim, matching, demo, command_of}
+use Rattle.ncl_command.specs.Command.{Arguments, matching}
 use Rattle.ncl_top.specs.Matching.{IsMatched, widths, full, differs, same, IsModelsMatched, no_models, compared, IsMatchReply, no_pipeline, piped}
-use Rattle.ncl_top.specs.Answer.{Answer, not_understood, replied, SourceState, SinkState, Says, answered, read_failed, no_memory, CameOut, whole, cut_short, Ran, HaveOneFunction, MatchesWhatIsSame}
+use Rattle.ncl_top.specs.Answer.{SourceState, SinkState, Ran, HaveOneFunction, MatchesWhatIsSame}
+use Rattle.ncl_top.proofs.Ends.{replied_well}
 
 -- bits that don't differ are one
 one_bit : (a b : Bool) → (a ≢ b → ⊥) → a ≡ b
@@ -74,35 +75,8 @@ files_same files netlist blif limit (no_pipeline bytes given text none) e = absu
 files_same files netlist blif limit (piped bytes given p is status text reply) e =
     models_same files (bytes_of files netlist) blif limit p (subst (λ b. IsPipelineText b p) given is) reply e
 
--- no comparison is asked
-abbrev IsNoMatching : Option Command → Type 0
-IsNoMatching None = Unit {0}
-IsNoMatching (Some (check file limit why)) = Unit {0}
-IsNoMatching (Some (compile file merge)) = Unit {0}
-IsNoMatching (Some (sim netlist delays offers vcd)) = Unit {0}
-IsNoMatching (Some (matching netlist blif limit)) = ⊥
-IsNoMatching (Some (demo bits)) = Unit {0}
-
-answer_same : (arguments : Arguments) (files : Files) (netlist blif : List ℕ) (limit : ℕ) {status : ℕ} {text : List ℕ} → command_of arguments ≡ Some (matching netlist blif limit) → Answer arguments (Some files) status text → status ≡ 0 → HaveOneFunction (bytes_of files netlist) (bytes_of files blif)
-answer_same arguments files netlist blif limit asked (not_understood none) e = absurd (omega arith)
-answer_same arguments files netlist blif limit asked (replied (check file most why) is status text reply) e = absurd (subst IsNoMatching (sym is ∙ asked) tt)
-answer_same arguments files netlist blif limit asked (replied (compile file merge) is status text reply) e = absurd (subst IsNoMatching (sym is ∙ asked) tt)
-answer_same arguments files netlist blif limit asked (replied (sim wires delays offers vcd) is status text reply) e = absurd (subst IsNoMatching (sym is ∙ asked) tt)
-answer_same arguments files netlist blif limit asked (replied (demo bits) is status text reply) e = absurd (subst IsNoMatching (sym is ∙ asked) tt)
-answer_same arguments files netlist blif limit asked (replied (matching first second most) is status text reply) e =
-    let both : Some (matching first second most) ≡ Some (matching netlist blif limit) = sym is ∙ asked in
-    let one : first ≡ netlist = cc in
-    let two : second ≡ blif = cc in
-    subst (λ name. HaveOneFunction (bytes_of files netlist) (bytes_of files name)) two
-    (subst (λ name. HaveOneFunction (bytes_of files name) (bytes_of files second)) one (files_same files first second most reply e))
-
-end_same : (arguments : Arguments) (source source' : SourceState) (sink sink' : SinkState) {said status : ℕ} {text : List ℕ} → Says arguments source source' said text → CameOut sink sink' said text status → MatchesWhatIsSame arguments source status
-end_same arguments source source' sink sink' (answered status text answer) (whole grew) files netlist blif limit told asked e =
-    answer_same arguments files netlist blif limit asked (subst (λ held. Answer arguments held status text) told answer) e
-end_same arguments source source' sink sink' says (cut_short rose grew) files netlist blif limit told asked e = absurd (omega arith)
-end_same arguments source source' sink sink' (read_failed command of named rose) (whole grew) files netlist blif limit told asked e = absurd (omega arith)
-end_same arguments source source' sink sink' no_memory (whole grew) files netlist blif limit told asked e = absurd (omega arith)
-
 -- whatever ended with status 0 on a comparison, ended so on a netlist and models that have one function
 pub matches_what_is_same : (arguments : Arguments) (source source' : SourceState) (sink sink' : SinkState) (status : ℕ) → Ran arguments source source' sink sink' status → MatchesWhatIsSame arguments source status
-matches_what_is_same arguments source source' sink sink' status ran = end_same arguments source source' sink sink' ran.says ran.tells
+matches_what_is_same arguments source source' sink sink' status ran files netlist blif limit told asked e =
+    let (text, reply, _) = replied_well arguments source source' sink sink' status ran (matching netlist blif limit) asked e in
+    files_same files netlist blif limit (subst (λ held. IsMatchReply held netlist blif limit 0 text) told reply) refl

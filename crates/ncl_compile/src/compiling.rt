@@ -9,6 +9,7 @@ use crate::fault::CompileFault;
 use crate::putting::put_together;
 use crate::sizing::check_size;
 use crate::stages::stages_of;
+use ncl_base::Memory;
 use ncl_blif::Model;
 use ncl_netlist::{BuildFault, Netlist, build};
 use std::alloc::Global;
@@ -26,6 +27,18 @@ pub fn compile(alloc: Global, models: &[Model]) -> Result<Netlist, CompileFault>
     ensures fault { IfErr result (IsCompileFault models.now) }
 {
     check_size(models)?;
+    match netlist_of(alloc, models) {
+        Ok(netlist) => Ok(netlist),
+        Err(Memory) => Err(CompileFault::Memory),
+    }
+}
+
+/// The netlist that is compiled from models which are not too large. Fails where memory is refused.
+fn netlist_of(alloc: Global, models: &[Model]) -> Result<Netlist, Memory>
+    requires models { AreModels models.now }
+    requires small { CanBeCompiled models.now }
+    ensures { IfOk result (Compiled models.now) }
+{
     let stages = stages_of(alloc, models)?;
     let banks = banks_of(alloc, models, &stages)?;
     let parts = put_together(alloc, models, banks, stages)?;
@@ -35,7 +48,7 @@ pub fn compile(alloc: Global, models: &[Model]) -> Result<Netlist, CompileFault>
             Ok(netlist)
         }
         Err(fault) => match fault {
-            BuildFault::Memory => Err(CompileFault::Memory),
+            BuildFault::Memory => Err(Memory),
             _ => unreachable!(),
         },
     }

@@ -1,5 +1,4 @@
 //! Why models are not compiled.
-use ncl_base::Memory;
 use thiserror::Error;
 
 /// Why models are not compiled.
@@ -17,15 +16,4 @@ pub enum CompileFault {
     /// Memory was refused.
     #[error("out of memory")]
     Memory,
-}
-
-impl From<Memory> for CompileFault {
-    ghost use Rattle.std.specs.Prelude.{◌≡◌};
-    ghost use Rattle.ncl_compile.specs.declared.fault.CompileFault.TheVariants.{Memory as OutOfMemory};
-
-    ghost from_gives = { λ _ fault. fault ≡ OutOfMemory };
-
-    fn from(_memory: Memory) -> CompileFault {
-        CompileFault::Memory
-    }
 }

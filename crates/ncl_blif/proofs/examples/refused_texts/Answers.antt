@@ -9,24 +9,6 @@ use Rattle.ncl_blif.specs.Model.{reads}
 use Rattle.ncl_blif.specs.Answer.{IsCyclic, IsFaultless, no_bits, undriven, cycle, line, model, width}
 use Rattle.ncl_blif.proofs.examples.refused_texts.Goals as goal
 
-pub returns-clause-nothing : goal.returns-clause-nothing
-returns-clause-nothing c = line (Syntax 0) refl
-
-pub returns-clause-latch : goal.returns-clause-latch
-returns-clause-latch c = line (Unsupported 4) refl
-
-pub returns-clause-lone_row : goal.returns-clause-lone_row
-returns-clause-lone_row c = line (Syntax 4) refl
-
-pub returns-clause-bad_row : goal.returns-clause-bad_row
-returns-clause-bad_row c = line (BadRow 5) refl
-
-pub returns-clause-mixed : goal.returns-clause-mixed
-returns-clause-mixed c = line (MixedCover 6) refl
-
-pub returns-clause-twice : goal.returns-clause-twice
-returns-clause-twice c = line (TwoDrivers 5) refl
-
 none_before : (models : List NamedModel) → All IsFaultless (take 0 models)
 none_before models k d within = absurd (omega (arith, length-take 0 models))
 
@@ -34,46 +16,11 @@ none_before models k d within = absurd (omega (arith, length-take 0 models))
 with_covers : List NamedCover → NamedModel
 with_covers covers = record { name = codes "m"; inputs = codes "a" ∷ []; outputs = record { line = 3; signal = codes "y" } ∷ []; covers = covers }
 
-pub returns-clause-undriven : goal.returns-clause-undriven
-unfolding with_covers
-returns-clause-undriven c =
-    model (Undriven 3) refl (record {
-      place = 0;
-      broken = with_covers [];
-      at = refl;
-      breaks = undriven 3 (omega arith, omega arith) refl;
-      faultless_before = none_before (with_covers [] ∷ []);
-    })
-
 looped : NamedCover
 looped = record { line = 4; ins = codes "y" ∷ []; out = codes "y"; on = true; rows = [] }
 
-pub returns-clause-cycle : goal.returns-clause-cycle
-unfolding with_covers looped
-returns-clause-cycle c =
-    let cover : Cover = record { ins = 1 ∷ []; out = 1; on = true; rows = [] } in
-    let cyclic : IsCyclic (with_covers (looped ∷ [])) 0 = (looped, refl, reads cover 1 (0, omega arith, refl) (0, omega arith, refl)) in
-    model (Cycle 4) refl (record {
-      place = 0;
-      broken = with_covers (looped ∷ []);
-      at = refl;
-      breaks = cycle 4 (omega arith, omega arith) refl (record { place = 0; begins = refl; cyclic = cyclic; none_before = λ k lower found. absurd (omega arith) });
-      faultless_before = none_before (with_covers (looped ∷ []) ∷ []);
-    })
-
 without_signals : NamedModel
 without_signals = record { name = []; inputs = []; outputs = []; covers = [] }
-
-pub returns-clause-no_bits : goal.returns-clause-no_bits
-unfolding without_signals
-returns-clause-no_bits c =
-    model (NoBits 1) refl (record {
-      place = 0;
-      broken = without_signals;
-      at = refl;
-      breaks = no_bits (inl refl);
-      faultless_before = none_before (without_signals ∷ []);
-    })
 
 -- a model whose outputs are its inputs has no fault
 no_cover : (m : NamedModel) → m.covers ≡ [] → (place : ℕ) → IsCyclic m place → ⊥
@@ -91,10 +38,40 @@ wide = record {
 narrow : NamedModel
 narrow = record { name = codes "n"; inputs = codes "b" ∷ []; outputs = record { line = 5; signal = codes "b" } ∷ []; covers = [] }
 
-pub returns-clause-width : goal.returns-clause-width
-unfolding wide narrow
-returns-clause-width c =
-    width 2 refl (All-from_recursion IsFaultless (wide ∷ narrow ∷ []) (
-      record { bits = (omega arith, omega arith); driven = refl; no_cycle = no_cover wide refl },
-      (record { bits = (omega arith, omega arith); driven = refl; no_cycle = no_cover narrow refl }, tt),
-    )) refl
+pub returns : goal.returns
+unfolding with_covers looped without_signals wide narrow
+returns c = record {
+  nothing = line (Syntax 0) refl;
+  latch = line (Unsupported 4) refl;
+  lone_row = line (Syntax 4) refl;
+  bad_row = line (BadRow 5) refl;
+  mixed = line (MixedCover 6) refl;
+  twice = line (TwoDrivers 5) refl;
+  undriven = model (Undriven 3) refl (record {
+    place = 0;
+    broken = with_covers [];
+    at = refl;
+    breaks = undriven 3 (omega arith, omega arith) refl;
+    faultless_before = none_before (with_covers [] ∷ []);
+  });
+  cycle = let cover : Cover = record { ins = 1 ∷ []; out = 1; on = true; rows = [] } in
+      let cyclic : IsCyclic (with_covers (looped ∷ [])) 0 = (looped, refl, reads cover 1 (0, omega arith, refl) (0, omega arith, refl)) in
+      model (Cycle 4) refl (record {
+        place = 0;
+        broken = with_covers (looped ∷ []);
+        at = refl;
+        breaks = cycle 4 (omega arith, omega arith) refl (record { place = 0; begins = refl; cyclic = cyclic; none_before = λ k lower found. absurd (omega arith) });
+        faultless_before = none_before (with_covers (looped ∷ []) ∷ []);
+      });
+  no_bits = model (NoBits 1) refl (record {
+    place = 0;
+    broken = without_signals;
+    at = refl;
+    breaks = no_bits (inl refl);
+    faultless_before = none_before (without_signals ∷ []);
+  });
+  width = width 2 refl (All-from_recursion IsFaultless (wide ∷ narrow ∷ []) (
+    record { bits = (omega arith, omega arith); driven = refl; no_cycle = no_cover wide refl },
+    (record { bits = (omega arith, omega arith); driven = refl; no_cycle = no_cover narrow refl }, tt),
+  )) refl;
+}

@@ -50,6 +50,14 @@ first_lacking (z ∷ xs) ys = by (among_or_not ys z) (first_lacking xs ys)
       | inr there ↦ all x there
     ])
 
+-- what a declaration is declared with is told already, or isn't yet, and what holds of it, or not
+of_spec : {S Q : Type 0} (found : Option S) (P : S → Type 0) → ((s : S) → Decided (P s)) → ((s : S) → found ≡ Some s → P s → Q) → (Q → (s : S) × (found ≡ Some s) × P s) → Decided Q
+of_spec None P decided there back = inr (λ q. let (s, e, p) = back q in none-some s e)
+of_spec (Some s) P decided there back = elim (decided s) [
+  | inl holds ↦ inl (there s refl holds)
+  | inr fails ↦ inr (λ q. let (t, e, p) = back q in fails (subst P (sym (same_Some s t e)) p))
+]
+
 -- a declaration of a header is next, and what holds of it, or not
 abbrev Heads : (List ℕ → List (Group Direction) → Spec Direction → List (List ℕ) → Type 0) → List Lexeme → Type 0
 Heads P xs = (title : List ℕ) × (groups : List (Group Direction)) × (spec : Spec Direction) × (names : List (List ℕ)) × (xs ≡ in_ansi title groups spec names) × P title groups spec names
@@ -58,23 +66,13 @@ heading_in : {title other : List ℕ} {groups gs : List (Group Direction)} {part
 heading_in e = (cc, cc, cc)
 
 heads_or_not : (P : List ℕ → List (Group Direction) → Spec Direction → List (List ℕ) → Type 0) → ((title : List ℕ) (groups : List (Group Direction)) (spec : Spec Direction) (names : List (List ℕ)) → Decided (P title groups spec names)) → (p : Partial) → Decided (Heads P (spelled p))
-heads_or_not P decided (heading title groups part) = by (part_spec part) refl
-  where
-    names : List (List ℕ)
-    names = part_names part
-
-    same_part : (t : List ℕ) (gs : List (Group Direction)) (s : Spec Direction) (ns : List (List ℕ)) → spelled (heading title groups part) ≡ in_ansi t gs s ns → (title ≡ t) × (groups ≡ gs) × (part_spec part ≡ Some s) × (names ≡ ns)
-    same_part t gs s ns e =
-        let (q, is) = part_at direction_phrase s ns in
-        let same = heading_in (same_tree (heading title groups part) (heading t gs q) (e ∙ sym (heading_form t gs q s ns is))) in
-        (same.0, same.1, ap part_spec same.2 ∙ is.says, ap part_names same.2 ∙ is.stand)
-
-    by : (found : Option (Spec Direction)) → part_spec part ≡ found → Decided (Heads P (spelled (heading title groups part)))
-    by None e = inr (λ (t, gs, s, ns, is, holds). none-some s (sym e ∙ (same_part t gs s ns is).2))
-    by (Some spec) e = elim (decided title groups spec names) [
-      | inl holds ↦ inl (title, groups, spec, names, heading_form title groups part spec names (at_part direction_phrase part spec e), holds)
-      | inr fails ↦ inr (λ (t, gs, s, ns, is, holds). let same = same_part t gs s ns is in fails (along4 P same.0 same.1 (same_Some spec s (sym e ∙ same.2)) same.3 holds))
-    ]
+heads_or_not P decided (heading title groups part) =
+    of_spec (part_spec part) (λ spec. P title groups spec (part_names part)) (λ spec. decided title groups spec (part_names part))
+    (λ spec e holds. (title, groups, spec, part_names part, heading_form title groups part spec (part_names part) (at_part direction_phrase part spec e), holds))
+    (λ (t, gs, s, ns, is, holds).
+    let (q, at) = part_at direction_phrase s ns in
+    let same = heading_in (same_tree (heading title groups part) (heading t gs q) (is ∙ sym (heading_form t gs q s ns at))) in
+    (s, ap part_spec same.2 ∙ at.says, along4 P same.0 same.1 refl (ap part_names same.2 ∙ at.stand) holds))
 heads_or_not P decided p = inr (λ (t, gs, s, ns, is, holds).
     let (q, part) = part_at direction_phrase s ns in
     let same : p ≡ heading t gs q = same_tree p (heading t gs q) (is ∙ sym (heading_form t gs q s ns part)) in absurd cc)
@@ -87,23 +85,13 @@ declaring_in : {head h : Head} {items is : List Item} {part q : GroupPart Lead} 
 declaring_in e = (cc, cc, cc)
 
 declares_or_not : (P : Head → List Item → Spec Lead → List (List ℕ) → Type 0) → ((head : Head) (items : List Item) (spec : Spec Lead) (names : List (List ℕ)) → Decided (P head items spec names)) → (p : Partial) → Decided (Declares P (spelled p))
-declares_or_not P decided (inside head items (declaring part)) = by (part_spec part) refl
-  where
-    names : List (List ℕ)
-    names = part_names part
-
-    same_part : (h : Head) (is : List Item) (s : Spec Lead) (ns : List (List ℕ)) → spelled (inside head items (declaring part)) ≡ at_declared h is s ns → (head ≡ h) × (items ≡ is) × (part_spec part ≡ Some s) × (names ≡ ns)
-    same_part h is s ns e =
-        let (q, at) = part_at lead_phrase s ns in
-        let same = declaring_in (same_tree (inside head items (declaring part)) (inside h is (declaring q)) (e ∙ sym (declaring_form h is q s ns at))) in
-        (same.0, same.1, ap part_spec same.2 ∙ at.says, ap part_names same.2 ∙ at.stand)
-
-    by : (found : Option (Spec Lead)) → part_spec part ≡ found → Decided (Declares P (spelled (inside head items (declaring part))))
-    by None e = inr (λ (h, is, s, ns, at, holds). none-some s (sym e ∙ (same_part h is s ns at).2))
-    by (Some spec) e = elim (decided head items spec names) [
-      | inl holds ↦ inl (head, items, spec, names, declaring_form head items part spec names (at_part lead_phrase part spec e), holds)
-      | inr fails ↦ inr (λ (h, is, s, ns, at, holds). let same = same_part h is s ns at in fails (along4 P same.0 same.1 (same_Some spec s (sym e ∙ same.2)) same.3 holds))
-    ]
+declares_or_not P decided (inside head items (declaring part)) =
+    of_spec (part_spec part) (λ spec. P head items spec (part_names part)) (λ spec. decided head items spec (part_names part))
+    (λ spec e holds. (head, items, spec, part_names part, declaring_form head items part spec (part_names part) (at_part lead_phrase part spec e), holds))
+    (λ (h, is, s, ns, form, holds).
+    let (q, at) = part_at lead_phrase s ns in
+    let same = declaring_in (same_tree (inside head items (declaring part)) (inside h is (declaring q)) (form ∙ sym (declaring_form h is q s ns at))) in
+    (s, ap part_spec same.2 ∙ at.says, along4 P same.0 same.1 refl (ap part_names same.2 ∙ at.stand) holds))
 declares_or_not P decided p = inr (λ (h, is, s, ns, at, holds).
     let (q, part) = part_at lead_phrase s ns in
     let same : p ≡ inside h is (declaring q) = same_tree p (inside h is (declaring q)) (at ∙ sym (declaring_form h is q s ns part)) in absurd cc)

@@ -24,7 +24,7 @@ use Rattle.ncl_base.proofs.Lists.{pairs-head, pairs-tail}
 use Rattle.ncl_cell_roles.proofs.NetsApart.{nets_at, stages_apart}
 use Rattle.ncl_merge.specs.Fold.{with_cells}
 use Rattle.ncl_merge.specs.Folding.{AreFewer}
-use Rattle.ncl_merge.specs.Renamed.{renamed_net, IsRenamedCell, IsRenamedStage}
+use Rattle.ncl_shape.specs.Renamed.{renamed_net, IsRenamedCell, IsRenamedStage}
 use Rattle.ncl_merge.specs.Thinned.{moved, IsRailGate, IsThinned, IsThinStage}
 use Rattle.ncl_merge.specs.Rebuilt.{kept, name_at, number_in}
 use Rattle.ncl_merge.specs.Choice.{with_gate_of, choice_of, folded_netlist, net_there, place_there, moved_gate, moved_stage, moved_stages, folded_pipeline}

@@ -29,7 +29,7 @@ use Rattle.ncl_machine.specs.Composition.{stage_function}
 use Rattle.ncl_insensitivity.proofs.Headline.{is_composition}
 use Rattle.ncl_merge.specs.Fold.{with_cells}
 use Rattle.ncl_merge.specs.Folding.{AreFewer}
-use Rattle.ncl_merge.specs.Renamed.{renamed_rails}
+use Rattle.ncl_shape.specs.Renamed.{renamed_rails}
 use Rattle.ncl_merge.specs.Thinned.{moved, IsRailGate, moved_bit, moved_bank}
 use Rattle.ncl_merge.specs.Rebuilt.{kept, number_in}
 use Rattle.ncl_merge.specs.Choice.{is_stage_cell, choice_of, folded_netlist, net_there, place_there, moved_gate, moved_stage, folded_pipeline}

@@ -30,7 +30,7 @@ use Rattle.ncl_cell_roles.proofs.BankBits.{drives_rail, register_of_rail}
 use Rattle.ncl_cell_roles.proofs.EndLaws.{first_bank, input_is_port, ki_is_port}
 use Rattle.ncl_insensitivity.proofs.ListTests.{map-same}
 use Rattle.ncl_merge.specs.Folding.{AreFewer}
-use Rattle.ncl_merge.specs.Renamed.{renamed_net, renamed_rails}
+use Rattle.ncl_shape.specs.Renamed.{renamed_net, renamed_rails}
 use Rattle.ncl_merge.specs.Thinned.{moved}
 use Rattle.ncl_merge.specs.Rebuilt.{kept, kept_parts, IsChoice, name_at}
 use Rattle.ncl_merge.specs.Choice.{with_gate_of, choice_of, folded_netlist, net_there, place_there, moved_gate}

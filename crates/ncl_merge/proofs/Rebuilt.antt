@@ -23,7 +23,7 @@ use Rattle.ncl_cell_rules.proofs.Drivers.{cell_fits}
 use Rattle.ncl_cell_rules.proofs.OriginLaws.{place_of}
 use Rattle.ncl_cell_rules.proofs.GateRanks.{gate_ranks}
 use Rattle.ncl_shape.proofs.NetSources.{only_origin}
-use Rattle.ncl_merge.specs.Renamed.{renamed_net}
+use Rattle.ncl_shape.specs.Renamed.{renamed_net}
 use Rattle.ncl_merge.specs.Thinned.{moved, IsRailGate, IsThinGate, IsStood, IsOld, IsThinned}
 use Rattle.ncl_merge.specs.Rebuilt.{with_kept, kept, kept_parts, IsChoice, name_at, number_in}
 use Rattle.ncl_merge.proofs.Lists.{each}

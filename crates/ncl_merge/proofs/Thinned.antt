@@ -23,7 +23,7 @@ use Rattle.ncl_base.proofs.Members.{Member, here, there, member_cases, Member-ma
 use Rattle.ncl_cell_rules.proofs.Drivers.{driver_of, cell_fits, same_place}
 use Rattle.ncl_cell_rules.proofs.OriginLaws.{place_of, sort_of, bank_of_register, bank_of_ack}
 use Rattle.ncl_shape.proofs.NetSources.{only_origin}
-use Rattle.ncl_merge.specs.Renamed.{renamed_net}
+use Rattle.ncl_shape.specs.Renamed.{renamed_net}
 use Rattle.ncl_merge.proofs.Lists.{each}
 use Rattle.ncl_merge.specs.Thinned.{moved, IsRailGate, IsStood, IsThinned}
 

@@ -21,7 +21,7 @@ use Rattle.ncl_shape.specs.Chain.{IsChain}
 use Rattle.ncl_shape.specs.Pipeline.{PipelineData}
 use Rattle.ncl_shape.specs.Shape.{IsBitOf, AreBitsOf, IsBankOf, AreRailsOf, AreInputsOf, IsStageOf, Shape}
 use Rattle.ncl_shape.proofs.ShapeLaws.{same_cell, request_at}
-use Rattle.ncl_merge.specs.Renamed.{renamed_net, renamed_rails}
+use Rattle.ncl_shape.specs.Renamed.{renamed_net, renamed_rails}
 use Rattle.ncl_merge.specs.Thinned.{moved, IsStood, IsThinned, IsThinStage, moved_bit, moved_bank, moved_pipeline}
 use Rattle.ncl_merge.proofs.Thinned.{map_at, register-no_rail, ack-no_rail, pin-forth, bank-forth, acks-forth, acks-back, comes-back, comes-forth, out-within, out-back, free-thinned}
 use Rattle.ncl_merge.proofs.ThinnedChain.{bank-kept, chain-forth, root-forth, chained-thinned}
@@ -93,33 +93,33 @@ module _ (n m : NetlistData) (is : IsThinned n m) (free : IsFree n) where
 
   -- ---- rails
 
-  rails-there : (bank : ℕ) (bits : List Bit) → AreBitsOf n bank bits → (rails : List Rails) → AllZip (AreRailsOf n) bits rails → AllZip (AreRailsOf m) (map (moved_bit is.at) bits) (map (renamed_rails is.to) rails)
-  rails-there bank bits are rails =
-      zip-map (AreRailsOf n) (AreRailsOf m) (moved_bit is.at) (renamed_rails is.to) bits rails (λ b r among known.
+  -- pairs of nets that are told by bits are told there, where those of each bit are
+  pairs-there : (Tells : NetlistData → Bit → Rails → Type 0) → ((bank : ℕ) (b : Bit) → IsBitOf n bank b → (r : Rails) → Tells n b r → Tells m (moved_bit is.at b) (renamed_rails is.to r))
+      → (bank : ℕ) (bits : List Bit) → AreBitsOf n bank bits → (rails : List Rails) → AllZip (Tells n) bits rails → AllZip (Tells m) (map (moved_bit is.at) bits) (map (renamed_rails is.to) rails)
+  pairs-there Tells each bank bits are rails =
+      zip-map (Tells n) (Tells m) (moved_bit is.at) (renamed_rails is.to) bits rails (λ b r among known.
       let (k, at) = slice_get-from_Contains bits b (Contains-from_Member b among) in
-      let bit = are.each k b at in
-      record {
-        zero = λ d at-d.
-            ap (λ (z : Cell). z.out) (sym (stood-at bank b.rail0.0 bit.zero d bit.zero_at bit.zero_of at-d))
-            ∙ ap (renamed_net is.to) (known.zero bit.zero bit.zero_at);
-        one = λ d at-d.
-            ap (λ (z : Cell). z.out) (sym (stood-at bank b.rail1.0 bit.one d bit.one_at bit.one_of at-d))
-            ∙ ap (renamed_net is.to) (known.one bit.one bit.one_at);
-      })
+      each bank b (are.each k b at) r known)
+
+  rails-there : (bank : ℕ) (bits : List Bit) → AreBitsOf n bank bits → (rails : List Rails) → AllZip (AreRailsOf n) bits rails → AllZip (AreRailsOf m) (map (moved_bit is.at) bits) (map (renamed_rails is.to) rails)
+  rails-there = pairs-there AreRailsOf (λ bank b bit r known. record {
+    zero = λ d at-d.
+        ap (λ (z : Cell). z.out) (sym (stood-at bank b.rail0.0 bit.zero d bit.zero_at bit.zero_of at-d))
+        ∙ ap (renamed_net is.to) (known.zero bit.zero bit.zero_at);
+    one = λ d at-d.
+        ap (λ (z : Cell). z.out) (sym (stood-at bank b.rail1.0 bit.one d bit.one_at bit.one_of at-d))
+        ∙ ap (renamed_net is.to) (known.one bit.one bit.one_at);
+  })
 
   inputs-there : (bank : ℕ) (bits : List Bit) → AreBitsOf n bank bits → (rails : List Rails) → AllZip (AreInputsOf n) bits rails → AllZip (AreInputsOf m) (map (moved_bit is.at) bits) (map (renamed_rails is.to) rails)
-  inputs-there bank bits are rails =
-      zip-map (AreInputsOf n) (AreInputsOf m) (moved_bit is.at) (renamed_rails is.to) bits rails (λ b r among known.
-      let (k, at) = slice_get-from_Contains bits b (Contains-from_Member b among) in
-      let bit = are.each k b at in
-      record {
-        zero = λ d at-d.
-            subst (λ (z : Cell). OnPin z A (is.to r.zero.0)) (stood-at bank b.rail0.0 bit.zero d bit.zero_at bit.zero_of at-d)
-            (pin-forth n m is free bit.zero A r.zero.0 (known.zero bit.zero bit.zero_at));
-        one = λ d at-d.
-            subst (λ (z : Cell). OnPin z A (is.to r.one.0)) (stood-at bank b.rail1.0 bit.one d bit.one_at bit.one_of at-d)
-            (pin-forth n m is free bit.one A r.one.0 (known.one bit.one bit.one_at));
-      })
+  inputs-there = pairs-there AreInputsOf (λ bank b bit r known. record {
+    zero = λ d at-d.
+        subst (λ (z : Cell). OnPin z A (is.to r.zero.0)) (stood-at bank b.rail0.0 bit.zero d bit.zero_at bit.zero_of at-d)
+        (pin-forth n m is free bit.zero A r.zero.0 (known.zero bit.zero bit.zero_at));
+    one = λ d at-d.
+        subst (λ (z : Cell). OnPin z A (is.to r.one.0)) (stood-at bank b.rail1.0 bit.one d bit.one_at bit.one_of at-d)
+        (pin-forth n m is free bit.one A r.one.0 (known.one bit.one bit.one_at));
+  })
 
   -- ---- stages
 

@@ -1,5 +1,5 @@
 -- What cells weigh together, before folds and after: what the stages lose, the netlist loses.
-use Rattle.std.proofs.Common.{◌≡◌, ◌≢◌, ◌<◌, ◌≤◌, ◌+◌, ℕ, suc, Bool, true, false, cond, List, [], ◌∷◌, ◌++◌, length, Option, None, Some, ◌⊎◌, inl, inr, refl, sym, ap, ◌∙◌, subst, arith}
+use Rattle.std.proofs.Common.{◌≡◌, ◌≢◌, ◌<◌, ◌≤◌, ◌+◌, ℕ, suc, Bool, true, false, cond, List, [], ◌∷◌, length, Option, None, Some, ◌⊎◌, inl, inr, refl, sym, ap, ◌∙◌, subst, arith}
 use Rattle.std.specs.Prelude.{AllPairs, slice_get, sum_by, nat_eq}
 use Rattle.std.specs.List.{list_any, flat_map}
 use Rattle.std.proofs.lemmas.Bool.{cases_Bool, eq-eqb, both_ways}
@@ -8,7 +8,7 @@ use Rattle.std.proofs.lemmas.List.Kept.{AllPairs-cons}
 use Rattle.std.proofs.lemmas.List.Sums.{sum_by-cons, sum_by-append}
 use Rattle.std.proofs.lemmas.Option.{slice_get_within}
 use Rattle.ncl_base.proofs.Lists.{Differ, pairs-head, pairs-tail}
-use Rattle.ncl_base.proofs.Members.{Member, here, there, member_cases, Member-append_right, Member-append_cases, Member-map, All-from_members, Contains-from_Member, Member-from_Contains, Contains-from_slice_get, slice_get-from_Contains, slice_get-some, list_any-from_member}
+use Rattle.ncl_base.proofs.Members.{Member, here, there, member_cases, Member-append_right, Member-map, All-from_members, Contains-from_Member, Member-from_Contains, Contains-from_slice_get, slice_get-from_Contains, slice_get-some, list_any-from_member}
 use Rattle.ncl_gates.specs.Gate.{arity_of}
 use Rattle.ncl_netlist.specs.declared.cell.Cell.{Cell}
 use Rattle.ncl_netlist.specs.declared.ids.NetId.{NetId}
@@ -19,6 +19,7 @@ use Rattle.ncl_shape.specs.declared.stage.StageCell.{StageCell}
 use Rattle.ncl_shape.specs.Stage.{StageData, rail_nets, nets_of, out_of}
 use Rattle.ncl_shape.specs.Pipeline.{PipelineData}
 use Rattle.ncl_shape.specs.Shape.{Shape}
+use Rattle.ncl_shape.proofs.JoinedLists.{AllPairs-append}
 use Rattle.ncl_cell_roles.proofs.NetsApart.{nets_at, stages_apart}
 use Rattle.ncl_merge.specs.Folding.{AreFewer}
 use Rattle.ncl_merge.specs.Rebuilt.{kept}
@@ -38,19 +39,12 @@ pairs-from_places R (x ∷ xs) each =
     (All-from_members (R x) xs (λ y m. let (j, at) = slice_get-from_Contains xs y (Contains-from_Member y m) in each 0 (suc j) x y (omega arith) refl at))
     (pairs-from_places R xs (λ i j a b lt at_a at_b. each (suc i) (suc j) a b (omega (arith, lt)) at_a at_b))
 
-pairs-append : {X : Type 0} (R : X → X → Type 0) (xs ys : List X) → AllPairs R xs → AllPairs R ys → ((x y : X) → Member x xs → Member y ys → R x y) → AllPairs R (xs ++ ys)
-pairs-append R [] ys first rest across = rest
-pairs-append R (x ∷ xs) ys first rest across =
-    AllPairs-cons R x (xs ++ ys)
-    (All-from_members (R x) (xs ++ ys) (λ y m. elim (Member-append_cases y xs ys m) [ inl own ↦ pairs-head R x xs first y own | inr other ↦ across x y here other ]))
-    (pairs-append R xs ys (pairs-tail R x xs first) rest (λ a b m o. across a b (there m) o))
-
 pairs-flat_map : {X Y : Type 0} (R : Y → Y → Type 0) (f : X → List Y) (xs : List X) → ((k : ℕ) (x : X) → slice_get xs k ≡ Some x → AllPairs R (f x))
     → ((i j : ℕ) (x y : X) → i < j → slice_get xs i ≡ Some x → slice_get xs j ≡ Some y → (a b : Y) → Member a (f x) → Member b (f y) → R a b) → AllPairs R (flat_map f xs)
 pairs-flat_map R f [] own across = λ i j d before lt. absurd (omega (arith, lt))
 pairs-flat_map R f (x ∷ xs) own across =
     subst (AllPairs R) (sym (flat_map-cons f x xs))
-    (pairs-append R (f x) (flat_map f xs) (own 0 x refl) (pairs-flat_map R f xs (λ k y at. own (suc k) y at) (λ i j y z lt at_y at_z. across (suc i) (suc j) y z (omega (arith, lt)) at_y at_z))
+    (AllPairs-append R (f x) (flat_map f xs) (own 0 x refl) (pairs-flat_map R f xs (λ k y at. own (suc k) y at) (λ i j y z lt at_y at_z. across (suc i) (suc j) y z (omega (arith, lt)) at_y at_z))
     (λ a b m o.
     let (y, m-y, o-y) = of_flat_map f b xs o in
     let (j, at) = slice_get-from_Contains xs y (Contains-from_Member y m-y) in

@@ -9,7 +9,7 @@ use Rattle.ncl_netlist.specs.Parts.{netlist_of}
 use Rattle.ncl_shape.specs.declared.stage.StageCell.{StageCell}
 use Rattle.ncl_shape.specs.Stage.{StageData}
 use Rattle.ncl_shape.specs.Pipeline.{PipelineData}
-use Rattle.ncl_merge.specs.Renamed.{renamed_net, renamed_rails}
+use Rattle.ncl_shape.specs.Renamed.{renamed_net, renamed_rails}
 use Rattle.ncl_merge.specs.Thinned.{moved_pipeline}
 use Rattle.ncl_merge.specs.Rebuilt.{kept, kept_parts, number_in}
 

@@ -1,5 +1,4 @@
 pub mod Fold
-pub mod Renamed
 pub mod Search
 pub mod Thinned
 pub mod Rebuilt

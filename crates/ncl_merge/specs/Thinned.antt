@@ -13,7 +13,7 @@ use Rattle.ncl_shape.specs.declared.bank.Bit.{Bit}
 use Rattle.ncl_shape.specs.declared.stage.StageCell.{StageCell}
 use Rattle.ncl_shape.specs.Stage.{StageData, IsStage}
 use Rattle.ncl_shape.specs.Pipeline.{PipelineData}
-use Rattle.ncl_merge.specs.Renamed.{renamed_net, renamed_rails}
+use Rattle.ncl_shape.specs.Renamed.{renamed_net, renamed_rails}
 
 -- the cell, where nets have these numbers
 abbrev pub moved : (ℕ → ℕ) → Cell → Cell

@@ -258,11 +258,7 @@ pub struct StageFolds {
 fn copied_all(alloc: Global, cells: &[StageCell]) -> Result<Vec<StageCell>, Memory>
     ensures { IfOk result (λ copy. copy.items ≡ cells.now) }
 {
-    let mut copy = Vec::with_capacity(alloc, cells.len())?;
-    for cell in cells {
-        copy.push(copied(cell)?)?;
-    }
-    Ok(copy)
+    Ok(cells.to_vec(alloc)?)
 }
 
 /// The cells of a stage after folds, which are its own where no cell can be folded.

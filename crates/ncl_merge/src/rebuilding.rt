@@ -184,22 +184,11 @@ fn kept_cells(
     Ok(parts)
 }
 
-/// A port once more. Linear in the bytes of its name.
-fn copied_port(port: &Port) -> Result<Port, Memory>
-    ensures { IfOk result (λ copy. copy ≡ port.now) }
-{
-    Ok(port.clone()?)
-}
-
 /// The ports once more. Linear in the bytes of their names.
 fn copied_ports(alloc: Global, ports: &[Port]) -> Result<Vec<Port>, Memory>
     ensures { IfOk result (λ copy. copy.items ≡ ports.now) }
 {
-    let mut copy = Vec::with_capacity(alloc, ports.len())?;
-    for port in ports {
-        copy.push(copied_port(port)?)?;
-    }
-    Ok(copy)
+    Ok(ports.to_vec(alloc)?)
 }
 
 /// The parts of the netlist in which the cells of the stages are those of the lists. Linear in the bytes of names.

@@ -26,7 +26,8 @@ use Rattle.ncl_template.specs.Template.{IsTemplate, node_function}
 use Rattle.ncl_template.specs.Formed.{AddsTemplate}
 use Rattle.ncl_rails.specs.Complete.{IsComplete}
 use Rattle.ncl_rails.specs.Layout.{AreLaidOut, input_pair, input_pairs, no_rails, source_pair, exchanged, signal_pair}
-use Rattle.ncl_rails.proofs.Lists.{at_member, append_split, stands_before, stands_last}
+use Rattle.ncl_shape.proofs.JoinedLists.{append_split}
+use Rattle.ncl_rails.proofs.Lists.{at_member, stands_before, stands_last}
 use Rattle.ncl_rails.proofs.InputLaws.{rails_within}
 use Rattle.ncl_rails.proofs.Composition.{reads_before_at, reads_at}
 

@@ -1,5 +1,5 @@
 -- What holds at places and of members of lists, and tests over lists.
-use Rattle.std.proofs.Common.{◌≡◌, ℕ, zero, suc, ◌+◌, ◌-◌, ◌<◌, ◌≤◌, Bool, false, List, [], ◌∷◌, ◌++◌, length, map, take, drop, get_or, set, Some, ◌⊎◌, inl, inr, refl, sym, ap, subst, ◌∙◌, arith}
+use Rattle.std.proofs.Common.{◌≡◌, ℕ, zero, suc, ◌+◌, ◌-◌, ◌<◌, ◌≤◌, Bool, false, List, [], ◌∷◌, ◌++◌, length, map, take, drop, get_or, set, Some, inl, inr, refl, sym, ap, subst, ◌∙◌, arith}
 use Rattle.std.specs.Prelude.{All, Contains, slice_get, filter}
 use Rattle.std.specs.List.{list_all, flat_map, AllZip, range_with_len, slice_index_or}
 use Rattle.std.proofs.lemmas.Bool.{and_left, and_right, cases_eq, cases_Bool, cond-true, cond-false}
@@ -46,19 +46,6 @@ stands_right (z ∷ xs) ys k x at =
     subst (λ n. slice_get (z ∷ xs ++ ys) n ≡ Some x) (let same : suc (length xs + k) ≡ suc (length xs) + k = omega arith in same) (stands_right xs ys k x at)
 
 -- ---- lists that are cut
-
-pub append_split : {X : Type 0} (xs ys before : List X) (x : X) (after : List X) → xs ++ ys ≡ before ++ x ∷ after → ((left : List X) × (xs ≡ before ++ x ∷ left)) ⊎ ((mid : List X) × (before ≡ xs ++ mid) × (ys ≡ mid ++ x ∷ after))
-append_split [] ys before x after is = inr (before, refl, is)
-append_split (y ∷ xs) ys [] x after is =
-    let first : y ≡ x = cc in
-    inl (xs, ap (λ z. z ∷ xs) first)
-append_split (y ∷ xs) ys (z ∷ before) x after is =
-    let first : y ≡ z = cc in
-    let rest : xs ++ ys ≡ before ++ x ∷ after = cc in
-    elim (append_split xs ys before x after rest) [
-      | inl (left, cut) ↦ inl (left, (λ i. first i ∷ cut i))
-      | inr (mid, front, back) ↦ inr (mid, (λ i. sym first i ∷ front i), back)
-    ]
 
 pub stands_before : {X : Type 0} (xs : List X) (y : X) (k : ℕ) (x : X) → k < length xs → slice_get (xs ++ y ∷ []) k ≡ Some x → slice_get xs k ≡ Some x
 stands_before [] y k x lt at = absurd (omega arith)
@@ -126,15 +113,6 @@ zip_back R xs [] zip k y at = absurd cc
 zip_back R [] (z ∷ ys) zip k y at = absurd zip
 zip_back R (x ∷ xs) (z ∷ ys) zip zero y at = let same : z ≡ y = cc in (x, refl, subst (R x) same zip.0)
 zip_back R (x ∷ xs) (z ∷ ys) zip (suc k) y at = zip_back R xs ys zip.1 k y at
-
--- where the second is cut, so is the first
-pub zip_split : {X Y : Type 0} (R : X → Y → Type 0) (xs : List X) (before : List Y) (y : Y) (after : List Y) → AllZip R xs (before ++ y ∷ after) → (left : List X) × (x : X) × (right : List X) × (xs ≡ left ++ x ∷ right) × AllZip R left before × R x y
-zip_split R [] [] y after zip = absurd zip
-zip_split R (x ∷ xs) [] y after zip = ([], x, xs, refl, tt, zip.0)
-zip_split R [] (z ∷ before) y after zip = absurd zip
-zip_split R (x ∷ xs) (z ∷ before) y after zip =
-    let (left, w, right, is, zipped, holds) = zip_split R xs before y after zip.1 in
-    (x ∷ left, w, right, (λ i. x ∷ is i), (zip.0, zipped), holds)
 
 -- where the values of a function are cut, so is the list
 pub map_split : {X Y : Type 0} (f : X → Y) (xs : List X) (before : List Y) (y : Y) (after : List Y) → map f xs ≡ before ++ y ∷ after → (left : List X) × (x : X) × (right : List X) × (xs ≡ left ++ x ∷ right) × (map f left ≡ before) × (f x ≡ y)

@@ -1,10 +1,10 @@
 -- Where the names of gates are numbered, the gates are a stage of the same gates.
-use Rattle.std.proofs.Common.{◌≡◌, ◌≢◌, ℕ, ◌<◌, ◌≤◌, List, [], ◌∷◌, ◌++◌, length, map, get_or, refl, sym, ap, subst, ◌∙◌, arith}
+use Rattle.std.proofs.Common.{◌≡◌, ◌≢◌, ℕ, ◌<◌, ◌≤◌, List, [], ◌∷◌, length, map, get_or, refl, sym, ap, subst, ◌∙◌, arith}
 use Rattle.std.specs.Prelude.{All, AllPairs, Contains}
 use Rattle.std.specs.List.{AllZip}
-use Rattle.std.proofs.lemmas.List.{length-map, map-append, get_or-map}
+use Rattle.std.proofs.lemmas.List.{length-map, get_or-map}
 use Rattle.ncl_base.specs.declared.word.TheConstants.{MOST_BITS}
-use Rattle.ncl_base.proofs.Members.{Member, Member-map, Member-get_or, member_of_map, Contains-from_Member, Member-from_Contains, Contains-from_slice_get, slice_get-from_Contains, All-from_members}
+use Rattle.ncl_base.proofs.Members.{Member, Member-get_or, member_of_map, Contains-from_Member, Contains-from_slice_get, slice_get-from_Contains, All-from_members}
 use Rattle.ncl_gates.specs.declared.kind.Kind.{Kind}
 use Rattle.ncl_gates.specs.declared.cell_kind.CellKind.{CellKind}
 use Rattle.ncl_gates.specs.declared.cell_kind.CellKind.TheVariants.{Gate}
@@ -13,15 +13,18 @@ use Rattle.ncl_netlist.specs.declared.ids.NetId.{NetId}
 use Rattle.ncl_netlist.specs.declared.parts.NamePair.{NamePair}
 use Rattle.ncl_shape.specs.declared.rails.Rails.{Rails}
 use Rattle.ncl_shape.specs.declared.stage.StageCell.{StageCell}
-use Rattle.ncl_shape.specs.Stage.{StageData, IsStage, IsInOrder, nets_of, rail_nets, out_of}
+use Rattle.ncl_shape.specs.Stage.{StageData, IsStage, IsInOrder, nets_of, rail_nets}
+use Rattle.ncl_shape.specs.Renamed.{renamed_net, renamed_rails, IsRenamedCell}
+use Rattle.ncl_shape.proofs.ZippedLists.{zip_split}
+use Rattle.ncl_shape.proofs.RenamedNets.{rail_nets-renamed, nets-renamed, known-renamed}
 use Rattle.ncl_tree.specs.NamePairs.{pair_names}
 use Rattle.ncl_rails.specs.Layout.{input_pairs}
 use Rattle.ncl_rails.specs.Named.{name_of_net, name_of_pair, part_of_gate}
 use Rattle.ncl_rails.specs.Naming.{named_net, named_pair, IsNumbered, IsOneToOne, IsNumberedStage}
-use Rattle.ncl_rails.proofs.Lists.{at_member, zip_back, zip_split}
+use Rattle.ncl_rails.proofs.Lists.{at_member, zip_back}
 use Rattle.ncl_rails.proofs.NetNames.{inputs_named}
 use Rattle.ncl_rails.proofs.GateNames.{gate_inputs, gate_output}
-use Rattle.ncl_rails.proofs.Renaming.{renamed_net, renamed, IsRenamedGate, IsRenamed}
+use Rattle.ncl_rails.proofs.Renaming.{IsRenamed}
 
 -- ---- the same gates
 
@@ -38,7 +41,7 @@ module _ (number : List ℕ → ℕ) (names : List (List ℕ)) (prefix : List �
   map-twice [] = refl
   map-twice (net ∷ nets) = ap (λ rest. renamed_net renumber net ∷ rest) (map-twice nets)
 
-  same_gate : (c other : StageCell) → IsNumbered number (part_of_gate names prefix c) other → IsRenamedGate renumber c other
+  same_gate : (c other : StageCell) → IsNumbered number (part_of_gate names prefix c) other → IsRenamedCell renumber c other
   unfolding renumber
   same_gate c other is = record {
     kind = same_kind c.kind other.kind is.kind;
@@ -46,16 +49,16 @@ module _ (number : List ℕ → ℕ) (names : List (List ℕ)) (prefix : List �
     out = is.out ∙ ap (named_net number) (gate_output names prefix c);
   }
 
-  same_gates : (cells others : List StageCell) → AllZip (IsNumbered number) (map (part_of_gate names prefix) cells) others → AllZip (IsRenamedGate renumber) cells others
+  same_gates : (cells others : List StageCell) → AllZip (IsNumbered number) (map (part_of_gate names prefix) cells) others → AllZip (IsRenamedCell renumber) cells others
   same_gates [] [] zip = tt
   same_gates [] (other ∷ others) zip = absurd zip
   same_gates (c ∷ cells) [] zip = absurd zip
   same_gates (c ∷ cells) (other ∷ others) zip = (same_gate c other zip.0, same_gates cells others zip.1)
 
-  same_pairs : (pairs : List Rails) → map (named_pair number) (map (name_of_pair names prefix) pairs) ≡ map (renamed renumber) pairs
+  same_pairs : (pairs : List Rails) → map (named_pair number) (map (name_of_pair names prefix) pairs) ≡ map (renamed_rails renumber) pairs
   unfolding renumber
   same_pairs [] = refl
-  same_pairs (r ∷ pairs) = ap (λ rest. renamed renumber r ∷ rest) (same_pairs pairs)
+  same_pairs (r ∷ pairs) = ap (λ rest. renamed_rails renumber r ∷ rest) (same_pairs pairs)
 
 -- a numbered stage of gates by names is one of the same gates
 pub IsRenamed-numbered : (number : List ℕ → ℕ) (ins : List NamePair) (prefix : List ℕ) (n : ℕ) → length ins ≡ n → (cells : List StageCell) (outs : List Rails) (s : StageData) → IsNumberedStage number ins (map (name_of_pair (pair_names ins) prefix) outs) (map (part_of_gate (pair_names ins) prefix) cells) s → IsRenamed (renumber number (pair_names ins) prefix) (input_pairs n) cells outs s
@@ -67,34 +70,14 @@ IsRenamed-numbered number ins prefix n count cells outs s is = record {
 
 -- ---- it is a stage
 
-rail_nets-renamed : (number : ℕ → ℕ) (rs : List Rails) → rail_nets (map (renamed number) rs) ≡ map number (rail_nets rs)
-rail_nets-renamed number [] = refl
-rail_nets-renamed number (r ∷ rs) = ap (λ rest. number r.zero.0 ∷ number r.one.0 ∷ rest) (rail_nets-renamed number rs)
-
-outs-renamed : (number : ℕ → ℕ) (cells others : List StageCell) → AllZip (IsRenamedGate number) cells others → map out_of others ≡ map number (map out_of cells)
-outs-renamed number [] [] zip = refl
-outs-renamed number [] (other ∷ others) zip = absurd zip
-outs-renamed number (c ∷ cells) [] zip = absurd zip
-outs-renamed number (c ∷ cells) (other ∷ others) zip =
-    let rest = outs-renamed number cells others zip.1 in
-    let first : other.out ≡ renamed_net number c.out = zip.0.out in
-    λ i. (first i).0 ∷ rest i
-
-nets-renamed : (number : ℕ → ℕ) (inputs : List Rails) (cells others : List StageCell) → AllZip (IsRenamedGate number) cells others → nets_of (map (renamed number) inputs) others ≡ map number (nets_of inputs cells)
-nets-renamed number inputs cells others zip =
-    (λ i. rail_nets-renamed number inputs i ++ outs-renamed number cells others zip i) ∙ sym (map-append number (rail_nets inputs) (map out_of cells))
-
-known-renamed : (number : ℕ → ℕ) (nets : List ℕ) (net : ℕ) → Contains nets net → Contains (map number nets) (number net)
-known-renamed number nets net known = Contains-from_Member (number net) (Member-map number net (Member-from_Contains nets net known))
-
 module _ (number : ℕ → ℕ) (inputs : List Rails) (cells : List StageCell) (outs : List Rails) (s : StageData) (same : IsRenamed number inputs cells outs s) where
-  stage_nets : (some : List StageCell) (others : List StageCell) → AllZip (IsRenamedGate number) some others → nets_of s.inputs others ≡ map number (nets_of inputs some)
+  stage_nets : (some : List StageCell) (others : List StageCell) → AllZip (IsRenamedCell number) some others → nets_of s.inputs others ≡ map number (nets_of inputs some)
   stage_nets some others zip = ap (λ rs. nets_of rs others) same.inputs ∙ nets-renamed number inputs some others zip
 
   pub IsStage-renamed : 1 ≤ length inputs → length inputs ≤ MOST_BITS → 1 ≤ length outs → length outs ≤ MOST_BITS → AllPairs (λ x y. x ≢ y) (map number (nets_of inputs cells)) → AllPairs (λ (x y : StageCell). x.cell.0 ≢ y.cell.0) s.cells → All (λ (c : StageCell). length c.ins.items ≡ arity_of c.kind) cells → IsInOrder inputs cells → ((net : ℕ) → Member net (rail_nets outs) → Contains (nets_of inputs cells) net) → IsStage s
   IsStage-renamed some_in few_in some_out few_out nets_differ cells_differ arities in_order known =
-      let count_in : length s.inputs ≡ length inputs = ap length same.inputs ∙ length-map inputs (renamed number) in
-      let count_out : length s.outputs ≡ length outs = ap length same.outputs ∙ length-map outs (renamed number) in
+      let count_in : length s.inputs ≡ length inputs = ap length same.inputs ∙ length-map inputs (renamed_rails number) in
+      let count_out : length s.outputs ≡ length outs = ap length same.outputs ∙ length-map outs (renamed_rails number) in
       record {
         some_inputs = omega (arith, some_in, count_in);
         few_inputs = omega (arith, few_in, count_in);
@@ -104,10 +87,10 @@ module _ (number : ℕ → ℕ) (inputs : List Rails) (cells : List StageCell) (
         cells_differ = cells_differ;
         arities = All-from_members (λ (c : StageCell). length c.ins.items ≡ arity_of c.kind) s.cells (λ other m.
             let (k, at) = slice_get-from_Contains s.cells other (Contains-from_Member other m) in
-            let (c, stands, gate) = zip_back (IsRenamedGate number) cells s.cells same.cells k other at in
+            let (c, stands, gate) = zip_back (IsRenamedCell number) cells s.cells same.cells k other at in
             ap length gate.ins ∙ length-map c.ins.items (renamed_net number) ∙ at_member (λ (c : StageCell). length c.ins.items ≡ arity_of c.kind) cells arities c (Contains-from_slice_get cells k c stands) ∙ ap arity_of (sym gate.kind));
         in_order = λ before after other is.
-            let (left, c, right, cut, zip, gate) = zip_split (IsRenamedGate number) cells before other after (subst (AllZip (IsRenamedGate number) cells) is same.cells) in
+            let (left, c, right, cut, zip, gate) = zip_split (IsRenamedCell number) cells before other after (subst (AllZip (IsRenamedCell number) cells) is same.cells) in
             subst (λ nets. All (λ (net : NetId). Contains nets net.0) other.ins.items) (sym (stage_nets left before zip))
             (All-from_members (λ (net : NetId). Contains (map number (nets_of inputs left)) net.0) other.ins.items (λ net m.
             let (old, among, named) = member_of_map (renamed_net number) c.ins.items net (subst (Member net) gate.ins m) in

@@ -9,51 +9,39 @@ use Rattle.ncl_shape.specs.declared.stage.StageCell.{StageCell}
 use Rattle.ncl_shape.specs.Nets.{Nets}
 use Rattle.ncl_shape.specs.Stage.{StageData}
 use Rattle.ncl_shape.specs.Closure.{pin_values}
+use Rattle.ncl_shape.specs.Renamed.{renamed_net, renamed_rails, IsRenamedCell}
 use Rattle.ncl_stage.specs.Values.{holds}
 use Rattle.ncl_stage.specs.Faults.{has_data}
 use Rattle.ncl_template.specs.Template.{Shows, IsNull, ShowWord}
 
--- a net and a pair, where nets have these numbers
-abbrev pub renamed_net : (ℕ → ℕ) → NetId → NetId
-renamed_net number net = record { 0 = number net.0 }
-
-abbrev pub renamed : (ℕ → ℕ) → Rails → Rails
-renamed number r = record { zero = renamed_net number r.zero; one = renamed_net number r.one }
-
--- the same gate, where nets have these numbers. The numbers of cells are free
-pub record IsRenamedGate (number : ℕ → ℕ) (c other : StageCell) : Type 0 where
-  pub kind : other.kind ≡ c.kind
-  pub ins : other.ins.items ≡ map (renamed_net number) c.ins.items
-  pub out : other.out ≡ renamed_net number c.out
-
 -- a stage of the same gates
 pub record IsRenamed (number : ℕ → ℕ) (ins : List Rails) (gates : List StageCell) (outs : List Rails) (s : StageData) : Type 0 where
-  pub inputs : s.inputs ≡ map (renamed number) ins
-  pub cells : AllZip (IsRenamedGate number) gates s.cells
-  pub outputs : s.outputs ≡ map (renamed number) outs
+  pub inputs : s.inputs ≡ map (renamed_rails number) ins
+  pub cells : AllZip (IsRenamedCell number) gates s.cells
+  pub outputs : s.outputs ≡ map (renamed_rails number) outs
 
 -- values of the nets by their old numbers
 abbrev pub seen : Nets → (ℕ → ℕ) → Nets
 seen v number net = v (number net)
 
-pub shown_old : (v : Nets) (number : ℕ → ℕ) (r : Rails) (b : Bool) → Shows v (renamed number r) b → Shows (seen v number) r b
+pub shown_old : (v : Nets) (number : ℕ → ℕ) (r : Rails) (b : Bool) → Shows v (renamed_rails number r) b → Shows (seen v number) r b
 shown_old v number r true shown = record { high = shown.high; low = shown.low }
 shown_old v number r false shown = record { high = shown.high; low = shown.low }
 
-shown_new : (v : Nets) (number : ℕ → ℕ) (r : Rails) (b : Bool) → Shows (seen v number) r b → Shows v (renamed number r) b
+shown_new : (v : Nets) (number : ℕ → ℕ) (r : Rails) (b : Bool) → Shows (seen v number) r b → Shows v (renamed_rails number r) b
 shown_new v number r true shown = record { high = shown.high; low = shown.low }
 shown_new v number r false shown = record { high = shown.high; low = shown.low }
 
-pub word_new : (v : Nets) (number : ℕ → ℕ) (rs : List Rails) (word : List Bool) → ShowWord (seen v number) rs word → ShowWord v (map (renamed number) rs) word
+pub word_new : (v : Nets) (number : ℕ → ℕ) (rs : List Rails) (word : List Bool) → ShowWord (seen v number) rs word → ShowWord v (map (renamed_rails number) rs) word
 word_new v number [] [] shown = tt
 word_new v number [] (b ∷ word) shown = absurd shown
 word_new v number (r ∷ rs) [] shown = absurd shown
 word_new v number (r ∷ rs) (b ∷ word) shown = (shown_new v number r b shown.0, word_new v number rs word shown.1)
 
-pub null_old : (v : Nets) (number : ℕ → ℕ) (r : Rails) → IsNull v (renamed number r) → IsNull (seen v number) r
+pub null_old : (v : Nets) (number : ℕ → ℕ) (r : Rails) → IsNull v (renamed_rails number r) → IsNull (seen v number) r
 null_old v number r null = record { zero = null.zero; one = null.one }
 
-pub data_new : (v : Nets) (number : ℕ → ℕ) (rs : List Rails) → list_all (has_data v) (map (renamed number) rs) ≡ list_all (has_data (seen v number)) rs
+pub data_new : (v : Nets) (number : ℕ → ℕ) (rs : List Rails) → list_all (has_data v) (map (renamed_rails number) rs) ≡ list_all (has_data (seen v number)) rs
 data_new v number [] = refl
 data_new v number (r ∷ rs) = ap (λ rest. has_data (seen v number) r && rest) (data_new v number rs)
 
@@ -62,7 +50,7 @@ pins v number [] = refl
 pins v number (net ∷ ins) = ap (λ rest. v (number net.0) ∷ rest) (pins v number ins)
 
 -- the set function of a gate holds where that of the same gate does
-pub holds_new : (v : Nets) (number : ℕ → ℕ) (c other : StageCell) → IsRenamedGate number c other → holds v other ≡ holds (seen v number) c
+pub holds_new : (v : Nets) (number : ℕ → ℕ) (c other : StageCell) → IsRenamedCell number c other → holds v other ≡ holds (seen v number) c
 holds_new v number c other same =
     (λ i. set_of (same.kind i) (pin_values v (same.ins i))) ∙ ap (set_of c.kind) (pins v number c.ins.items)
 

@@ -27,7 +27,8 @@ use Rattle.ncl_rails.specs.Layout.{AreLaidOut, no_rails, source_pair}
 use Rattle.ncl_rails.proofs.Lists.{zip_at, zip_back}
 use Rattle.ncl_rails.proofs.InputLaws.{input_shown, input_null, cell_low, base_obeys, variant_supported}
 use Rattle.ncl_rails.proofs.Showing.{shown_has_data, shown_is_legal}
-use Rattle.ncl_rails.proofs.Renaming.{renamed, IsRenamedGate, IsRenamed, seen, shown_old, word_new, null_old, data_new, holds_new, shown_at}
+use Rattle.ncl_shape.specs.Renamed.{renamed_rails, IsRenamedCell}
+use Rattle.ncl_rails.proofs.Renaming.{IsRenamed, seen, shown_old, word_new, null_old, data_new, holds_new, shown_at}
 use Rattle.ncl_rails.proofs.Composition.{output_pairs, outputs_shown, null_reaches, low_gate_reaches}
 
 -- a test fails at what may stand at a place where it fails at what does
@@ -43,13 +44,13 @@ module _ (network : Network) (inputs : List Rails) (cells : List StageCell) (pai
   values : List Bool → Variant → Nets
   values word variant = seen (val s word variant) number
 
-  cell_of : (c : StageCell) → Member c cells → (other : StageCell) × Member other s.cells × IsRenamedGate number c other
+  cell_of : (c : StageCell) → Member c cells → (other : StageCell) × Member other s.cells × IsRenamedCell number c other
   cell_of c m =
       let (k, at) = slice_get-from_Contains cells c (Contains-from_Member c m) in
-      let (other, stands, gate) = zip_at (IsRenamedGate number) cells s.cells same.cells k c at in
+      let (other, stands, gate) = zip_at (IsRenamedCell number) cells s.cells same.cells k c at in
       (other, Member-from_Contains s.cells other (Contains-from_slice_get s.cells k other stands), gate)
 
-  out_same : (v : Nets) (c other : StageCell) → IsRenamedGate number c other → v (out_of other) ≡ seen v number (out_of c)
+  out_same : (v : Nets) (c other : StageCell) → IsRenamedCell number c other → v (out_of other) ≡ seen v number (out_of c)
   out_same v c other gate = ap (λ (net : NetId). v net.0) gate.out
 
   -- under Base the gates are obeyed, and under a variant supported
@@ -69,17 +70,17 @@ module _ (network : Network) (inputs : List Rails) (cells : List StageCell) (pai
   unfolding values
   below word variant net high = val-below_base s word variant (number net) high
 
-  stage_input : (i : ℕ) (r : Rails) → slice_get inputs i ≡ Some r → slice_get s.inputs i ≡ Some (renamed number r)
-  stage_input i r at = ap (λ rs. slice_get rs i) same.inputs ∙ slice_get-map (renamed number) inputs i ∙ ap (option_map (renamed number)) at
+  stage_input : (i : ℕ) (r : Rails) → slice_get inputs i ≡ Some r → slice_get s.inputs i ≡ Some (renamed_rails number r)
+  stage_input i r at = ap (λ rs. slice_get rs i) same.inputs ∙ slice_get-map (renamed_rails number) inputs i ∙ ap (option_map (renamed_rails number)) at
 
   inputs_shown : (word : List Bool) → IsWordOf s word → (i : ℕ) → i < network.inputs → Shows (values word Base) (source_pair inputs pairs (Input i)) (slice_index_or word i false)
   unfolding values
   inputs_shown word right i lt =
       let r : Rails = get_or inputs i no_rails in
       let at : slice_get inputs i ≡ Some r = slice_get-get_or inputs i no_rails (omega (arith, lt, count)) in
-      let wide : length s.inputs ≡ length inputs = ap length same.inputs ∙ length-map inputs (renamed number) in
+      let wide : length s.inputs ≡ length inputs = ap length same.inputs ∙ length-map inputs (renamed_rails number) in
       shown_old (val s word Base) number r (get_or word i false)
-      (input_shown s is word i (renamed number r) (get_or word i false) (stage_input i r at) (slice_get-get_or word i false (omega (arith, lt, count, wide, right))))
+      (input_shown s is word i (renamed_rails number r) (get_or word i false) (stage_input i r at) (slice_get-get_or word i false (omega (arith, lt, count, wide, right))))
 
   -- the outputs of the stage show the answer of the network
   pub outputs_answer : (word : List Bool) → IsWordOf s word → ShowWord (val s word Base) s.outputs (answer_of network word)
@@ -99,7 +100,7 @@ module _ (network : Network) (inputs : List Rails) (cells : List StageCell) (pai
       all_data_seen word variant
       ∙ null_reaches network inputs cells pairs complete laid (values word Base) word (obeyed word) (inputs_shown word right) (values word variant) (below word variant) (supported word variant) from reach null
 
-  low_gate_spreads : (word : List Bool) → IsWordOf s word → (g : ℕ) (c other : StageCell) → Member c cells → IsRenamedGate number c other → slice_get s.cells g ≡ Some other → val s word Base (out_of other) ≡ true → all_data s (val s word (Cell g)) ≡ false
+  low_gate_spreads : (word : List Bool) → IsWordOf s word → (g : ℕ) (c other : StageCell) → Member c cells → IsRenamedCell number c other → slice_get s.cells g ≡ Some other → val s word Base (out_of other) ≡ true → all_data s (val s word (Cell g)) ≡ false
   unfolding values outs
   low_gate_spreads word right g c other m gate at high =
       all_data_seen word (Cell g)
@@ -119,18 +120,18 @@ module _ (network : Network) (inputs : List Rails) (cells : List StageCell) (pai
   is_sound (Incomplete i) word right =
       holds_at-fails (λ (r : Rails). all_data s (val s word (Bit i))) (slice_get s.inputs i)
       (λ r at.
-      let wide : length s.inputs ≡ length inputs = ap length same.inputs ∙ length-map inputs (renamed number) in
+      let wide : length s.inputs ≡ length inputs = ap length same.inputs ∙ length-map inputs (renamed_rails number) in
       let within : i < length s.inputs = slice_get_within s.inputs i r at in
       let old : Rails = get_or inputs i no_rails in
       let stands : slice_get inputs i ≡ Some old = slice_get-get_or inputs i no_rails (omega (arith, within, wide)) in
       null_spreads word right (Bit i) (Input i) (complete.inputs_reach i (omega (arith, within, wide, count)))
-      (null_old (val s word (Bit i)) number old (input_null s is word i (renamed number old) (stage_input i old stands))))
+      (null_old (val s word (Bit i)) number old (input_null s is word i (renamed_rails number old) (stage_input i old stands))))
   is_sound (Orphan g) word right =
       holds_at-fails (λ (c : StageCell). val s word Base c.out.0 && all_data s (val s word (Cell g))) (slice_get s.cells g)
       (λ other at.
       elim (cases_Bool (val s word Base other.out.0)) [
         | inr low ↦ and_left _ _ low
         | inl high ↦
-            let (c, stands, gate) = zip_back (IsRenamedGate number) cells s.cells same.cells g other at in
+            let (c, stands, gate) = zip_back (IsRenamedCell number) cells s.cells same.cells g other at in
             and_right _ _ (low_gate_spreads word right g c other (Member-from_Contains cells c (Contains-from_slice_get cells g c stands)) gate at high)
       ])

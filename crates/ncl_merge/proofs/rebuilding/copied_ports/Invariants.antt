@@ -1,5 +1,0 @@
-use Rattle.std.proofs.Common.{◌≡◌, take}
-use Rattle.ncl_merge.proofs.rebuilding.copied_ports.Given as goal
-
-abbrev pub invariant-loop-port : goal.invariant-loop-port
-invariant-loop-port l = l.copy.items ≡ take l.port-index l.ports

@@ -92,6 +92,17 @@ take-front xs zero (suc i) le = absurd (omega (arith, le))
 take-front [] (suc n) (suc i) le = refl
 take-front (x ∷ xs) (suc n) (suc i) le = ap (λ ys. x ∷ ys) (take-front xs n i (omega (arith, le)))
 
+-- the functions that are asked of a stage: of its nets under Base and under another variant, and under that one of its outputs
+record Asked : Type 0 where
+  base : List WordFunction
+  kept : List WordFunction
+  outputs : List WordFunction
+  conjunctions : List WordFunction
+  orphan : List WordFunction
+
+abbrev asked_of : StageData → ValuesAt → ValuesAt → List WordFunction → Asked
+asked_of s base kept orphan = record { base = net_functions s base; kept = net_functions s kept; outputs = data_functions s kept; conjunctions = data_fronts s kept; orphan = orphan }
+
 module _ (p : PipelineData) (shape : Shape p.netlist p) (l : Layout) (is : IsLayoutOf p l) (before : ℕ) (inner : before < length p.stages)
     (sounds : (k : ℕ) (t : StageData) → k < before → slice_get p.stages k ≡ Some t → IsSound t) (place : ℕ) (g : StageCell) (at : slice_get (l.stage (suc before)).cells place ≡ Some g) where
   abbrev top : ℕ
@@ -321,115 +332,81 @@ module _ (p : PipelineData) (shape : Shape p.netlist p) (l : Layout) (is : IsLay
   -- ---- all together
 
   -- the lists of an explanation, and of the joined stage
-  abbrev own_base : List WordFunction
-  own_base = net_functions own (values_on way own Base)
-
-  abbrev own_kept : List WordFunction
-  own_kept = net_functions own kept_own
-
-  abbrev own_data : List WordFunction
-  own_data = data_functions own kept_own
-
-  abbrev own_fronts : List WordFunction
-  own_fronts = data_fronts own kept_own
-
-  abbrev own_orphan : List WordFunction
-  own_orphan = orphan_on way own (slice_get own.cells place) place
+  abbrev own_asked : Asked
+  own_asked = asked_of own (values_on way own Base) kept_own (orphan_on way own (slice_get own.cells place) place)
 
   abbrev earlier : List WordFunction
   earlier = functions_before (λ w. w) (take before p.stages)
 
-  abbrev j_base : List WordFunction
-  j_base = net_functions j base_j
-
-  abbrev j_kept : List WordFunction
-  j_kept = net_functions j kept_j
-
-  abbrev j_data : List WordFunction
-  j_data = data_functions j kept_j
-
-  abbrev j_fronts : List WordFunction
-  j_fronts = data_fronts j kept_j
-
-  abbrev j_orphan : List WordFunction
-  j_orphan = orphan_function j (slice_get j.cells place_j) kept_j
+  abbrev j_asked : Asked
+  j_asked = asked_of j base_j kept_j (orphan_function j (slice_get j.cells place_j) kept_j)
 
   -- what one of them covers, all of them do
-  by_base : (fs : List WordFunction) → Covered n fs own_base → Covered n fs asked
-  by_base fs c =
-      covered-right n fs earlier (functions_at way own place)
-      (covered-left n fs (own_base ++ own_kept ++ own_data ++ own_fronts) own_orphan (covered-left n fs (own_base ++ own_kept ++ own_data) own_fronts (covered-left n fs (own_base ++ own_kept) own_data (covered-left n fs own_base own_kept c))))
-
-  by_kept : (fs : List WordFunction) → Covered n fs own_kept → Covered n fs asked
-  by_kept fs c =
-      covered-right n fs earlier (functions_at way own place)
-      (covered-left n fs (own_base ++ own_kept ++ own_data ++ own_fronts) own_orphan (covered-left n fs (own_base ++ own_kept ++ own_data) own_fronts (covered-left n fs (own_base ++ own_kept) own_data (covered-right n fs own_base own_kept c))))
-
-  by_data : (fs : List WordFunction) → Covered n fs own_data → Covered n fs asked
+  by_data : (fs : List WordFunction) → Covered n fs own_asked.outputs → Covered n fs asked
   by_data fs c =
       covered-right n fs earlier (functions_at way own place)
-      (covered-left n fs (own_base ++ own_kept ++ own_data ++ own_fronts) own_orphan (covered-left n fs (own_base ++ own_kept ++ own_data) own_fronts (covered-right n fs (own_base ++ own_kept) own_data c)))
+      (covered-left n fs (own_asked.base ++ own_asked.kept ++ own_asked.outputs ++ own_asked.conjunctions) own_asked.orphan (covered-left n fs (own_asked.base ++ own_asked.kept ++ own_asked.outputs) own_asked.conjunctions (covered-right n fs (own_asked.base ++ own_asked.kept) own_asked.outputs c)))
 
-  by_fronts : (fs : List WordFunction) → Covered n fs own_fronts → Covered n fs asked
+  by_fronts : (fs : List WordFunction) → Covered n fs own_asked.conjunctions → Covered n fs asked
   by_fronts fs c =
       covered-right n fs earlier (functions_at way own place)
-      (covered-left n fs (own_base ++ own_kept ++ own_data ++ own_fronts) own_orphan (covered-right n fs (own_base ++ own_kept ++ own_data) own_fronts c))
+      (covered-left n fs (own_asked.base ++ own_asked.kept ++ own_asked.outputs ++ own_asked.conjunctions) own_asked.orphan (covered-right n fs (own_asked.base ++ own_asked.kept ++ own_asked.outputs) own_asked.conjunctions c))
 
-  by_orphan : (fs : List WordFunction) → Covered n fs own_orphan → Covered n fs asked
-  by_orphan fs c = covered-right n fs earlier (functions_at way own place) (covered-right n fs (own_base ++ own_kept ++ own_data ++ own_fronts) own_orphan c)
+  by_orphan : (fs : List WordFunction) → Covered n fs own_asked.orphan → Covered n fs asked
+  by_orphan fs c = covered-right n fs earlier (functions_at way own place) (covered-right n fs (own_asked.base ++ own_asked.kept ++ own_asked.outputs ++ own_asked.conjunctions) own_asked.orphan c)
 
-  to_base : (fs : List WordFunction) → Covered n fs j_base → Covered n fs made
-  to_base fs c = covered-left n fs j_base (j_kept ++ j_data ++ j_fronts ++ j_orphan) c
+  to_base : (fs : List WordFunction) → Covered n fs j_asked.base → Covered n fs made
+  to_base fs c = covered-left n fs j_asked.base (j_asked.kept ++ j_asked.outputs ++ j_asked.conjunctions ++ j_asked.orphan) c
 
-  to_kept : (fs : List WordFunction) → Covered n fs j_kept → Covered n fs made
-  to_kept fs c = covered-right n fs j_base (j_kept ++ j_data ++ j_fronts ++ j_orphan) (covered-left n fs (j_kept ++ j_data ++ j_fronts) j_orphan (covered-left n fs (j_kept ++ j_data) j_fronts (covered-left n fs j_kept j_data c)))
+  to_kept : (fs : List WordFunction) → Covered n fs j_asked.kept → Covered n fs made
+  to_kept fs c = covered-right n fs j_asked.base (j_asked.kept ++ j_asked.outputs ++ j_asked.conjunctions ++ j_asked.orphan) (covered-left n fs (j_asked.kept ++ j_asked.outputs ++ j_asked.conjunctions) j_asked.orphan (covered-left n fs (j_asked.kept ++ j_asked.outputs) j_asked.conjunctions (covered-left n fs j_asked.kept j_asked.outputs c)))
 
-  to_data : (fs : List WordFunction) → Covered n fs j_data → Covered n fs made
-  to_data fs c = covered-right n fs j_base (j_kept ++ j_data ++ j_fronts ++ j_orphan) (covered-left n fs (j_kept ++ j_data ++ j_fronts) j_orphan (covered-left n fs (j_kept ++ j_data) j_fronts (covered-right n fs j_kept j_data c)))
+  to_data : (fs : List WordFunction) → Covered n fs j_asked.outputs → Covered n fs made
+  to_data fs c = covered-right n fs j_asked.base (j_asked.kept ++ j_asked.outputs ++ j_asked.conjunctions ++ j_asked.orphan) (covered-left n fs (j_asked.kept ++ j_asked.outputs ++ j_asked.conjunctions) j_asked.orphan (covered-left n fs (j_asked.kept ++ j_asked.outputs) j_asked.conjunctions (covered-right n fs j_asked.kept j_asked.outputs c)))
 
-  to_fronts : (fs : List WordFunction) → Covered n fs j_fronts → Covered n fs made
-  to_fronts fs c = covered-right n fs j_base (j_kept ++ j_data ++ j_fronts ++ j_orphan) (covered-left n fs (j_kept ++ j_data ++ j_fronts) j_orphan (covered-right n fs (j_kept ++ j_data) j_fronts c))
+  to_fronts : (fs : List WordFunction) → Covered n fs j_asked.conjunctions → Covered n fs made
+  to_fronts fs c = covered-right n fs j_asked.base (j_asked.kept ++ j_asked.outputs ++ j_asked.conjunctions ++ j_asked.orphan) (covered-left n fs (j_asked.kept ++ j_asked.outputs ++ j_asked.conjunctions) j_asked.orphan (covered-right n fs (j_asked.kept ++ j_asked.outputs) j_asked.conjunctions c))
 
-  to_orphan : (fs : List WordFunction) → Covered n fs j_orphan → Covered n fs made
-  to_orphan fs c = covered-right n fs j_base (j_kept ++ j_data ++ j_fronts ++ j_orphan) (covered-right n fs (j_kept ++ j_data ++ j_fronts) j_orphan c)
+  to_orphan : (fs : List WordFunction) → Covered n fs j_asked.orphan → Covered n fs made
+  to_orphan fs c = covered-right n fs j_asked.base (j_asked.kept ++ j_asked.outputs ++ j_asked.conjunctions ++ j_asked.orphan) (covered-right n fs (j_asked.kept ++ j_asked.outputs ++ j_asked.conjunctions) j_asked.orphan c)
 
   asked_made : Covered n asked made
   asked_made =
-      covered-append n earlier (functions_at way own place) made (before_made made (to_base j_base (itself j_base)))
-      (covered-append n (own_base ++ own_kept ++ own_data ++ own_fronts) own_orphan made
-      (covered-append n (own_base ++ own_kept ++ own_data) own_fronts made
-      (covered-append n (own_base ++ own_kept) own_data made
-      (covered-append n own_base own_kept made (to_base own_base base_there) (to_kept own_kept kept_there))
-      (to_data own_data data_there))
-      (to_fronts own_fronts fronts_there))
-      (to_orphan own_orphan orphan_there))
+      covered-append n earlier (functions_at way own place) made (before_made made (to_base j_asked.base (itself j_asked.base)))
+      (covered-append n (own_asked.base ++ own_asked.kept ++ own_asked.outputs ++ own_asked.conjunctions) own_asked.orphan made
+      (covered-append n (own_asked.base ++ own_asked.kept ++ own_asked.outputs) own_asked.conjunctions made
+      (covered-append n (own_asked.base ++ own_asked.kept) own_asked.outputs made
+      (covered-append n own_asked.base own_asked.kept made (to_base own_asked.base base_there) (to_kept own_asked.kept kept_there))
+      (to_data own_asked.outputs data_there))
+      (to_fronts own_asked.conjunctions fronts_there))
+      (to_orphan own_asked.orphan orphan_there))
 
-  base_back : Covered n j_base asked
+  base_back : Covered n j_asked.base asked
   base_back = net-function_back base_j (functions_at way own place)
       (λ k net lt m w wide. base-at w wide k (omega (arith, lt)) net m)
       (λ net m. let f : WordFunction = λ word. values_on way own Base word net in (
         f,
-        Member-append_left f own_orphan (Member-append_left f own_fronts (Member-append_left f own_data (Member-append_left f own_kept (Member-map (λ x. λ word. values_on way own Base word x) net m)))),
+        Member-append_left f own_asked.orphan (Member-append_left f own_asked.conjunctions (Member-append_left f own_asked.outputs (Member-append_left f own_asked.kept (Member-map (λ x. λ word. values_on way own Base word x) net m)))),
         λ w wide. base-at w wide before (omega arith) net m,
       ))
 
-  kept_back : Covered n j_kept asked
+  kept_back : Covered n j_asked.kept asked
   kept_back = net-function_back kept_j (functions_at way own place)
       (λ k net lt m w wide. kept-before w wide k lt net m)
       (λ net m. let f : WordFunction = λ word. kept_own word net in (
         f,
-        Member-append_left f own_orphan (Member-append_left f own_fronts (Member-append_left f own_data (Member-append_right own_base f (Member-map (λ x. λ word. kept_own word x) net m)))),
+        Member-append_left f own_asked.orphan (Member-append_left f own_asked.conjunctions (Member-append_left f own_asked.outputs (Member-append_right own_asked.base f (Member-map (λ x. λ word. kept_own word x) net m)))),
         λ w wide. kept-own w wide net m,
       ))
 
   made_asked : Covered n made asked
   made_asked =
-      covered-append n j_base (j_kept ++ j_data ++ j_fronts ++ j_orphan) asked base_back
-      (covered-append n (j_kept ++ j_data ++ j_fronts) j_orphan asked
-      (covered-append n (j_kept ++ j_data) j_fronts asked
-      (covered-append n j_kept j_data asked kept_back (by_data j_data data_back))
-      (by_fronts j_fronts fronts_back))
-      (by_orphan j_orphan orphan_back))
+      covered-append n j_asked.base (j_asked.kept ++ j_asked.outputs ++ j_asked.conjunctions ++ j_asked.orphan) asked base_back
+      (covered-append n (j_asked.kept ++ j_asked.outputs ++ j_asked.conjunctions) j_asked.orphan asked
+      (covered-append n (j_asked.kept ++ j_asked.outputs) j_asked.conjunctions asked
+      (covered-append n j_asked.kept j_asked.outputs asked kept_back (by_data j_asked.outputs data_back))
+      (by_fronts j_asked.conjunctions fronts_back))
+      (by_orphan j_asked.orphan orphan_back))
 
   -- the tables of the joined stage have the beads of those of an explanation
   pub beads-joined : distinct_beads n (map (table_of (words n)) made) ≡ distinct_beads n (map (table_of (words n)) asked)

@@ -4,4 +4,3 @@ pub mod Why
 pub mod Joined
 pub mod Search
 pub mod Explained
-pub mod Refusals

@@ -1,21 +1,18 @@
 //! Why a cell is an orphan.
 ghost use Rattle.std.specs.Prelude.{◌≡◌, ◌<◌, ◌≤◌, ◌-◌, ◌∷◌, [], ℕ, IfOk, IsErrOf, length};
-ghost use Rattle.ncl_cell_rules.specs.Free.{IsFree};
-ghost use Rattle.ncl_cell_rules.specs.Origins.{AreOrigins};
 ghost use Rattle.ncl_machine.specs.Held.{IsFor, meaning};
 ghost use Rattle.ncl_machine.specs.State.{reset};
 ghost use Rattle.ncl_hazard.specs.Trying.{HasNoDataBank, Loses};
 ghost use Rattle.ncl_hazard.specs.Explained.{AreSoundBefore, BringsOrphan, IsExplained, IsOrphanAt, IsPastLimit, StandsAt};
 
-use crate::fault::ExplainFault;
 use crate::schedule::{coming_items, going_items};
 use crate::search::least_bringing;
 use crate::trying::losing_run;
 use ncl_base::{Items, Memory, Word};
-use ncl_cell_rules::{CellFault, Origins, find_origins};
-use ncl_machine::State;
-use ncl_netlist::{CellId, Netlist};
+use ncl_machine::{State, origins_of};
+use ncl_netlist::CellId;
 use ncl_shape::{Item, Pipeline, Stage};
+use ncl_space::SpaceFault;
 use std::alloc::Global;
 
 /// The items of a run, in order.
@@ -42,18 +39,6 @@ fn place_of(stage: &Stage, cell: CellId) -> usize
         }
     }
     unreachable!()
-}
-
-/// What is known of where the nets of a netlist come from that keeps the first five rules of shape.
-fn origins_of(alloc: Global, netlist: &Netlist) -> Result<Origins, Memory>
-    requires { IsFree netlist.now }
-    ensures { IfOk result (AreOrigins netlist.now) }
-{
-    match find_origins(alloc, netlist) {
-        Ok(origins) => Ok(origins),
-        Err(CellFault::Memory) => Err(Memory),
-        Err(_) => unreachable!(),
-    }
 }
 
 /// The state at reset with one word offered. Linear in nets, cells and bits.
@@ -104,13 +89,13 @@ pub fn explain(
     stage: u32,
     cell: CellId,
     limit: u32,
-) -> Result<Explained, ExplainFault>
+) -> Result<Explained, SpaceFault>
     requires stage { 1 ≤ stage }
     requires limit { 1 ≤ limit }
     requires null { HasNoDataBank pipeline.now }
     requires orphan { IsOrphanAt pipeline.now (stage - 1) cell }
     ensures explained { IfOk result (IsExplained pipeline.now (stage - 1) cell limit) }
-    ensures full { IsErrOf result ExplainFault.Full → IsPastLimit pipeline.now (stage - 1) cell limit }
+    ensures full { IsErrOf result SpaceFault.Full → IsPastLimit pipeline.now (stage - 1) cell limit }
 {
     pipeline.facts();
     let before = stage as usize - 1;

@@ -17,7 +17,6 @@
 #![tactic(auto)]
 
 mod explaining;
-mod fault;
 mod joining;
 pub mod laws;
 mod schedule;
@@ -25,4 +24,3 @@ mod search;
 mod trying;
 
 pub use explaining::{Explained, Steps, explain};
-pub use fault::ExplainFault;

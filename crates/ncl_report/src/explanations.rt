@@ -9,10 +9,11 @@ use crate::line::{line_of, push_word};
 use crate::traces::push_number;
 use itoa::Buffer;
 use ncl_base::{Memory, Word};
-use ncl_hazard::{ExplainFault, Explained, explain};
+use ncl_hazard::{Explained, explain};
 use ncl_machine::Item;
 use ncl_netlist::CellId;
 use ncl_shape::Pipeline;
+use ncl_space::SpaceFault;
 use ncl_verdict::Verdict;
 use std::alloc::Global;
 
@@ -40,8 +41,8 @@ pub fn why_text(
     }
     match explain(alloc, pipeline, *stage, *cell, limit) {
         Ok(told) => explained_text(alloc, pipeline, *cell, &told),
-        Err(ExplainFault::Full) => past_limit(alloc, limit),
-        Err(ExplainFault::Memory) => Err(Memory),
+        Err(SpaceFault::Full) => past_limit(alloc, limit),
+        Err(SpaceFault::Memory) => Err(Memory),
     }
 }
 

@@ -1,32 +1,19 @@
-use Rattle.std.proofs.Common.{◌≡◌, ℕ, ◌-◌, ◌≤◌, Result, Ok, Err, Option, None, Some, List, [], ◌∷◌, get_or, refl, sym, ap, ◌∙◌, subst}
-use Rattle.std.specs.Prelude.{IsErrAnd, slice_get}
+use Rattle.std.proofs.Common.{◌≡◌, ℕ, ◌-◌, ◌≤◌, Err, Option, None, Some, List, [], ◌∷◌, get_or, refl, sym, ap, ◌∙◌, subst}
+use Rattle.std.specs.Prelude.{slice_get}
 use Rattle.std.proofs.lemmas.Option.{slice_get_within}
 use Rattle.ncl_netlist.specs.declared.ids.CellId.{CellId}
 use Rattle.ncl_shape.specs.Stage.{StageData}
 use Rattle.ncl_shape.specs.Pipeline.{PipelineData}
-use Rattle.ncl_space.specs.declared.space.SpaceFault.{SpaceFault}
-use Rattle.ncl_space.specs.declared.space.SpaceFault.TheVariants as space
+use Rattle.ncl_space.proofs.MakingLaws.{handed_on}
 use Rattle.ncl_machine.specs.State.{reset}
-use Rattle.ncl_hazard.specs.declared.fault.ExplainFault.{ExplainFault}
-use Rattle.ncl_hazard.specs.declared.fault.ExplainFault.TheVariants as explain
 use Rattle.ncl_hazard.specs.declared.explaining.Explained.{Explained}
 use Rattle.ncl_hazard.specs.Why.{why_count}
 use Rattle.ncl_hazard.specs.Trying.{Loses}
 use Rattle.ncl_hazard.specs.Explained.{IsExplained, IsPlaceOf, StandsAt, TellsOfCell}
-use Rattle.ncl_hazard.specs.Refusals.{told_as}
 use Rattle.ncl_hazard.proofs.InputLaws.{stage-at}
 use Rattle.ncl_hazard.proofs.OrphanPlaces.{stands-somewhere}
 use Rattle.ncl_hazard.proofs.ShownLaws.{brings-least}
 use Rattle.ncl_hazard.proofs.explaining.explain.Goals as goal
-
--- the refusal that is told as Full
-full-was : (fault : SpaceFault) → told_as fault ≡ explain.Full → fault ≡ space.Full
-full-was space.Full e = refl
-full-was space.Memory e = absurd cc
-
-full-given : {X : Type 0} (r : Result X ExplainFault) (fault : SpaceFault) → IsErrAnd r (λ f. f ≡ told_as fault) → r ≡ Err explain.Full → fault ≡ space.Full
-full-given (Ok x) fault is e = absurd is
-full-given (Err f) fault is e = let same : f ≡ explain.Full = cc in full-was fault (sym is ∙ same)
 
 -- where nothing is found, and what isn't Some is None
 none-is : {X : Type 0} (o : Option X) → ((x : X) → o ≡ Some x → ⊥) → o ≡ None
@@ -65,7 +52,7 @@ returns-in_err-input-clause-full c = λ e.
       own = o.own;
       place = c.place_of-place.result;
       of_cell = place-own c.args.pipeline.now c.stages.result.now (c.args.stage - 1) c.args.cell c.place_of-place.result c.index-stages-before.result o.own c.stages.ensures.stages c.index-stages-before.is c.place_of-place.ensures o.at;
-      past = c.in_err-input.ensures.full (ap Err (full-given c.from_residual.result c.in_err-input.field-0.0 c.from_residual.ensures.1 e));
+      past = c.in_err-input.ensures.full (ap Err (handed_on c.from_residual.result c.in_err-input.field-0.0 c.from_residual.ensures.1 e));
     }
 
 pub returns-in_default-clause-explained : goal.returns-in_default-clause-explained

@@ -27,7 +27,6 @@ pub fn input_complete<P: Space>(
     base: &Values,
     bit: usize,
 ) -> Result<Option<Word>, SpaceFault>
-    requires width { (P.meaning space.old).width ≡ length stage.now.inputs }
     requires base { AreValues (P.meaning space.old) stage.now Variant.Base base.now }
     requires bit { bit < length stage.now.inputs }
     ensures word { IfOk result (λ word. word ≡ least_word_by base.now.wiring.order stage.now (Incomplete bit)) }
@@ -36,6 +35,7 @@ pub fn input_complete<P: Space>(
     ensures full { IsErrOf result SpaceFault.Full → fits (P.meaning space.old) (tables_by base.now.wiring.order stage.now (Variant.Bit bit)) ≡ false }
     ensures fits { OnOk result (fits (P.meaning space.old) (tables_by base.now.wiring.order stage.now (Variant.Bit bit)) ≡ true) }
 {
+    stage.facts();
     let start = space.mark();
     match all_data(alloc, space, stage, base, Variant::Bit(bit)) {
         Ok(all) => {

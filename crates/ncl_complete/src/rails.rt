@@ -38,7 +38,6 @@ pub fn valid_rails<P: Space>(
     stage: &Stage,
     base: &Values,
 ) -> Result<Option<RailFault>, SpaceFault>
-    requires width { (P.meaning space.old).width ≡ length stage.now.inputs }
     requires base { AreValues (P.meaning space.old) stage.now Variant.Base base.now }
     ensures found { IfOk result (λ found. found ≡ first_rail_fault_by base.now.wiring.order stage.now) }
     ensures live { OnOk result (All (IsNamed (P.meaning space.new)) (tables_by base.now.wiring.order stage.now Variant.Base)) }
@@ -49,6 +48,7 @@ pub fn valid_rails<P: Space>(
     ensures full { IsErrOf result SpaceFault.Full → fits (P.meaning space.old) (tables_by base.now.wiring.order stage.now Variant.Base) ≡ false }
     ensures fits { OnOk result (fits (P.meaning space.old) (tables_by base.now.wiring.order stage.now Variant.Base) ≡ true) }
 {
+    stage.facts();
     let start = space.mark();
     match output_refs(alloc, space, stage, base) {
         Ok(refs) => Ok(first_fault(space, stage, base.order(), &refs)),
@@ -66,7 +66,6 @@ fn output_refs<P: Space>(
     stage: &Stage,
     base: &Values,
 ) -> Result<OutputRefs, SpaceFault>
-    requires width { (P.meaning space.old).width ≡ length stage.now.inputs }
     requires base { AreValues (P.meaning space.old) stage.now Variant.Base base.now }
     requires space { IsSpace (P.meaning space.old) }
     ensures some { let v : ValuesAt = λ word. val stage.now word Variant.Base in

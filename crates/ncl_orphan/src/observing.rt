@@ -32,7 +32,6 @@ pub fn orphan<P: Space>(
     base: &Values,
     cell: usize,
 ) -> Result<Option<Word>, SpaceFault>
-    requires width { (P.meaning space.old).width ≡ length stage.now.inputs }
     requires base { AreValues (P.meaning space.old) stage.now Variant.Base base.now }
     requires cell { cell < length stage.now.cells }
     ensures word { IfOk result (λ word. word ≡ least_word_by base.now.wiring.order stage.now (Orphan cell)) }
@@ -41,6 +40,7 @@ pub fn orphan<P: Space>(
     ensures full { IsErrOf result SpaceFault.Full → fits (P.meaning space.old) (tables_by base.now.wiring.order stage.now (Variant.Cell cell)) ≡ false }
     ensures fits { OnOk result (fits (P.meaning space.old) (tables_by base.now.wiring.order stage.now (Variant.Cell cell)) ≡ true) }
 {
+    stage.facts();
     let start = space.mark();
     match unobserved(alloc, space, stage, base, cell) {
         Ok(high) => {
@@ -63,7 +63,6 @@ fn unobserved<P: Space>(
     base: &Values,
     cell: usize,
 ) -> Result<Ref, SpaceFault>
-    requires width { (P.meaning space.old).width ≡ length stage.now.inputs }
     requires base { AreValues (P.meaning space.old) stage.now Variant.Base base.now }
     requires cell { cell < length stage.now.cells }
     requires space { IsSpace (P.meaning space.old) }

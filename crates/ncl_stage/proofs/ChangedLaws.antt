@@ -1,5 +1,5 @@
 -- What a variant leaves unchanged, net by net in the order of a stage.
-use Rattle.std.proofs.Common.{◌≡◌, ℕ, zero, suc, ◌+◌, ◌*◌, ◌/◌, ◌%◌, ◌<◌, Bool, true, false, not, ◌&&◌, List, [], ◌∷◌, ◌++◌, length, map, take, drop, get_or, inl, inr, refl, sym, ap, ◌∙◌, subst, arith}
+use Rattle.std.proofs.Common.{◌≡◌, ℕ, zero, suc, ◌+◌, ◌*◌, ◌/◌, ◌%◌, ◌^◌, ◌<◌, Bool, true, false, not, ◌&&◌, List, [], ◌∷◌, ◌++◌, length, map, take, drop, get_or, inl, inr, refl, sym, ap, ◌∙◌, subst, arith}
 use Rattle.std.specs.Prelude.{All, Contains, ◌↔◌, nat_eq}
 use Rattle.std.specs.List.{list_any, take-map}
 use Rattle.std.proofs.lemmas.Bool.{cases_lt, or_parts}
@@ -15,10 +15,13 @@ use Rattle.ncl_shape.specs.Stage.{StageData, IsStage, named_rails, rail_nets, ra
 use Rattle.ncl_shape.proofs.RailLaws.{rails-length}
 use Rattle.ncl_base.proofs.Members.{Member, Member-get_or}
 use Rattle.ncl_space.specs.Functions.{gate_table}
-use Rattle.ncl_space.specs.Space.{SpaceData, IsLive, Keeps}
+use Rattle.std.proofs.Math.Pow.{pow-lt}
+use Rattle.ncl_space.specs.Table.{words}
+use Rattle.ncl_space.specs.Space.{SpaceData, IsLive, IsSpace, Keeps}
 use Rattle.ncl_space.specs.declared.space.Ref.{Ref}
 use Rattle.ncl_space.proofs.MakingLaws.{have-kept, have-at, have-length}
-use Rattle.ncl_stage.specs.BitOrder.{IsOrderOf, words_by}
+use Rattle.ncl_space.proofs.TableLaws.{length-table_of}
+use Rattle.ncl_stage.specs.BitOrder.{IsOrderOf, placed, words_by}
 use Rattle.ncl_stage.proofs.OrderedTables.{table-any}
 use Rattle.ncl_stage.specs.declared.variant.Variant.{Variant}
 use Rattle.ncl_stage.specs.declared.variant.Variant.TheVariants.{Base}
@@ -174,3 +177,27 @@ value-at space s variant v are place d lt =
     let many : length v.refs ≡ length (nets_of s.inputs s.cells) = have-length space v.refs (net_tables_by v.wiring.order s variant) are.shown ∙ length-map (nets_of s.inputs s.cells) (net_table_by v.wiring.order s variant) in
     let within : place < length v.refs = omega arith in
     (are.shown.live place d within, have-at space v.refs (net_tables_by v.wiring.order s variant) are.shown place d [] within ∙ table-at s v.wiring.order variant place lt)
+
+-- so many words have only the words of so many bits
+same-power : (a b : ℕ) → 2 ^ a ≡ 2 ^ b → a ≡ b
+same-power a b same = elim (cases_lt a b) [
+  | inl less ↦ (let lt = pow-lt less in absurd (omega (arith, lt, same)))
+  | inr least ↦
+      elim (cases_lt b a) [
+        | inl more ↦ (let lt = pow-lt more in absurd (omega (arith, lt, same)))
+        | inr most ↦ omega (arith, least, most)
+      ]
+]
+
+-- a space that has the values of a stage has its width
+pub values-width : (space : SpaceData) (s : StageData) (variant : Variant) (v : ValuesData) → IsSpace space → IsStage s → AreValues space s variant v → space.width ≡ length s.inputs
+values-width space s variant v is stage are =
+    let many = nets-length s in
+    let first : Ref = get_or v.refs 0 (record { place = 0 }) in
+    let value = value-at space s variant v are 0 (record { place = 0 }) (omega (arith, stage.some_inputs, many)) in
+    let f : List Bool → Bool = λ word. val s word variant (net_at s 0) in
+    same-power space.width (length s.inputs)
+    (sym (is.tables first value.0) ∙ ap length value.1
+    ∙ length-map (words_by v.wiring.order) f ∙ length-map (words (length v.wiring.order)) (placed v.wiring.order)
+    ∙ sym (length-map (words (length v.wiring.order)) (λ word. false)) ∙ length-table_of (length v.wiring.order) (λ word. false)
+    ∙ ap (λ n. 2 ^ n) are.wired.order.many)

@@ -33,7 +33,6 @@ pub fn net_refs_from<P: Space>(
     base: &Values,
     variant: Variant,
 ) -> Result<Vec<Ref>, SpaceFault>
-    requires width { (P.meaning space.old).width ≡ length stage.now.inputs }
     requires base { AreValues (P.meaning space.old) stage.now Variant.Base base.now }
     requires space { IsSpace (P.meaning space.old) }
     ensures made { IfOk result (λ refs. MakesAll (P.meaning space.old) (P.meaning space.new) refs.items (net_tables_by base.now.wiring.order stage.now variant)) }
@@ -154,7 +153,6 @@ fn ref_from<P: Space>(
     refs: &[Ref],
     changed: &[bool],
 ) -> Result<Ref, SpaceFault>
-    requires width { (P.meaning space.old).width ≡ length stage.now.inputs }
     requires base { AreValues (P.meaning space.old) stage.now Variant.Base base.now }
     requires place { place < length (nets_of stage.now.inputs stage.now.cells) }
     requires space { IsSpace (P.meaning space.old) }

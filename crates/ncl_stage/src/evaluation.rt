@@ -126,7 +126,6 @@ pub fn revalue<P: Space>(
     base: &Values,
     variant: Variant,
 ) -> Result<Values, SpaceFault>
-    requires width { (P.meaning space.old).width ≡ length stage.now.inputs }
     requires base { AreValues (P.meaning space.old) stage.now Variant.Base base.now }
     ensures values { IfOk result (AreValues (P.meaning space.new) stage.now variant) }
     ensures order { IfOk result (λ values. values.wiring.order ≡ base.now.wiring.order) }
@@ -155,7 +154,6 @@ fn make_values_from<P: Space>(
     base: &Values,
     variant: Variant,
 ) -> Result<Values, SpaceFault>
-    requires width { (P.meaning space.old).width ≡ length stage.now.inputs }
     requires base { AreValues (P.meaning space.old) stage.now Variant.Base base.now }
     requires space { IsSpace (P.meaning space.old) }
     ensures values { IfOk result (AreValues (P.meaning space.new) stage.now variant) }

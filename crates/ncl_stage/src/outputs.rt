@@ -134,7 +134,6 @@ pub fn all_data<P: Space>(
     base: &Values,
     variant: Variant,
 ) -> Result<Ref, SpaceFault>
-    requires width { (P.meaning space.old).width ≡ length stage.now.inputs }
     requires base { AreValues (P.meaning space.old) stage.now Variant.Base base.now }
     requires space { IsSpace (P.meaning space.old) }
     ensures live { IfOk result (IsLive (P.meaning space.new)) }

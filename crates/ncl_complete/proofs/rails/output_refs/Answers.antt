@@ -16,6 +16,7 @@ use Rattle.ncl_stage.specs.Wiring.{WiringData}
 use Rattle.ncl_stage.specs.StageTables.{AreValues, ValuesData, net_table_by, net_tables_by, pair_table, front_tables}
 use Rattle.ncl_stage.proofs.OutputLaws.{values_at, outputs-within, data-tables, illegal-tables, front-tables, shared-tables}
 use Rattle.ncl_stage.proofs.LeastLaws.{tables_of-parts}
+use Rattle.ncl_stage.proofs.ChangedLaws.{values-width}
 use Rattle.ncl_complete.proofs.rails.output_refs.Goals as goal
 
 -- the lists of tables of Base
@@ -118,17 +119,17 @@ data_tables-requires-clause-within g c =
 pub returns-in_err-some-clause-full : goal.returns-in_err-some-clause-full
 returns-in_err-some-clause-full g c = λ e.
     let old : SpaceData = g.P.Space.meaning c.args.space.now in
-    some-over c.args.stage.now c.facts.ensures old c.requires.space c.requires.width c.args.base.now c.requires.base
-    (subst (λ tables. fits old tables ≡ false) (made-some c.args.stage.now c.facts.ensures old c.requires.width c.args.base.now c.requires.base c.refs.result.now c.refs.ensures.refs c.wiring.result.now c.wiring.ensures)
+    some-over c.args.stage.now c.facts.ensures old c.requires.space (values-width (g.P.Space.meaning c.args.space.now) c.args.stage.now Base c.args.base.now c.requires.space c.facts.ensures c.requires.base) c.args.base.now c.requires.base
+    (subst (λ tables. fits old tables ≡ false) (made-some c.args.stage.now c.facts.ensures old (values-width (g.P.Space.meaning c.args.space.now) c.args.stage.now Base c.args.base.now c.requires.space c.facts.ensures c.requires.base) c.args.base.now c.requires.base c.refs.result.now c.refs.ensures.refs c.wiring.result.now c.wiring.ensures)
     (c.in_err-some.ensures.full (ap Err (handed_on c.from_residual.result c.in_err-some.field-0.0 c.from_residual.ensures.1 e))))
 
 pub returns-in_err-data_fronts-clause-full : goal.returns-in_err-data_fronts-clause-full
 returns-in_err-data_fronts-clause-full g c = λ e.
     let old : SpaceData = g.P.Space.meaning c.args.space.now in
     let mid : SpaceData = g.P.Space.meaning c.data_tables.new.space in
-    let first = subst (MakesAll old mid c.in_ok-some.some.items) (made-some c.args.stage.now c.facts.ensures old c.requires.width c.args.base.now c.requires.base c.refs.result.now c.refs.ensures.refs c.wiring.result.now c.wiring.ensures) c.in_ok-some.ensures.made in
-    fronts-over c.args.stage.now c.facts.ensures old c.requires.space c.requires.width c.args.base.now c.requires.base mid c.in_ok-some.ensures.kept c.in_ok-some.some.items first
-    (subst (λ tables. fits mid tables ≡ false) (made-fronts c.args.base.now.wiring.order c.args.stage.now c.requires.base.wired.order mid (c.in_ok-some.ensures.kept.width ∙ c.requires.width) c.as_slice.result.now (ap (map mid.table) c.as_slice.ensures.value ∙ first.refs_of.tables))
+    let first = subst (MakesAll old mid c.in_ok-some.some.items) (made-some c.args.stage.now c.facts.ensures old (values-width (g.P.Space.meaning c.args.space.now) c.args.stage.now Base c.args.base.now c.requires.space c.facts.ensures c.requires.base) c.args.base.now c.requires.base c.refs.result.now c.refs.ensures.refs c.wiring.result.now c.wiring.ensures) c.in_ok-some.ensures.made in
+    fronts-over c.args.stage.now c.facts.ensures old c.requires.space (values-width (g.P.Space.meaning c.args.space.now) c.args.stage.now Base c.args.base.now c.requires.space c.facts.ensures c.requires.base) c.args.base.now c.requires.base mid c.in_ok-some.ensures.kept c.in_ok-some.some.items first
+    (subst (λ tables. fits mid tables ≡ false) (made-fronts c.args.base.now.wiring.order c.args.stage.now c.requires.base.wired.order mid (c.in_ok-some.ensures.kept.width ∙ (values-width (g.P.Space.meaning c.args.space.now) c.args.stage.now Base c.args.base.now c.requires.space c.facts.ensures c.requires.base)) c.as_slice.result.now (ap (map mid.table) c.as_slice.ensures.value ∙ first.refs_of.tables))
     (c.in_err-data_fronts.ensures.full (ap Err (handed_on c.from_residual-in_err-data_fronts.result c.in_err-data_fronts.field-0.0 c.from_residual-in_err-data_fronts.ensures.1 e))))
 
 pub pair_refs-requires-clause-within : goal.pair_refs-requires-clause-within
@@ -143,10 +144,10 @@ returns-in_err-both-clause-full g c = λ e.
     let old : SpaceData = g.P.Space.meaning c.args.space.now in
     let mid : SpaceData = g.P.Space.meaning c.data_tables.new.space in
     let now : SpaceData = g.P.Space.meaning c.data_fronts.new.space in
-    let first = subst (MakesAll old mid c.in_ok-some.some.items) (made-some c.args.stage.now c.facts.ensures old c.requires.width c.args.base.now c.requires.base c.refs.result.now c.refs.ensures.refs c.wiring.result.now c.wiring.ensures) c.in_ok-some.ensures.made in
-    let second = subst (MakesAll mid now c.in_ok-data_fronts.field-0.items) (made-fronts c.args.base.now.wiring.order c.args.stage.now c.requires.base.wired.order mid (c.in_ok-some.ensures.kept.width ∙ c.requires.width) c.as_slice.result.now (ap (map mid.table) c.as_slice.ensures.value ∙ first.refs_of.tables)) c.in_ok-data_fronts.ensures.made in
-    both-over c.args.stage.now c.facts.ensures old c.requires.space c.requires.width c.args.base.now c.requires.base mid c.in_ok-some.ensures.kept c.in_ok-some.some.items first now c.in_ok-data_fronts.ensures.kept c.in_ok-data_fronts.field-0.items second
-    (subst (λ tables. fits now tables ≡ false) (made-both c.args.stage.now c.facts.ensures old now (keeps_along old mid now c.in_ok-some.ensures.kept c.in_ok-data_fronts.ensures.kept) c.requires.width c.args.base.now c.requires.base c.refs-2.result.now c.refs-2.ensures.refs c.outputs.result.now (c.outputs.ensures ∙ ap (λ (w : WiringData). w.outputs) c.wiring-2.ensures))
+    let first = subst (MakesAll old mid c.in_ok-some.some.items) (made-some c.args.stage.now c.facts.ensures old (values-width (g.P.Space.meaning c.args.space.now) c.args.stage.now Base c.args.base.now c.requires.space c.facts.ensures c.requires.base) c.args.base.now c.requires.base c.refs.result.now c.refs.ensures.refs c.wiring.result.now c.wiring.ensures) c.in_ok-some.ensures.made in
+    let second = subst (MakesAll mid now c.in_ok-data_fronts.field-0.items) (made-fronts c.args.base.now.wiring.order c.args.stage.now c.requires.base.wired.order mid (c.in_ok-some.ensures.kept.width ∙ (values-width (g.P.Space.meaning c.args.space.now) c.args.stage.now Base c.args.base.now c.requires.space c.facts.ensures c.requires.base)) c.as_slice.result.now (ap (map mid.table) c.as_slice.ensures.value ∙ first.refs_of.tables)) c.in_ok-data_fronts.ensures.made in
+    both-over c.args.stage.now c.facts.ensures old c.requires.space (values-width (g.P.Space.meaning c.args.space.now) c.args.stage.now Base c.args.base.now c.requires.space c.facts.ensures c.requires.base) c.args.base.now c.requires.base mid c.in_ok-some.ensures.kept c.in_ok-some.some.items first now c.in_ok-data_fronts.ensures.kept c.in_ok-data_fronts.field-0.items second
+    (subst (λ tables. fits now tables ≡ false) (made-both c.args.stage.now c.facts.ensures old now (keeps_along old mid now c.in_ok-some.ensures.kept c.in_ok-data_fronts.ensures.kept) (values-width (g.P.Space.meaning c.args.space.now) c.args.stage.now Base c.args.base.now c.requires.space c.facts.ensures c.requires.base) c.args.base.now c.requires.base c.refs-2.result.now c.refs-2.ensures.refs c.outputs.result.now (c.outputs.ensures ∙ ap (λ (w : WiringData). w.outputs) c.wiring-2.ensures))
     (c.in_err-both.ensures.full (ap Err (handed_on c.from_residual-in_err-both.result c.in_err-both.field-0.0 c.from_residual-in_err-both.ensures.1 e))))
 
 pub returns : goal.returns
@@ -155,14 +156,14 @@ returns g c =
     let mid : SpaceData = g.P.Space.meaning c.data_tables.new.space in
     let now : SpaceData = g.P.Space.meaning c.data_fronts.new.space in
     let new : SpaceData = g.P.Space.meaning c.pair_refs.new.space in
-    let first = subst (MakesAll old mid c.in_ok-some.some.items) (made-some c.args.stage.now c.facts.ensures old c.requires.width c.args.base.now c.requires.base c.refs.result.now c.refs.ensures.refs c.wiring.result.now c.wiring.ensures) c.in_ok-some.ensures.made in
-    let second = subst (MakesAll mid now c.in_ok-data_fronts.field-0.items) (made-fronts c.args.base.now.wiring.order c.args.stage.now c.requires.base.wired.order mid (c.in_ok-some.ensures.kept.width ∙ c.requires.width) c.as_slice.result.now (ap (map mid.table) c.as_slice.ensures.value ∙ first.refs_of.tables)) c.in_ok-data_fronts.ensures.made in
-    let third = subst (MakesAll now new c.in_ok-both.both.items) (made-both c.args.stage.now c.facts.ensures old now (keeps_along old mid now c.in_ok-some.ensures.kept c.in_ok-data_fronts.ensures.kept) c.requires.width c.args.base.now c.requires.base c.refs-2.result.now c.refs-2.ensures.refs c.outputs.result.now (c.outputs.ensures ∙ ap (λ (w : WiringData). w.outputs) c.wiring-2.ensures)) c.in_ok-both.ensures.made in
+    let first = subst (MakesAll old mid c.in_ok-some.some.items) (made-some c.args.stage.now c.facts.ensures old (values-width (g.P.Space.meaning c.args.space.now) c.args.stage.now Base c.args.base.now c.requires.space c.facts.ensures c.requires.base) c.args.base.now c.requires.base c.refs.result.now c.refs.ensures.refs c.wiring.result.now c.wiring.ensures) c.in_ok-some.ensures.made in
+    let second = subst (MakesAll mid now c.in_ok-data_fronts.field-0.items) (made-fronts c.args.base.now.wiring.order c.args.stage.now c.requires.base.wired.order mid (c.in_ok-some.ensures.kept.width ∙ (values-width (g.P.Space.meaning c.args.space.now) c.args.stage.now Base c.args.base.now c.requires.space c.facts.ensures c.requires.base)) c.as_slice.result.now (ap (map mid.table) c.as_slice.ensures.value ∙ first.refs_of.tables)) c.in_ok-data_fronts.ensures.made in
+    let third = subst (MakesAll now new c.in_ok-both.both.items) (made-both c.args.stage.now c.facts.ensures old now (keeps_along old mid now c.in_ok-some.ensures.kept c.in_ok-data_fronts.ensures.kept) (values-width (g.P.Space.meaning c.args.space.now) c.args.stage.now Base c.args.base.now c.requires.space c.facts.ensures c.requires.base) c.args.base.now c.requires.base c.refs-2.result.now c.refs-2.ensures.refs c.outputs.result.now (c.outputs.ensures ∙ ap (λ (w : WiringData). w.outputs) c.wiring-2.ensures)) c.in_ok-both.ensures.made in
     record {
-      some = some-there c.args.stage.now c.facts.ensures old c.requires.space c.requires.width c.args.base.now c.requires.base mid c.in_ok-some.ensures.kept c.in_ok-some.some.items first now c.in_ok-data_fronts.ensures.kept c.in_ok-data_fronts.field-0.items second new c.in_ok-both.ensures.kept c.in_ok-both.both.items third;
+      some = some-there c.args.stage.now c.facts.ensures old c.requires.space (values-width (g.P.Space.meaning c.args.space.now) c.args.stage.now Base c.args.base.now c.requires.space c.facts.ensures c.requires.base) c.args.base.now c.requires.base mid c.in_ok-some.ensures.kept c.in_ok-some.some.items first now c.in_ok-data_fronts.ensures.kept c.in_ok-data_fronts.field-0.items second new c.in_ok-both.ensures.kept c.in_ok-both.both.items third;
       both = third.refs_of;
-      live = all-named c.args.stage.now c.facts.ensures old c.requires.space c.requires.width c.args.base.now c.requires.base mid c.in_ok-some.ensures.kept c.in_ok-some.some.items first now c.in_ok-data_fronts.ensures.kept c.in_ok-data_fronts.field-0.items second new c.in_ok-both.ensures.kept c.in_ok-both.both.items third;
-      held = all-held c.args.stage.now c.facts.ensures old c.requires.space c.requires.width c.args.base.now c.requires.base mid c.in_ok-some.ensures.kept c.in_ok-some.some.items first now c.in_ok-data_fronts.ensures.kept c.in_ok-data_fronts.field-0.items second new c.in_ok-both.ensures.kept c.in_ok-both.both.items third;
+      live = all-named c.args.stage.now c.facts.ensures old c.requires.space (values-width (g.P.Space.meaning c.args.space.now) c.args.stage.now Base c.args.base.now c.requires.space c.facts.ensures c.requires.base) c.args.base.now c.requires.base mid c.in_ok-some.ensures.kept c.in_ok-some.some.items first now c.in_ok-data_fronts.ensures.kept c.in_ok-data_fronts.field-0.items second new c.in_ok-both.ensures.kept c.in_ok-both.both.items third;
+      held = all-held c.args.stage.now c.facts.ensures old c.requires.space (values-width (g.P.Space.meaning c.args.space.now) c.args.stage.now Base c.args.base.now c.requires.space c.facts.ensures c.requires.base) c.args.base.now c.requires.base mid c.in_ok-some.ensures.kept c.in_ok-some.some.items first now c.in_ok-data_fronts.ensures.kept c.in_ok-data_fronts.field-0.items second new c.in_ok-both.ensures.kept c.in_ok-both.both.items third;
       kept = search rules;
       space = search rules;
       full = search rules;

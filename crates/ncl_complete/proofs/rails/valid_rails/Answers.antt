@@ -1,9 +1,10 @@
-use Rattle.std.proofs.Common.{ℕ, List, sym, subst}
+use Rattle.std.proofs.Common.{ℕ, List, sym, ◌∙◌, subst}
 use Rattle.ncl_shape.specs.Stage.{StageData}
 use Rattle.ncl_space.specs.Making.{HaveTables}
 use Rattle.ncl_space.specs.Space.{SpaceData}
 use Rattle.ncl_stage.specs.declared.variant.Variant.TheVariants.{Base}
 use Rattle.ncl_stage.specs.Tables.{data_functions, function_tables_by, illegal_functions}
+use Rattle.ncl_stage.proofs.ChangedLaws.{values-width}
 use Rattle.ncl_stage.proofs.OutputLaws.{values_at}
 use Rattle.ncl_complete.proofs.rails.valid_rails.Goals as goal
 
@@ -18,3 +19,6 @@ first_fault-requires-clause-both g c =
     let s : StageData = c.args.stage.now in
     let new : SpaceData = g.P.Space.meaning c.output_refs.new.space in
     subst (λ (order : List ℕ). HaveTables new c.in-Ok.refs.both.items (function_tables_by order (illegal_functions s (values_at s Base)))) (sym c.order.ensures) c.in-Ok.ensures.both
+
+pub first_fault-requires-clause-width : goal.first_fault-requires-clause-width
+first_fault-requires-clause-width g c = c.in-Ok.ensures.kept.width ∙ values-width (g.P.Space.meaning c.args.space.now) c.args.stage.now Base c.args.base.now c.mark-start.ensures.space c.facts.ensures c.requires.base

@@ -1,5 +1,18 @@
-use Rattle.std.proofs.Common.{length, sym, ap, ◌∙◌}
+use Rattle.std.proofs.Common.{true, length, sym, ap, ◌∙◌}
+use Rattle.std.specs.Option.{option_map}
+use Rattle.ncl_space.specs.Functions.{least}
+use Rattle.ncl_space.specs.Space.{SpaceData}
+use Rattle.ncl_stage.specs.BitOrder.{placed}
+use Rattle.ncl_stage.specs.declared.variant.Variant.TheVariants.{Base}
+use Rattle.ncl_stage.proofs.ChangedLaws.{values-width}
 use Rattle.ncl_orphan.proofs.observing.orphan.Goals as goal
 
 pub least_one-word-requires-clause-width : goal.least_one-word-requires-clause-width
-least_one-word-requires-clause-width g c = c.in-Ok.ensures.kept.width ∙ c.requires.width ∙ sym (ap length c.order.ensures ∙ c.requires.base.wired.order.many)
+least_one-word-requires-clause-width g c = c.in-Ok.ensures.kept.width ∙ values-width (g.P.Space.meaning c.args.space.now) c.args.stage.now Base c.args.base.now c.mark-start.ensures.space c.facts.ensures c.requires.base ∙ sym (ap length c.order.ensures ∙ c.requires.base.wired.order.many)
+
+pub returns-in-Ok-clause-word : goal.returns-in-Ok-clause-word
+returns-in-Ok-clause-word g c =
+    let new : SpaceData = g.P.Space.meaning c.unobserved.new.space in
+    c.least_one-word.ensures
+    ∙ (λ k. option_map (placed (c.order.ensures k)) (least true ((c.in-Ok.ensures.kept.width ∙ values-width (g.P.Space.meaning c.args.space.now) c.args.stage.now Base c.args.base.now c.mark-start.ensures.space c.facts.ensures c.requires.base) k) (new.table c.in-Ok.high)))
+    ∙ c.in-Ok.ensures.least

@@ -17,6 +17,7 @@ use Rattle.ncl_stage.specs.LeastWords.{least_word_by}
 use Rattle.ncl_stage.specs.StageTables.{net_table_by, shared_tables_by}
 use Rattle.ncl_stage.specs.Tables.{tables_by}
 use Rattle.ncl_orphan.proofs.OrphanLaws.{unobserved_table, cell-tables, unobserved-made, unobserved-least}
+use Rattle.ncl_stage.proofs.ChangedLaws.{values-width}
 use Rattle.ncl_orphan.proofs.observing.unobserved.Goals as goal
 
 -- a cell of a list that has some
@@ -57,7 +58,7 @@ returns g c =
     let one : mid.table high ≡ net_table_by c.args.base.now.wiring.order s Base (get_or s.cells cell d).out.0 = c.in_ok-all.ensures.kept.tables high shown.0 ∙ shown.1 ∙ ap (λ xs. net_table_by c.args.base.now.wiring.order s Base (get_or xs cell d).out.0) cells in
     let last : List Bool = unobserved_table c.args.base.now.wiring.order s cell (get_or s.cells cell d) in
     let is : gate_table mid.width Th22 (mid.table high ∷ mid.table c.in_ok-all.all ∷ []) ≡ last =
-    (λ k. gate_table ((c.in_ok-all.ensures.kept.width ∙ c.requires.width) k) Th22 (one k ∷ c.in_ok-all.ensures.table k ∷ [])) ∙ unobserved-made s c.args.base.now.wiring.order c.requires.base.wired.order cell (get_or s.cells cell d) in
+    (λ k. gate_table ((c.in_ok-all.ensures.kept.width ∙ (values-width (g.P.Space.meaning c.args.space.now) c.args.stage.now Base c.args.base.now c.requires.space c.facts.ensures c.requires.base)) k) Th22 (one k ∷ c.in_ok-all.ensures.table k ∷ [])) ∙ unobserved-made s c.args.base.now.wiring.order c.requires.base.wired.order cell (get_or s.cells cell d) in
     let along : fits mid (last ∷ []) ≡ fits old (tables_by c.args.base.now.wiring.order s (Cell cell)) =
     fits-along old mid (shared_tables_by c.args.base.now.wiring.order s (Cell cell)) (last ∷ []) c.in_ok-all.ensures.kept c.in_ok-all.ensures.held ∙ ap (fits old) (sym (cell-tables s c.args.base.now.wiring.order cell d c.requires.cell)) in
     record {

@@ -82,7 +82,6 @@ ref_from-requires g c =
     let found = first c.loop-place.waiting.items c.as_slice.result.now c.len.result (length c.loop-place.refs.items) c.in-Some.place c.as_slice.ensures.value (omega (arith, c.len.ensures)) c.in-Some.ensures in
     let up = made-up-to (g.P.Space.meaning c.args.space.now) now s c.args.base.now c.args.variant c.facts.ensures c.requires.base c.loop-place.refs.items c.refs-all.result.now c.extend_from_slice.new.self.items c.loop-place.waiting.items c.len-in-Some.result c.in-Some.place inv.making inv.waiting found c.refs-all.ensures.refs (omega (arith, c.len-in-Some.ensures)) c.in_ok-extend_from_slice.ensures.items in
     record {
-      width = search rules;
       base = values-kept (g.P.Space.meaning c.args.space.now) (g.P.Space.meaning c.loop-place.space) c.args.stage.now Base c.args.base.now c.loop-place.invariant.making.kept c.requires.base;
       place = search rules;
       space = search rules;

@@ -12,7 +12,7 @@ use Rattle.ncl_stage.specs.Changes.{IsUnreached, MarksChanges, net_at}
 use Rattle.ncl_stage.specs.StageTables.{net_table_by, net_tables_by}
 use Rattle.ncl_stage.specs.Values.{kept_low}
 use Rattle.ncl_stage.specs.Wiring.{WiringData}
-use Rattle.ncl_stage.proofs.ChangedLaws.{value-at}
+use Rattle.ncl_stage.proofs.ChangedLaws.{value-at, values-width}
 use Rattle.ncl_stage.proofs.NetLaws.{low-net}
 use Rattle.ncl_stage.proofs.changes.ref_from.Goals as goal
 
@@ -35,7 +35,7 @@ returns-then-is_kept_low-clause-made g c =
     let net : c.net.result.0 ≡ net_at s c.args.place = c.net.ensures ∙ ap (λ nets. get_or nets c.args.place 0) (ap (λ (w : WiringData). w.nets) c.wiring-wiring.ensures ∙ c.requires.base.wired.nets) in
     let low : kept_low s c.args.variant (net_at s c.args.place) ≡ true = ap (kept_low s c.args.variant) (sym net) ∙ sym c.is_kept_low.ensures ∙ c.if-is_kept_low.true in
     makes-live (g.P.Space.meaning c.args.space.now) c.constant.result (net_table_by c.args.base.now.wiring.order s c.args.variant (net_at s c.args.place)) c.requires.space c.constant.ensures.live
-    (c.constant.ensures.table ∙ ap (λ n. constant_table n false) c.requires.width
+    (c.constant.ensures.table ∙ ap (λ n. constant_table n false) (values-width (g.P.Space.meaning c.args.space.now) c.args.stage.now Base c.args.base.now c.requires.space c.facts.ensures c.requires.base)
     ∙ sym (low-net s c.args.base.now.wiring.order c.requires.base.wired.order c.facts.ensures c.args.variant (net_at s c.args.place) (Member-get_or (nets_of s.inputs s.cells) c.args.place 0 c.requires.place) low))
 
 pub returns-clause-made : goal.returns-clause-made
@@ -50,3 +50,6 @@ returns-clause-made g c =
     let unreached = subst (λ (w : WiringData). MarksChanges w.order s c.args.variant c.args.changed.now → IsUnreached w.order s c.args.variant (net_at s c.args.place)) c.wiring-wiring.ensures (c.is_reached.ensures c.if-is_reached.false c.args.variant) in
     makes-live old (get_or c.refs.result.now c.args.place none) (net_table_by c.args.base.now.wiring.order s c.args.variant (net_at s c.args.place)) c.requires.space (subst (IsLive old) (sym r) value.0)
     (ap old.table r ∙ value.1 ∙ sym (unreached c.requires.changed free))
+
+pub net_ref-requires-clause-width : goal.net_ref-requires-clause-width
+net_ref-requires-clause-width g c = (values-width (g.P.Space.meaning c.args.space.now) c.args.stage.now Base c.args.base.now c.requires.space c.facts.ensures c.requires.base)

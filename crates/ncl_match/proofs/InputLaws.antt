@@ -1,5 +1,5 @@
 -- The functions of the rails of the inputs, one bit further.
-use Rattle.std.proofs.Common.{◌≡◌, ◌≢◌, ℕ, suc, ◌+◌, ◌<◌, ◌≤◌, Bool, true, false, List, [], ◌++◌, length, get_or, set, if◌then◌else◌, inl, inr, refl, sym, ap, ◌∙◌, subst, arith, get_or-set_other, get_or-set_same}
+use Rattle.std.proofs.Common.{◌≡◌, ◌≢◌, ℕ, suc, ◌+◌, ◌<◌, Bool, true, false, List, [], ◌++◌, length, get_or, set, if◌then◌else◌, inl, inr, sym, ap, ◌∙◌, subst, arith, get_or-set_other, get_or-set_same}
 use Rattle.std.specs.Prelude.{All, AllPairs}
 use Rattle.std.proofs.lemmas.Bool.{cases_eq, false≢true}
 use Rattle.std.proofs.lemmas.List.{append-nil, length-set}
@@ -9,13 +9,14 @@ use Rattle.ncl_shape.specs.Stage.{rail_nets}
 use Rattle.ncl_cell_roles.specs.Layout.{no_rails, rail_at}
 use Rattle.ncl_space.specs.Functions.{is_value}
 use Rattle.ncl_space.specs.Space.{SpaceData, IsSpace, Keeps, with_tables, fits}
-use Rattle.ncl_space.proofs.SpaceLaws.{keeps_along, keeps_all, with_none}
+use Rattle.ncl_space.proofs.SpaceLaws.{keeps_along, with_none}
 use Rattle.ncl_match.specs.declared.pair.Pair.{Pair}
 use Rattle.ncl_match.specs.Inputs.{HaveInputs, bit_function, input_tables, is_needed}
 use Rattle.ncl_match.specs.Pairs.{IsPair, HasFunction, MakesPair, both_tables, inverse}
 use Rattle.ncl_match.specs.Plan.{pair_at}
 use Rattle.ncl_match.specs.Turns.{gathered}
 use Rattle.ncl_match.proofs.ClosedLaws.{rails-once}
+use Rattle.ncl_match.proofs.Filling.{Filling, filling-begins, filling-passed}
 use Rattle.ncl_match.proofs.PairLaws.{has-kept, has-swapped, pairs-kept}
 use Rattle.ncl_match.proofs.TurnLaws.{Turned, turned-next, too_much-turn}
 
@@ -23,23 +24,14 @@ abbrev no_pair : Pair
 no_pair = record { one = record { place = 0 }; zero = record { place = 0 } }
 
 -- what holds where some bits are done
-pub record InputLoop (old now : SpaceData) (inputs : List Rails) (marks : List Bool) (first pairs : List Pair) (place : ℕ) : Type 0 where
-  pub kept : Keeps old now
-  pub space : IsSpace now
-  pub pairs_too : All (IsPair now) pairs
-  pub many : length pairs ≡ length first
-  pub within : place ≤ length inputs
-  pub done : HaveInputs old now inputs marks pairs place
+abbrev pub InputLoop : SpaceData → SpaceData → List Rails → List Bool → List Pair → List Pair → ℕ → Type 0
+InputLoop old now inputs marks first pairs place =
+    Filling old now first pairs place (length inputs) (HaveInputs old now inputs marks pairs place)
 
 pub inputs-begin : (old : SpaceData) (inputs : List Rails) (marks : List Bool) (pairs : List Pair) → IsSpace old → All (IsPair old) pairs → InputLoop old old inputs marks pairs pairs 0
-inputs-begin old inputs marks pairs space are = record {
-  kept = keeps_all old;
-  space = space;
-  pairs_too = are;
-  many = refl;
-  within = omega arith;
-  done = record { held = sym (with_none old); have = λ b r lt needed. absurd (omega (arith, lt)) };
-}
+inputs-begin old inputs marks pairs space are =
+    filling-begins old pairs (length inputs) (HaveInputs old old inputs marks pairs 0) space are
+    (record { held = sym (with_none old); have = λ b r lt needed. absurd (omega (arith, lt)) })
 
 -- the bits done before are those before the next
 before-next : (place b : ℕ) → b < place + 1 → b ≢ place → b < place
@@ -57,14 +49,10 @@ module _ (old now : SpaceData) (inputs : List Rails) (marks : List Bool) (first 
 
   -- a bit that isn't needed
   pub input-passed : is_needed marks rails ≡ false → InputLoop old now inputs marks first pairs (place + 1)
-  input-passed unneeded = record {
-    kept = loop.kept;
-    space = loop.space;
-    pairs_too = loop.pairs_too;
-    many = loop.many;
-    within = omega (arith, lt);
-    done = record { held = loop.done.held ∙ ap (with_tables old) (sym (ap (λ l. gathered turn place ++ l) none ∙ append-nil (gathered turn place)) ∙ ap (gathered turn) more); have = have };
-  }
+  input-passed unneeded =
+      filling-passed old now first pairs place (length inputs) (HaveInputs old now inputs marks pairs place) (HaveInputs old now inputs marks pairs (place + 1)) lt
+      (record { held = loop.done.held ∙ ap (with_tables old) (sym (ap (λ l. gathered turn place ++ l) none ∙ append-nil (gathered turn place)) ∙ ap (gathered turn) more); have = have })
+      loop
     where
       none : turn place ≡ []
       none = λ i. if unneeded i then both_tables old.width (bit_function place) else []

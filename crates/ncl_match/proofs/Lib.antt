@@ -10,6 +10,7 @@ pub mod GatherLaws
 pub mod FindLaws
 pub mod MarkLaws
 pub mod NetLaws
+pub mod Filling
 pub mod PlanSteps
 mod Before
 pub mod BitLaws

@@ -1,11 +1,11 @@
 -- The functions of the nets of a plan, one cell further.
-use Rattle.std.proofs.Common.{◌≡◌, ◌≢◌, ℕ, suc, ◌+◌, ◌<◌, ◌≤◌, Bool, true, false, List, [], ◌∷◌, ◌++◌, length, map, get_or, set, Some, if◌then◌else◌, ◌⊎◌, inl, inr, refl, sym, ap, ◌∙◌, subst, arith, nat_eq, get_or-set_other, get_or-set_same}
+use Rattle.std.proofs.Common.{◌≡◌, ◌≢◌, ℕ, suc, ◌+◌, ◌<◌, Bool, true, false, List, [], ◌∷◌, ◌++◌, length, map, get_or, set, Some, if◌then◌else◌, ◌⊎◌, inl, inr, refl, sym, ap, ◌∙◌, subst, arith, nat_eq, get_or-set_other, get_or-set_same}
 use Rattle.std.specs.Prelude.{All, slice_get}
 use Rattle.std.proofs.lemmas.Bool.{cases_eq, false≢true}
 use Rattle.std.proofs.lemmas.Bool.Decides.{nat_tests}
 use Rattle.std.proofs.lemmas.List.Elements.{All-head, All-tail, All-set}
 use Rattle.std.proofs.lemmas.List.{append-nil, length-set}
-use Rattle.ncl_space.proofs.SpaceLaws.{keeps_along, keeps_all, with_none}
+use Rattle.ncl_space.proofs.SpaceLaws.{keeps_along, with_none}
 use Rattle.std.proofs.lemmas.List.Folds.{list_any_at}
 use Rattle.std.proofs.lemmas.Option.{same_Some}
 use Rattle.ncl_netlist.specs.declared.ids.NetId.{NetId}
@@ -17,6 +17,7 @@ use Rattle.ncl_match.specs.Pairs.{WordFunction, IsPair, HasFunction, MakesPair, 
 use Rattle.ncl_match.specs.Plan.{is_on, is_marked, made_of, IsKnown, cell_tables, plan_tables, pair_at}
 use Rattle.ncl_match.specs.PlanCase.{IsCase, AreDone}
 use Rattle.ncl_match.specs.Turns.{gathered}
+use Rattle.ncl_match.proofs.Filling.{Filling, filling-begins, filling-passed}
 use Rattle.ncl_match.proofs.PairLaws.{function-is, has-kept, same-function, same-tables, pairs-kept}
 use Rattle.ncl_match.proofs.TurnLaws.{turned-next, too_much-turn}
 
@@ -114,34 +115,26 @@ module _ (old now : SpaceData) (plan : List DataCell) (marks : List Bool) (first
         kept-pair : (net : ℕ) → cell.out.0 ≢ net → get_or (set pairs cell.out.0 p) net no_pair ≡ get_or pairs net no_pair
         kept-pair net differs = get_or-set_other pairs cell.out.0 net p no_pair (λ e. differs (sym e))
 
--- what holds where some cells are done, whatever the values are
-pub record PlanLoop (old now : SpaceData) (plan : List DataCell) (marks : List Bool) (first pairs : List Pair) (place : ℕ) : Type 0 where
-  pub kept : Keeps old now
-  pub space : IsSpace now
-  pub pairs_too : All (IsPair now) pairs
-  pub many : length pairs ≡ length first
-  pub within : place ≤ length plan
-  pub done : (inputs : List ℕ) (v : List Bool → Nets) → IsCase old plan marks first inputs v → AreDone old now plan marks pairs inputs v place
+-- the nets of the cells that are done, whatever the values are
+abbrev pub AllDone : SpaceData → SpaceData → List DataCell → List Bool → List Pair → List Pair → ℕ → Type 0
+AllDone old now plan marks first pairs place =
+    (inputs : List ℕ) (v : List Bool → Nets) → IsCase old plan marks first inputs v → AreDone old now plan marks pairs inputs v place
+
+-- what holds where some cells are done
+abbrev pub PlanLoop : SpaceData → SpaceData → List DataCell → List Bool → List Pair → List Pair → ℕ → Type 0
+PlanLoop old now plan marks first pairs place =
+    Filling old now first pairs place (length plan) (AllDone old now plan marks first pairs place)
 
 pub loop-begins : (old : SpaceData) (plan : List DataCell) (marks : List Bool) (pairs : List Pair) → IsSpace old → All (IsPair old) pairs → PlanLoop old old plan marks pairs pairs 0
-loop-begins old plan marks pairs space are = record {
-  kept = keeps_all old;
-  space = space;
-  pairs_too = are;
-  many = refl;
-  within = omega arith;
-  done = λ inputs v case. record { held = sym (with_none old); have = λ net known mark. elim known [ inl input ↦ case.have net input mark | inr (j, lt, drives) ↦ absurd (omega (arith, lt)) ] };
-}
+loop-begins old plan marks pairs space are =
+    filling-begins old pairs (length plan) (AllDone old old plan marks pairs pairs 0) space are
+    (λ inputs v case. record { held = sym (with_none old); have = λ net known mark. elim known [ inl input ↦ case.have net input mark | inr (j, lt, drives) ↦ absurd (omega (arith, lt)) ] })
 
 pub loop-passed : (old now : SpaceData) (plan : List DataCell) (marks : List Bool) (first pairs : List Pair) (place : ℕ) (cell : DataCell) → slice_get plan place ≡ Some cell → place < length plan → is_marked marks cell.out.0 ≡ false → PlanLoop old now plan marks first pairs place → PlanLoop old now plan marks first pairs (place + 1)
-loop-passed old now plan marks first pairs place cell at lt unmarked l = record {
-  kept = l.kept;
-  space = l.space;
-  pairs_too = l.pairs_too;
-  many = l.many;
-  within = omega (arith, lt);
-  done = λ inputs v case. done-passed old now plan marks first pairs inputs v place cell at case l.kept l.space (l.done inputs v case) unmarked;
-}
+loop-passed old now plan marks first pairs place cell at lt unmarked l =
+    filling-passed old now first pairs place (length plan) (AllDone old now plan marks first pairs place) (AllDone old now plan marks first pairs (place + 1)) lt
+    (λ inputs v case. done-passed old now plan marks first pairs inputs v place cell at case l.kept l.space (l.done inputs v case) unmarked)
+    l
 
 pub loop-more : (old now new : SpaceData) (plan : List DataCell) (marks : List Bool) (first pairs : List Pair) (place : ℕ) (cell : DataCell) (p : Pair) → slice_get plan place ≡ Some cell → place < length plan → is_marked marks cell.out.0 ≡ true → cell.out.0 < length pairs → Keeps now new → IsSpace new
     → MakesPair now new p (λ word. made_of cell.kind (map (λ (x : NetId). function_at now (pair_at pairs x.0) word) cell.ins.items)) (both_tables now.width (λ word. made_of cell.kind (map (λ (x : NetId). function_at now (pair_at pairs x.0) word) cell.ins.items)))

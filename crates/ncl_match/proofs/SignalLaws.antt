@@ -101,22 +101,23 @@ pub record PairsLoop (old now : SpaceData) (turn : ℕ → List (List Bool)) (f 
 abbrev no_pair : Pair
 no_pair = record { one = record { place = 0 }; zero = record { place = 0 } }
 
-pub pairs-more : (old now new : SpaceData) (turn : ℕ → List (List Bool)) (f : ℕ → WordFunction) (marks : List Bool) (pairs : List Pair) (place : ℕ) (p : Pair) → PairsLoop old now turn f marks pairs place → Keeps now new → IsSpace new → IsPair new p → (bit_at marks (length pairs) ≡ true → HasFunction new p (f (length pairs))) → new.held ≡ with_tables now (turn place) → PairsLoop old new turn f marks (pairs ++ p ∷ []) (place + 1)
-pairs-more old now new turn f marks pairs place p l kept space is has held = record {
-  turned = turned-next old now new turn place l.turned kept space held;
-  pairs_too = All-push (IsPair new) pairs p (pairs-kept now new pairs l.turned.space kept l.pairs_too) is;
-  have = λ x lt mark.
-      ⊎_elim
-      (λ same.
-      let own : pair_at (pairs ++ p ∷ []) x ≡ p = get_or_push pairs p no_pair x (sym same) in
-      subst (λ q. HasFunction new q (f x)) (sym own)
-      (subst (λ k. HasFunction new p (f k)) (sym same) (has (ap (bit_at marks) (sym same) ∙ mark))))
-      (λ differs.
-      let before : x < length pairs = omega (arith, lt, differs, length_push pairs p) in
-      let other : pair_at (pairs ++ p ∷ []) x ≡ pair_at pairs x = get_or_append_left pairs (p ∷ []) no_pair x before in
-      subst (λ q. HasFunction new q (f x)) (sym other) (has-kept now new (pair_at pairs x) (f x) kept (l.have x before mark)))
-      (cases_eq x (length pairs));
-}
+pub pairs-more : (old now new : SpaceData) (turn : ℕ → List (List Bool)) (f : ℕ → WordFunction) (marks : List Bool) (pairs : List Pair) (place : ℕ) (p : Pair) → PairsLoop old now turn f marks pairs place → Keeps now new → IsSpace new → IsPair new p → (bit_at marks (length pairs) ≡ true → HasFunction new p (f (length pairs))) → new.held ≡ with_tables now (turn place) → (longer : List Pair) → longer ≡ pairs ++ p ∷ [] → PairsLoop old new turn f marks longer (place + 1)
+pairs-more old now new turn f marks pairs place p l kept space is has held longer more =
+    subst (λ ps. PairsLoop old new turn f marks ps (place + 1)) (sym more) (record {
+      turned = turned-next old now new turn place l.turned kept space held;
+      pairs_too = All-push (IsPair new) pairs p (pairs-kept now new pairs l.turned.space kept l.pairs_too) is;
+      have = λ x lt mark.
+          ⊎_elim
+          (λ same.
+          let own : pair_at (pairs ++ p ∷ []) x ≡ p = get_or_push pairs p no_pair x (sym same) in
+          subst (λ q. HasFunction new q (f x)) (sym own)
+          (subst (λ k. HasFunction new p (f k)) (sym same) (has (ap (bit_at marks) (sym same) ∙ mark))))
+          (λ differs.
+          let before : x < length pairs = omega (arith, lt, differs, length_push pairs p) in
+          let other : pair_at (pairs ++ p ∷ []) x ≡ pair_at pairs x = get_or_append_left pairs (p ∷ []) no_pair x before in
+          subst (λ q. HasFunction new q (f x)) (sym other) (has-kept now new (pair_at pairs x) (f x) kept (l.have x before mark)))
+          (cases_eq x (length pairs));
+    })
 
 -- ---- a turn over the steps
 

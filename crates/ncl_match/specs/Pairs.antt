@@ -1,10 +1,11 @@
 -- Functions of words with their complements, by their names in a space.
-use Rattle.std.specs.Prelude.{◌≡◌, ℕ, List, [], ◌∷◌, Bool, not, map}
+use Rattle.std.specs.Prelude.{◌≡◌, ℕ, List, [], ◌∷◌, Bool, not, cond, map}
 use Rattle.ncl_gates.specs.declared.kind.Kind.{Kind}
 use Rattle.ncl_gates.specs.Gate.{set_of}
 use Rattle.ncl_space.specs.Table.{words, table_of}
 use Rattle.ncl_space.specs.Functions.{at}
 use Rattle.ncl_space.specs.Space.{SpaceData, IsLive, with_tables}
+use Rattle.ncl_space.specs.declared.space.Ref.{Ref}
 use Rattle.ncl_match.specs.declared.pair.Pair.{Pair}
 
 -- a function of words
@@ -17,6 +18,10 @@ inverse f word = not (f word)
 -- the tables of a function and of its complement, over the words of n bits
 abbrev pub both_tables : ℕ → WordFunction → List (List Bool)
 both_tables n f = table_of (words n) f ∷ table_of (words n) (inverse f) ∷ []
+
+-- one of the two of a pair, the function or its complement
+abbrev pub side_of : Bool → Pair → Ref
+side_of one p = cond one p.one p.zero
 
 -- the function of a pair
 abbrev pub function_at : SpaceData → Pair → WordFunction

@@ -3,7 +3,7 @@ ghost use Rattle.std.specs.Prelude.{◌≡◌, ◌≤◌, [], ◌∷◌, true, f
 ghost use Rattle.ncl_gates.specs.Gate.{arity_of};
 ghost use Rattle.ncl_space.specs.Space.{IsLive, IsSpace, Keeps, fits};
 ghost use Rattle.ncl_match.specs.Duals.{dual_pins};
-ghost use Rattle.ncl_match.specs.Pairs.{HasFunction, IsPair, MakesPair, both_tables, function_at, functions_at, gate_function, inverse};
+ghost use Rattle.ncl_match.specs.Pairs.{HasFunction, IsPair, MakesPair, both_tables, function_at, functions_at, gate_function, inverse, side_of};
 ghost use Rattle.ncl_space.specs.Functions.{is_value};
 ghost use Rattle.std.specs.Prelude.{slice_index_or, ◌<◌, List, Bool};
 
@@ -32,28 +32,23 @@ impl Pair {
             zero: self.one,
         }
     }
-}
 
-// The functions of some pairs. Linear in them.
-fn ones(pairs: &[Pair]) -> ArrayVec<Ref, 4>
-    requires { length pairs.now ≤ 4 }
-    ensures { result.items ≡ map (λ (p : Pair). p.one) pairs.now }
-{
-    let mut found: ArrayVec<Ref, 4> = ArrayVec::new();
-    for pair in pairs {
-        found.push(pair.one);
+    // The function, or the complement.
+    fn side(self, one: bool) -> Ref
+        ensures { result ≡ side_of one self }
+    {
+        if one { self.one } else { self.zero }
     }
-    found
 }
 
-// Their complements. Linear in them.
-fn zeros(pairs: &[Pair]) -> ArrayVec<Ref, 4>
+// The functions of some pairs, or their complements. Linear in them.
+fn sides(pairs: &[Pair], one: bool) -> ArrayVec<Ref, 4>
     requires { length pairs.now ≤ 4 }
-    ensures { result.items ≡ map (λ (p : Pair). p.zero) pairs.now }
+    ensures { result.items ≡ map (side_of one) pairs.now }
 {
     let mut found: ArrayVec<Ref, 4> = ArrayVec::new();
     for pair in pairs {
-        found.push(pair.zero);
+        found.push(pair.side(one));
     }
     found
 }
@@ -64,9 +59,9 @@ fn dual_zeros(kind: Kind, pairs: &[Pair]) -> ArrayVec<Ref, 4>
     ensures { result.items ≡ dual_pins kind (map (λ (p : Pair). p.zero) pairs.now) }
 {
     if let (Kind::ThAnd0, [a, b, c, d]) = (kind, pairs) {
-        return zeros(&[*b, *a, *c, *d]);
+        return sides(&[*b, *a, *c, *d], false);
     }
-    zeros(pairs)
+    sides(pairs, false)
 }
 
 /// The pair of a constant. Takes no memory.
@@ -114,7 +109,7 @@ pub fn gate_pair<P: Space>(space: &mut P, kind: Kind, ins: &[Pair]) -> Result<Pa
     ensures full { let s = P.meaning space.old in
         IsErrOf result SpaceFault.Full → fits s (both_tables s.width (gate_function kind (functions_at s ins.now))) ≡ false }
 {
-    let one = space.apply(kind, ones(ins).as_slice())?;
+    let one = space.apply(kind, sides(ins, true).as_slice())?;
     let zero = space.apply(dual(kind), dual_zeros(kind, ins).as_slice())?;
     Ok(Pair { one, zero })
 }

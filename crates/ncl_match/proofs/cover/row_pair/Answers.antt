@@ -89,14 +89,10 @@ returns-in_err-matched-clause-full g c = λ e.
 
 pub loop-place-preserved : goal.loop-place-preserved
 loop-place-preserved g c =
-    let old : SpaceData = g.P.Space.meaning c.args.space.now in
-    let now : SpaceData = g.P.Space.meaning c.loop-place.space in
-    let new : SpaceData = g.P.Space.meaning c.with_literal.new.space in
-    let ins : List Pair = c.args.ins.now in
     let lits : List Lit = c.items-lits.result.now in
     let place = c.loop-place.place in
-    let on = turned-on old now ins lits place c.loop-place.matched (get_or lits place Zero) no_pair c.loop-place.invariant.turned c.requires.pairs c.loop-place-test.true (ap length c.items-lits.ensures ∙ c.requires.width) (get_or_default lits place Zero (get_or lits place Zero) c.loop-place-test.true) c.loop-place.invariant.has
-    new c.in_ok-matched.matched c.in_ok-matched.ensures.kept c.in_ok-matched.ensures.space c.in_ok-matched.ensures.made in
+    let on = turned-on _ _ c.args.ins.now lits place c.loop-place.matched (get_or lits place Zero) no_pair c.loop-place.invariant.turned c.requires.pairs c.loop-place-test.true (ap length c.items-lits.ensures ∙ c.requires.width) (get_or_default lits place Zero (get_or lits place Zero) c.loop-place-test.true) c.loop-place.invariant.has
+    _ c.in_ok-matched.matched c.in_ok-matched.ensures.kept c.in_ok-matched.ensures.space c.in_ok-matched.ensures.made in
     record { turned = on.0; has = on.1 }
 
 pub returns-clause-made : goal.returns-clause-made

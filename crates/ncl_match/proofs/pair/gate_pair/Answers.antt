@@ -24,7 +24,7 @@ zeros_of pairs = map (λ (p : Pair). p.zero) pairs
 pub apply-requires-clause-live : goal.apply-requires-clause-live
 apply-requires-clause-live g c =
     let old : SpaceData = g.P.Space.meaning c.args.space.now in
-    subst (All (IsLive old)) (sym (c.as_slice.ensures.value ∙ c.ones.ensures)) (ones-live old c.args.ins.now c.requires.pairs)
+    subst (All (IsLive old)) (sym (c.as_slice.ensures.value ∙ c.sides.ensures)) (ones-live old c.args.ins.now c.requires.pairs)
 
 pub apply-requires-2-clause-arity : goal.apply-requires-2-clause-arity
 apply-requires-2-clause-arity g c =
@@ -56,7 +56,7 @@ pub returns-in_err-one-clause-full : goal.returns-in_err-one-clause-full
 returns-in_err-one-clause-full g c = λ e.
     let old : SpaceData = g.P.Space.meaning c.args.space.now in
     first-too_much old (gate_function c.args.kind (functions_at old c.args.ins.now))
-    (subst (λ t. fits old (t ∷ []) ≡ false) (one-table old old c.args.kind c.args.kind c.args.ins.now c.as_slice.result.now (c.as_slice.ensures.value ∙ c.ones.ensures))
+    (subst (λ t. fits old (t ∷ []) ≡ false) (one-table old old c.args.kind c.args.kind c.args.ins.now c.as_slice.result.now (c.as_slice.ensures.value ∙ c.sides.ensures))
     (c.in_err-one.ensures.full (ap Err (handed_on c.from_residual.result c.in_err-one.field-0.0 c.from_residual.ensures.1 e))))
 
 pub returns-in_err-zero-clause-full : goal.returns-in_err-zero-clause-full
@@ -66,7 +66,7 @@ returns-in_err-zero-clause-full g c = λ e.
     let kind : Kind = c.args.kind in
     let pairs : List Pair = c.args.ins.now in
     second-too_much old mid (gate_function kind (functions_at old pairs)) c.in_ok-one.one c.in_ok-one.ensures.kept
-    (subst (Makes old mid c.in_ok-one.one) (one-table old mid kind kind pairs c.as_slice.result.now (c.as_slice.ensures.value ∙ c.ones.ensures)) c.in_ok-one.ensures.made)
+    (subst (Makes old mid c.in_ok-one.one) (one-table old mid kind kind pairs c.as_slice.result.now (c.as_slice.ensures.value ∙ c.sides.ensures)) c.in_ok-one.ensures.made)
     (subst (λ t. fits mid (t ∷ []) ≡ false)
     (zero-table old mid kind c.dual.result pairs c.requires.space c.in_ok-one.ensures.kept c.requires.pairs c.requires.arity c.dual.ensures c.as_slice-2.result.now (c.as_slice-2.ensures.value ∙ c.dual_zeros.ensures))
     (c.in_err-zero.ensures.full (ap Err (handed_on c.from_residual-in_err-zero.result c.in_err-zero.field-0.0 c.from_residual-in_err-zero.ensures.1 e))))
@@ -79,7 +79,7 @@ returns-clause-made g c =
     let kind : Kind = c.args.kind in
     let pairs : List Pair = c.args.ins.now in
     made-pair old mid new (record { one = c.in_ok-one.one; zero = c.in_ok-zero.zero }) (gate_function kind (functions_at old pairs)) c.in_ok-one.ensures.kept
-    (subst (Makes old mid c.in_ok-one.one) (one-table old mid kind kind pairs c.as_slice.result.now (c.as_slice.ensures.value ∙ c.ones.ensures)) c.in_ok-one.ensures.made)
+    (subst (Makes old mid c.in_ok-one.one) (one-table old mid kind kind pairs c.as_slice.result.now (c.as_slice.ensures.value ∙ c.sides.ensures)) c.in_ok-one.ensures.made)
     c.in_ok-zero.ensures.kept
     (subst (Makes mid new c.in_ok-zero.zero)
     (zero-table old mid kind c.dual.result pairs c.requires.space c.in_ok-one.ensures.kept c.requires.pairs c.requires.arity c.dual.ensures c.as_slice-2.result.now (c.as_slice-2.ensures.value ∙ c.dual_zeros.ensures))

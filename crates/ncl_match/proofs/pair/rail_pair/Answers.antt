@@ -24,8 +24,7 @@ returns-in_err-zero-clause-full g c = λ e.
 
 pub returns-clause-made : goal.returns-clause-made
 returns-clause-made g c =
-    let old : SpaceData = g.P.Space.meaning c.args.space.now in
     let mid : SpaceData = g.P.Space.meaning c.rail.new.self in
     let new : SpaceData = g.P.Space.meaning c.rail-2.new.self in
-    made-pair old mid new (record { one = c.in_ok-one.one; zero = c.in_ok-zero.zero }) (bit_function c.args.bit) c.in_ok-one.ensures.kept c.in_ok-one.ensures.made c.in_ok-zero.ensures.kept
+    made-pair _ mid new (record { one = c.in_ok-one.one; zero = c.in_ok-zero.zero }) (bit_function c.args.bit) c.in_ok-one.ensures.kept c.in_ok-one.ensures.made c.in_ok-zero.ensures.kept
     (subst (λ n. Makes mid new c.in_ok-zero.zero (rail_table n c.args.bit false)) c.in_ok-one.ensures.kept.width c.in_ok-zero.ensures.made)

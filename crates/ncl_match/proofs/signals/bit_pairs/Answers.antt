@@ -10,7 +10,7 @@ use Rattle.ncl_match.specs.Inputs.{bit_function}
 use Rattle.ncl_match.specs.Pairs.{HasFunction, IsPair}
 use Rattle.ncl_match.specs.Signals.{first_tables}
 use Rattle.ncl_match.specs.Steps.{bit_at}
-use Rattle.ncl_match.proofs.SignalLaws.{PairsLoop, bit-turn, pairs-begin, pairs-more}
+use Rattle.ncl_match.proofs.SignalLaws.{bit-turn, pairs-begin, pairs-more}
 use Rattle.ncl_match.proofs.TurnLaws.{too_much-turn}
 use Rattle.ncl_match.proofs.signals.bit_pairs.Goals as goal
 
@@ -37,7 +37,6 @@ pub loop-bit-preserved : goal.loop-bit-preserved
 loop-bit-preserved g c =
     let old : SpaceData = g.P.Space.meaning c.args.space.now in
     let now : SpaceData = g.P.Space.meaning c.loop-bit.space in
-    let new : SpaceData = g.P.Space.meaning c.bit_pair.new.space in
     let marks : List Bool = c.args.marks.now in
     let pairs : List Pair = c.loop-bit.pairs.items in
     let p : Pair = c.in_ok-pair.pair in
@@ -46,8 +45,7 @@ loop-bit-preserved g c =
     let more : c.push.new.self.items ≡ pairs ++ p ∷ [] = grind (arith, common_steps) in
     record {
       many = ap length more ∙ length_push pairs p ∙ ap (λ k. k + 1) many;
-      done = subst (λ ps. PairsLoop old new (first_tables old.width marks) bit_function marks ps (c.loop-bit.bit + 1)) (sym more)
-          (pairs-more old now new (first_tables old.width marks) bit_function marks pairs c.loop-bit.bit p l c.in_ok-pair.ensures.kept c.in_ok-pair.ensures.space c.in_ok-pair.ensures.pair
-          (subst (λ k. bit_at marks k ≡ true → HasFunction new p (bit_function k)) (sym many) c.in_ok-pair.ensures.has)
-          (c.in_ok-pair.ensures.held ∙ ap (with_tables now) (bit-turn old now marks c.loop-bit.bit l.turned.kept.width)));
+      done = pairs-more old now _ (first_tables old.width marks) bit_function marks pairs c.loop-bit.bit p l c.in_ok-pair.ensures.kept c.in_ok-pair.ensures.space c.in_ok-pair.ensures.pair
+          (subst (λ k. bit_at marks k ≡ true → HasFunction (g.P.Space.meaning c.bit_pair.new.space) p (bit_function k)) (sym many) c.in_ok-pair.ensures.has)
+          (c.in_ok-pair.ensures.held ∙ ap (with_tables now) (bit-turn old now marks c.loop-bit.bit l.turned.kept.width)) c.push.new.self.items more;
     }

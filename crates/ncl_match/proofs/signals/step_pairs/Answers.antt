@@ -12,7 +12,7 @@ use Rattle.ncl_match.specs.Pairs.{HasFunction, functions_at}
 use Rattle.ncl_match.specs.Plan.{pair_at}
 use Rattle.ncl_match.specs.Signals.{step_tables}
 use Rattle.ncl_match.specs.Steps.{bit_at, signal_function}
-use Rattle.ncl_match.proofs.SignalLaws.{PairsLoop, pairs-begin, pairs-more, step-has, step-refused, step-turn, step-within}
+use Rattle.ncl_match.proofs.SignalLaws.{pairs-begin, pairs-more, step-has, step-refused, step-turn, step-within}
 use Rattle.ncl_match.proofs.signals.step_pairs.Goals as goal
 
 pub loop-step-init : goal.loop-step-init
@@ -86,7 +86,6 @@ loop-step-preserved g c =
     ∙ ap (with_tables now) (step-turn old now steps marks pairs place root step at c.requires.ordered needed many l mark is) in
     record {
       many = ap length more ∙ length_push pairs p ∙ omega (arith, many);
-      done = subst (λ ps. PairsLoop old new (step_tables old.width steps marks) (signal_function steps) marks ps (place + 1)) (sym more)
-          (pairs-more old now new (step_tables old.width steps marks) (signal_function steps) marks pairs place p l c.in_ok-pair.ensures.kept c.in_ok-pair.ensures.space c.in_ok-pair.ensures.pair
-          (step-has old now steps marks pairs place root step at c.requires.ordered needed many l new p c.in_ok-pair.ensures.kept has) held);
+      done = pairs-more old now new (step_tables old.width steps marks) (signal_function steps) marks pairs place p l c.in_ok-pair.ensures.kept c.in_ok-pair.ensures.space c.in_ok-pair.ensures.pair
+          (step-has old now steps marks pairs place root step at c.requires.ordered needed many l new p c.in_ok-pair.ensures.kept has) held c.push.new.self.items more;
     }

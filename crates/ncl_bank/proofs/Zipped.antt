@@ -1,14 +1,18 @@
 -- Two lists gone through side by side.
-use Rattle.std.proofs.Common.{◌≡◌, ℕ, ◌+◌, ◌*◌, ◌<◌, ◌≤◌, List, [], ◌∷◌, ◌++◌, length, map, take, get_or, sym, ap, subst, ◌∙◌, arith, append_assoc, length-take}
+use Rattle.std.proofs.Common.{◌≡◌, ℕ, ◌+◌, ◌*◌, ◌<◌, ◌≤◌, List, [], ◌∷◌, ◌++◌, length, map, min, take, get_or, sym, ap, subst, ◌∙◌, arith, append_assoc, length-take}
 use Rattle.std.specs.List.{zip, flat_map}
-use Rattle.std.proofs.lemmas.List.{take_more, map_more, map-append, length-map}
+use Rattle.std.specs.Iterator.Adapters.{zip_first, zip_second}
+use Rattle.std.specs.Slice.Iter.{iter_rest}
+use Rattle.std.specs.declared.iter.Zip.{Zip}
+use Rattle.std.specs.declared.slice.Iter.{Iter}
+use Rattle.std.proofs.lemmas.List.{take_all, take_more, map_more, map-append, length-map}
 use Rattle.std.proofs.lemmas.Slice.Zip.{length-zip, get_or-zip}
 use Rattle.std.proofs.lemmas.Grind.{flat_map-append}
 use Rattle.ncl_netlist.specs.declared.parts.NamePair.{NamePair}
 use Rattle.ncl_netlist.specs.declared.parts.PartCell.{PartCell}
 use Rattle.ncl_shape.specs.declared.stage.StageCell.{StageCell}
 use Rattle.ncl_bank.specs.BankParts.{register_pins}
-use Rattle.ncl_bank.specs.BankPlan.{Unnamed, cell_at, register_with, ack_of, tree_cell_of}
+use Rattle.ncl_bank.specs.BankPlan.{Unnamed, cell_at, named_from, register_with, ack_of, tree_cell_of}
 use Rattle.ncl_bank.proofs.Named.{IsAdded, IsAdded-more, length_added}
 
 pub zipped_more : {A B : Type 0} (xs : List A) (ys : List B) (n : ℕ) (x : A) (y : B) → n < length xs → n < length ys → x ≡ get_or xs n x → y ≡ get_or ys n y → take (n + 1) (zip xs ys) ≡ take n (zip xs ys) ++ (x, y) ∷ []
@@ -16,6 +20,11 @@ zipped_more xs ys n x y in_xs in_ys at_x at_y =
     let within : n < length (zip xs ys) = omega (arith, length-zip xs ys) in
     take_more (zip xs ys) n (x, y) within
     ∙ ap (λ p. take n (zip xs ys) ++ p ∷ []) (get_or-zip xs ys n (x, y) in_xs in_ys ∙ (λ i. (sym at_x i, sym at_y i)))
+
+-- a loop over two slices side by side begins with the whole of both
+pub zip_starts : {A B : Type 0} (ks : List A) (vs : List B) (made start : Zip (Iter A) (Iter B)) (iter : Iter A) → start ≡ made → made.a ≡ iter → iter.rest.now ≡ ks → made.b.rest.now ≡ vs
+    → (iter_rest (zip_first start) ≡ ks) × (iter_rest (zip_second start) ≡ vs)
+zip_starts ks vs made start iter begin first rest second = ((λ i. (begin i).a.rest.now) ∙ (λ i. (first i).rest.now) ∙ rest, (λ i. (begin i).b.rest.now) ∙ second)
 
 module _ (request rst : List ℕ) where
   -- the register cells of some pairs
@@ -33,6 +42,12 @@ module _ (request rst : List ℕ) where
       ∙ sym (append_assoc (registers_of pairs) (register_with (from.zero ∷ request ∷ rst ∷ to.zero ∷ []) ∷ []) (register_with (from.one ∷ request ∷ rst ∷ to.one ∷ []) ∷ []))
 
 module _ (prefix : List ℕ) (before cells : List PartCell) where
+  -- where the cells of the first pairs were added, and these are all
+  pub all_added : {A B : Type 0} (plan : List (A × B) → List Unnamed) (ks : List A) (vs : List B) (n : ℕ) → IsAdded prefix before (plan (take n (zip ks vs))) cells → n ≡ min (length ks) (length vs)
+      → cells ≡ before ++ named_from prefix (length before) (plan (zip ks vs))
+  all_added plan ks vs n added whole =
+      added.is ∙ ap (λ pairs. before ++ named_from prefix (length before) (plan pairs)) (take_all n (zip ks vs) (omega (arith, whole, length-zip ks vs)))
+
   -- acknowledge cells of the first pairs, and one more
   pub acks_few : (pairs : List NamePair) (nets : List (List ℕ)) (n : ℕ) → IsAdded prefix before (map ack_of (take n (zip pairs nets))) cells → length cells ≤ length before + n
   acks_few pairs nets n added =

@@ -1,27 +1,22 @@
-use Rattle.std.proofs.Common.{◌≡◌, ◌∷◌, ◌++◌, [], map, length, ap, ◌∙◌, arith}
-use Rattle.std.specs.List.{zip}
-use Rattle.std.proofs.lemmas.List.{length_push, take_all}
-use Rattle.std.proofs.lemmas.Slice.Zip.{zip_turn, zip_end, length-zip}
+use Rattle.std.proofs.Common.{◌≡◌, ◌∷◌, ◌++◌, [], map, length, ◌∙◌, arith}
+use Rattle.std.proofs.lemmas.List.{length_push}
+use Rattle.std.proofs.lemmas.Slice.Zip.{zip_turn, zip_end}
 use Rattle.ncl_gates.specs.declared.cell_kind.CellKind.TheVariants.{Ack}
-use Rattle.ncl_bank.specs.BankPlan.{cell_at, ack_of, named_from}
-use Rattle.ncl_bank.proofs.Zipped.{acks_few, acks_more}
+use Rattle.ncl_bank.specs.BankPlan.{cell_at, ack_of}
+use Rattle.ncl_bank.proofs.Zipped.{zip_starts, all_added, acks_few, acks_more}
 use Rattle.ncl_bank.proofs.cells.add_acks.Goals as goal
 
 pub add_cell-requires : goal.add_cell-requires
 add_cell-requires c =
-    let begin = c.into_iter-pair-iterator.ensures.into_iter_gives in
-    let t = zip_turn c.args.pairs.now c.args.nets.now c.loop-pair.yielded c.into_iter-pair-iterator.result c.loop-pair.pair-iterator c.next.new.self c.next.result
-    ((λ i. (begin i).a.rest.now) ∙ (λ i. (c.zip-pair-items.ensures.first i).rest.now) ∙ c.iter.ensures.rest)
-    ((λ i. (begin i).b.rest.now) ∙ c.zip-pair-items.ensures.second.0)
+    let starts = zip_starts c.args.pairs.now c.args.nets.now _ _ c.iter.result c.into_iter-pair-iterator.ensures.into_iter_gives c.zip-pair-items.ensures.first c.iter.ensures.rest c.zip-pair-items.ensures.second.0 in
+    let t = zip_turn c.args.pairs.now c.args.nets.now c.loop-pair.yielded c.into_iter-pair-iterator.result c.loop-pair.pair-iterator c.next.new.self c.next.result starts.0 starts.1
     c.loop-pair.yielded_by (c.in-Some.pair, c.in-Some.net) c.in-Some.is c.next.ensures.steps in
     omega (arith, t.0, acks_few c.args.prefix.now c.args.cells.now.items c.loop-pair.cells.items c.args.pairs.now c.args.nets.now (length c.loop-pair.yielded) c.loop-pair.invariant)
 
 pub loop-pair-preserved : goal.loop-pair-preserved
 loop-pair-preserved c =
-    let begin = c.into_iter-pair-iterator.ensures.into_iter_gives in
-    let t = zip_turn c.args.pairs.now c.args.nets.now c.loop-pair.yielded c.into_iter-pair-iterator.result c.loop-pair.pair-iterator c.next.new.self c.next.result
-    ((λ i. (begin i).a.rest.now) ∙ (λ i. (c.zip-pair-items.ensures.first i).rest.now) ∙ c.iter.ensures.rest)
-    ((λ i. (begin i).b.rest.now) ∙ c.zip-pair-items.ensures.second.0)
+    let starts = zip_starts c.args.pairs.now c.args.nets.now _ _ c.iter.result c.into_iter-pair-iterator.ensures.into_iter_gives c.zip-pair-items.ensures.first c.iter.ensures.rest c.zip-pair-items.ensures.second.0 in
+    let t = zip_turn c.args.pairs.now c.args.nets.now c.loop-pair.yielded c.into_iter-pair-iterator.result c.loop-pair.pair-iterator c.next.new.self c.next.result starts.0 starts.1
     c.loop-pair.yielded_by (c.in-Some.pair, c.in-Some.net) c.in-Some.is c.next.ensures.steps in
     let pins : c.in_ok-pins.pins.items ≡ c.in-Some.pair.now.zero ∷ c.in-Some.pair.now.one ∷ c.in-Some.net.now ∷ [] =
     c.in_ok-pins.ensures.items ∙ (λ i. c.in_ok-copied.ensures i ∷ c.in_ok-copied-2.ensures i ∷ c.in_ok-copied-3.ensures i ∷ []) in
@@ -32,11 +27,7 @@ loop-pair-preserved c =
 
 pub returns : goal.returns
 returns c =
-    let begin = c.into_iter-pair-iterator.ensures.into_iter_gives in
-    let e = zip_end c.args.pairs.now c.args.nets.now c.loop-pair.yielded c.into_iter-pair-iterator.result c.loop-pair.pair-iterator c.next.new.self c.next.result
-    ((λ i. (begin i).a.rest.now) ∙ (λ i. (c.zip-pair-items.ensures.first i).rest.now) ∙ c.iter.ensures.rest)
-    ((λ i. (begin i).b.rest.now) ∙ c.zip-pair-items.ensures.second.0)
+    let starts = zip_starts c.args.pairs.now c.args.nets.now _ _ c.iter.result c.into_iter-pair-iterator.ensures.into_iter_gives c.zip-pair-items.ensures.first c.iter.ensures.rest c.zip-pair-items.ensures.second.0 in
+    let e = zip_end c.args.pairs.now c.args.nets.now c.loop-pair.yielded c.into_iter-pair-iterator.result c.loop-pair.pair-iterator c.next.new.self c.next.result starts.0 starts.1
     c.loop-pair.yielded_by c.in-None.is c.next.ensures.steps in
-    c.loop-pair.invariant.is
-    ∙ ap (λ pairs. c.args.cells.now.items ++ named_from c.args.prefix.now (length c.args.cells.now.items) (map ack_of pairs))
-    (take_all (length c.loop-pair.yielded) (zip c.args.pairs.now c.args.nets.now) (omega (arith, e, length-zip c.args.pairs.now c.args.nets.now)))
+    all_added c.args.prefix.now c.args.cells.now.items c.loop-pair.cells.items (map ack_of) c.args.pairs.now c.args.nets.now _ c.loop-pair.invariant e

@@ -28,30 +28,29 @@ rows given = map row given
 abbrev pub named : Text → Text → NamedValue
 named name value = record { name = name; value = value }
 
+-- what is asked of the rows of a name is asked of its values: it is the same at the first of the name, and behind others
+by_name : {X : Type 0} (of_rows : List Row → X) (of_values : List NamedValue → X) (name : Text) → of_rows [] ≡ of_values []
+    → ((one : NamedValue) (given : List NamedValue) → bytes_eq one.name name ≡ true → of_rows (rows (one ∷ given)) ≡ of_values (one ∷ given))
+    → ((one : NamedValue) (given : List NamedValue) → bytes_eq one.name name ≡ false → of_rows (rows given) ≡ of_values given → of_rows (rows (one ∷ given)) ≡ of_values (one ∷ given))
+    → (given : List NamedValue) → of_rows (rows given) ≡ of_values given
+by_name of_rows of_values name none first behind [] = none
+by_name of_rows of_values name none first behind (one ∷ given) = by (bytes_eq one.name name) refl (by_name of_rows of_values name none first behind given)
+  where
+    by : (b : Bool) → bytes_eq one.name name ≡ b → of_rows (rows given) ≡ of_values given → of_rows (rows (one ∷ given)) ≡ of_values (one ∷ given)
+    by true e rest = first one given e
+    by false e rest = behind one given e rest
+
 -- a name has a row where it has a value
 pub has_row_is : (given : List NamedValue) (name : Text) → has_row name (rows given) ≡ is_given given name
-has_row_is [] name = refl
-has_row_is (one ∷ given) name = ap (λ b. bytes_eq one.name name || b) (has_row_is given name)
+has_row_is given name = by_name (has_row name) (λ g. is_given g name) name refl (λ one given e. rw e refl) (λ one given e rest. rw e rest) given
 
 -- a row was made by the arguments where its name has a value
 pub is_used_is : (given : List NamedValue) (name : Text) → is_used name (rows given) ≡ is_given given name
-is_used_is [] name = refl
-is_used_is (one ∷ given) name = by (bytes_eq one.name name) refl (is_used_is given name)
-  where
-    by : (b : Bool) → bytes_eq one.name name ≡ b → is_used name (rows given) ≡ is_given given name
-        → is_used name (rows (one ∷ given)) ≡ is_given (one ∷ given) name
-    by true e rest = rw e refl
-    by false e rest = rw e rest
+is_used_is given name = by_name (is_used name) (λ g. is_given g name) name refl (λ one given e. rw e refl) (λ one given e rest. rw e rest) given
 
 -- the first value of a name's row is the value of the name
 pub first_of_is : (given : List NamedValue) (name : Text) → first_of name (rows given) ≡ first_given given name
-first_of_is [] name = refl
-first_of_is (one ∷ given) name = by (bytes_eq one.name name) refl (first_of_is given name)
-  where
-    by : (b : Bool) → bytes_eq one.name name ≡ b → first_of name (rows given) ≡ first_given given name
-        → first_of name (rows (one ∷ given)) ≡ first_given (one ∷ given) name
-    by true e rest = rw e refl
-    by false e rest = rw e rest
+first_of_is given name = by_name (first_of name) (λ g. first_given g name) name refl (λ one given e. rw e refl) (λ one given e rest. rw e rest) given
 
 -- a change of the row of a name that has none adds rows at the end
 at_end : (given : List NamedValue) (name : Text) (change : Row → List Row) (missing : List Row) → is_given given name ≡ false

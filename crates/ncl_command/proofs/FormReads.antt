@@ -228,38 +228,42 @@ module _ (form : Form) (alone : list_any (has_option form) form.places ≡ false
           (rest.idle_goes (done ++ place ∷ []) left (given ++ named place argument ∷ []) (rows given) (Some (place, argument ∷ [])) (place_more done place left is) readable
           (pending_passes given place argument None (Some found.index) true found.id new))
 
+  -- what fails at `--NAME` of a rule, and the walk behind it
+  abbrev named_fault : List Row → Pending → List Text → Text → Option Text → Option Rule → Kinds
+  named_fault have pending done argument text rule =
+      let met = long_met (args form) rule text (held have pending) in
+      let next = after_flag (args form) idle argument met.0 met.1 in
+      or_else (long_fault (args form) false rule text (held have pending)) (step_fault (shape (args form)) (after done) next.0 next.1)
+
+  abbrev named_walk : List Row → Pending → List Text → Text → Option Text → Option Rule → Walk
+  named_walk have pending done argument text rule =
+      let met = long_met (args form) rule text (held have pending) in
+      let next = after_flag (args form) idle argument met.0 met.1 in
+      after_step (args form) argument (at have pending idle (after done)) next.0 next.1
+
   -- `--NAME` of a flag
   flag_goes : (arguments : Arguments) (rest : Goes arguments) (done left : List Text) (given : List NamedValue) (have : List Row) (pending : Pending) (argument name : Text) → done ++ left ≡ form.places
       → list_any is_refused arguments ≡ false → Idle given have pending → IsLong argument name None → IsFound (args form) name true
       → Comes (put_value left given name given_flag) (at have pending idle (after done)) arguments (argument ∷ arguments)
   flag_goes arguments rest done left given have pending argument name is readable passed long found = by (is_given given name) refl
     where
-      h : Held
-      h = held have pending
-
-      w : Walk
-      w = at have pending idle (after done)
-
       flag : Rule
       flag = flag_arg name found.required
 
-      turn : turn_fault (shape (args form)) [] w argument ≡ or_else (use_fault false flag [] (rows given)) []
+      turn : turn_fault (shape (args form)) [] (at have pending idle (after done)) argument ≡ or_else (use_fault false flag [] (rows given)) []
       turn =
           long_turn (args form) have pending idle (after done) argument name None refl long
-          ∙ ap (λ o. or_else (long_fault (args form) false o None h)
-          (step_fault (shape (args form)) (after done) (after_flag (args form) idle argument (long_met (args form) o None h).0 (long_met (args form) o None h).1).0
-          (after_flag (args form) idle argument (long_met (args form) o None h).0 (long_met (args form) o None h).1).1)) found.long
+          ∙ ap (named_fault have pending done argument None) found.long
           ∙ ap₂ (λ kinds rs. or_else (or_else kinds (use_fault false flag [] rs)) []) passed.passes passed.settles
 
-      walks : is_given given name ≡ false → walked (args form) [] w argument ≡ at (rows (given ++ named name given_flag ∷ [])) None idle (after done)
+      walks : is_given given name ≡ false → walked (args form) [] (at have pending idle (after done)) argument ≡ at (rows (given ++ named name given_flag ∷ [])) None idle (after done)
       walks new =
           long_walked (args form) have pending idle (after done) argument name None refl long
-          ∙ ap (λ o. after_step (args form) argument w (after_flag (args form) idle argument (long_met (args form) o None h).0 (long_met (args form) o None h).1).0
-          (after_flag (args form) idle argument (long_met (args form) o None h).0 (long_met (args form) o None h).1).1) found.long
+          ∙ ap (named_walk have pending done argument None) found.long
           ∙ ap (λ rs. at (used flag [] rs) None idle (after done)) passed.settles
           ∙ ap (λ rs. at rs None idle (after done)) (flag_used_is given name found.required new)
 
-      by : (b : Bool) → is_given given name ≡ b → Comes (if b then None else Some (with_value left given name given_flag)) w arguments (argument ∷ arguments)
+      by : (b : Bool) → is_given given name ≡ b → Comes (if b then None else Some (with_value left given name given_flag)) (at have pending idle (after done)) arguments (argument ∷ arguments)
       by true old =
           step_fails (args form) _ argument arguments (subst Fails (sym turn)
           (subst (λ kinds. Fails (or_else kinds [])) (sym (flag_repeats given name found.required old)) tt))
@@ -279,17 +283,12 @@ module _ (form : Form) (alone : list_any (has_option form) form.places ≡ false
           → Comes (if flag then put_value left given name given_flag else Some (with_waiting left given name)) (at have pending idle (after done)) arguments (argument ∷ arguments)
       known true found = flag_goes arguments rest done left given have pending argument name is readable passed long found
       known false found =
-          let h = held have pending in
-          let w = at have pending idle (after done) in
           step_on (args form) _ _ (at (rows given) (Some (name, [])) (option name) (after done)) argument arguments
           (long_turn (args form) have pending idle (after done) argument name None refl long
-          ∙ ap (λ o. or_else (long_fault (args form) false o None h)
-          (step_fault (shape (args form)) (after done) (after_flag (args form) idle argument (long_met (args form) o None h).0 (long_met (args form) o None h).1).0
-          (after_flag (args form) idle argument (long_met (args form) o None h).0 (long_met (args form) o None h).1).1)) found.long
+          ∙ ap (named_fault have pending done argument None) found.long
           ∙ ap (λ kinds. or_else kinds []) passed.passes)
           (long_walked (args form) have pending idle (after done) argument name None refl long
-          ∙ ap (λ o. after_step (args form) argument w (after_flag (args form) idle argument (long_met (args form) o None h).0 (long_met (args form) o None h).1).0
-          (after_flag (args form) idle argument (long_met (args form) o None h).0 (long_met (args form) o None h).1).1) found.long
+          ∙ ap (named_walk have pending done argument None) found.long
           ∙ ap (λ rs. at rs (Some (name, [])) (option name) (after done)) passed.settles)
           (rest.waits_goes done left given name is readable found)
 
@@ -304,32 +303,23 @@ module _ (form : Form) (alone : list_any (has_option form) form.places ≡ false
       → Comes (option_and_then (after_value left given name text) (option_named form name)) (at have pending idle (after done)) arguments (argument ∷ arguments)
   valued_goes arguments rest done left given have pending argument name text is readable passed long = by (option_named form name) refl
     where
-      h : Held
-      h = held have pending
-
-      w : Walk
-      w = at have pending idle (after done)
-
       turn : (required : Bool) → arg_by_long (args form) name ≡ Some (arg name (Some name) None required)
-          → turn_fault (shape (args form)) [] w argument ≡ or_else (use_fault false (arg name (Some name) None required) (text ∷ []) (rows given)) []
+          → turn_fault (shape (args form)) [] (at have pending idle (after done)) argument ≡ or_else (use_fault false (arg name (Some name) None required) (text ∷ []) (rows given)) []
       turn required found =
           long_turn (args form) have pending idle (after done) argument name (Some text) refl long
-          ∙ ap (λ o. or_else (long_fault (args form) false o (Some text) h)
-          (step_fault (shape (args form)) (after done) (after_flag (args form) idle argument (long_met (args form) o (Some text) h).0 (long_met (args form) o (Some text) h).1).0
-          (after_flag (args form) idle argument (long_met (args form) o (Some text) h).0 (long_met (args form) o (Some text) h).1).1)) found
+          ∙ ap (named_fault have pending done argument (Some text)) found
           ∙ ap₂ (λ kinds rs. or_else (or_else kinds (use_fault false (arg name (Some name) None required) (text ∷ []) rs)) []) passed.passes passed.settles
 
       walks : (required : Bool) → arg_by_long (args form) name ≡ Some (arg name (Some name) None required) → is_given given name ≡ false
-          → walked (args form) [] w argument ≡ at (rows (given ++ named name text ∷ [])) None idle (after done)
+          → walked (args form) [] (at have pending idle (after done)) argument ≡ at (rows (given ++ named name text ∷ [])) None idle (after done)
       walks required found new =
           long_walked (args form) have pending idle (after done) argument name (Some text) refl long
-          ∙ ap (λ o. after_step (args form) argument w (after_flag (args form) idle argument (long_met (args form) o (Some text) h).0 (long_met (args form) o (Some text) h).1).0
-          (after_flag (args form) idle argument (long_met (args form) o (Some text) h).0 (long_met (args form) o (Some text) h).1).1) found
+          ∙ ap (named_walk have pending done argument (Some text)) found
           ∙ ap (λ rs. at (used (arg name (Some name) None required) (text ∷ []) rs) None idle (after done)) passed.settles
           ∙ ap (λ rs. at rs None idle (after done)) (used_is given name (Some name) None required text new)
 
       known : (required : Bool) → arg_by_long (args form) name ≡ Some (arg name (Some name) None required) → (b : Bool) → is_given given name ≡ b
-          → Comes (if b then None else Some (with_value left given name text)) w arguments (argument ∷ arguments)
+          → Comes (if b then None else Some (with_value left given name text)) (at have pending idle (after done)) arguments (argument ∷ arguments)
       known required found true old =
           step_fails (args form) _ argument arguments (subst Fails (sym (turn required found))
           (subst (λ kinds. Fails (or_else kinds [])) (sym (use_repeats given name (Some name) None required text old)) tt))
@@ -339,13 +329,13 @@ module _ (form : Form) (alone : list_any (has_option form) form.places ≡ false
           (walks required found new)
           (rest.idle_goes done left (given ++ named name text ∷ []) (rows (given ++ named name text ∷ [])) None is readable (record { passes = refl; settles = refl }))
 
-      sorted : (flag : Bool) → IsFound (args form) name flag → Comes (if flag then None else put_value left given name text) w arguments (argument ∷ arguments)
+      sorted : (flag : Bool) → IsFound (args form) name flag → Comes (if flag then None else put_value left given name text) (at have pending idle (after done)) arguments (argument ∷ arguments)
       sorted true found =
           step_fails (args form) _ argument arguments (subst Fails (sym (long_turn (args form) have pending idle (after done) argument name (Some text) refl long))
-          (fails_first _ _ (subst (λ o. Fails (long_fault (args form) false o (Some text) h)) (sym found.long) tt)))
+          (fails_first _ _ (subst (λ o. Fails (long_fault (args form) false o (Some text) (held have pending))) (sym found.long) tt)))
       sorted false found = known found.required found.long (is_given given name) refl
 
-      by : (o : Option FormOption) → option_named form name ≡ o → Comes (option_and_then (after_value left given name text) o) w arguments (argument ∷ arguments)
+      by : (o : Option FormOption) → option_named form name ≡ o → Comes (option_and_then (after_value left given name text) o) (at have pending idle (after done)) arguments (argument ∷ arguments)
       by None e = step_fails (args form) _ argument arguments (unknown_fails have pending idle (after done) argument name (Some text) refl long e)
       by (Some one) e = sorted one.is_flag (known_found form name one e alone)
 

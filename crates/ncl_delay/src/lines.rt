@@ -24,10 +24,9 @@ fn from_first(line: &[u8]) -> &[u8]
     ensures { result.now ≡ from_first line.now }
 {
     let mut rest = line;
-    while let Some((byte, others)) = rest.split_first() {
-        if !is_space(*byte) {
-            return rest;
-        }
+    while let [first, others @ ..] = rest
+        && is_space(*first)
+    {
         rest = others;
     }
     rest
@@ -38,10 +37,9 @@ fn to_last(line: &[u8]) -> &[u8]
     ensures { result.now ≡ reverse (from_first (reverse line.now)) }
 {
     let mut rest = line;
-    while let Some((byte, others)) = rest.split_last() {
-        if !is_space(*byte) {
-            return rest;
-        }
+    while let [others @ .., last] = rest
+        && is_space(*last)
+    {
         rest = others;
     }
     rest

@@ -41,7 +41,7 @@ told_of-tells parts part says =
     told_of-append parts (part ∷ []) ∙ ap (λ b. told_of parts ++ cond b (numbered (placed part) ∷ []) []) says
 
 -- what some lines tell, and what the lines after them tell
-pub record IsCut (text : List ℕ) (parts : List Part) : Type 0 where
+record IsCut (text : List ℕ) (parts : List Part) : Type 0 where
   pub later : List NumberedText
   pub cut : told_lines text ≡ told_of parts ++ later
 
@@ -50,7 +50,7 @@ abbrev pub GoesThrough : {S : Type 0} → (S → Option Part → S → Type 0) �
 GoesThrough steps s text = YieldsList steps placed s (parts_of text)
 
 -- it has gone through some lines, and gives one more
-pub next_line : {S : Type 0} {steps : S → Option Part → S → Type 0} {s : S} (text : List ℕ) → GoesThrough steps s text → (parts : List Part) (t : S) → Yields steps s parts t → (r : Option Part) (u : S) (part : Part) → r ≡ Some part → steps t r u → IsCut text (parts ++ part ∷ [])
+next_line : {S : Type 0} {steps : S → Option Part → S → Type 0} {s : S} (text : List ℕ) → GoesThrough steps s text → (parts : List Part) (t : S) → Yields steps s parts t → (r : Option Part) (u : S) (part : Part) → r ≡ Some part → steps t r u → IsCut text (parts ++ part ∷ [])
 next_line text goes parts t yields r u part is step =
     let all = parts_of text in
     let n = length parts in
@@ -62,9 +62,16 @@ next_line text goes parts t yields r u part is step =
       cut = ap told (sym (take-append-drop (n + 1) all)) ∙ told-append (take (n + 1) all) (drop (n + 1) all) ∙ ap (λ parts. told parts ++ told (drop (n + 1) all)) (sym front);
     }
 
+-- what some lines tell and one more, and what the lines after it tell
+pub record IsToldNext (text : List ℕ) (parts : List Part) (part : Part) : Type 0 where
+  pub later : List NumberedText
+  pub told : told_lines text ≡ (told_of parts ++ numbered (placed part) ∷ []) ++ later
+
 -- where that one says something, it is told next
-pub told_next : (text : List ℕ) (parts : List Part) (part : Part) (cut : IsCut text (parts ++ part ∷ [])) → tells (trimmed part.1.now) ≡ true → told_lines text ≡ (told_of parts ++ numbered (placed part) ∷ []) ++ cut.later
-told_next text parts part cut says = cut.cut ∙ ap (λ lines. lines ++ cut.later) (told_of-tells parts part says)
+pub told_next : {S : Type 0} {steps : S → Option Part → S → Type 0} {s : S} (text : List ℕ) → GoesThrough steps s text → (parts : List Part) (t : S) → Yields steps s parts t → (r : Option Part) (u : S) (part : Part) → r ≡ Some part → steps t r u → tells (trimmed part.1.now) ≡ true → IsToldNext text parts part
+told_next text goes parts t yields r u part is step says =
+    let cut = next_line text goes parts t yields r u part is step in
+    record { later = cut.later; told = cut.cut ∙ ap (λ lines. lines ++ cut.later) (told_of-tells parts part says) }
 
 -- it has gone through all lines
 pub no_line : {S : Type 0} {steps : S → Option Part → S → Type 0} {s : S} (text : List ℕ) → GoesThrough steps s text → (parts : List Part) (t : S) → Yields steps s parts t → (r : Option Part) (u : S) → r ≡ None → steps t r u → told_of parts ≡ told_lines text

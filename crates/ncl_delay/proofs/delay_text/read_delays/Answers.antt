@@ -6,7 +6,7 @@ use Rattle.std.proofs.lemmas.Result.{err_from_is_err_and}
 use Rattle.ncl_delay.specs.Lines.{is_feed, tells, numbered}
 use Rattle.ncl_delay.specs.DelayText.{cell_names, is_known, said_in, line_fault, fault_in, stated_delays}
 use Rattle.ncl_delay.specs.Put.{put_edges, unstated}
-use Rattle.ncl_delay.proofs.Told.{Part, placed, told_of-tells, told_next, next_line, no_line}
+use Rattle.ncl_delay.proofs.Told.{Part, placed, told_of-tells, told_next, no_line}
 use Rattle.ncl_delay.proofs.DelayLines.{AreStated, stated-none, stated-more, stated-broken}
 use Rattle.ncl_delay.proofs.delay_text.read_delays.Goals as goal
 
@@ -31,13 +31,12 @@ pub returns-in_err-put_line-clause-broken : goal.returns-in_err-put_line-clause-
 returns-in_err-put_line-clause-broken c =
     let goes = YieldsList-from_enumerate (YieldsList-from_slice_split _ is_feed c.args.bytes.now (cc) (cc) (cc) (λ x b q k. search rules)) (cc) in
     let part : Part = (c.in-Some.place, c.in-Some.part) in
-    let cut = next_line c.args.bytes.now goes c.loop-place.yielded _ c.loop-place.yielded_by _ _ part c.in-Some.is c.next.ensures.steps in
-    let says = sym (ap tells c.trimmed-line.ensures) ∙ sym c.tells.ensures ∙ c.if-tells.true in
+    let next = told_next c.args.bytes.now goes c.loop-place.yielded _ c.loop-place.yielded_by _ _ part c.in-Some.is c.next.ensures.steps (sym (ap tells c.trimmed-line.ensures) ∙ sym c.tells.ensures ∙ c.if-tells.true) in
     let p = err_from_is_err_and c.from_residual-in_err-put_line.result c.from_residual-in_err-put_line.ensures.1 in
     let keys = c.in_ok-names.ensures ∙ ap (map (λ cell. cell.name)) c.cells-cells.ensures.cells in
     let at = sym (λ i. line_fault (keys i) (record { number = c.in-Some.place + 1; text = c.trimmed-line.ensures i })) in
     rw (p.1, p.2) (⊎_elim (λ memory. inl memory)
-    (λ fault. inr (ap (fault_in (cell_names c.args.netlist.now)) (told_next c.args.bytes.now c.loop-place.yielded part cut says) ∙ stated-broken _ _ _ (numbered (placed part)) cut.later _ c.loop-place.invariant (at ∙ fault)))
+    (λ fault. inr (ap (fault_in (cell_names c.args.netlist.now)) next.told ∙ stated-broken _ _ _ (numbered (placed part)) next.later _ c.loop-place.invariant (at ∙ fault)))
     c.in_err-put_line.ensures)
 
 pub returns-clause-unbroken : goal.returns-clause-unbroken

@@ -4,7 +4,7 @@ use Rattle.std.proofs.lemmas.Iterator.Splits.{YieldsList-from_slice_split}
 use Rattle.std.proofs.lemmas.Result.{err_from_is_err_and}
 use Rattle.ncl_delay.specs.Lines.{is_feed, tells, numbered}
 use Rattle.ncl_delay.specs.WordText.{word_fault, words_fault}
-use Rattle.ncl_delay.proofs.Told.{Part, placed, told_of-tells, told_next, next_line, no_line}
+use Rattle.ncl_delay.proofs.Told.{Part, placed, told_of-tells, told_next, no_line}
 use Rattle.ncl_delay.proofs.WordLines.{AreWords, words-more, words-broken}
 use Rattle.ncl_delay.proofs.word_text.read_words.Goals as goal
 
@@ -22,13 +22,12 @@ pub returns-in_err-read_word-clause-broken : goal.returns-in_err-read_word-claus
 returns-in_err-read_word-clause-broken c =
     let goes = YieldsList-from_enumerate (YieldsList-from_slice_split _ is_feed c.args.bytes.now (cc) (cc) (cc) (λ x b q k. search rules)) (cc) in
     let part : Part = (c.in-Some.place, c.in-Some.part) in
-    let cut = next_line c.args.bytes.now goes c.loop-place.yielded _ c.loop-place.yielded_by _ _ part c.in-Some.is c.next.ensures.steps in
-    let says = sym (ap tells c.trimmed-line.ensures) ∙ sym c.tells.ensures ∙ c.if-tells.true in
+    let next = told_next c.args.bytes.now goes c.loop-place.yielded _ c.loop-place.yielded_by _ _ part c.in-Some.is c.next.ensures.steps (sym (ap tells c.trimmed-line.ensures) ∙ sym c.tells.ensures ∙ c.if-tells.true) in
     let count = c.len.ensures ∙ c.loop-place.words.ok.0 in
     let broken = sym (λ i. word_fault c.args.width (count i) (record { number = c.in-Some.place + 1; text = c.trimmed-line.ensures i })) ∙ c.in_err-read_word.ensures in
     let p = err_from_is_err_and c.from_residual.result c.from_residual.ensures.1 in
     rw (p.1, p.2)
-    (inr (ap (words_fault c.args.width 0) (told_next c.args.bytes.now c.loop-place.yielded part cut says) ∙ words-broken _ _ _ (numbered (placed part)) cut.later _ c.loop-place.invariant broken))
+    (inr (ap (words_fault c.args.width 0) next.told ∙ words-broken _ _ _ (numbered (placed part)) next.later _ c.loop-place.invariant broken))
 
 pub returns-clause-unbroken : goal.returns-clause-unbroken
 returns-clause-unbroken c =

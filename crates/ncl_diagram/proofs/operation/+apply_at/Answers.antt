@@ -142,9 +142,8 @@ returns-clause-kept g t c =
     let u = lower c.args.kind c.requires.canonical c.apply_at.ensures.canonical c.apply_at.ensures.grown c.requires.there c.split-branches.ensures.least c.split-branches.ensures.low c.split-branches.ensures.high c.apply_at.ensures.adds in
     let v = higher u c.apply_at-2.ensures.canonical c.apply_at-2.ensures.grown c.in_ok-low.ensures.answer c.apply_at-2.ensures.adds in
     let y = c.in_ok-high.ensures.answer in
-    let x = answer_joined v y c.join.ensures.joins c.in_ok-r.ensures.leads in
     let all = grown_along c.args.nodes.now c.apply_at-2.new.nodes c.join.new.nodes (grown_along c.args.nodes.now c.apply_at.new.nodes c.apply_at-2.new.nodes u.grown v.grown) c.join.ensures.joins.grown in
-    kept_noted c.args.width c.join.new.nodes c.apply_at-2.new.answers c.note-2.new.self c.args.kind c.args.key c.in_ok-r.r c.note-2.ensures.floor c.note-2.ensures.slots (there_grown c.args.nodes.now c.join.new.nodes all (places c.args.key) c.requires.there) x
+    kept_noted c.args.width c.join.new.nodes c.apply_at-2.new.answers c.note-2.new.self c.args.kind c.args.key c.in_ok-r.r c.note-2.ensures.floor c.note-2.ensures.slots (there_grown c.args.nodes.now c.join.new.nodes all (places c.args.key) c.requires.there) (answer_joined v y c.join.ensures.joins c.in_ok-r.ensures.leads)
     (kept_grown c.args.width c.apply_at-2.new.nodes c.join.new.nodes c.apply_at-2.new.answers v.cd c.join.ensures.joins.grown c.apply_at-2.ensures.kept)
 
 pub returns-in_err-at-clause-reached : goal.returns-in_err-at-clause-reached

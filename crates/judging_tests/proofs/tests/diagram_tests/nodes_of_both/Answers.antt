@@ -1,4 +1,4 @@
-use Rattle.std.proofs.Common.{◌≡◌, ◌≤◌, ◌<◌, ℕ, ◌+◌, ◌*◌, true, Bool, List, [], ◌∷◌, map, ap, ◌∙◌, refl, arith}
+use Rattle.std.proofs.Common.{◌≡◌, ◌≤◌, ℕ, ◌+◌, ◌*◌, true, Bool, List, [], ◌∷◌, map, ap, ◌∙◌, arith}
 use Rattle.std.specs.FinSet as set
 use Rattle.ncl_gates.specs.declared.kind.Kind.TheVariants.{Th22}
 use Rattle.ncl_space.specs.Beads.{bead_count}
@@ -30,7 +30,7 @@ record HasBits (s t u : SpaceData) (a b : Ref) : Type 0 where
   two : Makes t u b (rail_table t.width 1 true)
   kept_too : Keeps t u
 
-module _ {s t u : SpaceData} {a b : Ref} (h : HasBits s t u a b) where
+module _ (s t u : SpaceData) (a b : Ref) (h : HasBits s t u a b) where
   width_of : u.width ≡ 2
   width_of = h.kept_too.width ∙ h.kept.width ∙ h.width
 
@@ -67,27 +67,22 @@ module _ {s t u : SpaceData} {a b : Ref} (h : HasBits s t u a b) where
       (λ i. product ((bead_count (width_of i) (table_a i ∷ []) + 2) ∷ (bead_count (width_of i) (table_b i ∷ []) + 2) ∷ []))
       ∙ (λ i. product ((bead_count-computes 2 (first ∷ []) i + 2) ∷ (bead_count-computes 2 (second ∷ []) i + 2) ∷ []))
 
+  -- so the conjunction takes at most 45 steps
+  few : (old new : ℕ) → new ≤ old + 5 * operand_bound u (a ∷ b ∷ []) → new ≤ old + 45
+  few old new steps = let most = bound in omega (arith, most, steps)
+
 pub returns-in_err-apply_steps-clause-few : goal.returns-in_err-apply_steps-clause-few
-returns-in_err-apply_steps-clause-few g c =
-    let h : HasBits (diagram_space c.new-diagram.result) (diagram_space c.rail.new.self) (diagram_space c.rail-2.new.self) c.in_ok-a.a c.in_ok-b.b =
-    record { new = c.new-diagram.ensures.new; width = c.new-diagram.ensures.width; one = c.in_ok-a.ensures.made; kept = c.rail.ensures.kept; two = c.in_ok-b.ensures.made; kept_too = c.rail-2.ensures.kept } in
-    let steps : c.apply_steps.new.steps ≤ c.args.steps.now + 5 * operand_bound (diagram_space c.rail-2.new.self) (c.in_ok-a.a ∷ c.in_ok-b.b ∷ []) = c.apply_steps.ensures.steps in
-    let most = bound h in
-    omega arith
+returns-in_err-apply_steps-clause-few g c = few (diagram_space c.new-diagram.result) (diagram_space c.rail.new.self) (diagram_space c.rail-2.new.self) c.in_ok-a.a c.in_ok-b.b (record { new = c.new-diagram.ensures.new; width = c.new-diagram.ensures.width; one = c.in_ok-a.ensures.made; kept = c.rail.ensures.kept; two = c.in_ok-b.ensures.made; kept_too = c.rail-2.ensures.kept }) c.args.steps.now c.apply_steps.new.steps c.apply_steps.ensures.steps
 
 pub returns-clause-few : goal.returns-clause-few
-returns-clause-few g c =
-    let h : HasBits (diagram_space c.new-diagram.result) (diagram_space c.rail.new.self) (diagram_space c.rail-2.new.self) c.in_ok-a.a c.in_ok-b.b =
-    record { new = c.new-diagram.ensures.new; width = c.new-diagram.ensures.width; one = c.in_ok-a.ensures.made; kept = c.rail.ensures.kept; two = c.in_ok-b.ensures.made; kept_too = c.rail-2.ensures.kept } in
-    let steps : c.apply_steps.new.steps ≤ c.args.steps.now + 5 * operand_bound (diagram_space c.rail-2.new.self) (c.in_ok-a.a ∷ c.in_ok-b.b ∷ []) = c.apply_steps.ensures.steps in
-    let most = bound h in
-    omega arith
+returns-clause-few g c = few (diagram_space c.new-diagram.result) (diagram_space c.rail.new.self) (diagram_space c.rail-2.new.self) c.in_ok-a.a c.in_ok-b.b (record { new = c.new-diagram.ensures.new; width = c.new-diagram.ensures.width; one = c.in_ok-a.ensures.made; kept = c.rail.ensures.kept; two = c.in_ok-b.ensures.made; kept_too = c.rail-2.ensures.kept }) c.args.steps.now c.apply_steps.new.steps c.apply_steps.ensures.steps
 
 pub returns-clause-some : goal.returns-clause-some
 returns-clause-some g c =
-    let h : HasBits (diagram_space c.new-diagram.result) (diagram_space c.rail.new.self) (diagram_space c.rail-2.new.self) c.in_ok-a.a c.in_ok-b.b =
+    let u : SpaceData = diagram_space c.rail-2.new.self in
+    let h : HasBits (diagram_space c.new-diagram.result) (diagram_space c.rail.new.self) u c.in_ok-a.a c.in_ok-b.b =
     record { new = c.new-diagram.ensures.new; width = c.new-diagram.ensures.width; one = c.in_ok-a.ensures.made; kept = c.rail.ensures.kept; two = c.in_ok-b.ensures.made; kept_too = c.rail-2.ensures.kept } in
-    let came : set.len (diagram_space c.apply_steps.new.self).held + c.args.steps.now ≤ set.len (diagram_space c.rail-2.new.self).held + c.apply_steps.new.steps = c.apply_steps.ensures.came in
-    let less = two_beads h in
-    let more = three_beads h (diagram_space c.apply_steps.new.self) c.in_ok-apply_steps.field-0 c.in_ok-apply_steps.ensures.made in
+    let came : set.len (diagram_space c.apply_steps.new.self).held + c.args.steps.now ≤ set.len u.held + c.apply_steps.new.steps = c.apply_steps.ensures.came in
+    let less = two_beads _ _ u _ _ h in
+    let more = three_beads _ _ u _ _ h (diagram_space c.apply_steps.new.self) c.in_ok-apply_steps.field-0 c.in_ok-apply_steps.ensures.applies.answer in
     omega arith

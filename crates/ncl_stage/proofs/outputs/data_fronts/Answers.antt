@@ -20,6 +20,13 @@ turn old now space refs live i lt made m last is d =
     let so_far = last-table now old.width ts i (omega arith) made m.all.refs_of last is in
     sym (conjunction-at old.width ts i (omega arith) size) ∙ (λ k. conjunction (sym m.kept.width k) (sym so_far k) (sym own k))
 
+-- it is one of the conjunctions
+next : (old now : SpaceData) → IsSpace old → (refs : List Ref) → All (IsLive old) refs → (i : ℕ) → i < length refs → (made : List Ref) → Making old now made (take i (front_tables old.width (map old.table refs))) → (last : Option Ref) → IsLast made last → (d : Ref)
+    → (i < length (front_tables old.width (map old.table refs))) × (get_or (front_tables old.width (map old.table refs)) i [] ≡ conjunction now.width (option_map now.table last) (now.table (get_or refs i d)))
+next old now space refs live i lt made m last is d =
+    let many : length (front_tables old.width (map old.table refs)) ≡ length refs = length-front_tables old.width (map old.table refs) ∙ length-map refs old.table in
+    (subst (λ n. i < n) (sym many) lt, turn old now space refs live i lt made m last is d)
+
 pub loop-next-init : goal.loop-next-init
 loop-next-init g c =
     let old : SpaceData = g.P.Space.meaning c.args.space.now in
@@ -37,14 +44,8 @@ pub returns-in_err-front-clause-full : goal.returns-in_err-front-clause-full
 returns-in_err-front-clause-full g c = λ e.
     let old : SpaceData = g.P.Space.meaning c.args.space.now in
     let now : SpaceData = g.P.Space.meaning c.loop-next.space in
-    let refs = c.args.refs.now in
-    let i = c.loop-next.next-index in
-    let ts : List (List Bool) = map old.table refs in
-    let many : length (front_tables old.width ts) ≡ length refs = length-front_tables old.width ts ∙ length-map refs old.table in
-    let lt : i < length (front_tables old.width ts) = subst (λ n. i < n) (sym many) c.loop-next-test.true in
-    too_much-next old now (front_tables old.width ts) i c.loop-next.made.items _ lt
-    (turn old now c.requires.space refs c.requires.live i c.loop-next-test.true c.loop-next.made.items c.loop-next.invariant.making c.loop-next.last c.loop-next.invariant.last (record { place = 0 }))
-    c.loop-next.invariant.making
+    let (lt, is) = next old now c.requires.space c.args.refs.now c.requires.live c.loop-next.next-index c.loop-next-test.true c.loop-next.made.items c.loop-next.invariant.making c.loop-next.last c.loop-next.invariant.last (record { place = 0 }) in
+    too_much-next old now (front_tables old.width (map old.table c.args.refs.now)) c.loop-next.next-index c.loop-next.made.items _ lt is c.loop-next.invariant.making
     (c.in_err-front.ensures.full (ap Err (handed_on c.from_residual-in_err-front.result c.in_err-front.field-0.0 c.from_residual-in_err-front.ensures.1 e)))
 
 pub loop-next-preserved : goal.loop-next-preserved
@@ -52,16 +53,11 @@ loop-next-preserved g c =
     let old : SpaceData = g.P.Space.meaning c.args.space.now in
     let now : SpaceData = g.P.Space.meaning c.loop-next.space in
     let new : SpaceData = g.P.Space.meaning c.conjoin.new.space in
-    let refs = c.args.refs.now in
-    let i = c.loop-next.next-index in
-    let ts : List (List Bool) = map old.table refs in
-    let many : length (front_tables old.width ts) ≡ length refs = length-front_tables old.width ts ∙ length-map refs old.table in
-    let lt : i < length (front_tables old.width ts) = subst (λ n. i < n) (sym many) c.loop-next-test.true in
+    let fronts : List (List Bool) = front_tables old.width (map old.table c.args.refs.now) in
+    let (lt, is) = next old now c.requires.space c.args.refs.now c.requires.live c.loop-next.next-index c.loop-next-test.true c.loop-next.made.items c.loop-next.invariant.making c.loop-next.last c.loop-next.invariant.last (record { place = 0 }) in
     record {
-      making = subst (λ items. Making old new items (take (i + 1) (front_tables old.width ts))) (sym c.in_ok-push.ensures.items)
-          (making-next old now new (front_tables old.width ts) i c.loop-next.made.items c.in_ok-front.front _ lt
-          (turn old now c.requires.space refs c.requires.live i c.loop-next-test.true c.loop-next.made.items c.loop-next.invariant.making c.loop-next.last c.loop-next.invariant.last (record { place = 0 }))
-          c.loop-next.invariant.making c.in_ok-front.ensures.kept c.in_ok-front.ensures.space c.in_ok-front.ensures.made);
+      making = subst (λ items. Making old new items (take (c.loop-next.next-index + 1) fronts)) (sym c.in_ok-push.ensures.items)
+          (making-next old now new fronts c.loop-next.next-index c.loop-next.made.items c.in_ok-front.front _ lt is c.loop-next.invariant.making c.in_ok-front.ensures.kept c.in_ok-front.ensures.space c.in_ok-front.ensures.made);
       last = (c.loop-next.made.items, c.in_ok-push.ensures.items);
     }
 

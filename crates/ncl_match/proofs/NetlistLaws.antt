@@ -1,6 +1,6 @@
 -- The functions of the nets that count for an output: they are listed, and their tables are held once all are made.
-use Rattle.std.proofs.Common.{◌≡◌, ℕ, zero, suc, ◌<◌, Bool, true, false, not, List, [], ◌∷◌, length, map, get_or, Option, Some, None, if◌then◌else◌, inl, inr, refl, sym, ◌∙◌, subst, arith}
-use Rattle.std.specs.Prelude.{All, AllPairs, Contains, slice_get, ◌≢◌}
+use Rattle.std.proofs.Common.{◌≡◌, ℕ, zero, suc, ◌<◌, Bool, true, false, not, List, [], ◌∷◌, length, map, get_or, Option, Some, None, if◌then◌else◌, inl, inr, refl, sym, ◌∙◌, subst, arith, rules}
+use Rattle.std.specs.Prelude.{All, AllPairs, Contains, Result, Ok, Err, IsErrAnd, slice_get, ◌≢◌}
 use Rattle.std.proofs.lemmas.Bool.{or_cases, or_left, or_right}
 use Rattle.std.proofs.lemmas.List.Elements.{All-append, All-cons, All-nil}
 use Rattle.ncl_base.proofs.Members.{Member, here, there, All-from_members, Member-append_left, Member-from_Contains}
@@ -14,6 +14,9 @@ use Rattle.ncl_cell_roles.proofs.RailNets.{rail-place}
 use Rattle.ncl_space.specs.Functions.{is_value}
 use Rattle.ncl_space.specs.Space.{SpaceData, IsSpace, Keeps, fits, with_tables}
 use Rattle.ncl_space.specs.Table.{words, table_of}
+use Rattle.ncl_space.specs.declared.space.SpaceFault.{SpaceFault}
+use Rattle.ncl_space.specs.declared.space.SpaceFault.TheVariants.{Full}
+use Rattle.ncl_space.proofs.MakingLaws.{handed_on}
 use Rattle.ncl_space.proofs.TableLaws.{table_of-same}
 use Rattle.ncl_stage.proofs.NetLaws.{left-differ}
 use Rattle.ncl_match.specs.Circuit.{Circuit, circuit_of, closed}
@@ -24,6 +27,7 @@ use Rattle.ncl_match.specs.Gathering.{AreHeld, Gathers, IsHeld, Overflows}
 use Rattle.ncl_match.specs.Inputs.{HaveInputs, bit_function, input_tables, is_needed}
 use Rattle.ncl_match.specs.Listed.{IsListed, complement}
 use Rattle.ncl_match.specs.Listed as listed
+use Rattle.ncl_match.specs.Making.{MakesRail}
 use Rattle.ncl_match.specs.Pairs.{WordFunction, HasFunction, both_tables, inverse}
 use Rattle.ncl_match.specs.Plan.{IsEvaluated, cell_tables, is_marked, pair_at, plan_tables}
 use Rattle.ncl_match.specs.PlanCase.{AreDone, IsCase}
@@ -212,3 +216,13 @@ module _ {p : PipelineData} {l : Layout} (is : IsLayoutOf p l) where
         is = record { rails = m.rails; at = m.at; rail = λ w wide. refl };
         has = has-net m.rails.one.0 (is_rail m.rails m.at);
       }
+
+-- a refusal that is handed on
+pub refused-rail : (old new : SpaceData) (c : Circuit) (output : ℕ) (result : Result Pair SpaceFault) (fault : SpaceFault) → IsErrAnd result (λ e. e ≡ fault) → ((models : List Model) → fault ≡ Full → Overflows (IsListed c models output) old) → MakesRail old new c output result
+refused-rail old new c output (Ok p) fault is over = absurd is
+refused-rail old new c output (Err f) fault is over = record {
+  rail = search rules;
+  nets = search rules;
+  gathers = search rules;
+  full = λ models e. over models (handed_on (Err f) fault is e);
+}

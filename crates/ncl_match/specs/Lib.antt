@@ -13,6 +13,7 @@ pub mod Circuit
 pub mod Counting
 pub mod Listed
 pub mod Sides
+pub mod Making
 pub mod Answer
 pub mod Question
 pub mod Inputs

@@ -1,13 +1,10 @@
 //! The function of rail 1 of an output of a pipeline.
-ghost use Rattle.std.specs.Prelude.{◌≡◌, ◌<◌, ◌≤◌, List, [], ◌∷◌, All, AllPairs, IfOk, OnOk, IsErrOf, length, false};
-ghost use Rattle.ncl_blif.specs.declared.model.Model.{Model};
+ghost use Rattle.std.specs.Prelude.{◌≡◌, ◌<◌, All, length};
 ghost use Rattle.ncl_space.specs.Space.{IsSpace, Keeps};
 ghost use Rattle.ncl_match.specs.Circuit.{circuit_of};
-ghost use Rattle.ncl_match.specs.Gathering.{Gathers, Overflows};
-ghost use Rattle.ncl_match.specs.Listed.{IsListed};
+ghost use Rattle.ncl_match.specs.Making.{MakesRail};
 ghost use Rattle.ncl_match.specs.Pairs.{IsPair};
 ghost use Rattle.ncl_match.specs.Planned.{AreMarksFor, plan_of};
-ghost use Rattle.ncl_match.specs.Sides.{HasRail, HoldsNets};
 
 use crate::inputs::input_pairs;
 use crate::marks::marked_nets;
@@ -32,47 +29,20 @@ pub fn netlist_pair<P: Space>(
     requires space { IsSpace (P.meaning space.old) }
     requires width { (P.meaning space.old).width ≡ length pipeline.now.inputs }
     requires output { output < length pipeline.now.outputs }
-    ensures rail { IfOk result (λ p. HasRail (P.meaning space.new) p (circuit_of pipeline.now) output) }
-    ensures nets { OnOk result (HoldsNets (P.meaning space.new) (circuit_of pipeline.now) output) }
-    ensures gathers { (models : List Model) → OnOk result (Gathers (IsListed (circuit_of pipeline.now) models output) (P.meaning space.old) (P.meaning space.new)) }
+    ensures made { MakesRail (P.meaning space.old) (P.meaning space.new) (circuit_of pipeline.now) output result }
     ensures kept { Keeps (P.meaning space.old) (P.meaning space.new) }
     ensures space { IsSpace (P.meaning space.new) }
-    ensures full { (models : List Model) → IsErrOf result SpaceFault.Full → Overflows (IsListed (circuit_of pipeline.now) models output) (P.meaning space.old) }
 {
     let root = pipeline.outputs()[output].one;
     let nets = pipeline.netlist().nets().len();
     let plan = plan(alloc, pipeline)?;
     let marks = marked_nets(alloc, &plan, nets, root)?;
-    marked_pair(alloc, space, pipeline, output, &plan, &marks)
-}
-
-// The same with the plan and the marks of its nets.
-fn marked_pair<P: Space>(
-    alloc: Global,
-    space: &mut P,
-    pipeline: &Pipeline,
-    output: usize,
-    plan: &[DataCell],
-    marks: &[bool],
-) -> Result<Pair, SpaceFault>
-    requires space { IsSpace (P.meaning space.old) }
-    requires width { (P.meaning space.old).width ≡ length pipeline.now.inputs }
-    requires output { output < length pipeline.now.outputs }
-    requires plan { plan.now ≡ plan_of pipeline.now }
-    requires marks { AreMarksFor pipeline.now output marks.now }
-    ensures rail { IfOk result (λ p. HasRail (P.meaning space.new) p (circuit_of pipeline.now) output) }
-    ensures nets { OnOk result (HoldsNets (P.meaning space.new) (circuit_of pipeline.now) output) }
-    ensures gathers { (models : List Model) → OnOk result (Gathers (IsListed (circuit_of pipeline.now) models output) (P.meaning space.old) (P.meaning space.new)) }
-    ensures kept { Keeps (P.meaning space.old) (P.meaning space.new) }
-    ensures space { IsSpace (P.meaning space.new) }
-    ensures full { (models : List Model) → IsErrOf result SpaceFault.Full → Overflows (IsListed (circuit_of pipeline.now) models output) (P.meaning space.old) }
-{
     let constant = constant_pair(space, false);
     let mut pairs = vec![in alloc; constant; marks.len()]?;
-    filled_pair(space, pipeline, output, plan, marks, &mut pairs)
+    filled_pair(space, pipeline, output, &plan, &marks, &mut pairs)
 }
 
-// The same with a pair for each net, which is filled in for those that count.
+// The same with the plan, the marks of its nets, and a pair for each net, which is filled in for those that count.
 fn filled_pair<P: Space>(
     space: &mut P,
     pipeline: &Pipeline,
@@ -88,12 +58,9 @@ fn filled_pair<P: Space>(
     requires marks { AreMarksFor pipeline.now output marks.now }
     requires many { length marks.now ≡ length pairs.old }
     requires pairs { All (IsPair (P.meaning space.old)) pairs.old }
-    ensures rail { IfOk result (λ p. HasRail (P.meaning space.new) p (circuit_of pipeline.now) output) }
-    ensures nets { OnOk result (HoldsNets (P.meaning space.new) (circuit_of pipeline.now) output) }
-    ensures gathers { (models : List Model) → OnOk result (Gathers (IsListed (circuit_of pipeline.now) models output) (P.meaning space.old) (P.meaning space.new)) }
+    ensures made { MakesRail (P.meaning space.old) (P.meaning space.new) (circuit_of pipeline.now) output result }
     ensures kept { Keeps (P.meaning space.old) (P.meaning space.new) }
     ensures space { IsSpace (P.meaning space.new) }
-    ensures full { (models : List Model) → IsErrOf result SpaceFault.Full → Overflows (IsListed (circuit_of pipeline.now) models output) (P.meaning space.old) }
 {
     pipeline.facts();
     let root = pipeline.outputs()[output].one;

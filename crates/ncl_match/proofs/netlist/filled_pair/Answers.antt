@@ -8,7 +8,6 @@ use Rattle.ncl_shape.specs.Stage.{rail_nets}
 use Rattle.ncl_cell_roles.specs.Layout.{no_rails}
 use Rattle.ncl_cell_roles.proofs.LaidOut.{laid_out_of}
 use Rattle.ncl_space.specs.Space.{SpaceData, fits}
-use Rattle.ncl_space.proofs.MakingLaws.{handed_on}
 use Rattle.ncl_match.specs.Circuit.{circuit_of, closed}
 use Rattle.ncl_match.specs.declared.pair.Pair.{Pair}
 use Rattle.ncl_match.specs.declared.planning.DataCell.{DataCell}
@@ -18,7 +17,7 @@ use Rattle.ncl_match.specs.PlanCase.{AreDone, IsCase}
 use Rattle.ncl_match.specs.Planned.{plan_of}
 use Rattle.ncl_match.specs.Sides.{HasRail}
 use Rattle.ncl_match.specs.Turns.{gathered}
-use Rattle.ncl_match.proofs.NetlistLaws.{cells-gather, cells-over, inputs-case, inputs-differ, inputs-over, nets-held, ones-within, rail-had, zeros-within}
+use Rattle.ncl_match.proofs.NetlistLaws.{cells-gather, cells-over, inputs-case, inputs-differ, inputs-over, nets-held, ones-within, rail-had, refused-rail, zeros-within}
 use Rattle.ncl_match.proofs.PlanLaws.{plan-fits, plan-ordered}
 use Rattle.ncl_match.proofs.ReachLaws.{output-within}
 use Rattle.ncl_match.proofs.netlist.filled_pair.Goals as goal
@@ -46,12 +45,13 @@ input_pairs-requires g c =
       pairs = search rules;
     }
 
-pub returns-in_err-input_pairs-clause-full : goal.returns-in_err-input_pairs-clause-full
-returns-in_err-input_pairs-clause-full g c = λ models e.
+pub returns-in_err-input_pairs-clause-made : goal.returns-in_err-input_pairs-clause-made
+returns-in_err-input_pairs-clause-made g c =
     let p : PipelineData = c.args.pipeline.now in
     let (l, is) = laid_out_of p.netlist p c.facts.ensures in
-    inputs-over is c.args.output c.args.marks.now c.requires.marks models (g.P.Space.meaning c.args.space.now) c.inputs.result.now c.requires.width c.inputs.ensures.inputs
-    (c.in_err-input_pairs.ensures.full (ap Err (handed_on c.from_residual.result c.in_err-input_pairs.field-0.0 c.from_residual.ensures.1 e)))
+    let old : SpaceData = g.P.Space.meaning c.args.space.now in
+    refused-rail old (g.P.Space.meaning c.input_pairs.new.space) (circuit_of p) c.args.output c.from_residual.result c.in_err-input_pairs.field-0.0 c.from_residual.ensures.1
+    (λ models e. inputs-over is c.args.output c.args.marks.now c.requires.marks models old c.inputs.result.now c.requires.width c.inputs.ensures.inputs (c.in_err-input_pairs.ensures.full (ap Err e)))
 
 pub plan_pairs-requires-clause-ordered : goal.plan_pairs-requires-clause-ordered
 plan_pairs-requires-clause-ordered g c =
@@ -66,8 +66,8 @@ plan_pairs-requires-clause-pins g c =
     let (l, is) = laid_out_of p.netlist p c.facts.ensures in
     subst FitPins (sym c.requires.plan) (plan-fits is)
 
-pub returns-in_err-plan_pairs-clause-full : goal.returns-in_err-plan_pairs-clause-full
-returns-in_err-plan_pairs-clause-full g c = λ models e.
+pub returns-in_err-plan_pairs-clause-made : goal.returns-in_err-plan_pairs-clause-made
+returns-in_err-plan_pairs-clause-made g c =
     let p : PipelineData = c.args.pipeline.now in
     let (l, is) = laid_out_of p.netlist p c.facts.ensures in
     let old : SpaceData = g.P.Space.meaning c.args.space.now in
@@ -76,13 +76,13 @@ returns-in_err-plan_pairs-clause-full g c = λ models e.
     let pairs : List Pair = c.input_pairs.new.pairs in
     let bits : List Rails = c.inputs.result.now in
     let case = inputs-case is c.args.output marks c.requires.marks old now pairs (c.in_ok-input_pairs.ensures.kept.width ∙ c.requires.width) (with_inputs old now bits p.inputs marks pairs c.inputs.ensures.inputs c.in_ok-input_pairs.ensures.have) in
-    let full = c.in_err-plan_pairs.ensures.full (rail_nets p.inputs) (values p) (subst (λ cells. IsCase now cells marks pairs (rail_nets p.inputs) (values p)) (sym c.requires.plan) case)
-    (ap Err (handed_on c.from_residual-in_err-plan_pairs.result c.in_err-plan_pairs.field-0.0 c.from_residual-in_err-plan_pairs.ensures.1 e)) in
-    cells-over is c.args.output marks c.requires.marks models old bits c.requires.width c.inputs.ensures.inputs now pairs c.in_ok-input_pairs.ensures.kept c.in_ok-input_pairs.ensures.have
-    (subst (λ (cells : List DataCell). fits now (gathered (plan_tables now.width (values p) marks cells) (length cells)) ≡ false) c.requires.plan full)
+    let full = c.in_err-plan_pairs.ensures.full (rail_nets p.inputs) (values p) (subst (λ cells. IsCase now cells marks pairs (rail_nets p.inputs) (values p)) (sym c.requires.plan) case) in
+    refused-rail old (g.P.Space.meaning c.plan_pairs.new.space) (circuit_of p) c.args.output c.from_residual-in_err-plan_pairs.result c.in_err-plan_pairs.field-0.0 c.from_residual-in_err-plan_pairs.ensures.1
+    (λ models e. cells-over is c.args.output marks c.requires.marks models old bits c.requires.width c.inputs.ensures.inputs now pairs c.in_ok-input_pairs.ensures.kept c.in_ok-input_pairs.ensures.have
+    (subst (λ (cells : List DataCell). fits now (gathered (plan_tables now.width (values p) marks cells) (length cells)) ≡ false) c.requires.plan (full (ap Err e))))
 
-pub returns : goal.returns
-returns g c =
+pub returns-clause-made : goal.returns-clause-made
+returns-clause-made g c =
     let p : PipelineData = c.args.pipeline.now in
     let (l, is) = laid_out_of p.netlist p c.facts.ensures in
     let old : SpaceData = g.P.Space.meaning c.args.space.now in
@@ -99,8 +99,6 @@ returns g c =
       rail = subst (λ (r : Rails). HasRail new (pair_at after r.one.0) (circuit_of p) c.args.output) own had;
       nets = nets-held is c.args.output marks c.requires.marks now new after c.in_ok-plan_pairs.ensures.space (over_plan case);
       gathers = λ models. cells-gather is c.args.output marks c.requires.marks models old c.inputs.result.now c.requires.width c.inputs.ensures.inputs now pairs c.in_ok-input_pairs.ensures.kept c.in_ok-input_pairs.ensures.have new after (over_plan case);
-      kept = search rules;
-      space = search rules;
       full = search rules;
     }
 

@@ -39,8 +39,8 @@ marked_nets-requires-clause-root g c =
     let within = output-within is c.args.output (get_or p.outputs c.args.output no_rails) (slice_get-get_or p.outputs c.args.output no_rails c.requires.output) in
     subst (λ (xs : List Rails). (get_or xs c.args.output no_rails).one.0 < length c.nets-nets.result.now) (sym c.outputs.ensures.outputs) (subst (λ n. (get_or p.outputs c.args.output no_rails).one.0 < n) many within)
 
-pub marked_pair-requires-clause-marks : goal.marked_pair-requires-clause-marks
-marked_pair-requires-clause-marks g c =
+pub filled_pair-requires-clause-marks : goal.filled_pair-requires-clause-marks
+filled_pair-requires-clause-marks g c =
     let p : PipelineData = c.args.pipeline.now in
     let many : length p.netlist.nets ≡ length c.nets-nets.result.now = ap length (sym (c.nets-nets.ensures.nets ∙ ap (λ (n : NetlistData). n.nets) c.netlist.ensures.netlist)) in
     marks-for p c.args.output c.deref.result.now (length c.nets-nets.result.now) c.outputs.result.now c.in_ok-marks.marks.items c.deref-3.result.now c.requires.output (c.deref.ensures.value ∙ c.in_ok-plan.ensures) many c.outputs.ensures.outputs c.deref-3.ensures.value c.in_ok-marks.ensures

@@ -80,14 +80,14 @@ module _ (circuit : Circuit) (models : List Model) (output : ℕ) (old a b : Spa
 pub returns-in_err-g-clause-full : goal.returns-in_err-g-clause-full
 returns-in_err-g-clause-full g c = λ e.
     let circuit : Circuit = circuit_of c.args.pipeline.now in
-    overflows-along (IsListed circuit c.args.models.now (c.args.output - 1)) (g.P.Space.meaning c.args.space.now) (g.P.Space.meaning c.netlist_pair.new.space) (c.in_ok-f.ensures.gathers c.args.models.now) c.in_ok-f.ensures.kept
+    overflows-along (IsListed circuit c.args.models.now (c.args.output - 1)) (g.P.Space.meaning c.args.space.now) (g.P.Space.meaning c.netlist_pair.new.space) (c.in_ok-f.ensures.made.gathers c.args.models.now) c.in_ok-f.ensures.kept
     (c.in_err-g.ensures.full circuit c.requires.widths.inputs (ap Err (handed_on c.from_residual-in_err-g.result c.in_err-g.field-0.0 c.from_residual-in_err-g.ensures.1 e)))
 
 pub returns-in_err-either-clause-full : goal.returns-in_err-either-clause-full
 returns-in_err-either-clause-full g c = λ e.
     let circuit : Circuit = circuit_of c.args.pipeline.now in
     let models : List Model = c.args.models.now in
-    third-over circuit models c.args.output (g.P.Space.meaning c.args.space.now) (g.P.Space.meaning c.netlist_pair.new.space) (g.P.Space.meaning c.models_pair.new.space) c.in_ok-f.f c.in_ok-g.g c.requires.width c.in_ok-f.ensures.kept c.in_ok-g.ensures.kept c.in_ok-f.ensures.rail (c.in_ok-g.ensures.signal circuit c.requires.widths.inputs) (c.in_ok-f.ensures.gathers models) (c.in_ok-g.ensures.gathers circuit c.requires.widths.inputs)
+    third-over circuit models c.args.output (g.P.Space.meaning c.args.space.now) (g.P.Space.meaning c.netlist_pair.new.space) (g.P.Space.meaning c.models_pair.new.space) c.in_ok-f.f c.in_ok-g.g c.requires.width c.in_ok-f.ensures.kept c.in_ok-g.ensures.kept c.in_ok-f.ensures.made.rail (c.in_ok-g.ensures.signal circuit c.requires.widths.inputs) (c.in_ok-f.ensures.made.gathers models) (c.in_ok-g.ensures.gathers circuit c.requires.widths.inputs)
     (c.in_err-either.ensures.full (ap Err (handed_on c.from_residual-in_err-either.result c.in_err-either.field-0.0 c.from_residual-in_err-either.ensures.1 e)))
 
 pub returns : goal.returns
@@ -98,11 +98,11 @@ returns g c =
     let a : SpaceData = g.P.Space.meaning c.netlist_pair.new.space in
     let b : SpaceData = g.P.Space.meaning c.models_pair.new.space in
     let new : SpaceData = g.P.Space.meaning c.apart.new.space in
-    let (has, (gathers, whole)) = third-all circuit models c.args.output old a b c.in_ok-f.f c.in_ok-g.g c.requires.width c.in_ok-f.ensures.kept c.in_ok-g.ensures.kept c.in_ok-f.ensures.rail (c.in_ok-g.ensures.signal circuit c.requires.widths.inputs) (c.in_ok-f.ensures.gathers models) (c.in_ok-g.ensures.gathers circuit c.requires.widths.inputs)
+    let (has, (gathers, whole)) = third-all circuit models c.args.output old a b c.in_ok-f.f c.in_ok-g.g c.requires.width c.in_ok-f.ensures.kept c.in_ok-g.ensures.kept c.in_ok-f.ensures.made.rail (c.in_ok-g.ensures.signal circuit c.requires.widths.inputs) (c.in_ok-f.ensures.made.gathers models) (c.in_ok-g.ensures.gathers circuit c.requires.widths.inputs)
     new c.in_ok-either.either c.in_ok-either.ensures.kept c.in_ok-either.ensures.made in
     record {
       apart = has;
-      whole = whole c.requires.models.each c.in_ok-f.ensures.nets (c.in_ok-g.ensures.signals circuit c.requires.widths.inputs);
+      whole = whole c.requires.models.each c.in_ok-f.ensures.made.nets (c.in_ok-g.ensures.signals circuit c.requires.widths.inputs);
       gathers = gathers;
       kept = keeps_along old b new (keeps_along old a b c.in_ok-f.ensures.kept c.in_ok-g.ensures.kept) c.in_ok-either.ensures.kept;
       space = search rules;

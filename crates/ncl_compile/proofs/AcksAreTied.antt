@@ -42,8 +42,8 @@ module _ (n : NetlistData) (p : PipelineData) (is : IsAssembled n p) where
   pub tied : (i : ℕ) (c : Cell) → CellAt n i c → IsTied n c
   tied i c at request (inl is_ack) from =
       let r = ack_role n p is i c at is_ack in
-      let in_nets : Member r.bit.ack.0 (ack_nets r.bank.bits r.bank.tree) = Member-append_left r.bit.ack.0 (map out_of r.bank.tree) (Member-map (λ (w : WiredBit). w.ack.0) r.bit (member_at r.bank.bits r.j r.bit r.at_bit)) in
-      net_is_tied r.k r.bank r.at_bank c.out.0 (subst (λ (x : NetId). Member x.0 (ack_nets r.bank.bits r.bank.tree)) (sym r.on.out) in_nets)
+      let in_nets : Member r.own.bit.ack.0 (ack_nets r.bank.bits r.bank.tree) = Member-append_left r.own.bit.ack.0 (map out_of r.bank.tree) (Member-map (λ (w : WiredBit). w.ack.0) r.own.bit (member_at r.bank.bits r.own.j r.own.bit r.own.at)) in
+      net_is_tied r.k r.bank r.at_bank c.out.0 (subst (λ (x : NetId). Member x.0 (ack_nets r.bank.bits r.bank.tree)) (sym r.own.on.out) in_nets)
   tied i c at request (inr is_gate) from =
       elim (gate_role n p is i c at is_gate) [
         | inl r ↦

@@ -99,7 +99,7 @@ module _ (n : NetlistData) (p : PipelineData) (is : IsAssembled n p) where
       plain data_is =
           let (i, at) = place_of n c in_cells in
           let r = register_role n p is i c at (data_is_register c.kind data_is) in
-          both_ways (is_data_register c.kind) (ap is_data_register r.on.kind) data_is
+          both_ways (is_data_register c.kind) (ap is_data_register r.own.on.kind) data_is
 
   -- so no bank is reset to DATA
   pub no_data_bank : (request : ℕ) → IsDataBank n request → ⊥

@@ -92,14 +92,14 @@ module _ (n : NetlistData) (p : PipelineData) (is : IsAssembled n p) where
     no_gate c pin origin in_c is_gate on only = only.only FromPort (gate c in_c is_gate (ReadsNet-from_pin c pin net on) (port is_port))
 
     -- and no acknowledge cell does
-    no_driven : (i : ℕ) (c : Cell) (a : AckAt n p is i c) (r : Bool) → (net_of_rail a.bit.to r).0 ≡ net → ⊥
+    no_driven : (i : ℕ) (c : Cell) (a : AckAt n p is i c) (r : Bool) → (net_of_rail a.own.bit.to r).0 ≡ net → ⊥
     no_driven i c a r same =
-        let only = driven_only n p is a.k a.bank a.at_bank (net_of_rail a.bit.to r).0 (rail_among (λ (w : WiredBit). w.to) a.bank.bits a.j a.bit r a.at_bit) in
+        let only = driven_only n p is a.k a.bank a.at_bank (net_of_rail a.own.bit.to r).0 (rail_among (λ (w : WiredBit). w.to) a.bank.bits a.own.j a.own.bit r a.own.at) in
         no_rail a.bank.request.0 (subst (λ z. HasOnlyOrigin n z (RailOf a.bank.request.0)) same only)
 
-    no_ack : (i : ℕ) (c : Cell) (a : AckAt n p is i c) (pin : ℕ) → slice_get (a.bit.to.zero ∷ a.bit.to.one ∷ []) pin ≡ Some (record { 0 = net }) → ⊥
-    no_ack i c a zero on = let same : a.bit.to.zero ≡ record { 0 = net } = cc in no_driven i c a false (ap (λ (z : NetId). z.0) same)
-    no_ack i c a (suc zero) on = let same : a.bit.to.one ≡ record { 0 = net } = cc in no_driven i c a true (ap (λ (z : NetId). z.0) same)
+    no_ack : (i : ℕ) (c : Cell) (a : AckAt n p is i c) (pin : ℕ) → slice_get (a.own.bit.to.zero ∷ a.own.bit.to.one ∷ []) pin ≡ Some (record { 0 = net }) → ⊥
+    no_ack i c a zero on = let same : a.own.bit.to.zero ≡ record { 0 = net } = cc in no_driven i c a false (ap (λ (z : NetId). z.0) same)
+    no_ack i c a (suc zero) on = let same : a.own.bit.to.one ≡ record { 0 = net } = cc in no_driven i c a true (ap (λ (z : NetId). z.0) same)
     no_ack i c a (suc (suc pin)) on = absurd cc
 
     -- a register cell that reads it does so on the pin of its use
@@ -119,7 +119,7 @@ module _ (n : NetlistData) (p : PipelineData) (is : IsAssembled n p) where
         ]
     use_of_pin i c r (suc (suc zero)) on = reset (same_net c RST is.rst.0 net (on_rst n p is i c r) on)
     use_of_pin i c r (suc (suc (suc pin))) on =
-        let none = sym (ap (λ l. slice_get l (suc (suc (suc pin)))) r.on.ins) ∙ on in
+        let none = sym (ap (λ l. slice_get l (suc (suc (suc pin)))) r.own.on.ins) ∙ on in
         absurd cc
 
     -- so a cell that reads it is a register cell that does so
@@ -131,7 +131,7 @@ module _ (n : NetlistData) (p : PipelineData) (is : IsAssembled n p) where
 
         by : Role n p is i c → RegisterAt n p is i c × UseOf net pin
         by (to_keep r) = (r, use_of_pin i c r pin on)
-        by (to_acknowledge a) = absurd (no_ack i c a pin (sym (ap (λ l. slice_get l pin) a.on.ins) ∙ on))
+        by (to_acknowledge a) = absurd (no_ack i c a pin (sym (ap (λ l. slice_get l pin) a.own.on.ins) ∙ on))
         by (to_complete r) =
             let clash = no_gate c pin (AckOf r.bank.request.0) in_c (r.own.gate.kind, r.own.on.kind) on (cell_of_tree_only n p is i c r) in
             absurd cc
@@ -147,8 +147,8 @@ module _ (n : NetlistData) (p : PipelineData) (is : IsAssembled n p) where
         let (r, used) = read_by_register i c at_c pin on in
         let (s, also_used) = read_by_register j d at_d also on_too in
         let pins : pin ≡ also = one_use net pin also used also_used in
-        let of_c : slice_get (pins_of Register) pin ≡ Some x = ap (λ k. slice_get (pins_of k) pin) (sym r.on.kind) ∙ named in
-        let of_d : slice_get (pins_of Register) also ≡ Some y = ap (λ k. slice_get (pins_of k) also) (sym s.on.kind) ∙ named_too in
+        let of_c : slice_get (pins_of Register) pin ≡ Some x = ap (λ k. slice_get (pins_of k) pin) (sym r.own.on.kind) ∙ named in
+        let of_d : slice_get (pins_of Register) also ≡ Some y = ap (λ k. slice_get (pins_of k) also) (sym s.own.on.kind) ∙ named_too in
         let both : Some x ≡ Some y = sym of_c ∙ ap (slice_get (pins_of Register)) pins ∙ of_d in
         cc
 
@@ -173,12 +173,12 @@ module _ (n : NetlistData) (p : PipelineData) (is : IsAssembled n p) where
             let one : s.bank ≡ r.bank = same_bank n p is s.k r.k s.bank r.bank s.at_bank r.at_bank (first_s ∙ sym first_r) in
             let first : BankAt n p is zero r.bank = subst (λ z. BankAt n p is z r.bank) first_r r.at_bank in
             let rises : Rise (rail_nets (rails_read r.bank)) = subst (λ l. Rise (rail_nets l)) (sym (first_reads n p is r.bank first)) (input_rails_rise n p is) in
-            let at_s : slice_get r.bank.bits s.j ≡ Some s.bit = subst (λ (z : WiredBank). slice_get z.bits s.j ≡ Some s.bit) one s.at_bit in
-            let nets : (net_of_rail r.bit.from r.rail).0 ≡ (net_of_rail s.bit.from s.rail).0 = same_net c A (net_of_rail r.bit.from r.rail).0 net (on_a n p is i c r) on ∙ same_net d A net (net_of_rail s.bit.from s.rail).0 also (on_a n p is j d s) in
-            let (places, sides) = rail_is_one (λ (w : WiredBit). w.from) r.bank.bits rises r.j s.j r.bit s.bit r.rail s.rail r.at_bit at_s nets in
-            let at_r : slice_get r.bank.bits s.j ≡ Some r.bit = subst (λ z. slice_get r.bank.bits z ≡ Some r.bit) places r.at_bit in
-            let bits : r.bit ≡ s.bit = cc in
-            let numbers : i ≡ j = sym r.number ∙ ap (λ (z : WiredBit). (register_of z.bit r.rail).0) bits ∙ ap (λ z. (register_of s.bit.bit z).0) sides ∙ s.number in
+            let at_s : slice_get r.bank.bits s.own.j ≡ Some s.own.bit = subst (λ (z : WiredBank). slice_get z.bits s.own.j ≡ Some s.own.bit) one s.own.at in
+            let nets : (net_of_rail r.own.bit.from r.own.rail).0 ≡ (net_of_rail s.own.bit.from s.own.rail).0 = same_net c A (net_of_rail r.own.bit.from r.own.rail).0 net (on_a n p is i c r) on ∙ same_net d A net (net_of_rail s.own.bit.from s.own.rail).0 also (on_a n p is j d s) in
+            let (places, sides) = rail_is_one (λ (w : WiredBit). w.from) r.bank.bits rises r.own.j s.own.j r.own.bit s.own.bit r.own.rail s.own.rail r.own.at at_s nets in
+            let at_r : slice_get r.bank.bits s.own.j ≡ Some r.own.bit = subst (λ z. slice_get r.bank.bits z ≡ Some r.own.bit) places r.own.at in
+            let bits : r.own.bit ≡ s.own.bit = cc in
+            let numbers : i ≡ j = sym r.own.number ∙ ap (λ (z : WiredBit). (register_of z.bit r.own.rail).0) bits ∙ ap (λ z. (register_of s.own.bit.bit z).0) sides ∙ s.own.number in
             let moved : CellAt n j c = subst (λ z. CellAt n z c) numbers at_c in
             cc
 

@@ -50,25 +50,25 @@ module _ (n : NetlistData) (p : PipelineData) (is : IsAssembled n p) where
 
   -- the pins of a register cell by its role
   module _ (i : ℕ) (c : Cell) (r : RegisterAt n p is i c) where
-    pub on_a : OnPin c A (net_of_rail r.bit.from r.rail).0
-    on_a = ap (λ l. slice_get l A) r.on.ins
+    pub on_a : OnPin c A (net_of_rail r.own.bit.from r.own.rail).0
+    on_a = ap (λ l. slice_get l A) r.own.on.ins
 
     pub on_b : OnPin c B r.bank.request.0
-    on_b = ap (λ l. slice_get l B) r.on.ins
+    on_b = ap (λ l. slice_get l B) r.own.on.ins
 
     pub on_rst : OnPin c RST is.rst.0
-    on_rst = ap (λ l. slice_get l RST) r.on.ins
+    on_rst = ap (λ l. slice_get l RST) r.own.on.ins
 
     -- what it reads on A is a rail that its bank reads
     pub read_by_bank : (net : ℕ) → OnPin c A net → Member net (rail_nets (rails_read r.bank))
     read_by_bank net on =
-        let same : (net_of_rail r.bit.from r.rail).0 ≡ net = same_net c A (net_of_rail r.bit.from r.rail).0 net on_a on in
-        subst (λ x. Member x (rail_nets (rails_read r.bank))) same (rail_among (λ (w : WiredBit). w.from) r.bank.bits r.j r.bit r.rail r.at_bit)
+        let same : (net_of_rail r.own.bit.from r.own.rail).0 ≡ net = same_net c A (net_of_rail r.own.bit.from r.own.rail).0 net on_a on in
+        subst (λ x. Member x (rail_nets (rails_read r.bank))) same (rail_among (λ (w : WiredBit). w.from) r.bank.bits r.own.j r.own.bit r.own.rail r.own.at)
 
     -- what it drives is a rail that its bank drives
     pub driven_by_bank : Member c.out.0 (rail_nets (rails_driven r.bank))
     driven_by_bank =
-        subst (λ (x : NetId). Member x.0 (rail_nets (rails_driven r.bank))) (sym r.on.out) (rail_among (λ (w : WiredBit). w.to) r.bank.bits r.j r.bit r.rail r.at_bit)
+        subst (λ (x : NetId). Member x.0 (rail_nets (rails_driven r.bank))) (sym r.own.on.out) (rail_among (λ (w : WiredBit). w.to) r.bank.bits r.own.j r.own.bit r.own.rail r.own.at)
 
   -- a register cell of a bank by its role
   pub role_in_bank : (request : ℕ) (c : Cell) → IsOfBank n request c → (i : ℕ) × CellAt n i c × ((r : RegisterAt n p is i c) × (r.bank.request.0 ≡ request))

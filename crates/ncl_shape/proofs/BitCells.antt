@@ -1,6 +1,6 @@
 -- The register cells of a bit of a bank, as they are read: they are there, and have the rails of the bit on Z and its
 -- inputs on A.
-use Rattle.std.proofs.Common.{◌≡◌, ℕ, ◌<◌, List, length, get_or, Some, None, ap, subst, arith}
+use Rattle.std.proofs.Common.{◌≡◌, ℕ, ◌<◌, List, length, get_or, Some, None, refl, ap, subst, arith}
 use Rattle.std.specs.Prelude.{slice_get}
 use Rattle.std.proofs.lemmas.Option.{slice_get_within}
 use Rattle.ncl_base.proofs.Members.{Contains-from_slice_get}
@@ -11,6 +11,9 @@ use Rattle.ncl_cell_rules.specs.Origin.{CellAt, IsRegister, OnPin, A}
 use Rattle.ncl_cell_rules.proofs.PinNumbers.{no_net, register_pins, on_pin_of}
 use Rattle.ncl_cell_rules.proofs.TableSteps.{cell_read}
 use Rattle.ncl_shape.specs.declared.bank.Bit.{Bit}
+use Rattle.ncl_shape.specs.declared.rail_lists.Side.{Side}
+use Rattle.ncl_shape.specs.declared.rail_lists.Side.TheVariants.{Driven, Read}
+use Rattle.ncl_shape.specs.FoundParts.{AreOnSide, net_on}
 use Rattle.ncl_shape.specs.Shape.{IsBitOf, AreBitsOf, AreRailsOf, AreInputsOf}
 use Rattle.ncl_shape.proofs.ShapeLaws.{same_cell}
 
@@ -71,3 +74,8 @@ module _ (n : NetlistData) (bank : ℕ) (bits : List Bit) (are : AreBitsOf n ban
         zero = λ c at. subst (λ (x : Cell). OnPin x A (get_or zeros 0 no_net).0) (same_cell n bit.rail0.0 bit.rail0.0 zero c (λ i. bit.rail0.0) zero_at at) (on_pin_of zero 0 zeros are_zeros (omega (arith, zero_pins)));
         one = λ c at. subst (λ (x : Cell). OnPin x A (get_or ones 0 no_net).0) (same_cell n bit.rail1.0 bit.rail1.0 one c (λ i. bit.rail1.0) one_at at) (on_pin_of one 0 ones are_ones (omega (arith, one_pins)));
       }
+
+      -- so they are the rails on either side
+      pub on_side : (side : Side) → AreOnSide n side bit (record { zero = net_on side zero; one = net_on side one })
+      on_side Driven = rails_read
+      on_side Read = inputs_read zero.ins.items one.ins.items refl refl

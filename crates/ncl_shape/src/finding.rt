@@ -13,7 +13,7 @@ use crate::bank::{Bank, Bit};
 use crate::chain::{Chain, find_chain};
 use crate::fault::ShapeFault;
 use crate::pipeline::{Parts, Pipeline};
-use crate::rail_lists::{inputs_of, rails_of};
+use crate::rail_lists::{Side, rails_on};
 use crate::stage_cells::gates_of_banks;
 use crate::staging::stages_between;
 use crate::widths::find_bits;
@@ -66,8 +66,8 @@ fn assemble(
     let stages = stages_between(alloc, netlist, &banks, gates)?;
     let first = &banks[0];
     let last = &banks[banks.len() - 1];
-    let inputs = inputs_of(alloc, netlist, first.bits.items())?;
-    let outputs = rails_of(alloc, netlist, last.bits.items())?;
+    let inputs = rails_on(alloc, netlist, first.bits.items(), Side::Read)?;
+    let outputs = rails_on(alloc, netlist, last.bits.items(), Side::Driven)?;
     let ki = last.request;
     let ko = first.root;
     Ok(Parts {

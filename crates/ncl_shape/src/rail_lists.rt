@@ -1,44 +1,44 @@
 //! The rails of banks.
-ghost use Rattle.std.specs.Prelude.{ℕ, IfOk};
+ghost use Rattle.std.specs.Prelude.{◌≡◌, ◌≤◌, ℕ, IfOk, length};
 ghost use Rattle.std.specs.List.{AllZip};
-ghost use Rattle.ncl_shape.specs.Shape.{AreBitsOf, AreInputsOf, AreRailsOf};
+ghost use Rattle.ncl_shape.specs.FoundParts.{AreOnSide, net_on};
+ghost use Rattle.ncl_shape.specs.Shape.{AreBitsOf};
 
 use crate::bank::Bit;
 use crate::rails::Rails;
 use ncl_base::{Items, Memory};
-use ncl_netlist::Netlist;
+use ncl_netlist::{Cell, NetId, Netlist};
 use std::alloc::Global;
 
-/// The rails that the register cells of the bits of a bank drive. Linear in the bits.
-pub(crate) fn rails_of(
-    alloc: Global,
-    netlist: &Netlist,
-    bits: &[Bit],
-) -> Result<Items<Rails>, Memory>
-    requires { (bank : ℕ) × AreBitsOf netlist.now bank bits.now }
-    ensures { IfOk result (λ rails. AllZip (AreRailsOf netlist.now) bits.now rails) }
-{
-    let cells = netlist.cells();
-    let mut rails = Vec::with_capacity(alloc, bits.len())?;
-    for bit in bits {
-        let zero = &cells[bit.rail0.0 as usize];
-        let one = &cells[bit.rail1.0 as usize];
-        rails.push(Rails {
-            zero: zero.out,
-            one: one.out,
-        })?;
-    }
-    Ok(Items::from_vec(rails))
+/// A side of the register cells of a bank.
+#[derive(Clone, Copy, Debug, PartialEq, Eq)]
+pub(crate) enum Side {
+    /// The nets that they drive.
+    Driven,
+    /// The nets on their A pins.
+    Read,
 }
 
-/// The rails on the A pins of the register cells of the bits of a bank. Linear in the bits.
-pub(crate) fn inputs_of(
+/// The net on a side of a register cell.
+fn net_on(cell: &Cell, side: Side) -> NetId
+    requires { 1 ≤ length cell.now.ins.items }
+    ensures { result ≡ net_on side cell.now }
+{
+    match side {
+        Side::Driven => cell.out,
+        Side::Read => cell.ins[0],
+    }
+}
+
+/// The rails on a side of the register cells of the bits of a bank. Linear in the bits.
+pub(crate) fn rails_on(
     alloc: Global,
     netlist: &Netlist,
     bits: &[Bit],
+    side: Side,
 ) -> Result<Items<Rails>, Memory>
     requires { (bank : ℕ) × AreBitsOf netlist.now bank bits.now }
-    ensures { IfOk result (λ rails. AllZip (AreInputsOf netlist.now) bits.now rails) }
+    ensures { IfOk result (λ rails. AllZip (AreOnSide netlist.now side) bits.now rails) }
 {
     let cells = netlist.cells();
     let mut rails = Vec::with_capacity(alloc, bits.len())?;
@@ -46,8 +46,8 @@ pub(crate) fn inputs_of(
         let zero = &cells[bit.rail0.0 as usize];
         let one = &cells[bit.rail1.0 as usize];
         rails.push(Rails {
-            zero: zero.ins[0],
-            one: one.ins[0],
+            zero: net_on(zero, side),
+            one: net_on(one, side),
         })?;
     }
     Ok(Items::from_vec(rails))

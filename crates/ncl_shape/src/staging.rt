@@ -10,7 +10,7 @@ ghost use Rattle.ncl_shape.specs.FoundParts.{AreGatesOf, AreStagesOf, IsFewBitBa
 ghost use Rattle.ncl_shape.specs.Shape.{IsStageOf};
 
 use crate::bank::Bank;
-use crate::rail_lists::{inputs_of, rails_of};
+use crate::rail_lists::{Side, rails_on};
 use crate::stage::{Stage, StageCell};
 use ncl_base::{Items, Memory};
 use ncl_netlist::Netlist;
@@ -35,8 +35,8 @@ fn stage_between(
     ensures number { IfOk result (λ stage. stage.number ≡ number) }
     ensures stage { IfOk result (IsStageOf netlist.now bank.now next.now) }
 {
-    let inputs = rails_of(alloc, netlist, bank.bits.items())?;
-    let outputs = inputs_of(alloc, netlist, next.bits.items())?;
+    let inputs = rails_on(alloc, netlist, bank.bits.items(), Side::Driven)?;
+    let outputs = rails_on(alloc, netlist, next.bits.items(), Side::Read)?;
     Ok(Stage::new(number, inputs, Items::from_vec(cells), outputs))
 }
 

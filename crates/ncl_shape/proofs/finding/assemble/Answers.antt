@@ -38,13 +38,13 @@ stages_between-requires-clause-gates c =
     subst (λ l. AllZip (AreGatesOf n) (requests l) (map (λ v. v.items) c.in_ok-gates.gates.items)) (sym c.deref.ensures.value)
     (subst (λ l. AllZip (AreGatesOf n) l (map (λ v. v.items) c.in_ok-gates.gates.items)) (sym (requests_are n (requests_of c.args.chain.now) banks c.in_ok-banks.ensures)) c.in_ok-gates.ensures)
 
-pub inputs_of-requires : goal.inputs_of-requires
-inputs_of-requires c =
+pub rails_on-requires : goal.rails_on-requires
+rails_on-requires c =
     let at = bank_read c.in_ok-banks.banks.items 0 c.index-first.result.now (omega (arith, c.in_ok-stages.ensures.as_many, ap length c.deref.ensures.value)) c.index-first.ensures in
     bits_of_bank c.args.netlist.now (requests_of c.args.chain.now) c.in_ok-banks.banks.items c.in_ok-banks.ensures _ c.index-first.result.now at _ c.items.ensures
 
-pub rails_of-requires : goal.rails_of-requires
-rails_of-requires c =
+pub rails_on-requires-2 : goal.rails_on-requires-2
+rails_on-requires-2 c =
     let last = c.len.result - 1 in
     let at = bank_read c.in_ok-banks.banks.items last c.index-last.result.now (omega (arith, c.in_ok-stages.ensures.as_many, ap length c.deref.ensures.value, c.len.ensures, c.in_ok-banks.banks.ok.0)) c.index-last.ensures in
     bits_of_bank c.args.netlist.now (requests_of c.args.chain.now) c.in_ok-banks.banks.items c.in_ok-banks.ensures last c.index-last.result.now at _ c.items-2.ensures

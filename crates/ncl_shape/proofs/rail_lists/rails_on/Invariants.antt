@@ -1,0 +1,7 @@
+use Rattle.std.proofs.Common.{take}
+use Rattle.std.specs.List.{AllZip}
+use Rattle.ncl_shape.specs.FoundParts.{AreOnSide}
+use Rattle.ncl_shape.proofs.rail_lists.rails_on.Given as goal
+
+abbrev pub invariant-loop-bit : goal.invariant-loop-bit
+invariant-loop-bit l = AllZip (AreOnSide l.netlist l.side) (take l.bit-index l.bits) l.rails.items

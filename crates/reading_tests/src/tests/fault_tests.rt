@@ -18,8 +18,9 @@ fn are_told<F: Display>(rt: &impl Abort, alloc: Global, cases: &[(F, &str)]) -> 
 }
 
 #[test]
-fn faults_of_netlists_are_told(rt: HostRuntime) -> Result<(), Fail> {
-    let cases = [
+fn faults_are_told(rt: HostRuntime) -> Result<(), Fail> {
+    let alloc = rt.alloc();
+    let of_netlists = [
         (NetFault::Syntax(1), "syntax error at byte 1"),
         (NetFault::UnknownCell(2), "unknown cell at byte 2"),
         (NetFault::BadPins(3), "bad pins at byte 3"),
@@ -27,26 +28,18 @@ fn faults_of_netlists_are_told(rt: HostRuntime) -> Result<(), Fail> {
         (NetFault::Build(BuildFault::TooMany), "no netlist"),
         (NetFault::Memory, "out of memory"),
     ];
-    are_told(&rt, rt.alloc(), &cases)
-}
-
-#[test]
-fn faults_of_delays_are_told(rt: HostRuntime) -> Result<(), Fail> {
-    let cases = [
+    are_told(&rt, alloc, &of_netlists)?;
+    let of_delays = [
         (DelayFault::Syntax(1), "syntax in line 1"),
         (DelayFault::UnknownCell(2), "unknown cell in line 2"),
         (DelayFault::Memory, "out of memory"),
     ];
-    are_told(&rt, rt.alloc(), &cases)
-}
-
-#[test]
-fn faults_of_words_are_told(rt: HostRuntime) -> Result<(), Fail> {
-    let cases = [
+    are_told(&rt, alloc, &of_delays)?;
+    let of_words = [
         (WordsFault::Syntax(1), "syntax in line 1"),
         (WordsFault::Width(2), "width in line 2"),
         (WordsFault::TooMany(3), "too many words in line 3"),
         (WordsFault::Memory, "out of memory"),
     ];
-    are_told(&rt, rt.alloc(), &cases)
+    are_told(&rt, alloc, &of_words)
 }

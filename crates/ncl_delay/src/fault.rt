@@ -1,6 +1,5 @@
 //! Why a file of delays or of words is not read.
 use ncl_base::Memory;
-use std::alloc::AllocFailed;
 use thiserror::Error;
 
 /// Why a file of delays is not read. Lines count from 1.
@@ -43,16 +42,4 @@ pub enum WordsFault {
     /// Memory was refused.
     #[error("out of memory")]
     Memory,
-}
-
-impl<T: Drop> From<AllocFailed<T>> for WordsFault {
-    ghost use Rattle.std.specs.Prelude.{◌≡◌};
-    ghost use Rattle.ncl_delay.specs.declared.fault.WordsFault.TheVariants.{Memory as OutOfMemory};
-
-    ghost from_gives = { λ _ fault. fault ≡ OutOfMemory };
-
-    fn from(error: AllocFailed<T>) -> WordsFault {
-        let _ = error;
-        WordsFault::Memory
-    }
 }

@@ -38,7 +38,11 @@ pub fn read_words(alloc: Global, bytes: &[u8], width: usize) -> Result<Vec<Word>
     for (place, part) in bytes.split(|byte| *byte == b'\n').enumerate() {
         let line = trimmed(part);
         if tells(line) {
-            words.push(read_word(place as u32 + 1, line, width, words.len())?)?;
+            let word = read_word(place as u32 + 1, line, width, words.len())?;
+            match words.push(word) {
+                Ok(()) => {}
+                Err(_) => return Err(WordsFault::Memory),
+            }
         }
     }
     Ok(words)

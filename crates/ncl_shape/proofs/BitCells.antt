@@ -11,8 +11,8 @@ use Rattle.ncl_cell_rules.specs.Origin.{CellAt, IsRegister, OnPin, A}
 use Rattle.ncl_cell_rules.proofs.PinNumbers.{no_net, register_pins, on_pin_of}
 use Rattle.ncl_cell_rules.proofs.TableSteps.{cell_read}
 use Rattle.ncl_shape.specs.declared.bank.Bit.{Bit}
-use Rattle.ncl_shape.specs.declared.rail_lists.Side.{Side}
-use Rattle.ncl_shape.specs.declared.rail_lists.Side.TheVariants.{Driven, Read}
+use Rattle.ncl_shape.specs.declared.rails.Side.{Side}
+use Rattle.ncl_shape.specs.declared.rails.Side.TheVariants.{Driven, Read}
 use Rattle.ncl_shape.specs.FoundParts.{AreOnSide, net_on}
 use Rattle.ncl_shape.specs.Shape.{IsBitOf, AreBitsOf, AreRailsOf, AreInputsOf}
 use Rattle.ncl_shape.proofs.ShapeLaws.{same_cell}

@@ -7,7 +7,9 @@ use Rattle.ncl_netlist.specs.Netlist.{NetlistData}
 use Rattle.ncl_shape.specs.declared.fault.ShapeFault.{ShapeFault}
 use Rattle.ncl_shape.specs.declared.fault.ShapeFault.TheVariants.{CellRule, NoChain, TooWide, TooLong, Memory}
 use Rattle.ncl_shape.specs.declared.chain.Chain.{Chain}
-use Rattle.ncl_shape.specs.Chain.{IsChain, IsRoot, BreaksInner}
+use Rattle.ncl_shape.specs.Chain.{Follows, IsChain, IsRoot, BreaksInner}
+use Rattle.ncl_shape.specs.declared.chain.Relation.{Relation}
+use Rattle.ncl_shape.specs.declared.chain.Relation.TheVariants.{Follower, Root}
 
 -- the requests by which the banks are named, in the order of the chain
 abbrev pub requests_of : Chain → List ℕ
@@ -34,3 +36,8 @@ IsChainFault n (CellRule fault) = ⊥
 IsChainFault n (TooWide number) = ⊥
 IsChainFault n TooLong = ⊥
 IsChainFault n Memory = Unit {0}
+
+-- a net is to a bank what the relation says: the request of one that follows it, or a root of it
+abbrev pub Relates : NetlistData → Relation → ℕ → ℕ → Type 0
+Relates n Follower = Follows n
+Relates n Root = IsRoot n

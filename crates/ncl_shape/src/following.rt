@@ -6,14 +6,15 @@ ghost use Rattle.ncl_shape.specs.Chain.{Follows, IsUnforked};
 ghost use Rattle.ncl_shape.specs.ChainSteps.{AreOnly};
 
 use crate::banks::feed;
-use crate::entries::put_once;
+use crate::chain::Relation;
+use crate::only_nets::only_nets;
 use ncl_base::Memory;
 use ncl_cell_rules::{Origins, Source};
 use ncl_netlist::{NetId, Netlist};
 use std::alloc::Global;
 
 /// The bank that a bank follows; `None` at the first bank, and where the net is no request.
-fn bank_before(netlist: &Netlist, origins: &Origins, bank: NetId) -> Option<NetId>
+pub(crate) fn bank_before(netlist: &Netlist, origins: &Origins, bank: NetId) -> Option<NetId>
     requires inside { bank.0 < length netlist.now.nets }
     requires free { IsFree netlist.now }
     requires origins { AreOrigins netlist.now origins.now }
@@ -38,14 +39,6 @@ pub(crate) fn followers(
     requires origins { AreOrigins netlist.now origins.now }
     ensures { IfOk result (λ found. MatchOption found (IsUnforked netlist.now → ⊥) (λ followers. IsUnforked netlist.now × AreOnly netlist.now (Follows netlist.now) followers.items)) }
 {
-    let mut followers: Vec<Option<NetId>> = vec![in alloc; None; netlist.nets().len()]?;
-    for net in 0..netlist.nets().len() {
-        let bank = NetId(net as u32);
-        if let Some(before) = bank_before(netlist, origins, bank) {
-            if !put_once(&mut followers, before, bank) {
-                return Ok(None);
-            }
-        }
-    }
-    Ok(Some(followers))
+    let found = only_nets(alloc, netlist, origins, Relation::Follower)?;
+    Ok(found)
 }

@@ -5,19 +5,10 @@ ghost use Rattle.ncl_shape.specs.FoundParts.{AreOnSide, net_on};
 ghost use Rattle.ncl_shape.specs.Shape.{AreBitsOf};
 
 use crate::bank::Bit;
-use crate::rails::Rails;
+use crate::rails::{Rails, Side};
 use ncl_base::{Items, Memory};
 use ncl_netlist::{Cell, NetId, Netlist};
 use std::alloc::Global;
-
-/// A side of the register cells of a bank.
-#[derive(Clone, Copy, Debug, PartialEq, Eq)]
-pub(crate) enum Side {
-    /// The nets that they drive.
-    Driven,
-    /// The nets on their A pins.
-    Read,
-}
 
 /// The net on a side of a register cell.
 fn net_on(cell: &Cell, side: Side) -> NetId

@@ -1,4 +1,4 @@
-//! A bit in dual-rail form.
+//! A bit in dual-rail form, and where a register cell has it.
 use ncl_netlist::NetId;
 
 /// The two nets of a bit in dual-rail form: DATA0 where rail 0 alone is high, DATA1 where rail 1 alone is, and NULL where
@@ -7,4 +7,13 @@ use ncl_netlist::NetId;
 pub struct Rails {
     pub zero: NetId,
     pub one: NetId,
+}
+
+/// A side of the register cells of a bank.
+#[derive(Clone, Copy, Debug, PartialEq, Eq)]
+pub(crate) enum Side {
+    /// The nets that they drive.
+    Driven,
+    /// The nets on their A pins.
+    Read,
 }

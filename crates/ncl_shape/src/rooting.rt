@@ -5,9 +5,10 @@ ghost use Rattle.ncl_cell_rules.specs.Origin.{IsOutputPort};
 ghost use Rattle.ncl_cell_rules.specs.Origins.{AreOrigins};
 ghost use Rattle.ncl_cell_rules.specs.Rules.{IsRequest};
 ghost use Rattle.ncl_shape.specs.Chain.{HasRoots, IsAcknowledged, IsChain, IsRoot};
-ghost use Rattle.ncl_shape.specs.ChainSteps.{AreOnly, AreRootsOf, HasMore, numbers_of};
+ghost use Rattle.ncl_shape.specs.ChainSteps.{AreRootsOf, numbers_of};
 
-use crate::entries::put_once;
+use crate::chain::Relation;
+use crate::only_nets::only_nets;
 use ncl_base::Memory;
 use ncl_cell_rules::{Origins, Source, is_output_port};
 use ncl_netlist::{NetId, Netlist};
@@ -27,7 +28,7 @@ fn is_used(netlist: &Netlist, origins: &Origins, net: NetId) -> bool
 
 /// The bank of whose tree a net is a root: it comes from the acknowledge cells of that bank alone, and is a request or
 /// an output port.
-fn bank_of_root(netlist: &Netlist, origins: &Origins, net: NetId) -> Option<NetId>
+pub(crate) fn bank_of_root(netlist: &Netlist, origins: &Origins, net: NetId) -> Option<NetId>
     requires inside { net.0 < length netlist.now.nets }
     requires free { IsFree netlist.now }
     requires origins { AreOrigins netlist.now origins.now }
@@ -40,28 +41,6 @@ fn bank_of_root(netlist: &Netlist, origins: &Origins, net: NetId) -> Option<NetI
         return None;
     }
     Some(bank)
-}
-
-/// For each bank its only root; `None` where a bank has two. Linear in the nets.
-fn roots_of_banks(
-    alloc: Global,
-    netlist: &Netlist,
-    origins: &Origins,
-) -> Result<Option<Vec<Option<NetId>>>, Memory>
-    requires free { IsFree netlist.now }
-    requires origins { AreOrigins netlist.now origins.now }
-    ensures { IfOk result (λ found. MatchOption found (HasMore (IsRoot netlist.now)) (λ roots. AreOnly netlist.now (IsRoot netlist.now) roots.items)) }
-{
-    let mut roots: Vec<Option<NetId>> = vec![in alloc; None; netlist.nets().len()]?;
-    for net in 0..netlist.nets().len() {
-        let root = NetId(net as u32);
-        if let Some(bank) = bank_of_root(netlist, origins, root) {
-            if !put_once(&mut roots, bank, root) {
-                return Ok(None);
-            }
-        }
-    }
-    Ok(Some(roots))
 }
 
 /// The roots of the banks in their order; `None` where a bank has none, or two. That of the first bank is then an
@@ -78,7 +57,7 @@ pub(crate) fn find_roots(
     requires acknowledged { IsAcknowledged netlist.now (numbers_of banks.now) }
     ensures { IfOk result (λ found. MatchOption found (HasRoots netlist.now (numbers_of banks.now) → ⊥) (λ roots. HasRoots netlist.now (numbers_of banks.now) × AreRootsOf netlist.now banks.now roots.items)) }
 {
-    let Some(found) = roots_of_banks(alloc, netlist, origins)? else {
+    let Some(found) = only_nets(alloc, netlist, origins, Relation::Root)? else {
         return Ok(None);
     };
     let mut roots = Vec::new(alloc);

@@ -10,7 +10,8 @@ ghost use Rattle.ncl_shape.specs.FoundParts.{AreGatesOf, AreStagesOf, IsFewBitBa
 ghost use Rattle.ncl_shape.specs.Shape.{IsStageOf};
 
 use crate::bank::Bank;
-use crate::rail_lists::{Side, rails_on};
+use crate::rail_lists::rails_on;
+use crate::rails::Side;
 use crate::stage::{Stage, StageCell};
 use ncl_base::{Items, Memory};
 use ncl_netlist::Netlist;

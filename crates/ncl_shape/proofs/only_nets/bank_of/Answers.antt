@@ -1,0 +1,17 @@
+use Rattle.std.proofs.Common.{ℕ, Option, sym, subst}
+use Rattle.std.specs.Prelude.{MatchOption}
+use Rattle.ncl_netlist.specs.declared.ids.NetId.{NetId}
+use Rattle.ncl_netlist.specs.Netlist.{NetlistData}
+use Rattle.ncl_shape.specs.declared.chain.Relation.{Relation}
+use Rattle.ncl_shape.specs.FoundChain.{Relates}
+use Rattle.ncl_shape.proofs.only_nets.bank_of.Goals as goal
+
+-- what is told of a net by a relation
+abbrev Tells : NetlistData → ℕ → Option NetId → Relation → Type 0
+Tells n net found relation = MatchOption found ((bank : ℕ) → Relates n relation bank net → ⊥) (λ bank. Relates n relation bank.0 net)
+
+pub returns-in-Follower : goal.returns-in-Follower
+returns-in-Follower c = subst (Tells c.args.netlist.now c.args.net.0 c.bank_before.result) (sym c.in-Follower.is) c.bank_before.ensures
+
+pub returns-in-Root : goal.returns-in-Root
+returns-in-Root c = subst (Tells c.args.netlist.now c.args.net.0 c.bank_of_root.result) (sym c.in-Root.is) c.bank_of_root.ensures

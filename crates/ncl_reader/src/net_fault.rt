@@ -39,17 +39,3 @@ impl From<Memory> for NetFault {
         NetFault::Memory
     }
 }
-
-impl From<BuildFault> for NetFault {
-    ghost use Rattle.std.specs.Prelude.{◌≡◌};
-    ghost use Rattle.ncl_reader.specs.Faults.{net_fault_of};
-
-    ghost from_gives = { λ given fault. fault ≡ net_fault_of given };
-
-    fn from(fault: BuildFault) -> NetFault {
-        match fault {
-            BuildFault::Memory => NetFault::Memory,
-            fault => NetFault::Build(fault),
-        }
-    }
-}

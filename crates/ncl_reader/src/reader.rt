@@ -6,6 +6,7 @@ ghost use Rattle.ncl_netlist.specs.Names.{AllDiffer};
 ghost use Rattle.ncl_netlist.specs.Parts.{netlist_of, port_names};
 ghost use Rattle.ncl_netlist.specs.Faults.{IsFaultless};
 ghost use Rattle.ncl_reader.specs.Reads.{Reads, IsReadFault, IsNetFault};
+ghost use Rattle.ncl_reader.specs.Faults.{net_fault_of};
 ghost use Rattle.ncl_reader.specs.GraphicNames.{HasGraphicNames};
 
 use crate::draft::Draft;
@@ -13,7 +14,7 @@ use crate::lexeme::lexeme_of;
 use crate::net_fault::NetFault;
 use crate::place::Place;
 use ncl_base::MOST_BYTES;
-use ncl_netlist::{Netlist, Parts, build};
+use ncl_netlist::{BuildFault, Netlist, Parts, build};
 use ncl_token::{TokenFault, Tokens};
 use std::alloc::Global;
 
@@ -35,7 +36,20 @@ pub fn read_netlist(alloc: Global, bytes: &[u8]) -> Result<Netlist, NetFault>
     ensures fault { IfErr result (IsNetFault bytes.now) }
 {
     let parts = read_parts(alloc, bytes)?;
-    Ok(build(alloc, parts)?)
+    match build(alloc, parts) {
+        Ok(netlist) => Ok(netlist),
+        Err(fault) => Err(of_build(fault)),
+    }
+}
+
+/// Why a text is no netlist whose parts are none.
+fn of_build(fault: BuildFault) -> NetFault
+    ensures { result ≡ net_fault_of fault }
+{
+    match fault {
+        BuildFault::Memory => NetFault::Memory,
+        fault => NetFault::Build(fault),
+    }
 }
 
 /// The parts that a text says.

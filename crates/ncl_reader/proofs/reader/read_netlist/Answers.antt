@@ -14,5 +14,5 @@ build-requires-clause-all_pins c =
     let reads = c.in_ok-parts.ensures.parts.2 in
     parts.all_pins (flat_map joined_in reads.text.items) c.in_ok-parts.parts.cells reads.says.cells
 
-pub returns-clause-names : goal.returns-clause-names
-returns-clause-names c = subst HasGraphicNames (sym c.in_ok-build.ensures.built) (graphic_names c.args.bytes.now c.in_ok-parts.parts c.in_ok-parts.ensures.parts)
+pub returns-in-Ok-clause-names : goal.returns-in-Ok-clause-names
+returns-in-Ok-clause-names c = subst HasGraphicNames (sym c.in-Ok.ensures.built) (graphic_names c.args.bytes.now c.in_ok-parts.parts c.in_ok-parts.ensures.parts)

@@ -53,8 +53,8 @@ impl<'a> Draft<'a> {
         }
     }
 
-    /// The fault of a name behind what a declaration begins with, by whether it makes the bits of ports too many where it
-    /// is declared.
+    /// The fault of a name behind what a declaration begins with, by whether it makes the bits of ports too many
+    /// where it is declared.
     fn of_led(&self, lead: LeadPlace, name: &[u8], crowds: bool, at: usize) -> NetFault
         ensures { (xs : List Token) → KeepsNames self.now.known xs → IsLedBy xs lead self.now.lead.span crowds name.now
             → ¬ IsAtItem xs → ¬ IsAtPin xs → ¬ IsAtConn xs

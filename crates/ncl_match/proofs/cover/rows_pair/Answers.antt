@@ -95,12 +95,8 @@ returns-in_err-some-clause-full g c = λ e.
 
 pub loop-row-preserved : goal.loop-row-preserved
 loop-row-preserved g c =
-    let old : SpaceData = g.P.Space.meaning c.args.space.now in
-    let now : SpaceData = g.P.Space.meaning c.loop-row.space in
-    let mid : SpaceData = g.P.Space.meaning c.row_pair.new.space in
-    let new : SpaceData = g.P.Space.meaning c.gate_pair.new.space in
     let lt = c.loop-row-test.true in
-    let on = turned-on old now mid c.args.ins.now c.args.rows.now c.loop-row.row-index c.loop-row.some c.in_ok-matched.matched c.row-item.result c.loop-row.invariant.turned c.requires.pairs c.loop-row-test.true c.row-item.is
+    let on = turned-on _ _ _ c.args.ins.now c.args.rows.now c.loop-row.row-index c.loop-row.some c.in_ok-matched.matched c.row-item.result c.loop-row.invariant.turned c.requires.pairs c.loop-row-test.true c.row-item.is
     c.loop-row.invariant.has c.in_ok-matched.ensures.kept c.in_ok-matched.ensures.made
-    new c.in_ok-some.some c.in_ok-some.ensures.kept c.in_ok-some.ensures.space c.in_ok-some.ensures.made in
+    _ c.in_ok-some.some c.in_ok-some.ensures.kept c.in_ok-some.ensures.space c.in_ok-some.ensures.made in
     record { turned = on.0; has = on.1; within = omega (arith, lt) }

@@ -28,33 +28,26 @@ found-none test false e = by
     by [] wide passes = absurd (let no = sym e ∙ passes in cc)
     by (b ∷ word) wide passes = omega (arith, wide)
 
+-- a word that passes is the least where it is so among those that begin with 0 and among those that begin with 1
+found-led : (n : ℕ) (test : List Bool → Bool) (b : Bool) (u : List Bool) → length u ≡ n → test (b ∷ u) ≡ true → ((v : List Bool) → length v ≡ n → test (false ∷ v) ≡ true → word_number (b ∷ u) ≤ word_number (false ∷ v)) → ((v : List Bool) → length v ≡ n → test (true ∷ v) ≡ true → word_number (b ∷ u) ≤ word_number (true ∷ v)) → Found (suc n) test (Some (b ∷ u))
+found-led n test b u wide passes low high = record { wide = ap suc wide; passes = passes; least = by }
+  where
+    by : (other : List Bool) → length other ≡ suc n → test other ≡ true → word_number (b ∷ u) ≤ word_number other
+    by [] other_wide other_passes = absurd (omega (arith, other_wide))
+    by (false ∷ v) other_wide other_passes = low v (omega arith) other_passes
+    by (true ∷ v) other_wide other_passes = high v (omega arith) other_passes
+
 found-more : (n : ℕ) (test : List Bool → Bool) (low high : Option (List Bool)) → Found n (λ w. test (false ∷ w)) low → Found n (λ w. test (true ∷ w)) high → Found (suc n) test (option_or (option_map (λ w. false ∷ w) low) (option_map (λ w. true ∷ w) high))
-found-more n test (Some u) high l h = record {
-  wide = ap suc l.wide;
-  passes = l.passes;
-  least = by;
-}
-  where
-    by : (other : List Bool) → length other ≡ suc n → test other ≡ true → word_number (false ∷ u) ≤ word_number other
-    by [] wide passes = absurd (omega (arith, wide))
-    by (false ∷ v) wide passes = l.least v (omega arith) passes
-    by (true ∷ v) wide passes =
-        let far = word_number-less u in
-        let same : 2 ^ length u ≡ 2 ^ length v = ap (λ (k : ℕ). 2 ^ k) (let a = l.wide in omega (arith, a, wide)) in
-        omega (arith, far, same)
-found-more n test None (Some u) l h = record {
-  wide = ap suc h.wide;
-  passes = h.passes;
-  least = by;
-}
-  where
-    by : (other : List Bool) → length other ≡ suc n → test other ≡ true → word_number (true ∷ u) ≤ word_number other
-    by [] wide passes = absurd (omega (arith, wide))
-    by (false ∷ v) wide passes = absurd (l v (omega arith) passes)
-    by (true ∷ v) wide passes =
-        let rest = h.least v (omega arith) passes in
-        let same : 2 ^ length u ≡ 2 ^ length v = ap (λ (k : ℕ). 2 ^ k) (let a = h.wide in omega (arith, a, wide)) in
-        omega (arith, rest, same)
+found-more n test (Some u) high l h =
+    found-led n test false u l.wide l.passes l.least (λ v wide passes.
+    let far = word_number-less u in
+    let same : 2 ^ length u ≡ 2 ^ length v = ap (λ (k : ℕ). 2 ^ k) (l.wide ∙ sym wide) in
+    omega (arith, far, same))
+found-more n test None (Some u) l h =
+    found-led n test true u h.wide h.passes (λ v wide passes. absurd (l v wide passes)) (λ v wide passes.
+    let rest = h.least v wide passes in
+    let same : 2 ^ length u ≡ 2 ^ length v = ap (λ (k : ℕ). 2 ^ k) (h.wide ∙ sym wide) in
+    omega (arith, rest, same))
 found-more n test None None l h = by
   where
     by : (word : List Bool) → length word ≡ suc n → test word ≡ true → ⊥

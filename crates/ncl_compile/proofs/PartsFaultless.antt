@@ -122,26 +122,27 @@ module _ (models : List Model) (are : AreModels models) (small : CanBeCompiled m
 
   -- they differ, where those of each bank and of each stage do, say its number, and begin with `s` in stages alone
   at_cells-apart : (f : PartCell → List ℕ)
-      → ((k : ℕ) (bank : BankParts) → slice_get banks k ≡ Some bank → AreApart (map f bank.cells) × ((x : List ℕ) → Member x (map f bank.cells) → (owner_of last x ≡ k) × (first_of x ≢ 115)))
-      → ((k : ℕ) (stage : StageParts) → slice_get stages k ≡ Some stage → AreApart (map f stage.cells) × ((x : List ℕ) → Member x (map f stage.cells) → IsPartName (stage_prefix k) x))
+      → ((k : ℕ) (bank : BankParts) → slice_get banks k ≡ Some bank → AreApart (map f bank.cells))
+      → ((k : ℕ) (bank : BankParts) → slice_get banks k ≡ Some bank → (x : List ℕ) → Member x (map f bank.cells) → (owner_of last x ≡ k) × (first_of x ≢ 115))
+      → ((k : ℕ) (stage : StageParts) → slice_get stages k ≡ Some stage → AreApart (map f stage.cells))
+      → ((k : ℕ) (stage : StageParts) → slice_get stages k ≡ Some stage → (x : List ℕ) → Member x (map f stage.cells) → IsPartName (stage_prefix k) x)
       → AreApart (map f parts.cells)
-  at_cells-apart f of_banks of_stages =
+  at_cells-apart f banks_apart of_banks stages_apart of_stages =
       subst AreApart (sym (at_all_cells f))
       (pairs-append (λ x y. x ≢ y) (flat_map names_of_bank banks) (flat_map names_of_stage stages)
       (owned_apart names_of_bank (owner_of last) 0 banks
-      (λ k bank at. let here = of_banks k bank at in (here.0, λ x m. let own = (here.1 x m).0 in omega (arith, own))))
+      (λ k bank at. (banks_apart k bank at, λ x m. let own = (of_banks k bank at x m).0 in omega (arith, own))))
       (owned_apart names_of_stage (owner_of last) 0 stages
-      (λ k stage at.
-      let here = of_stages k stage at in (
-        here.0,
+      (λ k stage at. (
+        stages_apart k stage at,
         λ x m.
-            let own = stage_part_owner last k x (below_limit k (stage_at k stage at).within) (here.1 x m) in
+            let own = stage_part_owner last k x (below_limit k (stage_at k stage at).within) (of_stages k stage at x m) in
             omega (arith, own),
       )))
       (λ x y in_banks in_stages same.
       let (k, bank, at, in_bank) = member_of_flat_map names_of_bank banks x in_banks in
       let (j, stage, at_stage, in_stage) = member_of_flat_map names_of_stage stages y in_stages in
-      ((of_banks k bank at).1 x in_bank).1 (ap first_of same ∙ ap first_of ((of_stages j stage at_stage).1 y in_stage).is)))
+      (of_banks k bank at x in_bank).1 (ap first_of same ∙ ap first_of (of_stages j stage at_stage y in_stage).is)))
     where
       names_of_bank : BankParts → List (List ℕ)
       names_of_bank bank = map f bank.cells
@@ -166,33 +167,31 @@ module _ (models : List Model) (are : AreModels models) (small : CanBeCompiled m
   bank_below : (k : ℕ) (bank : BankParts) → slice_get banks k ≡ Some bank → k < 999
   bank_below k bank at = let within = bank_within k bank at in omega (arith, within, few_banks)
 
+  outputs_of_bank : (k : ℕ) (bank : BankParts) → slice_get banks k ≡ Some bank → (x : List ℕ) → Member x (map output_name bank.cells) → (owner_of last x ≡ k) × (first_of x ≢ 115)
+  outputs_of_bank k bank at x m =
+      let name = bank_names k bank at x m in
+      (bank_name_owner last k (width_at k) (bank_below k bank at) x name, bank_name_first last k (width_at k) x name)
+
   outputs_apart : AreApart (map output_name parts.cells)
   outputs_apart =
-      at_cells-apart output_name
-      (λ k bank at. (
-        apart_from_differ (map output_name bank.cells) (fact_of k bank at).are.nets_differ,
-        λ x m.
-            let name = bank_names k bank at x m in
-            (bank_name_owner last k (width_at k) (bank_below k bank at) x name, bank_name_first last k (width_at k) x name),
-      ))
-      (λ k stage at. (apart_from_differ (map output_name stage.cells) (stage_at k stage at).is.are.nets_differ, stage_names k stage at))
+      at_cells-apart output_name (λ k bank at. apart_from_differ (map output_name bank.cells) (fact_of k bank at).are.nets_differ) outputs_of_bank
+      (λ k stage at. apart_from_differ (map output_name stage.cells) (stage_at k stage at).is.are.nets_differ) stage_names
 
   -- the names of cells
   cells_apart : AreApart (map name_of_cell parts.cells)
   cells_apart =
-      at_cells-apart name_of_cell
-      (λ k bank at. (
-        apart_from_differ (map name_of_cell bank.cells) (fact_of k bank at).are.cells_differ,
-        λ x m.
-            let named = bank_cell_names k bank at x m in
-            (bank_part_owner last k x (bank_below k bank at) named, λ same. let clash : ◌≡◌ {A = ℕ} 98 115 = ap first_of (sym named.is) ∙ same in absurd (omega (arith, clash))),
-      ))
-      (λ k stage at. (apart_from_differ (map name_of_cell stage.cells) (stage_at k stage at).is.are.cells_differ, stage_cell_names k stage at))
+      at_cells-apart name_of_cell (λ k bank at. apart_from_differ (map name_of_cell bank.cells) (fact_of k bank at).are.cells_differ) cells_of_bank_named
+      (λ k stage at. apart_from_differ (map name_of_cell stage.cells) (stage_at k stage at).is.are.cells_differ) stage_cell_names
     where
       bank_cell_names : (k : ℕ) (bank : BankParts) → slice_get banks k ≡ Some bank → (x : List ℕ) → Member x (map name_of_cell bank.cells) → IsPartName (bank_prefix k) x
       bank_cell_names k bank at x m =
           let (c, in_cells, same) = member_of_map name_of_cell bank.cells x m in
           subst (IsPartName (bank_prefix k)) same (holds_of (λ (cell : PartCell). IsPartName (bank_prefix k) cell.name) bank.cells (fact_of k bank at).are.cell_names c in_cells)
+
+      cells_of_bank_named : (k : ℕ) (bank : BankParts) → slice_get banks k ≡ Some bank → (x : List ℕ) → Member x (map name_of_cell bank.cells) → (owner_of last x ≡ k) × (first_of x ≢ 115)
+      cells_of_bank_named k bank at x m =
+          let named = bank_cell_names k bank at x m in
+          (bank_part_owner last k x (bank_below k bank at) named, λ same. let clash : ◌≡◌ {A = ℕ} 98 115 = ap first_of (sym named.is) ∙ same in absurd (omega (arith, clash)))
 
       stage_cell_names : (k : ℕ) (stage : StageParts) → slice_get stages k ≡ Some stage → (x : List ℕ) → Member x (map name_of_cell stage.cells) → IsPartName (stage_prefix k) x
       stage_cell_names k stage at x m =

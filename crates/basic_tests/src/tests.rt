@@ -1,4 +1,4 @@
-//! The tests, a file for each crate, and what they share.
+//! The tests, and what they share.
 mod base_tests;
 mod gates_tests;
 mod graph_tests;

@@ -1,4 +1,4 @@
-//! The tests, a file for each crate, and what they share.
+//! The tests, and what they share.
 mod cells_tests;
 mod demo_tests;
 mod fault_tests;

@@ -1,4 +1,4 @@
-//! The tests, a file for each crate, and what they share.
+//! The tests, and what they share.
 mod diagram_tests;
 mod gate_tests;
 mod plain_tests;

@@ -1,4 +1,4 @@
-//! The tests, a file for each crate, and what they share.
+//! The tests, and what they share.
 mod blif_tests;
 mod decomp_tests;
 mod network_tests;

@@ -1,4 +1,4 @@
-//! The tests, a file for each crate, and what they share.
+//! The tests, and what they share.
 mod comparing_tests;
 mod merge_tests;
 mod merging_tests;

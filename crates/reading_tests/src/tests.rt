@@ -1,4 +1,4 @@
-//! The tests, a file for each crate, and what they share.
+//! The tests, and what they share.
 mod delay_tests;
 mod fault_tests;
 mod hostile_tests;

@@ -1,4 +1,5 @@
 //! The gates.
+ghost use Rattle.ncl_gates.specs.Dual.{dual_of, swaps};
 ghost use Rattle.std.specs.Prelude.{◌≡◌, ◌≢◌, ℕ, false, [], ◌∷◌, IfNone, IfSome, length, slice_index_or};
 ghost use Rattle.ncl_gates.specs.declared.kind.Kind.{Kind};
 ghost use Rattle.ncl_gates.specs.Bits.{is_set};
@@ -125,6 +126,48 @@ impl Kind {
             | Kind::ThAnd0
             | Kind::Th24comp => 4,
         }
+    }
+
+    /// The gate that is low on the opposite values where this one is high.
+    pub fn dual(self) -> Kind
+        ensures { result ≡ dual_of self }
+    {
+        match self {
+            Kind::Th12 => Kind::Th22,
+            Kind::Th22 => Kind::Th12,
+            Kind::Th13 => Kind::Th33,
+            Kind::Th23 => Kind::Th23,
+            Kind::Th33 => Kind::Th13,
+            Kind::Th23w2 => Kind::Th33w2,
+            Kind::Th33w2 => Kind::Th23w2,
+            Kind::Th14 => Kind::Th44,
+            Kind::Th24 => Kind::Th34,
+            Kind::Th34 => Kind::Th24,
+            Kind::Th44 => Kind::Th14,
+            Kind::Th24w2 => Kind::Th44w2,
+            Kind::Th34w2 => Kind::Th34w2,
+            Kind::Th44w2 => Kind::Th24w2,
+            Kind::Th34w3 => Kind::Th44w3,
+            Kind::Th44w3 => Kind::Th34w3,
+            Kind::Th24w22 => Kind::Th54w22,
+            Kind::Th34w22 => Kind::Th44w22,
+            Kind::Th44w22 => Kind::Th34w22,
+            Kind::Th54w22 => Kind::Th24w22,
+            Kind::Th34w32 => Kind::Th54w32,
+            Kind::Th54w32 => Kind::Th34w32,
+            Kind::Th44w322 => Kind::Th54w322,
+            Kind::Th54w322 => Kind::Th44w322,
+            Kind::ThXor0 => Kind::Th24comp,
+            Kind::ThAnd0 => Kind::ThAnd0,
+            Kind::Th24comp => Kind::ThXor0,
+        }
+    }
+
+    /// Whether the dual has pins A and B exchanged.
+    pub fn swaps(self) -> bool
+        ensures { result ≡ swaps self }
+    {
+        self == Kind::ThAnd0
     }
 
     /// The set function of the gate: whether some product of it has all its pins at 1.

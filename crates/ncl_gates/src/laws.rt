@@ -7,6 +7,7 @@ ghost use Rattle.ncl_gates.specs.declared.kind.Kind.TheVariants.{Th12, Th22, Th1
 ghost use Rattle.ncl_gates.specs.declared.cell_kind.CellKind.{CellKind};
 ghost use Rattle.ncl_gates.specs.Cell.{pins_of};
 ghost use Rattle.ncl_gates.specs.Gate.{arity_of, set_of, some_high};
+ghost use Rattle.ncl_gates.specs.Dual.{IsDual};
 ghost use Rattle.ncl_gates.specs.GateLaw.{
   HasHysteresis,
   HasProducts,
@@ -74,4 +75,9 @@ pub fn pins()
 /// gate's.
 pub fn products()
     ensures { (kind : Kind) → HasProducts kind }
+{}
+
+/// The dual of a gate is low on the opposite values where the gate is high, with pins A and B of THand0 exchanged.
+pub fn duals()
+    ensures { (kind : Kind) → IsDual kind }
 {}

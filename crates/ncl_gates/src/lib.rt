@@ -4,6 +4,7 @@
 
 mod cell_kind;
 mod kind;
+mod next_word;
 pub mod laws;
 
 pub use cell_kind::CellKind;

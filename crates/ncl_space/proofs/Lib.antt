@@ -6,3 +6,6 @@ pub mod BitLaws
 pub mod RowLaws
 pub mod CountedMarks
 pub mod PlainLaws
+pub mod Nub
+pub mod BoundLaws
+pub mod FreeLaws

@@ -5,3 +5,4 @@ pub mod Space
 pub mod Making
 pub mod Bits
 pub mod Plain
+pub mod Bounds

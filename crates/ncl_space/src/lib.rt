@@ -2,6 +2,7 @@
 //! space meets, what generic callers prove about sequences of its calls, and the space of truth tables.
 #![tactic(auto)]
 
+pub mod laws;
 mod plain;
 mod space;
 mod values;

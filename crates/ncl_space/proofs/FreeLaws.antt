@@ -1,0 +1,79 @@
+-- The table of a function that looks at some bits alone is free of the others.
+use Rattle.std.proofs.Common.{◌≡◌, ℕ, zero, suc, ◌+◌, ◌^◌, Bool, true, false, List, [], ◌∷◌, ◌++◌, length, map, take, drop, refl, sym, ap, ◌∙◌, arith, length-append}
+use Rattle.std.proofs.Math.Seq.{take-append_seam, drop-append_seam}
+use Rattle.std.proofs.lemmas.Grind.{common_steps}
+use Rattle.std.proofs.lemmas.Bool.{and_from}
+use Rattle.std.proofs.lemmas.List.{length-map, map-append}
+use Rattle.ncl_space.specs.Beads.{low_half, high_half, is_same}
+use Rattle.ncl_space.specs.Table.{words, table_of}
+use Rattle.ncl_space.specs.Bounds.{Agree, LooksAt, is_free, width_of}
+
+low_half-append : (n : ℕ) (l h : List Bool) → length l ≡ 2 ^ n → low_half n (l ++ h) ≡ l
+low_half-append n l h e = ap (λ (k : ℕ). take k (l ++ h)) (sym e) ∙ take-append_seam l h
+
+high_half-append : (n : ℕ) (l h : List Bool) → length l ≡ 2 ^ n → high_half n (l ++ h) ≡ h
+high_half-append n l h e = ap (λ (k : ℕ). drop k (l ++ h)) (sym e) ∙ drop-append_seam l h
+
+is_same-self : (t : List Bool) → is_same t t ≡ true
+is_same-self [] = refl
+is_same-self (true ∷ t) = is_same-self t
+is_same-self (false ∷ t) = is_same-self t
+
+pow_suc : (n : ℕ) → 2 ^ suc n ≡ 2 ^ n + 2 ^ n
+pow_suc n = grind (arith, common_steps)
+
+words-length : (n : ℕ) → length (words n) ≡ 2 ^ n
+words-length zero = refl
+words-length (suc n) =
+    let a = length-append (map (λ word. false ∷ word) (words n)) (map (λ word. true ∷ word) (words n)) in
+    let l = length-map (words n) (λ word. false ∷ word) in
+    let h = length-map (words n) (λ word. true ∷ word) in
+    let e = words-length n in
+    omega (arith, pow_suc n)
+
+map_after : (f : List Bool → Bool) (b : Bool) (ws : List (List Bool)) → map f (map (λ w. b ∷ w) ws) ≡ map (λ w. f (b ∷ w)) ws
+map_after f b [] = refl
+map_after f b (w ∷ ws) = ap (λ l. f (b ∷ w) ∷ l) (map_after f b ws)
+
+-- the halves of a table of a function are those of the function after a first bit
+low-table : (n : ℕ) (f : List Bool → Bool) → low_half n (table_of (words (suc n)) f) ≡ table_of (words n) (λ w. f (false ∷ w))
+low-table n f =
+    ap (low_half n) (map-append f (map (λ word. false ∷ word) (words n)) (map (λ word. true ∷ word) (words n)))
+    ∙ low_half-append n (map f (map (λ word. false ∷ word) (words n))) (map f (map (λ word. true ∷ word) (words n)))
+    (length-map (map (λ word. false ∷ word) (words n)) f ∙ length-map (words n) (λ word. false ∷ word) ∙ words-length n)
+    ∙ map_after f false (words n)
+
+high-table : (n : ℕ) (f : List Bool → Bool) → high_half n (table_of (words (suc n)) f) ≡ table_of (words n) (λ w. f (true ∷ w))
+high-table n f =
+    ap (high_half n) (map-append f (map (λ word. false ∷ word) (words n)) (map (λ word. true ∷ word) (words n)))
+    ∙ high_half-append n (map f (map (λ word. false ∷ word) (words n))) (map f (map (λ word. true ∷ word) (words n)))
+    (length-map (map (λ word. false ∷ word) (words n)) f ∙ length-map (words n) (λ word. false ∷ word) ∙ words-length n)
+    ∙ map_after f true (words n)
+
+agree-itself : (marks w : List Bool) → Agree marks w w
+agree-itself [] w = refl
+agree-itself (mark ∷ marks) [] = tt
+agree-itself (true ∷ marks) (x ∷ w) = (refl, agree-itself marks w)
+agree-itself (false ∷ marks) (x ∷ w) = agree-itself marks w
+
+same-tables : (ws : List (List Bool)) (f g : List Bool → Bool) → ((w : List Bool) → f w ≡ g w) → map f ws ≡ map g ws
+same-tables [] f g e = refl
+same-tables (w ∷ ws) f g e = let first = e w in let rest = same-tables ws f g e in λ i. first i ∷ rest i
+
+pub free : (marks : List Bool) (f : List Bool → Bool) → LooksAt marks f → is_free marks (table_of (words (width_of marks)) f) ≡ true
+free [] f looks = refl
+free (true ∷ marks) f looks =
+    let n : ℕ = width_of marks in
+    and_from _ _
+    (ap (is_free marks) (low-table n f) ∙ free marks (λ w. f (false ∷ w)) (λ v w a. looks (false ∷ v) (false ∷ w) (refl, a)))
+    (ap (is_free marks) (high-table n f) ∙ free marks (λ w. f (true ∷ w)) (λ v w a. looks (true ∷ v) (true ∷ w) (refl, a)))
+free (false ∷ marks) f looks =
+    let n : ℕ = width_of marks in
+    let same : high_half n (table_of (words (suc n)) f) ≡ low_half n (table_of (words (suc n)) f) =
+    high-table n f ∙ same-tables (words n) (λ w. f (true ∷ w)) (λ w. f (false ∷ w)) (λ w. looks (true ∷ w) (false ∷ w) (agree-itself marks w)) ∙ sym (low-table n f) in
+    and_from _ _
+    (ap (is_same (low_half n (table_of (words (suc n)) f))) same ∙ is_same-self (low_half n (table_of (words (suc n)) f)))
+    (ap (is_free marks) (low-table n f) ∙ free marks (λ w. f (false ∷ w)) (λ v w a. looks (false ∷ v) (false ∷ w) a))
+
+pub table-length : (n : ℕ) (f : List Bool → Bool) → length (table_of (words n) f) ≡ 2 ^ n
+table-length n f = length-map (words n) f ∙ words-length n

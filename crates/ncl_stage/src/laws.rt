@@ -9,6 +9,9 @@ ghost use Rattle.ncl_stage.specs.declared.variant.Variant.{Variant};
 ghost use Rattle.ncl_stage.specs.declared.variant.Variant.TheVariants.{Base};
 ghost use Rattle.ncl_stage.specs.Values.{kept_low, rises, start, val};
 ghost use Rattle.ncl_stage.specs.Pass.{pass};
+ghost use Rattle.ncl_stage.specs.Faults.{IsSound, IsWordOf};
+ghost use Rattle.ncl_stage.specs.Supports.{AgreeOn, AreSupports, Marks};
+ghost use Rattle.ncl_stage.specs.Observed.{AreObserved, HasValidRails};
 ghost use Rattle.ncl_stage.specs.Examples.{and_stage, eager_and_stage, orphan_and_stage, crossed_stage, dead_rail_stage, adder_stage, sum_stage, swapped_stage, straight_stage, unmet_stage};
 
 /// A rail of the inputs is high exactly where the word names it and the variant doesn't keep it low.
@@ -35,6 +38,18 @@ pub fn variants_are_below_base()
 /// Evaluating each cell once, in the stage's order, gives the values.
 pub fn one_pass_is_enough()
     ensures { (s : StageData) (word : List Bool) (variant : Variant) (net : ℕ) → IsStage s → pass (kept_low s variant) s.cells (start s (kept_low s variant) word) net ≡ val s word variant net }
+{}
+
+/// Where each output has one high rail under Base, and each net that is high is a rail of an output or makes some gate fall
+/// that reads it, the stage is sound: no forced net need be followed further than to the gates that read it.
+pub fn observed_is_sound()
+    ensures { (s : StageData) → IsStage s → HasValidRails s → AreObserved s → IsSound s }
+{}
+
+/// Where two words agree on the bits on which a net depends, through the rails and cells that lead to it, the net has one
+/// value at both, under every variant.
+pub fn supports_tell_values()
+    ensures { (s : StageData) → IsStage s → (marks : Marks) → AreSupports s marks → (variant : Variant) (v w : List Bool) → IsWordOf s v → IsWordOf s w → (net : ℕ) → Contains (nets_of s.inputs s.cells) net → AgreeOn (marks net) v w → val s v variant net ≡ val s w variant net }
 {}
 
 /// Each bit of a stage stands in its bit order once.

@@ -16,6 +16,9 @@ const FIRST_SLOTS: usize = 1 << 10;
 
 const MOST_SLOTS: usize = 1 << 14;
 
+// From how many nodes on that go at once all answers are forgotten.
+const MANY_NODES: usize = 1 << 13;
+
 // Whether the functions of an answer stand below a place.
 fn are_below(floor: u32, key: Key, found: Ref) -> bool
     ensures { result ≡ are_below floor (found.place ∷ places key) }
@@ -47,7 +50,7 @@ fn mixed(x: Ref, y: Ref, by: u64) -> u64 {
 }
 
 impl Answers {
-    ghost use Rattle.ncl_diagram.specs.Kept.{HasSlots, HasMore, IsAnswerKept};
+    ghost use Rattle.ncl_diagram.specs.Kept.{AreLeft, HasMore, HasNone, HasSlots, IsAnswerKept};
 
     /// No answers. Takes no memory.
     pub(crate) fn new(alloc: Global) -> Answers
@@ -108,12 +111,34 @@ impl Answers {
         let _ = self.slots.resize(more, Slot::empty());
     }
 
-    /// Nodes from so many on go.
-    pub(crate) fn release(&mut self, count: u32)
+    /// Nodes from so many on go, and how many these are. Where they are few, answers that speak of later ones don't count any
+    /// more; where they are many, all answers are forgotten, and each that comes counts again. Then it is linear in the slots.
+    pub(crate) fn release(&mut self, count: u32, gone: usize)
+        ensures { AreLeft (count + 2) self.old self.new }
+    {
+        if gone < MANY_NODES {
+            self.lower(count);
+        } else {
+            self.forget();
+        }
+    }
+
+    // Lowers the floor to where so many nodes end.
+    fn lower(&mut self, count: u32)
         ensures slots { self.new.slots.items ≡ self.old.slots.items }
         ensures lower { self.new.floor ≤ self.old.floor }
         ensures below { self.new.floor ≤ count + 2 }
     {
         self.floor = self.floor.min(count.saturating_add(2));
+    }
+
+    // Forgets all answers. The slots stay, where memory is had for them.
+    fn forget(&mut self)
+        ensures { HasNone self.new }
+    {
+        let count = self.slots.len();
+        self.slots.truncate(0);
+        let _ = self.slots.resize(count, Slot::empty());
+        self.floor = MOST_PLACES;
     }
 }

@@ -168,7 +168,8 @@ impl Space for Diagram {
     }
 
     fn release(&mut self, mark: Mark) {
+        let gone = self.nodes.len().saturating_sub(mark.count as usize);
         self.nodes.truncate(mark.count as usize);
-        self.answers.release(mark.count);
+        self.answers.release(mark.count, gone);
     }
 }

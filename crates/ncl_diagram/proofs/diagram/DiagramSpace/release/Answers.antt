@@ -28,5 +28,5 @@ invariant_of-self c =
     let stands : c.args.mark.count ≤ length old.nodes = subst (λ (d : DiagramData). c.args.mark.count ≤ length d.nodes) (sym c.self.view_is) (from_nat_le c.args.mark.count (length c.args.self.now.nodes) c.requires) in (
       subst (λ (nodes : List Node). IsDiagram old.width old.limit nodes) (sym c.truncate.ensures) (IsDiagram-take old.width old.limit old.nodes c.args.mark.count c.self.invariant.0 stands),
       subst (λ (nodes : List Node). AreKept old.width nodes c.release.new.self) (sym c.truncate.ensures)
-          (kept_taken old.width old.nodes c.args.mark.count c.self.inside.answers c.release.new.self c.self.invariant.0.canonical stands c.release.ensures.lower c.release.ensures.below c.release.ensures.slots c.self.invariant.1),
+          (kept_taken old.width old.nodes c.args.mark.count c.self.inside.answers c.release.new.self c.self.invariant.0.canonical stands c.release.ensures c.self.invariant.1),
     )

@@ -73,6 +73,8 @@ impl Source for MemSource {
 
     ghost allowed = { λ s name. true };
 
+    ghost begun = { λ s. true };
+
     /// Begins the first file of the name, by one walk over the files.
     ///
     /// It fails exactly where the number of this call is one that fails, or no file has the name, and

@@ -42,12 +42,16 @@ pub trait Source {
     /// The names that may be begun.
     ghost allowed: { Self → List ℕ → Bool };
 
+    /// Whether a file is begun, so that it may be read.
+    ghost begun: { Self → Bool };
+
     /// Begins the file of a name, so that its bytes are what is left.
     fn begin(&mut self, name: &str) -> Result<(), Failed>
         requires { IsTrue (allowed self.old name.now) }
         ensures ok { OnOk result (IfSome (files self.old) (λ fs. left self.new ≡ Some (bytes_of fs name.now))) }
         ensures rose { OnErr result (Rose (faults self.old) (faults self.new)) }
         ensures none_left { OnErr result (IfSome (left self.new) (λ l. l ≡ [])) }
+        ensures begun { OnOk result (IsTrue (begun self.new)) }
         ensures given { given self.new ≡ given self.old }
         ensures files { files self.new ≡ files self.old }
         ensures faults { faults self.old ≤ faults self.new }
@@ -55,13 +59,15 @@ pub trait Source {
 
     /// Takes bytes from what is left into the front of a buffer, and says how many. None is the end.
     fn read(&mut self, buf: &mut [u8]) -> Result<usize, Failed>
-        requires { 0 < length buf.old }
+        requires room { 0 < length buf.old }
+        requires begun { IsTrue (begun self.old) }
         ensures within { IfOk result (λ n. n ≤ length buf.new) }
         ensures took { IfOk result (λ n. Took (left self.old) (take n buf.new) (left self.new)) }
         ensures rose { OnErr result (Rose (faults self.old) (faults self.new)) }
         ensures given { IfOk result (λ n. given self.new ≡ raised (given self.old) n) }
         ensures kept { OnErr result (left self.new ≡ left self.old) }
         ensures given_kept { OnErr result (given self.new ≡ given self.old) }
+        ensures begun { begun self.new ≡ begun self.old }
         ensures files { files self.new ≡ files self.old }
         ensures faults { faults self.old ≤ faults self.new }
         ensures allowed { allowed self.new ≡ allowed self.old };
@@ -93,6 +99,7 @@ pub fn load<S: Source>(alloc: Global, source: &mut S, name: &str) -> Result<Vec<
     ensures given_long { IsErrOf result LoadFault.TooLong
         → S.given source.new ≡ raised (S.given source.old) (MOST_BYTES + 1) }
     ensures few { S.given source.new ≤ S.given source.old + (MOST_BYTES + 1) }
+    ensures fewer { IsErrOf result LoadFault.Read → S.given source.new ≤ S.given source.old + MOST_BYTES }
     ensures files { S.files source.new ≡ S.files source.old }
     ensures faults { S.faults source.old ≤ S.faults source.new }
     ensures allowed { S.allowed source.new ≡ S.allowed source.old }

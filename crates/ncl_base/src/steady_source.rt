@@ -130,6 +130,8 @@ impl Source for SteadySource {
 
     ghost allowed = { λ s name. true };
 
+    ghost begun = { λ s. true };
+
     /// Begins the first file of the name, by one walk over the files.
     fn begin(&mut self, name: &str) -> Result<(), Failed>
         ensures ok { IsOk result }

@@ -1,4 +1,4 @@
-use Rattle.std.proofs.Common.{◌+◌, ◌-◌, ◌≡◌, ◌≤◌, ◌⊎◌, ◌++◌, List, ℕ, Some, IfSome, vec_len}
+use Rattle.std.proofs.Common.{◌+◌, ◌-◌, ◌≡◌, ◌≤◌, ◌⊎◌, ◌++◌, List, ℕ, Some, IfSome, IsTrue, vec_len}
 use Rattle.ncl_base.specs.Files.{bytes_of, raised}
 use Rattle.ncl_base.specs.declared.source.TheConstants.{MOST_BYTES}
 use Rattle.ncl_base.proofs.source.load.Given as goal
@@ -12,6 +12,7 @@ invariant-loop-buffer g l = record {
   given : ((vec_len l.bytes ≡ 0) × (g.S.Source.given l.source ≡ g.S.Source.given l.fn.source)) ⊎ (g.S.Source.given l.source ≡ raised (g.S.Source.given l.fn.source) (vec_len l.bytes));
   faults : g.S.Source.faults l.fn.source ≤ g.S.Source.faults l.source;
   allowed : g.S.Source.allowed l.source ≡ g.S.Source.allowed l.fn.source;
+  begun : IsTrue (g.S.Source.begun l.source);
 }
 
 abbrev pub decreases-loop-buffer : goal.decreases-loop-buffer

@@ -1,21 +1,23 @@
--- The dual of a gate is low where the gate is high on the opposite values.
-use Rattle.std.proofs.Common.{◌≡◌, ℕ, zero, suc, List, [], ◌∷◌, ◌++◌, Bool, true, false, not, ◌&&◌, map, length, refl, sym, ◌∙◌, subst, arith}
-use Rattle.std.specs.List.{list_all}
+-- The dual of each gate makes the complement from the complements: the whole table is computed.
+use Rattle.std.proofs.Common.{◌≡◌, ℕ, zero, suc, List, [], ◌∷◌, Bool, true, false, not, ◌&&◌, map, length, refl, arith}
+use Rattle.std.specs.Prelude.{if◌then◌else◌}
 use Rattle.std.proofs.lemmas.Bool.{and_parts}
-use Rattle.std.proofs.lemmas.List.Folds.{list_all-append}
 use Rattle.ncl_gates.specs.declared.kind.Kind.{Kind}
+use Rattle.ncl_gates.specs.declared.kind.Kind.TheVariants.{Th12}
 use Rattle.ncl_gates.specs.Gate.{arity_of, set_of}
-use Rattle.ncl_gates.specs.Dual.{dual_of, dual_pins, IsDual}
+use Rattle.ncl_gates.specs.Dual.{dual_of, is_crossed, crossed, dual_pins, IsDual}
 use Rattle.ncl_gates.proofs.Table.{every_kind}
 
-abbrev agree : Bool → Bool → Bool
-agree true b = b
-agree false b = not b
+-- whether two values are one, as a test that computes
+abbrev same : Bool → Bool → Bool
+same true other = other
+same false other = not other
 
-agree-only : (a b : Bool) → agree a b ≡ true → b ≡ a
-agree-only true b e = e
-agree-only false true e = absurd cc
-agree-only false false e = refl
+same-equal : (x y : Bool) → same x y ≡ true → x ≡ y
+same-equal true true is = refl
+same-equal false false is = refl
+same-equal true false is = absurd cc
+same-equal false true is = absurd cc
 
 -- a test at all values of so many pins
 abbrev at_all : ℕ → (List Bool → Bool) → Bool
@@ -29,12 +31,42 @@ at_all-holds (suc n) test all [] e = absurd (omega arith)
 at_all-holds (suc n) test all (true ∷ ins) e = at_all-holds n (λ rest. test (true ∷ rest)) (and_parts (at_all n (λ rest. test (true ∷ rest))) (at_all n (λ rest. test (false ∷ rest))) all).0 ins (omega arith)
 at_all-holds (suc n) test all (false ∷ ins) e = at_all-holds n (λ rest. test (false ∷ rest)) (and_parts (at_all n (λ rest. test (true ∷ rest))) (at_all n (λ rest. test (false ∷ rest))) all).1 ins (omega arith)
 
-abbrev dual_at : Kind → List Bool → Bool
-dual_at kind ins = agree (not (set_of kind ins)) (set_of (dual_of kind) (dual_pins kind (map not ins)))
+abbrev is_dual_at : Kind → List Bool → Bool
+is_dual_at kind ins = same (set_of (dual_of kind) (dual_pins kind (map not ins))) (not (set_of kind ins))
 
--- the whole table passes, by computation
-duals_pass : (kind : Kind) → at_all (arity_of kind) (dual_at kind) ≡ true
-duals_pass kind = every_kind (λ k. at_all (arity_of k) (dual_at k)) refl kind
+duals_pass : (kind : Kind) → at_all (arity_of kind) (is_dual_at kind) ≡ true
+duals_pass kind = every_kind (λ k. at_all (arity_of k) (is_dual_at k)) refl kind
 
-pub is_dual : (kind : Kind) → IsDual kind
-is_dual kind ins e = agree-only (not (set_of kind ins)) (set_of (dual_of kind) (dual_pins kind (map not ins))) (at_all-holds (arity_of kind) (dual_at kind) (duals_pass kind) ins e)
+-- on the complements the dual is the complement
+pub dual-set : (kind : Kind) → IsDual kind
+dual-set kind ins e = same-equal (set_of (dual_of kind) (dual_pins kind (map not ins))) (not (set_of kind ins)) (at_all-holds (arity_of kind) (is_dual_at kind) (duals_pass kind) ins e)
+
+-- the dual has as many inputs
+pub dual-arity : (kind : Kind) → arity_of (dual_of kind) ≡ arity_of kind
+dual-arity Th12 = refl
+dual-arity _ = refl
+
+crossed-length : {X : Type 0} (xs : List X) → length (crossed xs) ≡ length xs
+crossed-length [] = refl
+crossed-length (a ∷ []) = refl
+crossed-length (a ∷ b ∷ xs) = refl
+
+crossed-map : {X Y : Type 0} (f : X → Y) (xs : List X) → map f (crossed xs) ≡ crossed (map f xs)
+crossed-map f [] = refl
+crossed-map f (a ∷ []) = refl
+crossed-map f (a ∷ b ∷ xs) = refl
+
+-- the pins of the dual are as many, and are taken from the values as from the nets
+pub dual_pins-length : {X : Type 0} (kind : Kind) (xs : List X) → length (dual_pins kind xs) ≡ length xs
+dual_pins-length kind xs = by (is_crossed kind)
+  where
+    by : (b : Bool) → length (if b then crossed xs else xs) ≡ length xs
+    by true = crossed-length xs
+    by false = refl
+
+pub dual_pins-map : {X Y : Type 0} (kind : Kind) (f : X → Y) (xs : List X) → map f (dual_pins kind xs) ≡ dual_pins kind (map f xs)
+dual_pins-map kind f xs = by (is_crossed kind)
+  where
+    by : (b : Bool) → map f (if b then crossed xs else xs) ≡ (if b then crossed (map f xs) else map f xs)
+    by true = crossed-map f xs
+    by false = refl

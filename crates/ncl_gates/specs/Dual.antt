@@ -1,5 +1,6 @@
--- The dual of a gate, which is low where the gate is high on the opposite values. The 27 gates are closed under it.
-use Rattle.std.specs.Prelude.{◌≡◌, ℕ, List, [], ◌∷◌, Bool, true, false, not, map, length, if◌then◌else◌}
+-- The dual of a gate makes the complement of its set function from the complements of its inputs (duality of threshold
+-- functions, Muroga 1971). The 27 gates are closed under it.
+use Rattle.std.specs.Prelude.{◌≡◌, List, [], ◌∷◌, Bool, true, false, not, map, length, if◌then◌else◌}
 use Rattle.ncl_gates.specs.declared.kind.Kind.{Kind}
 use Rattle.ncl_gates.specs.declared.kind.Kind.TheVariants.{Th12, Th22, Th13, Th23, Th33, Th23w2, Th33w2, Th14, Th24, Th34, Th44, Th24w2, Th34w2, Th44w2, Th34w3, Th44w3, Th24w22, Th34w22, Th44w22, Th54w22, Th34w32, Th54w32, Th44w322, Th54w322, ThXor0, ThAnd0, Th24comp}
 use Rattle.ncl_gates.specs.Gate.{arity_of, set_of}
@@ -34,46 +35,21 @@ dual_of ThXor0 = Th24comp
 dual_of ThAnd0 = ThAnd0
 dual_of Th24comp = ThXor0
 
--- whether the dual has pins A and B exchanged: of THand0 alone
-abbrev pub swaps : Kind → Bool
-swaps Th12 = false
-swaps Th22 = false
-swaps Th13 = false
-swaps Th23 = false
-swaps Th33 = false
-swaps Th23w2 = false
-swaps Th33w2 = false
-swaps Th14 = false
-swaps Th24 = false
-swaps Th34 = false
-swaps Th44 = false
-swaps Th24w2 = false
-swaps Th34w2 = false
-swaps Th44w2 = false
-swaps Th34w3 = false
-swaps Th44w3 = false
-swaps Th24w22 = false
-swaps Th34w22 = false
-swaps Th44w22 = false
-swaps Th54w22 = false
-swaps Th34w32 = false
-swaps Th54w32 = false
-swaps Th44w322 = false
-swaps Th54w322 = false
-swaps ThXor0 = false
-swaps ThAnd0 = true
-swaps Th24comp = false
+-- whether the dual has pins A and B exchanged: that of THand0 alone has
+abbrev pub is_crossed : Kind → Bool
+is_crossed ThAnd0 = true
+is_crossed kind = false
 
--- the first two of a list exchanged
-abbrev pub swapped : {X : Type 0} → List X → List X
-swapped [] = []
-swapped (x ∷ []) = x ∷ []
-swapped (x ∷ y ∷ xs) = y ∷ x ∷ xs
+-- the first two change places
+abbrev pub crossed : {X : Type 0} → List X → List X
+crossed [] = []
+crossed (a ∷ []) = a ∷ []
+crossed (a ∷ b ∷ others) = b ∷ a ∷ others
 
--- what stands at the pins of the dual
+-- what stands at the pins of the dual: what stands at those of the gate, A and B exchanged where it is crossed
 abbrev pub dual_pins : {X : Type 0} → Kind → List X → List X
-dual_pins kind ins = if swaps kind then swapped ins else ins
+dual_pins kind ins = if is_crossed kind then crossed ins else ins
 
--- the dual holds on the opposite values where the gate doesn't
+-- on the complements the dual holds exactly where the gate doesn't
 abbrev pub IsDual : Kind → Type 0
 IsDual kind = (ins : List Bool) → length ins ≡ arity_of kind → set_of (dual_of kind) (dual_pins kind (map not ins)) ≡ not (set_of kind ins)

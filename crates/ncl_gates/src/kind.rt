@@ -1,8 +1,8 @@
 //! The gates.
-ghost use Rattle.ncl_gates.specs.Dual.{dual_of, swaps};
 ghost use Rattle.std.specs.Prelude.{◌≡◌, ◌≢◌, ℕ, false, [], ◌∷◌, IfNone, IfSome, length, slice_index_or};
 ghost use Rattle.ncl_gates.specs.declared.kind.Kind.{Kind};
 ghost use Rattle.ncl_gates.specs.Bits.{is_set};
+ghost use Rattle.ncl_gates.specs.Dual.{dual_of, is_crossed};
 ghost use Rattle.ncl_gates.specs.Gate.{arity_of, next_of, set_of, some_high};
 ghost use Rattle.ncl_gates.specs.Name.{name_of};
 
@@ -128,7 +128,8 @@ impl Kind {
         }
     }
 
-    /// The gate that is low on the opposite values where this one is high.
+    /// The dual of the gate: on the complements of its inputs it makes the complement of the set function. Pins A and B
+    /// change places where `is_crossed` says so.
     pub fn dual(self) -> Kind
         ensures { result ≡ dual_of self }
     {
@@ -163,11 +164,11 @@ impl Kind {
         }
     }
 
-    /// Whether the dual has pins A and B exchanged.
-    pub fn swaps(self) -> bool
-        ensures { result ≡ swaps self }
+    /// Whether the dual has pins A and B exchanged, as that of THand0 alone has.
+    pub fn is_crossed(self) -> bool
+        ensures { result ≡ is_crossed self }
     {
-        self == Kind::ThAnd0
+        matches!(self, Kind::ThAnd0)
     }
 
     /// The set function of the gate: whether some product of it has all its pins at 1.

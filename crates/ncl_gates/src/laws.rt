@@ -77,7 +77,7 @@ pub fn products()
     ensures { (kind : Kind) → HasProducts kind }
 {}
 
-/// The dual of a gate is low on the opposite values where the gate is high, with pins A and B of THand0 exchanged.
+/// Each gate has a dual among the gates, which makes the complement from the complements.
 pub fn duals()
     ensures { (kind : Kind) → IsDual kind }
 {}

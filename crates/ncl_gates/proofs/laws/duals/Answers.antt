@@ -1,5 +1,5 @@
-use Rattle.ncl_gates.proofs.DualLaws.{is_dual}
+use Rattle.ncl_gates.proofs.DualLaws.{dual-set}
 use Rattle.ncl_gates.proofs.laws.duals.Goals as goal
 
 pub returns : goal.returns
-returns c = is_dual
+returns c = dual-set

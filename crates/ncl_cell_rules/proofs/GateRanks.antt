@@ -1,4 +1,5 @@
--- Where no gate cell lies on a cycle, nets have ranks that rise along every gate cell.
+-- Where no gate cell lies on a cycle, the cells have an order in which each gate stands after what drives it, and nets have
+-- ranks that rise along every gate cell.
 use Rattle.std.proofs.Common.{◌≡◌, ℕ, ◌<◌, ◌≤◌, Bool, true, List, [], length, map, get_or, inl, inr, sym, ap, ◌∙◌, subst, arith}
 use Rattle.std.specs.Prelude.{All, Contains, nat_eq, filter}
 use Rattle.std.specs.List.{position_or_len, range_with_len}
@@ -16,6 +17,7 @@ use Rattle.ncl_netlist.specs.declared.cell.Cell.{Cell}
 use Rattle.ncl_netlist.specs.Netlist.{NetlistData, IsNetlist, most_cells}
 use Rattle.ncl_cell_rules.specs.Origin.{IsCell, CellAt, IsGate, ReadsNet, LeadsTo, one, more}
 use Rattle.ncl_cell_rules.specs.Free.{IsFree}
+use Rattle.ncl_cell_rules.specs.CellOrder.{IsCellOrder}
 use Rattle.ncl_base.proofs.Members.{Contains-from_Member, Member-from_Contains, Member-filter, All-from_members, Contains-from_slice_get, slice_get-from_Contains}
 use Rattle.ncl_cell_rules.proofs.Drivers.{same_place}
 use Rattle.ncl_cell_rules.proofs.OriginLaws.{place_of}
@@ -123,6 +125,21 @@ module _ (n : NetlistData) (is : IsNetlist n) (free : IsFree n) where
 
   in_order : (order : List ℕ) × IsOrder graph order
   in_order = acyclic_has_order graph is_graph acyclic
+
+  -- as an order of cells: each of the netlist's cells stands in it once
+  pub cell_order : (order : List ℕ) × IsCellOrder n order
+  cell_order =
+      let (order, o) = in_order in
+      let as_many = length-map n.cells arcs in (
+        order,
+        record {
+          inside = subst (λ m. All (λ k. k < m) order) as_many o.places;
+          every = λ k lt. o.every k (omega (arith, lt, as_many));
+          once = o.once;
+          reads = λ before k rest e c at is_gate net j reads (d, at_d, out).
+              o.after before k rest e j (arc_of_reads k j c d at at_d is_gate (subst (ReadsNet c) (sym out) reads));
+        },
+      )
 
   -- the rank of a net is the first index in that order at which a cell drives it
   abbrev drives_at : ℕ → ℕ → Bool

@@ -10,7 +10,7 @@ use ncl_network::{Signal, SignalSource};
 use std::alloc::Global;
 
 /// The most small nodes of a network.
-const MOST_NODES: usize = 16_777_216;
+const MOST_POOL_NODES: usize = 16_777_216;
 
 /// How many chains there are of small nodes, and how many nodes of one are looked at.
 const CHAINS: u32 = 16_384;
@@ -111,7 +111,7 @@ impl Pool {
     fn push(&mut self, small: Small) -> Result<u32, Stop>
         ensures { IfOk result (λ place. (place ≡ length self.old.smalls.items) × (self.new.smalls.items ≡ self.old.smalls.items ++ small ∷ [])) }
     {
-        if self.smalls.len() >= MOST_NODES {
+        if self.smalls.len() >= MOST_POOL_NODES {
             return Err(Stop::GivenUp);
         }
         let place = self.smalls.len() as u32;

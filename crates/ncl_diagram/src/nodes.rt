@@ -15,7 +15,7 @@ use std::marker::Model;
 use std::sync::ledger::Ledger;
 
 // How many nodes have a place of 32 bits, since the constants have the first two.
-const MOST_NODES: usize = 4_294_967_294;
+const MOST_NODE_REFS: usize = 4_294_967_294;
 
 /// A node: the bit that it reads, and where it goes on from a 0 and from a 1.
 #[derive(Clone, Copy, Debug, PartialEq, Eq)]
@@ -114,14 +114,14 @@ impl Nodes {
             let Some(at) = self.set.get_index_of(&node) else {
                 return Err(SpaceFault::Full);
             };
-            if at >= MOST_NODES {
+            if at >= MOST_NODE_REFS {
                 return Err(SpaceFault::Memory);
             }
             return Ok(Ref {
                 place: at as u32 + 2,
             });
         }
-        if count >= MOST_NODES {
+        if count >= MOST_NODE_REFS {
             return Err(SpaceFault::Memory);
         }
         let (at, _) = self.set.insert_full(node)?;

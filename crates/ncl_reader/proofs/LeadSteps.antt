@@ -14,7 +14,7 @@ use Rattle.ncl_reader.specs.declared.lexeme.Sign.TheVariants.{LParen, LBracket, 
 use Rattle.ncl_reader.specs.Lexemes.{Lexeme, Word, Name, Number, Mark}
 use Rattle.ncl_reader.specs.Grammar.{Direction, Plain, Wired, direction_phrase, Lead, Gives, Wires, lead_phrase, Range, Spec, Group, group_phrase, Item, Head, with_commas, body_phrase}
 use Rattle.ncl_reader.specs.Forms.{IsBehindNet, IsAtIndex, IsAtLast}
-use Rattle.ncl_reader.specs.Vectors.{width, IsTooLarge, MOST_BITS}
+use Rattle.ncl_reader.specs.Vectors.{width, IsTooLarge, MOST_VECTOR_BITS}
 use Rattle.ncl_reader.specs.Rules.{Breaks, BreaksRule, HasNoBits}
 use Rattle.ncl_reader.specs.Partial.{LeadPart, led, bracketed, firsted, coloned, lasted, ranged, leading, naming, lead_place, lead_spelled, direction_place, word_place, Partial, heading, inside, declaring, netted, indexing, spelled}
 use Rattle.ncl_reader.specs.Lead.{LeadTakes, IsLed, IsSaid, IsSpanOf, IsValue, takes_name, direction_output, lead_output}
@@ -79,7 +79,7 @@ module _ {L : Type 0} (site : Site L) (kept : Led) where
   no_bits : (part : LeadPart L) → HasNoBits (spelled (site.tree part)) → ⊥
   no_bits part (net, behind, none) = site.no_net part net behind
 
-  number_rule : (part : LeadPart L) (digits : List ℕ) → (IsTooLarge digits → ⊥) → ((first : List ℕ) → IsAtLast (spelled (site.tree part)) first → MOST_BITS < width (record { first = digits_value 10 first; last = digits_value 10 digits }) → ⊥) → BreaksRule (spelled (site.tree part)) (Number digits) → ⊥
+  number_rule : (part : LeadPart L) (digits : List ℕ) → (IsTooLarge digits → ⊥) → ((first : List ℕ) → IsAtLast (spelled (site.tree part)) first → MOST_VECTOR_BITS < width (record { first = digits_value 10 first; last = digits_value 10 digits }) → ⊥) → BreaksRule (spelled (site.tree part)) (Number digits) → ⊥
   number_rule part digits small short (inl large) = small large
   number_rule part digits small short (inr (inl (first, at, long))) = short first at long
   number_rule part digits small short (inr (inr (net, range, at, vector, outside))) = site.no_index part net at
@@ -191,9 +191,9 @@ module _ {L : Type 0} (site : Site L) (kept : Led) where
   range_none part t at keeps names = absurd cc
 
   -- a range that is too long
-  pub last_long : (part : LeadPart L) (t : Lexeme) (digits : List ℕ) (n : ℕ) → lead_place site.of part ≡ lead.Last → IsLed site.output part kept → t ≡ Number digits → IsValue digits n → MOST_BITS < width (record { first = kept.first; last = n }) → Answer part t None
+  pub last_long : (part : LeadPart L) (t : Lexeme) (digits : List ℕ) (n : ℕ) → lead_place site.of part ≡ lead.Last → IsLed site.output part kept → t ≡ Number digits → IsValue digits n → MOST_VECTOR_BITS < width (record { first = kept.first; last = n }) → Answer part t None
   last_long (coloned l first) t digits n at keeps is value long =
-      let too_long : MOST_BITS < width (record { first = digits_value 10 first; last = digits_value 10 digits }) = subst (λ f. MOST_BITS < width (record { first = f; last = digits_value 10 digits })) keeps.1.0 (subst (λ m. MOST_BITS < width (record { first = kept.first; last = m })) value.0 long) in
+      let too_long : MOST_VECTOR_BITS < width (record { first = digits_value 10 first; last = digits_value 10 digits }) = subst (λ f. MOST_VECTOR_BITS < width (record { first = f; last = digits_value 10 digits })) keeps.1.0 (subst (λ m. MOST_VECTOR_BITS < width (record { first = kept.first; last = m })) value.0 long) in
       let at_last : IsAtLast (spelled (site.tree (coloned l first))) first = (site.front ++ site.phrase l, site.spell (coloned l first) ∙ sym (append_assoc site.front (site.phrase l) (Mark LBracket ∷ Number first ∷ Mark Colon ∷ []))) in
       (subst (Breaks (spelled (site.tree (coloned l first)))) (sym is) (inr (inr (inl (first, at_last, too_long)))), keeps)
   last_long (led l) t digits n at keeps is value long = absurd (no_place l lead.Last (λ e. absurd cc) (λ e. absurd cc) at)
@@ -247,14 +247,14 @@ module _ {L : Type 0} (site : Site L) (old new : Led) where
   pub first : (part : LeadPart L) (t : Lexeme) (digits : List ℕ) → lead_place site.of part ≡ lead.First → IsLed site.output part old → t ≡ Number digits → new.output ≡ old.output → IsValue digits new.first → (IsTooLarge digits → ⊥) → LeadTakes site.tree site.output site.of part t (Some lead.Colon) new
   first (bracketed l) t digits at keeps is same value small = subst (λ u. LeadTakes site.tree site.output site.of (bracketed l) u (Some lead.Colon) new) (sym is) (took site new (bracketed l) (firsted l digits) (Number digits) lead.Colon refl refl (same ∙ keeps, value) (number_rule site new (bracketed l) digits small no_colon))
     where
-      no_colon : (other : List ℕ) → IsAtLast (spelled (site.tree (bracketed l))) other → MOST_BITS < width (record { first = digits_value 10 other; last = digits_value 10 digits }) → ⊥
+      no_colon : (other : List ℕ) → IsAtLast (spelled (site.tree (bracketed l))) other → MOST_VECTOR_BITS < width (record { first = digits_value 10 other; last = digits_value 10 digits }) → ⊥
       no_colon other (before, e) long =
           let (fronts, signs) = last_token (site.front ++ site.phrase l) (before ++ Mark LBracket ∷ Number other ∷ []) (Mark LBracket) (Mark Colon) (append_assoc site.front (site.phrase l) (Mark LBracket ∷ []) ∙ sym (site.spell (bracketed l)) ∙ e ∙ sym (append_assoc before (Mark LBracket ∷ Number other ∷ []) (Mark Colon ∷ []))) in
           let wrong : Mark LBracket ≡ Mark Colon = signs in absurd cc
   first (led l) t digits at keeps is same value small = absurd (no_place site old l lead.First (λ e. absurd cc) (λ e. absurd cc) at)
   first part t digits at keeps is same value small = absurd cc
 
-  pub last : (part : LeadPart L) (t : Lexeme) (digits : List ℕ) (n : ℕ) → lead_place site.of part ≡ lead.Last → IsLed site.output part old → t ≡ Number digits → new.output ≡ old.output → new.span ≡ Some (record { first = old.first; last = n }) → IsValue digits n → (IsTooLarge digits → ⊥) → (MOST_BITS < width (record { first = old.first; last = n }) → ⊥) → LeadTakes site.tree site.output site.of part t (Some lead.Close) new
+  pub last : (part : LeadPart L) (t : Lexeme) (digits : List ℕ) (n : ℕ) → lead_place site.of part ≡ lead.Last → IsLed site.output part old → t ≡ Number digits → new.output ≡ old.output → new.span ≡ Some (record { first = old.first; last = n }) → IsValue digits n → (IsTooLarge digits → ⊥) → (MOST_VECTOR_BITS < width (record { first = old.first; last = n }) → ⊥) → LeadTakes site.tree site.output site.of part t (Some lead.Close) new
   last (coloned l first_digits) t digits n at keeps is same spans value small short = subst (λ u. LeadTakes site.tree site.output site.of (coloned l first_digits) u (Some lead.Close) new) (sym is) (took site new (coloned l first_digits) (lasted l first_digits digits) (Number digits) lead.Close refl refl (same ∙ keeps.0, span) (number_rule site new (coloned l first_digits) digits small no_long))
     where
       numbers : Span → Type 0
@@ -266,10 +266,10 @@ module _ {L : Type 0} (site : Site L) (old new : Led) where
         few = λ s e. subst numbers (same_Some (record { first = old.first; last = n }) s (sym spans ∙ e)) (keeps.1.1, value.1);
       }
 
-      no_long : (other : List ℕ) → IsAtLast (spelled (site.tree (coloned l first_digits))) other → MOST_BITS < width (record { first = digits_value 10 other; last = digits_value 10 digits }) → ⊥
+      no_long : (other : List ℕ) → IsAtLast (spelled (site.tree (coloned l first_digits))) other → MOST_VECTOR_BITS < width (record { first = digits_value 10 other; last = digits_value 10 digits }) → ⊥
       no_long other (before, e) long =
           let firsts : first_digits ≡ other = colon_first (site.front ++ site.phrase l) before first_digits other (append_assoc site.front (site.phrase l) (Mark LBracket ∷ Number first_digits ∷ Mark Colon ∷ []) ∙ sym (site.spell (coloned l first_digits)) ∙ e) in
-          short (subst (λ f. MOST_BITS < width (record { first = f; last = n })) (ap (digits_value 10) (sym firsts) ∙ sym keeps.1.0) (subst (λ m. MOST_BITS < width (record { first = digits_value 10 other; last = m })) (sym value.0) long))
+          short (subst (λ f. MOST_VECTOR_BITS < width (record { first = f; last = n })) (ap (digits_value 10) (sym firsts) ∙ sym keeps.1.0) (subst (λ m. MOST_VECTOR_BITS < width (record { first = digits_value 10 other; last = m })) (sym value.0) long))
   last (led l) t digits n at keeps is same spans value small short = absurd (no_place site old l lead.Last (λ e. absurd cc) (λ e. absurd cc) at)
   last part t digits n at keeps is same spans value small short = absurd cc
 

@@ -15,7 +15,7 @@ use Rattle.ncl_reader.specs.declared.lexeme.Sign.TheVariants.{RParen, LBracket}
 use Rattle.ncl_reader.specs.Lexemes.{Lexeme, Word, Name, Number, Mark}
 use Rattle.ncl_reader.specs.Grammar.{Row, Direction, direction_phrase, Lead, Gives, Wires, lead_phrase, Range, Spec, Group, group_names, Conn, Item, Listing, Empty, Names, Ansi, Head, header_of}
 use Rattle.ncl_reader.specs.Forms.{in_ansi, at_declared, IsDeclaring, IsAtNet}
-use Rattle.ncl_reader.specs.Vectors.{span_of, width, Covers, bit_name, IsTooLarge, MOST_BITS, MOST_PORT_BITS, Stands, IsDeclared, IsUsed, IsVector, IsBit}
+use Rattle.ncl_reader.specs.Vectors.{span_of, width, Covers, bit_name, IsTooLarge, MOST_VECTOR_BITS, MOST_PORT_BITS, Stands, IsDeclared, IsUsed, IsVector, IsBit}
 use Rattle.ncl_reader.specs.Rules.{directed_by, group_bits, item_bits, RepeatsPort, RepeatsHeaded, Misdirects, DirectsLate, LeavesPort, NamesNoCell, Misjoins, LeavesPin, IsTooLong, IsOutside, HasNoBits, LacksIndex, Redeclares, Clashes, CrowdsHeader, CrowdsItems, Crowds, BreaksRule}
 use Rattle.ncl_reader.specs.Partial.{GroupPart, Partial, listing, heading, at_item, inside, declaring, dotted, netted, indexing, opened, joined, spelled}
 use Rattle.ncl_reader.proofs.Viable.{same_tree}
@@ -332,7 +332,7 @@ large_or_not : (digits : List ℕ) → Decided (IsTooLarge digits)
 large_or_not digits = either_decided (less_or_not 5 (length digits)) (less_or_not 65535 (digits_value 10 digits))
 
 long_or_not : (xs : List Lexeme) (last : List ℕ) → Decided (IsTooLong xs last)
-long_or_not xs last = last_or_not (λ first. MOST_BITS < width (record { first = digits_value 10 first; last = digits_value 10 last })) (λ first. less_or_not MOST_BITS (width (record { first = digits_value 10 first; last = digits_value 10 last }))) xs
+long_or_not xs last = last_or_not (λ first. MOST_VECTOR_BITS < width (record { first = digits_value 10 first; last = digits_value 10 last })) (λ first. less_or_not MOST_VECTOR_BITS (width (record { first = digits_value 10 first; last = digits_value 10 last }))) xs
 
 indexing_in : {head h : Head} {items is : List Item} {cell c name n pin q net m : List ℕ} {conns cs : List Conn} → inside head items (indexing cell name conns pin net) ≡ inside h is (indexing c n cs q m) → net ≡ m
 indexing_in e = cc

@@ -11,7 +11,7 @@ use Rattle.ncl_reader.specs.declared.lexeme.Sign.TheVariants.{RParen, LBracket}
 use Rattle.ncl_reader.specs.Lexemes.{Lexeme, Word, Name, Number, Mark}
 use Rattle.ncl_reader.specs.Grammar.{Row, all_of, Direction, Lead, Gives, Wires, Range, Spec, Group, group_names, Conn, Item, Declares, Joins, Ansi, Head, groups_of, header_of, body_phrase, BeginsShaped}
 use Rattle.ncl_reader.specs.Forms.{in_header, in_ansi, at_declared, at_pin, at_close, IsDeclaring, IsAtLast, IsAtIndex, IsBehindNet}
-use Rattle.ncl_reader.specs.Vectors.{span_of, width, range_width, Covers, bit_name, IsTooLarge, MOST_BITS, MOST_PORT_BITS, Stands, IsDeclared, IsUsed, IsVector, IsBit}
+use Rattle.ncl_reader.specs.Vectors.{span_of, width, range_width, Covers, bit_name, IsTooLarge, MOST_VECTOR_BITS, MOST_PORT_BITS, Stands, IsDeclared, IsUsed, IsVector, IsBit}
 
 -- the names that an item gives a direction: `wire` gives none
 abbrev pub directed_in : Item → List (List ℕ)
@@ -114,7 +114,7 @@ pub record LeavesPin (before : List Lexeme) : Type 0 where
 abbrev pub IsTooLong : List Lexeme → List ℕ → Type 0
 IsTooLong before last =
     (first : List ℕ) × IsAtLast before first
-    × (MOST_BITS < width (record { first = digits_value 10 first; last = digits_value 10 last }))
+    × (MOST_VECTOR_BITS < width (record { first = digits_value 10 first; last = digits_value 10 last }))
 
 -- a vector has no bit with the number
 abbrev pub IsOutside : List Lexeme → List ℕ → Type 0

@@ -45,8 +45,8 @@ abbrev pub IsTooLarge : List ℕ → Type 0
 IsTooLarge digits = (5 < length digits) ⊎ (65535 < digits_value 10 digits)
 
 -- the most bits of a vector, and of all vectors among the ports
-abbrev pub MOST_BITS : ℕ
-MOST_BITS = 1024
+abbrev pub MOST_VECTOR_BITS : ℕ
+MOST_VECTOR_BITS = 1024
 
 abbrev pub MOST_PORT_BITS : ℕ
 MOST_PORT_BITS = 65536

@@ -15,7 +15,7 @@ use crate::place::LeadPlace;
 use crate::span::Span;
 
 /// The most bits of a vector.
-const MOST_BITS: u32 = 1024;
+const MOST_VECTOR_BITS: u32 = 1024;
 
 /// What a declaration begins with, as far as it is read: whether it tells outputs, if it gives a direction; its
 /// range, if it has one; and the first number of a range that isn't read whole.
@@ -61,7 +61,7 @@ impl Lead {
                 };
                 let first = self.first;
                 let span = Span { first, last };
-                if span.width() > MOST_BITS {
+                if span.width() > MOST_VECTOR_BITS {
                     return None;
                 }
                 self.span = Some(span);

@@ -26,11 +26,11 @@ use std::marker::Model;
 // The function that is 0 everywhere.
 const ZERO: Ref = Ref { place: 0 };
 
-// The most words of a table.
-const MOST_WORDS: usize = 16;
+// The most chunks of 64 values that a table has.
+const MOST_CHUNKS: usize = 16;
 
-// The words of one table.
-type Row = ArrayVec<u64, MOST_WORDS>;
+// The chunks of one table.
+type Row = ArrayVec<u64, MOST_CHUNKS>;
 
 /// A space of functions of 1 to 10 bits that keeps the table of each, 64 values to a word. It has no
 /// limit and never answers `Full`.

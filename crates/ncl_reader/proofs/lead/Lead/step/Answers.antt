@@ -61,14 +61,14 @@ returns-in_default-small_number-clause-header c = λ title groups part names at 
 pub returns-in_default-small_number-clause-item : goal.returns-in_default-small_number-clause-item
 returns-in_default-small_number-clause-item c = λ head items part names at keeps. steps.last_none (steps.in_item head items) c.args.self.now part (meant c.args.lexeme.now) (at ∙ c.in-Last.is) keeps c.in_default-small_number.ensures
 
-pub returns-then-width-gt-MOST_BITS-clause-header : goal.returns-then-width-gt-MOST_BITS-clause-header
-returns-then-width-gt-MOST_BITS-clause-header c = λ title groups part names at keeps. let (digits, is, value, small) = c.in-Some-small_number.ensures in steps.last_long (steps.in_header title groups) c.args.self.now part (meant c.args.lexeme.now) digits c.in-Some-small_number.last (at ∙ c.in-Last.is) keeps is value (subst (λ w. 1024 < w) c.width.ensures c.if-width-gt-MOST_BITS.true)
+pub returns-then-width-gt-MOST_VECTOR_BITS-clause-header : goal.returns-then-width-gt-MOST_VECTOR_BITS-clause-header
+returns-then-width-gt-MOST_VECTOR_BITS-clause-header c = λ title groups part names at keeps. let (digits, is, value, small) = c.in-Some-small_number.ensures in steps.last_long (steps.in_header title groups) c.args.self.now part (meant c.args.lexeme.now) digits c.in-Some-small_number.last (at ∙ c.in-Last.is) keeps is value (subst (λ w. 1024 < w) c.width.ensures c.if-width-gt-MOST_VECTOR_BITS.true)
 
-pub returns-then-width-gt-MOST_BITS-clause-item : goal.returns-then-width-gt-MOST_BITS-clause-item
-returns-then-width-gt-MOST_BITS-clause-item c = λ head items part names at keeps. let (digits, is, value, small) = c.in-Some-small_number.ensures in steps.last_long (steps.in_item head items) c.args.self.now part (meant c.args.lexeme.now) digits c.in-Some-small_number.last (at ∙ c.in-Last.is) keeps is value (subst (λ w. 1024 < w) c.width.ensures c.if-width-gt-MOST_BITS.true)
+pub returns-then-width-gt-MOST_VECTOR_BITS-clause-item : goal.returns-then-width-gt-MOST_VECTOR_BITS-clause-item
+returns-then-width-gt-MOST_VECTOR_BITS-clause-item c = λ head items part names at keeps. let (digits, is, value, small) = c.in-Some-small_number.ensures in steps.last_long (steps.in_item head items) c.args.self.now part (meant c.args.lexeme.now) digits c.in-Some-small_number.last (at ∙ c.in-Last.is) keeps is value (subst (λ w. 1024 < w) c.width.ensures c.if-width-gt-MOST_VECTOR_BITS.true)
 
-pub returns-else-width-gt-MOST_BITS-clause-header : goal.returns-else-width-gt-MOST_BITS-clause-header
-returns-else-width-gt-MOST_BITS-clause-header c = λ title groups part names at keeps. let (digits, is, value, small) = c.in-Some-small_number.ensures in steps.last (steps.in_header title groups) c.args.self.now (record c.args.self.now { span = Some (record { first = c.args.self.now.first; last = c.in-Some-small_number.last }) }) part (meant c.args.lexeme.now) digits c.in-Some-small_number.last (at ∙ c.in-Last.is) keeps is refl refl value small (λ long. omega (arith, c.if-width-gt-MOST_BITS.false, subst (λ w. 1024 < w) (sym c.width.ensures) long))
+pub returns-else-width-gt-MOST_VECTOR_BITS-clause-header : goal.returns-else-width-gt-MOST_VECTOR_BITS-clause-header
+returns-else-width-gt-MOST_VECTOR_BITS-clause-header c = λ title groups part names at keeps. let (digits, is, value, small) = c.in-Some-small_number.ensures in steps.last (steps.in_header title groups) c.args.self.now (record c.args.self.now { span = Some (record { first = c.args.self.now.first; last = c.in-Some-small_number.last }) }) part (meant c.args.lexeme.now) digits c.in-Some-small_number.last (at ∙ c.in-Last.is) keeps is refl refl value small (λ long. omega (arith, c.if-width-gt-MOST_VECTOR_BITS.false, subst (λ w. 1024 < w) (sym c.width.ensures) long))
 
-pub returns-else-width-gt-MOST_BITS-clause-item : goal.returns-else-width-gt-MOST_BITS-clause-item
-returns-else-width-gt-MOST_BITS-clause-item c = λ head items part names at keeps. let (digits, is, value, small) = c.in-Some-small_number.ensures in steps.last (steps.in_item head items) c.args.self.now (record c.args.self.now { span = Some (record { first = c.args.self.now.first; last = c.in-Some-small_number.last }) }) part (meant c.args.lexeme.now) digits c.in-Some-small_number.last (at ∙ c.in-Last.is) keeps is refl refl value small (λ long. omega (arith, c.if-width-gt-MOST_BITS.false, subst (λ w. 1024 < w) (sym c.width.ensures) long))
+pub returns-else-width-gt-MOST_VECTOR_BITS-clause-item : goal.returns-else-width-gt-MOST_VECTOR_BITS-clause-item
+returns-else-width-gt-MOST_VECTOR_BITS-clause-item c = λ head items part names at keeps. let (digits, is, value, small) = c.in-Some-small_number.ensures in steps.last (steps.in_item head items) c.args.self.now (record c.args.self.now { span = Some (record { first = c.args.self.now.first; last = c.in-Some-small_number.last }) }) part (meant c.args.lexeme.now) digits c.in-Some-small_number.last (at ∙ c.in-Last.is) keeps is refl refl value small (λ long. omega (arith, c.if-width-gt-MOST_VECTOR_BITS.false, subst (λ w. 1024 < w) (sym c.width.ensures) long))

@@ -1,4 +1,4 @@
--- Delays as one statement after another is put_edges into them.
+-- Delays as one statement after another is put into them.
 use Rattle.std.specs.Prelude.{ℕ, List, Some, None, replicate, slice_set}
 use Rattle.ncl_netlist.specs.Names.{name_number}
 use Rattle.ncl_delay.specs.declared.delays.Edges.{Edges}

@@ -137,7 +137,7 @@ module _ {p : PipelineData} {l : Layout} {w : Waves} {offered : List (List Bool)
 
   -- ---- the sink's acknowledge
 
-  -- the sink's acknowledge has the value with_net
+  -- the sink's acknowledge has the value that it is set to
   ki-now : (value : Bool) → with_net s.value p.ki value (l.root l.last) ≡ value
   ki-now value = subst (λ x. with_net s.value p.ki value x ≡ value) (sym set.layout.ki) (with_net-here s.value p.ki value)
 

@@ -5,7 +5,11 @@
 
 A public function is one that its crate hands out: in a public module, or of a name or a type in a `pub use`. Its clauses are its
 `requires` and `ensures`; a name is one that the file imports from definitions of this repository. Not asked for are types and
-constants of the program, and names of worked examples. Prints what stands on one side alone; the status is 1 where something does.
+constants of the program, and names of worked examples. Prints what stands on one side alone.
+
+Then it reads README.md and all pages of docs/: a name that is said to be "of" a crate stands in this crate, each path is there,
+and each definition of a table that has a file is public in this file. Prints what isn't so. The status is 1 where something was
+printed.
 """
 import pathlib
 import re
@@ -68,6 +72,51 @@ def listed():
         yield from ((name, crate, file) for name in re.findall(r"`(\w+)`", names) for file in files)
 
 
+def pages():
+    """Each line of README.md and docs/, with where it stands."""
+    for page in [TOP / "README.md", *sorted((TOP / "docs").glob("*.md"))]:
+        for number, line in enumerate(page.read_text().split("\n"), 1):
+            yield f"{page.relative_to(TOP)}:{number}", line
+
+
+def stands_in(crate, name):
+    """Whether an item of the program or a definition of a crate has this name."""
+    folder = TOP / "crates" / crate
+    item = re.compile(rf"\b(fn|struct|enum|trait|const|type|mod) +{name}\b|^ +{name}\b *[,({{]|\b{name}:", re.MULTILINE)
+    definition = re.compile(rf"^ *(unfoldable |abbrev )*(pub )?(abbrev |data |record )*{name}\b", re.MULTILINE)
+    return any(item.search(file.read_text()) for file in (folder / "src").rglob("*.rt")) or any(
+        definition.search(file.read_text()) for file in folder.glob("specs/**/*.antt"))
+
+
+def misplaced():
+    """What pages say to be of a crate in which it doesn't stand."""
+    for place, line in pages():
+        for name, crate in re.findall(r"`([\w:]+)` of\s`(ncl_\w+)`", line):
+            if (TOP / "crates" / crate).is_dir() and not name.startswith("ncl_") and not stands_in(crate, name.split("::")[-1]):
+                yield f"{place}: {name} is not of {crate}"
+
+
+def lost_paths():
+    """Paths on pages at which nothing stands."""
+    roots = [TOP, TOP / "crates"]
+    for place, line in pages():
+        for path in re.findall(r"`((?:crates|docs|bench|tools|examples|ncl_\w+|\w+_tests)/[\w./-]+)`", line):
+            if "NAME" not in path and "/out/" not in path and not any((root / path).exists() for root in roots):
+                yield f"{place}: no {path}"
+
+
+def hidden():
+    """Definitions in the table that aren't public in their files."""
+    rows = {}
+    for name, crate, file in listed():
+        rows.setdefault((name, crate), []).append(file)
+    for (name, crate), files in sorted(rows.items()):
+        texts = [found.read_text() for file in files for found in (TOP / "crates" / crate / "specs").rglob(f"{file}.antt")]
+        public = re.compile(rf"^ *((abbrev|unfoldable) )*pub ((data|record|abbrev) )*{name}\b|^  {name} :", re.MULTILINE)
+        if not any(public.search(text) for text in texts):
+            yield f"docs/definitions.md: {name} is not public in {', '.join(files)} of {crate}"
+
+
 def main():
     rows = set(listed())
     crates = [crate for crate in sorted((TOP / "crates").glob("ncl_*")) if (crate / "src/lib.rt").exists()]
@@ -80,7 +129,10 @@ def main():
     for found in extra:
         print("in no clause:", *found)
     print(f"{len(on_page)} names, {len(lost)} without a row, {len(extra)} in no clause")
-    return 1 if lost or extra else 0
+    untrue = [*misplaced(), *lost_paths(), *hidden()]
+    for line in untrue:
+        print(line)
+    return 1 if lost or extra or untrue else 0
 
 
 if __name__ == "__main__":

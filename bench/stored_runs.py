@@ -4,7 +4,7 @@
     bench/stored_runs.py PROGRAM
 
 PROGRAM is the built nclc. The gate makes the same runs through the top call; here they go through the program's own
-words, files, standard output and status. Prints each run that differs, and how many there were: those of `crates/runs`, and
+words, files, standard output and status, and nothing may come to standard error. Prints each run that differs, and how many there were: those of `crates/runs`, and
 those of the pages, which `crates/examples` makes.
 """
 import pathlib
@@ -23,7 +23,8 @@ def told(program, line, folder):
     if name:
         pathlib.Path(folder, name).write_bytes(ran.stdout)
     text = "" if name else ran.stdout.decode()
-    return f"$ nclc {line}\n{text}status {ran.returncode}\n"
+    error = f"standard error: {ran.stderr.decode()}" if ran.stderr else ""
+    return f"$ nclc {line}\n{text}{error}status {ran.returncode}\n"
 
 
 def are_same(program, crate):

@@ -1,13 +1,15 @@
 -- Products under frames: a frame more, and one less.
-use Rattle.std.proofs.Common.{◌≡◌, ◌+◌, ◌<◌, ◌≤◌, true, List, [], ◌∷◌, ◌++◌, length, ap, refl, sym, subst, ◌∙◌, arith, length-append}
+use Rattle.std.proofs.Common.{◌≡◌, ℕ, ◌+◌, ◌*◌, ◌<◌, ◌≤◌, true, List, [], ◌∷◌, ◌++◌, length, ap, refl, sym, subst, ◌∙◌, arith, length-append}
+use Rattle.std.specs.Prelude.{sum_by}
 use Rattle.std.specs.List.{list_any}
 use Rattle.std.proofs.lemmas.List.{append-nil}
+use Rattle.std.proofs.lemmas.List.Sums.{sum_by-append, sum_by_push}
 use Rattle.ncl_network.specs.declared.network.Signal.{Signal}
 use Rattle.ncl_network.specs.declared.network.Node.{Node}
 use Rattle.ncl_decomp.specs.declared.factoring.Frame.{Frame}
 use Rattle.ncl_decomp.specs.Products.{under, total, whole, is_empty}
 use Rattle.ncl_decomp.specs.Splitting.{IsSameSum, AddsSum}
-use Rattle.ncl_decomp.proofs.Sums.{AddsSum-same, AddsSum-then, AddsSum-under, AddsSum-whole, AddsSum-always, whole_push, whole_room}
+use Rattle.ncl_decomp.proofs.Sums.{AddsSum-same, AddsSum-then, AddsSum-under, AddsSum-whole, AddsSum-always, under_total, whole_push, whole_room}
 
 pub AddsSum-parted : (given sum others rests : List (List Signal)) (before nodes : List Node) (frames longer : List Frame) (frame : Frame) → AddsSum given before nodes (whole frames sum) → IsSameSum sum (others ++ under frame.literal rests) → frame.others ≡ others → longer ≡ frames ++ frame ∷ [] → AddsSum given before nodes (whole longer rests)
 AddsSum-parted given sum others rests before nodes frames longer frame so_far same is pushed =
@@ -51,3 +53,31 @@ pub AddsSum-empty : (literal : Signal) (others sum : List (List Signal)) (before
 AddsSum-empty literal others [] before none =
     subst (λ sum. AddsSum sum before before others) (sym (append-nil others)) (AddsSum-start others before [] refl)
 AddsSum-empty literal others (product ∷ sum) before none = absurd (omega (arith, none))
+
+-- ---- fewer signals are left at each turn
+
+-- the signals that are left twice, and three for each frame, since closing one puts one signal back at most
+abbrev pub left_over : List (List Signal) → List Frame → ℕ
+left_over sum frames = 2 * (total sum + sum_by (λ frame. total frame.others) frames) + 3 * length frames
+
+framed : (frames longer : List Frame) (frame : Frame) → longer ≡ frames ++ frame ∷ [] → (sum_by (λ (f : Frame). total f.others) longer ≡ sum_by (λ (f : Frame). total f.others) frames + total frame.others) × (length longer ≡ length frames + 1)
+framed frames longer frame pushed = (
+  ap (λ fs. sum_by (λ (f : Frame). total f.others) fs) pushed ∙ sum_by_push (λ (f : Frame). total f.others) frames frame,
+  let long = ap length pushed in let both = length-append frames (frame ∷ []) in omega (arith, long, both),
+)
+
+-- two products at least lose a signal that is taken out
+pub parted_less : (literal : Signal) (sum others rests : List (List Signal)) (frames longer : List Frame) (frame : Frame) → IsSameSum sum (others ++ under literal rests) → 2 ≤ length rests → frame.others ≡ others → longer ≡ frames ++ frame ∷ [] → left_over rests longer < left_over sum frames
+parted_less literal sum others rests frames longer frame same two is pushed =
+    let (totals, lengths) = framed frames longer frame pushed in
+    let parts = sum_by-append (λ (product : List Signal). length product) others (under literal rests) in
+    let few = same.few in
+    let kept = ap total is in
+    let inner = under_total literal rests in
+    omega (arith, few, parts, inner, two, kept, totals, lengths)
+
+-- and a frame that is closed gives one back at most
+pub closed_less : (sum new : List (List Signal)) (frames rest : List Frame) (frame : Frame) → frames ≡ rest ++ frame ∷ [] → total new ≤ total frame.others + total sum + 1 → left_over new rest < left_over sum frames
+closed_less sum new frames rest frame popped short =
+    let (totals, lengths) = framed rest frames frame popped in
+    omega (arith, short, totals, lengths)

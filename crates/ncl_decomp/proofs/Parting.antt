@@ -3,7 +3,7 @@ use Rattle.std.proofs.Common.{◌≡◌, ℕ, ◌<◌, ◌≤◌, Bool, true, fa
 use Rattle.std.specs.Prelude.{All, None, Some, if◌then◌else◌}
 use Rattle.std.specs.List.{list_all, cons_option}
 use Rattle.std.specs.List.Sorted.{IsPermutation}
-use Rattle.std.proofs.lemmas.Bool.{eqb-true}
+use Rattle.std.proofs.lemmas.Bool.{eqb-true, false_from_ne_true, true_from_ne_false}
 use Rattle.std.proofs.lemmas.List.{length_push, map_push}
 use Rattle.std.proofs.lemmas.List.Elements.{All-cons, All-push, All-head, All-tail}
 use Rattle.std.proofs.lemmas.List.Folds.{list_any-append}
@@ -13,7 +13,7 @@ use Rattle.ncl_network.specs.declared.network.SignalSource.{SignalSource}
 use Rattle.ncl_network.specs.declared.network.SignalSource.TheVariants.{Input, Node as FromNode, Const}
 use Rattle.ncl_network.specs.declared.network.Signal.{Signal}
 use Rattle.ncl_network.specs.Network.{is_constant, IsSource}
-use Rattle.ncl_decomp.specs.Products.{same_source, same_signal, other_than, without, under, IsFilled}
+use Rattle.ncl_decomp.specs.Products.{same_source, same_signal, other_than, has, without, under, IsFilled}
 use Rattle.ncl_decomp.specs.Splitting.{AreVarying, IsSameSum}
 use Rattle.ncl_decomp.proofs.Later.{All-front, All-back}
 
@@ -68,6 +68,31 @@ without_few : (literal : Signal) (product rest : List Signal) → IsWithout lite
 without_few literal _ _ end = omega arith
 without_few literal _ _ (kept s product rest is) = omega (arith, without_few literal product rest is)
 without_few literal _ _ (taken s product rest same is) = omega (arith, without_few literal product rest is)
+
+-- a product is shorter without a signal where it has it, and as long where it hasn't
+short_at : (b h : Bool) (s : Signal) (product rest : List Signal) → length rest ≤ length product → (h ≡ true → length rest < length product) → (b || h) ≡ true → length (cons_option (if b then None else Some s) rest) < length (s ∷ product)
+short_at true h s product rest few inner found = omega (arith, few)
+short_at false h s product rest few inner found = omega (arith, inner found)
+
+has_short : (literal : Signal) (product : List Signal) → has literal product ≡ true → length (without literal product) < length product
+has_short literal [] found = absurd (cc)
+has_short literal (s ∷ product) found =
+    short_at (same_signal s literal) (has literal product) s product (without literal product) (without_few literal product (without literal product) (is_without literal product)) (has_short literal product) found
+
+whole_at : (b h : Bool) (s : Signal) (product rest : List Signal) → (h ≡ false → length product ≤ length rest) → (b || h) ≡ false → length (s ∷ product) ≤ length (cons_option (if b then None else Some s) rest)
+whole_at true h s product rest inner lacks = absurd (cc)
+whole_at false h s product rest inner lacks = omega (arith, inner lacks)
+
+lacks_whole : (literal : Signal) (product : List Signal) → has literal product ≡ false → length product ≤ length (without literal product)
+lacks_whole literal [] lacks = omega arith
+lacks_whole literal (s ∷ product) lacks =
+    whole_at (same_signal s literal) (has literal product) s product (without literal product) (lacks_whole literal product) lacks
+
+pub has_if_short : (literal : Signal) (product : List Signal) → length (without literal product) < length product → has literal product ≡ true
+has_if_short literal product less = true_from_ne_false (has literal product) (λ lacks. omega (arith, less, lacks_whole literal product lacks))
+
+pub lacks_if_whole : (literal : Signal) (product : List Signal) → length product ≤ length (without literal product) → has literal product ≡ false
+lacks_if_whole literal product whole = false_from_ne_true (has literal product) (λ found. omega (arith, whole, has_short literal product found))
 
 -- nothing was out
 without_none : (literal : Signal) (product rest : List Signal) → IsWithout literal product rest → length product ≤ length rest → rest ≡ product

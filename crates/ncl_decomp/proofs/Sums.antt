@@ -19,6 +19,12 @@ use Rattle.ncl_decomp.proofs.Later.{node_values-append, signal_kept, sum_same, R
 pub IsPair : Node → Type 0
 IsPair node = length node.ins ≡ 2
 
+-- products of which none is empty have a signal
+pub total-some : (sum : List (List Signal)) → 0 < length sum → list_any is_empty sum ≡ false → 0 < total sum
+total-some [] some filled = absurd (omega (arith, some))
+total-some ([] ∷ sum) some filled = absurd (cc)
+total-some ((signal ∷ product) ∷ sum) some filled = omega (arith, sum_by-cons (λ (product : List Signal). length product) (signal ∷ product) sum)
+
 -- ---- no node
 
 none_tell : (inputs count : ℕ) (sum new : List (List Signal)) → All (AreVarying inputs count) new → ((word bits : List Bool) → list_any (list_all (signal_value word bits)) new ≡ list_any (list_all (signal_value word bits)) sum) → TellSum inputs count sum [] new

@@ -1,6 +1,6 @@
 -- Products of signals, and how a signal that some of them have is taken out.
 use Rattle.std.specs.Prelude.{ℕ, ◌==◌, ◌&&◌, ◌<◌, List, [], ◌∷◌, ◌++◌, Bool, true, false, not, if◌then◌else◌, length, map, sum_by, Option, Some, None}
-use Rattle.std.specs.List.{filter_map}
+use Rattle.std.specs.List.{filter_map, list_any}
 use Rattle.ncl_network.specs.declared.network.SignalSource.{SignalSource}
 use Rattle.ncl_network.specs.declared.network.SignalSource.TheVariants.{Input, Node as FromNode, Const}
 use Rattle.ncl_network.specs.declared.network.Signal.{Signal}
@@ -24,6 +24,10 @@ same_signal s t =
 -- a signal, unless it is this one
 abbrev pub other_than : Signal → Signal → Option Signal
 other_than literal signal = if same_signal signal literal then None else Some signal
+
+-- whether a product has a signal
+abbrev pub has : Signal → List Signal → Bool
+has literal product = list_any (λ signal. same_signal signal literal) product
 
 -- a product without one of its signals
 abbrev pub without : Signal → List Signal → List Signal

@@ -1,6 +1,8 @@
 //! The signal that stands most often in some products.
-ghost use Rattle.std.specs.Prelude.{◌<◌, IfOk, IfSome};
+ghost use Rattle.std.specs.Prelude.{◌≤◌, count_by, IfOk, IfSome};
+ghost use Rattle.ncl_decomp.specs.Products.{has};
 
+use crate::products::having;
 use ncl_base::{Items, Memory};
 use ncl_network::{Signal, SignalSource};
 use std::alloc::Global;
@@ -44,22 +46,17 @@ fn longest_run(signals: &[Signal]) -> Option<Signal> {
     found
 }
 
-/// The signal that stands most often in some products, and at least twice; none where nothing is left to try. The signals
-/// are sorted.
-pub(crate) fn common(
-    alloc: Global,
-    left: usize,
-    sum: &[Items<Signal>],
-) -> Result<Option<Signal>, Memory>
-    ensures { IfOk result (λ found. IfSome found (λ literal. 0 < left)) }
+/// The signal that stands most often in some products, if two of them have it. The signals are sorted.
+pub(crate) fn common(alloc: Global, sum: &[Items<Signal>]) -> Result<Option<Signal>, Memory>
+    ensures { IfOk result (λ found. IfSome found (λ literal. 2 ≤ count_by (λ product. has literal product) sum.now)) }
 {
-    if left == 0 {
-        return Ok(None);
-    }
     let mut signals = Vec::new(alloc);
     for product in sum {
         add(&mut signals, product.items())?;
     }
     signals.sort_by_key(|signal: &Signal| key(*signal))?;
-    Ok(longest_run(&signals))
+    match longest_run(&signals) {
+        Some(literal) if having(literal, sum) >= 2 => Ok(Some(literal)),
+        _ => Ok(None),
+    }
 }

@@ -1,6 +1,6 @@
 //! Products whose common signals are taken out.
-ghost use Rattle.std.specs.Prelude.{◌<◌, ◌+◌, ◌^◌, ◌++◌, ◌∷◌, [], length, IfOk};
-ghost use Rattle.ncl_decomp.specs.Products.{under, total};
+ghost use Rattle.std.specs.Prelude.{◌≡◌, ◌<◌, ◌≤◌, ◌+◌, ◌^◌, ◌++◌, ◌∷◌, [], length, count_by, IfOk};
+ghost use Rattle.ncl_decomp.specs.Products.{has, under, total};
 ghost use Rattle.ncl_decomp.specs.Splitting.{IsSameSum, AddsSum};
 
 use crate::common::common;
@@ -19,16 +19,14 @@ pub(crate) struct Frame {
     pub(crate) others: Items<Items<Signal>>,
 }
 
-/// How many signals may be taken out of a sum: more than any has.
-const MOST_STEPS: usize = 1 << 32;
-
 /// The products that don't have a signal, and what is left of those that have it. Linear in their signals.
 fn parted(
     alloc: Global,
     literal: Signal,
     sum: &[Items<Signal>],
 ) -> Result<(Vec<Items<Signal>>, Vec<Items<Signal>>), Memory>
-    ensures { IfOk result (λ parts. IsSameSum sum.now (parts.0.items ++ under literal parts.1.items)) }
+    ensures same { IfOk result (λ parts. IsSameSum sum.now (parts.0.items ++ under literal parts.1.items)) }
+    ensures having { IfOk result (λ parts. length parts.1.items ≡ count_by (λ product. has literal product) sum.now) }
 {
     let mut others = Vec::new(alloc);
     let mut rests = Vec::new(alloc);
@@ -53,7 +51,8 @@ fn inner(
 ) -> Result<Vec<Signal>, Memory>
     requires some { 0 < length sum.now }
     requires few { length nodes.old.items + total sum.now < 2 ^ 32 }
-    ensures { IfOk result (λ product. AddsSum (under literal sum.now) nodes.old.items nodes.new.items (product.items ∷ [])) }
+    ensures adds { IfOk result (λ product. AddsSum (under literal sum.now) nodes.old.items nodes.new.items (product.items ∷ [])) }
+    ensures short { IfOk result (λ product. length product.items ≤ total sum.now + 1) }
 {
     let mut product = Vec::new(alloc);
     product.push(literal)?;
@@ -72,7 +71,8 @@ fn closed(
     sum: &[Items<Signal>],
 ) -> Result<Vec<Items<Signal>>, Memory>
     requires few { length nodes.old.items + total sum.now < 2 ^ 32 }
-    ensures { IfOk result (λ new. AddsSum (frame.others ++ under frame.literal sum.now) nodes.old.items nodes.new.items new.items) }
+    ensures adds { IfOk result (λ new. AddsSum (frame.others ++ under frame.literal sum.now) nodes.old.items nodes.new.items new.items) }
+    ensures short { IfOk result (λ new. total new.items ≤ total frame.others + total sum.now + 1) }
 {
     let Frame { literal, others } = frame;
     let mut others = others.into_vec();
@@ -84,7 +84,8 @@ fn closed(
 }
 
 /// Adds the nodes of products of a sum, and gives products with the same sum, of which no two have a signal in
-/// common: the signal that most of them have is taken out, and so on among those that had it and among the others.
+/// common: the signal that most of them have is taken out, and so on among those that had it and among the others. It ends
+/// since two products at least have a signal that is taken out, so that fewer signals are left.
 ///
 /// Each signal is looked at once for each that is tried before it, so the work is at most the signals times the
 /// square of twice the inputs.
@@ -98,15 +99,13 @@ pub(crate) fn factored(
 {
     let mut sum = sum;
     let mut frames = Vec::new(alloc);
-    let mut left = MOST_STEPS;
     loop {
-        match common(alloc, left, &sum)? {
+        match common(alloc, &sum)? {
             Some(literal) => {
                 let (others, rests) = parted(alloc, literal, &sum)?;
                 let others = Items::from_vec(others);
                 frames.push(Frame { literal, others })?;
                 sum = rests;
-                left -= 1;
             }
             None => match frames.pop() {
                 Some(frame) => sum = closed(alloc, nodes, frame, &sum)?,

@@ -1,8 +1,8 @@
 //! Products of signals.
-ghost use Rattle.std.specs.Prelude.{◌≡◌, map, IfOk};
+ghost use Rattle.std.specs.Prelude.{◌≡◌, map, count_by, IfOk};
 ghost use Rattle.std.specs.List.{list_any};
 ghost use Rattle.ncl_decomp.specs.Rows.{literals_of};
-ghost use Rattle.ncl_decomp.specs.Products.{same_signal, other_than, without, is_empty};
+ghost use Rattle.ncl_decomp.specs.Products.{same_signal, other_than, has, without, is_empty};
 
 use crate::literals::literals;
 use ncl_base::{Items, Memory};
@@ -51,6 +51,22 @@ fn other_than(literal: Signal, signal: Signal) -> Option<Signal>
     } else {
         Some(signal)
     }
+}
+
+/// Whether a product has a signal. Linear in it.
+fn has(literal: Signal, product: &[Signal]) -> bool
+    ensures { result ≡ has literal product.now }
+{
+    product.iter().any(|signal| is_same(*signal, literal))
+}
+
+/// How many products have a signal. Linear in their signals.
+pub(crate) fn having(literal: Signal, sum: &[Items<Signal>]) -> usize
+    ensures { result ≡ count_by (λ product. has literal product) sum.now }
+{
+    sum.iter()
+        .filter(|product| has(literal, product.items()))
+        .count()
 }
 
 /// A product without one of its signals. Linear in it.

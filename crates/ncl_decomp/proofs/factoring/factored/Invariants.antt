@@ -1,6 +1,6 @@
-use Rattle.std.proofs.Common.{◌+◌, ◌*◌, length}
 use Rattle.ncl_decomp.specs.Products.{whole}
 use Rattle.ncl_decomp.specs.Splitting.{AddsSum}
+use Rattle.ncl_decomp.proofs.Frames.{left_over}
 use Rattle.ncl_decomp.proofs.factoring.factored.Given as goal
 
 abbrev pub invariant-loop-frames : goal.invariant-loop-frames
@@ -8,4 +8,4 @@ invariant-loop-frames l =
     AddsSum l.fn.sum.items l.initial.nodes.items l.nodes.items (whole l.frames.items l.sum.items)
 
 abbrev pub decreases-loop-frames : goal.decreases-loop-frames
-decreases-loop-frames l = 2 * l.left + length l.frames.items
+decreases-loop-frames l = left_over l.sum.items l.frames.items

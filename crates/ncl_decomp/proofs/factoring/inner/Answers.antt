@@ -7,8 +7,8 @@ use Rattle.ncl_decomp.proofs.Frames.{AddsSum-inner, AddsSum-alone}
 use Rattle.ncl_decomp.proofs.factoring.inner.Goals as goal
 use Rattle.ncl_decomp.proofs.factoring.inner.Goals.{then-not-has_empty+in_ok-rest+in_ok-push-2, else-not-has_empty}
 
-pub returns : goal.returns
-returns c =
+pub returns-clause-adds : goal.returns-clause-adds
+returns-clause-adds c =
     let literal : Signal = c.args.literal in
     let one : c.push.new.self.items ≡ c.args.literal ∷ [] = c.in_ok-push.ensures.items ∙ ap (λ xs. xs ++ c.args.literal ∷ []) c.new-product.ensures.items in
     elim c.if-not-has_empty.branch [

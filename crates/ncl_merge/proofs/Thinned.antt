@@ -2,8 +2,8 @@
 use Rattle.std.proofs.Common.{◌≡◌, ◌<◌, ◌+◌, ℕ, zero, suc, Bool, true, false, List, [], ◌∷◌, length, map, Some, ◌⊎◌, inl, inr, refl, sym, ap, ◌∙◌, subst, arith}
 use Rattle.std.specs.Prelude.{Contains, slice_get, not, cond, ◌==◌, filter, sum_by, count_by}
 use Rattle.std.proofs.lemmas.Option.{slice_get_within}
+use Rattle.ncl_gates.proofs.PinLaws.{pins_of-gate, arity_of-some}
 use Rattle.ncl_gates.specs.declared.kind.Kind.{Kind}
-use Rattle.ncl_gates.specs.declared.kind.Kind.TheVariants.{Th12, Th22, Th13, Th23, Th33, Th23w2, Th33w2, Th14, Th24, Th34, Th44, Th24w2, Th34w2, Th44w2, Th34w3, Th44w3, Th24w22, Th34w22, Th44w22, Th54w22, Th34w32, Th54w32, Th44w322, Th54w322, ThXor0, ThAnd0, Th24comp}
 use Rattle.ncl_gates.specs.Gate.{arity_of}
 use Rattle.ncl_gates.specs.Cell.{pins_of, is_register, is_data_register}
 use Rattle.ncl_gates.proofs.RegisterLaws.{register_no_gate, data_is_register}
@@ -51,64 +51,6 @@ origin_forth to (AckOf bank) = AckOf (to bank)
 
 sort_ack : (k : Kind) (s : CellKind) → s ≡ Gate k → s ≡ Ack → ⊥
 sort_ack k s e f = cc
-
-pub pins_of_gate : (kind : Kind) → length (pins_of (Gate kind)) ≡ arity_of kind + 1
-pins_of_gate Th12 = refl
-pins_of_gate Th22 = refl
-pins_of_gate Th13 = refl
-pins_of_gate Th23 = refl
-pins_of_gate Th33 = refl
-pins_of_gate Th23w2 = refl
-pins_of_gate Th33w2 = refl
-pins_of_gate Th14 = refl
-pins_of_gate Th24 = refl
-pins_of_gate Th34 = refl
-pins_of_gate Th44 = refl
-pins_of_gate Th24w2 = refl
-pins_of_gate Th34w2 = refl
-pins_of_gate Th44w2 = refl
-pins_of_gate Th34w3 = refl
-pins_of_gate Th44w3 = refl
-pins_of_gate Th24w22 = refl
-pins_of_gate Th34w22 = refl
-pins_of_gate Th44w22 = refl
-pins_of_gate Th54w22 = refl
-pins_of_gate Th34w32 = refl
-pins_of_gate Th54w32 = refl
-pins_of_gate Th44w322 = refl
-pins_of_gate Th54w322 = refl
-pins_of_gate ThXor0 = refl
-pins_of_gate ThAnd0 = refl
-pins_of_gate Th24comp = refl
-
-some_arity : (kind : Kind) → 0 < arity_of kind
-some_arity Th12 = omega arith
-some_arity Th22 = omega arith
-some_arity Th13 = omega arith
-some_arity Th23 = omega arith
-some_arity Th33 = omega arith
-some_arity Th23w2 = omega arith
-some_arity Th33w2 = omega arith
-some_arity Th14 = omega arith
-some_arity Th24 = omega arith
-some_arity Th34 = omega arith
-some_arity Th44 = omega arith
-some_arity Th24w2 = omega arith
-some_arity Th34w2 = omega arith
-some_arity Th44w2 = omega arith
-some_arity Th34w3 = omega arith
-some_arity Th44w3 = omega arith
-some_arity Th24w22 = omega arith
-some_arity Th34w22 = omega arith
-some_arity Th44w22 = omega arith
-some_arity Th54w22 = omega arith
-some_arity Th34w32 = omega arith
-some_arity Th54w32 = omega arith
-some_arity Th44w322 = omega arith
-some_arity Th54w322 = omega arith
-some_arity ThXor0 = omega arith
-some_arity ThAnd0 = omega arith
-some_arity Th24comp = omega arith
 
 -- ---- sums over the cells that are no gates
 
@@ -306,7 +248,7 @@ module _ (n m : NetlistData) (is : IsThinned n m) (free : IsFree n) where
   some-pin : (d : Cell) → IsCell m d → IsGate d → (z : NetId) × Contains d.ins.items z
   some-pin d in_d is_gate =
       let fits = cell_fits m is.is_m d in_d in
-      let within : 0 < length d.ins.items = let pins = fits.pins in let kind-pins : length (pins_of d.kind) ≡ arity_of is_gate.0 + 1 = ap (λ k. length (pins_of k)) is_gate.1 ∙ pins_of_gate is_gate.0 in let few = some_arity is_gate.0 in omega (arith, pins, kind-pins, few) in
+      let within : 0 < length d.ins.items = let pins = fits.pins in let kind-pins : length (pins_of d.kind) ≡ arity_of is_gate.0 + 1 = ap (λ k. length (pins_of k)) is_gate.1 ∙ pins_of-gate is_gate.0 in let few = arity_of-some is_gate.0 in omega (arith, pins, kind-pins, few) in
       let (z, at) = slice_get-some d.ins.items 0 within in
       (z, Contains-from_slice_get d.ins.items 0 z at)
 

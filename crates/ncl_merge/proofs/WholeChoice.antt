@@ -33,7 +33,7 @@ use Rattle.ncl_merge.specs.Rebuilt.{IsChoice, IsWhole}
 use Rattle.ncl_merge.specs.Choice.{with_gate_of, choice_of}
 use Rattle.ncl_merge.proofs.Lists.{each}
 use Rattle.ncl_merge.proofs.Folds.{rank-folded}
-use Rattle.ncl_merge.proofs.Thinned.{pins_of_gate}
+use Rattle.ncl_gates.proofs.PinLaws.{pins_of-gate}
 use Rattle.ncl_merge.proofs.Rebuilt.{rail_or_not, same-choice}
 use Rattle.ncl_merge.proofs.Choices.{IsFoldedStageAt, stage-pin, folded-stage, folds, is-folded, old-comes, comes-from, out-known, pin-known, output-known, input-register, in-all, place-in, choice-found, choice-stands, choice-rail}
 
@@ -222,7 +222,7 @@ module _ (p : PipelineData) (shape : Shape p.netlist p) (lists : List (List Stag
         let (g, m, out, e) = choice-rail p shape lists fewer c d in_c rail is in
         let u = place-in p shape lists fewer g m in
         let arity = each (λ (c : StageCell). length c.ins.items ≡ arity_of c.kind) u.cells (is-folded p shape lists fewer u.place u.stage u.cells u.at).arities g u.among in
-        subst (λ (z : Cell). length z.ins.items + 1 ≡ length (pins_of z.kind)) (sym e) (ap (λ k. k + 1) arity ∙ sym (pins_of_gate g.kind));
+        subst (λ (z : Cell). length z.ins.items + 1 ≡ length (pins_of z.kind)) (sym e) (ap (λ k. k + 1) arity ∙ sym (pins_of-gate g.kind));
     driven = driven-kept;
     shown = λ b in_b output.
         elim (rail_or_not n shape.is_netlist shape.free choice is-choice b in_b) [

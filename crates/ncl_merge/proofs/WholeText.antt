@@ -34,7 +34,7 @@ use Rattle.ncl_merge.specs.Rebuilt.{kept, name_at}
 use Rattle.ncl_merge.specs.Choice.{with_gate_of, choice_of, folded_netlist, net_there}
 use Rattle.ncl_merge.specs.Merged.{cell_name}
 use Rattle.ncl_merge.proofs.Lists.{each}
-use Rattle.ncl_merge.proofs.Thinned.{pins_of_gate}
+use Rattle.ncl_gates.proofs.PinLaws.{pins_of-gate}
 use Rattle.ncl_merge.proofs.Rebuilt.{cells-moved, port-name, port-within}
 use Rattle.ncl_merge.proofs.Weights.{lines_no_longer}
 use Rattle.ncl_merge.proofs.WholeChoice.{is-choice}
@@ -110,7 +110,7 @@ line-is : (n : NetlistData) (g : StageCell) (c : Cell) → CellAt n g.cell.0 c �
     → length (cell_line n.nets (with_gate_of c g)) ≡ line_length (net_length n) (title_length n) g
 line-is n g c at out arity =
     let d : Cell = with_gate_of c g in
-    let pins : length (pins_of (Gate g.kind)) ≡ arity_of g.kind + 1 = pins_of_gate g.kind in
+    let pins : length (pins_of (Gate g.kind)) ≡ arity_of g.kind + 1 = pins_of-gate g.kind in
     let names : length (pin_names n.nets d) ≡ length g.ins.items + 1 = length-map (g.ins.items ++ c.out ∷ []) (λ (x : NetId). name_at n x.0) ∙ length-append g.ins.items (c.out ∷ []) in
     let texts : length (opened (pin_texts n.nets d)) ≡ sum_by (λ name. 5 + length (spelled_name name)) (pin_names n.nets d) =
     opened-length (pin_texts n.nets d) ∙ pins-length (pins_of (Gate g.kind)) (pin_names n.nets d) (one-letter g.kind) (omega (arith, pins, names, arity)) in

@@ -1,5 +1,5 @@
 //! Files of the system.
-ghost use Rattle.std.specs.Prelude.{◌≡◌, None, true};
+ghost use Rattle.std.specs.Prelude.{◌≡◌, None, true, is_some};
 
 use crate::tally::{Tally, read_from};
 use ncl_base::{Failed, Source};
@@ -41,6 +41,8 @@ impl<'a, R: Files> Source for FileSource<'a, R> {
     ghost given = { λ source. source.tally.given };
 
     ghost allowed = { λ source name. true };
+
+    ghost begun = { λ source. is_some source.file };
 
     fn begin(&mut self, name: &str) -> Result<(), Failed> {
         self.file = self.tally.after_open(File::open(self.rt, name));

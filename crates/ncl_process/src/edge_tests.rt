@@ -1,8 +1,8 @@
 //! Real files, printers that fail and arguments that are no text.
-use crate::answer;
 use crate::file_source::FileSource;
+use crate::process::answer;
 use crate::stdout_sink::StdoutSink;
-use ncl_base::{LoadFault, SinkFault, Source, deliver, load};
+use ncl_base::{LoadFault, NullSink, SinkFault, Source, SteadySource, deliver, load};
 use std::alloc::Global;
 use std::env::{Env, FillError};
 use std::fmt::Display;
@@ -98,18 +98,12 @@ fn what_can_not_be_read_is_told(rt: HostRuntime) {
 }
 
 #[test]
-fn nothing_is_read_where_no_file_is_begun(rt: HostRuntime) -> Result<(), Fail> {
+fn a_file_is_read_once_it_is_begun(rt: HostRuntime) -> Result<(), Fail> {
     fs::write(&rt, "file", "bytes")?;
     let mut buffer = [0u8; 9];
     let mut source = FileSource::new(&rt);
-    assert!(rt; source.read(&mut buffer).is_err(), "before a file is begun");
-    assert!(rt; source.begin("file").is_ok());
     assert!(rt; source.begin("absent").is_err());
-    assert!(rt;
-        source.read(&mut buffer).is_err(),
-        "after a file could not be begun"
-    );
-    assert!(rt; source.begin("file").is_ok());
+    source.begin("file")?;
     assert_eq!(rt; source.read(&mut buffer), Ok(5));
     assert_eq!(rt; source.read(&mut buffer), Ok(0));
     assert_eq!(rt; &buffer[..5], b"bytes".as_slice());
@@ -145,12 +139,15 @@ impl Env for NoText {
 #[test]
 fn arguments_that_are_no_text_are_of_no_form(rt: HostRuntime) {
     let given = (NoText, rt.alloc());
-    let answered = answer(&rt, env::args(&given));
+    let mut source = SteadySource::new(Vec::new(rt.alloc()));
+    let answered = answer(&rt, env::args(&given), &mut source, &mut NullSink::new());
     assert_eq!(rt; answered, Ok(2));
 }
 
 #[test]
 fn arguments_without_memory_have_status_7(rt: HostRuntime) {
-    let answered = answer(&rt, Err(io::Error::from(ErrorKind::OutOfMemory)));
+    let mut source = SteadySource::new(Vec::new(rt.alloc()));
+    let args = Err(io::Error::from(ErrorKind::OutOfMemory));
+    let answered = answer(&rt, args, &mut source, &mut NullSink::new());
     assert_eq!(rt; answered, Err(7));
 }

@@ -1,5 +1,5 @@
 use Rattle.std.proofs.Common.{◌≡◌, map, take, string_bytes}
-use Rattle.nclc.proofs.arguments.views.Given as goal
+use Rattle.ncl_process.proofs.arguments.views.Given as goal
 
 -- the views so far are those of the arguments so far
 abbrev pub invariant-loop-argument : goal.invariant-loop-argument

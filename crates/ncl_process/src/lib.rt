@@ -1,0 +1,15 @@
+//! The edges of the process: the arguments that it is called with, the system's files, standard output, and the status
+//! that it ends with.
+#![tactic(auto)]
+
+mod arguments;
+#[cfg(test)]
+mod edge_tests;
+mod file_source;
+mod process;
+mod stdout_sink;
+mod tally;
+
+pub use file_source::FileSource;
+pub use process::{answer, process};
+pub use stdout_sink::StdoutSink;

@@ -16,9 +16,9 @@ use Rattle.ncl_shape.specs.SamePipeline.{IsSamePipeline}
 use Rattle.ncl_shape.proofs.ShapeLaws.{shape_is_one}
 use Rattle.ncl_shape.proofs.FaultLaws.{shape_is_unbroken, first_broken_is_one}
 use Rattle.ncl_verdict.proofs.SameJudgement.{same_judgement}
-use Rattle.ncl_report.specs.NetText.{net_line}
-use Rattle.ncl_report.specs.ShapeText.{shape_line}
-use Rattle.ncl_report.specs.VerdictText.{verdict_line}
+use Rattle.ncl_lines.specs.NetText.{net_line}
+use Rattle.ncl_lines.specs.ShapeText.{shape_line}
+use Rattle.ncl_lines.specs.VerdictText.{verdict_line}
 use Rattle.ncl_check.specs.declared.reply.Outcome.{Outcome}
 use Rattle.ncl_check.specs.Text.{IsNetlistText, IsPipelineText, IsShapeless, IsRefusedText, too_long, unread, unbuilt, shapeless}
 use Rattle.ncl_check.specs.Reply.{outcome_of, verdict_on, verdict_text, IsVerdictText, IsCheckReply, refused, judged}

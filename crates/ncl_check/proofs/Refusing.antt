@@ -8,8 +8,8 @@ use Rattle.ncl_reader.specs.Reads.{IsNetFault}
 use Rattle.ncl_shape.specs.declared.fault.ShapeFault.{ShapeFault}
 use Rattle.ncl_shape.specs.declared.fault.ShapeFault.TheVariants.{CellRule, NoChain, TooWide, TooLong, Memory}
 use Rattle.ncl_shape.specs.Shape.{IsShapeFault}
-use Rattle.ncl_report.specs.NetText.{net_line}
-use Rattle.ncl_report.specs.ShapeText.{shape_line}
+use Rattle.ncl_lines.specs.NetText.{net_line}
+use Rattle.ncl_lines.specs.ShapeText.{shape_line}
 use Rattle.ncl_check.specs.Text.{IsShapeless, IsRefusedText, unread, unbuilt}
 use Rattle.ncl_check.specs.Refusals.{TellsLine}
 use Rattle.ncl_check.specs.declared.text.Refusal.{Refusal}

@@ -4,8 +4,8 @@ use Rattle.ncl_shape.specs.Pipeline.{PipelineData}
 use Rattle.ncl_verdict.specs.declared.verdict.Verdict.{Verdict}
 use Rattle.ncl_verdict.specs.declared.verdict.Verdict.TheVariants as verdict
 use Rattle.ncl_verdict.specs.Judgement.{judgement}
-use Rattle.ncl_report.specs.VerdictText.{verdict_line}
-use Rattle.ncl_report.specs.WhyText.{IsWhyText}
+use Rattle.ncl_lines.specs.VerdictText.{verdict_line}
+use Rattle.ncl_lines.specs.WhyText.{IsWhyText}
 use Rattle.ncl_check.specs.Text.{IsPipelineText, IsRefusedText}
 use Rattle.ncl_check.specs.declared.reply.Outcome.{Outcome}
 use Rattle.ncl_check.specs.declared.reply.Outcome.TheVariants.{Accepted, Refused, NoPipeline, Unjudged}

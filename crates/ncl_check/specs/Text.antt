@@ -13,9 +13,9 @@ use Rattle.ncl_reader.specs.Reads.{Reads, IsRefused}
 use Rattle.ncl_shape.specs.declared.fault.ShapeFault.{ShapeFault}
 use Rattle.ncl_shape.specs.Pipeline.{PipelineData}
 use Rattle.ncl_shape.specs.Shape.{Shape, Broken}
-use Rattle.ncl_report.specs.Line.{line}
-use Rattle.ncl_report.specs.NetText.{net_line}
-use Rattle.ncl_report.specs.ShapeText.{shape_line}
+use Rattle.ncl_lines.specs.Line.{line}
+use Rattle.ncl_lines.specs.NetText.{net_line}
+use Rattle.ncl_lines.specs.ShapeText.{shape_line}
 
 -- the bytes are the text of this netlist: they are few enough to be read, and say parts that make it
 pub record IsNetlistText (bytes : List ℕ) (n : NetlistData) : Type 0 where

@@ -9,7 +9,7 @@ ghost use Rattle.ncl_check.specs.declared.reply.Outcome.TheVariants.{Accepted, N
 use crate::reply::{Outcome, Reply};
 use crate::text::{Refusal, netlist_in, pipeline_in};
 use ncl_base::Memory;
-use ncl_report::{verdict_text, why_text};
+use ncl_lines::{verdict_text, why_text};
 use ncl_shape::Pipeline;
 use ncl_verdict::{Judge, judge_par};
 use std::alloc::Global;

@@ -2,15 +2,15 @@
 ghost use Rattle.std.specs.Prelude.{◌≡◌, ◌≢◌, ℕ, List, IfOk, IfErr, codes};
 ghost use Rattle.ncl_reader.specs.declared.net_fault.NetFault.TheVariants.{Memory as OutOfMemory};
 ghost use Rattle.ncl_shape.specs.Shape.{Shape, IsShapeFault};
-ghost use Rattle.ncl_report.specs.Line.{line};
-ghost use Rattle.ncl_report.specs.NetText.{net_line};
+ghost use Rattle.ncl_lines.specs.Line.{line};
+ghost use Rattle.ncl_lines.specs.NetText.{net_line};
 ghost use Rattle.ncl_check.specs.Text.{IsNetlistText, IsRefusedText, IsShapeless};
 ghost use Rattle.ncl_check.specs.Refusals.{TellsLine};
 
 use ncl_base::{MOST_BYTES, Memory};
 use ncl_netlist::Netlist;
 use ncl_reader::{NetFault, read_netlist};
-use ncl_report::{net_text, shape_text};
+use ncl_lines::{net_text, shape_text};
 use ncl_shape::{Pipeline, ShapeFault, shape};
 use std::alloc::Global;
 

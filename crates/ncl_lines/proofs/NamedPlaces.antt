@@ -16,8 +16,8 @@ use Rattle.ncl_verdict.specs.declared.verdict.Verdict.{Verdict}
 use Rattle.ncl_verdict.specs.declared.verdict.Verdict.TheVariants.{Accepted, BothRails, NoRail, Incomplete, Orphan, Limit}
 use Rattle.ncl_verdict.specs.Judgement.{judgement}
 use Rattle.ncl_verdict.proofs.NamedCell.{NamesBelow, names_of_pipeline}
-use Rattle.ncl_report.specs.ShapeText.{NamesPlaceOf}
-use Rattle.ncl_report.specs.VerdictText.{NamesCellOf}
+use Rattle.ncl_lines.specs.ShapeText.{NamesPlaceOf}
+use Rattle.ncl_lines.specs.VerdictText.{NamesCellOf}
 
 -- the verdict on a pipeline names no cell but those of its netlist
 pub names_cell_of : (n : NetlistData) (p : PipelineData) (limit : ℕ) → Shape n p → NamesCellOf n (judgement limit p.stages)

@@ -11,11 +11,11 @@ use Rattle.ncl_machine.specs.Held.{InRange}
 use Rattle.ncl_machine.specs.State.{State}
 use Rattle.ncl_machine.specs.Steps.{enabled, step}
 use Rattle.ncl_machine.specs.Run.{IsRunFrom}
-use Rattle.ncl_sim.proofs.Candidates.{and3, bit_within, excited_within}
+use Rattle.ncl_machine.proofs.EnabledItems.{and3, bit_within, excited_within}
 use Rattle.ncl_hazard.specs.declared.explaining.Explained.{Explained}
 use Rattle.ncl_hazard.specs.declared.explaining.Explained.TheVariants.{Shown, NoWord}
 use Rattle.ncl_hazard.specs.Explained.{IsExplained, TellsOfCell}
-use Rattle.ncl_report.specs.WhyText.{NamesItemsOf, step_line, step_lines}
+use Rattle.ncl_lines.specs.WhyText.{NamesItemsOf, step_line, step_lines}
 
 -- a line for one step more
 steps_more : (n : NetlistData) (number : ℕ) (items : List Item) (item : Item) → step_lines n number (items ++ item ∷ []) ≡ step_lines n number items ++ step_line n (number + length items) item

@@ -4,7 +4,7 @@ use Rattle.ncl_netlist.specs.declared.build_fault.BuildFault.{BuildFault}
 use Rattle.ncl_netlist.specs.declared.build_fault.BuildFault.TheVariants as build
 use Rattle.ncl_reader.specs.declared.net_fault.NetFault.{NetFault}
 use Rattle.ncl_reader.specs.declared.net_fault.NetFault.TheVariants.{Syntax, UnknownCell, BadPins, Unsupported, Build, Memory}
-use Rattle.ncl_report.specs.Line.{line, out_of_memory}
+use Rattle.ncl_lines.specs.Line.{line, out_of_memory}
 
 -- the line that tells why parts are no netlist, with the name of a cell or of a net
 abbrev pub build_line : BuildFault → List ℕ

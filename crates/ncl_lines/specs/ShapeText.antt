@@ -4,7 +4,7 @@ use Rattle.ncl_netlist.specs.Netlist.{NetlistData}
 use Rattle.ncl_cell_rules.specs.declared.fault.CellFault.TheVariants.{UnusedPort, Cycle, Unpaired, Mixed, Loose, Memory as CellMemory}
 use Rattle.ncl_shape.specs.declared.fault.ShapeFault.{ShapeFault}
 use Rattle.ncl_shape.specs.declared.fault.ShapeFault.TheVariants.{CellRule, NoChain, TooWide, TooLong, Memory}
-use Rattle.ncl_report.specs.Line.{line, out_of_memory, cell_name, net_name}
+use Rattle.ncl_lines.specs.Line.{line, out_of_memory, cell_name, net_name}
 
 -- the line that tells which rule of shape a netlist breaks, and where first
 abbrev pub shape_line : NetlistData → ShapeFault → List ℕ

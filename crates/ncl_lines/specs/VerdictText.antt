@@ -4,7 +4,7 @@ use Rattle.ncl_base.specs.Words.{text_of as word_text}
 use Rattle.ncl_netlist.specs.Netlist.{NetlistData}
 use Rattle.ncl_verdict.specs.declared.verdict.Verdict.{Verdict}
 use Rattle.ncl_verdict.specs.declared.verdict.Verdict.TheVariants.{Accepted, BothRails, NoRail, Incomplete, Orphan, Limit}
-use Rattle.ncl_report.specs.Line.{line, cell_name}
+use Rattle.ncl_lines.specs.Line.{line, cell_name}
 
 -- the line on a stage with a fault: the fault, the output, bit or cell where it is, and the word that shows it
 abbrev pub refusal : ℕ → List ℕ → List ℕ → List Bool → List ℕ

@@ -13,7 +13,7 @@ use Rattle.ncl_hazard.specs.declared.explaining.Explained.{Explained}
 use Rattle.ncl_hazard.specs.declared.explaining.Explained.TheVariants.{Shown, NoWord}
 use Rattle.ncl_hazard.specs.Trying.{HasNoDataBank}
 use Rattle.ncl_hazard.specs.Explained.{IsExplained, IsPastLimit}
-use Rattle.ncl_report.specs.Line.{line, cell_name}
+use Rattle.ncl_lines.specs.Line.{line, cell_name}
 
 -- what happens in a step: a cell fires, the source raises or lowers a bit, which counts from 1, or the sink takes a word or
 -- gets ready for the next

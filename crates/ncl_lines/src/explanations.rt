@@ -2,11 +2,10 @@
 ghost use Rattle.std.specs.Prelude.{◌≡◌, ◌≤◌, ◌<◌, ◌++◌, All, IfOk, OnOk, codes, decimal, length};
 ghost use Rattle.ncl_verdict.specs.Judgement.{judgement};
 ghost use Rattle.ncl_machine.specs.Held.{InRange};
-ghost use Rattle.ncl_report.specs.Line.{line};
-ghost use Rattle.ncl_report.specs.WhyText.{IsWhyText, NamesItemsOf, explained_lines, item_words, shown_lines, step_line, step_lines};
+ghost use Rattle.ncl_lines.specs.Line.{line};
+ghost use Rattle.ncl_lines.specs.WhyText.{IsWhyText, NamesItemsOf, explained_lines, item_words, shown_lines, step_line, step_lines};
 
-use crate::line::{line_of, push_word};
-use crate::traces::push_number;
+use crate::line::{line_of, push_number, push_word};
 use itoa::Buffer;
 use ncl_base::{Memory, Word};
 use ncl_hazard::{Explained, explain};

@@ -5,8 +5,8 @@ ghost use Rattle.ncl_shape.specs.declared.fault.ShapeFault.{ShapeFault};
 ghost use Rattle.ncl_shape.specs.Pipeline.{PipelineData};
 ghost use Rattle.ncl_shape.specs.Shape.{Shape, IsShapeFault};
 ghost use Rattle.ncl_verdict.specs.Judgement.{judgement};
-ghost use Rattle.ncl_report.specs.ShapeText.{NamesPlaceOf};
-ghost use Rattle.ncl_report.specs.VerdictText.{NamesCellOf};
+ghost use Rattle.ncl_lines.specs.ShapeText.{NamesPlaceOf};
+ghost use Rattle.ncl_lines.specs.VerdictText.{NamesCellOf};
 
 /// The verdict on a pipeline names no cell but those of its netlist.
 pub fn verdict_names()

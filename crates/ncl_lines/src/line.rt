@@ -1,7 +1,7 @@
 //! Lines of a few pieces, and words in them.
 ghost use Rattle.std.specs.Prelude.{◌≡◌, ◌++◌, IfOk, OnOk, codes, decimal};
 ghost use Rattle.ncl_base.specs.Words.{character_of, text_of as word_text};
-ghost use Rattle.ncl_report.specs.Line.{line};
+ghost use Rattle.ncl_lines.specs.Line.{line};
 
 use itoa::Buffer;
 use ncl_base::{Memory, Word};
@@ -39,6 +39,15 @@ pub fn limit_text(alloc: Global, front: &[u8], number: u32, limit: u32) -> Resul
     text.extend_from_slice(b" nodes")?;
     text.extend_from_slice(b"\n")?;
     Ok(text)
+}
+
+/// Appends a number in decimal digits.
+pub fn push_number(text: &mut Vec<u8>, number: u64) -> Result<(), Memory>
+    ensures { OnOk result (text.new.items ≡ text.old.items ++ decimal number) }
+{
+    let mut digits = Buffer::new();
+    text.extend_from_slice(digits.format(number).as_bytes())?;
+    Ok(())
 }
 
 /// Appends a word, its first bit leftmost. Linear in its bits.

@@ -1,6 +1,6 @@
 //! The line that tells why a text is no netlist.
 ghost use Rattle.std.specs.Prelude.{◌≡◌, IfOk};
-ghost use Rattle.ncl_report.specs.NetText.{build_line, net_line};
+ghost use Rattle.ncl_lines.specs.NetText.{build_line, net_line};
 
 use crate::line::{line_of, numbered_line};
 use ncl_base::Memory;

@@ -1,8 +1,8 @@
 //! The line that tells why a netlist has no shape.
 ghost use Rattle.std.specs.Prelude.{◌≡◌, ◌<◌, ◌++◌, IfOk, length};
 ghost use Rattle.ncl_shape.specs.declared.fault.ShapeFault.TheVariants.{CellRule};
-ghost use Rattle.ncl_report.specs.Line.{cell_name, line};
-ghost use Rattle.ncl_report.specs.ShapeText.{NamesPlaceOf, shape_line};
+ghost use Rattle.ncl_lines.specs.Line.{cell_name, line};
+ghost use Rattle.ncl_lines.specs.ShapeText.{NamesPlaceOf, shape_line};
 
 use crate::line::{line_of, numbered_line};
 use ncl_base::Memory;

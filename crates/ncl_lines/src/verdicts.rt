@@ -1,8 +1,8 @@
 //! The line that tells a verdict on a pipeline.
 ghost use Rattle.std.specs.Prelude.{◌≡◌, ◌+◌, ◌<◌, ◌^◌, ◌++◌, IfOk, OnOk, codes, decimal, length};
 ghost use Rattle.ncl_base.specs.Words.{text_of as word_text};
-ghost use Rattle.ncl_report.specs.Line.{line};
-ghost use Rattle.ncl_report.specs.VerdictText.{verdict_line, refusal, NamesCellOf};
+ghost use Rattle.ncl_lines.specs.Line.{line};
+ghost use Rattle.ncl_lines.specs.VerdictText.{verdict_line, refusal, NamesCellOf};
 
 use crate::line::{limit_text, push_word};
 use itoa::Buffer;

@@ -23,3 +23,4 @@ pub mod ProgramEnds
 pub mod ProgramSteps
 pub mod ResetDrivers
 pub mod SourceStart
+pub mod EnabledItems

@@ -1,4 +1,2 @@
-pub mod NamedPlaces
-mod WrittenSteps
 mod Zipping
 pub mod NamedItems

@@ -2,7 +2,7 @@
 use Rattle.std.specs.Prelude.{ℕ, List, ◌++◌, codes, decimal}
 use Rattle.ncl_blif.specs.declared.fault.BlifFault.{BlifFault}
 use Rattle.ncl_blif.specs.declared.fault.BlifFault.TheVariants.{Syntax, Unsupported, BadRow, MixedCover, TwoDrivers, Undriven, Cycle, NoBits, Width, Memory}
-use Rattle.ncl_report.specs.Line.{line, out_of_memory}
+use Rattle.ncl_lines.specs.Line.{line, out_of_memory}
 
 -- the line that tells why a text of BLIF is not read, with the number of the line or the model that breaks it
 abbrev pub blif_line : BlifFault → List ℕ

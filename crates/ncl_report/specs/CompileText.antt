@@ -2,7 +2,7 @@
 use Rattle.std.specs.Prelude.{ℕ, List, ◌++◌, codes, decimal}
 use Rattle.ncl_compile.specs.declared.fault.CompileFault.{CompileFault}
 use Rattle.ncl_compile.specs.declared.fault.CompileFault.TheVariants.{TooWide, TooLong, TooMany, Memory}
-use Rattle.ncl_report.specs.Line.{line, out_of_memory}
+use Rattle.ncl_lines.specs.Line.{line, out_of_memory}
 
 -- the line that tells which limit models pass, with the number of the first model that is too wide
 abbrev pub compile_line : CompileFault → List ℕ

@@ -4,7 +4,7 @@ use Rattle.ncl_delay.specs.declared.fault.DelayFault.{DelayFault}
 use Rattle.ncl_delay.specs.declared.fault.DelayFault.TheVariants as delay
 use Rattle.ncl_delay.specs.declared.fault.WordsFault.{WordsFault}
 use Rattle.ncl_delay.specs.declared.fault.WordsFault.TheVariants as words
-use Rattle.ncl_report.specs.Line.{line, out_of_memory}
+use Rattle.ncl_lines.specs.Line.{line, out_of_memory}
 
 -- the line that tells why a file of delays is not read, with the number of the line that breaks it
 abbrev pub delay_line : DelayFault → List ℕ

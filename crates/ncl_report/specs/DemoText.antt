@@ -5,7 +5,7 @@ use Rattle.ncl_base.specs.Words.{text_of as word_text}
 use Rattle.ncl_shape.specs.Pipeline.{PipelineData}
 use Rattle.ncl_sim.specs.declared.trace.Taken.{Taken}
 use Rattle.ncl_sim.specs.TimedRun.{TraceData}
-use Rattle.ncl_report.specs.Line.{line}
+use Rattle.ncl_lines.specs.Line.{line}
 use Rattle.ncl_report.specs.TraceText.{end_line, marks}
 
 -- the line of a word that was offered, and of what was delivered for it

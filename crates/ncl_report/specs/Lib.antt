@@ -1,8 +1,3 @@
-pub mod Line
-pub mod VerdictText
-pub mod WhyText
-pub mod ShapeText
-pub mod NetText
 pub mod BlifText
 pub mod CompileText
 pub mod DelayText

@@ -10,7 +10,7 @@ use Rattle.ncl_sim.specs.declared.trace.Taken.{Taken}
 use Rattle.ncl_sim.specs.declared.trace.End.{End}
 use Rattle.ncl_sim.specs.declared.trace.End.TheVariants.{Quiet, Hazard, Over}
 use Rattle.ncl_sim.specs.TimedRun.{TraceData, last_time}
-use Rattle.ncl_report.specs.Line.{line, cell_name}
+use Rattle.ncl_lines.specs.Line.{line, cell_name}
 
 -- a bit by its rails: `1` where rail 1 alone is high, `0` where rail 0 alone is, `X` where both are, and `-` where none is
 abbrev pub mark_of : Bool → Bool → ℕ

@@ -1,11 +1,11 @@
 //! The line that tells why a text is no list of models.
 ghost use Rattle.std.specs.Prelude.{◌≡◌, ◌++◌, IfOk, MatchOption, decimal};
-ghost use Rattle.ncl_report.specs.Line.{line, out_of_memory};
+ghost use Rattle.ncl_lines.specs.Line.{line, out_of_memory};
 ghost use Rattle.ncl_report.specs.BlifText.{blif_line};
 
-use crate::line::{line_of, numbered_line};
 use ncl_base::Memory;
 use ncl_blif::BlifFault;
+use ncl_lines::{line_of, numbered_line};
 use std::alloc::Global;
 
 /// What stands before the number in the line that tells a fault, and the number; none for want of memory.

@@ -2,9 +2,9 @@
 ghost use Rattle.std.specs.Prelude.{◌≡◌, IfOk};
 ghost use Rattle.ncl_report.specs.CompileText.{compile_line};
 
-use crate::line::{line_of, numbered_line};
 use ncl_base::Memory;
 use ncl_compile::CompileFault;
+use ncl_lines::{line_of, numbered_line};
 use std::alloc::Global;
 
 /// The line that tells which limit models pass, with the number of the first model that is too wide. Fails where

@@ -2,9 +2,9 @@
 ghost use Rattle.std.specs.Prelude.{◌≡◌, IfOk};
 ghost use Rattle.ncl_report.specs.DelayText.{delay_line, words_line};
 
-use crate::line::{line_of, numbered_line};
 use ncl_base::Memory;
 use ncl_delay::{DelayFault, WordsFault};
+use ncl_lines::{line_of, numbered_line};
 use std::alloc::Global;
 
 /// The line that tells why a file of delays is not read: what breaks it, with the number of the line. Fails where memory

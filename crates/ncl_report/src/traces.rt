@@ -4,9 +4,9 @@ ghost use Rattle.ncl_machine.specs.Held.{InRange};
 ghost use Rattle.ncl_sim.specs.TimedRun.{last_time};
 ghost use Rattle.ncl_report.specs.TraceText.{NamesItemOf, counts, end_line, end_words, mark_of, marks, quiet_word, taken_line, taken_lines, trace_lines, who};
 
-use itoa::Buffer;
 use ncl_base::Memory;
 use ncl_delay::Fired;
+use ncl_lines::push_number;
 use ncl_machine::{Item, Pair};
 use ncl_netlist::Netlist;
 use ncl_shape::Pipeline;
@@ -76,15 +76,6 @@ fn push_taken(text: &mut Vec<u8>, number: u64, taken: &Taken) -> Result<(), Memo
     text.extend_from_slice(b": ")?;
     push_marks(text, &taken.pair)?;
     text.extend_from_slice(b"\n")?;
-    Ok(())
-}
-
-/// Appends a number in decimal digits.
-pub(crate) fn push_number(text: &mut Vec<u8>, number: u64) -> Result<(), Memory>
-    ensures { OnOk result (text.new.items ≡ text.old.items ++ decimal number) }
-{
-    let mut digits = Buffer::new();
-    text.extend_from_slice(digits.format(number).as_bytes())?;
     Ok(())
 }
 

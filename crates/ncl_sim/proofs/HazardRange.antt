@@ -11,7 +11,7 @@ use Rattle.ncl_delay.specs.Delays.{DelaysData}
 use Rattle.ncl_sim.specs.TimedRun.{Ends, IsTimedRun, TraceData, lost, over, quiet, state_after}
 use Rattle.ncl_sim.specs.declared.trace.End.{End}
 use Rattle.ncl_sim.specs.declared.trace.End.TheVariants.{Hazard}
-use Rattle.ncl_sim.proofs.Candidates.{and3, bit_within, excited_within}
+use Rattle.ncl_machine.proofs.EnabledItems.{and3, bit_within, excited_within}
 
 pub in_range : (p : PipelineData) (s : State) (item : Item) → enabled p s item ≡ true → InRange p item
 in_range p s (Fire cell) on = excited_within s.value p.netlist.cells cell.0 on

@@ -18,7 +18,8 @@ use Rattle.ncl_sim.specs.Numbers.{item_number}
 use Rattle.ncl_sim.specs.Touch.{AreApart, AreDrivenOnce, AreEnds, Avoids, IsApart, IsUntouched}
 use Rattle.ncl_machine.specs.OneChange.{net_of_step, out_at}
 use Rattle.ncl_sim.specs.Candidates.{bit_candidate, candidate, sink_candidate}
-use Rattle.ncl_sim.proofs.Candidates.{and2, and3, bit_number, bit_within, candidate_at_sink, cell_candidate, excited_within}
+use Rattle.ncl_machine.proofs.EnabledItems.{and3, bit_within, excited_within}
+use Rattle.ncl_sim.proofs.Candidates.{and2, bit_number, candidate_at_sink, cell_candidate}
 use Rattle.ncl_sim.proofs.Untouched.{with_net-other, with_net-same, rests, untouched}
 
 -- ---- the rails of the current word

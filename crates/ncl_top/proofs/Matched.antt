@@ -14,7 +14,7 @@ use Rattle.ncl_match.specs.declared.answer.Compared.TheVariants.{Same, Differ, W
 use Rattle.ncl_match.specs.declared.answer.CompareFault.{CompareFault}
 use Rattle.ncl_match.specs.declared.answer.CompareFault.TheVariants.{Full, Memory}
 use Rattle.ncl_match.proofs.AnswerLaws.{one_whole}
-use Rattle.ncl_report.specs.Line.{line, out_of_memory}
+use Rattle.ncl_lines.specs.Line.{line, out_of_memory}
 use Rattle.ncl_check.specs.Text.{IsPipelineText, IsRefusedText}
 use Rattle.ncl_check.proofs.OneReply.{one_pipeline, refused_once, refused_is_none}
 use Rattle.ncl_top.specs.Compiling.{AreModelsText, AreRefusedModels}

@@ -9,7 +9,7 @@ use Rattle.ncl_netlist.specs.Netlist.{NetlistData}
 use Rattle.ncl_writer.specs.Text.{text_of}
 use Rattle.ncl_compile.specs.declared.fault.CompileFault.{CompileFault}
 use Rattle.ncl_compile.specs.declared.fault.CompileFault.TheVariants.{Memory}
-use Rattle.ncl_report.specs.Line.{line}
+use Rattle.ncl_lines.specs.Line.{line}
 use Rattle.ncl_report.specs.BlifText.{blif_line}
 use Rattle.ncl_report.specs.CompileText.{compile_line}
 use Rattle.ncl_compile.specs.Size.{IsCompileFault, CanBeCompiled}

@@ -9,7 +9,7 @@ use Rattle.ncl_match.specs.Circuit.{Circuit, circuit_of}
 use Rattle.ncl_match.specs.Answer.{IsAnswer, outputs_of}
 use Rattle.ncl_match.specs.declared.answer.Compared.TheVariants.{Same, Differ, Widths}
 use Rattle.ncl_match.specs.declared.answer.CompareFault.TheVariants.{Full}
-use Rattle.ncl_report.specs.Line.{line}
+use Rattle.ncl_lines.specs.Line.{line}
 use Rattle.ncl_check.specs.Text.{IsPipelineText, IsRefusedText}
 use Rattle.ncl_top.specs.Given.{IsGiven}
 use Rattle.ncl_top.specs.Compiling.{AreModelsText, AreRefusedModels}

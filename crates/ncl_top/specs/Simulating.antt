@@ -14,7 +14,7 @@ use Rattle.ncl_delay.specs.WordText.{words_fault}
 use Rattle.ncl_sim.specs.declared.trace.End.{End}
 use Rattle.ncl_sim.specs.declared.trace.End.TheVariants.{Quiet, Hazard, Over}
 use Rattle.ncl_sim.specs.TimedRun.{TraceData, IsTimedRun, words_due}
-use Rattle.ncl_report.specs.Line.{line}
+use Rattle.ncl_lines.specs.Line.{line}
 use Rattle.ncl_report.specs.DelayText.{delay_line, words_line}
 use Rattle.ncl_report.specs.TraceText.{trace_lines}
 use Rattle.ncl_vcd.specs.RunDump.{dump_of}

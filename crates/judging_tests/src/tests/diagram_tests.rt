@@ -122,7 +122,10 @@ fn repeated<P: Space>(space: &mut P, times: usize) -> Result<(), SpaceFault>
 fn operations_are_repeated_without_a_step(rt: HostRuntime) -> Result<(), Fail> {
     // Each of these goes through thousands of nodes where its answer isn't kept, and would take minutes.
     let mut diagram = Diagram::new(rt.alloc(), 128, 1_000_000);
+    repeated(&mut diagram, 1)?;
+    let nodes = diagram.nodes();
     repeated(&mut diagram, 1_500_000)?;
+    assert_eq!(rt; diagram.nodes(), nodes, "nothing new is made");
     Ok(())
 }
 

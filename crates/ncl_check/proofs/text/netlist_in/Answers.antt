@@ -1,8 +1,8 @@
 use Rattle.std.proofs.Common.{◌≡◌, ◌≢◌, sym, subst, arith}
 use Rattle.std.specs.Prelude.{codes}
 use Rattle.ncl_reader.specs.declared.net_fault.NetFault.TheVariants.{Memory as OutOfMemory}
-use Rattle.ncl_report.specs.Line.{line}
-use Rattle.ncl_report.specs.NetText.{net_line}
+use Rattle.ncl_lines.specs.Line.{line}
+use Rattle.ncl_lines.specs.NetText.{net_line}
 use Rattle.ncl_check.specs.Text.{IsRefusedText, too_long}
 use Rattle.ncl_check.proofs.Refusing.{TellsLine-weaker, fault_told}
 use Rattle.ncl_check.proofs.text.netlist_in.Goals as goal

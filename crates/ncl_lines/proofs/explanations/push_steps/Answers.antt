@@ -1,9 +1,9 @@
 use Rattle.std.proofs.Common.{◌++◌, ◌+◌, take, get_or, sym, ap, ◌∙◌, append_assoc}
 use Rattle.ncl_shape.specs.declared.item.Item.{Item}
 use Rattle.ncl_shape.specs.declared.item.Item.TheVariants.{Cell as Fire}
-use Rattle.ncl_report.specs.WhyText.{step_line, step_lines}
-use Rattle.ncl_report.proofs.WrittenSteps.{steps_at}
-use Rattle.ncl_report.proofs.explanations.push_steps.Goals as goal
+use Rattle.ncl_lines.specs.WhyText.{step_line, step_lines}
+use Rattle.ncl_lines.proofs.WrittenSteps.{steps_at}
+use Rattle.ncl_lines.proofs.explanations.push_steps.Goals as goal
 
 pub loop-place-preserved : goal.loop-place-preserved
 loop-place-preserved c =

@@ -1,6 +1,6 @@
 use Rattle.std.proofs.Common.{◌≡◌, ◌++◌, take}
-use Rattle.ncl_report.specs.WhyText.{step_lines}
-use Rattle.ncl_report.proofs.explanations.push_steps.Given as goal
+use Rattle.ncl_lines.specs.WhyText.{step_lines}
+use Rattle.ncl_lines.proofs.explanations.push_steps.Given as goal
 
 -- the lines of the steps so far
 abbrev pub invariant-loop-place : goal.invariant-loop-place

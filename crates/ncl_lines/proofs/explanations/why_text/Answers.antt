@@ -3,11 +3,11 @@ use Rattle.std.specs.Prelude.{IfOk}
 use Rattle.std.proofs.lemmas.Result.{IfOk-weaker}
 use Rattle.ncl_verdict.specs.declared.verdict.Verdict.{Verdict}
 use Rattle.ncl_hazard.proofs.OrphanPlaces.{judged-orphan}
-use Rattle.ncl_report.specs.VerdictText.{NamesCellOf}
-use Rattle.ncl_report.specs.WhyText.{IsOrphanText, IsWhyText, data_banks, explained, past_limit}
-use Rattle.ncl_report.proofs.NamedPlaces.{names_cell_of}
-use Rattle.ncl_report.proofs.WrittenSteps.{names_items}
-use Rattle.ncl_report.proofs.explanations.why_text.Goals as goal
+use Rattle.ncl_lines.specs.VerdictText.{NamesCellOf}
+use Rattle.ncl_lines.specs.WhyText.{IsOrphanText, IsWhyText, data_banks, explained, past_limit}
+use Rattle.ncl_lines.proofs.NamedPlaces.{names_cell_of}
+use Rattle.ncl_lines.proofs.WrittenSteps.{names_items}
+use Rattle.ncl_lines.proofs.explanations.why_text.Goals as goal
 
 pub explain-requires-clause-stage : goal.explain-requires-clause-stage
 explain-requires-clause-stage c = (judged-orphan c.args.pipeline.now c.facts.ensures c.args.limit c.in-Orphan.stage c.in-Orphan.cell c.in-Orphan.word (sym c.requires.verdict ∙ c.in-Orphan.is)).0

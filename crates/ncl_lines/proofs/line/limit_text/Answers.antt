@@ -1,5 +1,5 @@
 use Rattle.std.proofs.Common.{◌≡◌, List, ℕ, ◌++◌, refl, ◌∙◌}
-use Rattle.ncl_report.proofs.line.limit_text.Goals as goal
+use Rattle.ncl_lines.proofs.line.limit_text.Goals as goal
 
 -- a text to which a part was appended
 appended : (text front part front' part' : List ℕ) → text ≡ front ++ part → front ≡ front' → part ≡ part' → text ≡ front' ++ part'

@@ -1,0 +1,15 @@
+//! The lines that tell what `check` found of a netlist: its verdict, why there is none, and why a cell is an orphan.
+#![tactic(auto)]
+
+mod explanations;
+pub mod laws;
+mod line;
+mod net_faults;
+mod shape_faults;
+mod verdicts;
+
+pub use explanations::why_text;
+pub use line::{limit_text, line_of, numbered_line, push_number, push_word};
+pub use net_faults::net_text;
+pub use shape_faults::shape_text;
+pub use verdicts::verdict_text;

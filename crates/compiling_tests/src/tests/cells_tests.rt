@@ -7,7 +7,8 @@ use ncl_base::{MOST_BYTES, Memory};
 use ncl_blif::{Model, read_blif};
 use ncl_cells::improve;
 use ncl_decomp::split;
-use ncl_network::{Network, reduce};
+use ncl_network::{Network, SignalSource, reduce};
+use std::alloc::Global;
 use std::process::Abort;
 use std::test::Fail;
 
@@ -52,6 +53,59 @@ fn counts(network: &Network) -> [usize; 3] {
         }
     }
     counts
+}
+
+/// How many nodes stand one behind the other at most.
+fn depth(alloc: Global, network: &Network) -> Result<usize, Memory> {
+    let mut depths: Vec<usize> = Vec::new(alloc);
+    for node in network.nodes.items() {
+        let before = node
+            .ins
+            .items()
+            .iter()
+            .filter_map(|signal| match signal.from {
+                SignalSource::Node(k) => depths.get(k as usize).copied(),
+                _ => None,
+            })
+            .max();
+        depths.push(before.unwrap_or(0).saturating_add(1))?;
+    }
+    Ok(depths.iter().copied().max().unwrap_or(0))
+}
+
+#[test]
+fn nodes_stand_side_by_side(rt: HostRuntime) -> Result<(), Fail> {
+    let cases = [
+        // a conjunction and an exclusive sum of four, each from chains
+        (
+            ".inputs a b c d\n.outputs y\n.names a b p\n11 1\n.names p c q\n11 1\n.names q d y\n11 1\n",
+            2usize,
+        ),
+        (
+            ".inputs a b c d\n.outputs y\n.names a b p\n10 1\n01 1\n.names p c q\n10 1\n01 1\n.names q d y\n10 1\n01 1\n",
+            2,
+        ),
+    ];
+    for (text, wanted) in cases {
+        let network = improved(&rt, text)?;
+        let found = depth(rt.alloc(), &network)?;
+        assert!(rt; found == wanted, "{text}: {found}");
+    }
+    Ok(())
+}
+
+#[test]
+fn equal_nodes_are_one(rt: HostRuntime) -> Result<(), Fail> {
+    // ten copies of a product, each with another input
+    let text = ".inputs a b c d e f g h i j k l\n.outputs r0 r1 r2 r3 r4 r5 r6 r7 r8 r9\n\
+.names a b p0\n11 1\n.names p0 c r0\n11 1\n.names a b p1\n11 1\n.names p1 d r1\n11 1\n\
+.names b a p2\n11 1\n.names p2 e r2\n11 1\n.names a b p3\n11 1\n.names p3 f r3\n11 1\n\
+.names a b p4\n11 1\n.names p4 g r4\n11 1\n.names b a p5\n11 1\n.names p5 h r5\n11 1\n\
+.names a b p6\n11 1\n.names p6 i r6\n11 1\n.names a b p7\n11 1\n.names p7 j r7\n11 1\n\
+.names b a p8\n11 1\n.names p8 k r8\n11 1\n.names a b p9\n11 1\n.names p9 l r9\n11 1\n";
+    let network = improved(&rt, text)?;
+    assert_eq!(rt; counts(&network), [11, 0, 0]);
+    Ok(())
 }
 
 #[test]

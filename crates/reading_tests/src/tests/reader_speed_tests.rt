@@ -102,3 +102,15 @@ fn many_ports(rt: HostRuntime) -> Result<(), Fail> {
     );
     Ok(())
 }
+
+/// Many connections, and behind them as many vectors, each of which is compared with the names before it.
+#[test]
+fn many_connections_before_many_vectors(rt: HostRuntime) -> Result<(), Fail> {
+    let alloc = rt.alloc();
+    let cells = numbered(alloc, "TH12 g(.A(a),.B(n", "),.Z(a));", 100_000)?;
+    let vectors = numbered(alloc, "wire [1:0] v", ";", 100_000)?;
+    let text = format!(in alloc; "module m(a);input a;{cells}{vectors}endmodule")?;
+    // all cells have one name
+    assert!(rt; matches!(&read(&rt, alloc, text.as_str()), Err(NetFault::Build(_))));
+    Ok(())
+}

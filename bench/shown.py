@@ -5,9 +5,10 @@
 
 PROGRAM is the built nclc. Without pages, README and those of docs/ are taken. The commands of a page, the lines that begin
 with `$ ` in its blocks, run one after another in a folder of their own, in which the files of examples/ lie, and lie under
-examples/ too. One whose program isn't on the path is passed over, and gtkwave always. With --write, what a command
+examples/ too; tools/ is at the end of the path. One whose program isn't on the path is passed over, and gtkwave always. With --write, what a command
 prints is put below it. Prints each command that differs; the status is 1 where one does.
 """
+import os
 import pathlib
 import re
 import shutil
@@ -38,7 +39,8 @@ def blocks(text):
 def ran(command, folder, program):
     """What a command prints."""
     command = re.sub(r"crates/nclc/out/nclc|\bnclc\b(?= (check|compile|sim|match|demo))", program, command)
-    done = subprocess.run(["bash", "-c", command], cwd=folder, capture_output=True, text=True, timeout=300)
+    with_tools = dict(os.environ, PATH=f"{os.environ['PATH']}:{TOP / 'tools'}")
+    done = subprocess.run(["bash", "-c", command], cwd=folder, env=with_tools, capture_output=True, text=True, timeout=300)
     return done.stdout.split("\n")[:-1]
 
 

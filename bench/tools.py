@@ -1,0 +1,105 @@
+#!/usr/bin/env python3
+"""Tries each script of tools/ on stored inputs, and compares what it writes, its status and its refusals.
+
+    bench/tools.py PROGRAM [NAME ..]
+
+PROGRAM is the built nclc. Without names all tests are run; each is a function `NAME_..` below, of the script NAME. Where a
+test asks for another program, as yosys or iverilog, that isn't on the path, it is passed over with a line. Prints a line for
+each test; the status is 1 where one fails.
+"""
+import pathlib
+import re
+import shutil
+import subprocess
+import sys
+import tempfile
+
+TOP = pathlib.Path(__file__).resolve().parent.parent
+TOOLS, EXAMPLES = TOP / "tools", TOP / "crates/examples/data"
+PROGRAM = None
+
+
+def ran(words, given=None, status=0, folder=None):
+    """What a command prints; it has to end with the status."""
+    done = subprocess.run([str(word) for word in words], input=given, capture_output=True, text=True, timeout=300, cwd=folder)
+    assert done.returncode == status, f"{words}: status {done.returncode}: {done.stdout[-300:]}{done.stderr[-300:]}"
+    return done.stdout if status == 0 or done.stdout else done.stderr
+
+
+def tool(name, *words, given=None, status=0, folder=None):
+    """What a script prints."""
+    return ran([TOOLS / name, *words], given, status, folder)
+
+
+def nclc(*words, status=0, folder=None):
+    """What the program prints."""
+    return ran([PROGRAM, *words], status=status, folder=folder)
+
+
+def same(found, wanted):
+    assert found == wanted, f"found {found!r}, wanted {wanted!r}"
+
+
+def refuses(name, *words, status=1):
+    """The one line by which a script refuses something."""
+    done = subprocess.run([TOOLS / name, *map(str, words)], capture_output=True, text=True, timeout=300)
+    assert (done.returncode, done.stdout) == (status, "") and done.stderr.count("\n") == 1, (words, done)
+    return done.stderr
+
+
+def needing(*programs):
+    """Says which programs a test asks for."""
+    def mark(test):
+        test.needs = programs
+        return test
+    return mark
+
+
+def interleave_puts_bits_in_turn(folder):
+    text = ".model m\n.inputs a[0] a[1] cin \\\nb[0] b[1]\n.outputs z\n.names a[0] z\n1 1\n.end\n.model n\n.inputs z\n"
+    (folder / "m.blif").write_text(text)
+    wanted = text.replace(" a[0] a[1] cin \\\nb[0] b[1]", " cin a[0] b[0] a[1] b[1]")
+    same(tool("interleave", folder / "m.blif"), wanted)
+    same(tool("interleave", "--first", "b", folder / "m.blif").split("\n")[1], ".inputs b[0] b[1] cin a[0] a[1]")
+    same(refuses("interleave", "--first", "c", folder / "m.blif"), "interleave: no input c\n")
+    refuses("interleave", folder / "absent")
+    refuses("interleave", status=2)
+
+
+def interleave_keeps_a_netlist_comparable(folder):
+    text = tool("interleave", EXAMPLES / "add8.blif")
+    (folder / "new.blif").write_text(text)
+    (folder / "new.v").write_text(nclc("compile", folder / "new.blif"))
+    same(nclc("match", folder / "new.v", folder / "new.blif", "--limit", "2000"), "same\n")
+
+
+def tests():
+    """The tests by name."""
+    mine = {name: test for name, test in globals().items() if callable(test)}
+    scripts = sorted((path.name.split(".")[0] for path in TOOLS.iterdir()), key=len, reverse=True)
+    return {name: test for name, test in mine.items() if any(name.startswith(f"{script}_") for script in scripts)}
+
+
+def main():
+    global PROGRAM
+    PROGRAM = str(pathlib.Path(sys.argv[1]).resolve())
+    failed = 0
+    for name, test in tests().items():
+        if sys.argv[2:] and not name.startswith(tuple(sys.argv[2:])):
+            continue
+        needs = [word for word in getattr(test, "needs", ()) if shutil.which(word) is None]
+        if needs:
+            print(f"{name}: passed over, no {needs[0]}")
+            continue
+        with tempfile.TemporaryDirectory() as folder:
+            try:
+                test(pathlib.Path(folder))
+                print(f"{name}: ok", flush=True)
+            except AssertionError as why:
+                failed += 1
+                print(f"{name}: FAILS: {why}", flush=True)
+    return 1 if failed else 0
+
+
+if __name__ == "__main__":
+    sys.exit(main())

@@ -73,6 +73,30 @@ def interleave_keeps_a_netlist_comparable(folder):
     same(nclc("match", folder / "new.v", folder / "new.blif", "--limit", "2000"), "same\n")
 
 
+def place_points_at_lines(folder):
+    for name, wanted in [("unknown_cell.v", "16:3: netlist: unknown cell at 635"), ("forgotten_bit.v", "12:9: shape: loose at cell k2"),
+                         ("orphan.v", "19:8: refused stage 1: orphan, cell co0, word 000"), ("latch.blif", "8:1: blif: unsupported in line 8")]:
+        answer = nclc("check" if name.endswith(".v") else "compile", EXAMPLES / name, status=1 if name == "orphan.v" else 3)
+        same(tool("place", EXAMPLES / name, given=answer), f"{EXAMPLES / name}:{wanted}\n")
+    text = folder / "odd.v"
+    text.write_text("module m(a,z); // g\r\n input [1:0] a;\n output z;\n /* TH22 g( */ TH22 \\g+ (.A(a[0]),\n .B(a[1]),.Z(z)); TH12 g (.A(q),.B(z),.Z(y));\nendmodule\n")
+    for answer, wanted in [("netlist: no driver of q", "5:30"), ("netlist: no driver of a[1]", "5:5"), ("shape: loose at cell g+", "4:21"),
+                           ("shape: loose at cell g", "5:24"), ("netlist: syntax at %d" % text.read_bytes().index(b"endmodule"), "6:1")]:
+        found = tool("place", text, given=answer)
+        assert found.startswith(f"{text}:{wanted}: "), (found, wanted)
+    tool("place", text, given="shape: no chain, rule 5\n", status=1)
+    refuses("place", status=2)
+
+
+@needing("vim")
+def place_in_vim(folder):
+    netlist = EXAMPLES / "unknown_cell.v"
+    (folder / "rc.vim").write_text(f"set errorformat=%f:%l:%c:\\ %m\ncexpr system('{PROGRAM} check {netlist} | {TOOLS}/place {netlist}')\n"
+                                   f"call writefile([line('.') . ' ' . col('.') . ' ' . getqflist()[0].text], '{folder}/found')\nqall!\n")
+    ran(["vim", "-es", "-u", "NONE", "-S", folder / "rc.vim", netlist])
+    same((folder / "found").read_text(), "16 3 netlist: unknown cell at 635\n")
+
+
 def tests():
     """The tests by name."""
     mine = {name: test for name, test in globals().items() if callable(test)}

@@ -97,11 +97,28 @@ def place_in_vim(folder):
     same((folder / "found").read_text(), "16 3 netlist: unknown cell at 635\n")
 
 
+@needing("iverilog", "vvp")
+def bench_awk_reads_what_tools_write(folder):
+    netlist = (EXAMPLES / "full_adder.v").read_text()
+    marked = "/* first; */ " + netlist.replace("TH23 co0", "(* src = \"a.v:1;\" *) TH23 /* (; */ \\co0+x ").replace("endmodule", "// TH12 a;\nendmodule")
+    (folder / "marked.v").write_text(marked)
+    (folder / "d.delays").write_text("default 3 2\ncell co0+x 20 7\nsource 4 5\n")
+    sim = nclc("sim", folder / "marked.v", "--delays", folder / "d.delays", "--words", EXAMPLES / "three_bits.words")
+    (folder / "bench.vh").write_text(ran(["awk", "-f", EXAMPLES / "bench.awk", "d.delays", "marked.v"], folder=folder))
+    ran(["iverilog", "-s", "bench", "-o", "bench", EXAMPLES / "cells.v", EXAMPLES / "bench.v", "marked.v"], folder=folder)
+    found = ran(["vvp", "-n", "bench", f"+words={EXAMPLES}/three_bits.words"], folder=folder)
+    same([line for line in found.splitlines() if line.startswith("word ")], sim.splitlines()[:-1])
+    for text in ("module m(input a);endmodule\n", netlist.replace("endmodule", "assign a = b;\nendmodule"), "/* open\n", netlist + "x"):
+        (folder / "bad.v").write_text(text)
+        done = subprocess.run(["awk", "-f", EXAMPLES / "bench.awk", folder / "d.delays", folder / "bad.v"], capture_output=True, text=True)
+        assert (done.returncode, done.stdout, done.stderr.count("\n")) == (1, "", 1), done
+
+
 def tests():
     """The tests by name."""
     mine = {name: test for name, test in globals().items() if callable(test)}
     scripts = sorted((path.name.split(".")[0] for path in TOOLS.iterdir()), key=len, reverse=True)
-    return {name: test for name, test in mine.items() if any(name.startswith(f"{script}_") for script in scripts)}
+    return {name: test for name, test in mine.items() if any(name.startswith(f"{script}_") for script in ["bench_awk", *scripts])}
 
 
 def main():

@@ -8,6 +8,7 @@ test asks for another program, as yosys or iverilog, that isn't on the path, it 
 each test; the status is 1 where one fails.
 """
 import pathlib
+import random
 import re
 import shutil
 import subprocess
@@ -112,6 +113,50 @@ def bench_awk_reads_what_tools_write(folder):
         (folder / "bad.v").write_text(text)
         done = subprocess.run(["awk", "-f", EXAMPLES / "bench.awk", folder / "d.delays", folder / "bad.v"], capture_output=True, text=True)
         assert (done.returncode, done.stdout, done.stderr.count("\n")) == (1, "", 1), done
+
+
+def with_an_orphan(netlist, chance):
+    """The netlist with a gate that nobody reads, on two nets of one stage."""
+    nets = re.findall(r"\.Z\((s001n\w+|w001b\w+)\)", netlist)
+    first, second = chance.sample(nets, 2)
+    return netlist.replace("endmodule", f"TH22 unread(.A({first}),.B({second}),.Z(nobody));\nendmodule")
+
+
+def orphans(folder, count):
+    """Netlists with an orphan of which `check` tells a run: the files of netlist and run."""
+    chance = random.Random(7)
+    for name in ("add8", "multiplier4", "three_stages", "exercise_6"):
+        compiled = nclc("compile", EXAMPLES / f"{name}.blif")
+        for number in range(count):
+            netlist, why = folder / f"{name}_{number}.v", folder / f"{name}_{number}.why"
+            netlist.write_text(with_an_orphan(compiled, chance))
+            told = subprocess.run([PROGRAM, "check", netlist, "--why"], capture_output=True, text=True)
+            why.write_text(told.stdout)
+            if "\nlost: " in told.stdout:
+                yield netlist, why
+
+
+def cone_shows_what_the_orphan_reads(folder):
+    (folder / "why").write_text(nclc("check", EXAMPLES / "orphan.v", "--why", status=1))
+    found = tool("cone", EXAMPLES / "orphan.v", folder / "why").splitlines()
+    same([line.split(":")[0] for line in found[1:]], ["step 4", "step 5", "step 6", "step 17", "step 18", "lost"])
+    same(found[-1], "lost: cell co0 (TH23): m0 was to rise; A p1_0 low, B p2_0 low, C p3_0 high")
+    refuses("cone", EXAMPLES / "and.v", folder / "why")
+    refuses("cone", folder / "why", folder / "why")
+    lengths = [(why.read_text().count("\n"), tool("cone", netlist, why).count("\n")) for netlist, why in orphans(folder, 4)]
+    assert lengths and all(short < whole for whole, short in lengths), lengths
+
+
+def why_delays_bring_the_hazard(folder):
+    count = 0
+    for netlist, why in orphans(folder, 14):
+        tool("why_delays", netlist, why, folder / "run")
+        told = subprocess.run([PROGRAM, "sim", netlist, "--delays", folder / "run.delays", "--words", folder / "run.words"], capture_output=True, text=True)
+        lost = why.read_text().splitlines()[-1].removeprefix("lost: ")
+        assert told.returncode == 1 and re.search(rf"^hazard at \d+: {lost}, ", told.stdout, re.M), (netlist.read_text(), lost, told.stdout)
+        count += 1
+    assert count > 20, count
+    refuses("why_delays", EXAMPLES / "and.v", EXAMPLES / "and.v", folder / "run")
 
 
 def tests():

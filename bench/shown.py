@@ -21,8 +21,9 @@ TOP = pathlib.Path(__file__).resolve().parent.parent
 
 def missing(command):
     """Whether a program of the command isn't there to be run."""
-    names = re.findall(r"\b(yosys|berkeley-abc|iverilog|vvp|gtkwave)\b", command)
-    return any(name == "gtkwave" or shutil.which(name) is None for name in names)
+    names = re.findall(r"\b(yosys|berkeley-abc|iverilog|vvp|gtkwave|second_opinion|show)\b", command)
+    asks = {"second_opinion": "berkeley-abc", "show": "dot"}
+    return any(name == "gtkwave" or shutil.which(asks.get(name, name)) is None for name in names)
 
 
 def blocks(text):

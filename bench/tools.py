@@ -272,6 +272,24 @@ def pack_makes_an_archive(folder):
     refuses("pack", "nclc.zip", status=2)
 
 
+@needing("berkeley-abc")
+def second_opinion_is_that_of_match(folder):
+    for blif in sorted(EXAMPLES.glob("*.blif")):
+        told = subprocess.run([PROGRAM, "compile", blif], capture_output=True, text=True)
+        if told.returncode == 0:
+            (folder / "n.v").write_text(told.stdout)
+            same(tool("second_opinion", folder / "n.v", blif), "same\n")
+    for number in range(1, 11):
+        for name in ("exercise", "solution"):
+            netlist, blif = EXAMPLES / f"{name}_{number}.v", EXAMPLES / f"exercise_{number}.blif"
+            match = subprocess.run([PROGRAM, "match", netlist, blif], capture_output=True, text=True) if blif.exists() else None
+            if match and match.returncode < 2:
+                same(tool("second_opinion", netlist, blif, status=match.returncode).split()[0].strip(","), match.stdout.split()[0])
+    refuses("second_opinion", EXAMPLES / "exercise_7.v", EXAMPLES / "exercise_7.blif")
+    refuses("second_opinion", EXAMPLES / "and.v", EXAMPLES / "latch.blif")
+    same(tool("second_opinion", EXAMPLES / "and.v", EXAMPLES / "full_adder.blif", status=1), "widths differ: netlist 2 to 1, blif 3 to 2\n")
+
+
 def tests():
     """The tests by name."""
     mine = {name: test for name, test in globals().items() if callable(test)}

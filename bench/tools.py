@@ -290,6 +290,17 @@ def second_opinion_is_that_of_match(folder):
     same(tool("second_opinion", EXAMPLES / "and.v", EXAMPLES / "full_adder.blif", status=1), "widths differ: netlist 2 to 1, blif 3 to 2\n")
 
 
+@needing("dot")
+def show_draws_a_page(folder):
+    assert tool("show", EXAMPLES / "full_adder.v").startswith("<!DOCTYPE html>")
+    same(refuses("show", EXAMPLES / "exercise_7.v").partition(":")[0], "show")
+    refuses("show", "--stage", "9", EXAMPLES / "and.v")
+    refuses("show", "--stage", "x", EXAMPLES / "and.v", status=2)
+    tool("pages", folder / "pages", PROGRAM)
+    same(sorted(path.name for path in (folder / "pages").iterdir()), ["adder.html", "orphan.html", "stages.html"])
+    refuses("pages", status=2)
+
+
 def tests():
     """The tests by name."""
     mine = {name: test for name, test in globals().items() if callable(test)}

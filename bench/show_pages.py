@@ -1,0 +1,168 @@
+#!/usr/bin/env python3
+"""Tests `show`: the pages are driven in headless Chromium, and what they show is compared with the run.
+
+    bench/show_pages.py PROGRAM EXAMPLES
+
+PROGRAM is the built nclc and EXAMPLES the folder of examples. The slider is moved, keys are pressed, and what is
+asked for is what the browser draws: the width and the colour of wires, the rings of cells, the rows, the places of the
+parts of the page. Expected values come from the dump alone, read here, and for `--why` from its lines.
+"""
+import html
+import json
+import pathlib
+import re
+import subprocess
+import sys
+import tempfile
+
+PROGRAM, EXAMPLES = sys.argv[1], pathlib.Path(sys.argv[2])
+SHOW = pathlib.Path(__file__).resolve().parent.parent / "tools/show"
+PROBE = """<pre id="probe"></pre><script>
+const slider = document.getElementById("slider"), seen = {}, nets = run.nets;
+const press = key => dispatchEvent(new KeyboardEvent("keydown", { key }));
+const places = () => ["frame", "list", "slider", "play", "rows", "now"].map(id => { const r = document.getElementById(id).getBoundingClientRect(); return [r.x, r.y, r.width, r.height]; });
+const look = () => {
+  const wires = {}, cells = {};
+  for (const w of document.querySelectorAll(".picture .w")) { const s = getComputedStyle(w.querySelector("path")); (wires[nets[w.dataset.n]] ??= []).push([parseFloat(s.strokeWidth) > 2 && !w.matches(".just") || w.matches(".just.high"), s.stroke, s.strokeDasharray !== "none"]); }
+  for (const c of document.querySelectorAll(".picture .c")) cells[run.cells[c.dataset.c][0]] = [getComputedStyle(c.querySelector(".ring")).stroke !== "none", c.lastChild.textContent, getComputedStyle(c.querySelector(".body")).fill];
+  return { wires, cells, places: places(), rows: [...document.querySelectorAll("td.state")].map(s => s.textContent), now: document.getElementById("now").textContent, at: +slider.value };
+};
+for (const step of STEPS) { slider.value = step; slider.dispatchEvent(new Event("input")); seen[step] = look(); }
+press("Home"); const keys = [+slider.value]; press("ArrowRight"); press("ArrowRight"); press("ArrowLeft"); keys.push(+slider.value); press("End"); keys.push(+slider.value);
+document.getElementById("probe").textContent = JSON.stringify({ seen, keys });
+</script>"""
+
+
+def nclc(*args):
+    return subprocess.run([PROGRAM, *map(str, args)], capture_output=True, text=True).stdout
+
+
+def values_of(dump):
+    """The values of each net after each step of a dump."""
+    names, states, now = dict(re.findall(r"\$var wire 1 (\S+) (\S+)", dump)), [], {}
+    head, rest = dump.split("$dumpvars\n")[1].split("$end\n")
+    for line in head.split():
+        now[names[line[1:]]] = line[0] == "1"
+    states.append(dict(now))
+    for line in rest.split():
+        if line[0] != "#":
+            now[names[line[1:]]] = line[0] == "1"
+            states.append(dict(now))
+    return states
+
+
+def drive(folder, page, steps):
+    file = folder / "page.html"
+    file.write_text(page.replace("</html>", PROBE.replace("STEPS", json.dumps(steps)) + "</html>"))
+    browser = ["chromium", "--headless", "--no-sandbox", "--disable-gpu", f"--user-data-dir={folder}/profile", "--dump-dom", file.as_uri()]
+    dom = subprocess.run(browser, capture_output=True, text=True, timeout=120).stdout
+    return json.loads(html.unescape(re.search(r'<pre id="probe">(.*?)</pre>', dom, re.S)[1]))
+
+
+def ends(path):
+    """Where the parts of a path end: each is a move with lines along the axes, or a curve."""
+    for part in path.split("M")[1:]:
+        x, y = map(float, part.replace("C", " ").replace("H", " ").replace("V", " ").replace("h", " ").split()[:2])
+        for step, numbers in re.findall(r"([HVCh])([^HVCh]*)", part):
+            numbers = [float(n) for n in re.findall(r"-?[\d.]+(?:e-?\d+)?", numbers)]
+            x, y = (numbers[0], y) if step == "H" else (x, numbers[0]) if step == "V" else (x + numbers[0], y) if step == "h" else numbers[-2:]
+        yield x, y
+
+
+def missing(netlist, page):
+    """The pins of cells at which no wire of their net ends, in the picture of a page."""
+    drawn = re.findall(r'<g class="w \w+" data-n="\d+"><title>([^<]*)</title><path d="([^"]*)"', page)
+    places = {m[4]: (float(m[1]), float(m[2])) for m in re.finditer(r'data-c="\d+" transform="translate\((\S+) (\S+)\)"><title>(\w+) ([^:]+):', page)}
+    found = []
+    for kind, cell, pins in re.findall(r"(TH\w+)\s+(\w+)\s*\(([^;]*)\);", netlist):
+        pins = [(pin, net) for pin, net in re.findall(r"\.(\w+)\s*\(([^)]*)\)", pins) if pin not in ("Z", "RST")]
+        for i, (pin, net) in enumerate(reversed(pins) if kind == "TH12B" else pins):
+            x, y = places[cell]
+            at = y + (i - (len(pins) - 1) / 2) * 12
+            if not any(abs(abs(ex - x) - 22) < 2 and abs(ey - at) < 2 for name, path in drawn if name == net for ex, ey in ends(path)):
+                found.append((cell, pin))
+    return found
+
+
+def show(*args):
+    return subprocess.run([SHOW, *map(str, args)], capture_output=True, text=True)
+
+
+def check(what, holds):
+    print("ok  " if holds else "FAIL", what)
+    check.failed |= not holds
+
+
+check.failed = False
+with tempfile.TemporaryDirectory() as name:
+    folder = pathlib.Path(name)
+    run = folder / "run"
+    for netlist, delays, words in [("full_adder", "unit", "three_bits"), ("orphan", "slow_carry", "three_bits"), ("held_word", "slow_register", "one_bit"), ("vectors", "unit", "one_bit")]:
+        run.write_text(nclc("sim", EXAMPLES / f"{netlist}.v", "--delays", EXAMPLES / f"{delays}.delays", "--words", EXAMPLES / f"{words}.words", "--vcd"))
+        states = values_of(run.read_text())
+        found = drive(folder, show(EXAMPLES / f"{netlist}.v", "--vcd", run).stdout, sorted(range(len(states)), key=lambda i: i * 7919 % len(states)))
+        seen = [found["seen"][str(i)] for i in range(len(states))]
+        drawn = set(seen[0]["wires"])
+        check(f"{netlist}: {len(drawn)} of {len(states[0])} nets are drawn, all but rst", set(states[0]) - drawn <= {"rst"})
+        for i in (1, len(states) // 2, len(states) - 1):
+            wrong = [n for n, wires in seen[i]["wires"].items() if any(wide != states[i][n] for wide, _, _ in wires)]
+            check(f"{netlist}: at step {i} of {len(states) - 1} the wires are those of the dump {wrong}", not wrong)
+        check(f"{netlist}: and at all steps", all(wide == states[i][n] for i in range(len(states)) for n, wires in seen[i]["wires"].items() for wide, _, _ in wires))
+        colours = {v: {w[1] for i in range(len(states)) for n, wires in seen[i]["wires"].items() for w in wires if states[i][n] == v} for v in (False, True)}
+        check(f"{netlist}: no colour is that of a high and of a low wire", not colours[False] & colours[True] and len(colours[False]) == 1)
+        driven = {m[2]: m[1] for m in re.finditer(r"TH\w+\s+(\w+)\s*\([^;]*\.Z\s*\(\s*([\w\[\]]+)\s*\)", (EXAMPLES / f"{netlist}.v").read_text())}
+        stepped = [(i, driven[n]) for i in range(len(states) - 1) for n in states[0] if states[i][n] != states[i + 1][n] and n in driven]
+        check(f"{netlist}: each of {len(stepped)} cells that step had a ring before", stepped and all(seen[i]["cells"][c][0] for i, c in stepped))
+        check(f"{netlist}: nothing moves on the page", len({json.dumps(s["places"]) for s in seen}) == 1)
+        check(f"{netlist}: Home, three arrows and End", found["keys"] == [0, 1, len(states) - 1])
+        said = re.findall(r"word \d+ at \d+: (\w+)", nclc("sim", EXAMPLES / f"{netlist}.v", "--delays", EXAMPLES / f"{delays}.delays", "--words", EXAMPLES / f"{words}.words"))
+        check(f"{netlist}: the sink took {said}", seen[-1]["rows"][-1] == "took " + ", ".join(said[-4:]))
+    run.write_text(nclc("check", EXAMPLES / "orphan.v", "--why"))
+    seen = drive(folder, show(EXAMPLES / "orphan.v", "--why", run).stdout, [0, 8, 16, 17, 18])["seen"]
+    check("why: co0 is ready at 16 and at 17, and lost at 18 alone", [seen[i]["cells"]["co0"][1] for i in ("0", "8", "16", "17", "18")] == ["", "▲", "▲", "▲", "✕ lost"])
+    check("why: the rows at 8 and 17", [seen["8"]["rows"][:3], seen["17"]["rows"][:3]] == [["DATA 000", "DATA 000", "DATA 0"], ["NULL", "partial -00", "DATA 0"]])
+    ran = nclc("sim", EXAMPLES / "orphan.v", "--delays", EXAMPLES / "slow_carry.delays", "--words", EXAMPLES / "three_bits.words")
+    (folder / "told").write_text(ran)
+    run.write_text(nclc("sim", EXAMPLES / "orphan.v", "--delays", EXAMPLES / "slow_carry.delays", "--words", EXAMPLES / "three_bits.words", "--vcd"))
+    page, steps = show(EXAMPLES / "orphan.v", "--vcd", run, "--told", folder / "told").stdout, len(values_of(run.read_text())) - 1
+    last = drive(folder, page, [steps - 1, steps])["seen"]
+    check("sim: the cell of the hazard is marked at the last step alone", [last[str(i)]["cells"]["co0"][1] for i in (steps - 1, steps)] == ["▲", "✕ lost"])
+    check("sim: the line of the hazard stands on the page", ran.splitlines()[-1] in page)
+    (folder / "told").write_text("shape: loose at cell k2\n")
+    check("the rule that is broken stands on the page", "shape: loose at cell k2" in show(EXAMPLES / "and.v", "--told", folder / "told").stdout)
+    (folder / "told").write_text("hazard at 6: cell none, after 19 steps, delivered 1 of 3\n")
+    check("refused: a hazard of another netlist", show(EXAMPLES / "orphan.v", "--told", folder / "told").returncode == 1)
+    bits = "".join(f".model m{k}\n.inputs a b c d\n.outputs a b c e\n.names a b c d e\n1001 1\n0110 1\n1111 1\n.end\n" for k in range(30))
+    (folder / "stages.blif").write_text(bits)
+    (folder / "stages.v").write_text(nclc("compile", folder / "stages.blif"))
+    probe = """<pre id="probe"></pre><script>const press = key => dispatchEvent(new KeyboardEvent("keydown", { key })), told = [];
+      const look = () => told.push([pictures.filter(p => getComputedStyle(p).display !== "none").length, document.getElementById("stage").textContent]);
+      look(); press("n"); look(); press("n"); press("p"); look(); document.getElementById("probe").textContent = JSON.stringify(told);</script>"""
+    page = show(folder / "stages.v").stdout
+    (folder / "page.html").write_text(page.replace("</html>", probe + "</html>"))
+    dom = subprocess.run(["chromium", "--headless", "--no-sandbox", "--disable-gpu", f"--user-data-dir={folder}/profile", "--dump-dom", (folder / "page.html").as_uri()], capture_output=True, text=True, timeout=120).stdout
+    said = [[1, f", stage {k} shown with its banks"] for k in (1, 2, 2)]
+    check("n and p go from stage to stage", json.loads(html.unescape(re.search(r'<pre id="probe">(.*?)</pre>', dom, re.S)[1])) == said)
+    for file in ("full_adder.v", "orphan.v", "three_stages.v", "multiplier.v", "held_sum.v", "vectors.v", "solution_8.v"):
+        found = missing((EXAMPLES / file).read_text(), show(EXAMPLES / file).stdout)
+        check(f"{file}: at each pin a wire of its net ends {found}", not found)
+    signs = dict(re.findall(r"<title>\w+ (\w+):.*?class=\"sign\"[^>]*>(\w+)<", show(EXAMPLES / "orphan.v").stdout))
+    check("the signs in the gates", {c: signs[c] for c in ("s0", "co1", "r1_0", "k1", "kt")} == {"s0": "3w2", "co1": "2", "r1_0": "2n", "k1": "1", "kt": "3"})
+    rails = {n: {w[2] for w in wires} for n, wires in seen["0"]["wires"].items()}
+    check("rail 0 is dashed and rail 1 is not", all(rails[f"p{i}_0"] == {True} and rails[f"p{i}_1"] == {False} for i in (1, 2, 3)))
+    page = show(EXAMPLES / "orphan.v").stdout
+    check("the page loads nothing", not re.search(r"(src|href)=|url\(|@import|fetch\(", page))
+    for file in sorted(EXAMPLES.glob("*.v")):
+        said, got = nclc("check", file), show(file)
+        wanted = [0] if said.startswith(("accepted", "refused")) else [1] if said.startswith("netlist") else [0, 1]
+        if got.returncode not in wanted or got.returncode and (got.stdout or got.stderr.count("\n") != 1):
+            check(f"{file.name}: {said.strip()}; {got.stderr.strip()}", False)
+    bad = folder / "bad"
+    for text in ["", "module m;", "module m(a);input a;assign b=a;endmodule", "module \\ab", "\xff", "module m;endmodule", "module m(a;", "module m(,);endmodule"]:
+        bad.write_text(text)
+        got = show(bad)
+        check(f"refused: {text!r}: {got.stderr.strip()}", got.returncode == 1 and not got.stdout and got.stderr.count("\n") == 1 and "Traceback" not in got.stderr)
+    for args in (["--why", bad], ["--vcd", bad], ["--stage", "9"], ["--why", folder / "none"]):
+        got = show(EXAMPLES / "orphan.v", *args)
+        check(f"refused: {got.stderr.strip()[:80]}", got.returncode == 1 and not got.stdout and got.stderr.count("\n") == 1)
+sys.exit(check.failed)

@@ -21,6 +21,8 @@ import tempfile
 TOP = pathlib.Path(__file__).resolve().parent.parent
 TOOLS, EXAMPLES = TOP / "tools", TOP / "crates/examples/data"
 PROGRAM = None
+sys.path.insert(0, str(TOOLS))
+import netlist
 
 
 def ran(words, given=None, status=0, folder=None):
@@ -103,8 +105,8 @@ def place_in_vim(folder):
 
 @needing("iverilog", "vvp")
 def bench_awk_reads_what_tools_write(folder):
-    netlist = (EXAMPLES / "full_adder.v").read_text()
-    marked = "/* first; */ " + netlist.replace("TH23 co0", "(* src = \"a.v:1;\" *) TH23 /* (; */ \\co0+x ").replace("endmodule", "// TH12 a;\nendmodule")
+    adder = (EXAMPLES / "full_adder.v").read_text()
+    marked = "/* first; */ " + adder.replace("TH23 co0", "(* src = \"a.v:1;\" *) TH23 /* (; */ \\co0+x ").replace("endmodule", "// TH12 a;\nendmodule")
     (folder / "marked.v").write_text(marked)
     (folder / "d.delays").write_text("default 3 2\ncell co0+x 20 7\nsource 4 5\n")
     sim = nclc("sim", folder / "marked.v", "--delays", folder / "d.delays", "--words", EXAMPLES / "three_bits.words")
@@ -112,7 +114,7 @@ def bench_awk_reads_what_tools_write(folder):
     ran(["iverilog", "-s", "bench", "-o", "bench", EXAMPLES / "cells.v", EXAMPLES / "bench.v", "marked.v"], folder=folder)
     found = ran(["vvp", "-n", "bench", f"+words={EXAMPLES}/three_bits.words"], folder=folder)
     same([line for line in found.splitlines() if line.startswith("word ")], sim.splitlines()[:-1])
-    for text in ("module m(input a);endmodule\n", netlist.replace("endmodule", "assign a = b;\nendmodule"), "/* open\n", netlist + "x"):
+    for text in ("module m(input a);endmodule\n", adder.replace("endmodule", "assign a = b;\nendmodule"), "/* open\n", adder + "x"):
         (folder / "bad.v").write_text(text)
         done = subprocess.run(["awk", "-f", EXAMPLES / "bench.awk", folder / "d.delays", folder / "bad.v"], capture_output=True, text=True)
         assert (done.returncode, done.stdout, done.stderr.count("\n")) == (1, "", 1), done
@@ -301,11 +303,39 @@ def show_draws_a_page(folder):
     refuses("pages", status=2)
 
 
+def cells_lib_is_the_table_of_gates(folder):
+    text = (EXAMPLES / "cells.lib").read_text()
+    cells = re.findall(r"cell \((\w+)\) \{\n    area : \d+;\n(.*?)\n  \}", text, re.S)
+    same({name for name, _ in cells}, {*netlist.GATES, *netlist.REGISTERS, "TH12B"})
+    for name, body in cells:
+        reset = ["RST"] if name in netlist.REGISTERS else []
+        pins = [*netlist.inputs_of(name), *reset]
+        same(re.findall(r"pin \((\w+)\) \{ direction : input", body), pins)
+        rows = re.findall(r"((?:[LH-] )+): - : ([LHN])", body)
+        function = re.search(r'function : "([^"]*)"', body)
+        if function:
+            same(function[1], "!(A+B)" if name == "TH12B" else "+".join(pins))
+            continue
+        told = {row: value for row, value in rows}
+        count = len(pins) - len(reset)
+        for word in range(1 << count):
+            row = "".join("LH"[word >> i & 1] + " " for i in range(count)) + "L " * len(reset)
+            same((name, row, told[row]), (name, row, "H" if netlist.rises(name) >> word & 1 else "N" if word else "L"))
+        same([told.get("- " * count + "H ")] if reset else [], [{"TH22N": "L", "TH22D": "H"}[name]] if reset else [])
+
+
+@needing("yosys")
+def cells_lib_is_read_without_a_warning(folder):
+    (folder / "n.v").write_text(nclc("compile", EXAMPLES / "add8.blif"))
+    done = subprocess.run(["yosys", "-p", f"read_liberty -lib {EXAMPLES}/cells.lib; read_verilog n.v; stat -liberty {EXAMPLES}/cells.lib"], cwd=folder, capture_output=True, text=True)
+    assert "Chip area for module '\\top': 2087" in done.stdout and "arning" not in done.stdout + done.stderr.replace("implicitly", ""), done.stdout[-500:] + done.stderr
+
+
 def tests():
     """The tests by name."""
     mine = {name: test for name, test in globals().items() if callable(test)}
     scripts = sorted((path.name.split(".")[0] for path in TOOLS.iterdir()), key=len, reverse=True)
-    return {name: test for name, test in mine.items() if any(name.startswith(f"{script}_") for script in ["bench_awk", "completions", "manual", *scripts])}
+    return {name: test for name, test in mine.items() if any(name.startswith(f"{script}_") for script in ["bench_awk", "cells_lib", "completions", "manual", *scripts])}
 
 
 def main():

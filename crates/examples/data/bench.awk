@@ -6,7 +6,7 @@
 # outputs, and `ko`; another input is a reset. Comments and attributes are passed over, as Yosys writes them. What isn't
 # understood is told in a line on standard error, with status 1, and nothing is written.
 BEGIN { ins = outs = 0; space = "[ \t\n\r\f]" }
-FNR == 1 { file++ }
+{ file = FILENAME == ARGV[1] ? 1 : 2 }
 { sub(/\r$/, "") }
 file == 1 && (NF == 0 || $1 ~ /^#/) { next }
 file == 1 && $1 == "default" && NF == 3 { rise = $2; fall = $3; next }

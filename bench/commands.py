@@ -12,7 +12,8 @@ import pathlib
 import re
 
 TOP = pathlib.Path(__file__).resolve().parent.parent
-PAGES = ["README.md", "docs/tutorial.md", "docs/from-verilog.md", "docs/judgement.md", "docs/exercises.md", "docs/formats.md"]
+PAGES = ["README.md", "docs/tutorial.md", "docs/from-verilog.md", "docs/judgement.md", "docs/exercises.md", "docs/formats.md",
+         "docs/libraries.md", "docs/second-opinion.md", "docs/netlist.md"]
 
 
 def commands(text):

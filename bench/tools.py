@@ -387,6 +387,23 @@ def sdf_delays_reads_paths_and_refuses_the_rest(folder):
     refuses("sdf_delays", file, status=2)
 
 
+def order_sorts_the_bits_of_banks(folder):
+    same(tool("order", EXAMPLES / "twelve_bits.v"), (EXAMPLES / "twelve_bits.v").read_text())
+    text = (EXAMPLES / "twelve_bits.v").read_text()
+    lines = text.split("\n")
+    cells = [i for i, line in enumerate(lines) if line.startswith("TH12B")]
+    for i, line in zip(cells, random.Random(2).sample([lines[i] for i in cells], len(cells))):
+        lines[i] = "(* a = 1; *) " + line
+    (folder / "mixed.v").write_text("\n".join(lines))
+    assert nclc("match", folder / "mixed.v", EXAMPLES / "twelve_bits.blif", status=1).startswith("differ")
+    for by in ("cells", "nets"):
+        same(tool("order", "--by", by, folder / "mixed.v").replace("(* a = 1; *) ", "").count("TH12B"), len(cells))
+        (folder / "new.v").write_text(tool("order", "--by", by, folder / "mixed.v"))
+        same(nclc("match", folder / "new.v", EXAMPLES / "twelve_bits.blif"), "same\n")
+    refuses("order", EXAMPLES / "exercise_7.v")
+    refuses("order", "--by", "size", EXAMPLES / "and.v", status=2)
+
+
 def tests():
     """The tests by name."""
     mine = {name: test for name, test in globals().items() if callable(test)}

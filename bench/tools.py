@@ -404,6 +404,16 @@ def order_sorts_the_bits_of_banks(folder):
     refuses("order", "--by", "size", EXAMPLES / "and.v", status=2)
 
 
+def models_are_what_the_netlist_computes(folder):
+    for name in ("and", "full_adder", "multiplier", "three_stages", "held_sum", "solution_4", "solution_8", "solution_10"):
+        (folder / "m.blif").write_text(tool("models", EXAMPLES / f"{name}.v"))
+        same(nclc("match", EXAMPLES / f"{name}.v", folder / "m.blif"), "same\n")
+        (folder / "m.v").write_text(nclc("compile", folder / "m.blif"))
+        assert nclc("check", folder / "m.v").startswith("accepted")
+    refuses("models", EXAMPLES / "exercise_7.v")
+    refuses("models", EXAMPLES / "and.blif")
+
+
 def tests():
     """The tests by name."""
     mine = {name: test for name, test in globals().items() if callable(test)}

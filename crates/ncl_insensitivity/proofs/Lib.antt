@@ -4,10 +4,10 @@ pub mod RisingLaws
 pub mod DeliveryLaws
 mod SoundAnd
 mod WiresOrigins
-mod ShortLists
+pub mod ShortLists
 mod WiresChain
 mod WiresShape
-mod WrittenNetlists
+pub mod WrittenNetlists
 mod IllShapedLaws
 pub mod Phases
 pub mod WiresSound
@@ -45,5 +45,5 @@ pub mod Alternation
 pub mod Headline
 pub mod StepLaws
 pub mod SamePipelineLaws
-mod ByComputation
+pub mod ByComputation
 mod UnsoundLaws

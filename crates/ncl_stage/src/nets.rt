@@ -77,8 +77,8 @@ pub(crate) fn net_ref<P: Space>(
     space.apply(gate.kind, ins.as_slice())
 }
 
-// The Refs at some places. Linear in the places.
-fn refs_at(refs: &[Ref], places: &[usize]) -> ArrayVec<Ref, 4>
+/// The Refs at some places. Linear in the places.
+pub(crate) fn refs_at(refs: &[Ref], places: &[usize]) -> ArrayVec<Ref, 4>
     requires few { length places.now ≤ 4 }
     requires within { All (λ place. place < length refs.now) places.now }
     ensures { result.items ≡ map (ref_at refs.now) places.now }

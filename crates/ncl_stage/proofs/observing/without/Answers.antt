@@ -1,0 +1,64 @@
+use Rattle.std.proofs.Common.{◌≡◌, ℕ, ◌<◌, false, List, [], length, map, get_or, sym, ◌∙◌, ap, subst}
+use Rattle.std.specs.Prelude.{All, nat_eq, if◌then◌else◌}
+use Rattle.std.proofs.lemmas.List.{get_or_default}
+use Rattle.std.proofs.lemmas.Result.{IfOk-weaker}
+use Rattle.ncl_gates.specs.declared.kind.Kind.TheVariants.{Th12}
+use Rattle.ncl_netlist.specs.declared.ids.NetId.{NetId}
+use Rattle.ncl_shape.specs.declared.stage.StageCell.{StageCell}
+use Rattle.ncl_shape.specs.Stage.{StageData, IsStage, nets_of}
+use Rattle.ncl_space.specs.Functions.{constant_table, gate_table}
+use Rattle.ncl_space.specs.Space.{SpaceData, IsLive, IsSpace}
+use Rattle.ncl_space.specs.declared.space.Ref.{Ref}
+use Rattle.ncl_stage.specs.Changes.{net_at}
+use Rattle.ncl_stage.specs.Examples.{gate}
+use Rattle.ncl_stage.specs.Observing.{table_without}
+use Rattle.ncl_stage.specs.StageTables.{AreValues, ValuesData, ref_at}
+use Rattle.ncl_stage.specs.Wiring.{WiringData, IsWiring, place_in}
+use Rattle.ncl_stage.specs.declared.variant.Variant.TheVariants.{Base}
+use Rattle.ncl_stage.proofs.ChangedLaws.{values-width}
+use Rattle.ncl_stage.proofs.NetLaws.{pins-of}
+use Rattle.ncl_stage.proofs.ObservingLaws.{PinsWithout, pins-without, without-table}
+use Rattle.ncl_stage.proofs.WiringLaws.{reads-within}
+use Rattle.ncl_stage.proofs.observing.without.Goals as goal
+
+-- the places of the pins of a cell
+pin-places : (s : StageData) (v w : WiringData) → v ≡ w → IsWiring s w → (cell : ℕ) → cell < length s.cells → (d : StageCell) (pins : List ℕ) → pins ≡ get_or v.pins cell [] → pins ≡ map (λ (net : NetId). place_in (nets_of s.inputs s.cells) net.0) (get_or s.cells cell d).ins.items
+pin-places s v w same wired cell lt d pins read = read ∙ ap (λ (x : WiringData). get_or x.pins cell []) same ∙ pins-of s w wired cell d lt
+
+-- what is told of the Refs at them
+told : (space : SpaceData) → IsSpace space → (s : StageData) → IsStage s → (base : ValuesData) (are : AreValues space s Base base) (place : ℕ) → place < length (nets_of s.inputs s.cells) → (never : Ref) → IsLive space never → space.table never ≡ constant_table space.width false → (cell : ℕ) → cell < length s.cells → (d : StageCell)
+    → PinsWithout s base.wiring.order are.wired.order space base.refs place never (get_or s.cells cell d).ins.items
+told space space_is s is base are place lt never live zero cell within d =
+    pins-without s base.wiring.order are.wired.order is space (values-width space s Base base space_is is are) base.refs are.shown place lt never live zero (get_or s.cells cell d).ins.items (reads-within s is cell d within)
+
+pub refs_without-ins-requires-clause-within : goal.refs_without-ins-requires-clause-within
+refs_without-ins-requires-clause-within g c =
+    let d : StageCell = gate 0 Th12 [] 0 in
+    let old : SpaceData = g.P.Space.meaning c.args.space.now in
+    let pins = pin-places c.args.stage.now c.wiring.result.now c.args.base.now.wiring c.wiring.ensures c.requires.base.wired c.args.cell c.requires.cell d c.pins.result.now c.pins.ensures.pins in
+    let are = told old c.requires.space c.args.stage.now c.facts.ensures c.args.base.now c.requires.base c.args.place c.requires.place c.constant-never.result c.constant-never.ensures.live c.constant-never.ensures.table c.args.cell c.requires.cell d in
+    subst (All (λ p. p < length c.refs.result.now)) (sym pins)
+    (subst (λ (refs : List Ref). All (λ p. p < length refs) (map (λ (net : NetId). place_in (nets_of c.args.stage.now.inputs c.args.stage.now.cells) net.0) (get_or c.args.stage.now.cells c.args.cell d).ins.items)) (sym c.refs.ensures.refs) are.within)
+
+pub apply-requires-clause-live : goal.apply-requires-clause-live
+apply-requires-clause-live g c =
+    let d : StageCell = gate 0 Th12 [] 0 in
+    let old : SpaceData = g.P.Space.meaning c.args.space.now in
+    let pins = pin-places c.args.stage.now c.wiring.result.now c.args.base.now.wiring c.wiring.ensures c.requires.base.wired c.args.cell c.requires.cell d c.pins.result.now c.pins.ensures.pins in
+    let are = told old c.requires.space c.args.stage.now c.facts.ensures c.args.base.now c.requires.base c.args.place c.requires.place c.constant-never.result c.constant-never.ensures.live c.constant-never.ensures.table c.args.cell c.requires.cell d in
+    subst (All (IsLive old)) (sym (c.as_slice.ensures.value ∙ c.refs_without-ins.ensures ∙ (λ k. map (λ p. if nat_eq p c.args.place then c.constant-never.result else ref_at (c.refs.ensures.refs k) p) (pins k)))) are.live
+
+pub returns-clause-table : goal.returns-clause-table
+returns-clause-table g c = λ d.
+    let s : StageData = c.args.stage.now in
+    let old : SpaceData = g.P.Space.meaning c.args.space.now in
+    let new : SpaceData = g.P.Space.meaning c.apply.new.self in
+    let order : List ℕ = c.args.base.now.wiring.order in
+    let pins = pin-places s c.wiring.result.now c.args.base.now.wiring c.wiring.ensures c.requires.base.wired c.args.cell c.requires.cell d c.pins.result.now c.pins.ensures.pins in
+    let are = told old c.requires.space s c.facts.ensures c.args.base.now c.requires.base c.args.place c.requires.place c.constant-never.result c.constant-never.ensures.live c.constant-never.ensures.table c.args.cell c.requires.cell d in
+    let own : get_or c.items.result.now c.args.cell c.index-items-cell.result ≡ get_or s.cells c.args.cell d =
+    ap (λ (xs : List StageCell). get_or xs c.args.cell c.index-items-cell.result) (c.items.ensures ∙ ap (λ (t : StageData). t.cells) c.stage.view_is) ∙ get_or_default s.cells c.args.cell c.index-items-cell.result d c.requires.cell in
+    let ins = c.as_slice.ensures.value ∙ c.refs_without-ins.ensures ∙ (λ k. map (λ p. if nat_eq p c.args.place then c.constant-never.result else ref_at (c.refs.ensures.refs k) p) (pins k)) in
+    let table = ap (λ (x : StageCell). gate_table old.width x.kind (map old.table c.as_slice.result.now)) own
+    ∙ without-table s order c.requires.base.wired.order old (values-width old s Base c.args.base.now c.requires.space c.facts.ensures c.requires.base) c.args.base.now.refs c.args.place c.constant-never.result (get_or s.cells c.args.cell d) are c.as_slice.result.now ins in
+    IfOk-weaker c.apply.result _ (λ fallen. new.table fallen ≡ table_without order s (net_at s c.args.place) (get_or s.cells c.args.cell d)) (λ fallen made. made.table ∙ table) c.apply.ensures.made

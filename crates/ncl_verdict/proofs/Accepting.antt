@@ -56,6 +56,13 @@ variants-sound limit s sound (v ∷ vs) =
           ]
     ]
 
+-- where none passes the limit, nothing is found of a sound stage
+pub sound-none : (limit : ℕ) (s : StageData) → IsSound s → IsWithin limit s → of_stage (stopped_at limit) s ≡ None
+sound-none limit s sound within = elim (variants-sound limit s sound (variants s)) [
+  | inl over ↦ (let fits = within over.0 (Contains-from_Member over.0 over.1) in absurd (omega (arith, over.2)))
+  | inr all ↦ all.1
+]
+
 -- so of some stages
 stages-sound : (limit : ℕ) (stages : List StageData) → ((s : StageData) → Member s stages → IsSound s) → ((s : StageData) × Member s stages × (IsWithin limit s → ⊥) × (judgement limit stages ≡ verdict.Limit s.number)) ⊎ (((s : StageData) → Member s stages → IsWithin limit s) × (first_of (map (of_stage (stopped_at limit)) stages) ≡ None))
 stages-sound limit [] sound = inr (λ s m. elim m [ ], refl)

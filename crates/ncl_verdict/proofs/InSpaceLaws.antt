@@ -211,3 +211,10 @@ of_stage-parts stop s =
     by_first : (answer : Option Verdict) (bits cells : List (Option Verdict)) → first_of (answer ∷ bits ++ cells) ≡ first_of (answer ∷ first_of bits ∷ first_of cells ∷ [])
     by_first None bits cells = first_of-append bits cells
     by_first (Some v) bits cells = refl
+
+-- what is said without bits and cells is all, where nothing is said under Base
+pub of_stage-said : (s : StageData) (new old : Option ℕ) → new ≡ old → at_variant (stopped_within old) s Base ≡ None → first_of (first_of (map (at_variant (stopped_within new) s) (map Bit (below (length s.inputs)))) ∷ first_of (map (at_variant (stopped_within new) s) (map Cell (file_order s))) ∷ []) ≡ of_stage (stopped_within old) s
+of_stage-said s new old same base =
+    ap (λ limit. first_of (first_of (map (at_variant (stopped_within limit) s) (map Bit (below (length s.inputs)))) ∷ first_of (map (at_variant (stopped_within limit) s) (map Cell (file_order s))) ∷ [])) same
+    ∙ sym (of_stage-parts (stopped_within old) s
+    ∙ (λ k. first_of (base k ∷ first_of (map (at_variant (stopped_within old) s) (map Bit (below (length s.inputs)))) ∷ first_of (map (at_variant (stopped_within old) s) (map Cell (file_order s))) ∷ [])))

@@ -3,6 +3,7 @@ pub mod Firsts
 pub mod Places
 pub mod Sound
 pub mod Accepting
+pub mod FewLaws
 pub mod FileOrder
 pub mod SameJudgement
 pub mod NamedCell

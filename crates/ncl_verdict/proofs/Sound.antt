@@ -13,10 +13,11 @@ use Rattle.ncl_stage.specs.declared.variant.Variant.{Variant}
 use Rattle.ncl_stage.specs.declared.variant.Variant.TheVariants.{Base, Bit, Cell}
 use Rattle.ncl_stage.specs.Values.{val}
 use Rattle.ncl_stage.specs.Faults.{StageFault, BothRails, NoRail, Incomplete, Orphan, shows, holds_at, is_illegal, has_data, all_data, IsSound, IsWordOf}
+use Rattle.ncl_stage.specs.Observed.{HasValidRails}
 use Rattle.ncl_stage.specs.Tables.{count}
 use Rattle.ncl_verdict.specs.declared.verdict.Verdict.{Verdict}
 use Rattle.ncl_verdict.specs.declared.verdict.Verdict.TheVariants as verdict
-use Rattle.ncl_verdict.specs.Judgement.{stopped_at, verdict_of, below, file_number, file_order, variants, faults_of, least_word, found, first_of, at_variant, of_stage, judgement}
+use Rattle.ncl_verdict.specs.Judgement.{Stop, stopped_at, verdict_of, below, file_number, file_order, variants, faults_of, least_word, found, first_of, at_variant, of_stage, judgement}
 use Rattle.ncl_verdict.proofs.Firsts.{first_of-none, none_of, find-none, Refuses, map-refuses, unwrap-refuses}
 use Rattle.ncl_verdict.proofs.Places.{Member-below, Member-ordered_by, slice_get-cases}
 
@@ -111,3 +112,15 @@ judgement-sound limit stages accepted =
     let none : first_of (map (of_stage (stopped_at limit)) stages) ≡ None =
     unwrap-refuses (first_of (map (of_stage (stopped_at limit)) stages)) (map-refuses (of_stage (stopped_at limit)) (of_stage-refuses limit) stages) accepted in
     All-from_members IsSound stages (λ s m. of_stage-sound limit s (none_of (of_stage (stopped_at limit)) stages none s m))
+
+-- where nothing is said under Base, each output has one high rail
+pub base-valid : (stop : Stop) (s : StageData) → at_variant stop s Base ≡ None → HasValidRails s
+base-valid stop s none word is output = elim (slice_get-cases s.outputs output) [
+  | inl past ↦ (ap (holds_at (is_illegal (val s word Base))) past, ap (holds_at (λ r. not (has_data (val s word Base) r))) past)
+  | inr within ↦
+      let (both, neither) = Member-outputs (below (length s.outputs)) output (Member-below (length s.outputs) output within) in
+      (shows-none s (BothRails output) (unsaid (BothRails output) both) word is, shows-none s (NoRail output) (unsaid (NoRail output) neither) word is)
+]
+  where
+    unsaid : (fault : StageFault) → Member fault (faults_of s Base) → found s fault ≡ None
+    unsaid fault m = first_of-none (stop s Base ∷ map (found s) (faults_of s Base)) none (found s fault) (there (Member-map (found s) fault m))

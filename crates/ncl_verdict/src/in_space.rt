@@ -1,5 +1,5 @@
 //! The judgement of a stage in a space.
-ghost use Rattle.std.specs.Prelude.{◌≡◌, ◌<◌, IfOk, IfNone, length, map, slice_get};
+ghost use Rattle.std.specs.Prelude.{◌≡◌, ◌<◌, [], ◌∷◌, IfOk, IfNone, MatchResult, length, map, slice_get};
 ghost use Rattle.ncl_space.specs.Beads.{distinct_beads};
 ghost use Rattle.ncl_space.specs.Space.{IsNew, Keeps, Restores};
 ghost use Rattle.ncl_stage.specs.BitOrder.{bit_order};
@@ -34,17 +34,58 @@ pub fn first_answer<P: Space>(
     requires new { IsNew (P.meaning space.old) }
     ensures { IfOk result (λ answer. answer ≡ of_stage (stopped_within (P.meaning space.old).limit) stage.now) }
 {
+    match under_base(alloc, space, stage)? {
+        Ok(base) => after_base(alloc, space, stage, &base),
+        Err(verdict) => Ok(Some(verdict)),
+    }
+}
+
+/// What is said under Base; where nothing is, the functions of the nets under Base. The space is new, and of the width of the
+/// stage's input. It goes over the cells once.
+pub(crate) fn under_base<P: Space>(
+    alloc: Global,
+    space: &mut P,
+    stage: &Stage,
+) -> Result<Result<Values, Verdict>, Memory>
+    requires width { (P.meaning space.old).width ≡ length stage.now.inputs }
+    requires new { IsNew (P.meaning space.old) }
+    ensures answer { let said = at_variant (stopped_within (P.meaning space.old).limit) stage.now Variant.Base in
+        IfOk result (λ answer. MatchResult answer
+        (λ base. (said ≡ None) × IsReady (P.meaning space.new) stage.now base)
+        (λ verdict. said ≡ Some verdict)) }
+    ensures kept { Keeps (P.meaning space.old) (P.meaning space.new) }
+{
     let base = match values(alloc, space, stage, Variant::Base) {
         Ok(base) => base,
-        Err(fault) => return stopped(stage, fault),
+        Err(SpaceFault::Full) => {
+            return Ok(Err(Verdict::Limit {
+                stage: stage.number,
+            }));
+        }
+        Err(SpaceFault::Memory) => return Err(Memory),
     };
-    if let Some(verdict) = at_outputs(alloc, space, stage, &base)? {
+    match at_outputs(alloc, space, stage, &base)? {
+        Some(verdict) => Ok(Err(verdict)),
+        None => Ok(Ok(base)),
+    }
+}
+
+/// The first that is said without an input bit or a cell. A variant for each.
+pub(crate) fn after_base<P: Space>(
+    alloc: Global,
+    space: &mut P,
+    stage: &Stage,
+    base: &Values,
+) -> Result<Option<Verdict>, Memory>
+    requires { IsReady (P.meaning space.old) stage.now base.now }
+    ensures { let stop = stopped_within (P.meaning space.old).limit in
+        IfOk result (λ answer. answer ≡ first_of (first_of (map (at_variant stop stage.now) (map Variant.Bit (below (length stage.now.inputs))))
+        ∷ first_of (map (at_variant stop stage.now) (map Variant.Cell (file_order stage.now))) ∷ [])) }
+{
+    if let Some(verdict) = at_bits(alloc, space, stage, base)? {
         return Ok(Some(verdict));
     }
-    if let Some(verdict) = at_bits(alloc, space, stage, &base)? {
-        return Ok(Some(verdict));
-    }
-    at_cells(alloc, space, stage, &base)
+    at_cells(alloc, space, stage, base)
 }
 
 // What a refusal of the space says: that the limit is passed, if it isn't want of memory.

@@ -2,7 +2,8 @@
 ghost use Rattle.std.specs.Prelude.{◌≡◌, ◌≤◌, [], ◌∷◌, IfOk};
 ghost use Rattle.ncl_verdict.specs.Judgement.{judgement, of_stage, stopped_at};
 
-use crate::in_space::first_answer;
+use crate::acceptance::is_accepted;
+use crate::in_space::{after_base, under_base};
 use crate::verdict::Verdict;
 use ncl_base::Memory;
 use ncl_diagram::Diagram;
@@ -12,8 +13,9 @@ use std::alloc::Global;
 /// The judgement of one stage with at most `limit` nodes: its first fault with the least word that shows it, or
 /// that it is sound, or that at some variant it has more nodes. An error is want of memory.
 ///
-/// For each input bit and each cell it evaluates the cells that the change reaches, at most all of them, each by one
-/// operation on diagrams.
+/// A stage that is small, and in which the gates that read a net observe it, is accepted by one operation on diagrams for
+/// each cell and three for each pin at most. For any other, for each input bit and each cell it evaluates the cells that the
+/// change reaches, at most all of them, each by one operation.
 pub fn judge_stage(alloc: Global, stage: &Stage, limit: u32) -> Result<Verdict, Memory>
     requires { 1 ≤ limit }
     ensures { IfOk result (λ verdict. verdict ≡ judgement limit (stage.now ∷ [])) }
@@ -48,5 +50,13 @@ fn refusal(alloc: Global, stage: &Stage, limit: u32) -> Result<Option<Verdict>, 
 {
     stage.facts();
     let mut space = Diagram::new(alloc, stage.inputs.items().len(), limit);
-    first_answer(alloc, &mut space, stage)
+    let base = match under_base(alloc, &mut space, stage)? {
+        Ok(base) => base,
+        Err(verdict) => return Ok(Some(verdict)),
+    };
+    let nodes = space.nodes();
+    if is_accepted(alloc, &mut space, stage, &base, nodes, limit)? {
+        return Ok(None);
+    }
+    after_base(alloc, &mut space, stage, &base)
 }

@@ -1,7 +1,9 @@
 //! The judgement of a pipeline.
 #![tactic(auto)]
 
+mod acceptance;
 pub mod examples;
+mod few;
 mod file_order;
 mod in_space;
 mod judging;

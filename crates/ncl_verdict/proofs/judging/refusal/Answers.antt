@@ -1,13 +1,31 @@
-use Rattle.std.proofs.Common.{◌≡◌, ◌∙◌, ap}
+use Rattle.std.proofs.Common.{◌≡◌, None, Some, sym, ◌∙◌, ap, subst}
+use Rattle.std.specs.Prelude.{MatchResult}
 use Rattle.std.proofs.lemmas.Result.{IfOk-weaker}
 use Rattle.ncl_shape.specs.Stage.{StageData}
-use Rattle.ncl_verdict.specs.Judgement.{of_stage, stopped_at}
-use Rattle.ncl_verdict.specs.InSpace.{stopped_within}
+use Rattle.ncl_space.specs.Space.{SpaceData}
+use Rattle.ncl_diagram.specs.Diagram.{diagram_space}
+use Rattle.ncl_stage.specs.declared.variant.Variant.TheVariants.{Base}
+use Rattle.ncl_verdict.specs.Judgement.{at_variant, of_stage, stopped_at}
+use Rattle.ncl_verdict.specs.InSpace.{IsReady, stopped_within}
+use Rattle.ncl_verdict.proofs.InSpaceLaws.{of_stage-said}
+use Rattle.ncl_verdict.proofs.Sound.{base-valid}
 use Rattle.ncl_verdict.proofs.judging.refusal.Goals as goal
+
+pub is_accepted-requires-clause-rails : goal.is_accepted-requires-clause-rails
+is_accepted-requires-clause-rails c =
+    let s : StageData = c.args.stage.now in
+    let old : SpaceData = diagram_space c.new-space.result in
+    let new : SpaceData = diagram_space c.under_base.new.space in
+    let said = subst (λ r. MatchResult r (λ base. (at_variant (stopped_within old.limit) s Base ≡ None) × IsReady new s base) (λ v. at_variant (stopped_within old.limit) s Base ≡ Some v)) c.in-Ok.is c.in_ok-base.ensures.answer in
+    base-valid (stopped_within old.limit) s said.0
 
 pub returns : goal.returns
 returns c =
     let s : StageData = c.args.stage.now in
-    IfOk-weaker c.first_answer.result _ (λ answer. answer ≡ of_stage (stopped_at c.args.limit) s)
-    (λ answer said. said ∙ ap (λ limit. of_stage (stopped_within limit) s) c.new-space.ensures.limit)
-    c.first_answer.ensures
+    let old : SpaceData = diagram_space c.new-space.result in
+    let new : SpaceData = diagram_space c.under_base.new.space in
+    let last : SpaceData = diagram_space c.is_accepted.new.space in
+    let said = subst (λ r. MatchResult r (λ base. (at_variant (stopped_within old.limit) s Base ≡ None) × IsReady new s base) (λ v. at_variant (stopped_within old.limit) s Base ≡ Some v)) c.in-Ok.is c.in_ok-base.ensures.answer in
+    IfOk-weaker c.after_base.result _ (λ answer. answer ≡ of_stage (stopped_at c.args.limit) s)
+    (λ answer is. is ∙ of_stage-said s last.limit old.limit (c.is_accepted.ensures.kept.limit ∙ c.under_base.ensures.kept.limit) said.0 ∙ ap (λ limit. of_stage (stopped_within limit) s) c.new-space.ensures.limit)
+    c.after_base.ensures

@@ -3,9 +3,9 @@ ghost use Rattle.std.specs.Prelude.{◌≡◌, ◌++◌, IfOk, OnOk};
 ghost use Rattle.ncl_report.specs.DemoText.{demo_lines, pair_line, size_line, word_lines};
 ghost use Rattle.ncl_report.specs.TraceText.{NamesItemOf};
 
-use crate::traces::{push_end_line, push_marks, push_number};
+use crate::traces::{push_end_line, push_marks};
 use ncl_base::{Memory, Word};
-use ncl_lines::push_word;
+use ncl_lines::{push_number, push_word};
 use ncl_shape::Pipeline;
 use ncl_sim::{Taken, Trace};
 use std::alloc::Global;

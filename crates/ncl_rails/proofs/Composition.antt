@@ -1,5 +1,5 @@
 -- What the pairs of a network show that is laid out, and what waits for what.
-use Rattle.std.proofs.Common.{◌≡◌, ℕ, zero, suc, ◌+◌, ◌<◌, Bool, true, false, List, [], ◌∷◌, ◌++◌, length, map, Some, inl, inr, refl, sym, subst, arith}
+use Rattle.std.proofs.Common.{◌≡◌, ℕ, suc, ◌+◌, ◌<◌, Bool, true, false, List, [], ◌∷◌, ◌++◌, length, map, Some, inl, inr, refl, sym, subst, arith}
 use Rattle.std.specs.Prelude.{All, Contains, slice_get}
 use Rattle.std.specs.List.{list_all, slice_index_or}
 use Rattle.std.proofs.lemmas.Bool.{cases_lt}
@@ -21,29 +21,19 @@ use Rattle.ncl_network.specs.declared.network.Network.{Network}
 use Rattle.ncl_network.specs.Network.{IsSource, ReadBefore, is_constant, source_value, signal_value, node_value, node_values, answer_of}
 use Rattle.ncl_network.proofs.Walking.{IsSource-more}
 use Rattle.ncl_template.specs.Template.{Shows, IsNull, ShowWord, Obeys, IsCase}
-use Rattle.ncl_rails.specs.Complete.{SourceReaches, output, reader, IsComplete}
+use Rattle.ncl_rails.specs.Complete.{IsComplete}
+use Rattle.ncl_rails.specs.Waiting.{IsCovered, Reaches, output, waiter}
+use Rattle.ncl_rails.proofs.Covering.{reads_before_at, node_reaches}
 use Rattle.ncl_rails.specs.Layout.{AreLaidOut, no_rails, source_pair, signal_pair}
 use Rattle.ncl_rails.proofs.Lists.{at_place, list_all-fails, Member-flat_map, member_from_flat_map}
 use Rattle.ncl_rails.proofs.Showing.{Shows-turned, IsNull-turned, null_has_none}
-
--- what a node reads is there before it, and so among all
-pub reads_before_at : (inputs place : ℕ) (nodes : List Node) → ReadBefore inputs place nodes → (k : ℕ) (node : Node) → slice_get nodes k ≡ Some node → All (λ (signal : Signal). IsSource inputs (place + k) signal.from) node.ins
-reads_before_at inputs place [] before k node at = absurd cc
-reads_before_at inputs place (first ∷ nodes) before zero node at =
-    let same : first ≡ node = cc in
-    let here : place ≡ place + 0 = omega arith in
-    subst (λ (n : Node). All (λ (signal : Signal). IsSource inputs (place + 0) signal.from) n.ins) same
-    (subst (λ n. All (λ (signal : Signal). IsSource inputs n signal.from) first.ins) here before.0)
-reads_before_at inputs place (first ∷ nodes) before (suc k) node at =
-    let count : (place + 1) + k ≡ place + suc k = omega arith in
-    subst (λ n. All (λ (signal : Signal). IsSource inputs n signal.from) node.ins) count (reads_before_at inputs (place + 1) nodes before.1 k node at)
 
 pub reads_at : (inputs place : ℕ) (nodes : List Node) → ReadBefore inputs place nodes → (k : ℕ) (node : Node) → slice_get nodes k ≡ Some node → All (λ (signal : Signal). IsSource inputs (place + length nodes) signal.from) node.ins
 reads_at inputs place nodes before k node at i d lt =
     let within : k < length nodes = slice_get_within nodes k node at in
     IsSource-more inputs (place + k) (place + length nodes) _ (omega (arith, within)) (reads_before_at inputs place nodes before k node at i d lt)
 
-module _ (network : Network) (inputs : List Rails) (cells : List StageCell) (pairs : List Rails) (complete : IsComplete network) (laid : AreLaidOut inputs network.nodes cells pairs) where
+module _ (network : Network) (waits : ℕ → List Signal) (inputs : List Rails) (cells : List StageCell) (pairs : List Rails) (complete : IsComplete network) (covered : IsCovered network waits) (laid : AreLaidOut inputs waits network.nodes cells pairs) where
   -- the pairs of the outputs
   unfoldable pub output_pairs : List Rails
   output_pairs = map (signal_pair inputs pairs) network.outputs
@@ -157,21 +147,21 @@ module _ (network : Network) (inputs : List Rails) (cells : List StageCell) (pai
           IsNull-turned v (source_pair inputs pairs signal.from) signal.inverted (subst (λ f. IsNull v (source_pair inputs pairs f)) (sym is) null)
 
       -- where a source that reaches an output is NULL, some output is NULL
-      pub null_reaches : (from : SignalSource) → SourceReaches network from → IsNull v (source_pair inputs pairs from) → list_all (has_data v) output_pairs ≡ false
+      pub null_reaches : (from : SignalSource) → Reaches network waits from → IsNull v (source_pair inputs pairs from) → list_all (has_data v) output_pairs ≡ false
       unfolding output_pairs
-      null_reaches _ (output from signal in_outputs is) null =
-          list_all-fails (has_data v) (signal_pair inputs pairs signal) (Member-map (signal_pair inputs pairs) signal (Member-from_Contains network.outputs signal in_outputs))
-          (null_has_none v (signal_pair inputs pairs signal) (signal_null signal from is null))
-      null_reaches _ (reader from by node signal at reads is reach) null =
-          let within : by < length network.nodes = slice_get_within network.nodes by node at in
-          let (part, found) = part_at by within in
-          let (pair, paired) = pair_at by within in
-          let template = laid.templates by node part pair at found paired in
+      null_reaches _ (output from given) null =
+          list_all-fails (has_data v) (signal_pair inputs pairs given.signal) (Member-map (signal_pair inputs pairs) given.signal (Member-from_Contains network.outputs given.signal given.given))
+          (null_has_none v (signal_pair inputs pairs given.signal) (signal_null given.signal from given.is null))
+      null_reaches _ (waiter from await reach) null =
+          let (node, at) = slice_get-some network.nodes await.by await.within in
+          let (part, found) = part_at await.by await.within in
+          let (pair, paired) = pair_at await.by await.within in
+          let template = laid.templates await.by node part pair at found paired in
           let out_null =
-          template.needs base v (map (signal_value word (node_values word [] network.nodes)) node.ins) (node_case by node part at found) (signal_pair inputs pairs signal)
-          (Contains-from_Member (signal_pair inputs pairs signal) (Member-map (signal_pair inputs pairs) signal (Member-from_Contains node.ins signal reads)))
-          (signal_null signal from is null) in
-          null_reaches (FromNode by) reach (subst (IsNull v) (sym (get_or_from_slice_get pairs by pair no_rails paired)) out_null)
+          template.needs base v (map (signal_value word (node_values word [] network.nodes)) node.ins) (node_case await.by node part at found) (signal_pair inputs pairs await.signal)
+          (Contains-from_Member (signal_pair inputs pairs await.signal) (Member-map (signal_pair inputs pairs) await.signal (Member-from_Contains (waits await.by) await.signal await.waited)))
+          (signal_null await.signal from await.is null) in
+          null_reaches (FromNode await.by) reach (subst (IsNull v) (sym (get_or_from_slice_get pairs await.by pair no_rails paired)) out_null)
 
       -- where a gate that is high in base is low, some output is NULL
       pub low_gate_reaches : (c : StageCell) → Member c cells → base (out_of c) ≡ true → v (out_of c) ≡ false → list_all (has_data v) output_pairs ≡ false
@@ -185,4 +175,4 @@ module _ (network : Network) (inputs : List Rails) (cells : List StageCell) (pai
           let (pair, paired) = pair_at k inside in
           let template = laid.templates k node part pair at found paired in
           let out_null = template.observed base v (map (signal_value word (node_values word [] network.nodes)) node.ins) (node_case k node part at found) c (Contains-from_Member c in_part) high low in
-          null_reaches (FromNode k) (complete.varying.nodes_reach k inside) (subst (IsNull v) (sym (get_or_from_slice_get pairs k pair no_rails paired)) out_null)
+          null_reaches (FromNode k) (node_reaches network waits covered complete.varying.reads_before k inside) (subst (IsNull v) (sym (get_or_from_slice_get pairs k pair no_rails paired)) out_null)

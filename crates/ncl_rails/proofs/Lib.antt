@@ -5,6 +5,8 @@ pub mod Reaching
 pub mod Replacing
 pub mod Joining
 pub mod Inputs
+pub mod Covering
+pub mod AllRead
 pub mod Composition
 pub mod Laying
 pub mod NetNames
@@ -13,4 +15,5 @@ pub mod Renaming
 pub mod Numbering
 pub mod Distinct
 pub mod Soundness
+pub mod CoveringLaws
 pub mod Whole

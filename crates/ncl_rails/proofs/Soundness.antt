@@ -22,7 +22,10 @@ use Rattle.ncl_network.specs.declared.network.SignalSource.TheVariants.{Input}
 use Rattle.ncl_network.specs.declared.network.Network.{Network}
 use Rattle.ncl_network.specs.Network.{answer_of}
 use Rattle.ncl_template.specs.Template.{Shows, IsNull, ShowWord}
-use Rattle.ncl_rails.specs.Complete.{SourceReaches, IsComplete}
+use Rattle.ncl_network.specs.declared.network.Signal.{Signal}
+use Rattle.ncl_rails.specs.Complete.{IsComplete}
+use Rattle.ncl_rails.specs.Waiting.{IsCovered, Reaches}
+use Rattle.ncl_rails.proofs.Covering.{input_reaches}
 use Rattle.ncl_rails.specs.Layout.{AreLaidOut, no_rails, source_pair}
 use Rattle.ncl_rails.proofs.Lists.{zip_at, zip_back}
 use Rattle.ncl_rails.proofs.InputLaws.{input_shown, input_null, cell_low, base_obeys, variant_supported}
@@ -36,9 +39,9 @@ holds_at-fails : {X : Type 0} (test : X → Bool) (o : Option X) → ((x : X) �
 holds_at-fails test None each = refl
 holds_at-fails test (Some x) each = each x refl
 
-module _ (network : Network) (inputs : List Rails) (cells : List StageCell) (pairs : List Rails) (complete : IsComplete network) (laid : AreLaidOut inputs network.nodes cells pairs) (count : length inputs ≡ network.inputs) (number : ℕ → ℕ) (s : StageData) (is : IsStage s) (same : IsRenamed number inputs cells (output_pairs network inputs cells pairs complete laid) s) where
+module _ (network : Network) (waits : ℕ → List Signal) (inputs : List Rails) (cells : List StageCell) (pairs : List Rails) (complete : IsComplete network) (covered : IsCovered network waits) (laid : AreLaidOut inputs waits network.nodes cells pairs) (count : length inputs ≡ network.inputs) (number : ℕ → ℕ) (s : StageData) (is : IsStage s) (same : IsRenamed number inputs cells (output_pairs network waits inputs cells pairs complete covered laid) s) where
   outs : List Rails
-  outs = output_pairs network inputs cells pairs complete laid
+  outs = output_pairs network waits inputs cells pairs complete covered laid
 
   -- the values by the numbers of the layout
   values : List Bool → Variant → Nets
@@ -88,23 +91,23 @@ module _ (network : Network) (inputs : List Rails) (cells : List StageCell) (pai
   outputs_answer word right =
       subst (λ rs. ShowWord (val s word Base) rs (answer_of network word)) (sym same.outputs)
       (word_new (val s word Base) number outs (answer_of network word)
-      (outputs_shown network inputs cells pairs complete laid (values word Base) word (obeyed word) (inputs_shown word right)))
+      (outputs_shown network waits inputs cells pairs complete covered laid (values word Base) word (obeyed word) (inputs_shown word right)))
 
   all_data_seen : (word : List Bool) (variant : Variant) → all_data s (val s word variant) ≡ list_all (has_data (values word variant)) outs
   unfolding values outs
   all_data_seen word variant = ap (list_all (has_data (val s word variant))) same.outputs ∙ data_new (val s word variant) number outs
 
-  null_spreads : (word : List Bool) → IsWordOf s word → (variant : Variant) (from : SignalSource) → SourceReaches network from → IsNull (values word variant) (source_pair inputs pairs from) → all_data s (val s word variant) ≡ false
+  null_spreads : (word : List Bool) → IsWordOf s word → (variant : Variant) (from : SignalSource) → Reaches network waits from → IsNull (values word variant) (source_pair inputs pairs from) → all_data s (val s word variant) ≡ false
   unfolding outs
   null_spreads word right variant from reach null =
       all_data_seen word variant
-      ∙ null_reaches network inputs cells pairs complete laid (values word Base) word (obeyed word) (inputs_shown word right) (values word variant) (below word variant) (supported word variant) from reach null
+      ∙ null_reaches network waits inputs cells pairs complete covered laid (values word Base) word (obeyed word) (inputs_shown word right) (values word variant) (below word variant) (supported word variant) from reach null
 
   low_gate_spreads : (word : List Bool) → IsWordOf s word → (g : ℕ) (c other : StageCell) → Member c cells → IsRenamedCell number c other → slice_get s.cells g ≡ Some other → val s word Base (out_of other) ≡ true → all_data s (val s word (Cell g)) ≡ false
   unfolding values outs
   low_gate_spreads word right g c other m gate at high =
       all_data_seen word (Cell g)
-      ∙ low_gate_reaches network inputs cells pairs complete laid (values word Base) word (obeyed word) (inputs_shown word right) (values word (Cell g)) (below word (Cell g)) (supported word (Cell g)) c m
+      ∙ low_gate_reaches network waits inputs cells pairs complete covered laid (values word Base) word (obeyed word) (inputs_shown word right) (values word (Cell g)) (below word (Cell g)) (supported word (Cell g)) c m
       (sym (out_same (val s word Base) c other gate) ∙ high)
       (sym (out_same (val s word (Cell g)) c other gate) ∙ cell_low s is word g other at)
 
@@ -124,7 +127,7 @@ module _ (network : Network) (inputs : List Rails) (cells : List StageCell) (pai
       let within : i < length s.inputs = slice_get_within s.inputs i r at in
       let old : Rails = get_or inputs i no_rails in
       let stands : slice_get inputs i ≡ Some old = slice_get-get_or inputs i no_rails (omega (arith, within, wide)) in
-      null_spreads word right (Bit i) (Input i) (complete.inputs_reach i (omega (arith, within, wide, count)))
+      null_spreads word right (Bit i) (Input i) (input_reaches network waits covered complete.varying.reads_before i (omega (arith, within, wide, count)))
       (null_old (val s word (Bit i)) number old (input_null s is word i (renamed_rails number old) (stage_input i old stands))))
   is_sound (Orphan g) word right =
       holds_at-fails (λ (c : StageCell). val s word Base c.out.0 && all_data s (val s word (Cell g))) (slice_get s.cells g)

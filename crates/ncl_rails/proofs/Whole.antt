@@ -26,6 +26,7 @@ use Rattle.ncl_tree.specs.NamePairs.{pair_names}
 use Rattle.ncl_tree.specs.PartNames.{IsPartName, most_parts}
 use Rattle.ncl_rails.specs.declared.parts.StageParts.{StageParts}
 use Rattle.ncl_rails.specs.Complete.{IsComplete, AnswersAs}
+use Rattle.ncl_rails.specs.Waiting.{IsCovered}
 use Rattle.ncl_rails.specs.Layout.{IsLaidOut, input_pair, input_pairs, signal_pair}
 use Rattle.ncl_rails.specs.Named.{IsNamed, CanBeNamed, name_of_net, name_of_pair, part_of_gate}
 use Rattle.ncl_rails.specs.Naming.{names_known, IsNumberedStage}
@@ -39,7 +40,7 @@ use Rattle.ncl_rails.proofs.Composition.{output_pairs}
 use Rattle.ncl_rails.proofs.Soundness.{is_sound, outputs_answer}
 use Rattle.ncl_rails.proofs.Distinct.{AllDiffer-from, cells_differ, nets_differ, known_differ, cell_formed, net_formed, no_cell_is_net}
 
-module _ (network : Network) (ins : List NamePair) (prefix : List ℕ) (can : CanBeStage network ins prefix) (complete : Network) (is : IsComplete complete) (alike : AnswersAs network complete) (cost : cost_of_network complete ≤ cost_of_network network + 2 * network.inputs + 2 * length network.outputs) (gates : GatesData) (numbered : AreNumbered gates) (outs : List Rails) (laid : IsLaidOut complete gates outs) where
+module _ (network : Network) (ins : List NamePair) (prefix : List ℕ) (can : CanBeStage network ins prefix) (complete : Network) (is : IsComplete complete) (alike : AnswersAs network complete) (cost : cost_of_network complete ≤ cost_of_network network + 2 * network.inputs + 2 * length network.outputs) (gates : GatesData) (numbered : AreNumbered gates) (outs : List Rails) (waits : ℕ → List Signal) (covered : IsCovered complete waits) (laid : IsLaidOut complete waits gates outs) where
   count : length ins ≡ complete.inputs
   count = can.as_many ∙ sym alike.inputs
 
@@ -59,7 +60,7 @@ module _ (network : Network) (ins : List NamePair) (prefix : List ℕ) (can : Ca
   outs_known : (net : ℕ) → Member net (rail_nets outs) → Contains (nets_of (input_pairs complete.inputs) gates.cells) net
   outs_known net m =
       rail_known (nets_of (input_pairs complete.inputs) gates.cells) (map (signal_pair (input_pairs complete.inputs) laid.pairs) complete.outputs)
-      (signals_known (input_pairs complete.inputs) complete.nodes gates.cells laid.pairs laid.nodes complete.outputs
+      (signals_known (input_pairs complete.inputs) waits complete.nodes gates.cells laid.pairs laid.nodes complete.outputs
       (subst (λ n. All (λ (s : Signal). IsSource n (length laid.pairs) s.from) complete.outputs) (sym length_inputs)
       (subst (λ k. All (λ (s : Signal). IsSource complete.inputs k s.from) complete.outputs) (sym laid.nodes.pairs_as_many) is.varying.outputs_exist))
       is.varying.no_constant_output)
@@ -102,17 +103,17 @@ module _ (network : Network) (ins : List NamePair) (prefix : List ℕ) (can : Ca
         (omega (arith, can.few_outputs, length_outs))
         nets_apart numbers.cells_differ laid.nodes.arities laid.nodes.in_order outs_known
 
-    same_outs : IsRenamed (renumber number (pair_names ins) prefix) (input_pairs complete.inputs) gates.cells (output_pairs complete (input_pairs complete.inputs) gates.cells laid.pairs is laid.nodes) s
+    same_outs : IsRenamed (renumber number (pair_names ins) prefix) (input_pairs complete.inputs) gates.cells (output_pairs complete waits (input_pairs complete.inputs) gates.cells laid.pairs is covered laid.nodes) s
     unfolding output_pairs
     same_outs = subst (λ rs. IsRenamed (renumber number (pair_names ins) prefix) (input_pairs complete.inputs) gates.cells rs s) laid.outputs same
 
     numbered_is_sound : IsSound s
-    numbered_is_sound = is_sound complete (input_pairs complete.inputs) gates.cells laid.pairs is laid.nodes length_inputs (renumber number (pair_names ins) prefix) s numbered_is_stage same_outs
+    numbered_is_sound = is_sound complete waits (input_pairs complete.inputs) gates.cells laid.pairs is covered laid.nodes length_inputs (renumber number (pair_names ins) prefix) s numbered_is_stage same_outs
 
     numbered_answers : (word : List Bool) → IsWordOf s word → map (λ (r : Rails). val s word Base r.one.0) s.outputs ≡ answer_of network word
     numbered_answers word right =
         ones_shown (val s word Base) s.outputs (answer_of complete word)
-        (outputs_answer complete (input_pairs complete.inputs) gates.cells laid.pairs is laid.nodes length_inputs (renumber number (pair_names ins) prefix) s numbered_is_stage same_outs word right)
+        (outputs_answer complete waits (input_pairs complete.inputs) gates.cells laid.pairs is covered laid.nodes length_inputs (renumber number (pair_names ins) prefix) s numbered_is_stage same_outs word right)
         ∙ alike.same word
 
   -- ---- the parts

@@ -3,3 +3,4 @@ pub mod Layout
 pub mod Named
 pub mod Naming
 pub mod StageParts
+pub mod Waiting

@@ -4,9 +4,11 @@
 mod complete;
 mod constants;
 mod copies;
+mod held;
 mod layout;
 mod naming;
 mod parts;
+mod relaxing;
 mod signal_pairs;
 mod unread;
 

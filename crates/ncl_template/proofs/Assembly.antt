@@ -34,7 +34,7 @@ pub record RailGroup (class : List Bool → Bool) (ins : List Rails) (under gate
   pub leaves : List Leaf
   pub tree : List StageCell
   pub all : map leaf_cell leaves ++ tree ≡ gates
-  pub is : IsGroup class ins under leaves tree root
+  pub is : IsGroup class ins ins under leaves tree root
 
 module _ (a : Rails) (rest ys : List Rails) (gx gy : List StageCell) (cs ds : List NetId) (first second : List Bool → ℕ) (c_code : IsCode first (a ∷ rest) gx cs) (d_code : IsCode second ys gy ds) where
   rail_group : (test : ℕ → ℕ → Bool) (class : List Bool → Bool) → ((word : List Bool) → length word ≡ length ((a ∷ rest) ++ ys) → test (first (front (a ∷ rest) word)) (second (back (a ∷ rest) word)) ≡ class word) → (gates : List StageCell) (root : NetId) → IsRail test cs ds a gates root → RailGroup class ((a ∷ rest) ++ ys) (gx ++ gy) gates root
@@ -66,13 +66,13 @@ module _ (a : Rails) (rest ys : List Rails) (gx gy : List StageCell) (cs ds : Li
   }
 
   -- two rails are a template
-  rails_template : (f : List Bool → Bool) (test0 test1 : ℕ → ℕ → Bool) (zeros ones : List StageCell) (root0 root1 : NetId) → ((word : List Bool) → length word ≡ length ((a ∷ rest) ++ ys) → test0 (first (front (a ∷ rest) word)) (second (back (a ∷ rest) word)) ≡ not (f word)) → ((word : List Bool) → length word ≡ length ((a ∷ rest) ++ ys) → test1 (first (front (a ∷ rest) word)) (second (back (a ∷ rest) word)) ≡ f word) → IsRail test0 cs ds a zeros root0 → IsRail test1 cs ds a ones root1 → IsTemplate f ((a ∷ rest) ++ ys) ((gx ++ gy) ++ (zeros ++ ones)) (record { zero = root0; one = root1 })
+  rails_template : (f : List Bool → Bool) (test0 test1 : ℕ → ℕ → Bool) (zeros ones : List StageCell) (root0 root1 : NetId) → ((word : List Bool) → length word ≡ length ((a ∷ rest) ++ ys) → test0 (first (front (a ∷ rest) word)) (second (back (a ∷ rest) word)) ≡ not (f word)) → ((word : List Bool) → length word ≡ length ((a ∷ rest) ++ ys) → test1 (first (front (a ∷ rest) word)) (second (back (a ∷ rest) word)) ≡ f word) → IsRail test0 cs ds a zeros root0 → IsRail test1 cs ds a ones root1 → IsTemplate f ((a ∷ rest) ++ ys) ((a ∷ rest) ++ ys) ((gx ++ gy) ++ (zeros ++ ones)) (record { zero = root0; one = root1 })
   rails_template f test0 test1 zeros ones root0 root1 same0 same1 rail0 rail1 =
       let group0 = rail_group test0 (λ word. not (f word)) same0 zeros root0 rail0 in
       let group1 = rail_group test1 f same1 ones root1 rail1 in
-      subst (λ ones. IsTemplate f ((a ∷ rest) ++ ys) ((gx ++ gy) ++ (zeros ++ ones)) (record { zero = root0; one = root1 })) group1.all
-      (subst (λ zeros. IsTemplate f ((a ∷ rest) ++ ys) ((gx ++ gy) ++ (zeros ++ (map leaf_cell group1.leaves ++ group1.tree))) (record { zero = root0; one = root1 })) group0.all
-      (template_of_groups f ((a ∷ rest) ++ ys) (gx ++ gy) group0.leaves group1.leaves group0.tree group1.tree root0 root1 group0.is group1.is))
+      subst (λ ones. IsTemplate f ((a ∷ rest) ++ ys) ((a ∷ rest) ++ ys) ((gx ++ gy) ++ (zeros ++ ones)) (record { zero = root0; one = root1 })) group1.all
+      (subst (λ zeros. IsTemplate f ((a ∷ rest) ++ ys) ((a ∷ rest) ++ ys) ((gx ++ gy) ++ (zeros ++ (map leaf_cell group1.leaves ++ group1.tree))) (record { zero = root0; one = root1 })) group0.all
+      (template_of_groups f ((a ∷ rest) ++ ys) ((a ∷ rest) ++ ys) (gx ++ gy) group0.leaves group1.leaves group0.tree group1.tree root0 root1 group0.is group1.is))
 
 -- ---- codes for a table
 
@@ -99,7 +99,7 @@ module _ (table : Table) (a b : Rails) (ys : List Rails) (gx gy : List StageCell
   value_at_word (x ∷ []) len = absurd (omega (arith, len))
   value_at_word (x ∷ y ∷ word) len = value_at_classes x y word (omega (arith, len))
 
-  pub table_template : (zeros ones : List StageCell) (out : Rails) → IsRail (one_at (inverse_table table) first second) (map class_net first) (map class_net second) a zeros out.zero → IsRail (one_at table first second) (map class_net first) (map class_net second) a ones out.one → IsTemplate (table_value table) (a ∷ b ∷ ys) ((gx ++ gy) ++ (zeros ++ ones)) out
+  pub table_template : (zeros ones : List StageCell) (out : Rails) → IsRail (one_at (inverse_table table) first second) (map class_net first) (map class_net second) a zeros out.zero → IsRail (one_at table first second) (map class_net first) (map class_net second) a ones out.one → IsTemplate (table_value table) (a ∷ b ∷ ys) (a ∷ b ∷ ys) ((gx ++ gy) ++ (zeros ++ ones)) out
   table_template zeros ones out rail0 rail1 =
       rails_template a (b ∷ []) ys gx gy (map class_net first) (map class_net second) c_code.class_of d_code.class_of c_code.is d_code.is (table_value table) (one_at (inverse_table table) first second) (one_at table first second) zeros ones out.zero out.one
       (λ word len. bit_at-inverse table (class_at first (c_code.class_of (front (a ∷ b ∷ []) word))).word (class_at second (d_code.class_of (back (a ∷ b ∷ []) word))).word ∙ ap not (value_at_word word len))

@@ -53,7 +53,7 @@ at_map f (x ∷ xs) (suc k) y at = at_map f xs k y at
 
 -- ---- groups make a code
 
-module _ (class : List Bool → ℕ) (ins : List Rails) (under : List StageCell) (groups : List Group) (are : (k : ℕ) (group : Group) → slice_get groups k ≡ Some group → IsGroup (λ word. nat_eq k (class word)) ins under group.leaves group.tree group.root) where
+module _ (class : List Bool → ℕ) (ins : List Rails) (under : List StageCell) (groups : List Group) (are : (k : ℕ) (group : Group) → slice_get groups k ≡ Some group → IsGroup (λ word. nat_eq k (class word)) ins ins under group.leaves group.tree group.root) where
   under_within : (c : StageCell) → Member c under → Member c (under ++ flat_map own_gates groups)
   under_within c m = Member-append_left c (flat_map own_gates groups) m
 
@@ -63,7 +63,7 @@ module _ (class : List Bool → ℕ) (ins : List Rails) (under : List StageCell)
 
   code_value : (base : Nets) (word : List Bool) → Obeys base (under ++ flat_map own_gates groups) → ShowWord base ins word → (k : ℕ) (group : Group) → slice_get groups k ≡ Some group → base group.root.0 ≡ nat_eq k (class word)
   code_value base word obeys shown k group at =
-      group_value (λ w. nat_eq k (class w)) ins under group.leaves group.tree group.root (are k group at) (under ++ flat_map own_gates groups) under_within (own_within k group at) base word obeys shown
+      group_value (λ w. nat_eq k (class w)) ins ins under group.leaves group.tree group.root (are k group at) (under ++ flat_map own_gates groups) under_within (own_within k group at) base word obeys shown
 
   -- what holds of each root holds of each net
   at_roots : (P : NetId → Type 0) → ((k : ℕ) (group : Group) → slice_get groups k ≡ Some group → P group.root) → (net : NetId) → Contains (map group_root groups) net → P net
@@ -76,13 +76,13 @@ module _ (class : List Bool → ℕ) (ins : List Rails) (under : List StageCell)
   own_low base v word case j own found c m high low k group at =
       false_from_ne_true _
       (λ up.
-      let own_up : base own.root.0 ≡ true = group_up (λ w. nat_eq j (class w)) ins under own.leaves own.tree own.root (are j own found) (under ++ flat_map own_gates groups) under_within (own_within j own found) base word case.obeys case.shown c m high in
+      let own_up : base own.root.0 ≡ true = group_up (λ w. nat_eq j (class w)) ins ins under own.leaves own.tree own.root (are j own found) (under ++ flat_map own_gates groups) under_within (own_within j own found) base word case.obeys case.shown c m high in
       let j_is : j ≡ class word = eqb-true j (class word) (sym (code_value base word case.obeys case.shown j own found) ∙ own_up) in
       let k_is : k ≡ class word = eqb-true k (class word) (sym (code_value base word case.obeys case.shown k group at) ∙ case.below group.root.0 up) in
       let same : j ≡ k = j_is ∙ sym k_is in
       let one : slice_get groups k ≡ Some own = subst (λ x. slice_get groups x ≡ Some own) same found in
       let groups_same : own ≡ group = cc in
-      let own_is_low : v own.root.0 ≡ false = group_observed (λ w. nat_eq j (class w)) ins under own.leaves own.tree own.root (are j own found) (under ++ flat_map own_gates groups) under_within (own_within j own found) base word case.obeys case.shown v case.below case.supported c m high low in
+      let own_is_low : v own.root.0 ≡ false = group_observed (λ w. nat_eq j (class w)) ins ins under own.leaves own.tree own.root (are j own found) (under ++ flat_map own_gates groups) under_within (own_within j own found) base word case.obeys case.shown v case.below case.supported c m high low in
       both_ways _ (subst (λ (g : Group). v g.root.0 ≡ false) groups_same own_is_low) up)
 
   pub code_of_groups : ((word : List Bool) → length word ≡ length ins → class word < length (map group_root groups)) → IsCode class ins (under ++ flat_map own_gates groups) (map group_root groups)
@@ -93,12 +93,12 @@ module _ (class : List Bool → ℕ) (ins : List Rails) (under : List StageCell)
         subst (λ (n : NetId). base n.0 ≡ nat_eq k (class word)) same (code_value base word obeys shown k group found);
     needs = λ base v word case r m null.
         at_roots (λ (n : NetId). v n.0 ≡ false)
-        (λ k group at. group_waits (λ w. nat_eq k (class w)) ins under group.leaves group.tree group.root (are k group at) (under ++ flat_map own_gates groups) under_within (own_within k group at) base word case.obeys case.shown v case.below case.supported r m null);
+        (λ k group at. group_waits (λ w. nat_eq k (class w)) ins ins under group.leaves group.tree group.root (are k group at) (under ++ flat_map own_gates groups) under_within (own_within k group at) base word case.obeys case.shown v case.below case.supported r m null);
     observed = λ base v word case c m high low.
         at_roots (λ (n : NetId). v n.0 ≡ false)
         (λ k group at.
         elim (Member-append_cases c under (flat_map own_gates groups) (Member-from_Contains (under ++ flat_map own_gates groups) c m)) [
-          | inl below ↦ group_observes (λ w. nat_eq k (class w)) ins under group.leaves group.tree group.root (are k group at) (under ++ flat_map own_gates groups) under_within (own_within k group at) base word case.obeys case.shown v case.below case.supported c (Contains-from_Member c below) high low
+          | inl below ↦ group_observes (λ w. nat_eq k (class w)) ins ins under group.leaves group.tree group.root (are k group at) (under ++ flat_map own_gates groups) under_within (own_within k group at) base word case.obeys case.shown v case.below case.supported c (Contains-from_Member c below) high low
           | inr own ↦
               let (other, in_groups, in_own) = member_from_flat_map own_gates c groups own in
               let (j, found) = slice_get-from_Contains groups other (Contains-from_Member other in_groups) in
@@ -179,13 +179,13 @@ module _ (first second : List Bool → ℕ) (xs ys : List Rails) (gx gy : List S
       case.below
 
   -- a gate over two codes is a leaf
-  pub leaf_of_codes : (leaf : PairLeaf) → IsPairLeaf cs ds leaf → IsLeaf (xs ++ ys) (gx ++ gy) (word_leaf xs first second leaf)
+  pub leaf_of_codes : (leaf : PairLeaf) → IsPairLeaf cs ds leaf → IsLeaf (xs ++ ys) (xs ++ ys) (gx ++ gy) (word_leaf xs first second leaf)
   leaf_of_codes leaf is = record {
     exact = λ base word obeys shown.
         is.exact base (first (front xs word)) (second (back xs word))
         (c_code.value base (front xs word) (Obeys-some base (gx ++ gy) gx (λ c m. Member-append_left c gy m) obeys) (shown_parts base xs ys word shown).0)
         (d_code.value base (back xs word) (Obeys-some base (gx ++ gy) gy (λ c m. Member-append_right gx c m) obeys) (shown_parts base xs ys word shown).1);
-    waits = λ base v word case r m null.
+    waits_for = λ base v word case r m null.
         leaf_waits leaf is base v word case
         (elim (Member-append_cases r xs ys (Member-from_Contains (xs ++ ys) r m)) [
           | inl n ↦ inl (c_code.needs base v (front xs word) (case_first base v word case) r (Contains-from_Member r n) null)
@@ -207,7 +207,7 @@ module _ (first second : List Bool → ℕ) (xs ys : List Rails) (gx gy : List S
   leaves_apart [] word apart = tt
   leaves_apart (leaf ∷ leaves) word apart = (λ at. leaves_any leaves word ∙ apart.0 at, leaves_apart leaves word apart.1)
 
-  leaves_are : (leaves : List PairLeaf) → ((leaf : PairLeaf) → Member leaf leaves → IsPairLeaf cs ds leaf) → (l : Leaf) → Member l (map (word_leaf xs first second) leaves) → IsLeaf (xs ++ ys) (gx ++ gy) l
+  leaves_are : (leaves : List PairLeaf) → ((leaf : PairLeaf) → Member leaf leaves → IsPairLeaf cs ds leaf) → (l : Leaf) → Member l (map (word_leaf xs first second) leaves) → IsLeaf (xs ++ ys) (xs ++ ys) (gx ++ gy) l
   leaves_are [] each l m = elim m [ ]
   leaves_are (leaf ∷ leaves) each _ here = leaf_of_codes leaf (each leaf here)
   leaves_are (leaf ∷ leaves) each l (there m) = leaves_are leaves (λ x n. each x (there n)) l m
@@ -217,7 +217,7 @@ module _ (first second : List Bool → ℕ) (xs ys : List Rails) (gx gy : List S
   leaf_nets (leaf ∷ leaves) = ap (λ nets. leaf.cell.out ∷ nets) (leaf_nets leaves)
 
   -- a group over two codes
-  pub group_of_codes : (class : ℕ → ℕ → Bool) (leaves : List PairLeaf) (tree : List StageCell) (root : NetId) → AreLeaves class cs ds leaves → GateTree Any (map pair_net leaves) tree root → IsGroup (λ word. class (first (front xs word)) (second (back xs word))) (xs ++ ys) (gx ++ gy) (map (word_leaf xs first second) leaves) tree root
+  pub group_of_codes : (class : ℕ → ℕ → Bool) (leaves : List PairLeaf) (tree : List StageCell) (root : NetId) → AreLeaves class cs ds leaves → GateTree Any (map pair_net leaves) tree root → IsGroup (λ word. class (first (front xs word)) (second (back xs word))) (xs ++ ys) (xs ++ ys) (gx ++ gy) (map (word_leaf xs first second) leaves) tree root
   group_of_codes class leaves tree root is is_tree = record {
     are_leaves = λ l m. leaves_are leaves (λ leaf n. is.are_leaves leaf (Contains-from_Member leaf n)) l (Member-from_Contains (map (word_leaf xs first second) leaves) l m);
     apart = λ word len.

@@ -116,11 +116,11 @@ module _ (table : Table) (a b : Rails) (gates : List ClassGate) (words_are : map
   first_at : (k : ℕ) (gate : ClassGate) → slice_get gates k ≡ Some gate → slice_get (first_words table) k ≡ Some gate.word
   first_at k gate at = subst (λ words. slice_get words k ≡ Some gate.word) words_are (slice_get-map gate_word gates k ∙ ap (option_map gate_word) at)
 
-  group_is : (k : ℕ) (group : Group) → slice_get (map group_of gates) k ≡ Some group → IsGroup (λ word. nat_eq k (class_of word)) (a ∷ b ∷ []) [] group.leaves group.tree group.root
+  group_is : (k : ℕ) (group : Group) → slice_get (map group_of gates) k ≡ Some group → IsGroup (λ word. nat_eq k (class_of word)) (a ∷ b ∷ []) (a ∷ b ∷ []) [] group.leaves group.tree group.root
   group_is k group at =
       let (gate, found, same) = at_map group_of gates k group at in
-      subst (λ (group : Group). IsGroup (λ word. nat_eq k (class_of word)) (a ∷ b ∷ []) [] group.leaves group.tree group.root) same
-      (group_of_one (λ word. nat_eq k (class_of word)) (a ∷ b ∷ []) [] (leaf_of gate)
+      subst (λ (group : Group). IsGroup (λ word. nat_eq k (class_of word)) (a ∷ b ∷ []) (a ∷ b ∷ []) [] group.leaves group.tree group.root) same
+      (group_of_one (λ word. nat_eq k (class_of word)) (a ∷ b ∷ []) (a ∷ b ∷ []) [] (leaf_of gate)
       (two_leaf (words_with table (row_at table gate.word)) a b gate.cell (are gate (Member-from_Contains gates gate (Contains-from_slice_get gates k gate found))))
       (λ word len. bit_at-words_with table (row_at table gate.word) (pair_number word) ∙ class_place table (pair_number word) k gate.word (first_at k gate found)))
 

@@ -20,11 +20,11 @@ pub record Leaf : Type 0 where
   pub cell : StageCell
   pub at : List Bool → Bool
 
--- over gates that come before it, a leaf is set exactly at its words; it waits for each input pair, and for
--- each of the gates before it that is high
-pub record IsLeaf (ins : List Rails) (under : List StageCell) (leaf : Leaf) : Type 0 where
+-- over gates that come before it, a leaf is set exactly at its words; it waits for some input pairs,
+-- and for each of the gates before it that is high
+pub record IsLeaf (ins waits : List Rails) (under : List StageCell) (leaf : Leaf) : Type 0 where
   pub exact : (base : Nets) (word : List Bool) → Obeys base under → ShowWord base ins word → holds base leaf.cell ≡ leaf.at word
-  pub waits : (base v : Nets) (word : List Bool) → IsCase base v ins under word → (r : Rails) → Contains ins r → IsNull v r → holds v leaf.cell ≡ false
+  pub waits_for : (base v : Nets) (word : List Bool) → IsCase base v ins under word → (r : Rails) → Contains waits r → IsNull v r → holds v leaf.cell ≡ false
   pub observes : (base v : Nets) (word : List Bool) → IsCase base v ins under word → (c : StageCell) → Contains under c → base (out_of c) ≡ true → v (out_of c) ≡ false → holds v leaf.cell ≡ false
 
 -- no two leaves are of one word
@@ -39,8 +39,8 @@ abbrev pub leaf_cell : Leaf → StageCell
 leaf_cell leaf = leaf.cell
 
 -- leaves and a tree over them, whose root is high exactly at the words of a class
-pub record IsGroup (class : List Bool → Bool) (ins : List Rails) (under : List StageCell) (leaves : List Leaf) (tree : List StageCell) (root : NetId) : Type 0 where
-  pub are_leaves : (leaf : Leaf) → Contains leaves leaf → IsLeaf ins under leaf
+pub record IsGroup (class : List Bool → Bool) (ins waits : List Rails) (under : List StageCell) (leaves : List Leaf) (tree : List StageCell) (root : NetId) : Type 0 where
+  pub are_leaves : (leaf : Leaf) → Contains leaves leaf → IsLeaf ins waits under leaf
   pub apart : (word : List Bool) → length word ≡ length ins → AreApart leaves word
   pub covers : (word : List Bool) → length word ≡ length ins → list_any (λ (l : Leaf). l.at word) leaves ≡ class word
   pub is_tree : GateTree Any (map leaf_net leaves) tree root
@@ -91,14 +91,14 @@ member_leaf (leaf ∷ leaves) _ here = (leaf, here, refl)
 member_leaf (leaf ∷ leaves) c (there m) = let (l, n, at) = member_leaf leaves c m in (l, there n, at)
 
 -- a group among other gates
-module _ (class : List Bool → Bool) (ins : List Rails) (under : List StageCell) (leaves : List Leaf) (tree : List StageCell) (root : NetId) (is : IsGroup class ins under leaves tree root) (all : List StageCell) (under_within : (c : StageCell) → Member c under → Member c all) (own_within : (c : StageCell) → Member c (map leaf_cell leaves ++ tree) → Member c all) where
+module _ (class : List Bool → Bool) (ins waits : List Rails) (under : List StageCell) (leaves : List Leaf) (tree : List StageCell) (root : NetId) (is : IsGroup class ins waits under leaves tree root) (all : List StageCell) (under_within : (c : StageCell) → Member c under → Member c all) (own_within : (c : StageCell) → Member c (map leaf_cell leaves ++ tree) → Member c all) where
   tree_within : (c : StageCell) → Member c tree → Member c all
   tree_within c m = own_within c (Member-append_right (map leaf_cell leaves) c m)
 
   leaf_within : (leaf : Leaf) → Member leaf leaves → Member leaf.cell all
   leaf_within leaf m = own_within leaf.cell (Member-append_left leaf.cell tree (Member-map leaf_cell leaf m))
 
-  leaf_is : (leaf : Leaf) → Member leaf leaves → IsLeaf ins under leaf
+  leaf_is : (leaf : Leaf) → Member leaf leaves → IsLeaf ins waits under leaf
   leaf_is leaf m = is.are_leaves leaf (Contains-from_Member leaf m)
 
   module _ (base : Nets) (word : List Bool) (obeys : Obeys base all) (shown : ShowWord base ins word) where
@@ -144,8 +144,8 @@ module _ (class : List Bool → Bool) (ins : List Rails) (under : List StageCell
           (tree_low v (map leaf_net leaves) tree root is.is_tree (IsSupported-some v all tree tree_within supported)
           (nets_low v leaves (λ leaf m. low_from_unset v leaf.cell (supported.each leaf.cell (Contains-from_Member leaf.cell (leaf_within leaf m))) (unset leaf m)))).at_root
 
-      pub group_waits : (r : Rails) → Contains ins r → IsNull v r → v root.0 ≡ false
-      group_waits r m null = all_low (λ leaf n. (leaf_is leaf n).waits base v word under_case r m null)
+      pub group_waits : (r : Rails) → Contains waits r → IsNull v r → v root.0 ≡ false
+      group_waits r m null = all_low (λ leaf n. (leaf_is leaf n).waits_for base v word under_case r m null)
 
       pub group_observes : (c : StageCell) → Contains under c → base (out_of c) ≡ true → v (out_of c) ≡ false → v root.0 ≡ false
       group_observes c m high low = all_low (λ leaf n. (leaf_is leaf n).observes base v word under_case c m high low)
@@ -169,8 +169,8 @@ Shows-from v r true low high = record { high = high; low = low }
 Shows-from v r false high low = record { high = high; low = low }
 
 -- two groups over the same gates, one for each value of a function, are a template of it
-module _ (f : List Bool → Bool) (ins : List Rails) (under : List StageCell) (zeros ones : List Leaf) (tree0 tree1 : List StageCell) (root0 root1 : NetId) (group0 : IsGroup (λ word. not (f word)) ins under zeros tree0 root0) (group1 : IsGroup f ins under ones tree1 root1) where
-  pub template_of_groups : IsTemplate f ins (under ++ ((map leaf_cell zeros ++ tree0) ++ (map leaf_cell ones ++ tree1))) (record { zero = root0; one = root1 })
+module _ (f : List Bool → Bool) (ins waits : List Rails) (under : List StageCell) (zeros ones : List Leaf) (tree0 tree1 : List StageCell) (root0 root1 : NetId) (group0 : IsGroup (λ word. not (f word)) ins waits under zeros tree0 root0) (group1 : IsGroup f ins waits under ones tree1 root1) where
+  pub template_of_groups : IsTemplate f ins waits (under ++ ((map leaf_cell zeros ++ tree0) ++ (map leaf_cell ones ++ tree1))) (record { zero = root0; one = root1 })
   template_of_groups =
       let all : List StageCell = under ++ ((map leaf_cell zeros ++ tree0) ++ (map leaf_cell ones ++ tree1)) in
       let in_under : (c : StageCell) → Member c under → Member c all = λ c m. Member-append_left c ((map leaf_cell zeros ++ tree0) ++ (map leaf_cell ones ++ tree1)) m in
@@ -179,35 +179,35 @@ module _ (f : List Bool → Bool) (ins : List Rails) (under : List StageCell) (z
       record {
         value = λ base word obeys shown.
             Shows-from base (record { zero = root0; one = root1 }) (f word)
-            (group_value (λ w. not (f w)) ins under zeros tree0 root0 group0 all in_under in_zeros base word obeys shown)
-            (group_value f ins under ones tree1 root1 group1 all in_under in_ones base word obeys shown);
+            (group_value (λ w. not (f w)) ins waits under zeros tree0 root0 group0 all in_under in_zeros base word obeys shown)
+            (group_value f ins waits under ones tree1 root1 group1 all in_under in_ones base word obeys shown);
         needs = λ base v word case r m null. record {
-          zero = group_waits (λ w. not (f w)) ins under zeros tree0 root0 group0 all in_under in_zeros base word case.obeys case.shown v case.below case.supported r m null;
-          one = group_waits f ins under ones tree1 root1 group1 all in_under in_ones base word case.obeys case.shown v case.below case.supported r m null;
+          zero = group_waits (λ w. not (f w)) ins waits under zeros tree0 root0 group0 all in_under in_zeros base word case.obeys case.shown v case.below case.supported r m null;
+          one = group_waits f ins waits under ones tree1 root1 group1 all in_under in_ones base word case.obeys case.shown v case.below case.supported r m null;
         };
         observed = λ base v word case c m high low.
-            let value0 : base root0.0 ≡ not (f word) = group_value (λ w. not (f w)) ins under zeros tree0 root0 group0 all in_under in_zeros base word case.obeys case.shown in
-            let value1 : base root1.0 ≡ f word = group_value f ins under ones tree1 root1 group1 all in_under in_ones base word case.obeys case.shown in
+            let value0 : base root0.0 ≡ not (f word) = group_value (λ w. not (f w)) ins waits under zeros tree0 root0 group0 all in_under in_zeros base word case.obeys case.shown in
+            let value1 : base root1.0 ≡ f word = group_value f ins waits under ones tree1 root1 group1 all in_under in_ones base word case.obeys case.shown in
             elim (Member-append_cases c under ((map leaf_cell zeros ++ tree0) ++ (map leaf_cell ones ++ tree1)) (Member-from_Contains all c m)) [
               | inl below ↦ record {
-                zero = group_observes (λ w. not (f w)) ins under zeros tree0 root0 group0 all in_under in_zeros base word case.obeys case.shown v case.below case.supported c (Contains-from_Member c below) high low;
-                one = group_observes f ins under ones tree1 root1 group1 all in_under in_ones base word case.obeys case.shown v case.below case.supported c (Contains-from_Member c below) high low;
+                zero = group_observes (λ w. not (f w)) ins waits under zeros tree0 root0 group0 all in_under in_zeros base word case.obeys case.shown v case.below case.supported c (Contains-from_Member c below) high low;
+                one = group_observes f ins waits under ones tree1 root1 group1 all in_under in_ones base word case.obeys case.shown v case.below case.supported c (Contains-from_Member c below) high low;
               }
               | inr own ↦
                   elim (Member-append_cases c (map leaf_cell zeros ++ tree0) (map leaf_cell ones ++ tree1) own) [
                     | inl first ↦ record {
-                      zero = group_observed (λ w. not (f w)) ins under zeros tree0 root0 group0 all in_under in_zeros base word case.obeys case.shown v case.below case.supported c first high low;
+                      zero = group_observed (λ w. not (f w)) ins waits under zeros tree0 root0 group0 all in_under in_zeros base word case.obeys case.shown v case.below case.supported c first high low;
                       one = false_from_ne_true _
                           (λ up.
-                          let zero_up : base root0.0 ≡ true = group_up (λ w. not (f w)) ins under zeros tree0 root0 group0 all in_under in_zeros base word case.obeys case.shown c first high in
+                          let zero_up : base root0.0 ≡ true = group_up (λ w. not (f w)) ins waits under zeros tree0 root0 group0 all in_under in_zeros base word case.obeys case.shown c first high in
                           both_ways (f word) (not-true (f word) (sym value0 ∙ zero_up)) (sym value1 ∙ case.below root1.0 up));
                     }
                     | inr second ↦ record {
                       zero = false_from_ne_true _
                           (λ up.
-                          let one_up : base root1.0 ≡ true = group_up f ins under ones tree1 root1 group1 all in_under in_ones base word case.obeys case.shown c second high in
+                          let one_up : base root1.0 ≡ true = group_up f ins waits under ones tree1 root1 group1 all in_under in_ones base word case.obeys case.shown c second high in
                           both_ways (f word) (not-true (f word) (sym value0 ∙ case.below root0.0 up)) (sym value1 ∙ one_up));
-                      one = group_observed f ins under ones tree1 root1 group1 all in_under in_ones base word case.obeys case.shown v case.below case.supported c second high low;
+                      one = group_observed f ins waits under ones tree1 root1 group1 all in_under in_ones base word case.obeys case.shown v case.below case.supported c second high low;
                     }
                   ]
             ];

@@ -33,10 +33,10 @@ pair_cases a b _ here = inl refl
 pair_cases a b r (there m) = elim (member_cases r b [] m) [ inl same ↦ inr same | inr rest ↦ elim rest [ ] ]
 
 -- a gate over the pairs of two inputs is a leaf
-pub two_leaf : (set : TableRow) (a b : Rails) (c : StageCell) → IsTwoGate set a b c → IsLeaf (a ∷ b ∷ []) [] (record { cell = c; at = λ word. bit_at set (pair_number word) })
+pub two_leaf : (set : TableRow) (a b : Rails) (c : StageCell) → IsTwoGate set a b c → IsLeaf (a ∷ b ∷ []) (a ∷ b ∷ []) [] (record { cell = c; at = λ word. bit_at set (pair_number word) })
 two_leaf set a b c is = record {
   exact = λ base word obeys shown. exact base word shown;
-  waits = λ base v word case r m null. waits base v word case.below case.shown r (Member-from_Contains (a ∷ b ∷ []) r m) null;
+  waits_for = λ base v word case r m null. waits base v word case.below case.shown r (Member-from_Contains (a ∷ b ∷ []) r m) null;
   observes = λ base v word case g m high low. elim (Member-from_Contains [] g m) [ ];
 }
   where
@@ -59,15 +59,15 @@ two_leaf set a b c is = record {
         ]
 
 -- one leaf alone is a group
-pub group_of_one : (class : List Bool → Bool) (ins : List Rails) (under : List StageCell) (leaf : Leaf) → IsLeaf ins under leaf → ((word : List Bool) → length word ≡ length ins → leaf.at word ≡ class word) → IsGroup class ins under (leaf ∷ []) [] leaf.cell.out
-group_of_one class ins under leaf is same = record {
+pub group_of_one : (class : List Bool → Bool) (ins waits : List Rails) (under : List StageCell) (leaf : Leaf) → IsLeaf ins waits under leaf → ((word : List Bool) → length word ≡ length ins → leaf.at word ≡ class word) → IsGroup class ins waits under (leaf ∷ []) [] leaf.cell.out
+group_of_one class ins waits under leaf is same = record {
   are_leaves = λ other m. go other (Member-from_Contains (leaf ∷ []) other m);
   apart = λ word len. (λ at. refl, tt);
   covers = λ word len. or-false (leaf.at word) ∙ same word len;
   is_tree = one leaf.cell.out;
 }
   where
-    go : (other : Leaf) → Member other (leaf ∷ []) → IsLeaf ins under other
+    go : (other : Leaf) → Member other (leaf ∷ []) → IsLeaf ins waits under other
     go _ here = is
     go other (there m) = elim m [ ]
 
@@ -83,10 +83,10 @@ never_holds r c is v =
     and_true true = refl
     and_true false = refl
 
-never_leaf : (r : Rails) (rs : List Rails) (under : List StageCell) (c : StageCell) → IsNever r c → IsLeaf (r ∷ rs) under (record { cell = c; at = λ word. false })
+never_leaf : (r : Rails) (rs : List Rails) (under : List StageCell) (c : StageCell) → IsNever r c → IsLeaf (r ∷ rs) (r ∷ rs) under (record { cell = c; at = λ word. false })
 never_leaf r rs under c is = record {
   exact = λ base word obeys shown. never_holds r c is base ∙ apart base base word (λ net high. high) shown;
-  waits = λ base v word case x m null. never_holds r c is v ∙ apart base v word case.below case.shown;
+  waits_for = λ base v word case x m null. never_holds r c is v ∙ apart base v word case.below case.shown;
   observes = λ base v word case g m high low. never_holds r c is v ∙ apart base v word case.below case.shown;
 }
   where
@@ -95,6 +95,6 @@ never_leaf r rs under c is = record {
     apart base v (b ∷ word) below shown = one_of_pair base v r b below shown.0
 
 -- where a class has no words, this gate is its group
-pub never_group : (class : List Bool → Bool) (r : Rails) (rs : List Rails) (under : List StageCell) (c : StageCell) → IsNever r c → ((word : List Bool) → length word ≡ length (r ∷ rs) → class word ≡ false) → IsGroup class (r ∷ rs) under (record { cell = c; at = λ word. false } ∷ []) [] c.out
+pub never_group : (class : List Bool → Bool) (r : Rails) (rs : List Rails) (under : List StageCell) (c : StageCell) → IsNever r c → ((word : List Bool) → length word ≡ length (r ∷ rs) → class word ≡ false) → IsGroup class (r ∷ rs) (r ∷ rs) under (record { cell = c; at = λ word. false } ∷ []) [] c.out
 never_group class r rs under c is none =
-    group_of_one class (r ∷ rs) under (record { cell = c; at = λ word. false }) (never_leaf r rs under c is) (λ word len. sym (none word len))
+    group_of_one class (r ∷ rs) (r ∷ rs) under (record { cell = c; at = λ word. false }) (never_leaf r rs under c is) (λ word len. sym (none word len))

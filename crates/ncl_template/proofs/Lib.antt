@@ -17,3 +17,6 @@ pub mod InOrder
 pub mod Assembly
 pub mod Taken
 pub mod Whole
+pub mod Picked
+pub mod FormLaws
+pub mod FormGates

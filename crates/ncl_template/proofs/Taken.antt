@@ -96,7 +96,7 @@ taken-fourth Turned a b c d = refl
 
 module _ (order : Order) (f g : List Bool → Bool) (ins : List Rails) (same : (word : List Bool) → length word ≡ length ins → f (taken order word) ≡ g word) (gates : List StageCell) (out : Rails) where
   -- a template over inputs that are taken in an order
-  template_taken : IsTemplate f (taken order ins) gates out → IsTemplate g ins gates out
+  template_taken : IsTemplate f (taken order ins) (taken order ins) gates out → IsTemplate g ins ins gates out
   template_taken template = record {
     value = λ base word obeys shown. subst (Shows base out) (same word (ShowWord-length base ins word shown)) (template.value base (taken order word) obeys (show_taken base order ins word shown));
     needs = λ base v word case r m null. template.needs base v (taken order word) (case_taken base v word case) r (Contains-from_Member r (member_taken order ins r (Member-from_Contains ins r m))) null;
@@ -122,7 +122,7 @@ module _ (order : Order) (f g : List Bool → Bool) (ins : List Rails) (same : (
             | inr gate ↦ Member-append_right (rail_nets ins) n gate
           ])
 
-pub AddsTemplate-taken : (order : Order) (f g : List Bool → Bool) (ins : List Rails) (most : ℕ) (before after : List StageCell) (out : Rails) → ((word : List Bool) → length word ≡ length ins → f (taken order word) ≡ g word) → AddsTemplate f (taken order ins) most before after out → AddsTemplate g ins most before after out
+pub AddsTemplate-taken : (order : Order) (f g : List Bool → Bool) (ins : List Rails) (most : ℕ) (before after : List StageCell) (out : Rails) → ((word : List Bool) → length word ≡ length ins → f (taken order word) ≡ g word) → AddsTemplate f (taken order ins) (taken order ins) most before after out → AddsTemplate g ins ins most before after out
 AddsTemplate-taken order f g ins most before after out same adds = record {
   made = adds.made;
   added = adds.added;

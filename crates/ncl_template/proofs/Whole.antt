@@ -38,13 +38,13 @@ pair_known a b rest _ (there (there (there here))) = there (there (there here))
 pair_known a b rest net (there (there (there (there m)))) = elim m [ ]
 
 module _ (values : TableRow) (a b : Rails) where
-  two_template : (c d : StageCell) → IsTwoGate (inverse_row values) a b c → IsTwoGate values a b d → IsTemplate (λ word. bit_at values (pair_number word)) (a ∷ b ∷ []) (c ∷ d ∷ []) (record { zero = c.out; one = d.out })
+  two_template : (c d : StageCell) → IsTwoGate (inverse_row values) a b c → IsTwoGate values a b d → IsTemplate (λ word. bit_at values (pair_number word)) (a ∷ b ∷ []) (a ∷ b ∷ []) (c ∷ d ∷ []) (record { zero = c.out; one = d.out })
   two_template c d is_zero is_one =
       let zero : Leaf = record { cell = c; at = λ word. bit_at (inverse_row values) (pair_number word) } in
       let one : Leaf = record { cell = d; at = λ word. bit_at values (pair_number word) } in
-      template_of_groups (λ word. bit_at values (pair_number word)) (a ∷ b ∷ []) [] (zero ∷ []) (one ∷ []) [] [] c.out d.out
-      (group_of_one (λ word. not (bit_at values (pair_number word))) (a ∷ b ∷ []) [] zero (two_leaf (inverse_row values) a b c is_zero) (λ word len. bit_at-inverse_row values (pair_number word)))
-      (group_of_one (λ word. bit_at values (pair_number word)) (a ∷ b ∷ []) [] one (two_leaf values a b d is_one) (λ word len. refl))
+      template_of_groups (λ word. bit_at values (pair_number word)) (a ∷ b ∷ []) (a ∷ b ∷ []) [] (zero ∷ []) (one ∷ []) [] [] c.out d.out
+      (group_of_one (λ word. not (bit_at values (pair_number word))) (a ∷ b ∷ []) (a ∷ b ∷ []) [] zero (two_leaf (inverse_row values) a b c is_zero) (λ word len. bit_at-inverse_row values (pair_number word)))
+      (group_of_one (λ word. bit_at values (pair_number word)) (a ∷ b ∷ []) (a ∷ b ∷ []) [] one (two_leaf values a b d is_one) (λ word len. refl))
 
   two_formed : (c d : StageCell) → IsTwoGate (inverse_row values) a b c → IsTwoGate values a b d → IsFormed (a ∷ b ∷ []) (c ∷ d ∷ []) (record { zero = c.out; one = d.out })
   two_formed c d is_zero is_one =
@@ -63,14 +63,14 @@ module _ (values : TableRow) (a b : Rails) where
       over _ (there here) = two_over values a b d is_one
       over g (there (there m)) = elim m [ ]
 
-  pub AddsTemplate-two : (inverse : TableRow) (before now after : List StageCell) (zero one : NetId) → inverse ≡ inverse_row values → AddsGate (IsTwoGate inverse a b) before now zero → AddsGate (IsTwoGate values a b) now after one → AddsTemplate (λ word. bit_at values (pair_number word)) (a ∷ b ∷ []) 2 before after (record { zero = zero; one = one })
+  pub AddsTemplate-two : (inverse : TableRow) (before now after : List StageCell) (zero one : NetId) → inverse ≡ inverse_row values → AddsGate (IsTwoGate inverse a b) before now zero → AddsGate (IsTwoGate values a b) now after one → AddsTemplate (λ word. bit_at values (pair_number word)) (a ∷ b ∷ []) (a ∷ b ∷ []) 2 before after (record { zero = zero; one = one })
   AddsTemplate-two inverse before now after zero one inverse_is first second =
       let is_zero : IsTwoGate (inverse_row values) a b first.cell = subst (λ row. IsTwoGate row a b first.cell) inverse_is first.is in
       let out : ◌≡◌ {A = Rails} (record { zero = first.cell.out; one = second.cell.out }) (record { zero = zero; one = one }) = λ i. record { zero = first.drives i; one = second.drives i } in
       record {
         made = first.cell ∷ second.cell ∷ [];
         added = second.added ∙ (λ i. first.added i ++ second.cell ∷ []) ∙ append_assoc before (first.cell ∷ []) (second.cell ∷ []);
-        template = subst (IsTemplate (λ word. bit_at values (pair_number word)) (a ∷ b ∷ []) (first.cell ∷ second.cell ∷ [])) out (two_template first.cell second.cell is_zero second.is);
+        template = subst (IsTemplate (λ word. bit_at values (pair_number word)) (a ∷ b ∷ []) (a ∷ b ∷ []) (first.cell ∷ second.cell ∷ [])) out (two_template first.cell second.cell is_zero second.is);
         formed = subst (IsFormed (a ∷ b ∷ []) (first.cell ∷ second.cell ∷ [])) out (two_formed first.cell second.cell is_zero second.is);
         few = omega arith;
       }
@@ -90,7 +90,7 @@ rails_known a b c _ here = there (there (there (there here)))
 rails_known a b c _ (there here) = there (there (there (there (there here))))
 rails_known a b c net (there (there m)) = elim m [ ]
 
-pub AddsTemplate-three : (table : Table) (a b c : Rails) (before now after : List StageCell) (first second : List Class) (out : Rails) → second ≡ rail_classes c → AddsCode table a b before now first → AddsRails table first second a now after out → AddsTemplate (table_value table) (a ∷ b ∷ c ∷ []) 12 before after out
+pub AddsTemplate-three : (table : Table) (a b c : Rails) (before now after : List StageCell) (first second : List Class) (out : Rails) → second ≡ rail_classes c → AddsCode table a b before now first → AddsRails table first second a now after out → AddsTemplate (table_value table) (a ∷ b ∷ c ∷ []) (a ∷ b ∷ c ∷ []) 12 before after out
 AddsTemplate-three table a b c before now after first second out second_is code given =
     let rails : AddsRails table first (rail_classes c) a now after out = subst (λ second. AddsRails table first second a now after out) second_is given in
     let under : code.made ++ [] ≡ code.made = append-nil code.made in
@@ -99,7 +99,7 @@ AddsTemplate-three table a b c before now after first second out second_is code 
     record {
       made = code.made ++ (rails.zeros ++ rails.ones);
       added = rails.added ∙ (λ i. code.added i ++ (rails.zeros ++ rails.ones)) ∙ append_assoc before code.made (rails.zeros ++ rails.ones);
-      template = subst (λ under. IsTemplate (table_value table) (a ∷ b ∷ c ∷ []) (under ++ (rails.zeros ++ rails.ones)) out) under
+      template = subst (λ under. IsTemplate (table_value table) (a ∷ b ∷ c ∷ []) (a ∷ b ∷ c ∷ []) (under ++ (rails.zeros ++ rails.ones)) out) under
           (table_template table a b (c ∷ []) code.made [] first (rail_classes c) code.is (rails_code_for (transposed table) c) rails.zeros rails.ones out rails.is_zero rails.is_one);
       formed = subst (λ under. IsFormed (a ∷ b ∷ c ∷ []) (under ++ (rails.zeros ++ rails.ones)) out) under
           (codes_formed a (b ∷ c ∷ []) code.made [] rails.zeros rails.ones (map class_net first) (map class_net (rail_classes c)) (one_at (inverse_table table) first (rail_classes c)) (one_at table first (rail_classes c)) out
@@ -114,7 +114,7 @@ last_known a b c d _ (there (there here)) = there (there (there (there (there (t
 last_known a b c d _ (there (there (there here))) = there (there (there (there (there (there (there here))))))
 last_known a b c d net (there (there (there (there m)))) = elim m [ ]
 
-pub AddsTemplate-four : (table columns : Table) (a b c d : Rails) (before now then after : List StageCell) (first second : List Class) (out : Rails) → columns ≡ transposed table → AddsCode table a b before now first → AddsCode columns c d now then second → AddsRails table first second a then after out → AddsTemplate (table_value table) (a ∷ b ∷ c ∷ d ∷ []) 22 before after out
+pub AddsTemplate-four : (table columns : Table) (a b c d : Rails) (before now then after : List StageCell) (first second : List Class) (out : Rails) → columns ≡ transposed table → AddsCode table a b before now first → AddsCode columns c d now then second → AddsRails table first second a then after out → AddsTemplate (table_value table) (a ∷ b ∷ c ∷ d ∷ []) (a ∷ b ∷ c ∷ d ∷ []) 22 before after out
 AddsTemplate-four table columns a b c d before now then after first second out columns_is code given rails =
     let other : AddsCode (transposed table) c d now then second = subst (λ columns. AddsCode columns c d now then second) columns_is given in
     let size = length-append (code.made ++ other.made) (rails.zeros ++ rails.ones) in
@@ -184,21 +184,21 @@ four_pairs : (ins : List Rails) (a b c d : Rails) → length ins ≡ 4 → slice
 four_pairs [] a b c d len at_a at_b at_c at_d = absurd (omega (arith, len))
 four_pairs (x ∷ ins) a b c d len at_a at_b at_c at_d = let first : x ≡ a = cc in (λ i. first i ∷ three_pairs ins b c d (omega (arith, len)) at_b at_c at_d i)
 
-pub AddsTemplate-of_two : (f : List Bool → Bool) (values : TableRow) (ins : List Rails) (a b : Rails) (before after : List StageCell) (out : Rails) → length ins ≡ 2 → slice_get ins 0 ≡ Some a → slice_get ins 1 ≡ Some b → values ≡ row_of (λ x y. f (x ∷ y ∷ [])) → AddsTemplate (λ word. bit_at values (pair_number word)) (a ∷ b ∷ []) 2 before after out → AddsTemplate f ins 2 before after out
+pub AddsTemplate-of_two : (f : List Bool → Bool) (values : TableRow) (ins : List Rails) (a b : Rails) (before after : List StageCell) (out : Rails) → length ins ≡ 2 → slice_get ins 0 ≡ Some a → slice_get ins 1 ≡ Some b → values ≡ row_of (λ x y. f (x ∷ y ∷ [])) → AddsTemplate (λ word. bit_at values (pair_number word)) (a ∷ b ∷ []) (a ∷ b ∷ []) 2 before after out → AddsTemplate f ins ins 2 before after out
 AddsTemplate-of_two f values ins a b before after out two at_a at_b values_is adds =
     AddsTemplate-taken Straight (λ word. bit_at values (pair_number word)) f ins 2 before after out
     (λ word len. ap (λ word. bit_at values (pair_number word)) (taken-straight word) ∙ ap (λ (row : TableRow). bit_at row (pair_number word)) values_is ∙ two_value f word (len ∙ two))
-    (subst (λ ins. AddsTemplate (λ word. bit_at values (pair_number word)) ins 2 before after out) (sym (taken-straight ins ∙ two_pairs ins a b two at_a at_b)) adds)
+    (subst (λ ins. AddsTemplate (λ word. bit_at values (pair_number word)) ins ins 2 before after out) (sym (taken-straight ins ∙ two_pairs ins a b two at_a at_b)) adds)
 
-pub AddsTemplate-of_three : (f : List Bool → Bool) (order : Order) (table : Table) (ins : List Rails) (a b c p q r : Rails) (before after : List StageCell) (out : Rails) → length ins ≡ 3 → slice_get ins 0 ≡ Some a → slice_get ins 1 ≡ Some b → slice_get ins 2 ≡ Some c → p ∷ q ∷ r ∷ [] ≡ taken order (a ∷ b ∷ c ∷ []) → table ≡ table_of (λ x y. short_row (λ z. f (placed order (x ∷ y ∷ z ∷ [])))) → AddsTemplate (table_value table) (p ∷ q ∷ r ∷ []) 12 before after out → AddsTemplate f ins 12 before after out
+pub AddsTemplate-of_three : (f : List Bool → Bool) (order : Order) (table : Table) (ins : List Rails) (a b c p q r : Rails) (before after : List StageCell) (out : Rails) → length ins ≡ 3 → slice_get ins 0 ≡ Some a → slice_get ins 1 ≡ Some b → slice_get ins 2 ≡ Some c → p ∷ q ∷ r ∷ [] ≡ taken order (a ∷ b ∷ c ∷ []) → table ≡ table_of (λ x y. short_row (λ z. f (placed order (x ∷ y ∷ z ∷ [])))) → AddsTemplate (table_value table) (p ∷ q ∷ r ∷ []) (p ∷ q ∷ r ∷ []) 12 before after out → AddsTemplate f ins ins 12 before after out
 AddsTemplate-of_three f order table ins a b c p q r before after out three at_a at_b at_c pairs table_is adds =
     AddsTemplate-taken order (table_value table) f ins 12 before after out
     (λ word len. ap (λ table. table_value table (taken order word)) table_is ∙ three_value (λ word. f (placed order word)) (taken order word) (length-taken order word ∙ len ∙ three) ∙ ap f (placed-taken order word))
-    (subst (λ ins. AddsTemplate (table_value table) ins 12 before after out) (pairs ∙ ap (taken order) (sym (three_pairs ins a b c three at_a at_b at_c))) adds)
+    (subst (λ ins. AddsTemplate (table_value table) ins ins 12 before after out) (pairs ∙ ap (taken order) (sym (three_pairs ins a b c three at_a at_b at_c))) adds)
 
-pub AddsTemplate-of_four : (f : List Bool → Bool) (order : Order) (table : Table) (ins : List Rails) (a b c d p q r : Rails) (before after : List StageCell) (out : Rails) → length ins ≡ 4 → slice_get ins 0 ≡ Some a → slice_get ins 1 ≡ Some b → slice_get ins 2 ≡ Some c → slice_get ins 3 ≡ Some d → p ∷ q ∷ r ∷ [] ≡ taken order (a ∷ b ∷ c ∷ []) → table ≡ table_of (λ x y. row_of (λ z t. f (placed order (x ∷ y ∷ z ∷ t ∷ [])))) → AddsTemplate (table_value table) (p ∷ q ∷ r ∷ d ∷ []) 22 before after out → AddsTemplate f ins 22 before after out
+pub AddsTemplate-of_four : (f : List Bool → Bool) (order : Order) (table : Table) (ins : List Rails) (a b c d p q r : Rails) (before after : List StageCell) (out : Rails) → length ins ≡ 4 → slice_get ins 0 ≡ Some a → slice_get ins 1 ≡ Some b → slice_get ins 2 ≡ Some c → slice_get ins 3 ≡ Some d → p ∷ q ∷ r ∷ [] ≡ taken order (a ∷ b ∷ c ∷ []) → table ≡ table_of (λ x y. row_of (λ z t. f (placed order (x ∷ y ∷ z ∷ t ∷ [])))) → AddsTemplate (table_value table) (p ∷ q ∷ r ∷ d ∷ []) (p ∷ q ∷ r ∷ d ∷ []) 22 before after out → AddsTemplate f ins ins 22 before after out
 AddsTemplate-of_four f order table ins a b c d p q r before after out four at_a at_b at_c at_d pairs table_is adds =
     let all : p ∷ q ∷ r ∷ d ∷ [] ≡ taken order (a ∷ b ∷ c ∷ d ∷ []) = ap (λ ins. ins ++ d ∷ []) pairs ∙ taken-fourth order a b c d in
     AddsTemplate-taken order (table_value table) f ins 22 before after out
     (λ word len. ap (λ table. table_value table (taken order word)) table_is ∙ four_value (λ word. f (placed order word)) (taken order word) (length-taken order word ∙ len ∙ four) ∙ ap f (placed-taken order word))
-    (subst (λ ins. AddsTemplate (table_value table) ins 22 before after out) (all ∙ ap (taken order) (sym (four_pairs ins a b c d four at_a at_b at_c at_d))) adds)
+    (subst (λ ins. AddsTemplate (table_value table) ins ins 22 before after out) (all ∙ ap (taken order) (sym (four_pairs ins a b c d four at_a at_b at_c at_d))) adds)

@@ -14,10 +14,11 @@ pub record IsFormed (ins : List Rails) (gates : List StageCell) (out : Rails) : 
   pub zero_driven : Contains (map out_of gates) out.zero.0
   pub one_driven : Contains (map out_of gates) out.one.0
 
--- a template of a function over input pairs is added, with this output pair and at most so many gates
-pub record AddsTemplate (function : List Bool → Bool) (ins : List Rails) (most : ℕ) (before after : List StageCell) (out : Rails) : Type 0 where
+-- a template of a function over input pairs that waits for some of them is added, with this output pair and at most so
+-- many gates
+pub record AddsTemplate (function : List Bool → Bool) (ins waits : List Rails) (most : ℕ) (before after : List StageCell) (out : Rails) : Type 0 where
   pub made : List StageCell
   pub added : after ≡ before ++ made
-  pub template : IsTemplate function ins made out
+  pub template : IsTemplate function ins waits made out
   pub formed : IsFormed ins made out
   pub few : length made ≤ most

@@ -5,3 +5,5 @@ pub mod PairGates
 pub mod Codes
 pub mod Rails
 pub mod Orders
+pub mod Waits
+pub mod Forms

@@ -40,12 +40,13 @@ pub record IsCase (base v : Nets) (ins : List Rails) (gates : List StageCell) (w
   pub below : IsBelow v base
   pub supported : IsSupported v gates
 
--- the three local facts of gates with these input pairs and this output pair, for a function
-pub record IsTemplate (function : List Bool → Bool) (ins : List Rails) (gates : List StageCell) (out : Rails) : Type 0 where
+-- the three local facts of gates with these input pairs and this output pair, for a function; they wait for some of the
+-- pairs
+pub record IsTemplate (function : List Bool → Bool) (ins waits : List Rails) (gates : List StageCell) (out : Rails) : Type 0 where
   -- the output pair shows the function's value
   pub value : (base : Nets) (word : List Bool) → Obeys base gates → ShowWord base ins word → Shows base out (function word)
-  -- it waits for each input pair
-  pub needs : (base v : Nets) (word : List Bool) → IsCase base v ins gates word → (r : Rails) → Contains ins r → IsNull v r → IsNull v out
+  -- it waits for each of these pairs: where one is NULL, so is the output pair
+  pub needs : (base v : Nets) (word : List Bool) → IsCase base v ins gates word → (r : Rails) → Contains waits r → IsNull v r → IsNull v out
   -- it waits for each gate that is high
   pub observed : (base v : Nets) (word : List Bool) → IsCase base v ins gates word → (c : StageCell) → Contains gates c → base (out_of c) ≡ true → v (out_of c) ≡ false → IsNull v out
 

@@ -2,11 +2,19 @@
 #![tactic(auto)]
 
 mod code;
+mod eager;
+mod fitting;
+mod form;
+mod forms;
 mod gate;
 mod leaves;
 mod order;
 mod rail;
 mod table;
 mod template;
+mod waits;
 
+pub use eager::add_waiting;
+pub use fitting::least_waits;
 pub use template::add_template;
+pub use waits::Waits;

@@ -102,7 +102,7 @@ impl Table {
 }
 
 /// The bit of a node at a word. Linear in the rows.
-fn node_bit(node: &Node, word: &[bool]) -> bool
+pub(crate) fn node_bit(node: &Node, word: &[bool]) -> bool
     ensures { result ≡ node_function node.now word.now }
 {
     cover_bit(node.on, node.rows.items(), word)

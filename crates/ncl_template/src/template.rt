@@ -20,7 +20,7 @@ use std::alloc::Global;
 /// Adds the gates of a function of two inputs: one for each rail.
 fn add_two(gates: &mut Gates, values: TableRow, a: Rails, b: Rails) -> Result<Rails, Memory>
     requires room { nets_so_far gates.old + 2 < 2 ^ 32 }
-    ensures template { IfOk result (AddsTemplate (λ word. bit_at values (pair_number word)) (a ∷ b ∷ []) 2
+    ensures template { IfOk result (AddsTemplate (λ word. bit_at values (pair_number word)) (a ∷ b ∷ []) (a ∷ b ∷ []) 2
         gates.old.cells gates.new.cells) }
     ensures first { gates.new.first ≡ gates.old.first }
 {
@@ -37,7 +37,7 @@ fn add_three(
     pairs: (Rails, Rails, Rails),
 ) -> Result<Rails, Memory>
     requires room { nets_so_far gates.old + 24 < 2 ^ 32 }
-    ensures template { IfOk result (AddsTemplate (table_value table) (pairs.0 ∷ pairs.1 ∷ pairs.2 ∷ []) 12
+    ensures template { IfOk result (AddsTemplate (table_value table) (pairs.0 ∷ pairs.1 ∷ pairs.2 ∷ []) (pairs.0 ∷ pairs.1 ∷ pairs.2 ∷ []) 12
         gates.old.cells gates.new.cells) }
     ensures first { gates.new.first ≡ gates.old.first }
 {
@@ -57,7 +57,7 @@ fn add_four(
     last: Rails,
 ) -> Result<Rails, Memory>
     requires room { nets_so_far gates.old + 28 < 2 ^ 32 }
-    ensures template { IfOk result (AddsTemplate (table_value table) (pairs.0 ∷ pairs.1 ∷ pairs.2 ∷ last ∷ []) 22
+    ensures template { IfOk result (AddsTemplate (table_value table) (pairs.0 ∷ pairs.1 ∷ pairs.2 ∷ last ∷ []) (pairs.0 ∷ pairs.1 ∷ pairs.2 ∷ last ∷ []) 22
         gates.old.cells gates.new.cells) }
     ensures first { gates.new.first ≡ gates.old.first }
 {
@@ -86,7 +86,7 @@ fn add_in_order(
     requires narrow { IsNarrow node.now }
     requires as_many { length ins.now ≡ length node.now.ins }
     requires room { nets_so_far gates.old + 32 < 2 ^ 32 }
-    ensures template { IfOk result (AddsTemplate (node_function node.now) ins.now (cost_of_inputs (length node.now.ins)) gates.old.cells gates.new.cells) }
+    ensures template { IfOk result (AddsTemplate (node_function node.now) ins.now ins.now (cost_of_inputs (length node.now.ins)) gates.old.cells gates.new.cells) }
     ensures first { gates.new.first ≡ gates.old.first }
 {
     let a = pair(ins, 0);
@@ -147,7 +147,7 @@ pub fn add_template(
     requires narrow { IsNarrow node.now }
     requires as_many { length ins.now ≡ length node.now.ins }
     requires room { nets_so_far gates.old + 32 < 2 ^ 32 }
-    ensures template { IfOk result (λ out. AddsTemplate (node_function node.now) ins.now (cost_of_inputs (length node.now.ins)) gates.old.cells gates.new.cells out) }
+    ensures template { IfOk result (λ out. AddsTemplate (node_function node.now) ins.now ins.now (cost_of_inputs (length node.now.ins)) gates.old.cells gates.new.cells out) }
     ensures first { gates.new.first ≡ gates.old.first }
 {
     let order = best_order(alloc, node, ins)?;

@@ -2,6 +2,7 @@ use Rattle.std.proofs.Common.{◌≡◌, length, map, sym, ap, subst, ◌∙◌}
 use Rattle.std.specs.Prelude.{All}
 use Rattle.ncl_network.specs.declared.network.Signal.{Signal}
 use Rattle.ncl_network.specs.Network.{IsSource}
+use Rattle.ncl_rails.specs.Waiting.{waits_of}
 use Rattle.ncl_rails.specs.Layout.{AreLaidOut, input_pairs, signal_pair}
 use Rattle.ncl_rails.proofs.Laying.{length-input_pairs}
 use Rattle.ncl_rails.proofs.layout.lay_out.Goals as goal
@@ -21,6 +22,6 @@ returns c =
     record {
       pairs = c.in_ok-pairs.pairs.items;
       first = c.in_ok-pairs.ensures.first ∙ ap (λ g. g.first) c.new-gates.ensures;
-      nodes = subst (λ rs. AreLaidOut rs c.args.network.now.nodes c.add_nodes.new.gates.cells c.in_ok-pairs.pairs.items) inputs c.in_ok-pairs.ensures.laid_out;
+      nodes = subst (λ rs. AreLaidOut rs (waits_of c.args.network.now.nodes c.args.waits.now) c.args.network.now.nodes c.add_nodes.new.gates.cells c.in_ok-pairs.pairs.items) inputs c.in_ok-pairs.ensures.laid_out;
       outputs = c.in_ok-outputs.ensures ∙ (λ i. map (signal_pair (inputs_2 i) (c.deref-3.ensures.value i)) (c.items.ensures i));
     }

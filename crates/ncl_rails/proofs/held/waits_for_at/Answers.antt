@@ -1,0 +1,8 @@
+use Rattle.std.proofs.Common.{rules, false, sym, ◌∙◌}
+use Rattle.ncl_network.specs.declared.network.SignalSource.TheVariants.{Input}
+use Rattle.ncl_rails.proofs.CoveringLaws.{HasSource-waited}
+use Rattle.ncl_rails.proofs.held.waits_for_at.Goals as goal
+
+pub returns-then-at : goal.returns-then-at
+returns-then-at c = λ yes.
+    HasSource-waited c.args.waits c.args.ins.now c.args.source c.args.place (record { from = Input 0; inverted = false }) c.requires (sym c.at.ensures ∙ c.if-at.true) (search rules)

@@ -1,0 +1,121 @@
+-- Gates that fit a function at each word are a template of it, which waits for the inputs that they wait for.
+use Rattle.std.proofs.Common.{◌≡◌, ℕ, zero, suc, ◌<◌, Bool, true, false, not, ◌&&◌, List, [], ◌∷◌, length, map, get_or, inl, inr, refl, sym, ap, subst, ◌∙◌, arith, nat_eq}
+use Rattle.std.proofs.lemmas.Bool.{both_ways, false_from_ne_true, eqb-true}
+use Rattle.std.proofs.lemmas.List.Elements.{All-contains}
+use Rattle.ncl_base.proofs.Members.{Member, here, there, Contains-from_Member}
+use Rattle.ncl_gates.specs.Gate.{set_of}
+use Rattle.ncl_gates.proofs.GateLaws.{set_of-monotone}
+use Rattle.ncl_netlist.specs.declared.ids.NetId.{NetId}
+use Rattle.ncl_shape.specs.declared.rails.Rails.{Rails}
+use Rattle.ncl_shape.specs.declared.stage.StageCell.{StageCell}
+use Rattle.ncl_shape.specs.Nets.{Nets, IsBelow}
+use Rattle.ncl_shape.specs.Closure.{pin_values}
+use Rattle.ncl_stage.specs.Values.{holds}
+use Rattle.ncl_template.specs.declared.form.FormPin.{FormPin}
+use Rattle.ncl_template.specs.declared.form.FormPin.TheVariants.{Zero, One, Inner}
+use Rattle.ncl_template.specs.declared.form.FormGate.{FormGate}
+use Rattle.ncl_template.specs.declared.form.Form.{Form}
+use Rattle.ncl_template.specs.Template.{Shows, IsNull, ShowWord}
+use Rattle.ncl_template.specs.Forms.{pin_bit, gate_bit, IsFormPin, IsFormGate, IsForm, FitsWord, Fits, no_pair, pin_net, IsGateOf}
+use Rattle.ncl_template.proofs.Groups.{ShowWord-length}
+use Rattle.ncl_template.proofs.InputLeaves.{shown_nets}
+
+-- ---- the values on the pins
+
+shown_place : (v : Nets) (ins : List Rails) (word : List Bool) → ShowWord v ins word → (k : ℕ) → k < length ins → Shows v (get_or ins k no_pair) (get_or word k false)
+shown_place v [] [] shown k lt = absurd (omega (arith, lt))
+shown_place v [] (b ∷ word) shown k lt = absurd shown
+shown_place v (r ∷ ins) [] shown k lt = absurd shown
+shown_place v (r ∷ ins) (b ∷ word) shown zero lt = shown.0
+shown_place v (r ∷ ins) (b ∷ word) shown (suc k) lt = shown_place v ins word shown.1 k (omega (arith, lt))
+
+not_same : (k n : ℕ) → k < n → nat_eq k n ≡ false
+not_same k n lt = false_from_ne_true (nat_eq k n) (λ same. let is : k ≡ n = eqb-true k n same in absurd (omega (arith, lt, is)))
+
+-- a bit that is asked where the pin is not on the NULL input
+asked : (null x y : Bool) → null ≡ false → x ≡ y → x ≡ (not null && y)
+asked true x y off same = absurd cc
+asked false x y off same = same
+
+asked_up : (null y : Bool) → null ≡ false → y ≡ true → (not null && y) ≡ true
+asked_up true y off up = absurd cc
+asked_up false y off up = up
+
+module _ (ins : List Rails) (word : List Bool) (inner : NetId) where
+  -- where the inputs show a word and the inner gate has a bit
+  module _ (base : Nets) (shown : ShowWord base ins word) (b : Bool) (has : Bool) (inner_is : has ≡ true → base inner.0 ≡ b) where
+    pin_shown : (p : FormPin) → IsFormPin (length ins) has p → base (pin_net ins inner p).0 ≡ pin_bit word (length word) b p
+    pin_shown (Zero k) lt = asked (nat_eq k (length word)) _ _ (not_same k (length word) (omega (arith, lt, ShowWord-length base ins word shown))) (shown_nets base (get_or ins k no_pair) (get_or word k false) (shown_place base ins word shown k lt)).0
+    pin_shown (One k) lt = asked (nat_eq k (length word)) _ _ (not_same k (length word) (omega (arith, lt, ShowWord-length base ins word shown))) (shown_nets base (get_or ins k no_pair) (get_or word k false) (shown_place base ins word shown k lt)).1
+    pin_shown Inner is = inner_is is
+
+    pub pins_shown : (pins : List FormPin) → ((p : FormPin) → Member p pins → IsFormPin (length ins) has p) → pin_values base (map (pin_net ins inner) pins) ≡ map (pin_bit word (length word) b) pins
+    pins_shown [] are = refl
+    pins_shown (p ∷ pins) are =
+        let first = pin_shown p (are p here) in
+        let rest = pins_shown pins (λ q m. are q (there m)) in
+        λ i. first i ∷ rest i
+
+  -- below such values, where the input at a place is NULL if there is one, and the inner gate is no higher than a bit
+  module _ (base v : Nets) (below : IsBelow v base) (shown : ShowWord base ins word) (null : ℕ) (is : null < length ins → IsNull v (get_or ins null no_pair)) (b : Bool) (has : Bool) (inner_is : has ≡ true → v inner.0 ≡ true → b ≡ true) where
+    -- a pin that is high is not on the NULL input
+    other : (k : ℕ) (net : ℕ) → k < length ins → (IsNull v (get_or ins k no_pair) → v net ≡ false) → v net ≡ true → nat_eq k null ≡ false
+    other k net lt low up =
+        false_from_ne_true (nat_eq k null) (λ same.
+        let at : k ≡ null = eqb-true k null same in
+        let within : null < length ins = omega (arith, lt, at) in
+        absurd (both_ways (v net) (low (subst (λ n. IsNull v (get_or ins n no_pair)) (sym at) (is within))) up))
+
+    pin_rises : (p : FormPin) → IsFormPin (length ins) has p → v (pin_net ins inner p).0 ≡ true → pin_bit word null b p ≡ true
+    pin_rises (Zero k) lt up = asked_up (nat_eq k null) _ (other k (get_or ins k no_pair).zero.0 lt (λ low. low.zero) up) (sym (shown_nets base (get_or ins k no_pair) (get_or word k false) (shown_place base ins word shown k lt)).0 ∙ below (get_or ins k no_pair).zero.0 up)
+    pin_rises (One k) lt up = asked_up (nat_eq k null) _ (other k (get_or ins k no_pair).one.0 lt (λ low. low.one) up) (sym (shown_nets base (get_or ins k no_pair) (get_or word k false) (shown_place base ins word shown k lt)).1 ∙ below (get_or ins k no_pair).one.0 up)
+    pin_rises Inner there_is up = inner_is there_is up
+
+    rises : (pins : List FormPin) → ((p : FormPin) → Member p pins → IsFormPin (length ins) has p) → (k : ℕ) → get_or (pin_values v (map (pin_net ins inner) pins)) k false ≡ true → get_or (map (pin_bit word null b) pins) k false ≡ true
+    rises [] are k up = up
+    rises (p ∷ pins) are zero up = pin_rises p (are p here) up
+    rises (p ∷ pins) are (suc k) up = rises pins (λ q m. are q (there m)) k up
+
+    as_many : (pins : List FormPin) → length (pin_values v (map (pin_net ins inner) pins)) ≡ length (map (pin_bit word null b) pins)
+    as_many [] = refl
+    as_many (p ∷ pins) = ap suc (as_many pins)
+
+    -- a gate that is not set at the bits is not set
+    pub pins_unset : (gate : FormGate) (c : StageCell) → IsGateOf ins inner gate c → ((p : FormPin) → Member p gate.pins.now → IsFormPin (length ins) has p) → gate_bit word null b gate ≡ false → holds v c ≡ false
+    pins_unset gate c gate_is are unset =
+        (λ i. set_of (gate_is.kind i) (pin_values v (gate_is.ins_are i)))
+        ∙ false_from_ne_true (set_of gate.kind (pin_values v (map (pin_net ins inner) gate.pins.now))) (λ up.
+        both_ways (gate_bit word null b gate) unset
+        (set_of-monotone gate.kind (pin_values v (map (pin_net ins inner) gate.pins.now)) (map (pin_bit word null b) gate.pins.now) (record { same_length = as_many gate.pins.now; rises = rises gate.pins.now are }) up))
+
+-- each pin is one that a gate may have
+pub all_pins : (inputs : ℕ) (has : Bool) (gate : FormGate) → IsFormGate inputs has gate → (p : FormPin) → Member p gate.pins.now → IsFormPin inputs has p
+all_pins inputs has gate of p m = All-contains (IsFormPin inputs has) gate.pins.now p of.pins (Contains-from_Member p m)
+
+-- ---- words
+
+pub of_both : (P : Bool → Type 0) → P false → P true → (b : Bool) → P b
+of_both P low high false = low
+of_both P low high true = high
+
+pub fits_of_two : (f : List Bool → Bool) (waits : ℕ → Bool) (form : Form) (n : ℕ) → n ≡ 2 → IsForm n form → ((a b : Bool) → FitsWord f waits form (a ∷ b ∷ [])) → Fits f n waits form
+fits_of_two f waits form n two is each = record { is = is; at = λ word wide. at word (wide ∙ two) }
+  where
+    at : (word : List Bool) → length word ≡ 2 → FitsWord f waits form word
+    at [] wide = absurd (omega (arith, wide))
+    at (a ∷ []) wide = absurd (omega (arith, wide))
+    at (a ∷ b ∷ []) wide = each a b
+    at (a ∷ b ∷ c ∷ word) wide = absurd (omega (arith, wide))
+
+pub fits_of_three : (f : List Bool → Bool) (waits : ℕ → Bool) (form : Form) (n : ℕ) → (n ≡ 2 → ⊥) → IsForm n form → ((a b c : Bool) → FitsWord f waits form (a ∷ b ∷ c ∷ [])) → Fits f n waits form
+fits_of_three f waits form n more is each = record { is = is; at = λ word wide. at word (wide ∙ three) }
+  where
+    three : n ≡ 3
+    three = elim is.inputs_are [ inl is_three ↦ is_three | inr two ↦ absurd (more two.0) ]
+
+    at : (word : List Bool) → length word ≡ 3 → FitsWord f waits form word
+    at [] wide = absurd (omega (arith, wide))
+    at (a ∷ []) wide = absurd (omega (arith, wide))
+    at (a ∷ b ∷ []) wide = absurd (omega (arith, wide))
+    at (a ∷ b ∷ c ∷ []) wide = each a b c
+    at (a ∷ b ∷ c ∷ d ∷ word) wide = absurd (omega (arith, wide))

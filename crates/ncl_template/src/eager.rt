@@ -1,0 +1,115 @@
+//! The gates of a node that waits for some of its inputs.
+ghost use Rattle.std.specs.Prelude.{◌≡◌, ◌+◌, ◌<◌, ◌^◌, ◌≤◌, IfOk, length};
+ghost use Rattle.ncl_decomp.specs.Split.{IsNarrow, cost_of_inputs};
+ghost use Rattle.ncl_tree.specs.Gates.{nets_so_far};
+ghost use Rattle.ncl_template.specs.Formed.{AddsTemplate};
+ghost use Rattle.ncl_template.specs.Forms.{IsInner, IsGateOf, AddsInner, Fits, pin_net};
+ghost use Rattle.ncl_template.specs.PairGates.{AddsGate};
+ghost use Rattle.ncl_template.specs.Template.{node_function};
+ghost use Rattle.ncl_template.specs.Waits.{waits_at, waited};
+
+use crate::fitting::fitting;
+use crate::form::{Form, FormGate, FormPin};
+use crate::template::add_template;
+use crate::waits::Waits;
+use arrayvec::ArrayVec;
+use ncl_base::Memory;
+use ncl_netlist::NetId;
+use ncl_network::Node;
+use ncl_shape::Rails;
+use ncl_tree::Gates;
+use std::alloc::Global;
+
+/// The net on a pin.
+fn pin_net(ins: &[Rails], inner: NetId, pin: FormPin) -> NetId
+    ensures { result ≡ pin_net ins.now inner pin }
+{
+    let (place, rail) = match pin {
+        FormPin::Zero(place) => (place, false),
+        FormPin::One(place) => (place, true),
+        FormPin::Inner => return inner,
+    };
+    match ins.get(place) {
+        Some(pair) => if rail { pair.one } else { pair.zero },
+        None => NetId(0),
+    }
+}
+
+/// Adds a gate of a form, and gives its net.
+fn add_gate(
+    gates: &mut Gates,
+    gate: &FormGate,
+    ins: &[Rails],
+    inner: NetId,
+) -> Result<NetId, Memory>
+    requires few { length gate.now.pins.now ≤ 4 }
+    requires room { nets_so_far gates.old + 1 < 2 ^ 32 }
+    ensures gate { IfOk result (AddsGate (IsGateOf ins.now inner gate.now) gates.old.cells gates.new.cells) }
+    ensures few { nets_so_far gates.new ≤ nets_so_far gates.old + 1 }
+    ensures first { gates.new.first ≡ gates.old.first }
+{
+    let mut nets = ArrayVec::<NetId, 4>::new();
+    for pin in gate.pins {
+        nets.push(pin_net(ins, inner, *pin));
+    }
+    gates.add(gate.kind, nets)
+}
+
+/// Adds the inner gate of a form, if there is one, and gives its net.
+fn add_inner(gates: &mut Gates, inner: &Option<FormGate>, ins: &[Rails]) -> Result<NetId, Memory>
+    requires is { IsInner (length ins.now) inner.now }
+    requires room { nets_so_far gates.old + 1 < 2 ^ 32 }
+    ensures inner { IfOk result (AddsInner ins.now inner.now gates.old.cells gates.new.cells) }
+    ensures few { nets_so_far gates.new ≤ nets_so_far gates.old + 1 }
+    ensures first { gates.new.first ≡ gates.old.first }
+{
+    match inner {
+        Some(gate) => add_gate(gates, gate, ins, NetId(0)),
+        None => Ok(NetId(0)),
+    }
+}
+
+/// Adds the gates of a form that fits a node over the pairs of what it reads, and gives the pair that shows its bit.
+fn add_form(
+    gates: &mut Gates,
+    form: &Form,
+    node: &Node,
+    ins: &[Rails],
+    waits: Waits,
+) -> Result<Rails, Memory>
+    requires fits { Fits (node_function node.now) (length node.now.ins) (waits_at waits) form.now }
+    requires as_many { length ins.now ≡ length node.now.ins }
+    requires room { nets_so_far gates.old + 32 < 2 ^ 32 }
+    ensures template { IfOk result (AddsTemplate (node_function node.now) ins.now (waited waits ins.now) (cost_of_inputs (length node.now.ins)) gates.old.cells gates.new.cells) }
+    ensures first { gates.new.first ≡ gates.old.first }
+{
+    let inner = add_inner(gates, &form.inner, ins)?;
+    let zero = add_gate(gates, &form.zero, ins, inner)?;
+    let one = add_gate(gates, &form.one, ins, inner)?;
+    Ok(Rails { zero, one })
+}
+
+/// Adds the gates of a node that waits for some of its inputs, over the pairs of what it reads, and gives the pair
+/// that shows its bit: the first gates of the table that wait for these inputs, or those of `add_template`, which wait
+/// for all. At most 2 gates for two inputs, 12 for three and 22 for four. Pairs may be equal, or each other's inverse.
+///
+/// Linear in the rows of the node. The only error is want of memory.
+pub fn add_waiting(
+    alloc: Global,
+    gates: &mut Gates,
+    node: &Node,
+    ins: &[Rails],
+    waits: Waits,
+) -> Result<Rails, Memory>
+    requires narrow { IsNarrow node.now }
+    requires as_many { length ins.now ≡ length node.now.ins }
+    requires room { nets_so_far gates.old + 32 < 2 ^ 32 }
+    ensures template { IfOk result (AddsTemplate (node_function node.now) ins.now (waited waits ins.now) (cost_of_inputs (length node.now.ins)) gates.old.cells gates.new.cells) }
+    ensures first { gates.new.first ≡ gates.old.first }
+{
+    if let Some(form) = fitting(node, waits) {
+        return add_form(gates, form, node, ins, waits);
+    }
+    let all = add_template(alloc, gates, node, ins)?;
+    Ok(all)
+}

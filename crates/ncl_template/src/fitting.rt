@@ -1,0 +1,165 @@
+//! Whether a form is of a node.
+ghost use Rattle.std.specs.Prelude.{◌≡◌, ◌<◌, ◌∷◌, [], true, Bool, All, IfSome, length};
+ghost use Rattle.ncl_template.specs.Template.{node_function};
+ghost use Rattle.ncl_template.specs.Waits.{waits_at};
+ghost use Rattle.ncl_template.specs.Forms.{has_inner, IsFormPin, IsFormGate, IsInner, IsForm, FitsWord, Fits};
+
+use crate::form::{Form, FormGate, FormPin, fits_at};
+use crate::forms::forms;
+use crate::table::node_bit;
+use crate::waits::Waits;
+use ncl_network::Node;
+
+/// Whether a pin is on a rail of one of so many inputs, or on the inner gate, where there is one.
+fn is_pin(pin: FormPin, inputs: usize, inner: bool) -> bool
+    ensures { result ≡ true → IsFormPin inputs inner pin }
+{
+    match pin {
+        FormPin::Zero(place) => place < inputs,
+        FormPin::One(place) => place < inputs,
+        FormPin::Inner => inner,
+    }
+}
+
+/// Whether all pins are.
+fn are_pins(pins: &[FormPin], inputs: usize, inner: bool) -> bool
+    ensures { result ≡ true → All (IsFormPin inputs inner) pins.now }
+{
+    for pin in pins {
+        if !is_pin(*pin, inputs, inner) {
+            return false;
+        }
+    }
+    true
+}
+
+/// Whether a gate has such a pin for each of its inputs, which are at most four.
+fn is_gate(gate: &FormGate, inputs: usize, inner: bool) -> bool
+    ensures { result ≡ true → IsFormGate inputs inner gate.now }
+{
+    gate.pins.len() <= 4
+        && gate.pins.len() == gate.kind.arity()
+        && are_pins(gate.pins, inputs, inner)
+}
+
+/// Whether the inner gate is one over the inputs alone, if there is one.
+fn is_inner(gate: &Option<FormGate>, inputs: usize) -> bool
+    ensures { result ≡ true → IsInner inputs gate.now }
+{
+    match gate {
+        Some(gate) => is_gate(gate, inputs, false),
+        None => true,
+    }
+}
+
+/// Whether the gates of a form are gates over so many inputs: two, and no inner gate, or three.
+fn is_form(form: &Form, inputs: usize) -> bool
+    ensures { result ≡ true → IsForm inputs form.now }
+{
+    let inner = form.inner.is_some();
+    (inputs == 3 || (inputs == 2 && !inner))
+        && is_inner(&form.inner, inputs)
+        && is_gate(&form.zero, inputs, inner)
+        && is_gate(&form.one, inputs, inner)
+}
+
+/// A form that is tried for a node.
+#[derive(Clone, Copy)]
+struct Tried<'a> {
+    form: &'a Form,
+    node: &'a Node,
+    waits: Waits,
+}
+
+impl<'a> Tried<'a> {
+    /// Whether the rails show the bit of the node at a word, and wait.
+    fn fits_word(&self, word: &[bool]) -> bool
+        requires { IsForm (length word.now) self.now.form.now }
+        ensures { result ≡ true → FitsWord (node_function self.now.node.now) (waits_at self.now.waits) self.now.form.now word.now }
+    {
+        let bit = node_bit(self.node, word);
+        fits_at(!bit, self.waits, &self.form.inner, &self.form.zero, word)
+            && fits_at(bit, self.waits, &self.form.inner, &self.form.one, word)
+    }
+
+    /// Whether they do at each word of two bits that begins with this one.
+    fn fits_second(&self, a: bool) -> bool
+        requires { IsForm 2 self.now.form.now }
+        ensures { result ≡ true → (b : Bool) → FitsWord (node_function self.now.node.now) (waits_at self.now.waits) self.now.form.now (a ∷ b ∷ []) }
+    {
+        self.fits_word(&[a, false]) && self.fits_word(&[a, true])
+    }
+
+    /// Whether they do at each word of two bits.
+    fn fits_two(&self) -> bool
+        requires { IsForm 2 self.now.form.now }
+        ensures { result ≡ true → (a b : Bool) → FitsWord (node_function self.now.node.now) (waits_at self.now.waits) self.now.form.now (a ∷ b ∷ []) }
+    {
+        self.fits_second(false) && self.fits_second(true)
+    }
+
+    /// Whether they do at each word of three bits that begins with these.
+    fn fits_last(&self, a: bool, b: bool) -> bool
+        requires { IsForm 3 self.now.form.now }
+        ensures { result ≡ true → (c : Bool) → FitsWord (node_function self.now.node.now) (waits_at self.now.waits) self.now.form.now (a ∷ b ∷ c ∷ []) }
+    {
+        self.fits_word(&[a, b, false]) && self.fits_word(&[a, b, true])
+    }
+
+    /// Whether they do at each word of three bits that begins with this one.
+    fn fits_middle(&self, a: bool) -> bool
+        requires { IsForm 3 self.now.form.now }
+        ensures { result ≡ true → (b c : Bool) → FitsWord (node_function self.now.node.now) (waits_at self.now.waits) self.now.form.now (a ∷ b ∷ c ∷ []) }
+    {
+        self.fits_last(a, false) && self.fits_last(a, true)
+    }
+
+    /// Whether they do at each word of three bits.
+    fn fits_three(&self) -> bool
+        requires { IsForm 3 self.now.form.now }
+        ensures { result ≡ true → (a b c : Bool) → FitsWord (node_function self.now.node.now) (waits_at self.now.waits) self.now.form.now (a ∷ b ∷ c ∷ []) }
+    {
+        self.fits_middle(false) && self.fits_middle(true)
+    }
+}
+
+/// Whether the gates of a form show the function of a node of two or three inputs, and wait for these: they are tried
+/// at each word, with each input NULL that is to be waited for, and with the inner gate low.
+pub(crate) fn fits(form: &Form, node: &Node, waits: Waits) -> bool
+    ensures { result ≡ true → Fits (node_function node.now) (length node.now.ins) (waits_at waits) form.now }
+{
+    let inputs = node.ins.items().len();
+    if !is_form(form, inputs) {
+        return false;
+    }
+    let tried = Tried { form, node, waits };
+    if inputs == 2 {
+        tried.fits_two()
+    } else {
+        tried.fits_three()
+    }
+}
+
+/// The first form of the table that is of a node and waits for these of its inputs. None is asked where they are all.
+pub(crate) fn fitting(node: &Node, waits: Waits) -> Option<&'static Form>
+    ensures { IfSome result (λ form. Fits (node_function node.now) (length node.now.ins) (waits_at waits) form.now) }
+{
+    if waits == Waits::ALL {
+        return None;
+    }
+    for form in forms(node.ins.items().len()) {
+        if form.waits.covers(waits) && fits(form, node, waits) {
+            return Some(form);
+        }
+    }
+    None
+}
+
+/// What the gates that the table has for a node wait for, where they wait for these at least: all, where it has none.
+/// Gates with fewer transistors stand before others in the table. Linear in the rows of the node.
+pub fn least_waits(node: &Node, waits: Waits) -> Waits {
+    match fitting(node, waits) {
+        Some(form) => form.waits,
+        None => Waits::ALL,
+    }
+}

@@ -5,8 +5,8 @@
 
 PROGRAM is the built nclc. Without pages, README and those of docs/ are taken. The commands of a page, the lines that begin
 with `$ ` in its blocks, run one after another in a folder of their own, in which the files of examples/ lie, and lie under
-examples/ too; tools/ is at the end of the path. One whose program isn't on the path is passed over, and gtkwave always. With --write, what a command
-prints is put below it. Prints each command that differs; the status is 1 where one does.
+examples/ too; tools/ is at the end of the path. One whose program isn't on the path is passed over, and gtkwave always. With
+--write, what a command prints is put below it. Prints each command that differs; the status is 1 where one does.
 """
 import os
 import pathlib

@@ -143,6 +143,14 @@ with tempfile.TemporaryDirectory() as name:
     dom = subprocess.run(["chromium", "--headless", "--no-sandbox", "--disable-gpu", f"--user-data-dir={folder}/profile", "--dump-dom", (folder / "page.html").as_uri()], capture_output=True, text=True, timeout=120).stdout
     said = [[1, f", stage {k} shown with its banks"] for k in (1, 2, 2)]
     check("n and p go from stage to stage", json.loads(html.unescape(re.search(r'<pre id="probe">(.*?)</pre>', dom, re.S)[1])) == said)
+    (folder / "long.words").write_text("".join(f"{i % 16:04b}\n" for i in range(200)))
+    run.write_text(nclc("sim", folder / "stages.v", "--delays", EXAMPLES / "unit.delays", "--words", folder / "long.words", "--vcd"))
+    probe = """<pre id="probe"></pre><script>const told = [[at("list").length, total]]; for (const step of [total, 5000, 0]) { show(step); told.push([+at("list").value, step]); }
+      told.push([document.querySelectorAll(".strip div").length]); document.getElementById("probe").textContent = JSON.stringify(told);</script>"""
+    (folder / "page.html").write_text(show(folder / "stages.v", "--vcd", run).stdout.replace("</html>", probe + "</html>"))
+    dom = subprocess.run(["chromium", "--headless", "--no-sandbox", "--disable-gpu", f"--user-data-dir={folder}/profile", "--dump-dom", (folder / "page.html").as_uri()], capture_output=True, text=True, timeout=120).stdout
+    (length, total), *steps, (blocks,) = json.loads(html.unescape(re.search(r'<pre id="probe">(.*?)</pre>', dom, re.S)[1]))
+    check(f"of {total} steps the list has {length}, and the rows {blocks} blocks", total > 10000 and length == 4000 and blocks < 5000 and all(a == b for a, b in steps))
     for file in ("full_adder.v", "orphan.v", "three_stages.v", "multiplier.v", "held_sum.v", "vectors.v", "solution_8.v"):
         found = missing((EXAMPLES / file).read_text(), show(EXAMPLES / file).stdout)
         check(f"{file}: at each pin a wire of its net ends {found}", not found)

@@ -24,6 +24,16 @@ def interleave_keeps_a_netlist_comparable(folder):
     same(nclc("match", folder / "new.v", folder / "new.blif", "--limit", "2000"), "same\n")
 
 
+@needing("yosys")
+def interleave_takes_what_chooses_first(folder):
+    (folder / "rotate.v").write_text("module m (input [19:0] d, input [4:0] by, output [19:0] q); wire [39:0] t = {d, d} << by; assign q = t[39:20]; endmodule\n")
+    ran(["yosys", "-q", "-p", "read_verilog rotate.v; synth -flatten; abc -g AND,XOR; opt_clean -purge; write_blif rotate.blif"], folder=folder)
+    (folder / "new.blif").write_text(tool("interleave", "--first", "by", folder / "rotate.blif"))
+    for name, told, status in (("rotate", "limit output 1: more than 100000 nodes\n", 6), ("new", "same\n", 0)):
+        (folder / "n.v").write_text(nclc("compile", folder / f"{name}.blif"))
+        same(nclc("match", folder / "n.v", folder / f"{name}.blif", status=status), told)
+
+
 def place_points_at_lines(folder):
     for name, wanted in [("unknown_cell.v", "16:3: netlist: unknown cell at 635"), ("forgotten_bit.v", "12:9: shape: loose at cell k2"),
                          ("orphan.v", "19:8: refused stage 1: orphan, cell co0, word 000"), ("latch.blif", "8:1: blif: unsupported in line 8")]:

@@ -60,3 +60,11 @@ def read_vcd(text, pipe):
         else:
             raise Refused(f"vcd: not understood: {line}")
     return begin, changes, None, ""
+
+
+def read_orphan(text, pipe):
+    """A run of `--why` to its end, at which a cell loses its excitation."""
+    run = read_why(text, pipe)
+    if run[2] is None or not run[1]:
+        raise Refused("why: it has no step, or no line that says which cell is lost")
+    return run

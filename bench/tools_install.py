@@ -105,6 +105,8 @@ def install_puts_all(folder):
                  "share/fish/vendor_completions.d/nclc.fish", "share/nclc/cells.v", "share/nclc/tools/interleave", "share/doc/nclc/README.md"):
         assert (folder / "prefix" / file).is_file(), file
     same(ran([folder / "prefix/bin/nclc", "check", "and.v"], folder=folder / "prefix/share/nclc/examples"), "accepted banks=2 stages=1 cells=12\n")
+    if shutil.which("dot"):
+        ran([folder / "prefix/share/nclc/tools/pages", folder / "pages", folder / "prefix/bin/nclc"])
     assert ran([folder / "prefix/share/nclc/tools/interleave", folder / "prefix/share/nclc/examples/and.blif"])
     refuses("install", status=2)
     refuses("install", folder / "prefix", folder / "absent")

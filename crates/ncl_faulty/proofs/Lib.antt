@@ -1,0 +1,4 @@
+pub mod Wired
+pub mod Shapes
+pub mod FirstStages
+pub mod Twins

@@ -1,0 +1,21 @@
+use Rattle.std.proofs.Common.{false, [], ◌∷◌, refl}
+use Rattle.ncl_gates.specs.declared.kind.Kind.TheVariants.{Th12}
+use Rattle.ncl_shape.specs.Examples.{rails}
+use Rattle.ncl_stage.specs.Faults.{Orphan}
+use Rattle.ncl_verdict.proofs.Computed.{judgement-computes}
+use Rattle.ncl_faulty.specs.Examples.{gate_stage, with_orphan}
+use Rattle.ncl_faulty.proofs.Shapes.{orphan_shape}
+use Rattle.ncl_faulty.proofs.FirstStages.{first_wrong, first_sensitive}
+use Rattle.ncl_faulty.proofs.examples.orphan.Goals as goal
+
+pub returns-clause-shape : goal.returns-clause-shape
+returns-clause-shape c = orphan_shape
+
+pub returns-clause-refused : goal.returns-clause-refused
+returns-clause-refused c = judgement-computes 100 with_orphan.stages
+
+pub returns-clause-wrong : goal.returns-clause-wrong
+returns-clause-wrong c = first_wrong with_orphan orphan_shape refl (gate_stage Th12 (rails 8 9)) refl (false ∷ []) refl (Orphan 0) refl
+
+pub returns-clause-not_insensitive : goal.returns-clause-not_insensitive
+returns-clause-not_insensitive c = first_sensitive with_orphan orphan_shape refl (gate_stage Th12 (rails 8 9)) refl (false ∷ []) refl (Orphan 0) refl

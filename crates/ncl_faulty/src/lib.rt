@@ -1,0 +1,5 @@
+//! Pipelines with one fault each: that each is refused and goes wrong, and one with a fault at a word that no input brings,
+//! which is refused too, and delay-insensitive.
+#![tactic(auto)]
+
+pub mod examples;

@@ -4,12 +4,14 @@ use Rattle.ncl_base.specs.declared.memory.Memory.{Memory}
 use Rattle.ncl_netlist.specs.Netlist.{NetlistData}
 use Rattle.ncl_shape.specs.Pipeline.{PipelineData}
 use Rattle.ncl_shape.specs.Shape.{Shape}
-use Rattle.ncl_check.specs.declared.reply.Outcome.TheVariants.{Accepted, NoPipeline}
+use Rattle.ncl_check.specs.declared.reply.Outcome.TheVariants.{Accepted, Refused, NoPipeline}
 use Rattle.ncl_check.specs.declared.reply.Reply.{Reply}
 use Rattle.ncl_check.specs.Text.{IsNetlistText, IsPipelineText, IsRefusedText}
 use Rattle.ncl_check.specs.Reply.{outcome_of, verdict_on, IsVerdictText, IsCheckReply, refused, judged}
 use Rattle.ncl_check.specs.Headline.{IsDelayInsensitiveText}
+use Rattle.ncl_check.specs.Refusal.{IsWrongText}
 use Rattle.ncl_check.proofs.Accepted.{text_works}
+use Rattle.ncl_check.proofs.Wrong.{text_wrong}
 
 -- the text of a netlist is that of its pipeline
 pub pipeline_text : (bytes : List ℕ) (n : NetlistData) (p : PipelineData) → IsNetlistText bytes n → Shape n p → IsPipelineText bytes p
@@ -33,3 +35,8 @@ judged_reply limit why bytes p is (Err memory) ends told = tt
 pub reply_works : (limit : ℕ) (why : Bool) (bytes : List ℕ) (r : Result Reply Memory) → IfOk r (λ reply. IsCheckReply limit why bytes reply.outcome reply.text.items) → IfOk r (λ reply. reply.outcome ≡ Accepted → IsDelayInsensitiveText bytes)
 reply_works limit why bytes (Ok reply) h = λ e. text_works limit why bytes h e
 reply_works limit why bytes (Err memory) h = tt
+
+-- and a refusal among them that its stage goes wrong at a word
+pub reply_wrong : (limit : ℕ) (why : Bool) (bytes : List ℕ) (r : Result Reply Memory) → IfOk r (λ reply. IsCheckReply limit why bytes reply.outcome reply.text.items) → IfOk r (λ reply. reply.outcome ≡ Refused → IsWrongText limit bytes reply.text.items)
+reply_wrong limit why bytes (Ok reply) h = λ e. text_wrong limit why bytes h e
+reply_wrong limit why bytes (Err memory) h = tt

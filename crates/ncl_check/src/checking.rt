@@ -4,7 +4,8 @@ ghost use Rattle.ncl_check.specs.Text.{IsRefusedText};
 ghost use Rattle.ncl_check.specs.Refusals.{TellsLine};
 ghost use Rattle.ncl_check.specs.Reply.{IsCheckReply, IsVerdictText, outcome_of, verdict_on};
 ghost use Rattle.ncl_check.specs.Headline.{IsDelayInsensitiveText};
-ghost use Rattle.ncl_check.specs.declared.reply.Outcome.TheVariants.{Accepted, NoPipeline};
+ghost use Rattle.ncl_check.specs.Refusal.{IsWrongText};
+ghost use Rattle.ncl_check.specs.declared.reply.Outcome.TheVariants.{Accepted, Refused, NoPipeline};
 
 use crate::reply::{Outcome, Reply};
 use crate::text::{Refusal, netlist_in, pipeline_in};
@@ -22,8 +23,9 @@ pub const PARTS: u32 = 4;
 /// first rule of shape that the netlist breaks, or the judgement of its pipeline, each of whose stages may have
 /// at most `limit` nodes of diagrams; and, with `why`, a run that shows the orphan that a judgement names.
 ///
-/// An acceptance says that the circuit works at every gate delay: clause `headline`. Fails where memory is
-/// refused, and then only. Linear in the bytes and cells but for look-ups of names and the judgement, which goes
+/// An acceptance says that the circuit works at every gate delay: clause `headline`. A refusal says that it doesn't,
+/// where an input brings the word that is told to its stage: clause `refusal`. Fails where memory is refused, and then
+/// only. Linear in the bytes and cells but for look-ups of names and the judgement, which goes
 /// through each stage once, and again from each of its bits and gates on. The stages are judged by up to four threads.
 pub fn check<R: Threads + Sync, J: Judge + Sync>(
     rt: &R,
@@ -36,6 +38,7 @@ pub fn check<R: Threads + Sync, J: Judge + Sync>(
     requires { 1 ≤ limit }
     ensures reply { IfOk result (λ reply. IsCheckReply limit why bytes.now reply.outcome reply.text.items) }
     ensures headline { IfOk result (λ reply. reply.outcome ≡ Accepted → IsDelayInsensitiveText bytes.now) }
+    ensures refusal { IfOk result (λ reply. reply.outcome ≡ Refused → IsWrongText limit bytes.now reply.text.items) }
 {
     let netlist = match netlist_in(alloc, bytes) {
         Ok(netlist) => netlist,

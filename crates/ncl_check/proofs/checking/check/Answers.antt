@@ -1,6 +1,6 @@
 use Rattle.ncl_check.specs.Text.{IsRefusedText, IsShapeless, shapeless}
 use Rattle.ncl_check.proofs.Refusing.{TellsLine-weaker}
-use Rattle.ncl_check.proofs.Replying.{pipeline_text, refused_reply, judged_reply, reply_works}
+use Rattle.ncl_check.proofs.Replying.{pipeline_text, refused_reply, judged_reply, reply_works, reply_wrong}
 use Rattle.ncl_check.proofs.checking.check.Goals as goal
 
 pub returns-in-Err-clause-reply : goal.returns-in-Err-clause-reply
@@ -22,3 +22,6 @@ returns-clause-reply g c =
 
 pub returns-clause-headline : goal.returns-clause-headline
 returns-clause-headline g c = reply_works c.args.limit c.args.why c.args.bytes.now c.judged.result (returns-clause-reply g c)
+
+pub returns-clause-refusal : goal.returns-clause-refusal
+returns-clause-refusal g c = reply_wrong c.args.limit c.args.why c.args.bytes.now c.judged.result (returns-clause-reply g c)

@@ -24,10 +24,11 @@ use std::thread::Threads;
 /// may and could go on.
 ///
 /// A netlist that is accepted works at every gate delay: clause `headline`. `IsAnswered` says all that a call keeps, of
-/// which that is a part. What is compiled works too, and `check` accepts it: `compiles`. A run of a netlist of sound
-/// stages ends with status 0 at whatever delays: `simulates`. Models that match a netlist give what it gives at each
-/// word: `matches`. Costs what the command costs, and a pass over the text. Stages are judged, and outputs compared, by
-/// up to four threads.
+/// which that is a part. One that is refused isn't delay-insensitive where an input brings the told word to the told
+/// stage, as one always does to the first: `refusal`. What is compiled works too, and `check` accepts it: `compiles`. A
+/// run of a netlist of sound stages ends with status 0 at whatever delays: `simulates`. Models that match a netlist give
+/// what it gives at each word: `matches`. Costs what the command costs, and a pass over the text. Stages are judged, and
+/// outputs compared, by up to four threads.
 pub fn run<R: Threads + Sync, S: Source, K: Sink>(
     rt: &R,
     alloc: Global,

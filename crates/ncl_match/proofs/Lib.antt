@@ -1,4 +1,3 @@
-pub mod DualLaws
 pub mod PairLaws
 pub mod TurnLaws
 pub mod CoverLaws

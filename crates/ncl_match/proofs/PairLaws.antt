@@ -13,9 +13,9 @@ use Rattle.ncl_space.proofs.SpaceLaws.{keeps_all, too_much_by_front}
 use Rattle.ncl_space.proofs.MakingLaws.{held-along, too_much-after, makes-live}
 use Rattle.ncl_stage.proofs.OutputLaws.{table_of-at}
 use Rattle.ncl_match.specs.declared.pair.Pair.{Pair}
-use Rattle.ncl_match.specs.Duals.{dual_of, dual_pins, crossed, is_crossed}
+use Rattle.ncl_gates.specs.Dual.{dual_of, dual_pins, crossed, is_crossed}
 use Rattle.ncl_match.specs.Pairs.{WordFunction, inverse, both_tables, function_at, functions_at, IsPair, values_of, gate_function, HasFunction, MakesPair}
-use Rattle.ncl_match.proofs.DualLaws.{dual-set, dual_pins-map}
+use Rattle.ncl_gates.proofs.DualLaws.{dual-set, dual_pins-map}
 
 -- the values of a pair's function, where it has this table
 pub function-is : (s : SpaceData) (p : Pair) (f : WordFunction) → s.table p.one ≡ table_of (words s.width) f → (w : List Bool) → length w ≡ s.width → function_at s p w ≡ f w

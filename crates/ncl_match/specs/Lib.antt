@@ -1,4 +1,3 @@
-pub mod Duals
 pub mod Turns
 pub mod Pairs
 pub mod Covers

@@ -16,16 +16,10 @@ ghost use Rattle.ncl_cell_roles.specs.Layout.{Layout, IsLayoutOf, in_rail, out_r
 ghost use Rattle.ncl_shape.specs.Stage.{out_of, rail_nets};
 ghost use Rattle.ncl_space.specs.Functions.{is_value};
 ghost use Rattle.ncl_match.specs.Answer.{IsAnswer, IsRunAnswer};
-ghost use Rattle.ncl_match.specs.Duals.{dual_of, dual_pins};
 ghost use Rattle.ncl_match.specs.declared.answer.Compared.{Compared};
 ghost use Rattle.ncl_match.specs.declared.answer.CompareFault.{CompareFault};
 ghost use Rattle.ncl_match.specs.declared.answer.CompareFault.TheVariants.{Memory as OutOfMemory};
 ghost use Rattle.ncl_match.specs.declared.answer.RunAnswer.{RunAnswer};
-
-/// Each gate has a dual, which makes the complement from the complements.
-pub fn gates_have_duals()
-    ensures { (kind : Kind) (ins : List Bool) → length ins ≡ arity_of kind → set_of (dual_of kind) (dual_pins kind (map not ins)) ≡ not (set_of kind ins) }
-{}
 
 /// A run of outputs has one answer, and so have all outputs, but for want of memory.
 pub fn one_answer()

@@ -1,13 +1,12 @@
 //! Functions with their complements, in a space.
 ghost use Rattle.std.specs.Prelude.{◌≡◌, ◌≤◌, [], ◌∷◌, true, false, All, IfOk, OnOk, IsErrOf, length, map};
+ghost use Rattle.ncl_gates.specs.Dual.{dual_pins};
 ghost use Rattle.ncl_gates.specs.Gate.{arity_of};
 ghost use Rattle.ncl_space.specs.Space.{IsLive, IsSpace, Keeps, fits};
-ghost use Rattle.ncl_match.specs.Duals.{dual_pins};
 ghost use Rattle.ncl_match.specs.Pairs.{HasFunction, IsPair, MakesPair, both_tables, function_at, functions_at, gate_function, inverse, side_of};
 ghost use Rattle.ncl_space.specs.Functions.{is_value};
 ghost use Rattle.std.specs.Prelude.{slice_index_or, ◌<◌, List, Bool};
 
-use crate::duals::dual;
 use arrayvec::ArrayVec;
 use ncl_gates::Kind;
 use ncl_space::{Ref, Space, SpaceFault};
@@ -110,6 +109,6 @@ pub fn gate_pair<P: Space>(space: &mut P, kind: Kind, ins: &[Pair]) -> Result<Pa
         IsErrOf result SpaceFault.Full → fits s (both_tables s.width (gate_function kind (functions_at s ins.now))) ≡ false }
 {
     let one = space.apply(kind, sides(ins, true).as_slice())?;
-    let zero = space.apply(dual(kind), dual_zeros(kind, ins).as_slice())?;
+    let zero = space.apply(kind.dual(), dual_zeros(kind, ins).as_slice())?;
     Ok(Pair { one, zero })
 }

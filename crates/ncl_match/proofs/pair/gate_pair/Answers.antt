@@ -9,9 +9,9 @@ use Rattle.ncl_space.specs.Space.{SpaceData, IsLive, IsSpace, Keeps, Makes, fits
 use Rattle.ncl_space.specs.declared.space.Ref.{Ref}
 use Rattle.ncl_space.proofs.MakingLaws.{handed_on}
 use Rattle.ncl_match.specs.declared.pair.Pair.{Pair}
-use Rattle.ncl_match.specs.Duals.{dual_of, dual_pins}
+use Rattle.ncl_gates.specs.Dual.{dual_of, dual_pins}
 use Rattle.ncl_match.specs.Pairs.{WordFunction, IsPair, inverse, gate_function, functions_at}
-use Rattle.ncl_match.proofs.DualLaws.{dual-arity, dual_pins-length}
+use Rattle.ncl_gates.proofs.DualLaws.{dual-arity, dual_pins-length}
 use Rattle.ncl_match.proofs.PairLaws.{made-pair, first-too_much, second-too_much, gate-one, gate-zero, ones-live, dual_zeros-live, pairs-kept}
 use Rattle.ncl_match.proofs.pair.gate_pair.Goals as goal
 

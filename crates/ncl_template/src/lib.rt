@@ -1,4 +1,4 @@
-//! The gates of one node of a network, which wait for each of its inputs and for each of themselves.
+//! The gates of one node of a network, which wait for some or all of its inputs, and for each of themselves.
 #![tactic(auto)]
 
 mod code;

@@ -69,7 +69,7 @@ shown-next outputs k d lt marks shown place high =
     ]
 
 -- both rails of an output are rails of the outputs
-rails-listed : (rails : List Rails) (r : Rails) → Member r rails → Member r.zero.0 (rail_nets rails) × Member r.one.0 (rail_nets rails)
+pub rails-listed : (rails : List Rails) (r : Rails) → Member r rails → Member r.zero.0 (rail_nets rails) × Member r.one.0 (rail_nets rails)
 rails-listed [] r m = elim m [ ]
 rails-listed (x ∷ xs) r m = elim (member_cases r x xs m) [
   | inl own ↦ subst (λ (y : Rails). Member y.zero.0 (rail_nets (x ∷ xs)) × Member y.one.0 (rail_nets (x ∷ xs))) own (here, there here)

@@ -46,6 +46,11 @@ pub fn observed_is_sound()
     ensures { (s : StageData) → IsStage s → HasValidRails s → AreObserved s → IsSound s }
 {}
 
+/// And back: in a sound stage each net that is high is a rail of an output, or makes some gate fall that reads it.
+pub fn sound_is_observed()
+    ensures { (s : StageData) → IsStage s → IsSound s → AreObserved s }
+{}
+
 /// Where two words agree on the bits on which a net depends, through the rails and cells that lead to it, the net has one
 /// value at both, under every variant.
 pub fn supports_tell_values()

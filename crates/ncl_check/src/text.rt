@@ -8,9 +8,9 @@ ghost use Rattle.ncl_check.specs.Text.{IsNetlistText, IsRefusedText, IsShapeless
 ghost use Rattle.ncl_check.specs.Refusals.{TellsLine};
 
 use ncl_base::{MOST_BYTES, Memory};
+use ncl_lines::{net_text, shape_text};
 use ncl_netlist::Netlist;
 use ncl_reader::{NetFault, read_netlist};
-use ncl_lines::{net_text, shape_text};
 use ncl_shape::{Pipeline, ShapeFault, shape};
 use std::alloc::Global;
 

@@ -19,7 +19,7 @@ returns-then-functions-others c = λ enough variant among.
     let k : ℕ = length c.items-width.result.now - 3 in
     let room : ℕ = c.saturating_sub-room.result in
     let wide : length s.inputs ≡ k + 3 = omega (arith, bits) in
-    let rest = no_more (length c.items-then-functions-others.result.now) (room / 2 ^ k - (2 * length c.items-width.result.now + 3 * length c.items.result.now + 1)) enough in
+    let rest = no_more _ _ enough in
     let total : 2 * length s.inputs + length s.cells + 3 * length s.outputs + 1 ≤ room / 2 ^ k = omega (arith, bits, outputs, cells, rest, c.if-functions-others.true) in
     let product = (le-div_iff_mul-le {k = 2 ^ k} {x = 2 * length s.inputs + length s.cells + 3 * length s.outputs + 1} {y = room} (pow_pos k)).0 total in
     let some = div-le_self room (2 ^ k) in

@@ -76,13 +76,13 @@ fn depth(alloc: Global, network: &Network) -> Result<usize, Memory> {
 #[test]
 fn nodes_stand_side_by_side(rt: HostRuntime) -> Result<(), Fail> {
     let cases = [
-        // a conjunction and an exclusive sum of four, each from chains
+        // three nodes of two inputs each, in two levels where they could be in three
         (
-            ".inputs a b c d\n.outputs y\n.names a b p\n11 1\n.names p c q\n11 1\n.names q d y\n11 1\n",
+            ".inputs a b c d\n.outputs y\n.names a b c d y\n1111 1\n",
             2usize,
         ),
         (
-            ".inputs a b c d\n.outputs y\n.names a b p\n10 1\n01 1\n.names p c q\n10 1\n01 1\n.names q d y\n10 1\n01 1\n",
+            ".inputs a b c d\n.outputs y\n.names a b c d y\n1000 1\n0100 1\n0010 1\n0001 1\n1110 1\n1101 1\n1011 1\n0111 1\n",
             2,
         ),
     ];

@@ -98,8 +98,25 @@ fn reads_twice(ins: &[Signal]) -> bool {
     }
 }
 
-/// What each node waits for. Linear in the network.
+/// A stage of so few inputs has nodes that wait for less, whatever its size.
+const FEW_INPUTS: usize = 10;
+
+/// So has one with at most so many nodes for its inputs: the nodes times the inputs.
+const FEW_NODES: usize = 4_096;
+
+/// Whether nodes of a network may wait for less than all. Where more stays high without an input, a judge needs more nodes of
+/// decision diagrams, in large stages of many inputs up to four times as many, and could pass its usual limit where it didn't.
+fn may_relax(network: &Network) -> bool {
+    let inputs = network.inputs as usize;
+    let nodes = network.nodes.items().len();
+    inputs <= FEW_INPUTS || inputs.saturating_mul(nodes) <= FEW_NODES
+}
+
+/// What each node waits for; where none is told, each waits for all. Linear in the network.
 fn waits_found(alloc: Global, network: &Network) -> Result<Vec<Waits>, Memory> {
+    if !may_relax(network) {
+        return Ok(Vec::new(alloc));
+    }
     let mut holders = Holders::of(alloc, network)?;
     let mut waits = Vec::new(alloc);
     for node in network.nodes.items() {

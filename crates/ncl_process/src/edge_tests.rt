@@ -1,6 +1,6 @@
 //! Real files, printers that fail and arguments that are no text.
+use crate::answering::answer;
 use crate::file_source::FileSource;
-use crate::process::answer;
 use crate::stdout_sink::StdoutSink;
 use ncl_base::{LoadFault, NullSink, SinkFault, Source, SteadySource, deliver, load};
 use std::alloc::Global;

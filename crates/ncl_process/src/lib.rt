@@ -2,14 +2,14 @@
 //! that it ends with.
 #![tactic(auto)]
 
+mod answering;
 mod arguments;
 #[cfg(test)]
 mod edge_tests;
 mod file_source;
-mod process;
 mod stdout_sink;
 mod tally;
 
+pub use answering::{answer, process};
 pub use file_source::FileSource;
-pub use process::{answer, process};
 pub use stdout_sink::StdoutSink;

@@ -12,6 +12,8 @@ pub mod Events
 pub mod Queue
 pub mod Times
 pub mod ShapeEnds
+pub mod WheelLaws
+pub mod CalendarLaws
 pub mod QueueLaws
 pub mod LookLaws
 pub mod Start

@@ -1,15 +1,12 @@
--- The heap of an agenda keeps the events of what waits.
-use Rattle.std.proofs.Common.{◌≡◌, ℕ, zero, suc, ◌+◌, false, List, [], ◌∷◌, length, map, replicate, set, Option, Some, None, refl, sym, subst, arith}
+-- The queue of an agenda keeps the events of what waits.
+use Rattle.std.proofs.Common.{◌≡◌, ℕ, zero, suc, ◌+◌, List, [], ◌∷◌, length, map, replicate, set, Option, Some, None, refl, sym, ap, subst, arith}
 use Rattle.std.specs.Prelude.{slice_get}
-use Rattle.std.specs.List.{AllByRecursion}
 use Rattle.std.specs.List.Sorted.{IsPermutation}
-use Rattle.std.specs.BinaryHeap.{IsHeap, IsUpperBound}
-use Rattle.std.specs.Ordering.{is_lt, nat_cmp, ordering_then}
 use Rattle.std.specs.declared.cmp.Reverse.{Reverse}
-use Rattle.std.proofs.lemmas.List.Elements.{All-from_recursion, All-head}
+use Rattle.std.proofs.lemmas.List.Elements.{All-head, All-map}
 use Rattle.std.proofs.lemmas.List.Sorted.{All-permutation, IsPermutation-cons, IsPermutation-map, IsPermutation-refl, IsPermutation-sym, IsPermutation-trans, length_permutation}
-use Rattle.std.proofs.lemmas.Bool.Decides.{nat_tests}
-use Rattle.ncl_sim.specs.Agenda.{IsQueueOf, event_cmp, events}
+use Rattle.ncl_sim.specs.Agenda.{IsQueueOf, events}
+use Rattle.ncl_sim.specs.Calendar.{ComesBeforeAll}
 use Rattle.ncl_sim.specs.Queue.{IsBefore, IsFirst, NoneWaits}
 use Rattle.ncl_sim.proofs.Cancel.{IsPermutation-cancel}
 use Rattle.ncl_sim.proofs.Events.{event-waits, events-put, events-taken}
@@ -22,51 +19,44 @@ no-events j zero = refl
 no-events j (suc n) = no-events (j + 1) n
 
 -- nothing waits
-pub empty-queue : (waits : List (Option ℕ)) (heap : List (Reverse (ℕ × ℕ))) (n : ℕ) → waits ≡ replicate n None → heap ≡ [] → IsHeap event_cmp heap → IsQueueOf waits heap
-empty-queue waits heap n none empty order = record {
-  in_order = order;
-  events = subst (λ ws. IsPermutation (events 0 ws) (map event_in heap)) (sym none)
-      (subst (λ h. IsPermutation (events 0 (replicate n None)) (map event_in h)) (sym empty)
+pub empty-queue : (waits : List (Option ℕ)) (queue : List (Reverse (ℕ × ℕ))) (n : ℕ) → waits ≡ replicate n None → queue ≡ [] → IsQueueOf waits queue
+empty-queue waits queue n none empty = record {
+  events = subst (λ ws. IsPermutation (events 0 ws) (map event_in queue)) (sym none)
+      (subst (λ q. IsPermutation (events 0 (replicate n None)) (map event_in q)) (sym empty)
       (subst (λ es. IsPermutation es []) (sym (no-events 0 n)) (IsPermutation-refl [])));
 }
 
-module _ (waits : List (Option ℕ)) (heap : List (Reverse (ℕ × ℕ))) (is : IsQueueOf waits heap) where
-  pub empty-none_waits : length heap ≡ 0 → NoneWaits waits
+module _ (waits : List (Option ℕ)) (queue : List (Reverse (ℕ × ℕ))) (is : IsQueueOf waits queue) where
+  pub empty-none_waits : queue ≡ [] → NoneWaits waits
   empty-none_waits empty k due at =
-      let events_are : length (map event_in heap) ≡ length (events 0 waits) = length_permutation (events 0 waits) (map event_in heap) is.events in
+      let events_are : length (map event_in queue) ≡ length (events 0 waits) = length_permutation (events 0 waits) (map event_in queue) is.events in
       let more : length ((due, k) ∷ events 0 (set waits k None)) ≡ length (events 0 waits) = length_permutation (events 0 waits) ((due, k) ∷ events 0 (set waits k None)) (events-taken waits k due at) in
-      let none : length (map event_in heap) ≡ 0 = no-length heap empty in
+      let none : length (map event_in queue) ≡ 0 = ap (λ q. length (map event_in q)) empty in
       omega (arith, events_are, more, none)
-    where
-      no-length : (xs : List (Reverse (ℕ × ℕ))) → length xs ≡ 0 → length (map event_in xs) ≡ 0
-      no-length [] e = refl
-      no-length (x ∷ xs) e = absurd (omega arith)
 
   -- a number begins to wait
-  pub queue-more : (k due : ℕ) (more : List (Reverse (ℕ × ℕ))) → slice_get waits k ≡ Some None → IsHeap event_cmp more → IsPermutation (record { 0 = (due, k) } ∷ heap) more → IsQueueOf (set waits k (Some due)) more
-  queue-more k due more at order into =
+  pub queue-more : (k due : ℕ) (more : List (Reverse (ℕ × ℕ))) → slice_get waits k ≡ Some None → IsPermutation (record { 0 = (due, k) } ∷ queue) more → IsQueueOf (set waits k (Some due)) more
+  queue-more k due more at into =
       let e : Reverse (ℕ × ℕ) = record { 0 = (due, k) } in
       record {
-        in_order = order;
         events =
-            IsPermutation-trans (events 0 (set waits k (Some due))) ((due, k) ∷ map event_in heap) (map event_in more)
-            (IsPermutation-trans (events 0 (set waits k (Some due))) ((due, k) ∷ events 0 waits) ((due, k) ∷ map event_in heap)
+            IsPermutation-trans (events 0 (set waits k (Some due))) ((due, k) ∷ map event_in queue) (map event_in more)
+            (IsPermutation-trans (events 0 (set waits k (Some due))) ((due, k) ∷ events 0 waits) ((due, k) ∷ map event_in queue)
             (IsPermutation-sym ((due, k) ∷ events 0 waits) (events 0 (set waits k (Some due))) (events-put waits k due at))
-            (IsPermutation-cons (due, k) (events 0 waits) (map event_in heap) is.events))
-            (IsPermutation-map event_in (e ∷ heap) more into);
+            (IsPermutation-cons (due, k) (events 0 waits) (map event_in queue) is.events))
+            (IsPermutation-map event_in (e ∷ queue) more into);
       }
 
   -- the first event, and what is left without it
-  module _ (e : Reverse (ℕ × ℕ)) (rest : List (Reverse (ℕ × ℕ))) (out : IsPermutation heap (e ∷ rest)) where
+  module _ (e : Reverse (ℕ × ℕ)) (rest : List (Reverse (ℕ × ℕ))) (out : IsPermutation queue (e ∷ rest)) where
     taken-out : IsPermutation (events 0 waits) (e.0 ∷ map event_in rest)
-    taken-out = IsPermutation-trans (events 0 waits) (map event_in heap) (e.0 ∷ map event_in rest) is.events (IsPermutation-map event_in heap (e ∷ rest) out)
+    taken-out = IsPermutation-trans (events 0 waits) (map event_in queue) (e.0 ∷ map event_in rest) is.events (IsPermutation-map event_in queue (e ∷ rest) out)
 
     pub out-waits : slice_get waits e.0.1 ≡ Some (Some e.0.0)
     out-waits = event-waits waits e.0 (map event_in rest) taken-out
 
-    pub queue-rest : IsHeap event_cmp rest → IsQueueOf (set waits e.0.1 None) rest
-    queue-rest order = record {
-      in_order = order;
+    pub queue-rest : IsQueueOf (set waits e.0.1 None) rest
+    queue-rest = record {
       events =
           IsPermutation-cancel e.0 (events 0 (set waits e.0.1 None)) (map event_in rest)
           (IsPermutation-trans (e.0 ∷ events 0 (set waits e.0.1 None)) (events 0 waits) (e.0 ∷ map event_in rest)
@@ -74,19 +64,12 @@ module _ (waits : List (Option ℕ)) (heap : List (Reverse (ℕ × ℕ))) (is : 
           taken-out);
     }
 
-    pub out-first : IsUpperBound event_cmp e heap → IsFirst waits e.0
-    out-first bound = record {
+    pub out-first : ComesBeforeAll e queue → IsFirst waits e.0
+    out-first before = record {
       here = out-waits;
       first = λ k due at.
           All-head (IsBefore e.0) (due, k) (events 0 (set waits k None))
           (All-permutation (IsBefore e.0) (events 0 waits) ((due, k) ∷ events 0 (set waits k None)) (events-taken waits k due at)
-          (All-permutation (IsBefore e.0) (map event_in heap) (events 0 waits) (IsPermutation-sym (events 0 waits) (map event_in heap) is.events)
-          (All-from_recursion (IsBefore e.0) (map event_in heap) (all-before heap bound))));
+          (All-permutation (IsBefore e.0) (map event_in queue) (events 0 waits) (IsPermutation-sym (events 0 waits) (map event_in queue) is.events)
+          (All-map (IsBefore e.0) event_in queue before)));
     }
-      where
-        before-from_cmp : (x y : ℕ × ℕ) → is_lt (ordering_then (nat_cmp y.0 x.0) (nat_cmp y.1 x.1)) ≡ false → IsBefore x y
-        before-from_cmp x y off = grind (arith, nat_tests)
-
-        all-before : (xs : List (Reverse (ℕ × ℕ))) → IsUpperBound event_cmp e xs → AllByRecursion (IsBefore e.0) (map event_in xs)
-        all-before [] all = tt
-        all-before (x ∷ xs) all = (before-from_cmp e.0 x.0 all.0, all-before xs all.1)

@@ -4,5 +4,6 @@ pub mod Touch
 pub mod Candidates
 pub mod Agenda
 pub mod Queue
+pub mod Calendar
 pub mod Running
 pub mod Times

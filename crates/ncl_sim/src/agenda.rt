@@ -2,10 +2,10 @@
 ghost use Rattle.std.specs.Prelude.{◌≡◌, ◌<◌, ℕ, None, Some, IfNone, IfOk, IfSome, OnErr, OnOk, length, replicate, set, slice_get};
 ghost use Rattle.ncl_sim.specs.Queue.{IsFirst, NoneWaits, is_waiting};
 
+use crate::calendar::Calendar;
 use ncl_base::Memory;
 use std::alloc::Global;
 use std::cmp::Reverse;
-use std::collections::BinaryHeap;
 use std::marker::Model;
 
 /// For each number when its item is due, if it waits, and the same as a queue.
@@ -14,19 +14,18 @@ use std::marker::Model;
 #[derive(Drop)]
 pub(crate) struct Agenda {
     waits: Vec<Option<u64>>,
-    queue: BinaryHeap<Reverse<(u64, u32)>>,
+    queue: Calendar,
 }
 
 impl Model for Agenda {
     ghost use Rattle.std.specs.Prelude.{List, Option, ℕ};
-    ghost use Rattle.std.specs.BinaryHeap.{heap_items};
     ghost use Rattle.ncl_sim.specs.Agenda.{IsQueueOf};
 
     ghost Value = { List (Option ℕ) };
 
     ghost view = { λ a. a.waits.items };
 
-    ghost invariant = { λ a. IsQueueOf a.waits.items (heap_items a.queue) };
+    ghost invariant = { λ a. IsQueueOf a.waits.items a.queue };
 }
 
 impl Agenda {
@@ -35,10 +34,8 @@ impl Agenda {
         ensures { IfOk result (λ agenda. agenda ≡ replicate count None) }
     {
         let waits = vec![in alloc; None; count]?;
-        Ok(Agenda {
-            waits,
-            queue: BinaryHeap::new(alloc),
-        })
+        let queue = Calendar::new(alloc)?;
+        Ok(Agenda { waits, queue })
     }
 
     /// Whether something waits at a number.

@@ -16,12 +16,14 @@
 #![tactic(auto)]
 
 mod agenda;
+mod calendar;
 pub mod laws;
 mod looking;
 mod run;
 mod simulator;
 mod touched;
 mod trace;
+mod wheel;
 
 pub use ncl_delay::{Delays, Edges, Fired, MOST_WORDS};
 pub use simulator::simulate;

@@ -1,0 +1,5 @@
+use Rattle.std.proofs.Common.{◌≡◌, [], map, replicate}
+use Rattle.ncl_sim.proofs.wheel.Wheel.new.Given as goal
+
+abbrev pub invariant-loop : goal.invariant-loop
+invariant-loop l = map (λ l. l.items) l.lists.items ≡ replicate l.counter []

@@ -1,0 +1,135 @@
+//! A queue of events, after R. Brown's calendar queues (Communications of the ACM 31(10), 1988).
+ghost use Rattle.std.specs.Prelude.{◌≡◌, ◌<◌, ℕ, All, IfNone, IfOk, IfSome, OnErr, OnOk, true, false, [], ◌∷◌, ◌++◌, length};
+ghost use Rattle.std.specs.List.Sorted.{IsPermutation, IsSorted};
+ghost use Rattle.std.specs.BinaryHeap.{IsHeap, heap_items};
+ghost use Rattle.std.specs.declared.cmp.Reverse.{Reverse};
+ghost use Rattle.ncl_sim.specs.Calendar.{ComesBeforeAll, IsDueAfter, IsDueBy, event_cmp};
+ghost use Rattle.ncl_sim.specs.Queue.{IsBefore};
+
+use crate::wheel::{Event, Wheel};
+use ncl_base::Memory;
+use std::alloc::Global;
+use std::collections::BinaryHeap;
+use std::marker::Model;
+
+/// Events, of which the first comes out first.
+///
+/// What is due soon waits in the list of its time, which is sorted when its time comes, so that most events cost
+/// no more than their part of that. What is due later, or by the time of the list that was opened last, waits in a heap.
+///
+/// Contracts see it as a list of events, in any order.
+#[derive(Drop)]
+pub(crate) struct Calendar {
+    /// What is left of the list that was opened last, its first event at the end.
+    opened: Vec<Event>,
+    wheel: Wheel,
+    others: BinaryHeap<Event>,
+}
+
+impl Model for Calendar {
+    ghost use Rattle.std.specs.Prelude.{List, ℕ, ◌++◌};
+    ghost use Rattle.std.specs.BinaryHeap.{heap_items};
+    ghost use Rattle.std.specs.declared.cmp.Reverse.{Reverse};
+    ghost use Rattle.ncl_sim.specs.Calendar.{IsCalendar};
+
+    ghost Value = { List (Reverse (ℕ × ℕ)) };
+
+    ghost view = { λ a. a.opened.items ++ (a.wheel.waiting ++ heap_items a.others) };
+
+    ghost invariant = { λ a. IsCalendar a.opened.items a.wheel (heap_items a.others) };
+}
+
+/// Opens the next list, where none of the last is left.
+fn refill(opened: &mut Vec<Event>, wheel: &mut Wheel)
+    requires sorted { IsSorted event_cmp opened.old.items }
+    requires due { All (IsDueBy wheel.old.time) opened.old.items }
+    requires later { All (IsDueAfter wheel.old.time) wheel.old.waiting }
+    ensures same { IsPermutation (opened.old.items ++ wheel.old.waiting) (opened.new.items ++ wheel.new.waiting) }
+    ensures sorted { IsSorted event_cmp opened.new.items }
+    ensures due { All (IsDueBy wheel.new.time) opened.new.items }
+    ensures later { All (IsDueAfter wheel.new.time) wheel.new.waiting }
+    ensures all { opened.new.items ≡ [] → wheel.new.waiting ≡ [] }
+{
+    if !opened.is_empty() {
+        return;
+    }
+    wheel.open(opened);
+    opened.sort_unstable();
+}
+
+/// Whether an event comes before another: by its due, and of one due by its number.
+fn is_before(event: (u64, u32), other: (u64, u32)) -> bool
+    ensures before { result ≡ true → IsBefore event other }
+    ensures after { result ≡ false → IsBefore other event }
+{
+    if event.0 == other.0 {
+        return event.1 < other.1;
+    }
+    event.0 < other.0
+}
+
+/// Whether the last of some sorted events comes before those of a heap.
+fn is_first(opened: &[Event], others: &BinaryHeap<Event>) -> bool
+    requires sorted { IsSorted event_cmp opened.now }
+    requires in_order { IsHeap event_cmp (heap_items others.now) }
+    ensures some { result ≡ true → 0 < length opened.now }
+    ensures first { result ≡ true → (e : Reverse (ℕ × ℕ)) → ComesBeforeAll e opened.now → ComesBeforeAll e (heap_items others.now) }
+    ensures other { result ≡ false → (e : Reverse (ℕ × ℕ)) → ComesBeforeAll e (heap_items others.now) → ComesBeforeAll e opened.now }
+{
+    let Some(last) = opened.last() else {
+        return false;
+    };
+    let Some(other) = others.peek() else {
+        return true;
+    };
+    is_before(last.0, other.0)
+}
+
+impl Calendar {
+    /// No events.
+    pub(crate) fn new(alloc: Global) -> Result<Calendar, Memory>
+        ensures { IfOk result (λ calendar. calendar ≡ []) }
+    {
+        let wheel = Wheel::new(alloc)?;
+        Ok(Calendar {
+            opened: Vec::new(alloc),
+            wheel,
+            others: BinaryHeap::new(alloc),
+        })
+    }
+
+    /// Puts an event in. Takes constant time where it is due soon, or else time in the logarithm of how many are not.
+    pub(crate) fn push(&mut self, event: Event) -> Result<(), Memory>
+        ensures more { OnOk result (IsPermutation (event ∷ self.old) self.new) }
+        ensures unchanged { OnErr result (self.new ≡ self.old) }
+    {
+        if self.wheel.has_list(event.0.0) {
+            self.wheel.put(event)?;
+            return Ok(());
+        }
+        self.others.push(event)?;
+        Ok(())
+    }
+
+    /// Takes out the first event. Where the next list is opened, that takes the time to sort it and to look at 63 lists
+    /// at most, and else it takes time in the logarithm of how many events were not due soon.
+    pub(crate) fn pop(&mut self) -> Option<Event>
+        ensures rest { IfSome result (λ e. IsPermutation self.old (e ∷ self.new)) }
+        ensures first { IfSome result (λ e. ComesBeforeAll e self.old) }
+        ensures none { IfNone result (self.old ≡ []) }
+        ensures left { IfNone result (self.new ≡ []) }
+    {
+        refill(&mut self.opened, &mut self.wheel);
+        if is_first(self.opened.as_slice(), &self.others) {
+            return self.opened.pop();
+        }
+        let Some(first) = self.others.pop() else {
+            return None;
+        };
+        if !self.opened.is_empty() {
+            return Some(first);
+        }
+        self.wheel.pass(first.0.0);
+        Some(first)
+    }
+}

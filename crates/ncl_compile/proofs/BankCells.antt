@@ -10,7 +10,7 @@ use Rattle.ncl_netlist.specs.Parts.{input_names}
 use Rattle.ncl_tree.specs.NamePairs.{pair_list}
 use Rattle.ncl_bank.specs.declared.BankParts.{BankParts}
 use Rattle.ncl_bank.specs.BankParts.{bank_pins, AreBankParts}
-use Rattle.ncl_compile.proofs.ListPlaces.{holds_at, at-map, at_of_map}
+use Rattle.ncl_assembly.proofs.ListPlaces.{holds_at, at-map, at_of_map}
 use Rattle.ncl_compile.proofs.StandingCells.{StandAt, StandAt-whole, StandAt-left, StandAt-right}
 
 -- the pins of the two register cells of a bit

@@ -20,7 +20,7 @@ use Rattle.ncl_rails.specs.declared.StageParts.{StageParts}
 use Rattle.ncl_rails.specs.StageParts.{AreStageParts}
 use Rattle.ncl_bank.specs.declared.BankParts.{BankParts}
 use Rattle.ncl_bank.specs.BankParts.{bank_pins, IsTreeCell, AreBankParts}
-use Rattle.ncl_compile.proofs.ListPlaces.{holds_of, member_at, place_of_member, split_at, Member-flat_map, member_of_flat_map}
+use Rattle.ncl_assembly.proofs.ListPlaces.{holds_of, member_at, place_of_member, split_at, Member-flat_map, member_of_flat_map}
 use Rattle.ncl_compile.proofs.BankCells.{register_zero, register_one}
 
 -- a member of a list is one of the first, or the last

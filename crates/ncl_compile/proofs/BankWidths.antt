@@ -10,10 +10,10 @@ use Rattle.ncl_blif.specs.Meaning.{width_of}
 use Rattle.ncl_blif.specs.Model.{IsModel, AreJoined, AreModels}
 use Rattle.ncl_tree.specs.NamePairs.{pair_names, IsFreeOf}
 use Rattle.ncl_rails.specs.declared.StageParts.{StageParts}
+use Rattle.ncl_assembly.proofs.ListPlaces.{holds_at}
 use Rattle.ncl_compile.specs.Size.{widths_of, IsSlim, CanBeCompiled}
 use Rattle.ncl_compile.specs.InnerNames.{bank_prefix}
 use Rattle.ncl_compile.specs.Pieces.{AreStages}
-use Rattle.ncl_compile.proofs.ListPlaces.{holds_at}
 use Rattle.ncl_compile.proofs.CallLaws.{outputs_free}
 
 -- the bank before a model is as wide as its inputs

@@ -17,9 +17,9 @@ use Rattle.ncl_rails.specs.Naming.{names_known}
 use Rattle.ncl_rails.specs.declared.StageParts.{StageParts}
 use Rattle.ncl_rails.specs.StageParts.{CanBeStage, AreStageParts}
 use Rattle.ncl_bank.specs.BankParts.{CanBeBank}
+use Rattle.ncl_assembly.proofs.ListPlaces.{holds_of}
 use Rattle.ncl_compile.specs.Ports.{port_pair, input_pairs, output_pairs}
 use Rattle.ncl_compile.specs.InnerNames.{numbered, bank_prefix, stage_prefix, inner_pair, inner_pairs, pairs_driven, root_name, request_name}
-use Rattle.ncl_compile.proofs.ListPlaces.{holds_of}
 use Rattle.ncl_compile.proofs.NameLaws.{AreApart, differ_from_apart, apart_more, BeginsWith, name_at, port_begins, same_port, inner_begins, same_inner, same_numbered, name_of_pairs, numbered_apart}
 
 -- the first byte of a name

@@ -21,13 +21,13 @@ use Rattle.ncl_rails.specs.Naming.{named_pair}
 use Rattle.ncl_tree.specs.NamePairs.{pair_names}
 use Rattle.ncl_writer.specs.Names.{is_plain}
 use Rattle.ncl_writer.specs.Text.{text_of}
+use Rattle.ncl_assembly.proofs.AssembledShape.{Shape-from_assembled}
+use Rattle.ncl_assembly.proofs.CellsAreUnmixed.{no_data_cell}
 use Rattle.ncl_compile.specs.Size.{CanBeCompiled}
 use Rattle.ncl_compile.specs.Compiled.{IsPlain, answer_width, Compiled}
 use Rattle.ncl_compile.specs.Ports.{port_pair, input_pairs, output_pairs, names_of_rails}
 use Rattle.ncl_compile.specs.Pieces.{IsPutTogether}
-use Rattle.ncl_compile.proofs.AssembledShape.{Shape-from_assembled}
 use Rattle.ncl_compile.proofs.CellCount.{few_cells}
-use Rattle.ncl_compile.proofs.CellsAreUnmixed.{no_data_cell}
 use Rattle.ncl_compile.proofs.Numbering.{pipeline_of}
 use Rattle.ncl_compile.proofs.NumberedNames.{net_number, pins_of_parts, name_of_number}
 use Rattle.ncl_compile.proofs.NumberedPorts.{names_in, names_out, names_of_ports_for}

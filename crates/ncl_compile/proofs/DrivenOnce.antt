@@ -17,7 +17,7 @@ use Rattle.ncl_netlist.specs.Names.{AllDiffer, same_name, name_number}
 use Rattle.ncl_netlist.specs.Netlist.{drives}
 use Rattle.ncl_netlist.specs.Parts.{port_names, output_name, nets_of, cell_of}
 use Rattle.ncl_netlist.proofs.NameLists.{equal_names, same_itself, name_number-get_or, get_or-name_number, AllDiffer-once_each, list_any-once_each, take-once_each}
-use Rattle.ncl_compile.proofs.ListPlaces.{at-map, place_of_member, member_at}
+use Rattle.ncl_assembly.proofs.ListPlaces.{at-map, place_of_member, member_at}
 use Rattle.ncl_compile.proofs.NameLaws.{AreApart}
 
 -- how many of some cells pass a test that one name passes

@@ -6,9 +6,10 @@ use Rattle.std.proofs.lemmas.Bool.{cond_both, eqb-true}
 use Rattle.ncl_base.proofs.Members.{Member}
 use Rattle.ncl_tree.specs.NamePairs.{pair_names}
 use Rattle.ncl_tree.specs.PartNames.{IsPartName}
+use Rattle.ncl_bank.proofs.Apart.{pairs-append}
+use Rattle.ncl_assembly.proofs.ListPlaces.{member_of_flat_map}
 use Rattle.ncl_compile.specs.Ports.{port_pair, output_pairs}
 use Rattle.ncl_compile.specs.InnerNames.{numbered, bank_prefix, stage_prefix, inner_pair, inner_pairs, pairs_driven, root_name}
-use Rattle.ncl_compile.proofs.ListPlaces.{member_of_flat_map, pairs-append}
 use Rattle.ncl_compile.proofs.NameLaws.{AreApart, name_at, port_begins, name_of_pairs}
 use Rattle.ncl_compile.proofs.CallLaws.{first_of}
 

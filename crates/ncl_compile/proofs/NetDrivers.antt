@@ -23,12 +23,12 @@ use Rattle.ncl_bank.specs.declared.BankParts.{BankParts}
 use Rattle.ncl_tree.specs.NamePairs.{pair_names}
 use Rattle.ncl_tree.specs.PartNames.{IsPartName}
 use Rattle.ncl_token.specs.Bytes.{is_letter}
+use Rattle.ncl_assembly.proofs.ListPlaces.{holds_of, place_of_member, at_of_map, member_of_flat_map, member_at}
 use Rattle.ncl_compile.specs.Size.{widths_of, CanBeCompiled}
 use Rattle.ncl_compile.specs.Compiled.{IsPlain, answer_width}
 use Rattle.ncl_compile.specs.Ports.{port_pair, input_pairs, output_pairs}
 use Rattle.ncl_compile.specs.InnerNames.{numbered, bank_prefix, stage_prefix, inner_pair, inner_pairs, pairs_driven, root_name}
 use Rattle.ncl_compile.specs.Pieces.{IsPutTogether}
-use Rattle.ncl_compile.proofs.ListPlaces.{holds_of, place_of_member, at_of_map, member_of_flat_map, member_at}
 use Rattle.ncl_compile.proofs.NameLaws.{same_numbered, name_of_pairs}
 use Rattle.ncl_compile.proofs.CallLaws.{first_of, root_first, port_first, driven_first}
 use Rattle.ncl_compile.proofs.BankWidths.{width_bounds, width_first, model_of_stage}

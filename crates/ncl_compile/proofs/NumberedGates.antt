@@ -14,8 +14,8 @@ use Rattle.ncl_netlist.specs.Parts.{input_names, output_name, cell_of, nets_of, 
 use Rattle.ncl_shape.specs.declared.stage.StageCell.{StageCell}
 use Rattle.ncl_shape.specs.Stage.{out_of}
 use Rattle.ncl_rails.specs.Naming.{named_net, IsNumbered}
-use Rattle.ncl_compile.specs.Assembled.{HasCell, HasGate, gate_numbers}
-use Rattle.ncl_compile.proofs.ListPlaces.{at-map}
+use Rattle.ncl_assembly.specs.Assembled.{HasCell, HasGate, gate_numbers}
+use Rattle.ncl_assembly.proofs.ListPlaces.{at-map}
 use Rattle.ncl_compile.proofs.StandingCells.{StandAt, StandAt-head, StandAt-tail}
 use Rattle.ncl_compile.proofs.Numbering.{gate_kind, numbered_gate, numbered_gates}
 

@@ -19,8 +19,8 @@ use Rattle.ncl_netlist.proofs.NetlistLaws.{name_number-net, net_of_port}
 use Rattle.ncl_shape.specs.Stage.{rail_nets}
 use Rattle.ncl_rails.specs.Naming.{named_pair}
 use Rattle.ncl_tree.specs.NamePairs.{pair_names}
+use Rattle.ncl_assembly.proofs.ListPlaces.{at_of_map, Member-flat_map}
 use Rattle.ncl_compile.specs.Ports.{ports_named}
-use Rattle.ncl_compile.proofs.ListPlaces.{at_of_map, Member-flat_map}
 use Rattle.ncl_compile.proofs.NumberedBanks.{place_in_range}
 
 module _ (parts : Parts) where

@@ -13,9 +13,9 @@ use Rattle.ncl_rails.specs.Naming.{named_net}
 use Rattle.ncl_rails.specs.declared.StageParts.{StageParts}
 use Rattle.ncl_bank.specs.declared.BankParts.{BankParts}
 use Rattle.ncl_tree.specs.NamePairs.{pair_names}
+use Rattle.ncl_assembly.specs.Assembled.{input_nets, output_nets}
 use Rattle.ncl_compile.specs.Compiled.{answer_width}
 use Rattle.ncl_compile.specs.Ports.{input_pairs, output_pairs, ports_named, ports_for}
-use Rattle.ncl_compile.specs.Assembled.{input_nets, output_nets}
 use Rattle.ncl_compile.proofs.Numbering.{pipeline_of}
 use Rattle.ncl_compile.proofs.NumberedNames.{net_number, ports_in_row, rail_nets-numbered, names_of_ports, directions_of_ports}
 

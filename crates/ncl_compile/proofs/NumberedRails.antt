@@ -16,13 +16,13 @@ use Rattle.ncl_shape.specs.Stage.{StageData}
 use Rattle.ncl_rails.specs.Naming.{named_pair}
 use Rattle.ncl_rails.specs.declared.StageParts.{StageParts}
 use Rattle.ncl_bank.specs.declared.BankParts.{BankParts}
+use Rattle.ncl_assembly.specs.Assembled.{WiredBit, WiredBank, rails_read, rails_driven}
+use Rattle.ncl_assembly.proofs.ListPlaces.{map-map, at_of_map}
 use Rattle.ncl_compile.specs.Size.{widths_of}
 use Rattle.ncl_compile.specs.Compiled.{answer_width}
 use Rattle.ncl_compile.specs.Ports.{input_pairs, output_pairs}
 use Rattle.ncl_compile.specs.InnerNames.{inner_pairs, pairs_driven, root_name, request_name}
 use Rattle.ncl_compile.specs.Pieces.{outputs_of, pairs_read}
-use Rattle.ncl_compile.specs.Assembled.{WiredBit, WiredBank, rails_read, rails_driven}
-use Rattle.ncl_compile.proofs.ListPlaces.{map-map, at_of_map}
 use Rattle.ncl_compile.proofs.Numbering.{no_pair, numbered_bit, banks_from, stages_from}
 use Rattle.ncl_compile.proofs.NumberedBanks.{below, place_in_range}
 use Rattle.ncl_compile.proofs.NumberedRows.{AreFacts, first_fact, rest_facts}

@@ -10,11 +10,11 @@ use Rattle.ncl_shape.specs.Stage.{StageData}
 use Rattle.ncl_rails.specs.declared.StageParts.{StageParts}
 use Rattle.ncl_bank.specs.declared.BankParts.{BankParts}
 use Rattle.ncl_bank.specs.BankParts.{AreBankParts}
+use Rattle.ncl_assembly.specs.Assembled.{WiredBit, register_numbers, gate_numbers, bank_numbers}
+use Rattle.ncl_assembly.proofs.ListPlaces.{map-map}
 use Rattle.ncl_compile.specs.Size.{widths_of}
 use Rattle.ncl_compile.specs.InnerNames.{bank_prefix, pairs_driven, root_name, request_name}
 use Rattle.ncl_compile.specs.Pieces.{pairs_read, IsBankBetween}
-use Rattle.ncl_compile.specs.Assembled.{WiredBit, register_numbers, gate_numbers, bank_numbers}
-use Rattle.ncl_compile.proofs.ListPlaces.{map-map}
 use Rattle.ncl_compile.proofs.StandingCells.{range-append, range-pairs, map-range}
 use Rattle.ncl_compile.proofs.BankCells.{tree_is, length-cells}
 use Rattle.ncl_compile.proofs.Numbering.{numbered_bit, numbered_bank, banks_from, stages_from}

@@ -20,12 +20,12 @@ use Rattle.ncl_rails.specs.declared.StageParts.{StageParts}
 use Rattle.ncl_tree.specs.NamePairs.{pair_names}
 use Rattle.ncl_bank.specs.declared.BankParts.{BankParts}
 use Rattle.ncl_bank.specs.BankParts.{AreBankParts}
+use Rattle.ncl_assembly.specs.Assembled.{IsWiredStage}
+use Rattle.ncl_assembly.proofs.ListPlaces.{holds_of, pairs_of_map, Rise}
 use Rattle.ncl_compile.specs.Size.{widths_of}
 use Rattle.ncl_compile.specs.Compiled.{ComputesModel}
 use Rattle.ncl_compile.specs.InnerNames.{inner_pair, inner_pairs, stage_prefix}
 use Rattle.ncl_compile.specs.Pieces.{IsStageOfModel}
-use Rattle.ncl_compile.specs.Assembled.{IsWiredStage}
-use Rattle.ncl_compile.proofs.ListPlaces.{holds_of, pairs_of_map, Rise}
 use Rattle.ncl_compile.proofs.StandingCells.{StandAt, StandAt-left, StandAt-right}
 use Rattle.ncl_compile.proofs.BankNames.{bank_all_pins, bank_drives_rails}
 use Rattle.ncl_compile.proofs.Numbering.{numbered_gates, stage_from, stages_from}

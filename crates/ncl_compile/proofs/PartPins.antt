@@ -17,11 +17,12 @@ use Rattle.ncl_netlist.specs.Parts.{HasAllPins, port_names}
 use Rattle.ncl_rails.specs.declared.StageParts.{StageParts}
 use Rattle.ncl_bank.specs.declared.BankParts.{BankParts}
 use Rattle.ncl_tree.specs.NamePairs.{pair_names}
+use Rattle.ncl_bank.proofs.Apart.{pairs-append}
+use Rattle.ncl_assembly.proofs.ListPlaces.{holds_of, member_of_flat_map}
 use Rattle.ncl_compile.specs.Size.{CanBeCompiled}
 use Rattle.ncl_compile.specs.Compiled.{answer_width}
 use Rattle.ncl_compile.specs.Ports.{port_pair, input_pairs, output_pairs}
 use Rattle.ncl_compile.specs.Pieces.{IsPutTogether}
-use Rattle.ncl_compile.proofs.ListPlaces.{holds_of, member_of_flat_map, pairs-append}
 use Rattle.ncl_compile.proofs.BankWidths.{width_first, width_bounds, model_of_stage}
 use Rattle.ncl_compile.proofs.NameLaws.{AreApart, differ_from_apart, apart_more}
 use Rattle.ncl_compile.proofs.CallLaws.{first_of, other_first, port_first, ports_apart}

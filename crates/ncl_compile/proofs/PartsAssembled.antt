@@ -20,13 +20,13 @@ use Rattle.ncl_rails.specs.Naming.{named_net}
 use Rattle.ncl_rails.specs.declared.StageParts.{StageParts}
 use Rattle.ncl_bank.specs.declared.BankParts.{BankParts}
 use Rattle.ncl_tree.specs.NamePairs.{pair_names}
+use Rattle.ncl_assembly.specs.Assembled.{IsWiredBank, IsAssembled}
+use Rattle.ncl_assembly.proofs.ListPlaces.{Member-flat_map, member_at}
 use Rattle.ncl_compile.specs.Size.{widths_of, CanBeCompiled}
 use Rattle.ncl_compile.specs.Compiled.{ComputesModel}
 use Rattle.ncl_compile.specs.Ports.{port_pair, output_pairs}
 use Rattle.ncl_compile.specs.InnerNames.{bank_prefix, inner_pairs, pairs_driven, root_name, request_name}
 use Rattle.ncl_compile.specs.Pieces.{outputs_of, pairs_read, IsPutTogether}
-use Rattle.ncl_compile.specs.Assembled.{IsWiredBank, IsAssembled}
-use Rattle.ncl_compile.proofs.ListPlaces.{Member-flat_map, member_at}
 use Rattle.ncl_compile.proofs.StandingCells.{StandAt, StandAt-whole, StandAt-left, StandAt-right, range-append}
 use Rattle.ncl_compile.proofs.CallLaws.{length-pairs_driven}
 use Rattle.ncl_compile.proofs.BankWidths.{width_before, width_first, width_bounds, model_of_stage, stage_of_model, length-outputs}

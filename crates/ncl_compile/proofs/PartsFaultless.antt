@@ -19,12 +19,13 @@ use Rattle.ncl_rails.specs.declared.StageParts.{StageParts}
 use Rattle.ncl_bank.specs.declared.BankParts.{BankParts}
 use Rattle.ncl_tree.specs.NamePairs.{pair_names}
 use Rattle.ncl_tree.specs.PartNames.{IsPartName}
+use Rattle.ncl_bank.proofs.Apart.{pairs-append}
+use Rattle.ncl_assembly.proofs.ListPlaces.{holds_of, member_at, Member-flat_map, member_of_flat_map}
 use Rattle.ncl_compile.specs.Size.{widths_of, CanBeCompiled}
 use Rattle.ncl_compile.specs.Compiled.{answer_width}
 use Rattle.ncl_compile.specs.Ports.{port_pair, input_pairs, output_pairs, ports_named}
 use Rattle.ncl_compile.specs.InnerNames.{bank_prefix, stage_prefix, inner_pairs, pairs_driven, root_name, request_name}
 use Rattle.ncl_compile.specs.Pieces.{IsStageOfModel, outputs_of, pairs_read, IsPutTogether}
-use Rattle.ncl_compile.proofs.ListPlaces.{holds_of, member_at, Member-flat_map, member_of_flat_map, pairs-append}
 use Rattle.ncl_compile.proofs.NameLaws.{AreApart, apart_from_differ, differ_from_apart, port_begins, name_of_pairs}
 use Rattle.ncl_compile.proofs.CallLaws.{first_of}
 use Rattle.ncl_compile.proofs.BankWidths.{width_before, model_of_stage, stage_of_model}

@@ -14,10 +14,10 @@ use Rattle.ncl_netlist.specs.declared.parts.Parts.{Parts}
 use Rattle.ncl_netlist.specs.Netlist.{NetlistData, IsNetlist, CellFits, pin_names}
 use Rattle.ncl_netlist.specs.Parts.{cell_of, nets_of, netlist_of}
 use Rattle.ncl_writer.specs.Text.{header_line, port_line, wire_line, cell_line, text_of}
+use Rattle.ncl_assembly.proofs.ListPlaces.{holds_of}
 use Rattle.ncl_compile.specs.Size.{CanBeCompiled}
 use Rattle.ncl_compile.specs.Compiled.{IsPlain}
 use Rattle.ncl_compile.specs.Pieces.{IsPutTogether}
-use Rattle.ncl_compile.proofs.ListPlaces.{holds_of}
 use Rattle.ncl_compile.proofs.CellCount.{few_cells}
 use Rattle.ncl_compile.proofs.NameLengths.{IsShort, port_names_short, cells_short, nets_short}
 use Rattle.ncl_compile.proofs.NetDrivers.{plain_nets, plain_cells, plain_ports}

@@ -3,4 +3,3 @@ pub mod Ports
 pub mod Compiled
 pub mod InnerNames
 pub mod Pieces
-pub mod Assembled

@@ -1,4 +1,3 @@
-pub mod Wired
 pub mod Shapes
 pub mod FirstStages
 pub mod Twins

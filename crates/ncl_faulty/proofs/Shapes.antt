@@ -1,69 +1,27 @@
 -- The examples are put together of banks and stages, and so they have the shape of a pipeline.
-use Rattle.std.proofs.Common.{◌≡◌, ◌+◌, ℕ, zero, suc, true, List, [], ◌∷◌, Some, refl, arith}
-use Rattle.std.specs.Prelude.{slice_get}
+use Rattle.std.proofs.Common.{◌≡◌, ℕ, true, List, [], ◌∷◌, refl, arith}
+use Rattle.std.specs.Prelude.{codes}
 use Rattle.std.proofs.lemmas.List.Elements.{All-from_recursion}
 use Rattle.ncl_gates.specs.declared.kind.Kind.{Kind}
 use Rattle.ncl_gates.specs.declared.kind.Kind.TheVariants.{Th12, Th22}
+use Rattle.ncl_gates.specs.declared.cell_kind.CellKind.TheVariants.{Gate}
 use Rattle.ncl_netlist.specs.Netlist.{IsNetlist}
-use Rattle.ncl_shape.specs.Stage.{StageData}
 use Rattle.ncl_shape.specs.Shape.{Shape}
-use Rattle.ncl_shape.specs.Examples.{bit, rails, net_id}
+use Rattle.ncl_shape.specs.Examples.{bit, rails, net_id, cell}
+use Rattle.ncl_assembly.specs.Assembled.{HasGate, IsWiredBank, IsWiredStage, WiredBank, WiredBit}
+use Rattle.ncl_assembly.proofs.AssembledShape.{Shape-from_assembled}
+use Rattle.ncl_assembly.proofs.WrittenBanks.{wired, wired_bit, bank_of_one, one_wired, bank_of_two, two_wired, numbered_one, numbered_two, one_bit_shape}
 use Rattle.ncl_stage.proofs.StageTest.{is_stage, IsStage-from_test}
 use Rattle.ncl_insensitivity.proofs.WrittenNetlists.{netlist_from_tests}
-use Rattle.ncl_compile.specs.Assembled.{HasGate, IsWiredBank, IsWiredStage, WiredBank, WiredBit}
-use Rattle.ncl_compile.proofs.AssembledShape.{Shape-from_assembled}
 use Rattle.ncl_faulty.specs.Examples.{gate_netlist, gate_stage, with_gate, with_both_rails, with_dead_rail, with_orphan, eager_netlist, eager_stage, with_eager_and, twins_netlist, doubling, differing, twins}
-use Rattle.ncl_faulty.proofs.Wired.{wired, wired_bit, bank_of_one, one_wired, bank_of_two, two_wired}
-
--- the stages that are written are numbered from 1
-numbered_one : (s : StageData) → s.number ≡ 1 → (k : ℕ) (t : StageData) → slice_get (s ∷ []) k ≡ Some t → t.number ≡ k + 1
-numbered_one s one zero t at = cc
-numbered_one s one (suc k) t at = absurd cc
-
-numbered_two : (s t : StageData) → s.number ≡ 1 → t.number ≡ 2 → (k : ℕ) (u : StageData) → slice_get (s ∷ t ∷ []) k ≡ Some u → u.number ≡ k + 1
-numbered_two s t one two zero u at = cc
-numbered_two s t one two (suc zero) u at = cc
-numbered_two s t one two (suc (suc k)) u at = absurd cc
 
 -- ---- two banks of one bit with a gate
 
 module _ (kind : Kind) (r0 r1 : ℕ) (netlist : IsNetlist (gate_netlist kind (rails r0 r1))) (passes : is_stage (gate_stage kind (rails r0 r1)) ≡ true) where
-  abbrev first_bit : WiredBit
-  first_bit = wired (bit 0 1 2) (rails 0 1) (rails 8 9) 6
-
-  abbrev last_bit : WiredBit
-  last_bit = wired (bit 3 4 5) (rails r0 r1) (rails 4 5) 7
-
-  abbrev gate_banks : List WiredBank
-  gate_banks = bank_of_one first_bit 7 ∷ bank_of_one last_bit 2 ∷ []
-
   gate_shape : Shape (gate_netlist kind (rails r0 r1)) (with_gate kind (rails r0 r1))
-  gate_shape = Shape-from_assembled (gate_netlist kind (rails r0 r1)) (with_gate kind (rails r0 r1)) (record {
-    is_netlist = netlist;
-    netlist = refl;
-    wired = gate_banks;
-    rst = net_id 3;
-    banks = refl;
-    each_bank = All-from_recursion (IsWiredBank (gate_netlist kind (rails r0 r1)) (net_id 3)) gate_banks (
-      one_wired (gate_netlist kind (rails r0 r1)) 3 7 first_bit (wired_bit (gate_netlist kind (rails r0 r1)) 7 3 first_bit _ _ _ refl refl refl (refl, refl, refl, refl, refl, refl, refl, refl, refl) refl),
-      (one_wired (gate_netlist kind (rails r0 r1)) 3 2 last_bit (wired_bit (gate_netlist kind (rails r0 r1)) 2 3 last_bit _ _ _ refl refl refl (refl, refl, refl, refl, refl, refl, refl, refl, refl) refl), tt),
-    );
-    few_banks = omega arith;
-    each_stage = All-from_recursion (IsWiredStage (gate_netlist kind (rails r0 r1))) (gate_stage kind (rails r0 r1) ∷ []) (
-      record {
-        is_stage = IsStage-from_test (gate_stage kind (rails r0 r1)) passes;
-        gates = All-from_recursion (HasGate (gate_netlist kind (rails r0 r1))) (gate_stage kind (rails r0 r1)).cells (record { cell = _; at = refl; kind = refl; ins = refl; out = refl }, tt);
-      },
-      tt,
-    );
-    numbers = numbered_one (gate_stage kind (rails r0 r1)) refl;
-    rails_in = refl;
-    rails_out = refl;
-    roots = refl;
-    cells = refl;
-    ports = refl;
-    directions = refl;
-  })
+  gate_shape =
+      one_bit_shape (codes "c" ∷ codes "p1_0" ∷ codes "p1_1" ∷ codes "g" ∷ []) r0 r1 (cell (Gate kind) (codes "g1") (8 ∷ 9 ∷ []) 10 ∷ []) (gate_stage kind (rails r0 r1)).cells netlist (IsStage-from_test (gate_stage kind (rails r0 r1)) passes)
+      (All-from_recursion (HasGate (gate_netlist kind (rails r0 r1))) (gate_stage kind (rails r0 r1)).cells (record { cell = _; at = refl; kind = refl; ins = refl; out = refl }, tt)) refl
 
 pub both_rails_shape : Shape with_both_rails.netlist with_both_rails
 both_rails_shape = gate_shape Th12 10 9 (netlist_from_tests with_both_rails.netlist (record { driven = refl; fits = refl; ports_first = refl; in_order = refl; net_names = refl; cell_names = refl; few_cells = omega arith; few_nets = omega arith; few_ports = omega arith })) refl

@@ -9,11 +9,11 @@ use Rattle.ncl_shape.specs.declared.bank.Bank.{Bank}
 use Rattle.ncl_shape.specs.Stage.{rail_nets}
 use Rattle.ncl_shape.specs.Chain.{IsInputOf, IsFirstBank, IsLastBank, Follows, IsPath, end, next, IsChain, HasRegister, HasEnds, IsUnforked, IsAcknowledged}
 use Rattle.ncl_shape.specs.Pipeline.{PipelineData}
-use Rattle.ncl_compile.specs.Assembled.{WiredBit, WiredBank, bank_of, rails_read, IsAssembled}
-use Rattle.ncl_compile.proofs.ListPlaces.{at-map, at_of_map}
-use Rattle.ncl_compile.proofs.WiredPlaces.{BankAt, as_many, first_bank, next_or_last, bank_at, bank_is_wired}
-use Rattle.ncl_compile.proofs.WiredOrigins.{rail_among, port_only, next_read_only, request_only, last_request_port, requests_differ}
-use Rattle.ncl_compile.proofs.WiredPins.{first_bit, last_bank, cell_of_rail, rail_cell_of_bank, some_register, role_in_bank, bank_of_request, read_by_bank, read_at, read_first, read_next}
+use Rattle.ncl_assembly.specs.Assembled.{WiredBit, WiredBank, bank_of, rails_read, IsAssembled}
+use Rattle.ncl_assembly.proofs.ListPlaces.{at-map, at_of_map}
+use Rattle.ncl_assembly.proofs.WiredPlaces.{BankAt, as_many, first_bank, next_or_last, bank_at, bank_is_wired}
+use Rattle.ncl_assembly.proofs.WiredOrigins.{rail_among, port_only, next_read_only, request_only, last_request_port, requests_differ}
+use Rattle.ncl_assembly.proofs.WiredPins.{first_bit, last_bank, cell_of_rail, rail_cell_of_bank, some_register, role_in_bank, bank_of_request, read_by_bank, read_at, read_first, read_next}
 
 -- banks of which each follows the one before form a path
 path_from_places : (n : NetlistData) (banks : List ℕ) → 0 < length banks → ((k bank following : ℕ) → slice_get banks k ≡ Some bank → slice_get banks (suc k) ≡ Some following → Follows n bank following) → IsPath n banks

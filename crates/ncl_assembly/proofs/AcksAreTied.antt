@@ -11,13 +11,13 @@ use Rattle.ncl_cell_rules.specs.Origin.{CellAt, IsOutputPort, RailOf, AckOf}
 use Rattle.ncl_cell_rules.specs.Rules.{IsRequest, IsReadByGate, IsTied}
 use Rattle.ncl_shape.specs.Stage.{out_of}
 use Rattle.ncl_shape.specs.Pipeline.{PipelineData}
-use Rattle.ncl_compile.specs.Assembled.{WiredBit, WiredBank, HasGate, ack_nets, IsAssembled}
-use Rattle.ncl_compile.proofs.ListPlaces.{holds_of, member_at}
-use Rattle.ncl_compile.proofs.WiredPlaces.{BankAt, wired_bank, first_root, next_root, stage_before}
-use Rattle.ncl_compile.proofs.WiredCells.{ack_role, gate_role}
-use Rattle.ncl_compile.proofs.WiredPorts.{ko_output}
-use Rattle.ncl_compile.proofs.WiredPins.{some_register}
-use Rattle.ncl_compile.proofs.CellsAreUnmixed.{gate_of_stage_only}
+use Rattle.ncl_assembly.specs.Assembled.{WiredBit, WiredBank, HasGate, ack_nets, IsAssembled}
+use Rattle.ncl_assembly.proofs.ListPlaces.{holds_of, member_at}
+use Rattle.ncl_assembly.proofs.WiredPlaces.{BankAt, wired_bank, first_root, next_root, stage_before}
+use Rattle.ncl_assembly.proofs.WiredCells.{ack_role, gate_role}
+use Rattle.ncl_assembly.proofs.WiredPorts.{ko_output}
+use Rattle.ncl_assembly.proofs.WiredPins.{some_register}
+use Rattle.ncl_assembly.proofs.CellsAreUnmixed.{gate_of_stage_only}
 
 module _ (n : NetlistData) (p : PipelineData) (is : IsAssembled n p) where
   -- the root of a bank is `ko`, or requests the bank before it

@@ -13,12 +13,12 @@ use Rattle.ncl_cell_rules.proofs.OriginLaws.{place_of}
 use Rattle.ncl_shape.specs.declared.stage.StageCell.{StageCell}
 use Rattle.ncl_shape.specs.Stage.{Reads, rail_nets, out_of}
 use Rattle.ncl_shape.specs.Pipeline.{PipelineData}
-use Rattle.ncl_compile.specs.Assembled.{WiredBit, WiredBank, rails_driven, HasGate, gate_numbers, IsAssembled}
-use Rattle.ncl_compile.proofs.ListPlaces.{holds_of, place_of_member, pairs_of_map, pairs-across, split_at, Rise}
-use Rattle.ncl_compile.proofs.WiredPlaces.{BankAt, wired_bank, wired_bit, wired_stage, bank_before, stage_driven}
-use Rattle.ncl_compile.proofs.WiredCells.{gate_role, tree_rises, stage_rises}
-use Rattle.ncl_compile.proofs.WiredOrigins.{rail_of_bits}
-use Rattle.ncl_compile.proofs.WiredPins.{cell_of_rail, rail_cell_of_bank}
+use Rattle.ncl_assembly.specs.Assembled.{WiredBit, WiredBank, rails_driven, HasGate, gate_numbers, IsAssembled}
+use Rattle.ncl_assembly.proofs.ListPlaces.{holds_of, place_of_member, pairs_of_map, pairs-across, split_at, Rise}
+use Rattle.ncl_assembly.proofs.WiredPlaces.{BankAt, wired_bank, wired_bit, wired_stage, bank_before, stage_driven}
+use Rattle.ncl_assembly.proofs.WiredCells.{gate_role, tree_rises, stage_rises}
+use Rattle.ncl_assembly.proofs.WiredOrigins.{rail_of_bits}
+use Rattle.ncl_assembly.proofs.WiredPins.{cell_of_rail, rail_cell_of_bank}
 
 module _ (n : NetlistData) (p : PipelineData) (is : IsAssembled n p) where
   -- a net that no gate drives

@@ -16,13 +16,13 @@ use Rattle.ncl_cell_rules.proofs.CellTests.{same_net}
 use Rattle.ncl_shape.specs.declared.stage.StageCell.{StageCell}
 use Rattle.ncl_shape.specs.Stage.{rail_nets, out_of, nets_of}
 use Rattle.ncl_shape.specs.Pipeline.{PipelineData}
-use Rattle.ncl_compile.specs.Assembled.{WiredBit, WiredBank, rails_read, ack_nets, IsAssembled}
-use Rattle.ncl_compile.proofs.ListPlaces.{holds_at, member_at}
-use Rattle.ncl_compile.proofs.WiredPlaces.{BankAt, wired_bank, bank_before, next_or_last}
-use Rattle.ncl_compile.proofs.WiredCells.{TreeAt, GateAt, register_role, gate_role}
-use Rattle.ncl_compile.proofs.WiredPorts.{rst_port}
-use Rattle.ncl_compile.proofs.WiredOrigins.{port_only, stage_only, tree_only, request_only, last_request_port}
-use Rattle.ncl_compile.proofs.WiredPins.{on_b, on_rst, read_by_bank, read_at, read_first, read_next}
+use Rattle.ncl_assembly.specs.Assembled.{WiredBit, WiredBank, rails_read, ack_nets, IsAssembled}
+use Rattle.ncl_assembly.proofs.ListPlaces.{holds_at, member_at}
+use Rattle.ncl_assembly.proofs.WiredPlaces.{BankAt, wired_bank, bank_before, next_or_last}
+use Rattle.ncl_assembly.proofs.WiredCells.{TreeAt, GateAt, register_role, gate_role}
+use Rattle.ncl_assembly.proofs.WiredPorts.{rst_port}
+use Rattle.ncl_assembly.proofs.WiredOrigins.{port_only, stage_only, tree_only, request_only, last_request_port}
+use Rattle.ncl_assembly.proofs.WiredPins.{on_b, on_rst, read_by_bank, read_at, read_first, read_next}
 
 module _ (n : NetlistData) (p : PipelineData) (is : IsAssembled n p) where
   -- the output of a gate of a stage comes from the rails of the bank before it alone

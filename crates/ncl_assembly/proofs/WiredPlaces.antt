@@ -10,8 +10,8 @@ use Rattle.ncl_shape.specs.declared.bank.Bank.{Bank}
 use Rattle.ncl_shape.specs.Stage.{StageData}
 use Rattle.ncl_shape.specs.Pipeline.{PipelineData}
 use Rattle.ncl_shape.proofs.Places.{stays-push, end-push}
-use Rattle.ncl_compile.specs.Assembled.{WiredBit, WiredBank, bank_of, rails_read, rails_driven, IsWiredBit, IsWiredBank, IsWiredStage, IsAssembled}
-use Rattle.ncl_compile.proofs.ListPlaces.{holds_at, at-map, at_of_map}
+use Rattle.ncl_assembly.specs.Assembled.{WiredBit, WiredBank, bank_of, rails_read, rails_driven, IsWiredBit, IsWiredBank, IsWiredStage, IsAssembled}
+use Rattle.ncl_assembly.proofs.ListPlaces.{holds_at, at-map, at_of_map}
 
 -- the request and the root of a bank
 abbrev pub request_of : WiredBank → ℕ

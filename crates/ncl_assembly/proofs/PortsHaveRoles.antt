@@ -16,15 +16,15 @@ use Rattle.ncl_shape.specs.declared.rails.Rails.{Rails}
 use Rattle.ncl_shape.specs.Stage.{rail_nets}
 use Rattle.ncl_shape.specs.Chain.{OnPinNamed, HasOneRole}
 use Rattle.ncl_shape.specs.Pipeline.{PipelineData}
-use Rattle.ncl_compile.specs.Assembled.{WiredBit, WiredBank, rails_read, IsAssembled}
-use Rattle.ncl_compile.proofs.ListPlaces.{member_at, pairs_of_part, Rise, part_is_one}
-use Rattle.ncl_compile.proofs.WiredPlaces.{BankAt, next_or_last, first_reads, last_request}
-use Rattle.ncl_compile.proofs.WiredCells.{register_of, net_of_rail, RegisterAt, AckAt, Role, to_keep, to_acknowledge, to_complete, to_compute, role_of}
-use Rattle.ncl_compile.proofs.WiredPorts.{input_rails_rise, input_is_not_ki, input_is_not_rst, ki_is_not_rst}
-use Rattle.ncl_compile.proofs.WiredOrigins.{rail_among, driven_only, request_only}
-use Rattle.ncl_compile.proofs.WiredPins.{on_a, on_b, on_rst, read_by_bank, read_next}
-use Rattle.ncl_compile.proofs.CellsAreUnmixed.{gate_of_stage_only, cell_of_tree_only}
-use Rattle.ncl_compile.proofs.BanksFollow.{same_bank}
+use Rattle.ncl_assembly.specs.Assembled.{WiredBit, WiredBank, rails_read, IsAssembled}
+use Rattle.ncl_assembly.proofs.ListPlaces.{member_at, pairs_of_part, Rise, part_is_one}
+use Rattle.ncl_assembly.proofs.WiredPlaces.{BankAt, next_or_last, first_reads, last_request}
+use Rattle.ncl_assembly.proofs.WiredCells.{register_of, net_of_rail, RegisterAt, AckAt, Role, to_keep, to_acknowledge, to_complete, to_compute, role_of}
+use Rattle.ncl_assembly.proofs.WiredPorts.{input_rails_rise, input_is_not_ki, input_is_not_rst, ki_is_not_rst}
+use Rattle.ncl_assembly.proofs.WiredOrigins.{rail_among, driven_only, request_only}
+use Rattle.ncl_assembly.proofs.WiredPins.{on_a, on_b, on_rst, read_by_bank, read_next}
+use Rattle.ncl_assembly.proofs.CellsAreUnmixed.{gate_of_stage_only, cell_of_tree_only}
+use Rattle.ncl_assembly.proofs.BanksFollow.{same_bank}
 
 -- the nets of the rails of bits, bit by bit
 abbrev two_rails : (WiredBit → Rails) → WiredBit → List ℕ

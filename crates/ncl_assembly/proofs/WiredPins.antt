@@ -13,11 +13,11 @@ use Rattle.ncl_cell_rules.proofs.CellTests.{same_net}
 use Rattle.ncl_cell_rules.proofs.OriginLaws.{place_of}
 use Rattle.ncl_shape.specs.Stage.{rail_nets}
 use Rattle.ncl_shape.specs.Pipeline.{PipelineData}
-use Rattle.ncl_compile.specs.Assembled.{WiredBit, WiredBank, rails_read, rails_driven, HasCell, IsAssembled}
-use Rattle.ncl_compile.proofs.WiredPlaces.{BankAt, wired_bank, wired_bit, as_many, stage_before}
-use Rattle.ncl_compile.proofs.WiredCells.{register_of, net_of_rail, register_cell, RegisterAt, register_role}
-use Rattle.ncl_compile.proofs.WiredPorts.{rail_port}
-use Rattle.ncl_compile.proofs.WiredOrigins.{rail_among, rail_of_bank, next_read_only, requests_differ, first_read}
+use Rattle.ncl_assembly.specs.Assembled.{WiredBit, WiredBank, rails_read, rails_driven, HasCell, IsAssembled}
+use Rattle.ncl_assembly.proofs.WiredPlaces.{BankAt, wired_bank, wired_bit, as_many, stage_before}
+use Rattle.ncl_assembly.proofs.WiredCells.{register_of, net_of_rail, register_cell, RegisterAt, register_role}
+use Rattle.ncl_assembly.proofs.WiredPorts.{rail_port}
+use Rattle.ncl_assembly.proofs.WiredOrigins.{rail_among, rail_of_bank, next_read_only, requests_differ, first_read}
 
 -- the net on a pin of a cell
 pub pin_of : (n : NetlistData) (number : CellId) (sort : CellKind) (reads : List NetId) (drives : NetId) → (has : HasCell n number sort reads drives) → (pin : ℕ) (x : NetId) → slice_get reads pin ≡ Some x → OnPin has.cell pin x.0

@@ -12,15 +12,15 @@ use Rattle.ncl_cell_rules.proofs.OriginLaws.{place_of, port_origin}
 use Rattle.ncl_shape.specs.Stage.{rail_nets}
 use Rattle.ncl_shape.specs.Chain.{HasOne, IsRoot, HasRoots, IsShown, IsClosed, IsHead, IsEnd}
 use Rattle.ncl_shape.specs.Pipeline.{PipelineData}
-use Rattle.ncl_compile.specs.Assembled.{WiredBit, WiredBank, rails_driven, IsAssembled}
-use Rattle.ncl_compile.proofs.WiredPlaces.{BankAt, as_many, first_bank, next_or_last, first_root, next_root, last_driven}
-use Rattle.ncl_compile.proofs.WiredCells.{gate_role}
-use Rattle.ncl_compile.proofs.WiredPorts.{output_cases, rail_output, ko_output}
-use Rattle.ncl_compile.proofs.WiredOrigins.{rail_of_bits, driven_only, root_only, request_only, last_request_port, requests_differ}
-use Rattle.ncl_compile.proofs.WiredPins.{last_bank, cell_of_rail, rail_cell_of_bank, role_in_bank, bank_of_request, driven_by_bank}
-use Rattle.ncl_compile.proofs.CellsAreUnmixed.{gate_of_stage_only, cell_of_tree_only}
-use Rattle.ncl_compile.proofs.AcksAreTied.{root_is_used}
-use Rattle.ncl_compile.proofs.BanksFollow.{requests_of, at_request, as_many_requests, same_bank}
+use Rattle.ncl_assembly.specs.Assembled.{WiredBit, WiredBank, rails_driven, IsAssembled}
+use Rattle.ncl_assembly.proofs.WiredPlaces.{BankAt, as_many, first_bank, next_or_last, first_root, next_root, last_driven}
+use Rattle.ncl_assembly.proofs.WiredCells.{gate_role}
+use Rattle.ncl_assembly.proofs.WiredPorts.{output_cases, rail_output, ko_output}
+use Rattle.ncl_assembly.proofs.WiredOrigins.{rail_of_bits, driven_only, root_only, request_only, last_request_port, requests_differ}
+use Rattle.ncl_assembly.proofs.WiredPins.{last_bank, cell_of_rail, rail_cell_of_bank, role_in_bank, bank_of_request, driven_by_bank}
+use Rattle.ncl_assembly.proofs.CellsAreUnmixed.{gate_of_stage_only, cell_of_tree_only}
+use Rattle.ncl_assembly.proofs.AcksAreTied.{root_is_used}
+use Rattle.ncl_assembly.proofs.BanksFollow.{requests_of, at_request, as_many_requests, same_bank}
 
 module _ (n : NetlistData) (p : PipelineData) (is : IsAssembled n p) where
   pub root_is : (k : ℕ) (b : WiredBank) → BankAt n p is k b → IsRoot n b.request.0 b.root.0

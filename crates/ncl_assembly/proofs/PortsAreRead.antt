@@ -9,11 +9,11 @@ use Rattle.ncl_cell_rules.specs.Rules.{IsReadPort}
 use Rattle.ncl_cell_rules.proofs.OriginLaws.{ReadsNet-from_pin}
 use Rattle.ncl_shape.specs.Stage.{rail_nets}
 use Rattle.ncl_shape.specs.Pipeline.{PipelineData}
-use Rattle.ncl_compile.specs.Assembled.{WiredBit, WiredBank, rails_read, IsAssembled}
-use Rattle.ncl_compile.proofs.WiredPlaces.{BankAt, first_bank, first_reads, last_request}
-use Rattle.ncl_compile.proofs.WiredPorts.{input_cases}
-use Rattle.ncl_compile.proofs.WiredOrigins.{rail_of_bits}
-use Rattle.ncl_compile.proofs.WiredPins.{first_bit, last_bank, cell_of_rail, rail_cell_of_bank}
+use Rattle.ncl_assembly.specs.Assembled.{WiredBit, WiredBank, rails_read, IsAssembled}
+use Rattle.ncl_assembly.proofs.WiredPlaces.{BankAt, first_bank, first_reads, last_request}
+use Rattle.ncl_assembly.proofs.WiredPorts.{input_cases}
+use Rattle.ncl_assembly.proofs.WiredOrigins.{rail_of_bits}
+use Rattle.ncl_assembly.proofs.WiredPins.{first_bit, last_bank, cell_of_rail, rail_cell_of_bank}
 
 module _ (n : NetlistData) (p : PipelineData) (is : IsAssembled n p) where
   abbrev IsRead : ℕ → Type 0

@@ -1,21 +1,24 @@
--- Banks of one and of two bits that are written out: what is asked of their cells, one by one.
-use Rattle.std.proofs.Common.{◌≡◌, ◌≢◌, ℕ, zero, [], ◌∷◌, None, refl, subst, arith}
-use Rattle.std.specs.Prelude.{Contains}
+-- Banks of one and of two bits that are written out: what is asked of their cells, one by one. And two banks of one bit with a
+-- stage between them.
+use Rattle.std.proofs.Common.{◌≡◌, ◌≢◌, ℕ, zero, suc, ◌+◌, List, [], ◌∷◌, ◌++◌, length, None, Some, refl, subst, arith}
+use Rattle.std.specs.Prelude.{All, Contains, slice_get, codes}
+use Rattle.std.specs.List.{flat_map, range_with_len}
 use Rattle.std.proofs.lemmas.List.Elements.{All-from_recursion}
 use Rattle.ncl_base.proofs.Members.{Member, here, there, Member-from_Contains}
 use Rattle.ncl_gates.specs.declared.kind.Kind.TheVariants.{Th22}
 use Rattle.ncl_gates.specs.declared.cell_kind.CellKind.TheVariants.{Register, Ack}
 use Rattle.ncl_netlist.specs.declared.cell.Cell.{Cell}
 use Rattle.ncl_netlist.specs.declared.ids.NetId.{NetId}
-use Rattle.ncl_netlist.specs.Netlist.{NetlistData}
+use Rattle.ncl_netlist.specs.Netlist.{NetlistData, IsNetlist}
 use Rattle.ncl_cell_rules.specs.Origin.{CellAt, IsTreeKind, th22}
 use Rattle.ncl_shape.specs.declared.bank.Bit.{Bit}
 use Rattle.ncl_shape.specs.declared.rails.Rails.{Rails}
 use Rattle.ncl_shape.specs.declared.stage.StageCell.{StageCell}
-use Rattle.ncl_shape.specs.Stage.{Reads}
-use Rattle.ncl_shape.specs.Examples.{net_id, bit}
-use Rattle.ncl_stage.specs.Examples.{gate}
-use Rattle.ncl_compile.specs.Assembled.{WiredBit, WiredBank, HasGate, IsWiredBit, IsWiredBank, ReadsAcks}
+use Rattle.ncl_shape.specs.Stage.{StageData, IsStage, Reads}
+use Rattle.ncl_shape.specs.Shape.{Shape}
+use Rattle.ncl_shape.specs.Examples.{net_id, bit, rails, one_bit, with_ports, one_bit_ports, one_bit_pipeline}
+use Rattle.ncl_assembly.specs.Assembled.{WiredBit, WiredBank, HasGate, IsWiredBit, IsWiredBank, IsWiredStage, ReadsAcks, gate_numbers, bank_numbers}
+use Rattle.ncl_assembly.proofs.AssembledShape.{Shape-from_assembled}
 
 -- a bit by its cells, the rails that it reads and drives, and the net of its acknowledge cell
 abbrev pub wired : Bit → Rails → Rails → ℕ → WiredBit
@@ -63,7 +66,7 @@ one_wired n rst request w is = record {
 
 -- a bank of two bits, whose acknowledges a TH22 joins
 abbrev pub joining : ℕ → WiredBit → WiredBit → ℕ → StageCell
-joining number w v root = gate number Th22 (w.ack.0 ∷ v.ack.0 ∷ []) root
+joining number w v root = record { cell = record { 0 = number }; kind = Th22; ins = record { items = w.ack ∷ v.ack ∷ [] }; out = net_id root }
 
 abbrev pub bank_of_two : WiredBit → WiredBit → ℕ → ℕ → ℕ → WiredBank
 bank_of_two w v request number root = record { bits = w ∷ v ∷ []; request = net_id request; root = net_id root; tree = joining number w v root ∷ [] }
@@ -94,3 +97,68 @@ two_wired n rst request w v number root is also joins = record {
     read net (there here) other = (1, omega arith, refl)
     read net (there (there here)) other = absurd (other refl)
     read net (there (there (there m))) other = elim m [ ]
+
+-- one stage that is written has number 1, and two have the numbers 1 and 2
+pub numbered_one : (s : StageData) → s.number ≡ 1 → (k : ℕ) (t : StageData) → slice_get (s ∷ []) k ≡ Some t → t.number ≡ k + 1
+numbered_one s one zero t at = cc
+numbered_one s one (suc k) t at = absurd cc
+
+pub numbered_two : (s t : StageData) → s.number ≡ 1 → t.number ≡ 2 → (k : ℕ) (u : StageData) → slice_get (s ∷ t ∷ []) k ≡ Some u → u.number ≡ k + 1
+numbered_two s t one two zero u at = cc
+numbered_two s t one two (suc zero) u at = cc
+numbered_two s t one two (suc (suc k)) u at = absurd cc
+
+-- ---- two banks of one bit, with the ports and the first nets of `wires`, and a stage between them of some cells of the netlist
+
+-- by the names of the nets that are no ports, the rails that the second bank reads, and the cells of the stage
+abbrev pub one_bit_netlist : List (List ℕ) → ℕ → ℕ → List Cell → NetlistData
+one_bit_netlist inner r0 r1 gates =
+    with_ports (codes "t") one_bit_ports inner
+    (one_bit (codes "r1") (rails 0 1) 7 (rails 8 9) (codes "k1") 6
+    ++ one_bit (codes "s1") (rails r0 r1) 2 (rails 4 5) (codes "d1") 7
+    ++ gates)
+
+abbrev pub one_bit_stage : ℕ → ℕ → List StageCell → StageData
+one_bit_stage r0 r1 cells = record { number = 1; inputs = rails 8 9 ∷ []; cells = cells; outputs = rails r0 r1 ∷ [] }
+
+abbrev first_bit : WiredBit
+first_bit = wired (bit 0 1 2) (rails 0 1) (rails 8 9) 6
+
+abbrev last_bit : ℕ → ℕ → WiredBit
+last_bit r0 r1 = wired (bit 3 4 5) (rails r0 r1) (rails 4 5) 7
+
+module _ (inner : List (List ℕ)) (r0 r1 : ℕ) (gates : List Cell) (cells : List StageCell) where
+  abbrev n : NetlistData
+  n = one_bit_netlist inner r0 r1 gates
+
+  abbrev s : StageData
+  s = one_bit_stage r0 r1 cells
+
+  abbrev banks : List WiredBank
+  banks = bank_of_one first_bit 7 ∷ bank_of_one (last_bit r0 r1) 2 ∷ []
+
+  -- the cells are numbered in the order of the file
+  abbrev pub AreNumbered : Type 0
+  AreNumbered = flat_map bank_numbers banks ++ flat_map (λ (t : StageData). gate_numbers t.cells) (s ∷ []) ≡ range_with_len 0 (length n.cells)
+
+  pub one_bit_shape : IsNetlist n → IsStage s → All (HasGate n) cells → AreNumbered → Shape n (one_bit_pipeline n 3 s)
+  one_bit_shape netlist is_stage has numbered = Shape-from_assembled n (one_bit_pipeline n 3 s) (record {
+    is_netlist = netlist;
+    netlist = refl;
+    wired = banks;
+    rst = net_id 3;
+    banks = refl;
+    each_bank = All-from_recursion (IsWiredBank n (net_id 3)) banks (
+      one_wired n 3 7 first_bit (wired_bit n 7 3 first_bit _ _ _ refl refl refl (refl, refl, refl, refl, refl, refl, refl, refl, refl) refl),
+      (one_wired n 3 2 (last_bit r0 r1) (wired_bit n 2 3 (last_bit r0 r1) _ _ _ refl refl refl (refl, refl, refl, refl, refl, refl, refl, refl, refl) refl), tt),
+    );
+    few_banks = omega arith;
+    each_stage = All-from_recursion (IsWiredStage n) (s ∷ []) (record { is_stage = is_stage; gates = has }, tt);
+    numbers = numbered_one s refl;
+    rails_in = refl;
+    rails_out = refl;
+    roots = refl;
+    cells = numbered;
+    ports = refl;
+    directions = refl;
+  })

@@ -1,5 +1,5 @@
 -- What stands at the places of lists that are mapped, or put together of parts.
-use Rattle.std.proofs.Common.{◌≡◌, ℕ, zero, suc, ◌<◌, List, [], ◌∷◌, ◌++◌, length, map, get_or, Some, option_map, ◌⊎◌, inl, inr, refl, ap, ◌∙◌, subst, arith}
+use Rattle.std.proofs.Common.{◌≡◌, ℕ, zero, suc, ◌<◌, List, [], ◌∷◌, ◌++◌, map, get_or, Some, option_map, inl, inr, refl, ap, ◌∙◌, subst, arith}
 use Rattle.std.specs.Prelude.{All, AllPairs, slice_get}
 use Rattle.std.specs.List.{flat_map, range_with_len}
 use Rattle.std.proofs.lemmas.List.Elements.{All-contains}
@@ -8,7 +8,6 @@ use Rattle.std.proofs.lemmas.List.Kept.{AllPairs-cons}
 use Rattle.std.proofs.lemmas.Option.{slice_get-map, slice_get-get_or}
 use Rattle.ncl_base.proofs.Lists.{pairs-head, pairs-tail, increasing_place}
 use Rattle.ncl_base.proofs.Members.{Member, here, there, Member-append_left, Member-append_right, Member-append_cases, Member-map, Member-from_Contains, Contains-from_Member, Contains-from_slice_get, slice_get-from_Contains, All-from_members}
-pub use Rattle.ncl_bank.proofs.Apart.{pairs-append, pairs-right}
 
 -- what holds of all elements holds of what stands at a place, and of each member
 pub holds_at : {X : Type 0} (P : X → Type 0) (xs : List X) → All P xs → (k : ℕ) (x : X) → slice_get xs k ≡ Some x → P x
@@ -65,6 +64,10 @@ module _ {X : Type 0} (R : X → X → Type 0) where
       AllPairs-cons R x xs (All-from_members (R x) xs (λ y m. pairs-head R x (xs ++ ys) all y (Member-append_left y ys m)))
       (pairs-left xs ys (pairs-tail R x (xs ++ ys) all))
 
+  pub pairs-right : (xs ys : List X) → AllPairs R (xs ++ ys) → AllPairs R ys
+  pairs-right [] ys all = all
+  pairs-right (x ∷ xs) ys all = pairs-right xs ys (pairs-tail R x (xs ++ ys) all)
+
   -- and those of the first with those of the second
   pub pairs-across : (xs ys : List X) → AllPairs R (xs ++ ys) → (x y : X) → Member x xs → Member y ys → R x y
   pairs-across [] ys all x y m in_ys = elim m [ ]
@@ -74,7 +77,7 @@ module _ {X : Type 0} (R : X → X → Type 0) where
   -- what relates the elements of the whole relates those of each part
   pub pairs_of_part : {A : Type 0} (f : A → List X) (a : A) {parts : List A} → AllPairs R (flat_map f parts) → Member a parts → AllPairs R (f a)
   pairs_of_part f a all (here {xs = parts}) = pairs-left (f a) (flat_map f parts) all
-  pairs_of_part f a all (there {y = b} {xs = parts} m) = pairs_of_part f a (pairs-right R (f b) (flat_map f parts) all) m
+  pairs_of_part f a all (there {y = b} {xs = parts} m) = pairs_of_part f a (pairs-right (f b) (flat_map f parts) all) m
 
   -- and of a list of values, those at which the values were taken
   pub pairs_of_map : {A : Type 0} (f : A → X) (xs : List A) → AllPairs R (map f xs) → AllPairs (λ (x y : A). R (f x) (f y)) xs
@@ -121,14 +124,3 @@ at_range n i lt =
     let count = length-range_with_len 0 n in
     let value : get_or (range_with_len 0 n) i 0 ≡ i = omega (arith, get_or-range_with_len 0 n i 0 lt) in
     slice_get-get_or (range_with_len 0 n) i 0 (omega (arith, lt, count)) ∙ ap Some value
-
--- what stands at a place of a list with one more element at its end
-pub push_cases : {X : Type 0} (xs : List X) (y : X) (k : ℕ) (x : X) → slice_get (xs ++ y ∷ []) k ≡ Some x → (slice_get xs k ≡ Some x) ⊎ ((k ≡ length xs) × (y ≡ x))
-push_cases [] y zero x at = let same : y ≡ x = cc in inr (refl, same)
-push_cases [] y (suc k) x at = absurd cc
-push_cases (z ∷ xs) y zero x at = inl at
-push_cases (z ∷ xs) y (suc k) x at =
-    elim (push_cases xs y k x at) [
-      | inl earlier ↦ inl earlier
-      | inr (place, same) ↦ inr (ap suc place, same)
-    ]

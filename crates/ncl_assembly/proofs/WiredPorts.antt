@@ -11,8 +11,8 @@ use Rattle.ncl_netlist.specs.Netlist.{NetlistData}
 use Rattle.ncl_cell_rules.specs.Origin.{IsInputPort, IsOutputPort}
 use Rattle.ncl_shape.specs.Stage.{rail_nets}
 use Rattle.ncl_shape.specs.Pipeline.{PipelineData}
-use Rattle.ncl_compile.specs.Assembled.{input_nets, output_nets, IsAssembled}
-use Rattle.ncl_compile.proofs.ListPlaces.{member_at, at-map, at_of_map, pairs-left, pairs-right, pairs-across, Rise, range_rises, at_range}
+use Rattle.ncl_assembly.specs.Assembled.{input_nets, output_nets, IsAssembled}
+use Rattle.ncl_assembly.proofs.ListPlaces.{member_at, at-map, at_of_map, pairs-left, pairs-right, pairs-across, Rise, range_rises, at_range}
 
 -- the directions of two lists of nets, the inputs before the outputs
 abbrev sides : List ℕ → List ℕ → List Bool

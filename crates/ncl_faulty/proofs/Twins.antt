@@ -1,12 +1,12 @@
 -- The pipeline whose fault no input brings: at the words that inputs bring no stage shows a fault.
-use Rattle.std.proofs.Common.{◌≡◌, ℕ, zero, suc, Bool, true, false, List, [], ◌∷◌, Some, refl, arith}
+use Rattle.std.proofs.Common.{◌≡◌, ℕ, zero, suc, Bool, true, false, List, [], ◌∷◌, Some, refl, subst, arith}
 use Rattle.std.specs.Prelude.{slice_get}
+use Rattle.std.proofs.lemmas.Option.{same_Some}
 use Rattle.ncl_shape.specs.Stage.{StageData}
 use Rattle.ncl_stage.specs.Faults.{shows}
 use Rattle.ncl_machine.specs.SoundAt.{IsSoundAt}
 use Rattle.ncl_hazard.specs.Why.{brings}
 use Rattle.ncl_insensitivity.proofs.ByComputation.{condition_of-other, other_faults}
-use Rattle.ncl_insensitivity.proofs.ShortLists.{written}
 use Rattle.ncl_refusal.specs.Reached.{IsSoundWhereReached}
 use Rattle.ncl_faulty.specs.Examples.{doubling, differing, twins}
 
@@ -21,8 +21,8 @@ differing_sound true = λ fault. other_faults 4 (λ f. shows differing (true ∷
 
 -- what holds of the stages holds of what stands at each place
 each_stage : (word : List Bool) → IsSoundAt doubling (brings twins.stages 0 word) → IsSoundAt differing (brings twins.stages 1 word) → (k : ℕ) (s : StageData) → slice_get twins.stages k ≡ Some s → IsSoundAt s (brings twins.stages k word)
-each_stage word first second zero s at = written (λ t. IsSoundAt t (brings twins.stages 0 word)) doubling s first at
-each_stage word first second (suc zero) s at = written (λ t. IsSoundAt t (brings twins.stages 1 word)) differing s second at
+each_stage word first second zero s at = subst (λ t. IsSoundAt t (brings twins.stages 0 word)) (same_Some doubling s at) first
+each_stage word first second (suc zero) s at = subst (λ t. IsSoundAt t (brings twins.stages 1 word)) (same_Some differing s at) second
 each_stage word first second (suc (suc k)) s at = absurd cc
 
 pub twins_reached : IsSoundWhereReached twins

@@ -3,9 +3,6 @@ pub mod ResetLaws
 pub mod RisingLaws
 pub mod DeliveryLaws
 mod SoundAnd
-mod WiresOrigins
-pub mod ShortLists
-mod WiresChain
 mod WiresShape
 pub mod WrittenNetlists
 mod IllShapedLaws

@@ -1,5 +1,4 @@
-use Rattle.ncl_insensitivity.proofs.WiresOrigins.{wires_netlist}
-use Rattle.ncl_insensitivity.proofs.WiresShape.{wires_shape}
+use Rattle.ncl_insensitivity.proofs.WiresShape.{wires_netlist, wires_shape}
 use Rattle.ncl_insensitivity.proofs.examples.wires_have_a_shape.Goals as goal
 
 pub returns-clause-netlist : goal.returns-clause-netlist

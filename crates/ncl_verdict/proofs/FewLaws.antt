@@ -1,143 +1,212 @@
--- How many nodes a variant has at most, by the number of its functions and of the bits.
-use Rattle.std.proofs.Common.{◌≡◌, ℕ, zero, suc, ◌+◌, ◌*◌, ◌/◌, ◌^◌, ◌<◌, ◌≤◌, Bool, true, false, ◌&&◌, ◌||◌, cond, List, [], ◌∷◌, ◌++◌, length, map, Option, Some, None, refl, sym, ap, ◌∙◌, subst, suc-mul, arith}
-use Rattle.std.specs.Prelude.{slice_get}
-use Rattle.std.specs.List.{AllByRecursion, flat_map, list_all, list_any}
-use Rattle.std.proofs.lemmas.Grind.{flat_map-append}
-use Rattle.std.proofs.lemmas.List.{length-append, length-map}
-use Rattle.std.proofs.lemmas.List.Folds.{list_any-append}
-use Rattle.std.proofs.Math.Nat.{mul-le-mul_right}
+-- How many nodes a variant has at most, by the bits on which the nets of the stage depend and by those that it loses.
+use Rattle.std.proofs.Common.{◌≡◌, ℕ, zero, suc, ◌+◌, ◌-◌, ◌*◌, ◌<◌, ◌≤◌, Bool, true, false, cond, List, [], ◌∷◌, ◌++◌, length, map, get_or, ◌⊎◌, inl, inr, refl, sym, ap, ◌∙◌, subst, arith}
+use Rattle.std.specs.Prelude.{filter, sum_by}
+use Rattle.std.specs.List.{list_all}
+use Rattle.std.proofs.lemmas.Bool.{both_ways, cases_Bool}
+use Rattle.std.proofs.lemmas.List.Sums.{sum_by-append}
 use Rattle.ncl_shape.specs.declared.rails.Rails.{Rails}
-use Rattle.ncl_shape.specs.declared.stage.StageCell.{StageCell}
-use Rattle.ncl_shape.specs.Stage.{StageData, nets_of}
+use Rattle.ncl_shape.specs.Stage.{StageData, IsStage, nets_of}
+use Rattle.ncl_base.proofs.Members.{Member, here, there, member_cases, member_of_map, Member-append_cases, Member-append_left, Member-append_right, Member-filter, Member-get_or, Member-map}
 use Rattle.ncl_space.specs.Beads.{bead_count, beads_of}
-use Rattle.ncl_space.specs.Bounds.{IsMarked, Marked, is_free, weight, weights, width_of}
-use Rattle.ncl_space.specs.Table.{table_of, words}
-use Rattle.ncl_space.proofs.BeadLaws.{bead_count-computes, distinct_count}
-use Rattle.ncl_space.proofs.BoundLaws.{bead_count-bounded}
-use Rattle.ncl_space.proofs.Nub.{same}
-use Rattle.ncl_space.proofs.TableLaws.{length-table_of}
-use Rattle.ncl_stage.specs.BitOrder.{IsOrderOf, bit_order, placed, words_by}
+use Rattle.ncl_space.specs.Table.{table_of}
+use Rattle.ncl_space.proofs.TableLaws.{beads_of-constant, table_of-same}
+use Rattle.ncl_stage.specs.BitOrder.{bit_order, placed, words_by}
+use Rattle.ncl_stage.specs.Changes.{net_at}
 use Rattle.ncl_stage.specs.declared.variant.Variant.{Variant}
-use Rattle.ncl_stage.specs.declared.variant.Variant.TheVariants.{Base, Bit, Cell}
-use Rattle.ncl_stage.specs.Faults.{has_data, is_illegal}
-use Rattle.ncl_stage.specs.Tables.{ValuesAt, WordFunction, count, data_fronts, data_functions, fronts, functions_of, illegal_functions, net_functions, orphan_function, question_functions, tables_of}
-use Rattle.ncl_stage.proofs.ChangedLaws.{nets-length}
-use Rattle.ncl_stage.proofs.OrderedTables.{order-is, ordered-table}
-use Rattle.ncl_stage.proofs.OutputLaws.{length-fronts, values_at}
+use Rattle.ncl_stage.specs.declared.variant.Variant.TheVariants.{Base}
+use Rattle.ncl_stage.specs.Faults.{IsWordOf, has_data}
+use Rattle.ncl_stage.specs.Observed.{HasValidRails}
+use Rattle.ncl_stage.specs.Supports.{AreSupports}
+use Rattle.ncl_stage.specs.Tables.{WordFunction, count, data_fronts, data_functions, fronts, functions_of, net_functions, question_functions, tables_of}
+use Rattle.ncl_stage.specs.Values.{val}
+use Rattle.ncl_stage.specs.Wiring.{WiringData, IsWiring, rail_places}
+use Rattle.ncl_stage.proofs.OrderedTables.{ordered-table}
+use Rattle.ncl_stage.proofs.OutputLaws.{fronts-map, values_at}
+use Rattle.ncl_verdict.specs.Masks.{AreMasks, AreReaches, IsPart, both, is_part, lost_data, lost_mask, mask_at, union, weight_lost, weight_of}
+use Rattle.ncl_verdict.proofs.Losing.{Loses, all-look, data-looks, data_mask, loses, net-looks, word-of}
+use Rattle.ncl_verdict.proofs.MaskLaws.{part-test, union-has}
+use Rattle.ncl_verdict.proofs.ReachLaws.{all-filtered, fronts-filtered, front-members}
+use Rattle.ncl_verdict.proofs.Supporting.{are-supports, marks_by, place-of}
+use Rattle.ncl_verdict.proofs.Weights.{AllLook, Looks, count-both, fewer, look-append, look-members, look-part, look-places, look-same, sum-map, weighed-beads, weigh-same}
 
--- ---- the beads of two lists of tables
-distinct-both : (xs ys : List (List Bool)) → distinct_count (xs ++ ys) ≤ distinct_count xs + distinct_count ys
-distinct-both [] ys = omega arith
-distinct-both (x ∷ xs) ys = subst (λ b. cond b (distinct_count (xs ++ ys)) (distinct_count (xs ++ ys) + 1) ≤ distinct_count (x ∷ xs) + distinct_count ys) (sym (list_any-append (same x) xs ys)) (by_test (list_any (same x) xs) (list_any (same x) ys) (distinct-both xs ys))
+-- the masks of what doesn't pass go with it
+filter-map : {X : Type 0} (g : X → ℕ) (test : ℕ → Bool) (xs : List X) → filter test (map g xs) ≡ map g (filter (λ x. test (g x)) xs)
+filter-map g test [] = refl
+filter-map g test (x ∷ xs) = by (test (g x)) (filter-map g test xs)
   where
-    by_test : (a b : Bool) → distinct_count (xs ++ ys) ≤ distinct_count xs + distinct_count ys → cond (a || b) (distinct_count (xs ++ ys)) (distinct_count (xs ++ ys) + 1) ≤ cond a (distinct_count xs) (distinct_count xs + 1) + distinct_count ys
-    by_test true b le = le
-    by_test false true le = omega arith
-    by_test false false le = omega arith
+    by : (b : Bool) → filter test (map g xs) ≡ map g (filter (λ y. test (g y)) xs) → cond b (g x ∷ filter test (map g xs)) (filter test (map g xs)) ≡ map g (cond b (x ∷ filter (λ y. test (g y)) xs) (filter (λ y. test (g y)) xs))
+    by true rest = ap (λ l. g x ∷ l) rest
+    by false rest = rest
 
-count-both : (n : ℕ) (ts us : List (List Bool)) → bead_count n (ts ++ us) ≤ bead_count n ts + bead_count n us
-count-both n ts us =
-    let all = bead_count-computes n (ts ++ us) ∙ ap distinct_count (flat_map-append (beads_of n) ts us) in
-    let first = bead_count-computes n ts in
-    let second = bead_count-computes n us in
-    let both = distinct-both (flat_map (beads_of n) ts) (flat_map (beads_of n) us) in
-    omega arith
-
--- ---- tables that may depend on all bits
-abbrev all_marks : ℕ → List Bool
-all_marks zero = []
-all_marks (suc k) = true ∷ all_marks k
-
-all-width : (k : ℕ) → width_of (all_marks k) ≡ k + 3
-all-width zero = refl
-all-width (suc k) = let rest = all-width k in omega arith
-
-both_true : (a b : Bool) → a ≡ true → b ≡ true → (a && b) ≡ true
-both_true true b e f = f
-both_true false b e f = absurd cc
-
-all-free : (k : ℕ) (t : List Bool) → is_free (all_marks k) t ≡ true
-all-free zero t = refl
-all-free (suc k) t = both_true _ _ (all-free k _) (all-free k _)
-
-pow_suc : (k : ℕ) → 2 ^ suc k ≡ 2 ^ k + 2 ^ k
-pow_suc k = omega arith
-
-all-weight : (k : ℕ) → weight (all_marks k) + 1 ≡ 2 ^ k
-all-weight zero = refl
-all-weight (suc k) = let rest = all-weight k in let power = pow_suc k in omega arith
-
-abbrev marked : ℕ → List Bool → Marked
-marked k t = record { marks = all_marks k; table = t }
-
--- the tables of some functions of words of k + 3 bits
-module _ (order : List ℕ) (k : ℕ) (ordered : IsOrderOf (k + 3) order) where
-  are-marked : (fs : List WordFunction) → AllByRecursion (IsMarked (k + 3)) (map (λ f. marked k (table_of (words_by order) f)) fs)
-  are-marked [] = tt
-  are-marked (f ∷ fs) = (
-    record {
-      width = all-width k;
-      long = ap length (ordered-table (k + 3) order ordered f) ∙ length-table_of (k + 3) (λ w. f (placed order w));
-      free = all-free k (table_of (words_by order) f);
-    },
-    are-marked fs,
-  )
-
-  tables-marked : (fs : List WordFunction) → map (λ (x : Marked). x.table) (map (λ f. marked k (table_of (words_by order) f)) fs) ≡ map (table_of (words_by order)) fs
-  tables-marked [] = refl
-  tables-marked (f ∷ fs) = ap (λ ts. table_of (words_by order) f ∷ ts) (tables-marked fs)
-
-  all-weights : (fs : List WordFunction) → weights (map (λ f. marked k (table_of (words_by order) f)) fs) ≤ length fs * 2 ^ k
-  all-weights [] = omega arith
-  all-weights (f ∷ fs) =
-      let own = all-weight k in
-      let rest = all-weights fs in
-      let more : suc (length fs) * 2 ^ k ≡ length fs * 2 ^ k + 2 ^ k = suc-mul (length fs) (2 ^ k) in
-      omega arith
-
-  pub few-beads : (fs : List WordFunction) → bead_count (k + 3) (map (table_of (words_by order)) fs) ≤ length fs * 2 ^ k + 276
-  few-beads fs =
-      let bounded = subst (λ ts. bead_count (k + 3) ts ≤ weights (map (λ f. marked k (table_of (words_by order) f)) fs) + 276) (tables-marked fs)
-      (bead_count-bounded (k + 3) (map (λ f. marked k (table_of (words_by order) f)) fs) (are-marked fs)) in
-      let weight = all-weights fs in
-      omega arith
-
--- ---- how many functions a variant has
-asked : (s : StageData) (variant : Variant) → length (question_functions s variant (values_at s variant)) ≤ length s.outputs + 1
-asked s Base =
-    let illegal : Rails → WordFunction = λ r. λ word. is_illegal (values_at s Base word) r in
-    let many : length (illegal_functions s (values_at s Base)) ≡ length s.outputs = length-map s.outputs illegal in
-    omega arith
-asked s (Bit bit) = omega arith
-asked s (Cell cell) = by (slice_get s.cells cell)
+member_of_filter : {X : Type 0} (test : X → Bool) (x : X) (xs : List X) → Member x (filter test xs) → Member x xs × (test x ≡ true)
+member_of_filter test x [] m = elim m [ ]
+member_of_filter test x (y ∷ ys) m = by (test y) refl (member_of_filter test x ys) m
   where
-    by : (found : Option StageCell) → length (orphan_function s found (values_at s (Cell cell))) ≤ length s.outputs + 1
-    by None = omega arith
-    by (Some c) = omega arith
+    by : (b : Bool) → test y ≡ b → (Member x (filter test ys) → Member x ys × (test x ≡ true)) → Member x (cond b (y ∷ filter test ys) (filter test ys)) → Member x (y ∷ ys) × (test x ≡ true)
+    by true passes later n = elim (member_cases x y (filter test ys) n) [
+      | inl same ↦ (subst (λ z. Member x (z ∷ ys)) (sym same) here, ap test (sym same) ∙ passes)
+      | inr rest ↦ (there (later rest).0, (later rest).1)
+    ]
+    by false fails later n = (there (later n).0, (later n).1)
 
-functions-many : (s : StageData) (variant : Variant) → length (functions_of s variant) ≤ 2 * length s.inputs + length s.cells + 3 * length s.outputs + 1
-functions-many s variant =
-    let v : ValuesAt = values_at s variant in
-    let net : ℕ → WordFunction = λ net. λ word. v word net in
-    let has : Rails → WordFunction = λ r. λ word. has_data (v word) r in
-    let have : List Rails → WordFunction = λ front. λ word. list_all (has_data (v word)) front in
-    let nets : length (net_functions s (values_at s variant)) ≡ length (nets_of s.inputs s.cells) = length-map (nets_of s.inputs s.cells) net in
-    let size = nets-length s in
-    let shown : length (data_functions s (values_at s variant)) ≡ length s.outputs = length-map s.outputs has in
-    let all_shown : length (data_fronts s (values_at s variant)) ≡ length s.outputs = length-map (fronts s.outputs) have ∙ length-fronts s.outputs in
-    let asked_too = asked s variant in
-    let all : length (functions_of s variant) ≡ length (net_functions s (values_at s variant) ++ data_functions s (values_at s variant) ++ data_fronts s (values_at s variant)) + length (question_functions s variant (values_at s variant)) =
-    length-append (net_functions s (values_at s variant) ++ data_functions s (values_at s variant) ++ data_fronts s (values_at s variant)) (question_functions s variant (values_at s variant)) in
-    let three = length-append (net_functions s (values_at s variant) ++ data_functions s (values_at s variant)) (data_fronts s (values_at s variant)) in
-    let two = length-append (net_functions s (values_at s variant)) (data_functions s (values_at s variant)) in
-    omega (arith, nets, size, shown, all_shown, asked_too, all, three, two)
+-- ---- the tables of a variant, and those that have beads
+module _ (s : StageData) (is : IsStage s) (valid : HasValidRails s) (w : WiringData) (wired : IsWiring s w) (k : ℕ) (masks reaches : List ℕ) (many : length masks ≡ length (nets_of s.inputs s.cells)) (supports : AreSupports s (marks_by s w k masks)) (reached : AreReaches 0 (length s.inputs) w masks reaches) (variant : Variant) (loss : Loses s w k masks reaches variant) where
+  abbrev is_kept : Rails → Bool
+  is_kept r = is_part (data_mask s masks r) loss.lost
+
+  abbrev kept : List Rails
+  kept = filter is_kept s.outputs
+
+  abbrev has : Rails → WordFunction
+  has r word = has_data (val s word variant) r
+
+  abbrev have : List Rails → WordFunction
+  have front word = list_all (has_data (val s word variant)) front
+
+  abbrev some_functions : List WordFunction
+  some_functions = net_functions s (values_at s variant) ++ map has kept ++ map have (fronts kept) ++ loss.asked
+
+  abbrev some_masks : List ℕ
+  some_masks = masks ++ map (data_mask s masks) kept ++ map (λ (front : List Rails). union (map (data_mask s masks) front)) (fronts kept) ++ map (λ (f : WordFunction). loss.lost) loss.asked
+
+  always : (r : Rails) → Member r s.outputs → is_kept r ≡ false → (word : List Bool) → IsWordOf s word → has r word ≡ true
+  always r m out = elim (loss.shown r m) [
+    | inl there_always ↦ there_always
+    | inr part ↦ absurd (both_ways (is_kept r) out (part-test (data_mask s masks r) loss.lost part))
+  ]
+
+  some-look : AllLook k w.order some_masks some_functions
+  some-look =
+      look-append k w.order (masks ++ map (data_mask s masks) kept ++ map (λ (front : List Rails). union (map (data_mask s masks) front)) (fronts kept)) (net_functions s (values_at s variant) ++ map has kept ++ map have (fronts kept)) (map (λ (f : WordFunction). loss.lost) loss.asked) loss.asked
+      (look-append k w.order (masks ++ map (data_mask s masks) kept) (net_functions s (values_at s variant) ++ map has kept) (map (λ (front : List Rails). union (map (data_mask s masks) front)) (fronts kept)) (map have (fronts kept))
+      (look-append k w.order masks (net_functions s (values_at s variant)) (map (data_mask s masks) kept) (map has kept)
+      (look-places k w.order masks (nets_of s.inputs s.cells) (λ net. λ word. val s word variant net) 0 many nets_look)
+      (look-members k w.order (data_mask s masks) kept has (λ r m. data-looks s is valid w wired k masks reaches many supports reached variant r (member_of_filter is_kept r s.outputs m).0)))
+      (look-members k w.order (λ (front : List Rails). union (map (data_mask s masks) front)) (fronts kept) have front_look))
+      (look-same k w.order loss.lost loss.asked loss.looks)
+    where
+      nets_look : (p : ℕ) → p < length (nets_of s.inputs s.cells) → Looks k w.order (get_or masks p 0) (λ word. val s word variant (get_or (nets_of s.inputs s.cells) p 0))
+      nets_look p lt = net-looks s is valid w wired k masks reaches many supports reached variant (net_at s p) (Member-get_or (nets_of s.inputs s.cells) p 0 lt) (mask_at masks p) (subst (λ q. IsPart (mask_at masks q) (mask_at masks p)) (place-of s is p (net_at s p) lt refl) (λ bit on. on))
+
+      front_look : (front : List Rails) → Member front (fronts kept) → Looks k w.order (union (map (data_mask s masks) front)) (have front)
+      front_look front m = all-look s is valid w wired k masks reaches many supports reached variant (union (map (data_mask s masks) front)) front (λ r n.
+          look-part k w.order (data_mask s masks r) (union (map (data_mask s masks) front)) (has r) (union-has (data_mask s masks r) (map (data_mask s masks) front) (Member-map (data_mask s masks) r n))
+          (data-looks s is valid w wired k masks reaches many supports reached variant r (member_of_filter is_kept r s.outputs (front-members kept front m r n)).0))
+
+  -- each table is one of these or has no beads
+  abbrev IsCovered : WordFunction → Type 0
+  IsCovered f = Member (table_of (words_by w.order) f) (map (table_of (words_by w.order)) some_functions) ⊎ (beads_of (length s.inputs) (table_of (words_by w.order) f) ≡ [])
+
+  constant-covered : (f : WordFunction) (value : Bool) → ((v : List Bool) → f (placed w.order v) ≡ value) → IsCovered f
+  constant-covered f value same = inr (
+      ap (beads_of (length s.inputs)) (ordered-table (length s.inputs) w.order wired.order f ∙ table_of-same (length s.inputs) (λ v. f (placed w.order v)) (λ v. value) (λ v long. same v))
+      ∙ beads_of-constant (length s.inputs) value
+      )
+
+  same-covered : (f g : WordFunction) → ((v : List Bool) → f (placed w.order v) ≡ g (placed w.order v)) → Member g some_functions → IsCovered f
+  same-covered f g same m = inl (subst (λ t. Member t (map (table_of (words_by w.order)) some_functions)) (sym tables) (Member-map (table_of (words_by w.order)) g m))
+    where
+      tables : table_of (words_by w.order) f ≡ table_of (words_by w.order) g
+      tables =
+          ordered-table (length s.inputs) w.order wired.order f
+          ∙ table_of-same (length s.inputs) (λ v. f (placed w.order v)) (λ v. g (placed w.order v)) (λ v long. same v)
+          ∙ sym (ordered-table (length s.inputs) w.order wired.order g)
+
+  net-covered : (f : WordFunction) → Member f (net_functions s (values_at s variant)) → IsCovered f
+  net-covered f m = same-covered f f (λ v. refl) (Member-append_left f loss.asked (Member-append_left f (map have (fronts kept)) (Member-append_left f (map has kept) m)))
+
+  data-covered : (r : Rails) → Member r s.outputs → IsCovered (has r)
+  data-covered r m = elim (cases_Bool (is_kept r)) [
+    | inl in_kept ↦ same-covered (has r) (has r) (λ v. refl) (Member-append_left (has r) loss.asked (Member-append_left (has r) (map have (fronts kept)) (Member-append_right (net_functions s (values_at s variant)) (has r) (Member-map has r (Member-filter is_kept r m in_kept)))))
+    | inr out ↦ constant-covered (has r) true (λ v. always r m out (placed w.order v) (word-of s is valid w wired k masks reaches many supports reached v))
+  ]
+
+  front-covered : (front : List Rails) → Member front (fronts s.outputs) → IsCovered (have front)
+  front-covered front m = elim (fronts-filtered is_kept s.outputs front m) [
+    | inl some ↦ same-covered (have front) (have (filter is_kept front)) same (Member-append_left (have (filter is_kept front)) loss.asked (Member-append_right (net_functions s (values_at s variant) ++ map has kept) (have (filter is_kept front)) (Member-map have (filter is_kept front) some)))
+    | inr none ↦ constant-covered (have front) true (λ v. same v ∙ ap (λ l. have l (placed w.order v)) none)
+  ]
+    where
+      same : (v : List Bool) → have front (placed w.order v) ≡ have (filter is_kept front) (placed w.order v)
+      same v = all-filtered (has_data (val s (placed w.order v) variant)) is_kept front (λ r n out. always r (front-members s.outputs front m r n) out (placed w.order v) (word-of s is valid w wired k masks reaches many supports reached v))
+
+  question-covered : (f : WordFunction) → Member f (question_functions s variant (values_at s variant)) → IsCovered f
+  question-covered f m = elim (loss.questions f m) [
+    | inl some ↦ same-covered f f (λ v. refl) (Member-append_right (net_functions s (values_at s variant) ++ map has kept ++ map have (fronts kept)) f some)
+    | inr never ↦ constant-covered f false never
+  ]
+
+  covered : (f : WordFunction) → Member f (functions_of s variant) → IsCovered f
+  covered f m = elim (Member-append_cases f (net_functions s (values_at s variant) ++ data_functions s (values_at s variant) ++ data_fronts s (values_at s variant)) (question_functions s variant (values_at s variant)) m) [
+    | inr question ↦ question-covered f question
+    | inl three ↦ elim (Member-append_cases f (net_functions s (values_at s variant) ++ data_functions s (values_at s variant)) (data_fronts s (values_at s variant)) three) [
+      | inr front ↦ by_front (member_of_map have (fronts s.outputs) f front)
+      | inl two ↦ elim (Member-append_cases f (net_functions s (values_at s variant)) (data_functions s (values_at s variant)) two) [
+        | inl net ↦ net-covered f net
+        | inr shown ↦ by_data (member_of_map has s.outputs f shown)
+      ]
+    ]
+  ]
+    where
+      by_front : (front : List Rails) × Member front (fronts s.outputs) × (have front ≡ f) → IsCovered f
+      by_front (front, n, at) = subst IsCovered at (front-covered front n)
+
+      by_data : (r : Rails) × Member r s.outputs × (has r ≡ f) → IsCovered f
+      by_data (r, n, at) = subst IsCovered at (data-covered r n)
+
+  -- what they weigh
+  weights-are : sum_by weight_of some_masks ≤ sum_by weight_of masks + weight_lost masks w.outputs loss.lost
+  weights-are =
+      let front_masks : List ℕ = map (λ (front : List Rails). union (map (data_mask s masks) front)) (fronts kept) in
+      let asked_masks : List ℕ = map (λ (f : WordFunction). loss.lost) loss.asked in
+      let four = sum_by-append weight_of (masks ++ map (data_mask s masks) kept ++ front_masks) asked_masks in
+      let three = sum_by-append weight_of (masks ++ map (data_mask s masks) kept) front_masks in
+      let two = sum_by-append weight_of masks (map (data_mask s masks) kept) in
+      let shown : map (data_mask s masks) kept ≡ lost_data masks loss.lost w.outputs =
+      sym (filter-map (data_mask s masks) (λ m. is_part m loss.lost) s.outputs)
+      ∙ ap (filter (λ m. is_part m loss.lost)) (masks-of s.outputs ∙ ap (map (both masks)) (sym (wired.outputs ∙ ap (λ ns. map (rail_places ns) s.outputs) wired.nets))) in
+      let data_sum = ap (sum_by weight_of) shown in
+      let front_sum : sum_by weight_of front_masks ≡ sum_by (λ front. weight_of (union front)) (fronts (lost_data masks loss.lost w.outputs)) =
+      sum-map weight_of (λ (front : List Rails). union (map (data_mask s masks) front)) (fronts kept)
+      ∙ sym (sum-map (λ front. weight_of (union front)) (map (data_mask s masks)) (fronts kept))
+      ∙ ap (sum_by (λ front. weight_of (union front))) (sym (fronts-map (data_mask s masks) kept) ∙ ap fronts shown) in
+      let asked_sum = weigh-same loss.lost loss.asked in
+      let once : length loss.asked * weight_of loss.lost ≤ weight_of loss.lost = at-most-once (length loss.asked) (weight_of loss.lost) loss.few in
+      omega (arith, four, three, two, data_sum, front_sum, asked_sum, once)
+    where
+      masks-of : (rs : List Rails) → map (data_mask s masks) rs ≡ map (both masks) (map (rail_places (nets_of s.inputs s.cells)) rs)
+      masks-of [] = refl
+      masks-of (r ∷ rs) = ap (λ l. data_mask s masks r ∷ l) (masks-of rs)
+
+      at-most-once : (n weight : ℕ) → n ≤ 1 → n * weight ≤ weight
+      at-most-once n weight few = by n few
+        where
+          by : (n : ℕ) → n ≤ 1 → n * weight ≤ weight
+          by zero few = omega arith
+          by (suc zero) few = omega arith
+          by (suc (suc n)) few = absurd (omega (arith, few))
+
+  -- the beads of its tables
+  pub variant-beads : k ≡ length s.inputs - 3 → bead_count (length s.inputs) (map (table_of (words_by w.order)) (functions_of s variant)) ≤ sum_by weight_of masks + weight_lost masks w.outputs loss.lost + 276
+  variant-beads last =
+      let beads = weighed-beads (length s.inputs) k last w.order wired.order some_masks some_functions some-look in
+      let less = fewer (length s.inputs) (map (table_of (words_by w.order)) (functions_of s variant)) (map (table_of (words_by w.order)) some_functions) (λ t m. by t (member_of_map (table_of (words_by w.order)) (functions_of s variant) t m)) in
+      let weights = weights-are in
+      omega (arith, beads, less, weights)
+    where
+      by : (t : List Bool) → (f : WordFunction) × Member f (functions_of s variant) × (table_of (words_by w.order) f ≡ t) → Member t (map (table_of (words_by w.order)) some_functions) ⊎ (beads_of (length s.inputs) t ≡ [])
+      by t (f, m, at) = subst (λ u. Member u (map (table_of (words_by w.order)) some_functions) ⊎ (beads_of (length s.inputs) u ≡ [])) at (covered f m)
 
 -- ---- the count of a variant, where Base has so many nodes
-pub count-few : (s : StageData) (k : ℕ) → length s.inputs ≡ k + 3 → (nodes limit room : ℕ) → nodes ≡ bead_count (length s.inputs) (tables_of s Base) → room + nodes + 276 ≤ limit → (2 * length s.inputs + length s.cells + 3 * length s.outputs + 1) * 2 ^ k ≤ room → (variant : Variant) → count s variant ≤ limit
-count-few s k wide nodes limit room held fits enough variant =
-    let order : List ℕ = bit_order s in
-    let ordered : IsOrderOf (k + 3) (bit_order s) = subst (λ n. IsOrderOf n (bit_order s)) wide (order-is s) in
-    let both = count-both (length s.inputs) (tables_of s Base) (tables_of s variant) in
-    let own = subst (λ n. bead_count n (tables_of s variant) ≤ length (functions_of s variant) * 2 ^ k + 276) (sym wide) (few-beads (bit_order s) k ordered (functions_of s variant)) in
-    let many = mul-le-mul_right (2 ^ k) (functions-many s variant) in
-    omega arith
+pub count-few : (s : StageData) → IsStage s → HasValidRails s → (w : WiringData) → IsWiring s w → w.order ≡ bit_order s → (masks reaches : List ℕ) → length masks ≡ length (nets_of s.inputs s.cells) → AreMasks (length s.inputs) w masks → AreReaches 0 (length s.inputs) w masks reaches
+    → (most : ℕ) → ((place : ℕ) → place < length (nets_of s.inputs s.cells) → weight_lost masks w.outputs (lost_mask (length s.inputs) reaches place) ≤ most) → (nodes limit : ℕ) → nodes ≡ bead_count (length s.inputs) (tables_of s Base)
+    → nodes + 276 + sum_by weight_of masks + most ≤ limit → (variant : Variant) → count s variant ≤ limit
+count-few s is valid w wired order masks reaches many are reach most each nodes limit held enough variant =
+    let k : ℕ = length s.inputs - 3 in
+    let supports = are-supports s is w wired k refl masks many are in
+    let loss = loses s is valid w wired k masks reaches many supports reach variant in
+    let beads = count-both (length s.inputs) (tables_of s Base) (tables_of s variant) in
+    let few = subst (λ lost. weight_lost masks w.outputs lost ≤ most) loss.lost_at (each loss.place loss.within) in
+    let own = subst (λ (o : List ℕ). bead_count (length s.inputs) (map (table_of (words_by o)) (functions_of s variant)) ≤ sum_by weight_of masks + weight_lost masks w.outputs loss.lost + 276) order
+    (variant-beads s is valid w wired k masks reaches many supports reach variant loss refl) in
+    omega (arith, beads, own, held, few, enough)

@@ -3,6 +3,13 @@ pub mod Firsts
 pub mod Places
 pub mod Sound
 pub mod Accepting
+pub mod MaskLaws
+pub mod ReachLaws
+pub mod Supporting
+pub mod Adding
+pub mod LostLaws
+pub mod Weights
+pub mod Losing
 pub mod FewLaws
 pub mod FileOrder
 pub mod SameJudgement

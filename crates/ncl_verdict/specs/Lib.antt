@@ -1,3 +1,4 @@
 pub mod Judgement
 pub mod InSpace
 pub mod Within
+pub mod Masks

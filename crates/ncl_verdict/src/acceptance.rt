@@ -14,8 +14,8 @@ use ncl_stage::{Values, all_observed};
 use std::alloc::Global;
 
 /// Whether a stage whose outputs have one high rail each under Base is sound, with no variant that passes the limit, as far
-/// as can be told without a variant: the stage is small, and each of its nets is observed by the gates that read it. The
-/// space holds the functions of Base, which are so many nodes.
+/// as can be told without a variant: its nets depend on few bits, and each is observed by the gates that read it. The space
+/// holds the functions of Base, which are so many nodes.
 ///
 /// One function for each cell and two for each pin. An error is want of memory.
 pub(crate) fn is_accepted<P: Space>(
@@ -34,7 +34,8 @@ pub(crate) fn is_accepted<P: Space>(
     ensures kept { Keeps (P.meaning space.old) (P.meaning space.new) }
 {
     stage.facts();
-    if !are_few(stage, nodes, limit) {
+    let few = are_few(alloc, stage, base, nodes, limit)?;
+    if !few {
         return Ok(false);
     }
     match all_observed(alloc, space, stage, base) {

@@ -13,9 +13,9 @@ use std::alloc::Global;
 /// The judgement of one stage with at most `limit` nodes: its first fault with the least word that shows it, or
 /// that it is sound, or that at some variant it has more nodes. An error is want of memory.
 ///
-/// A stage that is small, and in which the gates that read a net observe it, is accepted by one operation on diagrams for
-/// each cell and three for each pin at most. For any other, for each input bit and each cell it evaluates the cells that the
-/// change reaches, at most all of them, each by one operation.
+/// A stage whose nets depend on few bits, and in which the gates that read a net observe it, is accepted by one operation on
+/// diagrams for each cell and three for each pin at most. For any other, for each input bit and each cell it evaluates the
+/// cells that the change reaches, at most all of them, each by one operation.
 pub fn judge_stage(alloc: Global, stage: &Stage, limit: u32) -> Result<Verdict, Memory>
     requires { 1 ≤ limit }
     ensures { IfOk result (λ verdict. verdict ≡ judgement limit (stage.now ∷ [])) }

@@ -9,6 +9,7 @@ mod in_space;
 mod judging;
 pub mod laws;
 mod parallel;
+mod supports;
 mod verdict;
 
 pub use in_space::first_answer;

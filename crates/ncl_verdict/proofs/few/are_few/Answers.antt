@@ -1,27 +1,48 @@
-use Rattle.std.proofs.Common.{◌≡◌, ℕ, ◌+◌, ◌-◌, ◌*◌, ◌/◌, ◌^◌, ◌≤◌, true, length, ◌∙◌, ap, arith}
-use Rattle.std.specs.Prelude.{nat_le}
-use Rattle.std.proofs.Math.Nat.{div-le_self, le-div_iff_mul-le}
+use Rattle.std.proofs.Common.{◌≡◌, ℕ, ◌-◌, ◌^◌, ◌<◌, ◌≤◌, true, List, length, sym, ◌∙◌, ap, subst, arith}
+use Rattle.std.specs.Prelude.{All, nat_le, sum_by}
 use Rattle.std.proofs.lemmas.Bool.Decides.{nat_tests}
-use Rattle.std.proofs.lemmas.Nat.{pow_pos}
-use Rattle.ncl_shape.specs.Stage.{StageData}
+use Rattle.ncl_shape.specs.Stage.{StageData, nets_of}
+use Rattle.ncl_stage.specs.Wiring.{WiringData}
+use Rattle.ncl_stage.proofs.ChangedLaws.{nets-length}
+use Rattle.ncl_stage.proofs.OutputLaws.{outputs-within}
+use Rattle.ncl_verdict.specs.Masks.{AreReaches, Covers, lost_mask, weight_lost, weight_of}
 use Rattle.ncl_verdict.proofs.FewLaws.{count-few}
 use Rattle.ncl_verdict.proofs.few.are_few.Goals as goal
 
 no_more : (a b : ℕ) → nat_le a b ≡ true → a ≤ b
 no_more a b e = grind (arith, nat_tests)
 
-pub returns-then-functions-others : goal.returns-then-functions-others
-returns-then-functions-others c = λ enough variant among.
+pub most_lost-most-requires-clause-outputs : goal.most_lost-most-requires-clause-outputs
+most_lost-most-requires-clause-outputs c =
+    subst (All (λ pair. (pair.0 < length c.as_slice-3.result.now) × (pair.1 < length c.as_slice-3.result.now))) (sym (c.outputs.ensures ∙ ap (λ (w : WiringData). w.outputs) c.wiring.ensures))
+    (outputs-within c.args.stage.now c.facts.ensures c.args.base.now.wiring c.requires.wiring (length c.as_slice-3.result.now) (ap length c.as_slice-3.ensures.value ∙ c.in_ok-masks.ensures.many ∙ ap length c.requires.wiring.nets))
+
+pub most_lost-most-requires-clause-bits : goal.most_lost-most-requires-clause-bits
+most_lost-most-requires-clause-bits c =
+    let bits = ap length (c.items-bits.ensures ∙ ap (λ (t : StageData). t.inputs) c.stage.view_is) in
+    let many = ap length c.as_slice-4.ensures.value ∙ c.in_ok-reaches.ensures.many ∙ ap length c.as_slice.ensures.value ∙ c.in_ok-masks.ensures.many ∙ ap length c.requires.wiring.nets in
+    omega (arith, bits, many, nets-length c.args.stage.now)
+
+pub returns : goal.returns
+returns c = λ enough variant among.
     let s : StageData = c.args.stage.now in
-    let bits = ap length (c.items-width.ensures ∙ ap (λ (t : StageData). t.inputs) c.stage.view_is) in
-    let outputs = ap length (c.items.ensures ∙ ap (λ (t : StageData). t.outputs) c.stage.view_is) in
-    let cells = ap length (c.items-then-functions-others.ensures ∙ ap (λ (t : StageData). t.cells) c.stage.view_is) in
-    let k : ℕ = length c.items-width.result.now - 3 in
-    let room : ℕ = c.saturating_sub-room.result in
-    let wide : length s.inputs ≡ k + 3 = omega (arith, bits) in
-    let rest = no_more _ _ enough in
-    let total : 2 * length s.inputs + length s.cells + 3 * length s.outputs + 1 ≤ room / 2 ^ k = omega (arith, bits, outputs, cells, rest, c.if-functions-others.true) in
-    let product = (le-div_iff_mul-le {k = 2 ^ k} {x = 2 * length s.inputs + length s.cells + 3 * length s.outputs + 1} {y = room} (pow_pos k)).0 total in
-    let some = div-le_self room (2 ^ k) in
-    let fits : room + c.args.nodes + 276 ≤ c.args.limit = omega (arith, total, some, c.saturating_sub-room.ensures) in
-    count-few s k wide c.args.nodes c.args.limit room c.requires fits product variant
+    let w : WiringData = c.args.base.now.wiring in
+    let masks : List ℕ = c.in_ok-masks.masks.items in
+    let reaches : List ℕ = c.in_ok-reaches.reaches.items in
+    let nets : ℕ = c.net_weights-nets.result in
+    let most : ℕ = c.most_lost-most.result in
+    let within = no_more _ _ enough in
+    let below : c.args.limit < 2 ^ 32 = c.ranges.limit.fits in
+    let few_nets : nets < 2 ^ 64 - 1 = omega (arith, within, below, c.saturating_add-2.ensures, c.saturating_add.ensures) in
+    let few_lost : most < 2 ^ 64 - 1 = omega (arith, within, below, c.saturating_add-2.ensures, c.saturating_add.ensures) in
+    let size : length c.as_slice-4.result.now ≡ length (nets_of s.inputs s.cells) = ap length c.as_slice-4.ensures.value ∙ c.in_ok-reaches.ensures.many ∙ ap length c.as_slice.ensures.value ∙ c.in_ok-masks.ensures.many ∙ ap length c.requires.wiring.nets in
+    let bits = ap length (c.items-bits.ensures ∙ ap (λ (t : StageData). t.inputs) c.stage.view_is) in
+    let outputs = c.outputs.ensures ∙ ap (λ (v : WiringData). v.outputs) c.wiring.ensures in
+    let net_sum : sum_by weight_of masks ≤ nets = subst (λ (l : List ℕ). Covers (sum_by weight_of l) nets) c.as_slice-2.ensures.value c.net_weights-nets.ensures few_nets in
+    count-few s c.facts.ensures c.requires.rails w c.requires.wiring c.requires.order masks reaches (c.in_ok-masks.ensures.many ∙ ap length c.requires.wiring.nets) c.in_ok-masks.ensures.masks
+    (subst (λ (l : List ℕ). AreReaches 0 (length s.inputs) w l reaches) c.as_slice.ensures.value c.in_ok-reaches.ensures.reaches)
+    most
+    (λ place lt. subst (λ n. n ≤ most) (λ i. weight_lost (c.as_slice-3.ensures.value i) (outputs i) (lost_mask (bits i) (c.as_slice-4.ensures.value i) place)) (c.most_lost-most.ensures place (omega (arith, lt, size)) few_lost))
+    c.args.nodes c.args.limit c.requires.nodes
+    (omega (arith, net_sum, within, below, few_nets, few_lost, c.saturating_add-2.ensures, c.saturating_add.ensures))
+    variant

@@ -1,12 +1,10 @@
-use Rattle.std.proofs.Common.{◌≡◌, None, Some, Option, [], ◌∷◌, length, map, sym, ◌∙◌, ap, subst}
+use Rattle.std.proofs.Common.{◌≡◌, None, Some, ◌∙◌, subst}
 use Rattle.std.specs.Prelude.{MatchResult}
 use Rattle.std.proofs.lemmas.Result.{IfOk-weaker}
 use Rattle.ncl_shape.specs.Stage.{StageData}
 use Rattle.ncl_space.specs.Space.{SpaceData}
-use Rattle.ncl_stage.specs.declared.variant.Variant.TheVariants.{Base, Bit, Cell}
-use Rattle.ncl_stage.specs.LeastWords.{below, first_of}
-use Rattle.ncl_verdict.specs.declared.verdict.Verdict.{Verdict}
-use Rattle.ncl_verdict.specs.Judgement.{Stop, at_variant, file_order, of_stage}
+use Rattle.ncl_stage.specs.declared.variant.Variant.TheVariants.{Base}
+use Rattle.ncl_verdict.specs.Judgement.{at_variant, of_stage}
 use Rattle.ncl_verdict.specs.InSpace.{IsReady, stopped_within}
 use Rattle.ncl_verdict.proofs.InSpaceLaws.{of_stage-said}
 use Rattle.ncl_verdict.proofs.in_space.first_answer.Goals as goal

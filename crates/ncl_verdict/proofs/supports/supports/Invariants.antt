@@ -1,0 +1,10 @@
+use Rattle.std.proofs.Common.{◌≡◌, length}
+use Rattle.ncl_verdict.specs.Masks.{AreMasks}
+use Rattle.ncl_verdict.proofs.supports.supports.Given as goal
+
+-- the masks of the nets at the places so far
+abbrev pub invariant-loop-place : goal.invariant-loop-place
+invariant-loop-place l = record {
+  many : length l.masks.items ≡ l.place;
+  masks : AreMasks (length l.stage.inputs) l.base.wiring l.masks.items;
+}

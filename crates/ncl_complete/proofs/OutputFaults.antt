@@ -33,10 +33,6 @@ table-at s order f space refs have output lt d e =
     ∙ get_or-map (table_of (words_by order)) (map f s.outputs) output (f d) [] (omega (arith, length-map s.outputs f))
     ∙ ap (table_of (words_by order)) (get_or-map f s.outputs output d (f d) lt)
 
--- as many Refs as outputs
-pub as-many : (s : StageData) (order : List ℕ) (f : Rails → List Bool → Bool) (space : SpaceData) (refs : List Ref) → HaveTables space refs (function_tables_by order (map f s.outputs)) → length refs ≡ length s.outputs
-as-many s order f space refs have = have-length space refs (function_tables_by order (map f s.outputs)) have ∙ length-map (map f s.outputs) (table_of (words_by order)) ∙ length-map s.outputs f
-
 pub both-found : (s : StageData) (order : List ℕ) (ordered : IsOrderOf (length s.inputs) order) (space : SpaceData) → space.width ≡ length s.inputs → (refs : List Ref) → HaveTables space refs (function_tables_by order (illegal_functions s (values_at s Base))) → (output : ℕ) → output < length s.outputs → (e : Ref) → option_map (placed order) (least true space.width (space.table (get_or refs output e))) ≡ least_word_by order s (BothRails output)
 both-found s order ordered space width refs have output lt e =
     let d : Rails = record { zero = record { 0 = 0 }; one = record { 0 = 0 } } in

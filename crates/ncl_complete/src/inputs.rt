@@ -1,6 +1,6 @@
 //! Input-completeness.
 ghost use Rattle.std.specs.Prelude.{◌≡◌, ◌<◌, IfOk, IsErrOf, OnOk, false, length, true};
-ghost use Rattle.ncl_space.specs.Space.{IsSpace, Restores, fits};
+ghost use Rattle.ncl_space.specs.Space.{IsSpace, Keeps, fits};
 ghost use Rattle.ncl_stage.specs.Faults.{Incomplete};
 ghost use Rattle.ncl_stage.specs.LeastWords.{least_word_by};
 ghost use Rattle.ncl_stage.specs.StageTables.{AreValues};
@@ -19,7 +19,7 @@ use std::alloc::Global;
 /// It goes over the cells once, and evaluates only those that a changed net reaches. It makes the functions
 /// of all nets without the bit, of the DATA of each output and of their conjunctions before it looks for a
 /// word. `Full` comes exactly where the beads held with those of all these functions are more than the limit. Whatever
-/// the answer, the space is as it was.
+/// the answer, what was made stays: the caller goes back where it wants.
 pub fn input_complete<P: Space>(
     alloc: Global,
     space: &mut P,
@@ -29,23 +29,14 @@ pub fn input_complete<P: Space>(
 ) -> Result<Option<Word>, SpaceFault>
     requires base { AreValues (P.meaning space.old) stage.now Variant.Base base.now }
     requires bit { bit < length stage.now.inputs }
+    requires space { IsSpace (P.meaning space.old) }
     ensures word { IfOk result (λ word. word ≡ least_word_by base.now.wiring.order stage.now (Incomplete bit)) }
-    ensures back { Restores (P.meaning space.old) (P.meaning space.new) }
+    ensures kept { Keeps (P.meaning space.old) (P.meaning space.new) }
     ensures space { IsSpace (P.meaning space.new) }
     ensures full { IsErrOf result SpaceFault.Full → fits (P.meaning space.old) (tables_by base.now.wiring.order stage.now (Variant.Bit bit)) ≡ false }
     ensures fits { OnOk result (fits (P.meaning space.old) (tables_by base.now.wiring.order stage.now (Variant.Bit bit)) ≡ true) }
 {
     stage.facts();
-    let start = space.mark();
-    match all_data(alloc, space, stage, base, Variant::Bit(bit)) {
-        Ok(all) => {
-            let word = least_one(space, base.order(), all);
-            space.release(start);
-            Ok(word)
-        }
-        Err(fault) => {
-            space.release(start);
-            Err(fault)
-        }
-    }
+    let all = all_data(alloc, space, stage, base, Variant::Bit(bit))?;
+    Ok(least_one(space, base.order(), all))
 }

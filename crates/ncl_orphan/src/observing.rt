@@ -2,7 +2,7 @@
 ghost use Rattle.std.specs.Prelude.{◌≡◌, ◌<◌, IfOk, IsErrOf, OnOk, false, length, true};
 ghost use Rattle.std.specs.Option.{option_map};
 ghost use Rattle.ncl_space.specs.Functions.{least};
-ghost use Rattle.ncl_space.specs.Space.{IsLive, IsSpace, Keeps, Restores, fits};
+ghost use Rattle.ncl_space.specs.Space.{IsLive, IsSpace, Keeps, fits};
 ghost use Rattle.ncl_stage.specs.BitOrder.{placed};
 ghost use Rattle.ncl_stage.specs.Faults.{Orphan};
 ghost use Rattle.ncl_stage.specs.LeastWords.{least_word_by};
@@ -24,7 +24,7 @@ use std::alloc::Global;
 /// of all nets without the cell, of the DATA of each output, of their conjunctions, and of the cell with the
 /// last of these, before it looks for a word.
 /// `Full` comes exactly where the beads held with those of all these functions are more than the limit.
-/// Whatever the answer, the space is as it was.
+/// Whatever the answer, what was made stays: the caller goes back where it wants.
 pub fn orphan<P: Space>(
     alloc: Global,
     space: &mut P,
@@ -34,25 +34,16 @@ pub fn orphan<P: Space>(
 ) -> Result<Option<Word>, SpaceFault>
     requires base { AreValues (P.meaning space.old) stage.now Variant.Base base.now }
     requires cell { cell < length stage.now.cells }
+    requires space { IsSpace (P.meaning space.old) }
     ensures word { IfOk result (λ word. word ≡ least_word_by base.now.wiring.order stage.now (Orphan cell)) }
-    ensures back { Restores (P.meaning space.old) (P.meaning space.new) }
+    ensures kept { Keeps (P.meaning space.old) (P.meaning space.new) }
     ensures space { IsSpace (P.meaning space.new) }
     ensures full { IsErrOf result SpaceFault.Full → fits (P.meaning space.old) (tables_by base.now.wiring.order stage.now (Variant.Cell cell)) ≡ false }
     ensures fits { OnOk result (fits (P.meaning space.old) (tables_by base.now.wiring.order stage.now (Variant.Cell cell)) ≡ true) }
 {
     stage.facts();
-    let start = space.mark();
-    match unobserved(alloc, space, stage, base, cell) {
-        Ok(high) => {
-            let word = least_one(space, base.order(), high);
-            space.release(start);
-            Ok(word)
-        }
-        Err(fault) => {
-            space.release(start);
-            Err(fault)
-        }
-    }
+    let high = unobserved(alloc, space, stage, base, cell)?;
+    Ok(least_one(space, base.order(), high))
 }
 
 // That the cell is high, and all outputs are DATA without it. What is made before a refusal stays.

@@ -1,15 +1,15 @@
 -- How calls of a space follow one another: what is held after some tables and after more, and when all fit.
-use Rattle.std.proofs.Common.{◌≡◌, ℕ, ◌+◌, ◌≤◌, List, [], ◌∷◌, ◌++◌, Bool, true, false, ◌||◌, cond, sym, ◌∙◌, ap, subst, refl, arith, Some, None, IsTrue, Option}
+use Rattle.std.proofs.Common.{◌≡◌, ℕ, ◌+◌, ◌≤◌, List, [], ◌∷◌, ◌++◌, Bool, true, false, ◌||◌, cond, inl, inr, sym, ◌∙◌, ap, subst, refl, arith, Some, None, Option}
 use Rattle.std.specs.FinSet as set
 use Rattle.std.specs.Cmp.Lexicographic.{slice_cmp}
 use Rattle.std.specs.Ordering.{bool_cmp, eq_by_cmp}
 use Rattle.std.specs.List.{flat_map}
+use Rattle.std.proofs.lemmas.Bool.{or_cases, or_left, or_right}
 use Rattle.std.proofs.lemmas.Bool.Decides.{nat_tests}
+use Rattle.ncl_base.proofs.Tests.{or-assoc}
 use Rattle.ncl_space.specs.Beads.{Beads, beads_of, is_bead, distinct_beads, bead_count}
-use Rattle.ncl_space.specs.Space.{SpaceData, Keeps, MarksNow, Releases, Restores, Within, with_tables, fits, is_within}
-use Rattle.ncl_space.specs.declared.space.Ref.{Ref}
-use Rattle.ncl_space.specs.declared.space.Mark.{Mark}
-use Rattle.ncl_space.proofs.BeadLaws.{table_order, one_set, distinct_beads-append, distinct_beads-same, HasMembers}
+use Rattle.ncl_space.specs.Space.{SpaceData, Keeps, Within, with_tables, fits, is_within}
+use Rattle.ncl_space.proofs.BeadLaws.{table_order, one_set, distinct_beads-append}
 
 -- what two calls keep, both keep
 pub keeps_along : (a b d : SpaceData) → Keeps a b → Keeps b d → Keeps a d
@@ -34,30 +34,6 @@ keeps_all a = record {
   held = λ b h. h;
 }
 
--- a caller that marked, made and went back leaves the space as it was
-pub restores_by_release : (old mid new : SpaceData) (m : Mark) → MarksNow old m → Keeps old mid → Releases mid new m → Restores old new
-restores_by_release old mid new m k x y =
-    let p = x.marks m k.stands in
-    let live : (r : Ref) → new.live r ≡ old.live r = λ r. y.live r ∙ p.live_at r ∙ k.live_at r in
-    let held : new.held ≡ old.held = y.held ∙ p.held_at ∙ k.held_at in
-    record {
-      keeps = record {
-        width = y.width ∙ x.width;
-        limit = y.limit ∙ x.limit;
-        live = λ r l. subst (λ (b : Bool). IsTrue b) (sym (live r)) l;
-        tables = λ r l. y.tables r (subst (λ (b : Bool). IsTrue b) (sym (p.live_at r ∙ k.live_at r)) l) ∙ x.tables r l;
-        marks = λ n s. let q = x.marks n s in let z = y.marks n q.stands (k.latest n s) in
-            record { stands = z.stands; live_at = λ r. z.live_at r ∙ q.live_at r; held_at = z.held_at ∙ q.held_at };
-        held = λ b h. ap (λ (s : Beads). set.contains s b) held ∙ h;
-      };
-      live = live;
-      held = held;
-    }
-
-or_along : (a b c : Bool) → ((a || b) || c) ≡ (a || (b || c))
-or_along true b c = refl
-or_along false b c = refl
-
 or_within : (a b : Bool) → (b ≡ true → a ≡ true) → (a || b) ≡ a
 or_within true b h = refl
 or_within false true h = sym (h refl)
@@ -67,7 +43,7 @@ union_along : (s t u : Beads) → set.union (set.union s t) u ≡ set.union s (s
 union_along s t u = one_set _ _ (λ q.
     set.contains-union table_order (set.union s t) u q
     ∙ ap (λ b. b || set.contains u q) (set.contains-union table_order s t q)
-    ∙ or_along (set.contains s q) (set.contains t q) (set.contains u q)
+    ∙ or-assoc (set.contains s q) (set.contains t q) (set.contains u q)
     ∙ ap (λ b. set.contains s q || b) (sym (set.contains-union table_order t u q))
     ∙ sym (set.contains-union table_order s (set.union t u) q))
 
@@ -131,9 +107,39 @@ union-add_all n s ts = one_set _ _ (λ q.
 pub len_grows : (a : SpaceData) (ts : List (List Bool)) → set.len a.held ≤ set.len (with_tables a ts)
 len_grows a ts = subst (λ (s : Beads). set.len a.held ≤ set.len s) (sym (union-add_all a.width a.held ts)) (len-add_all a.held (flat_map (beads_of a.width) ts))
 
+-- fewer beads are no more
+pub len_within : (s t : Beads) → Within s t → set.len s ≤ set.len t
+len_within s t within = subst (λ (u : Beads). set.len s ≤ set.len u) same (len-add_all s (set.items t))
+  where
+    joined : (a b : Bool) → (a ≡ true → b ≡ true) → (a || b) ≡ b
+    joined true b h = sym (h refl)
+    joined false b h = refl
+
+    same : add_all s (set.items t) ≡ t
+    same = one_set _ _ (λ q.
+        contains-add_all s (set.items t) q
+        ∙ ap (λ b. set.contains s q || b) (sym (set.contains-items t q))
+        ∙ joined (set.contains s q) (set.contains t q) (within q))
+
 within_less : (limit : Option ℕ) (m n : ℕ) → m ≤ n → is_within limit n ≡ true → is_within limit m ≡ true
 within_less None m n h e = refl
 within_less (Some l) m n h e = grind (arith, nat_tests)
+
+-- tables that fit do so where fewer beads are held
+pub fits_fewer : (a : SpaceData) (held : Beads) (ts : List (List Bool)) → Within held a.held → fits a ts ≡ true → is_within a.limit (set.len (set.union held (distinct_beads a.width ts))) ≡ true
+fits_fewer a held ts within fit =
+    within_less a.limit (set.len (set.union held beads)) (set.len (with_tables a ts)) (len_within (set.union held beads) (with_tables a ts) more) fit
+  where
+    beads : Beads
+    beads = distinct_beads a.width ts
+
+    more : Within (set.union held beads) (with_tables a ts)
+    more bead h =
+        set.contains-union table_order a.held beads bead
+        ∙ (elim (or_cases (set.contains held bead) (set.contains beads bead) (sym (set.contains-union table_order held beads bead) ∙ h)) [
+          | inl old ↦ or_left (set.contains a.held bead) (set.contains beads bead) (within bead old)
+          | inr new ↦ or_right (set.contains a.held bead) (set.contains beads bead) new
+        ])
 
 -- where all fit, the first of them fit
 pub fits_part : (a : SpaceData) (ts us : List (List Bool)) → fits a (ts ++ us) ≡ true → fits a ts ≡ true
@@ -153,10 +159,6 @@ too_much_by_front a ts us e = not_true (fits a (ts ++ us)) (λ h. apart (sym e �
 
     apart : false ≡ true → ⊥
     apart e = cc
-
--- neither the order of tables matters, nor how often one stands
-pub with_same : (a : SpaceData) (ts us : List (List Bool)) → HasMembers ts us → HasMembers us ts → with_tables a ts ≡ with_tables a us
-with_same a ts us more less = ap (set.union a.held) (distinct_beads-same a.width ts us more less)
 
 -- where the beads of some tables are held, those of more with them are the beads of both lists
 pub count_of_both : (a : SpaceData) (ts us : List (List Bool)) → a.held ≡ distinct_beads a.width ts → set.len (with_tables a us) ≡ bead_count a.width (ts ++ us)

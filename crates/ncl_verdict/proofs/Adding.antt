@@ -62,12 +62,6 @@ shown-kept masks old new pair grown shown = (
   part-along (both masks pair) (mask_at old pair.1) (mask_at new pair.1) shown.1 (grown pair.1),
 )
 
--- a list that was lent whole is as it was given back
-pub given-back : (items new : List ℕ) (count : ℕ) → count ≡ length items → length new ≡ length items → take count (new ++ drop (length new) items) ≡ new
-given-back items new count many same =
-    let rest : drop (length new) items ≡ [] = drop_all (length new) items (omega (arith, same)) in
-    ap (λ l. take count (new ++ l)) rest ∙ ap (take count) (append-nil new) ∙ take_all count new (omega (arith, many, same))
-
 -- what holds up to a place that is read by one default holds by all
 pub all-by-places : {X : Type 0} (P : X → Type 0) (xs : List X) (d : X) → ((k : ℕ) → k < length xs → P (get_or xs k d)) → All P xs
 all-by-places P xs d each k e lt = subst P (get_or_default xs k d e lt) (each k lt)

@@ -15,6 +15,7 @@ use Rattle.ncl_shape.specs.declared.stage.StageCell.{StageCell}
 use Rattle.ncl_shape.specs.Stage.{StageData, IsStage}
 use Rattle.ncl_base.proofs.Members.{Member, here, there, member_cases, Member-map, member_of_map, All-from_members, Contains-from_Member, Member-from_Contains, Contains-from_slice_get, slice_get-from_Contains, slice_get-some}
 use Rattle.ncl_base.proofs.Lists.{HasKeys, AreIncreasing, Differ, pairs-head, pairs-tail, differ_of_map, same_increasing}
+use Rattle.ncl_base.proofs.Ranges.{below_of_range}
 use Rattle.ncl_stage.proofs.Apart.{same_from_value}
 use Rattle.ncl_verdict.specs.Judgement.{below, cell_number, file_number, file_order, inserted, ordered_by}
 use Rattle.ncl_verdict.proofs.Places.{Member-below, Member-ordered_by}
@@ -69,17 +70,9 @@ ordered_by-increasing key (place ∷ places) differ =
     inserted-increasing key place (ordered_by key places) (ordered_by-increasing key places (pairs-tail (λ x y. key x ≢ key y) place places differ))
     (λ k m. pairs-head (λ x y. key x ≢ key y) place places differ k (ordered_by-members key places k m))
 
-pub range-members : (from count k : ℕ) → Member k (range_with_len from count) → k < from + count
-range-members from zero k m = elim m [ ]
-range-members from (suc count) k m =
-    elim (member_cases k from (range_with_len (from + 1) count) m) [
-      | inl own ↦ omega arith
-      | inr n ↦ let later = range-members (from + 1) count k n in omega (arith, later)
-    ]
-
 -- the places in the order of the file are those of the stage's cells
 pub file_order-within : (s : StageData) (k : ℕ) → Member k (file_order s) → k < length s.cells
-file_order-within s k m = let lt = range-members 0 (length s.cells) k (ordered_by-members (file_number s) (below (length s.cells)) k m) in omega (arith, lt)
+file_order-within s k m = let lt = below_of_range 0 (length s.cells) k (ordered_by-members (file_number s) (below (length s.cells)) k m) in omega (arith, lt)
 
 pub Member-file_order : (s : StageData) (k : ℕ) → k < length s.cells → Member k (file_order s)
 Member-file_order s k lt = Member-ordered_by (file_number s) (below (length s.cells)) k (Member-below (length s.cells) k lt)
@@ -210,7 +203,7 @@ sorted-places s is ys moved up = same_increasing (file_number s) zs (file_order 
         let (p, in_ys, at) = member_of_map (λ (p : ℕ × ℕ). p.1) ys x m in
         let in_xs = Member-from_Contains xs p (Contains-permutation ys xs p (IsPermutation-sym xs ys moved) (Contains-from_Member p in_ys)) in
         let (k, n, e) = member_of_map (numbered s) (below (length s.cells)) p in_xs in
-        let lt = range-members 0 (length s.cells) k n in
+        let lt = below_of_range 0 (length s.cells) k n in
         let same : k ≡ x = ap (λ (q : ℕ × ℕ). q.1) e ∙ at in
         omega (arith, lt, same)
 

@@ -36,11 +36,6 @@ find-none test (y ∷ xs) none x m =
 abbrev pub Refuses : Option Verdict → Type 0
 Refuses answer = answer ≡ Some verdict.Accepted → ⊥
 
-pub first_of-refuses : (answers : List (Option Verdict)) → ((answer : Option Verdict) → Member answer answers → Refuses answer) → Refuses (first_of answers)
-first_of-refuses [] each = λ e. absurd cc
-first_of-refuses (None ∷ answers) each = first_of-refuses answers (λ answer m. each answer (there m))
-first_of-refuses (Some v ∷ answers) each = each (Some v) here
-
 pub map-refuses : {X : Type 0} (f : X → Option Verdict) → ((x : X) → Refuses (f x)) → (xs : List X) → Refuses (first_of (map f xs))
 map-refuses f each [] = λ e. absurd cc
 map-refuses f each (x ∷ xs) = by_first (f x) (each x) (map f xs) (map-refuses f each xs)

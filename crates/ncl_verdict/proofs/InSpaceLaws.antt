@@ -8,6 +8,7 @@ use Rattle.std.proofs.lemmas.Bool.Decides.{nat_tests}
 use Rattle.std.proofs.lemmas.List.{append_assoc, map-append}
 use Rattle.ncl_shape.specs.Stage.{StageData}
 use Rattle.ncl_base.proofs.Members.{Member, here, there, Member-append_cases, Member-append_left, Member-append_right, Member-from_Contains, Contains-from_Member, Contains-from_slice_get, slice_get-from_Contains}
+use Rattle.ncl_base.proofs.Ranges.{below_of_range}
 use Rattle.ncl_space.specs.Beads.{distinct_beads, bead_count}
 use Rattle.ncl_space.specs.Space.{SpaceData, Restores, fits, with_tables, is_within}
 use Rattle.ncl_space.proofs.BeadLaws.{HasMembers, distinct_beads-append, distinct_beads-same}
@@ -28,7 +29,6 @@ use Rattle.ncl_complete.specs.RailFaults.{rail_fault, found_fault_by, first_rail
 use Rattle.ncl_verdict.specs.declared.verdict.Verdict.{Verdict}
 use Rattle.ncl_verdict.specs.declared.verdict.Verdict.TheVariants as verdict
 use Rattle.ncl_verdict.specs.Judgement.{Stop, at_variant, file_order, found, of_stage, verdict_of}
-use Rattle.ncl_verdict.proofs.FileOrder.{range-members}
 use Rattle.ncl_verdict.specs.InSpace.{IsReady, stopped_within, rail_verdict, output_of}
 
 -- ---- what stops
@@ -139,18 +139,17 @@ ready-restored a b s base back ready = record {
   held = back.held ∙ ready.held;
 }
 
--- what is said at a variant of one fault: by the least word, where its tables fit
-pub said-asked : (a : SpaceData) (s : StageData) (base : ValuesData) → IsReady a s base → (limit : Option ℕ) → a.limit ≡ limit → (variant : Variant) (fault : StageFault) (least : Option (List Bool)) → faults_of s variant ≡ fault ∷ []
-    → least ≡ least_word_by base.wiring.order s fault → fits a (tables_by base.wiring.order s variant) ≡ true → at_variant (stopped_within limit) s variant ≡ option_and_then (λ word. Some (verdict_of s fault word)) least
-said-asked a s base ready limit same variant fault least only is fit =
-    at-asked (stopped_within limit) s variant (goes_on limit s variant (ap (λ l. is_within l (count s variant)) (sym same) ∙ sym (fits-ready a s base ready variant) ∙ fit))
+-- what is said at a variant of one fault: by the least word, where its nodes are within the limit
+pub said-asked : (s : StageData) (base : ValuesData) → base.wiring.order ≡ bit_order s → (limit : Option ℕ) (variant : Variant) (fault : StageFault) (least : Option (List Bool)) → faults_of s variant ≡ fault ∷ []
+    → least ≡ least_word_by base.wiring.order s fault → is_within limit (count s variant) ≡ true → at_variant (stopped_within limit) s variant ≡ option_and_then (λ word. Some (verdict_of s fault word)) least
+said-asked s base ordered limit variant fault least only is fit =
+    at-asked (stopped_within limit) s variant (goes_on limit s variant fit)
     ∙ ap (λ faults. first_of (map (found s) faults)) only
-    ∙ found-by s fault least (ap (λ order. least_word_by order s fault) (sym ready.order) ∙ sym is)
+    ∙ found-by s fault least (ap (λ order. least_word_by order s fault) (sym ordered) ∙ sym is)
 
--- and that the limit is passed, where they don't
-pub said-full : (a : SpaceData) (s : StageData) (base : ValuesData) → IsReady a s base → (limit : Option ℕ) → a.limit ≡ limit → (variant : Variant) → fits a (tables_by base.wiring.order s variant) ≡ false → at_variant (stopped_within limit) s variant ≡ Some (verdict.Limit s.number)
-said-full a s base ready limit same variant full =
-    at-stopped (stopped_within limit) s variant (verdict.Limit s.number) (stops limit s variant (ap (λ l. is_within l (count s variant)) (sym same) ∙ sym (fits-ready a s base ready variant) ∙ full))
+-- and that the limit is passed, where they aren't
+pub said-full : (limit : Option ℕ) (s : StageData) (variant : Variant) → is_within limit (count s variant) ≡ false → at_variant (stopped_within limit) s variant ≡ Some (verdict.Limit s.number)
+said-full limit s variant full = at-stopped (stopped_within limit) s variant (verdict.Limit s.number) (stops limit s variant full)
 
 -- ---- the faults of the outputs
 -- what is said of them is what is found of them
@@ -185,7 +184,7 @@ within-all s bound (k ∷ outputs) each fault e = by_words (least_word s (BothRa
     by_words (Some word) neither faults f later = own (rail.BothRails k word) refl f
 
 pub fault-within : (s : StageData) (fault : RailFault) → first_rail_fault_by (bit_order s) s ≡ Some fault → output_of fault < length s.outputs
-fault-within s fault e = within-all s (length s.outputs) (below (length s.outputs)) (λ k m. let lt = range-members 0 (length s.outputs) k m in omega (arith, lt)) fault e
+fault-within s fault e = within-all s (length s.outputs) (below (length s.outputs)) (λ k m. let lt = below_of_range 0 (length s.outputs) k m in omega (arith, lt)) fault e
 
 -- ---- the first of answers at the members of a list
 pub first-none_at : {X Y : Type 0} (f : X → Option Y) (xs : List X) → ((k : ℕ) (d : X) → k < length xs → f (get_or xs k d) ≡ None) → first_of (map f xs) ≡ None
@@ -196,10 +195,6 @@ pub first-some_at : {X Y : Type 0} (f : X → Option Y) (xs : List X) (i : ℕ) 
 first-some_at f [] i d y lt none is = absurd (omega arith)
 first-some_at f (x ∷ xs) zero d y lt none is = ap (λ answer. first_of (answer ∷ map f xs)) is
 first-some_at f (x ∷ xs) (suc i) d y lt none is = ap (λ answer. first_of (answer ∷ map f xs)) (none zero x (omega arith)) ∙ first-some_at f xs i d y (omega arith) (λ k e before. none (suc k) e (omega arith)) is
-
-pub map_map : {X Y Z : Type 0} (f : Y → Z) (h : X → Y) (xs : List X) → map f (map h xs) ≡ map (λ x. f (h x)) xs
-map_map f h [] = refl
-map_map f h (x ∷ xs) = ap (λ l. f (h x) ∷ l) (map_map f h xs)
 
 -- ---- a stage as a whole
 -- its answers: under Base, without each bit, and without each cell

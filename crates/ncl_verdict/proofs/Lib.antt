@@ -15,4 +15,5 @@ pub mod FileOrder
 pub mod SameJudgement
 pub mod NamedCell
 pub mod InSpaceLaws
+pub mod AskingLaws
 pub mod Split

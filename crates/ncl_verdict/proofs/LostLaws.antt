@@ -52,7 +52,3 @@ pub left-out : (masks : List ℕ) (lost : ℕ) (outputs : List (ℕ × ℕ)) (i 
 left-out masks lost outputs i d lt apart =
     lost-more masks lost outputs i d lt ∙ ap (λ b. lost_data masks lost (take i outputs) ++ cond b (both masks (get_or outputs i d) ∷ []) []) apart
     ∙ append-nil (lost_data masks lost (take i outputs))
-
-pub left-weight : (masks : List ℕ) (lost : ℕ) (outputs : List (ℕ × ℕ)) (i : ℕ) (d : ℕ × ℕ) → i < length outputs → is_part (both masks (get_or outputs i d)) lost ≡ false → (sum : ℕ) → Covers (weight_lost masks (take i outputs) lost) sum → Covers (weight_lost masks (take (i + 1) outputs) lost) sum
-left-weight masks lost outputs i d lt apart sum covers =
-    subst (λ (l : List ℕ). Covers (weight_of lost + sum_by weight_of l + sum_by (λ front. weight_of (union front)) (fronts l)) sum) (sym (left-out masks lost outputs i d lt apart)) covers

@@ -29,11 +29,6 @@ part-left a b p set = is_set-or a b p ∙ or_left (is_set a p) (is_set b p) set
 pub part-right : (a b : ℕ) → IsPart b (bit_or a b)
 part-right a b p set = is_set-or a b p ∙ or_right (is_set a p) (is_set b p) set
 
--- by the test of each other
-pub from_part-test : (a b : ℕ) → is_part a b ≡ true → IsPart a b
-from_part-test a b same p set =
-    (and_parts (is_set a p) (is_set b p) (sym (is_set-and a b p) ∙ ap (λ n. is_set n p) (eqb-true (bit_and a b) a same) ∙ set)).1
-
 pub part-test : (a b : ℕ) → IsPart a b → is_part a b ≡ true
 part-test a b part = eq-eqb (bit_and a b) a (same_from_bits (bit_and a b) a (λ i. bit_at_and a b i ∙ least i))
   where

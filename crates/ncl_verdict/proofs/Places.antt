@@ -1,18 +1,9 @@
 -- Every place, every cell's place and every word is asked.
-use Rattle.std.proofs.Common.{◌≡◌, ℕ, zero, suc, ◌+◌, ◌<◌, ◌≤◌, Bool, true, false, List, [], ◌∷◌, length, None, ◌⊎◌, inl, inr, refl, sym, subst, arith}
+use Rattle.std.proofs.Common.{◌≡◌, ℕ, zero, suc, ◌<◌, Bool, true, false, List, [], ◌∷◌, length, None, ◌⊎◌, inl, inr, refl, sym, subst, arith}
 use Rattle.std.specs.Prelude.{nat_lt, if◌then◌else◌, slice_get}
-use Rattle.std.specs.List.{range_with_len}
-use Rattle.std.proofs.lemmas.Bool.{cases_eq}
 use Rattle.ncl_base.proofs.Members.{Member, here, there, member_cases}
+use Rattle.ncl_base.proofs.Ranges.{Member-range}
 use Rattle.ncl_verdict.specs.Judgement.{below, inserted, ordered_by}
-
-Member-range : (from count k : ℕ) → from ≤ k → k < from + count → Member k (range_with_len from count)
-Member-range from zero k low high = absurd (omega arith)
-Member-range from (suc count) k low high =
-    elim (cases_eq from k) [
-      | inl first ↦ subst (λ x. Member k (x ∷ range_with_len (from + 1) count)) (sym first) here
-      | inr later ↦ there (Member-range (from + 1) count k (omega arith) (omega arith))
-    ]
 
 -- each number below n
 pub Member-below : (n k : ℕ) → k < n → Member k (below n)

@@ -84,7 +84,7 @@ Member-cell : (s : StageData) (cell : ℕ) → cell < length s.cells → Member 
 Member-cell s cell lt = there (Member-append_right (map Bit (below (length s.inputs))) (Cell cell) (Member-map Cell cell (Member-ordered_by (file_number s) (below (length s.cells)) cell (Member-below (length s.cells) cell lt))))
 
 -- where nothing is found of a stage, it is sound
-of_stage-sound : (limit : ℕ) (s : StageData) → of_stage (stopped_at limit) s ≡ None → IsSound s
+pub of_stage-sound : (limit : ℕ) (s : StageData) → of_stage (stopped_at limit) s ≡ None → IsSound s
 of_stage-sound limit s none (BothRails output) word is =
     elim (slice_get-cases s.outputs output) [
       | inl past ↦ ap (holds_at (is_illegal (val s word Base))) past

@@ -1,9 +1,10 @@
 -- The judgement of a stage in a space: what stops it there, when the variants after Base can be asked, and
 -- what the faults of its outputs say.
-use Rattle.std.specs.Prelude.{◌≡◌, ℕ, ◌+◌, length, Option, Some, None}
+use Rattle.std.specs.Prelude.{◌≡◌, ℕ, ◌+◌, length, Option, Some, None, All, IsTrue}
 use Rattle.ncl_shape.specs.Stage.{StageData}
 use Rattle.ncl_space.specs.Beads.{distinct_beads}
-use Rattle.ncl_space.specs.Space.{SpaceData}
+use Rattle.ncl_space.specs.Space.{SpaceData, IsSpace}
+use Rattle.ncl_space.specs.declared.space.Mark.{Mark}
 use Rattle.ncl_stage.specs.BitOrder.{bit_order}
 use Rattle.ncl_stage.specs.declared.variant.Variant.TheVariants.{Base}
 use Rattle.ncl_stage.specs.StageTables.{AreValues, ValuesData}
@@ -25,6 +26,18 @@ pub record IsReady (space : SpaceData) (s : StageData) (base : ValuesData) : Typ
   pub values : AreValues space s Base base
   pub order : base.wiring.order ≡ bit_order s
   pub held : space.held ≡ distinct_beads (length s.inputs) (tables_of s Base)
+
+-- the space has the values of the stage under Base, in its bit order, and a limit; and at a mark that stands they were live,
+-- and exactly the beads of all tables of Base were held. What was made for variants since may be there too
+pub record IsAsked (space : SpaceData) (limit : Option ℕ) (s : StageData) (base : ValuesData) (start : Mark) : Type 0 where
+  pub width : space.width ≡ length s.inputs
+  pub same_limit : space.limit ≡ limit
+  pub is_space : IsSpace space
+  pub values : AreValues space s Base base
+  pub order : base.wiring.order ≡ bit_order s
+  pub stands : IsTrue (space.stands start)
+  pub live_at : All (λ r. IsTrue (space.live_at start r)) base.refs
+  pub held_at : space.held_at start ≡ distinct_beads (length s.inputs) (tables_of s Base)
 
 -- the verdict of a fault of an output
 abbrev pub rail_verdict : StageData → RailFault → Verdict

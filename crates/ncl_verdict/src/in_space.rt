@@ -5,17 +5,17 @@ ghost use Rattle.ncl_space.specs.Space.{IsNew, Keeps, Restores};
 ghost use Rattle.ncl_stage.specs.BitOrder.{bit_order};
 ghost use Rattle.ncl_stage.specs.LeastWords.{below, first_of};
 ghost use Rattle.ncl_stage.specs.StageTables.{AreValues, net_tables};
-ghost use Rattle.ncl_verdict.specs.InSpace.{IsReady, output_of, rail_verdict, stopped_within};
+ghost use Rattle.ncl_verdict.specs.InSpace.{IsAsked, IsReady, output_of, rail_verdict, stopped_within};
 ghost use Rattle.ncl_verdict.specs.Judgement.{at_variant, cell_number, file_order, of_stage};
 
+use crate::asking::{bit_word, cell_word};
 use crate::file_order::cells_in_file_order;
 use crate::verdict::Verdict;
 use ncl_base::Memory;
-use ncl_complete::{RailFault, input_complete, valid_rails};
+use ncl_complete::{RailFault, valid_rails};
 use ncl_netlist::CellId;
-use ncl_orphan::orphan;
 use ncl_shape::Stage;
-use ncl_space::{Space, SpaceFault};
+use ncl_space::{Mark, Space, SpaceFault};
 use ncl_stage::{Values, Variant, values};
 use std::alloc::Global;
 
@@ -82,10 +82,11 @@ pub(crate) fn after_base<P: Space>(
         IfOk result (λ answer. answer ≡ first_of (first_of (map (at_variant stop stage.now) (map Variant.Bit (below (length stage.now.inputs))))
         ∷ first_of (map (at_variant stop stage.now) (map Variant.Cell (file_order stage.now))) ∷ [])) }
 {
-    if let Some(verdict) = at_bits(alloc, space, stage, base)? {
+    let start = space.mark();
+    if let Some(verdict) = at_bits(alloc, space, stage, base, start)? {
         return Ok(Some(verdict));
     }
-    at_cells(alloc, space, stage, base)
+    at_cells(alloc, space, stage, base, start)
 }
 
 // What a refusal of the space says: that the limit is passed, if it isn't want of memory.
@@ -148,16 +149,16 @@ fn at_bits<P: Space>(
     space: &mut P,
     stage: &Stage,
     base: &Values,
+    start: Mark,
 ) -> Result<Option<Verdict>, Memory>
-    requires { IsReady (P.meaning space.old) stage.now base.now }
+    requires { let now = P.meaning space.old in IsAsked now now.limit stage.now base.now start }
     ensures answer { let stop = stopped_within (P.meaning space.old).limit in
         IfOk result (λ answer. answer ≡ first_of (map (at_variant stop stage.now) (map Variant.Bit (below (length stage.now.inputs))))) }
-    ensures ready { IsReady (P.meaning space.new) stage.now base.now }
-    ensures kept { Keeps (P.meaning space.old) (P.meaning space.new) }
+    ensures asked { IsAsked (P.meaning space.new) (P.meaning space.old).limit stage.now base.now start }
 {
     stage.facts();
     for bit in 0..stage.inputs.items().len() {
-        match input_complete(alloc, space, stage, base, bit) {
+        match bit_word(alloc, space, stage, base, start, bit) {
             Ok(Some(word)) => {
                 return Ok(Some(Verdict::Incomplete {
                     stage: stage.number,
@@ -178,14 +179,15 @@ fn at_cells<P: Space>(
     space: &mut P,
     stage: &Stage,
     base: &Values,
+    start: Mark,
 ) -> Result<Option<Verdict>, Memory>
-    requires { IsReady (P.meaning space.old) stage.now base.now }
+    requires { let now = P.meaning space.old in IsAsked now now.limit stage.now base.now start }
     ensures { let stop = stopped_within (P.meaning space.old).limit in
         IfOk result (λ answer. answer ≡ first_of (map (at_variant stop stage.now) (map Variant.Cell (file_order stage.now)))) }
 {
     let cells = cells_in_file_order(alloc, stage)?;
     for (_, place) in cells.as_slice() {
-        match orphan(alloc, space, stage, base, *place) {
+        match cell_word(alloc, space, stage, base, start, *place) {
             Ok(Some(word)) => {
                 return Ok(Some(Verdict::Orphan {
                     stage: stage.number,

@@ -2,6 +2,7 @@
 #![tactic(auto)]
 
 mod acceptance;
+mod asking;
 pub mod examples;
 mod few;
 mod file_order;

@@ -7,12 +7,12 @@ use Rattle.ncl_stage.specs.declared.variant.Variant.TheVariants.{Base}
 use Rattle.ncl_stage.proofs.ChangedLaws.{values-width}
 use Rattle.ncl_orphan.proofs.observing.orphan.Goals as goal
 
-pub least_one-word-requires-clause-width : goal.least_one-word-requires-clause-width
-least_one-word-requires-clause-width g c = c.in-Ok.ensures.kept.width ∙ values-width (g.P.Space.meaning c.args.space.now) c.args.stage.now Base c.args.base.now c.mark-start.ensures.space c.facts.ensures c.requires.base ∙ sym (ap length c.order.ensures ∙ c.requires.base.wired.order.many)
+pub least_one-requires-clause-width : goal.least_one-requires-clause-width
+least_one-requires-clause-width g c = c.in_ok-high.ensures.kept.width ∙ values-width (g.P.Space.meaning c.args.space.now) c.args.stage.now Base c.args.base.now c.requires.space c.facts.ensures c.requires.base ∙ sym (ap length c.order.ensures ∙ c.requires.base.wired.order.many)
 
-pub returns-in-Ok-clause-word : goal.returns-in-Ok-clause-word
-returns-in-Ok-clause-word g c =
+pub returns-clause-word : goal.returns-clause-word
+returns-clause-word g c =
     let new : SpaceData = g.P.Space.meaning c.unobserved.new.space in
-    c.least_one-word.ensures
-    ∙ (λ k. option_map (placed (c.order.ensures k)) (least true ((c.in-Ok.ensures.kept.width ∙ values-width (g.P.Space.meaning c.args.space.now) c.args.stage.now Base c.args.base.now c.mark-start.ensures.space c.facts.ensures c.requires.base) k) (new.table c.in-Ok.high)))
-    ∙ c.in-Ok.ensures.least
+    c.least_one.ensures
+    ∙ (λ k. option_map (placed (c.order.ensures k)) (least true ((c.in_ok-high.ensures.kept.width ∙ values-width (g.P.Space.meaning c.args.space.now) c.args.stage.now Base c.args.base.now c.requires.space c.facts.ensures c.requires.base) k) (new.table c.in_ok-high.high)))
+    ∙ c.in_ok-high.ensures.least

@@ -1,20 +1,22 @@
-use Rattle.std.proofs.Common.{◌≡◌, ℕ, ◌<◌, ◌≤◌, List, None, Some, Err, length, map, get_or, refl, sym, ◌∙◌, ap, subst, arith, below_more}
+use Rattle.std.proofs.Common.{◌≡◌, ℕ, true, false, ◌<◌, ◌≤◌, List, None, Some, Err, length, map, get_or, refl, sym, ◌∙◌, ap, subst, arith, below_more}
 use Rattle.std.specs.Prelude.{slice_get}
 use Rattle.std.proofs.lemmas.List.{get_or-map, length-map}
 use Rattle.std.proofs.lemmas.Result.{IfOk-weaker}
+use Rattle.std.proofs.lemmas.Simd.{map-map}
 use Rattle.ncl_base.proofs.Members.{Member-get_or}
 use Rattle.ncl_shape.specs.Stage.{StageData}
-use Rattle.ncl_space.specs.Space.{SpaceData}
-use Rattle.ncl_space.proofs.SpaceLaws.{keeps_along}
+use Rattle.ncl_space.specs.Space.{is_within}
 use Rattle.ncl_stage.specs.declared.variant.Variant.TheVariants.{Cell}
 use Rattle.ncl_stage.specs.Faults.{Orphan}
 use Rattle.ncl_stage.specs.LeastWords.{first_of}
+use Rattle.ncl_stage.specs.Tables.{count}
 use Rattle.ncl_verdict.specs.declared.verdict.Verdict.{Verdict}
 use Rattle.ncl_verdict.specs.declared.verdict.Verdict.TheVariants as verdict
 use Rattle.ncl_verdict.specs.Judgement.{Stop, at_variant, cell_number, file_order}
 use Rattle.ncl_verdict.specs.InSpace.{stopped_within}
 use Rattle.ncl_verdict.proofs.FileOrder.{file_order-within}
-use Rattle.ncl_verdict.proofs.InSpaceLaws.{map_map, first-none_at, first-some_at, ready-restored, said-asked, said-full}
+use Rattle.ncl_verdict.proofs.InSpaceLaws.{first-none_at, first-some_at, said-asked, said-full}
+use Rattle.ncl_verdict.proofs.AskingLaws.{asked-limit}
 use Rattle.ncl_verdict.proofs.in_space.at_cells.Goals as goal
 
 -- the place at an index of the cells that are sorted
@@ -35,12 +37,12 @@ first-cell : (stop : Stop) (s : StageData) (items : List (ℕ × ℕ)) → map (
 first-cell stop s items is i v lt none at =
     let many = many-places items (file_order s) is in
     sym (
-    ap first_of (map_map (at_variant stop s) Cell (file_order s))
+    ap first_of (map-map (at_variant stop s) Cell (file_order s))
     ∙ first-some_at (λ k. at_variant stop s (Cell k)) (file_order s) i 0 v (omega (arith, many, lt)) (λ k d before. none k before d)
     (ap (λ k. at_variant stop s (Cell k)) (sym (place-at items (file_order s) is i lt 0)) ∙ at))
 
-pub orphan-requires-clause-cell : goal.orphan-requires-clause-cell
-orphan-requires-clause-cell g c =
+pub cell_word-requires-clause-cell : goal.cell_word-requires-clause-cell
+cell_word-requires-clause-cell g c =
     place-within c.args.stage.now c.as_slice-place-items.result.now (ap (map (λ (p : ℕ × ℕ). p.1)) c.as_slice-place-items.ensures.value ∙ c.in_ok-cells.ensures) c.loop-place.place-index c.loop-place-test.true
 
 pub cell_at-requires : goal.cell_at-requires
@@ -54,11 +56,10 @@ returns-in-Ok-Some g c =
     let order = ap (map (λ (p : ℕ × ℕ). p.1)) c.as_slice-place-items.ensures.value ∙ c.in_ok-cells.ensures in
     let i = c.loop-place.place-index in
     let place : ℕ = (get_or items i (0, 0)).1 in
-    let now : SpaceData = g.P.Space.meaning c.loop-place.space in
     ap (λ (t : StageData). Some (verdict.Orphan t.number c.cell_at.result c.in-Ok-Some.word)) c.stage.view_is
     ∙ ap (λ n. Some (verdict.Orphan s.number n c.in-Ok-Some.word)) c.cell_at.ensures
     ∙ first-cell (stopped_within (g.P.Space.meaning c.args.space.now).limit) s items order i (verdict.Orphan s.number (cell_number (slice_get s.cells place)) c.in-Ok-Some.word) c.loop-place-test.true c.loop-place.invariant.none
-    (said-asked now s c.args.base.now c.loop-place.invariant.ready _ c.loop-place.invariant.kept.limit (Cell place) (Orphan place) (Some c.in-Ok-Some.word) refl (sym c.in-Ok-Some.field-0-is ∙ c.in-Ok-Some.ensures.word) c.in-Ok-Some.ensures.fits)
+    (said-asked s c.args.base.now c.loop-place.invariant.asked.order _ (Cell place) (Orphan place) (Some c.in-Ok-Some.word) refl (sym c.in-Ok-Some.field-0-is ∙ c.in-Ok-Some.ensures.word) (subst (λ l. is_within l (count s (Cell place)) ≡ true) c.loop-place.invariant.asked.same_limit c.in-Ok-Some.ensures.fits))
 
 pub returns-in-Err : goal.returns-in-Err
 returns-in-Err g c =
@@ -68,7 +69,7 @@ returns-in-Err g c =
     let stop : Stop = stopped_within (g.P.Space.meaning c.args.space.now).limit in
     IfOk-weaker c.stopped.result _ (λ answer. answer ≡ first_of (map (at_variant stop s) (map Cell (file_order s))))
     (λ answer said. said.1 ∙ first-cell stop s items order c.loop-place.place-index (verdict.Limit s.number) c.loop-place-test.true c.loop-place.invariant.none
-    (said-full (g.P.Space.meaning c.loop-place.space) s c.args.base.now c.loop-place.invariant.ready _ c.loop-place.invariant.kept.limit (Cell (get_or items c.loop-place.place-index (0, 0)).1) (c.in-Err.ensures.full (ap Err said.0))))
+    (said-full _ s (Cell (get_or items c.loop-place.place-index (0, 0)).1) (subst (λ l. is_within l (count s (Cell (get_or items c.loop-place.place-index (0, 0)).1)) ≡ false) c.loop-place.invariant.asked.same_limit (c.in-Err.ensures.full (ap Err said.0)))))
     c.stopped.ensures
 
 pub loop-place-preserved : goal.loop-place-preserved
@@ -78,15 +79,13 @@ loop-place-preserved g c =
     let order = ap (map (λ (p : ℕ × ℕ). p.1)) c.as_slice-place-items.ensures.value ∙ c.in_ok-cells.ensures in
     let i = c.loop-place.place-index in
     let place : ℕ = (get_or items i (0, 0)).1 in
-    let old : SpaceData = g.P.Space.meaning c.args.space.now in
-    let now : SpaceData = g.P.Space.meaning c.loop-place.space in
-    let new : SpaceData = g.P.Space.meaning c.orphan.new.space in
-    let said = said-asked now s c.args.base.now c.loop-place.invariant.ready old.limit c.loop-place.invariant.kept.limit (Cell place) (Orphan place) None refl (sym c.in-Ok-None.field-0-is ∙ c.in-Ok-None.ensures.word) c.in-Ok-None.ensures.fits in
+    let limit = (g.P.Space.meaning c.args.space.now).limit in
+    let same = c.loop-place.invariant.asked.same_limit in
+    let said = said-asked s c.args.base.now c.loop-place.invariant.asked.order limit (Cell place) (Orphan place) None refl (sym c.in-Ok-None.field-0-is ∙ c.in-Ok-None.ensures.word) (subst (λ l. is_within l (count s (Cell place)) ≡ true) same c.in-Ok-None.ensures.fits) in
     record {
-      ready = ready-restored now new s c.args.base.now c.orphan.ensures.back c.loop-place.invariant.ready;
-      kept = keeps_along old now new c.loop-place.invariant.kept c.orphan.ensures.back.keeps;
-      none = below_more (λ k. (d : ℕ) → at_variant (stopped_within old.limit) s (Cell (get_or (file_order s) k d)) ≡ None) i c.loop-place.invariant.none
-          (λ d. ap (λ k. at_variant (stopped_within old.limit) s (Cell k)) (sym (place-at items (file_order s) order i c.loop-place-test.true d)) ∙ said);
+      asked = asked-limit _ _ limit s c.args.base.now c.args.start same c.cell_word.ensures.asked;
+      none = below_more (λ k. (d : ℕ) → at_variant (stopped_within limit) s (Cell (get_or (file_order s) k d)) ≡ None) i c.loop-place.invariant.none
+          (λ d. ap (λ k. at_variant (stopped_within limit) s (Cell k)) (sym (place-at items (file_order s) order i c.loop-place-test.true d)) ∙ said);
     }
 
 pub returns : goal.returns
@@ -95,4 +94,4 @@ returns g c =
     let stop : Stop = stopped_within (g.P.Space.meaning c.args.space.now).limit in
     let many = many-places c.as_slice-place-items.result.now (file_order s) (ap (map (λ (p : ℕ × ℕ). p.1)) c.as_slice-place-items.ensures.value ∙ c.in_ok-cells.ensures) in
     let past : length c.as_slice-place-items.result.now ≤ c.loop-place.place-index = c.loop-place-test.false in
-    sym (ap first_of (map_map (at_variant stop s) Cell (file_order s)) ∙ first-none_at (λ k. at_variant stop s (Cell k)) (file_order s) (λ k d lt. c.loop-place.invariant.none k (omega (arith, many, past, lt)) d))
+    sym (ap first_of (map-map (at_variant stop s) Cell (file_order s)) ∙ first-none_at (λ k. at_variant stop s (Cell k)) (file_order s) (λ k d lt. c.loop-place.invariant.none k (omega (arith, many, past, lt)) d))

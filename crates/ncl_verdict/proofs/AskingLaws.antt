@@ -1,0 +1,84 @@
+-- What variants are asked over: Base alone, or Base and what earlier variants made.
+use Rattle.std.proofs.Common.{◌≡◌, ℕ, true, false, List, [], ◌∷◌, ◌++◌, length, map, get_or, Option, refl, sym, ap, ◌∙◌, subst, arith}
+use Rattle.std.specs.Prelude.{All, IsTrue}
+use Rattle.std.specs.FinSet as set
+use Rattle.ncl_base.proofs.Tests.{All-member, map-same}
+use Rattle.ncl_shape.specs.Stage.{StageData}
+use Rattle.ncl_space.specs.Beads.{Beads, distinct_beads, bead_count}
+use Rattle.ncl_space.specs.Space.{SpaceData, IsSpace, IsLive, Keeps, MarksNow, Releases, fits, is_within}
+use Rattle.ncl_space.specs.declared.space.Mark.{Mark}
+use Rattle.ncl_space.specs.declared.space.Ref.{Ref}
+use Rattle.ncl_space.proofs.BeadLaws.{distinct_beads-append}
+use Rattle.ncl_space.proofs.MakingLaws.{have-kept}
+use Rattle.ncl_space.proofs.SpaceLaws.{fits_fewer}
+use Rattle.ncl_stage.specs.declared.variant.Variant.{Variant}
+use Rattle.ncl_stage.specs.declared.variant.Variant.TheVariants.{Base}
+use Rattle.ncl_stage.specs.StageTables.{ValuesData, net_tables_by}
+use Rattle.ncl_stage.specs.Tables.{count, tables_by, tables_of}
+use Rattle.ncl_verdict.specs.InSpace.{IsAsked, IsReady}
+use Rattle.ncl_verdict.proofs.InSpaceLaws.{fits-ready}
+
+-- what keeps what was there keeps it so
+pub asked-kept : (a b : SpaceData) (limit : Option ℕ) (s : StageData) (base : ValuesData) (start : Mark) → Keeps a b → IsSpace b → IsAsked a limit s base start → IsAsked b limit s base start
+asked-kept a b limit s base start keeps is asked =
+    let mark = keeps.marks start asked.stands in
+    record {
+      width = keeps.width ∙ asked.width;
+      same_limit = keeps.limit ∙ asked.same_limit;
+      is_space = is;
+      values = record { wired = asked.values.wired; shown = have-kept a b base.refs (net_tables_by base.wiring.order s Base) keeps asked.values.shown };
+      order = asked.order;
+      stands = mark.stands;
+      live_at = λ k d lt. subst IsTrue (sym (mark.live_at (get_or base.refs k d))) (asked.live_at k d lt);
+      held_at = mark.held_at ∙ asked.held_at;
+    }
+
+module _ (a b : SpaceData) (limit : Option ℕ) (s : StageData) (base : ValuesData) (start : Mark) (back : Releases a b start) (is : IsSpace b) (asked : IsAsked a limit s base start) where
+  live : All (IsLive b) base.refs
+  live k d lt = subst IsTrue (sym (back.live (get_or base.refs k d))) (asked.live_at k d lt)
+
+  -- back at the mark the space is ready
+  pub ready-back : IsReady b s base
+  ready-back = record {
+    width = back.width ∙ asked.width;
+    values = record {
+      wired = asked.values.wired;
+      shown = record { live = live; tables = map-same b.table a.table base.refs (λ r m. back.tables r (All-member (λ (q : Ref). IsTrue (a.live_at start q)) base.refs asked.live_at r m)) ∙ asked.values.shown.tables };
+    };
+    order = asked.order;
+    held = back.held ∙ asked.held_at;
+  }
+
+  pub asked-back : IsAsked b limit s base start
+  asked-back =
+      let mark = back.marks start asked.stands (omega arith) in
+      record {
+        width = back.width ∙ asked.width;
+        same_limit = back.limit ∙ asked.same_limit;
+        is_space = is;
+        values = ready-back.values;
+        order = asked.order;
+        stands = mark.stands;
+        live_at = λ k d lt. subst IsTrue (sym (mark.live_at (get_or base.refs k d))) (asked.live_at k d lt);
+        held_at = mark.held_at ∙ asked.held_at;
+      }
+
+-- the tables of a variant that fit there are within the limit with those of Base
+pub fits-asked : (a : SpaceData) (limit : Option ℕ) (s : StageData) (base : ValuesData) (start : Mark) → IsAsked a limit s base start → (variant : Variant) → fits a (tables_by base.wiring.order s variant) ≡ true → is_within limit (count s variant) ≡ true
+fits-asked a limit s base start asked variant fit =
+    ap (λ l. is_within l (count s variant)) (sym asked.same_limit)
+    ∙ ap (λ (beads : Beads). is_within a.limit (set.len beads)) (distinct_beads-append (length s.inputs) (tables_of s Base) (tables_of s variant))
+    ∙ ap (λ n. is_within a.limit (set.len (set.union held (distinct_beads n (tables_of s variant))))) (sym asked.width)
+    ∙ fits_fewer a held (tables_of s variant) (λ bead h. asked.is_space.held_at start asked.stands bead (subst (λ (beads : Beads). set.contains beads bead ≡ true) (sym asked.held_at) h))
+    (ap (λ order. fits a (tables_by order s variant)) (sym asked.order) ∙ fit)
+  where
+    held : Beads
+    held = distinct_beads (length s.inputs) (tables_of s Base)
+
+-- and exactly those, where the space holds Base alone
+pub within-ready : (a : SpaceData) (limit : Option ℕ) (s : StageData) (base : ValuesData) → a.limit ≡ limit → IsReady a s base → (variant : Variant) → is_within limit (count s variant) ≡ fits a (tables_by base.wiring.order s variant)
+within-ready a limit s base same ready variant = ap (λ l. is_within l (count s variant)) (sym same) ∙ sym (fits-ready a s base ready variant)
+
+-- one limit for another that is the same
+pub asked-limit : (a : SpaceData) (was limit : Option ℕ) (s : StageData) (base : ValuesData) (start : Mark) → was ≡ limit → IsAsked a was s base start → IsAsked a limit s base start
+asked-limit a was limit s base start same asked = subst (λ l. IsAsked a l s base start) same asked

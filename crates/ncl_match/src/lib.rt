@@ -40,16 +40,7 @@ mod steps;
 mod widths;
 
 pub use answer::{BitAnswer, CompareFault, Compared};
-pub use bit::{apart, told};
 pub use bits::Bits;
 pub use comparing::{CompareBit, compare};
-pub use cover::{cover_pair, row_pair, rows_pair};
-pub use inputs::input_pairs;
-pub use marks::marked_nets;
-pub use netlist::netlist_pair;
-pub use nets::{cell_pair, plan_pairs};
-pub use pair::{Pair, constant_pair, gate_pair, rail_pair};
-pub use planning::{DataCell, plan};
-pub use sides::difference;
 pub use signals::models_pair;
 pub use widths::{first_width, last_width};

@@ -26,7 +26,5 @@ mod refusal;
 mod span;
 
 pub use keyword::{Keyword, Way};
-pub use lexeme::Sign;
 pub use net_fault::NetFault;
 pub use reader::read_netlist;
-pub use span::Span;

@@ -12,5 +12,5 @@ pub use blif_faults::blif_text;
 pub use compile_faults::compile_text;
 pub use delay_faults::{delay_text, words_text};
 pub use demos::demo_text;
-pub use ncl_lines::{limit_text, net_text, push_word, shape_text, verdict_text, why_text};
+pub use ncl_lines::{limit_text, net_text, push_word, verdict_text};
 pub use traces::trace_text;

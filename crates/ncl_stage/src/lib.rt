@@ -14,11 +14,9 @@ mod variant;
 mod walk;
 mod wiring;
 
-pub use changes::net_refs_from;
 pub use evaluation::{revalue, values, values_in};
 pub use input_order::{BitOrder, bit_order};
 pub use net_values::Values;
-pub use nets::net_refs;
 pub use observing::all_observed;
 pub use outputs::{all_data, data_fronts, data_tables, least_one, least_zero, pair_refs};
 pub use variant::Variant;

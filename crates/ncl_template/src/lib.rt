@@ -16,5 +16,4 @@ mod waits;
 
 pub use eager::add_waiting;
 pub use fitting::least_waits;
-pub use template::add_template;
 pub use waits::Waits;

@@ -109,7 +109,7 @@ fn gates_of(rt: &(impl Abort + AllocGlobal), node: &Node, ins: &[Rails]) -> Resu
     assert!(rt; is_narrow(node));
     assert!(rt; ins.len() == node.ins.items().len());
     let mut gates = Gates::new(rt.alloc(), 8);
-    add_template(rt.alloc(), &mut gates, node, ins)?;
+    add_waiting(rt.alloc(), &mut gates, node, ins, Waits::ALL)?;
     Ok(gates.cells().len())
 }
 

@@ -119,3 +119,67 @@ fn two_outputs_are_compared_at_one_time(rt: HostRuntime) -> Result<(), Fail> {
     assert_eq!(rt; met, 3);
     Ok(())
 }
+
+/// Compares outputs, and counts them and the most that are being compared at one time.
+#[derive(Drop)]
+struct Counting {
+    asked: AtomicUsize,
+    running: AtomicUsize,
+    most: AtomicUsize,
+}
+
+impl Counting {
+    fn new() -> Counting {
+        Counting {
+            asked: AtomicUsize::new(0),
+            running: AtomicUsize::new(0),
+            most: AtomicUsize::new(0),
+        }
+    }
+
+    /// Counts an output that begins, and looks long enough at how many run for others to begin.
+    fn begin(&self) {
+        self.asked.fetch_add(1, Ordering::SeqCst);
+        self.running.fetch_add(1, Ordering::SeqCst);
+        for _ in 0..1_000_000u32 {
+            let running = self.running.load(Ordering::SeqCst);
+            if running > self.most.load(Ordering::SeqCst) {
+                self.most.store(running, Ordering::SeqCst);
+            }
+        }
+    }
+}
+
+impl CompareBit for Counting {
+    fn compare_bit(
+        &self,
+        alloc: Global,
+        pipeline: &Pipeline,
+        models: &[Model],
+        limit: u32,
+        bit: u32,
+    ) -> Result<BitAnswer, Memory> {
+        self.begin();
+        let answer = Bits.compare_bit(alloc, pipeline, models, limit, bit);
+        self.running.fetch_sub(1, Ordering::SeqCst);
+        answer
+    }
+}
+
+// Each output is compared once, and no more of them at one time than there are parts.
+#[test]
+fn outputs_are_compared_once_by_so_many_threads(rt: HostRuntime) -> Result<(), Fail> {
+    let netlist = netlist(&rt, rt.alloc(), THREE)?;
+    let pipeline = shape(rt.alloc(), &netlist)?;
+    let models = read_blif(rt.alloc(), THREE_MODEL)?;
+    for (parts, threads) in [(1, 1), (2, 2)] {
+        let bits = Counting::new();
+        let found = compare(&rt, rt.alloc(), &bits, &pipeline, &models, 100_000, parts);
+        assert!(rt; differ_at_01(&found));
+        let asked = bits.asked.load(Ordering::SeqCst);
+        assert_eq!(rt; asked, 3);
+        let most = bits.most.load(Ordering::SeqCst);
+        assert!(rt; most <= threads, "{parts}");
+    }
+    Ok(())
+}

@@ -12,12 +12,13 @@ use Rattle.ncl_cell_rules.specs.Rules.{IsRequest, IsReadByGate, IsTied}
 use Rattle.ncl_shape.specs.Stage.{out_of}
 use Rattle.ncl_shape.specs.Pipeline.{PipelineData}
 use Rattle.ncl_assembly.specs.Assembled.{WiredBit, WiredBank, HasGate, ack_nets, IsAssembled}
-use Rattle.ncl_assembly.proofs.ListPlaces.{holds_of, member_at}
+use Rattle.ncl_assembly.proofs.ListPlaces.{member_at}
 use Rattle.ncl_assembly.proofs.WiredPlaces.{BankAt, wired_bank, first_root, next_root, stage_before}
 use Rattle.ncl_assembly.proofs.WiredCells.{ack_role, gate_role}
 use Rattle.ncl_assembly.proofs.WiredPorts.{ko_output}
 use Rattle.ncl_assembly.proofs.WiredPins.{some_register}
 use Rattle.ncl_assembly.proofs.CellsAreUnmixed.{gate_of_stage_only}
+use Rattle.ncl_base.proofs.Tests.{All-member}
 
 module _ (n : NetlistData) (p : PipelineData) (is : IsAssembled n p) where
   -- the root of a bank is `ko`, or requests the bank before it
@@ -35,7 +36,7 @@ module _ (n : NetlistData) (p : PipelineData) (is : IsAssembled n p) where
         | inl same ↦ inr (subst (λ x. IsRequest n x ⊎ IsOutputPort n x) (sym same) (root_is_used k b at))
         | inr other ↦
             let (g, in_tree, reads) = wired.all_read net (Contains-from_Member net m) other in
-            let has = holds_of (HasGate n) b.tree wired.tree g (Member-from_Contains b.tree g in_tree) in
+            let has = All-member (HasGate n) b.tree wired.tree g (Member-from_Contains b.tree g in_tree) in
             inl (has.cell, Contains-from_slice_get n.cells g.cell.0 has.cell has.at, (g.kind, has.kind), subst (λ l. Contains l (record { 0 = net })) (sym has.ins) reads)
       ]
 

@@ -10,10 +10,10 @@ use Rattle.ncl_shape.specs.Stage.{rail_nets}
 use Rattle.ncl_shape.specs.Chain.{IsInputOf, IsFirstBank, IsLastBank, Follows, IsPath, end, next, IsChain, HasRegister, HasEnds, IsUnforked, IsAcknowledged}
 use Rattle.ncl_shape.specs.Pipeline.{PipelineData}
 use Rattle.ncl_assembly.specs.Assembled.{WiredBit, WiredBank, bank_of, rails_read, IsAssembled}
-use Rattle.ncl_assembly.proofs.ListPlaces.{at-map, at_of_map}
 use Rattle.ncl_assembly.proofs.WiredPlaces.{BankAt, as_many, first_bank, next_or_last, bank_at, bank_is_wired}
 use Rattle.ncl_assembly.proofs.WiredOrigins.{rail_among, port_only, next_read_only, request_only, last_request_port, requests_differ}
 use Rattle.ncl_assembly.proofs.WiredPins.{first_bit, last_bank, cell_of_rail, rail_cell_of_bank, some_register, role_in_bank, bank_of_request, read_by_bank, read_at, read_first, read_next}
+use Rattle.ncl_base.proofs.Places.{at_map, at_of_map}
 
 -- banks of which each follows the one before form a path
 path_from_places : (n : NetlistData) (banks : List ℕ) → 0 < length banks → ((k bank following : ℕ) → slice_get banks k ≡ Some bank → slice_get banks (suc k) ≡ Some following → Follows n bank following) → IsPath n banks
@@ -27,7 +27,7 @@ requests_of p = map (λ (b : Bank). b.request.0) p.banks
 
 module _ (n : NetlistData) (p : PipelineData) (is : IsAssembled n p) where
   pub request_at : (k : ℕ) (b : WiredBank) → BankAt n p is k b → slice_get (requests_of p) k ≡ Some b.request.0
-  request_at k b at = at-map (λ (b : Bank). b.request.0) p.banks k (bank_of b) (bank_at n p is k b at)
+  request_at k b at = at_map (λ (b : Bank). b.request.0) p.banks k (bank_of b) (bank_at n p is k b at)
 
   pub at_request : (k request : ℕ) → slice_get (requests_of p) k ≡ Some request → (b : WiredBank) × BankAt n p is k b × (b.request.0 ≡ request)
   at_request k request at =

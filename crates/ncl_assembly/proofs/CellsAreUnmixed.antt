@@ -17,12 +17,13 @@ use Rattle.ncl_shape.specs.declared.stage.StageCell.{StageCell}
 use Rattle.ncl_shape.specs.Stage.{rail_nets, out_of, nets_of}
 use Rattle.ncl_shape.specs.Pipeline.{PipelineData}
 use Rattle.ncl_assembly.specs.Assembled.{WiredBit, WiredBank, rails_read, ack_nets, IsAssembled}
-use Rattle.ncl_assembly.proofs.ListPlaces.{holds_at, member_at}
+use Rattle.ncl_assembly.proofs.ListPlaces.{member_at}
 use Rattle.ncl_assembly.proofs.WiredPlaces.{BankAt, wired_bank, bank_before, next_or_last}
 use Rattle.ncl_assembly.proofs.WiredCells.{TreeAt, GateAt, register_role, gate_role}
 use Rattle.ncl_assembly.proofs.WiredPorts.{rst_port}
 use Rattle.ncl_assembly.proofs.WiredOrigins.{port_only, stage_only, tree_only, request_only, last_request_port}
 use Rattle.ncl_assembly.proofs.WiredPins.{on_b, on_rst, read_by_bank, read_at, read_first, read_next}
+use Rattle.ncl_base.proofs.Tests.{All-at}
 
 module _ (n : NetlistData) (p : PipelineData) (is : IsAssembled n p) where
   -- the output of a gate of a stage comes from the rails of the bank before it alone
@@ -44,7 +45,7 @@ module _ (n : NetlistData) (p : PipelineData) (is : IsAssembled n p) where
         | inl r ↦
             let kinds : c.kind ≡ Gate r.own.gate.kind = r.own.on.kind in
             let same : r.own.gate.kind ≡ kind = cc in
-            let tree = holds_at (λ (g : StageCell). IsTreeKind g.kind) r.bank.tree (wired_bank n p is r.k r.bank r.at_bank).tree_kinds r.own.j r.own.gate r.own.at in
+            let tree = All-at (λ (g : StageCell). IsTreeKind g.kind) r.bank.tree (wired_bank n p is r.k r.bank r.at_bank).tree_kinds r.own.j r.own.gate r.own.at in
             inr (r.bank.request.0, cell_of_tree_only i c r, subst IsTreeKind same tree)
         | inr r ↦ let (b, at_b, only) = gate_of_stage_only i c r in inl (b.request.0, only)
       ]

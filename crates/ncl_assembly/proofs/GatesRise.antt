@@ -14,11 +14,13 @@ use Rattle.ncl_shape.specs.declared.stage.StageCell.{StageCell}
 use Rattle.ncl_shape.specs.Stage.{Reads, rail_nets, out_of}
 use Rattle.ncl_shape.specs.Pipeline.{PipelineData}
 use Rattle.ncl_assembly.specs.Assembled.{WiredBit, WiredBank, rails_driven, HasGate, gate_numbers, IsAssembled}
-use Rattle.ncl_assembly.proofs.ListPlaces.{holds_of, place_of_member, pairs_of_map, pairs-across, split_at, Rise}
+use Rattle.ncl_assembly.proofs.ListPlaces.{place_of_member, pairs_of_map, pairs-across, Rise}
 use Rattle.ncl_assembly.proofs.WiredPlaces.{BankAt, wired_bank, wired_bit, wired_stage, bank_before, stage_driven}
 use Rattle.ncl_assembly.proofs.WiredCells.{gate_role, tree_rises, stage_rises}
 use Rattle.ncl_assembly.proofs.WiredOrigins.{rail_of_bits}
 use Rattle.ncl_assembly.proofs.WiredPins.{cell_of_rail, rail_cell_of_bank}
+use Rattle.ncl_base.proofs.Tests.{All-member}
+use Rattle.ncl_base.proofs.Places.{divided_at}
 
 module _ (n : NetlistData) (p : PipelineData) (is : IsAssembled n p) where
   -- a net that no gate drives
@@ -36,14 +38,14 @@ module _ (n : NetlistData) (p : PipelineData) (is : IsAssembled n p) where
       → ((net : ℕ) → Member net known → IsNoOutput net)
       → (k : ℕ) (g : StageCell) → slice_get cells k ≡ Some g → (x : NetId) → Member x g.ins.items → (j : ℕ) (d : Cell) → CellAt n j d → IsGate d → d.out.0 ≡ x.0 → j < g.cell.0
   drives_before known cells all up in_order none k g at x in_ins j d at_d is_gate out =
-      let (before, after, whole) = split_at cells k g at in
-      let reads = holds_of (λ (x : NetId). Contains (known ++ map out_of before) x.0) g.ins.items (in_order before after g whole) x in_ins in
+      let (before, after, whole) = divided_at cells k g at in
+      let reads = All-member (λ (x : NetId). Contains (known ++ map out_of before) x.0) g.ins.items (in_order before after g whole) x in_ins in
       elim (Member-append_cases x.0 known (map out_of before) (Member-from_Contains (known ++ map out_of before) x.0 reads)) [
         | inl first ↦ absurd (none x.0 first d (Contains-from_slice_get n.cells j d at_d) is_gate out)
         | inr later ↦
             let (h, in_before, out_h) = member_of_map out_of before x.0 later in
             let in_cells : Member h cells = subst (Member h) (sym whole) (Member-append_left h (g ∷ after) in_before) in
-            let has = holds_of (HasGate n) cells all h in_cells in
+            let has = All-member (HasGate n) cells all h in_cells in
             let place : h.cell.0 ≡ j = same_place n is.is_netlist h.cell.0 j has.cell d has.at at_d (ap (λ (y : NetId). y.0) has.out ∙ out_h ∙ sym out) in
             let rising = pairs_of_map (λ x y. x < y) (λ (g : StageCell). g.cell.0) (before ++ g ∷ after) (subst (λ l. Rise (gate_numbers l)) whole up) in
             let less = pairs-across (λ (x y : StageCell). x.cell.0 < y.cell.0) before (g ∷ after) rising h g in_before here in

@@ -1,20 +1,13 @@
 -- What stands at the places of lists that are mapped, or put together of parts.
-use Rattle.std.proofs.Common.{◌≡◌, ℕ, zero, suc, ◌<◌, List, [], ◌∷◌, ◌++◌, map, get_or, Some, option_map, inl, inr, refl, ap, ◌∙◌, subst, arith}
-use Rattle.std.specs.Prelude.{All, AllPairs, slice_get}
+use Rattle.std.proofs.Common.{◌≡◌, ℕ, zero, suc, ◌<◌, List, [], ◌∷◌, ◌++◌, map, get_or, Some, inl, inr, refl, ap, ◌∙◌, subst, arith}
+use Rattle.std.specs.Prelude.{AllPairs, slice_get}
 use Rattle.std.specs.List.{flat_map, range_with_len}
-use Rattle.std.proofs.lemmas.List.Elements.{All-contains}
 use Rattle.std.proofs.lemmas.List.FromFn.{length-range_with_len, get_or-range_with_len}
 use Rattle.std.proofs.lemmas.List.Kept.{AllPairs-cons}
-use Rattle.std.proofs.lemmas.Option.{slice_get-map, slice_get-get_or}
-use Rattle.ncl_base.proofs.Lists.{pairs-head, pairs-tail, increasing_place}
+use Rattle.std.proofs.lemmas.Option.{slice_get-get_or}
+use Rattle.ncl_base.proofs.Lists.{pairs-head, pairs-tail}
 use Rattle.ncl_base.proofs.Members.{Member, here, there, Member-append_left, Member-append_right, Member-append_cases, Member-map, Member-from_Contains, Contains-from_Member, Contains-from_slice_get, slice_get-from_Contains, All-from_members}
-
--- what holds of all elements holds of what stands at a place, and of each member
-pub holds_at : {X : Type 0} (P : X → Type 0) (xs : List X) → All P xs → (k : ℕ) (x : X) → slice_get xs k ≡ Some x → P x
-holds_at P xs all k x at = All-contains P xs x all (Contains-from_slice_get xs k x at)
-
-pub holds_of : {X : Type 0} (P : X → Type 0) (xs : List X) → All P xs → (x : X) → Member x xs → P x
-holds_of P xs all x m = All-contains P xs x all (Contains-from_Member x m)
+use Rattle.ncl_base.proofs.Joined.{Member-flat_map}
 
 -- a member stands at a place, and what stands at a place is a member
 pub place_of_member : {X : Type 0} (xs : List X) (x : X) → Member x xs → (k : ℕ) × (slice_get xs k ≡ Some x)
@@ -23,30 +16,10 @@ place_of_member xs x m = slice_get-from_Contains xs x (Contains-from_Member x m)
 pub member_at : {X : Type 0} (xs : List X) (k : ℕ) (x : X) → slice_get xs k ≡ Some x → Member x xs
 member_at xs k x at = Member-from_Contains xs x (Contains-from_slice_get xs k x at)
 
--- a list divides at each place
-pub split_at : {X : Type 0} (xs : List X) (k : ℕ) (x : X) → slice_get xs k ≡ Some x → (before : List X) × (after : List X) × (xs ≡ before ++ x ∷ after)
-split_at [] k x at = absurd cc
-split_at (y ∷ xs) zero x at = let same : y ≡ x = cc in ([], xs, ap (λ z. z ∷ xs) same)
-split_at (y ∷ xs) (suc k) x at = let (before, after, whole) = split_at xs k x at in (y ∷ before, after, ap (λ l. y ∷ l) whole)
-
--- what stands at a place of a list, with a function applied to it
-pub at-map : {X Y : Type 0} (f : X → Y) (xs : List X) (k : ℕ) (x : X) → slice_get xs k ≡ Some x → slice_get (map f xs) k ≡ Some (f x)
-at-map f xs k x at = slice_get-map f xs k ∙ ap (option_map f) at
-
-pub at_of_map : {X Y : Type 0} (f : X → Y) (xs : List X) (k : ℕ) (y : Y) → slice_get (map f xs) k ≡ Some y → (x : X) × (slice_get xs k ≡ Some x) × (f x ≡ y)
-at_of_map f [] k y at = absurd cc
-at_of_map f (x ∷ xs) zero y at = let same : f x ≡ y = cc in (x, refl, same)
-at_of_map f (x ∷ xs) (suc k) y at = at_of_map f xs k y at
-
 -- two functions applied one after the other
 pub map-map : {X Y Z : Type 0} (f : X → Y) (g : Y → Z) (xs : List X) → map g (map f xs) ≡ map (λ x. g (f x)) xs
 map-map f g [] = refl
 map-map f g (x ∷ xs) = ap (λ l. g (f x) ∷ l) (map-map f g xs)
-
--- a member of a part is a member of the whole, and a member of the whole is one of a part
-pub Member-flat_map : {X Y : Type 0} (f : X → List Y) (x : X) {xs : List X} (y : Y) → Member x xs → Member y (f x) → Member y (flat_map f xs)
-Member-flat_map f x y (here {xs = xs}) m = Member-append_left y (flat_map f xs) m
-Member-flat_map f x y (there {y = z} {xs = xs} n) m = Member-append_right (f z) y (Member-flat_map f x y n m)
 
 pub member_of_flat_map : {X Y : Type 0} (f : X → List Y) (xs : List X) (y : Y) → Member y (flat_map f xs) → (k : ℕ) × (x : X) × (slice_get xs k ≡ Some x) × Member y (f x)
 member_of_flat_map f [] y m = elim m [ ]
@@ -106,10 +79,6 @@ part_is_one f (x ∷ parts) up (suc i) zero a b y at_a at_b in_a in_b =
     absurd (omega (arith, less))
 part_is_one f (x ∷ parts) up (suc i) (suc j) a b y at_a at_b in_a in_b =
     ap suc (part_is_one f parts (pairs-right (λ x y. x < y) (f x) (flat_map f parts) up) i j a b y at_a at_b in_a in_b)
-
--- where numbers rise, each stands at one place
-pub rising_place : (xs : List ℕ) → Rise xs → (i j y : ℕ) → slice_get xs i ≡ Some y → slice_get xs j ≡ Some y → i ≡ j
-rising_place xs up i j y at_i at_j = increasing_place (λ z. z) xs up i j y y at_i at_j refl
 
 -- the numbers from 0 on rise, and each stands at its own place
 pub range_rises : (n : ℕ) → Rise (range_with_len 0 n)

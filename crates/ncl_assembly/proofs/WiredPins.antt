@@ -1,11 +1,9 @@
 -- The pins of the cells of an assembled netlist, and the banks of its register cells.
-use Rattle.std.proofs.Common.{◌≡◌, ℕ, zero, suc, ◌-◌, Bool, false, List, [], ◌∷◌, length, Some, sym, ap, ◌∙◌, subst, arith}
+use Rattle.std.proofs.Common.{◌≡◌, ℕ, zero, suc, ◌-◌, Bool, false, [], ◌∷◌, length, Some, sym, ap, subst, arith}
 use Rattle.std.specs.Prelude.{slice_get}
 use Rattle.ncl_base.proofs.Members.{Member, slice_get-some}
-use Rattle.ncl_gates.specs.declared.cell_kind.CellKind.{CellKind}
 use Rattle.ncl_gates.specs.declared.cell_kind.CellKind.TheVariants.{Register}
 use Rattle.ncl_netlist.specs.declared.cell.Cell.{Cell}
-use Rattle.ncl_netlist.specs.declared.ids.CellId.{CellId}
 use Rattle.ncl_netlist.specs.declared.ids.NetId.{NetId}
 use Rattle.ncl_netlist.specs.Netlist.{NetlistData}
 use Rattle.ncl_cell_rules.specs.Origin.{CellAt, OnPin, A, B, RST, IsInputPort, IsOfBank, RailOf, HasOnlyOrigin}
@@ -18,10 +16,6 @@ use Rattle.ncl_assembly.proofs.WiredPlaces.{BankAt, wired_bank, wired_bit, as_ma
 use Rattle.ncl_assembly.proofs.WiredCells.{register_of, net_of_rail, register_cell, RegisterAt, register_role}
 use Rattle.ncl_assembly.proofs.WiredPorts.{rail_port}
 use Rattle.ncl_assembly.proofs.WiredOrigins.{rail_among, rail_of_bank, next_read_only, requests_differ, first_read}
-
--- the net on a pin of a cell
-pub pin_of : (n : NetlistData) (number : CellId) (sort : CellKind) (reads : List NetId) (drives : NetId) → (has : HasCell n number sort reads drives) → (pin : ℕ) (x : NetId) → slice_get reads pin ≡ Some x → OnPin has.cell pin x.0
-pin_of n number sort reads drives has pin x at = ap (λ l. slice_get l pin) has.ins ∙ at
 
 module _ (n : NetlistData) (p : PipelineData) (is : IsAssembled n p) where
   -- each bank has a bit

@@ -9,9 +9,9 @@ use Rattle.ncl_netlist.specs.Netlist.{NetlistData}
 use Rattle.ncl_shape.specs.declared.bank.Bank.{Bank}
 use Rattle.ncl_shape.specs.Stage.{StageData}
 use Rattle.ncl_shape.specs.Pipeline.{PipelineData}
-use Rattle.ncl_shape.proofs.Places.{stays-push, end-push}
 use Rattle.ncl_assembly.specs.Assembled.{WiredBit, WiredBank, bank_of, rails_read, rails_driven, IsWiredBit, IsWiredBank, IsWiredStage, IsAssembled}
-use Rattle.ncl_assembly.proofs.ListPlaces.{holds_at, at-map, at_of_map}
+use Rattle.ncl_base.proofs.Places.{slice_get-kept, slice_get-end, at_map, at_of_map}
+use Rattle.ncl_base.proofs.Tests.{All-at}
 
 -- the request and the root of a bank
 abbrev pub request_of : WiredBank → ℕ
@@ -29,13 +29,13 @@ module _ (n : NetlistData) (p : PipelineData) (is : IsAssembled n p) where
   StageAt k s = slice_get p.stages k ≡ Some s
 
   pub wired_bank : (k : ℕ) (b : WiredBank) → BankAt k b → IsWiredBank n is.rst b
-  wired_bank k b at = holds_at (IsWiredBank n is.rst) is.wired is.each_bank k b at
+  wired_bank k b at = All-at (IsWiredBank n is.rst) is.wired is.each_bank k b at
 
   pub wired_bit : (k j : ℕ) (b : WiredBank) (w : WiredBit) → BankAt k b → slice_get b.bits j ≡ Some w → IsWiredBit n b.request is.rst w
-  wired_bit k j b w at at_w = holds_at (IsWiredBit n b.request is.rst) b.bits (wired_bank k b at).bits j w at_w
+  wired_bit k j b w at at_w = All-at (IsWiredBit n b.request is.rst) b.bits (wired_bank k b at).bits j w at_w
 
   pub wired_stage : (k : ℕ) (s : StageData) → StageAt k s → IsWiredStage n s
-  wired_stage k s at = holds_at (IsWiredStage n) p.stages is.each_stage k s at
+  wired_stage k s at = All-at (IsWiredStage n) p.stages is.each_stage k s at
 
   -- there is one more bank than there are stages
   pub as_many : length is.wired ≡ suc (length p.stages)
@@ -76,57 +76,57 @@ module _ (n : NetlistData) (p : PipelineData) (is : IsAssembled n p) where
   -- what each bank reads
   pub first_reads : (b : WiredBank) → BankAt zero b → rails_read b ≡ p.inputs
   first_reads b at =
-      let here = at-map rails_read is.wired zero b at in
+      let here = at_map rails_read is.wired zero b at in
       let there : slice_get (map rails_read is.wired) zero ≡ Some p.inputs = ap (λ l. slice_get l zero) is.rails_in in
       cc
 
   pub next_reads : (k : ℕ) (s : StageData) (b : WiredBank) → StageAt k s → BankAt (suc k) b → rails_read b ≡ s.outputs
   next_reads k s b at_s at =
-      let here = at-map rails_read is.wired (suc k) b at in
+      let here = at_map rails_read is.wired (suc k) b at in
       let moved : slice_get (map rails_read is.wired) (suc k) ≡ slice_get (map (λ (s : StageData). s.outputs) p.stages) k = ap (λ l. slice_get l (suc k)) is.rails_in in
-      let there = at-map (λ (s : StageData). s.outputs) p.stages k s at_s in
+      let there = at_map (λ (s : StageData). s.outputs) p.stages k s at_s in
       cc
 
   -- what each bank drives
   pub stage_driven : (k : ℕ) (s : StageData) (b : WiredBank) → StageAt k s → BankAt k b → rails_driven b ≡ s.inputs
   stage_driven k s b at_s at =
-      let here = at-map rails_driven is.wired k b at in
+      let here = at_map rails_driven is.wired k b at in
       let moved = ap (λ l. slice_get l k) is.rails_out in
-      let there = stays-push (map (λ (s : StageData). s.inputs) p.stages) p.outputs k s.inputs (at-map (λ (s : StageData). s.inputs) p.stages k s at_s) in
+      let there = slice_get-kept (map (λ (s : StageData). s.inputs) p.stages) p.outputs k s.inputs (at_map (λ (s : StageData). s.inputs) p.stages k s at_s) in
       cc
 
   pub last_driven : (k : ℕ) (b : WiredBank) → BankAt k b → suc k ≡ length is.wired → rails_driven b ≡ p.outputs
   last_driven k b at last =
       let many = as_many in
-      let here = at-map rails_driven is.wired k b at in
+      let here = at_map rails_driven is.wired k b at in
       let moved = ap (λ l. slice_get l k) is.rails_out in
-      let there = end-push (map (λ (s : StageData). s.inputs) p.stages) p.outputs k (omega (arith, last, many, length-map p.stages (λ (s : StageData). s.inputs))) in
+      let there = slice_get-end (map (λ (s : StageData). s.inputs) p.stages) p.outputs k (omega (arith, last, many, length-map p.stages (λ (s : StageData). s.inputs))) in
       cc
 
   -- how banks acknowledge
   pub first_root : (b : WiredBank) → BankAt zero b → b.root.0 ≡ p.ko
   first_root b at =
-      let here = stays-push (map root_of is.wired) p.ki zero b.root.0 (at-map root_of is.wired zero b at) in
+      let here = slice_get-kept (map root_of is.wired) p.ki zero b.root.0 (at_map root_of is.wired zero b at) in
       let there : slice_get (map root_of is.wired ++ p.ki ∷ []) zero ≡ Some p.ko = ap (λ l. slice_get l zero) is.roots in
       cc
 
   pub next_root : (k : ℕ) (b next : WiredBank) → BankAt k b → BankAt (suc k) next → next.root.0 ≡ b.request.0
   next_root k b next at at_next =
-      let here = stays-push (map root_of is.wired) p.ki (suc k) next.root.0 (at-map root_of is.wired (suc k) next at_next) in
+      let here = slice_get-kept (map root_of is.wired) p.ki (suc k) next.root.0 (at_map root_of is.wired (suc k) next at_next) in
       let moved : slice_get (map root_of is.wired ++ p.ki ∷ []) (suc k) ≡ slice_get (map request_of is.wired) k = ap (λ l. slice_get l (suc k)) is.roots in
-      let there = at-map request_of is.wired k b at in
+      let there = at_map request_of is.wired k b at in
       cc
 
   pub last_request : (k : ℕ) (b : WiredBank) → BankAt k b → suc k ≡ length is.wired → b.request.0 ≡ p.ki
   last_request k b at last =
-      let here = end-push (map root_of is.wired) p.ki (suc k) (omega (arith, last, length-map is.wired root_of)) in
+      let here = slice_get-end (map root_of is.wired) p.ki (suc k) (omega (arith, last, length-map is.wired root_of)) in
       let moved : slice_get (map root_of is.wired ++ p.ki ∷ []) (suc k) ≡ slice_get (map request_of is.wired) k = ap (λ l. slice_get l (suc k)) is.roots in
-      let there = at-map request_of is.wired k b at in
+      let there = at_map request_of is.wired k b at in
       cc
 
   -- the banks of the pipeline
   pub bank_at : (k : ℕ) (b : WiredBank) → BankAt k b → slice_get p.banks k ≡ Some (bank_of b)
-  bank_at k b at = ap (λ l. slice_get l k) is.banks ∙ at-map bank_of is.wired k b at
+  bank_at k b at = ap (λ l. slice_get l k) is.banks ∙ at_map bank_of is.wired k b at
 
   pub bank_is_wired : (k : ℕ) (bank : Bank) → slice_get p.banks k ≡ Some bank → (b : WiredBank) × BankAt k b × (bank_of b ≡ bank)
   bank_is_wired k bank at = at_of_map bank_of is.wired k bank (ap (λ l. slice_get l k) (sym is.banks) ∙ at)

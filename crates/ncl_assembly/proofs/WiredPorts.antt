@@ -12,7 +12,8 @@ use Rattle.ncl_cell_rules.specs.Origin.{IsInputPort, IsOutputPort}
 use Rattle.ncl_shape.specs.Stage.{rail_nets}
 use Rattle.ncl_shape.specs.Pipeline.{PipelineData}
 use Rattle.ncl_assembly.specs.Assembled.{input_nets, output_nets, IsAssembled}
-use Rattle.ncl_assembly.proofs.ListPlaces.{member_at, at-map, at_of_map, pairs-left, pairs-right, pairs-across, Rise, range_rises, at_range}
+use Rattle.ncl_assembly.proofs.ListPlaces.{member_at, pairs-left, pairs-right, pairs-across, Rise, range_rises, at_range}
+use Rattle.ncl_base.proofs.Places.{at_map, at_of_map}
 
 -- the directions of two lists of nets, the inputs before the outputs
 abbrev sides : List ℕ → List ℕ → List Bool
@@ -63,7 +64,7 @@ module _ (n : NetlistData) (p : PipelineData) (is : IsAssembled n p) where
   port_at net port at =
       let within = slice_get_within n.ports net port at in
       let listed : slice_get (ins ++ outs) net ≡ Some net = subst (λ l. slice_get l net ≡ Some net) (sym is.ports) (at_range (length n.ports) net within) in
-      let side : slice_get (sides ins outs) net ≡ Some port.output = subst (λ l. slice_get l net ≡ Some port.output) is.directions (at-map direction n.ports net port at) in
+      let side : slice_get (sides ins outs) net ≡ Some port.output = subst (λ l. slice_get l net ≡ Some port.output) is.directions (at_map direction n.ports net port at) in
       side_at ins outs net net port.output listed side
 
   port_of_side : (k net : ℕ) (side : Bool) → slice_get (ins ++ outs) k ≡ Some net → slice_get (sides ins outs) k ≡ Some side → (port : Port) × (slice_get n.ports net ≡ Some port) × (port.output ≡ side)

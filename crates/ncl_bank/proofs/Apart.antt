@@ -3,12 +3,9 @@ use Rattle.std.proofs.Common.{◌≢◌, ℕ, ◌+◌, ◌<◌, List, [], ◌∷
 use Rattle.std.specs.Prelude.{AllPairs}
 use Rattle.std.specs.List.{range_with_len}
 use Rattle.std.specs.Cmp.Lexicographic.{bytes_decides}
-use Rattle.std.proofs.lemmas.List.Elements.{All-append}
 use Rattle.std.proofs.lemmas.List.FromFn.{get_or-map-range_with_len, length-map-range_with_len}
-use Rattle.std.proofs.lemmas.List.Kept.{AllPairs-cons}
 use Rattle.std.proofs.lemmas.Map.Made.{AllPairs-from_IsDistinct, IsDistinct-from_AllPairs}
-use Rattle.ncl_base.proofs.Members.{Member, here, there, All-from_members}
-use Rattle.ncl_base.proofs.Lists.{pairs-head, pairs-tail}
+use Rattle.ncl_base.proofs.Lists.{pairs-tail}
 use Rattle.ncl_netlist.specs.Names.{AllDiffer}
 
 -- names that differ, two by two
@@ -20,14 +17,6 @@ apart_from_differ = AllPairs-from_IsDistinct bytes_decides
 
 pub differ_from_apart : (names : List (List ℕ)) → AreApart names → AllDiffer names
 differ_from_apart = IsDistinct-from_AllPairs bytes_decides
-
--- of two lists joined
-pub pairs-append : {X : Type 0} (R : X → X → Type 0) (xs ys : List X) → AllPairs R xs → AllPairs R ys → ((x y : X) → Member x xs → Member y ys → R x y) → AllPairs R (xs ++ ys)
-pairs-append R [] ys first second between = second
-pairs-append R (x ∷ xs) ys first second between =
-    AllPairs-cons R x (xs ++ ys)
-    (All-append (R x) xs ys (All-from_members (R x) xs (pairs-head R x xs first)) (All-from_members (R x) ys (λ y. between x y here)))
-    (pairs-append R xs ys (pairs-tail R x xs first) second (λ z y m. between z y (there m)))
 
 -- of what a function gives at some numbers
 pub pairs-range : {X : Type 0} (R : X → X → Type 0) (f : ℕ → X) (first count : ℕ) → ((i j : ℕ) → i < j → j < first + count → R (f i) (f j)) → AllPairs R (map f (range_with_len first count))

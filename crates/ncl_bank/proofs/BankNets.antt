@@ -5,11 +5,12 @@ use Rattle.std.specs.List.{range_with_len}
 use Rattle.std.proofs.lemmas.List.FromFn.{length-map-range_with_len}
 use Rattle.ncl_base.proofs.Members.{Member, here, there, member_cases, member_of_map, Member-append_cases, Contains-from_Member}
 use Rattle.ncl_base.proofs.Lists.{pairs-head, pairs-tail}
+use Rattle.ncl_base.proofs.Tests.{AllPairs-append}
 use Rattle.ncl_tree.specs.PartNames.{net_name_of, digits_36, most_parts}
 use Rattle.ncl_tree.specs.NamePairs.{IsFreeOf}
 use Rattle.ncl_tree.proofs.PartNameLaws.{same_net}
 use Rattle.ncl_bank.specs.BankPlan.{names_of_nets}
-use Rattle.ncl_bank.proofs.Apart.{AreApart, pairs-append, pairs-range}
+use Rattle.ncl_bank.proofs.Apart.{AreApart, pairs-range}
 
 module _ (prefix root : List ℕ) (first count : ℕ) (some : 0 < count) where
   abbrev inner : List (List ℕ)
@@ -32,8 +33,8 @@ module _ (prefix root : List ℕ) (first count : ℕ) (some : 0 < count) where
   nets_apart given differ free few =
       let R : List ℕ → List ℕ → Type 0 = λ x y. x ≢ y in
       let made : AreApart inner = pairs-range R (net_name_of prefix) first (count - 1) (λ i j less below same. absurd (omega (arith, less, same_net prefix i j (omega arith) (omega arith) same))) in
-      let nets : AreApart (names_of_nets prefix root first count) = pairs-append R inner (root ∷ []) made (λ i j d less within. absurd (omega arith)) (λ x y m n same. unmade root here x m (sym (last y n) ∙ sym same)) in
-      pairs-append R given (names_of_nets prefix root first count) (pairs-tail R root given differ) nets (λ x y m n. between x m y n)
+      let nets : AreApart (names_of_nets prefix root first count) = AllPairs-append R inner (root ∷ []) made (λ i j d less within. absurd (omega arith)) (λ x y m n same. unmade root here x m (sym (last y n) ∙ sym same)) in
+      AllPairs-append R given (names_of_nets prefix root first count) (pairs-tail R root given differ) nets (λ x y m n. between x m y n)
     where
       last : (y : List ℕ) → Member y (root ∷ []) → y ≡ root
       last y m = elim (member_cases y root [] m) [ inl same ↦ sym same | inr none ↦ elim none [ ] ]

@@ -2,7 +2,6 @@
 use Rattle.std.proofs.Common.{◌≡◌, ℕ, zero, suc, ◌+◌, List, [], ◌∷◌, ◌++◌, length, map, Some, refl, sym, ap, ◌∙◌, arith, append_assoc, length-append}
 use Rattle.std.specs.Prelude.{All, slice_get}
 use Rattle.std.specs.List.{range_with_len}
-use Rattle.std.proofs.lemmas.List.{append-nil}
 use Rattle.std.proofs.lemmas.List.Elements.{All-cons, All-nil}
 use Rattle.ncl_base.proofs.Members.{Member, here, there}
 use Rattle.ncl_netlist.specs.declared.parts.PartCell.{PartCell}
@@ -60,9 +59,6 @@ pub record IsAdded (prefix : List ℕ) (before : List PartCell) (plan : List Unn
 pub length_added : (prefix : List ℕ) (before : List PartCell) (plan : List Unnamed) (after : List PartCell) → IsAdded prefix before plan after → length after ≡ length before + length plan
 length_added prefix before plan after added =
     ap length added.is ∙ length-append before (named_from prefix (length before) plan) ∙ ap (λ n. length before + n) (length-named_from prefix (length before) plan)
-
-pub IsAdded-none : (prefix : List ℕ) (before : List PartCell) → IsAdded prefix before [] before
-IsAdded-none prefix before = record { is = sym (append-nil before) }
 
 -- one cell more
 pub IsAdded-more : (prefix : List ℕ) (before : List PartCell) (plan : List Unnamed) (after : List PartCell) → IsAdded prefix before plan after → (x : Unnamed) (new : List PartCell) → new ≡ after ++ cell_at prefix (length after) x ∷ [] → IsAdded prefix before (plan ++ x ∷ []) new

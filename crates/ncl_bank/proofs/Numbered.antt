@@ -7,6 +7,8 @@ use Rattle.std.proofs.lemmas.List.FromFn.{length-range_with_len}
 use Rattle.std.proofs.lemmas.Option.{slice_get_within, get_or_from_slice_get}
 use Rattle.ncl_base.proofs.Growing.{cut_at}
 use Rattle.ncl_base.proofs.Members.{Member, here, there, Member-map, member_of_map}
+use Rattle.ncl_base.proofs.Ranges.{below_of_range}
+use Rattle.ncl_base.proofs.Places.{slice_get-append_left}
 use Rattle.ncl_netlist.specs.declared.ids.NetId.{NetId}
 use Rattle.ncl_shape.specs.declared.stage.StageCell.{StageCell}
 use Rattle.ncl_tree.specs.declared.tree.Family.TheVariants.{All as Conjunctions}
@@ -27,11 +29,6 @@ range-append first (suc a) b next at =
     let longer : suc a + b ≡ suc (a + b) = omega arith in
     ap (range_with_len first) longer ∙ ap (λ ns. first ∷ ns) (range-append (first + 1) a b next (omega (arith, at)))
 
-member_of_range : (first count k : ℕ) → Member k (range_with_len first count) → k < first + count
-member_of_range first zero k m = elim m [ ]
-member_of_range first (suc count) _ here = omega arith
-member_of_range first (suc count) k (there m) = let below = member_of_range (first + 1) count k m in omega arith
-
 in_range : (first count k : ℕ) → k < count → Member (first + k) (range_with_len first count)
 in_range first zero k below = absurd (omega arith)
 in_range first (suc count) zero below = let same : first ≡ first + 0 = omega arith in subst (λ n. Member n (range_with_len first (suc count))) same here
@@ -42,7 +39,7 @@ in_range first (suc count) (suc k) below =
 below_from_member : (count : ℕ) (net : NetId) → Member net (nets_below count) → net.0 < count
 below_from_member count net m =
     let (k, n, is) = member_of_map net_at (range_with_len 0 count) net m in
-    let below = member_of_range 0 count k n in
+    let below = below_of_range 0 count k n in
     let number : k ≡ net.0 = ap (λ (net : NetId). net.0) is in
     omega arith
 
@@ -66,11 +63,6 @@ pub record IsTreeByNumber (bits : ℕ) (cells : List StageCell) : Type 0 where
   pub reads : (k : ℕ) (c : StageCell) → slice_get cells k ≡ Some c → (net : NetId) → Member net c.ins.items → net.0 < bits + k
   pub read : (number : ℕ) → number + 1 < bits + length cells → IsRead cells (net_at number)
 
-in_front : {X : Type 0} (xs ys : List X) (k : ℕ) (x : X) → slice_get xs k ≡ Some x → slice_get (xs ++ ys) k ≡ Some x
-in_front [] ys k x at = absurd cc
-in_front (z ∷ xs) ys zero x at = at
-in_front (z ∷ xs) ys (suc k) x at = in_front xs ys k x at
-
 pub stands : {X : Type 0} (before after : List X) (x : X) → slice_get (before ++ x ∷ after) (length before) ≡ Some x
 stands [] after x = refl
 stands (b ∷ before) after x = stands before after x
@@ -83,7 +75,7 @@ module _ (bits : ℕ) (gates : GatesData) (is : IsCompletion bits gates) where
   nets_so_far : (before after : List StageCell) → gates.cells ≡ before ++ after → nets_below bits ++ outs_of before ≡ nets_below (bits + length before)
   nets_so_far before after split =
       let outs : outs_of before ≡ map net_at (range_with_len bits (length before)) =
-      outs_numbered before bits (λ k c at. number_out k c (ap (λ cells. slice_get cells k) split ∙ in_front before after k c at)) in
+      outs_numbered before bits (λ k c at. number_out k c (ap (λ cells. slice_get cells k) split ∙ slice_get-append_left before after k c at)) in
       ap (λ nets. nets_below bits ++ nets) outs
       ∙ sym (map-append net_at (range_with_len 0 bits) (range_with_len bits (length before)))
       ∙ ap (map net_at) (sym (range-append 0 bits (length before) bits (omega arith)))

@@ -169,15 +169,6 @@ All-filter_map h P has (x ∷ xs) =
       | Some y ↦ λ e. (has x y e, All-filter_map h P has xs)
     ] refl
 
--- maps by functions that agree at each element give the same
-pub filter_map-agree : {X Y : Type 0} (f g : X → Option Y) → ((x : X) → f x ≡ g x) → (xs : List X) → filter_map f xs ≡ filter_map g xs
-filter_map-agree f g same [] = refl
-filter_map-agree f g same (x ∷ xs) = ap (λ y. cons_option y (filter_map f xs)) (same x) ∙ ap (cons_option (g x)) (filter_map-agree f g same xs)
-
-pub map-agree : {X Y : Type 0} (f g : X → Y) → ((x : X) → f x ≡ g x) → (xs : List X) → map f xs ≡ map g xs
-map-agree f g same [] = refl
-map-agree f g same (x ∷ xs) = ap (λ y. y ∷ map f xs) (same x) ∙ ap (λ ys. g x ∷ ys) (map-agree f g same xs)
-
 -- a loop that pushes what a function gives of each element
 pub map_push : {X Y : Type 0} (f : X → Y) (xs : List X) (k : ℕ) (d : X) (made new : List Y) (y : Y) → k < length xs → made ≡ map f (take k xs) → y ≡ f (get_or xs k d) → new ≡ made ++ y ∷ [] → new ≡ map f (take (k + 1) xs)
 map_push f xs k d made new y within so_far is pushed = pushed ∙ ap (λ front. front ++ y ∷ []) so_far ∙ ap (λ z. map f (take k xs) ++ z ∷ []) is ∙ sym (map_more f xs k d within)

@@ -4,3 +4,7 @@ pub mod Members
 pub mod Lists
 pub mod Growing
 pub mod NumberLists
+pub mod Ranges
+pub mod Places
+pub mod Joined
+pub mod Tests

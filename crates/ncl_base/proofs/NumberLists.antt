@@ -1,14 +1,11 @@
 -- Lists of numbers, as numbers come to them.
-use Rattle.std.proofs.Common.{◌≡◌, ◌⊎◌, ℕ, zero, suc, ◌+◌, ◌<◌, ◌≤◌, List, [], ◌∷◌, ◌++◌, length, replicate, set, refl, sym, subst, ◌∙◌, arith, inl, inr}
+use Rattle.std.proofs.Common.{◌≡◌, ◌⊎◌, ℕ, zero, suc, ◌+◌, ◌<◌, ◌≤◌, List, [], ◌∷◌, ◌++◌, length, replicate, set, sym, subst, ◌∙◌, arith, inl, inr}
 use Rattle.std.specs.Prelude.{Contains}
 use Rattle.std.proofs.lemmas.Bool.{cases_eq}
 use Rattle.std.proofs.lemmas.List.{get_or-set_other, get_or-set_same, length-set}
 use Rattle.std.proofs.lemmas.List.Elements.{Contains-append_left}
 use Rattle.ncl_base.specs.NumberLists.{Grows, numbers_at, put_into}
 use Rattle.ncl_base.proofs.Growing.{Contains-last, from_push}
-
-pub grows-itself : (count : ℕ) (lists : List (List ℕ)) → Grows count lists lists
-grows-itself count lists = record { size = refl; kept = λ place k has. has; below = λ place k has. inl has }
 
 pub grows-along : (count : ℕ) (a b c : List (List ℕ)) → Grows count a b → Grows count b c → Grows count a c
 grows-along count a b c first then = record {

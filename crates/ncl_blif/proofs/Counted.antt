@@ -1,7 +1,6 @@
 -- The fields of lines without the lines, and what the counts of the lines make of them.
-use Rattle.std.proofs.Common.{◌≡◌, ℕ, ◌+◌, ◌<◌, ◌≤◌, ltb, cond, List, [], ◌∷◌, ◌++◌, length, map, take, drop, get_or, filter, refl, sym, ap, ◌∙◌, subst, arith, append_assoc}
+use Rattle.std.proofs.Common.{◌≡◌, ℕ, ◌+◌, ◌<◌, ◌≤◌, ltb, cond, List, [], ◌∷◌, ◌++◌, length, map, take, drop, get_or, filter, refl, sym, ap, ◌∙◌, subst, arith}
 use Rattle.std.specs.List.{flat_map}
-use Rattle.std.proofs.lemmas.Bool.{lt-ltb}
 use Rattle.std.proofs.lemmas.List.{append-nil, drop_more, get_or-map, length-map, take_more, take_all, drop-drop, length-drop, length-append}
 use Rattle.std.proofs.Math.Seq.{take-append_seam, drop-append_seam}
 use Rattle.ncl_blif.specs.declared.line.Count.{Count}
@@ -24,24 +23,10 @@ pub record AreRead (text : List ℕ) (fields : List (List ℕ)) (counts : List C
   pub counts_are : counts ++ map count_of (left_lines number rest) ≡ map count_of (lines_of text)
   pub within : number + length rest ≤ 1 + length text
 
-pub read-none : (text : List ℕ) → AreRead text [] [] 1 text
-read-none text = record { fields_are = refl; counts_are = refl; within = omega arith }
-
 -- what is left after a line, which has fields or has none
 left-more : (number next : ℕ) (rest left : List ℕ) (said : List (List ℕ)) → numbered number rest ≡ record { number = number; fields = said } ∷ numbered next left
     → left_lines number rest ≡ cond (ltb 0 (length said)) (record { number = number; fields = said } ∷ left_lines next left) (left_lines next left)
 left-more number next rest left said first = ap (filter (λ line. ltb 0 (length line.fields))) first
-
-pub read-line : (text : List ℕ) (fields : List (List ℕ)) (counts : List Count) (number next : ℕ) (rest left : List ℕ) (said : List (List ℕ)) → AreRead text fields counts number rest
-    → numbered number rest ≡ record { number = number; fields = said } ∷ numbered next left → next + length left ≤ number + length rest → 0 < length said
-    → AreRead text (fields ++ said) (counts ++ record { number = number; fields = length said } ∷ []) next left
-read-line text fields counts number next rest left said read first shorter some =
-    let is : left_lines number rest ≡ record { number = number; fields = said } ∷ left_lines next left = left-more number next rest left said first ∙ ap (λ b. cond b (record { number = number; fields = said } ∷ left_lines next left) (left_lines next left)) (lt-ltb 0 (length said) some) in
-    record {
-      fields_are = append_assoc fields said (all_fields (left_lines next left)) ∙ ap (λ lines. fields ++ all_fields lines) (sym is) ∙ read.fields_are;
-      counts_are = append_assoc counts (record { number = number; fields = length said } ∷ []) (map count_of (left_lines next left)) ∙ ap (λ lines. counts ++ map count_of lines) (sym is) ∙ read.counts_are;
-      within = let before = read.within in omega arith;
-    }
 
 pub read-empty : (text : List ℕ) (fields : List (List ℕ)) (counts : List Count) (number next : ℕ) (rest left : List ℕ) (said : List (List ℕ)) → AreRead text fields counts number rest
     → numbered number rest ≡ record { number = number; fields = said } ∷ numbered next left → next + length left ≤ number + length rest → length said ≡ 0

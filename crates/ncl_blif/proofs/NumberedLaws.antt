@@ -1,7 +1,7 @@
 -- The numbers of signals that go by names.
-use Rattle.std.proofs.Common.{◌≡◌, ℕ, ◌+◌, ◌<◌, Bool, true, false, not, List, [], ◌∷◌, ◌++◌, length, map, get_or, Option, Some, None, refl, sym, ap, ◌∙◌, subst, arith, zero, suc}
+use Rattle.std.proofs.Common.{◌≡◌, ℕ, ◌+◌, ◌<◌, Bool, true, false, not, List, [], ◌∷◌, length, map, get_or, Option, Some, None, refl, sym, ap, ◌∙◌, subst, arith}
 use Rattle.std.specs.Prelude.{Contains, All}
-use Rattle.std.specs.List.{IsDistinct, AllByRecursion, list_any, position_or_len, range_with_len, find}
+use Rattle.std.specs.List.{IsDistinct, AllByRecursion, list_any, position_or_len, find}
 use Rattle.std.specs.Option.{option_map}
 use Rattle.std.specs.Str.{bytes_eq}
 use Rattle.std.specs.Cmp.Lexicographic.{nat_list_eq_equiv}
@@ -69,13 +69,6 @@ own_driven model k d within =
     let many : length (outs model) ≡ length model.covers = length-map model.covers (λ (cover : NamedCover). cover.out) in
     let among : Contains (outs model) out = subst (Contains (outs model)) here (Contains-get_or (outs model) k d.out (omega arith)) in
     list_any-from_Contains nat_list_eq_equiv out (drivers_of model) (Contains-append_right model.inputs (outs model) out among)
-
-pub range_with_len-more : (a n : ℕ) → range_with_len a (n + 1) ≡ range_with_len a n ++ (a + n) ∷ []
-range_with_len-more a zero = let e : a ≡ a + 0 = omega arith in ap (λ x. x ∷ []) e
-range_with_len-more a (suc n) =
-    let e : a + 1 + n ≡ a + suc n = omega arith in
-    let f : suc n + 1 ≡ suc (n + 1) = omega arith in
-    ap (range_with_len a) f ∙ ap (λ xs. a ∷ xs) (range_with_len-more (a + 1) n ∙ ap (λ x. range_with_len (a + 1) n ++ x ∷ []) e)
 
 lesser_missing : (a b : Option ℕ) → lesser a b ≡ None → (a ≡ None) × (b ≡ None)
 lesser_missing None b h = (refl, h)

@@ -4,12 +4,13 @@ use Rattle.std.specs.Prelude.{All}
 use Rattle.std.specs.List.{flat_map, AllByRecursion}
 use Rattle.std.proofs.lemmas.List.{append-nil}
 use Rattle.std.proofs.lemmas.List.Elements.{All-from_recursion}
+use Rattle.ncl_base.proofs.Tests.{option_or-none}
 use Rattle.ncl_blif.specs.declared.fault.BlifFault.{BlifFault}
 use Rattle.ncl_blif.specs.Line.{LineData}
 use Rattle.ncl_blif.specs.Parts.{PartData, is_row, is_command, parts_of, sections_of}
 use Rattle.ncl_blif.specs.Named.{NamedModel, drivers_of, named_model}
 use Rattle.ncl_blif.specs.LineFaults.{has_twins, signals_driven, is_malformed, head_fault, rows_fault, part_fault, first_part_fault, first_section_fault, first_line_fault}
-use Rattle.ncl_blif.proofs.RowsFit.{both_missing, fails_then}
+use Rattle.ncl_blif.proofs.RowsFit.{fails_then}
 use Rattle.ncl_blif.proofs.PartSteps.{named-same}
 
 -- no signal of a model has two drivers
@@ -27,15 +28,15 @@ head_once before part h =
 parts_once : (before parts : List PartData) → has_twins (flat_map signals_driven before) ≡ false → first_part_fault before parts ≡ None → has_twins (flat_map signals_driven (before ++ parts)) ≡ false
 parts_once before [] once h = ap (λ ps. has_twins (flat_map signals_driven ps)) (append-nil before) ∙ once
 parts_once before (part ∷ parts) once h =
-    let (here, later) = both_missing (part_fault before part) (first_part_fault (before ++ part ∷ []) parts) h in
-    let head = (both_missing (head_fault before part) (rows_fault part.head part.rows) here).0 in
+    let (here, later) = option_or-none (part_fault before part) (first_part_fault (before ++ part ∷ []) parts) h in
+    let head = (option_or-none (head_fault before part) (rows_fault part.head part.rows) here).0 in
     ap (λ ps. has_twins (flat_map signals_driven ps)) (sym (append_assoc before (part ∷ []) parts))
     ∙ parts_once (before ++ part ∷ []) parts (head_once before part head) later
 
 sections_once : (sections : List (List PartData)) → first_section_fault sections ≡ None → AllByRecursion OneDriver (map named_model sections)
 sections_once [] h = tt
 sections_once (section ∷ sections) h =
-    let (here, later) = both_missing (first_part_fault [] section) (first_section_fault sections) h in
+    let (here, later) = option_or-none (first_part_fault [] section) (first_section_fault sections) h in
     (sym (named-same section).twins ∙ parts_once [] section refl here, sections_once sections later)
 
 -- where no line is broken, no signal of a model has two drivers

@@ -8,7 +8,7 @@ use Rattle.std.specs.List.{list_any, flat_map}
 use Rattle.std.specs.Str.{bytes_eq}
 use Rattle.std.specs.Option.{option_or}
 use Rattle.ncl_blif.specs.declared.fault.BlifFault.{BlifFault}
-use Rattle.ncl_blif.specs.declared.fault.BlifFault.TheVariants.{Syntax, Unsupported, TwoDrivers}
+use Rattle.ncl_blif.specs.declared.fault.BlifFault.TheVariants.{TwoDrivers}
 use Rattle.ncl_blif.specs.Line.{LineData}
 use Rattle.ncl_blif.specs.Parts.{PartData, first_field, is_names, is_inputs, is_command, is_end}
 use Rattle.ncl_blif.specs.Named.{NamedModel, NamedCover, later_fields, cover_of, cover_out, inputs_said, outputs_said, covers_said, named_model, drivers_of}
@@ -86,13 +86,6 @@ with_part-is model before part is = ap (λ m. with_part m part) is ∙ (λ i. re
 pub twins-after : (model : NamedModel) (before : List PartData) (part : PartData) → model ≡ unnamed before → has_twins (flat_map signals_driven (before ++ part ∷ [])) ≡ has_twins (drivers_of (with_part model part))
 twins-after model before part is = (named-same (before ++ part ∷ [])).twins ∙ sym (ap (λ m. has_twins (drivers_of m)) (with_part-is model before part is))
 
--- what breaks a part, by what breaks its command
-pub fault-unsupported : (before : List PartData) (part : PartData) → is_command part.head ≡ false → part_fault before part ≡ Some (Unsupported part.head.number)
-fault-unsupported before part command = rw command
-
-pub fault-syntax : (before : List PartData) (part : PartData) → is_command part.head ≡ true → is_malformed before part.head ≡ true → part_fault before part ≡ Some (Syntax part.head.number)
-fault-syntax before part command malformed = rw (command, malformed)
-
 pub fault-twice : (before : List PartData) (part : PartData) → is_command part.head ≡ true → is_malformed before part.head ≡ false → has_twins (flat_map signals_driven (before ++ part ∷ [])) ≡ true → part_fault before part ≡ Some (TwoDrivers part.head.number)
 fault-twice before part command malformed twins = rw (command, malformed, twins)
 
@@ -114,9 +107,6 @@ pub fault-next : (parts : List PartData) (n : ℕ) (part : PartData) → n < len
 fault-next parts n part lt at =
     ap (first_part_fault (take n parts)) (drop_more parts n part lt ∙ ap (λ p. p ∷ drop (n + 1) parts) (sym at))
     ∙ ap (λ before. option_or (part_fault (take n parts) part) (first_part_fault before (drop (n + 1) parts))) (sym (take_more parts n part lt ∙ ap (λ p. take n parts ++ p ∷ []) (sym at)))
-
-pub taken-none : (parts : List PartData) (model : NamedModel) → model ≡ unnamed [] → AreTaken parts 0 model false
-taken-none parts model is = record { said = is; ends = refl; fault = refl }
 
 pub taken-more : (parts : List PartData) (n : ℕ) (old new : NamedModel) (ended now : Bool) (part : PartData) → AreTaken parts n old ended → n < length parts → part ≡ get_or parts n part
     → new ≡ unnamed (take n parts ++ part ∷ []) → part_fault (take n parts) part ≡ None → now ≡ has_ended (take n parts ++ part ∷ []) → AreTaken parts (n + 1) new now

@@ -7,13 +7,6 @@ use Rattle.std.specs.Option.{option_or}
 use Rattle.std.proofs.lemmas.Iterator.Adapters.{position_from-zero}
 use Rattle.ncl_base.proofs.Growing.{position_from-push}
 
-pub place-some : {X : Type 0} (p : X → Bool) (xs : List X) (place : ℕ) → Some place ≡ position p xs → place ≡ position_or_len p xs
-place-some p xs place e = chosen (ltb (position_or_len p xs) (length xs)) (position_or_len p xs) place e
-  where
-    chosen : (test : Bool) (k place : ℕ) → Some place ≡ cond test (Some k) None → place ≡ k
-    chosen true k place e = cc
-    chosen false k place e = absurd cc
-
 pub place-none : {X : Type 0} (p : X → Bool) (xs : List X) → None ≡ position p xs → length xs ≡ position_or_len p xs
 place-none p xs e =
     let most : position_or_len p xs ≤ length xs = prefix_len-le-length (λ x. not (p x)) xs in

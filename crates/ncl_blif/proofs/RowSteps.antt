@@ -1,9 +1,9 @@
 -- Rows that are read one after another.
-use Rattle.std.proofs.Common.{◌≡◌, ℕ, zero, suc, ◌+◌, ◌<◌, ◌≤◌, Bool, true, false, not, ◌&&◌, eqb, List, [], ◌∷◌, ◌++◌, length, map, take, drop, get_or, refl, sym, ap, ◌∙◌, arith, codes, Option, Some, None, inl, inr, ◌⊎◌}
+use Rattle.std.proofs.Common.{◌≡◌, ℕ, zero, suc, ◌+◌, ◌<◌, Bool, true, false, not, ◌&&◌, eqb, List, [], ◌∷◌, ◌++◌, length, map, take, drop, get_or, refl, sym, ap, ◌∙◌, arith, codes, Option, Some, None, inl, inr, ◌⊎◌}
 use mathlib.Core.Bool.{beq}
 use Rattle.std.proofs.lemmas.Bool.{and_parts, or_cases, false_from_ne_true}
 use Rattle.std.proofs.lemmas.Slice.Eq.{bytes_eq-Decides}
-use Rattle.std.proofs.lemmas.List.{drop_all, take_all, map_more, at_drop_more}
+use Rattle.std.proofs.lemmas.List.{map_more, at_drop_more}
 use Rattle.std.specs.Str.{bytes_eq}
 use Rattle.std.specs.List.{list_all}
 use Rattle.ncl_blif.specs.declared.fault.BlifFault.{BlifFault}
@@ -63,9 +63,6 @@ pub record AreRead (inputs : ℕ) (lines : List LineData) (n : ℕ) (rows : List
   pub fault : fault_from inputs lines lines ≡ fault_from inputs lines (drop n lines)
   pub value : 0 < n → is_value (first_value lines) ≡ true
   pub lists : on ≡ lists_on lines
-
-pub read-none : (inputs : ℕ) (lines : List LineData) (on : Bool) → on ≡ lists_on lines → AreRead inputs lines 0 [] on
-read-none inputs lines on lists = record { lits = refl; fault = refl; value = λ lt. absurd (omega arith); lists = lists }
 
 -- what the rows that are left break, where the next is one and ends as the first, and where it doesn't
 fault-more : (inputs : ℕ) (lines : List LineData) (n : ℕ) (d : LineData) → n < length lines → fault_from inputs lines (drop n lines) ≡ fault_from inputs lines (get_or lines n d ∷ drop (n + 1) lines)
@@ -130,14 +127,6 @@ read-mixed inputs lines n rows on line read lt at is ends =
     values_differ (last_field line.fields) (first_value lines) (λ e. ends (e ∙ sym (read.lists ∙ lists-first lines some))) in
     read.fault ∙ fault-more inputs lines n line lt ∙ ap (λ l. fault_from inputs lines (l ∷ drop (n + 1) lines)) (sym at)
     ∙ fault-found inputs lines (drop (n + 1) lines) line (MixedCover line.number) some (λ first e. row_fault-mixed inputs first line is (ap (bytes_eq (last_field line.fields)) e ∙ differs))
-
--- all rows are read
-pub read-all : (inputs : ℕ) (lines : List LineData) (n : ℕ) (rows : List (List Lit)) (on : Bool) → AreRead inputs lines n rows on → length lines ≤ n → (fault_from inputs lines lines ≡ None) × (rows ≡ map (λ line. lits_of line.fields) lines)
-read-all inputs lines n rows on read all = (read.fault ∙ ap (fault_from inputs lines) (drop_all n lines all) ∙ none inputs lines, read.lits ∙ ap (map (λ line. lits_of line.fields)) (take_all n lines all))
-  where
-    none : (inputs : ℕ) (lines : List LineData) → fault_from inputs lines [] ≡ None
-    none inputs [] = refl
-    none inputs (first ∷ lines) = refl
 
 -- what a test of two bits for being apart says
 pub bits-same : (a b : Bool) → not (beq a b) ≡ false → a ≡ b

@@ -2,10 +2,10 @@
 use Rattle.std.proofs.Common.{◌≡◌, ℕ, Bool, true, false, not, cond, List, [], ◌∷◌, ◌++◌, length, map, Option, Some, None, refl, ◌∙◌, subst, arith, zero, suc, eqb}
 use Rattle.std.specs.Prelude.{All}
 use Rattle.std.specs.List.{flat_map, AllByRecursion}
-use Rattle.std.specs.Option.{option_or}
 use Rattle.std.proofs.lemmas.Bool.{and_parts, eqb-true}
 use Rattle.std.proofs.lemmas.List.{length-map}
 use Rattle.std.proofs.lemmas.List.Elements.{All-from_recursion}
+use Rattle.ncl_base.proofs.Tests.{option_or-none}
 use Rattle.ncl_blif.specs.declared.fault.BlifFault.TheVariants.{Syntax}
 use Rattle.ncl_blif.specs.declared.model.Lit.{Lit}
 use Rattle.ncl_blif.specs.Line.{LineData}
@@ -13,10 +13,6 @@ use Rattle.ncl_blif.specs.Parts.{PartData, is_row, is_names, parts_of, sections_
 use Rattle.ncl_blif.specs.Named.{NamedCover, named_model, covers_said, cover_of, cover_ins, lits_of, pattern_of, lit_of}
 use Rattle.ncl_blif.specs.LineFaults.{is_row_of, row_fault, first_row_fault, rows_fault, head_fault, part_fault, first_part_fault, first_section_fault, first_line_fault}
 use Rattle.ncl_blif.proofs.ModelFacts.{RowsFit}
-
-pub both_missing : {X : Type 0} (a b : Option X) → option_or a b ≡ None → (a ≡ None) × (b ≡ None)
-both_missing None b h = (refl, h)
-both_missing (Some x) b h = absurd cc
 
 missing_if_not : {X : Type 0} (b : Bool) (x : X) (rest : Option X) → cond (not b) (Some x) rest ≡ None → b ≡ true
 missing_if_not true x rest h = refl
@@ -42,7 +38,7 @@ Wide inputs row = length row ≡ inputs
 rows_wide : (inputs : ℕ) (first : LineData) (rows : List LineData) → first_row_fault inputs first rows ≡ None → AllByRecursion (Wide inputs) (map (λ row. lits_of row.fields) rows)
 rows_wide inputs first [] h = tt
 rows_wide inputs first (row ∷ rows) h =
-    let (here, later) = both_missing (row_fault inputs first row) (first_row_fault inputs first rows) h in
+    let (here, later) = option_or-none (row_fault inputs first row) (first_row_fault inputs first rows) h in
     (row_width inputs row.fields (missing_if_not (is_row_of inputs row.fields) _ _ here), rows_wide inputs first rows later)
 
 -- the cover of a part without a fault
@@ -57,12 +53,12 @@ part_wide head (row ∷ rows) names h =
 covers_fit : (before parts : List PartData) → first_part_fault before parts ≡ None → AllByRecursion Fits (flat_map covers_said parts)
 covers_fit before [] h = tt
 covers_fit before (part ∷ parts) h =
-    let (here, later) = both_missing (part_fault before part) (first_part_fault (before ++ part ∷ []) parts) h in
+    let (here, later) = option_or-none (part_fault before part) (first_part_fault (before ++ part ∷ []) parts) h in
     let rest = covers_fit (before ++ part ∷ []) parts later in
     elim (is_names part.head) as (λ b. is_names part.head ≡ b → AllByRecursion Fits (cond b (cover_of part ∷ []) [] ++ flat_map covers_said parts)) [
       | true ↦ λ names. (
         All-from_recursion (Wide (length (cover_ins part.head))) (map (λ row. lits_of row.fields) part.rows)
-            (part_wide part.head part.rows names (both_missing (head_fault before part) (rows_fault part.head part.rows) here).1),
+            (part_wide part.head part.rows names (option_or-none (head_fault before part) (rows_fault part.head part.rows) here).1),
         rest,
       )
       | false ↦ λ other. rest
@@ -71,7 +67,7 @@ covers_fit before (part ∷ parts) h =
 sections_fit : (sections : List (List PartData)) → first_section_fault sections ≡ None → AllByRecursion RowsFit (map named_model sections)
 sections_fit [] h = tt
 sections_fit (section ∷ sections) h =
-    let (here, later) = both_missing (first_part_fault [] section) (first_section_fault sections) h in
+    let (here, later) = option_or-none (first_part_fault [] section) (first_section_fault sections) h in
     (All-from_recursion Fits (flat_map covers_said section) (covers_fit [] section here), sections_fit sections later)
 
 -- where no line is broken, each row of each model has as many literals as its cover reads signals

@@ -1,6 +1,6 @@
 -- The models of parts, one after another.
 use Rattle.std.proofs.Common.{◌≡◌, ℕ, suc, ◌+◌, ◌<◌, ◌≤◌, Bool, true, false, not, cond, List, [], ◌∷◌, ◌++◌, length, map, take, drop, refl, sym, ap, ◌∙◌, arith, append_assoc, Some, None}
-use Rattle.std.proofs.lemmas.List.{take-append-drop, drop-drop, drop_all, length-drop, length-append, append-nil}
+use Rattle.std.proofs.lemmas.List.{take-append-drop, drop-drop, length-drop, length-append}
 use Rattle.std.proofs.lemmas.List.Sums.{take_while-cons}
 use Rattle.std.proofs.lemmas.List.Concat.{flat_map-append}
 use Rattle.std.specs.List.{prefix_len, flat_map}
@@ -44,9 +44,6 @@ pub record AreDrafted (parts : List PartData) (at : ℕ) (drafts : List NamedMod
   pub fault : first_section_fault (sections_of parts) ≡ first_section_fault (sections_of (drop at parts))
   pub within : at ≤ length parts
 
-pub drafted-none : (parts : List PartData) → AreDrafted parts 0 []
-drafted-none parts = record { said = refl; fault = refl; within = omega arith }
-
 -- what the models from this place on break: the next one, or those after it
 fault-on : (parts section : List PartData) (at n : ℕ) → sections_of (drop at parts) ≡ take n (drop at parts) ∷ sections_of (drop n (drop at parts)) → section ≡ take n (drop at parts)
     → first_section_fault (sections_of (drop at parts)) ≡ option_or (first_part_fault [] section) (first_section_fault (sections_of (drop (at + n) parts)))
@@ -69,13 +66,6 @@ pub drafted-broken : (parts section : List PartData) (at n : ℕ) (drafts : List
     → first_part_fault [] section ≡ Some fault → first_section_fault (sections_of parts) ≡ Some fault
 drafted-broken parts section at n drafts fault drafted cut is broken =
     drafted.fault ∙ fault-on parts section at n cut is ∙ ap (λ o. option_or o (first_section_fault (sections_of (drop (at + n) parts)))) broken
-
-pub drafted-all : (parts : List PartData) (at : ℕ) (drafts : List NamedModel) → AreDrafted parts at drafts → length parts ≤ at → (first_section_fault (sections_of parts) ≡ None) × (drafts ≡ map named_model (sections_of parts))
-drafted-all parts at drafts drafted all =
-    let none = drop_all at parts all in (
-      drafted.fault ∙ ap (λ rest. first_section_fault (sections_of rest)) none,
-      sym (drafted.said ∙ ap (λ rest. drafts ++ map named_model (sections_of rest)) none ∙ append-nil drafts),
-    )
 
 -- the signals that the parts of one model give a driver are no more than those of all
 pub section-room : (parts section : List PartData) (at n : ℕ) → section ≡ take n (drop at parts) → length (drivers_of (named_model section)) ≤ length (drivers_of (named_model parts))

@@ -1,11 +1,10 @@
 -- How many pins have a net, counted pin by pin and cell by cell.
-use Rattle.std.proofs.Common.{◌≡◌, ℕ, ◌+◌, ◌*◌, ◌<◌, ◌≤◌, List, length, take, get_or, set, replicate, inl, inr, sym, ap, ◌∙◌, arith, get_or-set_same, get_or-set_other}
+use Rattle.std.proofs.Common.{◌≡◌, ℕ, ◌+◌, ◌*◌, ◌<◌, ◌≤◌, List, length, take, get_or, replicate, inl, inr, ap, ◌∙◌, arith}
 use Rattle.std.specs.Prelude.{sum_by}
-use Rattle.std.proofs.lemmas.Bool.{cases_eq, cases_lt, eq-eqb, ne_eqb}
+use Rattle.std.proofs.lemmas.Bool.{cases_lt}
 use Rattle.std.proofs.lemmas.List.{take_all, length-replicate, get_or-replicate, get_or_past}
-use Rattle.std.proofs.lemmas.List.Sums.{sum_by_more, sum_by-le, sum_by-take-le, count_by-le-length, count_by_more_yes, count_by_more_no}
+use Rattle.std.proofs.lemmas.List.Sums.{sum_by_more, sum_by-le, sum_by-take-le, count_by-le-length}
 use Rattle.std.proofs.lemmas.Option.{slice_get_within, get_or_from_slice_get}
-use Rattle.ncl_netlist.specs.declared.ids.NetId.{NetId}
 use Rattle.ncl_netlist.specs.declared.cell.Cell.{Cell}
 use Rattle.ncl_netlist.specs.Netlist.{NetlistData, IsNetlist}
 use Rattle.ncl_gates.specs.declared.cell_kind.CellKind.{CellKind}
@@ -16,23 +15,6 @@ use Rattle.ncl_cell_rules.specs.Origin.{CellAt}
 use Rattle.ncl_cell_rules.specs.Rules.{pins_with, ack_pins_of}
 use Rattle.ncl_cell_rules.specs.Tables.{IsTable}
 use Rattle.ncl_cell_rules.proofs.ReadTables.{has_pin}
-
--- one pin more is counted
-pub counted_more : (counts : List ℕ) (was : ℕ) (pins : List NetId) (i : ℕ) (d : NetId) (net : ℕ) → i < length pins → net < length counts
-    → get_or counts net 0 ≡ was + pins_with net (take i pins)
-    → get_or (set counts (get_or pins i d).0 (get_or counts (get_or pins i d).0 0 + 1)) net 0 ≡ was + pins_with net (take (i + 1) pins)
-counted_more counts was pins i d net lt within so_far =
-    let pin = (get_or pins i d).0 in
-    elim (cases_eq net pin) [
-      | inl same ↦
-          let more = count_by_more_yes (has_pin net) pins i d lt (eq-eqb pin net (sym same)) in
-          let here = get_or-set_same counts pin (get_or counts pin 0 + 1) 0 (omega (arith, same, within)) in
-          let old : get_or counts pin 0 ≡ was + pins_with net (take i pins) = ap (λ x. get_or counts x 0) (sym same) ∙ so_far in
-          ap (λ x. get_or (set counts pin (get_or counts pin 0 + 1)) x 0) same ∙ omega (arith, here, old, more)
-      | inr other ↦
-          let more = count_by_more_no (has_pin net) pins i d lt (ne_eqb pin net (λ e. other (sym e))) in
-          get_or-set_other counts pin net (get_or counts pin 0 + 1) 0 other ∙ so_far ∙ ap (λ x. was + x) (sym more)
-    ]
 
 -- the counts of the first k cells, of which each adds to a net's count
 pub record AreCountsOf (n : NetlistData) (pins : ℕ → Cell → ℕ) (k : ℕ) (counts : List ℕ) : Type 0 where

@@ -33,10 +33,6 @@ pub Computes-all : (nodes : List Node) (k : ℕ) (leaves : Leaves) (plan : Plan)
 Computes-all nodes k leaves plan at value respects =
     at (value leaves.first) (value leaves.second) (value leaves.third) (value leaves.fourth) value respects refl refl refl refl
 
-pub both_bits : (P : Bool → Type 0) → P false → P true → (b : Bool) → P b
-both_bits P low high true = high
-both_bits P low high false = low
-
 pub same_bits : (a b : Bool) → beq a b ≡ true → a ≡ b
 same_bits true true e = refl
 same_bits true false e = absurd cc

@@ -1,7 +1,7 @@
 -- Plans, one step further.
 use Rattle.std.proofs.Common.{◌≡◌, ℕ, ◌+◌, ◌<◌, Bool, false, List, [], ◌∷◌, ◌++◌, length, map, take, get_or, refl, sym, ap, subst, ◌∙◌, append_assoc}
 use Rattle.std.specs.Prelude.{All}
-use Rattle.std.proofs.lemmas.List.{map_push, take_more, append-nil}
+use Rattle.std.proofs.lemmas.List.{map_push, take_more}
 use Rattle.std.proofs.lemmas.List.Elements.{All-head, All-tail, All-push}
 use Rattle.ncl_network.specs.declared.network.Signal.{Signal}
 use Rattle.ncl_network.specs.Network.{signal_value, IsSource}
@@ -41,10 +41,6 @@ pub record AreApplied (inputs : ℕ) (before : List Small) (leaves : List Signal
   pub fine : IsPool inputs now
   pub exist : All (λ (s : Signal). IsSource inputs (length now) s.from) signals
   pub gives : (word : List Bool) → map (signal_value word (bits_of word now)) signals ≡ step_values (map (signal_value word (bits_of word before)) leaves) done
-
-pub AreApplied-none : (inputs : ℕ) (before : List Small) (leaves : List Signal) → IsPool inputs before → All (λ (s : Signal). IsSource inputs (length before) s.from) leaves → AreApplied inputs before leaves [] before leaves
-AreApplied-none inputs before leaves pool exist =
-    record { made = []; added = sym (append-nil before); fine = pool; exist = exist; gives = λ word. refl }
 
 kept_all : (inputs : ℕ) (now next : List Small) (value : List Bool → List Bool → Bool) (signal : Signal) → Adds inputs now next value signal → (word : List Bool) (signals : List Signal) → All (λ (s : Signal). IsSource inputs (length now) s.from) signals → map (signal_value word (bits_of word next)) signals ≡ map (signal_value word (bits_of word now)) signals
 kept_all inputs now next value signal adds word signals exist = kept_each signals exist

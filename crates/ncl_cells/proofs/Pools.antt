@@ -11,13 +11,13 @@ use Rattle.ncl_network.specs.declared.network.Node.{Node}
 use Rattle.ncl_network.specs.Network.{signal_value, node_value, node_values, is_constant, IsSource, ReadBefore}
 use Rattle.ncl_network.proofs.Walking.{node_values-push, ReadBefore-push, IsSource-more}
 use Rattle.ncl_decomp.specs.Split.{IsNarrow}
-use Rattle.ncl_decomp.proofs.Later.{node_values-append}
+use Rattle.ncl_decomp.proofs.Later.{node_values-append, signal_kept}
 use Rattle.ncl_cells.specs.declared.small.Small.{Small}
 use Rattle.ncl_cells.specs.declared.form.Form.TheVariants.{New}
 use Rattle.ncl_cells.specs.Smalls.{small_ins, small_node, small_value, bits_of}
 use Rattle.ncl_cells.specs.Forms.{form_value, IsFormOver}
 use Rattle.ncl_cells.specs.Pools.{IsPool, Adds}
-use Rattle.ncl_cells.proofs.Smalls.{small_node-value, small_node-narrow, kept, bit_of_node, length-bits_of}
+use Rattle.ncl_cells.proofs.Smalls.{small_node-value, small_node-narrow, bit_of_node, length-bits_of}
 
 pub IsPool-none : (inputs : ℕ) → IsPool inputs []
 IsPool-none inputs = record { narrow = All-nil IsNarrow; reads_before = tt }
@@ -87,7 +87,7 @@ module _ (inputs : ℕ) (before after : List Small) (value : List Bool → List 
       ap (λ smalls. signal_value word (bits_of word smalls) s) adds.added
       ∙ ap (λ nodes. signal_value word (node_values word [] nodes) s) (map-append small_node before adds.made)
       ∙ ap (λ bits. signal_value word bits s) (node_values-append word [] (map small_node before) (map small_node adds.made))
-      ∙ kept inputs word (bits_of word before) (map small_node adds.made) s (subst (λ n. IsSource inputs n s.from) (sym (length-bits_of word before)) there)
+      ∙ signal_kept inputs word (bits_of word before) (map small_node adds.made) s (subst (λ n. IsSource inputs n s.from) (sym (length-bits_of word before)) there)
 
   pub Adds-then : (last : List Small) (other : List Bool → List Bool → Bool) (result : Signal) (whole : List Bool → List Bool → Bool) → Adds inputs after last other result → ((word : List Bool) → other word (bits_of word after) ≡ whole word (bits_of word before)) → Adds inputs before last whole result
   Adds-then last other result whole second same = record {

@@ -5,7 +5,6 @@ use Rattle.std.proofs.lemmas.List.{map_push, length-map}
 use Rattle.std.proofs.lemmas.List.Elements.{All-nil, All-head, All-tail, All-push}
 use Rattle.std.proofs.lemmas.List.Sums.{sum_by-cons}
 use Rattle.std.proofs.lemmas.Option.{same_Some, slice_get_within, get_or_from_slice_get}
-use Rattle.ncl_network.specs.declared.network.SignalSource.TheVariants.{Input, Node as FromNode, Const}
 use Rattle.ncl_network.specs.declared.network.Signal.{Signal}
 use Rattle.ncl_network.specs.declared.network.Node.{Node}
 use Rattle.ncl_network.specs.declared.network.Network.{Network}
@@ -28,29 +27,10 @@ use Rattle.ncl_cells.proofs.Cones.{respected}
 
 -- ---- the images of signals
 
-pub image_of_node : (inputs : ℕ) (images : List Signal) (k : ℕ) (signal : Signal) → slice_get images k ≡ Some signal → IsImageOf inputs images (plain (FromNode k)) signal
-image_of_node inputs images k signal at = record {
-  value = λ word nodes old have. have k signal at;
-  exists = λ count exist.
-      subst (λ (s : Signal). IsSource inputs count s.from) (get_or_from_slice_get images k signal signal at) (exist k signal (slice_get_within images k signal at));
-}
-
-pub image_of_input : (inputs : ℕ) (images : List Signal) (i : ℕ) → i < inputs → IsImageOf inputs images (plain (Input i)) (plain (Input i))
-image_of_input inputs images i within = record { value = λ word nodes old have. refl; exists = λ count exist. within }
-
-pub image_of_constant : (inputs : ℕ) (images : List Signal) (bit : Bool) → IsImageOf inputs images (plain (Const bit)) (plain (Const bit))
-image_of_constant inputs images bit = record { value = λ word nodes old have. refl; exists = λ count exist. tt }
-
 pub image_turned : (inputs : ℕ) (images : List Signal) (signal source : Signal) → IsImageOf inputs images (plain signal.from) source → IsImageOf inputs images signal (turned_by signal.inverted source)
 image_turned inputs images signal source is = record {
   value = λ word nodes old have. turned_by-value word nodes signal.inverted source ∙ ap (λ b. cond signal.inverted (not b) b) (is.value word nodes old have);
   exists = is.exists;
-}
-
-pub AreImagesOf-none : (inputs : ℕ) (images : List Signal) → AreImagesOf inputs images [] []
-AreImagesOf-none inputs images = record {
-  values = λ word nodes old have. refl;
-  exist = λ count exist. All-nil (λ (image : Signal). IsSource inputs count image.from);
 }
 
 pub AreImagesOf-push : (inputs : ℕ) (images signals found : List Signal) (signal image : Signal) (longer : List Signal) → AreImagesOf inputs images signals found → IsImageOf inputs images signal image → longer ≡ found ++ image ∷ [] → AreImagesOf inputs images (signals ++ signal ∷ []) longer

@@ -10,10 +10,10 @@ use Rattle.ncl_blif.specs.declared.model.Lit.TheVariants.{Zero, One, Dash}
 use Rattle.ncl_network.specs.declared.network.SignalSource.TheVariants.{Node as FromNode}
 use Rattle.ncl_network.specs.declared.network.Signal.{Signal}
 use Rattle.ncl_network.specs.declared.network.Node.{Node}
-use Rattle.ncl_network.specs.Network.{signal_value, node_value, node_values, is_constant, IsSource, ReadBefore}
+use Rattle.ncl_network.specs.Network.{signal_value, node_value, node_values, is_constant, ReadBefore}
 use Rattle.ncl_network.proofs.Walking.{length-node_values}
 use Rattle.ncl_decomp.specs.Split.{IsNarrow}
-use Rattle.ncl_decomp.proofs.Later.{signals_kept}
+use Rattle.ncl_decomp.proofs.Later.{signals_kept, signal_kept}
 use Rattle.ncl_cells.specs.declared.small.Op.{Op}
 use Rattle.ncl_cells.specs.declared.small.Op.TheVariants.{And, Differ, Majority, Choose}
 use Rattle.ncl_cells.specs.declared.small.Small.{Small}
@@ -80,11 +80,6 @@ small_node-narrow small = narrow_by_op small.op small.first small.second small.t
 
 -- ---- the bits of nodes
 
--- a signal of earlier nodes keeps its bit
-pub kept : (inputs : ℕ) (word bits : List Bool) (nodes : List Node) (s : Signal) → IsSource inputs (length bits) s.from → signal_value word (node_values word bits nodes) s ≡ signal_value word bits s
-kept inputs word bits nodes s known =
-    ap (λ l. get_or l 0 false) (signals_kept inputs word bits nodes (s ∷ []) (All-cons (λ (x : Signal). IsSource inputs (length bits) x.from) s [] known (All-nil (λ (x : Signal). IsSource inputs (length bits) x.from))))
-
 -- the bit of a node that reads those before it
 value_at : (inputs : ℕ) (word bits : List Bool) (nodes : List Node) → ReadBefore inputs (length bits) nodes → (k : ℕ) (node : Node) → slice_get nodes k ≡ Some node → get_or (node_values word bits nodes) (length bits + k) false ≡ node_value word (node_values word bits nodes) node
 value_at inputs word bits [] before k node at = absurd cc
@@ -95,7 +90,7 @@ value_at inputs word bits (first ∷ rest) before zero node at =
     let mine : Signal = record { from = FromNode (length bits); inverted = false } in
     let count : length longer ≡ length bits + 1 = length_push bits own in
     let there : length bits < length longer = omega (arith, count) in
-    let last : get_or all (length bits) false ≡ own = kept inputs word longer rest mine there ∙ get_or_push bits own false (length bits) refl in
+    let last : get_or all (length bits) false ≡ own = signal_kept inputs word longer rest mine there ∙ get_or_push bits own false (length bits) refl in
     let same : node_value word all first ≡ own = ap (cover_value first.on first.rows) (signals_kept inputs word bits (first ∷ rest) first.ins before.0) in
     ap (λ n. get_or all n false) (add-zero (length bits)) ∙ last ∙ sym same ∙ ap (node_value word all) (same_Some first node at)
 value_at inputs word bits (first ∷ rest) before (suc k) node at =

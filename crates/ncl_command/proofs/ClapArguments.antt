@@ -1,10 +1,11 @@
 -- What `clap` sees in an argument, by the kind of the argument.
-use Rattle.std.proofs.Common.{◌≡◌, ◌∙◌, ◌+◌, Bool, true, false, List, [], ◌∷◌, Option, Some, None, refl, sym, ap, ap₂, subst, length, not, ◌==◌, if◌then◌else◌, cond, eqb-true, ◌||◌, true≢false, arith}
+use Rattle.std.proofs.Common.{◌≡◌, ◌∙◌, ◌+◌, Bool, true, false, List, [], ◌∷◌, Option, Some, None, refl, sym, ap, ap₂, subst, length, not, ◌==◌, if◌then◌else◌, cond, eqb-true, arith}
 use Rattle.std.specs.List.{list_any, position_or_len, before_first, after_first}
 use Rattle.std.specs.Str.{bytes_eq}
 use Rattle.std.proofs.lemmas.Bool.{eqb-false}
 use Rattle.std.proofs.Math.Seq.{take-length}
 use Rattle.std.specs.Prelude.{take}
+use Rattle.ncl_base.proofs.Tests.{position_or_len-none}
 use Rattle.clap.specs.Lexer.{long_of, short_of}
 use Rattle.ncl_command.specs.Reading.{Text, ArgumentKind, Refused, Plain, Named, Valued, kind_of, dashed_kind, option_kind, valued, is_equals}
 
@@ -27,18 +28,6 @@ IsSeen argument Refused = Unit {0}
 IsSeen argument Plain = IsPlain argument
 IsSeen argument (Named name) = IsLong argument name None
 IsSeen argument (Valued name value) = IsLong argument name (Some value)
-
--- where no element passes, the first that does stands at the end
-position_past : {X : Type 0} (p : X → Bool) (xs : List X) → list_any p xs ≡ false → position_or_len p xs ≡ length xs
-position_past p [] none = refl
-position_past p (x ∷ xs) none = by (p x) refl (λ e. position_past p xs e)
-  where
-    by : (b : Bool) → p x ≡ b → (list_any p xs ≡ false → position_or_len p xs ≡ length xs) → position_or_len p (x ∷ xs) ≡ length (x ∷ xs)
-    by true e rest = absurd (true≢false (sym (ap (λ b. b || list_any p xs) e) ∙ none))
-    by false e rest =
-        let past = rest (sym (ap (λ b. b || list_any p xs) e) ∙ none) in
-        let one : position_or_len p (x ∷ xs) ≡ 1 + position_or_len p xs = ap (λ b. cond (not b) (1 + position_or_len p xs) 0) e in
-        omega arith
 
 -- where the first element that passes stands at the end, none does
 none_before : {X : Type 0} (p : X → Bool) (xs : List X) → position_or_len p xs ≡ length xs → list_any p xs ≡ false
@@ -84,7 +73,7 @@ option_seen (byte ∷ rest) = by (position_or_len is_equals text == length text)
         some : (b : Bool) → list_any is_equals text ≡ b → list_any is_equals text ≡ true
         some true found = found
         some false none =
-            absurd (eqb-false (position_or_len is_equals text) (length text) e (position_past is_equals text none))
+            absurd (eqb-false (position_or_len is_equals text) (length text) e (position_or_len-none is_equals text none))
 
 -- what follows one dash
 dashed_seen : (text : Text) → IsSeen (45 ∷ text) (dashed_kind text)

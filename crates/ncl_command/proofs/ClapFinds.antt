@@ -1,9 +1,9 @@
 -- Which rule of a form `clap` finds by a place, an id or a name.
-use Rattle.std.proofs.Common.{◌≡◌, ◌∙◌, ℕ, ◌+◌, ◌≤◌, Bool, true, false, List, [], ◌∷◌, ◌++◌, Option, Some, None, map, refl, sym, ap, subst, is_some, if◌then◌else◌, ◌||◌, true≢false, length, append-nil, arith}
+use Rattle.std.proofs.Common.{◌≡◌, ◌∙◌, ℕ, ◌+◌, ◌≤◌, Bool, true, false, List, [], ◌∷◌, ◌++◌, Option, Some, None, map, refl, sym, ap, subst, is_some, if◌then◌else◌, true≢false, length, append-nil, arith}
 use Rattle.std.specs.List.{list_any, find}
 use Rattle.std.specs.Str.{bytes_eq}
 use Rattle.std.specs.Prelude.{unwrap_or}
-use Rattle.std.proofs.lemmas.Bool.{eq-eqb, ne_eqb}
+use Rattle.std.proofs.lemmas.Bool.{eq-eqb, ne_eqb, or_parts}
 use Rattle.std.proofs.lemmas.Slice.Eq.{bytes_eq-Decides}
 use Rattle.clap.specs.Walk.{Rule, arg_by_id, arg_by_long, arg_by_index}
 use Rattle.ncl_command.specs.Reading.{Text, Form, FormOption, has_option, option_named}
@@ -43,11 +43,6 @@ no_next_place form done is =
     subst (λ places. arg_by_index (place_args 1 places ++ map option_arg form.options) (1 + length done) ≡ None) is
     (none_past (1 + length done) 1 (done ++ []) (map option_arg form.options) (omega (arith, ap length (append-nil done)))
     (no_place (1 + length done) form.options))
-
--- neither of two
-pub none_first : (a b : Bool) → (a || b) ≡ false → (a ≡ false) × (b ≡ false)
-none_first false b e = (refl, e)
-none_first true b e = absurd (true≢false e)
 
 -- a text is itself
 pub same : (text : Text) → bytes_eq text text ≡ true
@@ -111,7 +106,7 @@ other_places : (form : Form) (name : Text) → has_option form name ≡ true →
     → arg_by_id (place_args i places ++ rest) name ≡ arg_by_id rest name
 other_places form name known i [] rest apart = refl
 other_places form name known i (place ∷ places) rest apart =
-    let both = none_first (has_option form place) (list_any (has_option form) places) apart in
+    let both = or_parts (has_option form place) (list_any (has_option form) places) apart in
     rw (other (bytes_eq place name) refl both.0) (other_places form name known (i + 1) places rest both.1)
   where
     other : (b : Bool) → bytes_eq place name ≡ b → has_option form place ≡ false → bytes_eq place name ≡ false

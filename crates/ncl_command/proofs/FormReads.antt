@@ -5,6 +5,7 @@ use Rattle.std.specs.List.{list_any, fold}
 use Rattle.std.specs.Option.{option_map_or}
 use Rattle.std.proofs.Math.Bool.{and-false}
 use Rattle.std.proofs.lemmas.List.{append_assoc, length-append}
+use Rattle.std.proofs.lemmas.Bool.{or_parts}
 use Rattle.clap.specs.Lexer.{usize_max}
 use Rattle.clap.specs.Walk.{Held, Rule, Row, Waiting, Walk, idle, option, finished, value as to_place, settled_rows, subcommand_met, used_by_id, walked}
 use Rattle.clap.specs.Walk.{with_default, arg_by_id, arg_by_long, is_pending, pushed, to_positional, used, after_flag, after_step, long_met, nothing_held, rows_after}
@@ -17,7 +18,7 @@ use Rattle.ncl_command.specs.Reading.{is_refused, is_refused_kind, after_kind, v
 use Rattle.ncl_command.specs.Rules.{app_for, app_with}
 use Rattle.ncl_command.proofs.FormRules.{AreFew, any_arg, arg, flag_arg, args, built_is, counted_on, place_arg, shape}
 use Rattle.ncl_command.proofs.ClapEnds.{check_is, defaults_pass}
-use Rattle.ncl_command.proofs.ClapFinds.{IsFound, IsPlace, known_found, next_place, no_next_place, none_first, place_found, unknown_missed}
+use Rattle.ncl_command.proofs.ClapFinds.{IsFound, IsPlace, known_found, next_place, no_next_place, place_found, unknown_missed}
 use Rattle.ncl_command.proofs.ClapRows.{flag_passes, flag_repeats, flag_used_is, named, rows, use_passes, use_repeats, used_is}
 use Rattle.ncl_command.proofs.ClapSteps.{Pending, at, held, long_turn, long_walked, plain_turn, plain_walked, value_turn, value_walked}
 use Rattle.ncl_command.proofs.ClapArguments.{IsLong, IsPlain, IsSeen, seen}
@@ -126,7 +127,7 @@ module _ (form : Form) (alone : list_any (has_option form) form.places ≡ false
       → Fails (settle_fault (args form) false (held have pending)) → Fails (rest_fault (args form) (at have pending idle (after done)) arguments)
   lost [] have pending done left is readable fails = settle_fails (args form) _ fails
   lost (argument ∷ arguments) have pending done left is readable fails =
-      step_fails (args form) _ argument arguments (by (kind_of argument) (seen argument) (none_first (is_refused argument) (list_any is_refused arguments) readable).0)
+      step_fails (args form) _ argument arguments (by (kind_of argument) (seen argument) (or_parts (is_refused argument) (list_any is_refused arguments) readable).0)
     where
       by : (k : ArgumentKind) → IsSeen argument k → is_refused_kind k ≡ false → Fails (turn_fault (shape (args form)) [] (at have pending idle (after done)) argument)
       by Refused sees readable = absurd (true≢false readable)
@@ -415,10 +416,10 @@ module _ (form : Form) (alone : list_any (has_option form) form.places ≡ false
   }
   goes (argument ∷ arguments) = record {
     idle_goes = λ done left given have pending is readable passed.
-        let both = none_first (is_refused argument) (list_any is_refused arguments) readable in
+        let both = or_parts (is_refused argument) (list_any is_refused arguments) readable in
         argument_goes arguments (goes arguments) done left given have pending argument is both.1 passed (kind_of argument) (seen argument) both.0;
     waits_goes = λ done left given name is readable found.
-        let both = none_first (is_refused argument) (list_any is_refused arguments) readable in
+        let both = or_parts (is_refused argument) (list_any is_refused arguments) readable in
         value_goes arguments (goes arguments) done left given name argument is both.1 found (kind_of argument) (seen argument) both.0;
   }
 

@@ -10,8 +10,9 @@ use Rattle.ncl_netlist.specs.Parts.{input_names}
 use Rattle.ncl_tree.specs.NamePairs.{pair_list}
 use Rattle.ncl_bank.specs.declared.BankParts.{BankParts}
 use Rattle.ncl_bank.specs.BankParts.{bank_pins, AreBankParts}
-use Rattle.ncl_assembly.proofs.ListPlaces.{holds_at, at-map, at_of_map}
 use Rattle.ncl_compile.proofs.StandingCells.{StandAt, StandAt-whole, StandAt-left, StandAt-right}
+use Rattle.ncl_base.proofs.Tests.{All-at}
+use Rattle.ncl_base.proofs.Places.{at_map, at_of_map}
 
 -- the pins of the two register cells of a bit
 pins_of_bit : (request rst : List ℕ) (ins outs : List NamePair) (j : ℕ) (x y : NamePair) → slice_get ins j ≡ Some x → slice_get outs j ≡ Some y → (slice_get (bank_pins ins outs request rst) (2 * j) ≡ Some (x.zero ∷ request ∷ rst ∷ y.zero ∷ [])) × (slice_get (bank_pins ins outs request rst) (2 * j + 1) ≡ Some (x.one ∷ request ∷ rst ∷ y.one ∷ []))
@@ -56,18 +57,18 @@ module _ (ins outs : List NamePair) (request rst root prefix : List ℕ) (parts 
   pub register_zero : (j : ℕ) (x y : NamePair) → slice_get ins j ≡ Some x → slice_get outs j ≡ Some y → (c : PartCell) × (slice_get are.registers (2 * j) ≡ Some c) × (c.kind ≡ Register) × (c.pins ≡ x.zero ∷ request ∷ rst ∷ y.zero ∷ [])
   register_zero j x y at_x at_y =
       let (c, at, pins) = at_of_map (λ (cell : PartCell). cell.pins) are.registers (2 * j) (x.zero ∷ request ∷ rst ∷ y.zero ∷ []) (ap (λ l. slice_get l (2 * j)) are.register_pins ∙ (pins_of_bit request rst ins outs j x y at_x at_y).0) in
-      (c, at, holds_at (λ (cell : PartCell). cell.kind ≡ Register) are.registers are.register_kinds (2 * j) c at, pins)
+      (c, at, All-at (λ (cell : PartCell). cell.kind ≡ Register) are.registers are.register_kinds (2 * j) c at, pins)
 
   pub register_one : (j : ℕ) (x y : NamePair) → slice_get ins j ≡ Some x → slice_get outs j ≡ Some y → (c : PartCell) × (slice_get are.registers (2 * j + 1) ≡ Some c) × (c.kind ≡ Register) × (c.pins ≡ x.one ∷ request ∷ rst ∷ y.one ∷ [])
   register_one j x y at_x at_y =
       let (c, at, pins) = at_of_map (λ (cell : PartCell). cell.pins) are.registers (2 * j + 1) (x.one ∷ request ∷ rst ∷ y.one ∷ []) (ap (λ l. slice_get l (2 * j + 1)) are.register_pins ∙ (pins_of_bit request rst ins outs j x y at_x at_y).1) in
-      (c, at, holds_at (λ (cell : PartCell). cell.kind ≡ Register) are.registers are.register_kinds (2 * j + 1) c at, pins)
+      (c, at, All-at (λ (cell : PartCell). cell.kind ≡ Register) are.registers are.register_kinds (2 * j + 1) c at, pins)
 
   -- and its acknowledge cell
   pub ack_cell : (j : ℕ) (y : NamePair) → slice_get outs j ≡ Some y → (c : PartCell) × (slice_get are.acks j ≡ Some c) × (c.kind ≡ Ack) × (input_names c ≡ y.zero ∷ y.one ∷ [])
   ack_cell j y at_y =
-      let (c, at, pins) = at_of_map input_names are.acks j (pair_list y) (ap (λ l. slice_get l j) are.ack_inputs ∙ at-map pair_list outs j y at_y) in
-      (c, at, holds_at (λ (cell : PartCell). cell.kind ≡ Ack) are.acks are.ack_kinds j c at, pins)
+      let (c, at, pins) = at_of_map input_names are.acks j (pair_list y) (ap (λ l. slice_get l j) are.ack_inputs ∙ at_map pair_list outs j y at_y) in
+      (c, at, All-at (λ (cell : PartCell). cell.kind ≡ Ack) are.acks are.ack_kinds j c at, pins)
 
   -- where they stand in a list in which the bank does
   module _ (whole : List PartCell) (first : ℕ) (stands : StandAt whole first parts.cells) where

@@ -20,8 +20,11 @@ use Rattle.ncl_rails.specs.declared.StageParts.{StageParts}
 use Rattle.ncl_rails.specs.StageParts.{AreStageParts}
 use Rattle.ncl_bank.specs.declared.BankParts.{BankParts}
 use Rattle.ncl_bank.specs.BankParts.{bank_pins, IsTreeCell, AreBankParts}
-use Rattle.ncl_assembly.proofs.ListPlaces.{holds_of, member_at, place_of_member, split_at, Member-flat_map, member_of_flat_map}
+use Rattle.ncl_assembly.proofs.ListPlaces.{member_at, place_of_member, member_of_flat_map}
 use Rattle.ncl_compile.proofs.BankCells.{register_zero, register_one}
+use Rattle.ncl_base.proofs.Tests.{All-member}
+use Rattle.ncl_base.proofs.Places.{divided_at}
+use Rattle.ncl_base.proofs.Joined.{Member-flat_map}
 
 -- a member of a list is one of the first, or the last
 last_cases : {X : Type 0} (xs : List X) (k : ℕ) (d x : X) → length xs ≡ suc k → Member x xs → Member x (take k xs) ⊎ (get_or xs k d ≡ x)
@@ -95,13 +98,13 @@ module _ (ins outs : List NamePair) (request rst root prefix : List ℕ) (bank :
   bank_all_pins c m =
       elim (cell_cases c m) [
         | inl register ↦
-            let kind = holds_of (λ (cell : PartCell). cell.kind ≡ Register) are.registers are.register_kinds c register in
+            let kind = All-member (λ (cell : PartCell). cell.kind ≡ Register) are.registers are.register_kinds c register in
             let pins = pins_of_register c register in
             ap length pins.are ∙ sym (ap (λ k. length (pins_of k)) kind)
         | inr other ↦
             elim other [
-              | inl ack ↦ holds_of HasAllPins are.acks are.ack_pins c ack
-              | inr tree ↦ (holds_of IsTreeCell are.tree are.tree_cells c tree).all_pins
+              | inl ack ↦ All-member HasAllPins are.acks are.ack_pins c ack
+              | inr tree ↦ (All-member IsTreeCell are.tree are.tree_cells c tree).all_pins
             ]
       ]
 
@@ -185,8 +188,8 @@ module _ (ins outs : List NamePair) (request rst root prefix : List ℕ) (bank :
         of_tree : Member c are.tree → Member x (input_names c) → Member x driven
         of_tree m reads =
             let (k, at) = place_of_member are.tree c m in
-            let (before, after, whole) = split_at are.tree k c at in
-            let known = holds_of (Contains (map output_name (are.acks ++ before))) (input_names c) (are.tree_reads before after c whole) x reads in
+            let (before, after, whole) = divided_at are.tree k c at in
+            let known = All-member (Contains (map output_name (are.acks ++ before))) (input_names c) (are.tree_reads before after c whole) x reads in
             let (d, in_front, same) = member_of_map output_name (are.acks ++ before) x (Member-from_Contains (map output_name (are.acks ++ before)) x known) in
             let inside : Member d others = elim (Member-append_cases d are.acks before in_front) [
               | inl ack ↦ Member-append_left d are.tree ack
@@ -204,11 +207,11 @@ module _ (ins outs : List NamePair) (request rst root prefix : List ℕ) (bank :
 -- what stands at the pins of a stage: what it reads, and what it drives
 pub stage_pin_cases : (network : Network) (ins : List NamePair) (prefix : List ℕ) (stage : StageParts) → AreStageParts network ins prefix stage → (x : List ℕ) (c : PartCell) → Member c stage.cells → Member x c.pins → Member x (names_known ins stage.cells)
 stage_pin_cases network ins prefix stage are x c in_cells in_pins =
-    elim (pin_cases c x (holds_of HasAllPins stage.cells are.all_pins c in_cells) in_pins) [
+    elim (pin_cases c x (All-member HasAllPins stage.cells are.all_pins c in_cells) in_pins) [
       | inl reads ↦
           let (k, at) = place_of_member stage.cells c in_cells in
-          let (before, after, whole) = split_at stage.cells k c at in
-          let known = holds_of (Contains (names_known ins before)) (input_names c) (are.reads_known before after c whole) x reads in
+          let (before, after, whole) = divided_at stage.cells k c at in
+          let known = All-member (Contains (names_known ins before)) (input_names c) (are.reads_known before after c whole) x reads in
           elim (Member-append_cases x (pair_names ins) (map output_name before) (Member-from_Contains (names_known ins before) x known)) [
             | inl rail ↦ Member-append_left x (map output_name stage.cells) rail
             | inr made ↦

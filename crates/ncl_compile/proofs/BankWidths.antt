@@ -5,12 +5,12 @@ use Rattle.std.proofs.lemmas.Bool.{cases_lt}
 use Rattle.std.proofs.lemmas.Option.{slice_get_within}
 use Rattle.ncl_base.specs.declared.word.TheConstants.{MOST_BITS}
 use Rattle.ncl_base.proofs.Members.{slice_get-some}
+use Rattle.ncl_base.proofs.Tests.{All-at}
 use Rattle.ncl_blif.specs.declared.model.Model.{Model}
 use Rattle.ncl_blif.specs.Meaning.{width_of}
 use Rattle.ncl_blif.specs.Model.{IsModel, AreJoined, AreModels}
 use Rattle.ncl_tree.specs.NamePairs.{pair_names, IsFreeOf}
 use Rattle.ncl_rails.specs.declared.StageParts.{StageParts}
-use Rattle.ncl_assembly.proofs.ListPlaces.{holds_at}
 use Rattle.ncl_compile.specs.Size.{widths_of, IsSlim, CanBeCompiled}
 use Rattle.ncl_compile.specs.InnerNames.{bank_prefix}
 use Rattle.ncl_compile.specs.Pieces.{AreStages}
@@ -58,13 +58,13 @@ module _ (models : List Model) (are : AreModels models) (small : CanBeCompiled m
       elim (before_or_after k within) [
         | inl (model, at) ↦
             let width = width_before models k model at in
-            let slim = holds_at IsSlim models small.slim k model at in
-            let some = (holds_at IsModel models are.each k model at).has_input in
+            let slim = All-at IsSlim models small.slim k model at in
+            let some = (All-at IsModel models are.each k model at).has_input in
             (omega (arith, width, some), omega (arith, width, slim.0))
         | inr (j, model, place, at) ↦
             let width = ap (slice_index (widths_of models)) place ∙ width_after models j model are.joined at in
-            let slim = holds_at IsSlim models small.slim j model at in
-            let some = (holds_at IsModel models are.each j model at).has_output in
+            let slim = All-at IsSlim models small.slim j model at in
+            let some = (All-at IsModel models are.each j model at).has_output in
             (omega (arith, width, some), omega (arith, width, slim.1))
       ]
 

@@ -6,6 +6,7 @@ use Rattle.std.proofs.lemmas.Bool.{cond_both, eqb-false}
 use Rattle.std.proofs.lemmas.List.FromFn.{length-map-range_with_len}
 use Rattle.ncl_base.specs.declared.word.TheConstants.{MOST_BITS}
 use Rattle.ncl_base.proofs.Members.{Member, member_cases, Member-append_cases, member_of_map, Member-from_Contains}
+use Rattle.ncl_base.proofs.Tests.{All-member}
 use Rattle.ncl_netlist.specs.declared.parts.NamePair.{NamePair}
 use Rattle.ncl_netlist.specs.declared.parts.PartCell.{PartCell}
 use Rattle.ncl_netlist.specs.Parts.{output_name}
@@ -17,7 +18,6 @@ use Rattle.ncl_rails.specs.Naming.{names_known}
 use Rattle.ncl_rails.specs.declared.StageParts.{StageParts}
 use Rattle.ncl_rails.specs.StageParts.{CanBeStage, AreStageParts}
 use Rattle.ncl_bank.specs.BankParts.{CanBeBank}
-use Rattle.ncl_assembly.proofs.ListPlaces.{holds_of}
 use Rattle.ncl_compile.specs.Ports.{port_pair, input_pairs, output_pairs}
 use Rattle.ncl_compile.specs.InnerNames.{numbered, bank_prefix, stage_prefix, inner_pair, inner_pairs, pairs_driven, root_name, request_name}
 use Rattle.ncl_compile.proofs.NameLaws.{AreApart, differ_from_apart, apart_more, BeginsWith, name_at, port_begins, same_port, inner_begins, same_inner, same_numbered, name_of_pairs, numbered_apart}
@@ -224,7 +224,7 @@ known_first number width network parts are y m =
       | inl rail ↦ inl (inner_first number width y rail)
       | inr made ↦
           let (cell, in_cells, same) = member_of_map output_name parts.cells y made in
-          let named = holds_of (λ (cell : PartCell). IsPartName (stage_prefix number) (output_name cell)) parts.cells are.net_names cell in_cells in
+          let named = All-member (λ (cell : PartCell). IsPartName (stage_prefix number) (output_name cell)) parts.cells are.net_names cell in_cells in
           inr (ap first_of (sym same ∙ named.is))
     ]
 
@@ -233,7 +233,7 @@ outputs_free bank number width network parts are = free_of 98 bank (pair_names p
   where
     other : (y : List ℕ) → Member y (pair_names parts.outputs) → first_of y ≢ 98
     other y m same =
-        let known = holds_of (Contains (names_known (inner_pairs number width) parts.cells)) (pair_names parts.outputs) are.outputs_known y m in
+        let known = All-member (Contains (names_known (inner_pairs number width) parts.cells)) (pair_names parts.outputs) are.outputs_known y m in
         elim (known_first number width network parts are y (Member-from_Contains (names_known (inner_pairs number width) parts.cells) y known)) [
           | inl w ↦ let clash : ◌≡◌ {A = ℕ} 119 98 = sym w ∙ same in absurd (omega (arith, clash))
           | inr s ↦ let clash : ◌≡◌ {A = ℕ} 115 98 = sym s ∙ same in absurd (omega (arith, clash))

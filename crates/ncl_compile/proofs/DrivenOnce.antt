@@ -17,8 +17,9 @@ use Rattle.ncl_netlist.specs.Names.{AllDiffer, same_name, name_number}
 use Rattle.ncl_netlist.specs.Netlist.{drives}
 use Rattle.ncl_netlist.specs.Parts.{port_names, output_name, nets_of, cell_of}
 use Rattle.ncl_netlist.proofs.NameLists.{equal_names, same_itself, name_number-get_or, get_or-name_number, AllDiffer-once_each, list_any-once_each, take-once_each}
-use Rattle.ncl_assembly.proofs.ListPlaces.{at-map, place_of_member, member_at}
+use Rattle.ncl_assembly.proofs.ListPlaces.{place_of_member, member_at}
 use Rattle.ncl_compile.proofs.NameLaws.{AreApart}
+use Rattle.ncl_base.proofs.Places.{at_map}
 
 -- how many of some cells pass a test that one name passes
 module _ {X Y : Type 0} (name_of : X → List ℕ) (made : X → Y) (test : Y → Bool) (x : List ℕ) (right : (c : X) → name_of c ≡ x → test (made c) ≡ true) (only : (c : X) → test (made c) ≡ true → name_of c ≡ x) where
@@ -87,14 +88,14 @@ module _ (parts : Parts) (differ : AllDiffer (port_names parts)) (apart : AreApa
   port_place : (i : ℕ) (port : Port) → slice_get parts.ports i ≡ Some port → name_number nets port.name ≡ i
   port_place i port at =
       let within = slice_get_within parts.ports i port at in
-      let first = get_or_from_slice_get (port_names parts) i port.name [] (at-map (λ (p : Port). p.name) parts.ports i port at) in
+      let first = get_or_from_slice_get (port_names parts) i port.name [] (at_map (λ (p : Port). p.name) parts.ports i port at) in
       let named : get_or nets i [] ≡ port.name = sym (get_or-take (length parts.ports) nets i [] within) ∙ ap (λ l. get_or l i []) ports_are_first ∙ first in
       let long : length (take (length parts.ports) nets) ≡ length parts.ports = ap length ports_are_first ∙ length-map parts.ports (λ (port : Port). port.name) in
       let inside : i < length nets = omega (arith, within, long, length-take (length parts.ports) nets) in
       ap (name_number nets) (sym named) ∙ name_number-get_or nets i [] nets_differ inside
 
   drives_there : (i : ℕ) (port : Port) → slice_get parts.ports i ≡ Some port → slice_index (map drives parts.ports) i ≡ drives port
-  drives_there i port at = get_or_from_slice_get (map drives parts.ports) i (drives port) 0 (at-map drives parts.ports i port at)
+  drives_there i port at = get_or_from_slice_get (map drives parts.ports) i (drives port) 0 (at_map drives parts.ports i port at)
 
   -- no port drives a net that a cell does
   port_drives_none : (net : ℕ) → net < length nets → Member (get_or nets net []) (map output_name parts.cells) → slice_index (map drives parts.ports) net ≡ 0

@@ -22,13 +22,6 @@ pub record BeginsWith (letter : ℕ) (name : List ℕ) : Type 0 where
   pub rest : List ℕ
   pub is : name ≡ letter ∷ rest
 
--- names that begin with different letters differ
-pub other_letter : (x y : List ℕ) (a b : ℕ) → BeginsWith a x → BeginsWith b y → (a ≡ b → ⊥) → x ≢ y
-other_letter x y a b begins_x begins_y other same =
-    let both : a ∷ begins_x.rest ≡ b ∷ begins_y.rest = sym begins_x.is ∙ same ∙ begins_y.is in
-    let letters : a ≡ b = cc in
-    other letters
-
 -- a letter and three digits tell the place
 pub same_numbered : (letter a b : ℕ) (rest other : List ℕ) → a < 999 → b < 999 → numbered letter a ++ rest ≡ numbered letter b ++ other → a ≡ b
 same_numbered letter a b rest other a_below b_below same =

@@ -6,12 +6,12 @@ use Rattle.std.proofs.lemmas.Bool.{cond_both, eqb-true}
 use Rattle.ncl_base.proofs.Members.{Member}
 use Rattle.ncl_tree.specs.NamePairs.{pair_names}
 use Rattle.ncl_tree.specs.PartNames.{IsPartName}
-use Rattle.ncl_bank.proofs.Apart.{pairs-append}
 use Rattle.ncl_assembly.proofs.ListPlaces.{member_of_flat_map}
 use Rattle.ncl_compile.specs.Ports.{port_pair, output_pairs}
 use Rattle.ncl_compile.specs.InnerNames.{numbered, bank_prefix, stage_prefix, inner_pair, inner_pairs, pairs_driven, root_name}
 use Rattle.ncl_compile.proofs.NameLaws.{AreApart, name_at, port_begins, name_of_pairs}
 use Rattle.ncl_compile.proofs.CallLaws.{first_of}
+use Rattle.ncl_base.proofs.Tests.{AllPairs-append}
 
 -- the place whose number three digits say
 abbrev digits_said : List ℕ → ℕ
@@ -98,7 +98,7 @@ pub owned_apart : {A : Type 0} (names_of : A → List (List ℕ)) (owner : List 
     → AreApart (flat_map names_of parts)
 owned_apart names_of owner first [] each = λ i j d before within. absurd (omega (arith, within))
 owned_apart {A} names_of owner first (a ∷ parts) each =
-    pairs-append (λ x y. x ≢ y) (names_of a) (flat_map names_of parts) (each zero a refl).0 (owned_apart names_of owner (suc first) parts later) between
+    AllPairs-append (λ x y. x ≢ y) (names_of a) (flat_map names_of parts) (each zero a refl).0 (owned_apart names_of owner (suc first) parts later) between
   where
     later : (i : ℕ) (b : A) → slice_get parts i ≡ Some b → AreApart (names_of b) × ((x : List ℕ) → Member x (names_of b) → owner x ≡ suc first + i)
     later i b at = let rest = each (suc i) b at in (rest.0, λ x m. let of_x = rest.1 x m in omega (arith, of_x))

@@ -23,7 +23,7 @@ use Rattle.ncl_bank.specs.declared.BankParts.{BankParts}
 use Rattle.ncl_tree.specs.NamePairs.{pair_names}
 use Rattle.ncl_tree.specs.PartNames.{IsPartName}
 use Rattle.ncl_token.specs.Bytes.{is_letter}
-use Rattle.ncl_assembly.proofs.ListPlaces.{holds_of, place_of_member, at_of_map, member_of_flat_map, member_at}
+use Rattle.ncl_assembly.proofs.ListPlaces.{place_of_member, member_of_flat_map, member_at}
 use Rattle.ncl_compile.specs.Size.{widths_of, CanBeCompiled}
 use Rattle.ncl_compile.specs.Compiled.{IsPlain, answer_width}
 use Rattle.ncl_compile.specs.Ports.{port_pair, input_pairs, output_pairs}
@@ -37,6 +37,8 @@ use Rattle.ncl_compile.proofs.NumberedPorts.{names_in, names_out, names_of_ports
 use Rattle.ncl_compile.proofs.PartPins.{all_pins}
 use Rattle.ncl_compile.proofs.BankNames.{bank_output_cases}
 use Rattle.ncl_compile.proofs.PlainNames.{part_plain, root_plain, inner_plain, port_plain}
+use Rattle.ncl_base.proofs.Tests.{All-member}
+use Rattle.ncl_base.proofs.Places.{at_of_map}
 
 -- a cell is one of those of a piece, a bank or a stage, of which there are fewer than a thousand
 pub record OfPiece {X : Type 0} (cells : X → List PartCell) (pieces : List X) (c : PartCell) : Type 0 where
@@ -83,7 +85,7 @@ module _ (models : List Model) (are : AreModels models) (small : CanBeCompiled m
 
   -- what a cell of a bank is called and drives
   pub bank_name : (c : PartCell) (b : OfBank c) → IsPartName (bank_prefix b.k) c.name
-  bank_name c b = holds_of (λ (cell : PartCell). IsPartName (bank_prefix b.k) cell.name) b.piece.cells (put.are_banks.each b.k b.piece b.at).cell_names c b.inside
+  bank_name c b = All-member (λ (cell : PartCell). IsPartName (bank_prefix b.k) cell.name) b.piece.cells (put.are_banks.each b.k b.piece b.at).cell_names c b.inside
 
   pub bank_drives : (c : PartCell) (b : OfBank c) → Member (output_name c) (pair_names (outs_of b.k)) ⊎ ((output_name c ≡ root_name b.k) ⊎ IsPartName (bank_prefix b.k) (output_name c))
   bank_drives c b = bank_output_cases _ _ _ _ _ _ b.piece (put.are_banks.each b.k b.piece b.at) (output_name c) (Member-map output_name c b.inside)
@@ -92,12 +94,12 @@ module _ (models : List Model) (are : AreModels models) (small : CanBeCompiled m
   pub stage_name : (c : PartCell) (s : OfStage c) → IsPartName (stage_prefix s.k) c.name
   stage_name c s =
       let (model, at_model) = model_of_stage models are small put.stages put.are_stages s.k s.piece s.at in
-      holds_of (λ (cell : PartCell). IsPartName (stage_prefix s.k) cell.name) s.piece.cells (put.are_stages.each s.k model s.piece at_model s.at).are.cell_names c s.inside
+      All-member (λ (cell : PartCell). IsPartName (stage_prefix s.k) cell.name) s.piece.cells (put.are_stages.each s.k model s.piece at_model s.at).are.cell_names c s.inside
 
   pub stage_drives : (c : PartCell) (s : OfStage c) → IsPartName (stage_prefix s.k) (output_name c)
   stage_drives c s =
       let (model, at_model) = model_of_stage models are small put.stages put.are_stages s.k s.piece s.at in
-      holds_of (λ (cell : PartCell). IsPartName (stage_prefix s.k) (output_name cell)) s.piece.cells (put.are_stages.each s.k model s.piece at_model s.at).are.net_names c s.inside
+      All-member (λ (cell : PartCell). IsPartName (stage_prefix s.k) (output_name cell)) s.piece.cells (put.are_stages.each s.k model s.piece at_model s.at).are.net_names c s.inside
 
   pub widths_few : (k : ℕ) → k ≤ length models → slice_index (widths_of models) k ≤ MOST_BITS
   widths_few k within = (width_bounds models are small k within).1
@@ -183,7 +185,7 @@ module _ (models : List Model) (are : AreModels models) (small : CanBeCompiled m
           | inr (k, cell, at_cell, out) ↦
               let (c, at_c, is_cell) = at_of_map (cell_of (nets_of parts)) parts.cells k cell at_cell in
               let in_cells = member_at parts.cells k c at_c in
-              let occurs = Member-append_right (port_names parts) (output_name c) (output_among parts c in_cells (holds_of HasAllPins parts.cells (all_pins models are small parts put) c in_cells)) in
+              let occurs = Member-append_right (port_names parts) (output_name c) (output_among parts c in_cells (All-member HasAllPins parts.cells (all_pins models are small parts put) c in_cells)) in
               let number : net_number parts (output_name c) ≡ net = ap (λ (z : Cell). z.out.0) is_cell ∙ out in
               inr (c, in_cells, sym (name_of_number parts (output_name c) occurs) ∙ ap (λ z. get_or (nets_of parts) z []) number ∙ get_or_from_slice_get (nets_of parts) net x [] at)
         ]

@@ -15,9 +15,9 @@ use Rattle.ncl_shape.specs.declared.stage.StageCell.{StageCell}
 use Rattle.ncl_shape.specs.Stage.{out_of}
 use Rattle.ncl_rails.specs.Naming.{named_net, IsNumbered}
 use Rattle.ncl_assembly.specs.Assembled.{HasCell, HasGate, gate_numbers}
-use Rattle.ncl_assembly.proofs.ListPlaces.{at-map}
 use Rattle.ncl_compile.proofs.StandingCells.{StandAt, StandAt-head, StandAt-tail}
 use Rattle.ncl_compile.proofs.Numbering.{gate_kind, numbered_gate, numbered_gates}
+use Rattle.ncl_base.proofs.Places.{at_map}
 
 -- the cell is a gate
 abbrev pub IsGatePart : PartCell → Type 0
@@ -35,7 +35,7 @@ module _ (parts : Parts) where
       → HasCell (netlist_of parts) (record { 0 = place }) sort (map (named_net number) names) (named_net number name)
   HasCell-from_part place c sort names name at kind ins out = record {
     cell = cell_of (nets_of parts) c;
-    at = at-map (cell_of (nets_of parts)) parts.cells place c at;
+    at = at_map (cell_of (nets_of parts)) parts.cells place c at;
     kind = kind;
     ins = ap (map (named_net number)) ins;
     out = ap (named_net number) out;

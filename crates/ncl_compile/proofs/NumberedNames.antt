@@ -6,6 +6,8 @@ use Rattle.std.proofs.lemmas.List.{length-map}
 use Rattle.std.proofs.lemmas.List.FromFn.{length-range_with_len}
 use Rattle.ncl_base.proofs.Lists.{same_from_lengths}
 use Rattle.ncl_base.proofs.Members.{Member, Member-append_right, Member-get_or, list_any-from_member}
+use Rattle.ncl_base.proofs.Places.{at_of_map}
+use Rattle.ncl_base.proofs.Joined.{Member-flat_map}
 use Rattle.ncl_gates.proofs.PinLaws.{pins_of-some}
 use Rattle.ncl_netlist.specs.declared.port.Port.{Port}
 use Rattle.ncl_netlist.specs.declared.parts.NamePair.{NamePair}
@@ -19,7 +21,6 @@ use Rattle.ncl_netlist.proofs.NetlistLaws.{name_number-net, net_of_port}
 use Rattle.ncl_shape.specs.Stage.{rail_nets}
 use Rattle.ncl_rails.specs.Naming.{named_pair}
 use Rattle.ncl_tree.specs.NamePairs.{pair_names}
-use Rattle.ncl_assembly.proofs.ListPlaces.{at_of_map, Member-flat_map}
 use Rattle.ncl_compile.specs.Ports.{ports_named}
 use Rattle.ncl_compile.proofs.NumberedBanks.{place_in_range}
 

@@ -7,7 +7,7 @@ use Rattle.std.proofs.lemmas.Bool.{eq-eqb, ne_eqb, cond-true, cond-false}
 use Rattle.std.proofs.lemmas.List.{length-map}
 use Rattle.std.proofs.lemmas.List.FromFn.{length-map-range_with_len, map-range_with_len_more, fill_by_all}
 use Rattle.ncl_base.proofs.Lists.{same_from_lengths}
-use Rattle.ncl_base.proofs.Members.{Member, here, there}
+use Rattle.ncl_base.proofs.Members.{Member}
 use Rattle.ncl_blif.specs.declared.model.Model.{Model}
 use Rattle.ncl_blif.specs.Meaning.{width_of}
 use Rattle.ncl_netlist.specs.declared.parts.NamePair.{NamePair}
@@ -17,23 +17,18 @@ use Rattle.ncl_rails.specs.Naming.{named_pair}
 use Rattle.ncl_rails.specs.declared.StageParts.{StageParts}
 use Rattle.ncl_bank.specs.declared.BankParts.{BankParts}
 use Rattle.ncl_assembly.specs.Assembled.{WiredBit, WiredBank, rails_read, rails_driven}
-use Rattle.ncl_assembly.proofs.ListPlaces.{map-map, at_of_map}
+use Rattle.ncl_assembly.proofs.ListPlaces.{map-map}
 use Rattle.ncl_compile.specs.Size.{widths_of}
 use Rattle.ncl_compile.specs.Compiled.{answer_width}
 use Rattle.ncl_compile.specs.Ports.{input_pairs, output_pairs}
 use Rattle.ncl_compile.specs.InnerNames.{inner_pairs, pairs_driven, root_name, request_name}
 use Rattle.ncl_compile.specs.Pieces.{outputs_of, pairs_read}
 use Rattle.ncl_compile.proofs.Numbering.{no_pair, numbered_bit, banks_from, stages_from}
-use Rattle.ncl_compile.proofs.NumberedBanks.{below, place_in_range}
+use Rattle.ncl_compile.proofs.NumberedBanks.{place_in_range}
 use Rattle.ncl_compile.proofs.NumberedRows.{AreFacts, first_fact, rest_facts}
-
--- functions that agree on the members of a list
-map_agree : {X Y : Type 0} (f g : X → Y) (xs : List X) → ((x : X) → Member x xs → f x ≡ g x) → map f xs ≡ map g xs
-map_agree f g [] same = refl
-map_agree f g (x ∷ xs) same =
-    let first = same x here in
-    let rest = map_agree f g xs (λ y m. same y (there m)) in
-    λ i. first i ∷ rest i
+use Rattle.ncl_base.proofs.Tests.{map-same}
+use Rattle.ncl_base.proofs.Places.{at_of_map}
+use Rattle.ncl_base.proofs.Ranges.{below_of_range}
 
 -- a function of numbers in a row, from one later on
 map-later : {Y : Type 0} (f : ℕ → Y) (a count : ℕ) → map f (range_with_len (a + 1) count) ≡ map (λ k. f (suc k)) (range_with_len a count)
@@ -128,7 +123,7 @@ module _ (number : List ℕ → ℕ) (models : List Model) (stages : List StageP
     -- a bank that is not the last drives inner rails, and the last the outputs
     inner : (k : ℕ) → Member k (range_with_len 0 (length stages)) → driven_at k ≡ map (named_pair number) (inner_pairs k (width_at k))
     inner k m =
-        let lt = below 0 (length stages) k m in
+        let lt = below_of_range 0 (length stages) k m in
         let other = ne_eqb k (length models) (λ e. absurd (omega (arith, lt, e, with_models))) in
         ap (map (named_pair number)) (cond-false (k == length models) (output_pairs (width_at k)) (inner_pairs k (width_at k)) other)
 
@@ -141,12 +136,12 @@ module _ (number : List ℕ → ℕ) (models : List Model) (stages : List StageP
         let count : suc (length stages) ≡ length stages + 1 = omega arith in
         banks_drive 0 0 banks facts ∙ ap (λ z. map driven_at (range_with_len 0 z)) (as_many ∙ count)
         ∙ map-range_with_len_more driven_at 0 (length stages) (length stages) (omega arith)
-        ∙ (λ i. (map_agree driven_at (λ k. map (named_pair number) (inner_pairs k (width_at k))) (range_with_len 0 (length stages)) inner ∙ sym (stages_take 0 start stages)) i ++ last i ∷ [])
+        ∙ (λ i. (map-same driven_at (λ k. map (named_pair number) (inner_pairs k (width_at k))) (range_with_len 0 (length stages)) inner ∙ sym (stages_take 0 start stages)) i ++ last i ∷ [])
 
     -- each bank but the last is requested by the root of the next
     requested : (k : ℕ) → Member k (range_with_len 0 (length stages)) → number (root_name (suc k)) ≡ number (request_name (length models) k)
     requested k m =
-        let lt = below 0 (length stages) k m in
+        let lt = below_of_range 0 (length stages) k m in
         let other = ne_eqb k (length models) (λ e. absurd (omega (arith, lt, e, with_models))) in
         ap number (sym (cond-false (k == length models) (codes "ki") (root_name (suc k)) other))
 
@@ -156,7 +151,7 @@ module _ (number : List ℕ → ℕ) (models : List Model) (stages : List StageP
     pub roots : map (λ (b : WiredBank). b.root.0) wired ++ number (codes "ki") ∷ [] ≡ number (codes "ko") ∷ map (λ (b : WiredBank). b.request.0) wired
     roots =
         let count : suc (length stages) ≡ length stages + 1 = omega arith in
-        let later = map-later (λ i. number (root_name i)) 0 (length stages) ∙ map_agree (λ k. number (root_name (suc k))) (λ k. number (request_name (length models) k)) (range_with_len 0 (length stages)) requested in
+        let later = map-later (λ i. number (root_name i)) 0 (length stages) ∙ map-same (λ k. number (root_name (suc k))) (λ k. number (request_name (length models) k)) (range_with_len 0 (length stages)) requested in
         let requests = banks_request 0 0 banks ∙ ap (λ z. map (λ i. number (request_name (length models) i)) (range_with_len 0 z)) (as_many ∙ count) ∙ map-range_with_len_more (λ i. number (request_name (length models) i)) 0 (length stages) (length stages) (omega arith) in
         ap (λ l. l ++ number (codes "ki") ∷ []) (banks_root 0 0 banks ∙ ap (λ z. map (λ i. number (root_name i)) (range_with_len 0 z)) as_many)
         ∙ (λ i. number (codes "ko") ∷ (later i ++ by_ki i ∷ []))

@@ -21,7 +21,7 @@ use Rattle.ncl_tree.specs.NamePairs.{pair_names}
 use Rattle.ncl_bank.specs.declared.BankParts.{BankParts}
 use Rattle.ncl_bank.specs.BankParts.{AreBankParts}
 use Rattle.ncl_assembly.specs.Assembled.{IsWiredStage}
-use Rattle.ncl_assembly.proofs.ListPlaces.{holds_of, pairs_of_map, Rise}
+use Rattle.ncl_assembly.proofs.ListPlaces.{pairs_of_map, Rise}
 use Rattle.ncl_compile.specs.Size.{widths_of}
 use Rattle.ncl_compile.specs.Compiled.{ComputesModel}
 use Rattle.ncl_compile.specs.InnerNames.{inner_pair, inner_pairs, stage_prefix}
@@ -32,6 +32,7 @@ use Rattle.ncl_compile.proofs.Numbering.{numbered_gates, stage_from, stages_from
 use Rattle.ncl_compile.proofs.NumberedGates.{IsGatePart, gates_have, gate_numbers-row, are_numbered}
 use Rattle.ncl_compile.proofs.NumberedNames.{pins_of_parts, net_number, same_number, output_among}
 use Rattle.ncl_compile.proofs.StageFunctions.{ComputesModel-from_network}
+use Rattle.ncl_base.proofs.Tests.{All-member}
 
 -- numbers in a row rise
 row_rises : (first count : ℕ) → Rise (range_with_len first count)
@@ -59,7 +60,7 @@ module _ (parts : Parts) (ins : List NamePair) (stage : StageParts) (known : (x 
   name_known x met =
       elim (Member-append_cases x (pair_names ins) (map output_name stage.cells) (Member-from_Contains (names_known ins stage.cells) x met)) [
         | inl rail ↦ known x rail
-        | inr made ↦ outputs_among parts stage.cells in_parts (holds_of HasAllPins stage.cells pins) x made
+        | inr made ↦ outputs_among parts stage.cells in_parts (All-member HasAllPins stage.cells pins) x made
       ]
 
   -- such a stage is numbered

@@ -17,8 +17,7 @@ use Rattle.ncl_netlist.specs.Parts.{HasAllPins, port_names}
 use Rattle.ncl_rails.specs.declared.StageParts.{StageParts}
 use Rattle.ncl_bank.specs.declared.BankParts.{BankParts}
 use Rattle.ncl_tree.specs.NamePairs.{pair_names}
-use Rattle.ncl_bank.proofs.Apart.{pairs-append}
-use Rattle.ncl_assembly.proofs.ListPlaces.{holds_of, member_of_flat_map}
+use Rattle.ncl_assembly.proofs.ListPlaces.{member_of_flat_map}
 use Rattle.ncl_compile.specs.Size.{CanBeCompiled}
 use Rattle.ncl_compile.specs.Compiled.{answer_width}
 use Rattle.ncl_compile.specs.Ports.{port_pair, input_pairs, output_pairs}
@@ -28,6 +27,7 @@ use Rattle.ncl_compile.proofs.NameLaws.{AreApart, differ_from_apart, apart_more}
 use Rattle.ncl_compile.proofs.CallLaws.{first_of, other_first, port_first, ports_apart}
 use Rattle.ncl_compile.proofs.BankNames.{bank_all_pins}
 use Rattle.ncl_compile.proofs.NumberedPorts.{names_in, names_out, names_of_ports_for}
+use Rattle.ncl_base.proofs.Tests.{AllPairs-append, All-member}
 
 module _ (models : List Model) (are : AreModels models) (small : CanBeCompiled models) (parts : Parts) (put : IsPutTogether models parts) where
   pub all_pins : All HasAllPins parts.cells
@@ -39,7 +39,7 @@ module _ (models : List Model) (are : AreModels models) (small : CanBeCompiled m
         | inr of_stages ↦
             let (k, stage, at, in_stage) = member_of_flat_map (λ (stage : StageParts). stage.cells) put.stages c of_stages in
             let (model, at_model) = model_of_stage models are small put.stages put.are_stages k stage at in
-            holds_of HasAllPins stage.cells (put.are_stages.each k model stage at_model at).are.all_pins c in_stage
+            All-member HasAllPins stage.cells (put.are_stages.each k model stage at_model at).are.all_pins c in_stage
       ])
 
   in_few : width_of models ≤ MOST_BITS
@@ -67,7 +67,7 @@ module _ (models : List Model) (are : AreModels models) (small : CanBeCompiled m
 
   in_apart : AreApart (names_in (width_of models))
   in_apart =
-      pairs-append (λ x y. x ≢ y) ports_in (codes "ki" ∷ codes "rst" ∷ []) (ports_apart 105 (width_of models) in_few)
+      AllPairs-append (λ x y. x ≢ y) ports_in (codes "ki" ∷ codes "rst" ∷ []) (ports_apart 105 (width_of models) in_few)
       (apart_more (codes "ki") (codes "rst" ∷ []) (one_of (λ y. codes "ki" ≢ y) (codes "rst") (other_first (codes "ki") (codes "rst") 107 114 refl refl (λ e. absurd (omega (arith, e))))) (single (codes "rst")))
       (λ x y in_x in_y.
       let first = port_first 105 (width_of models) x in_x in
@@ -75,7 +75,7 @@ module _ (models : List Model) (are : AreModels models) (small : CanBeCompiled m
 
   out_apart : AreApart (names_out (answer_width models))
   out_apart =
-      pairs-append (λ x y. x ≢ y) ports_out (codes "ko" ∷ []) (ports_apart 111 (answer_width models) out_few) (single (codes "ko"))
+      AllPairs-append (λ x y. x ≢ y) ports_out (codes "ko" ∷ []) (ports_apart 111 (answer_width models) out_few) (single (codes "ko"))
       (λ x y in_x in_y.
       let first = port_first 111 (answer_width models) x in_x in
       one_of (λ z. x ≢ z) (codes "ko") (other_first x (codes "ko") 111 107 first refl (λ e. absurd (omega (arith, e)))) y in_y)
@@ -102,7 +102,7 @@ module _ (models : List Model) (are : AreModels models) (small : CanBeCompiled m
           ]
 
   names_apart : AreApart (names_in (width_of models) ++ names_out (answer_width models))
-  names_apart = pairs-append (λ x y. x ≢ y) (names_in (width_of models)) (names_out (answer_width models)) in_apart out_apart across
+  names_apart = AllPairs-append (λ x y. x ≢ y) (names_in (width_of models)) (names_out (answer_width models)) in_apart out_apart across
 
   pub ports_differ : AllDiffer (port_names parts)
   ports_differ =

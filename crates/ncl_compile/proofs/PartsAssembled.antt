@@ -21,7 +21,7 @@ use Rattle.ncl_rails.specs.declared.StageParts.{StageParts}
 use Rattle.ncl_bank.specs.declared.BankParts.{BankParts}
 use Rattle.ncl_tree.specs.NamePairs.{pair_names}
 use Rattle.ncl_assembly.specs.Assembled.{IsWiredBank, IsAssembled}
-use Rattle.ncl_assembly.proofs.ListPlaces.{Member-flat_map, member_at}
+use Rattle.ncl_assembly.proofs.ListPlaces.{member_at}
 use Rattle.ncl_compile.specs.Size.{widths_of, CanBeCompiled}
 use Rattle.ncl_compile.specs.Compiled.{ComputesModel}
 use Rattle.ncl_compile.specs.Ports.{port_pair, output_pairs}
@@ -37,6 +37,7 @@ use Rattle.ncl_compile.proofs.NumberedRows.{BankFact, AreFacts, first_fact, rest
 use Rattle.ncl_compile.proofs.NumberedRails.{rails_in, rails_out, roots}
 use Rattle.ncl_compile.proofs.NumberedStages.{driven_among, StageFact, AreStageFacts, stages_are_wired, stages_are_sound, stages_compute, numbers_of_stages}
 use Rattle.ncl_compile.proofs.NumberedPorts.{ports_are_first, directions_are}
+use Rattle.ncl_base.proofs.Joined.{Member-flat_map}
 
 abbrev cells_of_bank : BankParts → List PartCell
 cells_of_bank bank = bank.cells

@@ -19,8 +19,7 @@ use Rattle.ncl_rails.specs.declared.StageParts.{StageParts}
 use Rattle.ncl_bank.specs.declared.BankParts.{BankParts}
 use Rattle.ncl_tree.specs.NamePairs.{pair_names}
 use Rattle.ncl_tree.specs.PartNames.{IsPartName}
-use Rattle.ncl_bank.proofs.Apart.{pairs-append}
-use Rattle.ncl_assembly.proofs.ListPlaces.{holds_of, member_at, Member-flat_map, member_of_flat_map}
+use Rattle.ncl_assembly.proofs.ListPlaces.{member_at, member_of_flat_map}
 use Rattle.ncl_compile.specs.Size.{widths_of, CanBeCompiled}
 use Rattle.ncl_compile.specs.Compiled.{answer_width}
 use Rattle.ncl_compile.specs.Ports.{port_pair, input_pairs, output_pairs, ports_named}
@@ -37,6 +36,8 @@ use Rattle.ncl_compile.proofs.CellCount.{few_cells}
 use Rattle.ncl_compile.proofs.PartPins.{ports_differ}
 use Rattle.ncl_compile.proofs.BankNames.{bank_output_cases, bank_drives_root, bank_drives_rails, bank_pin_cases, stage_pin_cases}
 use Rattle.ncl_compile.proofs.DrivenOnce.{IsInputPort, names_said, driven_once}
+use Rattle.ncl_base.proofs.Tests.{AllPairs-append, All-member}
+use Rattle.ncl_base.proofs.Joined.{Member-flat_map}
 
 -- what a function gives at the elements of parts
 map-flat_map : {X Y Z : Type 0} (f : Y → Z) (parts_of : X → List Y) (xs : List X) → map f (flat_map parts_of xs) ≡ flat_map (λ x. map f (parts_of x)) xs
@@ -130,7 +131,7 @@ module _ (models : List Model) (are : AreModels models) (small : CanBeCompiled m
       → AreApart (map f parts.cells)
   at_cells-apart f banks_apart of_banks stages_apart of_stages =
       subst AreApart (sym (at_all_cells f))
-      (pairs-append (λ x y. x ≢ y) (flat_map names_of_bank banks) (flat_map names_of_stage stages)
+      (AllPairs-append (λ x y. x ≢ y) (flat_map names_of_bank banks) (flat_map names_of_stage stages)
       (owned_apart names_of_bank (owner_of last) 0 banks
       (λ k bank at. (banks_apart k bank at, λ x m. let own = (of_banks k bank at x m).0 in omega (arith, own))))
       (owned_apart names_of_stage (owner_of last) 0 stages
@@ -163,7 +164,7 @@ module _ (models : List Model) (are : AreModels models) (small : CanBeCompiled m
   stage_names : (k : ℕ) (stage : StageParts) → slice_get stages k ≡ Some stage → (x : List ℕ) → Member x (map output_name stage.cells) → IsPartName (stage_prefix k) x
   stage_names k stage at x m =
       let (c, in_cells, same) = member_of_map output_name stage.cells x m in
-      subst (IsPartName (stage_prefix k)) same (holds_of (λ (cell : PartCell). IsPartName (stage_prefix k) (output_name cell)) stage.cells (stage_at k stage at).is.are.net_names c in_cells)
+      subst (IsPartName (stage_prefix k)) same (All-member (λ (cell : PartCell). IsPartName (stage_prefix k) (output_name cell)) stage.cells (stage_at k stage at).is.are.net_names c in_cells)
 
   bank_below : (k : ℕ) (bank : BankParts) → slice_get banks k ≡ Some bank → k < 999
   bank_below k bank at = let within = bank_within k bank at in omega (arith, within, few_banks)
@@ -187,7 +188,7 @@ module _ (models : List Model) (are : AreModels models) (small : CanBeCompiled m
       bank_cell_names : (k : ℕ) (bank : BankParts) → slice_get banks k ≡ Some bank → (x : List ℕ) → Member x (map name_of_cell bank.cells) → IsPartName (bank_prefix k) x
       bank_cell_names k bank at x m =
           let (c, in_cells, same) = member_of_map name_of_cell bank.cells x m in
-          subst (IsPartName (bank_prefix k)) same (holds_of (λ (cell : PartCell). IsPartName (bank_prefix k) cell.name) bank.cells (fact_of k bank at).are.cell_names c in_cells)
+          subst (IsPartName (bank_prefix k)) same (All-member (λ (cell : PartCell). IsPartName (bank_prefix k) cell.name) bank.cells (fact_of k bank at).are.cell_names c in_cells)
 
       cells_of_bank_named : (k : ℕ) (bank : BankParts) → slice_get banks k ≡ Some bank → (x : List ℕ) → Member x (map name_of_cell bank.cells) → (owner_of last x ≡ k) × (first_of x ≢ 115)
       cells_of_bank_named k bank at x m =
@@ -197,7 +198,7 @@ module _ (models : List Model) (are : AreModels models) (small : CanBeCompiled m
       stage_cell_names : (k : ℕ) (stage : StageParts) → slice_get stages k ≡ Some stage → (x : List ℕ) → Member x (map name_of_cell stage.cells) → IsPartName (stage_prefix k) x
       stage_cell_names k stage at x m =
           let (c, in_cells, same) = member_of_map name_of_cell stage.cells x m in
-          subst (IsPartName (stage_prefix k)) same (holds_of (λ (cell : PartCell). IsPartName (stage_prefix k) cell.name) stage.cells (stage_at k stage at).is.are.cell_names c in_cells)
+          subst (IsPartName (stage_prefix k)) same (All-member (λ (cell : PartCell). IsPartName (stage_prefix k) cell.name) stage.cells (stage_at k stage at).is.are.cell_names c in_cells)
 
   -- what is driven by a cell of a bank or of a stage is driven
   driven_by_bank : (k : ℕ) (bank : BankParts) → slice_get banks k ≡ Some bank → (x : List ℕ) → Member x (map output_name bank.cells) → Member x (map output_name parts.cells)
@@ -299,7 +300,7 @@ module _ (models : List Model) (are : AreModels models) (small : CanBeCompiled m
       inr (known_driven k stage at x (λ model at_model.
       let is = put.are_stages.each k model stage at_model at in
       let known = names_known (inner_pairs k (length model.inputs)) stage.cells in
-      Member-from_Contains known x (holds_of (Contains known) (pair_names stage.outputs) is.are.outputs_known x in_outputs)))
+      Member-from_Contains known x (All-member (Contains known) (pair_names stage.outputs) is.are.outputs_known x in_outputs)))
 
   request_driven : (k : ℕ) → k ≤ last → IsDriven (request_name last k)
   request_driven k within =

@@ -1,23 +1,12 @@
 -- Stages and banks, one more at a time.
-use Rattle.std.proofs.Common.{◌≡◌, ℕ, zero, suc, ◌+◌, ◌<◌, List, [], ◌∷◌, ◌++◌, length, get_or, take, Some, ◌⊎◌, inl, inr, refl, sym, ap, ◌∙◌, subst, arith}
-use Rattle.std.specs.Prelude.{slice_get}
+use Rattle.std.proofs.Common.{◌≡◌, ℕ, ◌+◌, ◌<◌, List, [], ◌∷◌, ◌++◌, length, get_or, take, inl, inr, sym, ap, ◌∙◌, subst, arith}
 use Rattle.std.proofs.lemmas.List.{length_push, take_more, length-take-le}
 use Rattle.std.proofs.lemmas.Option.{slice_get_within}
 use Rattle.ncl_blif.specs.declared.model.Model.{Model}
 use Rattle.ncl_rails.specs.declared.StageParts.{StageParts}
 use Rattle.ncl_compile.specs.InnerNames.{inner_pairs, stage_prefix}
 use Rattle.ncl_compile.specs.Pieces.{IsStageOfModel, AreStages}
-
--- what stands at a place of a list with one more element at its end
-pub push_cases : {X : Type 0} (xs : List X) (y : X) (k : ℕ) (x : X) → slice_get (xs ++ y ∷ []) k ≡ Some x → (slice_get xs k ≡ Some x) ⊎ ((k ≡ length xs) × (y ≡ x))
-push_cases [] y zero x at = let same : y ≡ x = cc in inr (refl, same)
-push_cases [] y (suc k) x at = absurd cc
-push_cases (z ∷ xs) y zero x at = inl at
-push_cases (z ∷ xs) y (suc k) x at =
-    elim (push_cases xs y k x at) [
-      | inl earlier ↦ inl earlier
-      | inr (place, same) ↦ inr (ap suc place, same)
-    ]
+use Rattle.ncl_base.proofs.Places.{push_cases}
 
 -- the stage of a model at this place
 abbrev pub IsStageAt : ℕ → Model → StageParts → Type 0

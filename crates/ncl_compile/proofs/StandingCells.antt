@@ -2,21 +2,11 @@
 use Rattle.std.proofs.Common.{◌≡◌, ℕ, zero, suc, ◌+◌, ◌*◌, List, [], ◌∷◌, ◌++◌, length, map, Some, refl, sym, ap, ◌∙◌, arith}
 use Rattle.std.specs.Prelude.{slice_get}
 use Rattle.std.specs.List.{flat_map, range_with_len}
+use Rattle.ncl_base.proofs.Places.{slice_get-append_left, slice_get-append_right}
 
 -- the elements of a list stand in another from this place on
 abbrev pub StandAt : {X : Type 0} → List X → ℕ → List X → Type 0
 StandAt {X} whole first part = (i : ℕ) (x : X) → slice_get part i ≡ Some x → slice_get whole (first + i) ≡ Some x
-
-pub at-append_left : {X : Type 0} (xs ys : List X) (i : ℕ) (x : X) → slice_get xs i ≡ Some x → slice_get (xs ++ ys) i ≡ Some x
-at-append_left [] ys i x at = absurd cc
-at-append_left (z ∷ xs) ys zero x at = at
-at-append_left (z ∷ xs) ys (suc i) x at = at-append_left xs ys i x at
-
-pub at-append_right : {X : Type 0} (xs ys : List X) (i : ℕ) (x : X) → slice_get ys i ≡ Some x → slice_get (xs ++ ys) (length xs + i) ≡ Some x
-at-append_right [] ys i x at = let place : 0 + i ≡ i = omega arith in ap (slice_get ys) place ∙ at
-at-append_right (z ∷ xs) ys i x at =
-    let place : length (z ∷ xs) + i ≡ suc (length xs + i) = omega arith in
-    ap (slice_get (z ∷ xs ++ ys)) place ∙ at-append_right xs ys i x at
 
 -- a list stands in itself
 pub StandAt-whole : {X : Type 0} (xs : List X) → StandAt xs 0 xs
@@ -24,12 +14,12 @@ StandAt-whole xs i x at = let place : 0 + i ≡ i = omega arith in ap (slice_get
 
 -- so do the two parts of a list that does
 pub StandAt-left : {X : Type 0} (whole xs ys : List X) (first : ℕ) → StandAt whole first (xs ++ ys) → StandAt whole first xs
-StandAt-left whole xs ys first stands i x at = stands i x (at-append_left xs ys i x at)
+StandAt-left whole xs ys first stands i x at = stands i x (slice_get-append_left xs ys i x at)
 
 pub StandAt-right : {X : Type 0} (whole xs ys : List X) (first : ℕ) → StandAt whole first (xs ++ ys) → StandAt whole (first + length xs) ys
 StandAt-right whole xs ys first stands i x at =
     let place : first + length xs + i ≡ first + (length xs + i) = omega arith in
-    ap (slice_get whole) place ∙ stands (length xs + i) x (at-append_right xs ys i x at)
+    ap (slice_get whole) place ∙ stands (length xs + i) x (slice_get-append_right xs ys i x at)
 
 pub StandAt-head : {X : Type 0} (whole : List X) (x : X) (xs : List X) (first : ℕ) → StandAt whole first (x ∷ xs) → slice_get whole first ≡ Some x
 StandAt-head whole x xs first stands = let place : first ≡ first + 0 = omega arith in ap (slice_get whole) place ∙ stands zero x refl

@@ -5,6 +5,7 @@ use Rattle.std.specs.List.{flat_map}
 use Rattle.std.proofs.lemmas.List.{length-append, length-drop, length-map, take-append-drop}
 use Rattle.ncl_base.specs.declared.source.TheConstants.{MOST_BYTES}
 use Rattle.ncl_base.proofs.Members.{Member, Member-append_right, Member-append_cases, Member-map, member_cases, member_of_map, Member-get_or, All-from_members}
+use Rattle.ncl_base.proofs.Tests.{All-member}
 use Rattle.ncl_blif.specs.declared.model.Model.{Model}
 use Rattle.ncl_blif.specs.Model.{AreModels}
 use Rattle.ncl_netlist.specs.declared.cell.Cell.{Cell}
@@ -14,7 +15,6 @@ use Rattle.ncl_netlist.specs.declared.parts.Parts.{Parts}
 use Rattle.ncl_netlist.specs.Netlist.{NetlistData, IsNetlist, CellFits, pin_names}
 use Rattle.ncl_netlist.specs.Parts.{cell_of, nets_of, netlist_of}
 use Rattle.ncl_writer.specs.Text.{header_line, port_line, wire_line, cell_line, text_of}
-use Rattle.ncl_assembly.proofs.ListPlaces.{holds_of}
 use Rattle.ncl_compile.specs.Size.{CanBeCompiled}
 use Rattle.ncl_compile.specs.Compiled.{IsPlain}
 use Rattle.ncl_compile.specs.Pieces.{IsPutTogether}
@@ -40,7 +40,7 @@ sum_up text ports wires cells whole few_ports few_wires few_cells = omega arith
 
 module _ (models : List Model) (are : AreModels models) (small : CanBeCompiled models) (parts : Parts) (put : IsPutTogether models parts) (is : IsNetlist (netlist_of parts)) where
   net_word : (x : List ℕ) → Member x (nets_of parts) → IsShortWord 11 x
-  net_word x m = record { plain = holds_of IsPlain (nets_of parts) (plain_nets models are small parts put is) x m; short = nets_short models are small parts put is x m }
+  net_word x m = record { plain = All-member IsPlain (nets_of parts) (plain_nets models are small parts put is) x m; short = nets_short models are small parts put is x m }
 
   port_word : (port : Port) → Member port parts.ports → IsShortWord 6 port.name
   port_word port m =
@@ -52,18 +52,18 @@ module _ (models : List Model) (are : AreModels models) (small : CanBeCompiled m
 
   cell_word : (cell : Cell) → Member cell (map (cell_of (nets_of parts)) parts.cells) → IsShortWord 11 cell.name
   cell_word cell m = record {
-    plain = holds_of (λ (cell : Cell). IsPlain cell.name) (map (cell_of (nets_of parts)) parts.cells) (plain_cells models are small parts put) cell m;
-    short = holds_of (λ (cell : Cell). IsShort 11 cell.name) (map (cell_of (nets_of parts)) parts.cells) (cells_short models are small parts put) cell m;
+    plain = All-member (λ (cell : Cell). IsPlain cell.name) (map (cell_of (nets_of parts)) parts.cells) (plain_cells models are small parts put) cell m;
+    short = All-member (λ (cell : Cell). IsShort 11 cell.name) (map (cell_of (nets_of parts)) parts.cells) (cells_short models are small parts put) cell m;
   }
 
   -- the nets at the pins of a cell are nets
   pin_word : (cell : Cell) → Member cell (map (cell_of (nets_of parts)) parts.cells) → (x : List ℕ) → Member x (pin_names (nets_of parts) cell) → IsShortWord 11 x
   pin_word cell m x in_pins =
-      let fits = holds_of (CellFits (length (nets_of parts))) (map (cell_of (nets_of parts)) parts.cells) is.fits cell m in
+      let fits = All-member (CellFits (length (nets_of parts))) (map (cell_of (nets_of parts)) parts.cells) is.fits cell m in
       let (net, in_cell, same) = member_of_map (λ (net : NetId). get_or (nets_of parts) net.0 []) (cell.ins.items ++ cell.out ∷ []) x in_pins in
       let within : net.0 < length (nets_of parts) =
       elim (Member-append_cases net cell.ins.items (cell.out ∷ []) in_cell) [
-        | inl input ↦ holds_of (λ (net : NetId). net.0 < length (nets_of parts)) cell.ins.items fits.inputs net input
+        | inl input ↦ All-member (λ (net : NetId). net.0 < length (nets_of parts)) cell.ins.items fits.inputs net input
         | inr last ↦ elim (member_cases net cell.out [] last) [ inl out ↦ subst (λ (z : NetId). z.0 < length (nets_of parts)) out fits.output | inr none ↦ elim none [ ] ]
       ] in
       subst (IsShortWord 11) same (net_word (get_or (nets_of parts) net.0 []) (Member-get_or (nets_of parts) net.0 [] within))

@@ -26,10 +26,6 @@ AddsSum-closed given sum new before nodes after frames rest frame so_far popped 
     (subst (AddsSum given before nodes) (ap (λ frames. whole frames sum) popped ∙ whole_push rest frame sum) so_far)
     (AddsSum-whole rest parts new nodes after closed)
 
-pub AddsSum-open : (given sum : List (List Signal)) (before nodes : List Node) (frames : List Frame) → AddsSum given before nodes (whole frames sum) → length frames ≡ 0 → AddsSum given before nodes sum
-AddsSum-open given sum before nodes [] so_far none = so_far
-AddsSum-open given sum before nodes (frame ∷ frames) so_far none = absurd (omega (arith, none))
-
 -- there is room for the nodes of what is under frames
 pub frames_room : (given sum : List (List Signal)) (before nodes : List Node) (frames : List Frame) → AddsSum given before nodes (whole frames sum) → length nodes + total sum ≤ length before + total given
 frames_room given sum before nodes frames so_far =

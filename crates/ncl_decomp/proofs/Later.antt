@@ -2,7 +2,7 @@
 use Rattle.std.proofs.Common.{◌≡◌, ℕ, ◌+◌, ◌≤◌, Bool, ◌&&◌, ◌||◌, List, [], ◌∷◌, ◌++◌, length, map, refl, ap, subst, ◌∙◌, arith, append_assoc}
 use Rattle.std.specs.Prelude.{All}
 use Rattle.std.specs.List.{list_all, list_any}
-use Rattle.std.proofs.lemmas.List.Elements.{All-nil, All-cons, All-head, All-tail, All-weaker}
+use Rattle.std.proofs.lemmas.List.Elements.{All-head, All-tail, All-weaker}
 use Rattle.ncl_network.specs.declared.network.Signal.{Signal}
 use Rattle.ncl_network.specs.declared.network.Node.{Node}
 use Rattle.ncl_network.specs.Network.{signal_value, node_value, node_values, IsSource, ReadBefore}
@@ -48,15 +48,6 @@ All-sources inputs a b signals less known k d within = IsSource-more inputs a b 
 pub AreVarying-more : (inputs a b : ℕ) (signals : List Signal) → a ≤ b → AreVarying inputs a signals → AreVarying inputs b signals
 AreVarying-more inputs a b signals less varying =
     record { exist = All-sources inputs a b signals less varying.exist; vary = varying.vary }
-
--- what holds of each of some elements and others
-pub All-front : {X : Type 0} (P : X → Type 0) (xs ys : List X) → All P (xs ++ ys) → All P xs
-All-front P [] ys all = All-nil P
-All-front P (x ∷ xs) ys all = All-cons P x xs (All-head P x (xs ++ ys) all) (All-front P xs ys (All-tail P x (xs ++ ys) all))
-
-pub All-back : {X : Type 0} (P : X → Type 0) (xs ys : List X) → All P (xs ++ ys) → All P ys
-All-back P [] ys all = all
-All-back P (x ∷ xs) ys all = All-back P xs ys (All-tail P x (xs ++ ys) all)
 
 -- products of earlier signals, and sums of them, keep their values
 pub all_same : (inputs : ℕ) (word bits : List Bool) (nodes : List Node) (signals : List Signal) → All (λ (s : Signal). IsSource inputs (length bits) s.from) signals → list_all (signal_value word (node_values word bits nodes)) signals ≡ list_all (signal_value word bits) signals

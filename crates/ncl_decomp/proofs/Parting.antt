@@ -9,13 +9,13 @@ use Rattle.std.proofs.lemmas.List.Elements.{All-cons, All-push, All-head, All-ta
 use Rattle.std.proofs.lemmas.List.Folds.{list_any-append}
 use Rattle.std.proofs.lemmas.List.Sorted.{IsPermutation-to_front, IsPermutation-append_right, All-permutation, list_any-IsPermutation, sum_by-IsPermutation, length_permutation}
 use Rattle.std.proofs.lemmas.List.Sums.{sum_by_push}
+use Rattle.ncl_base.proofs.Tests.{All-left, All-right}
 use Rattle.ncl_network.specs.declared.network.SignalSource.{SignalSource}
 use Rattle.ncl_network.specs.declared.network.SignalSource.TheVariants.{Input, Node as FromNode, Const}
 use Rattle.ncl_network.specs.declared.network.Signal.{Signal}
 use Rattle.ncl_network.specs.Network.{is_constant, IsSource}
 use Rattle.ncl_decomp.specs.Products.{same_source, same_signal, other_than, has, without, under, IsFilled}
 use Rattle.ncl_decomp.specs.Splitting.{AreVarying, IsSameSum}
-use Rattle.ncl_decomp.proofs.Later.{All-front, All-back}
 
 -- ---- equal signals
 
@@ -154,15 +154,6 @@ taken_varying inputs count literal product rest is less varying = record {
 
 -- ---- products
 
-pub IsSameSum-none : IsSameSum [] []
-IsSameSum-none = record {
-  as_many = refl;
-  few = omega arith;
-  filled = λ filled. filled;
-  varying = λ inputs count varying. varying;
-  same = λ test. refl;
-}
-
 IsSameSum-turned : (sum new other : List (List Signal)) → IsSameSum sum new → IsPermutation new other → IsSameSum sum other
 IsSameSum-turned sum new other is turned = record {
   as_many = length_permutation new other turned ∙ is.as_many;
@@ -177,8 +168,8 @@ IsSameSum-push : (sum new : List (List Signal)) (product other : List Signal) �
 IsSameSum-push sum new product other is less filled varying value = record {
   as_many = omega (arith, is.as_many, length_push sum product, length_push new other);
   few = omega (arith, is.few, less, sum_by_push (λ (product : List Signal). length product) sum product, sum_by_push (λ (product : List Signal). length product) new other);
-  filled = λ all. All-push IsFilled new other (is.filled (All-front IsFilled sum (product ∷ []) all)) (filled (All-head IsFilled product [] (All-back IsFilled sum (product ∷ []) all)));
-  varying = λ inputs count all. All-push (AreVarying inputs count) new other (is.varying inputs count (All-front (AreVarying inputs count) sum (product ∷ []) all)) (varying inputs count (All-head (AreVarying inputs count) product [] (All-back (AreVarying inputs count) sum (product ∷ []) all)));
+  filled = λ all. All-push IsFilled new other (is.filled (All-left IsFilled sum (product ∷ []) all)) (filled (All-head IsFilled product [] (All-right IsFilled sum (product ∷ []) all)));
+  varying = λ inputs count all. All-push (AreVarying inputs count) new other (is.varying inputs count (All-left (AreVarying inputs count) sum (product ∷ []) all)) (varying inputs count (All-head (AreVarying inputs count) product [] (All-right (AreVarying inputs count) sum (product ∷ []) all)));
   same = λ test.
       list_any-append (list_all test) new (other ∷ [])
       ∙ (λ i. is.same test i || (value test i || false))

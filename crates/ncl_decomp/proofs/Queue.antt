@@ -14,15 +14,6 @@ pub record IsGrowing (shape : Joint) (leaves : List Signal) (before nodes : List
   pub few : length nodes + length queue ≡ length before + length leaves + at
   pub completes : (rest : List Node) (root : Signal) → NodeTree shape (length nodes) (drop at queue) rest root → NodeTree shape (length before) leaves (made ++ rest) root
 
-pub IsGrowing-start : (shape : Joint) (leaves : List Signal) (before : List Node) → 0 < length leaves → IsGrowing shape leaves before before leaves 0
-IsGrowing-start shape leaves before some = record {
-  made = [];
-  added = sym (append-nil before);
-  left = some;
-  few = omega arith;
-  completes = λ rest root tree. tree;
-}
-
 module _ (shape : Joint) (leaves : List Signal) (before nodes : List Node) (queue : List Signal) (at : ℕ) (growing : IsGrowing shape leaves before nodes queue at) where
   -- one node more
   pub IsGrowing-more : (s t : Signal) (new : List Node) (longer : List Signal) → at + 1 < length queue → s ≡ get_or queue at s → t ≡ get_or queue (at + 1) t → new ≡ nodes ++ pair_node shape s t ∷ [] → longer ≡ queue ++ node_signal (length nodes) ∷ [] → IsGrowing shape leaves before new longer (at + 2)

@@ -6,6 +6,7 @@ use Rattle.std.proofs.lemmas.List.{append-nil}
 use Rattle.std.proofs.lemmas.List.Elements.{All-nil, All-cons, All-append, All-head, All-tail}
 use Rattle.std.proofs.lemmas.List.Folds.{list_any-append}
 use Rattle.std.proofs.lemmas.List.Sums.{sum_by-append, sum_by-cons}
+use Rattle.ncl_base.proofs.Tests.{All-left, All-right}
 use Rattle.ncl_network.specs.declared.network.Signal.{Signal}
 use Rattle.ncl_network.specs.declared.network.Node.{Node}
 use Rattle.ncl_network.specs.Network.{signal_value, node_values, is_constant, IsSource, ReadBefore}
@@ -14,16 +15,7 @@ use Rattle.ncl_decomp.specs.declared.factoring.Frame.{Frame}
 use Rattle.ncl_decomp.specs.Products.{under, total, IsFilled, is_empty, whole}
 use Rattle.ncl_decomp.specs.Split.{IsNarrow}
 use Rattle.ncl_decomp.specs.Splitting.{AreVarying, IsSameSum, TellSum, AddsSum}
-use Rattle.ncl_decomp.proofs.Later.{node_values-append, signal_kept, sum_same, ReadBefore-append, All-varying-more, All-front, All-back}
-
-pub IsPair : Node → Type 0
-IsPair node = length node.ins ≡ 2
-
--- products of which none is empty have a signal
-pub total-some : (sum : List (List Signal)) → 0 < length sum → list_any is_empty sum ≡ false → 0 < total sum
-total-some [] some filled = absurd (omega (arith, some))
-total-some ([] ∷ sum) some filled = absurd (cc)
-total-some ((signal ∷ product) ∷ sum) some filled = omega (arith, sum_by-cons (λ (product : List Signal). length product) (signal ∷ product) sum)
+use Rattle.ncl_decomp.proofs.Later.{node_values-append, signal_kept, sum_same, ReadBefore-append, All-varying-more}
 
 -- ---- no node
 
@@ -95,10 +87,10 @@ AddsSum-among others sum new before after adds = record {
   few = omega (arith, adds.few, sum_by-append (λ (product : List Signal). length product) others sum, sum_by-append (λ (product : List Signal). length product) others new);
   shorter = omega (arith, adds.shorter, length-append others sum, length-append others new);
   some = λ some. among_some others sum new adds.some some;
-  filled = λ filled. All-append IsFilled others new (All-front IsFilled others sum filled) (adds.filled (All-back IsFilled others sum filled));
+  filled = λ filled. All-append IsFilled others new (All-left IsFilled others sum filled) (adds.filled (All-right IsFilled others sum filled));
   tell = λ inputs varying.
-      let front : All (AreVarying inputs (length before)) others = All-front (AreVarying inputs (length before)) others sum varying in
-      let tell : TellSum inputs (length before) sum adds.made new = adds.tell inputs (All-back (AreVarying inputs (length before)) others sum varying) in
+      let front : All (AreVarying inputs (length before)) others = All-left (AreVarying inputs (length before)) others sum varying in
+      let tell : TellSum inputs (length before) sum adds.made new = adds.tell inputs (All-right (AreVarying inputs (length before)) others sum varying) in
       record {
         narrow = tell.narrow;
         pairs = tell.pairs;
@@ -218,11 +210,6 @@ empty_value test ((s ∷ product) ∷ sum) some =
     or_true : (a : Bool) → true ≡ (a || true)
     or_true true = refl
     or_true false = refl
-
-pub filled_products : (sum : List (List Signal)) → list_any is_empty sum ≡ false → All IsFilled sum
-filled_products [] none = All-nil IsFilled
-filled_products ([] ∷ sum) none = absurd (cc)
-filled_products ((s ∷ product) ∷ sum) none = All-cons IsFilled (s ∷ product) sum (let some : 0 < length (s ∷ product) = omega arith in some) (filled_products sum none)
 
 not_filled : (sum : List (List Signal)) → list_any is_empty sum ≡ true → All IsFilled sum → All IsFilled ([] ∷ [])
 not_filled [] some filled = absurd (cc)

@@ -5,6 +5,7 @@ use Rattle.std.specs.List.{list_all}
 use Rattle.std.proofs.lemmas.List.{length_push, append-nil, map_push}
 use Rattle.std.proofs.lemmas.List.Elements.{All-nil, All-push, All-append, All-head}
 use Rattle.std.proofs.lemmas.List.Sums.{sum_by_push, sum_by_more, sum_by-take-le}
+use Rattle.ncl_base.proofs.Tests.{All-left, All-right}
 use Rattle.ncl_network.specs.declared.network.Signal.{Signal}
 use Rattle.ncl_network.specs.declared.network.Node.{Node}
 use Rattle.ncl_network.specs.Network.{signal_value, node_values, is_constant, IsSource, ReadBefore}
@@ -16,7 +17,7 @@ use Rattle.ncl_decomp.specs.Split.{IsNarrow}
 use Rattle.ncl_decomp.specs.Splitting.{AreVarying, TellProducts, AddsTerms}
 use Rattle.ncl_decomp.proofs.Pairs.{and_tree, tree_nodes}
 use Rattle.ncl_decomp.proofs.Trees.{IsTreeOver, tree_over}
-use Rattle.ncl_decomp.proofs.Later.{node_values-append, signals_kept, all_same, ReadBefore-append, AreVarying-more, All-front, All-back}
+use Rattle.ncl_decomp.proofs.Later.{node_values-append, signals_kept, all_same, ReadBefore-append, AreVarying-more}
 
 pub AddsTerms-none : (before : List Node) → AddsTerms [] before before []
 AddsTerms-none before = record {
@@ -79,7 +80,7 @@ module _ (sum : List (List Signal)) (before nodes : List Node) (terms : List Sig
         added = grown.1 ∙ ap (λ front. front ++ tree) adds.added ∙ append_assoc before adds.made tree;
         as_many = omega (arith, adds.as_many, ap length pushed, length_push terms root, length_push sum leaves);
         few = omega (arith, adds.few, counted, length-append adds.made tree, ap length pushed, length_push terms root, sum_by_push (λ (product : List Signal). length product) sum leaves);
-        tell = λ inputs varying. subst (λ terms. TellProducts inputs (length before) (sum ++ leaves ∷ []) (adds.made ++ tree) terms) (sym pushed) (tell_more inputs (All-front (AreVarying inputs (length before)) sum (leaves ∷ []) varying) (All-head (AreVarying inputs (length before)) leaves [] (All-back (AreVarying inputs (length before)) sum (leaves ∷ []) varying)));
+        tell = λ inputs varying. subst (λ terms. TellProducts inputs (length before) (sum ++ leaves ∷ []) (adds.made ++ tree) terms) (sym pushed) (tell_more inputs (All-left (AreVarying inputs (length before)) sum (leaves ∷ []) varying) (All-head (AreVarying inputs (length before)) leaves [] (All-right (AreVarying inputs (length before)) sum (leaves ∷ []) varying)));
       }
 
 -- there is room for the tree of the next product

@@ -13,9 +13,6 @@ use Rattle.ncl_decomp.specs.Split.{IsNarrow}
 use Rattle.ncl_decomp.specs.Splitting.{AreVarying}
 use Rattle.ncl_decomp.proofs.Pairs.{queue_there}
 
-Varies : Signal → Type 0
-Varies s = is_constant s.from ≡ false
-
 both : (P : Signal → Type 0) (s t : Signal) → P s → P t → All P (s ∷ t ∷ [])
 both P s t first second = All-cons P s (t ∷ []) first (All-cons P t [] second (All-nil P))
 

@@ -2,7 +2,7 @@
 use Rattle.std.proofs.Common.{◌≡◌, ℕ, zero, suc, ◌+◌, Bool, true, false, not, cond, List, [], ◌∷◌, ◌++◌, length, map, get_or, inl, inr, refl, sym, ap, subst, ◌∙◌, arith, length-append, zero-add}
 use Rattle.std.specs.Prelude.{All, Contains}
 use Rattle.std.proofs.lemmas.List.{length_push, map_push, get_or_push, get_or_append_left}
-use Rattle.std.proofs.lemmas.List.Elements.{All-nil, All-push, All-append, All-weaker, All-map}
+use Rattle.std.proofs.lemmas.List.Elements.{All-push, All-append, All-weaker, All-map}
 use Rattle.std.proofs.lemmas.List.Sums.{sum_by_push, sum_by-append}
 use Rattle.ncl_blif.specs.Meaning.{cover_value}
 use Rattle.ncl_blif.specs.Model.{weight_of_rows}
@@ -74,18 +74,6 @@ images_vary inputs count images signals varying exist vary = record {
 }
 
 -- ---- one node further
-
-pub AreSplit-none : (inputs : ℕ) → AreSplit inputs [] [] []
-AreSplit-none inputs = record {
-  as_many = refl;
-  varying = record { exist = All-nil (λ (s : Signal). IsSource inputs 0 s.from); vary = All-nil (λ (s : Signal). is_constant s.from ≡ false) };
-  values = λ word. refl;
-  narrow = All-nil IsNarrow;
-  kinds = All-nil (IsOfTwoOr []);
-  reads_before = tt;
-  few = omega arith;
-  cost = omega arith;
-}
 
 -- what stood among some of the nodes stands among more
 kinds_among : (some more : List Node) → ((node : Node) → Contains some node → Contains more node) → (node : Node) → IsOfTwoOr some node → IsOfTwoOr more node

@@ -1,5 +1,5 @@
 -- Words as the lines of a text are gone through.
-use Rattle.std.proofs.Common.{◌≡◌, ℕ, ◌+◌, Bool, List, [], ◌∷◌, ◌++◌, length, map, Some, None, refl, sym, ap, ◌∙◌, arith}
+use Rattle.std.proofs.Common.{◌≡◌, ℕ, ◌+◌, Bool, List, [], ◌∷◌, ◌++◌, length, map, Some, None, sym, ap, ◌∙◌, arith}
 use Rattle.std.specs.Option.{option_or}
 use Rattle.std.proofs.lemmas.List.{length-map, map-append}
 use Rattle.ncl_base.specs.Words.{text_of}
@@ -28,9 +28,6 @@ up_to : (width : ℕ) (lines : List NumberedText) (words : List (List Bool)) (li
 up_to width lines words line so_far =
     words_fault-append width 0 lines (line ∷ [])
     ∙ (λ i. option_or (so_far.unbroken i) (option_or-none (word_fault width (as_many width lines words so_far i) line) i))
-
-pub words-none : (width : ℕ) → AreWords width [] []
-words-none width = record { unbroken = refl; texts = refl }
 
 pub words-more : (width : ℕ) (lines : List NumberedText) (words : List (List Bool)) (line : NumberedText) (word : List Bool) → AreWords width lines words → word_fault width (length words) line ≡ None → text_of word ≡ line.text → AreWords width (lines ++ line ∷ []) (words ++ word ∷ [])
 words-more width lines words line word so_far unbroken is = record {

@@ -5,9 +5,9 @@ use Rattle.std.proofs.lemmas.List.{append_assoc, append-nil, length-append, get_
 use Rattle.std.proofs.lemmas.List.Concat.{flat_map-append}
 use Rattle.std.proofs.lemmas.List.FromFn.{map-range_with_len_more, length-map-range_with_len, length-range_with_len}
 use Rattle.std.proofs.lemmas.Nat.{shr-shr, shr_below}
+use Rattle.ncl_base.proofs.Ranges.{range_with_len-more}
 use Rattle.ncl_blif.specs.declared.model.Model.{Model}
 use Rattle.ncl_blif.specs.Meaning.{Gives, Computes}
-use Rattle.ncl_blif.proofs.NumberedLaws.{range_with_len-more}
 use Rattle.ncl_demo.specs.Adding.{bit_value, ones_of, carry_of, sum_of, stage_answer, bits_in}
 use Rattle.ncl_demo.specs.Adder.{IsStage, IsAdder}
 use Rattle.ncl_demo.specs.Offered.{bit_of, in_turn, carry_and_sums}

@@ -1,5 +1,5 @@
 -- Stages, one after another.
-use Rattle.std.proofs.Common.{◌≡◌, ℕ, ◌+◌, ◌-◌, ◌*◌, ◌<◌, ◌≤◌, zero, suc, List, [], ◌∷◌, ◌++◌, length, get_or, refl, sym, ap, ◌∙◌, subst, ⊎_elim, arith}
+use Rattle.std.proofs.Common.{◌≡◌, ℕ, ◌+◌, ◌-◌, ◌*◌, ◌<◌, ◌≤◌, zero, suc, List, [], ◌∷◌, ◌++◌, length, get_or, sym, ap, ◌∙◌, subst, ⊎_elim, arith}
 use Rattle.std.specs.Prelude.{All, sum, sum_by}
 use Rattle.std.specs.List.{HoldsAt}
 use Rattle.std.proofs.lemmas.Bool.{cases_lt}
@@ -17,9 +17,6 @@ use Rattle.ncl_demo.proofs.Staging.{Serves}
 pub record Row (bits : ℕ) (models : List Model) (count : ℕ) : Type 0 where
   pub many : length models ≡ count
   pub each : (k : ℕ) → k < count → HoldsAt (Serves bits k) models k
-
-pub row_none : (bits : ℕ) → Row bits [] 0
-row_none bits = record { many = refl; each = λ k below. absurd (omega arith) }
 
 -- one more
 pub row_more : (bits : ℕ) (models : List Model) (count : ℕ) (m : Model) → Row bits models count → Serves bits count m → Row bits (models ++ m ∷ []) (count + 1)

@@ -6,8 +6,8 @@ use Rattle.std.proofs.lemmas.Bool.{ne_eqb}
 use Rattle.std.proofs.lemmas.List.{append_assoc, length-take-le, length-drop, get_or-take, get_or-drop}
 use Rattle.std.proofs.lemmas.List.FromFn.{length-range_with_len, get_or-range_with_len}
 use Rattle.std.proofs.lemmas.Map.Keys.{IsDistinct-from_apart}
+use Rattle.ncl_base.proofs.Ranges.{range_with_len-more}
 use Rattle.ncl_blif.proofs.Fitting.{map-range}
-use Rattle.ncl_blif.proofs.NumberedLaws.{range_with_len-more}
 
 -- the numbers below one, and the next two
 pub range_two : (n : ℕ) → range_with_len 0 n ++ n ∷ (n + 1) ∷ [] ≡ range_with_len 0 (n + 2)

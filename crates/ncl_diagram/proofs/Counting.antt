@@ -14,9 +14,10 @@ use Rattle.std.specs.FinSet as set
 use Rattle.std.specs.List.{IsDistinct, list_any}
 use Rattle.std.specs.Ordering.{bool_cmp, eq_by_cmp}
 use Rattle.std.specs.Cmp.Lexicographic.{slice_cmp}
+use Rattle.ncl_base.proofs.Tests.{same_from_both}
 use Rattle.ncl_space.specs.Beads.{Beads, bead_count, beads_of, distinct_beads, is_bead}
 use Rattle.ncl_space.specs.Space.{SpaceData}
-use Rattle.ncl_space.proofs.BeadLaws.{both_ways, contains-distinct_beads, distinct_count, len-from_list, one_set, one_table, table_order}
+use Rattle.ncl_space.proofs.BeadLaws.{contains-distinct_beads, distinct_count, len-from_list, one_set, one_table, table_order}
 use Rattle.ncl_space.proofs.SpaceLaws.{len_grows}
 use Rattle.ncl_diagram.specs.declared.memo.Key.{Key}
 use Rattle.ncl_diagram.specs.declared.nodes.Node.{Node}
@@ -282,7 +283,7 @@ few_those n nodes t c =
     union_is = one_set _ _ (λ u.
         set.contains-union table_order found (distinct_beads n (t ∷ [])) u
         ∙ ap (λ b. b || set.contains (distinct_beads n (t ∷ [])) u) (set.contains-from_list table_order (beads_at n nodes all) u)
-        ∙ both_ways _ _ (λ h. by u (either _ _ h)) (λ h. or_right _ _ h))
+        ∙ same_from_both _ _ (λ h. by u (either _ _ h)) (λ h. or_right _ _ h))
       where
         or_right : (a b : Bool) → b ≡ true → (a || b) ≡ true
         or_right true b h = refl

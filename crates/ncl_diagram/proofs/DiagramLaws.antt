@@ -11,9 +11,9 @@ use Rattle.ncl_space.specs.declared.space.SpaceFault.{SpaceFault}
 use Rattle.ncl_space.specs.declared.space.SpaceFault.TheVariants.{Full}
 use Rattle.ncl_space.specs.Beads.{bead_count, beads_of, distinct_beads, is_bead}
 use Rattle.ncl_space.specs.Functions.{constant_table}
-use Rattle.ncl_space.specs.Space.{IsLive, IsNew, IsSpace, Keeps, Makes, MarksNow, Releases, Adds, Within, fits}
-use Rattle.ncl_space.proofs.BeadLaws.{contains-distinct_beads, table_order}
-use Rattle.ncl_space.proofs.CountedMarks.{CountsMarks, from_nat_le, from_nat_lt, marks_now, nat_le-from, nat_lt-from, releases_to}
+use Rattle.ncl_space.specs.Space.{IsLive, IsNew, IsSpace, Keeps, Makes, Releases, Adds, Within, fits}
+use Rattle.ncl_space.proofs.BeadLaws.{table_order}
+use Rattle.ncl_space.proofs.CountedMarks.{CountsMarks, from_nat_le, from_nat_lt, nat_le-from, nat_lt-from, releases_to}
 use Rattle.ncl_diagram.specs.declared.nodes.Node.{Node}
 use Rattle.ncl_diagram.specs.Nodes.{table_from, IsCanonical, Grown}
 use Rattle.ncl_diagram.specs.Operands.{There}
@@ -25,20 +25,12 @@ use Rattle.ncl_diagram.specs.Steps.{operand_bound, product}
 use Rattle.ncl_diagram.proofs.Canonical.{length-table_from, one_place}
 use Rattle.ncl_diagram.proofs.Growth.{table_grown}
 use Rattle.ncl_diagram.proofs.Holding.{beads_held, held_grown}
-use Rattle.ncl_diagram.proofs.HeldSets.{fits_all, fits_not, held_from_set, held_is, len-held, set_from_held}
+use Rattle.ncl_diagram.proofs.HeldSets.{fits_all, fits_not, held_from_set, held_is, len-held, set_from_held, single_bead}
 use Rattle.ncl_diagram.proofs.Rails.{table_from-constant}
 use Rattle.ncl_diagram.proofs.Taking.{canonical_take, grown_take, take_grown}
 
 nat_le-true : (a b : ℕ) → a ≤ b → nat_le a b ≡ true
 nat_le-true a b h = grind (arith, nat_tests)
-
--- a bead of one table is a bead of it
-single_bead : (n : ℕ) (made bead : List Bool) → set.contains (distinct_beads n (made ∷ [])) bead ≡ is_bead (beads_of n made) bead
-single_bead n made bead = contains-distinct_beads n (made ∷ []) bead ∙ or_false (is_bead (beads_of n made) bead)
-  where
-    or_false : (b : Bool) → (b || false) ≡ b
-    or_false true = refl
-    or_false false = refl
 
 -- where nodes come, what is held stays
 Within-grown : (n : ℕ) (old new : List Node) → IsCanonical n old → Grown old new → Within (held_of n old) (held_of n new)
@@ -117,9 +109,6 @@ fits_by d new made (Err e) leaves = tt
 -- the number of nodes is a mark of now
 diagram-counts : (d : DiagramData) → CountsMarks (diagram_space d) (held_of d.width) d.nodes
 diagram-counts d = record { live = λ r. refl; held = refl; stands = λ m. refl; live_at = λ m r. refl; held_at = λ m. refl }
-
-pub MarksNow-diagram : (d : DiagramData) (m : Mark) → m.count ≡ length d.nodes → MarksNow (diagram_space d) m
-MarksNow-diagram d = marks_now (diagram_space d) (held_of d.width) d.nodes (diagram-counts d)
 
 -- the first nodes alone are the space at a mark
 pub Releases-diagram : (d : DiagramData) (m : Mark) → IsCanonical d.width d.nodes → m.count ≤ length d.nodes → Releases (diagram_space d) (diagram_space (with_nodes d (take m.count d.nodes))) m

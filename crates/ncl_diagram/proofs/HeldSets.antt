@@ -11,8 +11,9 @@ use Rattle.ncl_diagram.specs.Nodes.{IsCanonical, bead_of}
 use Rattle.ncl_diagram.specs.Holding.{Held, HoldsWith, HoldsOnly, IsTooMuch}
 use Rattle.ncl_space.specs.Space.{SpaceData}
 use Rattle.std.specs.Prelude.{None}
+use Rattle.ncl_base.proofs.Tests.{same_from_both}
 use Rattle.ncl_diagram.specs.Holding.{beads_from, held_of}
-use Rattle.ncl_space.proofs.BeadLaws.{both_ways, distinct_count, len-from_list, one_set, one_table, table_order, table_ties}
+use Rattle.ncl_space.proofs.BeadLaws.{distinct_count, len-from_list, one_set, one_table, table_order, table_ties}
 use Rattle.ncl_space.proofs.SpaceLaws.{len_grows}
 use Rattle.ncl_diagram.proofs.BeadTests.{either}
 use Rattle.ncl_diagram.proofs.Holding.{beads_differ}
@@ -58,8 +59,8 @@ no_more : (xs : List (List Bool)) → xs ++ [] ≡ xs
 no_more [] = refl
 no_more (x ∷ xs) = ap (λ l. x ∷ l) (no_more xs)
 
-single : (n : ℕ) (made t : List Bool) → set.contains (distinct_beads n (made ∷ [])) t ≡ is_bead (beads_of n made) t
-single n made t = set.contains-from_list table_order (flat_map (beads_of n) (made ∷ [])) t ∙ ap (λ (bs : List (List Bool)). is_bead bs t) (no_more (beads_of n made))
+pub single_bead : (n : ℕ) (made t : List Bool) → set.contains (distinct_beads n (made ∷ [])) t ≡ is_bead (beads_of n made) t
+single_bead n made t = set.contains-from_list table_order (flat_map (beads_of n) (made ∷ [])) t ∙ ap (λ (bs : List (List Bool)). is_bead bs t) (no_more (beads_of n made))
 
 left : (a b : Bool) → a ≡ true → (a || b) ≡ true
 left true b e = refl
@@ -71,10 +72,10 @@ right false b e = e
 
 -- after Ok what is held is a union
 pub held_is : (n : ℕ) (old new : List Node) (made : List Bool) → HoldsWith n old new made → held_of n new ≡ set.union (held_of n old) (distinct_beads n (made ∷ []))
-held_is n old new made h = one_set _ _ (λ t. both_ways _ _ (there t) (back t))
+held_is n old new made h = one_set _ _ (λ t. same_from_both _ _ (there t) (back t))
   where
     union_is : (t : List Bool) → set.contains (set.union (held_of n old) (distinct_beads n (made ∷ []))) t ≡ (set.contains (held_of n old) t || is_bead (beads_of n made) t)
-    union_is t = set.contains-union table_order (held_of n old) (distinct_beads n (made ∷ [])) t ∙ ap (λ (b : Bool). set.contains (held_of n old) t || b) (single n made t)
+    union_is t = set.contains-union table_order (held_of n old) (distinct_beads n (made ∷ [])) t ∙ ap (λ (b : Bool). set.contains (held_of n old) t || b) (single_bead n made t)
 
     there : (t : List Bool) → set.contains (held_of n new) t ≡ true → set.contains (set.union (held_of n old) (distinct_beads n (made ∷ []))) t ≡ true
     there t e = union_is t ∙ by (h.only t (held_from_set n new t e))
@@ -137,10 +138,10 @@ fits_not n old new made limit c only full = not_le _ limit (subst (λ (m : ℕ).
         ∙ ap (λ (m : ℕ). m + 1) (len-held n new c ∙ full.count)
 
     more_is : (t : List Bool) → set.contains (set.union more (distinct_beads n (made ∷ []))) t ≡ ((eq_by_cmp (slice_cmp bool_cmp) t full.bead || set.contains (held_of n new) t) || is_bead (beads_of n made) t)
-    more_is t = set.contains-union table_order more (distinct_beads n (made ∷ [])) t ∙ (λ i. set.contains-insert table_order (held_of n new) full.bead t i || single n made t i)
+    more_is t = set.contains-union table_order more (distinct_beads n (made ∷ [])) t ∙ (λ i. set.contains-insert table_order (held_of n new) full.bead t i || single_bead n made t i)
 
     old_is : (t : List Bool) → set.contains (set.union (held_of n old) (distinct_beads n (made ∷ []))) t ≡ (set.contains (held_of n old) t || is_bead (beads_of n made) t)
-    old_is t = set.contains-union table_order (held_of n old) (distinct_beads n (made ∷ [])) t ∙ ap (λ (b : Bool). set.contains (held_of n old) t || b) (single n made t)
+    old_is t = set.contains-union table_order (held_of n old) (distinct_beads n (made ∷ [])) t ∙ ap (λ (b : Bool). set.contains (held_of n old) t || b) (single_bead n made t)
 
     from_new : (t : List Bool) → Held n old t ⊎ (is_bead (beads_of n made) t ≡ true) → (set.contains (held_of n old) t || is_bead (beads_of n made) t) ≡ true
     from_new t (inl q) = left _ _ (set_from_held n old t q)
@@ -159,7 +160,7 @@ fits_not n old new made limit c only full = not_le _ limit (subst (λ (m : ℕ).
     to_more t (inr q) = right _ _ q
 
     same : set.union more (distinct_beads n (made ∷ [])) ≡ set.union (held_of n old) (distinct_beads n (made ∷ []))
-    same = one_set _ _ (λ t. both_ways _ _ (λ h. old_is t ∙ from_more t (either _ _ (sym (more_is t) ∙ h))) (λ h. more_is t ∙ to_more t (either _ _ (sym (old_is t) ∙ h))))
+    same = one_set _ _ (λ t. same_from_both _ _ (λ h. old_is t ∙ from_more t (either _ _ (sym (more_is t) ∙ h))) (λ h. more_is t ∙ to_more t (either _ _ (sym (old_is t) ∙ h))))
 
 le_true : (m limit : ℕ) → m ≤ limit → nat_le m limit ≡ true
 le_true m limit h = grind (arith, nat_tests)

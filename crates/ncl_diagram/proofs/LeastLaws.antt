@@ -2,6 +2,7 @@
 use Rattle.std.proofs.Common.{◌≡◌, ◌≢◌, ℕ, zero, suc, ◌+◌, ◌^◌, ◌<◌, ◌≤◌, ◌⊎◌, inl, inr, Bool, true, false, not, List, [], ◌∷◌, ◌++◌, length, Option, Some, None, if◌then◌else◌, append_assoc, append-nil, length-append, sym, ap, ◌∙◌, refl, arith}
 use Rattle.std.specs.List.{find}
 use Rattle.std.specs.Option.{option_or, option_map}
+use Rattle.ncl_base.proofs.Tests.{option_or-none}
 use Rattle.ncl_space.specs.Table.{words}
 use Rattle.ncl_space.specs.Functions.{at, constant_table, is_value, least}
 use Rattle.ncl_space.proofs.TableLaws.{at-low, at-high, at_table, find-same, find-words, table_of-same}
@@ -19,10 +20,6 @@ least-halves value m l h long =
     find-words m (λ w. is_value value (at (l ++ h) w))
     ∙ (λ i. option_or (option_map (λ w. false ∷ w) (low i)) (option_map (λ w. true ∷ w) (high i)))
 
-neither : {X : Type 0} (a b : Option X) → option_or a b ≡ None → (a ≡ None) × (b ≡ None)
-neither (Some x) b e = absurd cc
-neither None b e = (refl, e)
-
 not_mapped : {X Y : Type 0} (f : X → Y) (o : Option X) → option_map f o ≡ None → o ≡ None
 not_mapped f (Some x) e = absurd cc
 not_mapped f None e = refl
@@ -37,10 +34,10 @@ find-none zero f none [] e = by (f []) none
 find-none zero f none (b ∷ w) e = absurd (omega arith)
 find-none (suc n) f none [] e = absurd (omega arith)
 find-none (suc n) f none (false ∷ w) e =
-    let both = neither (option_map (λ w. false ∷ w) (find (λ w. f (false ∷ w)) (words n))) (option_map (λ w. true ∷ w) (find (λ w. f (true ∷ w)) (words n))) (sym (find-words n f) ∙ none) in
+    let both = option_or-none (option_map (λ w. false ∷ w) (find (λ w. f (false ∷ w)) (words n))) (option_map (λ w. true ∷ w) (find (λ w. f (true ∷ w)) (words n))) (sym (find-words n f) ∙ none) in
     find-none n (λ w. f (false ∷ w)) (not_mapped (λ w. false ∷ w) (find (λ w. f (false ∷ w)) (words n)) both.0) w (omega arith)
 find-none (suc n) f none (true ∷ w) e =
-    let both = neither (option_map (λ w. false ∷ w) (find (λ w. f (false ∷ w)) (words n))) (option_map (λ w. true ∷ w) (find (λ w. f (true ∷ w)) (words n))) (sym (find-words n f) ∙ none) in
+    let both = option_or-none (option_map (λ w. false ∷ w) (find (λ w. f (false ∷ w)) (words n))) (option_map (λ w. true ∷ w) (find (λ w. f (true ∷ w)) (words n))) (sym (find-words n f) ∙ none) in
     find-none n (λ w. f (true ∷ w)) (not_mapped (λ w. true ∷ w) (find (λ w. f (true ∷ w)) (words n)) both.1) w (omega arith)
 
 find-never : (ws : List (List Bool)) → find (λ w. false) ws ≡ None
@@ -79,19 +76,6 @@ pub record Walks (n : ℕ) (nodes : List Node) (value : Bool) (whole : Option (L
   pub some : p ≢ constant_place (not value)
   pub long : length prefix ≡ level
   pub word : (m : ℕ) → level + m ≡ n → whole ≡ option_map (λ w. prefix ++ w) (least value m (table_from nodes m level p))
-
-map_none : (o : Option (List Bool)) → o ≡ option_map (λ w. [] ++ w) o
-map_none None = refl
-map_none (Some w) = refl
-
-pub walks_start : (n : ℕ) (nodes : List Node) (value : Bool) (p : ℕ) → p < length nodes + 2 → p ≢ constant_place (not value) → Walks n nodes value (least value n (table_from nodes n 0 p)) 0 p []
-walks_start n nodes value p there some = record {
-  there = there;
-  later = omega arith;
-  some = some;
-  long = refl;
-  word = λ m e. let is : n ≡ m = omega arith in ap (λ (k : ℕ). least value k (table_from nodes k 0 p)) is ∙ map_none (least value m (table_from nodes m 0 p));
-}
 
 module _ (n : ℕ) (nodes : List Node) (value : Bool) (whole : Option (List Bool)) (level p : ℕ) (prefix : List Bool) (can : IsCanonical n nodes) (lt : level < n) (walks : Walks n nodes value whole level p prefix) where
   looks : Reads n nodes level p ⊎ Passes n nodes level p

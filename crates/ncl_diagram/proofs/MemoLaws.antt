@@ -1,19 +1,15 @@
 -- The memo of one operation.
 use Rattle.std.proofs.Common.{◌≡◌, ℕ, zero, suc, ◌+◌, ◌<◌, List, [], ◌∷◌, ◌++◌, Bool, true, false, not, if◌then◌else◌, length, slice_get, Some, None, Option, sym, ◌∙◌, ap, refl, arith, subst, ◌⊎◌, inl, inr, nat_eq, ◌&&◌}
-use Rattle.std.proofs.lemmas.Grind.{common_steps}
 use Rattle.std.proofs.lemmas.Bool.{or_parts, and_parts}
 use Rattle.std.proofs.lemmas.Bool.Decides.{nat_tests}
-use Rattle.std.specs.List.{list_any, position_or_len}
+use Rattle.std.specs.List.{list_any}
+use Rattle.ncl_base.proofs.Places.{slice_get-kept, push_cases}
 use Rattle.ncl_space.specs.declared.space.Ref.{Ref}
 use Rattle.ncl_diagram.specs.declared.memo.Key.{Key}
 use Rattle.ncl_diagram.specs.declared.nodes.Node.{Node}
 use Rattle.ncl_diagram.specs.Nodes.{is_node, node_at}
 use Rattle.ncl_diagram.specs.Memo.{KeepsKeys, Forgets, is_key}
 use Rattle.ncl_diagram.proofs.Canonical.{same_node}
-
-pub none_before : {X : Type 0} (p : X → Bool) (xs : List X) → list_any p xs ≡ false → position_or_len p xs ≡ length xs
-none_before p [] h = refl
-none_before p (x ∷ xs) h = let q = or_parts (p x) (list_any p xs) h in grind (arith, common_steps, q.0, none_before p xs q.1)
 
 pub absent_by_added : (b a : Bool) → a ≡ true → a ≡ not b → b ≡ false
 absent_by_added true a e n = absurd (grind arith)
@@ -23,31 +19,9 @@ pub present_by_added : (b a : Bool) → a ≡ false → a ≡ not b → b ≡ tr
 present_by_added true a e n = refl
 present_by_added false a e n = absurd (grind arith)
 
-pub get_push : {X : Type 0} (xs : List X) (x : X) (i : ℕ) → i ≡ length xs → slice_get (xs ++ x ∷ []) i ≡ Some x
-get_push [] x zero e = refl
-get_push [] x (suc i) e = absurd (omega arith)
-get_push (y ∷ xs) x zero e = absurd (omega arith)
-get_push (y ∷ xs) x (suc i) e = get_push xs x i (omega arith)
-
-pub get_kept : {X : Type 0} (xs : List X) (y : X) (i : ℕ) (x : X) → slice_get xs i ≡ Some x → slice_get (xs ++ y ∷ []) i ≡ Some x
-get_kept [] y i x e = absurd (grind arith)
-get_kept (z ∷ xs) y zero x e = e
-get_kept (z ∷ xs) y (suc i) x e = get_kept xs y i x e
-
--- what is got of a list with one more
-pub get_last : {X : Type 0} (xs : List X) (y : X) (i : ℕ) (x : X) → slice_get (xs ++ y ∷ []) i ≡ Some x → (slice_get xs i ≡ Some x) ⊎ ((i ≡ length xs) × (y ≡ x))
-get_last [] y zero x e = inr (refl, cc)
-get_last [] y (suc i) x e = absurd (grind arith)
-get_last (z ∷ xs) y zero x e = inl e
-get_last (z ∷ xs) y (suc i) x e = more (get_last xs y i x e)
-  where
-    more : (slice_get xs i ≡ Some x) ⊎ ((i ≡ length xs) × (y ≡ x)) → (slice_get (z ∷ xs) (suc i) ≡ Some x) ⊎ ((suc i ≡ suc (length xs)) × (y ≡ x))
-    more (inl g) = inl g
-    more (inr p) = inr (ap suc p.0, p.1)
-
 pub kept_by_push : (b : Bool) (keys more : List Key) (key : Key) → more ≡ (if b then keys else keys ++ key ∷ []) → KeepsKeys keys more
 kept_by_push true keys more key e = record { kept = λ i k g. subst (λ (l : List Key). slice_get l i ≡ Some k) (sym e) g }
-kept_by_push false keys more key e = record { kept = λ i k g. subst (λ (l : List Key). slice_get l i ≡ Some k) (sym e) (get_kept keys key i k g) }
+kept_by_push false keys more key e = record { kept = λ i k g. subst (λ (l : List Key). slice_get l i ≡ Some k) (sym e) (slice_get-kept keys key i k g) }
 
 -- a key that is there isn't put again
 pub none_put : (b : Bool) (keys more : List Key) (key : Key) → b ≡ true → more ≡ (if b then keys else keys ++ key ∷ []) → more ≡ keys
@@ -81,7 +55,7 @@ pub forgets_by_push : (b : Bool) (keys more : List Key) (key : Key) (found known
 forgets_by_push true keys more key found known long none m k = absurd (grind arith)
 forgets_by_push false keys more key found known long none m k = record {
   was = λ i q r g h.
-      by (get_last keys key i q (subst (λ (l : List Key). slice_get l i ≡ Some q) m g)) (get_last found None i (Some r) (subst (λ (l : List (Option Ref)). slice_get l i ≡ Some (Some r)) k h));
+      by (push_cases keys key i q (subst (λ (l : List Key). slice_get l i ≡ Some q) m g)) (push_cases found None i (Some r) (subst (λ (l : List (Option Ref)). slice_get l i ≡ Some (Some r)) k h));
 }
   where
     by : {i : ℕ} {q : Key} {r : Ref} → (slice_get keys i ≡ Some q) ⊎ ((i ≡ length keys) × (key ≡ q)) → (slice_get found i ≡ Some (Some r)) ⊎ ((i ≡ length found) × (None ≡ Some r)) → (slice_get keys i ≡ Some q) × (slice_get found i ≡ Some (Some r))

@@ -1,5 +1,5 @@
 -- Operands filled up with the constant 0.
-use Rattle.std.proofs.Common.{◌≡◌, ℕ, zero, suc, subst, ◌+◌, ◌<◌, ◌≤◌, List, [], ◌∷◌, Bool, false, length, map, slice_index_or, sym, ◌∙◌, ap, refl, arith}
+use Rattle.std.proofs.Common.{◌≡◌, ℕ, zero, suc, subst, ◌+◌, ◌<◌, List, [], ◌∷◌, Bool, false, length, map, slice_index_or, sym, ◌∙◌, ap, refl, arith}
 use Rattle.std.specs.List.{list_any, list_all}
 use Rattle.ncl_gates.specs.declared.kind.Kind.{Kind}
 use Rattle.ncl_gates.specs.Gate.{Pin, set_of, products, place_of}
@@ -29,22 +29,6 @@ gate_filled kind nodes m level ps qs f =
     ap (set_of kind) (rows nodes m level w qs)
     ∙ set_of-same kind _ _ (λ k. value_at (λ p. at (table_from nodes m level p) w) (at_zero nodes m level w e) qs k ∙ ap (λ p. at (table_from nodes m level p) w) (f.same k) ∙ sym (value_at (λ p. at (table_from nodes m level p) w) (at_zero nodes m level w e) ps k))
     ∙ ap (set_of kind) (sym (rows nodes m level w ps)))
-
--- four operands read from a list of at most four
-pub filled : (ps : List ℕ) (a b c d : ℕ) → length ps ≤ 4 → a ≡ slice_index_or ps 0 0 → b ≡ slice_index_or ps 1 0 → c ≡ slice_index_or ps 2 0 → d ≡ slice_index_or ps 3 0 → IsFilled ps (a ∷ b ∷ c ∷ d ∷ [])
-filled ps a b c d few ea eb ec ed = record { same = same }
-  where
-    after : (ps : List ℕ) (k : ℕ) → length ps ≤ k → slice_index_or ps k 0 ≡ 0
-    after [] k h = refl
-    after (p ∷ ps) zero h = absurd (omega arith)
-    after (p ∷ ps) (suc k) h = after ps k (omega arith)
-
-    same : (k : ℕ) → slice_index_or (a ∷ b ∷ c ∷ d ∷ []) k 0 ≡ slice_index_or ps k 0
-    same zero = ea
-    same (suc zero) = eb
-    same (suc (suc zero)) = ec
-    same (suc (suc (suc zero))) = ed
-    same (suc (suc (suc (suc k)))) = sym (after ps (suc (suc (suc (suc k)))) (omega arith))
 
 there_at : (nodes : List Node) (ps : List ℕ) (k : ℕ) → There nodes ps → slice_index_or ps k 0 < length nodes + 2
 there_at nodes [] k t = omega arith

@@ -1,5 +1,6 @@
 -- The keys that an operation meets are reached from its operands, and each is met once.
 use Rattle.std.proofs.Common.{◌≡◌, ℕ, zero, suc, ◌+◌, ◌<◌, ◌⊎◌, inl, inr, List, [], ◌∷◌, ◌++◌, Bool, true, false, length, map, set, slice_get, slice_index_or, Some, None, Option, sym, ◌∙◌, ap, arith, subst}
+use Rattle.ncl_base.proofs.Places.{push_cases}
 use Rattle.ncl_gates.specs.declared.kind.Kind.{Kind}
 use Rattle.ncl_space.specs.declared.space.Ref.{Ref}
 use Rattle.ncl_diagram.specs.declared.memo.Key.{Key}
@@ -9,7 +10,7 @@ use Rattle.ncl_diagram.specs.Operands.{There}
 use Rattle.ncl_diagram.specs.Memo.{places, size_of, MayAdd, IsKeyPut, AreLarger, Settles}
 use Rattle.ncl_diagram.specs.Steps.{Reaches, here, along, ReachesKey, AddsKeys}
 use Rattle.ncl_diagram.proofs.Growth.{branch_grown, branch_before, grown_along, there_grown}
-use Rattle.ncl_diagram.proofs.MemoLaws.{get_last, short}
+use Rattle.ncl_diagram.proofs.MemoLaws.{short}
 use Rattle.ncl_diagram.proofs.Applying.{get_set, branches_grown, Lower, Higher}
 
 -- what is reached stays so where nodes come
@@ -37,14 +38,10 @@ reaches_up nodes level v key next to e r = record {
   d = along level v key.d.place (subst (λ (p : ℕ). Reaches nodes to.d.place p) (ap (λ (ps : List ℕ). slice_index_or ps 3 0) e) r.d);
 }
 
--- no key comes
-pub adds_none : (nodes : List Node) (keys : List Key) (from : Key) → AddsKeys nodes keys keys from
-adds_none nodes keys from = record { added = λ i key e. inl (i, e) }
-
 -- the key itself comes, or none
 pub adds_itself : (nodes : List Node) (keys more : List Key) (key : Key) → MayAdd keys more key → AddsKeys nodes keys more key
 adds_itself nodes keys more key (inl e) = record { added = λ i q g. inl (i, subst (λ (l : List Key). slice_get l i ≡ Some q) e g) }
-adds_itself nodes keys more key (inr e) = record { added = λ i q g. by i q (get_last keys key i q (subst (λ (l : List Key). slice_get l i ≡ Some q) e g)) }
+adds_itself nodes keys more key (inr e) = record { added = λ i q g. by i q (push_cases keys key i q (subst (λ (l : List Key). slice_get l i ≡ Some q) e g)) }
   where
     by : (i : ℕ) (q : Key) → (slice_get keys i ≡ Some q) ⊎ ((i ≡ length keys) × (key ≡ q)) → ((j : ℕ) × (slice_get keys j ≡ Some q)) ⊎ ReachesKey nodes key q
     by i q (inl g) = inl (i, g)
@@ -81,7 +78,7 @@ begun keys more found known key r (inr p) none larger =
 module _ {keys more : List Key} {found known : List (Option Ref)} {key : Key} {at : ℕ} (b : Begun keys found more known key at) where
   pub open_begun : (i : ℕ) (q : Key) → slice_get more i ≡ Some q → slice_get known i ≡ Some None → length keys ≡ length found → ((slice_get keys i ≡ Some q) × (slice_get found i ≡ Some None)) ⊎ ((i ≡ at) × (key ≡ q))
   open_begun i q g f long =
-      by (get_last keys key i q (subst (λ (l : List Key). slice_get l i ≡ Some q) b.keys_are g)) (get_last found None i None (subst (λ (l : List (Option Ref)). slice_get l i ≡ Some None) b.found_are f))
+      by (push_cases keys key i q (subst (λ (l : List Key). slice_get l i ≡ Some q) b.keys_are g)) (push_cases found None i None (subst (λ (l : List (Option Ref)). slice_get l i ≡ Some None) b.found_are f))
     where
       nothing : Option Ref
       nothing = None
@@ -101,9 +98,6 @@ module _ {keys more : List Key} {found known : List (Option Ref)} {key : Key} {a
 -- keys without an answer stay larger
 pub larger_settled : (less : ℕ) (keys more : List Key) (found known : List (Option Ref)) → AreLarger less keys found → Settles keys found more known → AreLarger less more known
 larger_settled less keys more found known larger s = record { larger = λ i q g f. let w = s.was i q g f in larger.larger i q w.0 w.1 }
-
-pub settles_none : (keys : List Key) (found : List (Option Ref)) → Settles keys found keys found
-settles_none keys found = record { was = λ i q g f. (g, f) }
 
 pub settles_along : {a b d : List Key} {f g h : List (Option Ref)} → Settles a f b g → Settles b g d h → Settles a f d h
 settles_along s t = record { was = λ i q x y. let w = t.was i q x y in s.was i q w.0 w.1 }

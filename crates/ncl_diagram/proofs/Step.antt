@@ -5,6 +5,7 @@ use Rattle.ncl_space.proofs.BeadLaws.{table_ties}
 use Rattle.std.proofs.lemmas.Bool.Decides.{nat_tests}
 use Rattle.ncl_gates.specs.declared.kind.Kind.{Kind}
 use Rattle.ncl_space.specs.Beads.{is_bead, beads_of, is_same}
+use Rattle.ncl_space.proofs.BoundLaws.{is_same_only}
 use Rattle.ncl_diagram.specs.Nodes.{bit_or, level_of, child, branch, table_from, IsCanonical, bead_of}
 use Rattle.ncl_diagram.specs.Operands.{Above, There, Least, gate_from}
 use Rattle.ncl_diagram.specs.Finding.{IsAnswer, IsBeadOf, Lacks, Leads}
@@ -119,15 +120,6 @@ bead_low m l h t e b = ap (λ (bs : List (List Bool)). is_bead bs t) (beads_step
 
 pub bead_high : (m : ℕ) (l h t : List Bool) → length l ≡ 2 ^ m → is_bead (beads_of m h) t ≡ true → is_bead (beads_of (suc m) (l ++ h)) t ≡ true
 bead_high m l h t e b = ap (λ (bs : List (List Bool)). is_bead bs t) (beads_step m l h e) ∙ any_right t (own_bead l h ++ beads_of m l) (beads_of m h) b
-
-pub is_same_only : (xs ys : List Bool) → is_same xs ys ≡ true → xs ≡ ys
-is_same_only [] [] e = refl
-is_same_only [] (y ∷ ys) e = absurd (grind arith)
-is_same_only (x ∷ xs) [] e = absurd (grind arith)
-is_same_only (true ∷ xs) (true ∷ ys) e = ap (λ t. true ∷ t) (is_same_only xs ys e)
-is_same_only (true ∷ xs) (false ∷ ys) e = absurd (grind arith)
-is_same_only (false ∷ xs) (true ∷ ys) e = absurd (grind arith)
-is_same_only (false ∷ xs) (false ∷ ys) e = ap (λ t. false ∷ t) (is_same_only xs ys e)
 
 pub bead_self : (m : ℕ) (l h : List Bool) → length l ≡ 2 ^ m → l ≢ h → is_bead (beads_of (suc m) (l ++ h)) (l ++ h) ≡ true
 bead_self m l h e apart = ap (λ (bs : List (List Bool)). is_bead bs (l ++ h)) (beads_step m l h e) ∙ own (is_same l h) refl

@@ -1,14 +1,17 @@
 -- The laws of the set functions. Only one fact about the table is computed, that each product has pins
 -- of its gate; the rest follows from the form, a sum of products.
-use Rattle.std.proofs.Common.{◌≡◌, ◌≢◌, ◌<◌, ◌+◌, ℕ, zero, suc, List, [], ◌∷◌, Bool, true, false, ◌&&◌, ◌||◌, ltb, map, length, get_or, slice_index_or, if◌then◌else◌, ap, refl, ◌∙◌, arith}
-use Rattle.std.specs.List.{list_any, list_all, All, AllByRecursion}
+use Rattle.std.proofs.Common.{◌≡◌, ◌≢◌, ◌<◌, ◌+◌, ℕ, zero, suc, List, [], ◌∷◌, Bool, true, false, ◌&&◌, ◌||◌, ltb, map, length, get_or, slice_index_or, if◌then◌else◌, ap, refl, ◌∙◌, arith, take}
+use Rattle.std.specs.List.{list_any, list_all, All}
 use Rattle.std.proofs.lemmas.Bool.{and_parts, and_left, or_parts, ltb-true}
 use Rattle.std.proofs.lemmas.List.Sums.{AllPass-from_list_all, list_all-from_AllPass}
 use Rattle.std.proofs.lemmas.List.Folds.{list_any_none, list_any_at}
 use Rattle.ncl_gates.specs.declared.kind.Kind.{Kind}
 use Rattle.ncl_gates.specs.declared.kind.Kind.TheVariants.{Th12, Th13, Th14, Th22, Th33, Th44}
 use Rattle.ncl_gates.specs.Gate.{Pin, A, B, C, D, arity_of, products, place_of, at_pin, set_of, some_high}
-use Rattle.ncl_gates.specs.GateLaw.{all_high, IsBelow, IsMonotone, HasHysteresis, IsConjunction, IsDisjunction, IsProductWithin, HasProducts}
+use Rattle.ncl_gates.specs.GateLaw.{all_high, IsMonotone, HasHysteresis, IsConjunction, IsDisjunction, IsProductWithin, HasProducts}
+use Rattle.ncl_gates.specs.declared.cell_kind.CellKind.{CellKind}
+use Rattle.ncl_gates.specs.declared.cell_kind.CellKind.TheVariants.{Gate, Register, RegisterData, Ack}
+use Rattle.ncl_gates.specs.Cell.{next_of_cell}
 use Rattle.ncl_gates.proofs.ListTests.{list_all_more, list_any_more}
 use Rattle.ncl_gates.proofs.Table.{every_kind}
 
@@ -125,7 +128,7 @@ and_true true = refl
 and_true false = refl
 
 -- what holds of any two inputs holds of each list of two
-of_two : (P : List Bool → Type 0) → ((a b : Bool) → P (a ∷ b ∷ [])) → (ins : List Bool) → length ins ≡ 2 → P ins
+pub of_two : (P : List Bool → Type 0) → ((a b : Bool) → P (a ∷ b ∷ [])) → (ins : List Bool) → length ins ≡ 2 → P ins
 of_two P here [] len = absurd (omega arith)
 of_two P here (a ∷ []) len = absurd (omega arith)
 of_two P here (a ∷ b ∷ []) len = here a b
@@ -164,15 +167,14 @@ set_of-Th13 = of_three (λ ins. set_of Th13 ins ≡ some_high ins) (λ a b c. rw
 pub set_of-Th14 : IsDisjunction Th14
 set_of-Th14 = of_four (λ ins. set_of Th14 ins ≡ some_high ins) (λ a b c d. rw (and_true a, and_true b, and_true c, and_true d) refl)
 
--- with more nets at 1 the inputs that a cell reads from them are more
-pub IsBelow-map : (values more : ℕ → Bool) (nets : List ℕ) → AllByRecursion (λ net. values net ≡ true → more net ≡ true) nets → IsBelow (map values nets) (map more nets)
-IsBelow-map values more nets above = record { same_length = length_both nets; rises = rises_both nets above }
-  where
-    length_both : (ns : List ℕ) → length (map values ns) ≡ length (map more ns)
-    length_both [] = refl
-    length_both (n ∷ ns) = let e = length_both ns in omega arith
+-- a cell that has its next value keeps it while its pins do
+again : (set some old : Bool) → (if set then true else if some then (if set then true else if some then old else false) else false) ≡ (if set then true else if some then old else false)
+again true some old = refl
+again false true old = refl
+again false false old = refl
 
-    rises_both : (ns : List ℕ) → AllByRecursion (λ net. values net ≡ true → more net ≡ true) ns → (place : ℕ) → get_or (map values ns) place false ≡ true → get_or (map more ns) place false ≡ true
-    rises_both [] above place high = high
-    rises_both (n ∷ ns) above zero high = above.0 high
-    rises_both (n ∷ ns) above (suc place) high = rises_both ns above.1 place high
+pub next_of_cell-again : (kind : CellKind) (ins : List Bool) (old : Bool) → next_of_cell kind ins (next_of_cell kind ins old) ≡ next_of_cell kind ins old
+next_of_cell-again (Gate kind) ins old = again (set_of kind ins) (some_high ins) old
+next_of_cell-again Register ins old = again (set_of Th22 (take 2 ins)) (some_high (take 2 ins)) old
+next_of_cell-again RegisterData ins old = again (set_of Th22 (take 2 ins)) (some_high (take 2 ins)) old
+next_of_cell-again Ack ins old = refl

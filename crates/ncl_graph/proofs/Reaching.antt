@@ -1,5 +1,5 @@
 -- Walks along arcs.
-use Rattle.std.proofs.Common.{◌≡◌, ℕ, ◌+◌, ◌<◌, Bool, true, false, not, List, [], ◌∷◌, ◌++◌, length, get_or, set, take, replicate, inl, inr, refl, sym, ap, ◌∙◌, subst, cond, arith}
+use Rattle.std.proofs.Common.{◌≡◌, ℕ, ◌+◌, ◌<◌, Bool, true, false, not, List, [], ◌∷◌, ◌++◌, length, get_or, set, take, replicate, inl, inr, sym, ap, ◌∙◌, subst, cond, arith}
 use Rattle.std.specs.List.{All, Contains, count_by}
 use Rattle.std.proofs.lemmas.Bool.{cases_eq, cases_lt}
 use Rattle.std.proofs.lemmas.List.{get_or_past, get_or-set_same, get_or-set_other, get_or-replicate, length-set, length-replicate, length_push, take_more}
@@ -9,19 +9,6 @@ use Rattle.ncl_graph.specs.Graph.{successors, Leads}
 use Rattle.ncl_graph.specs.Graph.Leads.{arc, further}
 use Rattle.ncl_graph.specs.Reach.{was_reached, IsWalk, Reaches}
 use Rattle.ncl_graph.proofs.Paths.{Leads-push}
-
--- the places of no list
-pub reaches_none : (reached : List Bool) (waiting : List ℕ) → Reaches [] reached waiting reached waiting
-reaches_none reached waiting = record {
-  sized = refl;
-  all = All-nil (λ i. was_reached reached i ≡ true);
-  kept = λ i e. e;
-  only = λ i e. inl e;
-  fresh = λ i e. inl e;
-  still = λ i c. c;
-  waits = λ w. w;
-  turns = refl;
-}
 
 -- one place that is new
 pub reaches_one : (reached : List Bool) (waiting : List ℕ) (place : ℕ) → place < length reached → was_reached reached place ≡ false → Reaches (place ∷ []) reached waiting (set reached place true) (waiting ++ place ∷ [])

@@ -4,6 +4,7 @@ use Rattle.std.specs.Prelude.{slice_get, nat_eq}
 use Rattle.std.specs.List.{find}
 use Rattle.std.proofs.lemmas.Bool.{cases_eq, eq-eqb, ne_eqb}
 use Rattle.ncl_base.proofs.Members.{Member, Member-append_left, Member-append_cases, member_of_map, Member-from_Contains, Contains-from_slice_get}
+use Rattle.ncl_base.proofs.Places.{at_map}
 use Rattle.ncl_shape.specs.declared.rails.Rails.{Rails}
 use Rattle.ncl_shape.specs.declared.stage.StageCell.{StageCell}
 use Rattle.ncl_shape.specs.Stage.{StageData, IsStage, rail_nets, nets_of, out_of}
@@ -36,11 +37,6 @@ slice_get-after [] ys place = ap (slice_get ys) (let e : 0 + place ≡ place = o
 slice_get-after (x ∷ xs) ys place =
     ap (slice_get (x ∷ xs ++ ys)) (let e : suc (length xs) + place ≡ suc (length xs + place) = omega arith in e)
     ∙ slice_get-after xs ys place
-
-slice_get-map : {X Y : Type 0} (f : X → Y) (xs : List X) (place : ℕ) (x : X) → slice_get xs place ≡ Some x → slice_get (map f xs) place ≡ Some (f x)
-slice_get-map f [] place x at = absurd cc
-slice_get-map f (y ∷ xs) zero x at = let same : y ≡ x = cc in ap (λ z. Some (f z)) same
-slice_get-map f (y ∷ xs) (suc place) x at = slice_get-map f xs place x at
 
 module _ (p : PipelineData) (shape : Shape p.netlist p) (l : Layout) (is : IsLayoutOf p l) where
   pub stage-here : (k : ℕ) → k < length p.stages → slice_get p.stages k ≡ Some (l.stage (suc k))
@@ -113,7 +109,7 @@ module _ (p : PipelineData) (shape : Shape p.netlist p) (l : Layout) (is : IsLay
     joined-at place g at =
         ap (λ cells. slice_get cells (length (joined_cells p before) + place)) (more_cells before (omega arith))
         ∙ slice_get-after (joined_cells p before) (map (gate_as (names_after p top)) (l.stage top).cells) place
-        ∙ slice_get-map (gate_as (names_after p top)) (l.stage top).cells place g at
+        ∙ at_map (gate_as (names_after p top)) (l.stage top).cells place g at
 
     has : (k : ℕ) → k ≤ top → (g : StageCell) → Member g (l.stage k).cells → Member (gate_as (names_after p k) g) j.cells
     has k le g m = has-gate is top in_last (names_after p) start_names next_names (cells_are p shape l is) (joined_cells p) refl more_cells top (omega arith) k le g m

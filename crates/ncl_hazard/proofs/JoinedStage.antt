@@ -8,6 +8,7 @@ use Rattle.std.proofs.lemmas.List.Kept.{AllPairs-cons}
 use Rattle.ncl_base.specs.declared.word.TheConstants.{MOST_BITS}
 use Rattle.ncl_base.proofs.Lists.{pairs-head, pairs-tail}
 use Rattle.ncl_base.proofs.Members.{Member, here, there, Member-append_left, Member-append_right, Member-append_cases, Member-map, member_of_map, Member-from_Contains, Contains-from_Member, All-from_members}
+use Rattle.ncl_base.proofs.Tests.{AllPairs-append}
 use Rattle.ncl_gates.specs.Gate.{arity_of}
 use Rattle.ncl_netlist.specs.declared.ids.NetId.{NetId}
 use Rattle.ncl_netlist.specs.declared.cell.Cell.{Cell}
@@ -19,20 +20,11 @@ use Rattle.ncl_shape.specs.Pipeline.{PipelineData}
 use Rattle.ncl_cell_roles.specs.Layout.{out_rail, Layout, IsLayoutOf, stage_nets}
 use Rattle.ncl_cell_roles.proofs.RailNets.{rail-place}
 use Rattle.ncl_stage.proofs.Apart.{right-differ}
+use Rattle.ncl_stage.proofs.NetLaws.{left-differ}
 use Rattle.ncl_machine.proofs.StageNets.{gate-listed, out-listed}
 use Rattle.ncl_hazard.specs.Joined.{Names, named_as, net_as, rails_as, gate_as}
 use Rattle.ncl_hazard.proofs.StageSweeps.{AreCellsOf}
-use Rattle.ncl_hazard.proofs.JoinedValues.{left-differ, rail-name, gate-name}
-
-AllPairs-append : {X : Type 0} (R : X → X → Type 0) (xs ys : List X) → AllPairs R xs → AllPairs R ys → ((x y : X) → Member x xs → Member y ys → R x y) → AllPairs R (xs ++ ys)
-AllPairs-append R [] ys of_x of_y cross = of_y
-AllPairs-append R (x ∷ xs) ys of_x of_y cross =
-    AllPairs-cons R x (xs ++ ys)
-    (All-from_members (R x) (xs ++ ys) (λ y m. elim (Member-append_cases y xs ys m) [
-      | inl own ↦ pairs-head R x xs of_x y own
-      | inr other ↦ cross x y here other
-    ]))
-    (AllPairs-append R xs ys (pairs-tail R x xs of_x) of_y (λ a b in_x in_y. cross a b (there in_x) in_y))
+use Rattle.ncl_hazard.proofs.JoinedValues.{rail-name, gate-name}
 
 pairs-map : {X Y : Type 0} (R : Y → Y → Type 0) (f : X → Y) (xs : List X) → AllPairs (λ a b. R (f a) (f b)) xs → AllPairs R (map f xs)
 pairs-map R f [] pairs = λ i j d before within. absurd (omega (arith, within))

@@ -4,6 +4,7 @@ use Rattle.std.specs.Prelude.{slice_get}
 use Rattle.std.specs.List.{list_all, range_with_len}
 use Rattle.std.proofs.lemmas.Bool.{both_ways, cases_Bool, cases_eq, and_from, and_right, false_from_ne_true}
 use Rattle.ncl_base.proofs.Members.{Member, here, there}
+use Rattle.ncl_base.proofs.Tests.{list_all-member}
 use Rattle.ncl_shape.specs.declared.item.Item.{Item}
 use Rattle.ncl_shape.specs.declared.item.Item.TheVariants.{Raise, Lower}
 use Rattle.ncl_shape.specs.Nets.{Nets, with_net}
@@ -13,7 +14,6 @@ use Rattle.ncl_cell_roles.specs.Layout.{rail_at}
 use Rattle.ncl_machine.specs.State.{State}
 use Rattle.ncl_machine.specs.Steps.{differ, has_value, put_at, current_rails, rails_of_word, after_raise, after_lower, enabled, step}
 use Rattle.ncl_machine.proofs.AtWorkLaws.{with_net-elsewhere}
-use Rattle.ncl_insensitivity.proofs.ListTests.{member-passes}
 use Rattle.ncl_machine.proofs.LocalNets.{with_net-here, with_net-keeps}
 use Rattle.ncl_machine.proofs.NamedRails.{bit_at, named-get, named-has, named-place}
 use Rattle.ncl_insensitivity.proofs.StepValues.{lowered-value}
@@ -88,7 +88,7 @@ module _ (p : PipelineData) (word : List Bool) (wide : length word ≡ length p.
           let same : turned p s (Raise b) ≡ s = ap (λ e. if e then step p s (Raise b) else s) not_now in
           subst (λ t. IsRaising start t × (t.value (rail b) ≡ true) × ((net : ℕ) → s.value net ≡ true → t.value net ≡ true)) (sym same) (ing, high, λ net h. h)
       | inr low ↦
-          let rises : s.falling ≡ false = ing.falling ∙ false_from_ne_true _ (λ all. both_ways _ low (member-passes s.value rails all (rail b) (rail-in b lt))) in
+          let rises : s.falling ≡ false = ing.falling ∙ false_from_ne_true _ (λ all. both_ways _ low (list_all-member s.value rails all (rail b) (rail-in b lt))) in
           let now : enabled p s (Raise b) ≡ true =
           ap (λ f. not f && s.value p.ko && has_value s.value (slice_get (current_rails p s) b) false) rises
           ∙ ap (λ v. v && has_value s.value (slice_get (current_rails p s) b) false) (ing.others p.ko ko ∙ asks)
@@ -129,7 +129,7 @@ module _ (p : PipelineData) (word : List Bool) (wide : length word ≡ length p.
     lowered-now : (s : State) (v : Nets) → ((net : ℕ) → (Member net rails → ⊥) → v net ≡ start net) → IsOffered s → s.falling ≡ true → (all : Bool) → list_all (λ net. not (v net)) rails ≡ all
         → IsLowering start (if all then record s { value = v; falling = false; done = s.done + 1 } else record s { value = v })
     lowered-now s v others is falls true all = record {
-      either = inr (refl, λ net m. low_from (v net) (member-passes (λ net. not (v net)) rails all net m));
+      either = inr (refl, λ net m. low_from (v net) (list_all-member (λ net. not (v net)) rails all net m));
       others = others;
     }
       where

@@ -4,6 +4,7 @@ use Rattle.std.specs.Prelude.{slice_get}
 use Rattle.std.specs.List.{list_all}
 use Rattle.std.proofs.lemmas.Bool.{and_from, both_ways, not-true, or_cases, or_from, or_left, or_parts, or_right, not_from_false}
 use Rattle.ncl_base.proofs.Members.{Member}
+use Rattle.ncl_base.proofs.Tests.{list_all-member}
 use Rattle.ncl_shape.specs.declared.rails.Rails.{Rails}
 use Rattle.ncl_shape.specs.declared.item.Item.{Item}
 use Rattle.ncl_shape.specs.declared.item.Item.TheVariants.{Raise, Lower, Take, Ready}
@@ -14,7 +15,7 @@ use Rattle.ncl_machine.specs.Steps.{enabled, step, differ, next_value, is_data, 
 use Rattle.ncl_machine.specs.Run.{IsPersistent}
 use Rattle.ncl_machine.proofs.AtWorkLaws.{with_net-elsewhere}
 use Rattle.ncl_machine.proofs.TruthValues.{differ-itself}
-use Rattle.ncl_insensitivity.proofs.ListTests.{member-passes, all-more}
+use Rattle.ncl_insensitivity.proofs.ListTests.{all-more}
 use Rattle.ncl_machine.proofs.NamedRails.{bit_at, rail-is_one}
 use Rattle.ncl_machine.proofs.StageNets.{outputs-listed}
 use Rattle.ncl_machine.proofs.LocalNets.{in_stage, in_tree}
@@ -74,7 +75,7 @@ module _ {p : PipelineData} {l : Layout} {w : Waves} {offered : List (List Bool)
         → list_all (λ net. test (moved l w s k.numbers a net)) (current_rails p s) ≡ true → ⊥
     not_last a other apart test fails all =
         both_ways _ (ap test (other-rail a other.within apart ∙ move.old) ∙ fails)
-        (member-passes (λ net. test (moved l w s k.numbers a net)) (current_rails p s) all (own b) (own-current set k move b move.within))
+        (list_all-member (λ net. test (moved l w s k.numbers a net)) (current_rails p s) all (own b) (own-current set k move b move.within))
 
     -- so while the bit is old the source goes on raising its word
     raising-stays : (item : Item) → Raise b ≢ item → s.falling ≡ false → rising k.numbers 0 ≡ true → Move p l w s k.numbers item

@@ -5,12 +5,6 @@ use Rattle.std.specs.List.{list_all}
 use Rattle.std.proofs.lemmas.Bool.{and_from, and_parts, both_ways, cases_Bool}
 use Rattle.ncl_base.proofs.Members.{Member, here, there}
 
--- where all pass, each member does; where not all pass, some member fails
-pub member-passes : {X : Type 0} (test : X → Bool) (xs : List X) → list_all test xs ≡ true → (x : X) → Member x xs → test x ≡ true
-member-passes test [] all x m = elim m [ ]
-member-passes test (y ∷ ys) all x here = (and_parts (test y) (list_all test ys) all).0
-member-passes test (y ∷ ys) all x (there m) = member-passes test ys (and_parts (test y) (list_all test ys) all).1 x m
-
 pub member-fails : {X : Type 0} (test : X → Bool) (xs : List X) → list_all test xs ≡ false → (x : X) × Member x xs × (test x ≡ false)
 member-fails test [] some = absurd (both_ways true some refl)
 member-fails test (y ∷ ys) some = elim (cases_Bool (test y)) [
@@ -32,14 +26,6 @@ push-cases [] y x zero at = inr (refl, cc)
 push-cases [] y x (suc i) at = absurd cc
 push-cases (z ∷ zs) y x zero at = inl at
 push-cases (z ∷ zs) y x (suc i) at = elim (push-cases zs y x i at) [ inl old ↦ inl old | inr (e, same) ↦ inr (ap suc e, same) ]
-
--- functions that agree at the members
-pub map-same : {X Y : Type 0} (f g : X → Y) (xs : List X) → ((x : X) → Member x xs → f x ≡ g x) → map f xs ≡ map g xs
-map-same f g [] same = refl
-map-same f g (x ∷ xs) same =
-    let first : f x ≡ g x = same x here in
-    let rest : map f xs ≡ map g xs = map-same f g xs (λ r m. same r (there m)) in
-    cc
 
 pub map-not : {X : Type 0} (f : X → Bool) (xs : List X) → map not (map f xs) ≡ map (λ (x : X). not (f x)) xs
 map-not f [] = refl

@@ -4,6 +4,7 @@ use Rattle.std.proofs.Common.{◌≡◌, ℕ, zero, suc, ◌<◌, ◌≤◌, Boo
 use Rattle.std.specs.Prelude.{slice_get}
 use Rattle.std.proofs.lemmas.Bool.{and_left, and_right, both_ways, false_from_ne_true, not_from_true, or_from}
 use Rattle.ncl_base.proofs.Members.{Member, Member-get_or}
+use Rattle.ncl_base.proofs.Tests.{list_all-member}
 use Rattle.ncl_netlist.specs.declared.ids.NetId.{NetId}
 use Rattle.ncl_netlist.specs.declared.cell.Cell.{Cell}
 use Rattle.ncl_netlist.specs.Netlist.{NetlistData}
@@ -23,7 +24,6 @@ use Rattle.ncl_machine.specs.Steps.{next_value, differ, is_excited, is_data}
 use Rattle.ncl_machine.specs.AtWork.{next_of_gate}
 use Rattle.ncl_machine.specs.Run.{IsQuiet}
 use Rattle.ncl_machine.proofs.FallingLaws.{next-from_unfed}
-use Rattle.ncl_insensitivity.proofs.ListTests.{member-passes}
 use Rattle.ncl_machine.proofs.StageNets.{in_bit, rail-listed, out-listed, output-listed, tree-listed, ki-listed}
 use Rattle.ncl_machine.proofs.LocalNets.{in_stage, in_tree}
 use Rattle.ncl_insensitivity.proofs.NextValues.{gate-excitation, register-turns}
@@ -104,7 +104,7 @@ module _ {p : PipelineData} {l : Layout} (is : IsLayoutOf p l) (none : (k : ℕ)
   outputs-null : is_data p.outputs (reset_nets p) ≡ false
   outputs-null = false_from_ne_true _ (λ all.
       let some : 1 ≤ length (l.stage l.last).outputs = (is.is_stage l.last (omega arith)).some_outputs in
-      let data_first = member-passes (has_data v) (l.stage l.last).outputs (subst (λ bits. is_data bits v ≡ true) (sym is.sink) all) (get_or (l.stage l.last).outputs 0 no_rails) (Member-get_or (l.stage l.last).outputs 0 no_rails (omega (arith, some))) in
+      let data_first = list_all-member (has_data v) (l.stage l.last).outputs (subst (λ bits. is_data bits v ≡ true) (sym is.sink) all) (get_or (l.stage l.last).outputs 0 no_rails) (Member-get_or (l.stage l.last).outputs 0 no_rails (omega (arith, some))) in
       let low : (r : Bool) → v (out_rail l l.last 0 r) ≡ false = λ r. stage-low l.last (out_rail l l.last 0 r) (omega arith) (output-listed (is.is_stage l.last (omega arith)) 0 r (omega (arith, some))) in
       both_ways _ (or_from _ _ (low false) (low true)) data_first)
 

@@ -1,14 +1,8 @@
 -- The AND of two bits is a sound stage: by computation, at each word and fault.
-use Rattle.std.proofs.Common.{◌≡◌, zero, suc, Bool, true, false, List, [], ◌∷◌, length, refl, arith}
+use Rattle.std.proofs.Common.{◌≡◌, zero, suc, Bool, true, false, [], ◌∷◌, refl}
+use Rattle.ncl_gates.proofs.GateLaws.{of_two}
 use Rattle.ncl_stage.specs.Examples.{and_stage}
 use Rattle.ncl_stage.specs.Faults.{StageFault, BothRails, NoRail, Incomplete, Orphan, IsSound, shows}
-
--- what holds at each pair of bits holds of each word of two
-pub of_two_bits : (P : List Bool → Type 0) → ((a b : Bool) → P (a ∷ b ∷ [])) → (word : List Bool) → length word ≡ 2 → P word
-of_two_bits P each [] right = absurd (omega arith)
-of_two_bits P each (a ∷ []) right = absurd (omega arith)
-of_two_bits P each (a ∷ b ∷ []) right = each a b
-of_two_bits P each (a ∷ b ∷ c ∷ rest) right = absurd (omega arith)
 
 -- what holds of each pair of bits in turn
 pub of_each : (P : Bool → Bool → Type 0) → P false false → P false true → P true false → P true true → (a b : Bool) → P a b
@@ -18,7 +12,7 @@ of_each P ff ft tf tt true false = tf
 of_each P ff ft tf tt true true = tt
 
 pub and_stage-sound : IsSound and_stage
-and_stage-sound fault = of_two_bits (λ word. shows and_stage word fault ≡ false) (each fault)
+and_stage-sound fault = of_two (λ word. shows and_stage word fault ≡ false) (each fault)
   where
     each : (fault : StageFault) (a b : Bool) → shows and_stage (a ∷ b ∷ []) fault ≡ false
     each (BothRails zero) = of_each (λ a b. shows and_stage (a ∷ b ∷ []) (BothRails 0) ≡ false) refl refl refl refl

@@ -5,6 +5,7 @@ use Rattle.std.proofs.Math.Bool.{not-not}
 use Rattle.std.proofs.lemmas.Bool.{both_ways, false_from_ne_true, not-true, not_from_true, not_from_false}
 use Rattle.std.proofs.lemmas.Option.{slice_get_within}
 use Rattle.ncl_base.proofs.Members.{Member}
+use Rattle.ncl_base.proofs.Tests.{list_all-member}
 use Rattle.ncl_shape.specs.Nets.{Nets}
 use Rattle.ncl_shape.specs.Stage.{named_rails}
 use Rattle.ncl_shape.specs.Pipeline.{PipelineData}
@@ -12,7 +13,7 @@ use Rattle.ncl_cell_roles.specs.Layout.{in_rail, Layout, width, stage_nets}
 use Rattle.ncl_stage.specs.Faults.{has_data}
 use Rattle.ncl_machine.specs.State.{State}
 use Rattle.ncl_machine.specs.Steps.{current_rails, rails_of_word}
-use Rattle.ncl_insensitivity.proofs.ListTests.{member-passes, member-fails}
+use Rattle.ncl_insensitivity.proofs.ListTests.{member-fails}
 use Rattle.ncl_machine.proofs.NamedRails.{bit_at, named-has, named-place, some-rail, rail-data}
 use Rattle.ncl_machine.proofs.StageNets.{in_bit, rail-listed}
 use Rattle.ncl_machine.proofs.LocalNets.{local-put_here, in_stage}
@@ -61,13 +62,13 @@ module _ {p : PipelineData} {l : Layout} {w : Waves} {offered : List (List Bool)
   -- at the end of a word, or of the NULL after it, every bit of the source is new
   pub all_raised : rising k.numbers 0 ≡ true → list_all after (current_rails p s) ≡ true → AreAt l 0 (in_stage l after 0) (suc (k.numbers 0))
   all_raised ev all i lt =
-      data_bit i lt (member-passes after (current_rails p s) all (own i) (own-current i lt))
+      data_bit i lt (list_all-member after (current_rails p s) all (own i) (own-current i lt))
       ∙ sym ev ∙ ap even (sym move.same) ∙ sym (not-not (even (k.numbers 0)))
 
   pub all_lowered : rising k.numbers 0 ≡ false → list_all (λ net. not (after net)) (current_rails p s) ≡ true
       → AreAt l 0 (in_stage l after 0) (suc (k.numbers 0))
   all_lowered od all i lt =
-      null_bit i lt (not-true _ (member-passes (λ net. not (after net)) (current_rails p s) all (own i) (own-current i lt)))
+      null_bit i lt (not-true _ (list_all-member (λ net. not (after net)) (current_rails p s) all (own i) (own-current i lt)))
       ∙ sym od ∙ ap even (sym move.same) ∙ sym (not-not (even (k.numbers 0)))
 
   -- else some bit is old

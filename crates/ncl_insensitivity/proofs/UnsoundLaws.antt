@@ -1,9 +1,10 @@
 -- The stages that break one condition of soundness break no other: by computation, at each word and fault.
 use Rattle.std.proofs.Common.{◌≡◌, ◌≢◌, zero, suc, Bool, true, false, [], ◌∷◌, refl, ◌∙◌, sym, length}
+use Rattle.ncl_gates.proofs.GateLaws.{of_two}
 use Rattle.ncl_shape.specs.Stage.{StageData}
 use Rattle.ncl_stage.specs.Faults.{StageFault, BothRails, NoRail, Incomplete, Orphan, shows}
 use Rattle.ncl_insensitivity.specs.Unsound.{condition_of, BreaksOnly, orphan_stage, dead_stage, illegal_stage, eager_stage}
-use Rattle.ncl_insensitivity.proofs.SoundAnd.{of_two_bits, of_each}
+use Rattle.ncl_insensitivity.proofs.SoundAnd.{of_each}
 use Rattle.ncl_insensitivity.proofs.ByComputation.{IsHiddenAtOne, IsHiddenAtOne-word, other_faults}
 
 -- a stage of one bit breaks one condition alone where a bit shows a fault of it and none shows one of another
@@ -29,7 +30,7 @@ eager_stage_breaks = record {
   word = false ∷ false ∷ [];
   right = refl;
   shown = refl;
-  others = λ w other right differs. of_two_bits (λ w. shows eager_stage w other ≡ false) (each other differs) w right;
+  others = λ w other right differs. of_two (λ w. shows eager_stage w other ≡ false) (each other differs) w right;
 }
   where
     each : (other : StageFault) → condition_of other ≢ 2 → (a b : Bool) → shows eager_stage (a ∷ b ∷ []) other ≡ false

@@ -14,11 +14,12 @@ use Rattle.ncl_stage.specs.Values.{both_rails, kept_low, val}
 use Rattle.ncl_stage.specs.Faults.{StageFault, BothRails, NoRail, Incomplete, Orphan, shows, holds_at, is_illegal, IsSound, all_data, has_data}
 use Rattle.ncl_stage.proofs.ValueLaws.{val-rail}
 use Rattle.ncl_machine.proofs.AtWorkLaws.{named-within_values}
-use Rattle.ncl_machine.proofs.InOrder.{one_named, rails_within}
+use Rattle.ncl_machine.proofs.InOrder.{one_named}
 use Rattle.ncl_machine.proofs.SoundLaws.{named-from_high}
-use Rattle.ncl_insensitivity.proofs.ListTests.{member-passes}
 use Rattle.ncl_machine.proofs.NamedRails.{bit_at, named-has}
 use Rattle.ncl_base.specs.Members.{Member}
+use Rattle.ncl_base.proofs.Tests.{list_all-member}
+use Rattle.ncl_shape.proofs.RailLaws.{rails_within}
 
 pub wires_sound : (s : StageData) → IsStage s → s.cells ≡ [] → s.outputs ≡ s.inputs → IsSound s
 wires_sound s is none same fault word wide = shown fault
@@ -66,5 +67,5 @@ wires_sound s is none same fault word wide = shown fault
         go : (o : Option Rails) → slice_get s.inputs b ≡ o → holds_at (λ (r : Rails). all_data s (val s word (Bit b))) o ≡ false
         go None at = refl
         go (Some r) at =
-            false_from_ne_true _ (λ all. both_ways _ (kept b r at) (member-passes (has_data (val s word (Bit b))) s.outputs all r (subst (Member r) (sym same) (member_place b r at))))
+            false_from_ne_true _ (λ all. both_ways _ (kept b r at) (list_all-member (has_data (val s word (Bit b))) s.outputs all r (subst (Member r) (sym same) (member_place b r at))))
     shown (Orphan c) = ap (λ cells. holds_at (λ (g : StageCell). val s word Base g.out.0 && all_data s (val s word (Cell c))) (slice_get cells c)) none

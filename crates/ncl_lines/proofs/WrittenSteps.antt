@@ -1,17 +1,16 @@
 -- The lines of the steps of a run, one after another, and that its items are items of the pipeline.
-use Rattle.std.proofs.Common.{◌≡◌, ℕ, ◌+◌, ◌<◌, true, false, not, List, [], ◌∷◌, ◌++◌, length, take, get_or, inl, inr, sym, ap, subst, ◌∙◌, arith, append_assoc, append-nil, length-take}
+use Rattle.std.proofs.Common.{◌≡◌, ℕ, ◌+◌, ◌<◌, List, [], ◌∷◌, ◌++◌, length, take, get_or, inl, inr, sym, ap, subst, ◌∙◌, arith, append_assoc, append-nil, length-take}
 use Rattle.std.proofs.lemmas.List.{take_more}
 use Rattle.ncl_base.proofs.Members.{Member, member_cases, All-from_members}
 use Rattle.ncl_netlist.specs.declared.ids.CellId.{CellId}
 use Rattle.ncl_netlist.specs.Netlist.{NetlistData}
 use Rattle.ncl_shape.specs.declared.item.Item.{Item}
-use Rattle.ncl_shape.specs.declared.item.Item.TheVariants.{Cell as Fire, Raise, Lower, Take, Ready}
 use Rattle.ncl_shape.specs.Pipeline.{PipelineData}
 use Rattle.ncl_machine.specs.Held.{InRange}
 use Rattle.ncl_machine.specs.State.{State}
-use Rattle.ncl_machine.specs.Steps.{enabled, step}
+use Rattle.ncl_machine.specs.Steps.{step}
 use Rattle.ncl_machine.specs.Run.{IsRunFrom}
-use Rattle.ncl_machine.proofs.EnabledItems.{and3, bit_within, excited_within}
+use Rattle.ncl_machine.proofs.EnabledItems.{item_in_range}
 use Rattle.ncl_hazard.specs.declared.explaining.Explained.{Explained}
 use Rattle.ncl_hazard.specs.declared.explaining.Explained.TheVariants.{Shown, NoWord}
 use Rattle.ncl_hazard.specs.Explained.{IsExplained, TellsOfCell}
@@ -31,18 +30,10 @@ steps_at n items place d within =
     ∙ steps_more n 1 (take place items) (get_or items place d)
     ∙ ap (λ k. step_lines n 1 (take place items) ++ step_line n k (get_or items place d)) (omega (arith, length-take place items))
 
--- an item that is enabled is one of the pipeline
-in_range : (p : PipelineData) (s : State) (item : Item) → enabled p s item ≡ true → InRange p item
-in_range p s (Fire cell) on = excited_within s.value p.netlist.cells cell.0 on
-in_range p s (Raise bit) on = bit_within p s bit false (and3 (not s.falling) (s.value p.ko) _ on).2
-in_range p s (Lower bit) on = bit_within p s bit true (and3 s.falling (not (s.value p.ko)) _ on).2
-in_range p s Take on = tt
-in_range p s Ready on = tt
-
 run-in_range : (p : PipelineData) (run : List Item) (s : State) → IsRunFrom p s run → (item : Item) → Member item run → InRange p item
 run-in_range p [] s is item m = elim m [ ]
 run-in_range p (x ∷ run) s is item m = elim (member_cases item x run m) [
-  | inl own ↦ subst (InRange p) own (in_range p s x is.0)
+  | inl own ↦ subst (InRange p) own (item_in_range p s x is.0)
   | inr later ↦ run-in_range p run (step p s x) is.1 item later
 ]
 

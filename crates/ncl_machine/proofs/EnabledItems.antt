@@ -1,5 +1,5 @@
 -- An enabled item is one of the pipeline: its cell is there, and so is its bit.
-use Rattle.std.proofs.Common.{◌≡◌, ℕ, zero, suc, ◌<◌, ◌≤◌, Bool, true, false, ◌&&◌, List, [], ◌∷◌, length, Option, Some, None, refl, arith}
+use Rattle.std.proofs.Common.{◌≡◌, ℕ, zero, suc, ◌<◌, ◌≤◌, Bool, true, false, ◌&&◌, List, [], ◌∷◌, length, Option, Some, None, refl, arith, not}
 use Rattle.std.specs.Prelude.{slice_get}
 use Rattle.std.proofs.lemmas.Bool.{both_ways}
 use Rattle.ncl_netlist.specs.declared.cell.Cell.{Cell}
@@ -7,8 +7,11 @@ use Rattle.ncl_shape.specs.declared.rails.Rails.{Rails}
 use Rattle.ncl_shape.specs.Nets.{Nets}
 use Rattle.ncl_shape.specs.Pipeline.{PipelineData}
 use Rattle.ncl_shape.specs.Stage.{named_rails}
+use Rattle.ncl_shape.specs.declared.item.Item.{Item}
+use Rattle.ncl_shape.specs.declared.item.Item.TheVariants.{Cell as Fire, Raise, Lower, Take, Ready}
 use Rattle.ncl_machine.specs.State.{State}
-use Rattle.ncl_machine.specs.Steps.{current_rails, has_value, is_excited, rails_of_word}
+use Rattle.ncl_machine.specs.Steps.{current_rails, has_value, is_excited, rails_of_word, enabled}
+use Rattle.ncl_machine.specs.Held.{InRange}
 
 pub and3 : (a b c : Bool) → (a && b && c) ≡ true → (a ≡ true) × (b ≡ true) × (c ≡ true)
 and3 true true c on = (refl, refl, on)
@@ -25,7 +28,7 @@ value_within v [] k value on = absurd (both_ways false refl on)
 value_within v (net ∷ nets) zero value on = omega arith
 value_within v (net ∷ nets) (suc k) value on = let within : k < length nets = value_within v nets k value on in omega arith
 
-few_named : (rs : List Rails) (word : List Bool) → length (named_rails rs word) ≤ length rs
+pub few_named : (rs : List Rails) (word : List Bool) → length (named_rails rs word) ≤ length rs
 few_named [] word = omega arith
 few_named (r ∷ rs) [] = omega arith
 few_named (r ∷ rs) (b ∷ word) = let few : length (named_rails rs word) ≤ length rs = few_named rs word in omega arith
@@ -39,3 +42,10 @@ bit_within p s bit value on =
     let within : bit < length (current_rails p s) = value_within s.value (current_rails p s) bit value on in
     let few : length (current_rails p s) ≤ length p.inputs = few_rails p.inputs (slice_get s.offered s.done) in
     omega (arith, within, few)
+
+pub item_in_range : (p : PipelineData) (s : State) (item : Item) → enabled p s item ≡ true → InRange p item
+item_in_range p s (Fire cell) on = excited_within s.value p.netlist.cells cell.0 on
+item_in_range p s (Raise bit) on = bit_within p s bit false (and3 (not s.falling) (s.value p.ko) _ on).2
+item_in_range p s (Lower bit) on = bit_within p s bit true (and3 s.falling (not (s.value p.ko)) _ on).2
+item_in_range p s Take on = tt
+item_in_range p s Ready on = tt

@@ -13,6 +13,7 @@ use Rattle.ncl_shape.specs.Stage.{StageData, IsStage, named_rails, rail_nets, ra
 use Rattle.ncl_base.proofs.Members.{here, there, Member-append_cases, Contains-from_Member, Member-from_Contains, Member-append_left, Member-append_right}
 use Rattle.ncl_stage.proofs.Apart.{parts-differ, right-differ, named-within}
 use Rattle.ncl_base.specs.Members.{Member}
+use Rattle.ncl_shape.proofs.RailLaws.{rails_within}
 
 -- what holds of the rails, and of the output of each cell where it holds of all that the cell reads, holds of
 -- every net of the stage
@@ -55,11 +56,6 @@ bit_of_named (r ∷ rs) (b ∷ word) net high =
     side : (r : Rails) (b : Bool) → net ≡ rail_of r b → (net ≡ r.zero.0) ⊎ (net ≡ r.one.0)
     side r true e = inr e
     side r false e = inl e
-
--- both rails of a bit are rails
-pub rails_within : (r : Rails) {inputs : List Rails} → Member r inputs → Member r.zero.0 (rail_nets inputs) × Member r.one.0 (rail_nets inputs)
-rails_within r (here {xs = rs}) = (here, there here)
-rails_within r (there {y = y} m) = let (zero, one) = rails_within r m in (there (there zero), there (there one))
 
 -- where all rails differ, a word names one rail of a bit
 pub one_named : (inputs : List Rails) (ys : List ℕ) → AllPairs (λ x y. x ≢ y) (rail_nets inputs ++ ys) → (word : List Bool) (r : Rails) → Member r inputs → among (named_rails inputs word) r.zero.0 ≡ true → among (named_rails inputs word) r.one.0 ≡ true → ⊥

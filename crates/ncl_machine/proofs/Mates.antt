@@ -9,12 +9,12 @@ use Rattle.ncl_netlist.specs.declared.ids.NetId.{NetId}
 use Rattle.ncl_shape.specs.declared.rails.Rails.{Rails}
 use Rattle.ncl_shape.specs.Nets.{Nets, with_net}
 use Rattle.ncl_shape.specs.Stage.{rail_nets}
+use Rattle.ncl_shape.proofs.RailLaws.{rails_within}
 use Rattle.ncl_stage.specs.Faults.{has_data}
 use Rattle.ncl_machine.specs.Held.{net_values}
 use Rattle.ncl_machine.specs.Tallies.{count_of, mate_of, mate_in, is_covered_by}
 use Rattle.ncl_machine.proofs.AtWorkLaws.{with_net-elsewhere}
 use Rattle.ncl_machine.proofs.Counts.{count-same}
-use Rattle.ncl_machine.proofs.InOrder.{rails_within}
 use Rattle.ncl_machine.proofs.LocalNets.{with_net-here}
 use Rattle.ncl_machine.proofs.NamedRails.{data-same}
 use Rattle.ncl_machine.proofs.Numbers.{one_if}

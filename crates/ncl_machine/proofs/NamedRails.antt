@@ -14,6 +14,7 @@ use Rattle.ncl_stage.proofs.Apart.{parts-differ, right-differ}
 use Rattle.ncl_stage.proofs.OnePass.{among-from_member}
 use Rattle.ncl_machine.proofs.InOrder.{one_named}
 use Rattle.ncl_base.specs.Members.{Member}
+use Rattle.ncl_shape.proofs.RailLaws.{own_rail}
 
 -- the bit of a word by its number
 abbrev pub bit_at : List Bool → ℕ → Bool
@@ -24,10 +25,6 @@ pub member-from_among : (net : ℕ) (nets : List ℕ) → among nets net ≡ tru
 member-from_among net nets high = let (x, m, at) = member_from_list_any (nat_eq net) nets high in subst (λ y. Member y nets) (sym (eqb-true net x at)) m
 
 -- ---- rails are of one bit
-
-own-rail : (x : Rails) (r : Bool) → Member (rail_of x r) (x.zero.0 ∷ x.one.0 ∷ [])
-own-rail x true = there here
-own-rail x false = here
 
 -- where all rails differ, a rail is of one bit and one value
 pub rail-is_one : (bits : List Rails) (ys : List ℕ) → AllPairs (λ x y. x ≢ y) (rail_nets bits ++ ys) → (a b : ℕ) (q r : Bool)
@@ -45,10 +42,10 @@ rail-is_one (x ∷ xs) ys differ zero zero q r la lb e = (refl, sides q r e)
     sides false true e = absurd (zero_one e)
     sides false false e = refl
 rail-is_one (x ∷ xs) ys differ zero (suc b) q r la lb e =
-    absurd (parts-differ (rail_of x q) {xs = x.zero.0 ∷ x.one.0 ∷ []} (rail_nets xs ++ ys) differ (own-rail x q)
+    absurd (parts-differ (rail_of x q) {xs = x.zero.0 ∷ x.one.0 ∷ []} (rail_nets xs ++ ys) differ (own_rail x q)
     (Member-append_left (rail_of x q) ys (subst (λ z. Member z (rail_nets xs)) (sym e) (rail-within xs b r (omega arith)))))
 rail-is_one (x ∷ xs) ys differ (suc a) zero q r la lb e =
-    absurd (parts-differ (rail_of x r) {xs = x.zero.0 ∷ x.one.0 ∷ []} (rail_nets xs ++ ys) differ (own-rail x r)
+    absurd (parts-differ (rail_of x r) {xs = x.zero.0 ∷ x.one.0 ∷ []} (rail_nets xs ++ ys) differ (own_rail x r)
     (Member-append_left (rail_of x r) ys (subst (λ z. Member z (rail_nets xs)) e (rail-within xs a q (omega arith)))))
 rail-is_one (x ∷ xs) ys differ (suc a) (suc b) q r la lb e =
     let (same, side) = rail-is_one xs ys (right-differ (x.zero.0 ∷ x.one.0 ∷ []) (rail_nets xs ++ ys) differ) a b q r (omega arith) (omega arith) e in (ap suc same, side)

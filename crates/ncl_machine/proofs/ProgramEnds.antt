@@ -1,11 +1,9 @@
 -- The ends of a pipeline that has its shape, as a state keeps them: the rails of its inputs and outputs and its
 -- acknowledges differ and are nets, and no cell drives a rail of the inputs.
-use Rattle.std.proofs.Common.{◌≡◌, ◌≢◌, ℕ, suc, ◌<◌, ◌≤◌, false, List, [], ◌∷◌, ◌++◌, map, length, Some, sym, ◌∙◌, subst, arith}
+use Rattle.std.proofs.Common.{◌≡◌, ◌≢◌, ℕ, suc, ◌<◌, ◌≤◌, false, List, map, length, Some, sym, ◌∙◌, subst, arith}
 use Rattle.std.specs.Prelude.{All, AllPairs, Contains, slice_get}
 use Rattle.ncl_base.specs.declared.word.TheConstants.{MOST_BITS}
-use Rattle.ncl_base.proofs.Lists.{pairs-head, pairs-tail}
 use Rattle.ncl_base.proofs.Members.{Member, All-from_members, Member-append_left, Member-from_Contains}
-use Rattle.std.proofs.lemmas.List.Kept.{AllPairs-cons}
 use Rattle.std.proofs.lemmas.Bool.{false_from_ne_true}
 use Rattle.ncl_netlist.specs.declared.cell.Cell.{Cell}
 use Rattle.ncl_shape.specs.declared.rails.Rails.{Rails}
@@ -15,18 +13,11 @@ use Rattle.ncl_shape.specs.Stage.{rail_nets, out_of}
 use Rattle.ncl_cell_roles.specs.Layout.{Layout, IsLayoutOf}
 use Rattle.ncl_cell_roles.proofs.RailNets.{rail-place}
 use Rattle.ncl_cell_roles.proofs.LaidOut.{laid_out_of}
+use Rattle.ncl_stage.proofs.NetLaws.{left-differ}
 use Rattle.ncl_machine.proofs.CellNets.{output-no_source, source-no_ki}
 use Rattle.ncl_machine.specs.State.{reset_nets}
 use Rattle.ncl_machine.proofs.Start.{stage-value, held-net, held-net_listed}
 use Rattle.ncl_machine.proofs.StageNets.{ki-listed, root-listed}
-
--- the first of two lists that are joined and differ
-left-differ : (xs ys : List ℕ) → AllPairs (λ x y. x ≢ y) (xs ++ ys) → AllPairs (λ x y. x ≢ y) xs
-left-differ [] ys differ = λ i j d before within. absurd (omega (arith, within))
-left-differ (x ∷ xs) ys differ =
-    AllPairs-cons (λ x y. x ≢ y) x xs
-    (All-from_members (λ y. x ≢ y) xs (λ y m. pairs-head (λ x y. x ≢ y) x (xs ++ ys) differ y (Member-append_left y ys m)))
-    (left-differ xs ys (pairs-tail (λ x y. x ≢ y) x (xs ++ ys) differ))
 
 module _ {p : PipelineData} {l : Layout} (is : IsLayoutOf p l) where
   sink_rails : (l.stage l.last).inputs ≡ p.outputs

@@ -5,7 +5,7 @@ use Rattle.std.proofs.lemmas.List.Elements.{All-contains}
 use Rattle.ncl_base.proofs.Members.{Member-get_or, Contains-from_Member}
 use Rattle.ncl_shape.specs.declared.rails.Rails.{Rails}
 use Rattle.ncl_shape.specs.Stage.{rail_nets}
-use Rattle.ncl_machine.proofs.InOrder.{rails_within}
+use Rattle.ncl_shape.proofs.RailLaws.{rails_within}
 
 module _ (P : ℕ → Type 0) (bits : List Rails) (all : All P (rail_nets bits)) (i : ℕ) (d : Rails) (lt : i < length bits) where
   pub zero_at : P (get_or bits i d).zero.0

@@ -4,6 +4,7 @@ use Rattle.std.proofs.Common.{◌≡◌, ℕ, suc, ◌<◌, ◌≤◌, Bool, tru
 use Rattle.std.specs.Prelude.{nat_eq}
 use Rattle.std.proofs.lemmas.Bool.{and_from, and_parts, both_ways, cases_Bool, eq-eqb, eqb-true, false_from_ne_true, or_cases}
 use Rattle.ncl_base.proofs.Members.{Member, Contains-from_Member, Contains-from_slice_get, Member-from_Contains, member_of_map, list_any-from_member, member_from_list_any, slice_get-from_Contains}
+use Rattle.ncl_base.proofs.Tests.{same_from_both}
 use Rattle.ncl_gates.specs.declared.cell_kind.CellKind.{CellKind}
 use Rattle.ncl_gates.specs.declared.cell_kind.CellKind.TheVariants.{Gate, Ack}
 use Rattle.ncl_gates.specs.Cell.{is_data_register}
@@ -26,7 +27,6 @@ use Rattle.ncl_cell_rules.proofs.PinNumbers.{on_pin_within}
 use Rattle.ncl_shape.specs.Closure.{net_of}
 use Rattle.ncl_shape.specs.Pipeline.{PipelineData}
 use Rattle.ncl_shape.specs.Shape.{Shape}
-use Rattle.ncl_shape.proofs.Rounds.{same_from_both}
 use Rattle.ncl_cell_roles.specs.Layout.{Layout, IsLayoutOf, Part, of_stage, of_bank, of_tree, TreePart, acks, completes, stage_nets}
 use Rattle.ncl_cell_roles.proofs.LaidOut.{laid_out_of}
 use Rattle.ncl_machine.specs.State.{data_nets, tree_nets, reset_nets}

@@ -7,6 +7,7 @@ use Rattle.std.proofs.Math.Bool.{not-not}
 use Rattle.std.proofs.lemmas.Bool.{and_from, and_parts, both_ways, cases_Bool, cases_lt, eq-eqb, eqb-true, false_from_ne_true, ne_eqb, or_left}
 use Rattle.ncl_base.proofs.Members.{Member, Contains-from_Member, Contains-from_slice_get, Member-from_Contains, slice_get-from_Contains, member_cases, member_of_map, list_any-from_member, member_from_list_any}
 use Rattle.ncl_base.specs.Members.{here, there}
+use Rattle.ncl_base.proofs.Tests.{same_from_both}
 use Rattle.ncl_gates.specs.Gate.{some_high}
 use Rattle.ncl_gates.specs.Cell.{is_data_register}
 use Rattle.ncl_gates.proofs.RegisterLaws.{at_register, data_is_register, register_no_ack, register_no_gate}
@@ -17,7 +18,7 @@ use Rattle.ncl_shape.specs.Nets.{Nets, among}
 use Rattle.ncl_shape.specs.Stage.{named_rails}
 use Rattle.ncl_shape.specs.Closure.{net_of, pin_values}
 use Rattle.ncl_shape.specs.Pipeline.{PipelineData}
-use Rattle.ncl_shape.proofs.Rounds.{rounds-each, rounds-settled, same_from_both}
+use Rattle.ncl_shape.proofs.Rounds.{rounds-each, rounds-settled}
 use Rattle.ncl_shape.proofs.PinLaws.{high_net, some_high-from, some_high-low}
 use Rattle.ncl_cell_roles.specs.Layout.{in_rail, Layout, IsLayoutOf, IsAckOf, Part, of_stage, of_bank, of_tree, TreePart, acks, completes, width, stage_nets, holds_rail}
 use Rattle.ncl_stage.specs.Faults.{has_data}

@@ -4,6 +4,7 @@ use Rattle.std.proofs.Common.{◌≡◌, ◌≢◌, ℕ, zero, suc, ◌<◌, ◌
 use Rattle.std.specs.Prelude.{AllPairs}
 use Rattle.ncl_base.proofs.Members.{Member, here, there, Contains-from_slice_get, Contains-from_Member, Member-from_Contains, slice_get-from_Contains, Member-append_left, Member-append_right, Member-map}
 use Rattle.ncl_base.proofs.Lists.{pairs-head, pairs-tail}
+use Rattle.ncl_base.proofs.Tests.{same_from_both}
 use Rattle.ncl_gates.specs.Gate.{set_of}
 use Rattle.ncl_gates.proofs.RegisterLaws.{at_register}
 use Rattle.ncl_netlist.specs.declared.cell.Cell.{Cell}
@@ -14,7 +15,7 @@ use Rattle.ncl_shape.specs.Nets.{Nets, among}
 use Rattle.ncl_shape.specs.Stage.{named_rails, rail_nets, rail_of, out_of}
 use Rattle.ncl_shape.specs.Closure.{net_of, passes, passes_on, pin_values, first_pin}
 use Rattle.ncl_shape.specs.Pipeline.{PipelineData}
-use Rattle.ncl_shape.proofs.Rounds.{same_from_both, rounds-keep, rounds-settled, rounds-support}
+use Rattle.ncl_shape.proofs.Rounds.{rounds-keep, rounds-settled, rounds-support}
 use Rattle.ncl_shape.proofs.ClosureLaws.{passes-monotone}
 use Rattle.ncl_shape.proofs.PinLaws.{first_pin-is}
 use Rattle.ncl_cell_roles.specs.Layout.{Layout, IsLayoutOf, Part, of_stage, of_bank, of_tree, in_rail, out_rail, width, stage_nets, rail_at, no_rails}

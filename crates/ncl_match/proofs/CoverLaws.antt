@@ -89,15 +89,6 @@ rows-more fs rows k lt w =
     ∙ list_any-append (row_matches (values_of fs w)) (take k rows) (get_or rows k [] ∷ [])
     ∙ ap (λ b. rows_function fs (take k rows) w || b) (or_false (row_function fs (get_or rows k []) w))
 
--- the value of a cover from its rows
-pub cover-on : (fs : List WordFunction) (rows : List (List Lit)) (w : List Bool) → rows_function fs rows w ≡ cover_function fs true rows w
-cover-on fs [] w = refl
-cover-on fs (row ∷ rows) w = refl
-
-pub cover-none : (fs : List WordFunction) (on : Bool) (rows : List (List Lit)) → rows ≡ [] → (w : List Bool) → rows_function fs rows w ≡ cover_function fs on rows w
-cover-none fs on [] e w = refl
-cover-none fs on (row ∷ rows) e w = absurd cc
-
 pub cover-off : (fs : List WordFunction) (rows : List (List Lit)) → 0 < length rows → (w : List Bool) → inverse (rows_function fs rows) w ≡ cover_function fs false rows w
 cover-off fs [] lt w = absurd (omega arith)
 cover-off fs (row ∷ rows) lt w = refl

@@ -1,13 +1,14 @@
 -- The functions of the signals that count for an output: they are listed, and their tables are held once all are made.
-use Rattle.std.proofs.Common.{◌≡◌, ℕ, zero, suc, ◌+◌, ◌<◌, ◌≤◌, Bool, true, false, List, [], ◌∷◌, ◌++◌, length, map, get_or, take, drop, Option, Some, None, if◌then◌else◌, refl, sym, ap, ◌∙◌, subst, arith, ⊎_elim}
+use Rattle.std.proofs.Common.{◌≡◌, ℕ, zero, suc, ◌+◌, ◌<◌, ◌≤◌, Bool, true, false, List, [], ◌∷◌, length, map, get_or, take, drop, Option, Some, None, if◌then◌else◌, refl, sym, ap, ◌∙◌, subst, arith, ⊎_elim}
 use Rattle.std.specs.Prelude.{All, Contains, slice_get}
 use Rattle.std.specs.List.{list_any, range_with_len}
 use Rattle.std.proofs.lemmas.Bool.{cases_lt, false≢true}
-use Rattle.std.proofs.lemmas.List.{get_or_append_left, get_or-append-add, get_or_past, get_or_default, get_or-take, length-append, length-take}
+use Rattle.std.proofs.lemmas.List.{get_or_past, get_or_default, get_or-take, length-take}
 use Rattle.std.proofs.lemmas.List.Elements.{All-append, All-contains, All-head, All-nil, All-tail, recursion_from_All}
 use Rattle.std.proofs.lemmas.Option.{same_Some, slice_get_within}
 use Rattle.ncl_base.proofs.Growing.{cut_at}
 use Rattle.ncl_base.proofs.Members.{Contains-from_slice_get, slice_get-some}
+use Rattle.ncl_base.proofs.Tests.{All-left, All-right}
 use Rattle.ncl_blif.specs.declared.model.Cover.{Cover}
 use Rattle.ncl_blif.specs.declared.model.Lit.{Lit}
 use Rattle.ncl_blif.specs.declared.model.Model.{Model}
@@ -44,14 +45,6 @@ use Rattle.ncl_match.proofs.SideLaws.{both-listed, made-held, same-held}
 use Rattle.ncl_match.proofs.SignalLaws.{bit-function, bits-front, values-map}
 
 -- ---- tables that were made are held
-
-All-left : {X : Type 0} (P : X → Type 0) (xs ys : List X) → All P (xs ++ ys) → All P xs
-All-left P xs ys all k d lt =
-    subst P (get_or_append_left xs ys d k lt) (all k d (omega (arith, lt, length-append xs ys)))
-
-All-right : {X : Type 0} (P : X → Type 0) (xs ys : List X) → All P (xs ++ ys) → All P ys
-All-right P xs ys all k d lt =
-    subst P (get_or-append-add xs ys k d) (all (length xs + k) d (omega (arith, lt, length-append xs ys)))
 
 -- what holds of all that turns give holds of what each gives
 gathered-each : {X : Type 0} (P : X → Type 0) (turn : ℕ → List X) (m j : ℕ) → j < m → All P (gathered turn m) → All P (turn j)

@@ -1,8 +1,8 @@
 -- The steps of covers, one cover and one model further.
-use Rattle.std.proofs.Common.{◌≡◌, ℕ, zero, suc, ◌+◌, ◌^◌, ◌<◌, ◌≤◌, ◌⊎◌, inl, inr, true, false, cond, ◌==◌, nat_eq, nat_lt, List, [], ◌∷◌, ◌++◌, length, map, get_or, take, Option, Some, None, refl, sym, ap, ◌∙◌, subst, arith, ⊎_elim, zero-add}
+use Rattle.std.proofs.Common.{◌≡◌, ℕ, zero, suc, ◌+◌, ◌^◌, ◌<◌, ◌≤◌, ◌⊎◌, inl, inr, true, false, cond, ◌==◌, nat_eq, List, [], ◌∷◌, ◌++◌, length, map, get_or, take, Option, Some, refl, sym, ap, ◌∙◌, subst, arith, ⊎_elim, zero-add}
 use Rattle.std.specs.Prelude.{All, Contains, IsSome, slice_get, sum_by}
 use Rattle.std.specs.List.{filter_map, range_with_len}
-use Rattle.std.proofs.lemmas.Bool.{eqb-true, eq-eqb, ltb-true, lt-ltb, false≢true, cases_eq}
+use Rattle.std.proofs.lemmas.Bool.{eqb-true, eq-eqb, false≢true, cases_eq}
 use Rattle.std.proofs.lemmas.List.{length-append, length-map, length_push, get_or-map, get_or_push, get_or_append_left, get_or-append-add, get_or-take, get_or_default, length-take, map_push, map_more, take_all, take_more}
 use Rattle.std.proofs.lemmas.List.FromFn.{get_or-range_with_len, length-range_with_len}
 use Rattle.std.proofs.lemmas.List.Elements.{All-cons, All-nil, Contains-push_cases}
@@ -97,24 +97,6 @@ module _ (m : Model) (is : IsModel m) (place : ℕ) (cover : Cover) (at : slice_
       (ap (λ (x : Cover). x.out) (get_or_from_slice_get m.covers other c cover c_at) ∙ same ∙ ap (λ (x : Cover). x.out) (sym (get_or_from_slice_get m.covers place cover cover at)))
 
 -- ---- the inputs alone
-
-pub added-none : (n : ℕ) (steps : List Step) (m : Model) (ins : List ℕ) (number : ℕ → Option ℕ) → AreOrdered n steps → All (λ x. x < n + length steps) ins → ((q : ℕ) → number q ≡ cond (nat_lt q (length ins)) (Some (get_or ins q 0)) None) → AreAdded n steps steps m ins number []
-added-none n steps m ins number ordered below is = record {
-  stay = λ j step at. at;
-  count = omega arith;
-  ordered = ordered;
-  inputs = λ i lt. is i ∙ ap (λ b. cond b (Some (get_or ins i 0)) None) (lt-ltb i (length ins) lt);
-  covers = λ place cover (k, lt, at) there. absurd (omega (arith, lt));
-  only = λ signal x e. inl (known signal x e).0;
-  below = λ signal x e. let (lt, same) = known signal x e in subst (λ y. y < n + length steps) same (below signal 0 lt);
-}
-  where
-    known : (signal x : ℕ) → number signal ≡ Some x → (signal < length ins) × (get_or ins signal 0 ≡ x)
-    known signal x e =
-        elim (nat_lt signal (length ins)) as (λ b. nat_lt signal (length ins) ≡ b → cond b (Some (get_or ins signal 0)) None ≡ Some x → (signal < length ins) × (get_or ins signal 0 ≡ x)) [
-          | true ↦ λ test same. (ltb-true signal (length ins) test, same_Some (get_or ins signal 0) x same)
-          | false ↦ λ test same. absurd cc
-        ] refl (sym (is signal) ∙ e)
 
 -- ---- one cover more
 
@@ -372,10 +354,6 @@ module _ (n : ℕ) (models : List Model) (are : AreModels models) (steps : List 
       let sizes = covers_sizes models in
       let first = width_size models in
       omega (arith, own, so_far, sizes, first, wide, are.small)
-
--- once all models are done
-pub models-whole : (n : ℕ) (models : List Model) (steps : List Step) (outs : List ℕ) (place : ℕ) → length models ≤ place → ModelsLoop n models steps outs place → AreNumbered n steps models (range_with_len 0 n) outs
-models-whole n models steps outs place past l = subst (λ ms. AreNumbered n steps ms (range_with_len 0 n) outs) (take_all place models past) l.numbered
 
 pub models-end : (n : ℕ) (models : List Model) (steps : List Step) (outs : List ℕ) (place : ℕ) → AreModels models → n ≡ width_of models → length models ≤ place → ModelsLoop n models steps outs place → n + length steps < 2 ^ 32
 models-end n models steps outs place are wide past l =

@@ -1,8 +1,8 @@
 -- Folding in all stages.
 use Rattle.std.proofs.Common.{◌≡◌, ◌<◌, ◌+◌, ℕ, Bool, true, false, List, [], ◌∷◌, ◌++◌, length, take, get_or, Some, ◌⊎◌, inl, inr, zero, suc, refl, sym, ap, ◌∙◌, subst, arith}
 use Rattle.std.specs.Prelude.{MatchOption, Option, None, ◌||◌, All, slice_get, sum_by}
-use Rattle.std.proofs.lemmas.Bool.{cases_lt}
-use Rattle.std.proofs.lemmas.List.{length_push, take_all}
+use Rattle.std.proofs.lemmas.Bool.{cases_lt, or_parts}
+use Rattle.std.proofs.lemmas.List.{length_push}
 use Rattle.std.proofs.lemmas.List.Sums.{sum_by_push, sum_by_more}
 use Rattle.std.proofs.lemmas.Option.{slice_get_within, get_or_from_slice_get, slice_get-get_or}
 use Rattle.ncl_netlist.specs.declared.cell.Cell.{Cell}
@@ -15,8 +15,9 @@ use Rattle.ncl_shape.specs.Stage.{StageData}
 use Rattle.ncl_shape.specs.Pipeline.{PipelineData}
 use Rattle.ncl_shape.specs.Shape.{Shape, IsStageOf}
 use Rattle.ncl_base.proofs.Members.{slice_get-some, slice_get-from_Contains}
+use Rattle.ncl_base.proofs.Places.{pushed_last}
 use Rattle.ncl_merge.specs.Fold.{IsFoldable, pins_of, FoldsTo, none}
-use Rattle.ncl_merge.specs.Folding.{HasNoFoldable, AreFewer, CountsPins, HasNoneIn, AreFoldsOf, AreAllFolds}
+use Rattle.ncl_merge.specs.Folding.{HasNoFoldable, CountsPins, HasNoneIn, AreFoldsOf, AreAllFolds}
 use Rattle.ncl_merge.proofs.Tables.{counts-stage, none-foldable}
 
 module _ (n : NetlistData) (p : PipelineData) (shape : Shape n p) (k : ℕ) (s : StageData) (at : slice_get p.stages k ≡ Some s) where
@@ -50,13 +51,6 @@ none-all p shape pins table lists folded e all s among g h =
     let (k, at) = slice_get-from_Contains p.stages s among in
     stage-none p.netlist p shape k s at pins table (all.none e k s (slice_get_within p.stages k s at) at) g h
 
-pub fewer-all : (stages : List StageData) (pins : List ℕ) (lists : List (List StageCell)) (folded : Bool) → folded ≡ true → AreAllFolds stages pins lists folded (length stages) → AreFewer stages lists
-fewer-all stages pins lists folded e all = record {
-  sized = all.sized;
-  folds = λ k s cells at in_lists. all.folds k s cells (slice_get_within stages k s at) at in_lists;
-  fewer = subst (λ xs. sum_by (λ (cells : List StageCell). length cells) lists < sum_by (λ (s : StageData). length s.cells) xs) (take_all (length stages) stages (omega arith)) (all.fewer e);
-}
-
 abbrev sizes : List (List StageCell) → ℕ
 sizes = sum_by (λ (cells : List StageCell). length cells)
 
@@ -66,14 +60,6 @@ stage-sizes = sum_by (λ (s : StageData). length s.cells)
 or-true : (a b : Bool) → (a || b) ≡ true → (a ≡ true) ⊎ ((a ≡ false) × (b ≡ true))
 or-true true b e = inl refl
 or-true false b e = inr (refl, e)
-
-or-false : (a b : Bool) → (a || b) ≡ false → (a ≡ false) × (b ≡ false)
-or-false true b e = absurd cc
-or-false false b e = (refl, e)
-
-last-of : {X : Type 0} (xs : List X) (y z : X) → slice_get (xs ++ y ∷ []) (length xs) ≡ Some z → y ≡ z
-last-of [] y z at = cc
-last-of (x ∷ xs) y z at = last-of xs y z at
 
 early-of : {X : Type 0} (xs ys : List X) (k : ℕ) (z : X) → k < length xs → slice_get (xs ++ ys) k ≡ Some z → slice_get xs k ≡ Some z
 early-of [] ys k z lt at = absurd (omega (arith, lt))
@@ -98,7 +84,7 @@ all-more stages pins lists now folded next told count d cells lt are is all own 
             | inr over ↦
                 let place : k ≡ count = omega (arith, less, over) in
                 let end : k ≡ length lists = omega (arith, place, sized) in
-                let same : cells ≡ got = last-of lists cells got (ap (slice_get (lists ++ cells ∷ [])) (sym end) ∙ in_lists) in
+                let same : cells ≡ got = pushed_last lists cells got (ap (slice_get (lists ++ cells ∷ [])) (sym end) ∙ in_lists) in
                 let stage : s ≡ t = ap (λ i. get_or stages i d) (sym place) ∙ get_or_from_slice_get stages k t d at in
                 subst (λ xs. FoldsTo t xs) same (subst (λ x. FoldsTo x cells) stage own.folds)
           ];
@@ -108,7 +94,7 @@ all-more stages pins lists now folded next told count d cells lt are is all own 
         | inr (not_before, now_true) ↦ let fewer = own.fewer now_true in omega (arith, total, before, few, fewer)
       ];
       none = λ e k t less at.
-          let (old_false, own_false) = or-false folded next (sym is ∙ e) in
+          let (old_false, own_false) = or_parts folded next (sym is ∙ e) in
           elim (cases_lt k count) [
             | inl old ↦ all.none old_false k t old at
             | inr over ↦

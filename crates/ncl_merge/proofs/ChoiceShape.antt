@@ -21,6 +21,7 @@ use Rattle.ncl_shape.specs.Shape.{Shape}
 use Rattle.ncl_shape.proofs.ShapeLaws.{same_cell}
 use Rattle.ncl_base.proofs.Members.{Member, here, there, Member-append_right, Member-append_cases, Member-map, member_of_map, All-from_members, Contains-from_Member, Member-from_Contains, Contains-from_slice_get}
 use Rattle.ncl_base.proofs.Lists.{pairs-head, pairs-tail}
+use Rattle.ncl_base.proofs.Places.{at_map}
 use Rattle.ncl_cell_roles.proofs.NetsApart.{nets_at, stages_apart}
 use Rattle.ncl_merge.specs.Fold.{with_cells}
 use Rattle.ncl_merge.specs.Folding.{AreFewer}
@@ -35,7 +36,6 @@ use Rattle.ncl_merge.proofs.ThinnedShape.{shape-there}
 use Rattle.ncl_merge.proofs.Rebuilt.{source, out-source, back, named, in-kept, out-in, kept_at, cells-moved, thinned-rebuilt}
 use Rattle.ncl_merge.proofs.Choices.{IsFoldedStageAt, folded-stage, folds, is-folded, stage-is, gate-cell, old-cell, net-at, out-known, input-register, in-all, place-in, stage-within, choice-found, choice-rail}
 use Rattle.ncl_merge.proofs.WholeChoice.{is-choice}
-use Rattle.ncl_merge.proofs.Thinned.{at_map}
 
 -- what a function keeps of pairs of members
 pairs-map : {X Y : Type 0} (R : X → X → Type 0) (Q : Y → Y → Type 0) (f : X → Y) (xs : List X) → ((x y : X) → Member x xs → Member y xs → R x y → Q (f x) (f y)) → AllPairs R xs → AllPairs Q (map f xs)

@@ -20,6 +20,8 @@ use Rattle.ncl_shape.specs.Pipeline.{PipelineData}
 use Rattle.ncl_shape.specs.Shape.{Shape, IsStageOf, AreRailsOf}
 use Rattle.ncl_base.proofs.Members.{Member, member_cases, Member-append_left, Member-append_right, Member-append_cases, Member-map, member_of_map, Contains-from_Member, Member-from_Contains, Contains-from_slice_get, slice_get-from_Contains, slice_get-some, list_any-from_member, member_from_list_any}
 use Rattle.ncl_base.proofs.Lists.{pairs-head, pairs-tail}
+use Rattle.ncl_base.proofs.Tests.{All-member}
+use Rattle.ncl_base.proofs.Joined.{Member-flat_map, member_of_flat_map}
 use Rattle.ncl_cell_roles.proofs.RailNets.{rail-place}
 use Rattle.ncl_cell_roles.proofs.BankBits.{drives_rail, register_of_rail}
 use Rattle.ncl_cell_roles.proofs.Numbering.{stage_at, inner_or_last, inner_stage, last_stage, bank_rails}
@@ -29,12 +31,10 @@ use Rattle.ncl_merge.specs.Fold.{with_cells, FoldsTo}
 use Rattle.ncl_merge.specs.Folding.{AreFewer}
 use Rattle.ncl_merge.specs.Thinned.{IsRailGate}
 use Rattle.ncl_merge.specs.Choice.{cell_driving, is_stage_cell, with_gate_of, becomes, choice_of}
-use Rattle.ncl_merge.proofs.Lists.{each}
 use Rattle.ncl_merge.proofs.Places.{outs-differ}
 use Rattle.ncl_merge.proofs.Folds.{stage-folded, cell-folded}
 use Rattle.ncl_merge.proofs.FoldingStage.{cut-place}
-use Rattle.ncl_merge.proofs.Rebuilt.{decide, in-flat_map}
-use Rattle.ncl_merge.proofs.Faultless.{of_flat_map}
+use Rattle.ncl_merge.proofs.Rebuilt.{decide}
 use Rattle.ncl_merge.proofs.NetTables.{driving-some}
 
 -- ---- the cell that drives a net
@@ -75,7 +75,7 @@ one-member (x ∷ cells) differ g h m o e =
 pub stage-pin : (s : StageData) → IsStage s → (g : StageCell) → Member g s.cells → (x : NetId) → Member x g.ins.items → Member x.0 (nets_of s.inputs s.cells)
 stage-pin s is g m x o =
     let (i, at_i) = slice_get-from_Contains s.cells g (Contains-from_Member g m) in
-    let known = each (λ (net : NetId). Contains (nets_of s.inputs (take i s.cells)) net.0) g.ins.items (is.in_order (take i s.cells) (drop (suc i) s.cells) g (cut-place s.cells i g at_i)) x o in
+    let known = All-member (λ (net : NetId). Contains (nets_of s.inputs (take i s.cells)) net.0) g.ins.items (is.in_order (take i s.cells) (drop (suc i) s.cells) g (cut-place s.cells i g at_i)) x o in
     elim (Member-append_cases x.0 (rail_nets s.inputs) (map out_of (take i s.cells)) (Member-from_Contains (nets_of s.inputs (take i s.cells)) x.0 known)) [
       | inl rail ↦ Member-append_left x.0 (map out_of s.cells) rail
       | inr out ↦
@@ -169,7 +169,7 @@ module _ (p : PipelineData) (shape : Shape p.netlist p) (lists : List (List Stag
 
     -- the outputs of the stage are nets of it
     pub output-known : (net : ℕ) → Member net (rail_nets s.outputs) → Member net (nets_of s.inputs cells)
-    output-known net m = Member-from_Contains (nets_of s.inputs cells) net (each (Contains (nets_of s.inputs cells)) (rail_nets s.outputs) is-folded.outputs_known net m)
+    output-known net m = Member-from_Contains (nets_of s.inputs cells) net (All-member (Contains (nets_of s.inputs cells)) (rail_nets s.outputs) is-folded.outputs_known net m)
 
     -- an input of the stage is the net of a register cell
     pub input-register : (net : ℕ) → Member net (rail_nets s.inputs) → (r : Cell) × IsCell n r × IsRegister r × (r.out.0 ≡ net)
@@ -182,7 +182,7 @@ module _ (p : PipelineData) (shape : Shape p.netlist p) (lists : List (List Stag
         (c, of_rail.of_bank.0, of_rail.of_bank.1, (drives_rail n at.bank (stage_at p (suc k)).inputs rails j r c of_rail).1 ∙ sym e)
 
     pub in-all : (g : StageCell) → Member g cells → Member g all
-    in-all g m = in-flat_map (λ (cells : List StageCell). cells) cells g (Member-from_Contains lists cells (Contains-from_slice_get lists k cells at.list)) m
+    in-all g m = Member-flat_map (λ (cells : List StageCell). cells) cells g (Member-from_Contains lists cells (Contains-from_slice_get lists k cells at.list)) m
 
   -- ---- all stages
 
@@ -196,7 +196,7 @@ module _ (p : PipelineData) (shape : Shape p.netlist p) (lists : List (List Stag
 
   pub place-in : (g : StageCell) → Member g all → IsFoldedIn g
   place-in g m =
-      let (cells, m-cells, m-g) = of_flat_map (λ (cells : List StageCell). cells) g lists m in
+      let (cells, m-cells, m-g) = member_of_flat_map (λ (cells : List StageCell). cells) lists g m in
       let (k, at_l) = slice_get-from_Contains lists cells (Contains-from_Member cells m-cells) in
       let within = slice_get_within lists k cells at_l in
       let sized = fewer.sized in

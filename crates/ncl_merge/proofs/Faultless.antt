@@ -25,11 +25,12 @@ use Rattle.ncl_cell_rules.specs.Origin.{IsCell, IsInputPort, IsOutputPort}
 use Rattle.ncl_cell_rules.specs.Free.{IsFree}
 use Rattle.ncl_base.proofs.Members.{Member, here, there, member_cases, Member-append_left, Member-append_cases, Member-map, Member-get_or, member_of_map, Contains-from_Member, Member-from_Contains, All-from_members, Contains-from_slice_get, slice_get-from_Contains, list_any-from_member, member_from_list_any, member_from_count, count_from_member}
 use Rattle.ncl_base.proofs.Lists.{pairs-head, pairs-tail}
+use Rattle.ncl_base.proofs.Joined.{member_of_flat_map}
+use Rattle.ncl_base.proofs.Tests.{All-member}
 use Rattle.ncl_cell_rules.proofs.Drivers.{cell_fits, same_driver, no_cell_drives_port}
 use Rattle.ncl_cell_rules.proofs.OriginLaws.{place_of}
 use Rattle.ncl_merge.specs.Rebuilt.{kept, kept_parts, IsChoice, IsWhole, name_at}
 use Rattle.ncl_merge.specs.Thinned.{moved}
-use Rattle.ncl_merge.proofs.Lists.{each}
 use Rattle.ncl_merge.proofs.Rebuilt.{kept_some, kept_none, decide, kept_from, kept_at, place_in, m, to, from, back, named, out-in, cells-moved, rail_or_not, same-choice, port-name, port-within}
 
 -- names that differ, one way and the other
@@ -88,13 +89,6 @@ from_once xs x m =
     let some = sym (list_any-once_each xs x) ∙ list_any-from_member (same_name x) x m (same_itself x) in
     let (y, n, same) = member_from_list_any (same_name x) xs some in
     subst (λ z. Member z xs) (sym (equal_names x y same)) n
-
-pub of_flat_map : {X Y : Type 0} (f : X → List Y) (y : Y) (xs : List X) → Member y (flat_map f xs) → (x : X) × Member x xs × Member y (f x)
-of_flat_map f y [] m = elim m [ ]
-of_flat_map f y (x ∷ xs) m = elim (Member-append_cases y (f x) (flat_map f xs) m) [
-  | inl first ↦ (x, here, first)
-  | inr rest ↦ let (z, n, k) = of_flat_map f y xs rest in (z, there n, k)
-]
 
 count_same : {X : Type 0} (p q : X → Bool) (xs : List X) → ((x : X) → Member x xs → p x ≡ q x) → count_by p xs ≡ count_by q xs
 count_same p q [] same = refl
@@ -198,7 +192,7 @@ module _ (n : NetlistData) (is_n : IsNetlist n) (free : IsFree n) (choice : Cell
   was-pin : (net : ℕ) (name : List ℕ) → Member name (flat_map (λ (cell : PartCell). cell.pins) parts.cells) → name ≡ name_at k net → WasNet net
   unfolding WasNet
   was-pin net name m e =
-      let (part, m-part, m-name) = of_flat_map (λ (cell : PartCell). cell.pins) name parts.cells m in
+      let (part, m-part, m-name) = member_of_flat_map (λ (cell : PartCell). cell.pins) parts.cells name m in
       let (d, m-d, is-d) = member_of_map (part_of n.nets) cells part m-part in
       let (c, m-c, is) = kept_member choice d n.cells m-d in
       let in_c : IsCell n c = Contains-from_Member c m-c in
@@ -210,7 +204,7 @@ module _ (n : NetlistData) (is_n : IsNetlist n) (free : IsFree n) (choice : Cell
               | inl rail ↦ (chosen.pins c d in_c rail is x (Contains-from_Member x pin)).0
               | inr no_rail ↦
                   let same = same-choice n is_n free choice chosen c d (chosen.stands c in_c no_rail) is in
-                  each (λ (net : NetId). net.0 < length n.nets) c.ins.items (cell_fits n is_n c in_c).inputs x (subst (λ (z : Cell). Member x z.ins.items) (sym same) pin)
+                  All-member (λ (net : NetId). net.0 < length n.nets) c.ins.items (cell_fits n is_n c in_c).inputs x (subst (λ (z : Cell). Member x z.ins.items) (sym same) pin)
             ] in
             (x.0, within, is-x ∙ e, λ b in_b out-b. whole.driven c d b x in_c is (Contains-from_Member x pin) in_b out-b)
         | inr last ↦

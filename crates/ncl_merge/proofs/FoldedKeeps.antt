@@ -10,6 +10,7 @@ use Rattle.std.proofs.lemmas.List.Sums.{sum_by-cons}
 use Rattle.std.proofs.lemmas.Option.{slice_get_within}
 use Rattle.ncl_base.proofs.Lists.{AllZip-from_places}
 use Rattle.ncl_base.proofs.Members.{Member, here, there, Member-map, member_of_map, All-from_members, Contains-from_Member, Member-from_Contains, Contains-from_slice_get, slice_get-from_Contains, slice_get-some, list_any-from_member, member_from_list_any}
+use Rattle.ncl_base.proofs.Places.{at_map}
 use Rattle.ncl_netlist.specs.declared.ids.NetId.{NetId}
 use Rattle.ncl_netlist.specs.declared.cell.Cell.{Cell}
 use Rattle.ncl_netlist.specs.Netlist.{NetlistData, IsNetlist}
@@ -34,7 +35,6 @@ use Rattle.ncl_merge.specs.Thinned.{moved, IsRailGate, moved_bit, moved_bank}
 use Rattle.ncl_merge.specs.Rebuilt.{kept, number_in}
 use Rattle.ncl_merge.specs.Choice.{is_stage_cell, choice_of, folded_netlist, net_there, place_there, moved_gate, moved_stage, folded_pipeline}
 use Rattle.ncl_merge.specs.Merged.{standing, HasLabelOf, IsMergedStage, IsMergedBank, Keeps, IsSmaller}
-use Rattle.ncl_merge.proofs.Thinned.{at_map}
 use Rattle.ncl_merge.proofs.Folds.{sound-folded, function-folded}
 use Rattle.ncl_merge.proofs.Renamed.{sound-renamed, function-renamed}
 use Rattle.ncl_merge.proofs.Rebuilt.{decide, kept_some, kept_none, map-twice, cells-moved}
@@ -45,14 +45,9 @@ use Rattle.ncl_merge.proofs.HeldComposition.{zip-drop, same-composed, held-is_co
 use Rattle.ncl_merge.proofs.Weighing.{weighed}
 use Rattle.ncl_merge.proofs.FoldedNames.{part-kept, label-there, ki-named, ko-named, inputs-named, outputs-named, no-new_nets, no-new_cells}
 use Rattle.ncl_merge.proofs.WholeText.{text-no_longer}
+use Rattle.ncl_merge.proofs.Thinned.{filter_kept, filter_gone}
 
 -- ---- lists
-
-filter-in : {X : Type 0} (test : X → Bool) (x : X) (xs : List X) → test x ≡ true → filter test (x ∷ xs) ≡ x ∷ filter test xs
-filter-in test x xs passes = ap (λ b. if b then x ∷ filter test xs else filter test xs) passes
-
-filter-out : {X : Type 0} (test : X → Bool) (x : X) (xs : List X) → test x ≡ false → filter test (x ∷ xs) ≡ filter test xs
-filter-out test x xs fails = ap (λ b. if b then x ∷ filter test xs else filter test xs) fails
 
 ones : {X : Type 0} (xs : List X) → sum_by (λ x. 1) xs ≡ length xs
 ones [] = refl
@@ -154,7 +149,7 @@ module _ (p : PipelineData) (shape : Shape p.netlist p) (lists : List (List Stag
       let in_c = among c here in
       elim (cases_Bool (is_stage_cell p c)) [
         | inl staged ↦
-            let right : filter stays_here (c ∷ cells) ≡ filter stays_here cells = filter-out stays_here c cells (ap not staged) in
+            let right : filter stays_here (c ∷ cells) ≡ filter stays_here cells = filter_gone stays_here c cells (ap not staged) in
             elim (decide (choice_of p lists c)) [
               | inl gone ↦
                   let left = kept_none (choice_of p lists) c cells gone in
@@ -164,7 +159,7 @@ module _ (p : PipelineData) (shape : Shape p.netlist p) (lists : List (List Stag
               | inr (d, is) ↦
                   let left = kept_some (choice_of p lists) c d cells is in
                   ap (λ xs. map (part_of m.nets) (filter stays_there (map (moved to) xs))) left
-                  ∙ ap (map (part_of m.nets)) (filter-out stays_there (moved to d) (map (moved to) (kept (choice_of p lists) cells)) (ap not (staged-there c d in_c staged is)))
+                  ∙ ap (map (part_of m.nets)) (filter_gone stays_there (moved to d) (map (moved to) (kept (choice_of p lists) cells)) (ap not (staged-there c d in_c staged is)))
                   ∙ standing-part cells (λ b m-b. among b (there m-b)) (λ b m-b. kept_among b (subst (Member b) (sym left) (there m-b)))
                   ∙ ap (map (part_of n.nets)) (sym right)
             ]
@@ -174,9 +169,9 @@ module _ (p : PipelineData) (shape : Shape p.netlist p) (lists : List (List Stag
             let own : part_of m.nets (moved to c) ≡ part_of n.nets c = part-kept p shape lists fewer is_m c (kept_among c (subst (Member c) (sym left) here)) in
             let rest = standing-part cells (λ b m-b. among b (there m-b)) (λ b m-b. kept_among b (subst (Member b) (sym left) (there m-b))) in
             ap (λ xs. map (part_of m.nets) (filter stays_there (map (moved to) xs))) left
-            ∙ ap (map (part_of m.nets)) (filter-in stays_there (moved to c) (map (moved to) (kept (choice_of p lists) cells)) (ap not (other-there c in_c other is)))
+            ∙ ap (map (part_of m.nets)) (filter_kept stays_there (moved to c) (map (moved to) (kept (choice_of p lists) cells)) (ap not (other-there c in_c other is)))
             ∙ (λ i. own i ∷ rest i)
-            ∙ ap (map (part_of n.nets)) (sym (filter-in stays_here c cells (ap not other)))
+            ∙ ap (map (part_of n.nets)) (sym (filter_kept stays_here c cells (ap not other)))
       ]
 
   standing-kept : standing q ≡ standing p

@@ -5,7 +5,10 @@ use Rattle.std.specs.List.{flat_map}
 use Rattle.std.proofs.lemmas.List.{map-append, take-append-drop}
 use Rattle.std.proofs.lemmas.Option.{slice_get_within, get_or_from_slice_get}
 use Rattle.std.proofs.lemmas.Slice.Zip.{AllZip-long}
-use Rattle.ncl_base.proofs.Members.{Member, here, there, member_cases, Member-append_left, Member-append_cases, Member-map, member_of_map, Member-get_or, All-from_members, Contains-from_Member, Member-from_Contains, Contains-from_slice_get, slice_get-from_Contains}
+use Rattle.ncl_base.proofs.Members.{Member, member_cases, Member-append_left, Member-append_cases, Member-map, member_of_map, Member-get_or, All-from_members, Contains-from_Member, Member-from_Contains, Contains-from_slice_get, slice_get-from_Contains}
+use Rattle.ncl_base.proofs.Tests.{map-same, All-member}
+use Rattle.ncl_base.proofs.Places.{at_map}
+use Rattle.ncl_base.proofs.Joined.{member_of_flat_map}
 use Rattle.ncl_gates.proofs.RegisterLaws.{register_no_gate}
 use Rattle.ncl_netlist.specs.declared.ids.NetId.{NetId}
 use Rattle.ncl_netlist.specs.declared.ids.CellId.{CellId}
@@ -20,7 +23,7 @@ use Rattle.ncl_cell_rules.proofs.Drivers.{cell_fits}
 use Rattle.ncl_cell_rules.proofs.OriginLaws.{place_of}
 use Rattle.ncl_shape.specs.declared.rails.Rails.{Rails}
 use Rattle.ncl_shape.specs.declared.stage.StageCell.{StageCell}
-use Rattle.ncl_shape.specs.Stage.{StageData, rail_nets}
+use Rattle.ncl_shape.specs.Stage.{StageData}
 use Rattle.ncl_shape.specs.Pipeline.{PipelineData}
 use Rattle.ncl_shape.specs.Shape.{Shape, AreRailsOf}
 use Rattle.ncl_shape.specs.Chain.{OneRootEach}
@@ -28,30 +31,19 @@ use Rattle.ncl_shape.proofs.ShapeLaws.{requests, request_at, last_bank}
 use Rattle.ncl_cell_roles.specs.Layout.{no_rails, rail_at}
 use Rattle.ncl_cell_roles.proofs.BankBits.{drives_rail, register_of_rail}
 use Rattle.ncl_cell_roles.proofs.EndLaws.{first_bank, input_is_port, ki_is_port}
-use Rattle.ncl_insensitivity.proofs.ListTests.{map-same}
 use Rattle.ncl_merge.specs.Folding.{AreFewer}
 use Rattle.ncl_shape.specs.Renamed.{renamed_net, renamed_rails}
+use Rattle.ncl_shape.proofs.RailLaws.{rail_zero, rail_one}
 use Rattle.ncl_merge.specs.Thinned.{moved}
 use Rattle.ncl_merge.specs.Rebuilt.{kept, kept_parts, IsChoice, name_at}
 use Rattle.ncl_merge.specs.Choice.{with_gate_of, choice_of, folded_netlist, net_there, place_there, moved_gate}
 use Rattle.ncl_merge.specs.Merged.{cell_name, rail_names, HasLabelOf}
-use Rattle.ncl_merge.proofs.Lists.{each}
-use Rattle.ncl_merge.proofs.Thinned.{at_map}
 use Rattle.ncl_merge.proofs.Rebuilt.{map-twice, kept_at, kept_from, cells-moved, named, port-name, in-kept, out-in, rail_or_not, same-choice, out-source}
-use Rattle.ncl_merge.proofs.Faultless.{from_once, of_flat_map}
+use Rattle.ncl_merge.proofs.Faultless.{from_once}
 use Rattle.ncl_merge.proofs.Folds.{cell-folded}
 use Rattle.ncl_merge.proofs.Choices.{IsFoldedStageAt, folds, gate-cell, in-all, choice-found, choice-cases, choice-stands}
 use Rattle.ncl_merge.proofs.WholeChoice.{is-choice}
 use Rattle.ncl_merge.proofs.ChoiceShape.{is-thinned}
-
--- the rails of a pair are rails of its list
-rail-zero : (r : Rails) {rails : List Rails} → Member r rails → Member r.zero.0 (rail_nets rails)
-rail-zero r here = here
-rail-zero r (there m) = there (there (rail-zero r m))
-
-rail-one : (r : Rails) {rails : List Rails} → Member r rails → Member r.one.0 (rail_nets rails)
-rail-one r here = there here
-rail-one r (there m) = there (there (rail-one r m))
 
 -- the name of the cell at a place
 pub name-of_cell : (n : NetlistData) (k : ℕ) (c : Cell) → CellAt n k c → cell_name n k ≡ c.name
@@ -117,7 +109,7 @@ module _ (p : PipelineData) (shape : Shape p.netlist p) (lists : List (List Stag
       ∙ map-same (λ (r : Rails). rail_names m (renamed_rails to r)) (rail_names n) rails (λ r m-r. let (zero, one) = same r m-r in λ i. record { zero = zero i; one = one i })
 
   pub inputs-named : map (rail_names m) (map (renamed_rails to) p.inputs) ≡ map (rail_names n) p.inputs
-  inputs-named = pairs-named p.inputs (λ r m-r. (name-input_port r.zero.0 (input_is_port p shape r.zero.0 (rail-zero r m-r)).0, name-input_port r.one.0 (input_is_port p shape r.one.0 (rail-one r m-r)).0))
+  inputs-named = pairs-named p.inputs (λ r m-r. (name-input_port r.zero.0 (input_is_port p shape r.zero.0 (rail_zero r m-r)).0, name-input_port r.one.0 (input_is_port p shape r.one.0 (rail_one r m-r)).0))
 
   pub outputs-named : map (rail_names m) (map (renamed_rails to) p.outputs) ≡ map (rail_names n) p.outputs
   outputs-named =
@@ -181,7 +173,7 @@ module _ (p : PipelineData) (shape : Shape p.netlist p) (lists : List (List Stag
           | inl rail ↦ (chosen.pins c d in_c rail is y (Contains-from_Member y input)).0
           | inr no_rail ↦
               let same = same-choice n shape.is_netlist shape.free choice chosen c d (chosen.stands c in_c no_rail) is in
-              each (λ (net : NetId). net.0 < length n.nets) c.ins.items fits.inputs y (subst (λ (z : Cell). Member y z.ins.items) (sym same) input)
+              All-member (λ (net : NetId). net.0 < length n.nets) c.ins.items fits.inputs y (subst (λ (z : Cell). Member y z.ins.items) (sym same) input)
         ]
         | inr last ↦ elim (member_cases y d.out [] last) [
           | inl own ↦ subst (λ (z : NetId). z.0 < length n.nets) (sym (out-source n shape.is_netlist shape.free choice chosen k c d at_c is) ∙ own) fits.output
@@ -197,7 +189,7 @@ module _ (p : PipelineData) (shape : Shape p.netlist p) (lists : List (List Stag
       elim (Member-append_cases x (port_names (kept_parts n choice)) (flat_map pins (map (part_of n.nets) (kept choice n.cells))) (from_once (port_names (kept_parts n choice) ++ flat_map pins (map (part_of n.nets) (kept choice n.cells))) x m-x)) [
         | inl port ↦ Contains-from_Member x (own-port x port)
         | inr pin ↦
-            let (part, m-part, m-pin) = of_flat_map pins x (map (part_of n.nets) (kept choice n.cells)) pin in
+            let (part, m-part, m-pin) = member_of_flat_map pins (map (part_of n.nets) (kept choice n.cells)) x pin in
             let (d, m-d, is) = member_of_map (part_of n.nets) (kept choice n.cells) part m-part in
             let on : Member x (pin_names n.nets d) = subst (λ (q : PartCell). Member x q.pins) (sym is) m-pin in
             let (y, m-y, named_y) = member_of_map (λ (net : NetId). name_at n net.0) (d.ins.items ++ d.out ∷ []) x on in

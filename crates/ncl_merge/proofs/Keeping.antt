@@ -8,6 +8,7 @@ use Rattle.std.proofs.lemmas.List.{length-map}
 use Rattle.std.proofs.lemmas.List.Elements.{filter_agree, All-contains}
 use Rattle.std.proofs.lemmas.List.Sorted.{list_any-IsPermutation, Contains-permutation, IsPermutation-sym}
 use Rattle.ncl_base.proofs.Members.{Contains-from_Member, Member-from_Contains, Member-map, member_of_map, All-from_members, Contains-from_slice_get, slice_get-from_Contains}
+use Rattle.ncl_base.proofs.Tests.{All-member}
 use Rattle.ncl_netlist.specs.declared.cell.Cell.{Cell as NetlistCell}
 use Rattle.ncl_netlist.specs.Netlist.{NetlistData}
 use Rattle.ncl_netlist.specs.Parts.{part_of}
@@ -28,12 +29,11 @@ use Rattle.ncl_stage.proofs.Reordered.{IsSameVariant, base, bit, cell, same_valu
 use Rattle.ncl_cell_roles.proofs.HeldWords.{held-some}
 use Rattle.ncl_machine.specs.Composition.{stage_function}
 use Rattle.ncl_writer.specs.Text.{text_of}
+use Rattle.ncl_shape.proofs.ZippedLists.{AllZip-found}
 use Rattle.ncl_merge.specs.Fold.{with_cells}
 use Rattle.ncl_merge.specs.Rebuilt.{name_at}
 use Rattle.ncl_merge.specs.Choice.{is_stage_cell}
 use Rattle.ncl_merge.specs.Merged.{standing, cell_name, rail_names, IsMergedStage, IsMergedBank, Keeps}
-use Rattle.ncl_merge.proofs.Lists.{each}
-use Rattle.ncl_merge.proofs.Renamed.{zip-left}
 
 -- ---- the order of cells
 
@@ -80,7 +80,7 @@ same-sound s t same sound =
 pub same-all_sound : (xs ys : List StageData) → AllZip IsSameStage xs ys → All IsSound xs → All IsSound ys
 same-all_sound xs ys same sound =
     All-from_members IsSound ys (λ t m.
-    let (s, m-s, alike) = zip-left IsSameStage xs ys same t m in
+    let (s, m-s, alike) = AllZip-found IsSameStage xs ys same t m in
     same-sound s t alike (All-contains IsSound xs s sound (Contains-from_Member s m-s)))
 
 -- the same cells are cells of stages
@@ -179,15 +179,15 @@ module _ (p q u r : PipelineData) (one : Keeps p q) (same : IsSamePipeline u q) 
   names-along : All (Contains p.netlist.nets) r.netlist.nets
   names-along =
       All-from_members (Contains p.netlist.nets) r.netlist.nets (λ x m.
-      let before = subst (λ (n : NetlistData). Contains n.nets x) same.netlist (each (Contains u.netlist.nets) r.netlist.nets two.net_names x m) in
-      each (Contains p.netlist.nets) q.netlist.nets one.net_names x (Member-from_Contains q.netlist.nets x before))
+      let before = subst (λ (n : NetlistData). Contains n.nets x) same.netlist (All-member (Contains u.netlist.nets) r.netlist.nets two.net_names x m) in
+      All-member (Contains p.netlist.nets) q.netlist.nets one.net_names x (Member-from_Contains q.netlist.nets x before))
 
   titles-along : All (λ (c : NetlistCell). Contains (map (λ (d : NetlistCell). d.name) p.netlist.cells) c.name) r.netlist.cells
   titles-along =
       All-from_members (λ (c : NetlistCell). Contains (map (λ (d : NetlistCell). d.name) p.netlist.cells) c.name) r.netlist.cells (λ c m.
-      let before = subst (λ (n : NetlistData). Contains (map (λ (d : NetlistCell). d.name) n.cells) c.name) same.netlist (each (λ (c : NetlistCell). Contains (map (λ (d : NetlistCell). d.name) u.netlist.cells) c.name) r.netlist.cells two.cell_names c m) in
+      let before = subst (λ (n : NetlistData). Contains (map (λ (d : NetlistCell). d.name) n.cells) c.name) same.netlist (All-member (λ (c : NetlistCell). Contains (map (λ (d : NetlistCell). d.name) u.netlist.cells) c.name) r.netlist.cells two.cell_names c m) in
       let (b, m-b, e) = member_of_map (λ (d : NetlistCell). d.name) q.netlist.cells c.name (Member-from_Contains (map (λ (d : NetlistCell). d.name) q.netlist.cells) c.name before) in
-      subst (Contains (map (λ (d : NetlistCell). d.name) p.netlist.cells)) e (each (λ (c : NetlistCell). Contains (map (λ (d : NetlistCell). d.name) p.netlist.cells) c.name) q.netlist.cells one.cell_names b m-b))
+      subst (Contains (map (λ (d : NetlistCell). d.name) p.netlist.cells)) e (All-member (λ (c : NetlistCell). Contains (map (λ (d : NetlistCell). d.name) p.netlist.cells) c.name) q.netlist.cells one.cell_names b m-b))
 
   wide-along : length q.inputs ≡ length p.inputs
   wide-along = sym (length-map q.inputs (rail_names q.netlist)) ∙ ap length one.inputs ∙ length-map p.inputs (rail_names p.netlist)

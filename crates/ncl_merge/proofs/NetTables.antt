@@ -1,9 +1,8 @@
 -- Tables of nets in which the cells of stages are put one after another.
-use Rattle.std.proofs.Common.{◌≡◌, ◌≢◌, ℕ, ◌+◌, ◌<◌, ◌≤◌, Bool, true, false, ◌||◌, List, [], ◌∷◌, ◌++◌, length, map, take, drop, set, get_or, replicate, Option, None, Some, inl, inr, refl, sym, ap, ◌∙◌, subst, arith, append_assoc}
-use Rattle.std.specs.Prelude.{All, nat_eq, if◌then◌else◌}
+use Rattle.std.proofs.Common.{◌≡◌, ◌≢◌, ℕ, ◌+◌, ◌<◌, Bool, false, List, [], ◌∷◌, ◌++◌, length, map, take, drop, set, get_or, Option, None, Some, inl, inr, refl, sym, ap, ◌∙◌, subst, arith, append_assoc}
+use Rattle.std.specs.Prelude.{All, if◌then◌else◌}
 use Rattle.std.proofs.lemmas.Bool.{cases_eq, eq-eqb, ne_eqb}
-use Rattle.std.proofs.lemmas.List.{map-append, take_all, take_more, take-append-drop, length-set, length-replicate, get_or-replicate, get_or-set_same, get_or-set_other}
-use Rattle.std.proofs.lemmas.List.Folds.{list_any_more}
+use Rattle.std.proofs.lemmas.List.{map-append, take_more, take-append-drop, length-set, get_or-set_same, get_or-set_other}
 use Rattle.std.proofs.lemmas.List.Concat.{flat_map-cons}
 use Rattle.std.proofs.lemmas.Grind.{flat_map-append}
 use Rattle.std.proofs.lemmas.Option.{get_or_from_slice_get, slice_get-get_or}
@@ -11,76 +10,21 @@ use Rattle.ncl_netlist.specs.declared.cell.Cell.{Cell}
 use Rattle.ncl_netlist.specs.declared.parts.PartCell.{PartCell}
 use Rattle.ncl_netlist.specs.Netlist.{NetlistData}
 use Rattle.ncl_netlist.specs.Parts.{part_of}
-use Rattle.ncl_cell_rules.specs.Tables.{IsTable}
 use Rattle.ncl_shape.specs.declared.stage.StageCell.{StageCell}
 use Rattle.ncl_shape.specs.Stage.{StageData}
 use Rattle.ncl_base.proofs.Members.{Member, here, there, Member-append_left, Member-append_right, Member-get_or, All-from_members, Contains-from_Member, Member-from_Contains}
+use Rattle.ncl_base.proofs.Tests.{All-member}
+use Rattle.ncl_base.proofs.Joined.{Member-flat_map}
 use Rattle.ncl_merge.specs.Rebuilt.{kept, with_kept}
-use Rattle.ncl_merge.specs.Choice.{DriveOnce, HaveGates, all_of, becomes, choice_by, cell_driving, is_driven, is_stage_net}
-use Rattle.ncl_merge.proofs.Lists.{each}
-use Rattle.ncl_merge.proofs.Rebuilt.{decide, in-flat_map}
+use Rattle.ncl_merge.specs.Choice.{DriveOnce, HaveGates, all_of, becomes, choice_by, cell_driving, is_stage_net}
+use Rattle.ncl_merge.proofs.Rebuilt.{decide}
 
 -- ---- marks
-
--- or, where the one on the right is true or the one on the left stays
-or-true : (b : Bool) → true ≡ (b || true)
-or-true true = refl
-or-true false = refl
-
-or-false : (b : Bool) → b ≡ (b || false)
-or-false true = refl
-or-false false = refl
-
-or-assoc : (a b c : Bool) → ((a || b) || c) ≡ (a || (b || c))
-or-assoc true b c = refl
-or-assoc false b c = refl
-
--- one cell more is marked
-pub mark-more : (old marks : List Bool) (cells : List StageCell) (k : ℕ) (d g : StageCell) → k < length cells → length marks ≡ length old → g ≡ get_or cells k d → g.out.0 < length old
-    → ((net : ℕ) → net < length old → get_or marks net false ≡ (get_or old net false || is_driven net (take k cells)))
-    → (net : ℕ) → net < length old → get_or (set marks g.out.0 true) net false ≡ (get_or old net false || is_driven net (take (k + 1) cells))
-mark-more old marks cells k d g lt sized is inside before net within =
-    let more : is_driven net (take (k + 1) cells) ≡ (is_driven net (take k cells) || nat_eq g.out.0 net) =
-    list_any_more (λ (g : StageCell). nat_eq g.out.0 net) cells k d lt ∙ ap (λ (x : StageCell). is_driven net (take k cells) || nat_eq x.out.0 net) (sym is) in
-    let was = before net within in
-    let whole : ((get_or old net false || is_driven net (take k cells)) || nat_eq g.out.0 net) ≡ (get_or old net false || is_driven net (take (k + 1) cells)) =
-    or-assoc (get_or old net false) (is_driven net (take k cells)) (nat_eq g.out.0 net) ∙ ap (λ b. get_or old net false || b) (sym more) in
-    elim (cases_eq g.out.0 net) [
-      | inl same ↦
-          let here_is : get_or (set marks g.out.0 true) net false ≡ true = subst (λ x. get_or (set marks g.out.0 true) x false ≡ true) same (get_or-set_same marks g.out.0 true false (omega (arith, inside, sized))) in
-          here_is ∙ or-true (get_or old net false || is_driven net (take k cells)) ∙ ap (λ b. (get_or old net false || is_driven net (take k cells)) || b) (sym (eq-eqb g.out.0 net same)) ∙ whole
-      | inr other ↦
-          get_or-set_other marks g.out.0 net true false (λ e. other (sym e)) ∙ was
-          ∙ or-false (get_or old net false || is_driven net (take k cells)) ∙ ap (λ b. (get_or old net false || is_driven net (take k cells)) || b) (sym (ne_eqb g.out.0 net other)) ∙ whole
-    ]
 
 -- the table of the first stages
 pub record AreStageNets (n : NetlistData) (stages : List StageData) (k : ℕ) (marks : List Bool) : Type 0 where
   pub sized : length marks ≡ length n.nets
   pub each : (net : ℕ) → net < length n.nets → get_or marks net false ≡ is_stage_net net (take k stages)
-
-pub stage_nets-begin : (n : NetlistData) (stages : List StageData) (marks : List Bool) → marks ≡ replicate (length n.nets) false → AreStageNets n stages 0 marks
-stage_nets-begin n stages marks none = record {
-  sized = ap length none ∙ length-replicate (length n.nets) false;
-  each = λ net lt. ap (λ l. get_or l net false) none ∙ get_or-replicate (length n.nets) net false false lt;
-}
-
-pub stage_nets-more : (n : NetlistData) (stages : List StageData) (k : ℕ) (d : StageData) (marks new : List Bool) → k < length stages → AreStageNets n stages k marks → length new ≡ length marks
-    → ((net : ℕ) → net < length marks → get_or new net false ≡ (get_or marks net false || is_driven net (get_or stages k d).cells)) → AreStageNets n stages (k + 1) new
-stage_nets-more n stages k d marks new lt are long marked = record {
-  sized = long ∙ are.sized;
-  each = λ net within.
-      let sized = are.sized in
-      marked net (omega (arith, within, sized))
-      ∙ ap (λ b. b || is_driven net (get_or stages k d).cells) (are.each net within)
-      ∙ sym (list_any_more (λ (s : StageData). is_driven net s.cells) stages k d lt);
-}
-
-pub stage_nets-whole : (n : NetlistData) (stages : List StageData) (k : ℕ) (marks : List Bool) → length stages ≤ k → AreStageNets n stages k marks → IsTable n false (λ net. is_stage_net net stages) marks
-stage_nets-whole n stages k marks all are = record {
-  sized = are.sized;
-  each = λ net lt. are.each net lt ∙ ap (is_stage_net net) (take_all k stages all);
-}
 
 -- ---- the cells at their nets
 
@@ -147,11 +91,6 @@ gates-more gates before g have inside once net lt =
           ])
     ]
 
-pub gates-begin : (gates : List (Option StageCell)) (count : ℕ) → gates ≡ replicate count None → HaveGates gates []
-gates-begin gates count none net lt =
-    let long : length gates ≡ count = ap length none ∙ length-replicate count None in
-    ap (λ l. get_or l net None) none ∙ get_or-replicate count net None None (omega (arith, lt, long))
-
 -- the cells of one list more
 pub all_of-more : (lists : List (List StageCell)) (k : ℕ) (d : List StageCell) → k < length lists → all_of (take (k + 1) lists) ≡ all_of (take k lists) ++ get_or lists k d
 all_of-more lists k d lt =
@@ -175,7 +114,7 @@ put-more gates before cells k g copy lt same is inside have once =
 -- what holds of all cells of the lists holds of those of one
 pub all_of-at : (P : StageCell → Type 0) (lists : List (List StageCell)) (k : ℕ) (d : List StageCell) → k < length lists → All P (all_of lists) → All P (get_or lists k d)
 all_of-at P lists k d lt holds =
-    All-from_members P (get_or lists k d) (λ g m. each P (all_of lists) holds g (in-flat_map (λ (cells : List StageCell). cells) (get_or lists k d) g (Member-get_or lists k d lt) m))
+    All-from_members P (get_or lists k d) (λ g m. All-member P (all_of lists) holds g (Member-flat_map (λ (cells : List StageCell). cells) (get_or lists k d) g (Member-get_or lists k d lt) m))
 
 -- the cells of the lists so far, and of one list more, drive nets once
 pub once-more : (lists : List (List StageCell)) (k : ℕ) (d : List StageCell) → k < length lists → DriveOnce (all_of lists) → DriveOnce (all_of (take k lists) ++ get_or lists k d)

@@ -4,7 +4,6 @@ use Rattle.std.specs.Prelude.{Contains, slice_get, filter}
 use Rattle.std.specs.List.{flat_map, list_any}
 use Rattle.std.proofs.lemmas.Bool.{cases_Bool}
 use Rattle.std.proofs.lemmas.List.{length-map, get_or-take, length-take}
-use Rattle.std.proofs.lemmas.List.Concat.{flat_map-cons}
 use Rattle.ncl_gates.specs.declared.cell_kind.CellKind.{CellKind}
 use Rattle.ncl_gates.specs.declared.cell_kind.CellKind.TheVariants.{Gate, Register, RegisterData, Ack}
 use Rattle.ncl_netlist.specs.declared.ids.NetId.{NetId}
@@ -19,6 +18,9 @@ use Rattle.ncl_cell_rules.specs.Origin.{IsCell, CellAt, IsGate, ReadsNet, RailOf
 use Rattle.ncl_cell_rules.specs.CellTests.{is_gate}
 use Rattle.ncl_cell_rules.specs.Free.{IsFree}
 use Rattle.ncl_base.proofs.Members.{Member, here, there, Member-append_left, Member-append_right, Member-map, member_of_map, Contains-from_Member, Member-from_Contains, Contains-from_slice_get, list_any-from_member}
+use Rattle.ncl_base.proofs.Joined.{Member-flat_map}
+use Rattle.ncl_base.proofs.Tests.{All-member}
+use Rattle.ncl_base.proofs.Places.{at_of_map, at_map}
 use Rattle.ncl_cell_rules.proofs.Drivers.{cell_fits}
 use Rattle.ncl_cell_rules.proofs.OriginLaws.{place_of}
 use Rattle.ncl_cell_rules.proofs.GateRanks.{gate_ranks}
@@ -26,8 +28,6 @@ use Rattle.ncl_shape.proofs.NetSources.{only_origin}
 use Rattle.ncl_shape.specs.Renamed.{renamed_net}
 use Rattle.ncl_merge.specs.Thinned.{moved, IsRailGate, IsThinGate, IsStood, IsOld, IsThinned}
 use Rattle.ncl_merge.specs.Rebuilt.{with_kept, kept, kept_parts, IsChoice, name_at, number_in}
-use Rattle.ncl_merge.proofs.Lists.{each}
-use Rattle.ncl_merge.proofs.Thinned.{map_at, at_map}
 
 -- ---- which cells are kept, and where
 
@@ -118,10 +118,6 @@ pub map-twice : {X Y Z : Type 0} (f : X → Y) (g : Y → Z) (xs : List X) → m
 map-twice f g [] = refl
 map-twice f g (x ∷ xs) = ap (λ rest. g (f x) ∷ rest) (map-twice f g xs)
 
-pub in-flat_map : {X Y : Type 0} (f : X → List Y) (x : X) (y : Y) {xs : List X} → Member x xs → Member y (f x) → Member y (flat_map f xs)
-in-flat_map f x y (here {xs = xs}) m = subst (Member y) (sym (flat_map-cons f x xs)) (Member-append_left y (flat_map f xs) m)
-in-flat_map f x y (there {y = z} {xs = xs} n) m = subst (Member y) (sym (flat_map-cons f z xs)) (Member-append_right (f z) y (in-flat_map f x y n m))
-
 kind_apart : (bank other : ℕ) → AckOf other ≡ RailOf bank → ⊥
 kind_apart bank other e = cc
 
@@ -170,7 +166,7 @@ module _ (n : NetlistData) (is_n : IsNetlist n) (free : IsFree n) (choice : Cell
   pub named : (d : Cell) → Member d (kept choice n.cells) → (x : NetId) → Member x (d.ins.items ++ d.out ∷ []) → IsNamed x.0
   named d m-d x m-x =
       let pin : Member (name_at n x.0) (part_of n.nets d).pins = Member-map (λ (net : NetId). get_or n.nets net.0 []) x m-x in
-      let among : Member (name_at n x.0) (flat_map (λ (cell : PartCell). cell.pins) (map (part_of n.nets) (kept choice n.cells))) = in-flat_map (λ (cell : PartCell). cell.pins) (part_of n.nets d) (name_at n x.0) (Member-map (part_of n.nets) d m-d) pin in
+      let among : Member (name_at n x.0) (flat_map (λ (cell : PartCell). cell.pins) (map (part_of n.nets) (kept choice n.cells))) = Member-flat_map (λ (cell : PartCell). cell.pins) (part_of n.nets d) (name_at n x.0) (Member-map (part_of n.nets) d m-d) pin in
       list_any-once_each (port_names (kept_parts n choice) ++ flat_map (λ (cell : PartCell). cell.pins) (map (part_of n.nets) (kept choice n.cells))) (name_at n x.0)
       ∙ list_any-from_member (same_name (name_at n x.0)) (name_at n x.0) (Member-append_right (port_names (kept_parts n choice)) (name_at n x.0) among) (same_itself (name_at n x.0))
 
@@ -207,7 +203,7 @@ module _ (n : NetlistData) (is_n : IsNetlist n) (free : IsFree n) (choice : Cell
         out = back c.out.0 fits.output (named c among c.out (out-in c));
         pins = λ x reads.
             let m-x = Member-from_Contains c.ins.items x reads in
-            back x.0 (each (λ (net : NetId). net.0 < length n.nets) c.ins.items fits.inputs x m-x) (named c among x (Member-append_left x (c.out ∷ []) m-x));
+            back x.0 (All-member (λ (net : NetId). net.0 < length n.nets) c.ins.items fits.inputs x m-x) (named c among x (Member-append_left x (c.out ∷ []) m-x));
       }
 
   -- a gate comes from a rail or from an acknowledge cell, never from both
@@ -228,7 +224,7 @@ module _ (n : NetlistData) (is_n : IsNetlist n) (free : IsFree n) (choice : Cell
   -- what a cell of m was
   pub source : (i : ℕ) (d : Cell) → CellAt m i d → (k : ℕ) × (c : Cell) × (e : Cell) × CellAt n k c × (choice c ≡ Some e) × (at k ≡ i) × (d ≡ moved to e)
   source i d at-d =
-      let (e, stands, is) = map_at (moved to) (kept choice n.cells) i d (subst (λ cells. slice_get cells i ≡ Some d) cells-moved at-d) in
+      let (e, stands, is) = at_of_map (moved to) (kept choice n.cells) i d (subst (λ cells. slice_get cells i ≡ Some d) cells-moved at-d) in
       let (k, c, at-c, from-c, place) = kept_from choice n.cells i e stands in
       (k, c, e, at-c, from-c, place, sym is)
 
@@ -343,7 +339,7 @@ module _ (n : NetlistData) (is_n : IsNetlist n) (free : IsFree n) (choice : Cell
         | inr no_rail ↦
             let same-a : a ≡ e = same-choice a e (chosen.stands a in_a no_rail) is in
             let x-in : Member x a.ins.items = subst (λ (z : Cell). Member x z.ins.items) (sym same-a) m-x in
-            let lt-x = each (λ (net : NetId). net.0 < length n.nets) a.ins.items (cell_fits n is_n a in_a).inputs x x-in in
+            let lt-x = All-member (λ (net : NetId). net.0 < length n.nets) a.ins.items (cell_fits n is_n a in_a).inputs x x-in in
             let x-back : from d.out.0 ≡ x.0 = ap (λ (y : NetId). from y.0) (sym same) ∙ back x.0 lt-x x-named in
             let x-is : b.out.0 ≡ x.0 = sym d-back ∙ x-back in
             let gate-a : IsGate a = (is_gate_c.0, ap (λ (z : Cell). z.kind) same-a ∙ ap (λ (z : Cell). z.kind) (sym moved-e) ∙ is_gate_c.1) in

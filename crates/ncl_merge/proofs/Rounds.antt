@@ -12,12 +12,12 @@ use Rattle.ncl_shape.specs.SamePipeline.{IsSameStage}
 use Rattle.ncl_shape.specs.Shape.{Shape, Broken, IsShapeFault}
 use Rattle.ncl_shape.proofs.FaultLaws.{shape_is_unbroken}
 use Rattle.ncl_shape.proofs.ShapeLaws.{shape_is_one}
+use Rattle.ncl_shape.proofs.ZippedLists.{AllZip-found}
 use Rattle.ncl_stage.specs.Faults.{IsSound}
 use Rattle.ncl_merge.specs.Fold.{pins_of}
 use Rattle.ncl_merge.specs.Folding.{HasNoFoldable, AreFewer}
 use Rattle.ncl_merge.specs.Choice.{folded_netlist}
 use Rattle.ncl_merge.specs.Merged.{IsSoundNetlist, Merged, IsSmaller, NothingFoldable, IsOnTheWay}
-use Rattle.ncl_merge.proofs.Renamed.{zip-left}
 use Rattle.ncl_merge.proofs.Keeping.{same-all_sound, keeps-itself, keeps-along}
 use Rattle.ncl_merge.proofs.FoldedKeeps.{folded-smaller}
 
@@ -40,7 +40,7 @@ stages-sound n has p shape = same-all_sound has.pipeline.stages p.stages (shape_
 pub nothing-foldable : (n : NetlistData) (p : PipelineData) → Shape n p → HasNoFoldable p → NothingFoldable n
 nothing-foldable n p shape none other shape_other is =
     let same = shape_is_one n shape.is_netlist p other shape shape_other in
-    let (s, m-s, alike) = zip-left IsSameStage p.stages other.stages same.stages is.stage (Member-from_Contains other.stages is.stage is.in_stages) in
+    let (s, m-s, alike) = AllZip-found IsSameStage p.stages other.stages same.stages is.stage (Member-from_Contains other.stages is.stage is.in_stages) in
     let back = IsPermutation-sym s.cells is.stage.cells alike.cells in
     let f = is.foldable in
     none s (Contains-from_Member s m-s) is.g is.h (record {

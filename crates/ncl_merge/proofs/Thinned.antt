@@ -20,23 +20,13 @@ use Rattle.std.proofs.lemmas.Bool.{cases_Bool, cases_eq, eq-eqb, ne_eqb, both_wa
 use Rattle.std.proofs.lemmas.List.Sums.{sum_by-cons}
 use Rattle.ncl_cell_rules.specs.Free.{IsFree}
 use Rattle.ncl_base.proofs.Members.{Member, here, there, member_cases, Member-map, slice_get-some, Contains-from_Member, Member-from_Contains, Contains-from_slice_get, slice_get-from_Contains}
+use Rattle.ncl_base.proofs.Places.{at_of_map, at_map}
+use Rattle.ncl_base.proofs.Tests.{All-member}
 use Rattle.ncl_cell_rules.proofs.Drivers.{driver_of, cell_fits, same_place}
 use Rattle.ncl_cell_rules.proofs.OriginLaws.{place_of, sort_of, bank_of_register, bank_of_ack}
 use Rattle.ncl_shape.proofs.NetSources.{only_origin}
 use Rattle.ncl_shape.specs.Renamed.{renamed_net}
-use Rattle.ncl_merge.proofs.Lists.{each}
 use Rattle.ncl_merge.specs.Thinned.{moved, IsRailGate, IsStood, IsThinned}
-
--- what stands at a place of a list that a function was applied to
-pub map_at : {X Y : Type 0} (g : X → Y) (xs : List X) (k : ℕ) (y : Y) → slice_get (map g xs) k ≡ Some y → (x : X) × (slice_get xs k ≡ Some x) × (g x ≡ y)
-map_at g [] k y at = absurd cc
-map_at g (x ∷ xs) zero y at = let e : g x ≡ y = cc in (x, refl, e)
-map_at g (x ∷ xs) (suc k) y at = map_at g xs k y at
-
-pub at_map : {X Y : Type 0} (g : X → Y) (xs : List X) (k : ℕ) (x : X) → slice_get xs k ≡ Some x → slice_get (map g xs) k ≡ Some (g x)
-at_map g [] k x at = absurd cc
-at_map g (y ∷ xs) zero x at = let e : y ≡ x = cc in ap (λ z. Some (g z)) e
-at_map g (y ∷ xs) (suc k) x at = at_map g xs k x at
 
 -- where an origin leads back to
 abbrev pub origin_back : (ℕ → ℕ) → Origin → Origin
@@ -57,10 +47,10 @@ sort_ack k s e f = cc
 abbrev plain_test : Cell → Bool
 plain_test c = not (is_gate c.kind)
 
-filter_kept : {X : Type 0} (test : X → Bool) (x : X) (xs : List X) → test x ≡ true → filter test (x ∷ xs) ≡ x ∷ filter test xs
+pub filter_kept : {X : Type 0} (test : X → Bool) (x : X) (xs : List X) → test x ≡ true → filter test (x ∷ xs) ≡ x ∷ filter test xs
 filter_kept test x xs passes = ap (λ b. cond b (x ∷ filter test xs) (filter test xs)) passes
 
-filter_gone : {X : Type 0} (test : X → Bool) (x : X) (xs : List X) → test x ≡ false → filter test (x ∷ xs) ≡ filter test xs
+pub filter_gone : {X : Type 0} (test : X → Bool) (x : X) (xs : List X) → test x ≡ false → filter test (x ∷ xs) ≡ filter test xs
 filter_gone test x xs fails = ap (λ b. cond b (x ∷ filter test xs) (filter test xs)) fails
 
 filter_member : {X : Type 0} (test : X → Bool) (x : X) (xs : List X) → Member x (filter test xs) → Member x xs × (test x ≡ true)
@@ -135,7 +125,7 @@ module _ (n m : NetlistData) (is : IsThinned n m) (free : IsFree n) where
   -- a pin of a cell that stands
   pub pin-back : (k : ℕ) (c d : Cell) → IsStood m is.to is.from is.at k c → d ≡ moved is.to c → (pin y : ℕ) → OnPin d pin y → OnPin c pin (is.from y) × (is.to (is.from y) ≡ y)
   pin-back k c d stood e pin y on =
-      let (x, at, same) = map_at (renamed_net is.to) c.ins.items pin (record { 0 = y }) (subst (λ (z : Cell). slice_get z.ins.items pin ≡ Some (record { 0 = y })) e on) in
+      let (x, at, same) = at_of_map (renamed_net is.to) c.ins.items pin (record { 0 = y }) (subst (λ (z : Cell). slice_get z.ins.items pin ≡ Some (record { 0 = y })) e on) in
       let y-is : is.to x.0 ≡ y = ap (λ (z : NetId). z.0) same in
       let x-is : is.from y ≡ x.0 = ap is.from (sym y-is) ∙ stood.pins x (Contains-from_slice_get c.ins.items pin x at) in
       (subst (λ (z : ℕ). OnPin c pin z) (sym x-is) at, ap is.to x-is ∙ y-is)
@@ -253,7 +243,7 @@ module _ (n m : NetlistData) (is : IsThinned n m) (free : IsFree n) where
       (z, Contains-from_slice_get d.ins.items 0 z at)
 
   pub each-pin : (d : Cell) → IsCell m d → (z : NetId) → Contains d.ins.items z → z.0 < length m.nets
-  each-pin d in_d z reads = each (λ (net : NetId). net.0 < length m.nets) d.ins.items (cell_fits m is.is_m d in_d).inputs z (Member-from_Contains d.ins.items z reads)
+  each-pin d in_d z reads = All-member (λ (net : NetId). net.0 < length m.nets) d.ins.items (cell_fits m is.is_m d in_d).inputs z (Member-from_Contains d.ins.items z reads)
 
   pub some-origin : (fuel : ℕ) (net : ℕ) → net < length m.nets → is.rank net < fuel → (o : Origin) × ComesFrom m net o
   some-origin zero net lt low = absurd (omega arith)

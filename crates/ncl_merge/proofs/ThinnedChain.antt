@@ -11,12 +11,13 @@ use Rattle.ncl_cell_rules.specs.Origin.{IsCell, OnPin, A, B, IsInputPort, IsOutp
 use Rattle.ncl_cell_rules.specs.Rules.{IsRequest}
 use Rattle.ncl_cell_rules.specs.Free.{IsFree}
 use Rattle.ncl_base.proofs.Members.{Member-map, Contains-from_Member, Member-from_Contains, Contains-from_slice_get, slice_get-from_Contains}
+use Rattle.ncl_base.proofs.Places.{at_of_map, at_map}
 use Rattle.ncl_cell_rules.proofs.OriginLaws.{place_of, driver_of_ack}
 use Rattle.ncl_shape.specs.Chain.{IsBank, IsInputOf, IsFirstBank, IsLastBank, Follows, HasOne, IsPath, end, next, IsChain, IsRoot, HasRegister, HasEnds, IsUnforked, IsAcknowledged, HasRoots, IsClosed, OnPinNamed, HasOneRole, IsDataApart, IsHead, IsChained, SomeRegister, TwoEnds, NoFork, OneChain, ChainedRequests, OneRootEach, ShownOutputs, OneRoleEach, WordsApart}
 use Rattle.ncl_shape.proofs.ChainLaws.{banks_of_chain}
 use Rattle.ncl_shape.proofs.NetSources.{only_origin}
 use Rattle.ncl_merge.specs.Thinned.{moved, IsRailGate, IsThinned}
-use Rattle.ncl_merge.proofs.Thinned.{map_at, at_map, register-no_rail, kind-apart, pin-back, pin-forth, out-back, bank-back, bank-forth, data-back, input-back, input-forth, output-back, output-forth, comes-back, comes-forth, only-forth, out-within, pin-within}
+use Rattle.ncl_merge.proofs.Thinned.{register-no_rail, kind-apart, pin-back, pin-forth, out-back, bank-back, bank-forth, data-back, input-back, input-forth, output-back, output-forth, comes-back, comes-forth, only-forth, out-within, pin-within}
 
 module _ (n m : NetlistData) (is : IsThinned n m) (free : IsFree n) where
   -- ---- banks
@@ -118,7 +119,7 @@ module _ (n m : NetlistData) (is : IsThinned n m) (free : IsFree n) where
 
   pub chain-forth : (banks : List ℕ) → IsChain n banks → IsChain m (map is.to banks)
   chain-forth banks chain = record {
-    first = λ bank at. let (b, stands, e) = map_at is.to banks 0 bank at in subst (IsFirstBank m) e (first-forth b (chain.first b stands));
+    first = λ bank at. let (b, stands, e) = at_of_map is.to banks 0 bank at in subst (IsFirstBank m) e (first-forth b (chain.first b stands));
     path = path-forth banks chain.path;
     every = λ bank is_bank.
         let (of_n, kept) = is_bank-back bank is_bank in
@@ -127,7 +128,7 @@ module _ (n m : NetlistData) (is : IsThinned n m) (free : IsFree n) where
 
   pub chain-back : (banks : List ℕ) → IsChain m banks → IsChain n (map is.from banks)
   chain-back banks chain = record {
-    first = λ bank at. let (b, stands, e) = map_at is.from banks 0 bank at in subst (IsFirstBank n) e (first-back b (chain.first b stands));
+    first = λ bank at. let (b, stands, e) = at_of_map is.from banks 0 bank at in subst (IsFirstBank n) e (first-back b (chain.first b stands));
     path = path-back banks chain.path;
     every = λ bank is_bank.
         subst (Contains (map is.from banks)) (bank-kept bank is_bank) (Contains-from_Member (is.from (is.to bank)) (Member-map is.from (is.to bank) (Member-from_Contains banks (is.to bank) (chain.every (is.to bank) (is_bank-forth bank is_bank)))));

@@ -11,6 +11,7 @@ use Rattle.ncl_netlist.specs.Netlist.{NetlistData}
 use Rattle.ncl_cell_rules.specs.Origin.{IsCell, CellAt, OnPin, A, B, IsOfBank, AcksBank, RailOf, ComesFrom}
 use Rattle.ncl_cell_rules.specs.Free.{IsFree}
 use Rattle.ncl_base.proofs.Members.{Member, here, there, Member-map, Contains-from_Member, Member-from_Contains, Contains-from_slice_get, slice_get-from_Contains, slice_get-some}
+use Rattle.ncl_base.proofs.Places.{at_of_map}
 use Rattle.ncl_cell_rules.proofs.OriginLaws.{place_of}
 use Rattle.ncl_shape.proofs.ChainLaws.{banks_of_chain}
 use Rattle.ncl_shape.specs.declared.bank.Bank.{Bank}
@@ -23,7 +24,7 @@ use Rattle.ncl_shape.specs.Shape.{IsBitOf, AreBitsOf, IsBankOf, AreRailsOf, AreI
 use Rattle.ncl_shape.proofs.ShapeLaws.{same_cell, request_at}
 use Rattle.ncl_shape.specs.Renamed.{renamed_net, renamed_rails}
 use Rattle.ncl_merge.specs.Thinned.{moved, IsStood, IsThinned, IsThinStage, moved_bit, moved_bank, moved_pipeline}
-use Rattle.ncl_merge.proofs.Thinned.{map_at, register-no_rail, ack-no_rail, pin-forth, bank-forth, acks-forth, acks-back, comes-back, comes-forth, out-within, out-back, free-thinned}
+use Rattle.ncl_merge.proofs.Thinned.{register-no_rail, ack-no_rail, pin-forth, bank-forth, acks-forth, acks-back, comes-back, comes-forth, out-within, out-back, free-thinned}
 use Rattle.ncl_merge.proofs.ThinnedChain.{bank-kept, chain-forth, root-forth, chained-thinned}
 
 -- zipped lists to which functions were applied
@@ -63,7 +64,7 @@ module _ (n m : NetlistData) (is : IsThinned n m) (free : IsFree n) where
 
   bits-there : (bank : ℕ) → is.from (is.to bank) ≡ bank → (bits : List Bit) → AreBitsOf n bank bits → AreBitsOf m (is.to bank) (map (moved_bit is.at) bits)
   bits-there bank kept bits are = record {
-    each = λ k b at. let (old, stands, e) = map_at (moved_bit is.at) bits k b at in subst (IsBitOf m (is.to bank)) e (bit-there bank old (are.each k old stands));
+    each = λ k b at. let (old, stands, e) = at_of_map (moved_bit is.at) bits k b at in subst (IsBitOf m (is.to bank)) e (bit-there bank old (are.each k old stands));
     in_order = λ i j d before lt.
         let count : length (map (moved_bit is.at) bits) ≡ length bits = length-map bits (moved_bit is.at) in
         let j-in : j < length bits = omega (arith, lt, count) in
@@ -181,15 +182,15 @@ module _ (n m : NetlistData) (is : IsThinned n m) (free : IsFree n) where
       chained = chained-thinned n m is free shape.chained;
       chain = subst (IsChain m) (requests-moved p.banks) (chain-forth n m is free (map (λ (b : Bank). b.request.0) p.banks) shape.chain);
       banks = λ k b at.
-          let (old, stands, e) = map_at (moved_bank is.to is.at) p.banks k b at in
+          let (old, stands, e) = at_of_map (moved_bank is.to is.at) p.banks k b at in
           let (is_bank, few) = shape.banks k old stands in
           let bits : length (map (moved_bit is.at) old.bits) ≡ length old.bits = length-map old.bits (moved_bit is.at) in
           subst (λ (b : Bank). IsBankOf m b.request.0 b × (length b.bits ≤ MOST_BITS)) e (bank-there old (bank-at k old stands) is_bank, omega (arith, few, bits));
       few_banks = let same = length-map p.banks (moved_bank is.to is.at) in let few = shape.few_banks in omega (arith, same, few);
       stages = let same = length-map p.banks (moved_bank is.to is.at) in let one_less = shape.stages in omega (arith, same, one_less, count);
       each_stage = λ k b following t at-b at-next at-t.
-          let (old, stands, e) = map_at (moved_bank is.to is.at) p.banks k b at-b in
-          let (old-next, stands-next, e-next) = map_at (moved_bank is.to is.at) p.banks (k + 1) following at-next in
+          let (old, stands, e) = at_of_map (moved_bank is.to is.at) p.banks k b at-b in
+          let (old-next, stands-next, e-next) = at_of_map (moved_bank is.to is.at) p.banks (k + 1) following at-next in
           let within : k < length stages = slice_get_within stages k t at-t in
           let (s, at-s) = slice_get-some p.stages k (omega (arith, within, count)) in
           let (number, was) = shape.each_stage k old old-next s stands stands-next at-s in
@@ -199,14 +200,14 @@ module _ (n m : NetlistData) (is : IsThinned n m) (free : IsFree n) where
                 (stage-there old old-next s t (bank-at k old stands) (shape.banks k old stands).0.bits (shape.banks (k + 1) old-next stands-next).0.bits was same)),
           );
       inputs = λ first at.
-          let (old, stands, e) = map_at (moved_bank is.to is.at) p.banks 0 first at in
+          let (old, stands, e) = at_of_map (moved_bank is.to is.at) p.banks 0 first at in
           subst (λ (x : Bank). AllZip (AreInputsOf m) x.bits (map (renamed_rails is.to) p.inputs)) e (inputs-there old.request.0 old.bits (shape.banks 0 old stands).0.bits p.inputs (shape.inputs old stands));
       outputs = λ k last whole at.
-          let (old, stands, e) = map_at (moved_bank is.to is.at) p.banks k last at in
+          let (old, stands, e) = at_of_map (moved_bank is.to is.at) p.banks k last at in
           let same : length (map (moved_bank is.to is.at) p.banks) ≡ length p.banks = length-map p.banks (moved_bank is.to is.at) in
           let (rails, ki) = shape.outputs k old (omega (arith, whole, same)) stands in
           subst (λ (x : Bank). AllZip (AreRailsOf m) x.bits (map (renamed_rails is.to) p.outputs) × (is.to p.ki ≡ x.request.0)) e (rails-there old.request.0 old.bits (shape.banks k old stands).0.bits p.outputs rails, ap is.to ki);
       ko = λ first at.
-          let (old, stands, e) = map_at (moved_bank is.to is.at) p.banks 0 first at in
+          let (old, stands, e) = at_of_map (moved_bank is.to is.at) p.banks 0 first at in
           subst (λ (x : Bank). is.to p.ko ≡ x.root.0) e (ap is.to (shape.ko old stands));
     }

@@ -9,6 +9,8 @@ use Rattle.std.proofs.lemmas.List.Sums.{sum_by-cons, sum_by-append}
 use Rattle.std.proofs.lemmas.Option.{slice_get_within}
 use Rattle.ncl_base.proofs.Lists.{Differ, pairs-head, pairs-tail}
 use Rattle.ncl_base.proofs.Members.{Member, here, there, member_cases, Member-append_right, Member-map, All-from_members, Contains-from_Member, Member-from_Contains, Contains-from_slice_get, slice_get-from_Contains, slice_get-some, list_any-from_member}
+use Rattle.ncl_base.proofs.Tests.{AllPairs-append, All-member}
+use Rattle.ncl_base.proofs.Joined.{member_of_flat_map}
 use Rattle.ncl_gates.specs.Gate.{arity_of}
 use Rattle.ncl_netlist.specs.declared.cell.Cell.{Cell}
 use Rattle.ncl_netlist.specs.declared.ids.NetId.{NetId}
@@ -19,15 +21,12 @@ use Rattle.ncl_shape.specs.declared.stage.StageCell.{StageCell}
 use Rattle.ncl_shape.specs.Stage.{StageData, rail_nets, nets_of, out_of}
 use Rattle.ncl_shape.specs.Pipeline.{PipelineData}
 use Rattle.ncl_shape.specs.Shape.{Shape}
-use Rattle.ncl_shape.proofs.JoinedLists.{AllPairs-append}
 use Rattle.ncl_cell_roles.proofs.NetsApart.{nets_at, stages_apart}
 use Rattle.ncl_merge.specs.Folding.{AreFewer}
 use Rattle.ncl_merge.specs.Rebuilt.{kept}
 use Rattle.ncl_merge.specs.Choice.{is_stage_cell, with_gate_of, choice_of}
-use Rattle.ncl_merge.proofs.Lists.{each}
 use Rattle.ncl_merge.proofs.Places.{outs-differ}
 use Rattle.ncl_merge.proofs.Rebuilt.{decide, kept_some, kept_none}
-use Rattle.ncl_merge.proofs.Faultless.{of_flat_map}
 use Rattle.ncl_merge.proofs.Choices.{IsFoldedStageAt, folded-stage, is-folded, stage-is, gate-cell, place-in, stage-within, rail-staged, staged-rail, choice-stands, choice-rail}
 
 -- ---- lists
@@ -46,7 +45,7 @@ pairs-flat_map R f (x ∷ xs) own across =
     subst (AllPairs R) (sym (flat_map-cons f x xs))
     (AllPairs-append R (f x) (flat_map f xs) (own 0 x refl) (pairs-flat_map R f xs (λ k y at. own (suc k) y at) (λ i j y z lt at_y at_z. across (suc i) (suc j) y z (omega (arith, lt)) at_y at_z))
     (λ a b m o.
-    let (y, m-y, o-y) = of_flat_map f b xs o in
+    let (y, m-y, o-y) = member_of_flat_map f xs b o in
     let (j, at) = slice_get-from_Contains xs y (Contains-from_Member y m-y) in
     across 0 (suc j) x y (omega arith) refl at a b m o-y))
 
@@ -175,7 +174,7 @@ module _ (p : PipelineData) (shape : Shape p.netlist p) (lists : List (List Stag
   -- the cell of the netlist that is a cell of a stage
   staged-cell : (g : StageCell) → Member g staged → (c : Cell) × CellAt n g.cell.0 c × (c ≡ with_gate_of c g) × (c.out ≡ g.out) × (is_stage_cell p c ≡ true) × (length g.ins.items ≡ arity_of g.kind)
   staged-cell g m =
-      let (s, m-s, m-g) = of_flat_map (λ (s : StageData). s.cells) g p.stages m in
+      let (s, m-s, m-g) = member_of_flat_map (λ (s : StageData). s.cells) p.stages g m in
       let (k, at) = slice_get-from_Contains p.stages s (Contains-from_Member s m-s) in
       let (cells, of) = at-stage k s at in
       let (i, at_i) = slice_get-from_Contains s.cells g (Contains-from_Member g m-g) in
@@ -186,7 +185,7 @@ module _ (p : PipelineData) (shape : Shape p.netlist p) (lists : List (List Stag
         (λ i. record { kind = is.kind i; name = is.cell.name; ins = record { items = is.ins i }; out = is.cell.out }),
         is.out,
         list_any-from_member (λ (s : StageData). list_any (λ (g : StageCell). nat_eq g.out.0 is.cell.out.0) s.cells) s m-s (list_any-from_member (λ (g : StageCell). nat_eq g.out.0 is.cell.out.0) g m-g (eq-eqb g.out.0 is.cell.out.0 (sym out))),
-        each (λ (f : StageCell). length f.ins.items ≡ arity_of f.kind) s.cells of.between.is_stage.arities g m-g,
+        All-member (λ (f : StageCell). length f.ins.items ≡ arity_of f.kind) s.cells of.between.is_stage.arities g m-g,
       )
 
   module _ (f : Cell → ℕ) (h : StageCell → ℕ) (same : (g : StageCell) (c : Cell) → CellAt n g.cell.0 c → c.out ≡ g.out → length g.ins.items ≡ arity_of g.kind → f (with_gate_of c g) ≡ h g) where
@@ -239,7 +238,7 @@ module _ (p : PipelineData) (shape : Shape p.netlist p) (lists : List (List Stag
                     let u = place-in p shape lists fewer g m-g in
                     let (b, at_b, out_b, rail) = gate-cell p shape lists fewer u.place u.stage u.cells u.at g u.among in
                     let one : b ≡ c = same_driver n shape.is_netlist b c (Contains-from_slice_get n.cells g.cell.0 b at_b) (Contains-from_Member c m) (ap (λ (x : NetId). x.0) out_b ∙ out) in
-                    let weighs : f (with_gate_of c g) ≡ h g = same g c (subst (CellAt n g.cell.0) one at_b) (subst (λ (z : Cell). z.out ≡ g.out) one out_b) (each (λ (e : StageCell). length e.ins.items ≡ arity_of e.kind) u.cells (is-folded p shape lists fewer u.place u.stage u.cells u.at).arities g u.among) in
+                    let weighs : f (with_gate_of c g) ≡ h g = same g c (subst (CellAt n g.cell.0) one at_b) (subst (λ (z : Cell). z.out ≡ g.out) one out_b) (All-member (λ (e : StageCell). length e.ins.items ≡ arity_of e.kind) u.cells (is-folded p shape lists fewer u.place u.stage u.cells u.at).arities g u.among) in
                     let equal : inner_kept c ≡ h g = whole ∙ ap (kept_weight f) (stays ∙ ap Some is) ∙ weighs in
                     inr (g, m-g, out, omega (arith, equal))
               ]

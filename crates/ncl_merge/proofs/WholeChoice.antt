@@ -21,6 +21,7 @@ use Rattle.ncl_shape.specs.Chain.{ShownOutputs}
 use Rattle.ncl_shape.proofs.NetSources.{only_origin}
 use Rattle.ncl_shape.proofs.ShapeLaws.{requests, request_at, last_bank}
 use Rattle.ncl_base.proofs.Members.{Member, Member-append_cases, member_of_map, Contains-from_Member, Member-from_Contains, Contains-from_slice_get, slice_get-from_Contains, slice_get-some}
+use Rattle.ncl_base.proofs.Tests.{All-member}
 use Rattle.ncl_cell_roles.specs.Layout.{rail_at}
 use Rattle.ncl_cell_roles.proofs.RailNets.{rail-within}
 use Rattle.ncl_cell_roles.proofs.BankBits.{rail_of_register}
@@ -31,7 +32,6 @@ use Rattle.ncl_merge.specs.Folding.{AreFewer}
 use Rattle.ncl_merge.specs.Thinned.{IsRailGate}
 use Rattle.ncl_merge.specs.Rebuilt.{IsChoice, IsWhole}
 use Rattle.ncl_merge.specs.Choice.{with_gate_of, choice_of}
-use Rattle.ncl_merge.proofs.Lists.{each}
 use Rattle.ncl_merge.proofs.Folds.{rank-folded}
 use Rattle.ncl_gates.proofs.PinLaws.{pins_of-gate}
 use Rattle.ncl_merge.proofs.Rebuilt.{rail_or_not, same-choice}
@@ -221,7 +221,7 @@ module _ (p : PipelineData) (shape : Shape p.netlist p) (lists : List (List Stag
     fits = λ c d in_c rail is.
         let (g, m, out, e) = choice-rail p shape lists fewer c d in_c rail is in
         let u = place-in p shape lists fewer g m in
-        let arity = each (λ (c : StageCell). length c.ins.items ≡ arity_of c.kind) u.cells (is-folded p shape lists fewer u.place u.stage u.cells u.at).arities g u.among in
+        let arity = All-member (λ (c : StageCell). length c.ins.items ≡ arity_of c.kind) u.cells (is-folded p shape lists fewer u.place u.stage u.cells u.at).arities g u.among in
         subst (λ (z : Cell). length z.ins.items + 1 ≡ length (pins_of z.kind)) (sym e) (ap (λ k. k + 1) arity ∙ sym (pins_of-gate g.kind));
     driven = driven-kept;
     shown = λ b in_b output.

@@ -1,7 +1,7 @@
 -- The text of a folded netlist is no longer than that of the netlist.
 use Rattle.std.proofs.Common.{◌≡◌, ◌≢◌, ◌≤◌, ◌+◌, ◌-◌, ℕ, suc, List, [], ◌∷◌, ◌++◌, length, map, take, drop, Some, inl, inr, refl, sym, ap, ◌∙◌, subst, arith}
 use Rattle.std.specs.Prelude.{Contains, slice_get, sum_by, codes}
-use Rattle.std.specs.List.{flat_map, join_with_byte, zip}
+use Rattle.std.specs.List.{flat_map, zip}
 use Rattle.std.proofs.lemmas.Bool.{cases_lt}
 use Rattle.std.proofs.lemmas.List.{length-append, length-map, take-append-drop}
 use Rattle.std.proofs.lemmas.List.Concat.{length-flat_map}
@@ -9,6 +9,8 @@ use Rattle.std.proofs.lemmas.List.Sums.{sum_by-cons, sum_by-append}
 use Rattle.std.proofs.lemmas.Option.{slice_get_within, get_or_from_slice_get}
 use Rattle.ncl_base.proofs.Lists.{Differ}
 use Rattle.ncl_base.proofs.Members.{Member, here, there, member_cases, Member-append_left, Member-append_cases, Contains-from_Member, Member-from_Contains, Contains-from_slice_get, slice_get-from_Contains}
+use Rattle.ncl_base.proofs.Joined.{length-join_with_byte}
+use Rattle.ncl_base.proofs.Tests.{All-member}
 use Rattle.ncl_gates.specs.declared.kind.Kind.{Kind}
 use Rattle.ncl_gates.specs.declared.cell_kind.CellKind.TheVariants.{Gate}
 use Rattle.ncl_gates.specs.Gate.{arity_of}
@@ -33,7 +35,6 @@ use Rattle.ncl_merge.specs.Thinned.{moved}
 use Rattle.ncl_merge.specs.Rebuilt.{kept, name_at}
 use Rattle.ncl_merge.specs.Choice.{with_gate_of, choice_of, folded_netlist, net_there}
 use Rattle.ncl_merge.specs.Merged.{cell_name}
-use Rattle.ncl_merge.proofs.Lists.{each}
 use Rattle.ncl_gates.proofs.PinLaws.{pins_of-gate}
 use Rattle.ncl_merge.proofs.Rebuilt.{cells-moved, port-name, port-within}
 use Rattle.ncl_merge.proofs.Weights.{lines_no_longer}
@@ -43,14 +44,6 @@ use Rattle.ncl_merge.proofs.Weighing.{pairs-from_places, sum_by-flat_map, no_mor
 use Rattle.ncl_merge.proofs.FoldedNames.{name-of_cell, part-kept, no-new_nets}
 
 -- ---- the line of a gate
-
--- texts with commas between
-length-join : (text : List ℕ) (texts : List (List ℕ)) → length (join_with_byte 44 (text ∷ texts)) + 1 ≡ sum_by (λ t. length t + 1) (text ∷ texts)
-length-join text [] = let whole : sum_by (λ t. length t + 1) (text ∷ []) ≡ length text + 1 + 0 = sum_by-cons (λ t. length t + 1) text [] in omega (arith, whole)
-length-join text (other ∷ texts) =
-    let whole : sum_by (λ t. length t + 1) (text ∷ other ∷ texts) ≡ length text + 1 + sum_by (λ t. length t + 1) (other ∷ texts) = sum_by-cons (λ t. length t + 1) text (other ∷ texts) in
-    let rest = length-join other texts in
-    omega (arith, whole, rest, length-append text (44 ∷ join_with_byte 44 (other ∷ texts)))
 
 -- pins of one letter, each with its net
 pins-length : (pins names : List (List ℕ)) → ((pin : List ℕ) → Member pin pins → length pin ≡ 1) → length pins ≡ length names
@@ -85,7 +78,7 @@ one-letter kind pin m =
 
 opened-length : (texts : List (List ℕ)) → length (opened texts) ≡ sum_by (λ t. length t + 1) texts
 opened-length [] = refl
-opened-length (text ∷ texts) = let joined = length-join text texts in omega (arith, joined)
+opened-length (text ∷ texts) = let joined = length-join_with_byte 44 text texts in omega (arith, joined)
 
 sum_by-map : {X Y : Type 0} (f : Y → ℕ) (g : X → Y) (xs : List X) → sum_by f (map g xs) ≡ sum_by (λ x. f (g x)) xs
 sum_by-map f g [] = refl
@@ -189,7 +182,7 @@ module _ (p : PipelineData) (shape : Shape p.netlist p) (lists : List (List Stag
   wire-known : (i : ℕ) (x : List ℕ) → slice_get (drop count m.nets) i ≡ Some x → Member x (drop count n.nets)
   wire-known i x at_x =
       let at_m : slice_get m.nets (count + i) ≡ Some x = sym (slice_get-drop count m.nets i) ∙ at_x in
-      let (j, at_j) = slice_get-from_Contains n.nets x (each (Contains n.nets) m.nets (no-new_nets p shape lists fewer is_m) x (Member-from_Contains m.nets x (Contains-from_slice_get m.nets (count + i) x at_m))) in
+      let (j, at_j) = slice_get-from_Contains n.nets x (All-member (Contains n.nets) m.nets (no-new_nets p shape lists fewer is_m) x (Member-from_Contains m.nets x (Contains-from_slice_get m.nets (count + i) x at_m))) in
       elim (cases_lt j count) [
         | inr later ↦
             let place : count + (j - count) ≡ j = omega (arith, later) in

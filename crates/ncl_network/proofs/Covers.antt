@@ -24,7 +24,3 @@ pub cover_value-by_rows : (on : Bool) (rows : List (List Lit)) (word : List Bool
 cover_value-by_rows on [] word some = absurd (omega arith)
 cover_value-by_rows on (row ∷ rows) word some =
     ap (λ b. beq b on) (some_matches-rows (row ∷ rows) word) ∙ beq-cond (list_any (row_matches word) (row ∷ rows)) on
-
-pub cover_value-none : (on : Bool) (rows : List (List Lit)) (word : List Bool) → length rows ≡ 0 → cover_value on rows word ≡ false
-cover_value-none on [] word none = refl
-cover_value-none on (row ∷ rows) word none = absurd (omega arith)

@@ -7,6 +7,8 @@ use Rattle.std.proofs.lemmas.List.{get_or_append_left, get_or_push, length_push}
 use Rattle.std.proofs.lemmas.List.Elements.{All-head, All-tail}
 use Rattle.std.proofs.lemmas.Option.{get_or_from_slice_get, slice_get_within}
 use Rattle.ncl_base.proofs.Members.{Member, Member-map, Contains-from_Member, Member-from_Contains, Contains-from_slice_get, slice_get-from_Contains, slice_get-some}
+use Rattle.ncl_base.proofs.Tests.{All-at}
+use Rattle.ncl_base.proofs.Joined.{Member-flat_map, member_of_flat_map}
 use Rattle.ncl_shape.specs.declared.rails.Rails.{Rails}
 use Rattle.ncl_shape.specs.declared.stage.StageCell.{StageCell}
 use Rattle.ncl_shape.specs.Nets.{Nets, IsBelow}
@@ -25,7 +27,7 @@ use Rattle.ncl_rails.specs.Complete.{IsComplete}
 use Rattle.ncl_rails.specs.Waiting.{IsCovered, Reaches, output, waiter}
 use Rattle.ncl_rails.proofs.Covering.{reads_before_at, node_reaches}
 use Rattle.ncl_rails.specs.Layout.{AreLaidOut, no_rails, source_pair, signal_pair}
-use Rattle.ncl_rails.proofs.Lists.{at_place, list_all-fails, Member-flat_map, member_from_flat_map}
+use Rattle.ncl_rails.proofs.Lists.{list_all-fails}
 use Rattle.ncl_rails.proofs.Showing.{Shows-turned, IsNull-turned, null_has_none}
 
 pub reads_at : (inputs place : ℕ) (nodes : List Node) → ReadBefore inputs place nodes → (k : ℕ) (node : Node) → slice_get nodes k ≡ Some node → All (λ (signal : Signal). IsSource inputs (place + length nodes) signal.from) node.ins
@@ -46,7 +48,7 @@ module _ (network : Network) (waits : ℕ → List Signal) (inputs : List Rails)
 
   varies_at : (k : ℕ) (node : Node) → slice_get network.nodes k ≡ Some node → All (λ (signal : Signal). is_constant signal.from ≡ false) node.ins
   varies_at k node at =
-      at_place (λ (n : Node). All (λ (signal : Signal). is_constant signal.from ≡ false) n.ins) network.nodes (λ i d lt. (complete.varying.nodes i d lt).no_constant) k node at
+      All-at (λ (n : Node). All (λ (signal : Signal). is_constant signal.from ≡ false) n.ins) network.nodes (λ i d lt. (complete.varying.nodes i d lt).no_constant) k node at
 
   part_at : (k : ℕ) → k < length network.nodes → (part : List StageCell) × (slice_get laid.parts k ≡ Some part)
   part_at k lt = let count = laid.as_many in slice_get-some laid.parts k (omega (arith, lt, count))
@@ -166,7 +168,7 @@ module _ (network : Network) (waits : ℕ → List Signal) (inputs : List Rails)
       -- where a gate that is high in base is low, some output is NULL
       pub low_gate_reaches : (c : StageCell) → Member c cells → base (out_of c) ≡ true → v (out_of c) ≡ false → list_all (has_data v) output_pairs ≡ false
       low_gate_reaches c m high low =
-          let (part, in_parts, in_part) = member_from_flat_map (λ (p : List StageCell). p) c laid.parts (subst (Member c) laid.joined m) in
+          let (part, in_parts, in_part) = member_of_flat_map (λ (p : List StageCell). p) laid.parts c (subst (Member c) laid.joined m) in
           let (k, found) = slice_get-from_Contains laid.parts part (Contains-from_Member part in_parts) in
           let within : k < length laid.parts = slice_get_within laid.parts k part found in
           let count : length laid.parts ≡ length network.nodes = laid.as_many in

@@ -2,7 +2,7 @@
 use Rattle.std.proofs.Common.{◌≡◌, ◌⊎◌, ℕ, ◌<◌, true, List, length, map, get_or, Some, sym, ap, subst, ◌∙◌}
 use Rattle.std.specs.Prelude.{Contains, slice_get}
 use Rattle.std.proofs.lemmas.Option.{slice_get-get_or}
-use Rattle.ncl_base.proofs.Members.{Member, Member-get_or, Contains-from_Member, Member-from_Contains}
+use Rattle.ncl_base.proofs.Members.{Member, Contains-from_Member, Member-from_Contains}
 use Rattle.ncl_network.specs.declared.network.SignalSource.{SignalSource}
 use Rattle.ncl_network.specs.declared.network.SignalSource.TheVariants.{Input, Node as FromNode}
 use Rattle.ncl_network.specs.declared.network.Signal.{Signal}
@@ -20,31 +20,11 @@ use Rattle.ncl_rails.specs.Layout.{signal_pair}
 use Rattle.ncl_rails.specs.Waiting.{HasSource, IsGiven, IsAwaited, IsCovered, all_read, waits_of}
 use Rattle.ncl_rails.proofs.AllRead.{all_read_at}
 
--- the signal at a place, and one that is waited for, is of a source
-pub HasSource-at : (signals : List Signal) (source : SignalSource) (k : ℕ) (d : Signal) → k < length signals → (get_or signals k d).from ≡ source → HasSource signals source
-HasSource-at signals source k d lt is = record {
-  signal = get_or signals k d;
-  among = Contains-from_Member (get_or signals k d) (Member-get_or signals k d lt);
-  is = is;
-}
-
 pub HasSource-waited : (w : Waits) (ins : List Signal) (source : SignalSource) (k : ℕ) (d : Signal) → k < length ins → waits_at w k ≡ true → (get_or ins k d).from ≡ source → HasSource (waited w ins) source
 HasSource-waited w ins source k d lt waits is = record {
   signal = get_or ins k d;
   among = Contains-from_Member (get_or ins k d) (picked_in (waits_at w) ins d k lt waits);
   is = is;
-}
-
-pub given_from : (network : Network) (source : SignalSource) → HasSource network.outputs source → IsGiven network source
-given_from network source has = record { signal = has.signal; given = has.among; is = has.is }
-
-pub awaited_from : (nodes : List Node) (waits : List Waits) (by : ℕ) (w : Waits) (node : Node) (source : SignalSource) → by < length nodes → slice_get nodes by ≡ Some node → w ≡ get_or waits by all_inputs → HasSource (waited w node.ins) source → IsAwaited (waits_of nodes waits) (length nodes) source
-awaited_from nodes waits by w node source lt at is has = record {
-  by = by;
-  signal = has.signal;
-  within = lt;
-  waited = subst (λ w. Contains (waited w (all_read nodes by)) has.signal) is (subst (λ ins. Contains (waited w ins) has.signal) (sym (all_read_at nodes by node at)) has.among);
-  is = has.is;
 }
 
 -- nodes wait for what they read

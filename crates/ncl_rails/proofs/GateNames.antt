@@ -6,11 +6,8 @@ use Rattle.std.proofs.lemmas.List.{length-map, map-append, length_push}
 use Rattle.std.proofs.lemmas.Option.{slice_get_within}
 use Rattle.ncl_base.proofs.Members.{Member, here, there, Member-map, member_of_map, Member-append_cases, Contains-from_Member, Member-from_Contains, All-from_members, slice_get-from_Contains}
 use Rattle.ncl_base.proofs.Growing.{split_at}
-use Rattle.ncl_gates.specs.declared.kind.Kind.{Kind}
-use Rattle.ncl_gates.specs.declared.kind.Kind.TheVariants.{Th22}
-use Rattle.ncl_gates.specs.declared.cell_kind.CellKind.TheVariants.{Gate}
 use Rattle.ncl_gates.specs.Gate.{arity_of}
-use Rattle.ncl_gates.specs.Cell.{pins_of}
+use Rattle.ncl_gates.proofs.PinLaws.{pins_of-gate}
 use Rattle.ncl_netlist.specs.declared.ids.NetId.{NetId}
 use Rattle.ncl_netlist.specs.declared.parts.NamePair.{NamePair}
 use Rattle.ncl_netlist.specs.declared.parts.PartCell.{PartCell}
@@ -31,10 +28,6 @@ use Rattle.ncl_rails.proofs.NetNames.{pair_names-cons, inputs_named}
 
 -- ---- pins
 
-pins_count : (kind : Kind) → length (pins_of (Gate kind)) ≡ arity_of kind + 1
-pins_count Th22 = refl
-pins_count kind = refl
-
 module _ (names : List (List ℕ)) (prefix : List ℕ) where
   pins : (c : StageCell) → (part_of_gate names prefix c).pins ≡ map (λ (net : NetId). name_of_net names prefix net.0) c.ins.items ++ name_of_net names prefix c.out.0 ∷ []
   pins c = map-append (λ (net : NetId). name_of_net names prefix net.0) c.ins.items (c.out ∷ [])
@@ -52,7 +45,7 @@ module _ (names : List (List ℕ)) (prefix : List ℕ) where
 
   pub gate_pins : (c : StageCell) → length c.ins.items ≡ arity_of c.kind → HasAllPins (part_of_gate names prefix c)
   gate_pins c arity =
-      omega (arith, ap length (pins c), length_push (map (λ (net : NetId). name_of_net names prefix net.0) c.ins.items) (name_of_net names prefix c.out.0), length-map c.ins.items (λ (net : NetId). name_of_net names prefix net.0), arity, pins_count c.kind)
+      omega (arith, ap length (pins c), length_push (map (λ (net : NetId). name_of_net names prefix net.0) c.ins.items) (name_of_net names prefix c.out.0), length-map c.ins.items (λ (net : NetId). name_of_net names prefix net.0), arity, pins_of-gate c.kind)
 
   -- the names of the nets of pairs
   pairs_named : (pairs : List Rails) → pair_names (map (name_of_pair names prefix) pairs) ≡ map (name_of_net names prefix) (rail_nets pairs)

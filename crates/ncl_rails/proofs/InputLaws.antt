@@ -7,6 +7,7 @@ use Rattle.ncl_shape.specs.declared.stage.StageCell.{StageCell}
 use Rattle.ncl_shape.specs.Nets.{among}
 use Rattle.ncl_shape.specs.Stage.{StageData, IsStage, rail_nets, rail_of, named_rails, out_of}
 use Rattle.ncl_base.proofs.Members.{Member, here, there, Member-append_left, Member-from_Contains, Contains-from_slice_get}
+use Rattle.ncl_shape.proofs.RailLaws.{rails_within, own_rail}
 use Rattle.ncl_stage.specs.declared.variant.Variant.{Variant}
 use Rattle.ncl_stage.specs.declared.variant.Variant.TheVariants.{Base, Bit, Cell}
 use Rattle.ncl_stage.specs.Values.{holds, both_rails, output_net, val}
@@ -15,18 +16,9 @@ use Rattle.ncl_stage.proofs.ValueLaws.{val-rail, val-output}
 use Rattle.ncl_stage.proofs.OnePass.{among-from_member}
 use Rattle.ncl_template.specs.Template.{Shows, IsNull}
 
--- both rails of a bit are rails
-pub rails_within : (r : Rails) {inputs : List Rails} → Member r inputs → Member r.zero.0 (rail_nets inputs) × Member r.one.0 (rail_nets inputs)
-rails_within r (here {xs = rs}) = (here, there here)
-rails_within r (there {y = y} m) = let (first, second) = rails_within r m in (there (there first), there (there second))
-
 rail_within : (r : Rails) (inputs : List Rails) → Member r inputs → (b : Bool) → Member (rail_of r b) (rail_nets inputs)
 rail_within r inputs m true = (rails_within r m).1
 rail_within r inputs m false = (rails_within r m).0
-
-own_rail : (y : Rails) (b : Bool) → Member (rail_of y b) (y.zero.0 ∷ y.one.0 ∷ [])
-own_rail y true = there here
-own_rail y false = here
 
 -- the rail that a word names is among those that it names
 named_high : (inputs : List Rails) (word : List Bool) (i : ℕ) (r : Rails) (b : Bool) → slice_get inputs i ≡ Some r → slice_get word i ≡ Some b → Member (rail_of r b) (named_rails inputs word)

@@ -9,7 +9,7 @@ use Rattle.std.proofs.lemmas.List.Sums.{length-filter, count_by-le-length}
 use Rattle.ncl_base.proofs.Members.{Member, member_of_map, Member-map, Member-filter, All-from_members}
 use Rattle.std.proofs.lemmas.List.Elements.{All-weaker, filter-append}
 use Rattle.std.proofs.lemmas.Option.{slice_get-get_or}
-use Rattle.ncl_blif.proofs.NumberedLaws.{range_with_len-more}
+use Rattle.ncl_base.proofs.Ranges.{range_with_len-more, below_of_range, Member-range}
 use Rattle.ncl_network.specs.declared.network.SignalSource.{SignalSource}
 use Rattle.ncl_network.specs.declared.network.SignalSource.TheVariants.{Input, Node as FromNode, Const}
 use Rattle.ncl_network.specs.declared.network.Signal.{Signal}
@@ -18,7 +18,7 @@ use Rattle.ncl_network.specs.declared.network.Network.{Network}
 use Rattle.ncl_network.specs.Network.{IsSource, is_constant}
 use Rattle.ncl_decomp.specs.Splitting.{AreVarying}
 use Rattle.ncl_rails.specs.Complete.{IsVarying, IsInputBelow, input_signal, is_input_read, unread_signals}
-use Rattle.ncl_rails.proofs.Lists.{filter_within, range_below, range_has}
+use Rattle.ncl_rails.proofs.Lists.{filter_within}
 use Rattle.ncl_rails.proofs.Composition.{reads_at}
 
 -- ---- there are the inputs that are read
@@ -90,7 +90,7 @@ pub unread_vary : (network : Network) → AreVarying network.inputs (length netw
 unread_vary network = record {
   exist = All-from_members (λ (s : Signal). IsSource network.inputs (length network.nodes) s.from) (unread_signals network) (λ signal m.
       let (i, among, is) = unread_by network signal m in
-      let within : i < network.inputs = omega (arith, range_below 0 network.inputs i (filter_within (λ i. not (is_input_read network i)) i (range_with_len 0 network.inputs) among)) in
+      let within : i < network.inputs = omega (arith, below_of_range 0 network.inputs i (filter_within (λ i. not (is_input_read network i)) i (range_with_len 0 network.inputs) among)) in
       subst (λ (s : Signal). IsSource network.inputs (length network.nodes) s.from) is within);
   vary = All-from_members (λ (s : Signal). is_constant s.from ≡ false) (unread_signals network) (λ signal m.
       let (i, among, is) = unread_by network signal m in
@@ -106,4 +106,4 @@ unread_few network =
 pub unread_has : (network : Network) (i : ℕ) → i < network.inputs → is_input_read network i ≡ false → Member (input_signal i) (unread_signals network)
 unread_has network i lt unread =
     Member-map input_signal i
-    (Member-filter (λ i. not (is_input_read network i)) i (range_has 0 network.inputs i (omega arith) (omega arith)) (ap not unread))
+    (Member-filter (λ i. not (is_input_read network i)) i (Member-range 0 network.inputs i (omega arith) (omega arith)) (ap not unread))

@@ -6,6 +6,7 @@ use Rattle.std.proofs.lemmas.Bool.{cases_lt, cases_Bool}
 use Rattle.std.proofs.lemmas.List.Elements.{All-nil, All-cons, All-append}
 use Rattle.std.proofs.lemmas.List.Sums.{sum_by-append}
 use Rattle.ncl_base.proofs.Members.{Member, here, there, member_cases, Contains-from_Member, Member-from_Contains, All-from_members}
+use Rattle.ncl_base.proofs.Places.{slice_get-append_left, slice_get-append_right}
 use Rattle.ncl_network.specs.declared.network.SignalSource.{SignalSource}
 use Rattle.ncl_network.specs.declared.network.SignalSource.TheVariants.{Input, Node as FromNode}
 use Rattle.ncl_network.specs.declared.network.Signal.{Signal}
@@ -21,7 +22,7 @@ use Rattle.ncl_decomp.proofs.Pairs.{join_value, tree_nodes}
 use Rattle.ncl_decomp.proofs.Parts.{cost_of_pairs}
 use Rattle.ncl_decomp.proofs.Trees.{pair_narrow, IsTreeOver, tree_over}
 use Rattle.ncl_rails.specs.Complete.{SourceReaches, output, reader, IsVarying, IsComplete, AnswersAs, input_signal, is_input_read, unread_signals}
-use Rattle.ncl_rails.proofs.Lists.{at_member, stands_left, stands_right, cut_first, set_first}
+use Rattle.ncl_rails.proofs.Lists.{at_member, cut_first, set_first}
 use Rattle.ncl_rails.proofs.Inputs.{unread_vary, unread_few, unread_has}
 use Rattle.ncl_rails.proofs.Reaching.{read_reaches, tree_reaches, tree_nodes_reach, tree_of_two}
 
@@ -58,12 +59,12 @@ module _ (network : Network) (o : Signal) (os : List Signal) (outs : network.out
   last_stands : slice_get after.nodes (length network.nodes + length tree) ≡ Some (pair_node Join o root)
   unfolding after
   last_stands =
-      stands_right network.nodes (tree ++ pair_node Join o root ∷ []) (length tree) (pair_node Join o root)
-      (subst (λ n. slice_get (tree ++ pair_node Join o root ∷ []) n ≡ Some (pair_node Join o root)) (let same : length tree + 0 ≡ length tree = omega arith in same) (stands_right tree (pair_node Join o root ∷ []) 0 (pair_node Join o root) refl))
+      slice_get-append_right network.nodes (tree ++ pair_node Join o root ∷ []) (length tree) (pair_node Join o root)
+      (subst (λ n. slice_get (tree ++ pair_node Join o root ∷ []) n ≡ Some (pair_node Join o root)) (let same : length tree + 0 ≡ length tree = omega arith in same) (slice_get-append_right tree (pair_node Join o root ∷ []) 0 (pair_node Join o root) refl))
 
   tree_stands : (i : ℕ) (node : Node) → slice_get tree i ≡ Some node → slice_get after.nodes (length network.nodes + i) ≡ Some node
   unfolding after
-  tree_stands i node at = stands_right network.nodes (tree ++ pair_node Join o root ∷ []) i node (stands_left tree (pair_node Join o root ∷ []) i node at)
+  tree_stands i node at = slice_get-append_right network.nodes (tree ++ pair_node Join o root ∷ []) i node (slice_get-append_left tree (pair_node Join o root ∷ []) i node at)
 
   last_reaches : SourceReaches after (FromNode (length network.nodes + length tree))
   unfolding after
@@ -81,7 +82,7 @@ module _ (network : Network) (o : Signal) (os : List Signal) (outs : network.out
         | inr other ↦ output from signal (Contains-from_Member signal (there other)) at
       ]
   carried _ (reader from by node signal stands reads at reach) =
-      reader from by node signal (stands_left network.nodes (tree ++ pair_node Join o root ∷ []) by node stands) reads at (carried (FromNode by) reach)
+      reader from by node signal (slice_get-append_left network.nodes (tree ++ pair_node Join o root ∷ []) by node stands) reads at (carried (FromNode by) reach)
 
   root_reaches : SourceReaches after root.from
   root_reaches = read_by_last root (1, omega arith, refl) root.from refl

@@ -10,6 +10,7 @@ use Rattle.std.proofs.lemmas.List.Elements.{All-nil, All-append, All-head, All-t
 use Rattle.std.proofs.lemmas.List.Sums.{sum_by_push, sum_by-take-le}
 use Rattle.std.proofs.lemmas.Option.{slice_get_within, slice_get-get_or}
 use Rattle.ncl_base.proofs.Members.{Member, here, there, member_cases, member_of_map, Member-append_left, Member-append_right, Member-append_cases, Member-get_or, Contains-from_Member, Member-from_Contains, All-from_members}
+use Rattle.ncl_base.proofs.Places.{pushed_last}
 use Rattle.ncl_gates.specs.Gate.{arity_of}
 use Rattle.ncl_netlist.specs.declared.ids.NetId.{NetId}
 use Rattle.ncl_shape.specs.declared.rails.Rails.{Rails}
@@ -27,8 +28,9 @@ use Rattle.ncl_template.specs.Formed.{AddsTemplate}
 use Rattle.ncl_rails.specs.Complete.{IsComplete}
 use Rattle.ncl_rails.specs.Layout.{AreLaidOut, input_pair, input_pairs, no_rails, source_pair, exchanged, signal_pair}
 use Rattle.ncl_shape.proofs.JoinedLists.{append_split}
-use Rattle.ncl_rails.proofs.Lists.{at_member, stands_before, stands_last}
-use Rattle.ncl_rails.proofs.InputLaws.{rails_within}
+use Rattle.ncl_shape.proofs.RailLaws.{rails_within}
+use Rattle.ncl_stage.proofs.WiringLaws.{rail_nets-append}
+use Rattle.ncl_rails.proofs.Lists.{at_member, stands_before}
 use Rattle.ncl_rails.proofs.Covering.{reads_before_at}
 use Rattle.ncl_rails.proofs.Composition.{reads_at}
 
@@ -59,10 +61,6 @@ rail_known nets [] each net m = elim m [ ]
 rail_known nets (r ∷ rs) each _ here = (each r here).zero
 rail_known nets (r ∷ rs) each _ (there here) = (each r here).one
 rail_known nets (r ∷ rs) each net (there (there m)) = rail_known nets rs (λ x n. each x (there n)) net m
-
-rail_nets-append : (xs ys : List Rails) → rail_nets (xs ++ ys) ≡ rail_nets xs ++ rail_nets ys
-rail_nets-append [] ys = refl
-rail_nets-append (r ∷ xs) ys = ap (λ rest. r.zero.0 ∷ r.one.0 ∷ rest) (rail_nets-append xs ys)
 
 -- ---- nodes
 
@@ -154,9 +152,9 @@ module _ (inputs : List Rails) (waits : ℕ → List Signal) (done : List Node) 
               let last : k ≡ length done = omega (arith, within, count, past) in
               let last_part : k ≡ length laid.parts = omega (arith, last, as_many) in
               let last_pair : k ≡ length pairs = omega (arith, last, pairs_as_many) in
-              let same_node : node ≡ other = stands_last done node other (subst (λ n. slice_get (done ++ node ∷ []) n ≡ Some other) last at) in
-              let same_part : adds.made ≡ part = stands_last laid.parts adds.made part (subst (λ n. slice_get (laid.parts ++ adds.made ∷ []) n ≡ Some part) last_part found) in
-              let same_pair : out ≡ pair = stands_last pairs out pair (subst (λ n. slice_get (pairs ++ out ∷ []) n ≡ Some pair) last_pair paired) in
+              let same_node : node ≡ other = pushed_last done node other (subst (λ n. slice_get (done ++ node ∷ []) n ≡ Some other) last at) in
+              let same_part : adds.made ≡ part = pushed_last laid.parts adds.made part (subst (λ n. slice_get (laid.parts ++ adds.made ∷ []) n ≡ Some part) last_part found) in
+              let same_pair : out ≡ pair = pushed_last pairs out pair (subst (λ n. slice_get (pairs ++ out ∷ []) n ≡ Some pair) last_pair paired) in
               let reads : All (λ (s : Signal). IsSource (length inputs) (length pairs) s.from) node.ins = subst (λ n. All (λ (s : Signal). IsSource (length inputs) n s.from) node.ins) (sym pairs_as_many) exist in
               let own_last : (signal : Signal) → Contains (waits (length done)) signal → Contains node.ins signal = λ signal m. subst (λ (n : Node). Contains n.ins signal) (sym same_node) (own k other at signal (subst (λ n. Contains (waits n) signal) (sym last) m)) in
               let waited : All (λ (s : Signal). IsSource (length inputs) (length pairs) s.from) (waits (length done)) = some_exist node.ins (waits (length done)) own_last reads in

@@ -5,6 +5,7 @@ use Rattle.std.specs.List.{AllZip}
 use Rattle.std.proofs.lemmas.List.{length-map, get_or-map}
 use Rattle.ncl_base.specs.declared.word.TheConstants.{MOST_BITS}
 use Rattle.ncl_base.proofs.Members.{Member, Member-get_or, member_of_map, Contains-from_Member, Contains-from_slice_get, slice_get-from_Contains, All-from_members}
+use Rattle.ncl_base.proofs.Places.{AllZip-back}
 use Rattle.ncl_gates.specs.declared.kind.Kind.{Kind}
 use Rattle.ncl_gates.specs.declared.cell_kind.CellKind.{CellKind}
 use Rattle.ncl_gates.specs.declared.cell_kind.CellKind.TheVariants.{Gate}
@@ -21,7 +22,7 @@ use Rattle.ncl_tree.specs.NamePairs.{pair_names}
 use Rattle.ncl_rails.specs.Layout.{input_pairs}
 use Rattle.ncl_rails.specs.Named.{name_of_net, name_of_pair, part_of_gate}
 use Rattle.ncl_rails.specs.Naming.{named_net, named_pair, IsNumbered, IsOneToOne, IsNumberedStage}
-use Rattle.ncl_rails.proofs.Lists.{at_member, zip_back}
+use Rattle.ncl_rails.proofs.Lists.{at_member}
 use Rattle.ncl_rails.proofs.NetNames.{inputs_named}
 use Rattle.ncl_rails.proofs.GateNames.{gate_inputs, gate_output}
 use Rattle.ncl_rails.proofs.Renaming.{IsRenamed}
@@ -87,7 +88,7 @@ module _ (number : ℕ → ℕ) (inputs : List Rails) (cells : List StageCell) (
         cells_differ = cells_differ;
         arities = All-from_members (λ (c : StageCell). length c.ins.items ≡ arity_of c.kind) s.cells (λ other m.
             let (k, at) = slice_get-from_Contains s.cells other (Contains-from_Member other m) in
-            let (c, stands, gate) = zip_back (IsRenamedCell number) cells s.cells same.cells k other at in
+            let (c, stands, gate) = AllZip-back (IsRenamedCell number) cells s.cells same.cells k other at in
             ap length gate.ins ∙ length-map c.ins.items (renamed_net number) ∙ at_member (λ (c : StageCell). length c.ins.items ≡ arity_of c.kind) cells arities c (Contains-from_slice_get cells k c stands) ∙ ap arity_of (sym gate.kind));
         in_order = λ before after other is.
             let (left, c, right, cut, zip, gate) = zip_split (IsRenamedCell number) cells before other after (subst (AllZip (IsRenamedCell number) cells) is same.cells) in

@@ -9,6 +9,7 @@ use Rattle.std.proofs.lemmas.List.Sums.{sum_by_push, sum_by-cons}
 use Rattle.ncl_blif.specs.Meaning.{cover_value}
 use Rattle.ncl_blif.specs.declared.model.Lit.TheVariants.{Dash}
 use Rattle.ncl_base.proofs.Members.{Member, here, there, Member-map, member_from_list_any, list_any-from_member, Contains-from_Member, Member-from_Contains, All-from_members}
+use Rattle.ncl_base.proofs.Places.{slice_get-append_left}
 use Rattle.ncl_network.specs.declared.network.SignalSource.{SignalSource}
 use Rattle.ncl_network.specs.declared.network.SignalSource.TheVariants.{Input, Node as FromNode, Const}
 use Rattle.ncl_network.specs.declared.network.Signal.{Signal}
@@ -18,7 +19,7 @@ use Rattle.ncl_network.specs.Network.{signal_value, node_value, node_values, ans
 use Rattle.ncl_network.proofs.Walking.{signal_value-more, IsSource-more, length-node_values, node_values-push, ReadBefore-push}
 use Rattle.ncl_decomp.specs.Split.{IsNarrow, IsSplit, cost_of_inputs, cost_of_nodes, cost_of_network, most_cost}
 use Rattle.ncl_rails.specs.Complete.{SourceReaches, output, reader, IsVarying, AnswersAs, input_signal, true_node, replaced}
-use Rattle.ncl_rails.proofs.Lists.{at_member, stands_left}
+use Rattle.ncl_rails.proofs.Lists.{at_member}
 use Rattle.ncl_rails.proofs.Reaching.{source_reaches}
 
 -- the network with that node
@@ -117,7 +118,7 @@ module _ (network : Network) (is : IsSplit network) where
         (Contains-from_Member (replaced (length network.nodes) signal) (Member-map (replaced (length network.nodes)) signal (Member-from_Contains network.outputs signal among)))
         (ap (λ (y : Signal). y.from) same ∙ at)
     carried _ varies (reader from by node signal stands reads at reach) =
-        reader from by node signal (stands_left network.nodes (true_node ∷ []) by node stands) reads at (carried (FromNode by) refl reach)
+        reader from by node signal (slice_get-append_left network.nodes (true_node ∷ []) by node stands) reads at (carried (FromNode by) refl reach)
 
     -- and the new node does
     new_reaches : SourceReaches after (FromNode (length network.nodes))

@@ -7,6 +7,7 @@ use Rattle.std.proofs.lemmas.Bool.{and_left, and_right, cases_Bool, not_from_tru
 use Rattle.std.proofs.lemmas.List.{length-map}
 use Rattle.std.proofs.lemmas.Option.{slice_get_within, slice_get-get_or, slice_get-map}
 use Rattle.ncl_base.proofs.Members.{Member, Contains-from_Member, Member-from_Contains, Contains-from_slice_get, slice_get-from_Contains}
+use Rattle.ncl_base.proofs.Places.{AllZip-back}
 use Rattle.ncl_netlist.specs.declared.ids.NetId.{NetId}
 use Rattle.ncl_shape.specs.declared.rails.Rails.{Rails}
 use Rattle.ncl_shape.specs.declared.stage.StageCell.{StageCell}
@@ -27,7 +28,7 @@ use Rattle.ncl_rails.specs.Complete.{IsComplete}
 use Rattle.ncl_rails.specs.Waiting.{IsCovered, Reaches}
 use Rattle.ncl_rails.proofs.Covering.{input_reaches}
 use Rattle.ncl_rails.specs.Layout.{AreLaidOut, no_rails, source_pair}
-use Rattle.ncl_rails.proofs.Lists.{zip_at, zip_back}
+use Rattle.ncl_rails.proofs.Lists.{zip_at}
 use Rattle.ncl_rails.proofs.InputLaws.{input_shown, input_null, cell_low, base_obeys, variant_supported}
 use Rattle.ncl_rails.proofs.Showing.{shown_has_data, shown_is_legal}
 use Rattle.ncl_shape.specs.Renamed.{renamed_rails, IsRenamedCell}
@@ -135,6 +136,6 @@ module _ (network : Network) (waits : ℕ → List Signal) (inputs : List Rails)
       elim (cases_Bool (val s word Base other.out.0)) [
         | inr low ↦ and_left _ _ low
         | inl high ↦
-            let (c, stands, gate) = zip_back (IsRenamedCell number) cells s.cells same.cells g other at in
+            let (c, stands, gate) = AllZip-back (IsRenamedCell number) cells s.cells same.cells g other at in
             and_right _ _ (low_gate_spreads word right g c other (Member-from_Contains cells c (Contains-from_slice_get cells g c stands)) gate at high)
       ])

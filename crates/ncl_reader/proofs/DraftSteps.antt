@@ -9,10 +9,10 @@ use Rattle.ncl_reader.specs.declared.draft.Draft.{Draft}
 use Rattle.ncl_reader.specs.declared.keyword.Way.{Way}
 use Rattle.ncl_reader.specs.declared.keyword.Keyword.TheVariants.{Module, EndModule, Wire, Way as word_of}
 use Rattle.ncl_reader.specs.Lexemes.{Lexeme, Word, Name, Number, Mark}
-use Rattle.ncl_reader.specs.Grammar.{Head, Item, Conn, Row, Direction, Lead, Spec, Group, Listing}
+use Rattle.ncl_reader.specs.Grammar.{Head, Item, Conn, Row, Direction, Lead, Spec, Group}
 use Rattle.ncl_reader.specs.Rules.{BreaksRule, Breaks, Clashes}
 use Rattle.ncl_reader.specs.Known.{KeepsNames}
-use Rattle.ncl_reader.specs.Partial.{Partial, naming, going, start, begun, titled, listing, listed, heading, headed, inside, at_item, ended, declaring, celled, named, joining, dotted, pinned, opened, netted, indexing, indexed, picked, joined, closed, spelled}
+use Rattle.ncl_reader.specs.Partial.{Partial, naming, going, start, begun, listing, heading, inside, at_item, ended, declaring, celled, named, joining, dotted, pinned, opened, netted, indexing, indexed, picked, joined, closed, spelled}
 use Rattle.ncl_reader.specs.Draft.{HoldsAt, HoldsBy, Takes, TakesOrBreaks}
 use Rattle.ncl_reader.proofs.Steps.{step}
 use Rattle.ncl_reader.proofs.Grows.{grows}
@@ -67,11 +67,6 @@ pub others-begun : (t : Lexeme) → ((x : List ℕ) → t ≢ Name x) → step b
 others-begun (Name x) wrong = absurd (wrong x refl)
 others-begun t wrong = refl
 
-pub others-titled : (title : List ℕ) (t : Lexeme) → t ≢ Mark LParen → t ≢ Mark Semi → step (titled title) t ≡ None
-others-titled title (Mark LParen) one two = absurd (one refl)
-others-titled title (Mark Semi) one two = absurd (two refl)
-others-titled title t one two = refl
-
 pub others-first : (title : List ℕ) (t : Lexeme) → t ≢ Mark RParen → ((way : Way) → t ≢ Word (word_of way)) → ((x : List ℕ) → t ≢ Name x) → step (listing title []) t ≡ None
 others-first title (Mark RParen) one ways two = absurd (one refl)
 others-first title (Word (word_of way)) one ways two = absurd (ways way refl)
@@ -85,24 +80,10 @@ others-listing title (x ∷ names) (Mark RParen) some name = refl
 others-listing title (x ∷ names) (Word (word_of way)) some name = refl
 others-listing title (x ∷ names) t some name = refl
 
-pub others-listed : (title : List ℕ) (names : List (List ℕ)) (last : List ℕ) (t : Lexeme) → t ≢ Mark Comma → t ≢ Mark RParen → step (listed title names last) t ≡ None
-others-listed title names last (Mark Comma) comma close = absurd (comma refl)
-others-listed title names last (Mark RParen) comma close = absurd (close refl)
-others-listed title names last t comma close = refl
-
 pub others-going : (title : List ℕ) (groups : List (Group Direction)) (spec : Spec Direction) (row : Row (List ℕ)) (t : Lexeme) → ((way : Way) → t ≢ Word (word_of way)) → ((x : List ℕ) → t ≢ Name x) → step (heading title groups (going spec row)) t ≡ None
 others-going title groups spec row (Word (word_of way)) ways names = absurd (ways way refl)
 others-going title groups spec row (Name x) ways names = absurd (names x refl)
 others-going title groups spec row t ways names = refl
-
-pub others-naming : (title : List ℕ) (groups : List (Group Direction)) (spec : Spec Direction) (names : List (List ℕ)) (last : List ℕ) (t : Lexeme) → t ≢ Mark Comma → t ≢ Mark RParen → step (heading title groups (naming spec names last)) t ≡ None
-others-naming title groups spec names last (Mark Comma) one two = absurd (one refl)
-others-naming title groups spec names last (Mark RParen) one two = absurd (two refl)
-others-naming title groups spec names last t one two = refl
-
-pub others-headed : (title : List ℕ) (ports : Listing) (t : Lexeme) → t ≢ Mark Semi → step (headed title ports) t ≡ None
-others-headed title ports (Mark Semi) one = absurd (one refl)
-others-headed title ports t one = refl
 
 module _ (head : Head) (items : List Item) where
   pub others-item : (t : Lexeme) → t ≢ Word EndModule → t ≢ Word Wire → ((way : Way) → t ≢ Word (word_of way)) → ((x : List ℕ) → t ≢ Name x) → step (at_item head items) t ≡ None

@@ -52,7 +52,7 @@ graphic_same byte one low high is = subst (λ b. is_graphic b ≡ true) (sym (sa
     same : (a b : ℕ) → (a == b) ≡ true → a ≡ b
     same a b e = grind (arith, nat_tests)
 
-graphic_word : (byte : ℕ) → begins_word byte ≡ true → is_graphic byte ≡ true
+pub graphic_word : (byte : ℕ) → begins_word byte ≡ true → is_graphic byte ≡ true
 graphic_word byte is = elim (or_cases (is_letter byte) (byte == 95) is) [
   | inl letter ↦ elim (or_cases (nat_le 97 byte && nat_le byte 122) (nat_le 65 byte && nat_le byte 90) letter) [
     | inl small ↦ graphic_between 97 122 byte (omega arith) (omega arith) small
@@ -61,7 +61,7 @@ graphic_word byte is = elim (or_cases (is_letter byte) (byte == 95) is) [
   | inr line ↦ graphic_same byte 95 (omega arith) (omega arith) line
 ]
 
-graphic_more : (byte : ℕ) → continues_word byte ≡ true → is_graphic byte ≡ true
+pub graphic_more : (byte : ℕ) → continues_word byte ≡ true → is_graphic byte ≡ true
 graphic_more byte is = elim (or_cases (begins_word byte) (is_digit byte || byte == 36) is) [
   | inl word ↦ graphic_word byte word
   | inr other ↦ elim (or_cases (is_digit byte) (byte == 36) other) [

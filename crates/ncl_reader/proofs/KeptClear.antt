@@ -9,9 +9,7 @@ use Rattle.ncl_reader.specs.Forms.{IsDeclaring}
 use Rattle.ncl_reader.specs.Vectors.{span_of, Covers, bit_name, Stands, IsDeclared, IsVector, IsBit, IsClear}
 use Rattle.ncl_reader.specs.Rules.{Clashes}
 use Rattle.ncl_reader.proofs.Said.{declared-more, stands-more}
-
-name_in : {a b : List ℕ} → Name a ≡ Name b → a ≡ b
-name_in e = cc
+use Rattle.ncl_reader.proofs.KeptUses.{name_in}
 
 -- no name is that of its own bit
 not_own : (x : List ℕ) (k : ℕ) → x ≢ bit_name x k

@@ -15,25 +15,19 @@ use Rattle.ncl_reader.specs.Vectors.{span_of, Covers, Stands, bit_name, IsDeclar
 use Rattle.ncl_reader.specs.KeptBits.{IsStanding}
 use Rattle.ncl_reader.specs.Rules.{Redeclares, Clashes}
 use Rattle.ncl_reader.specs.Known.{KeepsNames}
-use Rattle.ncl_reader.specs.Partial.{Partial, inside, opened, spelled}
+use Rattle.ncl_reader.specs.Partial.{inside, opened}
 use Rattle.ncl_reader.proofs.Said.{stands-more, declaring-once}
 use Rattle.ncl_reader.proofs.KeptRanges.{ranges-other}
 use Rattle.ncl_reader.proofs.KeptUses.{uses-other}
 use Rattle.ncl_reader.proofs.KeptClear.{clear-other, clear-again}
-use Rattle.ncl_reader.proofs.Declares.{range_here, declaring-here}
+use Rattle.ncl_reader.proofs.Declares.{declaring-here}
 use Rattle.ncl_reader.proofs.Facts.{spans_or_not}
-
-stands_old : (xs ys : List Lexeme) (x : List ℕ) → Stands xs x → Stands (xs ++ ys) x
-stands_old xs ys x (front, rest, e) = (front, rest ++ ys, rw e (assoc front rest))
-  where
-    assoc : (front rest : List Lexeme) → (front ++ Name x ∷ rest) ++ ys ≡ front ++ Name x ∷ (rest ++ ys)
-    assoc [] rest = refl
-    assoc (f ∷ front) rest = ap (λ l. f ∷ l) (assoc front rest)
+use Rattle.ncl_reader.proofs.KeptStanding.{stands-old}
 
 -- a token that is no name
 pub standing_mark : (kept : KeptBits) (xs : List Lexeme) (t : Lexeme) → ((x : List ℕ) → t ≢ Name x) → IsStanding kept xs → IsStanding kept (xs ++ t ∷ [])
 standing_mark kept xs t other is = record {
-  stands = λ v k found. stands_old xs (t ∷ []) (bit_name v k) (is.stands v k found);
+  stands = λ v k found. stands-old xs (t ∷ []) (bit_name v k) (is.stands v k found);
   small = is.small;
   kept = λ v k small stands. elim (stands-more xs t (bit_name v k) stands) [
     | inl before ↦ is.kept v k small before
@@ -48,18 +42,6 @@ kept_mark known xs t other kept = record {
   uses = uses-other known.uses xs t (λ y is net. other y is) kept.uses;
   clear = clear-other xs t other kept.clear;
 }
-
--- where a name isn't declared it clashes only as a bit's name
-pub plain_clashes : (xs : List Lexeme) (x : List ℕ) → ((range : Option Range) → IsDeclaring xs range → ⊥) → (IsBit xs x → ⊥) → Clashes xs x → ⊥
-plain_clashes xs x none fine (inl bit) = fine bit
-plain_clashes xs x none fine (inr (range, k, declares, covers, stands)) = none (Some range) declares
-
--- a name isn't declared here, nor used
-pub undeclared : (p : Partial) → range_here p ≡ None → (range : Option Range) → IsDeclaring (spelled p) range → ⊥
-undeclared p none range declares = no_range (sym none ∙ declaring-here p range declares)
-  where
-    no_range : None ≡ Some range → ⊥
-    no_range e = absurd cc
 
 -- a name that was declared with another range, by what is kept
 module _ (known : Known) (xs : List Lexeme) (x : List ℕ) (range : Option Range) (span : Option Span) (kept : KeepsNames known xs) (declares : IsDeclaring xs range) (same : option_map span_of range ≡ span) where

@@ -16,7 +16,7 @@ one_of : (y x : ℕ) → Contains (y ∷ []) x → y ≡ x
 one_of y x (zero, lt, e) = e
 one_of y x (suc k, lt, e) = absurd (omega (arith, lt))
 
-stands-old : (xs ys : List Lexeme) (x : List ℕ) → Stands xs x → Stands (xs ++ ys) x
+pub stands-old : (xs ys : List Lexeme) (x : List ℕ) → Stands xs x → Stands (xs ++ ys) x
 stands-old xs ys x (front, rest, e) = (front, rest ++ ys, ap (λ l. l ++ ys) e ∙ append_assoc front (Name x ∷ rest) ys)
 
 module _ (old new : KeptBits) (xs : List Lexeme) (vector : List ℕ) (number : ℕ) (name : List ℕ) where

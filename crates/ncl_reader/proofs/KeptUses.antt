@@ -14,7 +14,7 @@ use Rattle.ncl_reader.proofs.Said.{used-more}
 used-old : (xs ys : List Lexeme) (y : List ℕ) → IsUsed xs y → IsUsed (xs ++ ys) y
 used-old xs ys y (front, rest, e, net) = (front, rest ++ ys, ap (λ l. l ++ ys) e ∙ append_assoc front (Name y ∷ rest) ys, net)
 
-name_in : {a b : List ℕ} → Name a ≡ Name b → a ≡ b
+pub name_in : {a b : List ℕ} → Name a ≡ Name b → a ≡ b
 name_in e = cc
 
 pub uses-more : (old new : NameSet) (xs : List Lexeme) (x : List ℕ) → ((y : List ℕ) → has_name new y ≡ cond (bytes_eq x y) true (has_name old y)) → IsUses old xs → IsAtNet xs → IsUses new (xs ++ Name x ∷ [])

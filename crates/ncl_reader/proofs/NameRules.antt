@@ -15,7 +15,7 @@ use Rattle.ncl_reader.specs.Vectors.{span_of, width, MOST_PORT_BITS}
 use Rattle.ncl_reader.specs.Rules.{directed_by, group_bits, item_bits, RepeatsPort, DirectsLate, LeavesPort, NamesNoCell, Misjoins, Redeclares, Clashes, Crowds, BreaksRule}
 use Rattle.ncl_reader.specs.Draft.{is_ansi}
 use Rattle.ncl_reader.specs.Partial.{Partial, listing, heading, at_item, inside, declaring, dotted, opened, netted, joined, spelled}
-use Rattle.ncl_reader.proofs.Viable.{same_tree}
+use Rattle.ncl_reader.proofs.Viable.{same_tree, item_parts, dotted_parts}
 use Rattle.ncl_reader.proofs.Declares.{part_spec, part_names, part_at, heading_form, declaring_form, range_here, declaring-here}
 use Rattle.ncl_reader.proofs.PlainNames.{repeats_only, unknown_only, misjoins_only, leaves_only}
 
@@ -73,19 +73,16 @@ item_next p = false
 pub not_late : (p : Partial) → item_next p ≡ false → DirectsLate (spelled p) → ⊥
 not_late p none late = let (head, items, is, groups) = late_only p late in false≢true (sym none ∙ ap item_next is)
 
-item_in : {head h : Head} {items is : List Item} → at_item head items ≡ at_item h is → (head ≡ h) × (items ≡ is)
-item_in e = (cc, cc)
-
 -- so don't they where the header has no declarations, and where all its names have a direction
 pub not_late_here : (head : Head) (items : List Item) → is_ansi head.ports ≡ false → DirectsLate (spelled (at_item head items)) → ⊥
 not_late_here head items none late =
     let (h, is, same, (groups, ports)) = late_only (at_item head items) late in
-    false≢true (sym none ∙ ap (λ (t : Head). is_ansi t.ports) (item_in same).0 ∙ ap is_ansi ports)
+    false≢true (sym none ∙ ap (λ (t : Head). is_ansi t.ports) (item_parts same).0 ∙ ap is_ansi ports)
 
 pub not_early : (head : Head) (items : List Item) → ((x : List ℕ) → Contains (header_of head) x → Contains (directed_by head items) x) → LeavesPort (spelled (at_item head items)) → ⊥
 not_early head items all early =
     let (h, is, same, (port, stands, undirected)) = early_only (at_item head items) early in
-    let (heads, its) = item_in same in
+    let (heads, its) = item_parts same in
     undirected (subst (λ i. Contains (directed_by h i) port) its (subst (λ t. Contains (directed_by t items) port) heads (all port (subst (λ t. Contains (header_of t) port) (sym heads) stands))))
 
 -- the rule of a name that clashes
@@ -129,16 +126,12 @@ item_rule head items kind x is = plain_rule (at_item head items) x refl
     (λ b. b.none kind is)
     (λ b. let (h, i, cell, name, conns, same) = misjoins_only (at_item head items) x b in let e : at_item head items ≡ inside h i (dotted cell name conns) = same in absurd cc)
 
--- the name of a pin
-pin_in : {head h : Head} {items is : List Item} {cell other name second : List ℕ} {conns joins : List Conn} → inside head items (dotted cell name conns) ≡ inside h is (dotted other second joins) → (cell ≡ other) × (conns ≡ joins)
-pin_in e = (cc, cc)
-
 pub pin_rule : (head : Head) (items : List Item) (kind : CellKind) (name : List ℕ) (conns : List Conn) (x : List ℕ) → Contains (pins_of kind) x → (Contains (map (λ (c : Conn). c.pin) conns) x → ⊥) → (Clashes (spelled (inside head items (dotted (cell_name_of kind) name conns))) x → ⊥) → BreaksRule (spelled (inside head items (dotted (cell_name_of kind) name conns))) (Name x) → ⊥
 pin_rule head items kind name conns x stands unjoined = plain_rule (inside head items (dotted (cell_name_of kind) name conns)) x refl
     (λ b. let (title, names, same, there) = repeats_only (inside head items (dotted (cell_name_of kind) name conns)) x b in let e : inside head items (dotted (cell_name_of kind) name conns) ≡ listing title names = same in absurd cc)
     (λ b. let (h, i, same) = unknown_only (inside head items (dotted (cell_name_of kind) name conns)) x b in let e : inside head items (dotted (cell_name_of kind) name conns) ≡ at_item h i = same in absurd cc)
     (λ b.
-    let same = pin_in (same_tree (inside head items (dotted (cell_name_of kind) name conns)) (inside b.head b.items (dotted (cell_name_of b.kind) b.name b.conns)) b.is) in
+    let same = dotted_parts (same_tree (inside head items (dotted (cell_name_of kind) name conns)) (inside b.head b.items (dotted (cell_name_of b.kind) b.name b.conns)) b.is) in
     let one : kind ≡ b.kind = cell_name_of-distinct kind b.kind same.0 in
     elim b.breaks [
       | inl absent ↦ absent (subst (λ k. Contains (pins_of k) x) one stands)

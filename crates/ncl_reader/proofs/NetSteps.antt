@@ -1,5 +1,5 @@
 -- Steps in an instance and in the net of a connection.
-use Rattle.std.proofs.Common.{◌≡◌, ◌≢◌, ℕ, List, [], ◌∷◌, ◌++◌, map, Bool, true, false, Option, None, Some, inl, inr, refl, sym, ap, ◌∙◌, subst, append_assoc, Contains}
+use Rattle.std.proofs.Common.{◌≡◌, ◌≢◌, ℕ, List, [], ◌∷◌, ◌++◌, map, true, false, Option, None, Some, inl, inr, refl, sym, ap, ◌∙◌, subst, append_assoc, Contains}
 use Rattle.std.specs.Prelude.{MatchOption}
 use Rattle.std.specs.List.{flat_map}
 use Rattle.std.specs.Option.{is_some}
@@ -19,16 +19,16 @@ use Rattle.ncl_reader.specs.declared.draft.Draft.{Draft}
 use Rattle.ncl_reader.specs.declared.known.Known.{Known}
 use Rattle.ncl_reader.specs.Lexemes.{Lexeme, Name, Number, Mark}
 use Rattle.ncl_reader.specs.Grammar.{Range, Row, Conn, Head, Item, Joins, groups_of, header_of}
-use Rattle.ncl_reader.specs.Forms.{IsDeclaring, IsAtNet, IsBehindNet, IsAtIndex, IsAtLast}
+use Rattle.ncl_reader.specs.Forms.{IsDeclaring, IsBehindNet, IsAtIndex, IsAtLast}
 use Rattle.ncl_reader.specs.Vectors.{span_of, bit_name, Covers, IsTooLarge, IsVector}
 use Rattle.ncl_reader.specs.Rules.{BreaksRule, Clashes}
 use Rattle.ncl_reader.specs.Says.{Joined, joined_in, said_by, said_in, said_in_header, AreCellsOf, IsCellOf}
 use Rattle.ncl_reader.specs.Instance.{MayJoin, joint_in, picked_name}
 use Rattle.ncl_reader.specs.Known.{KeepsNames}
-use Rattle.ncl_reader.specs.Partial.{Partial, inside, dotted, opened, netted, indexing, picked, joined, spelled}
+use Rattle.ncl_reader.specs.Partial.{Partial, inside, dotted, netted, indexing, picked, joined, spelled}
 use Rattle.ncl_reader.specs.Draft.{is_ansi, IsRead, IsBody, IsBodyAnd}
 use Rattle.ncl_reader.proofs.Grows.{grows}
-use Rattle.ncl_reader.proofs.Viable.{same_tree}
+use Rattle.ncl_reader.proofs.Viable.{same_tree, joined_parts}
 use Rattle.ncl_reader.proofs.Declares.{range_here}
 use Rattle.ncl_reader.proofs.NameRules.{not_declaring}
 use Rattle.ncl_reader.proofs.Said.{declared-old}
@@ -38,11 +38,6 @@ mark_no_name sign x e = absurd cc
 
 pub number_no_name : (digits x : List ℕ) → Number digits ≢ Name x
 number_no_name digits x e = absurd cc
-
--- whether the name of a net is next
-abbrev pub takes_net : Partial → Bool
-takes_net (inside head items (opened cell name conns pin)) = true
-takes_net p = false
 
 -- a name isn't declared at a tree that is no declaration
 pub undeclared_at : (p tree : Partial) → p ≡ tree → range_here tree ≡ None → (range : Option Range) → IsDeclaring (spelled p) range → ⊥
@@ -118,14 +113,10 @@ module _ (head : Head) (items : List Item) (cell name : List ℕ) (conns : List 
   pub vector_next : (pin net : List ℕ) (range : Range) → IsVector (spelled (inside head items (netted cell name conns pin net))) net range → IsVector (spelled (inside head items (indexing cell name conns pin net))) net range
   vector_next pin net range vector = subst (λ l. IsVector l net range) (sym (grows (inside head items (netted cell name conns pin net)) (Mark LBracket) (inside head items (indexing cell name conns pin net)) refl)) (declared-old (spelled (inside head items (netted cell name conns pin net))) (Mark LBracket ∷ []) net (Some range) vector)
 
--- an instance that closes
-close_parts : {head top : Head} {items its : List Item} {cell other name second : List ℕ} {conns joins : List Conn} {conn join : Conn} → inside head items (joined cell name conns conn) ≡ inside top its (joined other second joins join) → (cell ≡ other) × (conns ≡ joins) × (conn ≡ join)
-close_parts e = (cc, cc, cc)
-
 pub close_free : (head : Head) (items : List Item) (kind : CellKind) (name : List ℕ) (conns : List Conn) (conn : Conn) → ((x : List ℕ) → Contains (pins_of kind) x → Contains (map (λ (c : Conn). c.pin) (conns ++ conn ∷ [])) x) → BreaksRule (spelled (inside head items (joined (cell_name_of kind) name conns conn))) (Mark RParen) → ⊥
 close_free head items kind name conns conn all (inl (other, range, (h, is, c, n, cs, q, b), vector)) = let e : inside head items (joined (cell_name_of kind) name conns conn) ≡ inside h is (netted c n cs q other) = same_tree (inside head items (joined (cell_name_of kind) name conns conn)) (inside h is (netted c n cs q other)) b in absurd cc
 close_free head items kind name conns conn all (inr breaks) =
-    let same = close_parts (same_tree (inside head items (joined (cell_name_of kind) name conns conn)) (inside breaks.head breaks.items (joined (cell_name_of breaks.kind) breaks.name breaks.conns.before breaks.conns.last)) breaks.is) in
+    let same = joined_parts (same_tree (inside head items (joined (cell_name_of kind) name conns conn)) (inside breaks.head breaks.items (joined (cell_name_of breaks.kind) breaks.name breaks.conns.before breaks.conns.last)) breaks.is) in
     let one : kind ≡ breaks.kind = cell_name_of-distinct kind breaks.kind same.0 in
     breaks.unjoined (subst (λ c. Contains (map (λ (c : Conn). c.pin) (breaks.conns.before ++ c ∷ [])) breaks.pin) same.2 (subst (λ cs. Contains (map (λ (c : Conn). c.pin) (cs ++ conn ∷ [])) breaks.pin) same.1 (all breaks.pin (subst (λ k. Contains (pins_of k) breaks.pin) (sym one) breaks.stands))))
 
@@ -153,10 +144,6 @@ clashing p x clashes = inr (inr (inr (inr (inr (inr (inl clashes))))))
 -- so does the name of a pin that may not be joined
 pub misjoining : (head : Head) (items : List Item) (kind : CellKind) (name : List ℕ) (conns : List Conn) (x : List ℕ) → MayJoin false kind conns x → BreaksRule (spelled (inside head items (dotted (cell_name_of kind) name conns))) (Name x)
 misjoining head items kind name conns x breaks = inr (inr (inr (inr (inl (record { head = head; items = items; kind = kind; name = name; conns = conns; is = refl; breaks = breaks })))))
-
--- no net stands next where the tree has no place for one
-pub no_net_at : (p tree : Partial) → p ≡ tree → takes_net tree ≡ false → IsAtNet (spelled p) → ⊥
-no_net_at p tree is none (h, i, c, n, cs, q, e) = false≢true (sym none ∙ ap takes_net (sym is ∙ same_tree p (inside h i (opened c n cs q)) e))
 
 -- what is kept with a name more
 pub kept_here : (known : Known) (xs : List Lexeme) (x : List ℕ) (t : Lexeme) → t ≡ Name x → KeepsNames known (xs ++ Name x ∷ []) → KeepsNames known (xs ++ t ∷ [])

@@ -1,5 +1,5 @@
 -- It is decided whether a token breaks a rule.
-use Rattle.std.proofs.Common.{◌≡◌, ◌≢◌, ℕ, zero, suc, ◌+◌, ◌*◌, ◌<◌, length, List, [], ◌∷◌, ◌++◌, Option, Some, None, map, sum, inl, inr, ◌⊎◌, refl, sym, ap, ◌∙◌, subst, Contains, arith}
+use Rattle.std.proofs.Common.{◌≡◌, ◌≢◌, ℕ, ◌+◌, ◌*◌, ◌<◌, length, List, [], ◌∷◌, ◌++◌, Option, Some, None, map, sum, inl, inr, ◌⊎◌, refl, sym, ap, ◌∙◌, subst, Contains, arith}
 use Rattle.std.specs.Option.{option_map}
 use Rattle.std.specs.List.{flat_map}
 use Rattle.std.specs.Str.Parse.{digits_value}
@@ -18,21 +18,17 @@ use Rattle.ncl_reader.specs.Forms.{in_ansi, at_declared, IsDeclaring, IsAtNet}
 use Rattle.ncl_reader.specs.Vectors.{span_of, width, Covers, bit_name, IsTooLarge, MOST_VECTOR_BITS, MOST_PORT_BITS, Stands, IsDeclared, IsUsed, IsVector, IsBit}
 use Rattle.ncl_reader.specs.Rules.{directed_by, group_bits, item_bits, RepeatsPort, RepeatsHeaded, Misdirects, DirectsLate, LeavesPort, NamesNoCell, Misjoins, LeavesPin, IsTooLong, IsOutside, HasNoBits, LacksIndex, Redeclares, Clashes, CrowdsHeader, CrowdsItems, Crowds, BreaksRule}
 use Rattle.ncl_reader.specs.Partial.{GroupPart, Partial, listing, heading, at_item, inside, declaring, dotted, netted, indexing, opened, joined, spelled}
-use Rattle.ncl_reader.proofs.Viable.{same_tree}
+use Rattle.ncl_reader.proofs.Viable.{same_tree, dotted_parts, joined_parts, item_parts}
 use Rattle.ncl_reader.proofs.Among.{among_or_not}
 use Rattle.ncl_reader.proofs.Declares.{part_spec, part_names, part_at, at_part, heading_form, declaring_form}
 use Rattle.ncl_reader.proofs.Facts.{Decided, both_decided, either_decided, same_or_not, any-or-not, tree_or_not, declaring_or_not, spans_or_not, covers_or_not, bit_or_not}
 use Rattle.ncl_reader.proofs.Deciding.{net_or_not, last_or_not}
+use Rattle.ncl_reader.proofs.Looked.{single}
 
 -- what isn't
 not_decided : {P : Type 0} → Decided P → Decided (P → ⊥)
 not_decided (inl p) = inr (λ fails. fails p)
 not_decided (inr fails) = inl fails
-
--- the one element of a list
-single : (y x : List ℕ) → Contains (y ∷ []) x → y ≡ x
-single y x (zero, lt, e) = e
-single y x (suc k, lt, e) = absurd (omega (arith, lt))
 
 along4 : {A B C D : Type 0} (P : A → B → C → D → Type 0) {a x : A} {b y : B} {c z : C} {d w : D} → a ≡ x → b ≡ y → c ≡ z → d ≡ w → P x y z w → P a b c d
 along4 P {a} {x} {b} {y} {c} {z} {d} {w} e f g h holds = subst (λ t. P t b c d) (sym e) (subst (λ t. P x t c d) (sym f) (subst (λ t. P x y t d) (sym g) (subst (λ t. P x y z t) (sym h) holds)))
@@ -105,10 +101,6 @@ mapped there back (inr fails) = inr (λ q. fails (back q))
 gives_or_not : (lead : Lead) → Decided ((direction : Direction) × (lead ≡ Gives direction))
 gives_or_not (Gives direction) = inl (direction, refl)
 gives_or_not Wires = inr (λ (direction, e). absurd cc)
-
-some_range : (range : Option Range) → Decided ((some : Range) × (range ≡ Some some))
-some_range (Some range) = inl (range, refl)
-some_range None = inr (λ (range, e). absurd cc)
 
 -- names that stand in a header
 repeats_or_not : (p : Partial) (x : List ℕ) → Decided (RepeatsPort (spelled p) x)
@@ -261,53 +253,43 @@ unknown_or_not (at_item head items) x = elim (cell_or_none x) [
 ]
 unknown_or_not p x = inr (λ breaks. let same : p ≡ at_item breaks.head breaks.items = same_tree p (at_item breaks.head breaks.items) breaks.is in absurd cc)
 
--- a pin of a cell
-dotted_in : {head h : Head} {items is : List Item} {cell c name n : List ℕ} {conns cs : List Conn} → inside head items (dotted cell name conns) ≡ inside h is (dotted c n cs) → (cell ≡ c) × (conns ≡ cs)
-dotted_in e = (cc, cc)
-
 misjoins_or_not : (p : Partial) (x : List ℕ) → Decided (Misjoins (spelled p) x)
 misjoins_or_not (inside head items (dotted cell name conns)) x = elim (cell_or_none cell) [
   | inl (kind, is) ↦ subst (λ c. Decided (Misjoins (spelled (inside head items (dotted c name conns))) x)) is (of_kind kind)
-  | inr none ↦ inr (λ breaks. none breaks.kind (sym (dotted_in (same_tree (inside head items (dotted cell name conns)) (inside breaks.head breaks.items (dotted (cell_name_of breaks.kind) breaks.name breaks.conns)) breaks.is)).0))
+  | inr none ↦ inr (λ breaks. none breaks.kind (sym (dotted_parts (same_tree (inside head items (dotted cell name conns)) (inside breaks.head breaks.items (dotted (cell_name_of breaks.kind) breaks.name breaks.conns)) breaks.is)).0))
 ]
   where
     of_kind : (kind : CellKind) → Decided (Misjoins (spelled (inside head items (dotted (cell_name_of kind) name conns))) x)
     of_kind kind = elim (either_decided (not_decided (among_or_not (pins_of kind) x)) (among_or_not (map (λ (c : Conn). c.pin) conns) x)) [
       | inl breaks ↦ inl (record { head = head; items = items; kind = kind; name = name; conns = conns; is = refl; breaks = breaks })
       | inr fails ↦ inr (λ breaks.
-          let same = dotted_in (same_tree (inside head items (dotted (cell_name_of kind) name conns)) (inside breaks.head breaks.items (dotted (cell_name_of breaks.kind) breaks.name breaks.conns)) breaks.is) in
+          let same = dotted_parts (same_tree (inside head items (dotted (cell_name_of kind) name conns)) (inside breaks.head breaks.items (dotted (cell_name_of breaks.kind) breaks.name breaks.conns)) breaks.is) in
           let one : kind ≡ breaks.kind = cell_name_of-distinct kind breaks.kind same.0 in
           fails (subst (λ k. ¬ Contains (pins_of k) x ⊎ Contains (map (λ (c : Conn). c.pin) conns) x) (sym one) (subst (λ cs. ¬ Contains (pins_of breaks.kind) x ⊎ Contains (map (λ (c : Conn). c.pin) cs) x) (sym same.1) breaks.breaks)))
     ]
 misjoins_or_not p x = inr (λ breaks. let same : p ≡ inside breaks.head breaks.items (dotted (cell_name_of breaks.kind) breaks.name breaks.conns) = same_tree p (inside breaks.head breaks.items (dotted (cell_name_of breaks.kind) breaks.name breaks.conns)) breaks.is in absurd cc)
 
-joined_in : {head h : Head} {items is : List Item} {cell c name n : List ℕ} {conns cs : List Conn} {conn d : Conn} → inside head items (joined cell name conns conn) ≡ inside h is (joined c n cs d) → (cell ≡ c) × (conns ≡ cs) × (conn ≡ d)
-joined_in e = (cc, cc, cc)
-
 leaves_pin_or_not : (p : Partial) → Decided (LeavesPin (spelled p))
 leaves_pin_or_not (inside head items (joined cell name conns conn)) = elim (cell_or_none cell) [
   | inl (kind, is) ↦ subst (λ c. Decided (LeavesPin (spelled (inside head items (joined c name conns conn))))) is (of_kind kind)
-  | inr none ↦ inr (λ breaks. none breaks.kind (sym (joined_in (same_tree (inside head items (joined cell name conns conn)) (inside breaks.head breaks.items (joined (cell_name_of breaks.kind) breaks.name breaks.conns.before breaks.conns.last)) breaks.is)).0))
+  | inr none ↦ inr (λ breaks. none breaks.kind (sym (joined_parts (same_tree (inside head items (joined cell name conns conn)) (inside breaks.head breaks.items (joined (cell_name_of breaks.kind) breaks.name breaks.conns.before breaks.conns.last)) breaks.is)).0))
 ]
   where
     of_kind : (kind : CellKind) → Decided (LeavesPin (spelled (inside head items (joined (cell_name_of kind) name conns conn))))
     of_kind kind = elim (first_lacking (pins_of kind) (map (λ (c : Conn). c.pin) (conns ++ conn ∷ []))) [
       | inl left ↦ inl (record { head = head; items = items; kind = kind; name = name; conns = record { before = conns; last = conn }; is = refl; pin = left.0; stands = left.1; unjoined = left.2 })
       | inr all ↦ inr (λ breaks.
-          let same = joined_in (same_tree (inside head items (joined (cell_name_of kind) name conns conn)) (inside breaks.head breaks.items (joined (cell_name_of breaks.kind) breaks.name breaks.conns.before breaks.conns.last)) breaks.is) in
+          let same = joined_parts (same_tree (inside head items (joined (cell_name_of kind) name conns conn)) (inside breaks.head breaks.items (joined (cell_name_of breaks.kind) breaks.name breaks.conns.before breaks.conns.last)) breaks.is) in
           let one : kind ≡ breaks.kind = cell_name_of-distinct kind breaks.kind same.0 in
           breaks.unjoined (subst (λ c. Contains (map (λ (c : Conn). c.pin) (breaks.conns.before ++ c ∷ [])) breaks.pin) same.2 (subst (λ cs. Contains (map (λ (c : Conn). c.pin) (cs ++ conn ∷ [])) breaks.pin) same.1 (all breaks.pin (subst (λ k. Contains (pins_of k) breaks.pin) (sym one) breaks.stands)))))
     ]
 leaves_pin_or_not p = inr (λ breaks. let same : p ≡ inside breaks.head breaks.items (joined (cell_name_of breaks.kind) breaks.name breaks.conns.before breaks.conns.last) = same_tree p (inside breaks.head breaks.items (joined (cell_name_of breaks.kind) breaks.name breaks.conns.before breaks.conns.last)) breaks.is in absurd cc)
 
-item_in : {head h : Head} {items is : List Item} → at_item head items ≡ at_item h is → (head ≡ h) × (items ≡ is)
-item_in e = (cc, cc)
-
 leaves_port_or_not : (p : Partial) → Decided (LeavesPort (spelled p))
 leaves_port_or_not (at_item head items) = elim (first_lacking (header_of head) (directed_by head items)) [
   | inl left ↦ inl (record { head = head; items = items; is = refl; port = left.0; stands = left.1; undirected = left.2 })
   | inr all ↦ inr (λ breaks.
-      let same = item_in (same_tree (at_item head items) (at_item breaks.head breaks.items) breaks.is) in
+      let same = item_parts (same_tree (at_item head items) (at_item breaks.head breaks.items) breaks.is) in
       breaks.undirected (subst (λ h. Contains (directed_by h breaks.items) breaks.port) same.0 (subst (λ is. Contains (directed_by head is) breaks.port) same.1 (all breaks.port (subst (λ h. Contains (header_of h) breaks.port) (sym same.0) breaks.stands)))))
 ]
 leaves_port_or_not p = inr (λ breaks. let same : p ≡ at_item breaks.head breaks.items = same_tree p (at_item breaks.head breaks.items) breaks.is in absurd cc)
@@ -316,7 +298,7 @@ late_or_not : (p : Partial) → Decided (DirectsLate (spelled p))
 late_or_not (at_item head items) = elim (ansi_or_not head.ports) [
   | inl (groups, is) ↦ inl (record { head = head; items = items; is = refl; groups = groups; ansi = is })
   | inr none ↦ inr (λ breaks.
-      let same = item_in (same_tree (at_item head items) (at_item breaks.head breaks.items) breaks.is) in
+      let same = item_parts (same_tree (at_item head items) (at_item breaks.head breaks.items) breaks.is) in
       none (breaks.groups, ap (λ (h : Head). h.ports) same.0 ∙ breaks.ansi))
 ]
   where

@@ -5,6 +5,7 @@ use Rattle.std.specs.List.{flat_map}
 use Rattle.std.proofs.lemmas.List.{append-nil, length-append}
 use Rattle.std.proofs.lemmas.Grind.{flat_map-append}
 use Rattle.ncl_base.proofs.Members.{Member, here, there, Member-append_cases, member_of_map, Member-from_Contains}
+use Rattle.ncl_base.proofs.Joined.{member_of_flat_map}
 use Rattle.ncl_reader.specs.declared.keyword.Keyword.TheVariants.{Module, EndModule}
 use Rattle.ncl_reader.specs.declared.lexeme.Sign.TheVariants.{LParen, RParen, Comma, Semi}
 use Rattle.ncl_reader.specs.Lexemes.{Lexeme, Word, Name, Mark}
@@ -17,13 +18,6 @@ use Rattle.ncl_reader.specs.Header.{AreDeclared}
 -- the lexemes up to `endmodule`
 abbrev whole : Head → List Item → List Lexeme
 whole head items = body_phrase head items ++ Word EndModule ∷ []
-
-member_flat : {X Y : Type 0} (g : X → List Y) (xs : List X) (y : Y) → Member y (flat_map g xs) → (x : X) × Member x xs × Member y (g x)
-member_flat g [] y among = elim among [ ]
-member_flat g (x ∷ xs) y among = elim (Member-append_cases y (g x) (flat_map g xs) among) [
-  | inl front ↦ (x, here, front)
-  | inr back ↦ let (z, stands, is) = member_flat g xs y back in (z, there stands, is)
-]
 
 -- what stands in front of one of a row, and behind it
 split_first : (p wc last : List Lexeme) → ((p ++ Mark Comma ∷ []) ++ wc) ++ last ≡ p ++ Mark Comma ∷ (wc ++ last)
@@ -119,11 +113,11 @@ said_here head items (Joins cell name conns) s among is = elim is [ ]
 pub said_declared : (head : Head) (items : List Item) → AreDeclared (whole head items) (said_by (record { head = head; items = items }))
 said_declared head items s found = elim (Member-append_cases s (flat_map said_in_header (groups_of head.ports)) (flat_map said_in items) (Member-from_Contains (said_by (record { head = head; items = items })) s found)) [
   | inl front ↦
-      let (group, among, is) = member_flat said_in_header (groups_of head.ports) s front in
+      let (group, among, is) = member_of_flat_map said_in_header (groups_of head.ports) s front in
       let (stands, same) = said_member group.spec.lead group.spec.range (group_names group) s is in
       subst (IsDeclared (whole head items) s.name) (sym same) (header_declares head.name head.ports items group s.name among stands)
   | inr back ↦
-      let (item, among, is) = member_flat said_in items s back in
+      let (item, among, is) = member_of_flat_map said_in items s back in
       said_here head items item s among is
 ]
 
@@ -144,7 +138,7 @@ stand_in name (Some (Names row)) items x among =
       ap (λ l. Word Module ∷ Name name ∷ Mark LParen ∷ l) (ap (λ m. (((m ++ a) ++ b) ++ c) ++ d) e ∙ listed n (Name x ∷ []) r a b c d),
     )
 stand_in name (Some (Ansi row)) items x among =
-    let (group, stands, is) = member_flat group_names (all_of row) x among in
+    let (group, stands, is) = member_of_flat_map group_names (all_of row) x among in
     let (front, rest, e, declares) = header_declares name (Some (Ansi row)) items group x stands is in
     (front, rest, e)
 stand_in name (Some Empty) items x among = elim among [ ]

@@ -1,11 +1,11 @@
 -- What begins a shaped list is what the tokens of a partial tree are, and what may come next is what a step takes.
-use Rattle.std.proofs.Common.{◌≡◌, List, [], ◌∷◌, ◌++◌, Option, Some, None, refl, sym, ap, ◌∙◌, append_assoc}
+use Rattle.std.proofs.Common.{◌≡◌, List, [], ◌∷◌, ◌++◌, Option, Some, None, refl, sym, ap, ◌∙◌, append_assoc, ℕ}
 use Rattle.std.specs.Prelude.{option_and_then, codes}
 use Rattle.std.proofs.lemmas.Option.{same_Some, none-some}
 use Rattle.ncl_reader.specs.declared.keyword.Keyword.TheVariants.{Module, EndModule}
 use Rattle.ncl_reader.specs.declared.lexeme.Sign.TheVariants.{LParen, RParen, Semi, Dot, RBracket, Colon}
 use Rattle.ncl_reader.specs.Lexemes.{Lexeme, Word, Name, Number, Mark, End}
-use Rattle.ncl_reader.specs.Grammar.{Text, BeginsShaped}
+use Rattle.ncl_reader.specs.Grammar.{Text, BeginsShaped, Head, Item, Conn}
 use Rattle.ncl_reader.specs.Partial.{LeadPart, led, bracketed, firsted, coloned, lasted, ranged, GroupPart, leading, naming, going, Partial, start, begun, titled, listing, listed, heading, headed, at_item, inside, ended, done, ItemPart, declaring, celled, named, joining, dotted, pinned, opened, netted, indexing, indexed, picked, joined, closed, spelled}
 use Rattle.ncl_reader.proofs.Steps.{step, run}
 use Rattle.ncl_reader.proofs.Runs.{run-append, run-spelled}
@@ -127,3 +127,13 @@ front_run p q (x ∷ xs) ys e = by (step p x) (λ r. front_run r q xs ys) e
     by : (next : Option Partial) → ((r : Partial) → run r (xs ++ ys) ≡ Some q → (s : Partial) × (run r xs ≡ Some s)) → option_and_then (λ r. run r (xs ++ ys)) next ≡ Some q → (s : Partial) × (option_and_then (λ r. run r xs) next ≡ Some s)
     by None rec e = absurd cc
     by (Some r) rec e = rec r e
+
+-- what partial trees that are the same are made of
+pub item_parts : {head h : Head} {items is : List Item} → at_item head items ≡ at_item h is → (head ≡ h) × (items ≡ is)
+item_parts e = (cc, cc)
+
+pub dotted_parts : {head h : Head} {items is : List Item} {cell c name n : List ℕ} {conns cs : List Conn} → inside head items (dotted cell name conns) ≡ inside h is (dotted c n cs) → (cell ≡ c) × (conns ≡ cs)
+dotted_parts e = (cc, cc)
+
+pub joined_parts : {head h : Head} {items is : List Item} {cell c name n : List ℕ} {conns cs : List Conn} {conn d : Conn} → inside head items (joined cell name conns conn) ≡ inside h is (joined c n cs d) → (cell ≡ c) × (conns ≡ cs) × (conn ≡ d)
+joined_parts e = (cc, cc, cc)

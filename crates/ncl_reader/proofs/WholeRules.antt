@@ -23,7 +23,7 @@ use Rattle.ncl_reader.specs.Whole.{IsInstanceOf, KeepsRules, AreWhole, IsScalar,
 use Rattle.ncl_reader.specs.Partial.{led, GroupPart, leading, naming, going, start, begun, titled, listing, listed, headed, at_item, inside, ended, done, declaring, celled, named, joining, dotted, pinned, opened, netted, joined, closed, spelled}
 use Rattle.ncl_reader.proofs.Steps.{run}
 use Rattle.ncl_reader.proofs.Runs.{run-append, run-both, run-listing, run-listed, run-headed, run-joining, run-joined, run-head, run-item, run-body}
-use Rattle.ncl_reader.proofs.Viable.{same_tree}
+use Rattle.ncl_reader.proofs.Viable.{same_tree, joined_parts, item_parts}
 use Rattle.ncl_reader.proofs.Declares.{part_spec, part_names}
 use Rattle.ncl_reader.proofs.PlainNames.{NoBracket, headed_only, repeats_only, misdirects_only, unknown_only, misjoins_only, leaves_only, name_rule, close_rule}
 use Rattle.ncl_reader.proofs.Unbracketed.{no_bracket_in}
@@ -98,18 +98,11 @@ module _ (x : List ℕ) where
         | inr there ↦ new (subst (λ cs. Contains (pins_in cs) x) (sym same.1) there)
       ])
 
--- where a `)` breaks no rule
-joined_in_parts : {head h : Head} {items is : List Item} {cell c name n : List ℕ} {conns cs : List Conn} {conn d : Conn} → inside head items (joined cell name conns conn) ≡ inside h is (joined c n cs d) → (cell ≡ c) × (conns ≡ cs) × (conn ≡ d)
-joined_in_parts e = (cc, cc, cc)
-
 closing_free : (head : Head) (items : List Item) (kind : CellKind) (name : List ℕ) (conns : List Conn) (conn : Conn) → ((x : List ℕ) → Contains (pins_of kind) x → Contains (pins_in (conns ++ conn ∷ [])) x) → NoBracket (spelled (inside head items (joined (cell_name_of kind) name conns conn))) → BreaksRule (spelled (inside head items (joined (cell_name_of kind) name conns conn))) (Mark RParen) → ⊥
 closing_free head items kind name conns conn all none = let p = inside head items (joined (cell_name_of kind) name conns conn) in close_rule p none (λ b.
-    let same = joined_in_parts (same_tree p (inside b.head b.items (joined (cell_name_of b.kind) b.name b.conns.before b.conns.last)) b.is) in
+    let same = joined_parts (same_tree p (inside b.head b.items (joined (cell_name_of b.kind) b.name b.conns.before b.conns.last)) b.is) in
     let one : kind ≡ b.kind = cell_name_of-distinct kind b.kind same.0 in
     b.unjoined (subst (λ c. Contains (pins_in (b.conns.before ++ c ∷ [])) b.pin) same.2 (subst (λ cs. Contains (pins_in (cs ++ conn ∷ [])) b.pin) same.1 (all b.pin (subst (λ k. Contains (pins_of k) b.pin) (sym one) b.stands)))))
-
-item_parts : {head h : Head} {items is : List Item} → at_item head items ≡ at_item h is → (head ≡ h) × (items ≡ is)
-item_parts e = (cc, cc)
 
 ends_free : (head : Head) (items : List Item) → ((x : List ℕ) → Contains (header_of head) x → Contains (directed_by head items) x) → BreaksRule (spelled (at_item head items)) (Word EndModule) → ⊥
 ends_free head items all b =

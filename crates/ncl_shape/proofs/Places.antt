@@ -1,21 +1,9 @@
 -- What stands at the places of a list, and entries that are missing.
-use Rattle.std.proofs.Common.{◌≡◌, ℕ, zero, suc, ◌<◌, List, [], ◌∷◌, ◌++◌, Bool, false, not, length, get_or, Option, Some, None, is_some, refl, ap, ◌∙◌, arith}
+use Rattle.std.proofs.Common.{◌≡◌, ℕ, zero, suc, ◌<◌, List, [], ◌∷◌, Bool, false, not, length, get_or, Option, Some, None, is_some, refl, ap, ◌∙◌, arith}
 use Rattle.std.specs.Prelude.{slice_get}
 use Rattle.std.proofs.lemmas.Bool.{both_ways}
 use Rattle.ncl_netlist.specs.declared.ids.NetId.{NetId}
 use Rattle.ncl_shape.specs.ChainSteps.{numbers_of}
-
--- what stands at a place stays there as the list grows, and what is added stands at the end
-pub stays-push : {X : Type 0} (xs : List X) (y : X) (k : ℕ) (x : X) → slice_get xs k ≡ Some x → slice_get (xs ++ y ∷ []) k ≡ Some x
-stays-push [] y k x at = absurd cc
-stays-push (z ∷ xs) y zero x at = at
-stays-push (z ∷ xs) y (suc k) x at = stays-push xs y k x at
-
-pub end-push : {X : Type 0} (xs : List X) (y : X) (k : ℕ) → k ≡ length xs → slice_get (xs ++ y ∷ []) k ≡ Some y
-end-push [] y zero whole = refl
-end-push [] y (suc k) whole = absurd (omega arith)
-end-push (z ∷ xs) y zero whole = absurd (omega arith)
-end-push (z ∷ xs) y (suc k) whole = end-push xs y k (omega arith)
 
 -- the number of the net at a place, and back
 pub number_of_place : (nets : List NetId) (k : ℕ) (d : NetId) → k < length nets → slice_get (numbers_of nets) k ≡ Some (get_or nets k d).0
@@ -29,11 +17,6 @@ net_of_place (net ∷ nets) zero bank at =
     let same : net.0 ≡ bank = cc in
     ap (λ (x : ℕ). Some (record { 0 = x })) same
 net_of_place (net ∷ nets) (suc k) bank at = net_of_place nets k bank at
-
--- an entry that is none
-pub no_entry : {X : Type 0} (o : Option X) → ((x : X) → o ≡ Some x → ⊥) → o ≡ None
-no_entry None none = refl
-no_entry (Some x) none = absurd (none x refl)
 
 -- an entry by the test that it is missing, which fails
 pub some_entry : {X : Type 0} (o : Option X) (none : Bool) → is_some o ≡ not none → none ≡ false → (x : X) × (o ≡ Some x)

@@ -1,5 +1,5 @@
 -- The rails of a bank: two for each bit, of which each of its register cells drives one, and they differ.
-use Rattle.std.proofs.Common.{◌≡◌, ◌≢◌, ℕ, ◌*◌, ◌<◌, ◌≤◌, List, [], ◌∷◌, length, inl, inr, ◌⊎◌, refl, sym, ap, ◌∙◌, subst, arith}
+use Rattle.std.proofs.Common.{◌≡◌, ◌≢◌, ℕ, ◌*◌, ◌<◌, ◌≤◌, List, [], ◌∷◌, length, inl, inr, ◌⊎◌, refl, sym, ap, ◌∙◌, subst, arith, Bool, true, false}
 use Rattle.std.specs.Prelude.{AllPairs, Contains}
 use Rattle.std.specs.List.{AllZip}
 use Rattle.std.proofs.lemmas.List.Kept.{AllPairs-cons}
@@ -15,7 +15,7 @@ use Rattle.ncl_cell_rules.proofs.AckPins.{ack_pin_is_one, ack_of_register}
 use Rattle.ncl_cell_rules.proofs.CellTests.{same_net}
 use Rattle.ncl_shape.specs.declared.bank.Bit.{Bit}
 use Rattle.ncl_shape.specs.declared.rails.Rails.{Rails}
-use Rattle.ncl_shape.specs.Stage.{rail_nets}
+use Rattle.ncl_shape.specs.Stage.{rail_nets, rail_of}
 use Rattle.ncl_shape.specs.Chain.{IsBank}
 use Rattle.ncl_shape.specs.Shape.{IsBitOf, AreBitsOf, AreRailsOf}
 use Rattle.ncl_shape.proofs.ShapeLaws.{same_cell}
@@ -31,13 +31,21 @@ rails-length [] = refl
 rails-length (r ∷ rs) = let rest = rails-length rs in omega (arith, rest)
 
 -- both rails of each bit are among the nets of the rails, and no others
-rail_zero : (r : Rails) {rails : List Rails} → Member r rails → Member r.zero.0 (rail_nets rails)
+pub rail_zero : (r : Rails) {rails : List Rails} → Member r rails → Member r.zero.0 (rail_nets rails)
 rail_zero r (here {xs = rails}) = here
 rail_zero r (there {y = s} {xs = rails} m) = there (there (rail_zero r m))
 
-rail_one : (r : Rails) {rails : List Rails} → Member r rails → Member r.one.0 (rail_nets rails)
+pub rail_one : (r : Rails) {rails : List Rails} → Member r rails → Member r.one.0 (rail_nets rails)
 rail_one r (here {xs = rails}) = there here
 rail_one r (there {y = s} {xs = rails} m) = there (there (rail_one r m))
+
+pub rails_within : (r : Rails) {rails : List Rails} → Member r rails → Member r.zero.0 (rail_nets rails) × Member r.one.0 (rail_nets rails)
+rails_within r m = (rail_zero r m, rail_one r m)
+
+-- and the rail of each value is one of the two
+pub own_rail : (r : Rails) (value : Bool) → Member (rail_of r value) (r.zero.0 ∷ r.one.0 ∷ [])
+own_rail r true = there here
+own_rail r false = here
 
 pub rail_found : (rails : List Rails) (net : ℕ) → Member net (rail_nets rails) → (r : Rails) × Member r rails × IsRail r net
 rail_found [] net m = elim m [ ]

@@ -5,6 +5,7 @@ use Rattle.std.proofs.lemmas.Bool.{cases_lt}
 use Rattle.std.proofs.lemmas.List.{length_push}
 use Rattle.std.proofs.lemmas.Option.{slice_get_within}
 use Rattle.ncl_base.proofs.Members.{slice_get-some, slice_get-from_Contains, Contains-from_slice_get}
+use Rattle.ncl_base.proofs.Places.{slice_get-kept, slice_get-end}
 use Rattle.ncl_netlist.specs.declared.ids.NetId.{NetId}
 use Rattle.ncl_netlist.specs.Netlist.{NetlistData, IsNetlist}
 use Rattle.ncl_cell_rules.specs.Free.{IsFree}
@@ -15,7 +16,7 @@ use Rattle.ncl_shape.proofs.BankNets.{bank_within, chain_within}
 use Rattle.ncl_shape.specs.Chain.{HasOne, IsRoot, IsChain, HasRoots, IsAcknowledged}
 use Rattle.ncl_shape.specs.ChainSteps.{IsOnly, HasMore, AreOnly, IsOnlyOf, AreRootsOf, numbers_of, net_at}
 use Rattle.ncl_shape.proofs.AcknowledgeLaws.{first_root_is_port}
-use Rattle.ncl_shape.proofs.Places.{stays-push, end-push, number_of_place, net_of_place}
+use Rattle.ncl_shape.proofs.Places.{number_of_place, net_of_place}
 
 -- the only roots of the first banks
 pub record AreOnlyRoots (n : NetlistData) (banks : List NetId) (limit : ℕ) (roots : List NetId) : Type 0 where
@@ -29,13 +30,13 @@ roots_more n banks i roots bank root so_far at only = record {
   each = λ k b r at_b at_r. elim (cases_lt k i) [
     | inl less ↦
         let (x, at_x) = slice_get-some roots k (omega (arith, less, many)) in
-        let both : Some x ≡ Some r = sym (stays-push roots root k x at_x) ∙ at_r in
+        let both : Some x ≡ Some r = sym (slice_get-kept roots root k x at_x) ∙ at_r in
         let same : x ≡ r = cc in
         subst (λ (y : NetId). IsOnly (IsRoot n b.0) y.0) same (so_far.each k b x at_b at_x)
     | inr most ↦
         let within = slice_get_within (roots ++ root ∷ []) k r at_r in
         let here : k ≡ i = omega (arith, within, most, length_push roots root, many) in
-        let roots_same : Some root ≡ Some r = sym (end-push roots root k (omega (arith, here, many))) ∙ at_r in
+        let roots_same : Some root ≡ Some r = sym (slice_get-end roots root k (omega (arith, here, many))) ∙ at_r in
         let banks_same : Some bank ≡ Some b = sym at ∙ ap (slice_get banks) (sym here) ∙ at_b in
         let root_same : root ≡ r = cc in
         let bank_same : bank ≡ b = cc in

@@ -7,6 +7,7 @@ use Rattle.std.specs.List.{list_any}
 use Rattle.std.proofs.lemmas.Bool.{cases_Bool, or_cases, or_left, or_right, and_parts, and_from, eqb-true, eq-eqb, both_ways, not-true, not_from_false}
 use Rattle.ncl_shape.specs.Nets.{Nets, IsBelow, round, rounds}
 use Rattle.ncl_base.proofs.Members.{Member, here, there, list_any-from_member, member_from_list_any}
+use Rattle.ncl_base.proofs.Tests.{same_from_both}
 
 -- 0 for a net that is high, 1 for one that is low
 abbrev low_count : Bool → ℕ
@@ -25,12 +26,6 @@ low_count-small false = omega arith
 low_count-zero : (a : Bool) → low_count a ≡ 0 → a ≡ true
 low_count-zero true h = refl
 low_count-zero false h = absurd (omega arith)
-
--- values that are high together are one
-pub same_from_both : (a b : Bool) → (a ≡ true → b ≡ true) → (b ≡ true → a ≡ true) → a ≡ b
-same_from_both true b f g = sym (f refl)
-same_from_both false true f g = g refl
-same_from_both false false f g = refl
 
 -- two families of rounds, the second from higher nets and with more that rises: each net that is high
 -- after the first is high after the second

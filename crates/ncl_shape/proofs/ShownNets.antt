@@ -1,7 +1,7 @@
 -- What the pipeline shows outside, cell by cell and port by port.
-use Rattle.std.proofs.Common.{◌≡◌, ℕ, ◌-◌, ◌≤◌, Bool, true, false, not, nat_eq, List, length, get_or, Some, inl, inr, refl, sym, ap, ◌∙◌, subst, arith}
+use Rattle.std.proofs.Common.{◌≡◌, ℕ, ◌-◌, ◌≤◌, Bool, true, not, nat_eq, List, length, get_or, Some, inl, inr, refl, sym, ap, ◌∙◌, subst, arith}
 use Rattle.std.specs.Prelude.{slice_get}
-use Rattle.std.proofs.lemmas.Bool.{both_ways, cases_eq, eq-eqb, ne_eqb}
+use Rattle.std.proofs.lemmas.Bool.{both_ways, eq-eqb}
 use Rattle.std.proofs.lemmas.List.{length-map}
 use Rattle.std.proofs.lemmas.Option.{slice_get_within, slice_get-get_or}
 use Rattle.ncl_base.proofs.Members.{Contains-from_slice_get}
@@ -63,9 +63,6 @@ module _ (n : NetlistData) (is : IsNetlist n) (first last root : ℕ) (is_root :
 -- what the test that two nets differ tells
 pub nets_differ : (x y : ℕ) (test : Bool) → test ≡ not (nat_eq x y) → test ≡ true → x ≡ y → ⊥
 nets_differ x y test tells holds same = both_ways test (tells ∙ ap not (eq-eqb x y same)) holds
-
-pub nets_same : (x y : ℕ) (test : Bool) → test ≡ not (nat_eq x y) → test ≡ false → x ≡ y
-nets_same x y test tells fails = elim (cases_eq x y) [ inl same ↦ same | inr differ ↦ absurd (both_ways test fails (tells ∙ ap not (ne_eqb x y differ))) ]
 
 -- a list has one end
 end_is_one : (banks : List ℕ) (x y : ℕ) → IsEnd banks x → IsEnd banks y → x ≡ y

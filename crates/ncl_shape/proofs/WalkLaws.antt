@@ -7,6 +7,7 @@ use Rattle.std.proofs.lemmas.List.{map-append, length-map, length_push}
 use Rattle.std.proofs.lemmas.List.Elements.{All-push}
 use Rattle.ncl_base.proofs.Members.{Member, member_cases, All-from_members, slice_get-some, slice_get-from_Contains, Contains-from_slice_get}
 use Rattle.ncl_base.proofs.Growing.{no_more_than}
+use Rattle.ncl_base.proofs.Places.{slice_get-kept, slice_get-end}
 use Rattle.ncl_netlist.specs.declared.ids.NetId.{NetId}
 use Rattle.ncl_netlist.specs.Netlist.{NetlistData, IsNetlist}
 use Rattle.ncl_cell_rules.specs.Free.{IsFree}
@@ -14,7 +15,6 @@ use Rattle.ncl_shape.specs.Chain.{IsFirstBank, Follows, IsUnforked, HasChain, Is
 use Rattle.ncl_shape.specs.ChainSteps.{IsWalk, AreNumbersOf, AreAllNumbered, numbers_of}
 use Rattle.ncl_shape.proofs.ChainLaws.{head_is_one, follows_at, banks_of_chain, place_in_chain}
 use Rattle.ncl_shape.proofs.BankNets.{bank_within}
-use Rattle.ncl_shape.proofs.Places.{stays-push, end-push}
 
 -- a path goes on by a bank that follows its end
 pub IsPath-push : (n : NetlistData) (banks : List ℕ) (k last x : ℕ) → IsPath n banks → k + 1 ≡ length banks → slice_get banks k ≡ Some last → Follows n last x → IsPath n (banks ++ x ∷ [])
@@ -113,9 +113,9 @@ module _ (n : NetlistData) (first : ℕ) where
       let long = so_far.long in
       record {
         path = subst (IsPath n) (sym numbers) (IsPath-push n (numbers_of banks) steps last following.0 so_far.path (omega (arith, as_many, long)) so_far.at_end follows);
-        head = ap (λ l. slice_get l 0) numbers ∙ stays-push (numbers_of banks) following.0 0 first so_far.head;
+        head = ap (λ l. slice_get l 0) numbers ∙ slice_get-kept (numbers_of banks) following.0 0 first so_far.head;
         long = omega (arith, length_push banks following, long);
-        at_end = ap (λ l. slice_get l (steps + 1)) numbers ∙ end-push (numbers_of banks) following.0 (steps + 1) (omega (arith, as_many, long));
+        at_end = ap (λ l. slice_get l (steps + 1)) numbers ∙ slice_get-end (numbers_of banks) following.0 (steps + 1) (omega (arith, as_many, long));
         inside = All-push (λ (bank : NetId). bank.0 < length n.nets) banks following so_far.inside lt;
         stands = lt;
       }

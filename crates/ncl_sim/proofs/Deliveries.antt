@@ -15,9 +15,6 @@ no-take (Lower bit) other = refl
 no-take Take other = absurd (other refl)
 no-take Ready other = refl
 
-takes-cons : (f : Fired) (steps : List Fired) → takes_in (f ∷ steps) ≡ cond (is_take f.item) (f ∷ takes_in steps) (takes_in steps)
-takes-cons f steps = refl
-
 pub takes-push : (steps : List Fired) (f : Fired) → is_take f.item ≡ true → takes_in (steps ++ f ∷ []) ≡ takes_in steps ++ f ∷ []
 takes-push [] f on = ap (λ b. cond b (f ∷ []) []) on
 takes-push (g ∷ steps) f on =

@@ -19,8 +19,9 @@ use Rattle.ncl_sim.specs.Touch.{AreApart, AreDrivenOnce, AreEnds, Avoids, IsApar
 use Rattle.ncl_machine.specs.OneChange.{net_of_step, out_at}
 use Rattle.ncl_sim.specs.Candidates.{bit_candidate, candidate, sink_candidate}
 use Rattle.ncl_machine.proofs.EnabledItems.{and3, bit_within, excited_within}
+use Rattle.ncl_machine.proofs.LocalNets.{with_net-here}
 use Rattle.ncl_sim.proofs.Candidates.{and2, bit_number, candidate_at_sink, cell_candidate}
-use Rattle.ncl_sim.proofs.Untouched.{with_net-other, with_net-same, rests, untouched}
+use Rattle.ncl_sim.proofs.Untouched.{with_net-other, rests, untouched}
 
 -- ---- the rails of the current word
 
@@ -329,11 +330,11 @@ cell_rests v (Some c) net free at = rests v c (subst (λ n. Avoids n c.ins.items
 
 put_at-risen : (v : Nets) (o : Option ℕ) → has_value (put_at v o true) o false ≡ false
 put_at-risen v None = refl
-put_at-risen v (Some net) = ap (λ b. not (differ b false)) (with_net-same v net true)
+put_at-risen v (Some net) = ap (λ b. not (differ b false)) (with_net-here v net true)
 
 put_at-fallen : (v : Nets) (o : Option ℕ) → has_value (put_at v o false) o true ≡ false
 put_at-fallen v None = refl
-put_at-fallen v (Some net) = ap (λ b. not (differ b true)) (with_net-same v net false)
+put_at-fallen v (Some net) = ap (λ b. not (differ b true)) (with_net-here v net false)
 
 raise_rests : (p : PipelineData) (s : State) (v : Nets) (own : ℕ) → v p.ko ≡ true → has_value v (slice_get (current_rails p s) own) false ≡ false → enabled p (after_raise p s v) (bit_candidate (list_all v (current_rails p s)) own) ≡ false
 raise_rests p s v own asks risen =
@@ -379,9 +380,9 @@ own_rests p s (Lower own) net ends on at free =
     ∙ lower_rests p s v own parts.0 idle (put_at-fallen s.value (slice_get (current_rails p s) own))
 own_rests p s Take net ends on at free =
     let (asks, full) = and_parts (s.value p.ki) (is_data p.outputs s.value) on in
-    ap (enabled p (step p s Take)) (candidate_at_sink p (step p s Take) (length p.netlist.cells + length p.inputs) (omega arith) ∙ ap sink_candidate (with_net-same s.value p.ki false))
+    ap (enabled p (step p s Take)) (candidate_at_sink p (step p s Take) (length p.netlist.cells + length p.inputs) (omega arith) ∙ ap sink_candidate (with_net-here s.value p.ki false))
     ∙ and_right (not (with_net s.value p.ki false p.ki)) (is_null p.outputs (with_net s.value p.ki false)) (null-unread s.value p.ki false p.outputs ends.ki_outputs ∙ null-not s.value p.outputs ends.some_output full)
 own_rests p s Ready net ends on at free =
     let (asks, empty) = and_parts (not (s.value p.ki)) (is_null p.outputs s.value) on in
-    ap (enabled p (step p s Ready)) (candidate_at_sink p (step p s Ready) (length p.netlist.cells + length p.inputs) (omega arith) ∙ ap sink_candidate (with_net-same s.value p.ki true))
+    ap (enabled p (step p s Ready)) (candidate_at_sink p (step p s Ready) (length p.netlist.cells + length p.inputs) (omega arith) ∙ ap sink_candidate (with_net-here s.value p.ki true))
     ∙ and_right (with_net s.value p.ki true p.ki) (is_data p.outputs (with_net s.value p.ki true)) (data-unread s.value p.ki true p.outputs ends.ki_outputs ∙ data-not s.value p.outputs ends.some_output empty)

@@ -14,7 +14,7 @@ use Rattle.ncl_shape.specs.Stage.{out_of, rail_nets}
 use Rattle.ncl_base.proofs.Lists.{pairs-head, pairs-tail}
 use Rattle.ncl_base.proofs.Members.{Member, Member-append_left, Member-append_right, Member-map, here, recursion_from_members}
 use Rattle.ncl_cell_roles.specs.Layout.{IsLayoutOf, Layout, Part, in_rail, of_bank, of_stage, of_tree, stage_nets}
-use Rattle.ncl_cell_roles.proofs.LaidOut.{laid_out_of}
+use Rattle.ncl_cell_roles.proofs.LaidOut.{laid_out_of, few_inputs}
 use Rattle.ncl_cell_roles.proofs.RailNets.{rail-within}
 use Rattle.ncl_cell_roles.proofs.EndLaws.{inputs_differ}
 use Rattle.ncl_sim.specs.Touch.{AreApart, AreDrivenOnce, AreEnds, IsApart}
@@ -114,12 +114,6 @@ outputs-within p shape net m =
     let (l, is) = laid_out_of p.netlist p shape in
     is.stage_within l.last net (omega arith) (output_listed p l is net m)
 
--- and there are few inputs
-pub inputs-few : (p : PipelineData) → Shape p.netlist p → length p.inputs ≤ MOST_BITS
-inputs-few p shape =
-    let (l, is) = laid_out_of p.netlist p shape in
-    subst (λ bits. length bits ≤ MOST_BITS) is.source (is.is_stage 0 (omega arith)).few_inputs
-
 pub cells-few : (p : PipelineData) → Shape p.netlist p → length p.netlist.cells ≤ most_cells
 cells-few p shape = shape.is_netlist.few_cells
 
@@ -127,4 +121,4 @@ cells-few p shape = shape.is_netlist.few_cells
 pub items-few : (p : PipelineData) {n : NetlistData} {inputs : List Rails} {cells : List Cell} → Shape p.netlist p → inputs ≡ p.inputs → cells ≡ n.cells → n ≡ p.netlist → (length inputs ≤ MOST_BITS) × (length cells ≤ most_cells)
 items-few p shape bits cells netlist =
     let own = ap length cells ∙ ap (λ (n : NetlistData). length n.cells) netlist in
-    (omega (arith, inputs-few p shape, ap length bits), omega (arith, cells-few p shape, own))
+    (omega (arith, few_inputs p shape, ap length bits), omega (arith, cells-few p shape, own))

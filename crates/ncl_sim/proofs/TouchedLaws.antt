@@ -6,7 +6,7 @@ use Rattle.std.proofs.lemmas.List.{get_or-set_other, get_or-set_same, length-rep
 use Rattle.std.proofs.lemmas.List.Elements.{All-contains, Contains-append_left}
 use Rattle.std.proofs.lemmas.Option.{get_or_from_slice_get}
 use Rattle.ncl_base.proofs.Growing.{Contains-last, from_push}
-use Rattle.ncl_base.proofs.NumberLists.{grows-itself, grows-along, grows-put, put-has, nothing-at}
+use Rattle.ncl_base.proofs.NumberLists.{grows-along, grows-put, put-has, nothing-at}
 use Rattle.ncl_base.proofs.Members.{Member, All-from_members, Contains-from_Member, Member-from_Contains, here, there}
 use Rattle.ncl_netlist.specs.declared.ids.NetId.{NetId}
 use Rattle.ncl_shape.specs.declared.rails.Rails.{Rails}

@@ -1,23 +1,18 @@
 -- What a step can touch: a cell that reads another net, and doesn't drive it, is excited as before; a cell that has stepped and doesn't read its own output isn't.
-use Rattle.std.proofs.Common.{◌≡◌, ℕ, Bool, true, false, cond, List, [], ◌∷◌, take, refl, ap, ◌∙◌}
-use Rattle.std.proofs.lemmas.Bool.{eq-eqb, ne_eqb}
-use Rattle.ncl_gates.specs.declared.kind.Kind.TheVariants.{Th22}
-use Rattle.ncl_gates.specs.declared.cell_kind.CellKind.{CellKind}
-use Rattle.ncl_gates.specs.declared.cell_kind.CellKind.TheVariants.{Gate, Register, RegisterData, Ack}
-use Rattle.ncl_gates.specs.Gate.{set_of, some_high}
+use Rattle.std.proofs.Common.{◌≡◌, ℕ, Bool, true, false, cond, List, [], ◌∷◌, refl, ap, ◌∙◌}
+use Rattle.std.proofs.lemmas.Bool.{ne_eqb}
 use Rattle.ncl_gates.specs.Cell.{next_of_cell}
+use Rattle.ncl_gates.proofs.GateLaws.{next_of_cell-again}
 use Rattle.ncl_netlist.specs.declared.ids.NetId.{NetId}
 use Rattle.ncl_netlist.specs.declared.cell.Cell.{Cell}
 use Rattle.ncl_shape.specs.Nets.{Nets, with_net}
 use Rattle.ncl_shape.specs.Closure.{pin_values}
 use Rattle.ncl_machine.specs.Steps.{next_value, differ}
+use Rattle.ncl_machine.proofs.LocalNets.{with_net-here}
 use Rattle.ncl_sim.specs.Touch.{Avoids}
 
 pub with_net-other : (v : Nets) (net other : ℕ) (value : Bool) → (net ≡ other → ⊥) → with_net v net value other ≡ v other
 with_net-other v net other value apart = ap (λ t. cond t value (v other)) (ne_eqb net other apart)
-
-pub with_net-same : (v : Nets) (net : ℕ) (value : Bool) → with_net v net value net ≡ value
-with_net-same v net value = ap (λ t. cond t value (v net)) (eq-eqb net net refl)
 
 pub pins_unread : (v : Nets) (net : ℕ) (value : Bool) (ins : List NetId) → Avoids net ins → pin_values (with_net v net value) ins ≡ pin_values v ins
 pins_unread v net value [] avoids = refl
@@ -36,20 +31,9 @@ differ-self false = refl
 
 -- the next value of the cell is its next value once more
 again : (v : Nets) (c : Cell) → Avoids c.out.0 c.ins.items → next_value (with_net v c.out.0 (next_value v c)) c ≡ next_of_cell c.kind (pin_values v c.ins.items) (next_value v c)
-again v c avoids = rw (pins_unread v c.out.0 (next_value v c) c.ins.items avoids, with_net-same v c.out.0 (next_value v c)) refl
-
-settled : (set some old : Bool) → cond set true (cond some (cond set true (cond some old false)) false) ≡ cond set true (cond some old false)
-settled true some old = refl
-settled false true old = refl
-settled false false old = refl
-
-settles : (kind : CellKind) (ins : List Bool) (old : Bool) → next_of_cell kind ins (next_of_cell kind ins old) ≡ next_of_cell kind ins old
-settles (Gate kind) ins old = settled (set_of kind ins) (some_high ins) old
-settles Register ins old = settled (set_of Th22 (take 2 ins)) (some_high (take 2 ins)) old
-settles RegisterData ins old = settled (set_of Th22 (take 2 ins)) (some_high (take 2 ins)) old
-settles Ack ins old = refl
+again v c avoids = rw (pins_unread v c.out.0 (next_value v c) c.ins.items avoids, with_net-here v c.out.0 (next_value v c)) refl
 
 -- a cell that has stepped and doesn't read its own output isn't excited
 pub rests : (v : Nets) (c : Cell) → Avoids c.out.0 c.ins.items → excited (with_net v c.out.0 (next_value v c)) c ≡ false
 rests v c avoids =
-    rw (again v c avoids, with_net-same v c.out.0 (next_value v c), settles c.kind (pin_values v c.ins.items) (v c.out.0)) (differ-self (next_value v c))
+    rw (again v c avoids, with_net-here v c.out.0 (next_value v c), next_of_cell-again c.kind (pin_values v c.ins.items) (v c.out.0)) (differ-self (next_value v c))

@@ -10,6 +10,7 @@ use Rattle.std.proofs.lemmas.List.Sorted.{list_any-IsPermutation}
 use Rattle.std.specs.Ordering.{bool_cmp, eq_by_cmp}
 use Rattle.std.specs.Cmp.{IsTotalOrder, bool_cmp_total}
 use Rattle.std.specs.Cmp.Lexicographic.{slice_cmp, lists_total}
+use Rattle.ncl_base.proofs.Tests.{same_from_both}
 use Rattle.std.specs.FinSet as set
 use Rattle.ncl_space.specs.Beads.{Beads, beads_of, is_bead, distinct_beads, bead_count}
 
@@ -115,15 +116,9 @@ list_any-among test ts us among some =
         either_true true e = refl
         either_true false e = e
 
--- two tests that imply one another are one
-pub both_ways : (a b : Bool) → (a ≡ true → b ≡ true) → (b ≡ true → a ≡ true) → a ≡ b
-both_ways true b f g = sym (f refl)
-both_ways false true f g = g refl
-both_ways false false f g = refl
-
 -- lists with the same members have the same beads
 pub distinct_beads-same : (n : ℕ) (ts us : List (List Bool)) → HasMembers ts us → HasMembers us ts → distinct_beads n ts ≡ distinct_beads n us
 distinct_beads-same n ts us more less = one_set _ _ (λ bead.
     contains-distinct_beads n ts bead
-    ∙ both_ways _ _ (list_any-among (λ t. is_bead (beads_of n t) bead) us ts less) (list_any-among (λ t. is_bead (beads_of n t) bead) ts us more)
+    ∙ same_from_both _ _ (list_any-among (λ t. is_bead (beads_of n t) bead) us ts less) (list_any-among (λ t. is_bead (beads_of n t) bead) ts us more)
     ∙ sym (contains-distinct_beads n us bead))

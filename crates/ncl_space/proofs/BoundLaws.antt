@@ -16,14 +16,14 @@ use Rattle.ncl_space.proofs.Nub.{distinct-le, same}
 pow_suc : (n : ℕ) → 2 ^ suc n ≡ 2 ^ n + 2 ^ n
 pow_suc n = grind (arith, common_steps)
 
-same_only : (xs ys : List Bool) → is_same xs ys ≡ true → xs ≡ ys
-same_only [] [] e = refl
-same_only [] (y ∷ ys) e = absurd (grind arith)
-same_only (x ∷ xs) [] e = absurd (grind arith)
-same_only (true ∷ xs) (true ∷ ys) e = ap (λ t. true ∷ t) (same_only xs ys e)
-same_only (true ∷ xs) (false ∷ ys) e = absurd (grind arith)
-same_only (false ∷ xs) (true ∷ ys) e = absurd (grind arith)
-same_only (false ∷ xs) (false ∷ ys) e = ap (λ t. false ∷ t) (same_only xs ys e)
+pub is_same_only : (xs ys : List Bool) → is_same xs ys ≡ true → xs ≡ ys
+is_same_only [] [] e = refl
+is_same_only [] (y ∷ ys) e = absurd (grind arith)
+is_same_only (x ∷ xs) [] e = absurd (grind arith)
+is_same_only (true ∷ xs) (true ∷ ys) e = ap (λ t. true ∷ t) (is_same_only xs ys e)
+is_same_only (true ∷ xs) (false ∷ ys) e = absurd (grind arith)
+is_same_only (false ∷ xs) (true ∷ ys) e = absurd (grind arith)
+is_same_only (false ∷ xs) (false ∷ ys) e = ap (λ t. false ∷ t) (is_same_only xs ys e)
 
 one_table : (t u : List Bool) → same t u ≡ true → t ≡ u
 one_table [] [] e = refl
@@ -85,13 +85,13 @@ bead-long (suc n) t b e m = elim (bead_cases n b t m) [
 ]
 
 -- each list of bits is among all of its length
-words-have : (w : List Bool) → Member w (words (length w))
-words-have [] = here
-words-have (true ∷ w) = Member-append_right (map (λ word. false ∷ word) (words (length w))) (true ∷ w) (Member-map (λ word. true ∷ word) w (words-have w))
-words-have (false ∷ w) = Member-append_left (false ∷ w) (map (λ word. true ∷ word) (words (length w))) (Member-map (λ word. false ∷ word) w (words-have w))
+pub Member-words : (w : List Bool) → Member w (words (length w))
+Member-words [] = here
+Member-words (true ∷ w) = Member-append_right (map (λ word. false ∷ word) (words (length w))) (true ∷ w) (Member-map (λ word. true ∷ word) w (Member-words w))
+Member-words (false ∷ w) = Member-append_left (false ∷ w) (map (λ word. true ∷ word) (words (length w))) (Member-map (λ word. false ∷ word) w (Member-words w))
 
 long-have : (w : List Bool) (n : ℕ) → length w ≡ n → Member w (words n)
-long-have w n e = subst (λ k. Member w (words k)) e (words-have w)
+long-have w n e = subst (λ k. Member w (words k)) e (Member-words w)
 
 small-have : (b : List Bool) (k : ℕ) → k < 3 → length b ≡ 2 ^ suc k → Member b small_tables
 small-have b zero lt e = Member-append_left b (words 8) (Member-append_left b (words 4) (long-have b 2 e))
@@ -140,7 +140,7 @@ listed-have (false ∷ marks) t b e free m =
       | inl (own, differ) ↦ absurd (both_ways (is_same (low_half n t) (high_half n t)) differ halves_same)
       | inr halves ↦ elim halves [
         | inl low ↦ listed-have marks (low_half n t) b (low-long n t e) low_free low
-        | inr high ↦ listed-have marks (low_half n t) b (low-long n t e) low_free (subst (λ (x : List Bool). Member b (beads_of n x)) (sym (same_only (low_half n t) (high_half n t) halves_same)) high)
+        | inr high ↦ listed-have marks (low_half n t) b (low-long n t e) low_free (subst (λ (x : List Bool). Member b (beads_of n x)) (sym (is_same_only (low_half n t) (high_half n t) halves_same)) high)
       ]
     ]
 

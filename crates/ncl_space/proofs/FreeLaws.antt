@@ -1,18 +1,12 @@
 -- The table of a function that looks at some bits alone is free of the others.
-use Rattle.std.proofs.Common.{◌≡◌, ℕ, zero, suc, ◌+◌, ◌^◌, Bool, true, false, List, [], ◌∷◌, ◌++◌, length, map, take, drop, refl, sym, ap, ◌∙◌, arith, length-append}
-use Rattle.std.proofs.Math.Seq.{take-append_seam, drop-append_seam}
+use Rattle.std.proofs.Common.{◌≡◌, ℕ, zero, suc, ◌+◌, ◌^◌, Bool, true, false, List, [], ◌∷◌, length, map, refl, sym, ap, ◌∙◌, arith, length-append}
 use Rattle.std.proofs.lemmas.Grind.{common_steps}
 use Rattle.std.proofs.lemmas.Bool.{and_from}
 use Rattle.std.proofs.lemmas.List.{length-map, map-append}
 use Rattle.ncl_space.specs.Beads.{low_half, high_half, is_same}
 use Rattle.ncl_space.specs.Table.{words, table_of}
 use Rattle.ncl_space.specs.Bounds.{Agree, LooksAt, is_free, width_of}
-
-low_half-append : (n : ℕ) (l h : List Bool) → length l ≡ 2 ^ n → low_half n (l ++ h) ≡ l
-low_half-append n l h e = ap (λ (k : ℕ). take k (l ++ h)) (sym e) ∙ take-append_seam l h
-
-high_half-append : (n : ℕ) (l h : List Bool) → length l ≡ 2 ^ n → high_half n (l ++ h) ≡ h
-high_half-append n l h e = ap (λ (k : ℕ). drop k (l ++ h)) (sym e) ∙ drop-append_seam l h
+use Rattle.ncl_space.proofs.TableLaws.{low_half-append, high_half-append, map_after}
 
 is_same-self : (t : List Bool) → is_same t t ≡ true
 is_same-self [] = refl
@@ -30,10 +24,6 @@ words-length (suc n) =
     let h = length-map (words n) (λ word. true ∷ word) in
     let e = words-length n in
     omega (arith, pow_suc n)
-
-map_after : (f : List Bool → Bool) (b : Bool) (ws : List (List Bool)) → map f (map (λ w. b ∷ w) ws) ≡ map (λ w. f (b ∷ w)) ws
-map_after f b [] = refl
-map_after f b (w ∷ ws) = ap (λ l. f (b ∷ w) ∷ l) (map_after f b ws)
 
 -- the halves of a table of a function are those of the function after a first bit
 low-table : (n : ℕ) (f : List Bool → Bool) → low_half n (table_of (words (suc n)) f) ≡ table_of (words n) (λ w. f (false ∷ w))
@@ -74,6 +64,3 @@ free (false ∷ marks) f looks =
     and_from _ _
     (ap (is_same (low_half n (table_of (words (suc n)) f))) same ∙ is_same-self (low_half n (table_of (words (suc n)) f)))
     (ap (is_free marks) (low-table n f) ∙ free marks (λ w. f (false ∷ w)) (λ v w a. looks (false ∷ v) (false ∷ w) a))
-
-pub table-length : (n : ℕ) (f : List Bool → Bool) → length (table_of (words n) f) ≡ 2 ^ n
-table-length n f = length-map (words n) f ∙ words-length n

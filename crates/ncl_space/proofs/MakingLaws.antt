@@ -1,11 +1,11 @@
 -- How a caller makes a list of functions, one after another: what it has made so far, one more, a refusal,
 -- and the end.
-use Rattle.std.proofs.Common.{◌≡◌, ℕ, ◌+◌, ◌<◌, List, [], ◌∷◌, ◌++◌, Bool, true, false, length, map, take, drop, get_or, sym, ◌∙◌, ap, subst, refl, arith, Result, Ok, Err}
+use Rattle.std.proofs.Common.{◌≡◌, ℕ, ◌+◌, ◌<◌, List, [], ◌∷◌, ◌++◌, Bool, false, length, map, take, drop, get_or, sym, ◌∙◌, ap, subst, refl, arith, Result, Ok, Err}
 use Rattle.std.specs.Prelude.{All, IsErrAnd}
 use Rattle.std.specs.FinSet as set
 use Rattle.std.proofs.lemmas.List.{map-append, length-map, take-append-drop, take_more, get_or-map, map_more}
 use Rattle.std.proofs.lemmas.List.Elements.{All-append, All-cons, All-nil, All-head, All-tail}
-use Rattle.ncl_space.specs.Space.{SpaceData, IsSpace, IsLive, Keeps, Makes, with_tables, fits, is_within, Within}
+use Rattle.ncl_space.specs.Space.{SpaceData, IsSpace, IsLive, Keeps, Makes, with_tables, fits, Within}
 use Rattle.ncl_space.specs.Beads.{distinct_beads}
 use Rattle.ncl_space.specs.Making.{HaveTables, MakesAll, IsNamed}
 use Rattle.ncl_space.specs.declared.space.Ref.{Ref}
@@ -76,10 +76,6 @@ held-along a b d ts us k first second = second ∙ with_more a b ts us k.width f
 
 pub fits-along : (a b : SpaceData) (ts us : List (List Bool)) → Keeps a b → b.held ≡ with_tables a ts → fits b us ≡ fits a (ts ++ us)
 fits-along a b ts us k first = fits_more a b ts us k.width k.limit first
-
--- what was made fits
-pub fits-made : (a b : SpaceData) (ts : List (List Bool)) → Keeps a b → IsSpace b → b.held ≡ with_tables a ts → fits a ts ≡ true
-fits-made a b ts k space made = (λ i. is_within (sym k.limit i) (set.len (sym made i))) ∙ space.within
 
 -- where what is to come is too much after a front, all is too much
 pub too_much-after : (a b : SpaceData) (ts us : List (List Bool)) → Keeps a b → b.held ≡ with_tables a ts → fits b us ≡ false → fits a (ts ++ us) ≡ false

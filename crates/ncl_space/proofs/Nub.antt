@@ -1,9 +1,9 @@
 -- The number of distinct members of a list is no more than the length of a list that has all of them.
-use Rattle.std.proofs.Common.{◌≡◌, ◌+◌, ◌≤◌, Bool, true, false, ◌||◌, List, [], ◌∷◌, length, cond, inl, inr, refl, subst, arith}
+use Rattle.std.proofs.Common.{◌≡◌, ◌+◌, ◌≤◌, Bool, true, false, List, [], ◌∷◌, length, cond, inl, inr, refl, subst, arith}
 use Rattle.std.specs.Cmp.{IsEquivalence, bool_cmp_total}
 use Rattle.std.specs.List.{AllByRecursion, IsDistinct, list_any}
 use Rattle.std.specs.Set.{is_member}
-use Rattle.std.proofs.lemmas.Bool.{or_cases, or_left, or_right, both_ways, false_from_ne_true}
+use Rattle.std.proofs.lemmas.Bool.{or_cases, or_left, or_right, both_ways, false_from_ne_true, or_parts}
 use Rattle.std.proofs.lemmas.Cmp.{eq_by_cmp_equiv}
 use Rattle.std.proofs.lemmas.Map.Made.{length-le_from_is_member}
 use Rattle.std.specs.Cmp.Lexicographic.{lists_total, slice_cmp}
@@ -41,13 +41,9 @@ nub-within (t ∷ ts) q e = by_test (list_any (same t) ts) (nub-within ts q) e
       | inr other ↦ or_right (same q t) (list_any (same q) ts) (rest other)
     ]
 
-or_low : (a b : Bool) → (a || b) ≡ false → (a ≡ false) × (b ≡ false)
-or_low true b e = absurd cc
-or_low false b e = (refl, e)
-
 apart : (t : List Bool) (xs : List (List Bool)) → list_any (same t) xs ≡ false → AllByRecursion (λ y. same t y ≡ false) xs
 apart t [] e = tt
-apart t (x ∷ xs) e = let (first, rest) = or_low (same t x) (list_any (same t) xs) e in (first, apart t xs rest)
+apart t (x ∷ xs) e = let (first, rest) = or_parts (same t x) (list_any (same t) xs) e in (first, apart t xs rest)
 
 nub-distinct : (ts : List (List Bool)) → IsDistinct same (nub ts)
 unfolding IsDistinct

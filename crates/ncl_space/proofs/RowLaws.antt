@@ -221,9 +221,6 @@ pub record FillsTo (words : List ℕ) (table : List Bool) (j : ℕ) : Type 0 whe
   pub long : length words ≡ j
   pub values : (i k : ℕ) → i < j → k < 64 → is_set (slice_index_or words i 0) k ≡ slice_index_or table (64 * i + k) false
 
-pub FillsTo-none : (table : List Bool) → FillsTo [] table 0
-FillsTo-none table = record { long = refl; values = λ i k lt. absurd (omega arith) }
-
 -- with the values of the next word they go one word further
 pub FillsTo-push : (words : List ℕ) (word : ℕ) (table : List Bool) (j : ℕ) → FillsTo words table j → ((k : ℕ) → k < 64 → is_set word k ≡ slice_index_or table (64 * j + k) false) → FillsTo (words ++ word ∷ []) table (j + 1)
 FillsTo-push words word table j fills here = record {
@@ -235,10 +232,6 @@ FillsTo-push words word table j fills here = record {
         ap (λ (w : ℕ). is_set w k) (get_or_push words word 0 i (fills.long ∙ is)) ∙ here k k_lt ∙ ap (λ (m : ℕ). slice_index_or table (64 * m + k) false) is
   ];
 }
-
--- words that go as far as a table takes hold it
-pub Holds-filled : (n : ℕ) (words : List ℕ) (table : List Bool) → FillsTo words table (stride_of n) → Holds n words table
-Holds-filled n words table fills = record { whole = fills.long; values = fills.values }
 
 -- a table of at most 10 bits takes at most 16 words
 pub stride_of-few : (n : ℕ) → n ≤ 10 → stride_of n ≤ 16

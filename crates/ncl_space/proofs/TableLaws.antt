@@ -21,7 +21,7 @@ word_number-less [] = omega arith
 word_number-less (true ∷ w) = omega (arith, word_number-less w, pow_suc (length w))
 word_number-less (false ∷ w) = omega (arith, word_number-less w, pow_suc (length w))
 
-map_after : (f : List Bool → Bool) (b : Bool) (ws : List (List Bool)) → map f (map (λ w. b ∷ w) ws) ≡ map (λ w. f (b ∷ w)) ws
+pub map_after : (f : List Bool → Bool) (b : Bool) (ws : List (List Bool)) → map f (map (λ w. b ∷ w) ws) ≡ map (λ w. f (b ∷ w)) ws
 map_after f b [] = refl
 map_after f b (w ∷ ws) = ap (λ l. f (b ∷ w) ∷ l) (map_after f b ws)
 

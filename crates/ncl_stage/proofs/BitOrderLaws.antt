@@ -5,6 +5,7 @@ use Rattle.std.specs.List.{flat_map, range_with_len}
 use Rattle.std.proofs.lemmas.Bool.{cases_lt, eq-eqb, ne_eqb, or_right}
 use Rattle.std.proofs.lemmas.List.{append-nil, get_or-map, get_or_append_left, length-map, length-append, length-take-le}
 use Rattle.std.proofs.lemmas.List.Elements.{All-contains, All-head, All-tail}
+use Rattle.std.proofs.lemmas.Simd.{map-map}
 use Rattle.ncl_gates.specs.declared.kind.Kind.TheVariants.{Th12}
 use Rattle.ncl_netlist.specs.declared.ids.NetId.{NetId}
 use Rattle.ncl_shape.specs.declared.rails.Rails.{Rails}
@@ -21,7 +22,6 @@ use Rattle.ncl_stage.proofs.Apart.{right-differ}
 use Rattle.ncl_shape.proofs.RailLaws.{rails-length}
 use Rattle.ncl_stage.proofs.ChangedLaws.{nets-length, net_at-rail, net_at-cell, nets-before}
 use Rattle.ncl_stage.proofs.NetLaws.{left-differ, nets-cut, out_at, out_at-is, place_in-front, reads-before}
-use Rattle.ncl_stage.proofs.OrderLaws.{map_map}
 use Rattle.ncl_stage.proofs.PlaceLaws.{place_in-at}
 use Rattle.ncl_stage.proofs.ValueLaws.{rail-no_output}
 use Rattle.ncl_stage.proofs.WiringLaws.{AllDiffer}
@@ -166,7 +166,7 @@ module _ (s : StageData) (is : IsStage s) where
           let before : place_in nets pin < 2 * length s.inputs + i = earlier.0 in
           ap (met s cells) (sym earlier.1) ∙ met-enough cells (place_in nets pin) (omega arith) (omega arith))
           ∙ sym (flat_map_map (λ place. met s (suc cells) (net_at s place)) (place_in nets) pins)
-          ∙ ap (flat_map (λ place. met s (suc cells) (net_at s place))) (map_map (place_in nets) (λ (x : NetId). x.0) (get_or s.cells i no_gate).ins.items)
+          ∙ ap (flat_map (λ place. met s (suc cells) (net_at s place))) (map-map (place_in nets) (λ (x : NetId). x.0) (get_or s.cells i no_gate).ins.items)
           ∙ ap (flat_map (λ place. met s (suc cells) (net_at s place))) (sym (get_or-map (pin_places nets) s.cells i no_gate [] lt))
 
   -- the places of the rails of the outputs

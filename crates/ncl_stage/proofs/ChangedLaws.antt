@@ -1,5 +1,5 @@
 -- What a variant leaves unchanged, net by net in the order of a stage.
-use Rattle.std.proofs.Common.{◌≡◌, ℕ, zero, suc, ◌+◌, ◌*◌, ◌/◌, ◌%◌, ◌^◌, ◌<◌, Bool, true, false, not, ◌&&◌, List, [], ◌∷◌, ◌++◌, length, map, take, drop, get_or, inl, inr, refl, sym, ap, ◌∙◌, subst, arith}
+use Rattle.std.proofs.Common.{◌≡◌, ℕ, zero, suc, ◌+◌, ◌-◌, ◌*◌, ◌/◌, ◌%◌, ◌^◌, ◌<◌, ◌≤◌, Bool, true, false, not, ◌&&◌, List, [], ◌∷◌, ◌++◌, length, map, take, drop, get_or, inl, inr, refl, sym, ap, ◌∙◌, subst, arith}
 use Rattle.std.specs.Prelude.{All, Contains, ◌↔◌, nat_eq}
 use Rattle.std.specs.List.{list_any, take-map}
 use Rattle.std.proofs.lemmas.Bool.{cases_lt, or_parts}
@@ -201,3 +201,10 @@ values-width space s variant v is stage are =
     ∙ length-map (words_by v.wiring.order) f ∙ length-map (words (length v.wiring.order)) (placed v.wiring.order)
     ∙ sym (length-map (words (length v.wiring.order)) (λ word. false)) ∙ length-table_of (length v.wiring.order) (λ word. false)
     ∙ ap (λ n. 2 ^ n) are.wired.order.many)
+
+-- the place of the cell whose output stands behind the rails
+pub behind-inputs : (s : StageData) (place : ℕ) (inputs : List Rails) → inputs ≡ s.inputs → place < length (nets_of s.inputs s.cells) → 2 * length inputs ≤ place → (place - 2 * length inputs < length s.cells) × (place ≡ 2 * length s.inputs + (place - 2 * length inputs))
+behind-inputs s place inputs same within after =
+    let size = nets-length s in
+    let many = ap length same in
+    (omega (arith, size, many, within, after), omega (arith, many, after))

@@ -1,9 +1,9 @@
 -- Evaluating the cells of a stage once, in their order, gives its values.
-use Rattle.std.proofs.Common.{◌≡◌, ℕ, ◌+◌, ◌<◌, Bool, true, false, not, ◌||◌, ◌&&◌, cond, List, [], ◌∷◌, ◌++◌, length, map, take, drop, get_or, inl, inr, refl, sym, ap, ◌∙◌, subst, append_assoc}
+use Rattle.std.proofs.Common.{◌≡◌, ℕ, ◌+◌, Bool, true, false, not, ◌||◌, ◌&&◌, cond, List, [], ◌∷◌, ◌++◌, map, inl, inr, refl, sym, ap, ◌∙◌, subst, append_assoc}
 use Rattle.std.proofs.Math.Path.{fun_ext}
 use Rattle.std.specs.Prelude.{All, Contains, nat_eq}
 use Rattle.std.proofs.lemmas.Bool.{cases_eq, and_parts, and_from, or_left, or_right, eq-eqb, ne_eqb, eqb-true}
-use Rattle.std.proofs.lemmas.List.{take-append-drop, take_more, drop_more, append-nil, map-append}
+use Rattle.std.proofs.lemmas.List.{append-nil, map-append}
 use Rattle.std.proofs.lemmas.List.Folds.{list_any-append}
 use Rattle.std.proofs.lemmas.List.Elements.{All-head, All-tail}
 use Rattle.ncl_gates.specs.Gate.{set_of}
@@ -13,7 +13,7 @@ use Rattle.ncl_shape.specs.Nets.{Nets, among, with_net}
 use Rattle.ncl_shape.specs.Stage.{StageData, IsStage, rail_nets, nets_of, out_of}
 use Rattle.ncl_shape.specs.Closure.{pin_values}
 use Rattle.ncl_base.proofs.Members.{Member, here, list_any-from_member, member_from_list_any, Member-from_Contains, Member-append_right}
-use Rattle.ncl_shape.proofs.Rounds.{same_from_both}
+use Rattle.ncl_base.proofs.Tests.{same_from_both}
 use Rattle.ncl_stage.specs.declared.variant.Variant.{Variant}
 use Rattle.ncl_stage.specs.Values.{kept_low, rises, start, val}
 use Rattle.ncl_stage.specs.Pass.{pass}
@@ -87,13 +87,6 @@ known-more s is word variant before after c parts net =
     or_false : (b : Bool) → (b || false) ≡ b
     or_false true = refl
     or_false false = refl
-
--- the same, by the place of the cell
-pub known-more_at : (s : StageData) → IsStage s → (word : List Bool) (variant : Variant) (place : ℕ) (d : StageCell) → place < length s.cells → (net : ℕ) → known s word variant (take (place + 1) s.cells) net ≡ with_net (known s word variant (take place s.cells)) (get_or s.cells place d).out.0 (rises (kept_low s variant) (known s word variant (take place s.cells)) (get_or s.cells place d)) net
-known-more_at s is word variant place d within net =
-    ap (λ cells. known s word variant cells net) (take_more s.cells place d within)
-    ∙ known-more s is word variant (take place s.cells) (drop (place + 1) s.cells) (get_or s.cells place d)
-    (sym (take-append-drop place s.cells) ∙ ap (λ rest. take place s.cells ++ rest) (drop_more s.cells place d within)) net
 
 -- a pass over the cells that are left, from the known values
 pass-known : (s : StageData) → IsStage s → (word : List Bool) (variant : Variant) (before after : List StageCell) → s.cells ≡ before ++ after → pass (kept_low s variant) after (known s word variant before) ≡ val s word variant

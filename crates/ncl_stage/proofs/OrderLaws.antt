@@ -3,15 +3,19 @@ use Rattle.std.proofs.Common.{◌≡◌, ℕ, zero, suc, ◌+◌, ◌^◌, ◌<�
 use Rattle.std.specs.Prelude.{Contains, nat_eq}
 use Rattle.std.specs.List.{AllByRecursion, IsDistinct, find, list_any, range_with_len}
 use Rattle.std.specs.Option.{option_map}
-use Rattle.std.proofs.lemmas.Bool.{cases_eq, eqb-true, eq-eqb, both_ways}
+use Rattle.std.proofs.lemmas.Bool.{eqb-true, eq-eqb, both_ways}
 use Rattle.std.proofs.lemmas.List.{append-nil, append_assoc, get_or-map, length-map, map-append}
 use Rattle.std.proofs.lemmas.List.FromFn.{get_or-range_with_len, length-range_with_len}
 use Rattle.std.proofs.lemmas.Grind.{common_steps}
 use Rattle.std.proofs.lemmas.Cmp.{nat_eq_equiv}
 use Rattle.std.proofs.lemmas.Map.Keys.{IsDistinct-push}
 use Rattle.std.proofs.lemmas.Map.Steps.{length-le_from_distinct_below, le-length_from_below}
+use Rattle.std.proofs.lemmas.Simd.{map-map}
 use Rattle.ncl_base.proofs.Members.{Member, here, there, member_cases, Member-append_left, Member-append_right, Member-append_cases, Member-map, member_of_map, Member-from_Contains, Contains-from_Member, member_from_list_any, list_any-from_member}
+use Rattle.ncl_base.proofs.Tests.{stands_or_not, map-same}
+use Rattle.ncl_base.proofs.Ranges.{Member-range, below_of_range}
 use Rattle.ncl_space.specs.Table.{words, table_of, word_number}
+use Rattle.ncl_space.proofs.BoundLaws.{Member-words}
 use Rattle.ncl_stage.specs.BitOrder.{place_in, with_bit, with_bits, IsOrderOf, taken, placed, words_by}
 use Rattle.ncl_stage.proofs.PlaceLaws.{place_in-at}
 
@@ -31,14 +35,6 @@ one_place (x ∷ xs) once (suc i) (suc j) d e a b same = ap suc (one_place xs on
 one_place (x ∷ xs) once zero (suc j) d e a b same = absurd (both_ways (nat_eq x (get_or xs j e)) (recursion-at (λ y. nat_eq x y ≡ false) xs once.0 j e (omega arith)) (eq-eqb x (get_or xs j e) same))
 one_place (x ∷ xs) once (suc i) zero d e a b same = absurd (both_ways (nat_eq x (get_or xs i d)) (recursion-at (λ y. nat_eq x y ≡ false) xs once.0 i d (omega arith)) (eq-eqb x (get_or xs i d) (sym same)))
 
--- whether a bit stands in a list
-pub stands : (bits : List ℕ) (bit : ℕ) → ((list_any (nat_eq bit) bits ≡ true) × Member bit bits) ⊎ (list_any (nat_eq bit) bits ≡ false)
-stands bits bit = by (list_any (nat_eq bit) bits) refl
-  where
-    by : (b : Bool) → list_any (nat_eq bit) bits ≡ b → ((list_any (nat_eq bit) bits ≡ true) × Member bit bits) ⊎ (list_any (nat_eq bit) bits ≡ false)
-    by true e = let (x, m, at) = member_from_list_any (nat_eq bit) bits e in inl (e, subst (λ y. Member y bits) (sym (eqb-true bit x at)) m)
-    by false e = inr e
-
 -- bits that come in turn: each once, and none but these
 pub record Comes (old more new : List ℕ) : Type 0 where
   pub once : IsDistinct nat_eq old → IsDistinct nat_eq new
@@ -47,7 +43,7 @@ pub record Comes (old more new : List ℕ) : Type 0 where
   pub only : (bit : ℕ) → Member bit new → Member bit old ⊎ Member bit more
 
 comes-one : (bits : List ℕ) (bit : ℕ) → Comes bits (bit ∷ []) (with_bit bits bit)
-comes-one bits bit = elim (stands bits bit) [
+comes-one bits bit = elim (stands_or_not bits bit) [
   | inl (e, m) ↦ subst (Comes bits (bit ∷ [])) (sym (ap (λ b. cond b bits (bits ++ bit ∷ [])) e)) (record {
     once = λ once. once;
     kept = λ b n. n;
@@ -80,20 +76,6 @@ comes bits (bit ∷ more) =
       ];
     }
 
-member_range : (from count bit : ℕ) → from ≤ bit → bit < from + count → Member bit (range_with_len from count)
-member_range from zero bit low high = absurd (omega arith)
-member_range from (suc count) bit low high = elim (cases_eq from bit) [
-  | inl same ↦ subst (λ b. Member b (from ∷ range_with_len (from + 1) count)) same here
-  | inr other ↦ there (member_range (from + 1) count bit (omega arith) (omega arith))
-]
-
-range_member : (from count bit : ℕ) → Member bit (range_with_len from count) → bit < from + count
-range_member from zero bit m = elim m [ ]
-range_member from (suc count) bit m = elim (member_cases bit from (range_with_len (from + 1) count) m) [
-  | inl same ↦ omega arith
-  | inr later ↦ let lt : bit < from + 1 + count = range_member (from + 1) count bit later in omega arith
-]
-
 none_distinct : IsDistinct nat_eq []
 unfolding IsDistinct
 none_distinct = tt
@@ -105,9 +87,9 @@ is_order n found below =
     let order : List ℕ = with_bits [] (found ++ range_with_len 0 n) in
     let within : (bit : ℕ) → Member bit order → bit < n = λ bit m. elim (all.only bit m) [
       | inl none ↦ elim none [ ]
-      | inr some ↦ elim (Member-append_cases bit found (range_with_len 0 n) some) [ inl early ↦ below bit early | inr late ↦ let lt : bit < 0 + n = range_member 0 n bit late in omega arith ]
+      | inr some ↦ elim (Member-append_cases bit found (range_with_len 0 n) some) [ inl early ↦ below bit early | inr late ↦ let lt : bit < 0 + n = below_of_range 0 n bit late in omega arith ]
     ] in
-    let there_all : (bit : ℕ) → bit < n → Member bit order = λ bit lt. all.has bit (Member-append_right found bit (member_range 0 n bit (omega arith) (omega arith))) in
+    let there_all : (bit : ℕ) → bit < n → Member bit order = λ bit lt. all.has bit (Member-append_right found bit (Member-range 0 n bit (omega arith) (omega arith))) in
     let distinct : IsDistinct nat_eq order = all.once none_distinct in
     let most : length order ≤ n = length-le_from_distinct_below order n distinct (λ q e. let (x, m, at) = member_from_list_any (nat_eq q) order e in within q (subst (λ y. Member y order) (sym (eqb-true q x at)) m)) in
     let least : n ≤ length order = le-length_from_below order n (λ q lt. list_any-from_member (nat_eq q) q (there_all q lt) (eq-eqb q q refl)) in
@@ -186,11 +168,6 @@ words-length (suc n) word m =
       | inr high ↦ let (rest, inside, is) = member_of_map (λ w. true ∷ w) (words n) word high in omega (arith, words-length n rest inside, ap length is)
     ]
 
-Member-words : (word : List Bool) → Member word (words (length word))
-Member-words [] = here
-Member-words (false ∷ word) = Member-append_left (false ∷ word) (map (λ rest. true ∷ rest) (words (length word))) (Member-map (λ rest. false ∷ rest) word (Member-words word))
-Member-words (true ∷ word) = Member-append_right (map (λ rest. false ∷ rest) (words (length word))) (true ∷ word) (Member-map (λ rest. true ∷ rest) word (Member-words word))
-
 -- so are those in an order
 pub words_by-length : (order : List ℕ) (word : List Bool) → Member word (words_by order) → length word ≡ length order
 words_by-length order word m = let (w, inside, is) = member_of_map (placed order) (words (length order)) word m in ap length (sym is) ∙ length-placed order w
@@ -202,13 +179,9 @@ Member-words_by n order is word long =
 
 -- ---- tables and what is found
 
-pub map_map : {X Y Z : Type 0} (f : Y → Z) (h : X → Y) (xs : List X) → map f (map h xs) ≡ map (λ x. f (h x)) xs
-map_map f h [] = refl
-map_map f h (x ∷ xs) = ap (λ l. f (h x) ∷ l) (map_map f h xs)
-
 -- the table of a function over the words in an order is that of the function of a placed word
 pub table_by : (order : List ℕ) (f : List Bool → Bool) → table_of (words_by order) f ≡ table_of (words (length order)) (λ w. f (placed order w))
-table_by order f = map_map f (placed order) (words (length order))
+table_by order f = map-map f (placed order) (words (length order))
 
 pub find-map : {X Y : Type 0} (test : Y → Bool) (h : X → Y) (xs : List X) → find test (map h xs) ≡ option_map h (find (λ x. test (h x)) xs)
 find-map test h [] = refl
@@ -221,10 +194,6 @@ find-map test h (x ∷ xs) = by (test (h x)) (find test (map h xs)) (find (λ y.
 -- the first word that passes a test is the placed word of the first that does when it is placed
 pub find_by : (order : List ℕ) (test : List Bool → Bool) → find test (words_by order) ≡ option_map (placed order) (find (λ w. test (placed order w)) (words (length order)))
 find_by order test = find-map test (placed order) (words (length order))
-
-map_same : {X Y : Type 0} (f g : X → Y) (xs : List X) → ((x : X) → Member x xs → f x ≡ g x) → map f xs ≡ map g xs
-map_same f g [] same = refl
-map_same f g (x ∷ xs) same = let first = same x here in let rest = map_same f g xs (λ y m. same y (there m)) in λ k. first k ∷ rest k
 
 range_append : (from a b c : ℕ) → c ≡ a + b → range_with_len from c ≡ range_with_len from a ++ range_with_len (from + a) b
 range_append from zero b c e = λ k. range_with_len ((let f : from ≡ from + 0 = omega arith in f) k) ((let g : c ≡ b = omega arith in g) k)
@@ -240,17 +209,17 @@ numbers-of-words (suc n) from =
     let ws : List (List Bool) = words n in
     let twice : 2 ^ suc n ≡ 2 ^ n + 2 ^ n = grind (arith, common_steps) in
     map-append (λ w. from + word_number w) (map (λ w. false ∷ w) ws) (map (λ w. true ∷ w) ws)
-    ∙ ap (λ l. l ++ map (λ w. from + word_number w) (map (λ w. true ∷ w) ws)) (map_map (λ w. from + word_number w) (λ w. false ∷ w) ws ∙ numbers-of-words n from)
-    ∙ ap (λ l. range_with_len from (2 ^ n) ++ l) (map_map (λ w. from + word_number w) (λ w. true ∷ w) ws
-    ∙ map_same (λ w. from + word_number (true ∷ w)) (λ w. from + 2 ^ n + word_number w) ws (λ w m. let long : 2 ^ length w ≡ 2 ^ n = ap (λ k. 2 ^ k) (words-length n w m) in omega arith)
+    ∙ ap (λ l. l ++ map (λ w. from + word_number w) (map (λ w. true ∷ w) ws)) (map-map (λ w. from + word_number w) (λ w. false ∷ w) ws ∙ numbers-of-words n from)
+    ∙ ap (λ l. range_with_len from (2 ^ n) ++ l) (map-map (λ w. from + word_number w) (λ w. true ∷ w) ws
+    ∙ map-same (λ w. from + word_number (true ∷ w)) (λ w. from + 2 ^ n + word_number w) ws (λ w m. let long : 2 ^ length w ≡ 2 ^ n = ap (λ k. 2 ^ k) (words-length n w m) in omega arith)
     ∙ numbers-of-words n (from + 2 ^ n))
     ∙ sym (range_append from (2 ^ n) (2 ^ n) (2 ^ suc n) twice)
 
 -- and those in an order as the numbers that their bits, taken in the order, make
 pub numbers_by : (n : ℕ) (order : List ℕ) → IsOrderOf n order → map (λ w. word_number (taken order w)) (words_by order) ≡ range_with_len 0 (2 ^ n)
 numbers_by n order is =
-    map_map (λ w. word_number (taken order w)) (placed order) (words (length order))
-    ∙ map_same (λ w. word_number (taken order (placed order w))) (λ w. 0 + word_number w) (words (length order)) (λ w m.
+    map-map (λ w. word_number (taken order w)) (placed order) (words (length order))
+    ∙ map-same (λ w. word_number (taken order (placed order w))) (λ w. 0 + word_number w) (words (length order)) (λ w m.
     let long = words-length (length order) w m in
     let size = is.many in
     ap word_number (taken-placed n order is w (omega arith)) ∙ (let e : word_number w ≡ 0 + word_number w = omega arith in e))
@@ -267,7 +236,7 @@ map_id (x ∷ xs) f same = let first = same x here in let rest = map_id xs f (λ
 ascending-added : (from count : ℕ) (bits : List ℕ) → ((bit : ℕ) → Member bit bits → bit < from) → with_bits bits (range_with_len from count) ≡ bits ++ range_with_len from count
 ascending-added from zero bits below = sym (append-nil bits)
 ascending-added from (suc count) bits below =
-    let new : list_any (nat_eq from) bits ≡ false = elim (stands bits from) [ inl (e, m) ↦ (let lt = below from m in absurd (omega arith)) | inr e ↦ e ] in
+    let new : list_any (nat_eq from) bits ≡ false = elim (stands_or_not bits from) [ inl (e, m) ↦ (let lt = below from m in absurd (omega arith)) | inr e ↦ e ] in
     ap (λ b. with_bits (cond b bits (bits ++ from ∷ [])) (range_with_len (from + 1) count)) new
     ∙ ascending-added (from + 1) count (bits ++ from ∷ []) (λ bit m. elim (Member-append_cases bit bits (from ∷ []) m) [
       | inl before ↦ let lt = below bit before in omega arith

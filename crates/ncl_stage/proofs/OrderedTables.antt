@@ -6,7 +6,8 @@ use Rattle.std.specs.List.{find, flat_map}
 use Rattle.std.specs.Option.{option_map}
 use Rattle.ncl_shape.specs.declared.rails.Rails.{Rails}
 use Rattle.ncl_shape.specs.Stage.{StageData, rail_nets}
-use Rattle.ncl_base.proofs.Members.{Member, here, there, member_cases, Member-append_cases}
+use Rattle.ncl_base.proofs.Members.{Member, member_cases, Member-append_cases}
+use Rattle.ncl_base.proofs.Joined.{member_of_flat_map}
 use Rattle.ncl_space.specs.Table.{words, table_of}
 use Rattle.ncl_space.specs.Functions.{at, least}
 use Rattle.ncl_space.proofs.TableLaws.{table_of-same, at_table, least-table_of, least-zero_table_of}
@@ -14,14 +15,6 @@ use Rattle.ncl_stage.specs.BitOrder.{IsOrderOf, bit_order, bits_from, driver_of,
 use Rattle.ncl_stage.proofs.OrderLaws.{is_order, length-placed, table_by, find_by}
 
 -- ---- each bit stands in the bit order once
-
--- what stands in a list of lists stands in one of them
-member_of_flat_map : {X Y : Type 0} (f : X → List Y) (xs : List X) (y : Y) → Member y (flat_map f xs) → (x : X) × Member x xs × Member y (f x)
-member_of_flat_map f [] y m = elim m [ ]
-member_of_flat_map f (x ∷ xs) y m = elim (Member-append_cases y (f x) (flat_map f xs) m) [
-  | inl own ↦ (x, here, own)
-  | inr later ↦ let (z, n, own) = member_of_flat_map f xs y later in (z, there n, own)
-]
 
 bits_from-below : (bit : ℕ) (rails : List Rails) (net b : ℕ) → Member b (bits_from bit rails net) → b < bit + length rails
 bits_from-below bit [] net b m = elim m [ ]

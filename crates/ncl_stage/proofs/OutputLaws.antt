@@ -7,6 +7,7 @@ use Rattle.std.specs.Option.{option_map}
 use Rattle.std.proofs.lemmas.List.{get_or-map, length-map, length-append, map-append, take-append-drop, take_more, take_all, get_or_push, get_or-take, length-take-le}
 use Rattle.std.proofs.lemmas.List.Elements.{All-head, All-tail}
 use Rattle.std.proofs.lemmas.List.Folds.{list_all-append}
+use Rattle.std.proofs.lemmas.Simd.{map-map}
 use Rattle.ncl_gates.specs.declared.kind.Kind.{Kind}
 use Rattle.ncl_gates.specs.declared.kind.Kind.TheVariants.{Th12, Th22}
 use Rattle.ncl_gates.specs.Gate.{set_of}
@@ -209,26 +210,22 @@ pair-tables kind join is_join s order ordered is w wired variant =
         ∙ (λ i. join (ordered-at (length s.inputs) order ordered (λ v. val s v variant r.zero.0) word same i) (ordered-at (length s.inputs) order ordered (λ v. val s v variant r.one.0) word same i))) in
         λ i. first i ∷ rest i
 
-map_map : {X Y Z : Type 0} (f : Y → Z) (h : X → Y) (xs : List X) → map f (map h xs) ≡ map (λ x. f (h x)) xs
-map_map f h [] = refl
-map_map f h (x ∷ xs) = ap (λ l. f (h x) ∷ l) (map_map f h xs)
-
 -- the values under a variant, words and all
 abbrev pub values_at : StageData → Variant → ValuesAt
 values_at s variant word = val s word variant
 
 pub net-tables : (s : StageData) (order : List ℕ) (variant : Variant) → function_tables_by order (net_functions s (values_at s variant)) ≡ net_tables_by order s variant
-net-tables s order variant = map_map (table_of (words_by order)) (λ net. λ word. val s word variant net) (nets_of s.inputs s.cells)
+net-tables s order variant = map-map (table_of (words_by order)) (λ net. λ word. val s word variant net) (nets_of s.inputs s.cells)
 
 pub data-tables : (s : StageData) (order : List ℕ) (ordered : IsOrderOf (length s.inputs) order) → IsStage s → (w : WiringData) → IsWiring s w → (variant : Variant) → map (pair_table (length s.inputs) Th12 (net_tables_by order s variant)) w.outputs ≡ function_tables_by order (data_functions s (values_at s variant))
 data-tables s order ordered is w wired variant =
     pair-tables Th12 (λ a b. a || b) or_gate s order ordered is w wired variant
-    ∙ sym (map_map (table_of (words_by order)) (λ (r : Rails). λ word. has_data (val s word variant) r) s.outputs)
+    ∙ sym (map-map (table_of (words_by order)) (λ (r : Rails). λ word. has_data (val s word variant) r) s.outputs)
 
 pub illegal-tables : (s : StageData) (order : List ℕ) (ordered : IsOrderOf (length s.inputs) order) → IsStage s → (w : WiringData) → IsWiring s w → (variant : Variant) → map (pair_table (length s.inputs) Th22 (net_tables_by order s variant)) w.outputs ≡ function_tables_by order (illegal_functions s (values_at s variant))
 illegal-tables s order ordered is w wired variant =
     pair-tables Th22 (λ a b. a && b) and_gate s order ordered is w wired variant
-    ∙ sym (map_map (table_of (words_by order)) (λ (r : Rails). λ word. is_illegal (val s word variant) r) s.outputs)
+    ∙ sym (map-map (table_of (words_by order)) (λ (r : Rails). λ word. is_illegal (val s word variant) r) s.outputs)
 
 -- the conjunction of the DATA of some outputs
 pub all-data : (s : StageData) (order : List ℕ) (ordered : IsOrderOf (length s.inputs) order) (v : ValuesAt) (outputs : List Rails) → all_table (length s.inputs) (map (table_of (words_by order)) (map (λ (r : Rails). λ word. has_data (v word) r) outputs)) ≡ table_of (words_by order) (λ word. list_all (has_data (v word)) outputs)
@@ -245,7 +242,7 @@ pub front-tables : (s : StageData) (order : List ℕ) (ordered : IsOrderOf (leng
 front-tables s order ordered v =
     ap (λ ls. map (all_table n) ls) (fronts-map (table_of (words_by order)) (data_functions s v) ∙ ap (map (map (table_of (words_by order)))) (fronts-map (λ (r : Rails). λ word. has_data (v word) r) s.outputs))
     ∙ each (fronts s.outputs)
-    ∙ sym (map_map (table_of (words_by order)) (λ (front : List Rails). λ word. list_all (has_data (v word)) front) (fronts s.outputs))
+    ∙ sym (map-map (table_of (words_by order)) (λ (front : List Rails). λ word. list_all (has_data (v word)) front) (fronts s.outputs))
   where
     n : ℕ
     n = length s.inputs

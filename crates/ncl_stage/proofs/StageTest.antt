@@ -9,7 +9,8 @@ use Rattle.ncl_netlist.specs.declared.ids.NetId.{NetId}
 use Rattle.ncl_shape.specs.declared.stage.StageCell.{StageCell}
 use Rattle.ncl_shape.specs.Nets.{among}
 use Rattle.ncl_shape.specs.Stage.{StageData, IsStage, Reads, nets_of, out_of, rail_nets}
-use Rattle.ncl_base.proofs.Members.{Member, here, there, Contains-from_Member, Member-get_or, All-from_members, list_any-from_member, member_from_list_any}
+use Rattle.ncl_base.proofs.Members.{Member, Contains-from_Member, Member-get_or, All-from_members, list_any-from_member, member_from_list_any}
+use Rattle.ncl_base.proofs.Tests.{list_all-member}
 
 -- no two of the keys are equal
 abbrev are_distinct : List ℕ → Bool
@@ -35,11 +36,6 @@ is_stage s =
     && (list_all (λ (c : StageCell). nat_eq (length c.ins.items) (arity_of c.kind)) s.cells
     && (reads_known (rail_nets s.inputs) s.cells
     && list_all (λ net. among (nets_of s.inputs s.cells) net) (rail_nets s.outputs))))))
-
-all_from : {X : Type 0} (test : X → Bool) (xs : List X) → list_all test xs ≡ true → (x : X) → Member x xs → test x ≡ true
-all_from test (y ∷ ys) passes x here = (and_parts (test y) (list_all test ys) passes).0
-all_from test (y ∷ ys) passes x (there m) = all_from test ys (and_parts (test y) (list_all test ys) passes).1 x m
-all_from test [] passes x m = elim m [ ]
 
 contains : (nets : List ℕ) (net : ℕ) → among nets net ≡ true → Contains nets net
 contains nets net high = let (x, m, at) = member_from_list_any (nat_eq net) nets high in Contains-from_Member net (subst (λ y. Member y nets) (sym (eqb-true net x at)) m)
@@ -69,7 +65,7 @@ numbers_differ cells pairs i j d before within =
 in_order : (nets : List ℕ) (before after : List StageCell) (cell : StageCell) → reads_known nets (before ++ cell ∷ after) ≡ true → Reads (nets ++ map out_of before) cell
 in_order nets [] after cell passes =
     subst (λ known. Reads known cell) (sym (append-nil nets))
-    (All-from_members (λ (net : NetId). Contains nets net.0) cell.ins.items (λ net m. contains nets net.0 (all_from (λ (net : NetId). among nets net.0) cell.ins.items (and_parts _ _ passes).0 net m)))
+    (All-from_members (λ (net : NetId). Contains nets net.0) cell.ins.items (λ net m. contains nets net.0 (list_all-member (λ (net : NetId). among nets net.0) cell.ins.items (and_parts _ _ passes).0 net m)))
 in_order nets (c ∷ before) after cell passes =
     subst (λ known. Reads known cell) (append_assoc nets (out_of c ∷ []) (map out_of before))
     (in_order (nets ++ out_of c ∷ []) before after cell (and_parts (list_all (λ (net : NetId). among nets net.0) c.ins.items) _ passes).1)
@@ -90,7 +86,7 @@ IsStage-from_test s passes =
       few_outputs = leb-true (length s.outputs) 128 (and_parts (leb 1 (length s.outputs)) _ outputs).1;
       nets_differ = distinct (nets_of s.inputs s.cells) nets;
       cells_differ = numbers_differ s.cells (distinct (map number_of_cell s.cells) numbers);
-      arities = All-from_members (λ (c : StageCell). length c.ins.items ≡ arity_of c.kind) s.cells (λ c m. eqb-true _ _ (all_from (λ (c : StageCell). nat_eq (length c.ins.items) (arity_of c.kind)) s.cells arities c m));
+      arities = All-from_members (λ (c : StageCell). length c.ins.items ≡ arity_of c.kind) s.cells (λ c m. eqb-true _ _ (list_all-member (λ (c : StageCell). nat_eq (length c.ins.items) (arity_of c.kind)) s.cells arities c m));
       in_order = λ before after cell parts. in_order (rail_nets s.inputs) before after cell (subst (λ cells. reads_known (rail_nets s.inputs) cells ≡ true) parts order);
-      outputs_known = All-from_members (λ net. Contains (nets_of s.inputs s.cells) net) (rail_nets s.outputs) (λ net m. contains (nets_of s.inputs s.cells) net (all_from (λ net. among (nets_of s.inputs s.cells) net) (rail_nets s.outputs) known net m));
+      outputs_known = All-from_members (λ net. Contains (nets_of s.inputs s.cells) net) (rail_nets s.outputs) (λ net m. contains (nets_of s.inputs s.cells) net (list_all-member (λ net. among (nets_of s.inputs s.cells) net) (rail_nets s.outputs) known net m));
     }

@@ -83,32 +83,6 @@ map-take f g (x ∷ xs) (suc k) same =
     let rest = map-take f g xs k (λ i lt within. same (suc i) (omega (arith, lt)) (omega (arith, within))) in
     λ i. first i ∷ rest i
 
-map-drop : (f g : ℕ → List Bool) (xs : List ℕ) (k : ℕ) → ((i : ℕ) → k ≤ i → i < length xs → f (get_or xs i 0) ≡ g (get_or xs i 0)) → drop k (map f xs) ≡ drop k (map g xs)
-map-drop f g [] zero same = refl
-map-drop f g [] (suc k) same = refl
-map-drop f g (x ∷ xs) zero same =
-    let first : f x ≡ g x = same 0 (omega arith) (omega arith) in
-    let rest = map-drop f g xs zero (λ i after within. same (suc i) (omega arith) (omega (arith, within))) in
-    λ i. first i ∷ rest i
-map-drop f g (x ∷ xs) (suc k) same = map-drop f g xs k (λ i after within. same (suc i) (omega (arith, after)) (omega (arith, within)))
-
--- what Refs of Base have at unchanged places is what the variant has there
-pub first-tables : (space : SpaceData) (s : StageData) (order : List ℕ) (variant : Variant) (refs : List Ref) (k : ℕ) → HaveTables space refs (net_tables_by order s Base) → ((place : ℕ) → place < k → place < length (nets_of s.inputs s.cells) → IsUnchanged order s variant (net_at s place)) → HaveTables space (take k refs) (take k (net_tables_by order s variant))
-first-tables space s order variant refs k have same = record {
-  live = All-take (IsLive space) k refs have.live;
-  tables =
-      sym (take-map space.table k refs) ∙ ap (take k) have.tables
-      ∙ sym (map-take (net_table_by order s variant) (net_table_by order s Base) (nets_of s.inputs s.cells) k same);
-}
-
-pub last-tables : (space : SpaceData) (s : StageData) (order : List ℕ) (variant : Variant) (refs : List Ref) (k : ℕ) → HaveTables space refs (net_tables_by order s Base) → ((place : ℕ) → k ≤ place → place < length (nets_of s.inputs s.cells) → IsUnchanged order s variant (net_at s place)) → HaveTables space (drop k refs) (drop k (net_tables_by order s variant))
-last-tables space s order variant refs k have same = record {
-  live = All-drop (IsLive space) k refs have.live;
-  tables =
-      sym (drop-map space.table k refs) ∙ ap (drop k) have.tables
-      ∙ sym (map-drop (net_table_by order s variant) (net_table_by order s Base) (nets_of s.inputs s.cells) k same);
-}
-
 map-mid : (f g : ℕ → List Bool) (xs : List ℕ) (k many to : ℕ) → to ≡ k + many → ((i : ℕ) → k ≤ i → i < to → i < length xs → f (get_or xs i 0) ≡ g (get_or xs i 0)) → take many (drop k (map f xs)) ≡ take many (drop k (map g xs))
 map-mid f g xs zero many to all same = map-take f g xs many (λ i lt within. same i (omega arith) (omega (arith, all, lt)) within)
 map-mid f g [] (suc k) many to all same = refl

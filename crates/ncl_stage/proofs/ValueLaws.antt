@@ -7,7 +7,8 @@ use Rattle.ncl_shape.specs.declared.stage.StageCell.{StageCell}
 use Rattle.ncl_shape.specs.Nets.{Nets, IsBelow, among}
 use Rattle.ncl_shape.specs.Stage.{StageData, IsStage, named_rails, rail_nets, nets_of, out_of}
 use Rattle.ncl_base.proofs.Members.{Member, All-from_members, Contains-from_Member, Member-map, Member-append_left, Member-append_right}
-use Rattle.ncl_shape.proofs.Rounds.{IsMonotone, same_from_both, rounds-below, rounds-keep, rounds-support, rounds-settled}
+use Rattle.ncl_base.proofs.Tests.{same_from_both}
+use Rattle.ncl_shape.proofs.Rounds.{IsMonotone, rounds-below, rounds-keep, rounds-support, rounds-settled}
 use Rattle.ncl_shape.proofs.ClosureLaws.{set_of-grows, below_at}
 use Rattle.ncl_stage.specs.declared.variant.Variant.{Variant}
 use Rattle.ncl_stage.specs.declared.variant.Variant.TheVariants.{Base}

@@ -1,13 +1,15 @@
 -- The laws of a walk over places.
-use Rattle.std.proofs.Common.{◌≡◌, ℕ, zero, suc, ◌+◌, ◌-◌, ◌*◌, ◌/◌, ◌<◌, ◌≤◌, Bool, true, false, not, cond, List, [], ◌∷◌, ◌++◌, length, take, add-one, get_or, set, reverse, inl, inr, refl, sym, ap, ◌∙◌, subst, arith, append_assoc}
+use Rattle.std.proofs.Common.{◌≡◌, ℕ, ◌+◌, ◌-◌, ◌*◌, ◌/◌, ◌<◌, ◌≤◌, Bool, true, false, not, cond, List, [], ◌∷◌, ◌++◌, length, take, get_or, set, reverse, inl, inr, refl, sym, ap, ◌∙◌, subst, arith, append_assoc}
 use Rattle.std.specs.Prelude.{◌⊎◌, nat_eq, count_by}
-use Rattle.std.specs.List.{flat_map, list_any, range_with_len}
-use Rattle.std.proofs.lemmas.Bool.{cases_eq, eqb-true}
+use Rattle.std.specs.List.{flat_map, range_with_len}
+use Rattle.std.proofs.lemmas.Bool.{cases_eq}
 use Rattle.std.proofs.lemmas.List.{append-nil, take_more, reverse-append, reverse-reverse, get_or-set_other, length-set}
 use Rattle.std.proofs.lemmas.List.Concat.{flat_map-append}
 use Rattle.std.proofs.lemmas.List.Elements.{All-contains}
 use Rattle.std.proofs.lemmas.List.Sums.{sum_by-set}
-use Rattle.ncl_base.proofs.Members.{Member, here, there, member_cases, Member-append_left, Member-append_right, Member-append_cases, Contains-from_Member, member_from_list_any, list_any-from_member}
+use Rattle.ncl_base.proofs.Members.{Member, here, there, member_cases, Member-append_left, Member-append_right, Member-append_cases, Contains-from_Member, list_any-from_member}
+use Rattle.ncl_base.proofs.Tests.{stands_or_not}
+use Rattle.ncl_base.proofs.Ranges.{range_with_len-more}
 use Rattle.ncl_stage.specs.BitOrder.{with_bit, with_bits}
 use Rattle.ncl_stage.proofs.OrderLaws.{ascending-is}
 use Rattle.ncl_stage.specs.Walk.{AreMet, ReadEarlier, was_entered, IsAhead, IsWalk, IsDone}
@@ -15,14 +17,6 @@ use Rattle.ncl_stage.specs.Walk.{AreMet, ReadEarlier, was_entered, IsAhead, IsWa
 pub with_bits-append : (a xs ys : List ℕ) → with_bits a (xs ++ ys) ≡ with_bits (with_bits a xs) ys
 with_bits-append a [] ys = refl
 with_bits-append a (x ∷ xs) ys = with_bits-append (with_bit a x) xs ys
-
--- whether a bit stands in a list
-stands : (bits : List ℕ) (bit : ℕ) → ((list_any (nat_eq bit) bits ≡ true) × Member bit bits) ⊎ (list_any (nat_eq bit) bits ≡ false)
-stands bits bit = by (list_any (nat_eq bit) bits) refl
-  where
-    by : (b : Bool) → list_any (nat_eq bit) bits ≡ b → ((list_any (nat_eq bit) bits ≡ true) × Member bit bits) ⊎ (list_any (nat_eq bit) bits ≡ false)
-    by true e = let (x, m, at) = member_from_list_any (nat_eq bit) bits e in inl (e, subst (λ y. Member y bits) (sym (eqb-true bit x at)) m)
-    by false e = inr e
 
 -- a bit that stands there changes nothing
 pub with_bit-known : (bits : List ℕ) (bit : ℕ) → Member bit bits → with_bit bits bit ≡ bits
@@ -32,13 +26,13 @@ with_bit-known bits bit m = ap (λ b. cond b bits (bits ++ bit ∷ [])) (list_an
     same n = grind arith
 
 pub with_bit-has : (bits : List ℕ) (bit : ℕ) → Member bit (with_bit bits bit)
-with_bit-has bits bit = elim (stands bits bit) [
+with_bit-has bits bit = elim (stands_or_not bits bit) [
   | inl (e, m) ↦ subst (Member bit) (sym (ap (λ b. cond b bits (bits ++ bit ∷ [])) e)) m
   | inr e ↦ subst (Member bit) (sym (ap (λ b. cond b bits (bits ++ bit ∷ [])) e)) (Member-append_right bits bit here)
 ]
 
 pub with_bit-keeps : (bits : List ℕ) (bit other : ℕ) → Member other bits → Member other (with_bit bits bit)
-with_bit-keeps bits bit other m = elim (stands bits bit) [
+with_bit-keeps bits bit other m = elim (stands_or_not bits bit) [
   | inl (e, own) ↦ subst (Member other) (sym (ap (λ b. cond b bits (bits ++ bit ∷ [])) e)) m
   | inr e ↦ subst (Member other) (sym (ap (λ b. cond b bits (bits ++ bit ∷ [])) e)) (Member-append_left other (bit ∷ []) m)
 ]
@@ -211,10 +205,6 @@ reversed xs x = reverse-append xs (x ∷ [])
 pub walk_at : (bits : ℕ) (pins : List (List ℕ)) (start : List ℕ) (place : ℕ) (entered : List Bool) (found stack left : List ℕ) (next : ℕ) → stack ≡ left ++ next ∷ [] → IsWalk bits pins start place entered (reverse stack) found → IsWalk bits pins start place entered (next ∷ reverse left) found
 walk_at bits pins start place entered found stack left next e walk = subst (λ left. IsWalk bits pins start place entered left found) (ap reverse e ∙ reversed left next) walk
 
--- the next place is within
-pub next_within : (bits : ℕ) (pins : List (List ℕ)) (start : List ℕ) (place : ℕ) (entered : List Bool) (found left : List ℕ) (next : ℕ) → IsWalk bits pins start place entered (next ∷ left) found → next < 2 * bits + length pins
-next_within bits pins start place entered found left next walk = walk.places next here
-
 -- the next cell
 pub turn_enters : (bits : ℕ) (pins : List (List ℕ)) (start : List ℕ) (place : ℕ) (entered : List Bool) (found left after : List ℕ) (next : ℕ) (ins : List ℕ) → ReadEarlier bits pins → 2 * bits ≤ next → ins ≡ get_or pins (next - 2 * bits) [] → after ≡ left ++ reverse ins → IsWalk bits pins start place entered (next ∷ reverse left) found → IsWalk bits pins start place (set entered (next - 2 * bits) true) (reverse after) found
 turn_enters bits pins start place entered found left after next ins earlier past are put walk =
@@ -256,18 +246,11 @@ with_bits-pair met outputs i d lt =
     ∙ sym (with_bits-append [] front (both o))
     ∙ ap (with_bits []) (ap (λ l. front ++ l) (sym (append-nil (both o))) ∙ sym (flat_map-append both (take i outputs) (o ∷ [])) ∙ ap (flat_map both) (sym (take_more outputs i d lt)))
 
-range_more : (from count : ℕ) → range_with_len from (count + 1) ≡ range_with_len from count ++ (from + count) ∷ []
-range_more from count = ap (range_with_len from) (add-one count) ∙ by from count
-  where
-    by : (from count : ℕ) → range_with_len from (suc count) ≡ range_with_len from count ++ (from + count) ∷ []
-    by from zero = ap (λ n. n ∷ []) (let e : from ≡ from + zero = omega arith in e)
-    by from (suc count) = ap (λ l. from ∷ l) (by (from + 1) count ∙ ap (λ n. range_with_len (from + 1) count ++ n ∷ []) (let e : from + 1 + count ≡ from + suc count = omega arith in e))
-
 -- one bit more
 pub with_bits-more : (xs : List ℕ) (bit : ℕ) → with_bit (with_bits [] (xs ++ range_with_len 0 bit)) bit ≡ with_bits [] (xs ++ range_with_len 0 (bit + 1))
 with_bits-more xs bit =
     sym (with_bits-append [] (xs ++ range_with_len 0 bit) (bit ∷ []))
-    ∙ ap (with_bits []) (append_assoc xs (range_with_len 0 bit) (bit ∷ []) ∙ ap (λ l. xs ++ l) (ap (λ n. range_with_len 0 bit ++ n ∷ []) (let e : bit ≡ 0 + bit = omega arith in e) ∙ sym (range_more 0 bit)))
+    ∙ ap (with_bits []) (append_assoc xs (range_with_len 0 bit) (bit ∷ []) ∙ ap (λ l. xs ++ l) (ap (λ n. range_with_len 0 bit ++ n ∷ []) (let e : bit ≡ 0 + bit = omega arith in e) ∙ sym (range_with_len-more 0 bit)))
 
 -- the bits in ascending order with one more
 pub ascending-more : (bit : ℕ) → with_bit (range_with_len 0 bit) bit ≡ range_with_len 0 (bit + 1)

@@ -9,6 +9,8 @@ use Rattle.ncl_shape.specs.declared.stage.StageCell.{StageCell}
 use Rattle.ncl_shape.specs.Nets.{Nets}
 use Rattle.ncl_shape.specs.Stage.{out_of}
 use Rattle.ncl_base.proofs.Members.{Member-append_cases, Member, here, there, Contains-from_Member, Member-from_Contains, Contains-from_slice_get, slice_get-from_Contains, Member-append_left, Member-append_right}
+use Rattle.ncl_base.proofs.Places.{at_of_map}
+use Rattle.ncl_base.proofs.Joined.{Member-flat_map, member_of_flat_map}
 use Rattle.ncl_stage.specs.Values.{holds}
 use Rattle.ncl_template.specs.Template.{IsNull, ShowWord, Obeys, IsCase}
 use Rattle.ncl_tree.specs.declared.tree.Family.TheVariants.{Any}
@@ -16,7 +18,6 @@ use Rattle.ncl_tree.specs.GateTree.{GateTree}
 use Rattle.ncl_template.specs.Tables.{pair_number}
 use Rattle.ncl_template.specs.Codes.{AreAt, AreLow, IsCode}
 use Rattle.ncl_template.specs.Rails.{PairLeaf, IsPairLeaf, ArePairsApart, AreLeaves, leaf_net as pair_net}
-use Rattle.ncl_template.proofs.JoinedLists.{Member-flat_map, member_from_flat_map}
 use Rattle.ncl_template.proofs.Groups.{Leaf, IsLeaf, AreApart, leaf_cell, leaf_net, IsGroup, Obeys-some, IsSupported-some, group_value, group_up, group_waits, group_observes, group_observed}
 
 -- the leaves of a class, and the tree over them
@@ -46,11 +47,6 @@ back (r ∷ rs) (b ∷ word) = back rs word
 abbrev pub word_leaf : List Rails → (List Bool → ℕ) → (List Bool → ℕ) → PairLeaf → Leaf
 word_leaf xs first second leaf = record { cell = leaf.cell; at = λ word. leaf.at (first (front xs word)) (second (back xs word)) }
 
-pub at_map : {X Y : Type 0} (f : X → Y) (xs : List X) (k : ℕ) (y : Y) → slice_get (map f xs) k ≡ Some y → (x : X) × (slice_get xs k ≡ Some x) × (f x ≡ y)
-at_map f [] k y at = absurd cc
-at_map f (x ∷ xs) zero y at = (x, refl, (let same : f x ≡ y = cc in same))
-at_map f (x ∷ xs) (suc k) y at = at_map f xs k y at
-
 -- ---- groups make a code
 
 module _ (class : List Bool → ℕ) (ins : List Rails) (under : List StageCell) (groups : List Group) (are : (k : ℕ) (group : Group) → slice_get groups k ≡ Some group → IsGroup (λ word. nat_eq k (class word)) ins ins under group.leaves group.tree group.root) where
@@ -69,7 +65,7 @@ module _ (class : List Bool → ℕ) (ins : List Rails) (under : List StageCell)
   at_roots : (P : NetId → Type 0) → ((k : ℕ) (group : Group) → slice_get groups k ≡ Some group → P group.root) → (net : NetId) → Contains (map group_root groups) net → P net
   at_roots P each net m =
       let (k, at) = slice_get-from_Contains (map group_root groups) net m in
-      let (group, found, same) = at_map group_root groups k net at in
+      let (group, found, same) = at_of_map group_root groups k net at in
       subst P same (each k group found)
 
   own_low : (base v : Nets) (word : List Bool) → IsCase base v ins (under ++ flat_map own_gates groups) word → (j : ℕ) (own : Group) → slice_get groups j ≡ Some own → (c : StageCell) → Member c (map leaf_cell own.leaves ++ own.tree) → base (out_of c) ≡ true → v (out_of c) ≡ false → (k : ℕ) (group : Group) → slice_get groups k ≡ Some group → v group.root.0 ≡ false
@@ -89,7 +85,7 @@ module _ (class : List Bool → ℕ) (ins : List Rails) (under : List StageCell)
   code_of_groups bound = record {
     bound = bound;
     value = λ base word obeys shown k net at.
-        let (group, found, same) = at_map group_root groups k net at in
+        let (group, found, same) = at_of_map group_root groups k net at in
         subst (λ (n : NetId). base n.0 ≡ nat_eq k (class word)) same (code_value base word obeys shown k group found);
     needs = λ base v word case r m null.
         at_roots (λ (n : NetId). v n.0 ≡ false)
@@ -100,7 +96,7 @@ module _ (class : List Bool → ℕ) (ins : List Rails) (under : List StageCell)
         elim (Member-append_cases c under (flat_map own_gates groups) (Member-from_Contains (under ++ flat_map own_gates groups) c m)) [
           | inl below ↦ group_observes (λ w. nat_eq k (class w)) ins ins under group.leaves group.tree group.root (are k group at) (under ++ flat_map own_gates groups) under_within (own_within k group at) base word case.obeys case.shown v case.below case.supported c (Contains-from_Member c below) high low
           | inr own ↦
-              let (other, in_groups, in_own) = member_from_flat_map own_gates c groups own in
+              let (other, in_groups, in_own) = member_of_flat_map own_gates groups c own in
               let (j, found) = slice_get-from_Contains groups other (Contains-from_Member other in_groups) in
               own_low base v word case j other found c in_own high low k group at
         ]);

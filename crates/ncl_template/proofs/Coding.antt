@@ -7,6 +7,7 @@ use Rattle.std.proofs.lemmas.List.Concat.{flat_map-cons}
 use Rattle.std.proofs.lemmas.Option.{slice_get-map}
 use Rattle.std.specs.Option.{option_map}
 use Rattle.ncl_base.proofs.Members.{Member, here, there, Member-from_Contains, Contains-from_slice_get, member_of_map, Member-append_cases}
+use Rattle.ncl_base.proofs.Places.{at_of_map}
 use Rattle.ncl_netlist.specs.declared.ids.NetId.{NetId}
 use Rattle.ncl_shape.specs.declared.rails.Rails.{Rails}
 use Rattle.ncl_shape.specs.declared.stage.StageCell.{StageCell}
@@ -21,7 +22,7 @@ use Rattle.ncl_template.proofs.FirstWords.{class_among, first_words, class_place
 use Rattle.ncl_template.proofs.TwoGates.{two_over}
 use Rattle.ncl_template.proofs.Groups.{Leaf, IsGroup}
 use Rattle.ncl_template.proofs.InputLeaves.{two_leaf, group_of_one}
-use Rattle.ncl_template.proofs.CodeLaws.{Group, own_gates, group_root, code_of_groups, code_of_rails, at_map}
+use Rattle.ncl_template.proofs.CodeLaws.{Group, own_gates, group_root, code_of_groups, code_of_rails}
 
 -- the gate of a class, and the first word of the class
 pub record ClassGate : Type 0 where
@@ -118,7 +119,7 @@ module _ (table : Table) (a b : Rails) (gates : List ClassGate) (words_are : map
 
   group_is : (k : ℕ) (group : Group) → slice_get (map group_of gates) k ≡ Some group → IsGroup (λ word. nat_eq k (class_of word)) (a ∷ b ∷ []) (a ∷ b ∷ []) [] group.leaves group.tree group.root
   group_is k group at =
-      let (gate, found, same) = at_map group_of gates k group at in
+      let (gate, found, same) = at_of_map group_of gates k group at in
       subst (λ (group : Group). IsGroup (λ word. nat_eq k (class_of word)) (a ∷ b ∷ []) (a ∷ b ∷ []) [] group.leaves group.tree group.root) same
       (group_of_one (λ word. nat_eq k (class_of word)) (a ∷ b ∷ []) (a ∷ b ∷ []) [] (leaf_of gate)
       (two_leaf (words_with table (row_at table gate.word)) a b gate.cell (are gate (Member-from_Contains gates gate (Contains-from_slice_get gates k gate found))))
@@ -150,7 +151,7 @@ module _ (table : Table) (a b : Rails) (gates : List ClassGate) (words_are : map
     class_of = class_of;
     is = code_is;
     right = λ word c len at.
-        let (gate, found, same) = at_map gate_class gates (class_of word) c at in
+        let (gate, found, same) = at_of_map gate_class gates (class_of word) c at in
         ap (λ (c : Class). row_at table c.word) (sym same) ∙ class_right table (pair_number word) gate.word (first_at (class_of word) gate found);
   }
 

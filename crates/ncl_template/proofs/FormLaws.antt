@@ -94,10 +94,6 @@ all_pins inputs has gate of p m = All-contains (IsFormPin inputs has) gate.pins.
 
 -- ---- words
 
-pub of_both : (P : Bool → Type 0) → P false → P true → (b : Bool) → P b
-of_both P low high false = low
-of_both P low high true = high
-
 pub fits_of_two : (f : List Bool → Bool) (waits : ℕ → Bool) (form : Form) (n : ℕ) → n ≡ 2 → IsForm n form → ((a b : Bool) → FitsWord f waits form (a ∷ b ∷ [])) → Fits f n waits form
 fits_of_two f waits form n two is each = record { is = is; at = λ word wide. at word (wide ∙ two) }
   where

@@ -1,4 +1,3 @@
-pub mod JoinedLists
 pub mod Trees
 pub mod TwoGates
 pub mod Groups

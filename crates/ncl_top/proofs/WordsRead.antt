@@ -1,12 +1,12 @@
 -- The words that a text says.
-use Rattle.std.proofs.Common.{◌≡◌, ℕ, ◌+◌, ◌<◌, ◌≤◌, ◌==◌, Bool, true, false, if◌then◌else◌, List, [], ◌∷◌, length, map, Option, Some, None, refl, sym, ap, ◌∙◌, arith}
+use Rattle.std.proofs.Common.{◌≡◌, ℕ, ◌+◌, ◌<◌, ◌≤◌, ◌==◌, Bool, true, false, if◌then◌else◌, List, [], ◌∷◌, length, map, Some, None, refl, sym, ap, ◌∙◌, arith}
 use Rattle.std.specs.Prelude.{nat_lt}
 use Rattle.std.specs.List.{AllByRecursion, list_all}
-use Rattle.std.specs.Option.{option_or}
 use Rattle.std.proofs.lemmas.Bool.Decides.{nat_tests}
 use Rattle.std.proofs.lemmas.List.{length-map}
 use Rattle.ncl_base.specs.Words.{text_of, character_of}
 use Rattle.ncl_base.specs.TextLines.{NumberedText}
+use Rattle.ncl_base.proofs.Tests.{option_or-none}
 use Rattle.ncl_delay.specs.Lines.{told_lines}
 use Rattle.ncl_delay.specs.WordText.{is_bit, word_fault, words_fault}
 use Rattle.ncl_delay.specs.declared.word_text.TheConstants.{MOST_WORDS}
@@ -25,15 +25,10 @@ line_fits width before line unbroken =
     let (wide, few) = passes (list_all is_bit line.text) (length line.text == width) (nat_lt before MOST_WORDS) _ _ _ unbroken in
     (grind (arith, nat_tests), grind (arith, nat_tests))
 
--- what is none first is none in both
-both_none : {X : Type 0} (o p : Option X) → option_or o p ≡ None → (o ≡ None) × (p ≡ None)
-both_none None p e = (refl, e)
-both_none (Some x) p e = absurd cc
-
 lines_fit : (width before : ℕ) (lines : List NumberedText) → before ≤ MOST_WORDS → words_fault width before lines ≡ None → (before + length lines ≤ MOST_WORDS) × AllByRecursion (λ (line : NumberedText). length line.text ≡ width) lines
 lines_fit width before [] few unbroken = (omega arith, tt)
 lines_fit width before (line ∷ lines) few unbroken =
-    let (first, later) = both_none (word_fault width before line) (words_fault width (before + 1) lines) unbroken in
+    let (first, later) = option_or-none (word_fault width before line) (words_fault width (before + 1) lines) unbroken in
     let (wide, more) = line_fits width before line first in
     let (rest, others) = lines_fit width (before + 1) lines (omega arith) later in
     (omega arith, (wide, others))

@@ -61,10 +61,6 @@ root_or_read family _ _ _ (more g rest gates root fits tree) net m =
           ]
     ]
 
--- what makes a tree without a gate
-only_root : (family : Family) (leaves : List NetId) (root : NetId) → GateTree family leaves [] root → leaves ≡ root ∷ []
-only_root family _ _ (one net) = refl
-
 last_left : (rest : List NetId) (out root : NetId) → rest ++ out ∷ [] ≡ root ∷ [] → out ≡ root
 last_left [] out root is = cc
 last_left (net ∷ rest) out root is =

@@ -1,29 +1,7 @@
 -- The laws of codes: they are one to one, and their characters print.
-use Rattle.std.proofs.Common.{◌≡◌, ℕ, zero, suc, ◌+◌, ◌-◌, ◌*◌, ◌/◌, ◌%◌, ◌<◌, ◌≤◌, List, [], ◌∷◌, refl, sym, ap, ◌∙◌, arith}
+use Rattle.std.proofs.Common.{◌≡◌, ℕ, zero, suc, ◌+◌, ◌-◌, ◌*◌, ◌/◌, ◌≤◌, List, [], ◌∷◌, refl, sym, ap, ◌∙◌, arith}
 use Rattle.std.specs.List.{AllByRecursion}
 use Rattle.ncl_vcd.specs.Codes.{identifier_code, characters_left}
-
--- any number of characters that is enough gives the same
-pub characters_left-enough : (m j n : ℕ) → n ≤ m → n ≤ j → characters_left m n ≡ characters_left j n
-characters_left-enough zero zero zero a b = refl
-characters_left-enough zero (suc j) zero a b = refl
-characters_left-enough (suc m) zero zero a b = refl
-characters_left-enough (suc m) (suc j) zero a b = refl
-characters_left-enough zero j (suc n) a b = absurd (omega arith)
-characters_left-enough (suc m) zero (suc n) a b = absurd (omega arith)
-characters_left-enough (suc m) (suc j) (suc n) a b =
-    let less : suc n / 94 ≤ n = omega arith in
-    ap (λ l. (33 + (suc n) % 94) ∷ l) (characters_left-enough m j (suc n / 94) (omega arith) (omega arith))
-
--- one character of what is left
-pub characters_left-one : (n : ℕ) → 0 < n → characters_left n n ≡ (33 + n % 94) ∷ characters_left (n / 94) (n / 94)
-characters_left-one zero lt = absurd (omega arith)
-characters_left-one (suc n) lt =
-    let less : suc n / 94 ≤ n = omega arith in
-    ap (λ l. (33 + (suc n) % 94) ∷ l) (characters_left-enough n (suc n / 94) (suc n / 94) less (omega arith))
-
-pub code-one : (n : ℕ) → identifier_code n ≡ (33 + n % 94) ∷ characters_left (n / 94) (n / 94)
-code-one n = let less : n / 94 ≤ n = omega arith in ap (λ l. (33 + n % 94) ∷ l) (characters_left-enough n (n / 94) (n / 94) less (omega arith))
 
 -- the number of a code
 number_in : List ℕ → ℕ

@@ -1,5 +1,6 @@
-use Rattle.std.proofs.Common.{◌≡◌, ℕ, Bool, true, false, not, ◌||◌, List, get_or, nat_eq, inl, inr, refl, ap, sym, ◌∙◌, subst, arith}
-use Rattle.std.proofs.lemmas.Bool.{and_parts, both_ways, cases_eq, eq-eqb, ne_eqb, false_from_ne_true}
+use Rattle.std.proofs.Common.{◌≡◌, Bool, true, false, not, ◌||◌, List, get_or, refl, ap, sym, ◌∙◌, subst, arith}
+use Rattle.std.proofs.lemmas.Bool.{and_parts, both_ways, eq-eqb, false_from_ne_true}
+use Rattle.ncl_base.proofs.Tests.{same_unless}
 use Rattle.ncl_netlist.specs.declared.ids.NetId.{NetId}
 use Rattle.ncl_cell_rules.specs.Origin.{OnPin, A, B}
 use Rattle.ncl_cell_rules.specs.GateGraph.{IsDataBehind}
@@ -50,10 +51,6 @@ returns-then-ne c = (
       absurd (both_ways c.ne.result (c.ne.ensures ∙ ap not (eq-eqb c.in-Some.bank.0 c.in-Some-register_behind.other.0 same)) c.if-ne.true),
 )
 
--- two banks that don't differ are one
-one_bank : (x y : ℕ) (ne : Bool) → ne ≡ not (nat_eq x y) → ne ≡ false → x ≡ y
-one_bank x y ne is low = elim (cases_eq x y) [ inl same ↦ same | inr other ↦ absurd (both_ways ne low (is ∙ ap not (ne_eqb x y other))) ]
-
 -- one of two tests fails just where not both hold
 not_both : (x y : Bool) → (not x || not y) ≡ true → x ≡ true → y ≡ true → ⊥
 not_both true y one p q = both_ways (not y) (ap not q) one
@@ -75,7 +72,7 @@ returns c =
     let nets_b = c.deref-2.ensures.0 ∙ sym c.deref-4.ensures.0 in
     let high_a = λ (nets : List NetId). IsDataBehind n (get_or nets 0 no_net).0 in
     let high_b = λ (nets : List NetId). IsDataBehind n (get_or nets 1 no_net).0 in (
-      (λ holds. one_bit_of n is c.args.cell.now _ _ (on_a at.After-deref) (on_b at.After-deref-2) _ _ _ _ zero one c.if-zero-one.false (one_bank c.in-Some.bank.0 c.in-Some-register_behind.other.0 c.ne.result c.ne.ensures c.if-ne.false)
+      (λ holds. one_bit_of n is c.args.cell.now _ _ (on_a at.After-deref) (on_b at.After-deref-2) _ _ _ _ zero one c.if-zero-one.false (same_unless c.in-Some.bank.0 c.in-Some-register_behind.other.0 c.ne.result c.ne.ensures c.if-ne.false)
           (false_from_ne_true _ (λ both.
           let (high, other) = and_parts _ _ both in
           not_both c.is_data_behind.result c.is_data_behind-2.result holds

@@ -3,7 +3,7 @@ use Rattle.std.specs.Prelude.{slice_get, slice_index}
 use Rattle.ncl_blif.specs.Meaning.{width_of}
 use Rattle.ncl_compile.specs.Size.{widths_of}
 use Rattle.ncl_compile.specs.Pieces.{IsBankBetween, pairs_read}
-use Rattle.ncl_compile.proofs.PieceLaws.{push_cases}
+use Rattle.ncl_base.proofs.Places.{push_cases}
 use Rattle.ncl_compile.proofs.banks.banks_of.Goals as goal
 
 pub loop-number-preserved : goal.loop-number-preserved

@@ -1,6 +1,7 @@
-use Rattle.std.proofs.Common.{◌≡◌, ℕ, ◌-◌, ◌≤◌, Err, Option, None, Some, List, [], ◌∷◌, get_or, refl, sym, ap, ◌∙◌, subst}
+use Rattle.std.proofs.Common.{◌≡◌, ℕ, ◌-◌, ◌≤◌, Err, Some, List, [], ◌∷◌, get_or, sym, ap, ◌∙◌, subst}
 use Rattle.std.specs.Prelude.{slice_get}
 use Rattle.std.proofs.lemmas.Option.{slice_get_within}
+use Rattle.ncl_base.proofs.Places.{no_entry}
 use Rattle.ncl_netlist.specs.declared.ids.CellId.{CellId}
 use Rattle.ncl_shape.specs.Stage.{StageData}
 use Rattle.ncl_shape.specs.Pipeline.{PipelineData}
@@ -14,11 +15,6 @@ use Rattle.ncl_hazard.proofs.InputLaws.{stage-at}
 use Rattle.ncl_hazard.proofs.OrphanPlaces.{stands-somewhere}
 use Rattle.ncl_hazard.proofs.ShownLaws.{brings-least}
 use Rattle.ncl_hazard.proofs.explaining.explain.Goals as goal
-
--- where nothing is found, and what isn't Some is None
-none-is : {X : Type 0} (o : Option X) → ((x : X) → o ≡ Some x → ⊥) → o ≡ None
-none-is None not = refl
-none-is (Some x) not = absurd (not x refl)
 
 -- the stage that is read, and the place of the cell there
 own-read : (p : PipelineData) (stages : List StageData) (before : ℕ) (read own : StageData) → stages ≡ p.stages → read ≡ get_or stages before read → slice_get p.stages before ≡ Some own → read ≡ own
@@ -59,7 +55,7 @@ pub returns-in_default-clause-explained : goal.returns-in_default-clause-explain
 returns-in_default-clause-explained c =
     let o = c.requires.orphan in
     explained-at c.args.pipeline.now (c.args.stage - 1) c.args.cell c.args.limit o.own c.place_of-place.result _ (place-own c.args.pipeline.now c.stages.result.now (c.args.stage - 1) c.args.cell c.place_of-place.result c.index-stages-before.result o.own c.stages.ensures.stages c.index-stages-before.is c.place_of-place.ensures o.at) c.in_ok-input.ensures.few
-    (sym (c.in_ok-input.ensures.word o.own o.at) ∙ none-is c.in_ok-input.field-0 c.in_default.not-Some)
+    (sym (c.in_ok-input.ensures.word o.own o.at) ∙ no_entry c.in_ok-input.field-0 c.in_default.not-Some)
 
 pub shown_run-requires-clause-within : goal.shown_run-requires-clause-within
 shown_run-requires-clause-within c = slice_get_within c.args.pipeline.now.stages (c.args.stage - 1) c.requires.orphan.own c.requires.orphan.at

@@ -1,9 +1,10 @@
 use Rattle.std.proofs.Common.{◌∙◌}
+use Rattle.ncl_shape.proofs.ClosureLaws.{pin_values-same}
 use Rattle.ncl_merge.specs.Fold.{assigned}
-use Rattle.ncl_merge.proofs.FoldValues.{pins-same, with_net-again}
+use Rattle.ncl_merge.proofs.FoldValues.{with_net-again}
 use Rattle.ncl_merge.proofs.values.pins_at.Goals as goal
 
 pub returns : goal.returns
 returns c =
     c.pins_with.ensures
-    ∙ pins-same _ _ c.args.pins.now (λ net m. with_net-again (assigned c.args.nets.now c.args.word.now) c.args.forced.0 c.args.bit net.0)
+    ∙ pin_values-same _ _ c.args.pins.now (λ net m. with_net-again (assigned c.args.nets.now c.args.word.now) c.args.forced.0 c.args.bit net.0)

@@ -1,6 +1,7 @@
 use Rattle.std.proofs.Common.{◌<◌, length, inl, inr, refl, sym, ap, subst, arith, below_more}
 use Rattle.std.proofs.lemmas.Bool.{both_ways}
 use Rattle.std.proofs.lemmas.Option.{slice_get_within}
+use Rattle.ncl_base.proofs.Tests.{same_unless}
 use Rattle.ncl_cell_rules.specs.declared.source.Source.TheVariants.{Rail}
 use Rattle.ncl_cell_rules.specs.Origin.{RailOf}
 use Rattle.ncl_cell_rules.specs.Sources.{IsSourceOf}
@@ -11,7 +12,7 @@ use Rattle.ncl_netlist.proofs.NetlistLaws.{ports-le-nets}
 use Rattle.ncl_shape.specs.ChainSteps.{IsShownPort}
 use Rattle.ncl_shape.proofs.NetSources.{source_of_origin}
 use Rattle.ncl_shape.proofs.PortRoles.{no_output, ports_passed}
-use Rattle.ncl_shape.proofs.ShownNets.{nets_differ, nets_same}
+use Rattle.ncl_shape.proofs.ShownNets.{nets_differ}
 use Rattle.ncl_shape.proofs.closing.are_ports_shown.Goals as goal
 use Rattle.ncl_shape.proofs.closing.are_ports_shown.Goals.{else-port-via-then-port+then-ne+else-not-same_source, else-port-via-then-port+else-ne, else-port-via-else-port}
 
@@ -45,7 +46,7 @@ loop-place-preserved c =
           let is_s = subst (IsSourceOf n net) (sym w.source.ensures) (c.requires.origins.sources.each net inside) in
           let only = only_from_source n is net w.source.result (RailOf c.args.last.0) is_s (ap named (w.same_source.ensures.0 w.if-not-same_source.false)) in
           inr only.comes
-      | else-port-via-then-port+else-ne w ↦ λ output. inl (nets_same net c.args.root.0 w.ne.result w.ne.ensures w.if-ne.false)
+      | else-port-via-then-port+else-ne w ↦ λ output. inl (same_unless net c.args.root.0 w.ne.result w.ne.ensures w.if-ne.false)
       | else-port-via-else-port w ↦ λ output. absurd (no_output n net c.port-item.result at w.if-port.false output)
     ])
 

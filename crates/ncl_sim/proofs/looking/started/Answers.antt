@@ -1,8 +1,13 @@
-use Rattle.std.proofs.Common.{arith, ap, sym, subst, ◌∙◌, ◌+◌, ◌<◌}
+use Rattle.std.proofs.Common.{◌≡◌, ℕ, Option, None, replicate, arith, ap, sym, subst, ◌∙◌, ◌+◌, ◌<◌}
 use Rattle.ncl_sim.specs.Candidates.{number_count}
 use Rattle.ncl_sim.specs.Queue.{look_at}
-use Rattle.ncl_sim.proofs.Start.{IsStarting, starts_at}
+use Rattle.ncl_sim.proofs.Start.{IsStarting, starting, starts_at}
 use Rattle.ncl_sim.proofs.looking.started.Goals as goal
+
+pub loop-number-init : goal.loop-number-init
+loop-number-init c =
+    let made : c.in_ok-agenda.agenda ≡ replicate (number_count c.args.pipeline.now) None = c.in_ok-agenda.ensures ∙ ap (λ (n : ℕ). replicate {A = Option ℕ} n None) c.number_count-count.ensures in
+    subst (IsStarting c.args.pipeline.now c.args.delays.now c.args.state.now.offered 0) (sym made) (starting c.args.pipeline.now c.args.delays.now c.args.state.now.offered)
 
 pub loop-number-preserved : goal.loop-number-preserved
 loop-number-preserved c =

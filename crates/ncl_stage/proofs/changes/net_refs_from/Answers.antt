@@ -1,6 +1,7 @@
 use Rattle.std.proofs.Common.{rules, ◌≡◌, ℕ, ◌+◌, ◌-◌, ◌<◌, ◌≤◌, Bool, true, false, not, List, [], ◌∷◌, ◌++◌, Err, length, get_or, take, drop, replicate, refl, sym, ◌∙◌, ap, subst, subst₂, arith}
 use Rattle.std.specs.Prelude.{Contains, IsTrue, ◌↔◌}
 use Rattle.std.proofs.lemmas.List.{get_or-replicate, length-append, length-map, length-replicate, length-take-le, take_all, take_at}
+use Rattle.ncl_base.proofs.Tests.{from_test}
 use Rattle.ncl_shape.specs.Stage.{StageData, IsStage, nets_of}
 use Rattle.ncl_space.specs.Space.{SpaceData, IsSpace, Keeps, Makes}
 use Rattle.ncl_space.specs.Making.{HaveTables, MakesAll}
@@ -128,10 +129,6 @@ made-next old now new s order variant place refs more r within many made kept sp
     (subst (λ n. place < n) (sym (length-map (nets_of s.inputs s.cells) (net_table_by order s variant))) within)
     (table-at s order variant place within) made kept space makes))
 
-held : {P : Type 0} (same : Bool) → IsTrue same ↔ P → same ≡ true → P
-held true iff e = iff.0 (search rules)
-held false iff e = absurd cc
-
 pub loop-place-preserved : goal.loop-place-preserved
 loop-place-preserved g c =
     let s : StageData = c.args.stage.now in
@@ -180,7 +177,7 @@ loop-place-preserved g c =
           (c.wait_unless.ensures.many ∙ ap length c.deref_mut.ensures.value) (λ p unmarked. subst (λ l. get_or l p true ≡ false) c.deref_mut.ensures.value (c.wait_unless.ensures.kept p unmarked))
           (λ e cell lt reads.
           subst (λ n. get_or c.wait_unless.new.marks n true ≡ true) (omega (arith, rails, pins, nets))
-          (c.wait_unless.ensures.readers e (length w.nets - length w.pins + cell) (all cell (omega (arith, lt, rails, pins, nets)) reads))) up.1 (held is_same iff));
+          (c.wait_unless.ensures.readers e (length w.nets - length w.pins + cell) (all cell (omega (arith, lt, rails, pins, nets)) reads))) up.1 (from_test is_same iff));
     }
 
 pub returns-clause-made : goal.returns-clause-made

@@ -1,9 +1,8 @@
-use Rattle.std.proofs.Common.{◌≡◌, ℕ, ◌+◌, ◌-◌, ◌*◌, ◌/◌, ◌%◌, ◌<◌, ◌≤◌, false, List, [], ◌∷◌, length, get_or, map, take, sym, ◌∙◌, ap, subst, arith, rules}
+use Rattle.std.proofs.Common.{◌≡◌, ℕ, ◌+◌, ◌-◌, ◌*◌, ◌/◌, ◌%◌, ◌<◌, false, List, [], ◌∷◌, length, get_or, map, take, sym, ◌∙◌, ap, subst, arith, rules}
 use Rattle.std.specs.Prelude.{All, IfOk, nat_eq}
 use Rattle.std.proofs.lemmas.List.{length-map}
 use Rattle.ncl_gates.specs.Gate.{arity_of}
 use Rattle.ncl_netlist.specs.declared.ids.NetId.{NetId}
-use Rattle.ncl_shape.specs.declared.rails.Rails.{Rails}
 use Rattle.ncl_shape.specs.declared.stage.StageCell.{StageCell}
 use Rattle.ncl_shape.specs.Stage.{StageData, IsStage, nets_of}
 use Rattle.ncl_base.proofs.Members.{Member-get_or}
@@ -18,7 +17,7 @@ use Rattle.ncl_stage.specs.Changes.{net_at}
 use Rattle.ncl_stage.specs.StageTables.{net_table_by, net_tables_by, rail_at, ref_at}
 use Rattle.ncl_stage.specs.Values.{kept_low}
 use Rattle.ncl_stage.specs.Wiring.{WiringData, IsWiring, pin_places}
-use Rattle.ncl_stage.proofs.ChangedLaws.{nets-length, net_at-cell, net_at-place, tables-before}
+use Rattle.ncl_stage.proofs.ChangedLaws.{net_at-cell, net_at-place, tables-before, behind-inputs}
 use Rattle.ncl_stage.proofs.NetLaws.{Shows, low-net, rail-net, cell-net, cell-refs, pins-of, out_at, out_at-is}
 use Rattle.ncl_stage.proofs.nets.net_ref.Goals as goal
 
@@ -37,13 +36,6 @@ gate-made s order ordered is variant i gate lt at free old width ins tables =
     (λ k. gate_table (width k) (at k).kind (tables k))
     ∙ cell-net s order ordered is variant cell (Member-get_or s.cells i gate lt) (ap (kept_low s variant) (sym (out_at-is s i gate lt)) ∙ free)
     ∙ ap (net_table_by order s variant) (sym (out_at-is s i gate lt))
-
--- the place of the cell whose output stands behind the rails
-behind : (s : StageData) (place : ℕ) (inputs : List Rails) → inputs ≡ s.inputs → place < length (nets_of s.inputs s.cells) → 2 * length inputs ≤ place → (place - 2 * length inputs < length s.cells) × (place ≡ 2 * length s.inputs + (place - 2 * length inputs))
-behind s place inputs same within after =
-    let size = nets-length s in
-    let many = ap length same in
-    (omega (arith, size, many, within, after), omega (arith, many, after))
 
 -- what the Refs of the pins of a gate have, of which the nets before it have been made
 record Pins (space : SpaceData) (s : StageData) (order : List ℕ) (variant : Variant) (gate : StageCell) (place : ℕ) (refs : List Ref) (pins : List ℕ) : Type 0 where
@@ -111,31 +103,31 @@ returns-then-place-rails g c =
     }
 
 pub bounds-items-cell : goal.bounds-items-cell
-bounds-items-cell g c = subst (λ (xs : List StageCell). c.args.place - 2 * length c.items.result.now < length xs) (sym (c.items-2.ensures ∙ ap (λ (t : StageData). t.cells) c.stage.view_is)) (behind c.args.stage.now c.args.place c.items.result.now (c.items.ensures ∙ ap (λ (t : StageData). t.inputs) c.stage.view_is) c.requires.place c.if-place-rails.false).0
+bounds-items-cell g c = subst (λ (xs : List StageCell). c.args.place - 2 * length c.items.result.now < length xs) (sym (c.items-2.ensures ∙ ap (λ (t : StageData). t.cells) c.stage.view_is)) (behind-inputs c.args.stage.now c.args.place c.items.result.now (c.items.ensures ∙ ap (λ (t : StageData). t.inputs) c.stage.view_is) c.requires.place c.if-place-rails.false).0
 
 pub offset_bounds-items-cell : goal.offset_bounds-items-cell
 offset_bounds-items-cell g c =
-    let within = subst (λ (xs : List StageCell). c.args.place - 2 * length c.items.result.now < length xs) (sym (c.items-2.ensures ∙ ap (λ (t : StageData). t.cells) c.stage.view_is)) (behind c.args.stage.now c.args.place c.items.result.now (c.items.ensures ∙ ap (λ (t : StageData). t.inputs) c.stage.view_is) c.requires.place c.if-place-rails.false).0 in
+    let within = subst (λ (xs : List StageCell). c.args.place - 2 * length c.items.result.now < length xs) (sym (c.items-2.ensures ∙ ap (λ (t : StageData). t.cells) c.stage.view_is)) (behind-inputs c.args.stage.now c.args.place c.items.result.now (c.items.ensures ∙ ap (λ (t : StageData). t.inputs) c.stage.view_is) c.requires.place c.if-place-rails.false).0 in
     search rules
 
 pub pins-requires : goal.pins-requires
-pins-requires g c = subst (λ n. c.args.place - 2 * length c.items.result.now < n) (sym (ap length c.requires.wiring.pins ∙ length-map c.args.stage.now.cells (pin_places c.args.wiring.now.nets))) (behind c.args.stage.now c.args.place c.items.result.now (c.items.ensures ∙ ap (λ (t : StageData). t.inputs) c.stage.view_is) c.requires.place c.if-place-rails.false).0
+pins-requires g c = subst (λ n. c.args.place - 2 * length c.items.result.now < n) (sym (ap length c.requires.wiring.pins ∙ length-map c.args.stage.now.cells (pin_places c.args.wiring.now.nets))) (behind-inputs c.args.stage.now c.args.place c.items.result.now (c.items.ensures ∙ ap (λ (t : StageData). t.inputs) c.stage.view_is) c.requires.place c.if-place-rails.false).0
 
 pub refs_at-ins-requires-clause-within : goal.refs_at-ins-requires-clause-within
-refs_at-ins-requires-clause-within g c = (pins-at c.args.stage.now c.facts.ensures c.args.wiring.now c.requires.wiring c.args.variant c.args.place (c.args.place - 2 * length c.items.result.now) (behind c.args.stage.now c.args.place c.items.result.now (c.items.ensures ∙ ap (λ (t : StageData). t.inputs) c.stage.view_is) c.requires.place c.if-place-rails.false) c.items-2.result.now (c.items-2.ensures ∙ ap (λ (t : StageData). t.cells) c.stage.view_is) c.index-items-cell.result c.index-items-cell.is (g.P.Space.meaning c.args.space.now) c.requires.width c.args.refs.now c.requires.refs c.pins.result.now c.pins.ensures.pins).within
+refs_at-ins-requires-clause-within g c = (pins-at c.args.stage.now c.facts.ensures c.args.wiring.now c.requires.wiring c.args.variant c.args.place (c.args.place - 2 * length c.items.result.now) (behind-inputs c.args.stage.now c.args.place c.items.result.now (c.items.ensures ∙ ap (λ (t : StageData). t.inputs) c.stage.view_is) c.requires.place c.if-place-rails.false) c.items-2.result.now (c.items-2.ensures ∙ ap (λ (t : StageData). t.cells) c.stage.view_is) c.index-items-cell.result c.index-items-cell.is (g.P.Space.meaning c.args.space.now) c.requires.width c.args.refs.now c.requires.refs c.pins.result.now c.pins.ensures.pins).within
 
 pub apply-requires-clause-arity : goal.apply-requires-clause-arity
-apply-requires-clause-arity g c = ap length (c.as_slice.ensures.value ∙ c.refs_at-ins.ensures) ∙ length-map c.pins.result.now (ref_at c.args.refs.now) ∙ (pins-at c.args.stage.now c.facts.ensures c.args.wiring.now c.requires.wiring c.args.variant c.args.place (c.args.place - 2 * length c.items.result.now) (behind c.args.stage.now c.args.place c.items.result.now (c.items.ensures ∙ ap (λ (t : StageData). t.inputs) c.stage.view_is) c.requires.place c.if-place-rails.false) c.items-2.result.now (c.items-2.ensures ∙ ap (λ (t : StageData). t.cells) c.stage.view_is) c.index-items-cell.result c.index-items-cell.is (g.P.Space.meaning c.args.space.now) c.requires.width c.args.refs.now c.requires.refs c.pins.result.now c.pins.ensures.pins).arity
+apply-requires-clause-arity g c = ap length (c.as_slice.ensures.value ∙ c.refs_at-ins.ensures) ∙ length-map c.pins.result.now (ref_at c.args.refs.now) ∙ (pins-at c.args.stage.now c.facts.ensures c.args.wiring.now c.requires.wiring c.args.variant c.args.place (c.args.place - 2 * length c.items.result.now) (behind-inputs c.args.stage.now c.args.place c.items.result.now (c.items.ensures ∙ ap (λ (t : StageData). t.inputs) c.stage.view_is) c.requires.place c.if-place-rails.false) c.items-2.result.now (c.items-2.ensures ∙ ap (λ (t : StageData). t.cells) c.stage.view_is) c.index-items-cell.result c.index-items-cell.is (g.P.Space.meaning c.args.space.now) c.requires.width c.args.refs.now c.requires.refs c.pins.result.now c.pins.ensures.pins).arity
 
 pub apply-requires-clause-live : goal.apply-requires-clause-live
-apply-requires-clause-live g c = subst (All (IsLive (g.P.Space.meaning c.args.space.now))) (sym (c.as_slice.ensures.value ∙ c.refs_at-ins.ensures)) (pins-at c.args.stage.now c.facts.ensures c.args.wiring.now c.requires.wiring c.args.variant c.args.place (c.args.place - 2 * length c.items.result.now) (behind c.args.stage.now c.args.place c.items.result.now (c.items.ensures ∙ ap (λ (t : StageData). t.inputs) c.stage.view_is) c.requires.place c.if-place-rails.false) c.items-2.result.now (c.items-2.ensures ∙ ap (λ (t : StageData). t.cells) c.stage.view_is) c.index-items-cell.result c.index-items-cell.is (g.P.Space.meaning c.args.space.now) c.requires.width c.args.refs.now c.requires.refs c.pins.result.now c.pins.ensures.pins).live
+apply-requires-clause-live g c = subst (All (IsLive (g.P.Space.meaning c.args.space.now))) (sym (c.as_slice.ensures.value ∙ c.refs_at-ins.ensures)) (pins-at c.args.stage.now c.facts.ensures c.args.wiring.now c.requires.wiring c.args.variant c.args.place (c.args.place - 2 * length c.items.result.now) (behind-inputs c.args.stage.now c.args.place c.items.result.now (c.items.ensures ∙ ap (λ (t : StageData). t.inputs) c.stage.view_is) c.requires.place c.if-place-rails.false) c.items-2.result.now (c.items-2.ensures ∙ ap (λ (t : StageData). t.cells) c.stage.view_is) c.index-items-cell.result c.index-items-cell.is (g.P.Space.meaning c.args.space.now) c.requires.width c.args.refs.now c.requires.refs c.pins.result.now c.pins.ensures.pins).live
 
 pub returns : goal.returns
 returns g c =
     let s : StageData = c.args.stage.now in
     let old : SpaceData = g.P.Space.meaning c.args.space.now in
     let net : c.net.result.0 ≡ net_at s c.args.place = c.net.ensures ∙ ap (λ nets. get_or nets c.args.place 0) c.requires.wiring.nets in
-    let pins = pins-at c.args.stage.now c.facts.ensures c.args.wiring.now c.requires.wiring c.args.variant c.args.place (c.args.place - 2 * length c.items.result.now) (behind c.args.stage.now c.args.place c.items.result.now (c.items.ensures ∙ ap (λ (t : StageData). t.inputs) c.stage.view_is) c.requires.place c.if-place-rails.false) c.items-2.result.now (c.items-2.ensures ∙ ap (λ (t : StageData). t.cells) c.stage.view_is) c.index-items-cell.result c.index-items-cell.is (g.P.Space.meaning c.args.space.now) c.requires.width c.args.refs.now c.requires.refs c.pins.result.now c.pins.ensures.pins in
+    let pins = pins-at c.args.stage.now c.facts.ensures c.args.wiring.now c.requires.wiring c.args.variant c.args.place (c.args.place - 2 * length c.items.result.now) (behind-inputs c.args.stage.now c.args.place c.items.result.now (c.items.ensures ∙ ap (λ (t : StageData). t.inputs) c.stage.view_is) c.requires.place c.if-place-rails.false) c.items-2.result.now (c.items-2.ensures ∙ ap (λ (t : StageData). t.cells) c.stage.view_is) c.index-items-cell.result c.index-items-cell.is (g.P.Space.meaning c.args.space.now) c.requires.width c.args.refs.now c.requires.refs c.pins.result.now c.pins.ensures.pins in
     let made = ap (λ ins. gate_table old.width c.index-items-cell.result.kind (map old.table ins)) (c.as_slice.ensures.value ∙ c.refs_at-ins.ensures) ∙ pins.made (ap (kept_low s c.args.variant) (sym net) ∙ sym c.is_kept_low.ensures ∙ c.if-is_kept_low.false) in
     record {
       made = subst (λ t. IfOk c.apply.result (λ r. Makes old (g.P.Space.meaning c.apply.new.self) r t)) made c.apply.ensures.made;

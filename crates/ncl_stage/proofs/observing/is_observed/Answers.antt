@@ -1,5 +1,5 @@
-use Rattle.std.proofs.Common.{◌≡◌, ℕ, Bool, true, false, List, get_or, sym, ◌∙◌, ap, subst, rules}
-use Rattle.std.specs.Prelude.{IsTrue, ◌↔◌}
+use Rattle.std.proofs.Common.{◌≡◌, ℕ, false, List, get_or, sym, ◌∙◌, ap, subst}
+use Rattle.ncl_base.proofs.Tests.{from_test}
 use Rattle.ncl_shape.specs.Stage.{StageData, IsStage}
 use Rattle.ncl_space.specs.Functions.{constant_table}
 use Rattle.ncl_space.specs.Space.{SpaceData, IsLive, IsSpace, Keeps}
@@ -29,10 +29,6 @@ loop-reader-init g c =
       left = subst (IsLeft order s (net_at s c.args.place)) (sym (ap old.table same ∙ own.1)) (left-first s order c.requires.base.wired.order (net_at s c.args.place));
     }
 
-held : {P : Type 0} (same : Bool) → IsTrue same ↔ P → same ≡ true → P
-held true iff e = iff.0 (search rules)
-held false iff e = absurd cc
-
 -- where what is left is the constant 0, the net is observed
 observed : (old now : SpaceData) → IsSpace old → Keeps old now → (s : StageData) → IsStage s → (base : ValuesData) → AreValues old s Base base → (net : ℕ) (never left : Ref) → IsLive old never → old.table never ≡ constant_table old.width false → IsLeft base.wiring.order s net (now.table left) → now.table left ≡ now.table never → IsAlwaysObserved s net
 observed old now space k s is base are net never left live zero left_is same =
@@ -41,7 +37,7 @@ observed old now space k s is base are net never left live zero left_is same =
 pub returns-then-same-clause-observed : goal.returns-then-same-clause-observed
 returns-then-same-clause-observed g c = λ e.
     observed (g.P.Space.meaning c.args.space.now) (g.P.Space.meaning c.loop-reader.space) c.requires.space c.loop-reader.invariant.kept c.args.stage.now c.facts.ensures c.args.base.now c.requires.base (net_at c.args.stage.now c.args.place) c.constant-never.result c.loop-reader.left c.constant-never.ensures.live c.constant-never.ensures.table
-    c.loop-reader.invariant.left (held c.same.result c.same.ensures c.if-same.true)
+    c.loop-reader.invariant.left (from_test c.same.result c.same.ensures c.if-same.true)
 
 pub left_by-requires-clause-base : goal.left_by-requires-clause-base
 left_by-requires-clause-base g c = values-kept (g.P.Space.meaning c.args.space.now) (g.P.Space.meaning c.loop-reader.space) c.args.stage.now Base c.args.base.now c.loop-reader.invariant.kept c.requires.base
@@ -52,4 +48,4 @@ left_by-requires-clause-lows g c = have-kept (g.P.Space.meaning c.args.space.now
 pub returns-clause-observed : goal.returns-clause-observed
 returns-clause-observed g c = λ e.
     observed (g.P.Space.meaning c.args.space.now) (g.P.Space.meaning c.loop-reader.space) c.requires.space c.loop-reader.invariant.kept c.args.stage.now c.facts.ensures c.args.base.now c.requires.base (net_at c.args.stage.now c.args.place) c.constant-never.result c.loop-reader.left c.constant-never.ensures.live c.constant-never.ensures.table
-    c.loop-reader.invariant.left (held c.same-2.result c.same-2.ensures e)
+    c.loop-reader.invariant.left (from_test c.same-2.result c.same-2.ensures e)

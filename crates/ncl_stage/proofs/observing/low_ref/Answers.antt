@@ -1,4 +1,4 @@
-use Rattle.std.proofs.Common.{◌≡◌, ℕ, ◌+◌, ◌-◌, ◌*◌, ◌<◌, ◌≤◌, List, [], length, map, take, get_or, sym, ◌∙◌, ap, subst, arith, rules}
+use Rattle.std.proofs.Common.{◌≡◌, ℕ, ◌+◌, ◌-◌, ◌*◌, ◌<◌, List, [], length, map, take, get_or, sym, ◌∙◌, ap, subst, arith, rules}
 use Rattle.std.specs.Prelude.{All}
 use Rattle.std.specs.List.{take-map}
 use Rattle.std.proofs.lemmas.List.{length-map}
@@ -8,7 +8,6 @@ use Rattle.ncl_gates.specs.Dual.{dual_of, dual_pins}
 use Rattle.ncl_gates.specs.Gate.{arity_of}
 use Rattle.ncl_gates.proofs.DualLaws.{dual-arity, dual_pins-length}
 use Rattle.ncl_netlist.specs.declared.ids.NetId.{NetId}
-use Rattle.ncl_shape.specs.declared.rails.Rails.{Rails}
 use Rattle.ncl_shape.specs.declared.stage.StageCell.{StageCell}
 use Rattle.ncl_shape.specs.Stage.{StageData, IsStage, nets_of, out_of}
 use Rattle.ncl_base.proofs.Members.{Member-get_or}
@@ -21,17 +20,10 @@ use Rattle.ncl_stage.specs.Observing.{low_table_by, low_tables_by}
 use Rattle.ncl_stage.specs.StageTables.{ref_at}
 use Rattle.ncl_stage.specs.Wiring.{WiringData, IsWiring, pin_places, place_in}
 use Rattle.ncl_stage.specs.declared.variant.Variant.TheVariants.{Base}
-use Rattle.ncl_stage.proofs.ChangedLaws.{nets-before, nets-length, net_at-cell, value-at, values-width}
+use Rattle.ncl_stage.proofs.ChangedLaws.{nets-before, nets-length, net_at-cell, value-at, values-width, behind-inputs}
 use Rattle.ncl_stage.proofs.NetLaws.{Shows, cell-refs, out_at-is, pins-of}
 use Rattle.ncl_stage.proofs.ObservingLaws.{dual_pins-all, low-cell, low-place}
 use Rattle.ncl_stage.proofs.observing.low_ref.Goals as goal
-
--- the place of the cell whose output stands behind the rails
-behind : (s : StageData) (place : ℕ) (inputs : List Rails) → inputs ≡ s.inputs → place < length (nets_of s.inputs s.cells) → 2 * length inputs ≤ place → (place - 2 * length inputs < length s.cells) × (place ≡ 2 * length s.inputs + (place - 2 * length inputs))
-behind s place inputs same within after =
-    let size = nets-length s in
-    let many = ap length same in
-    (omega (arith, size, many, within, after), omega (arith, many, after))
 
 -- what the Refs at the pins of a gate have, of where the nets before it are low
 record LowPins (space : SpaceData) (s : StageData) (order : List ℕ) (kind : Kind) (place : ℕ) (lows : List Ref) (pins : List ℕ) : Type 0 where
@@ -101,42 +93,42 @@ returns-then-place-rails-clause-table g c =
 
 pub offset_bounds-items-cell : goal.offset_bounds-items-cell
 offset_bounds-items-cell g c =
-    let within = subst (λ (xs : List StageCell). c.args.place - 2 * length c.items.result.now < length xs) (sym (c.items-2.ensures ∙ ap (λ (t : StageData). t.cells) c.stage.view_is)) (behind c.args.stage.now c.args.place c.items.result.now (c.items.ensures ∙ ap (λ (t : StageData). t.inputs) c.stage.view_is) c.requires.place c.if-place-rails.false).0 in
+    let within = subst (λ (xs : List StageCell). c.args.place - 2 * length c.items.result.now < length xs) (sym (c.items-2.ensures ∙ ap (λ (t : StageData). t.cells) c.stage.view_is)) (behind-inputs c.args.stage.now c.args.place c.items.result.now (c.items.ensures ∙ ap (λ (t : StageData). t.inputs) c.stage.view_is) c.requires.place c.if-place-rails.false).0 in
     search rules
 
 pub bounds-items-cell : goal.bounds-items-cell
-bounds-items-cell g c = subst (λ (xs : List StageCell). c.args.place - 2 * length c.items.result.now < length xs) (sym (c.items-2.ensures ∙ ap (λ (t : StageData). t.cells) c.stage.view_is)) (behind c.args.stage.now c.args.place c.items.result.now (c.items.ensures ∙ ap (λ (t : StageData). t.inputs) c.stage.view_is) c.requires.place c.if-place-rails.false).0
+bounds-items-cell g c = subst (λ (xs : List StageCell). c.args.place - 2 * length c.items.result.now < length xs) (sym (c.items-2.ensures ∙ ap (λ (t : StageData). t.cells) c.stage.view_is)) (behind-inputs c.args.stage.now c.args.place c.items.result.now (c.items.ensures ∙ ap (λ (t : StageData). t.inputs) c.stage.view_is) c.requires.place c.if-place-rails.false).0
 
 pub bounds-items-cell-else-place-rails : goal.bounds-items-cell-else-place-rails
-bounds-items-cell-else-place-rails g c = subst (λ (xs : List StageCell). c.args.place - 2 * length c.items.result.now < length xs) (sym (c.items-2.ensures ∙ ap (λ (t : StageData). t.cells) c.stage.view_is)) (behind c.args.stage.now c.args.place c.items.result.now (c.items.ensures ∙ ap (λ (t : StageData). t.inputs) c.stage.view_is) c.requires.place c.if-place-rails.false).0
+bounds-items-cell-else-place-rails g c = subst (λ (xs : List StageCell). c.args.place - 2 * length c.items.result.now < length xs) (sym (c.items-2.ensures ∙ ap (λ (t : StageData). t.cells) c.stage.view_is)) (behind-inputs c.args.stage.now c.args.place c.items.result.now (c.items.ensures ∙ ap (λ (t : StageData). t.inputs) c.stage.view_is) c.requires.place c.if-place-rails.false).0
 
 pub pins-requires : goal.pins-requires
 pins-requires g c =
-    let within = (behind c.args.stage.now c.args.place c.items.result.now (c.items.ensures ∙ ap (λ (t : StageData). t.inputs) c.stage.view_is) c.requires.place c.if-place-rails.false).0 in
+    let within = (behind-inputs c.args.stage.now c.args.place c.items.result.now (c.items.ensures ∙ ap (λ (t : StageData). t.inputs) c.stage.view_is) c.requires.place c.if-place-rails.false).0 in
     let many = ap (λ (w : WiringData). length w.pins) c.wiring.ensures ∙ ap length c.requires.base.wired.pins ∙ length-map c.args.stage.now.cells (pin_places c.args.base.now.wiring.nets) in
     omega (arith, within, many)
 
 pub dual_ins-ins-requires-clause-arity : goal.dual_ins-ins-requires-clause-arity
-dual_ins-ins-requires-clause-arity g c = (pins-at c.args.stage.now c.facts.ensures c.args.base.now.wiring c.requires.base.wired c.args.place (c.args.place - 2 * length c.items.result.now) (behind c.args.stage.now c.args.place c.items.result.now (c.items.ensures ∙ ap (λ (t : StageData). t.inputs) c.stage.view_is) c.requires.place c.if-place-rails.false) c.items-2.result.now (c.items-2.ensures ∙ ap (λ (t : StageData). t.cells) c.stage.view_is) c.index-items-cell.result (g.P.Space.meaning c.args.space.now) (values-width (g.P.Space.meaning c.args.space.now) c.args.stage.now Base c.args.base.now c.requires.space c.facts.ensures c.requires.base) c.args.lows.now c.requires.lows c.wiring.result.now c.wiring.ensures c.pins.result.now c.pins.ensures.pins).arity
+dual_ins-ins-requires-clause-arity g c = (pins-at c.args.stage.now c.facts.ensures c.args.base.now.wiring c.requires.base.wired c.args.place (c.args.place - 2 * length c.items.result.now) (behind-inputs c.args.stage.now c.args.place c.items.result.now (c.items.ensures ∙ ap (λ (t : StageData). t.inputs) c.stage.view_is) c.requires.place c.if-place-rails.false) c.items-2.result.now (c.items-2.ensures ∙ ap (λ (t : StageData). t.cells) c.stage.view_is) c.index-items-cell.result (g.P.Space.meaning c.args.space.now) (values-width (g.P.Space.meaning c.args.space.now) c.args.stage.now Base c.args.base.now c.requires.space c.facts.ensures c.requires.base) c.args.lows.now c.requires.lows c.wiring.result.now c.wiring.ensures c.pins.result.now c.pins.ensures.pins).arity
 
 pub dual_ins-ins-requires-clause-within : goal.dual_ins-ins-requires-clause-within
-dual_ins-ins-requires-clause-within g c = (pins-at c.args.stage.now c.facts.ensures c.args.base.now.wiring c.requires.base.wired c.args.place (c.args.place - 2 * length c.items.result.now) (behind c.args.stage.now c.args.place c.items.result.now (c.items.ensures ∙ ap (λ (t : StageData). t.inputs) c.stage.view_is) c.requires.place c.if-place-rails.false) c.items-2.result.now (c.items-2.ensures ∙ ap (λ (t : StageData). t.cells) c.stage.view_is) c.index-items-cell.result (g.P.Space.meaning c.args.space.now) (values-width (g.P.Space.meaning c.args.space.now) c.args.stage.now Base c.args.base.now c.requires.space c.facts.ensures c.requires.base) c.args.lows.now c.requires.lows c.wiring.result.now c.wiring.ensures c.pins.result.now c.pins.ensures.pins).within
+dual_ins-ins-requires-clause-within g c = (pins-at c.args.stage.now c.facts.ensures c.args.base.now.wiring c.requires.base.wired c.args.place (c.args.place - 2 * length c.items.result.now) (behind-inputs c.args.stage.now c.args.place c.items.result.now (c.items.ensures ∙ ap (λ (t : StageData). t.inputs) c.stage.view_is) c.requires.place c.if-place-rails.false) c.items-2.result.now (c.items-2.ensures ∙ ap (λ (t : StageData). t.cells) c.stage.view_is) c.index-items-cell.result (g.P.Space.meaning c.args.space.now) (values-width (g.P.Space.meaning c.args.space.now) c.args.stage.now Base c.args.base.now c.requires.space c.facts.ensures c.requires.base) c.args.lows.now c.requires.lows c.wiring.result.now c.wiring.ensures c.pins.result.now c.pins.ensures.pins).within
 
 pub apply-requires-clause-arity : goal.apply-requires-clause-arity
 apply-requires-clause-arity g c =
     let kind : Kind = (get_or c.items-2.result.now (c.args.place - 2 * length c.items.result.now) c.index-items-cell.result).kind in
-    let pins = pins-at c.args.stage.now c.facts.ensures c.args.base.now.wiring c.requires.base.wired c.args.place (c.args.place - 2 * length c.items.result.now) (behind c.args.stage.now c.args.place c.items.result.now (c.items.ensures ∙ ap (λ (t : StageData). t.inputs) c.stage.view_is) c.requires.place c.if-place-rails.false) c.items-2.result.now (c.items-2.ensures ∙ ap (λ (t : StageData). t.cells) c.stage.view_is) c.index-items-cell.result (g.P.Space.meaning c.args.space.now) (values-width (g.P.Space.meaning c.args.space.now) c.args.stage.now Base c.args.base.now c.requires.space c.facts.ensures c.requires.base) c.args.lows.now c.requires.lows c.wiring.result.now c.wiring.ensures c.pins.result.now c.pins.ensures.pins in
+    let pins = pins-at c.args.stage.now c.facts.ensures c.args.base.now.wiring c.requires.base.wired c.args.place (c.args.place - 2 * length c.items.result.now) (behind-inputs c.args.stage.now c.args.place c.items.result.now (c.items.ensures ∙ ap (λ (t : StageData). t.inputs) c.stage.view_is) c.requires.place c.if-place-rails.false) c.items-2.result.now (c.items-2.ensures ∙ ap (λ (t : StageData). t.cells) c.stage.view_is) c.index-items-cell.result (g.P.Space.meaning c.args.space.now) (values-width (g.P.Space.meaning c.args.space.now) c.args.stage.now Base c.args.base.now c.requires.space c.facts.ensures c.requires.base) c.args.lows.now c.requires.lows c.wiring.result.now c.wiring.ensures c.pins.result.now c.pins.ensures.pins in
     ap length (c.as_slice.ensures.value ∙ c.dual_ins-ins.ensures) ∙ dual_pins-length kind (map (ref_at c.args.lows.now) c.pins.result.now) ∙ length-map c.pins.result.now (ref_at c.args.lows.now)
     ∙ pins.arity ∙ sym (dual-arity kind) ∙ ap arity_of (sym c.dual.ensures)
 
 pub apply-requires-clause-live : goal.apply-requires-clause-live
-apply-requires-clause-live g c = subst (All (IsLive (g.P.Space.meaning c.args.space.now))) (sym (c.as_slice.ensures.value ∙ c.dual_ins-ins.ensures)) (pins-at c.args.stage.now c.facts.ensures c.args.base.now.wiring c.requires.base.wired c.args.place (c.args.place - 2 * length c.items.result.now) (behind c.args.stage.now c.args.place c.items.result.now (c.items.ensures ∙ ap (λ (t : StageData). t.inputs) c.stage.view_is) c.requires.place c.if-place-rails.false) c.items-2.result.now (c.items-2.ensures ∙ ap (λ (t : StageData). t.cells) c.stage.view_is) c.index-items-cell.result (g.P.Space.meaning c.args.space.now) (values-width (g.P.Space.meaning c.args.space.now) c.args.stage.now Base c.args.base.now c.requires.space c.facts.ensures c.requires.base) c.args.lows.now c.requires.lows c.wiring.result.now c.wiring.ensures c.pins.result.now c.pins.ensures.pins).live
+apply-requires-clause-live g c = subst (All (IsLive (g.P.Space.meaning c.args.space.now))) (sym (c.as_slice.ensures.value ∙ c.dual_ins-ins.ensures)) (pins-at c.args.stage.now c.facts.ensures c.args.base.now.wiring c.requires.base.wired c.args.place (c.args.place - 2 * length c.items.result.now) (behind-inputs c.args.stage.now c.args.place c.items.result.now (c.items.ensures ∙ ap (λ (t : StageData). t.inputs) c.stage.view_is) c.requires.place c.if-place-rails.false) c.items-2.result.now (c.items-2.ensures ∙ ap (λ (t : StageData). t.cells) c.stage.view_is) c.index-items-cell.result (g.P.Space.meaning c.args.space.now) (values-width (g.P.Space.meaning c.args.space.now) c.args.stage.now Base c.args.base.now c.requires.space c.facts.ensures c.requires.base) c.args.lows.now c.requires.lows c.wiring.result.now c.wiring.ensures c.pins.result.now c.pins.ensures.pins).live
 
 pub returns-clause-table : goal.returns-clause-table
 returns-clause-table g c =
     let s : StageData = c.args.stage.now in
     let old : SpaceData = g.P.Space.meaning c.args.space.now in
     let new : SpaceData = g.P.Space.meaning c.apply.new.self in
-    let pins = pins-at c.args.stage.now c.facts.ensures c.args.base.now.wiring c.requires.base.wired c.args.place (c.args.place - 2 * length c.items.result.now) (behind c.args.stage.now c.args.place c.items.result.now (c.items.ensures ∙ ap (λ (t : StageData). t.inputs) c.stage.view_is) c.requires.place c.if-place-rails.false) c.items-2.result.now (c.items-2.ensures ∙ ap (λ (t : StageData). t.cells) c.stage.view_is) c.index-items-cell.result (g.P.Space.meaning c.args.space.now) (values-width (g.P.Space.meaning c.args.space.now) c.args.stage.now Base c.args.base.now c.requires.space c.facts.ensures c.requires.base) c.args.lows.now c.requires.lows c.wiring.result.now c.wiring.ensures c.pins.result.now c.pins.ensures.pins in
+    let pins = pins-at c.args.stage.now c.facts.ensures c.args.base.now.wiring c.requires.base.wired c.args.place (c.args.place - 2 * length c.items.result.now) (behind-inputs c.args.stage.now c.args.place c.items.result.now (c.items.ensures ∙ ap (λ (t : StageData). t.inputs) c.stage.view_is) c.requires.place c.if-place-rails.false) c.items-2.result.now (c.items-2.ensures ∙ ap (λ (t : StageData). t.cells) c.stage.view_is) c.index-items-cell.result (g.P.Space.meaning c.args.space.now) (values-width (g.P.Space.meaning c.args.space.now) c.args.stage.now Base c.args.base.now c.requires.space c.facts.ensures c.requires.base) c.args.lows.now c.requires.lows c.wiring.result.now c.wiring.ensures c.pins.result.now c.pins.ensures.pins in
     let made = (λ k. gate_table old.width (c.dual.ensures k) (map old.table ((c.as_slice.ensures.value ∙ c.dual_ins-ins.ensures) k))) ∙ pins.made in
     IfOk-weaker c.apply.result _ (λ low. new.table low ≡ low_table_by c.args.base.now.wiring.order s (net_at s c.args.place)) (λ low is. is.table ∙ made) c.apply.ensures.made

@@ -1,11 +1,11 @@
 use Rattle.std.proofs.Common.{Bool}
 use Rattle.std.proofs.lemmas.Result.{on_ok_weaker}
+use Rattle.ncl_base.proofs.Tests.{of_both}
 use Rattle.ncl_cells.specs.Cones.{ComputesAt}
-use Rattle.ncl_cells.proofs.Cones.{both_bits}
 use Rattle.ncl_cells.proofs.evaluating.Tried.test_eight.Goals as goal
 
 pub returns : goal.returns
 returns c =
     on_ok_weaker c.test_four-2.result
-    (λ high. both_bits (λ second. (third d : Bool) → ComputesAt c.args.self.now.nodes.now c.args.self.now.place c.args.self.now.choice.now.leaves c.args.self.now.choice.now.plan c.args.a second third d) c.in_ok-test_four.ensures high)
+    (λ high. of_both (λ second. (third d : Bool) → ComputesAt c.args.self.now.nodes.now c.args.self.now.place c.args.self.now.choice.now.leaves c.args.self.now.choice.now.plan c.args.a second third d) c.in_ok-test_four.ensures high)
     c.test_four-2.ensures

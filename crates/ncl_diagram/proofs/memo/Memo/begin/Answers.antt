@@ -1,16 +1,18 @@
 use Rattle.std.proofs.Common.{◌≡◌, ◌<◌, length, List, Option, arith, None, Some, inl, inr, slice_get, refl, sym, ◌∙◌, ap}
 use Rattle.std.proofs.lemmas.Option.{slice_get-get_or}
+use Rattle.ncl_base.proofs.Tests.{position_or_len-none}
+use Rattle.ncl_base.proofs.Places.{slice_get-end}
 use Rattle.ncl_space.specs.declared.space.Ref.{Ref}
 use Rattle.ncl_diagram.specs.declared.memo.Key.{Key}
-use Rattle.ncl_diagram.proofs.MemoLaws.{absent_by_added, present_by_added, none_put, put_last, is_key_only, none_before, get_push, kept_by_push, forgets_by_push}
+use Rattle.ncl_diagram.proofs.MemoLaws.{absent_by_added, present_by_added, none_put, put_last, is_key_only, kept_by_push, forgets_by_push}
 use Rattle.ncl_diagram.proofs.memo.Memo.begin.Goals as goal
 
 pub returns-clause-known : goal.returns-clause-known
 returns-clause-known c =
     let e = c.in_ok-at.ensures.index in
-    let n = none_before _ c.args.self.now.keys.keys (absent_by_added _ c.in_ok-at.added c.if-not-added.false c.in_ok-at.ensures.added) in
+    let n = position_or_len-none _ c.args.self.now.keys.keys (absent_by_added _ c.in_ok-at.added c.if-not-added.false c.in_ok-at.ensures.added) in
     let long = c.requires in
-    ap (λ (l : List (Option Ref)). slice_get l c.in_ok-at.at) c.in_ok-push.ensures.items ∙ get_push c.args.self.now.found.items None c.in_ok-at.at (omega arith)
+    ap (λ (l : List (Option Ref)). slice_get l c.in_ok-at.at) c.in_ok-push.ensures.items ∙ slice_get-end c.args.self.now.found.items None c.in_ok-at.at (omega arith)
 
 pub returns-clause-kept : goal.returns-clause-kept
 returns-clause-kept c = kept_by_push _ c.args.self.now.keys.keys c.insert_full.new.self.keys c.args.key c.in_ok-at.ensures.keys
@@ -35,4 +37,4 @@ returns-then-not-added-clause-begins c =
 pub returns-clause-begins : goal.returns-clause-begins
 returns-clause-begins c =
     let absent = absent_by_added _ c.in_ok-at.added c.if-not-added.false c.in_ok-at.ensures.added in
-    inl (put_last _ c.args.self.now.keys.keys c.insert_full.new.self.keys c.args.key absent c.in_ok-at.ensures.keys, c.in_ok-push.ensures.items, c.in_ok-at.ensures.index ∙ none_before _ c.args.self.now.keys.keys absent, refl)
+    inl (put_last _ c.args.self.now.keys.keys c.insert_full.new.self.keys c.args.key absent c.in_ok-at.ensures.keys, c.in_ok-push.ensures.items, c.in_ok-at.ensures.index ∙ position_or_len-none _ c.args.self.now.keys.keys absent, refl)

@@ -1,25 +1,13 @@
-use Rattle.std.proofs.Common.{◌≡◌, ◌≤◌, List, Err, length, ap, ◌∙◌, subst, arith}
-use Rattle.ncl_base.specs.declared.word.TheConstants.{MOST_BITS}
+use Rattle.std.proofs.Common.{◌≡◌, List, Err, length, ap, ◌∙◌, arith}
 use Rattle.ncl_blif.specs.declared.model.Model.{Model}
 use Rattle.ncl_diagram.specs.Diagram.{diagram_space}
-use Rattle.ncl_shape.specs.declared.rails.Rails.{Rails}
-use Rattle.ncl_shape.specs.Pipeline.{PipelineData}
-use Rattle.ncl_shape.specs.Shape.{Shape}
-use Rattle.ncl_cell_roles.specs.Layout.{Layout, IsLayoutOf}
-use Rattle.ncl_cell_roles.proofs.LaidOut.{laid_out_of}
+use Rattle.ncl_cell_roles.proofs.LaidOut.{few_inputs}
 use Rattle.ncl_space.specs.Space.{SpaceData}
 use Rattle.ncl_space.specs.Table.{words, table_of}
 use Rattle.ncl_match.specs.Circuit.{Circuit, circuit_of}
 use Rattle.ncl_match.specs.Difference.{apart_function}
 use Rattle.ncl_match.proofs.BitLaws.{told-over, told-within}
 use Rattle.ncl_match.proofs.bits.BitsCompareBit.compare_bit.Goals as goal
-
--- there are as many inputs as a word may have bits
-few_inputs : (p : PipelineData) → Shape p.netlist p → length p.inputs ≤ MOST_BITS
-few_inputs p shape = by (laid_out_of p.netlist p shape)
-  where
-    by : (l : Layout) × IsLayoutOf p l → length p.inputs ≤ MOST_BITS
-    by (l, is) = subst (λ (bits : List Rails). length bits ≤ MOST_BITS) is.source (is.is_stage 0 (omega arith)).few_inputs
 
 pub new-space-requires-clause-few : goal.new-space-requires-clause-few
 new-space-requires-clause-few c =

@@ -1,8 +1,8 @@
 use Rattle.std.proofs.Common.{[], ◌∷◌}
+use Rattle.ncl_base.proofs.Tests.{of_both}
 use Rattle.ncl_template.specs.Template.{node_function}
 use Rattle.ncl_template.specs.Waits.{waits_at}
 use Rattle.ncl_template.specs.Forms.{FitsWord}
-use Rattle.ncl_template.proofs.FormLaws.{of_both}
 use Rattle.ncl_template.proofs.fitting.Tried.fits_last.Goals as goal
 
 pub returns-then-fits_word : goal.returns-then-fits_word

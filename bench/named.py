@@ -1,5 +1,5 @@
 #!/usr/bin/env python3
-"""Compares the names in clauses of public functions with the table of names in docs/definitions.md.
+"""Compares the names in clauses of public functions with the tables of docs/names.md.
 
     bench/named.py
 
@@ -65,11 +65,10 @@ def named_in(crate):
 
 
 def listed():
-    """The names of the table: each with the crate and the files of its row."""
-    page = (TOP / "docs/definitions.md").read_text().partition("## Names in clauses")[2]
-    for names, place in re.findall(r"^\| (`[^|]*`) \|[^|]*\| `(ncl_[^|]*) \|$", page, re.MULTILINE):
-        crate, files = place.split("/")[0], re.findall(r"(\w+)\.antt", place)
-        yield from ((name, crate, file) for name in re.findall(r"`(\w+)`", names) for file in files)
+    """The names of the tables: each with its crate and the files of its row."""
+    for crate, table in re.findall(r"^## (ncl_\w+)\n(.*?)(?=^## |\Z)", (TOP / "docs/names.md").read_text(), re.MULTILINE | re.DOTALL):
+        for names, files in re.findall(r"^\| (`[^|]*`) \|[^|]*\| ([^|]*) \|$", table, re.MULTILINE):
+            yield from ((name, crate, file) for name in re.findall(r"`(\w+)`", names) for file in re.findall(r"\w+", files))
 
 
 def pages():
@@ -114,7 +113,7 @@ def hidden():
         texts = [found.read_text() for file in files for found in (TOP / "crates" / crate / "specs").rglob(f"{file}.antt")]
         public = re.compile(rf"^ *((abbrev|unfoldable) )*pub ((data|record|abbrev) )*{name}\b|^  {name} :", re.MULTILINE)
         if not any(public.search(text) for text in texts):
-            yield f"docs/definitions.md: {name} is not public in {', '.join(files)} of {crate}"
+            yield f"docs/names.md: {name} is not public in {', '.join(files)} of {crate}"
 
 
 def main():

@@ -107,6 +107,11 @@ Contains-filter_map_of {X} {Y} h (w ∷ xs) x y (suc k, lt, at) e =
     let (n, within, found) = Contains-filter_map_of h xs x y (k, omega arith, at) e in
     elim (h w) as (λ o. Contains (cons_option o (filter_map h xs)) y) [ None ↦ (n, within, found) | Some z ↦ (suc n, omega arith, found) ]
 
+-- a sum over the values of a function
+pub sum_by-map : {X Y : Type 0} (f : Y → ℕ) (g : X → Y) (xs : List X) → sum_by f (map g xs) ≡ sum_by (λ x. f (g x)) xs
+sum_by-map f g [] = refl
+sum_by-map f g (x ∷ xs) = sum_by-cons f (g x) (map g xs) ∙ ap (λ rest. f (g x) + rest) (sum_by-map f g xs) ∙ sym (sum_by-cons (λ x. f (g x)) x xs)
+
 -- where each element counts at least one, a list is no longer than what its elements count
 pub length-le-sum_by : {X : Type 0} (f : X → ℕ) → ((x : X) → 1 ≤ f x) → (xs : List X) → length xs ≤ sum_by f xs
 length-le-sum_by f one [] = omega arith

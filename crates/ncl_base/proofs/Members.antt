@@ -36,6 +36,18 @@ member_of_map f [] y m = elim m [ ]
 member_of_map f (x ∷ xs) y here = (x, here, refl)
 member_of_map f (x ∷ xs) y (there m) = let (z, n, e) = member_of_map f xs y m in (z, there n, e)
 
+-- a member of those that pass a test is a member, and passes
+pub member_of_filter : {X : Type 0} (test : X → Bool) (x : X) (xs : List X) → Member x (filter test xs) → Member x xs × (test x ≡ true)
+member_of_filter test x [] m = elim m [ ]
+member_of_filter test x (y ∷ ys) m = by (test y) refl (member_of_filter test x ys) m
+  where
+    by : (b : Bool) → test y ≡ b → (Member x (filter test ys) → Member x ys × (test x ≡ true)) → Member x (cond b (y ∷ filter test ys) (filter test ys)) → Member x (y ∷ ys) × (test x ≡ true)
+    by true passes later n = elim (member_cases x y (filter test ys) n) [
+      | inl same ↦ (subst (λ z. Member x (z ∷ ys)) (sym same) here, ap test (sym same) ∙ passes)
+      | inr rest ↦ (there (later rest).0, (later rest).1)
+    ]
+    by false fails later n = (there (later n).0, (later n).1)
+
 -- what stands at a place is a member
 pub Member-get_or : {X : Type 0} (xs : List X) (place : ℕ) (d : X) → place < length xs → Member (get_or xs place d) xs
 Member-get_or [] place d lt = absurd (omega arith)

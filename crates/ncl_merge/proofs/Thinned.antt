@@ -19,7 +19,7 @@ use Rattle.ncl_cell_rules.specs.CellTests.{is_gate}
 use Rattle.std.proofs.lemmas.Bool.{cases_Bool, cases_eq, eq-eqb, ne_eqb, both_ways}
 use Rattle.std.proofs.lemmas.List.Sums.{sum_by-cons}
 use Rattle.ncl_cell_rules.specs.Free.{IsFree}
-use Rattle.ncl_base.proofs.Members.{Member, here, there, member_cases, Member-map, slice_get-some, Contains-from_Member, Member-from_Contains, Contains-from_slice_get, slice_get-from_Contains}
+use Rattle.ncl_base.proofs.Members.{Member, here, there, member_of_filter, Member-map, slice_get-some, Contains-from_Member, Member-from_Contains, Contains-from_slice_get, slice_get-from_Contains}
 use Rattle.ncl_base.proofs.Places.{at_of_map, at_map}
 use Rattle.ncl_base.proofs.Tests.{All-member}
 use Rattle.ncl_cell_rules.proofs.Drivers.{driver_of, cell_fits, same_place}
@@ -52,18 +52,6 @@ filter_kept test x xs passes = ap (λ b. cond b (x ∷ filter test xs) (filter t
 
 pub filter_gone : {X : Type 0} (test : X → Bool) (x : X) (xs : List X) → test x ≡ false → filter test (x ∷ xs) ≡ filter test xs
 filter_gone test x xs fails = ap (λ b. cond b (x ∷ filter test xs) (filter test xs)) fails
-
-filter_member : {X : Type 0} (test : X → Bool) (x : X) (xs : List X) → Member x (filter test xs) → Member x xs × (test x ≡ true)
-filter_member test x [] m = elim m [ ]
-filter_member test x (y ∷ xs) m =
-    elim (cases_Bool (test y)) [
-      | inl passes ↦
-          elim (member_cases x y (filter test xs) (subst (Member x) (filter_kept test y xs passes) m)) [
-            | inl e ↦ (subst (λ z. Member z (y ∷ xs)) e here, subst (λ z. test z ≡ true) e passes)
-            | inr rest ↦ let (n, p) = filter_member test x xs rest in (there n, p)
-          ]
-      | inr fails ↦ let (n, p) = filter_member test x xs (subst (Member x) (filter_gone test y xs fails) m) in (there n, p)
-    ]
 
 -- a sum whose terms are 0 where the test fails is the sum over those that pass
 sum_of_passing : {X : Type 0} (f : X → ℕ) (test : X → Bool) (xs : List X) → ((x : X) → test x ≡ false → f x ≡ 0) → sum_by f xs ≡ sum_by f (filter test xs)
@@ -500,7 +488,7 @@ module _ (n m : NetlistData) (is : IsThinned n m) (free : IsFree n) where
 
   moved_pins : (x : ℕ) → is.from (is.to x) ≡ x → (c : Cell) → Member c (filter plain_test n.cells) → ack_pins_of (moved is.to c).kind (is.to x) (moved is.to c).ins.items ≡ ack_pins_of c.kind x c.ins.items
   moved_pins x kept c m =
-      let (among, passes) = filter_member plain_test c n.cells m in
+      let (among, passes) = member_of_filter plain_test c n.cells m in
       let (k, at) = place_of n c (Contains-from_Member c among) in
       let stood = is.stood k c at (plain_no_rail c passes) in
       by_kind c.kind (count_of_map (λ (z : NetId). z.0 == is.to x) (renamed_net is.to) (λ (z : NetId). z.0 == x) c.ins.items (λ z o. same-number z.0 x (stood.pins z (Contains-from_Member z o)) kept))

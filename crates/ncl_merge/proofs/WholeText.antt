@@ -7,6 +7,7 @@ use Rattle.std.proofs.lemmas.List.{length-append, length-map, take-append-drop}
 use Rattle.std.proofs.lemmas.List.Concat.{length-flat_map}
 use Rattle.std.proofs.lemmas.List.Sums.{sum_by-cons, sum_by-append}
 use Rattle.std.proofs.lemmas.Option.{slice_get_within, get_or_from_slice_get}
+use Rattle.ncl_base.proofs.Growing.{sum_by-map}
 use Rattle.ncl_base.proofs.Lists.{Differ}
 use Rattle.ncl_base.proofs.Members.{Member, here, there, member_cases, Member-append_left, Member-append_cases, Contains-from_Member, Member-from_Contains, Contains-from_slice_get, slice_get-from_Contains}
 use Rattle.ncl_base.proofs.Joined.{length-join_with_byte}
@@ -79,10 +80,6 @@ one-letter kind pin m =
 opened-length : (texts : List (List ℕ)) → length (opened texts) ≡ sum_by (λ t. length t + 1) texts
 opened-length [] = refl
 opened-length (text ∷ texts) = let joined = length-join_with_byte 44 text texts in omega (arith, joined)
-
-sum_by-map : {X Y : Type 0} (f : Y → ℕ) (g : X → Y) (xs : List X) → sum_by f (map g xs) ≡ sum_by (λ x. f (g x)) xs
-sum_by-map f g [] = refl
-sum_by-map f g (x ∷ xs) = sum_by-cons f (g x) (map g xs) ∙ ap (λ rest. f (g x) + rest) (sum_by-map f g xs) ∙ sym (sum_by-cons (λ x. f (g x)) x xs)
 
 sum-same : {X : Type 0} (f g : X → ℕ) (xs : List X) → ((x : X) → Member x xs → f x ≡ g x) → sum_by f xs ≡ sum_by g xs
 sum-same f g [] same = refl

@@ -6,7 +6,8 @@ use Rattle.std.proofs.lemmas.Bool.{both_ways, cases_Bool}
 use Rattle.std.proofs.lemmas.List.Sums.{sum_by-append}
 use Rattle.ncl_shape.specs.declared.rails.Rails.{Rails}
 use Rattle.ncl_shape.specs.Stage.{StageData, IsStage, nets_of}
-use Rattle.ncl_base.proofs.Members.{Member, here, there, member_cases, member_of_map, Member-append_cases, Member-append_left, Member-append_right, Member-filter, Member-get_or, Member-map}
+use Rattle.ncl_base.proofs.Growing.{sum_by-map}
+use Rattle.ncl_base.proofs.Members.{Member, member_of_filter, member_of_map, Member-append_cases, Member-append_left, Member-append_right, Member-filter, Member-get_or, Member-map}
 use Rattle.ncl_space.specs.Beads.{bead_count, beads_of}
 use Rattle.ncl_space.specs.Table.{table_of}
 use Rattle.ncl_space.proofs.TableLaws.{beads_of-constant, table_of-same}
@@ -22,12 +23,13 @@ use Rattle.ncl_stage.specs.Values.{val}
 use Rattle.ncl_stage.specs.Wiring.{WiringData, IsWiring, rail_places}
 use Rattle.ncl_stage.proofs.OrderedTables.{ordered-table}
 use Rattle.ncl_stage.proofs.OutputLaws.{fronts-map, values_at}
+use Rattle.ncl_stage.proofs.Unvisited.{place-of}
 use Rattle.ncl_verdict.specs.Masks.{AreMasks, AreReaches, IsPart, both, is_part, lost_data, lost_mask, mask_at, union, weight_lost, weight_of}
 use Rattle.ncl_verdict.proofs.Losing.{Loses, all-look, data-looks, data_mask, loses, net-looks, word-of}
 use Rattle.ncl_verdict.proofs.MaskLaws.{part-test, union-has}
 use Rattle.ncl_verdict.proofs.ReachLaws.{all-filtered, fronts-filtered, front-members}
-use Rattle.ncl_verdict.proofs.Supporting.{are-supports, marks_by, place-of}
-use Rattle.ncl_verdict.proofs.Weights.{AllLook, Looks, count-both, fewer, look-append, look-members, look-part, look-places, look-same, sum-map, weighed-beads, weigh-same}
+use Rattle.ncl_verdict.proofs.Supporting.{are-supports, marks_by}
+use Rattle.ncl_verdict.proofs.Weights.{AllLook, Looks, count-both, fewer, look-append, look-members, look-part, look-places, look-same, weighed-beads, weigh-same}
 
 -- the masks of what doesn't pass go with it
 filter-map : {X : Type 0} (g : X → ℕ) (test : ℕ → Bool) (xs : List X) → filter test (map g xs) ≡ map g (filter (λ x. test (g x)) xs)
@@ -37,17 +39,6 @@ filter-map g test (x ∷ xs) = by (test (g x)) (filter-map g test xs)
     by : (b : Bool) → filter test (map g xs) ≡ map g (filter (λ y. test (g y)) xs) → cond b (g x ∷ filter test (map g xs)) (filter test (map g xs)) ≡ map g (cond b (x ∷ filter (λ y. test (g y)) xs) (filter (λ y. test (g y)) xs))
     by true rest = ap (λ l. g x ∷ l) rest
     by false rest = rest
-
-member_of_filter : {X : Type 0} (test : X → Bool) (x : X) (xs : List X) → Member x (filter test xs) → Member x xs × (test x ≡ true)
-member_of_filter test x [] m = elim m [ ]
-member_of_filter test x (y ∷ ys) m = by (test y) refl (member_of_filter test x ys) m
-  where
-    by : (b : Bool) → test y ≡ b → (Member x (filter test ys) → Member x ys × (test x ≡ true)) → Member x (cond b (y ∷ filter test ys) (filter test ys)) → Member x (y ∷ ys) × (test x ≡ true)
-    by true passes later n = elim (member_cases x y (filter test ys) n) [
-      | inl same ↦ (subst (λ z. Member x (z ∷ ys)) (sym same) here, ap test (sym same) ∙ passes)
-      | inr rest ↦ (there (later rest).0, (later rest).1)
-    ]
-    by false fails later n = (there (later n).0, (later n).1)
 
 -- ---- the tables of a variant, and those that have beads
 module _ (s : StageData) (is : IsStage s) (valid : HasValidRails s) (w : WiringData) (wired : IsWiring s w) (k : ℕ) (masks reaches : List ℕ) (many : length masks ≡ length (nets_of s.inputs s.cells)) (supports : AreSupports s (marks_by s w k masks)) (reached : AreReaches 0 (length s.inputs) w masks reaches) (variant : Variant) (loss : Loses s w k masks reaches variant) where
@@ -167,8 +158,8 @@ module _ (s : StageData) (is : IsStage s) (valid : HasValidRails s) (w : WiringD
       ∙ ap (filter (λ m. is_part m loss.lost)) (masks-of s.outputs ∙ ap (map (both masks)) (sym (wired.outputs ∙ ap (λ ns. map (rail_places ns) s.outputs) wired.nets))) in
       let data_sum = ap (sum_by weight_of) shown in
       let front_sum : sum_by weight_of front_masks ≡ sum_by (λ front. weight_of (union front)) (fronts (lost_data masks loss.lost w.outputs)) =
-      sum-map weight_of (λ (front : List Rails). union (map (data_mask s masks) front)) (fronts kept)
-      ∙ sym (sum-map (λ front. weight_of (union front)) (map (data_mask s masks)) (fronts kept))
+      sum_by-map weight_of (λ (front : List Rails). union (map (data_mask s masks) front)) (fronts kept)
+      ∙ sym (sum_by-map (λ front. weight_of (union front)) (map (data_mask s masks)) (fronts kept))
       ∙ ap (sum_by (λ front. weight_of (union front))) (sym (fronts-map (data_mask s masks) kept) ∙ ap fronts shown) in
       let asked_sum = weigh-same loss.lost loss.asked in
       let once : length loss.asked * weight_of loss.lost ≤ weight_of loss.lost = at-most-once (length loss.asked) (weight_of loss.lost) loss.few in

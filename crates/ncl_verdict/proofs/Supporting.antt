@@ -10,30 +10,16 @@ use Rattle.ncl_netlist.specs.declared.ids.NetId.{NetId}
 use Rattle.ncl_shape.specs.declared.rails.Rails.{Rails}
 use Rattle.ncl_shape.specs.declared.stage.StageCell.{StageCell}
 use Rattle.ncl_shape.specs.Stage.{StageData, IsStage, nets_of, out_of}
-use Rattle.ncl_base.proofs.Members.{Member, Contains-from_Member, Member-from_Contains, Member-get_or, Member-map}
+use Rattle.ncl_base.proofs.Members.{Member, Contains-from_Member, Member-from_Contains, Member-map}
 use Rattle.ncl_stage.specs.Changes.{net_at}
 use Rattle.ncl_stage.specs.StageTables.{rail_at}
 use Rattle.ncl_stage.specs.Supports.{AreSupports, Marks}
 use Rattle.ncl_stage.specs.Wiring.{WiringData, IsWiring, pin_places, place_in, rail_places}
 use Rattle.ncl_stage.proofs.ChangedLaws.{net_at-cell, net_at-place, nets-length, pins-before}
 use Rattle.ncl_stage.proofs.NetLaws.{out_at-is, pins-of}
-use Rattle.ncl_stage.proofs.PlaceLaws.{place_in-at}
+use Rattle.ncl_stage.proofs.Unvisited.{place-of}
 use Rattle.ncl_verdict.specs.Masks.{AreMasks, AreReaches, IsPart, IsSupport, both, mask_at}
 use Rattle.ncl_verdict.proofs.MaskLaws.{marked, marked-at, marked-part}
-
--- a net stands at one place
-pub place-of : (s : StageData) → IsStage s → (place net : ℕ) → place < length (nets_of s.inputs s.cells) → net_at s place ≡ net → place ≡ place_in (nets_of s.inputs s.cells) net
-place-of s is place net lt at =
-    let nets : List ℕ = nets_of s.inputs s.cells in
-    let found = place_in-at nets net (subst (Contains nets) at (Contains-from_Member (net_at s place) (Member-get_or nets place 0 lt))) in
-    elim (cases_lt place (place_in nets net)) [
-      | inl before ↦ absurd (is.nets_differ place (place_in nets net) 0 before found.0 (at ∙ sym (found.1 0)))
-      | inr others ↦
-          elim (cases_lt (place_in nets net) place) [
-            | inl after ↦ absurd (is.nets_differ (place_in nets net) place 0 after lt (found.1 0 ∙ sym at))
-            | inr same ↦ omega (arith, others, same)
-          ]
-    ]
 
 -- ---- one mask more
 at-front : (masks : List ℕ) (mask place : ℕ) → place < length masks → mask_at (masks ++ mask ∷ []) place ≡ mask_at masks place

@@ -178,10 +178,6 @@ weigh-same mask (x ∷ xs) =
     let rest = weigh-same mask xs in
     omega (arith, whole, rest)
 
-pub sum-map : {X Y : Type 0} (f : Y → ℕ) (g : X → Y) (xs : List X) → sum_by f (map g xs) ≡ sum_by (λ x. f (g x)) xs
-sum-map f g [] = refl
-sum-map f g (x ∷ xs) = sum_by-cons f (g x) (map g xs) ∙ ap (λ n. f (g x) + n) (sum-map f g xs) ∙ sym (sum_by-cons (λ y. f (g y)) x xs)
-
 -- ---- their tables, of more than three bits
 abbrev tables_marked : ℕ → List ℕ → List ℕ → List WordFunction → List Marked
 tables_marked k order [] fs = []

@@ -1,6 +1,6 @@
 //! Input-completeness.
 ghost use Rattle.std.specs.Prelude.{◌≡◌, ◌<◌, IfOk, IsErrOf, OnOk, false, length, true};
-ghost use Rattle.ncl_space.specs.Space.{IsSpace, Keeps, fits};
+ghost use Rattle.ncl_space.specs.Space.{IsSpace, Keeps, Restores, fits};
 ghost use Rattle.ncl_stage.specs.Faults.{Incomplete};
 ghost use Rattle.ncl_stage.specs.LeastWords.{least_word_by};
 ghost use Rattle.ncl_stage.specs.StageTables.{AreValues};
@@ -19,8 +19,30 @@ use std::alloc::Global;
 /// It goes over the cells once, and evaluates only those that a changed net reaches. It makes the functions
 /// of all nets without the bit, of the DATA of each output and of their conjunctions before it looks for a
 /// word. `Full` comes exactly where the beads held with those of all these functions are more than the limit. Whatever
-/// the answer, what was made stays: the caller goes back where it wants.
+/// the answer, the space is as it was.
 pub fn input_complete<P: Space>(
+    alloc: Global,
+    space: &mut P,
+    stage: &Stage,
+    base: &Values,
+    bit: usize,
+) -> Result<Option<Word>, SpaceFault>
+    requires base { AreValues (P.meaning space.old) stage.now Variant.Base base.now }
+    requires bit { bit < length stage.now.inputs }
+    ensures word { IfOk result (λ word. word ≡ least_word_by base.now.wiring.order stage.now (Incomplete bit)) }
+    ensures back { Restores (P.meaning space.old) (P.meaning space.new) }
+    ensures space { IsSpace (P.meaning space.new) }
+    ensures full { IsErrOf result SpaceFault.Full → fits (P.meaning space.old) (tables_by base.now.wiring.order stage.now (Variant.Bit bit)) ≡ false }
+    ensures fits { OnOk result (fits (P.meaning space.old) (tables_by base.now.wiring.order stage.now (Variant.Bit bit)) ≡ true) }
+{
+    let start = space.mark();
+    let word = incomplete_word(alloc, space, stage, base, bit);
+    space.release(start);
+    word
+}
+
+/// The same, but what was made stays, whatever the answer: the caller goes back where it wants.
+pub fn incomplete_word<P: Space>(
     alloc: Global,
     space: &mut P,
     stage: &Stage,

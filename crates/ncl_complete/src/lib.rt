@@ -6,6 +6,6 @@ mod inputs;
 mod rail_fault;
 mod rails;
 
-pub use inputs::input_complete;
+pub use inputs::{incomplete_word, input_complete};
 pub use rail_fault::RailFault;
 pub use rails::valid_rails;

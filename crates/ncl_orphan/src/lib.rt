@@ -3,4 +3,4 @@
 
 mod observing;
 
-pub use observing::orphan;
+pub use observing::{orphan, orphan_word};

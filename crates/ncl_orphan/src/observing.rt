@@ -2,7 +2,7 @@
 ghost use Rattle.std.specs.Prelude.{◌≡◌, ◌<◌, IfOk, IsErrOf, OnOk, false, length, true};
 ghost use Rattle.std.specs.Option.{option_map};
 ghost use Rattle.ncl_space.specs.Functions.{least};
-ghost use Rattle.ncl_space.specs.Space.{IsLive, IsSpace, Keeps, fits};
+ghost use Rattle.ncl_space.specs.Space.{IsLive, IsSpace, Keeps, Restores, fits};
 ghost use Rattle.ncl_stage.specs.BitOrder.{placed};
 ghost use Rattle.ncl_stage.specs.Faults.{Orphan};
 ghost use Rattle.ncl_stage.specs.LeastWords.{least_word_by};
@@ -24,8 +24,30 @@ use std::alloc::Global;
 /// of all nets without the cell, of the DATA of each output, of their conjunctions, and of the cell with the
 /// last of these, before it looks for a word.
 /// `Full` comes exactly where the beads held with those of all these functions are more than the limit.
-/// Whatever the answer, what was made stays: the caller goes back where it wants.
+/// Whatever the answer, the space is as it was.
 pub fn orphan<P: Space>(
+    alloc: Global,
+    space: &mut P,
+    stage: &Stage,
+    base: &Values,
+    cell: usize,
+) -> Result<Option<Word>, SpaceFault>
+    requires base { AreValues (P.meaning space.old) stage.now Variant.Base base.now }
+    requires cell { cell < length stage.now.cells }
+    ensures word { IfOk result (λ word. word ≡ least_word_by base.now.wiring.order stage.now (Orphan cell)) }
+    ensures back { Restores (P.meaning space.old) (P.meaning space.new) }
+    ensures space { IsSpace (P.meaning space.new) }
+    ensures full { IsErrOf result SpaceFault.Full → fits (P.meaning space.old) (tables_by base.now.wiring.order stage.now (Variant.Cell cell)) ≡ false }
+    ensures fits { OnOk result (fits (P.meaning space.old) (tables_by base.now.wiring.order stage.now (Variant.Cell cell)) ≡ true) }
+{
+    let start = space.mark();
+    let word = orphan_word(alloc, space, stage, base, cell);
+    space.release(start);
+    word
+}
+
+/// The same, but what was made stays, whatever the answer: the caller goes back where it wants.
+pub fn orphan_word<P: Space>(
     alloc: Global,
     space: &mut P,
     stage: &Stage,

@@ -9,8 +9,8 @@ ghost use Rattle.ncl_stage.specs.Tables.{count};
 ghost use Rattle.ncl_verdict.specs.InSpace.{IsAsked};
 
 use ncl_base::Word;
-use ncl_complete::input_complete;
-use ncl_orphan::orphan;
+use ncl_complete::incomplete_word;
+use ncl_orphan::orphan_word;
 use ncl_shape::Stage;
 use ncl_space::{Mark, Space, SpaceFault};
 use ncl_stage::{Values, Variant};
@@ -40,7 +40,7 @@ pub(crate) fn bit_word<P: Space>(
     ensures fits { OnOk result (is_within (P.meaning space.old).limit (count stage.now (Variant.Bit bit)) ≡ true) }
     ensures asked { IsAsked (P.meaning space.new) (P.meaning space.old).limit stage.now base.now start }
 {
-    match input_complete(alloc, space, stage, base, bit) {
+    match incomplete_word(alloc, space, stage, base, bit) {
         Ok(word) => {
             make_room(space, start);
             Ok(word)
@@ -48,7 +48,7 @@ pub(crate) fn bit_word<P: Space>(
         Err(SpaceFault::Memory) => Err(SpaceFault::Memory),
         Err(SpaceFault::Full) => {
             space.release(start);
-            input_complete(alloc, space, stage, base, bit)
+            incomplete_word(alloc, space, stage, base, bit)
         }
     }
 }
@@ -69,7 +69,7 @@ pub(crate) fn cell_word<P: Space>(
     ensures fits { OnOk result (is_within (P.meaning space.old).limit (count stage.now (Variant.Cell cell)) ≡ true) }
     ensures asked { IsAsked (P.meaning space.new) (P.meaning space.old).limit stage.now base.now start }
 {
-    match orphan(alloc, space, stage, base, cell) {
+    match orphan_word(alloc, space, stage, base, cell) {
         Ok(word) => {
             make_room(space, start);
             Ok(word)
@@ -77,7 +77,7 @@ pub(crate) fn cell_word<P: Space>(
         Err(SpaceFault::Memory) => Err(SpaceFault::Memory),
         Err(SpaceFault::Full) => {
             space.release(start);
-            orphan(alloc, space, stage, base, cell)
+            orphan_word(alloc, space, stage, base, cell)
         }
     }
 }

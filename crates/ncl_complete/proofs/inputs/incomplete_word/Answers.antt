@@ -9,7 +9,7 @@ use Rattle.ncl_stage.specs.Tables.{all_data_function}
 use Rattle.ncl_stage.proofs.OutputLaws.{values_at}
 use Rattle.ncl_stage.proofs.LeastLaws.{least-shown, incomplete-shown}
 use Rattle.ncl_stage.proofs.ChangedLaws.{values-width}
-use Rattle.ncl_complete.proofs.inputs.input_complete.Goals as goal
+use Rattle.ncl_complete.proofs.inputs.incomplete_word.Goals as goal
 
 pub returns-clause-word : goal.returns-clause-word
 returns-clause-word g c =

@@ -5,7 +5,7 @@ use Rattle.ncl_space.specs.Space.{SpaceData}
 use Rattle.ncl_stage.specs.BitOrder.{placed}
 use Rattle.ncl_stage.specs.declared.variant.Variant.TheVariants.{Base}
 use Rattle.ncl_stage.proofs.ChangedLaws.{values-width}
-use Rattle.ncl_orphan.proofs.observing.orphan.Goals as goal
+use Rattle.ncl_orphan.proofs.observing.orphan_word.Goals as goal
 
 pub least_one-requires-clause-width : goal.least_one-requires-clause-width
 least_one-requires-clause-width g c = c.in_ok-high.ensures.kept.width ∙ values-width (g.P.Space.meaning c.args.space.now) c.args.stage.now Base c.args.base.now c.requires.space c.facts.ensures c.requires.base ∙ sym (ap length c.order.ensures ∙ c.requires.base.wired.order.many)

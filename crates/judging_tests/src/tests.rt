@@ -1,4 +1,5 @@
 //! The tests, and what they share.
+mod bound_tests;
 mod diagram_tests;
 mod gate_tests;
 mod plain_tests;

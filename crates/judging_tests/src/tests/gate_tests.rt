@@ -1,4 +1,4 @@
-//! By how many gates input-completeness and observability are judged.
+//! By how many gates input-completeness and observability are judged, each by its variant and all nets together.
 ghost use Rattle.std.specs.Prelude.{◌≤◌, length};
 
 use super::testing::{Counting, full_adder};
@@ -6,7 +6,7 @@ use ncl_complete::input_complete;
 use ncl_orphan::orphan;
 use ncl_shape::Stage;
 use ncl_space::SpaceFault;
-use ncl_stage::{Variant, values};
+use ncl_stage::{Variant, all_observed, values};
 use std::alloc::Global;
 use std::test::Fail;
 
@@ -58,5 +58,27 @@ fn cells_by_few_gates(rt: HostRuntime) -> Result<(), Fail> {
         let gates = gates_for(rt.alloc(), &adder, Variant::Cell(cell))?;
         assert!(rt; gates.is_some_and(|count| count <= most));
     }
+    Ok(())
+}
+
+/// By how many gates a stage is seen to be observed, if it is.
+fn gates_to_observe(alloc: Global, stage: &Stage) -> Result<Option<usize>, SpaceFault>
+    requires { length stage.now.inputs ≤ 10 }
+{
+    let mut space = Counting::new(alloc, stage.inputs.items().len());
+    let base = values(alloc, &mut space, stage, Variant::Base)?;
+    let before = space.applied();
+    if !all_observed(alloc, &mut space, stage, &base)? {
+        return Ok(None);
+    }
+    Ok(Some(space.applied().saturating_sub(before)))
+}
+
+// One gate for each of four cells, and two for each of the twelve pins that read a net which no output shows.
+#[test]
+fn an_adder_observed_by_few_gates(rt: HostRuntime) -> Result<(), Fail> {
+    let adder = full_adder(rt.alloc())?;
+    let gates = gates_to_observe(rt.alloc(), &adder)?;
+    assert!(rt; gates.is_some_and(|count| count <= 4 + 2 * 12));
     Ok(())
 }

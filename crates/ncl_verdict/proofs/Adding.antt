@@ -1,8 +1,8 @@
 -- The bits of a mask, added to those at some places.
-use Rattle.std.proofs.Common.{◌≡◌, ◌≢◌, ℕ, ◌+◌, ◌-◌, ◌*◌, ◌^◌, ◌<◌, ◌≤◌, List, [], ◌++◌, length, min, get_or, set, take, drop, append-nil, inl, inr, sym, ap, ◌∙◌, subst, arith}
+use Rattle.std.proofs.Common.{◌≡◌, ◌≢◌, ℕ, ◌+◌, ◌-◌, ◌*◌, ◌^◌, ◌<◌, ◌≤◌, List, [], length, min, get_or, set, inl, inr, sym, ◌∙◌, subst, arith}
 use Rattle.std.specs.Prelude.{All, Contains, bit_or}
 use Rattle.std.proofs.lemmas.Bool.{cases_eq, cases_lt}
-use Rattle.std.proofs.lemmas.List.{drop_all, get_or-set_other, get_or-set_same, get_or_default, length-set, take_all}
+use Rattle.std.proofs.lemmas.List.{get_or-set_other, get_or-set_same, get_or_default, length-set}
 use Rattle.std.proofs.lemmas.List.Elements.{All-contains}
 use Rattle.ncl_stage.specs.Wiring.{WiringData}
 use Rattle.ncl_verdict.specs.Masks.{AreReaches, Covers, IsPart, both, mask_at}

@@ -1,11 +1,11 @@
 -- What variants are asked over: Base alone, or Base and what earlier variants made.
-use Rattle.std.proofs.Common.{◌≡◌, ℕ, true, false, List, [], ◌∷◌, ◌++◌, length, map, get_or, Option, refl, sym, ap, ◌∙◌, subst, arith}
+use Rattle.std.proofs.Common.{◌≡◌, ℕ, true, length, get_or, Option, sym, ap, ◌∙◌, subst, arith}
 use Rattle.std.specs.Prelude.{All, IsTrue}
 use Rattle.std.specs.FinSet as set
 use Rattle.ncl_base.proofs.Tests.{All-member, map-same}
 use Rattle.ncl_shape.specs.Stage.{StageData}
-use Rattle.ncl_space.specs.Beads.{Beads, distinct_beads, bead_count}
-use Rattle.ncl_space.specs.Space.{SpaceData, IsSpace, IsLive, Keeps, MarksNow, Releases, fits, is_within}
+use Rattle.ncl_space.specs.Beads.{Beads, distinct_beads}
+use Rattle.ncl_space.specs.Space.{SpaceData, IsSpace, IsLive, Keeps, Releases, fits, is_within}
 use Rattle.ncl_space.specs.declared.space.Mark.{Mark}
 use Rattle.ncl_space.specs.declared.space.Ref.{Ref}
 use Rattle.ncl_space.proofs.BeadLaws.{distinct_beads-append}

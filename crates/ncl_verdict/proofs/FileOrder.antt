@@ -13,11 +13,13 @@ use Rattle.std.proofs.lemmas.Option.{slice_get-get_or, slice_get_within}
 use Rattle.ncl_gates.specs.declared.kind.Kind.TheVariants.{Th12}
 use Rattle.ncl_shape.specs.declared.stage.StageCell.{StageCell}
 use Rattle.ncl_shape.specs.Stage.{StageData, IsStage}
-use Rattle.ncl_base.proofs.Members.{Member, here, there, member_cases, Member-map, member_of_map, All-from_members, Contains-from_Member, Member-from_Contains, Contains-from_slice_get, slice_get-from_Contains, slice_get-some}
+use Rattle.ncl_base.proofs.Members.{Member, here, there, member_cases, Member-append_cases, Member-map, member_of_map, All-from_members, Contains-from_Member, Member-from_Contains, Contains-from_slice_get, slice_get-from_Contains, slice_get-some}
 use Rattle.ncl_base.proofs.Lists.{HasKeys, AreIncreasing, Differ, pairs-head, pairs-tail, differ_of_map, same_increasing}
 use Rattle.ncl_base.proofs.Ranges.{below_of_range}
 use Rattle.ncl_stage.proofs.Apart.{same_from_value}
-use Rattle.ncl_verdict.specs.Judgement.{below, cell_number, file_number, file_order, inserted, ordered_by}
+use Rattle.ncl_stage.specs.declared.variant.Variant.TheVariants.{Bit, Cell}
+use Rattle.ncl_verdict.specs.InSpace.{IsAfterBase}
+use Rattle.ncl_verdict.specs.Judgement.{after_base, below, cell_number, file_number, file_order, inserted, ordered_by}
 use Rattle.ncl_verdict.proofs.Places.{Member-below, Member-ordered_by}
 
 -- ordering adds no place
@@ -227,6 +229,19 @@ sorted-places s is ys moved up = same_increasing (file_number s) zs (file_order 
                 | inr more ↦ absurd (numbers_apart s is y x (omega arith) (place x in_x) (sym same))
               ]
         ]
+
+-- the variants after Base are of the stage's bits and cells
+pub after_base-within : (s : StageData) → All (IsAfterBase s) (after_base s)
+after_base-within s =
+    All-from_members (IsAfterBase s) (after_base s) (λ variant m.
+    elim (Member-append_cases variant (map Bit (below (length s.inputs))) (map Cell (file_order s)) m) [
+      | inl among ↦
+          let (bit, n, is) = member_of_map Bit (below (length s.inputs)) variant among in
+          subst (IsAfterBase s) is (let lt = below_of_range 0 (length s.inputs) bit n in omega (arith, lt))
+      | inr among ↦
+          let (cell, n, is) = member_of_map Cell (file_order s) variant among in
+          subst (IsAfterBase s) is (file_order-within s cell n)
+    ])
 
 -- the numbers below one more
 pub below-more : (n : ℕ) → below (n + 1) ≡ below n ++ n ∷ []

@@ -1,11 +1,11 @@
 -- What a space answers, as the judgement counts it.
-use Rattle.std.proofs.Common.{◌≡◌, ℕ, zero, suc, ◌<◌, Bool, true, false, List, [], ◌∷◌, ◌++◌, length, map, get_or, Option, Some, None, inl, inr, refl, sym, ap, ◌∙◌, subst, arith}
+use Rattle.std.proofs.Common.{◌≡◌, ℕ, zero, suc, ◌+◌, ◌<◌, Bool, true, false, List, [], ◌∷◌, ◌++◌, length, map, get_or, Option, Some, None, inl, inr, refl, sym, ap, ◌∙◌, subst, arith, below_more}
 use Rattle.std.specs.Prelude.{nat_le, nat_lt, option_and_then, if◌then◌else◌}
 use Rattle.std.specs.List.{flat_map}
 use Rattle.std.specs.Option.{option_map}
 use Rattle.std.specs.FinSet as set
 use Rattle.std.proofs.lemmas.Bool.Decides.{nat_tests}
-use Rattle.std.proofs.lemmas.List.{append_assoc, map-append}
+use Rattle.std.proofs.lemmas.List.{append_assoc}
 use Rattle.ncl_shape.specs.Stage.{StageData}
 use Rattle.ncl_base.proofs.Members.{Member, here, there, Member-append_cases, Member-append_left, Member-append_right, Member-from_Contains, Contains-from_Member, Contains-from_slice_get, slice_get-from_Contains}
 use Rattle.ncl_base.proofs.Ranges.{below_of_range}
@@ -15,20 +15,20 @@ use Rattle.ncl_space.proofs.BeadLaws.{HasMembers, distinct_beads-append, distinc
 use Rattle.ncl_space.proofs.SpaceLaws.{count_of_both, too_much_by_front}
 use Rattle.ncl_space.proofs.MakingLaws.{have-kept}
 use Rattle.ncl_stage.specs.declared.variant.Variant.{Variant}
-use Rattle.ncl_stage.specs.declared.variant.Variant.TheVariants.{Base, Bit, Cell}
+use Rattle.ncl_stage.specs.declared.variant.Variant.TheVariants.{Base}
 use Rattle.ncl_stage.specs.Faults.{StageFault, BothRails, NoRail}
 use Rattle.ncl_stage.specs.BitOrder.{bit_order}
 use Rattle.ncl_stage.specs.LeastWords.{below, faults_of, first_of, least_word, least_word_by}
 use Rattle.ncl_stage.specs.StageTables.{ValuesData, net_tables, net_tables_by}
 use Rattle.ncl_stage.specs.Tables.{count, data_functions, data_fronts, function_tables_by, illegal_functions, tables_by, tables_of}
 use Rattle.ncl_stage.proofs.OutputLaws.{values_at, shared-tables}
-use Rattle.ncl_stage.proofs.LeastLaws.{tables_of-parts, first_of-append, first_of-one}
+use Rattle.ncl_stage.proofs.LeastLaws.{tables_of-parts, first_of-one}
 use Rattle.ncl_complete.specs.declared.rail_fault.RailFault.{RailFault}
 use Rattle.ncl_complete.specs.declared.rail_fault.RailFault.TheVariants as rail
 use Rattle.ncl_complete.specs.RailFaults.{rail_fault, found_fault_by, first_rail_fault_by}
 use Rattle.ncl_verdict.specs.declared.verdict.Verdict.{Verdict}
 use Rattle.ncl_verdict.specs.declared.verdict.Verdict.TheVariants as verdict
-use Rattle.ncl_verdict.specs.Judgement.{Stop, at_variant, file_order, found, of_stage, verdict_of}
+use Rattle.ncl_verdict.specs.Judgement.{Stop, after_base, at_variant, found, of_stage, verdict_of}
 use Rattle.ncl_verdict.specs.InSpace.{IsReady, stopped_within, rail_verdict, output_of}
 
 -- ---- what stops
@@ -196,20 +196,19 @@ first-some_at f [] i d y lt none is = absurd (omega arith)
 first-some_at f (x ∷ xs) zero d y lt none is = ap (λ answer. first_of (answer ∷ map f xs)) is
 first-some_at f (x ∷ xs) (suc i) d y lt none is = ap (λ answer. first_of (answer ∷ map f xs)) (none zero x (omega arith)) ∙ first-some_at f xs i d y (omega arith) (λ k e before. none (suc k) e (omega arith)) is
 
--- ---- a stage as a whole
--- its answers: under Base, without each bit, and without each cell
-pub of_stage-parts : (stop : Stop) (s : StageData) → of_stage stop s ≡ first_of (at_variant stop s Base ∷ first_of (map (at_variant stop s) (map Bit (below (length s.inputs)))) ∷ first_of (map (at_variant stop s) (map Cell (file_order s))) ∷ [])
-of_stage-parts stop s =
-    ap (λ l. first_of (at_variant stop s Base ∷ l)) (map-append (at_variant stop s) (map Bit (below (length s.inputs))) (map Cell (file_order s)))
-    ∙ by_first (at_variant stop s Base) (map (at_variant stop s) (map Bit (below (length s.inputs)))) (map (at_variant stop s) (map Cell (file_order s)))
-  where
-    by_first : (answer : Option Verdict) (bits cells : List (Option Verdict)) → first_of (answer ∷ bits ++ cells) ≡ first_of (answer ∷ first_of bits ∷ first_of cells ∷ [])
-    by_first None bits cells = first_of-append bits cells
-    by_first (Some v) bits cells = refl
+-- within a list it is no matter what stands past its end
+default : {X : Type 0} (xs : List X) (i : ℕ) (d e : X) → i < length xs → get_or xs i d ≡ get_or xs i e
+default [] i d e lt = absurd (omega arith)
+default (x ∷ xs) zero d e lt = refl
+default (x ∷ xs) (suc i) d e lt = default xs i d e (omega arith)
 
--- what is said without bits and cells is all, where nothing is said under Base
-pub of_stage-said : (s : StageData) (new old : Option ℕ) → new ≡ old → at_variant (stopped_within old) s Base ≡ None → first_of (first_of (map (at_variant (stopped_within new) s) (map Bit (below (length s.inputs)))) ∷ first_of (map (at_variant (stopped_within new) s) (map Cell (file_order s))) ∷ []) ≡ of_stage (stopped_within old) s
+-- where there is none at the members before a place, and none at that one, there is none before the next
+pub first-none_more : {X Y : Type 0} (f : X → Option Y) (xs : List X) (i : ℕ) (d : X) → i < length xs → ((k : ℕ) → k < i → (e : X) → f (get_or xs k e) ≡ None) → f (get_or xs i d) ≡ None → (k : ℕ) → k < i + 1 → (e : X) → f (get_or xs k e) ≡ None
+first-none_more {X} f xs i d lt none is = below_more (λ k. (e : X) → f (get_or xs k e) ≡ None) i none (λ e. ap f (default xs i e d lt) ∙ is)
+
+-- ---- a stage as a whole
+-- what is said after Base is all, where nothing is said under Base
+pub of_stage-said : (s : StageData) (new old : Option ℕ) → new ≡ old → at_variant (stopped_within old) s Base ≡ None → first_of (map (at_variant (stopped_within new) s) (after_base s)) ≡ of_stage (stopped_within old) s
 of_stage-said s new old same base =
-    ap (λ limit. first_of (first_of (map (at_variant (stopped_within limit) s) (map Bit (below (length s.inputs)))) ∷ first_of (map (at_variant (stopped_within limit) s) (map Cell (file_order s))) ∷ [])) same
-    ∙ sym (of_stage-parts (stopped_within old) s
-    ∙ (λ k. first_of (base k ∷ first_of (map (at_variant (stopped_within old) s) (map Bit (below (length s.inputs)))) ∷ first_of (map (at_variant (stopped_within old) s) (map Cell (file_order s))) ∷ [])))
+    ap (λ limit. first_of (map (at_variant (stopped_within limit) s) (after_base s))) same
+    ∙ sym (ap (λ answer. first_of (answer ∷ map (at_variant (stopped_within old) s) (after_base s))) base)

@@ -4,13 +4,13 @@ use Rattle.std.specs.Prelude.{bit_and, bit_or, count_ones, min, nat_eq, nat_le}
 use Rattle.std.specs.List.{fold}
 use Rattle.std.specs.Int.{bit_at}
 use Rattle.std.specs.Int.Count.{ones_step}
-use Rattle.std.proofs.lemmas.Bool.{and_parts, both_ways, cases_eq, cases_lt, eq-eqb, eqb-true, or_cases, or_left, or_right}
+use Rattle.std.proofs.lemmas.Bool.{both_ways, cases_eq, cases_lt, eq-eqb, eqb-true, or_cases, or_left, or_right}
 use Rattle.std.proofs.lemmas.Bool.Decides.{nat_tests}
 use Rattle.std.proofs.lemmas.List.{get_or_past}
 use Rattle.std.proofs.lemmas.Nat.{pow_pos}
 use Rattle.std.proofs.lemmas.Nat.Bits.{bit_at-lt, bit_at-suc, bit_at_and, bit_at_lowest, same_from_bits}
 use Rattle.ncl_gates.specs.Bits.{is_set}
-use Rattle.ncl_gates.proofs.BitLaws.{is_set-and, is_set-or}
+use Rattle.ncl_gates.proofs.BitLaws.{is_set-or}
 use Rattle.ncl_base.proofs.Members.{Member, here, there}
 use Rattle.ncl_space.specs.Bounds.{Agree, weight, width_of}
 use Rattle.ncl_space.proofs.TableLaws.{pow_suc}

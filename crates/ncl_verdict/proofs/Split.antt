@@ -12,7 +12,7 @@ use Rattle.ncl_verdict.proofs.Firsts.{map-refuses, unwrap-refuses}
 use Rattle.ncl_verdict.proofs.Sound.{of_stage-refuses}
 
 -- the first of two lists is the first of the first, or else of the second
-first_of-append : {X : Type 0} (f : X → Option Verdict) (xs ys : List X) → first_of (map f (xs ++ ys)) ≡ option_or (first_of (map f xs)) (first_of (map f ys))
+pub first_of-append : {X : Type 0} (f : X → Option Verdict) (xs ys : List X) → first_of (map f (xs ++ ys)) ≡ option_or (first_of (map f xs)) (first_of (map f ys))
 first_of-append f [] ys = refl
 first_of-append f (x ∷ xs) ys = by_first (f x) (first_of-append f xs ys)
   where

@@ -45,9 +45,13 @@ file_number s place = (cell_number (slice_get s.cells place)).0
 abbrev pub file_order : StageData → List ℕ
 file_order s = ordered_by (file_number s) (below (length s.cells))
 
--- the variants in their order: Base, the input bits, the gate cells in the order of the file
+-- the variants after Base in their order: the input bits, then the gate cells in the order of the file
+abbrev pub after_base : StageData → List Variant
+after_base s = map Bit (below (length s.inputs)) ++ map Cell (file_order s)
+
+-- the variants in their order
 abbrev pub variants : StageData → List Variant
-variants s = Base ∷ map Bit (below (length s.inputs)) ++ map Cell (file_order s)
+variants s = Base ∷ after_base s
 
 -- the verdict of a fault, if some word shows it
 abbrev pub found : StageData → StageFault → Option Verdict

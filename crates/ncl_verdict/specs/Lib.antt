@@ -1,4 +1,5 @@
 pub mod Judgement
 pub mod InSpace
+pub mod Sharing
 pub mod Within
 pub mod Masks

@@ -1,21 +1,18 @@
 //! The judgement of a stage in a space.
-ghost use Rattle.std.specs.Prelude.{◌≡◌, ◌<◌, [], ◌∷◌, IfOk, IfNone, MatchResult, length, map, slice_get};
+ghost use Rattle.std.specs.Prelude.{◌≡◌, ◌<◌, IfOk, IfNone, MatchResult, length, map};
 ghost use Rattle.ncl_space.specs.Beads.{distinct_beads};
 ghost use Rattle.ncl_space.specs.Space.{IsNew, Keeps, Restores};
 ghost use Rattle.ncl_stage.specs.BitOrder.{bit_order};
-ghost use Rattle.ncl_stage.specs.LeastWords.{below, first_of};
 ghost use Rattle.ncl_stage.specs.StageTables.{AreValues, net_tables};
-ghost use Rattle.ncl_verdict.specs.InSpace.{IsAsked, IsReady, output_of, rail_verdict, stopped_within};
-ghost use Rattle.ncl_verdict.specs.Judgement.{at_variant, cell_number, file_order, of_stage};
+ghost use Rattle.ncl_verdict.specs.InSpace.{IsReady, output_of, rail_verdict, stopped_within};
+ghost use Rattle.ncl_verdict.specs.Judgement.{after_base, at_variant, first_of, of_stage};
 
-use crate::asking::{bit_word, cell_word};
-use crate::file_order::cells_in_file_order;
+use crate::variants::{first_said, stopped, variants_after_base};
 use crate::verdict::Verdict;
 use ncl_base::Memory;
 use ncl_complete::{RailFault, valid_rails};
-use ncl_netlist::CellId;
 use ncl_shape::Stage;
-use ncl_space::{Mark, Space, SpaceFault};
+use ncl_space::{Space, SpaceFault};
 use ncl_stage::{Values, Variant, values};
 use std::alloc::Global;
 
@@ -70,7 +67,7 @@ pub(crate) fn under_base<P: Space>(
     }
 }
 
-/// The first that is said without an input bit or a cell. A variant for each.
+/// The first that is said after Base. A variant for each input bit and each cell.
 pub(crate) fn after_base<P: Space>(
     alloc: Global,
     space: &mut P,
@@ -78,27 +75,11 @@ pub(crate) fn after_base<P: Space>(
     base: &Values,
 ) -> Result<Option<Verdict>, Memory>
     requires { IsReady (P.meaning space.old) stage.now base.now }
-    ensures { let stop = stopped_within (P.meaning space.old).limit in
-        IfOk result (λ answer. answer ≡ first_of (first_of (map (at_variant stop stage.now) (map Variant.Bit (below (length stage.now.inputs))))
-        ∷ first_of (map (at_variant stop stage.now) (map Variant.Cell (file_order stage.now))) ∷ [])) }
+    ensures { IfOk result (λ answer. answer ≡ first_of (map (at_variant (stopped_within (P.meaning space.old).limit) stage.now) (after_base stage.now))) }
 {
     let start = space.mark();
-    if let Some(verdict) = at_bits(alloc, space, stage, base, start)? {
-        return Ok(Some(verdict));
-    }
-    at_cells(alloc, space, stage, base, start)
-}
-
-// What a refusal of the space says: that the limit is passed, if it isn't want of memory.
-fn stopped(stage: &Stage, fault: SpaceFault) -> Result<Option<Verdict>, Memory>
-    ensures { IfOk result (λ answer. (fault ≡ SpaceFault.Full) × (answer ≡ Some (Verdict.Limit stage.now.number))) }
-{
-    match fault {
-        SpaceFault::Full => Ok(Some(Verdict::Limit {
-            stage: stage.number,
-        })),
-        SpaceFault::Memory => Err(Memory),
-    }
+    let variants = variants_after_base(alloc, stage)?;
+    first_said(alloc, space, stage, base, start, variants.as_slice())
 }
 
 // What is said under Base, once the functions of the nets are made.
@@ -141,71 +122,4 @@ fn told(stage: &Stage, fault: RailFault) -> Verdict
             word,
         },
     }
-}
-
-// The first that is said without an input bit. A variant for each bit.
-fn at_bits<P: Space>(
-    alloc: Global,
-    space: &mut P,
-    stage: &Stage,
-    base: &Values,
-    start: Mark,
-) -> Result<Option<Verdict>, Memory>
-    requires { let now = P.meaning space.old in IsAsked now now.limit stage.now base.now start }
-    ensures answer { let stop = stopped_within (P.meaning space.old).limit in
-        IfOk result (λ answer. answer ≡ first_of (map (at_variant stop stage.now) (map Variant.Bit (below (length stage.now.inputs))))) }
-    ensures asked { IsAsked (P.meaning space.new) (P.meaning space.old).limit stage.now base.now start }
-{
-    stage.facts();
-    for bit in 0..stage.inputs.items().len() {
-        match bit_word(alloc, space, stage, base, start, bit) {
-            Ok(Some(word)) => {
-                return Ok(Some(Verdict::Incomplete {
-                    stage: stage.number,
-                    bit: bit as u32 + 1,
-                    word,
-                }));
-            }
-            Ok(None) => {}
-            Err(fault) => return stopped(stage, fault),
-        }
-    }
-    Ok(None)
-}
-
-// The first that is said without a cell, in the order of the file. A variant for each cell.
-fn at_cells<P: Space>(
-    alloc: Global,
-    space: &mut P,
-    stage: &Stage,
-    base: &Values,
-    start: Mark,
-) -> Result<Option<Verdict>, Memory>
-    requires { let now = P.meaning space.old in IsAsked now now.limit stage.now base.now start }
-    ensures { let stop = stopped_within (P.meaning space.old).limit in
-        IfOk result (λ answer. answer ≡ first_of (map (at_variant stop stage.now) (map Variant.Cell (file_order stage.now)))) }
-{
-    let cells = cells_in_file_order(alloc, stage)?;
-    for (_, place) in cells.as_slice() {
-        match cell_word(alloc, space, stage, base, start, *place) {
-            Ok(Some(word)) => {
-                return Ok(Some(Verdict::Orphan {
-                    stage: stage.number,
-                    cell: cell_at(stage, *place),
-                    word,
-                }));
-            }
-            Ok(None) => {}
-            Err(fault) => return stopped(stage, fault),
-        }
-    }
-    Ok(None)
-}
-
-// The cell at a place of a stage, by its number.
-fn cell_at(stage: &Stage, place: usize) -> CellId
-    requires { place < length stage.now.cells }
-    ensures { result ≡ cell_number (slice_get stage.now.cells place) }
-{
-    stage.cells.items()[place].cell
 }

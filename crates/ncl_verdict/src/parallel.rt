@@ -4,7 +4,7 @@ ghost use Rattle.std.specs.Thread.{IsSync};
 ghost use Rattle.ncl_shape.specs.Stage.{StageData};
 ghost use Rattle.ncl_verdict.specs.Judgement.{judgement, Answers};
 
-use crate::judging::judge_stage;
+use crate::judging::judge_stage_par;
 use crate::verdict::Verdict;
 use ncl_base::Memory;
 use ncl_shape::{Pipeline, Stage};
@@ -14,19 +14,34 @@ use std::thread::{Threads, join};
 
 /// What judges one stage.
 pub trait Judge {
-    /// The judgement of a stage that may have at most `limit` nodes. An error is want of memory.
-    fn judge_one(&self, alloc: Global, stage: &Stage, limit: u32) -> Result<Verdict, Memory>
-        requires { 1 ≤ limit }
+    /// The judgement of a stage that may have at most `limit` nodes, by at most `parts` threads. An error is want of memory.
+    fn judge_one<R: Threads + Sync>(
+        &self,
+        rt: &R,
+        alloc: Global,
+        stage: &Stage,
+        limit: u32,
+        parts: u32,
+    ) -> Result<Verdict, Memory>
+        requires limit { 1 ≤ limit }
+        requires sync { IsSync R.row }
         ensures { IfOk result (λ verdict. verdict ≡ judgement limit (stage.now ∷ [])) };
 }
 
-/// Judges each stage by `judge_stage`.
+/// Judges each stage by `judge_stage_par`.
 #[derive(Clone, Copy, Debug)]
 pub struct Stages;
 
 impl Judge for Stages {
-    fn judge_one(&self, alloc: Global, stage: &Stage, limit: u32) -> Result<Verdict, Memory> {
-        judge_stage(alloc, stage, limit)
+    fn judge_one<R: Threads + Sync>(
+        &self,
+        rt: &R,
+        alloc: Global,
+        stage: &Stage,
+        limit: u32,
+        parts: u32,
+    ) -> Result<Verdict, Memory> {
+        judge_stage_par(rt, alloc, stage, limit, parts)
     }
 }
 
@@ -35,7 +50,8 @@ impl Judge for Stages {
 /// answer of `judge`. An error is want of memory.
 ///
 /// The stages are split in halves, each judged by a thread of its own where one can be started, until there are `parts`
-/// runs of them. It costs what the judge takes for each stage. A stage that comes after one that is known to be refused is not begun any more; one that is being
+/// runs of them; where there are fewer stages, the threads that are left share the variants of one. It costs what the judge
+/// takes for each stage. A stage that comes after one that is known to be refused is not begun any more; one that is being
 /// judged is judged to its end.
 pub fn judge_par<R: Threads + Sync, J: Judge + Sync>(
     rt: &R,
@@ -53,7 +69,7 @@ pub fn judge_par<R: Threads + Sync, J: Judge + Sync>(
     let refused = AtomicUsize::new(usize::MAX);
     match judge_halves(rt, alloc, judge, stages, 0, &refused, limit, parts)? {
         Some(verdict) => Ok(verdict),
-        None => judge_each(alloc, judge, stages, limit),
+        None => judge_each(rt, alloc, judge, stages, limit),
     }
 }
 
@@ -75,7 +91,7 @@ fn judge_halves<R: Threads + Sync, J: Judge + Sync>(
     ensures { IfOk result (Answers limit stages.now) }
 {
     if parts < 2 || stages.len() < 2 {
-        return judge_run(alloc, judge, stages, place, refused, limit);
+        return judge_run(rt, alloc, judge, stages, place, refused, limit, parts);
     }
     let (front, back) = stages.split_at(stages.len() / 2);
     let middle = place + front.len();
@@ -115,13 +131,15 @@ fn with_later(
 /// The judgement of some stages one after another, the first of which stands at a place of the pipeline; none where a
 /// stage before one of them is known to be refused. It notes the place of the first that it finds refused. Asks the
 /// judge once for each stage, up to that one.
-pub(crate) fn judge_run<J: Judge>(
+pub(crate) fn judge_run<R: Threads + Sync, J: Judge>(
+    rt: &R,
     alloc: Global,
     judge: &J,
     stages: &[Stage],
     place: usize,
     refused: &AtomicUsize,
     limit: u32,
+    parts: u32,
 ) -> Result<Option<Verdict>, Memory>
     requires limit { 1 ≤ limit }
     requires room { place + length stages.now < 2 ^ 64 }
@@ -131,7 +149,7 @@ pub(crate) fn judge_run<J: Judge>(
         if refused.load(Ordering::SeqCst) < place + number {
             return Ok(None);
         }
-        match judge.judge_one(alloc, stage, limit)? {
+        match judge.judge_one(rt, alloc, stage, limit, parts)? {
             Verdict::Accepted => {}
             verdict => {
                 refused.fetch_min(place + number, Ordering::SeqCst);
@@ -143,7 +161,8 @@ pub(crate) fn judge_run<J: Judge>(
 }
 
 /// The judgement of some stages one after another. Asks the judge once for each, up to the first that isn't accepted.
-fn judge_each<J: Judge>(
+fn judge_each<R: Threads + Sync, J: Judge>(
+    rt: &R,
     alloc: Global,
     judge: &J,
     stages: &[Stage],
@@ -153,7 +172,7 @@ fn judge_each<J: Judge>(
     ensures { IfOk result (λ verdict. verdict ≡ judgement limit stages.now) }
 {
     for stage in stages {
-        match judge.judge_one(alloc, stage, limit)? {
+        match judge.judge_one(rt, alloc, stage, limit, 1)? {
             Verdict::Accepted => {}
             verdict => return Ok(verdict),
         }

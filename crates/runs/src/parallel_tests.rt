@@ -42,7 +42,14 @@ impl Meeting {
 }
 
 impl Judge for Meeting {
-    fn judge_one(&self, alloc: Global, stage: &Stage, limit: u32) -> Result<Verdict, Memory> {
+    fn judge_one<R: Threads + Sync>(
+        &self,
+        _rt: &R,
+        alloc: Global,
+        stage: &Stage,
+        limit: u32,
+        _parts: u32,
+    ) -> Result<Verdict, Memory> {
         let meets = if stage.number == 1 {
             self.meets(&self.first, &self.second)
         } else {
@@ -63,7 +70,14 @@ struct Counting {
 }
 
 impl Judge for Counting {
-    fn judge_one(&self, alloc: Global, stage: &Stage, limit: u32) -> Result<Verdict, Memory> {
+    fn judge_one<R: Threads + Sync>(
+        &self,
+        _rt: &R,
+        alloc: Global,
+        stage: &Stage,
+        limit: u32,
+        _parts: u32,
+    ) -> Result<Verdict, Memory> {
         self.judged.fetch_add(1, Ordering::SeqCst);
         judge_stage(alloc, stage, limit)
     }

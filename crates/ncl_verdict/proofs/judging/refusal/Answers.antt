@@ -1,31 +1,25 @@
-use Rattle.std.proofs.Common.{◌≡◌, None, Some, ◌∙◌, ap, subst}
+use Rattle.std.proofs.Common.{◌≡◌, Some, ◌∙◌, subst}
 use Rattle.std.specs.Prelude.{MatchResult}
 use Rattle.std.proofs.lemmas.Result.{IfOk-weaker}
 use Rattle.ncl_shape.specs.Stage.{StageData}
-use Rattle.ncl_space.specs.Space.{SpaceData}
 use Rattle.ncl_diagram.specs.Diagram.{diagram_space}
-use Rattle.ncl_stage.specs.declared.variant.Variant.TheVariants.{Base}
-use Rattle.ncl_verdict.specs.Judgement.{at_variant, of_stage, stopped_at}
-use Rattle.ncl_verdict.specs.InSpace.{IsReady, stopped_within}
+use Rattle.ncl_verdict.specs.Judgement.{of_stage, stopped_at}
+use Rattle.ncl_verdict.specs.InSpace.{IsBegun}
 use Rattle.ncl_verdict.proofs.InSpaceLaws.{of_stage-said}
-use Rattle.ncl_verdict.proofs.Sound.{base-valid}
 use Rattle.ncl_verdict.proofs.judging.refusal.Goals as goal
 
-pub is_accepted-requires-clause-rails : goal.is_accepted-requires-clause-rails
-is_accepted-requires-clause-rails c =
+pub after_base-requires : goal.after_base-requires
+after_base-requires c =
     let s : StageData = c.args.stage.now in
-    let old : SpaceData = diagram_space c.new-space.result in
-    let new : SpaceData = diagram_space c.under_base.new.space in
-    let said = subst (λ r. MatchResult r (λ base. (at_variant (stopped_within old.limit) s Base ≡ None) × IsReady new s base) (λ v. at_variant (stopped_within old.limit) s Base ≡ Some v)) c.in-Ok.is c.in_ok-base.ensures.answer in
-    base-valid (stopped_within old.limit) s said.0
+    let begun : IsBegun c.args.limit s (diagram_space c.in-Ok.ready.space) c.in-Ok.ready.base =
+    subst (λ r. MatchResult r (λ ready. IsBegun c.args.limit s (diagram_space ready.space) ready.base) (λ said. said ≡ of_stage (stopped_at c.args.limit) s)) c.in-Ok.is c.in_ok-ready.ensures in
+    begun.ready
 
-pub returns : goal.returns
-returns c =
+pub returns-in-Ok : goal.returns-in-Ok
+returns-in-Ok c =
     let s : StageData = c.args.stage.now in
-    let old : SpaceData = diagram_space c.new-space.result in
-    let new : SpaceData = diagram_space c.under_base.new.space in
-    let last : SpaceData = diagram_space c.is_accepted.new.space in
-    let said = subst (λ r. MatchResult r (λ base. (at_variant (stopped_within old.limit) s Base ≡ None) × IsReady new s base) (λ v. at_variant (stopped_within old.limit) s Base ≡ Some v)) c.in-Ok.is c.in_ok-base.ensures.answer in
+    let begun : IsBegun c.args.limit s (diagram_space c.in-Ok.ready.space) c.in-Ok.ready.base =
+    subst (λ r. MatchResult r (λ ready. IsBegun c.args.limit s (diagram_space ready.space) ready.base) (λ said. said ≡ of_stage (stopped_at c.args.limit) s)) c.in-Ok.is c.in_ok-ready.ensures in
     IfOk-weaker c.after_base.result _ (λ answer. answer ≡ of_stage (stopped_at c.args.limit) s)
-    (λ answer is. is ∙ of_stage-said s last.limit old.limit (c.is_accepted.ensures.kept.limit ∙ c.under_base.ensures.kept.limit) said.0 ∙ ap (λ limit. of_stage (stopped_within limit) s) c.new-space.ensures.limit)
+    (λ answer is. is ∙ of_stage-said s _ (Some c.args.limit) begun.same_limit begun.nothing)
     c.after_base.ensures

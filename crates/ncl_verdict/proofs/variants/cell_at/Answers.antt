@@ -3,7 +3,7 @@ use Rattle.std.proofs.lemmas.Option.{slice_get-get_or}
 use Rattle.ncl_shape.specs.declared.stage.StageCell.{StageCell}
 use Rattle.ncl_shape.specs.Stage.{StageData}
 use Rattle.ncl_verdict.specs.Judgement.{cell_number}
-use Rattle.ncl_verdict.proofs.in_space.cell_at.Goals as goal
+use Rattle.ncl_verdict.proofs.variants.cell_at.Goals as goal
 
 pub returns : goal.returns
 returns c =

@@ -1,0 +1,8 @@
+use Rattle.std.proofs.Common.{◌≡◌, ◌++◌, map}
+use Rattle.ncl_stage.specs.LeastWords.{below}
+use Rattle.ncl_stage.specs.declared.variant.Variant.TheVariants.{Bit}
+use Rattle.ncl_verdict.proofs.variants.push_bits.Given as goal
+
+-- the bits so far are there
+abbrev pub invariant-loop-bit : goal.invariant-loop-bit
+invariant-loop-bit l = l.variants.items ≡ l.fn.variants.items ++ map Bit (below l.bit)

@@ -1,0 +1,168 @@
+//! The variants of a stage, and what is said at one of them.
+ghost use Rattle.std.specs.Prelude.{◌≡◌, ◌<◌, ◌++◌, All, IfOk, OnOk, length, map, slice_get};
+ghost use Rattle.ncl_stage.specs.LeastWords.{below};
+ghost use Rattle.ncl_verdict.specs.InSpace.{IsAfterBase, IsAsked, stopped_within};
+ghost use Rattle.ncl_verdict.specs.Judgement.{after_base, at_variant, cell_number, first_of};
+
+use crate::asking::{bit_word, cell_word};
+use crate::file_order::cells_in_file_order;
+use crate::verdict::Verdict;
+use ncl_base::Memory;
+use ncl_netlist::CellId;
+use ncl_shape::Stage;
+use ncl_space::{Mark, Space, SpaceFault};
+use ncl_stage::{Values, Variant};
+use std::alloc::Global;
+
+/// The variants of a stage after Base in their order: without each input bit, then without each cell in the order of the file.
+/// An error is want of memory.
+///
+/// Takes time for sorting the cells.
+pub(crate) fn variants_after_base(alloc: Global, stage: &Stage) -> Result<Vec<Variant>, Memory>
+    ensures { IfOk result (λ variants. variants.items ≡ after_base stage.now) }
+{
+    let cells = cells_in_file_order(alloc, stage)?;
+    let mut variants = Vec::new(alloc);
+    push_bits(&mut variants, stage.inputs.items().len())?;
+    push_cells(&mut variants, cells.as_slice())?;
+    Ok(variants)
+}
+
+// Puts so many input bits after some variants.
+fn push_bits(variants: &mut Vec<Variant>, bits: usize) -> Result<(), Memory>
+    ensures { OnOk result (variants.new.items ≡ variants.old.items ++ map Variant.Bit (below bits)) }
+{
+    for bit in 0..bits {
+        variants.push(Variant::Bit(bit))?;
+    }
+    Ok(())
+}
+
+// Puts cells, told by number and place, after some variants.
+fn push_cells(variants: &mut Vec<Variant>, cells: &[(u32, usize)]) -> Result<(), Memory>
+    ensures { OnOk result (variants.new.items ≡ variants.old.items ++ map (λ cell. Variant.Cell cell.1) cells.now) }
+{
+    for (_, place) in cells {
+        variants.push(Variant::Cell(*place))?;
+    }
+    Ok(())
+}
+
+/// What is said at some variants after Base, in their order: the first that is said. The space has the functions of Base since
+/// `start`. An error is want of memory.
+///
+/// For each of them it goes over the cells once, or twice.
+pub(crate) fn first_said<P: Space>(
+    alloc: Global,
+    space: &mut P,
+    stage: &Stage,
+    base: &Values,
+    start: Mark,
+    variants: &[Variant],
+) -> Result<Option<Verdict>, Memory>
+    requires asked { let now = P.meaning space.old in IsAsked now now.limit stage.now base.now start }
+    requires after { All (IsAfterBase stage.now) variants.now }
+    ensures { IfOk result (λ answer. answer ≡ first_of (map (at_variant (stopped_within (P.meaning space.old).limit) stage.now) variants.now)) }
+{
+    for variant in variants {
+        if let Some(verdict) = said_at(alloc, space, stage, base, start, *variant)? {
+            return Ok(Some(verdict));
+        }
+    }
+    Ok(None)
+}
+
+/// What is said at a variant after Base, if anything is. The space has the functions of Base since `start`, and what it made for
+/// earlier variants may be there too. An error is want of memory.
+///
+/// It goes over the cells once, or twice.
+pub(crate) fn said_at<P: Space>(
+    alloc: Global,
+    space: &mut P,
+    stage: &Stage,
+    base: &Values,
+    start: Mark,
+    variant: Variant,
+) -> Result<Option<Verdict>, Memory>
+    requires asked { let now = P.meaning space.old in IsAsked now now.limit stage.now base.now start }
+    requires after { IsAfterBase stage.now variant }
+    ensures answer { IfOk result (λ answer. answer ≡ at_variant (stopped_within (P.meaning space.old).limit) stage.now variant) }
+    ensures asked { IsAsked (P.meaning space.new) (P.meaning space.old).limit stage.now base.now start }
+{
+    match variant {
+        Variant::Base => Ok(None),
+        Variant::Bit(bit) => said_at_bit(alloc, space, stage, base, start, bit),
+        Variant::Cell(cell) => said_at_cell(alloc, space, stage, base, start, cell),
+    }
+}
+
+// What is said without an input bit.
+fn said_at_bit<P: Space>(
+    alloc: Global,
+    space: &mut P,
+    stage: &Stage,
+    base: &Values,
+    start: Mark,
+    bit: usize,
+) -> Result<Option<Verdict>, Memory>
+    requires asked { let now = P.meaning space.old in IsAsked now now.limit stage.now base.now start }
+    requires bit { bit < length stage.now.inputs }
+    ensures answer { IfOk result (λ answer. answer ≡ at_variant (stopped_within (P.meaning space.old).limit) stage.now (Variant.Bit bit)) }
+    ensures asked { IsAsked (P.meaning space.new) (P.meaning space.old).limit stage.now base.now start }
+{
+    stage.facts();
+    match bit_word(alloc, space, stage, base, start, bit) {
+        Ok(Some(word)) => Ok(Some(Verdict::Incomplete {
+            stage: stage.number,
+            bit: bit as u32 + 1,
+            word,
+        })),
+        Ok(None) => Ok(None),
+        Err(fault) => stopped(stage, fault),
+    }
+}
+
+// What is said without a cell.
+fn said_at_cell<P: Space>(
+    alloc: Global,
+    space: &mut P,
+    stage: &Stage,
+    base: &Values,
+    start: Mark,
+    cell: usize,
+) -> Result<Option<Verdict>, Memory>
+    requires asked { let now = P.meaning space.old in IsAsked now now.limit stage.now base.now start }
+    requires cell { cell < length stage.now.cells }
+    ensures answer { IfOk result (λ answer. answer ≡ at_variant (stopped_within (P.meaning space.old).limit) stage.now (Variant.Cell cell)) }
+    ensures asked { IsAsked (P.meaning space.new) (P.meaning space.old).limit stage.now base.now start }
+{
+    match cell_word(alloc, space, stage, base, start, cell) {
+        Ok(Some(word)) => Ok(Some(Verdict::Orphan {
+            stage: stage.number,
+            cell: cell_at(stage, cell),
+            word,
+        })),
+        Ok(None) => Ok(None),
+        Err(fault) => stopped(stage, fault),
+    }
+}
+
+/// What a refusal of the space says: that the limit is passed, if it isn't want of memory.
+pub(crate) fn stopped(stage: &Stage, fault: SpaceFault) -> Result<Option<Verdict>, Memory>
+    ensures { IfOk result (λ answer. (fault ≡ SpaceFault.Full) × (answer ≡ Some (Verdict.Limit stage.now.number))) }
+{
+    match fault {
+        SpaceFault::Full => Ok(Some(Verdict::Limit {
+            stage: stage.number,
+        })),
+        SpaceFault::Memory => Err(Memory),
+    }
+}
+
+// The cell at a place of a stage, by its number.
+fn cell_at(stage: &Stage, place: usize) -> CellId
+    requires { place < length stage.now.cells }
+    ensures { result ≡ cell_number (slice_get stage.now.cells place) }
+{
+    stage.cells.items()[place].cell
+}

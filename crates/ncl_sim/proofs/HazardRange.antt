@@ -1,9 +1,7 @@
 -- An item that is enabled is one of the pipeline, so the item of a hazard is.
 use Rattle.std.proofs.Common.{◌≡◌, ℕ, Bool, List, subst}
-use Rattle.std.specs.Prelude.{slice_get}
 use Rattle.ncl_shape.specs.declared.item.Item.{Item}
 use Rattle.ncl_shape.specs.Pipeline.{PipelineData}
-use Rattle.ncl_machine.specs.Steps.{current_rails, enabled, has_value}
 use Rattle.ncl_machine.specs.Held.{InRange}
 use Rattle.ncl_delay.specs.Delays.{DelaysData}
 use Rattle.ncl_sim.specs.TimedRun.{Ends, IsTimedRun, TraceData, lost, over, quiet, state_after}

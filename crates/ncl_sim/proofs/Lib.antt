@@ -16,6 +16,7 @@ pub mod WheelLaws
 pub mod CalendarLaws
 pub mod QueueLaws
 pub mod LookLaws
+pub mod RowLaws
 pub mod Start
 pub mod WordsDue
 pub mod Quiet

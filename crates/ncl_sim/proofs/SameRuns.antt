@@ -1,5 +1,5 @@
 -- A timed run asks nothing of a pipeline's stages, so the pipelines of one netlist have the same timed runs.
-use Rattle.std.proofs.Common.{◌≡◌, ◌≢◌, ◌⊎◌, ℕ, ◌<◌, ◌≤◌, ◌+◌, ◌==◌, Bool, true, false, if◌then◌else◌, List, [], ◌∷◌, Option, Some, None, refl, sym, ap, ◌∙◌, subst, inl, inr, arith}
+use Rattle.std.proofs.Common.{◌≡◌, ℕ, ◌+◌, ◌==◌, Bool, true, false, if◌then◌else◌, List, [], ◌∷◌, Option, Some, None, refl, sym, ap, ◌∙◌, subst, inl, inr, arith}
 use Rattle.ncl_netlist.specs.Netlist.{NetlistData}
 use Rattle.ncl_shape.specs.declared.item.Item.{Item}
 use Rattle.ncl_shape.specs.declared.item.Item.TheVariants.{Cell as Fire, Raise, Lower, Take, Ready}
@@ -11,7 +11,6 @@ use Rattle.ncl_shape.specs.Shape.{Shape}
 use Rattle.ncl_shape.proofs.ShapeLaws.{shape_is_one}
 use Rattle.ncl_machine.specs.State.{State, reset}
 use Rattle.ncl_machine.specs.Steps.{enabled, step}
-use Rattle.ncl_machine.specs.Run.{IsRunFrom, after}
 use Rattle.ncl_insensitivity.proofs.SamePipelineLaws.{with_stages, enabled-same, step-same, after-same, run-same, other-is}
 use Rattle.ncl_delay.specs.Delays.{DelaysData, delay_of}
 use Rattle.ncl_delay.specs.declared.fired.Fired.{Fired}

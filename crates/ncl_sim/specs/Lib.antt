@@ -4,6 +4,7 @@ pub mod Touch
 pub mod Candidates
 pub mod Agenda
 pub mod Queue
+pub mod Rows
 pub mod Calendar
 pub mod Running
 pub mod Times

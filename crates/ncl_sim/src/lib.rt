@@ -19,6 +19,7 @@ mod agenda;
 mod calendar;
 pub mod laws;
 mod looking;
+mod rows;
 mod run;
 mod simulator;
 mod touched;

@@ -5,8 +5,10 @@ ghost use Rattle.ncl_machine.specs.Held.{IsFor, InRange, meaning};
 ghost use Rattle.ncl_sim.specs.Numbers.{rises};
 ghost use Rattle.ncl_sim.specs.Candidates.{candidate, number_count};
 ghost use Rattle.ncl_sim.specs.Queue.{IsTracked, least_of, look_at, looks, loses, lower};
+ghost use Rattle.ncl_sim.specs.Rows.{AreRowsOf, IsDelayAt};
 
 use crate::agenda::Agenda;
+use crate::rows::Row;
 use ncl_base::Memory;
 use ncl_delay::Delays;
 use ncl_machine::State;
@@ -62,30 +64,66 @@ fn rises(pipeline: &Pipeline, state: &State, item: Item) -> bool
     }
 }
 
+/// The delay of the item of a number, where that is enabled, found by asking the netlist.
+#[inline(never)]
+fn delay_asked(pipeline: &Pipeline, delays: &Delays, state: &State, number: u32) -> Option<u32>
+    requires made { IsFor pipeline.now state.now }
+    requires within { number < number_count pipeline.now }
+    ensures { IsDelayAt pipeline.now delays.now (meaning state.now) number result }
+{
+    let item = candidate(pipeline, state, number);
+    if !state.enabled(pipeline, item) {
+        return None;
+    }
+    Some(delays.of(pipeline, item, rises(pipeline, state, item)))
+}
+
+/// The delay of the item of a number, where that is enabled. Takes constant time.
+fn delay_at(
+    pipeline: &Pipeline,
+    delays: &Delays,
+    rows: &[Row],
+    state: &State,
+    number: u32,
+) -> Option<u32>
+    requires made { IsFor pipeline.now state.now }
+    requires rows { AreRowsOf pipeline.now delays.now rows.now }
+    requires within { number < number_count pipeline.now }
+    ensures { IsDelayAt pipeline.now delays.now (meaning state.now) number result }
+{
+    pipeline.facts();
+    let place = number as usize;
+    if place < rows.len() {
+        let row = &rows[place];
+        return row.delay(state);
+    }
+    delay_asked(pipeline, delays, state, number)
+}
+
 /// Looks at a number, after a step or at the start: it begins to wait where its item is enabled and doesn't wait.
 /// Answers whether it was lost, which is where it waits and its item isn't enabled.
 pub(crate) fn look(
     agenda: &mut Agenda,
     pipeline: &Pipeline,
     delays: &Delays,
+    rows: &[Row],
     state: &State,
     time: u64,
     number: u32,
 ) -> Result<bool, Memory>
     requires made { IsFor pipeline.now state.now }
+    requires rows { AreRowsOf pipeline.now delays.now rows.now }
     requires count { length agenda.old ≡ number_count pipeline.now }
     requires within { number < number_count pipeline.now }
     requires time { time ≤ 2 ^ 63 }
     ensures waits { OnOk result (agenda.new ≡ look_at pipeline.now delays.now (meaning state.now) time agenda.old number) }
     ensures lost { IfOk result (λ lost. lost ≡ loses pipeline.now (meaning state.now) agenda.old number) }
 {
-    let item = candidate(pipeline, state, number);
     let waits = agenda.is_waiting(number);
-    if !state.enabled(pipeline, item) {
+    let Some(delay) = delay_at(pipeline, delays, rows, state, number) else {
         return Ok(waits);
-    }
+    };
     if !waits {
-        let delay = delays.of(pipeline, item, rises(pipeline, state, item));
         agenda.wait(number, time + u64::from(delay))?;
     }
     Ok(false)
@@ -106,11 +144,13 @@ pub(crate) fn look_all(
     agenda: &mut Agenda,
     pipeline: &Pipeline,
     delays: &Delays,
+    rows: &[Row],
     state: &State,
     time: u64,
     numbers: &[u32],
 ) -> Result<Option<u32>, Memory>
     requires made { IsFor pipeline.now state.now }
+    requires rows { AreRowsOf pipeline.now delays.now rows.now }
     requires count { length agenda.old ≡ number_count pipeline.now }
     requires within { All (λ number. number < number_count pipeline.now) numbers.now }
     requires time { time ≤ 2 ^ 63 }
@@ -119,7 +159,7 @@ pub(crate) fn look_all(
 {
     let mut lost = None;
     for number in numbers {
-        if look(agenda, pipeline, delays, state, time, *number)? {
+        if look(agenda, pipeline, delays, rows, state, time, *number)? {
             lost = lower(lost, *number);
         }
     }
@@ -131,16 +171,18 @@ pub(crate) fn started(
     alloc: Global,
     pipeline: &Pipeline,
     delays: &Delays,
+    rows: &[Row],
     state: &State,
 ) -> Result<Agenda, Memory>
     requires made { IsFor pipeline.now state.now }
+    requires rows { AreRowsOf pipeline.now delays.now rows.now }
     requires reset { meaning state.now ≡ reset pipeline.now state.now.offered }
     ensures { IfOk result (IsTracked pipeline.now delays.now state.now.offered []) }
 {
     let count = number_count(pipeline);
     let mut agenda = Agenda::new(alloc, count as usize)?;
     for number in 0..count {
-        look(&mut agenda, pipeline, delays, state, 0, number)?;
+        look(&mut agenda, pipeline, delays, rows, state, 0, number)?;
     }
     Ok(agenda)
 }

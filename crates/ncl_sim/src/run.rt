@@ -6,10 +6,12 @@ ghost use Rattle.ncl_machine.specs.Run.{AreWordsOf};
 ghost use Rattle.ncl_machine.specs.Steps.{enabled, step};
 ghost use Rattle.ncl_sim.specs.Candidates.{candidate, number_count};
 ghost use Rattle.ncl_sim.specs.TimedRun.{most_steps};
+ghost use Rattle.ncl_sim.specs.Rows.{AreRowsOf};
 ghost use Rattle.ncl_sim.specs.Running.{HasTouched, IsPopped, IsStopped, IsUnderWay, Turned};
 
 use crate::agenda::Agenda;
 use crate::looking::{candidate, look_all, started};
+use crate::rows::Row;
 use crate::touched::Touched;
 use crate::trace::End;
 use ncl_base::{Memory, Word};
@@ -33,15 +35,17 @@ impl Run {
         alloc: Global,
         pipeline: &Pipeline,
         delays: &Delays,
+        rows: &[Row],
         words: &[Word],
     ) -> Result<Run, Memory>
-        requires { AreWordsOf pipeline.now words.now }
+        requires rows { AreRowsOf pipeline.now delays.now rows.now }
+        requires words { AreWordsOf pipeline.now words.now }
         ensures under_way { IfOk result (IsUnderWay pipeline.now delays.now) }
         ensures offered { IfOk result (λ run. run.state.offered ≡ words.now) }
         ensures steps { IfOk result (λ run. run.steps.items ≡ []) }
     {
         let state = State::new(alloc, pipeline, words)?;
-        let agenda = started(alloc, pipeline, delays, &state)?;
+        let agenda = started(alloc, pipeline, delays, rows, &state)?;
         Ok(Run {
             state,
             agenda,
@@ -74,10 +78,12 @@ impl Run {
         &mut self,
         pipeline: &Pipeline,
         delays: &Delays,
+        rows: &[Row],
         touched: &Touched,
         time: u64,
         number: u32,
     ) -> Result<Option<u32>, Memory>
+        requires rows { AreRowsOf pipeline.now delays.now rows.now }
         requires touched { HasTouched pipeline.now touched.now }
         requires few { length self.old.steps.items < most_steps pipeline.now self.old.state.offered }
         requires popped { IsPopped pipeline.now delays.now self.old time number }
@@ -94,6 +100,7 @@ impl Run {
             &mut self.agenda,
             pipeline,
             delays,
+            rows,
             &self.state,
             time,
             numbers,
@@ -106,9 +113,11 @@ impl Run {
         &mut self,
         pipeline: &Pipeline,
         delays: &Delays,
+        rows: &[Row],
         touched: &Touched,
         most: u64,
     ) -> Result<End, Memory>
+        requires rows { AreRowsOf pipeline.now delays.now rows.now }
         requires touched { HasTouched pipeline.now touched.now }
         requires under_way { IsUnderWay pipeline.now delays.now self.old }
         requires most { most ≡ most_steps pipeline.now self.old.state.offered }
@@ -123,7 +132,7 @@ impl Run {
             if self.steps.len() as u64 == most {
                 return Ok(End::Over);
             }
-            if let Some(lost) = self.turn(pipeline, delays, touched, time, number)? {
+            if let Some(lost) = self.turn(pipeline, delays, rows, touched, time, number)? {
                 let item = candidate(pipeline, &self.state, lost);
                 return Ok(End::Hazard { item, time });
             }

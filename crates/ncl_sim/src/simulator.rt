@@ -8,6 +8,7 @@ ghost use Rattle.ncl_delay.specs.declared.fired.Fired.{Fired as FiredStep};
 ghost use Rattle.ncl_sim.specs.declared.trace.Taken.{Taken as TakenPair};
 ghost use Rattle.ncl_sim.specs.declared.trace.End.TheVariants.{Quiet};
 
+use crate::rows::rows_of;
 use crate::run::Run;
 use crate::touched::touched_of;
 use crate::trace::{Taken, Trace};
@@ -52,8 +53,10 @@ fn delivered(alloc: Global, steps: &[Fired], pairs: &[Pair]) -> Result<Vec<Taken
 /// ends quiet, with every word delivered that is due, at any delays: those that its banks hold at reset, the last bank's
 /// first, and then those offered.
 ///
-/// It takes memory for the steps, of which there are at most twice as many as words due times nets, and each step takes
-/// the time of what reads its net, and the logarithm of how many items wait.
+/// It takes memory for a row of each cell and for the steps, of which there are at most twice as many as words due times
+/// nets. After each step it looks at what reads the net that has changed. A look at a cell reads the cell's row, the values
+/// of five nets, and whether the cell waits. What begins to wait takes constant time where it is due within 63 units of
+/// time, or else the logarithm of how many items wait.
 pub fn simulate(
     alloc: Global,
     pipeline: &Pipeline,
@@ -68,11 +71,13 @@ pub fn simulate(
 {
     pipeline.facts();
     let touched = touched_of(alloc, pipeline)?;
-    let mut run = Run::begin(alloc, pipeline, delays, words)?;
+    let rows = rows_of(alloc, pipeline, delays)?;
+    let rows = rows.as_slice();
+    let mut run = Run::begin(alloc, pipeline, delays, rows, words)?;
     let nets = pipeline.netlist().nets().len();
     let due = pipeline.data_banks() + words.len();
     let most = 2 * due as u64 * nets as u64;
-    let end = run.finish(pipeline, delays, &touched, most)?;
+    let end = run.finish(pipeline, delays, rows, &touched, most)?;
     let taken = delivered(alloc, &run.steps, run.state.delivered())?;
     let Run {
         state: _,

@@ -1,0 +1,158 @@
+-- What the row of a cell tells: whether the cell is excited, and its delay.
+use Rattle.std.proofs.Common.{◌≡◌, ◌⊎◌, ℕ, zero, suc, ◌+◌, ◌-◌, ◌<◌, ◌≤◌, true, false, not, List, [], ◌∷◌, ◌++◌, length, take, get_or, Option, Some, None, refl, sym, ap, subst, ◌∙◌, arith, inl, inr}
+use Rattle.std.specs.Prelude.{slice_get}
+use Rattle.std.proofs.lemmas.Bool.{cases_lt}
+use Rattle.std.proofs.lemmas.List.{get_or_past, length_push}
+use Rattle.std.proofs.lemmas.List.Elements.{All-contains}
+use Rattle.std.proofs.lemmas.Option.{none-some, same_Some, slice_get_within}
+use Rattle.ncl_base.proofs.Members.{Contains-from_slice_get, slice_get-some}
+use Rattle.ncl_gates.specs.Cell.{next_of_cell, pins_of}
+use Rattle.ncl_gates.specs.NextWord.{own_pins}
+use Rattle.ncl_gates.proofs.PinLaws.{pins_of-few}
+use Rattle.ncl_netlist.specs.declared.cell.Cell.{Cell}
+use Rattle.ncl_netlist.specs.declared.ids.NetId.{NetId}
+use Rattle.ncl_netlist.specs.Netlist.{CellFits}
+use Rattle.ncl_cell_rules.specs.Origin.{CellAt}
+use Rattle.ncl_shape.specs.declared.item.Item.{Item}
+use Rattle.ncl_shape.specs.declared.item.Item.TheVariants.{Cell as Fire}
+use Rattle.ncl_shape.specs.Closure.{pin_values}
+use Rattle.ncl_shape.specs.Nets.{Nets}
+use Rattle.ncl_shape.specs.Pipeline.{PipelineData}
+use Rattle.ncl_shape.specs.Shape.{Shape}
+use Rattle.ncl_machine.specs.State.{State}
+use Rattle.ncl_machine.specs.Steps.{differ, enabled, is_excited, next_value}
+use Rattle.ncl_delay.specs.Delays.{DelaysData, delay_of, edge, edges_of_cell}
+use Rattle.ncl_delay.specs.declared.delays.Edges.{Edges}
+use Rattle.ncl_sim.specs.Numbers.{output_is_low, rises}
+use Rattle.ncl_sim.specs.Candidates.{candidate}
+use Rattle.ncl_sim.specs.Rows.{AreRowsOf, HasNetsBelow, IsDelayAt, IsDelayOfRow, IsRowOf, is_excited_by_row, next_by_row, pin_or_output}
+use Rattle.ncl_sim.specs.declared.rows.Row.{Row}
+use Rattle.ncl_sim.proofs.Candidates.{cell_candidate}
+
+-- ---- a row and its cell
+
+-- the values at four pins, of which as many count as the cell has
+filled : (v : Nets) (ins : List NetId) (out : NetId) → length ins ≤ 4 → take (length ins) (v (get_or ins 0 out).0 ∷ v (get_or ins 1 out).0 ∷ v (get_or ins 2 out).0 ∷ v (get_or ins 3 out).0 ∷ []) ≡ pin_values v ins
+filled v [] out few = refl
+filled v (a ∷ []) out few = refl
+filled v (a ∷ b ∷ []) out few = refl
+filled v (a ∷ b ∷ c ∷ []) out few = refl
+filled v (a ∷ b ∷ c ∷ d ∷ []) out few = refl
+filled v (a ∷ b ∷ c ∷ d ∷ e ∷ ins) out few = absurd (omega arith)
+
+module _ (nets : ℕ) (e : Edges) (c : Cell) (row : Row) (fits : CellFits nets c) (is : IsRowOf e c row) where
+  pin-within : (pin : ℕ) → (pin_or_output c pin).0 < nets
+  pin-within pin = elim (cases_lt pin (length c.ins.items)) [
+    | inl lt ↦ fits.inputs pin c.out lt
+    | inr past ↦ subst (λ (net : NetId). net.0 < nets) (sym (get_or_past c.ins.items pin c.out past)) fits.output
+  ]
+
+  row-nets : HasNetsBelow nets row
+  row-nets = record {
+    first = subst (λ (net : NetId). net.0 < nets) (sym is.first) (pin-within 0);
+    second = subst (λ (net : NetId). net.0 < nets) (sym is.second) (pin-within 1);
+    third = subst (λ (net : NetId). net.0 < nets) (sym is.third) (pin-within 2);
+    fourth = subst (λ (net : NetId). net.0 < nets) (sym is.fourth) (pin-within 3);
+    output = subst (λ (net : NetId). net.0 < nets) (sym is.output) fits.output;
+  }
+
+  own_pins-row : (v : Nets) → own_pins c.kind (v row.first.0 ∷ v row.second.0 ∷ v row.third.0 ∷ v row.fourth.0 ∷ []) ≡ pin_values v c.ins.items
+  own_pins-row v =
+      let count : length (pins_of c.kind) - 1 ≡ length c.ins.items = omega (arith, fits.pins) in
+      (λ i. take (count i) (v (is.first i).0 ∷ v (is.second i).0 ∷ v (is.third i).0 ∷ v (is.fourth i).0 ∷ []))
+      ∙ filled v c.ins.items c.out (omega (arith, fits.pins, pins_of-few c.kind))
+
+  -- the bit of the word is the cell's next value
+  next-row : (v : Nets) → next_by_row v row ≡ next_value v c
+  next-row v =
+      is.word (v row.first.0) (v row.second.0) (v row.third.0) (v row.fourth.0) (v row.output.0)
+      ∙ (λ i. next_of_cell c.kind (own_pins-row v i) (v (is.output i).0))
+
+  excited-row : (v : Nets) → is_excited_by_row v row ≡ is_excited v (Some c)
+  excited-row v = λ i. differ (next-row v i) (v (is.output i).0)
+
+module _ (p : PipelineData) (d : DelaysData) (k : ℕ) (c : Cell) (row : Row) (here : CellAt p.netlist k c) (fits : CellFits (length p.netlist.nets) c) (is : IsRowOf (edges_of_cell d (record { 0 = k })) c row) (s : State) where
+  enabled-row : enabled p s (candidate p s k) ≡ is_excited_by_row s.value row
+  enabled-row =
+      ap (enabled p s) (cell_candidate p s k (slice_get_within p.netlist.cells k c here))
+      ∙ ap (is_excited s.value) here
+      ∙ sym (excited-row (length p.netlist.nets) (edges_of_cell d (record { 0 = k })) c row fits is s.value)
+
+  delay-row : delay_of d (candidate p s k) (rises p s.value (candidate p s k)) ≡ edge row.delays (not (s.value row.output.0))
+  delay-row =
+      ap (λ (item : Item). delay_of d item (rises p s.value item)) (cell_candidate p s k (slice_get_within p.netlist.cells k c here))
+      ∙ ap (λ (found : Option Cell). edge (edges_of_cell d (record { 0 = k })) (output_is_low s.value found)) here
+      ∙ (λ i. edge (sym is.delays i) (not (s.value (sym is.output i).0)))
+
+  told-row : (told : Option ℕ) → IsDelayOfRow s.value row told → IsDelayAt p d s k told
+  told-row None off = enabled-row ∙ off
+  told-row (Some delay) (on, same) = (enabled-row ∙ on, same ∙ sym delay-row)
+
+-- ---- the rows of a pipeline
+
+-- what stands past the last row
+abbrev pub no_row : Row
+no_row = record {
+  word = 0;
+  first = record { 0 = 0 };
+  second = record { 0 = 0 };
+  third = record { 0 = 0 };
+  fourth = record { 0 = 0 };
+  output = record { 0 = 0 };
+  delays = record { rise = 0; fall = 0 };
+}
+
+module _ (p : PipelineData) (d : DelaysData) (rows : List Row) (are : AreRowsOf p d rows) (shape : Shape p.netlist p) (k : ℕ) (row : Row) (at : slice_get rows k ≡ Some row) where
+  cell-there : (c : Cell) × CellAt p.netlist k c × CellFits (length p.netlist.nets) c
+  cell-there =
+      let (c, here) = slice_get-some p.netlist.cells k (subst (λ n. k < n) are.count (slice_get_within rows k row at)) in
+      (c, here, All-contains (CellFits (length p.netlist.nets)) p.netlist.cells c shape.is_netlist.fits (Contains-from_slice_get p.netlist.cells k c here))
+
+  pub nets-there : HasNetsBelow (length p.netlist.nets) row
+  nets-there =
+      let (c, here, fits) = cell-there in
+      row-nets (length p.netlist.nets) (edges_of_cell d (record { 0 = k })) c row fits (are.each k c row here at)
+
+  -- what a row tells holds of the item of its number
+  pub told-there : (s : State) (told : Option ℕ) → IsDelayOfRow s.value row told → IsDelayAt p d s k told
+  told-there s told is =
+      let (c, here, fits) = cell-there in
+      told-row p d k c row here fits (are.each k c row here at) s told is
+
+-- ---- the rows as they are made
+
+-- these are the first rows
+pub record AreFirstRows (d : DelaysData) (cells : List Cell) (count : ℕ) (rows : List Row) : Type 0 where
+  pub size : length rows ≡ count
+  pub each : (k : ℕ) (c : Cell) (row : Row) → slice_get cells k ≡ Some c → slice_get rows k ≡ Some row → IsRowOf (edges_of_cell d (record { 0 = k })) c row
+
+pushed : {X : Type 0} (xs : List X) (y : X) (k : ℕ) (x : X) → slice_get (xs ++ y ∷ []) k ≡ Some x → (slice_get xs k ≡ Some x) ⊎ ((k ≡ length xs) × (y ≡ x))
+pushed [] y zero x at = inr (refl, same_Some y x at)
+pushed [] y (suc k) x at = absurd (none-some x at)
+pushed (z ∷ xs) y zero x at = inl at
+pushed (z ∷ xs) y (suc k) x at = elim (pushed xs y k x at) [ inl before ↦ inl before | inr (last, same) ↦ inr (ap suc last, same) ]
+
+-- the delays of a record of two
+edges-are : (e : Edges) (rise fall : ℕ) → rise ≡ e.rise → fall ≡ e.fall → ◌≡◌ {A = Edges} (record { rise = rise; fall = fall }) e
+edges-are e rise fall up down = λ i. record { rise = up i; fall = down i }
+
+pub rows-next : (d : DelaysData) (cells : List Cell) (count : ℕ) (rows : List Row) (c : Cell) (row : Row) (rise fall : ℕ) → AreFirstRows d cells count rows → slice_get cells count ≡ Some c → rise ≡ delay_of d (Fire (record { 0 = count })) true → fall ≡ delay_of d (Fire (record { 0 = count })) false → IsRowOf (record { rise = rise; fall = fall }) c row → AreFirstRows d cells (count + 1) (rows ++ row ∷ [])
+rows-next d cells count rows c row rise fall first at up down is = record {
+  size = length_push rows row ∙ ap (λ n. n + 1) first.size;
+  each = λ k other there at_cell at_row. elim (pushed rows row k there at_row) [
+    | inl before ↦ first.each k other there at_cell before
+    | inr (last, same) ↦
+        let place : count ≡ k = sym (last ∙ first.size) in
+        let cell : c ≡ other = same_Some c other (sym at ∙ ap (slice_get cells) place ∙ at_cell) in
+        subst (IsRowOf (edges_of_cell d (record { 0 = k })) other) same
+        (subst (λ x. IsRowOf (edges_of_cell d (record { 0 = k })) x row) cell
+        (subst (λ n. IsRowOf (edges_of_cell d (record { 0 = n })) c row) place
+        (subst (λ (e : Edges). IsRowOf e c row) (edges-are (edges_of_cell d (record { 0 = count })) rise fall up down) is)))
+  ];
+}
+
+pub rows-all : (p : PipelineData) (d : DelaysData) (cells : List Cell) (count : ℕ) (rows : List Row) → cells ≡ p.netlist.cells → count ≡ length cells → AreFirstRows d cells count rows → AreRowsOf p d rows
+rows-all p d cells count rows same all first = record {
+  count = first.size ∙ all ∙ ap length same;
+  each = λ k c row at_cell at_row. first.each k c row (ap (λ cs. slice_get cs k) same ∙ at_cell) at_row;
+}

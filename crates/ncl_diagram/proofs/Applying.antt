@@ -185,7 +185,7 @@ get_set (y ∷ xs) (suc at) (suc i) v x e = more (get_set xs at i v x e)
     more (inl h) = inl h
     more (inr p) = inr (ap suc p.0, p.1)
 
-length_set : {X : Type 0} (xs : List X) (at : ℕ) (v : X) → length (set xs at v) ≡ length xs
+pub length_set : {X : Type 0} (xs : List X) (at : ℕ) (v : X) → length (set xs at v) ≡ length xs
 length_set [] at v = refl
 length_set (y ∷ xs) zero v = refl
 length_set (y ∷ xs) (suc at) v = ap suc (length_set xs at v)

@@ -357,13 +357,13 @@ reach_key n nodes from =
     (choices pair (reach n nodes from.a.place) (reach n nodes from.b.place))
     (choices pair (reach n nodes from.c.place) (reach n nodes from.d.place))
 
-is_key_laws : IsEquivalence is_key
+pub is_key_laws : IsEquivalence is_key
 is_key_laws =
     and_equiv (on_equiv (λ (k : Key). k.a.place) nat_eq_equiv)
     (and_equiv (on_equiv (λ (k : Key). k.b.place) nat_eq_equiv)
     (and_equiv (on_equiv (λ (k : Key). k.c.place) nat_eq_equiv) (on_equiv (λ (k : Key). k.d.place) nat_eq_equiv)))
 
-among_member : (keys : List Key) (q : Key) → list_any (is_key q) keys ≡ true → Among keys q
+pub among_member : (keys : List Key) (q : Key) → list_any (is_key q) keys ≡ true → Among keys q
 among_member [] q h = absurd (grind arith)
 among_member (k ∷ keys) q h = by (either (is_key q k) (list_any (is_key q) keys) h) (among_member keys q)
   where

@@ -18,3 +18,4 @@ pub mod KeptLaws
 pub mod Packing
 pub mod Reaching
 pub mod Counting
+pub mod KeyLaws

@@ -1,5 +1,5 @@
 -- The memo of one operation.
-use Rattle.std.proofs.Common.{◌≡◌, ℕ, zero, suc, ◌+◌, ◌<◌, List, [], ◌∷◌, ◌++◌, Bool, true, false, not, if◌then◌else◌, length, slice_get, Some, None, Option, sym, ◌∙◌, ap, refl, arith, subst, ◌⊎◌, inl, inr, nat_eq, ◌&&◌}
+use Rattle.std.proofs.Common.{◌≡◌, ℕ, zero, suc, ◌+◌, ◌<◌, List, [], ◌∷◌, ◌++◌, Bool, true, false, if◌then◌else◌, length, slice_get, Some, None, Option, sym, ◌∙◌, ap, arith, subst, ◌⊎◌, inl, inr, nat_eq, ◌&&◌}
 use Rattle.std.proofs.lemmas.Bool.{or_parts, and_parts}
 use Rattle.std.proofs.lemmas.Bool.Decides.{nat_tests}
 use Rattle.std.specs.List.{list_any}
@@ -8,30 +8,25 @@ use Rattle.ncl_space.specs.declared.space.Ref.{Ref}
 use Rattle.ncl_diagram.specs.declared.memo.Key.{Key}
 use Rattle.ncl_diagram.specs.declared.nodes.Node.{Node}
 use Rattle.ncl_diagram.specs.Nodes.{is_node, node_at}
-use Rattle.ncl_diagram.specs.Memo.{KeepsKeys, Forgets, is_key}
+use Rattle.ncl_diagram.specs.Memo.{KeepsKeys, Forgets, MayAdd, is_key}
 use Rattle.ncl_diagram.proofs.Canonical.{same_node}
 
-pub absent_by_added : (b a : Bool) → a ≡ true → a ≡ not b → b ≡ false
-absent_by_added true a e n = absurd (grind arith)
-absent_by_added false a e n = refl
+-- a key is put last, or none is
+pub kept_by_push : (b : Bool) (keys more : List Key) (key : Key) → more ≡ (if b then keys ++ key ∷ [] else keys) → KeepsKeys keys more
+kept_by_push true keys more key e = record { kept = λ i k g. subst (λ (l : List Key). slice_get l i ≡ Some k) (sym e) (slice_get-kept keys key i k g) }
+kept_by_push false keys more key e = record { kept = λ i k g. subst (λ (l : List Key). slice_get l i ≡ Some k) (sym e) g }
 
-pub present_by_added : (b a : Bool) → a ≡ false → a ≡ not b → b ≡ true
-present_by_added true a e n = refl
-present_by_added false a e n = absurd (grind arith)
+pub may_add : (b : Bool) (keys more : List Key) (key : Key) → more ≡ (if b then keys ++ key ∷ [] else keys) → MayAdd keys more key
+may_add true keys more key e = inr e
+may_add false keys more key e = inl e
 
-pub kept_by_push : (b : Bool) (keys more : List Key) (key : Key) → more ≡ (if b then keys else keys ++ key ∷ []) → KeepsKeys keys more
-kept_by_push true keys more key e = record { kept = λ i k g. subst (λ (l : List Key). slice_get l i ≡ Some k) (sym e) g }
-kept_by_push false keys more key e = record { kept = λ i k g. subst (λ (l : List Key). slice_get l i ≡ Some k) (sym e) (slice_get-kept keys key i k g) }
+pub none_put : (b : Bool) (keys more : List Key) (key : Key) → b ≡ false → more ≡ (if b then keys ++ key ∷ [] else keys) → more ≡ keys
+none_put true keys more key h e = absurd (grind arith)
+none_put false keys more key h e = e
 
--- a key that is there isn't put again
-pub none_put : (b : Bool) (keys more : List Key) (key : Key) → b ≡ true → more ≡ (if b then keys else keys ++ key ∷ []) → more ≡ keys
-none_put true keys more key h e = e
-none_put false keys more key h e = absurd (grind arith)
-
--- one that isn't there is put last
-pub put_last : (b : Bool) (keys more : List Key) (key : Key) → b ≡ false → more ≡ (if b then keys else keys ++ key ∷ []) → more ≡ keys ++ key ∷ []
-put_last true keys more key h e = absurd (grind arith)
-put_last false keys more key h e = e
+pub put_last : (b : Bool) (keys more : List Key) (key : Key) → b ≡ true → more ≡ (if b then keys ++ key ∷ [] else keys) → more ≡ keys ++ key ∷ []
+put_last true keys more key h e = e
+put_last false keys more key h e = absurd (grind arith)
 
 pub is_key_only : (x y : Key) → is_key x y ≡ true → x ≡ y
 is_key_only x y e =
@@ -51,9 +46,8 @@ short [] i x e = absurd (grind arith)
 short (y ∷ xs) zero x e = omega arith
 short (y ∷ xs) (suc i) x e = omega (arith, short xs i x e)
 
-pub forgets_by_push : (b : Bool) (keys more : List Key) (key : Key) (found known : List (Option Ref)) → length keys ≡ length found → b ≡ false → more ≡ (if b then keys else keys ++ key ∷ []) → known ≡ found ++ None ∷ [] → Forgets keys found more known
-forgets_by_push true keys more key found known long none m k = absurd (grind arith)
-forgets_by_push false keys more key found known long none m k = record {
+pub forgets_by_push : (keys more : List Key) (key : Key) (found known : List (Option Ref)) → length keys ≡ length found → more ≡ keys ++ key ∷ [] → known ≡ found ++ None ∷ [] → Forgets keys found more known
+forgets_by_push keys more key found known long m k = record {
   was = λ i q r g h.
       by (push_cases keys key i q (subst (λ (l : List Key). slice_get l i ≡ Some q) m g)) (push_cases found None i (Some r) (subst (λ (l : List (Option Ref)). slice_get l i ≡ Some (Some r)) k h));
 }

@@ -2,6 +2,7 @@ pub mod Nodes
 pub mod Operands
 pub mod Finding
 pub mod Memo
+pub mod Keys
 pub mod Holding
 pub mod Diagram
 pub mod Leaves

@@ -44,11 +44,6 @@ pub(crate) struct Answers {
     ghost nameable: { floor ≤ MOST_PLACES },
 }
 
-// One product of two places, and of what is mixed into them.
-fn mixed(x: Ref, y: Ref, by: u64) -> u64 {
-    ((x.place as u64) << 32 | y.place as u64).wrapping_mul(by)
-}
-
 impl Answers {
     ghost use Rattle.ncl_diagram.specs.Kept.{AreLeft, HasMore, HasNone, HasSlots, IsAnswerKept};
 
@@ -62,13 +57,10 @@ impl Answers {
         }
     }
 
-    /// The slot of a key, by a hash of it. The two products don't wait for each other.
-    pub(crate) fn slot_of(&self, kind: Kind, key: Key) -> usize {
-        let first = mixed(key.a, key.b, 0x9e37_79b9_7f4a_7c15);
-        let second = mixed(key.c, key.d, 0xc2b2_ae3d_27d4_eb4f);
-        let both = first ^ (second >> 29) ^ second.wrapping_add(kind as u8 as u64);
-        let hash = both ^ (both >> 32);
-        hash as usize & self.slots.len().saturating_sub(1)
+    /// The slot of a key that has this hash.
+    pub(crate) fn slot_of(&self, kind: Kind, hash: u64) -> usize {
+        let mixed = hash.wrapping_add(kind as u8 as u64);
+        mixed as usize & self.slots.len().saturating_sub(1)
     }
 
     /// The answer of a key, where its slot has it.

@@ -3,6 +3,7 @@
 
 mod answers;
 mod diagram;
+mod keys;
 mod least;
 mod memo;
 mod nodes;

@@ -1,15 +1,12 @@
 //! What one operation has found so far.
 ghost use Rattle.std.specs.Prelude.{◌≡◌, ◌≢◌, Err, ◌+◌, ◌≤◌, ◌<◌, [], ◌∷◌, ◌++◌, true, false, IfOk, OnOk, OnErr, length, slice_get, Some, set, ◌*◌, ◌^◌};
 ghost use Rattle.std.specs.List.{IsDistinct};
-ghost use Rattle.std.specs.Hash as fed;
-ghost use Rattle.std.specs.Cmp.Rules.{hashing};
-ghost use Rattle.std.proofs.Common.{rules};
 ghost use Rattle.ncl_diagram.specs.Memo.{IsKeyPut, Forgets, KeepsKeys, MayAdd, is_key};
+ghost use Rattle.ncl_diagram.specs.Keys.{hash_of};
 
-use indexmap::IndexSet;
+use crate::keys::Keys;
 use ncl_space::{Ref, SpaceFault};
 use std::alloc::Global;
-use std::hash::{Hash, Hasher};
 
 /// The operands of one operation, filled up with the constant 0.
 #[derive(Clone, Copy, Debug, PartialEq, Eq)]
@@ -27,22 +24,20 @@ fn pair(x: Ref, y: Ref) -> u64
     x.place as u64 * 4_294_967_296 + y.place as u64
 }
 
-// One write of four places, where the derived one makes four.
-impl Hash for Key {
-    ghost hash_input = { λ k. fed.u128 ((k.a.place * 2 ^ 32 + k.b.place) * 2 ^ 64 + (k.c.place * 2 ^ 32 + k.d.place)) };
-
-    ghost respects_eq = { Prim.search (hashing, rules) };
-
-    fn hash<H: Hasher>(&self, state: &mut H) {
-        let high = pair(self.a, self.b) as u128;
-        state.write_u128(high * 18_446_744_073_709_551_616 + pair(self.c, self.d) as u128);
-    }
+/// A hash of a key. The two products don't wait for each other.
+pub(crate) fn hash_of(key: Key) -> u64
+    ensures { result ≡ hash_of key }
+{
+    let first = pair(key.a, key.b).wrapping_mul(0x9e37_79b9_7f4a_7c15);
+    let second = pair(key.c, key.d).wrapping_mul(0xc2b2_ae3d_27d4_eb4f);
+    let both = first.wrapping_add(second);
+    both ^ (both >> 32)
 }
 
 /// The keys that one operation has met, and beside each its answer, where there is one already.
 #[derive(Drop)]
 pub(crate) struct Memo {
-    pub(crate) keys: IndexSet<Key>,
+    pub(crate) keys: Keys,
     pub(crate) found: Vec<Option<Ref>>,
 }
 
@@ -50,26 +45,27 @@ impl Memo {
     /// Nothing is found yet.
     pub(crate) fn new(alloc: Global) -> Memo {
         Memo {
-            keys: IndexSet::new(alloc),
+            keys: Keys::new(alloc),
             found: Vec::new(alloc),
         }
     }
 
     /// The index of a key, found or put last, and its answer.
-    pub(crate) fn begin(&mut self, key: Key) -> Result<(usize, Option<Ref>), SpaceFault>
-        requires { length self.old.keys.keys ≡ length self.old.found.items }
-        ensures at { IfOk result (λ r. slice_get self.new.keys.keys r.0 ≡ Some key) }
+    pub(crate) fn begin(&mut self, key: Key, hash: u64) -> Result<(usize, Option<Ref>), SpaceFault>
+        requires long { length self.old.keys ≡ length self.old.found.items }
+        requires hash { hash ≡ hash_of key }
+        ensures at { IfOk result (λ r. slice_get self.new.keys r.0 ≡ Some key) }
         ensures known { IfOk result (λ r. slice_get self.new.found.items r.0 ≡ Some r.1) }
-        ensures long { OnOk result (length self.new.keys.keys ≡ length self.new.found.items) }
-        ensures kept { OnOk result (KeepsKeys self.old.keys.keys self.new.keys.keys) }
+        ensures long { OnOk result (length self.new.keys ≡ length self.new.found.items) }
+        ensures kept { OnOk result (KeepsKeys self.old.keys self.new.keys) }
         ensures never_full { result ≢ Err SpaceFault.Full }
-        ensures answers { OnOk result (Forgets self.old.keys.keys self.old.found.items
-            self.new.keys.keys self.new.found.items) }
-        ensures begins { IfOk result (IsKeyPut self.old.keys.keys self.old.found.items
-            self.new.keys.keys self.new.found.items key) }
-        ensures may { MayAdd self.old.keys.keys self.new.keys.keys key }
+        ensures answers { OnOk result (Forgets self.old.keys self.old.found.items
+            self.new.keys self.new.found.items) }
+        ensures begins { IfOk result (IsKeyPut self.old.keys self.old.found.items
+            self.new.keys self.new.found.items key) }
+        ensures may { MayAdd self.old.keys self.new.keys key }
     {
-        let (at, added) = self.keys.insert_full(key)?;
+        let (at, added) = self.keys.find_or_put(key, hash)?;
         if !added {
             return Ok((at, self.found[at]));
         }
@@ -80,20 +76,19 @@ impl Memo {
     /// Notes the answer of the key at an index.
     pub(crate) fn note(&mut self, at: usize, answer: Ref)
         requires { at < length self.old.found.items }
-        ensures keys { self.new.keys.keys ≡ self.old.keys.keys }
+        ensures keys { self.new.keys ≡ self.old.keys }
         ensures found { self.new.found.items ≡ set self.old.found.items at (Some answer) }
     {
         self.found[at] = Some(answer);
     }
 
-    /// Forgets everything. Linear in the keys, of which no two were one.
+    /// Forgets everything. No two keys were one.
     pub(crate) fn empty(&mut self)
-        ensures keys { self.new.keys.keys ≡ [] }
+        ensures keys { self.new.keys ≡ [] }
         ensures found { self.new.found.items ≡ [] }
-        ensures distinct { IsDistinct is_key self.old.keys.keys }
+        ensures distinct { IsDistinct is_key self.old.keys }
     {
-        let _ = self.keys.len();
-        self.keys.truncate(0);
+        self.keys.clear();
         self.found.truncate(0);
     }
 }

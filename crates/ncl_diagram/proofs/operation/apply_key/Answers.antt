@@ -14,8 +14,8 @@ returns-clause-leaves g c =
 
 pub returns-clause-steps : goal.returns-clause-steps
 returns-clause-steps g c =
-    let added = subst (λ (keys : List Key). AddsKeys c.apply_at-answer.new.nodes keys c.apply_at-answer.new.memo.keys.keys c.args.key) c.empty.ensures.keys c.apply_at-answer.ensures.reached in
-    let few = few_keys c.args.width c.apply_at-answer.new.nodes c.args.key c.apply_at-answer.new.memo.keys.keys c.apply_at-answer.ensures.canonical
+    let added = subst (λ (keys : List Key). AddsKeys c.apply_at-answer.new.nodes keys c.apply_at-answer.new.memo.keys c.args.key) c.empty.ensures.keys c.apply_at-answer.ensures.reached in
+    let few = few_keys c.args.width c.apply_at-answer.new.nodes c.args.key c.apply_at-answer.new.memo.keys c.apply_at-answer.ensures.canonical
     (there_grown c.args.nodes.now c.apply_at-answer.new.nodes c.apply_at-answer.ensures.grown (places c.args.key) c.requires.there) c.empty-2.ensures.distinct added in
     let same = product_grown c.args.width c.args.nodes.now c.apply_at-answer.new.nodes c.requires.canonical c.apply_at-answer.ensures.grown (places c.args.key) c.requires.there in
     let none = ap (λ (keys : List Key). length keys) c.empty.ensures.keys in

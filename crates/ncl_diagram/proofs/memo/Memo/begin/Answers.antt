@@ -1,33 +1,28 @@
 use Rattle.std.proofs.Common.{◌≡◌, ◌<◌, length, List, Option, arith, None, Some, inl, inr, slice_get, refl, sym, ◌∙◌, ap}
 use Rattle.std.proofs.lemmas.Option.{slice_get-get_or}
-use Rattle.ncl_base.proofs.Tests.{position_or_len-none}
 use Rattle.ncl_base.proofs.Places.{slice_get-end}
 use Rattle.ncl_space.specs.declared.space.Ref.{Ref}
 use Rattle.ncl_diagram.specs.declared.memo.Key.{Key}
-use Rattle.ncl_diagram.proofs.MemoLaws.{absent_by_added, present_by_added, none_put, put_last, is_key_only, kept_by_push, forgets_by_push}
+use Rattle.ncl_diagram.proofs.MemoLaws.{none_put, put_last, kept_by_push, forgets_by_push}
 use Rattle.ncl_diagram.proofs.memo.Memo.begin.Goals as goal
 
 pub returns-clause-known : goal.returns-clause-known
 returns-clause-known c =
-    let e = c.in_ok-at.ensures.index in
-    let n = position_or_len-none _ c.args.self.now.keys.keys (absent_by_added _ c.in_ok-at.added c.if-not-added.false c.in_ok-at.ensures.added) in
-    let long = c.requires in
+    let e = c.in_ok-at.ensures.last c.if-not-added.false in
+    let long = c.requires.long in
     ap (λ (l : List (Option Ref)). slice_get l c.in_ok-at.at) c.in_ok-push.ensures.items ∙ slice_get-end c.args.self.now.found.items None c.in_ok-at.at (omega arith)
 
 pub returns-clause-kept : goal.returns-clause-kept
-returns-clause-kept c = kept_by_push _ c.args.self.now.keys.keys c.insert_full.new.self.keys c.args.key c.in_ok-at.ensures.keys
+returns-clause-kept c = kept_by_push c.in_ok-at.added c.args.self.now.keys c.find_or_put.new.self c.args.key c.in_ok-at.ensures.keys
 
 pub returns-clause-answers : goal.returns-clause-answers
-returns-clause-answers c = forgets_by_push _ c.args.self.now.keys.keys c.insert_full.new.self.keys c.args.key c.args.self.now.found.items c.push.new.self.items c.requires (absent_by_added _ c.in_ok-at.added c.if-not-added.false c.in_ok-at.ensures.added) c.in_ok-at.ensures.keys c.in_ok-push.ensures.items
+returns-clause-answers c = forgets_by_push c.args.self.now.keys c.find_or_put.new.self c.args.key c.args.self.now.found.items c.push.new.self.items c.requires.long (put_last c.in_ok-at.added c.args.self.now.keys c.find_or_put.new.self c.args.key c.if-not-added.false c.in_ok-at.ensures.keys) c.in_ok-push.ensures.items
 
 pub returns-then-not-added-clause-begins : goal.returns-then-not-added-clause-begins
 returns-then-not-added-clause-begins c =
-    let there = present_by_added _ c.in_ok-at.added c.if-not-added.true c.in_ok-at.ensures.added in
-    let same : c.insert_full.new.self.keys ≡ c.args.self.now.keys.keys = none_put _ c.args.self.now.keys.keys c.insert_full.new.self.keys c.args.key there c.in_ok-at.ensures.keys in
-    let stored = c.in_ok-at.ensures.stored in
-    let at : slice_get c.args.self.now.keys.keys c.in_ok-at.at ≡ Some c.args.key =
-    ap (λ (l : List Key). slice_get l c.in_ok-at.at) (sym same) ∙ stored.1 ∙ ap (λ (k : Key). Some k) (sym (is_key_only c.args.key stored.0 stored.2)) in
-    let long = c.requires in
+    let same = none_put c.in_ok-at.added c.args.self.now.keys c.find_or_put.new.self c.args.key c.if-not-added.true c.in_ok-at.ensures.keys in
+    let at : slice_get c.args.self.now.keys c.in_ok-at.at ≡ Some c.args.key = ap (λ (l : List Key). slice_get l c.in_ok-at.at) (sym same) ∙ c.in_ok-at.ensures.at in
+    let long = c.requires.long in
     let few = c.in_ok-at.ensures.within in
     let within : c.in_ok-at.at < length c.args.self.now.found.items = let e = ap (λ (l : List Key). length l) same in omega arith in
     let known : slice_get c.args.self.now.found.items c.in_ok-at.at ≡ Some c.index.result.now =
@@ -36,5 +31,4 @@ returns-then-not-added-clause-begins c =
 
 pub returns-clause-begins : goal.returns-clause-begins
 returns-clause-begins c =
-    let absent = absent_by_added _ c.in_ok-at.added c.if-not-added.false c.in_ok-at.ensures.added in
-    inl (put_last _ c.args.self.now.keys.keys c.insert_full.new.self.keys c.args.key absent c.in_ok-at.ensures.keys, c.in_ok-push.ensures.items, c.in_ok-at.ensures.index ∙ position_or_len-none _ c.args.self.now.keys.keys absent, refl)
+    inl (put_last c.in_ok-at.added c.args.self.now.keys c.find_or_put.new.self c.args.key c.if-not-added.false c.in_ok-at.ensures.keys, c.in_ok-push.ensures.items, c.in_ok-at.ensures.last c.if-not-added.false, refl)

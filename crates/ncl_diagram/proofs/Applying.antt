@@ -1,5 +1,5 @@
 -- What one operation makes, from what it made at the operands' branches.
-use Rattle.std.proofs.Common.{◌≡◌, ◌≢◌, ℕ, zero, suc, ◌+◌, ◌-◌, ◌<◌, ◌≤◌, ◌⊎◌, inl, inr, List, [], ◌∷◌, Bool, true, false, length, map, set, slice_get, Some, Option, sym, ◌∙◌, ap, refl, arith, subst}
+use Rattle.std.proofs.Common.{◌≡◌, ◌≢◌, ℕ, zero, suc, ◌+◌, ◌-◌, ◌<◌, ◌≤◌, ◌⊎◌, inl, inr, List, [], ◌∷◌, ◌++◌, Bool, true, false, length, length-append, map, set, slice_get, Some, None, Option, sym, ◌∙◌, ap, refl, arith, subst}
 use Rattle.std.proofs.lemmas.Bool.{cases_lt}
 use Rattle.ncl_gates.specs.declared.kind.Kind.{Kind}
 use Rattle.ncl_diagram.specs.declared.nodes.Node.{Node}
@@ -8,9 +8,10 @@ use Rattle.ncl_diagram.specs.declared.memo.Key.{Key}
 use Rattle.ncl_diagram.specs.Nodes.{level_of, table_from, branch, IsCanonical, Grown, bead_of}
 use Rattle.ncl_diagram.specs.Operands.{There, Least, gate_from}
 use Rattle.ncl_diagram.specs.Finding.{Leads, Joins, HasNoRoom, IsAnswer, IsBeadOf, AddsBeads, Lacks}
-use Rattle.ncl_diagram.specs.Memo.{places, Forgets, AreAnswers}
+use Rattle.ncl_diagram.specs.Memo.{places, AreAnswers}
 use Rattle.ncl_diagram.proofs.Growth.{grown_along, grown_itself, branch_grown, there_grown, above_grown, above_back, answer_grown, adds_grown}
 use Rattle.ncl_diagram.proofs.Joining.{leads_node}
+use Rattle.ncl_diagram.proofs.MemoLaws.{answer_before}
 use Rattle.ncl_diagram.proofs.Step.{above_branches, there_after, step_answer, bead_up, bead_here, lacks_here}
 
 pub least_grown : (n : ℕ) (a b : List Node) (level : ℕ) (ps : List ℕ) → Grown a b → There a ps → Least n a level ps → Least n b level ps
@@ -167,11 +168,12 @@ memo_grown n kind a b keys found c g m = record {
   answer = λ i key r e f. answer_grown n kind a b (places key) r.place c g (m.there i key r e f) (m.answer i key r e f);
 }
 
-pub memo_forgets : (n : ℕ) (kind : Kind) (a : List Node) (keys more : List Key) (found known : List (Option Ref)) → AreAnswers n kind a keys found → Forgets keys found more known → length more ≡ length known → AreAnswers n kind a more known
-memo_forgets n kind a keys more found known m f long = record {
-  long = long;
-  there = λ i key r e h. let w = f.was i key r e h in m.there i key r w.0 w.1;
-  answer = λ i key r e h. let w = f.was i key r e h in m.answer i key r w.0 w.1;
+-- with a key that has no answer
+pub memo_pushed : (n : ℕ) (kind : Kind) (a : List Node) (keys : List Key) (found : List (Option Ref)) (key : Key) → AreAnswers n kind a keys found → AreAnswers n kind a (keys ++ key ∷ []) (found ++ None ∷ [])
+memo_pushed n kind a keys found key m = record {
+  long = let long = m.long in omega (arith, length-append keys (key ∷ []), length-append found (None ∷ []));
+  there = λ i q r e h. let w = answer_before keys key found m.long i q r e h in m.there i q r w.0 w.1;
+  answer = λ i q r e h. let w = answer_before keys key found m.long i q r e h in m.answer i q r w.0 w.1;
 }
 
 pub get_set : {X : Type 0} (xs : List X) (at i : ℕ) (v x : X) → slice_get (set xs at v) i ≡ Some x → (slice_get xs i ≡ Some x) ⊎ ((i ≡ at) × (v ≡ x))

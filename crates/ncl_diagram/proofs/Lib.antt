@@ -19,3 +19,4 @@ pub mod Packing
 pub mod Reaching
 pub mod Counting
 pub mod KeyLaws
+pub mod RunLaws

@@ -1,24 +1,15 @@
 -- The memo of one operation.
-use Rattle.std.proofs.Common.{◌≡◌, ℕ, zero, suc, ◌+◌, ◌<◌, List, [], ◌∷◌, ◌++◌, Bool, true, false, if◌then◌else◌, length, slice_get, Some, None, Option, sym, ◌∙◌, ap, arith, subst, ◌⊎◌, inl, inr, nat_eq, ◌&&◌}
+use Rattle.std.proofs.Common.{◌≡◌, ℕ, zero, suc, ◌+◌, ◌<◌, List, [], ◌∷◌, ◌++◌, Bool, true, false, if◌then◌else◌, length, slice_get, Some, None, Option, ◌∙◌, ap, arith, ◌⊎◌, inl, inr, nat_eq, ◌&&◌}
 use Rattle.std.proofs.lemmas.Bool.{or_parts, and_parts}
 use Rattle.std.proofs.lemmas.Bool.Decides.{nat_tests}
 use Rattle.std.specs.List.{list_any}
-use Rattle.ncl_base.proofs.Places.{slice_get-kept, push_cases}
+use Rattle.ncl_base.proofs.Places.{push_cases}
 use Rattle.ncl_space.specs.declared.space.Ref.{Ref}
 use Rattle.ncl_diagram.specs.declared.memo.Key.{Key}
 use Rattle.ncl_diagram.specs.declared.nodes.Node.{Node}
 use Rattle.ncl_diagram.specs.Nodes.{is_node, node_at}
-use Rattle.ncl_diagram.specs.Memo.{KeepsKeys, Forgets, MayAdd, is_key}
+use Rattle.ncl_diagram.specs.Memo.{is_key}
 use Rattle.ncl_diagram.proofs.Canonical.{same_node}
-
--- a key is put last, or none is
-pub kept_by_push : (b : Bool) (keys more : List Key) (key : Key) → more ≡ (if b then keys ++ key ∷ [] else keys) → KeepsKeys keys more
-kept_by_push true keys more key e = record { kept = λ i k g. subst (λ (l : List Key). slice_get l i ≡ Some k) (sym e) (slice_get-kept keys key i k g) }
-kept_by_push false keys more key e = record { kept = λ i k g. subst (λ (l : List Key). slice_get l i ≡ Some k) (sym e) g }
-
-pub may_add : (b : Bool) (keys more : List Key) (key : Key) → more ≡ (if b then keys ++ key ∷ [] else keys) → MayAdd keys more key
-may_add true keys more key e = inr e
-may_add false keys more key e = inl e
 
 pub none_put : (b : Bool) (keys more : List Key) (key : Key) → b ≡ false → more ≡ (if b then keys ++ key ∷ [] else keys) → more ≡ keys
 none_put true keys more key h e = absurd (grind arith)
@@ -46,13 +37,11 @@ short [] i x e = absurd (grind arith)
 short (y ∷ xs) zero x e = omega arith
 short (y ∷ xs) (suc i) x e = omega (arith, short xs i x e)
 
-pub forgets_by_push : (keys more : List Key) (key : Key) (found known : List (Option Ref)) → length keys ≡ length found → more ≡ keys ++ key ∷ [] → known ≡ found ++ None ∷ [] → Forgets keys found more known
-forgets_by_push keys more key found known long m k = record {
-  was = λ i q r g h.
-      by (push_cases keys key i q (subst (λ (l : List Key). slice_get l i ≡ Some q) m g)) (push_cases found None i (Some r) (subst (λ (l : List (Option Ref)). slice_get l i ≡ Some (Some r)) k h));
-}
+-- each answer was there before a key without one was put
+pub answer_before : (keys : List Key) (key : Key) (found : List (Option Ref)) → length keys ≡ length found → (i : ℕ) (q : Key) (r : Ref) → slice_get (keys ++ key ∷ []) i ≡ Some q → slice_get (found ++ None ∷ []) i ≡ Some (Some r) → (slice_get keys i ≡ Some q) × (slice_get found i ≡ Some (Some r))
+answer_before keys key found long i q r g h = by (push_cases keys key i q g) (push_cases found None i (Some r) h)
   where
-    by : {i : ℕ} {q : Key} {r : Ref} → (slice_get keys i ≡ Some q) ⊎ ((i ≡ length keys) × (key ≡ q)) → (slice_get found i ≡ Some (Some r)) ⊎ ((i ≡ length found) × (None ≡ Some r)) → (slice_get keys i ≡ Some q) × (slice_get found i ≡ Some (Some r))
+    by : (slice_get keys i ≡ Some q) ⊎ ((i ≡ length keys) × (key ≡ q)) → (slice_get found i ≡ Some (Some r)) ⊎ ((i ≡ length found) × (None ≡ Some r)) → (slice_get keys i ≡ Some q) × (slice_get found i ≡ Some (Some r))
     by (inl a) (inl b) = (a, b)
     by (inr p) (inl b) = let s = short found _ _ b in let e = p.0 in absurd (omega arith)
     by a (inr p) = let e = p.1 in absurd (grind arith)

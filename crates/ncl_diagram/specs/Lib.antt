@@ -9,3 +9,4 @@ pub mod Leaves
 pub mod Slot
 pub mod Kept
 pub mod Steps
+pub mod Running

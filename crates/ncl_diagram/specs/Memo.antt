@@ -15,10 +15,6 @@ places key = key.a.place ∷ key.b.place ∷ key.c.place ∷ key.d.place ∷ []
 pub record KeepsKeys (old new : List Key) : Type 0 where
   pub kept : (i : ℕ) (key : Key) → slice_get old i ≡ Some key → slice_get new i ≡ Some key
 
--- each answer was there
-pub record Forgets (keys : List Key) (found : List (Option Ref)) (more : List Key) (known : List (Option Ref)) : Type 0 where
-  pub was : (i : ℕ) (key : Key) (r : Ref) → slice_get more i ≡ Some key → slice_get known i ≡ Some (Some r) → (slice_get keys i ≡ Some key) × (slice_get found i ≡ Some (Some r))
-
 -- each answer is one
 pub record AreAnswers (n : ℕ) (kind : Kind) (nodes : List Node) (keys : List Key) (found : List (Option Ref)) : Type 0 where
   pub long : length keys ≡ length found

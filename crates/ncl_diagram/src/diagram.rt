@@ -12,7 +12,7 @@ use crate::answers::Answers;
 use crate::least::find_least;
 use crate::memo::Memo;
 use crate::nodes::{Nodes, constant};
-use crate::operation::{apply_key, key_of, rail_node};
+use crate::operation::{Engine, Operation, key_of, rail_node};
 use crate::steps::Steps;
 use ncl_base::Word;
 use ncl_gates::Kind;
@@ -27,11 +27,7 @@ use std::sync::ledger::{Blank, Ledger};
 pub struct Diagram {
     width: usize,
     limit: u32,
-    nodes: Nodes,
-    // what the operation under way has found; empty between calls
-    memo: Memo,
-    // some answers of earlier operations
-    answers: Answers,
+    engine: Engine,
 }
 
 impl Model for Diagram {
@@ -40,9 +36,9 @@ impl Model for Diagram {
 
     ghost Value = { DiagramData };
 
-    ghost view = { λ d. record { width = d.width; limit = d.limit; nodes = d.nodes } };
+    ghost view = { λ d. record { width = d.width; limit = d.limit; nodes = d.engine.nodes } };
 
-    ghost invariant = { λ d. IsDiagram d.width d.limit d.nodes × AreKept d.width d.nodes d.answers };
+    ghost invariant = { λ d. IsDiagram d.width d.limit d.engine.nodes × AreKept d.width d.engine.nodes d.engine.answers };
 }
 
 impl Diagram {
@@ -60,9 +56,11 @@ impl Diagram {
         Diagram {
             width,
             limit,
-            nodes: Nodes::new(alloc),
-            memo: Memo::new(alloc),
-            answers: Answers::new(alloc),
+            engine: Engine {
+                nodes: Nodes::new(alloc),
+                memo: Memo::new(alloc),
+                answers: Answers::new(alloc),
+            },
         }
     }
 
@@ -75,7 +73,7 @@ impl Diagram {
         ensures one { let s = diagram_space self.now in (x y : Ref) →
             IsLive s x → IsLive s y → s.table x ≡ s.table y → x ≡ y }
     {
-        self.nodes.len() as u32
+        self.engine.nodes.len() as u32
     }
 
     /// `apply` with a count of its steps: each reads a node, or finds or adds one. It takes at most five times
@@ -96,17 +94,12 @@ impl Diagram {
         ensures came { set.len (diagram_space self.new).held + steps.old
             ≤ set.len (diagram_space self.old).held + steps.new }
     {
-        let key = key_of(ins);
-        apply_key(
-            self.width,
-            self.limit,
+        let operation = Operation {
             kind,
-            key,
-            &mut self.nodes,
-            &mut self.memo,
-            &mut self.answers,
-            steps,
-        )
+            width: self.width,
+            limit: self.limit,
+        };
+        self.engine.apply(operation, key_of(ins), steps)
     }
 }
 
@@ -141,7 +134,14 @@ impl Space for Diagram {
 
     fn rail(&mut self, bit: usize, value: bool) -> Result<Ref, SpaceFault> {
         let blank = Blank::new(1);
-        rail_node::<Brand>(self.width, self.limit, &mut self.nodes, bit, value, blank)
+        rail_node::<Brand>(
+            self.width,
+            self.limit,
+            &mut self.engine.nodes,
+            bit,
+            value,
+            blank,
+        )
     }
 
     fn apply(&mut self, kind: Kind, ins: &[Ref]) -> Result<Ref, SpaceFault> {
@@ -149,27 +149,27 @@ impl Space for Diagram {
     }
 
     fn same(&self, x: Ref, y: Ref) -> bool {
-        let _ = &self.nodes;
+        let _ = &self.engine.nodes;
         x == y
     }
 
     fn least_one(&self, x: Ref, out: &mut Word) -> bool {
-        find_least::<Brand>(self.width, &self.nodes, x, true, out, Blank::new(1))
+        find_least::<Brand>(self.width, &self.engine.nodes, x, true, out, Blank::new(1))
     }
 
     fn least_zero(&self, x: Ref, out: &mut Word) -> bool {
-        find_least::<Brand>(self.width, &self.nodes, x, false, out, Blank::new(1))
+        find_least::<Brand>(self.width, &self.engine.nodes, x, false, out, Blank::new(1))
     }
 
     fn mark(&self) -> Mark {
         Mark {
-            count: self.nodes.len() as u32,
+            count: self.engine.nodes.len() as u32,
         }
     }
 
     fn release(&mut self, mark: Mark) {
-        let gone = self.nodes.len().saturating_sub(mark.count as usize);
-        self.nodes.truncate(mark.count as usize);
-        self.answers.release(mark.count, gone);
+        let gone = self.engine.nodes.len().saturating_sub(mark.count as usize);
+        self.engine.nodes.truncate(mark.count as usize);
+        self.engine.answers.release(mark.count, gone);
     }
 }

@@ -1,7 +1,7 @@
 //! What one operation has found so far.
 ghost use Rattle.std.specs.Prelude.{◌≡◌, ◌≢◌, Err, ◌+◌, ◌≤◌, ◌<◌, [], ◌∷◌, ◌++◌, true, false, IfOk, OnOk, OnErr, length, slice_get, Some, set, ◌*◌, ◌^◌};
 ghost use Rattle.std.specs.List.{IsDistinct};
-ghost use Rattle.ncl_diagram.specs.Memo.{IsKeyPut, Forgets, KeepsKeys, MayAdd, is_key};
+ghost use Rattle.ncl_diagram.specs.Memo.{IsKeyPut, MayAdd, is_key};
 ghost use Rattle.ncl_diagram.specs.Keys.{hash_of};
 
 use crate::keys::Keys;
@@ -54,16 +54,10 @@ impl Memo {
     pub(crate) fn begin(&mut self, key: Key, hash: u64) -> Result<(usize, Option<Ref>), SpaceFault>
         requires long { length self.old.keys ≡ length self.old.found.items }
         requires hash { hash ≡ hash_of key }
-        ensures at { IfOk result (λ r. slice_get self.new.keys r.0 ≡ Some key) }
-        ensures known { IfOk result (λ r. slice_get self.new.found.items r.0 ≡ Some r.1) }
-        ensures long { OnOk result (length self.new.keys ≡ length self.new.found.items) }
-        ensures kept { OnOk result (KeepsKeys self.old.keys self.new.keys) }
-        ensures never_full { result ≢ Err SpaceFault.Full }
-        ensures answers { OnOk result (Forgets self.old.keys self.old.found.items
-            self.new.keys self.new.found.items) }
         ensures begins { IfOk result (IsKeyPut self.old.keys self.old.found.items
             self.new.keys self.new.found.items key) }
         ensures may { MayAdd self.old.keys self.new.keys key }
+        ensures never_full { result ≢ Err SpaceFault.Full }
     {
         let (at, added) = self.keys.find_or_put(key, hash)?;
         if !added {

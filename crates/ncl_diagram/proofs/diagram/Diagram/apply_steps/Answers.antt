@@ -17,42 +17,45 @@ use Rattle.ncl_diagram.proofs.DiagramLaws.{IsSpace-diagram, Keeps-grown, There-l
 use Rattle.ncl_diagram.proofs.Padding.{gate_filled, there_filled}
 use Rattle.ncl_diagram.proofs.diagram.Diagram.apply_steps.Goals as goal
 
-pub apply_key-requires-clause-there : goal.apply_key-requires-clause-there
-apply_key-requires-clause-there g c =
-    there_filled c.self.inside.nodes (map (λ (r : Ref). r.place) c.args.ins.now) (places c.key_of-key.result) c.key_of-key.ensures
+pub apply-requires-clause-there : goal.apply-requires-clause-there
+apply-requires-clause-there g c =
+    there_filled c.self.inside.engine.nodes (map (λ (r : Ref). r.place) c.args.ins.now) (places c.key_of.result) c.key_of.ensures
     (subst (λ (d : DiagramData). There d.nodes (map (λ (r : Ref). r.place) c.args.ins.now)) (sym c.self.view_is) (There-live c.args.self.now c.args.ins.now c.requires.live))
+
+pub apply-requires-clause-sound : goal.apply-requires-clause-sound
+apply-requires-clause-sound g c = record { canonical = c.self.invariant.0.canonical; few = c.self.invariant.0.few; kept = c.self.invariant.1 }
 
 pub returns-clause-applies : goal.returns-clause-applies
 returns-clause-applies g c =
-    let old : DiagramData = record { width = c.self.inside.width; limit = c.self.inside.limit; nodes = c.self.inside.nodes } in
-    let new : List Node = c.apply_key.new.nodes in
+    let old : DiagramData = record { width = c.self.inside.width; limit = c.self.inside.limit; nodes = c.self.inside.engine.nodes } in
+    let new : List Node = c.apply.new.self.nodes in
     let made : List Bool = gate_table old.width c.args.kind (map (diagram_space old).table c.args.ins.now) in
-    let leaves : Leaves old.width old.limit old.nodes new made c.apply_key.result =
-    subst (λ (t : List Bool). Leaves old.width old.limit old.nodes new t c.apply_key.result)
-    (gate_filled c.args.kind old.nodes old.width 0 (map (λ (r : Ref). r.place) c.args.ins.now) (places c.key_of-key.result) c.key_of-key.ensures ∙ ap (gate_table old.width c.args.kind) (tables_of-places old c.args.ins.now))
-    c.apply_key.ensures.leaves in
-    subst (λ (d : DiagramData). Applies (diagram_space d) (diagram_space (with_nodes old new)) (gate_table d.width c.args.kind (map (diagram_space d).table c.args.ins.now)) c.apply_key.result) c.self.view_is
+    let leaves : Leaves old.width old.limit old.nodes new made c.apply.result =
+    subst (λ (t : List Bool). Leaves old.width old.limit old.nodes new t c.apply.result)
+    (gate_filled c.args.kind old.nodes old.width 0 (map (λ (r : Ref). r.place) c.args.ins.now) (places c.key_of.result) c.key_of.ensures ∙ ap (gate_table old.width c.args.kind) (tables_of-places old c.args.ins.now))
+    c.apply.ensures.leaves in
+    subst (λ (d : DiagramData). Applies (diagram_space d) (diagram_space (with_nodes old new)) (gate_table d.width c.args.kind (map (diagram_space d).table c.args.ins.now)) c.apply.result) c.self.view_is
     (record {
-      answer = made_by old new made c.apply_key.result leaves;
+      answer = made_by old new made c.apply.result leaves;
       kept = Keeps-grown old new c.self.invariant.0.canonical leaves.grown;
-      adds = adds_by old new made c.apply_key.result leaves;
+      adds = adds_by old new made c.apply.result leaves;
       space = IsSpace-diagram (with_nodes old new) (record { some_bit = c.self.invariant.0.some_bit; few_bits = c.self.invariant.0.few_bits; canonical = leaves.canonical; few = leaves.few; small = c.self.invariant.0.small });
-      full = full_by old new made c.apply_key.result leaves;
-      fit = fits_by old new made c.apply_key.result leaves;
+      full = full_by old new made c.apply.result leaves;
+      fit = fits_by old new made c.apply.result leaves;
     })
 
 pub returns-clause-steps : goal.returns-clause-steps
 returns-clause-steps g c =
-    let old : DiagramData = record { width = c.self.inside.width; limit = c.self.inside.limit; nodes = c.self.inside.nodes } in
-    let cost = c.apply_key.ensures.steps in
-    let few = product_filled old.width old.nodes (map (λ (r : Ref). r.place) c.args.ins.now) (places c.key_of-key.result) c.key_of-key.ensures in
+    let old : DiagramData = record { width = c.self.inside.width; limit = c.self.inside.limit; nodes = c.self.inside.engine.nodes } in
+    let cost = c.apply.ensures.steps in
+    let few = product_filled old.width old.nodes (map (λ (r : Ref). r.place) c.args.ins.now) (places c.key_of.result) c.key_of.ensures in
     let bound : product (map (λ p. bead_count old.width (table_from old.nodes old.width 0 p ∷ []) + 2) (map (λ (r : Ref). r.place) c.args.ins.now)) ≡ operand_bound (diagram_space old) c.args.ins.now = bound_of-places old c.args.ins.now in
-    subst (λ (d : DiagramData). c.apply_key.new.steps ≤ c.args.steps.now + 5 * operand_bound (diagram_space d) c.args.ins.now) c.self.view_is (omega arith)
+    subst (λ (d : DiagramData). c.apply.new.steps ≤ c.args.steps.now + 5 * operand_bound (diagram_space d) c.args.ins.now) c.self.view_is (omega arith)
 
 pub returns-clause-came : goal.returns-clause-came
 returns-clause-came g c =
-    let old : DiagramData = record { width = c.self.inside.width; limit = c.self.inside.limit; nodes = c.self.inside.nodes } in
-    let came = c.apply_key.ensures.came in
-    let more = len-held old.width c.apply_key.new.nodes c.apply_key.ensures.leaves.canonical in
+    let old : DiagramData = record { width = c.self.inside.width; limit = c.self.inside.limit; nodes = c.self.inside.engine.nodes } in
+    let came = c.apply.ensures.came in
+    let more = len-held old.width c.apply.new.self.nodes c.apply.ensures.leaves.canonical in
     let less = len-held old.width old.nodes c.self.invariant.0.canonical in
-    subst (λ (d : DiagramData). set.len (held_of old.width c.apply_key.new.nodes) + c.args.steps.now ≤ set.len (diagram_space d).held + c.apply_key.new.steps) c.self.view_is (omega arith)
+    subst (λ (d : DiagramData). set.len (held_of old.width c.apply.new.self.nodes) + c.args.steps.now ≤ set.len (diagram_space d).held + c.apply.new.steps) c.self.view_is (omega arith)

@@ -1,22 +1,9 @@
-use Rattle.std.proofs.Common.{◌≡◌, ◌<◌, length, List, Option, arith, None, Some, inl, inr, slice_get, refl, sym, ◌∙◌, ap}
+use Rattle.std.proofs.Common.{◌≡◌, ◌<◌, length, List, Option, arith, Some, inl, inr, slice_get, refl, sym, ◌∙◌, ap}
 use Rattle.std.proofs.lemmas.Option.{slice_get-get_or}
-use Rattle.ncl_base.proofs.Places.{slice_get-end}
 use Rattle.ncl_space.specs.declared.space.Ref.{Ref}
 use Rattle.ncl_diagram.specs.declared.memo.Key.{Key}
-use Rattle.ncl_diagram.proofs.MemoLaws.{none_put, put_last, kept_by_push, forgets_by_push}
+use Rattle.ncl_diagram.proofs.MemoLaws.{none_put, put_last}
 use Rattle.ncl_diagram.proofs.memo.Memo.begin.Goals as goal
-
-pub returns-clause-known : goal.returns-clause-known
-returns-clause-known c =
-    let e = c.in_ok-at.ensures.last c.if-not-added.false in
-    let long = c.requires.long in
-    ap (λ (l : List (Option Ref)). slice_get l c.in_ok-at.at) c.in_ok-push.ensures.items ∙ slice_get-end c.args.self.now.found.items None c.in_ok-at.at (omega arith)
-
-pub returns-clause-kept : goal.returns-clause-kept
-returns-clause-kept c = kept_by_push c.in_ok-at.added c.args.self.now.keys c.find_or_put.new.self c.args.key c.in_ok-at.ensures.keys
-
-pub returns-clause-answers : goal.returns-clause-answers
-returns-clause-answers c = forgets_by_push c.args.self.now.keys c.find_or_put.new.self c.args.key c.args.self.now.found.items c.push.new.self.items c.requires.long (put_last c.in_ok-at.added c.args.self.now.keys c.find_or_put.new.self c.args.key c.if-not-added.false c.in_ok-at.ensures.keys) c.in_ok-push.ensures.items
 
 pub returns-then-not-added-clause-begins : goal.returns-then-not-added-clause-begins
 returns-then-not-added-clause-begins c =

@@ -5,3 +5,4 @@ pub mod AddedOps
 pub mod Plans
 pub mod Cones
 pub mod Remade
+pub mod StandIns

@@ -5,3 +5,4 @@ pub mod Adding
 pub mod Plans
 pub mod Cones
 pub mod Remade
+pub mod Recasts

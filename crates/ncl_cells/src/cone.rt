@@ -15,12 +15,16 @@ pub(crate) struct Known {
     pub bit: bool,
 }
 
-/// Four sources that a node is computed of.
+/// Four sources that a node is computed of. Where there are fewer, a constant stands for none.
 #[derive(Clone, Copy, Debug, PartialEq, Eq)]
-pub(crate) struct Leaves {
+pub struct Leaves {
+    /// The first.
     pub first: SignalSource,
+    /// The second.
     pub second: SignalSource,
+    /// The third.
     pub third: SignalSource,
+    /// The fourth.
     pub fourth: SignalSource,
 }
 
@@ -57,7 +61,7 @@ fn signal_bits(alloc: Global, known: &[Known], signals: &[Signal]) -> Result<Vec
 }
 
 /// The bit that follows for a node.
-fn node_bit(alloc: Global, known: &[Known], node: &Node) -> Result<bool, Stop>
+pub(crate) fn node_bit(alloc: Global, known: &[Known], node: &Node) -> Result<bool, Stop>
     ensures { IfOk result (λ bit. (value : SignalSource → Bool) → IsKnown value known.now → cover_value node.now.on node.now.rows (map (signal_in value) node.now.ins) ≡ bit) }
 {
     let bits = signal_bits(alloc, known, node.ins.items())?;

@@ -2,9 +2,11 @@
 ghost use Rattle.std.specs.Prelude.{◌≡◌, ◌<◌, ◌≤◌, IfOk};
 
 use crate::cone::Leaves;
+use crate::freeing::cone_of;
 use crate::stop::Stop;
 use crate::table::{cover_table, input};
-use ncl_network::{Node, SignalSource};
+use ncl_base::Memory;
+use ncl_network::{Network, Node, SignalSource};
 use std::alloc::Global;
 
 /// A source with its table.
@@ -65,4 +67,26 @@ pub(crate) fn cone_table(
         })?;
     }
     Ok(last)
+}
+
+/// The table of a node over leaves, if it is computed of them.
+fn found_table(alloc: Global, nodes: &[Node], place: u32, leaves: Leaves) -> Result<u16, Stop> {
+    let cone = cone_of(alloc, nodes, place, leaves)?;
+    cone_table(alloc, nodes, &cone, leaves)
+}
+
+/// The table of a node of a network over four sources, if it is computed of them through few nodes: bit w is the
+/// node's bit at the word w, of which bit k is that of the source with the number k. The nodes between are bounded in
+/// number. The only error is want of memory.
+pub fn table_over(
+    alloc: Global,
+    network: &Network,
+    place: u32,
+    leaves: Leaves,
+) -> Result<Option<u16>, Memory> {
+    match found_table(alloc, network.nodes.items(), place, leaves) {
+        Ok(table) => Ok(Some(table)),
+        Err(Stop::GivenUp) => Ok(None),
+        Err(Stop::Memory) => Err(Memory),
+    }
 }

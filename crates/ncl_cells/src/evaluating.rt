@@ -24,7 +24,7 @@ fn fact(from: SignalSource, bit: bool) -> Known
 }
 
 /// What is known where the leaves have these bits.
-fn known_leaves(
+pub(crate) fn known_leaves(
     alloc: Global,
     leaves: Leaves,
     a: bool,

@@ -38,7 +38,7 @@ fn is_leaf(leaves: Leaves, from: SignalSource) -> bool {
 }
 
 /// Adds the nodes that signals are of, but for leaves, to a cone.
-fn add_inner(cone: &mut Vec<u32>, leaves: Leaves, signals: &[Signal]) -> Result<(), Stop> {
+pub(crate) fn add_inner(cone: &mut Vec<u32>, leaves: Leaves, signals: &[Signal]) -> Result<(), Stop> {
     for signal in signals {
         if !is_leaf(leaves, signal.from) {
             let SignalSource::Node(place) = signal.from else {
@@ -59,7 +59,17 @@ pub(crate) fn cone_of(
     place: u32,
     leaves: Leaves,
 ) -> Result<Vec<u32>, Stop> {
-    let mut cone = vec![in alloc; place]?;
+    let cone = vec![in alloc; place]?;
+    cone_from(nodes, cone, leaves)
+}
+
+/// The nodes through which some nodes are computed of leaves, and these, in order, if they are few.
+pub(crate) fn cone_from(
+    nodes: &[Node],
+    begun: Vec<u32>,
+    leaves: Leaves,
+) -> Result<Vec<u32>, Stop> {
+    let mut cone = begun;
     for at in 0..MOST_CONE {
         let Some(place) = cone.get(at).copied() else {
             cone.sort_unstable();

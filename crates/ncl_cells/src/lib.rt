@@ -1,4 +1,4 @@
-//! Networks with fewer cells: their nodes taken apart into small ones that compute the same.
+//! Networks with fewer cells: their nodes taken apart into small ones that compute the same, or made others that do.
 #![tactic(auto)]
 
 mod adding;
@@ -14,8 +14,10 @@ mod freeing;
 mod improving;
 mod leaves;
 mod levels;
+mod offer;
 mod plan;
 mod pool;
+mod recasting;
 mod remaking;
 mod rules;
 mod small;
@@ -23,4 +25,8 @@ mod stop;
 mod table;
 mod trying;
 
+pub use cone::Leaves;
+pub use cone_table::table_over;
 pub use improving::improve;
+pub use offer::Offer;
+pub use recasting::recast;

@@ -11,6 +11,7 @@ pub mod Composition
 pub mod Laying
 pub mod NetNames
 pub mod GateNames
+pub mod GatesLaws
 pub mod Renaming
 pub mod Numbering
 pub mod Distinct

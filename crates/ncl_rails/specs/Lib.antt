@@ -4,3 +4,4 @@ pub mod Named
 pub mod Naming
 pub mod StageParts
 pub mod Waiting
+pub mod GatesOf

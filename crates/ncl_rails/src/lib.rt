@@ -4,12 +4,16 @@
 mod complete;
 mod constants;
 mod copies;
+mod depth;
 mod held;
+mod joining;
+mod joint;
 mod layout;
 mod naming;
 mod parts;
 mod relaxing;
 mod signal_pairs;
+mod stage_gates;
 mod unread;
 
 pub use parts::{StageParts, stage_parts};

@@ -2,10 +2,8 @@
 ghost use Rattle.std.specs.Prelude.{IfOk};
 ghost use Rattle.ncl_rails.specs.StageParts.{CanBeStage, AreStageParts};
 
-use crate::complete::complete;
-use crate::layout::lay_out;
 use crate::naming::{names_of_pairs, parts_of_gates};
-use crate::relaxing::relaxed;
+use crate::stage_gates::stage_gates;
 use ncl_base::{Items, Memory};
 use ncl_netlist::{NamePair, PartCell};
 use ncl_network::Network;
@@ -31,9 +29,7 @@ pub fn stage_parts(
     requires { CanBeStage network.now ins.now prefix.now }
     ensures { IfOk result (AreStageParts network.now ins.now prefix.now) }
 {
-    let complete = complete(alloc, network)?;
-    let waits = relaxed(alloc, &complete)?;
-    let layout = lay_out(alloc, &complete, &waits)?;
+    let layout = stage_gates(alloc, network)?;
     let cells = parts_of_gates(alloc, ins, prefix, layout.gates.cells())?;
     let outputs = names_of_pairs(alloc, ins, prefix, &layout.outputs)?;
     Ok(StageParts {

@@ -11,14 +11,14 @@ use std::alloc::Global;
 
 /// For each input and each node how many outputs are of it, and how many nodes wait for it.
 #[derive(Drop)]
-struct Holders {
+pub(crate) struct Holders {
     inputs: Vec<u32>,
     nodes: Vec<u32>,
 }
 
 impl Holders {
     /// All outputs and all readers. Linear in the network.
-    fn of(alloc: Global, network: &Network) -> Result<Holders, Memory> {
+    pub fn of(alloc: Global, network: &Network) -> Result<Holders, Memory> {
         let inputs = vec![in alloc; 0u32; network.inputs as usize]?;
         let nodes = vec![in alloc; 0u32; network.nodes.items().len()]?;
         let mut holders = Holders { inputs, nodes };
@@ -58,6 +58,44 @@ impl Holders {
         }
     }
 
+    /// How many hold a source.
+    pub fn count_of(&self, source: SignalSource) -> Option<u32> {
+        match source {
+            SignalSource::Input(i) => self.inputs.get(i as usize).copied(),
+            SignalSource::Node(k) => self.nodes.get(k as usize).copied(),
+            SignalSource::Const(_) => None,
+        }
+    }
+
+    /// Whether nothing holds an input or a node.
+    pub fn is_free(&self, source: SignalSource) -> bool {
+        self.count_of(source) == Some(0)
+    }
+
+    /// Adds a reader of each signal that is waited for.
+    pub fn take(&mut self, ins: &[Signal], waits: Waits) {
+        for (place, signal) in ins.iter().enumerate() {
+            if !waits.at(place) {
+                continue;
+            }
+            if let Some(count) = self.at(signal.from) {
+                *count = count.saturating_add(1);
+            }
+        }
+    }
+
+    /// Takes a reader of each signal away that is waited for.
+    pub fn give_up(&mut self, ins: &[Signal], waits: Waits) {
+        for (place, signal) in ins.iter().enumerate() {
+            if !waits.at(place) {
+                continue;
+            }
+            if let Some(count) = self.at(signal.from) {
+                *count = count.saturating_sub(1);
+            }
+        }
+    }
+
     /// Takes a reader of each signal away that isn't waited for.
     fn free(&mut self, ins: &[Signal], waits: Waits) {
         for (place, signal) in ins.iter().enumerate() {
@@ -72,7 +110,7 @@ impl Holders {
 
     /// What a node waits for: what nothing else holds, and what its gates then wait for besides. A node that reads a
     /// source twice waits for all.
-    fn relax(&mut self, node: &Node) -> Waits {
+    pub fn relax(&mut self, node: &Node) -> Waits {
         let ins = node.ins.items();
         if reads_twice(ins) {
             return Waits::ALL;
@@ -106,7 +144,7 @@ const FEW_NODES: usize = 4_096;
 
 /// Whether nodes of a network may wait for less than all. Where more stays high without an input, a judge needs more nodes of
 /// decision diagrams, in large stages of many inputs up to four times as many, and could pass its usual limit where it didn't.
-fn may_relax(network: &Network) -> bool {
+pub(crate) fn may_relax(network: &Network) -> bool {
     let inputs = network.inputs as usize;
     let nodes = network.nodes.items().len();
     inputs <= FEW_INPUTS || inputs.saturating_mul(nodes) <= FEW_NODES
@@ -173,6 +211,25 @@ fn put_at(covers: &mut [Cover], place: usize, cover: Cover) {
     }
 }
 
+/// What each node of a network waits for: what is told, if an output then waits for each input and each node, or else
+/// all. What isn't told waits for all. Linear in the network. The only error is want of memory.
+pub(crate) fn told_or_all(
+    alloc: Global,
+    network: &Network,
+    waits: Vec<Waits>,
+) -> Result<Vec<Waits>, Memory>
+    requires complete { IsComplete network.now }
+    requires few { length network.now.nodes < 2 ^ 32 }
+    ensures { IfOk result (λ waits. IsCovered network.now (waits_of network.now.nodes waits.items)) }
+{
+    let claims = Claims::of(alloc, network, &waits)?;
+    if is_covered(network, &waits, &claims.inputs, &claims.nodes) {
+        return Ok(waits);
+    }
+    let none = Vec::new(alloc);
+    Ok(none)
+}
+
 /// What each node of a network waits for, such that an output waits for each input and each node. What isn't told
 /// waits for all. Linear in the network. The only error is want of memory.
 pub(crate) fn relaxed(alloc: Global, network: &Network) -> Result<Vec<Waits>, Memory>
@@ -181,10 +238,5 @@ pub(crate) fn relaxed(alloc: Global, network: &Network) -> Result<Vec<Waits>, Me
     ensures { IfOk result (λ waits. IsCovered network.now (waits_of network.now.nodes waits.items)) }
 {
     let waits = waits_found(alloc, network)?;
-    let claims = Claims::of(alloc, network, &waits)?;
-    if is_covered(network, &waits, &claims.inputs, &claims.nodes) {
-        return Ok(waits);
-    }
-    let none = Vec::new(alloc);
-    Ok(none)
+    told_or_all(alloc, network, waits)
 }

@@ -1,0 +1,7 @@
+use Rattle.std.proofs.Common.{take}
+use Rattle.std.specs.Prelude.{All}
+use Rattle.ncl_cells.specs.Recasts.{VariesBefore}
+use Rattle.ncl_cells.proofs.offer.vary_before.Given as goal
+
+abbrev pub invariant-loop-signal : goal.invariant-loop-signal
+invariant-loop-signal l = All (VariesBefore l.inputs l.place) (take l.signal-index l.signals)

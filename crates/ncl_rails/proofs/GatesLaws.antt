@@ -1,0 +1,32 @@
+-- Gates of a network with the same answers.
+use Rattle.std.proofs.Common.{ℕ, ◌+◌, ◌*◌, ◌≤◌, List, length, arith}
+use Rattle.ncl_shape.specs.declared.rails.Rails.{Rails}
+use Rattle.ncl_network.specs.declared.network.Network.{Network}
+use Rattle.ncl_decomp.specs.Split.{IsSplit, cost_of_network}
+use Rattle.ncl_tree.specs.Gates.{GatesData}
+use Rattle.ncl_cells.specs.Remade.{IsSameAs}
+use Rattle.ncl_rails.specs.Complete.{AnswersAs}
+use Rattle.ncl_rails.specs.GatesOf.{CanHaveGates, AreGatesOf}
+use Rattle.ncl_rails.proofs.Replacing.{AnswersAs-then}
+
+module _ (network joined : Network) (same : IsSameAs network joined) where
+  pub CanHaveGates-same : CanHaveGates network → IsSplit joined → CanHaveGates joined
+  CanHaveGates-same can split = record {
+    split = split;
+    some_inputs = omega (arith, can.some_inputs, same.inputs);
+    few_inputs = omega (arith, can.few_inputs, same.inputs);
+    some_outputs = omega (arith, can.some_outputs, same.outputs);
+    few_outputs = omega (arith, can.few_outputs, same.outputs);
+  }
+
+  -- they are gates of the network too, where they are few enough
+  pub AreGatesOf-same : (gates : GatesData) (outs : List Rails) → AreGatesOf joined gates outs → length gates.cells ≤ cost_of_network network + 2 * network.inputs + 2 * length network.outputs → AreGatesOf network gates outs
+  AreGatesOf-same gates outs are few = record {
+    complete = are.complete;
+    is = are.is;
+    alike = AnswersAs-then network joined are.complete (record { inputs = same.inputs; outputs = same.outputs; same = same.same }) are.alike;
+    waits = are.waits;
+    covered = are.covered;
+    laid = are.laid;
+    few = few;
+  }

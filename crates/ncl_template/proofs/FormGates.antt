@@ -1,5 +1,5 @@
 -- The gates of a form as a template.
-use Rattle.std.proofs.Common.{◌≡◌, ℕ, zero, suc, ◌<◌, ◌≤◌, ◌⊎◌, Bool, true, false, not, List, [], ◌∷◌, ◌++◌, length, map, get_or, Option, Some, None, inl, inr, refl, sym, ap, subst, ◌∙◌, arith, append_assoc, length-append}
+use Rattle.std.proofs.Common.{◌≡◌, ℕ, zero, suc, ◌<◌, ◌≤◌, Bool, true, false, not, List, [], ◌∷◌, ◌++◌, length, map, get_or, Option, Some, None, refl, sym, ap, subst, ◌∙◌, arith, append_assoc, length-append}
 use Rattle.std.proofs.lemmas.List.{append-nil}
 use Rattle.std.specs.Prelude.{Contains}
 use Rattle.std.proofs.lemmas.Bool.{both_ways}
@@ -50,11 +50,11 @@ map_count f (x ∷ xs) = ap suc (map_count f xs)
 
 module _ (ins : List Rails) (net : NetId) (gate : FormGate) (c : StageCell) (is : IsGateOf ins net gate c) (has : Bool) (of : IsFormGate (length ins) has gate) where
   gate_arity : length c.ins.items ≡ arity_of c.kind
-  gate_arity = ap length is.ins_are ∙ map_count (pin_net ins net) gate.pins.now ∙ of.arity ∙ ap arity_of (sym is.kind)
+  gate_arity = ap length is.ins_are ∙ map_count (pin_net ins net) gate.pins.items ∙ of.arity ∙ ap arity_of (sym is.kind)
 
   gate_reads : (known : List ℕ) → ((n : ℕ) → Member n (rail_nets ins) → Member n known) → (has ≡ true → Member net.0 known) → (n : NetId) → Member n c.ins.items → Member n.0 known
   gate_reads known rails inner n m =
-      let (p, among, at) = member_of_map (pin_net ins net) gate.pins.now n (subst (Member n) is.ins_are m) in
+      let (p, among, at) = member_of_map (pin_net ins net) gate.pins.items n (subst (Member n) is.ins_are m) in
       subst (λ (x : NetId). Member x.0 known) at (pin p (all_pins (length ins) has gate of p among))
     where
       pin : (p : FormPin) → IsFormPin (length ins) has p → Member (pin_net ins net p).0 known
@@ -79,7 +79,7 @@ one_under ins gate c is of =
       high = λ base word obeys shown has.
           obeys.each c in_c
           ∙ (λ i. set_of (is.kind i) (pin_values base (is.ins_are i)))
-          ∙ ap (set_of gate.kind) (pins_shown ins word no_net base shown false false (λ has. absurd cc) gate.pins.now (all_pins (length ins) false gate of));
+          ∙ ap (set_of gate.kind) (pins_shown ins word no_net base shown false false (λ has. absurd cc) gate.pins.items (all_pins (length ins) false gate of));
       low = λ base v word case null null_is has up.
           up_by (gate_bit word null false gate) (gate_bit word null false gate) refl (λ unset.
           both_ways (v c.out.0) (low_from_unset v c (case.supported.each c in_c) (pins_unset ins word no_net base v case.below case.shown null null_is false false (λ has. absurd cc) gate c is (all_pins (length ins) false gate of) unset)) up);
@@ -103,7 +103,7 @@ module _ (ins : List Rails) (w : Waits) (inner : Option FormGate) (under : List 
   leaf_fits set gate c fits of is = record {
     exact = λ base word obeys shown.
         (λ i. set_of (is.kind i) (pin_values base (is.ins_are i)))
-        ∙ ap (set_of gate.kind) (pins_shown ins word net base shown (inner_bit word (length word) inner) (has_inner inner) (is_under.high base word obeys shown) gate.pins.now (all_pins (length ins) (has_inner inner) gate of))
+        ∙ ap (set_of gate.kind) (pins_shown ins word net base shown (inner_bit word (length word) inner) (has_inner inner) (is_under.high base word obeys shown) gate.pins.items (all_pins (length ins) (has_inner inner) gate of))
         ∙ (fits word (ShowWord-length base ins word shown)).exact;
     waits_for = λ base v word case r m null.
         let (k, lt, passes, at) = picked_at (waits_at w) ins no_pair r (Member-from_Contains (waited w ins) r m) in
@@ -177,6 +177,15 @@ below ins (Some gate) before now net of adds = record {
   none = λ has. absurd cc;
 }
 
+-- two gates, and an inner one but over two inputs, are no more than the gates of a node may be
+gate_count : (n : ℕ) (under : List StageCell) (c d : StageCell) → 2 ≤ n → n ≤ 4 → length under ≤ 1 → (n ≡ 2 → length under ≡ 0) → length (under ++ c ∷ d ∷ []) ≤ cost_of_inputs n
+gate_count zero under c d some most few none = absurd (omega (arith, some))
+gate_count (suc zero) under c d some most few none = absurd (omega (arith, some))
+gate_count (suc (suc zero)) under c d some most few none = omega (arith, none refl, length-append under (c ∷ d ∷ []))
+gate_count (suc (suc (suc zero))) under c d some most few none = omega (arith, few, length-append under (c ∷ d ∷ []))
+gate_count (suc (suc (suc (suc zero)))) under c d some most few none = omega (arith, few, length-append under (c ∷ d ∷ []))
+gate_count (suc (suc (suc (suc (suc n))))) under c d some most few none = absurd (omega (arith, most))
+
 module _ (f : List Bool → Bool) (ins : List Rails) (w : Waits) (form : Form) (fits : Fits f (length ins) (waits_at w) form) (before now then after : List StageCell) (net zero one : NetId) (inner : AddsInner ins form.inner before now net) (first : AddsGate (IsGateOf ins net form.zero) now then zero) (second : AddsGate (IsGateOf ins net form.one) then after one) where
   -- the gates of a form that fits a function are a template of it
   pub AddsTemplate-form : AddsTemplate f ins (waited w ins) (cost_of_inputs (length ins)) before after (record { zero = zero; one = one })
@@ -189,9 +198,5 @@ module _ (f : List Bool → Bool) (ins : List Rails) (w : Waits) (form : Form) (
         added = second.added ∙ (λ i. first.added i ++ second.cell ∷ []) ∙ append_assoc now (first.cell ∷ []) (second.cell ∷ []) ∙ (λ i. base.added i ++ first.cell ∷ second.cell ∷ []) ∙ append_assoc before base.under (first.cell ∷ second.cell ∷ []);
         template = subst (IsTemplate f ins (waited w ins) made) out (form_template f ins w form fits base.under net base.is first.cell second.cell first.is second.is);
         formed = subst (IsFormed ins made) out (form_formed f ins w form fits base.under net base.is first.cell second.cell first.is second.is);
-        few = count (length ins) base.under first.cell second.cell base.few base.none fits.is.inputs_are;
+        few = gate_count (length ins) base.under first.cell second.cell fits.is.some fits.is.few base.few (λ two. base.none (fits.is.flat two));
       }
-    where
-      count : (n : ℕ) (under : List StageCell) (c d : StageCell) → length under ≤ 1 → (has_inner form.inner ≡ false → length under ≡ 0) → (n ≡ 3) ⊎ ((n ≡ 2) × (has_inner form.inner ≡ false)) → length (under ++ c ∷ d ∷ []) ≤ cost_of_inputs n
-      count n under c d few none (inl three) = subst (λ k. length (under ++ c ∷ d ∷ []) ≤ cost_of_inputs k) (sym three) (omega (arith, few, length-append under (c ∷ d ∷ [])))
-      count n under c d few none (inr two) = subst (λ k. length (under ++ c ∷ d ∷ []) ≤ cost_of_inputs k) (sym two.0) (omega (arith, none two.1, length-append under (c ∷ d ∷ [])))

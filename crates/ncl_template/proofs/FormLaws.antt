@@ -1,5 +1,5 @@
 -- Gates that fit a function at each word are a template of it, which waits for the inputs that they wait for.
-use Rattle.std.proofs.Common.{◌≡◌, ℕ, zero, suc, ◌<◌, Bool, true, false, not, ◌&&◌, List, [], ◌∷◌, length, map, get_or, inl, inr, refl, sym, ap, subst, ◌∙◌, arith, nat_eq}
+use Rattle.std.proofs.Common.{◌≡◌, ℕ, zero, suc, ◌<◌, Bool, true, false, not, ◌&&◌, List, [], ◌∷◌, length, map, get_or, refl, sym, ap, subst, ◌∙◌, arith, nat_eq}
 use Rattle.std.proofs.lemmas.Bool.{both_ways, false_from_ne_true, eqb-true}
 use Rattle.std.proofs.lemmas.List.Elements.{All-contains}
 use Rattle.ncl_base.proofs.Members.{Member, here, there, Contains-from_Member}
@@ -41,6 +41,24 @@ asked_up : (null y : Bool) → null ≡ false → y ≡ true → (not null && y)
 asked_up true y off up = absurd cc
 asked_up false y off up = up
 
+-- a gate whose pins are high only where their bits are is not set where it is not set at the bits
+module _ (v : Nets) (net : FormPin → NetId) (bit : FormPin → Bool) where
+  rises : (pins : List FormPin) → ((p : FormPin) → Member p pins → v (net p).0 ≡ true → bit p ≡ true) → (k : ℕ) → get_or (pin_values v (map net pins)) k false ≡ true → get_or (map bit pins) k false ≡ true
+  rises [] each k up = up
+  rises (p ∷ pins) each zero up = each p here up
+  rises (p ∷ pins) each (suc k) up = rises pins (λ q m. each q (there m)) k up
+
+  as_many : (pins : List FormPin) → length (pin_values v (map net pins)) ≡ length (map bit pins)
+  as_many [] = refl
+  as_many (p ∷ pins) = ap suc (as_many pins)
+
+  pub gate_unset : (gate : FormGate) (c : StageCell) → c.kind ≡ gate.kind → c.ins.items ≡ map net gate.pins.items → ((p : FormPin) → Member p gate.pins.items → v (net p).0 ≡ true → bit p ≡ true) → set_of gate.kind (map bit gate.pins.items) ≡ false → holds v c ≡ false
+  gate_unset gate c kind ins each unset =
+      (λ i. set_of (kind i) (pin_values v (ins i)))
+      ∙ false_from_ne_true (set_of gate.kind (pin_values v (map net gate.pins.items))) (λ up.
+      both_ways (set_of gate.kind (map bit gate.pins.items)) unset
+      (set_of-monotone gate.kind (pin_values v (map net gate.pins.items)) (map bit gate.pins.items) (record { same_length = as_many gate.pins.items; rises = rises gate.pins.items each }) up))
+
 module _ (ins : List Rails) (word : List Bool) (inner : NetId) where
   -- where the inputs show a word and the inner gate has a bit
   module _ (base : Nets) (shown : ShowWord base ins word) (b : Bool) (has : Bool) (inner_is : has ≡ true → base inner.0 ≡ b) where
@@ -66,52 +84,48 @@ module _ (ins : List Rails) (word : List Bool) (inner : NetId) where
         let within : null < length ins = omega (arith, lt, at) in
         absurd (both_ways (v net) (low (subst (λ n. IsNull v (get_or ins n no_pair)) (sym at) (is within))) up))
 
-    pin_rises : (p : FormPin) → IsFormPin (length ins) has p → v (pin_net ins inner p).0 ≡ true → pin_bit word null b p ≡ true
+    pub pin_rises : (p : FormPin) → IsFormPin (length ins) has p → v (pin_net ins inner p).0 ≡ true → pin_bit word null b p ≡ true
     pin_rises (Zero k) lt up = asked_up (nat_eq k null) _ (other k (get_or ins k no_pair).zero.0 lt (λ low. low.zero) up) (sym (shown_nets base (get_or ins k no_pair) (get_or word k false) (shown_place base ins word shown k lt)).0 ∙ below (get_or ins k no_pair).zero.0 up)
     pin_rises (One k) lt up = asked_up (nat_eq k null) _ (other k (get_or ins k no_pair).one.0 lt (λ low. low.one) up) (sym (shown_nets base (get_or ins k no_pair) (get_or word k false) (shown_place base ins word shown k lt)).1 ∙ below (get_or ins k no_pair).one.0 up)
     pin_rises Inner there_is up = inner_is there_is up
 
-    rises : (pins : List FormPin) → ((p : FormPin) → Member p pins → IsFormPin (length ins) has p) → (k : ℕ) → get_or (pin_values v (map (pin_net ins inner) pins)) k false ≡ true → get_or (map (pin_bit word null b) pins) k false ≡ true
-    rises [] are k up = up
-    rises (p ∷ pins) are zero up = pin_rises p (are p here) up
-    rises (p ∷ pins) are (suc k) up = rises pins (λ q m. are q (there m)) k up
-
-    as_many : (pins : List FormPin) → length (pin_values v (map (pin_net ins inner) pins)) ≡ length (map (pin_bit word null b) pins)
-    as_many [] = refl
-    as_many (p ∷ pins) = ap suc (as_many pins)
-
     -- a gate that is not set at the bits is not set
-    pub pins_unset : (gate : FormGate) (c : StageCell) → IsGateOf ins inner gate c → ((p : FormPin) → Member p gate.pins.now → IsFormPin (length ins) has p) → gate_bit word null b gate ≡ false → holds v c ≡ false
-    pins_unset gate c gate_is are unset =
-        (λ i. set_of (gate_is.kind i) (pin_values v (gate_is.ins_are i)))
-        ∙ false_from_ne_true (set_of gate.kind (pin_values v (map (pin_net ins inner) gate.pins.now))) (λ up.
-        both_ways (gate_bit word null b gate) unset
-        (set_of-monotone gate.kind (pin_values v (map (pin_net ins inner) gate.pins.now)) (map (pin_bit word null b) gate.pins.now) (record { same_length = as_many gate.pins.now; rises = rises gate.pins.now are }) up))
+    pub pins_unset : (gate : FormGate) (c : StageCell) → IsGateOf ins inner gate c → ((p : FormPin) → Member p gate.pins.items → IsFormPin (length ins) has p) → gate_bit word null b gate ≡ false → holds v c ≡ false
+    pins_unset gate c gate_is are unset = gate_unset v (pin_net ins inner) (pin_bit word null b) gate c gate_is.kind gate_is.ins_are (λ p m. pin_rises p (are p m)) unset
 
 -- each pin is one that a gate may have
-pub all_pins : (inputs : ℕ) (has : Bool) (gate : FormGate) → IsFormGate inputs has gate → (p : FormPin) → Member p gate.pins.now → IsFormPin inputs has p
-all_pins inputs has gate of p m = All-contains (IsFormPin inputs has) gate.pins.now p of.pins (Contains-from_Member p m)
+pub all_pins : (inputs : ℕ) (has : Bool) (gate : FormGate) → IsFormGate inputs has gate → (p : FormPin) → Member p gate.pins.items → IsFormPin inputs has p
+all_pins inputs has gate of p m = All-contains (IsFormPin inputs has) gate.pins.items p of.pins (Contains-from_Member p m)
 
 -- ---- words
 
-pub fits_of_two : (f : List Bool → Bool) (waits : ℕ → Bool) (form : Form) (n : ℕ) → n ≡ 2 → IsForm n form → ((a b : Bool) → FitsWord f waits form (a ∷ b ∷ [])) → Fits f n waits form
-fits_of_two f waits form n two is each = record { is = is; at = λ word wide. at word (wide ∙ two) }
-  where
-    at : (word : List Bool) → length word ≡ 2 → FitsWord f waits form word
-    at [] wide = absurd (omega (arith, wide))
-    at (a ∷ []) wide = absurd (omega (arith, wide))
-    at (a ∷ b ∷ []) wide = each a b
-    at (a ∷ b ∷ c ∷ word) wide = absurd (omega (arith, wide))
+module _ (f : List Bool → Bool) (waits : ℕ → Bool) (form : Form) (n : ℕ) (is : IsForm n form) where
+  pub fits_of_two : n ≡ 2 → ((a b : Bool) → FitsWord f waits form (a ∷ b ∷ [])) → Fits f n waits form
+  fits_of_two two each = record { is = is; at = λ word wide. at word (wide ∙ two) }
+    where
+      at : (word : List Bool) → length word ≡ 2 → FitsWord f waits form word
+      at [] wide = absurd (omega (arith, wide))
+      at (a ∷ []) wide = absurd (omega (arith, wide))
+      at (a ∷ b ∷ []) wide = each a b
+      at (a ∷ b ∷ c ∷ word) wide = absurd (omega (arith, wide))
 
-pub fits_of_three : (f : List Bool → Bool) (waits : ℕ → Bool) (form : Form) (n : ℕ) → (n ≡ 2 → ⊥) → IsForm n form → ((a b c : Bool) → FitsWord f waits form (a ∷ b ∷ c ∷ [])) → Fits f n waits form
-fits_of_three f waits form n more is each = record { is = is; at = λ word wide. at word (wide ∙ three) }
-  where
-    three : n ≡ 3
-    three = elim is.inputs_are [ inl is_three ↦ is_three | inr two ↦ absurd (more two.0) ]
+  pub fits_of_three : n ≡ 3 → ((a b c : Bool) → FitsWord f waits form (a ∷ b ∷ c ∷ [])) → Fits f n waits form
+  fits_of_three three each = record { is = is; at = λ word wide. at word (wide ∙ three) }
+    where
+      at : (word : List Bool) → length word ≡ 3 → FitsWord f waits form word
+      at [] wide = absurd (omega (arith, wide))
+      at (a ∷ []) wide = absurd (omega (arith, wide))
+      at (a ∷ b ∷ []) wide = absurd (omega (arith, wide))
+      at (a ∷ b ∷ c ∷ []) wide = each a b c
+      at (a ∷ b ∷ c ∷ d ∷ word) wide = absurd (omega (arith, wide))
 
-    at : (word : List Bool) → length word ≡ 3 → FitsWord f waits form word
-    at [] wide = absurd (omega (arith, wide))
-    at (a ∷ []) wide = absurd (omega (arith, wide))
-    at (a ∷ b ∷ []) wide = absurd (omega (arith, wide))
-    at (a ∷ b ∷ c ∷ []) wide = each a b c
-    at (a ∷ b ∷ c ∷ d ∷ word) wide = absurd (omega (arith, wide))
+  pub fits_of_four : n ≡ 4 → ((a b c d : Bool) → FitsWord f waits form (a ∷ b ∷ c ∷ d ∷ [])) → Fits f n waits form
+  fits_of_four four each = record { is = is; at = λ word wide. at word (wide ∙ four) }
+    where
+      at : (word : List Bool) → length word ≡ 4 → FitsWord f waits form word
+      at [] wide = absurd (omega (arith, wide))
+      at (a ∷ []) wide = absurd (omega (arith, wide))
+      at (a ∷ b ∷ []) wide = absurd (omega (arith, wide))
+      at (a ∷ b ∷ c ∷ []) wide = absurd (omega (arith, wide))
+      at (a ∷ b ∷ c ∷ d ∷ []) wide = each a b c d
+      at (a ∷ b ∷ c ∷ d ∷ e ∷ word) wide = absurd (omega (arith, wide))

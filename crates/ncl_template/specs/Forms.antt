@@ -1,5 +1,5 @@
 -- Forms: gates over the rails of a few inputs, judged by what they are at words.
-use Rattle.std.specs.Prelude.{◌≡◌, ℕ, ◌<◌, ◌≤◌, ◌==◌, ◌⊎◌, List, Bool, true, false, not, ◌&&◌, Option, None, Some, length, map, All}
+use Rattle.std.specs.Prelude.{◌≡◌, ℕ, ◌<◌, ◌≤◌, ◌==◌, List, Bool, true, false, not, ◌&&◌, Option, None, Some, length, map, All}
 use Rattle.std.specs.List.{slice_index_or}
 use Rattle.ncl_gates.specs.Gate.{arity_of, set_of}
 use Rattle.ncl_netlist.specs.declared.ids.NetId.{NetId}
@@ -20,7 +20,7 @@ pin_bit word null inner Inner = inner
 
 -- whether a gate is set there
 abbrev pub gate_bit : List Bool → ℕ → Bool → FormGate → Bool
-gate_bit word null inner gate = set_of gate.kind (map (pin_bit word null inner) gate.pins.now)
+gate_bit word null inner gate = set_of gate.kind (map (pin_bit word null inner) gate.pins.items)
 
 -- whether the inner gate is set there, if there is one
 abbrev pub inner_bit : List Bool → ℕ → Option FormGate → Bool
@@ -35,9 +35,9 @@ IsFormPin inputs inner Inner = inner ≡ true
 
 -- a gate has such a pin for each of its inputs, which are at most four
 pub record IsFormGate (inputs : ℕ) (inner : Bool) (gate : FormGate) : Type 0 where
-  pub arity : length gate.pins.now ≡ arity_of gate.kind
-  pub few : length gate.pins.now ≤ 4
-  pub pins : All (IsFormPin inputs inner) gate.pins.now
+  pub arity : length gate.pins.items ≡ arity_of gate.kind
+  pub few : length gate.pins.items ≤ 4
+  pub pins : All (IsFormPin inputs inner) gate.pins.items
 
 -- whether there is an inner gate, and what holds of it
 abbrev pub has_inner : Option FormGate → Bool
@@ -55,9 +55,11 @@ pub record FitsAt (bit : Bool) (waits : ℕ → Bool) (inner : Option FormGate) 
   pub waiting : (null : ℕ) → null < length word → waits null ≡ true → gate_bit word null (inner_bit word null inner) gate ≡ false
   pub observing : inner_bit word (length word) inner ≡ true → gate_bit word (length word) false gate ≡ false
 
--- the gates of a form are gates over so many inputs: three, or two where there is no inner gate
+-- the gates of a form are gates over two to four inputs; over two there is no inner gate
 pub record IsForm (inputs : ℕ) (form : Form) : Type 0 where
-  pub inputs_are : (inputs ≡ 3) ⊎ ((inputs ≡ 2) × (has_inner form.inner ≡ false))
+  pub some : 2 ≤ inputs
+  pub few : inputs ≤ 4
+  pub flat : inputs ≡ 2 → has_inner form.inner ≡ false
   pub inner : IsInner inputs form.inner
   pub zero : IsFormGate inputs (has_inner form.inner) form.zero
   pub one : IsFormGate inputs (has_inner form.inner) form.one
@@ -87,7 +89,7 @@ pin_net ins inner Inner = inner
 -- a cell is a gate of a form over these pairs and this net
 pub record IsGateOf (ins : List Rails) (inner : NetId) (gate : FormGate) (c : StageCell) : Type 0 where
   pub kind : c.kind ≡ gate.kind
-  pub ins_are : c.ins.items ≡ map (pin_net ins inner) gate.pins.now
+  pub ins_are : c.ins.items ≡ map (pin_net ins inner) gate.pins.items
 
 -- the inner gate is added, which drives this net, or there is none
 abbrev pub AddsInner : List Rails → Option FormGate → List StageCell → List StageCell → NetId → Type 0

@@ -42,14 +42,14 @@ fn add_gate(
     ins: &[Rails],
     inner: NetId,
 ) -> Result<NetId, Memory>
-    requires few { length gate.now.pins.now ≤ 4 }
+    requires few { length gate.now.pins.items ≤ 4 }
     requires room { nets_so_far gates.old + 1 < 2 ^ 32 }
     ensures gate { IfOk result (AddsGate (IsGateOf ins.now inner gate.now) gates.old.cells gates.new.cells) }
     ensures few { nets_so_far gates.new ≤ nets_so_far gates.old + 1 }
     ensures first { gates.new.first ≡ gates.old.first }
 {
     let mut nets = ArrayVec::<NetId, 4>::new();
-    for pin in gate.pins {
+    for pin in gate.pins.as_slice() {
         nets.push(pin_net(ins, inner, *pin));
     }
     gates.add(gate.kind, nets)
@@ -108,7 +108,7 @@ pub fn add_waiting(
     ensures first { gates.new.first ≡ gates.old.first }
 {
     if let Some(form) = fitting(node, waits) {
-        return add_form(gates, form, node, ins, waits);
+        return add_form(gates, &form, node, ins, waits);
     }
     let all = add_template(alloc, gates, node, ins)?;
     Ok(all)

@@ -5,8 +5,9 @@ ghost use Rattle.ncl_template.specs.Waits.{waits_at};
 ghost use Rattle.ncl_template.specs.Forms.{has_inner, IsFormPin, IsFormGate, IsInner, IsForm, FitsWord, Fits};
 
 use crate::form::{Form, FormGate, FormPin, fits_at};
-use crate::forms::forms;
+use crate::patterns::patterns;
 use crate::table::node_bit;
+use crate::turning::{turn_for, turns_of};
 use crate::waits::Waits;
 use ncl_network::Node;
 
@@ -37,9 +38,8 @@ fn are_pins(pins: &[FormPin], inputs: usize, inner: bool) -> bool
 fn is_gate(gate: &FormGate, inputs: usize, inner: bool) -> bool
     ensures { result ≡ true → IsFormGate inputs inner gate.now }
 {
-    gate.pins.len() <= 4
-        && gate.pins.len() == gate.kind.arity()
-        && are_pins(gate.pins, inputs, inner)
+    let pins = gate.pins.as_slice();
+    pins.len() == gate.kind.arity() && are_pins(pins, inputs, inner)
 }
 
 /// Whether the inner gate is one over the inputs alone, if there is one.
@@ -52,12 +52,14 @@ fn is_inner(gate: &Option<FormGate>, inputs: usize) -> bool
     }
 }
 
-/// Whether the gates of a form are gates over so many inputs: two, and no inner gate, or three.
+/// Whether the gates of a form are gates over so many inputs: two to four, and no inner gate over two.
 fn is_form(form: &Form, inputs: usize) -> bool
     ensures { result ≡ true → IsForm inputs form.now }
 {
     let inner = form.inner.is_some();
-    (inputs == 3 || (inputs == 2 && !inner))
+    inputs >= 2
+        && inputs <= 4
+        && (inputs > 2 || !inner)
         && is_inner(&form.inner, inputs)
         && is_gate(&form.zero, inputs, inner)
         && is_gate(&form.one, inputs, inner)
@@ -121,9 +123,41 @@ impl<'a> Tried<'a> {
     {
         self.fits_middle(false) && self.fits_middle(true)
     }
+
+    /// Whether they do at each word of four bits that begins with these.
+    fn fits_fourth(&self, a: bool, b: bool, c: bool) -> bool
+        requires { IsForm 4 self.now.form.now }
+        ensures { result ≡ true → (d : Bool) → FitsWord (node_function self.now.node.now) (waits_at self.now.waits) self.now.form.now (a ∷ b ∷ c ∷ d ∷ []) }
+    {
+        self.fits_word(&[a, b, c, false]) && self.fits_word(&[a, b, c, true])
+    }
+
+    /// Whether they do at each word of four bits that begins with these.
+    fn fits_half(&self, a: bool, b: bool) -> bool
+        requires { IsForm 4 self.now.form.now }
+        ensures { result ≡ true → (c d : Bool) → FitsWord (node_function self.now.node.now) (waits_at self.now.waits) self.now.form.now (a ∷ b ∷ c ∷ d ∷ []) }
+    {
+        self.fits_fourth(a, b, false) && self.fits_fourth(a, b, true)
+    }
+
+    /// Whether they do at each word of four bits that begins with this one.
+    fn fits_rest(&self, a: bool) -> bool
+        requires { IsForm 4 self.now.form.now }
+        ensures { result ≡ true → (b c d : Bool) → FitsWord (node_function self.now.node.now) (waits_at self.now.waits) self.now.form.now (a ∷ b ∷ c ∷ d ∷ []) }
+    {
+        self.fits_half(a, false) && self.fits_half(a, true)
+    }
+
+    /// Whether they do at each word of four bits.
+    fn fits_four(&self) -> bool
+        requires { IsForm 4 self.now.form.now }
+        ensures { result ≡ true → (a b c d : Bool) → FitsWord (node_function self.now.node.now) (waits_at self.now.waits) self.now.form.now (a ∷ b ∷ c ∷ d ∷ []) }
+    {
+        self.fits_rest(false) && self.fits_rest(true)
+    }
 }
 
-/// Whether the gates of a form show the function of a node of two or three inputs, and wait for these: they are tried
+/// Whether the gates of a form show the function of a node of two to four inputs, and wait for these: they are tried
 /// at each word, with each input NULL that is to be waited for, and with the inner gate low.
 pub(crate) fn fits(form: &Form, node: &Node, waits: Waits) -> bool
     ensures { result ≡ true → Fits (node_function node.now) (length node.now.ins) (waits_at waits) form.now }
@@ -134,22 +168,42 @@ pub(crate) fn fits(form: &Form, node: &Node, waits: Waits) -> bool
     }
     let tried = Tried { form, node, waits };
     if inputs == 2 {
-        tried.fits_two()
-    } else {
-        tried.fits_three()
+        return tried.fits_two();
     }
+    if inputs == 3 {
+        return tried.fits_three();
+    }
+    tried.fits_four()
 }
 
-/// The first form of the table that is of a node and waits for these of its inputs. None is asked where they are all.
-pub(crate) fn fitting(node: &Node, waits: Waits) -> Option<&'static Form>
-    ensures { IfSome result (λ form. Fits (node_function node.now) (length node.now.ins) (waits_at waits) form.now) }
+/// The table of a node of at most four inputs: bit w of it is the value at the word w, and bit k of w is input k.
+fn node_table(node: &Node) -> u16 {
+    let inputs = node.ins.items().len().min(4);
+    let mut table = 0u16;
+    for word in 0..16u32 {
+        let bits = [word & 1 == 1, word & 2 == 2, word & 4 == 4, word & 8 == 8];
+        if node_bit(node, &bits[..inputs]) {
+            table |= 1u16 << word;
+        }
+    }
+    table
+}
+
+/// The first gates of the table that are of a node and wait for these of its inputs. None is asked where they are all.
+pub(crate) fn fitting(node: &Node, waits: Waits) -> Option<Form>
+    ensures { IfSome result (Fits (node_function node.now) (length node.now.ins) (waits_at waits)) }
 {
     if waits == Waits::ALL {
         return None;
     }
-    for form in forms(node.ins.items().len()) {
-        if form.waits.covers(waits) && fits(form, node, waits) {
-            return Some(form);
+    let inputs = node.ins.items().len();
+    let turns = turns_of(inputs, node_table(node));
+    for pattern in patterns(inputs) {
+        if let Some(turn) = turn_for(pattern, turns.as_slice(), waits) {
+            let form = turn.form(pattern);
+            if fits(&form, node, waits) {
+                return Some(form);
+            }
         }
     }
     None
@@ -162,4 +216,28 @@ pub fn least_waits(node: &Node, waits: Waits) -> Waits {
         Some(form) => form.waits,
         None => Waits::ALL,
     }
+}
+
+/// Gates that the table has for a function: for which inputs they wait, and how many transistors they take.
+#[derive(Clone, Copy, Debug, PartialEq, Eq)]
+pub struct Offer {
+    /// For which inputs they wait.
+    pub waits: Waits,
+    /// How many transistors they take.
+    pub transistors: u32,
+}
+
+/// The first gates that the table has for a function of so many inputs, given by its table, that wait for these: bit w
+/// of a table is the value at the word w, and bit k of w is input k. Takes a fixed time.
+pub fn offered(inputs: usize, table: u16, waits: Waits) -> Option<Offer> {
+    let turns = turns_of(inputs, table);
+    for pattern in patterns(inputs) {
+        if let Some(turn) = turn_for(pattern, turns.as_slice(), waits) {
+            return Some(Offer {
+                waits: turn.waits(pattern),
+                transistors: pattern.transistors,
+            });
+        }
+    }
+    None
 }

@@ -9,23 +9,24 @@ use arrayvec::ArrayVec;
 use ncl_gates::Kind;
 
 /// What is on an input pin of a gate of a form: rail 0 or rail 1 of the input at a place, or the inner gate.
-#[derive(Clone, Copy, Debug, PartialEq, Eq)]
+#[derive(Clone, Copy, Debug, Default, PartialEq, Eq)]
 pub(crate) enum FormPin {
     Zero(usize),
     One(usize),
+    #[default]
     Inner,
 }
 
 /// A gate of a form.
-#[derive(Clone, Copy, Debug)]
+#[derive(Clone, Debug, Drop)]
 pub(crate) struct FormGate {
     pub kind: Kind,
-    pub pins: &'static [FormPin],
+    pub pins: ArrayVec<FormPin, 4>,
 }
 
 /// The gates of a node: an inner gate, if there is one, and those of its two rails; and for which inputs they are made
 /// to wait.
-#[derive(Clone, Copy, Debug)]
+#[derive(Clone, Debug, Drop)]
 pub(crate) struct Form {
     pub inner: Option<FormGate>,
     pub zero: FormGate,
@@ -51,12 +52,12 @@ fn pin_bit(word: &[bool], null: usize, inner: bool, pin: FormPin) -> bool
 
 /// Whether a gate is set there.
 fn is_set(word: &[bool], null: usize, inner: bool, gate: &FormGate) -> bool
-    requires few { length gate.now.pins.now ≤ 4 }
-    requires arity { length gate.now.pins.now ≡ arity_of gate.now.kind }
+    requires few { length gate.now.pins.items ≤ 4 }
+    requires arity { length gate.now.pins.items ≡ arity_of gate.now.kind }
     ensures { result ≡ gate_bit word.now null inner gate.now }
 {
     let mut values = ArrayVec::<bool, 4>::new();
-    for pin in gate.pins {
+    for pin in gate.pins.as_slice() {
         values.push(pin_bit(word, null, inner, *pin));
     }
     gate.kind.set(&values)

@@ -25,6 +25,14 @@ impl Waits {
         fourth: true,
     };
 
+    /// For none.
+    pub const NONE: Waits = Waits {
+        first: false,
+        second: false,
+        third: false,
+        fourth: false,
+    };
+
     /// Whether it waits for the input at a place, the fourth for all places from 3 on.
     pub fn at(self, place: usize) -> bool
         ensures { result ≡ waits_at self place }
@@ -35,6 +43,18 @@ impl Waits {
             2 => self.third,
             _ => self.fourth,
         }
+    }
+
+    /// The same, and for the input at a place too, the fourth for all places from 3 on.
+    pub(crate) fn with(self, place: usize) -> Waits {
+        let mut waits = self;
+        match place {
+            0 => waits.first = true,
+            1 => waits.second = true,
+            2 => waits.third = true,
+            _ => waits.fourth = true,
+        }
+        waits
     }
 
     /// Whether it waits for all that another waits for.

@@ -4,6 +4,7 @@ ghost use Rattle.ncl_decomp.specs.Split.{IsNarrow};
 
 use ncl_base::Items;
 use ncl_blif::{Lit, Row};
+use ncl_gates::Kind;
 use ncl_netlist::NetId;
 use ncl_network::{Node, Signal, SignalSource};
 use ncl_shape::Rails;
@@ -154,6 +155,67 @@ fn gates_are_counted(rt: HostRuntime) -> Result<(), Fail> {
     ];
     for (rows, on, names, count) in cases {
         try_row(&rt, rows, on, names, count)?;
+    }
+    Ok(())
+}
+
+/// The kinds of the gates of a node that need wait for none of its inputs.
+fn eager_kinds(
+    rt: &(impl Abort + AllocGlobal),
+    node: &Node,
+    ins: &[Rails],
+) -> Result<Vec<Kind>, Fail> {
+    assert!(rt; is_narrow(node));
+    assert!(rt; ins.len() == node.ins.items().len());
+    let mut gates = Gates::new(rt.alloc(), 8);
+    add_waiting(rt.alloc(), &mut gates, node, ins, Waits::NONE)?;
+    let mut kinds = Vec::new(rt.alloc());
+    for cell in gates.cells() {
+        kinds.push(cell.kind)?;
+    }
+    Ok(kinds)
+}
+
+#[test]
+fn eager_gates_are_of_these_kinds(rt: HostRuntime) -> Result<(), Fail> {
+    let cases: [(&[&str], bool, &str, [Kind; 2]); 7] = [
+        // A conjunction, and a disjunction of an input and the inverse of another.
+        (&["11"], true, "01", [Kind::Th12, Kind::Th22]),
+        (&["1-", "-0"], true, "01", [Kind::Th22, Kind::Th12]),
+        // One input or the product of the others, and a multiplexer by its last input.
+        (&["1--", "-11"], true, "012", [Kind::Th33w2, Kind::Th23w2]),
+        (
+            &["1-0", "-11"],
+            true,
+            "012",
+            [Kind::Th24comp, Kind::Th24comp],
+        ),
+        // A product or another, also of other inputs, inverses and by the OFF-set.
+        (
+            &["11--", "--11"],
+            true,
+            "0123",
+            [Kind::Th24comp, Kind::ThXor0],
+        ),
+        (
+            &["0-1-", "-1-0"],
+            false,
+            "0123",
+            [Kind::ThXor0, Kind::Th24comp],
+        ),
+        // The sum of three bits, given their carry.
+        (
+            &["1--0", "-1-0", "--10", "111-"],
+            true,
+            "0123",
+            [Kind::Th34w2, Kind::Th34w2],
+        ),
+    ];
+    for (rows, on, names, kinds) in cases {
+        let node = node_of(&rt, rows, on)?;
+        let ins = pairs(&rt, names)?;
+        let found = eager_kinds(&rt, &node, &ins)?;
+        assert!(rt; found.as_slice() == kinds.as_slice(), "{names} {found:?}");
     }
     Ok(())
 }

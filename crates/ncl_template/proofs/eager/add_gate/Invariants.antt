@@ -3,4 +3,4 @@ use Rattle.ncl_template.specs.Forms.{pin_net}
 use Rattle.ncl_template.proofs.eager.add_gate.Given as goal
 
 abbrev pub invariant-loop-pin : goal.invariant-loop-pin
-invariant-loop-pin l = l.nets.items ≡ map (pin_net l.ins l.inner) (take l.pin-index l.gate.pins.now)
+invariant-loop-pin l = l.nets.items ≡ map (pin_net l.ins l.inner) (take l.pin-index l.gate.pins.items)

@@ -72,7 +72,7 @@ enum Way {
 }
 
 /// How the function of a table changes where an input rises.
-fn way(table: u16, k: usize) -> Way {
+fn way_of(table: u16, k: usize) -> Way {
     let step = [1u32, 2, 4, 8][k % 4];
     let before = table & !INPUTS[k % 4];
     let after = (table & INPUTS[k % 4]) >> step;
@@ -98,7 +98,7 @@ fn inverted(table: u16, k: usize) -> u16 {
 /// Whether the function of a table depends on as many of its first inputs.
 pub(crate) fn depends_on(table: u16, count: usize) -> bool {
     for k in 0..count.min(4) {
-        if way(table, k) == Way::Stays {
+        if way_of(table, k) == Way::Stays {
             return false;
         }
     }
@@ -172,7 +172,7 @@ pub(crate) fn node_of(alloc: Global, sources: &Sources, table: u16) -> Result<No
     };
     let mut ins = Vec::new(alloc);
     for k in 0..sources.count.min(4) {
-        let way = way(table, k);
+        let way = way_of(table, k);
         let falls = way == Way::Falls;
         if falls {
             function.table = inverted(function.table, k);

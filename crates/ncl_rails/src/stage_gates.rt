@@ -8,8 +8,8 @@ ghost use Rattle.ncl_rails.specs.GatesOf.{CanHaveGates, AreGatesOf};
 
 use crate::complete::complete;
 use crate::depth::depth;
-use crate::joining::{Joins, joins_of};
 use crate::layout::{Layout, lay_out};
+use crate::pairing::{Joins, joins_of};
 use crate::relaxing::{relaxed, told_or_all};
 use ncl_base::Memory;
 use ncl_cells::recast;

@@ -2,5 +2,6 @@
 mod cells_tests;
 mod demo_tests;
 mod fault_tests;
+mod recast_tests;
 mod template_tests;
 mod tree_tests;

@@ -5,7 +5,7 @@ use crate::relaxing::{Holders, may_relax};
 use ncl_base::Memory;
 use ncl_cells::{Leaves, Offer, table_over};
 use ncl_network::{Network, Node, Signal, SignalSource};
-use ncl_template::{Waits, least_waits};
+use ncl_template::{Waits, least_waits, offered};
 use std::alloc::Global;
 
 /// The most nodes of a network whose nodes are joined.
@@ -73,6 +73,9 @@ fn pair_of(
     table: u16,
     needed: Waits,
 ) -> Result<Option<Pair>, Memory> {
+    if offered(sources.count, table, needed).is_none() {
+        return Ok(None);
+    }
     let node = node_of(alloc, sources, table)?;
     let waits = least_waits(&node, needed);
     if waits == Waits::ALL {

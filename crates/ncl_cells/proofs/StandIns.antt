@@ -1,5 +1,5 @@
 -- Nodes that take the places of others have the same bits.
-use Rattle.std.proofs.Common.{◌≡◌, ℕ, zero, suc, ◌+◌, ◌<◌, ◌≤◌, Bool, false, not, cond, List, [], ◌∷◌, ◌++◌, length, map, get_or, Some, refl, sym, ap, subst, ◌∙◌, arith, ◌⊎◌, inl, inr, zero-add}
+use Rattle.std.proofs.Common.{◌≡◌, ℕ, zero, suc, ◌<◌, ◌≤◌, Bool, false, not, cond, List, [], ◌∷◌, ◌++◌, length, map, get_or, Some, refl, sym, ap, subst, ◌∙◌, arith, inl, inr, zero-add}
 use Rattle.std.specs.Prelude.{All, slice_get}
 use Rattle.std.proofs.lemmas.Bool.{cases_lt}
 use Rattle.std.proofs.lemmas.List.Elements.{All-nil, All-head, All-tail, All-push}
@@ -10,7 +10,7 @@ use Rattle.ncl_network.specs.declared.network.SignalSource.TheVariants.{Input, N
 use Rattle.ncl_network.specs.declared.network.Signal.{Signal}
 use Rattle.ncl_network.specs.declared.network.Node.{Node}
 use Rattle.ncl_network.specs.declared.network.Network.{Network}
-use Rattle.ncl_network.specs.Network.{source_value, signal_value, node_value, node_values, answer_of, IsSource, ReadBefore}
+use Rattle.ncl_network.specs.Network.{source_value, signal_value, node_values, answer_of, IsSource}
 use Rattle.ncl_network.specs.Prune.{IsInOrder}
 use Rattle.ncl_network.proofs.Walking.{ReadBefore-push}
 use Rattle.ncl_network.proofs.Marking.{node_reads}
@@ -18,8 +18,7 @@ use Rattle.ncl_decomp.specs.Split.{IsNarrow, IsSplit}
 use Rattle.ncl_base.proofs.Tests.{All-at}
 use Rattle.ncl_base.proofs.Places.{push_cases}
 use Rattle.ncl_cells.specs.declared.cone.Leaves.{Leaves}
-use Rattle.ncl_cells.specs.Cones.{Respects}
-use Rattle.ncl_cells.specs.Recasts.{Agrees, AgreesAt, MayRead, MayStand, AreRecast}
+use Rattle.ncl_cells.specs.Recasts.{Agrees, AgreesAt, MayStand, AreRecast}
 use Rattle.ncl_cells.specs.Remade.{IsRebuiltOf}
 use Rattle.ncl_cells.proofs.Smalls.{bit_of_node}
 use Rattle.ncl_cells.proofs.Cones.{respected}

@@ -1,5 +1,5 @@
 -- Nodes that take the places of others.
-use Rattle.std.specs.Prelude.{◌≡◌, ℕ, ◌<◌, ◌≤◌, List, Bool, false, length, map, All, slice_get, Some}
+use Rattle.std.specs.Prelude.{◌≡◌, ℕ, List, Bool, false, map, All, slice_get, Some}
 use Rattle.ncl_blif.specs.Meaning.{cover_value}
 use Rattle.ncl_network.specs.declared.network.SignalSource.{SignalSource}
 use Rattle.ncl_network.specs.declared.network.SignalSource.TheVariants.{Node as FromNode}

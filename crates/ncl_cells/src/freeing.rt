@@ -38,7 +38,11 @@ fn is_leaf(leaves: Leaves, from: SignalSource) -> bool {
 }
 
 /// Adds the nodes that signals are of, but for leaves, to a cone.
-pub(crate) fn add_inner(cone: &mut Vec<u32>, leaves: Leaves, signals: &[Signal]) -> Result<(), Stop> {
+pub(crate) fn add_inner(
+    cone: &mut Vec<u32>,
+    leaves: Leaves,
+    signals: &[Signal],
+) -> Result<(), Stop> {
     for signal in signals {
         if !is_leaf(leaves, signal.from) {
             let SignalSource::Node(place) = signal.from else {
@@ -64,11 +68,7 @@ pub(crate) fn cone_of(
 }
 
 /// The nodes through which some nodes are computed of leaves, and these, in order, if they are few.
-pub(crate) fn cone_from(
-    nodes: &[Node],
-    begun: Vec<u32>,
-    leaves: Leaves,
-) -> Result<Vec<u32>, Stop> {
+pub(crate) fn cone_from(nodes: &[Node], begun: Vec<u32>, leaves: Leaves) -> Result<Vec<u32>, Stop> {
     let mut cone = begun;
     for at in 0..MOST_CONE {
         let Some(place) = cone.get(at).copied() else {

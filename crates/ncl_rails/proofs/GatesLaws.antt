@@ -1,11 +1,10 @@
 -- Gates of a network with the same answers.
-use Rattle.std.proofs.Common.{ℕ, ◌+◌, ◌*◌, ◌≤◌, List, length, arith}
+use Rattle.std.proofs.Common.{◌+◌, ◌*◌, ◌≤◌, List, length, arith}
 use Rattle.ncl_shape.specs.declared.rails.Rails.{Rails}
 use Rattle.ncl_network.specs.declared.network.Network.{Network}
 use Rattle.ncl_decomp.specs.Split.{IsSplit, cost_of_network}
 use Rattle.ncl_tree.specs.Gates.{GatesData}
 use Rattle.ncl_cells.specs.Remade.{IsSameAs}
-use Rattle.ncl_rails.specs.Complete.{AnswersAs}
 use Rattle.ncl_rails.specs.GatesOf.{CanHaveGates, AreGatesOf}
 use Rattle.ncl_rails.proofs.Replacing.{AnswersAs-then}
 

@@ -34,11 +34,7 @@ fn waits_for(
 }
 
 /// The gates of a network whose nodes wait as is told, if that will do, or as is found. Near linear in the network.
-fn gates_of(
-    alloc: Global,
-    network: &Network,
-    told: Option<Vec<Waits>>,
-) -> Result<Layout, Memory>
+fn gates_of(alloc: Global, network: &Network, told: Option<Vec<Waits>>) -> Result<Layout, Memory>
     requires { CanHaveGates network.now }
     ensures { IfOk result (λ layout. AreGatesOf network.now layout.gates layout.outputs.items) }
 {

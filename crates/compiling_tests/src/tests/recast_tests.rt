@@ -85,11 +85,7 @@ fn what_computes_another_function_is_not(rt: HostRuntime) -> Result<(), Fail> {
 }
 
 /// How many gates of a kind the stages have that the models of a text are compiled to.
-fn gates_of(
-    rt: &(impl Abort + AllocGlobal),
-    text: &str,
-    kind: Kind,
-) -> Result<usize, Fail> {
+fn gates_of(rt: &(impl Abort + AllocGlobal), text: &str, kind: Kind) -> Result<usize, Fail> {
     let models = models_of(rt, text)?;
     let netlist = compile(rt.alloc(), &models)?;
     let wanted = CellKind::Gate(kind);
@@ -105,7 +101,8 @@ fn gates_of(
 #[test]
 fn two_ands_are_two_gates_where_others_wait(rt: HostRuntime) -> Result<(), Fail> {
     // the exclusive ORs wait for all that the AND of three reads
-    let text = ".inputs a b c\n.outputs y p q\n.names a b n\n11 1\n.names n c y\n11 1\n.names a b p\n10 1\n01 1\n.names a c q\n10 1\n01 1\n";
+    let text =
+        ".inputs a b c\n.outputs y p q\n.names a b n\n11 1\n.names n c y\n11 1\n.names a b p\n10 1\n01 1\n.names a c q\n10 1\n01 1\n";
     assert_eq!(rt; gates_of(&rt, text, Kind::Th33)?, 1);
     Ok(())
 }

@@ -1,5 +1,4 @@
 use Rattle.std.proofs.Common.{◌≡◌, sym, subst, ◌∙◌}
-use Rattle.ncl_network.specs.Prune.{IsInOrder}
 use Rattle.ncl_decomp.proofs.Whole.{narrow_left}
 use Rattle.ncl_cells.specs.Remade.{IsRebuiltOf}
 use Rattle.ncl_cells.proofs.StandIns.{IsRebuilt-recast}

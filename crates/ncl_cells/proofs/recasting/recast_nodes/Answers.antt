@@ -1,4 +1,4 @@
-use Rattle.std.proofs.Common.{[], List, length, sym, ap, subst, arith}
+use Rattle.std.proofs.Common.{List, length, sym, ap, subst, arith}
 use Rattle.std.proofs.lemmas.List.{length_push}
 use Rattle.ncl_network.specs.declared.network.Node.{Node}
 use Rattle.ncl_cells.specs.Recasts.{MayStand, AreRecast}

@@ -1,5 +1,4 @@
-use Rattle.std.proofs.Common.{arith}
-use Rattle.ncl_rails.proofs.GatesLaws.{CanHaveGates-same, AreGatesOf-same}
+use Rattle.ncl_rails.proofs.GatesLaws.{CanHaveGates-same}
 use Rattle.ncl_rails.proofs.stage_gates.better_gates.Goals as goal
 
 pub gates_of-requires : goal.gates_of-requires

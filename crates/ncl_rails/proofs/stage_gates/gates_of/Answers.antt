@@ -1,5 +1,4 @@
-use Rattle.std.proofs.Common.{ℕ, List, subst, arith}
-use Rattle.ncl_network.specs.declared.network.Signal.{Signal}
+use Rattle.std.proofs.Common.{subst, arith}
 use Rattle.ncl_rails.specs.Waiting.{waits_of}
 use Rattle.ncl_rails.specs.Layout.{IsLaidOut}
 use Rattle.ncl_rails.proofs.Replacing.{twice_nodes}

@@ -1,14 +1,14 @@
 -- What the pairs of a network show that is laid out, and what waits for what.
 use Rattle.std.proofs.Common.{◌≡◌, ℕ, suc, ◌+◌, ◌<◌, Bool, true, false, List, [], ◌∷◌, ◌++◌, length, map, Some, inl, inr, refl, sym, subst, arith}
-use Rattle.std.specs.Prelude.{All, Contains, slice_get}
+use Rattle.std.specs.Prelude.{All, slice_get}
 use Rattle.std.specs.List.{list_all, slice_index_or}
 use Rattle.std.proofs.lemmas.Bool.{cases_lt}
 use Rattle.std.proofs.lemmas.List.{get_or_append_left, get_or_push, length_push}
 use Rattle.std.proofs.lemmas.List.Elements.{All-head, All-tail}
 use Rattle.std.proofs.lemmas.Option.{get_or_from_slice_get, slice_get_within}
-use Rattle.ncl_base.proofs.Members.{Member, Member-map, Contains-from_Member, Member-from_Contains, Contains-from_slice_get, slice_get-from_Contains, slice_get-some}
+use Rattle.ncl_base.proofs.Members.{Member, Member-map, Contains-from_Member, Member-from_Contains, slice_get-from_Contains, slice_get-some}
 use Rattle.ncl_base.proofs.Tests.{All-at}
-use Rattle.ncl_base.proofs.Joined.{Member-flat_map, member_of_flat_map}
+use Rattle.ncl_base.proofs.Joined.{member_of_flat_map}
 use Rattle.ncl_shape.specs.declared.rails.Rails.{Rails}
 use Rattle.ncl_shape.specs.declared.stage.StageCell.{StageCell}
 use Rattle.ncl_shape.specs.Nets.{Nets, IsBelow}
@@ -40,12 +40,6 @@ module _ (network : Network) (waits : ℕ → List Signal) (inputs : List Rails)
   unfoldable pub output_pairs : List Rails
   output_pairs = map (signal_pair inputs pairs) network.outputs
 
-  -- the gates of a node are cells
-  gate_within : (k : ℕ) (part : List StageCell) → slice_get laid.parts k ≡ Some part → (c : StageCell) → Contains part c → Member c cells
-  gate_within k part at c in_part =
-      subst (Member c) (sym laid.joined)
-      (Member-flat_map (λ (p : List StageCell). p) part c (Member-from_Contains laid.parts part (Contains-from_slice_get laid.parts k part at)) (Member-from_Contains part c in_part))
-
   varies_at : (k : ℕ) (node : Node) → slice_get network.nodes k ≡ Some node → All (λ (signal : Signal). is_constant signal.from ≡ false) node.ins
   varies_at k node at =
       All-at (λ (n : Node). All (λ (signal : Signal). is_constant signal.from ≡ false) n.ins) network.nodes (λ i d lt. (complete.varying.nodes i d lt).no_constant) k node at
@@ -59,8 +53,8 @@ module _ (network : Network) (waits : ℕ → List Signal) (inputs : List Rails)
   -- ---- what the pairs show
 
   module _ (base : Nets) (word : List Bool) (obeys : (c : StageCell) → Member c cells → base (out_of c) ≡ holds base c) (at_inputs : (i : ℕ) → i < network.inputs → Shows base (source_pair inputs pairs (Input i)) (slice_index_or word i false)) where
-    part_obeys : (k : ℕ) (part : List StageCell) → slice_get laid.parts k ≡ Some part → Obeys base part
-    part_obeys k part at = record { each = λ c m. obeys c (gate_within k part at c m) }
+    cells_obey : Obeys base cells
+    cells_obey = record { each = λ c m. obeys c (Member-from_Contains cells c m) }
 
     source_shown : (bits : List Bool) (k : ℕ) → ((j : ℕ) → j < k → Shows base (source_pair inputs pairs (FromNode j)) (slice_index_or bits j false)) → (from : SignalSource) → IsSource network.inputs k from → is_constant from ≡ false → Shows base (source_pair inputs pairs from) (source_value word bits from)
     source_shown bits k before (Input i) there varies = at_inputs i there
@@ -83,7 +77,7 @@ module _ (network : Network) (waits : ℕ → List Signal) (inputs : List Rails)
         let (part, found) = part_at (length bits) within in
         let (pair, paired) = pair_at (length bits) within in
         let template = laid.templates (length bits) node part pair at found paired in
-        let shown = template.value base (map (signal_value word bits) node.ins) (part_obeys (length bits) part found) (signals_shown bits (length bits) before node.ins reads (varies_at (length bits) node at)) in
+        let shown = template.value base (map (signal_value word bits) node.ins) cells_obey (signals_shown bits (length bits) before node.ins reads (varies_at (length bits) node at)) in
         subst (λ (p : Rails). Shows base p (node_value word bits node)) (sym (get_or_from_slice_get pairs (length bits) pair no_rails paired)) shown
 
     walk : (bits : List Bool) (rest : List Node) → ((j : ℕ) (node : Node) → slice_get rest j ≡ Some node → slice_get network.nodes (length bits + j) ≡ Some node) → ReadBefore network.inputs (length bits) rest → ((j : ℕ) → j < length bits → Shows base (source_pair inputs pairs (FromNode j)) (slice_index_or bits j false)) → (j : ℕ) → j < length bits + length rest → Shows base (source_pair inputs pairs (FromNode j)) (slice_index_or (node_values word bits rest) j false)
@@ -136,12 +130,12 @@ module _ (network : Network) (waits : ℕ → List Signal) (inputs : List Rails)
     -- ---- what waits for what
 
     module _ (v : Nets) (below : IsBelow v base) (supported : (c : StageCell) → Member c cells → v (out_of c) ≡ true → holds v c ≡ true) where
-      node_case : (k : ℕ) (node : Node) (part : List StageCell) → slice_get network.nodes k ≡ Some node → slice_get laid.parts k ≡ Some part → IsCase base v (map (signal_pair inputs pairs) node.ins) part (map (signal_value word (node_values word [] network.nodes)) node.ins)
-      node_case k node part at found = record {
-        obeys = part_obeys k part found;
+      node_case : (k : ℕ) (node : Node) → slice_get network.nodes k ≡ Some node → IsCase base v (map (signal_pair inputs pairs) node.ins) cells (map (signal_value word (node_values word [] network.nodes)) node.ins)
+      node_case k node at = record {
+        obeys = cells_obey;
         shown = ins_shown k node at;
         below = below;
-        supported = record { each = λ c m. supported c (gate_within k part found c m) };
+        supported = record { each = λ c m. supported c (Member-from_Contains cells c m) };
       }
 
       signal_null : (signal : Signal) (from : SignalSource) → signal.from ≡ from → IsNull v (source_pair inputs pairs from) → IsNull v (signal_pair inputs pairs signal)
@@ -160,7 +154,7 @@ module _ (network : Network) (waits : ℕ → List Signal) (inputs : List Rails)
           let (pair, paired) = pair_at await.by await.within in
           let template = laid.templates await.by node part pair at found paired in
           let out_null =
-          template.needs base v (map (signal_value word (node_values word [] network.nodes)) node.ins) (node_case await.by node part at found) (signal_pair inputs pairs await.signal)
+          template.needs base v (map (signal_value word (node_values word [] network.nodes)) node.ins) (node_case await.by node at) (signal_pair inputs pairs await.signal)
           (Contains-from_Member (signal_pair inputs pairs await.signal) (Member-map (signal_pair inputs pairs) await.signal (Member-from_Contains (waits await.by) await.signal await.waited)))
           (signal_null await.signal from await.is null) in
           null_reaches (FromNode await.by) reach (subst (IsNull v) (sym (get_or_from_slice_get pairs await.by pair no_rails paired)) out_null)
@@ -176,5 +170,5 @@ module _ (network : Network) (waits : ℕ → List Signal) (inputs : List Rails)
           let (node, at) = slice_get-some network.nodes k inside in
           let (pair, paired) = pair_at k inside in
           let template = laid.templates k node part pair at found paired in
-          let out_null = template.observed base v (map (signal_value word (node_values word [] network.nodes)) node.ins) (node_case k node part at found) c (Contains-from_Member c in_part) high low in
+          let out_null = template.observed base v (map (signal_value word (node_values word [] network.nodes)) node.ins) (node_case k node at) c (Contains-from_Member c in_part) high low in
           null_reaches (FromNode k) (node_reaches network waits covered complete.varying.reads_before k inside) (subst (IsNull v) (sym (get_or_from_slice_get pairs k pair no_rails paired)) out_null)

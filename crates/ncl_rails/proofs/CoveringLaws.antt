@@ -12,7 +12,7 @@ use Rattle.ncl_decomp.specs.Split.{cost_of_inputs}
 use Rattle.ncl_shape.specs.declared.rails.Rails.{Rails}
 use Rattle.ncl_shape.specs.declared.stage.StageCell.{StageCell}
 use Rattle.ncl_template.specs.declared.waits.Waits.{Waits}
-use Rattle.ncl_template.specs.Formed.{AddsTemplate}
+use Rattle.ncl_template.specs.Among.{AddsAmong}
 use Rattle.ncl_template.specs.Template.{node_function}
 use Rattle.ncl_template.specs.Waits.{waits_at, waited, all_inputs}
 use Rattle.ncl_template.proofs.Picked.{picked_in, picked_within, picked-map}
@@ -40,9 +40,9 @@ covered_from network waits inputs nodes = record {
 }
 
 -- what a node waits for among the pairs of what it reads
-pub turn_waiting : (nodes : List Node) (waits : List Waits) (inputs pairs : List Rails) (i : ℕ) (node : Node) (w : Waits) (ins : List Rails) (before after : List StageCell) (out : Rails) → i < length nodes → node ≡ get_or nodes i node → ins ≡ map (signal_pair inputs pairs) node.ins → w ≡ get_or waits i all_inputs → AddsTemplate (node_function node) ins (waited w ins) (cost_of_inputs (length node.ins)) before after out → AddsTemplate (node_function node) ins (map (signal_pair inputs pairs) (waits_of nodes waits i)) (cost_of_inputs (length node.ins)) before after out
+pub turn_waiting : (nodes : List Node) (waits : List Waits) (inputs pairs : List Rails) (i : ℕ) (node : Node) (w : Waits) (ins : List Rails) (before after : List StageCell) (out : Rails) → i < length nodes → node ≡ get_or nodes i node → ins ≡ map (signal_pair inputs pairs) node.ins → w ≡ get_or waits i all_inputs → AddsAmong (node_function node) ins (waited w ins) (cost_of_inputs (length node.ins)) before after out → AddsAmong (node_function node) ins (map (signal_pair inputs pairs) (waits_of nodes waits i)) (cost_of_inputs (length node.ins)) before after out
 turn_waiting nodes waits inputs pairs i node w ins before after out lt at shown is adds =
     let stands : slice_get nodes i ≡ Some node = slice_get-get_or nodes i node lt ∙ ap Some (sym at) in
     let same : waited w ins ≡ map (signal_pair inputs pairs) (waits_of nodes waits i) =
     (λ j. waited (is j) (shown j)) ∙ (λ j. waited (get_or waits i all_inputs) (map (signal_pair inputs pairs) (sym (all_read_at nodes i node stands) j))) ∙ sym (picked-map (signal_pair inputs pairs) (waits_at (get_or waits i all_inputs)) (all_read nodes i)) in
-    subst (λ ws. AddsTemplate (node_function node) ins ws (cost_of_inputs (length node.ins)) before after out) same adds
+    subst (λ ws. AddsAmong (node_function node) ins ws (cost_of_inputs (length node.ins)) before after out) same adds

@@ -13,7 +13,8 @@ use Rattle.ncl_network.specs.declared.network.Node.{Node}
 use Rattle.ncl_network.specs.declared.network.Network.{Network}
 use Rattle.ncl_decomp.specs.Split.{cost_of_nodes}
 use Rattle.ncl_tree.specs.Gates.{GatesData}
-use Rattle.ncl_template.specs.Template.{IsTemplate, node_function}
+use Rattle.ncl_template.specs.Template.{node_function}
+use Rattle.ncl_template.specs.Among.{IsTemplateAmong}
 
 -- the nets of an input: rail 0 before rail 1, and inputs in their order
 abbrev pub input_pair : ℕ → Rails
@@ -50,8 +51,8 @@ pub record AreLaidOut (inputs : List Rails) (waits : ℕ → List Signal) (nodes
   pub as_many : length parts ≡ length nodes
   pub pairs_as_many : length pairs ≡ length nodes
   pub joined : cells ≡ flat_map (λ part. part) parts
-  -- which show its bit over the pairs of what it reads, and wait for some of these
-  pub templates : (k : ℕ) (node : Node) (part : List StageCell) (pair : Rails) → slice_get nodes k ≡ Some node → slice_get parts k ≡ Some part → slice_get pairs k ≡ Some pair → IsTemplate (node_function node) (map (signal_pair inputs pairs) node.ins) (map (signal_pair inputs pairs) (waits k)) part pair
+  -- which among all cells show its bit over the pairs of what it reads, and wait for some of these
+  pub templates : (k : ℕ) (node : Node) (part : List StageCell) (pair : Rails) → slice_get nodes k ≡ Some node → slice_get parts k ≡ Some part → slice_get pairs k ≡ Some pair → IsTemplateAmong cells (node_function node) (map (signal_pair inputs pairs) node.ins) (map (signal_pair inputs pairs) (waits k)) part pair
   -- each gate has a net on each input pin, and reads only the inputs and gates before it, and some drive the pairs
   pub arities : All (λ (c : StageCell). length c.ins.items ≡ arity_of c.kind) cells
   pub in_order : IsInOrder inputs cells

@@ -17,11 +17,10 @@ use Rattle.ncl_template.specs.declared.form.FormPin.TheVariants.{Zero, One, Inne
 use Rattle.ncl_template.specs.declared.form.FormGate.{FormGate}
 use Rattle.ncl_template.specs.declared.form.Form.{Form}
 use Rattle.ncl_template.specs.declared.waits.Waits.{Waits}
-use Rattle.ncl_template.specs.PairGates.{AddsGate}
 use Rattle.ncl_template.specs.Template.{IsNull, ShowWord, Obeys, IsCase, IsTemplate}
 use Rattle.ncl_template.specs.Formed.{IsFormed, AddsTemplate}
 use Rattle.ncl_template.specs.Waits.{waits_at, waited}
-use Rattle.ncl_template.specs.Forms.{gate_bit, inner_bit, IsFormPin, IsFormGate, has_inner, IsInner, FitsAt, Fits, no_pair, no_net, pin_net, IsGateOf, AddsInner}
+use Rattle.ncl_template.specs.Forms.{gate_bit, inner_bit, IsFormPin, IsFormGate, has_inner, IsInner, FitsAt, Fits, no_pair, no_net, pin_net, IsGateOf, AddsInner, AddsForm}
 use Rattle.ncl_template.proofs.Groups.{Leaf, IsLeaf, ShowWord-length, template_of_groups}
 use Rattle.ncl_template.proofs.InputLeaves.{group_of_one}
 use Rattle.ncl_template.proofs.Trees.{low_from_unset}
@@ -186,17 +185,19 @@ gate_count (suc (suc (suc zero))) under c d some most few none = omega (arith, f
 gate_count (suc (suc (suc (suc zero)))) under c d some most few none = omega (arith, few, length-append under (c ∷ d ∷ []))
 gate_count (suc (suc (suc (suc (suc n))))) under c d some most few none = absurd (omega (arith, most))
 
-module _ (f : List Bool → Bool) (ins : List Rails) (w : Waits) (form : Form) (fits : Fits f (length ins) (waits_at w) form) (before now then after : List StageCell) (net zero one : NetId) (inner : AddsInner ins form.inner before now net) (first : AddsGate (IsGateOf ins net form.zero) now then zero) (second : AddsGate (IsGateOf ins net form.one) then after one) where
+module _ (f : List Bool → Bool) (ins : List Rails) (w : Waits) (form : Form) (fits : Fits f (length ins) (waits_at w) form) (before after : List StageCell) (out : Rails) (adds : AddsForm ins form before after out) where
   -- the gates of a form that fits a function are a template of it
-  pub AddsTemplate-form : AddsTemplate f ins (waited w ins) (cost_of_inputs (length ins)) before after (record { zero = zero; one = one })
+  pub AddsTemplate-form : AddsTemplate f ins (waited w ins) (cost_of_inputs (length ins)) before after out
   AddsTemplate-form =
-      let base = below ins form.inner before now net fits.is.inner inner in
-      let made : List StageCell = base.under ++ first.cell ∷ second.cell ∷ [] in
-      let out : ◌≡◌ {A = Rails} (record { zero = first.cell.out; one = second.cell.out }) (record { zero = zero; one = one }) = λ i. record { zero = first.drives i; one = second.drives i } in
+      let base = below ins form.inner before adds.now adds.net fits.is.inner adds.inner in
+      let c : StageCell = adds.zero.cell in
+      let d : StageCell = adds.one.cell in
+      let made : List StageCell = base.under ++ c ∷ d ∷ [] in
+      let same : ◌≡◌ {A = Rails} (record { zero = c.out; one = d.out }) out = λ i. record { zero = adds.zero.drives i; one = adds.one.drives i } in
       record {
         made = made;
-        added = second.added ∙ (λ i. first.added i ++ second.cell ∷ []) ∙ append_assoc now (first.cell ∷ []) (second.cell ∷ []) ∙ (λ i. base.added i ++ first.cell ∷ second.cell ∷ []) ∙ append_assoc before base.under (first.cell ∷ second.cell ∷ []);
-        template = subst (IsTemplate f ins (waited w ins) made) out (form_template f ins w form fits base.under net base.is first.cell second.cell first.is second.is);
-        formed = subst (IsFormed ins made) out (form_formed f ins w form fits base.under net base.is first.cell second.cell first.is second.is);
-        few = gate_count (length ins) base.under first.cell second.cell fits.is.some fits.is.few base.few (λ two. base.none (fits.is.flat two));
+        added = adds.one.added ∙ (λ i. adds.zero.added i ++ d ∷ []) ∙ append_assoc adds.now (c ∷ []) (d ∷ []) ∙ (λ i. base.added i ++ c ∷ d ∷ []) ∙ append_assoc before base.under (c ∷ d ∷ []);
+        template = subst (IsTemplate f ins (waited w ins) made) same (form_template f ins w form fits base.under adds.net base.is c d adds.zero.is adds.one.is);
+        formed = subst (IsFormed ins made) same (form_formed f ins w form fits base.under adds.net base.is c d adds.zero.is adds.one.is);
+        few = gate_count (length ins) base.under c d fits.is.some fits.is.few base.few (λ two. base.none (fits.is.flat two));
       }

@@ -19,3 +19,5 @@ pub mod Whole
 pub mod Picked
 pub mod FormLaws
 pub mod FormGates
+pub mod AmongLaws
+pub mod JointLaws

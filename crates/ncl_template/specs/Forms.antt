@@ -95,3 +95,12 @@ pub record IsGateOf (ins : List Rails) (inner : NetId) (gate : FormGate) (c : St
 abbrev pub AddsInner : List Rails → Option FormGate → List StageCell → List StageCell → NetId → Type 0
 AddsInner ins None before after net = after ≡ before
 AddsInner ins (Some gate) before after net = AddsGate (IsGateOf ins no_net gate) before after net
+
+-- the gates of a form are added over these pairs: the inner gate, if there is one, and those of the rails
+pub record AddsForm (ins : List Rails) (form : Form) (before after : List StageCell) (out : Rails) : Type 0 where
+  pub now : List StageCell
+  pub then : List StageCell
+  pub net : NetId
+  pub inner : AddsInner ins form.inner before now net
+  pub zero : AddsGate (IsGateOf ins net form.zero) now then out.zero
+  pub one : AddsGate (IsGateOf ins net form.one) then after out.one

@@ -7,3 +7,5 @@ pub mod Rails
 pub mod Orders
 pub mod Waits
 pub mod Forms
+pub mod Among
+pub mod Joint

@@ -1,5 +1,5 @@
 -- What a node waits for among what it reads.
-use Rattle.std.specs.Prelude.{ℕ, zero, suc, List, [], ◌∷◌, Bool, true, if◌then◌else◌}
+use Rattle.std.specs.Prelude.{ℕ, zero, suc, List, [], ◌∷◌, Bool, true, false, if◌then◌else◌}
 use Rattle.ncl_template.specs.declared.waits.Waits.{Waits}
 
 -- whether the input at a place is waited for
@@ -17,6 +17,10 @@ picked test (x ∷ xs) = if test 0 then x ∷ picked (λ k. test (suc k)) xs els
 -- what belongs to the inputs that are waited for
 abbrev pub waited : {X : Type 0} → Waits → List X → List X
 waited w xs = picked (waits_at w) xs
+
+-- to wait for none
+abbrev pub no_inputs : Waits
+no_inputs = record { first = false; second = false; third = false; fourth = false }
 
 -- to wait for all
 abbrev pub all_inputs : Waits

@@ -2,14 +2,15 @@
 ghost use Rattle.std.specs.Prelude.{◌≡◌, ◌+◌, ◌<◌, ◌^◌, ◌≤◌, IfOk, length};
 ghost use Rattle.ncl_decomp.specs.Split.{IsNarrow, cost_of_inputs};
 ghost use Rattle.ncl_tree.specs.Gates.{nets_so_far};
-ghost use Rattle.ncl_template.specs.Formed.{AddsTemplate};
-ghost use Rattle.ncl_template.specs.Forms.{IsInner, IsGateOf, AddsInner, Fits, pin_net};
+ghost use Rattle.ncl_template.specs.Among.{AddsAmong};
+ghost use Rattle.ncl_template.specs.Forms.{IsInner, IsForm, IsGateOf, AddsInner, AddsForm, pin_net};
 ghost use Rattle.ncl_template.specs.PairGates.{AddsGate};
 ghost use Rattle.ncl_template.specs.Template.{node_function};
-ghost use Rattle.ncl_template.specs.Waits.{waits_at, waited};
+ghost use Rattle.ncl_template.specs.Waits.{waited};
 
 use crate::fitting::fitting;
 use crate::form::{Form, FormGate, FormPin};
+use crate::joint::joint_form;
 use crate::template::add_template;
 use crate::waits::Waits;
 use arrayvec::ArrayVec;
@@ -69,18 +70,11 @@ fn add_inner(gates: &mut Gates, inner: &Option<FormGate>, ins: &[Rails]) -> Resu
     }
 }
 
-/// Adds the gates of a form that fits a node over the pairs of what it reads, and gives the pair that shows its bit.
-fn add_form(
-    gates: &mut Gates,
-    form: &Form,
-    node: &Node,
-    ins: &[Rails],
-    waits: Waits,
-) -> Result<Rails, Memory>
-    requires fits { Fits (node_function node.now) (length node.now.ins) (waits_at waits) form.now }
-    requires as_many { length ins.now ≡ length node.now.ins }
+/// Adds the gates of a form over the pairs of the inputs, and gives the pair of its rails.
+fn add_form(gates: &mut Gates, form: &Form, ins: &[Rails]) -> Result<Rails, Memory>
+    requires is { IsForm (length ins.now) form.now }
     requires room { nets_so_far gates.old + 32 < 2 ^ 32 }
-    ensures template { IfOk result (AddsTemplate (node_function node.now) ins.now (waited waits ins.now) (cost_of_inputs (length node.now.ins)) gates.old.cells gates.new.cells) }
+    ensures form { IfOk result (AddsForm ins.now form.now gates.old.cells gates.new.cells) }
     ensures first { gates.new.first ≡ gates.old.first }
 {
     let inner = add_inner(gates, &form.inner, ins)?;
@@ -90,8 +84,9 @@ fn add_form(
 }
 
 /// Adds the gates of a node that waits for some of its inputs, over the pairs of what it reads, and gives the pair
-/// that shows its bit: the first gates of the table that wait for these inputs, or those of `add_template`, which wait
-/// for all. At most 2 gates for two inputs, 12 for three and 22 for four. Pairs may be equal, or each other's inverse.
+/// that shows its bit: the first gates of the table that wait for these inputs, by themselves or, for the first three of
+/// four, together with the gates of the last; or those of `add_template`, which wait for all. At most 2 gates for two
+/// inputs, 12 for three and 22 for four. Pairs may be equal, or each other's inverse.
 ///
 /// Linear in the rows of the node. The only error is want of memory.
 pub fn add_waiting(
@@ -104,11 +99,16 @@ pub fn add_waiting(
     requires narrow { IsNarrow node.now }
     requires as_many { length ins.now ≡ length node.now.ins }
     requires room { nets_so_far gates.old + 32 < 2 ^ 32 }
-    ensures template { IfOk result (AddsTemplate (node_function node.now) ins.now (waited waits ins.now) (cost_of_inputs (length node.now.ins)) gates.old.cells gates.new.cells) }
+    ensures template { IfOk result (AddsAmong (node_function node.now) ins.now (waited waits ins.now) (cost_of_inputs (length node.now.ins)) gates.old.cells gates.new.cells) }
     ensures first { gates.new.first ≡ gates.old.first }
 {
     if let Some(form) = fitting(node, waits) {
-        return add_form(gates, &form, node, ins, waits);
+        let alone = add_form(gates, &form, ins)?;
+        return Ok(alone);
+    }
+    if let Some(form) = joint_form(node, waits, gates.cells(), ins) {
+        let beside = add_form(gates, &form, ins)?;
+        return Ok(beside);
     }
     let all = add_template(alloc, gates, node, ins)?;
     Ok(all)

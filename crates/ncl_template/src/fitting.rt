@@ -35,7 +35,7 @@ fn are_pins(pins: &[FormPin], inputs: usize, inner: bool) -> bool
 }
 
 /// Whether a gate has such a pin for each of its inputs, which are at most four.
-fn is_gate(gate: &FormGate, inputs: usize, inner: bool) -> bool
+pub(crate) fn is_gate(gate: &FormGate, inputs: usize, inner: bool) -> bool
     ensures { result ≡ true → IsFormGate inputs inner gate.now }
 {
     let pins = gate.pins.as_slice();

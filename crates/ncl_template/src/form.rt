@@ -35,7 +35,7 @@ pub(crate) struct Form {
 }
 
 /// The bit on a pin where the inputs show a word, but the one at a place is NULL, and the inner gate has this bit.
-fn pin_bit(word: &[bool], null: usize, inner: bool, pin: FormPin) -> bool
+pub(crate) fn pin_bit(word: &[bool], null: usize, inner: bool, pin: FormPin) -> bool
     ensures { result ≡ pin_bit word.now null inner pin }
 {
     let (place, rail) = match pin {
@@ -51,7 +51,7 @@ fn pin_bit(word: &[bool], null: usize, inner: bool, pin: FormPin) -> bool
 }
 
 /// Whether a gate is set there.
-fn is_set(word: &[bool], null: usize, inner: bool, gate: &FormGate) -> bool
+pub(crate) fn is_set(word: &[bool], null: usize, inner: bool, gate: &FormGate) -> bool
     requires few { length gate.now.pins.items ≤ 4 }
     requires arity { length gate.now.pins.items ≡ arity_of gate.now.kind }
     ensures { result ≡ gate_bit word.now null inner gate.now }

@@ -6,6 +6,7 @@ mod eager;
 mod fitting;
 mod form;
 mod gate;
+mod joint;
 mod leaves;
 mod order;
 mod pattern;
@@ -19,4 +20,5 @@ mod waits;
 
 pub use eager::add_waiting;
 pub use fitting::{Offer, least_waits, offered};
+pub use joint::waits_with_last;
 pub use waits::Waits;

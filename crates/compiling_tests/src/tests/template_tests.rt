@@ -219,3 +219,30 @@ fn eager_gates_are_of_these_kinds(rt: HostRuntime) -> Result<(), Fail> {
     }
     Ok(())
 }
+
+#[test]
+fn a_sum_waits_together_with_its_carry(rt: HostRuntime) -> Result<(), Fail> {
+    // A carry that waits for nothing, and the sum over the same three inputs and it, which waits for these.
+    let carry = node_of(&rt, &["11-", "1-1", "-11"], true)?;
+    let sum = node_of(&rt, &["1--0", "-1-0", "--10", "111-"], true)?;
+    assert!(rt; waits_with_last(&sum, &carry, Waits::NONE));
+    let inputs = Waits {
+        fourth: false,
+        ..Waits::ALL
+    };
+    let mut ins = pairs(&rt, "012")?;
+    assert!(rt; is_narrow(&carry) && ins.len() == carry.ins.items().len());
+    let mut gates = Gates::new(rt.alloc(), 8);
+    let pair = add_waiting(rt.alloc(), &mut gates, &carry, &ins, Waits::NONE)?;
+    ins.push(pair)?;
+    assert!(rt; is_narrow(&sum) && ins.len() == sum.ins.items().len());
+    assert!(rt; gates.cells().len() == 2);
+    add_waiting(rt.alloc(), &mut gates, &sum, &ins, inputs)?;
+    let wanted = [Kind::Th23, Kind::Th23, Kind::Th34w2, Kind::Th34w2];
+    let mut kinds = Vec::new(rt.alloc());
+    for cell in gates.cells() {
+        kinds.push(cell.kind)?;
+    }
+    assert!(rt; kinds.as_slice() == wanted.as_slice(), "{kinds:?}");
+    Ok(())
+}

@@ -1,0 +1,159 @@
+-- Gates that fit jointly are a template among the cells beside which they fit.
+use Rattle.std.proofs.Common.{◌≡◌, ℕ, zero, suc, ◌<◌, Bool, true, false, List, [], ◌∷◌, length, take, get_or, inl, inr, refl, sym, ap, subst, ◌∙◌, arith}
+use Rattle.std.specs.Prelude.{Contains}
+use Rattle.std.proofs.lemmas.Bool.{both_ways, cases_lt}
+use Rattle.ncl_base.proofs.Members.{Member, here, Member-append_left, Member-append_right, Contains-from_Member, Member-from_Contains}
+use Rattle.ncl_netlist.specs.declared.ids.NetId.{NetId}
+use Rattle.ncl_shape.specs.declared.rails.Rails.{Rails}
+use Rattle.ncl_shape.specs.declared.stage.StageCell.{StageCell}
+use Rattle.ncl_shape.specs.Nets.{Nets}
+use Rattle.ncl_shape.specs.Stage.{out_of}
+use Rattle.ncl_stage.specs.Values.{holds}
+use Rattle.ncl_decomp.specs.Split.{cost_of_inputs}
+use Rattle.ncl_template.specs.declared.form.FormPin.{FormPin}
+use Rattle.ncl_template.specs.declared.form.FormPin.TheVariants.{Zero, One, Inner}
+use Rattle.ncl_template.specs.declared.form.FormGate.{FormGate}
+use Rattle.ncl_template.specs.declared.form.Form.{Form}
+use Rattle.ncl_template.specs.declared.waits.Waits.{Waits}
+use Rattle.ncl_template.specs.Template.{IsNull, ShowWord, IsCase}
+use Rattle.ncl_template.specs.Among.{AddsAmong}
+use Rattle.ncl_template.specs.Formed.{AddsTemplate}
+use Rattle.ncl_template.specs.Waits.{waits_at, waited, no_inputs}
+use Rattle.ncl_template.specs.Forms.{pin_bit, gate_bit, IsFormPin, IsFormGate, has_inner, no_net, no_pair, pin_net, IsGateOf, AddsForm}
+use Rattle.ncl_template.specs.Joint.{IsGateAmong, IsPairAmong, joint_pin, joint_bit, FitsJointly}
+use Rattle.ncl_template.proofs.Trees.{low_from_unset}
+use Rattle.ncl_template.proofs.Picked.{picked_at}
+use Rattle.ncl_template.proofs.FormLaws.{gate_unset, pin_rises, pins_unset, all_pins}
+use Rattle.ncl_template.proofs.FormGates.{AddsTemplate-form}
+use Rattle.ncl_template.proofs.AmongLaws.{obeys_part, case_part, made_within}
+
+-- what is not false is true
+raised : (b : Bool) → (b ≡ false → ⊥) → b ≡ true
+raised true rises = refl
+raised false rises = absurd (rises refl)
+
+-- ---- over four inputs
+
+module _ (cells : List StageCell) (a b c k : Rails) (x y z t : Bool) (base v : Nets) (case : IsCase base v (a ∷ b ∷ c ∷ k ∷ []) cells (x ∷ y ∷ z ∷ t ∷ [])) (low high : FormGate) (last : IsPairAmong cells (a ∷ b ∷ c ∷ []) k low high) (null : ℕ) (is : null < 3 → IsNull v (get_or (a ∷ b ∷ c ∷ []) null no_pair)) where
+  -- the first three show their word
+  first_shown : ShowWord base (a ∷ b ∷ c ∷ []) (x ∷ y ∷ z ∷ [])
+  first_shown = (case.shown.0, (case.shown.1.0, (case.shown.1.1.0, tt)))
+
+  -- a gate of the last is high only where its bit is
+  last_rises : (net : NetId) (gate : FormGate) → IsGateAmong cells (a ∷ b ∷ c ∷ []) net gate → v net.0 ≡ true → gate_bit (x ∷ y ∷ z ∷ []) null false gate ≡ true
+  last_rises net gate of up =
+      raised (gate_bit (x ∷ y ∷ z ∷ []) null false gate)
+      (λ unset.
+      both_ways (holds v of.cell)
+      (pins_unset (a ∷ b ∷ c ∷ []) (x ∷ y ∷ z ∷ []) no_net base v case.below first_shown null is false false (λ has. absurd cc) gate of.cell of.is (all_pins 3 false gate of.fit) unset)
+      (case.supported.each of.cell of.among (ap (λ (n : NetId). v n.0) of.drives ∙ up)))
+
+  first_rises : (p : FormPin) → IsFormPin 3 false p → v (pin_net (a ∷ b ∷ c ∷ []) no_net p).0 ≡ true → pin_bit (x ∷ y ∷ z ∷ []) null false p ≡ true
+  first_rises = pin_rises (a ∷ b ∷ c ∷ []) (x ∷ y ∷ z ∷ []) no_net base v case.below first_shown null is false false (λ has. absurd cc)
+
+  pin : (net : NetId) (p : FormPin) → IsFormPin 4 false p → v (pin_net (a ∷ b ∷ c ∷ k ∷ []) net p).0 ≡ true → joint_pin low high (x ∷ y ∷ z ∷ []) null p ≡ true
+  pin net (Zero zero) lt up = first_rises (Zero 0) (omega arith) up
+  pin net (Zero (suc zero)) lt up = first_rises (Zero 1) (omega arith) up
+  pin net (Zero (suc (suc zero))) lt up = first_rises (Zero 2) (omega arith) up
+  pin net (Zero (suc (suc (suc zero)))) lt up = last_rises k.zero low last.of_zero up
+  pin net (Zero (suc (suc (suc (suc n))))) lt up = absurd (omega (arith, lt))
+  pin net (One zero) lt up = first_rises (One 0) (omega arith) up
+  pin net (One (suc zero)) lt up = first_rises (One 1) (omega arith) up
+  pin net (One (suc (suc zero))) lt up = first_rises (One 2) (omega arith) up
+  pin net (One (suc (suc (suc zero)))) lt up = last_rises k.one high last.of_one up
+  pin net (One (suc (suc (suc (suc n))))) lt up = absurd (omega (arith, lt))
+  pin net Inner is up = absurd cc
+
+  -- a gate that is not set at the bits is low
+  rail_low : (net : NetId) (gate : FormGate) (g : StageCell) → IsGateOf (a ∷ b ∷ c ∷ k ∷ []) net gate g → IsFormGate 4 false gate → Contains cells g → joint_bit low high (x ∷ y ∷ z ∷ []) null gate ≡ false → v (out_of g) ≡ false
+  rail_low net gate g of fit among unset =
+      low_from_unset v g (case.supported.each g among)
+      (gate_unset v (pin_net (a ∷ b ∷ c ∷ k ∷ []) net) (joint_pin low high (x ∷ y ∷ z ∷ []) null) gate g of.kind of.ins_are (λ p m. pin net p (all_pins 4 false gate fit p m)) unset)
+
+-- ---- over the inputs as a list
+
+-- where one of four pairs is NULL, one of the first three is, unless it is the last
+first_null : (v : Nets) (a b c k : Rails) (null : ℕ) → IsNull v (get_or (a ∷ b ∷ c ∷ k ∷ []) null no_pair) → null < 3 → IsNull v (get_or (a ∷ b ∷ c ∷ []) null no_pair)
+first_null v a b c k zero is lt = is
+first_null v a b c k (suc zero) is lt = is
+first_null v a b c k (suc (suc zero)) is lt = is
+first_null v a b c k (suc (suc (suc n))) is lt = absurd (omega (arith, lt))
+
+rail_of_four : (ins : List Rails) (word : List Bool) (cells : List StageCell) (base v : Nets) → length ins ≡ 4 → IsCase base v ins cells word → (low high : FormGate) → IsPairAmong cells (take 3 ins) (get_or ins 3 no_pair) low high → (null : ℕ) → IsNull v (get_or ins null no_pair) → (net : NetId) (gate : FormGate) (g : StageCell) → IsGateOf ins net gate g → IsFormGate (length ins) false gate → Contains cells g → ((first : List Bool) → length first ≡ 3 → joint_bit low high first null gate ≡ false) → v (out_of g) ≡ false
+rail_of_four [] word cells base v four case low high last null is net gate g of fit among unset = absurd (omega (arith, four))
+rail_of_four (a ∷ []) word cells base v four case low high last null is net gate g of fit among unset = absurd (omega (arith, four))
+rail_of_four (a ∷ b ∷ []) word cells base v four case low high last null is net gate g of fit among unset = absurd (omega (arith, four))
+rail_of_four (a ∷ b ∷ c ∷ []) word cells base v four case low high last null is net gate g of fit among unset = absurd (omega (arith, four))
+rail_of_four (a ∷ b ∷ c ∷ k ∷ e ∷ ins) word cells base v four case low high last null is net gate g of fit among unset = absurd (omega (arith, four))
+rail_of_four (a ∷ b ∷ c ∷ k ∷ []) [] cells base v four case low high last null is net gate g of fit among unset = absurd case.shown
+rail_of_four (a ∷ b ∷ c ∷ k ∷ []) (x ∷ []) cells base v four case low high last null is net gate g of fit among unset = absurd case.shown.1
+rail_of_four (a ∷ b ∷ c ∷ k ∷ []) (x ∷ y ∷ []) cells base v four case low high last null is net gate g of fit among unset = absurd case.shown.1.1
+rail_of_four (a ∷ b ∷ c ∷ k ∷ []) (x ∷ y ∷ z ∷ []) cells base v four case low high last null is net gate g of fit among unset = absurd case.shown.1.1.1
+rail_of_four (a ∷ b ∷ c ∷ k ∷ []) (x ∷ y ∷ z ∷ t ∷ u ∷ word) cells base v four case low high last null is net gate g of fit among unset = absurd case.shown.1.1.1.1
+rail_of_four (a ∷ b ∷ c ∷ k ∷ []) (x ∷ y ∷ z ∷ t ∷ []) cells base v four case low high last null is net gate g of fit among unset =
+    rail_low cells a b c k x y z t base v case low high last null (first_null v a b c k null is) net gate g of fit among (unset (x ∷ y ∷ z ∷ []) refl)
+
+pair_more : (cells all : List StageCell) (ins : List Rails) (pair : Rails) (low high : FormGate) → ((c : StageCell) → Contains cells c → Contains all c) → IsPairAmong cells ins pair low high → IsPairAmong all ins pair low high
+pair_more cells all ins pair low high within last = record { of_zero = more pair.zero low last.of_zero; of_one = more pair.one high last.of_one }
+  where
+    more : (net : NetId) (gate : FormGate) → IsGateAmong cells ins net gate → IsGateAmong all ins net gate
+    more net gate of = record { cell = of.cell; among = within of.cell of.among; drives = of.drives; is = of.is; fit = of.fit }
+
+-- ---- what is added
+
+module _ (f : List Bool → Bool) (ins : List Rails) (w : Waits) (form : Form) (before after : List StageCell) (out : Rails) (joint : FitsJointly before f ins (waits_at w) form) (adds : AddsForm ins form before after out) where
+  alone : AddsTemplate f ins (waited no_inputs ins) (cost_of_inputs (length ins)) before after out
+  alone = AddsTemplate-form f ins no_inputs form joint.fits before after out adds
+
+  before_in : (c : StageCell) → Contains before c → Contains after c
+  before_in c m = Contains-from_Member c (subst (Member c) (sym alone.added) (Member-append_left c alone.made (Member-from_Contains before c m)))
+
+  made_in : (c : StageCell) → Contains alone.made c → Contains after c
+  made_in c m = subst (λ cells. Contains cells c) (sym alone.added) (made_within before alone.made c m)
+
+  zero_in : Contains after adds.zero.cell
+  zero_in =
+      let m : Member adds.zero.cell (adds.zero.cell ∷ []) = here in
+      Contains-from_Member adds.zero.cell (subst (Member adds.zero.cell) (sym adds.one.added) (Member-append_left adds.zero.cell (adds.one.cell ∷ []) (subst (Member adds.zero.cell) (sym adds.zero.added) (Member-append_right adds.now adds.zero.cell m))))
+
+  one_in : Contains after adds.one.cell
+  one_in =
+      let m : Member adds.one.cell (adds.one.cell ∷ []) = here in
+      Contains-from_Member adds.one.cell (subst (Member adds.one.cell) (sym adds.one.added) (Member-append_right adds.then adds.one.cell m))
+
+  flat : (gate : FormGate) → IsFormGate (length ins) (has_inner form.inner) gate → IsFormGate (length ins) false gate
+  flat gate of = subst (λ has. IsFormGate (length ins) has gate) joint.flat of
+
+  needs : (base v : Nets) (word : List Bool) → IsCase base v ins after word → (r : Rails) → Contains (waited w ins) r → IsNull v r → IsNull v out
+  needs base v word case r m null =
+      let (k, lt, passes, at) = picked_at (waits_at w) ins no_pair r (Member-from_Contains (waited w ins) r m) in
+      let four = joint.four in
+      let early : k < 3 =
+      elim (cases_lt k 3) [
+        | inl early ↦ early
+        | inr past ↦ let last : k ≡ 3 = omega (arith, past, lt, four) in absurd (both_ways (waits_at w 3) joint.not_last (subst (λ n. waits_at w n ≡ true) last passes))
+      ] in
+      let is : IsNull v (get_or ins k no_pair) = subst (IsNull v) (sym at) null in
+      let last = pair_more before after (take 3 ins) (get_or ins 3 no_pair) joint.zero joint.one before_in joint.last in
+      record {
+        zero =
+            sym (ap (λ (n : NetId). v n.0) adds.zero.drives)
+            ∙ rail_of_four ins word after base v joint.four case joint.zero joint.one last k is adds.net form.zero adds.zero.cell adds.zero.is (flat form.zero joint.fits.is.zero) zero_in (λ bits three. joint.of_zero bits three k (omega (arith, early, three)) passes);
+        one =
+            sym (ap (λ (n : NetId). v n.0) adds.one.drives)
+            ∙ rail_of_four ins word after base v joint.four case joint.zero joint.one last k is adds.net form.one adds.one.cell adds.one.is (flat form.one joint.fits.is.one) one_in (λ bits three. joint.of_one bits three k (omega (arith, early, three)) passes);
+      }
+
+  -- the gates of a form that fits jointly are a template among the cells
+  pub AddsAmong-joint : AddsAmong f ins (waited w ins) (cost_of_inputs (length ins)) before after out
+  AddsAmong-joint = record {
+    made = alone.made;
+    added = alone.added;
+    template = record {
+      value = λ base word obeys shown. alone.template.value base word (obeys_part after alone.made made_in base obeys) shown;
+      needs = needs;
+      observed = λ base v word case c m high low. alone.template.observed base v word (case_part after alone.made made_in base v ins word case) c m high low;
+    };
+    formed = alone.formed;
+    few = alone.few;
+  }

@@ -6,3 +6,4 @@ pub mod Plans
 pub mod Cones
 pub mod Remade
 pub mod Recasts
+pub mod Reordered

@@ -2,6 +2,7 @@
 #![tactic(auto)]
 
 mod adding;
+mod carries;
 mod choice;
 mod cone;
 mod cone_table;
@@ -9,6 +10,7 @@ mod costs;
 mod cut;
 mod drafting;
 mod evaluating;
+mod finishing;
 mod form;
 mod freeing;
 mod improving;
@@ -19,14 +21,17 @@ mod plan;
 mod pool;
 mod recasting;
 mod remaking;
+mod reordering;
 mod rules;
 mod small;
 mod stop;
 mod table;
 mod trying;
 
+pub use carries::carries_first;
 pub use cone::Leaves;
 pub use cone_table::table_over;
 pub use improving::improve;
 pub use offer::Offer;
 pub use recasting::recast;
+pub use reordering::reordered;

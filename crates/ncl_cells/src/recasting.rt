@@ -2,17 +2,14 @@
 ghost use Rattle.std.specs.Prelude.{◌≡◌, ◌<◌, IfOk, IfSome, length};
 ghost use Rattle.ncl_decomp.specs.Split.{IsSplit};
 ghost use Rattle.ncl_cells.specs.Recasts.{MayStand, AreRecast};
-ghost use Rattle.ncl_cells.specs.Remade.{IsRemadeOf, IsSameAs};
+ghost use Rattle.ncl_cells.specs.Remade.{IsRebuiltOf, IsSameAs};
 
-use crate::costs::cost;
+use crate::finishing::finished;
 use crate::offer::{Offer, may_stand};
-use ncl_base::{Items, MOST_BYTES, Memory};
+use ncl_base::{Items, Memory};
 use ncl_decomp::copied_rows;
-use ncl_network::{Network, Node, prune};
+use ncl_network::{Network, Node};
 use std::alloc::Global;
-
-/// The most that any network costs.
-const MOST_COST: usize = 5 * MOST_BYTES;
 
 /// A copy of a node. Linear in it.
 fn copied_node(alloc: Global, node: &Node) -> Result<Node, Memory>
@@ -65,20 +62,18 @@ fn recast_nodes(
     Ok(nodes)
 }
 
-/// The network with these nodes, without those that reach no output.
+/// The network with these nodes, with those that reach no output.
 fn recast_all(alloc: Global, network: &Network, offers: &[Option<Offer>]) -> Result<Network, Memory>
     requires { IsSplit network.now }
-    ensures { IfOk result (IsRemadeOf network.now) }
+    ensures { IfOk result (IsRebuiltOf network.now) }
 {
     let nodes = recast_nodes(alloc, network, offers)?;
     let outputs = network.outputs.items().to_vec(alloc)?;
-    let whole = Network {
+    Ok(Network {
         inputs: network.inputs,
         nodes: Items::from_vec(nodes),
         outputs: Items::from_vec(outputs),
-    };
-    let made = prune(alloc, whole)?;
-    Ok(made)
+    })
 }
 
 /// A network with the same answers, in which nodes that are offered take the places of others, by their places,
@@ -96,9 +91,6 @@ pub fn recast(
     ensures network { IfOk result (λ found. IfSome found IsSplit) }
     ensures same { IfOk result (λ found. IfSome found (IsSameAs network.now)) }
 {
-    let made = recast_all(alloc, network, offers)?;
-    if cost(&made) > MOST_COST {
-        return Ok(None);
-    }
-    Ok(Some(made))
+    let whole = recast_all(alloc, network, offers)?;
+    finished(alloc, whole)
 }

@@ -14,7 +14,7 @@ use std::process::Abort;
 use std::test::Fail;
 
 /// The models of a text.
-fn models_of(rt: &(impl Abort + AllocGlobal), text: &str) -> Result<Vec<Model>, Fail>
+pub(super) fn models_of(rt: &(impl Abort + AllocGlobal), text: &str) -> Result<Vec<Model>, Fail>
     ensures { IfOk result (λ models. AreModels models.items) }
 {
     let bytes = text.as_bytes();
@@ -23,7 +23,7 @@ fn models_of(rt: &(impl Abort + AllocGlobal), text: &str) -> Result<Vec<Model>, 
 }
 
 /// The network of one model, with nodes of two to four inputs.
-fn network_of(rt: &impl AllocGlobal, model: &Model) -> Result<Network, Memory>
+pub(super) fn network_of(rt: &impl AllocGlobal, model: &Model) -> Result<Network, Memory>
     requires { IsModel model.now }
     ensures { IfOk result IsSplit }
 {

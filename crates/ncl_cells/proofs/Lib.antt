@@ -6,4 +6,4 @@ pub mod Plans
 pub mod Cones
 pub mod Remade
 pub mod StandIns
-pub mod Reordered
+pub mod Orders

@@ -35,7 +35,7 @@ AreMoved-none network places none = record {
   same = λ word k j at. absurd (nowhere k j at);
 }
   where
-    all_none : (n k : ℕ) → get_or {A = Option ℕ} (replicate n None) k None ≡ None
+    all_none : (n k : ℕ) → ◌≡◌ {A = Option ℕ} (get_or (replicate n None) k None) None
     all_none zero k = refl
     all_none (suc n) zero = refl
     all_none (suc n) (suc k) = all_none n k

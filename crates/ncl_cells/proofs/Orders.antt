@@ -1,9 +1,9 @@
 -- Nodes in another order have the same bits.
-use Rattle.std.proofs.Common.{◌≡◌, ℕ, zero, suc, ◌+◌, ◌<◌, ◌^◌, Bool, false, not, cond, List, [], ◌∷◌, ◌++◌, length, map, get_or, replicate, Option, Some, None, refl, sym, ap, subst, ◌∙◌, arith, inl, inr, ◌⊎◌, zero-add}
+use Rattle.std.proofs.Common.{◌≡◌, ℕ, suc, ◌+◌, ◌<◌, ◌^◌, Bool, false, not, cond, List, [], ◌∷◌, ◌++◌, length, map, get_or, Option, Some, None, refl, sym, ap, subst, ◌∙◌, arith, inl, inr, ◌⊎◌, zero-add}
 use Rattle.std.specs.Prelude.{All, slice_get, slice_set}
 use Rattle.std.specs.List.{AllZip}
 use Rattle.std.proofs.lemmas.Bool.{cases_eq}
-use Rattle.std.proofs.lemmas.List.{length_push, length-set, length-replicate, get_or-set_same, get_or-set_other, get_or_append_left, get_or_push}
+use Rattle.std.proofs.lemmas.List.{length_push, length-set, get_or-set_same, get_or-set_other, get_or_append_left, get_or_push}
 use Rattle.std.proofs.lemmas.List.Elements.{All-nil, All-cons, All-head, All-tail, All-push}
 use Rattle.std.proofs.lemmas.Option.{same_Some, slice_get_within}
 use Rattle.ncl_blif.specs.Meaning.{cover_value}
@@ -13,7 +13,7 @@ use Rattle.ncl_network.specs.declared.network.SignalSource.TheVariants.{Input, N
 use Rattle.ncl_network.specs.declared.network.Signal.{Signal}
 use Rattle.ncl_network.specs.declared.network.Node.{Node}
 use Rattle.ncl_network.specs.declared.network.Network.{Network}
-use Rattle.ncl_network.specs.Network.{source_value, signal_value, node_value, node_values, is_constant, IsSource, ReadBefore}
+use Rattle.ncl_network.specs.Network.{source_value, signal_value, node_value, node_values, is_constant, IsSource}
 use Rattle.ncl_network.proofs.Walking.{node_values-push, length-node_values, ReadBefore-push}
 use Rattle.ncl_network.proofs.Marking.{node_reads}
 use Rattle.ncl_decomp.specs.Split.{IsNarrow, IsSplit}
@@ -22,28 +22,6 @@ use Rattle.ncl_cells.specs.Remade.{bit_at, IsRebuiltOf}
 use Rattle.ncl_cells.specs.Reordered.{IsMovedSource, IsMoved, AreMoved}
 use Rattle.ncl_cells.proofs.Smalls.{bit_of_node}
 use Rattle.ncl_cells.proofs.Remade.{IsInOrder-narrow}
-
--- ---- the first step
-
-pub AreMoved-none : (network : Network) (places : List (Option ℕ)) → places ≡ replicate (length network.nodes) None → AreMoved network [] places
-AreMoved-none network places none = record {
-  narrow = All-nil IsNarrow;
-  reads_before = tt;
-  few = omega arith;
-  as_many = ap length none ∙ length-replicate (length network.nodes) None;
-  inside = λ k j at. absurd (nowhere k j at);
-  same = λ word k j at. absurd (nowhere k j at);
-}
-  where
-    all_none : (n k : ℕ) → ◌≡◌ {A = Option ℕ} (get_or (replicate n None) k None) None
-    all_none zero k = refl
-    all_none (suc n) zero = refl
-    all_none (suc n) (suc k) = all_none n k
-
-    nowhere : (k j : ℕ) → get_or places k None ≡ Some j → ⊥
-    nowhere k j at =
-        let here : None ≡ Some j = sym (all_none (length network.nodes) k) ∙ ap (λ (l : List (Option ℕ)). get_or l k None) (sym none) ∙ at in
-        cc
 
 -- ---- what is moved
 

@@ -1,5 +1,5 @@
 use Rattle.ncl_decomp.proofs.Whole.{narrow_left}
-use Rattle.std.proofs.Common.{arith, ap}
+use Rattle.std.proofs.Common.{arith}
 use Rattle.ncl_cells.proofs.finishing.finished.Goals as goal
 
 pub returns-clause-network : goal.returns-clause-network

@@ -5,7 +5,7 @@ use Rattle.ncl_network.specs.declared.network.Signal.{Signal}
 use Rattle.ncl_network.specs.declared.network.Node.{Node}
 use Rattle.ncl_cells.specs.Remade.{IsRebuiltOf}
 use Rattle.ncl_cells.specs.Reordered.{IsMoved, AreMoved}
-use Rattle.ncl_cells.proofs.Orders.{AreMoved-none, IsRebuilt-moved}
+use Rattle.ncl_cells.proofs.Orders.{IsRebuilt-moved}
 use Rattle.ncl_cells.proofs.reordering.reorder_all.Goals as goal
 
 pub returns : goal.returns

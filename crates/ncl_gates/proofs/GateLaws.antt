@@ -140,7 +140,7 @@ of_more n P here [] len = absurd (omega arith)
 of_more n P here (a ∷ rest) len = here a rest (omega arith)
 
 -- the same of three
-of_three : (P : List Bool → Type 0) → ((a b c : Bool) → P (a ∷ b ∷ c ∷ [])) → (ins : List Bool) → length ins ≡ 3 → P ins
+pub of_three : (P : List Bool → Type 0) → ((a b c : Bool) → P (a ∷ b ∷ c ∷ [])) → (ins : List Bool) → length ins ≡ 3 → P ins
 of_three P here = of_more 2 P (λ a. of_two (λ rest. P (a ∷ rest)) (here a))
 
 -- the same of four

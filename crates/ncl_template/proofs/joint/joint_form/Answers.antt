@@ -3,6 +3,7 @@ use Rattle.std.specs.Option.{is_some}
 use Rattle.std.proofs.lemmas.Bool.{both_ways}
 use Rattle.std.proofs.lemmas.List.{length-take-le}
 use Rattle.ncl_shape.specs.declared.rails.Rails.{Rails}
+use Rattle.ncl_gates.proofs.GateLaws.{of_three}
 use Rattle.ncl_template.specs.declared.form.FormGate.{FormGate}
 use Rattle.ncl_template.specs.Forms.{has_inner, IsFormGate, Fits}
 use Rattle.ncl_template.specs.Joint.{WaitsJointly}
@@ -20,13 +21,6 @@ three ins four = length-take-le 3 ins (omega (arith, four))
 
 joined : (n : ℕ) (inner : Option FormGate) (gate : FormGate) → n ≡ 4 → has_inner inner ≡ false → IsFormGate n (has_inner inner) gate → IsFormGate 4 false gate
 joined n inner gate four none fit = subst (λ has. IsFormGate 4 has gate) none (subst (λ k. IsFormGate k (has_inner inner) gate) four fit)
-
-words_of_three : (P : List Bool → Type 0) → ((a b c : Bool) → P (a ∷ b ∷ c ∷ [])) → (word : List Bool) → length word ≡ 3 → P word
-words_of_three P each [] wide = absurd (omega (arith, wide))
-words_of_three P each (a ∷ []) wide = absurd (omega (arith, wide))
-words_of_three P each (a ∷ b ∷ []) wide = absurd (omega (arith, wide))
-words_of_three P each (a ∷ b ∷ c ∷ []) wide = each a b c
-words_of_three P each (a ∷ b ∷ c ∷ d ∷ word) wide = absurd (omega (arith, wide))
 
 pub wait_beside-requires-clause-zero : goal.wait_beside-requires-clause-zero
 wait_beside-requires-clause-zero c =
@@ -59,6 +53,6 @@ returns-then-wait_beside c =
       zero = low;
       one = high;
       last = record { of_zero = c.in_ok-zero.ensures; of_one = c.in_ok-one.ensures };
-      of_zero = words_of_three (WaitsJointly low high (waits_at c.args.waits) form.zero) (c.wait_beside.ensures.zero c.if-wait_beside.true);
-      of_one = words_of_three (WaitsJointly low high (waits_at c.args.waits) form.one) (c.wait_beside.ensures.one c.if-wait_beside.true);
+      of_zero = of_three (WaitsJointly low high (waits_at c.args.waits) form.zero) (c.wait_beside.ensures.zero c.if-wait_beside.true);
+      of_one = of_three (WaitsJointly low high (waits_at c.args.waits) form.one) (c.wait_beside.ensures.one c.if-wait_beside.true);
     }

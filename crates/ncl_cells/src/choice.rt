@@ -11,6 +11,7 @@ use crate::leaves::{Made, leaves_of, reached_leaves};
 use crate::levels::add_levels;
 use crate::plan::{Arg, Plan};
 use crate::pool::Pool;
+use crate::prices::Prices;
 use crate::rules::Planner;
 use crate::stop::Stop;
 use crate::trying::{Reached, Trial, added};
@@ -119,7 +120,7 @@ impl Chooser {
     /// Looks at each node alone.
     pub(crate) fn new(alloc: Global) -> Result<Chooser, Memory> {
         Ok(Chooser {
-            planner: Planner::new(alloc)?,
+            planner: Planner::new(alloc, Prices::WAITING)?,
             look: Look::Alone,
             readers: Vec::new(alloc),
             cuts: Vec::new(alloc),
@@ -129,6 +130,10 @@ impl Chooser {
 
     /// Begins with the nodes of a network. Linear in them.
     pub(crate) fn begin(&mut self, alloc: Global, network: &Network) -> Result<(), Memory> {
+        let prices = Prices::of(network);
+        if prices != self.planner.prices {
+            self.planner = Planner::new(alloc, prices)?;
+        }
         self.readers = readers_of(alloc, network)?;
         self.levels = Vec::new(alloc);
         if self.look != Look::Alone {
@@ -179,9 +184,16 @@ impl Chooser {
         let table = cone_table(alloc, nodes, &cone, leaves)?;
         let reached = reached_leaves(alloc, self.made(turn.images), leaves)?;
         let plan = self.plan(alloc, table, levels_of(&reached))?;
-        let freed = freed(alloc, nodes, &self.readers, &cone)?;
+        let freed = freed(alloc, self.planner.prices, nodes, &self.readers, &cone)?;
         let lost = images_of(alloc, turn.images, &freed.places)?;
-        let added = added(turn.pool, &self.levels, &lost, &plan, reached)?;
+        let added = added(
+            self.planner.prices,
+            turn.pool,
+            &self.levels,
+            &lost,
+            &plan,
+            reached,
+        )?;
         let choice = Choice { leaves, cone, plan };
         Ok(Weighed {
             choice,

@@ -2,6 +2,7 @@
 ghost use Rattle.std.specs.Prelude.{◌≡◌, ◌<◌, ◌≤◌, ◌^◌, length};
 ghost use Rattle.ncl_decomp.specs.Split.{cost_of_inputs, cost_of_network};
 
+use crate::prices::Prices;
 use ncl_network::{Network, Node};
 
 /// What a node costs by its inputs: two cells for two, 12 for three, 22 for four.
@@ -29,22 +30,21 @@ pub(crate) fn cost(network: &Network) -> usize
     sum
 }
 
-/// About how many cells a node becomes.
-pub(crate) fn node_cells(node: &Node) -> usize
-    ensures { result ≤ 14 }
-{
+/// About how many cells a node becomes: of those of three inputs a majority has three rows, and a choice two.
+pub(crate) fn node_cells(prices: Prices, node: &Node) -> usize {
     match node.ins.items().len() {
         2 => 2,
-        3 => 5,
+        3 if node.rows.items().len() == 3 => usize::from(prices.majority),
+        3 => usize::from(prices.choice),
         _ => 14,
     }
 }
 
 /// About how many cells a network becomes. Linear in its nodes.
-pub(crate) fn cells(network: &Network) -> usize {
+pub(crate) fn cells(prices: Prices, network: &Network) -> usize {
     let mut sum = 0usize;
     for node in network.nodes.items() {
-        sum = sum.saturating_add(node_cells(node));
+        sum = sum.saturating_add(node_cells(prices, node));
     }
     sum
 }

@@ -3,6 +3,7 @@ ghost use Rattle.std.specs.Prelude.{◌≡◌, ◌<◌, ◌≤◌, IfOk};
 
 use crate::cone::Leaves;
 use crate::costs::node_cells;
+use crate::prices::Prices;
 use crate::stop::Stop;
 use ncl_base::Memory;
 use ncl_network::{Network, Node, Signal, SignalSource};
@@ -105,6 +106,7 @@ pub(crate) struct Lost {
 /// the cone.
 pub(crate) fn freed(
     alloc: Global,
+    prices: Prices,
     nodes: &[Node],
     readers: &[u32],
     cone: &[u32],
@@ -118,7 +120,7 @@ pub(crate) fn freed(
         if let Some(node) = nodes.get(place)
             && (is_last || readers.get(place) == counts.get(at))
         {
-            cells = cells.saturating_add(node_cells(node));
+            cells = cells.saturating_add(node_cells(prices, node));
             places.push(cone[at])?;
             count_inner(&mut counts, cone, node.ins.items());
         }

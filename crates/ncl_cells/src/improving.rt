@@ -6,6 +6,7 @@ ghost use Rattle.ncl_cells.specs.Remade.{IsSameAs, IsRemadeOf};
 
 use crate::choice::Chooser;
 use crate::costs::{cells, cost};
+use crate::prices::Prices;
 use crate::remaking::remake;
 use crate::stop::Stop;
 use ncl_base::Memory;
@@ -31,7 +32,8 @@ fn better(network: Network, made: Network, bound: usize) -> Round
     ensures same { IsSameAs network result.network }
     ensures cost { cost_of_network result.network ≤ bound }
 {
-    if cost(&made) <= bound && cells(&made) < cells(&network) {
+    let prices = Prices::of(&network);
+    if cost(&made) <= bound && cells(prices, &made) < cells(prices, &network) {
         Round {
             network: made,
             is_new: true,

@@ -1,6 +1,7 @@
 //! How a function of up to four bits is made of small nodes.
 ghost use Rattle.std.specs.Prelude.{◌≡◌, ◌<◌, ◌≤◌, IfOk};
 
+use crate::prices::Prices;
 use crate::table::{cofactor, depends, input, joined, support};
 use ncl_base::Memory;
 use std::alloc::Global;
@@ -33,9 +34,10 @@ pub(crate) struct Priced {
     pub cells: u32,
 }
 
-/// Finds rules, and keeps what functions cost.
+/// Finds rules at some prices, and keeps what functions cost.
 #[derive(Drop)]
 pub(crate) struct Planner {
+    pub prices: Prices,
     costs: Vec<u8>,
 }
 
@@ -177,9 +179,9 @@ fn cheaper(first: Option<Priced>, second: Priced) -> Option<Priced> {
 
 impl Planner {
     /// Knows no costs yet.
-    pub(crate) fn new(alloc: Global) -> Result<Planner, Memory> {
+    pub(crate) fn new(alloc: Global, prices: Prices) -> Result<Planner, Memory> {
         let costs = vec![in alloc; UNKNOWN; 65_536]?;
-        Ok(Planner { costs })
+        Ok(Planner { prices, costs })
     }
 
     /// About how many cells a function costs.
@@ -219,7 +221,7 @@ impl Planner {
         }
         let mut found = self.cheapest_split(fuel - 1, table);
         if let Some(rule) = three(table) {
-            found = cheaper(found, Priced { rule, cells: 5 });
+            found = cheaper(found, self.priced(fuel - 1, table, rule));
         }
         match found {
             Some(found) => found,
@@ -240,7 +242,8 @@ impl Planner {
                 .cells(fuel, cofactor(table, k, false))
                 .saturating_add(2),
             Rule::Join(_, _, _, rest) => self.cells(fuel, rest).saturating_add(2),
-            Rule::Majority(..) | Rule::Choose(_) => 5,
+            Rule::Majority(..) => u32::from(self.prices.majority),
+            Rule::Choose(_) => u32::from(self.prices.choice),
             Rule::Add(k, at) => {
                 let low = cofactor(table, k, false);
                 let high = cofactor(table, k, true);

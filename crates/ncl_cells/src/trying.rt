@@ -5,6 +5,7 @@ use crate::form::{Form, and, choose, differ, majority};
 use crate::levels::{op_level, signal_level};
 use crate::plan::{Arg, Plan, Step};
 use crate::pool::Pool;
+use crate::prices::Prices;
 use crate::small::Op;
 use ncl_base::Memory;
 use ncl_network::{Signal, SignalSource};
@@ -110,6 +111,7 @@ fn step_level(levels: &[u32], reached: &[Reached], step: &Step, signal: Option<S
 /// The cells that a plan over these leaves would add, where nothing else reads the small nodes that are lost, and its
 /// level. Linear in the steps times what is lost.
 pub(crate) fn added(
+    prices: Prices,
     pool: &Pool,
     levels: &[u32],
     lost: &[Signal],
@@ -123,7 +125,8 @@ pub(crate) fn added(
         if is_added {
             cells = cells.saturating_add(match step.op {
                 Op::And | Op::Differ => 2,
-                Op::Majority | Op::Choose => 5,
+                Op::Majority => usize::from(prices.majority),
+                Op::Choose => usize::from(prices.choice),
             });
         }
         let level = step_level(levels, &reached, step, signal);

@@ -5,6 +5,7 @@ ghost use Rattle.ncl_rails.specs.Waiting.{IsCovered, waits_of};
 
 use crate::held::{Cover, is_covered, waits_at};
 use ncl_base::Memory;
+use ncl_cells::may_relax;
 use ncl_network::{Network, Node, Signal, SignalSource};
 use ncl_template::{Waits, least_waits};
 use std::alloc::Global;
@@ -134,20 +135,6 @@ fn reads_twice(ins: &[Signal]) -> bool {
         [a, b, c] => a.from == b.from || a.from == c.from || b.from == c.from,
         _ => true,
     }
-}
-
-/// A stage of so few inputs has nodes that wait for less, whatever its size.
-const FEW_INPUTS: usize = 10;
-
-/// So has one with at most so many nodes for its inputs: the nodes times the inputs.
-const FEW_NODES: usize = 4_096;
-
-/// Whether nodes of a network may wait for less than all. Where more stays high without an input, a judge needs more nodes of
-/// decision diagrams, in large stages of many inputs up to four times as many, and could pass its usual limit where it didn't.
-pub(crate) fn may_relax(network: &Network) -> bool {
-    let inputs = network.inputs as usize;
-    let nodes = network.nodes.items().len();
-    inputs <= FEW_INPUTS || inputs.saturating_mul(nodes) <= FEW_NODES
 }
 
 /// What each node waits for; where none is told, each waits for all. Linear in the network.

@@ -1,0 +1,48 @@
+//! About how many cells nodes of three inputs become.
+
+use ncl_network::Network;
+
+/// The nodes of a stage of so few inputs wait for less, whatever its size.
+const FEW_INPUTS: usize = 10;
+
+/// So do those of one with at most so many nodes for its inputs: the nodes times the inputs.
+const FEW_NODES: usize = 4_096;
+
+/// Whether nodes of a network may wait for less than all that they read. Where more stays high without an input, a judge needs more
+/// nodes of decision diagrams, in large stages of many inputs up to four times as many, and could pass its usual limit where it
+/// didn't.
+pub fn may_relax(network: &Network) -> bool {
+    let inputs = network.inputs as usize;
+    let nodes = network.nodes.items().len();
+    inputs <= FEW_INPUTS || inputs.saturating_mul(nodes) <= FEW_NODES
+}
+
+/// About how many cells a majority becomes, and a choice.
+#[derive(Clone, Copy, Debug, PartialEq, Eq)]
+pub(crate) struct Prices {
+    pub majority: u8,
+    pub choice: u8,
+}
+
+impl Prices {
+    /// Where each node waits for all that it reads.
+    pub const WAITING: Prices = Prices {
+        majority: 5,
+        choice: 5,
+    };
+
+    /// Where nodes may wait for less: what something else waits for needs two cells for a majority, and more than two for most.
+    const EAGER: Prices = Prices {
+        majority: 4,
+        choice: 5,
+    };
+
+    /// Those of the nodes of a network.
+    pub fn of(network: &Network) -> Prices {
+        if may_relax(network) {
+            Prices::EAGER
+        } else {
+            Prices::WAITING
+        }
+    }
+}

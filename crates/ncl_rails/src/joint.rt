@@ -88,7 +88,7 @@ fn way_of(table: u16, k: usize) -> Way {
 }
 
 /// A table with an input inverted.
-fn inverted(table: u16, k: usize) -> u16 {
+pub(crate) fn inverted(table: u16, k: usize) -> u16 {
     let step = [1u32, 2, 4, 8][k % 4];
     let before = table & !INPUTS[k % 4];
     let after = table & INPUTS[k % 4];

@@ -6,6 +6,7 @@ mod constants;
 mod copies;
 mod depth;
 mod held;
+mod joiner;
 mod joint;
 mod layout;
 mod naming;
@@ -13,7 +14,9 @@ mod pairing;
 mod parts;
 mod relaxing;
 mod signal_pairs;
+mod spreading;
 mod stage_gates;
+mod summing;
 mod unread;
 
 pub use parts::{StageParts, stage_parts};

@@ -8,11 +8,13 @@ ghost use Rattle.ncl_rails.specs.GatesOf.{CanHaveGates, AreGatesOf};
 
 use crate::complete::complete;
 use crate::depth::depth;
+use crate::joiner::Joins;
 use crate::layout::{Layout, lay_out};
-use crate::pairing::{Joins, joins_of};
+use crate::pairing::joins_of;
 use crate::relaxing::{relaxed, told_or_all};
+use crate::summing::sums_of;
 use ncl_base::Memory;
-use ncl_cells::recast;
+use ncl_cells::{carries_first, recast, reordered};
 use ncl_network::Network;
 use ncl_template::Waits;
 use std::alloc::Global;
@@ -49,19 +51,17 @@ fn depth_of(alloc: Global, layout: &Layout, inputs: u32) -> Result<u32, Memory> 
     depth(alloc, inputs.saturating_mul(2), layout.gates.cells())
 }
 
-/// Whether gates are fewer than others, and not deeper by more than a tenth.
-fn is_better(alloc: Global, layout: &Layout, other: &Layout, inputs: u32) -> Result<bool, Memory>
-    ensures { IfOk result (λ better. better ≡ true → length layout.now.gates.cells ≤ length other.now.gates.cells) }
+/// The most gates that may stand one after another: a tenth more than where each node waits for all that it reads.
+fn most_depth(alloc: Global, network: &Network) -> Result<u32, Memory>
+    requires { CanHaveGates network.now }
 {
-    if layout.gates.cells().len() >= other.gates.cells().len() {
-        return Ok(false);
-    }
-    let own = depth_of(alloc, layout, inputs)?;
-    let most = depth_of(alloc, other, inputs)?;
-    Ok(own <= most.saturating_add(most / 10))
+    let none = Vec::new(alloc);
+    let waiting = gates_of(alloc, network, Some(none))?;
+    let depth = depth_of(alloc, &waiting, network.inputs)?;
+    Ok(depth.saturating_add(depth / 10))
 }
 
-/// The gates of a network, or those of another one with the same answers, where these are better.
+/// The gates of a network, or those of another one with the same answers, where these are fewer and not too deep.
 fn better_gates(
     alloc: Global,
     network: &Network,
@@ -73,29 +73,57 @@ fn better_gates(
     requires usual { AreGatesOf network.now usual.gates usual.outputs.items }
     requires joined { IsSplit joined.now }
     requires same { IsSameAs network.now joined.now }
-    ensures { IfOk result (λ layout. AreGatesOf network.now layout.gates layout.outputs.items) }
+    ensures gates { IfOk result (λ layout. AreGatesOf network.now layout.gates layout.outputs.items) }
+    ensures fewer { IfOk result (λ layout. length layout.gates.cells ≤ length usual.gates.cells) }
 {
     let layout = gates_of(alloc, joined, Some(waits))?;
-    if is_better(alloc, &layout, &usual, network.inputs)? {
-        return Ok(layout);
+    if layout.gates.cells().len() >= usual.gates.cells().len() {
+        return Ok(usual);
     }
-    Ok(usual)
+    let depth = depth_of(alloc, &layout, network.inputs)?;
+    if depth > most_depth(alloc, network)? {
+        return Ok(usual);
+    }
+    Ok(layout)
 }
 
-/// The gates of a network, or those of the network with some nodes joined, where these are better.
+/// The gates of a network, or those of another one with the same answers and with some nodes joined, where these are better.
 fn joined_gates(
     alloc: Global,
     network: &Network,
     usual: Layout,
-    joins: Joins,
+    other: &Network,
 ) -> Result<Layout, Memory>
     requires network { CanHaveGates network.now }
     requires usual { AreGatesOf network.now usual.gates usual.outputs.items }
-    ensures { IfOk result (λ layout. AreGatesOf network.now layout.gates layout.outputs.items) }
+    requires other { IsSplit other.now }
+    requires same { IsSameAs network.now other.now }
+    ensures gates { IfOk result (λ layout. AreGatesOf network.now layout.gates layout.outputs.items) }
+    ensures fewer { IfOk result (λ layout. length layout.gates.cells ≤ length usual.gates.cells) }
 {
-    let Joins { offers, waits } = joins;
-    match recast(alloc, network, &offers)? {
+    let Some(Joins { offers, waits }) = joins_of(alloc, other)? else {
+        return Ok(usual);
+    };
+    match recast(alloc, other, &offers)? {
         Some(joined) => better_gates(alloc, network, usual, &joined, waits),
+        None => Ok(usual),
+    }
+}
+
+/// The gates of a network, or those of the network with its carries before its sums and with some nodes joined, where these are
+/// better.
+fn summed_gates(alloc: Global, network: &Network, usual: Layout) -> Result<Layout, Memory>
+    requires network { CanHaveGates network.now }
+    requires usual { AreGatesOf network.now usual.gates usual.outputs.items }
+    ensures gates { IfOk result (λ layout. AreGatesOf network.now layout.gates layout.outputs.items) }
+    ensures fewer { IfOk result (λ layout. length layout.gates.cells ≤ length usual.gates.cells) }
+{
+    if sums_of(alloc, network)?.is_empty() {
+        return Ok(usual);
+    }
+    let order = carries_first(alloc, network)?;
+    match reordered(alloc, network, &order)? {
+        Some(other) => joined_gates(alloc, network, usual, &other),
         None => Ok(usual),
     }
 }
@@ -106,8 +134,6 @@ pub(crate) fn stage_gates(alloc: Global, network: &Network) -> Result<Layout, Me
     ensures { IfOk result (λ layout. AreGatesOf network.now layout.gates layout.outputs.items) }
 {
     let usual = gates_of(alloc, network, None)?;
-    match joins_of(alloc, network)? {
-        Some(joins) => joined_gates(alloc, network, usual, joins),
-        None => Ok(usual),
-    }
+    let joined = joined_gates(alloc, network, usual, network)?;
+    summed_gates(alloc, network, joined)
 }

@@ -3,6 +3,7 @@ use Rattle.std.proofs.Common.{◌≡◌, ◌≢◌, ℕ, zero, suc, ◌+◌, ◌
 use Rattle.std.specs.Prelude.{bit_and}
 use Rattle.std.specs.List.{IsDistinct, list_any}
 use Rattle.std.proofs.lemmas.Bool.{cases_lt}
+use Rattle.std.proofs.lemmas.List.{get_or-set_same}
 use Rattle.std.proofs.lemmas.Map.Keys.{IsDistinct-push}
 use Rattle.std.proofs.lemmas.Nat.{and_le_r}
 use Rattle.std.proofs.lemmas.Option.{slice_get-get_or}
@@ -17,7 +18,7 @@ use Rattle.ncl_diagram.proofs.Applying.{get_set, length_set, some_only}
 use Rattle.ncl_diagram.proofs.Counting.{among_member, is_key_laws}
 use Rattle.ncl_diagram.proofs.MemoLaws.{short}
 
--- what stands at other places stays where one is set, and it stands at its own
+-- what stands at other places stays where one is set
 get_other : {X : Type 0} (xs : List X) (at i : ℕ) (v x : X) → i ≢ at → slice_get xs i ≡ Some x → slice_get (set xs at v) i ≡ Some x
 get_other [] at i v x other e = e
 get_other (y ∷ xs) zero zero v x other e = absurd (other refl)
@@ -25,24 +26,15 @@ get_other (y ∷ xs) zero (suc i) v x other e = e
 get_other (y ∷ xs) (suc at) zero v x other e = e
 get_other (y ∷ xs) (suc at) (suc i) v x other e = get_other xs at i v x (λ same. other (ap suc same)) e
 
-get_own : {X : Type 0} (xs : List X) (at : ℕ) (v x : X) → slice_get xs at ≡ Some x → slice_get (set xs at v) at ≡ Some v
-get_own [] at v x e = absurd (grind arith)
-get_own (y ∷ xs) zero v x e = refl
-get_own (y ∷ xs) (suc at) v x e = get_own xs at v x e
-
 -- the bucket at a place is one
 same_bucket : (buckets : List Bucket) (at : ℕ) (b c : Bucket) → slice_get buckets at ≡ Some b → slice_get buckets at ≡ Some c → b ≡ c
 same_bucket buckets at b c e f = some_only b c (sym e ∙ f)
 
--- a walk goes on over a bucket of another key, and doesn't come from one that is free
+-- a walk goes on over a bucket of another key
 leads_on : (keys : List Key) (buckets : List Bucket) (round i : ℕ) (key : Key) (at : ℕ) (b : Bucket) → slice_get buckets at ≡ Some b → (slice_get keys b.index ≡ Some key → ⊥) → slice_get keys i ≡ Some key → Leads buckets round i at → Leads buckets round i (next (length buckets) at)
 leads_on keys buckets round i key at b got other is (here q c g r x) =
     absurd (other (ap (λ (d : Bucket). slice_get keys d.index) (same_bucket buckets at b c got g) ∙ ap (slice_get keys) x ∙ is))
 leads_on keys buckets round i key at b got other is (past q c g r w) = w
-
-none_leads : (buckets : List Bucket) (round i at : ℕ) (b : Bucket) → slice_get buckets at ≡ Some b → b.round ≢ round → Leads buckets round i at → ⊥
-none_leads buckets round i at b got free (here q c g r x) = free (ap (λ (d : Bucket). d.round) (same_bucket buckets at b c got g) ∙ r)
-none_leads buckets round i at b got free (past q c g r w) = free (ap (λ (d : Bucket). d.round) (same_bucket buckets at b c got g) ∙ r)
 
 -- where what is taken stays, walks lead where they led
 leads_kept : (round i : ℕ) (a b : List Bucket) → KeepsTaken round a b → (at : ℕ) → Leads a round i at → Leads b round i at
@@ -78,15 +70,6 @@ walked_on keys buckets round key at b walked got taken other = record {
   back = λ more i k w. walked.back more i k (past at b (k.kept at b got taken) taken (subst (λ (n : ℕ). Leads more round i (next n at)) (sym k.long) w));
 }
 
-pub walked_free : (keys : List Key) (buckets : List Bucket) (round : ℕ) (key : Key) (at : ℕ) (b : Bucket) → Walked keys buckets round key at → slice_get buckets at ≡ Some b → b.round ≢ round → IsFree keys buckets round key at
-walked_free keys buckets round key at b walked got free = record {
-  bucket = b;
-  there = got;
-  free = free;
-  absent = λ i g w. none_leads buckets round i at b got free (walked.on i g w);
-  back = walked.back;
-}
-
 -- the next key in the bucket where its walk ends
 pub put_next : (keys : List Key) (count : ℕ) (buckets : List Bucket) (round : ℕ) (key : Key) (at : ℕ) (new : Bucket) → ArePut keys count buckets round → slice_get keys count ≡ Some key
     → (b : Bucket) → slice_get buckets at ≡ Some b → b.round ≢ round
@@ -120,7 +103,8 @@ put_next keys count buckets round key at new put is b got free back r x = record
     reached i q g (inr le) lt =
         let last : count ≡ i = omega arith in
         let same : key ≡ q = some_only key q (sym is ∙ ap (slice_get keys) last ∙ g) in
-        let own : Leads more round i at = here at new (get_own buckets at new b got) r (x ∙ last) in
+        let there : slice_get more at ≡ Some new = slice_get-get_or more at new (omega (arith, short buckets at b got, keeps.long)) ∙ ap Some (get_or-set_same buckets at new new (short buckets at b got)) in
+        let own : Leads more round i at = here at new there r (x ∙ last) in
         home i q (subst (λ (k : Key). Leads more round i (home_of (length buckets) k)) same (back more i keeps own))
 
 -- where no bucket is of the round no key is put

@@ -17,3 +17,4 @@ pub mod NamedCell
 pub mod InSpaceLaws
 pub mod AskingLaws
 pub mod Split
+pub mod Parts

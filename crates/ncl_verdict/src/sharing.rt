@@ -1,11 +1,11 @@
 //! The variants of one stage, shared by several threads.
-ghost use Rattle.std.specs.Prelude.{◌≡◌, ◌+◌, ◌<◌, ◌≤◌, ◌^◌, ◌++◌, List, All, IfOk, length};
+ghost use Rattle.std.specs.Prelude.{◌≡◌, ◌⊎◌, ◌<◌, ◌≤◌, ℕ, List, All, IfOk, true, false, get_or, length};
 ghost use Rattle.std.specs.Thread.{IsSync};
 ghost use Rattle.ncl_shape.specs.Stage.{StageData};
 ghost use Rattle.ncl_stage.specs.declared.variant.Variant.{Variant as VariantData};
 ghost use Rattle.ncl_verdict.specs.InSpace.{IsAfterBase, IsAsked, stopped_within};
 ghost use Rattle.ncl_verdict.specs.Judgement.{Stop, after_base, stopped_at};
-ghost use Rattle.ncl_verdict.specs.Sharing.{IsHeard};
+ghost use Rattle.ncl_verdict.specs.Sharing.{IsHeard, IsPart};
 
 use crate::in_space::under_base;
 use crate::variants::{said_at, variants_after_base};
@@ -30,14 +30,26 @@ pub(crate) enum Heard {
     Open,
 }
 
+/// What was heard of those variants that some threads took.
+#[derive(Drop)]
+pub(crate) struct Part {
+    /// Whether a variant was asked, and nothing is said at it, for each by its place.
+    pub(crate) silent: Vec<bool>,
+    /// The place of a variant, and what is said at it.
+    pub(crate) said: Option<(usize, Verdict)>,
+}
+
 /// Where the nodes of Base, taken once for each variant, are fewer than this, one thread is as fast.
 const WORTH_SHARING: usize = 1 << 19;
+
+/// How many variants a thread takes at a time, one after another, which have much in common.
+const TAKEN_AT_ONCE: usize = 8;
 
 /// What is said of a stage after Base, which has so many nodes, heard by at most so many threads. It stays open where the stage
 /// is small. An error is want of memory.
 ///
-/// Each thread makes Base in a space of its own, and asks its part of the variants in their order; one that comes after a
-/// variant at which something is said is not asked any more.
+/// Each thread makes Base in a space of its own, and takes variants that none has taken, the first ones first, until all are
+/// taken; one that comes after a variant at which something is said is not asked any more.
 pub(crate) fn hear<R: Threads + Sync>(
     rt: &R,
     alloc: Global,
@@ -53,122 +65,205 @@ pub(crate) fn hear<R: Threads + Sync>(
         return Ok(Heard::Open);
     }
     let variants = variants_after_base(alloc, stage)?;
-    if variants.len().saturating_mul(nodes as usize) < WORTH_SHARING {
+    let count = variants.len();
+    if count.saturating_mul(nodes as usize) < WORTH_SHARING {
         return Ok(Heard::Open);
     }
+    let taken = AtomicUsize::new(0);
     let told = AtomicUsize::new(usize::MAX);
-    hear_halves(
+    let part = hear_parts(
         rt,
         alloc,
         stage,
         limit,
         variants.as_slice(),
-        0,
+        &taken,
         &told,
         parts,
-    )
+    )?;
+    Ok(settled(part, count))
 }
 
-/// What is said at some variants, the first of which stands at a place among all, by at most so many threads.
+/// What so many threads hear of variants, of which they take some that none has taken. A thread takes memory for a mark for
+/// each variant.
 #[cycle(calls)]
-fn hear_halves<R: Threads + Sync>(
+fn hear_parts<R: Threads + Sync>(
     rt: &R,
     alloc: Global,
     stage: &Stage,
     limit: u32,
     variants: &[Variant],
-    place: usize,
+    taken: &AtomicUsize,
     told: &AtomicUsize,
     parts: u32,
-) -> Result<Heard, Memory>
+) -> Result<Part, Memory>
     requires limit { 1 ≤ limit }
     requires after { All (IsAfterBase stage.now) variants.now }
-    requires room { place + length variants.now < 2 ^ 64 }
-    ensures { IfOk result (IsHeard (stopped_at limit) stage.now variants.now) }
+    ensures { IfOk result (IsPart (stopped_at limit) stage.now variants.now) }
 {
-    if parts < 2 || variants.len() < 2 {
-        return hear_part(alloc, stage, limit, variants, place, told);
+    if parts < 2 {
+        return hear_part(alloc, stage, limit, variants, taken, told);
     }
-    let (front, back) = variants.split_at(variants.len() / 2);
-    let middle = place + front.len();
     let few = parts / 2;
     let many = parts - few;
     let (first, second) = join(
         rt,
-        || -> Result<Heard, Memory>
-            requires { IsSync R.row × (1 ≤ limit) × All (IsAfterBase stage.now) front.now × (place + length front.now < 2 ^ 64) }
-            ensures { IfOk result (IsHeard (stopped_at limit) stage.entry.now front.entry.now) }
-        { hear_halves(rt, alloc, stage, limit, front, place, told, few) },
-        || -> Result<Heard, Memory>
-            requires { IsSync R.row × (1 ≤ limit) × All (IsAfterBase stage.now) back.now × (middle + length back.now < 2 ^ 64) }
-            ensures { IfOk result (IsHeard (stopped_at limit) stage.entry.now back.entry.now) }
-        { hear_halves(rt, alloc, stage, limit, back, middle, told, many) },
+        || -> Result<Part, Memory>
+            requires { IsSync R.row × (1 ≤ limit) × All (IsAfterBase stage.now) variants.now }
+            ensures { IfOk result (IsPart (stopped_at limit) stage.entry.now variants.entry.now) }
+        { hear_parts(rt, alloc, stage, limit, variants, taken, told, few) },
+        || -> Result<Part, Memory>
+            requires { IsSync R.row × (1 ≤ limit) × All (IsAfterBase stage.now) variants.now }
+            ensures { IfOk result (IsPart (stopped_at limit) stage.entry.now variants.entry.now) }
+        { hear_parts(rt, alloc, stage, limit, variants, taken, told, many) },
     );
     let first = first?;
-    with_later(first, second)
+    let second = second?;
+    Ok(together(first, second))
 }
 
-/// What was heard of variants by what was heard of the first of them and of those after.
-fn with_later(first: Heard, later: Result<Heard, Memory>) -> Result<Heard, Memory>
-    ensures { (stop : Stop) (s : StageData) (front back : List VariantData) → IsHeard stop s front first → IfOk later (IsHeard stop s back)
-        → IfOk result (IsHeard stop s (front ++ back)) }
-{
-    match first {
-        Heard::Nothing => later,
-        heard => Ok(heard),
-    }
-}
-
-/// What is said at some variants, in a space of their own, in which Base is made first.
+/// What is heard of the variants that one thread takes, in a space of its own, in which Base is made first.
 fn hear_part(
     alloc: Global,
     stage: &Stage,
     limit: u32,
     variants: &[Variant],
-    place: usize,
+    taken: &AtomicUsize,
     told: &AtomicUsize,
-) -> Result<Heard, Memory>
+) -> Result<Part, Memory>
     requires limit { 1 ≤ limit }
     requires after { All (IsAfterBase stage.now) variants.now }
-    requires room { place + length variants.now < 2 ^ 64 }
-    ensures { IfOk result (IsHeard (stopped_at limit) stage.now variants.now) }
+    ensures { IfOk result (IsPart (stopped_at limit) stage.now variants.now) }
 {
     stage.facts();
     let mut space = Diagram::new(alloc, stage.inputs.items().len(), limit);
     let base = match under_base(alloc, &mut space, stage)? {
         Ok(base) => base,
-        Err(_) => return Ok(Heard::Open),
+        Err(_) => {
+            return Ok(Part {
+                silent: Vec::new(alloc),
+                said: None,
+            });
+        }
     };
     let start = space.mark();
-    hear_each(
-        alloc, &mut space, stage, &base, start, variants, place, told,
+    hear_taken(
+        alloc, &mut space, stage, &base, start, variants, taken, told,
     )
 }
 
-/// What is said at some variants, one after another. It notes the place of the first at which something is said.
-fn hear_each<P: Space>(
+/// What is heard of the variants that one thread takes, in a space that has the functions of Base. It notes the place of the
+/// one at which something is said.
+fn hear_taken<P: Space>(
     alloc: Global,
     space: &mut P,
     stage: &Stage,
     base: &Values,
     start: Mark,
     variants: &[Variant],
-    place: usize,
+    taken: &AtomicUsize,
     told: &AtomicUsize,
-) -> Result<Heard, Memory>
+) -> Result<Part, Memory>
     requires asked { let now = P.meaning space.old in IsAsked now now.limit stage.now base.now start }
     requires after { All (IsAfterBase stage.now) variants.now }
-    requires room { place + length variants.now < 2 ^ 64 }
-    ensures { IfOk result (IsHeard (stopped_within (P.meaning space.old).limit) stage.now variants.now) }
+    ensures { IfOk result (IsPart (stopped_within (P.meaning space.old).limit) stage.now variants.now) }
 {
-    for (number, variant) in variants.iter().enumerate() {
-        if told.load(Ordering::SeqCst) < place + number {
-            return Ok(Heard::Open);
+    let mut silent = Vec::from_elem(alloc, false, variants.len())?;
+    let mut at = 0;
+    let mut end = 0;
+    'asking: for _ in 0..variants.len() {
+        if at >= end {
+            at = taken.fetch_add(TAKEN_AT_ONCE, Ordering::SeqCst);
+            end = at.saturating_add(TAKEN_AT_ONCE);
         }
-        if let Some(verdict) = said_at(alloc, space, stage, base, start, *variant)? {
-            told.fetch_min(place + number, Ordering::SeqCst);
-            return Ok(Heard::Said(verdict));
+        if at >= variants.len() || told.load(Ordering::SeqCst) < at {
+            return Ok(Part { silent, said: None });
+        }
+        if let Some(verdict) = said_at(alloc, space, stage, base, start, variants[at])? {
+            told.fetch_min(at, Ordering::SeqCst);
+            let said = Some((at, verdict));
+            return Ok(Part { silent, said });
+        }
+        silent[at] = true;
+        at += 1;
+    }
+    Ok(Part { silent, said: None })
+}
+
+/// What two parts heard, as one. Linear in the variants.
+fn together(first: Part, second: Part) -> Part
+    ensures { (stop : Stop) (s : StageData) (variants : List VariantData) → IsPart stop s variants first → IsPart stop s variants second → IsPart stop s variants result }
+{
+    let Part { silent, said } = first;
+    let mut silent = silent;
+    mark_also(&mut silent, second.silent.as_slice());
+    let said = earlier(said, second.said);
+    Part { silent, said }
+}
+
+// Marks the places too that others mark. Linear in these.
+fn mark_also(marks: &mut Vec<bool>, others: &[bool])
+    ensures { (place : ℕ) → get_or marks.new.items place false ≡ true → (get_or marks.old.items place false ≡ true) ⊎ (get_or others.now place false ≡ true) }
+{
+    for (place, other) in others.iter().enumerate() {
+        if *other && place < marks.len() {
+            marks[place] = true;
         }
     }
-    Ok(Heard::Nothing)
+}
+
+// What is said at the lesser of two places.
+fn earlier(
+    first: Option<(usize, Verdict)>,
+    second: Option<(usize, Verdict)>,
+) -> Option<(usize, Verdict)>
+    ensures { (result ≡ first) ⊎ (result ≡ second) }
+{
+    match (first, second) {
+        (Some(one), Some(other)) => {
+            if other.0 < one.0 {
+                Some(other)
+            } else {
+                Some(one)
+            }
+        }
+        (Some(one), None) => Some(one),
+        (None, other) => other,
+    }
+}
+
+// What was heard of so many variants, where all before the one at which something is said were asked, or all. Linear in them.
+fn settled(part: Part, count: usize) -> Heard
+    ensures { (stop : Stop) (s : StageData) (variants : List VariantData) → length variants ≡ count → IsPart stop s variants part → IsHeard stop s variants result }
+{
+    let Part { silent, said } = part;
+    let asked = marked_first(silent.as_slice());
+    match said {
+        Some((place, verdict)) => {
+            if place <= asked {
+                Heard::Said(verdict)
+            } else {
+                Heard::Open
+            }
+        }
+        None => {
+            if count <= asked {
+                Heard::Nothing
+            } else {
+                Heard::Open
+            }
+        }
+    }
+}
+
+// How many places are marked before the first that isn't.
+fn marked_first(marks: &[bool]) -> usize
+    ensures { (place : ℕ) → place < result → get_or marks.now place false ≡ true }
+{
+    for (place, mark) in marks.iter().enumerate() {
+        if !*mark {
+            return place;
+        }
+    }
+    marks.len()
 }

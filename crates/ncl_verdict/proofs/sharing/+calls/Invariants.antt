@@ -1,11 +1,11 @@
-use Rattle.std.proofs.Common.{◌+◌, ◌*◌, length}
+use Rattle.std.proofs.Common.{◌+◌, ◌*◌}
 use Rattle.ncl_verdict.proofs.sharing.+calls.Given as goal
 
-abbrev pub decreases-hear_halves : goal.decreases-hear_halves
-decreases-hear_halves g l = 2 * length l.variants.now
+abbrev pub decreases-hear_parts : goal.decreases-hear_parts
+decreases-hear_parts g l = 2 * l.parts
 
 abbrev pub decreases-join+arg2 : goal.decreases-join+arg2
-decreases-join+arg2 g l = 2 * length l.front.now + 1
+decreases-join+arg2 g l = 2 * l.few + 1
 
 abbrev pub decreases-join+arg3 : goal.decreases-join+arg3
-decreases-join+arg3 g l = 2 * length l.back.now + 1
+decreases-join+arg3 g l = 2 * l.many + 1

@@ -1,59 +1,36 @@
 use Rattle.std.proofs.Common.{◌∙◌}
 use Rattle.std.proofs.lemmas.Result.{on_ok_weaker}
-use Rattle.ncl_space.specs.Space.{SpaceData}
 use Rattle.ncl_stage.specs.declared.variant.Variant.TheVariants.{Cell}
-use Rattle.ncl_verdict.proofs.AskingLaws.{asked-back, asked-kept, fits-asked, ready-back, within-ready}
+use Rattle.ncl_verdict.proofs.AskingLaws.{asked-back, asked-kept, fits-asked, ready-back, within-back}
 use Rattle.ncl_verdict.proofs.asking.cell_word.Goals as goal
 
 -- what is too much over earlier variants is asked again over Base alone
 pub orphan_word-requires-in-Err-Full-clause-base : goal.orphan_word-requires-in-Err-Full-clause-base
 orphan_word-requires-in-Err-Full-clause-base g c =
-    let old : SpaceData = g.P.Space.meaning c.args.space.now in
-    let mid : SpaceData = g.P.Space.meaning c.orphan_word.new.space in
-    let asked = asked-kept old mid old.limit c.args.stage.now c.args.base.now c.args.start c.orphan_word.ensures.kept c.orphan_word.ensures.space c.requires.asked in
-    (ready-back mid (g.P.Space.meaning c.release.new.self) old.limit c.args.stage.now c.args.base.now c.args.start c.release.ensures.released c.release.ensures.space asked).values
+    let asked = asked-kept c.orphan_word.ensures.kept c.orphan_word.ensures.space c.requires.asked in
+    (ready-back c.release.ensures.released c.release.ensures.space asked).values
 
 pub returns-in-Ok-clause-fits : goal.returns-in-Ok-clause-fits
-returns-in-Ok-clause-fits g c =
-    let old : SpaceData = g.P.Space.meaning c.args.space.now in
-    fits-asked old old.limit c.args.stage.now c.args.base.now c.args.start c.requires.asked (Cell c.args.cell) c.in-Ok.ensures.fits
+returns-in-Ok-clause-fits g c = fits-asked c.requires.asked (Cell c.args.cell) c.in-Ok.ensures.fits
 
 pub returns-in-Ok-clause-asked : goal.returns-in-Ok-clause-asked
 returns-in-Ok-clause-asked g c =
-    let old : SpaceData = g.P.Space.meaning c.args.space.now in
-    c.make_room.ensures old.limit c.args.stage.now c.args.base.now
-    (asked-kept old (g.P.Space.meaning c.orphan_word.new.space) old.limit c.args.stage.now c.args.base.now c.args.start c.orphan_word.ensures.kept c.orphan_word.ensures.space c.requires.asked)
+    c.make_room.ensures _ c.args.stage.now c.args.base.now (asked-kept c.orphan_word.ensures.kept c.orphan_word.ensures.space c.requires.asked)
 
 pub returns-in-Err-Memory-clause-asked : goal.returns-in-Err-Memory-clause-asked
-returns-in-Err-Memory-clause-asked g c =
-    let old : SpaceData = g.P.Space.meaning c.args.space.now in
-    asked-kept old (g.P.Space.meaning c.orphan_word.new.space) old.limit c.args.stage.now c.args.base.now c.args.start c.orphan_word.ensures.kept c.orphan_word.ensures.space c.requires.asked
+returns-in-Err-Memory-clause-asked g c = asked-kept c.orphan_word.ensures.kept c.orphan_word.ensures.space c.requires.asked
 
 pub returns-in-Err-Full-clause-full : goal.returns-in-Err-Full-clause-full
 returns-in-Err-Full-clause-full g c = λ full.
-    let old : SpaceData = g.P.Space.meaning c.args.space.now in
-    let mid : SpaceData = g.P.Space.meaning c.orphan_word.new.space in
-    let back : SpaceData = g.P.Space.meaning c.release.new.self in
-    let asked = asked-kept old mid old.limit c.args.stage.now c.args.base.now c.args.start c.orphan_word.ensures.kept c.orphan_word.ensures.space c.requires.asked in
-    let ready = ready-back mid back old.limit c.args.stage.now c.args.base.now c.args.start c.release.ensures.released c.release.ensures.space asked in
-    within-ready back old.limit c.args.stage.now c.args.base.now (c.release.ensures.released.limit ∙ asked.same_limit) ready (Cell c.args.cell) ∙ c.orphan_word-in-Err-Full.ensures.full full
+    let asked = asked-kept c.orphan_word.ensures.kept c.orphan_word.ensures.space c.requires.asked in
+    within-back c.release.ensures.released c.release.ensures.space asked (Cell c.args.cell) ∙ c.orphan_word-in-Err-Full.ensures.full full
 
 pub returns-in-Err-Full-clause-fits : goal.returns-in-Err-Full-clause-fits
 returns-in-Err-Full-clause-fits g c =
-    let old : SpaceData = g.P.Space.meaning c.args.space.now in
-    let mid : SpaceData = g.P.Space.meaning c.orphan_word.new.space in
-    let back : SpaceData = g.P.Space.meaning c.release.new.self in
-    let asked = asked-kept old mid old.limit c.args.stage.now c.args.base.now c.args.start c.orphan_word.ensures.kept c.orphan_word.ensures.space c.requires.asked in
-    let ready = ready-back mid back old.limit c.args.stage.now c.args.base.now c.args.start c.release.ensures.released c.release.ensures.space asked in
-    on_ok_weaker c.orphan_word-in-Err-Full.result
-    (λ fit. within-ready back old.limit c.args.stage.now c.args.base.now (c.release.ensures.released.limit ∙ asked.same_limit) ready (Cell c.args.cell) ∙ fit)
-    c.orphan_word-in-Err-Full.ensures.fits
+    let asked = asked-kept c.orphan_word.ensures.kept c.orphan_word.ensures.space c.requires.asked in
+    on_ok_weaker c.orphan_word-in-Err-Full.result (λ fit. within-back c.release.ensures.released c.release.ensures.space asked (Cell c.args.cell) ∙ fit) c.orphan_word-in-Err-Full.ensures.fits
 
 pub returns-in-Err-Full-clause-asked : goal.returns-in-Err-Full-clause-asked
 returns-in-Err-Full-clause-asked g c =
-    let old : SpaceData = g.P.Space.meaning c.args.space.now in
-    let mid : SpaceData = g.P.Space.meaning c.orphan_word.new.space in
-    let back : SpaceData = g.P.Space.meaning c.release.new.self in
-    let asked = asked-kept old mid old.limit c.args.stage.now c.args.base.now c.args.start c.orphan_word.ensures.kept c.orphan_word.ensures.space c.requires.asked in
-    asked-kept back (g.P.Space.meaning c.orphan_word-in-Err-Full.new.space) old.limit c.args.stage.now c.args.base.now c.args.start c.orphan_word-in-Err-Full.ensures.kept c.orphan_word-in-Err-Full.ensures.space
-    (asked-back mid back old.limit c.args.stage.now c.args.base.now c.args.start c.release.ensures.released c.release.ensures.space asked)
+    let asked = asked-kept c.orphan_word.ensures.kept c.orphan_word.ensures.space c.requires.asked in
+    asked-kept c.orphan_word-in-Err-Full.ensures.kept c.orphan_word-in-Err-Full.ensures.space (asked-back c.release.ensures.released c.release.ensures.space asked)

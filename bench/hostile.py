@@ -3,15 +3,20 @@
 
     bench/hostile.py PROGRAM [WORD]
 
-PROGRAM is the built nclc. Most files are as long as a file may be, 16 MiB; the others have as many cells as a netlist may
-have, or chains of as many gates. With WORD only the kinds are tried whose name has it. A run is stopped after a minute.
+PROGRAM is the built nclc. Most files are as long as a file may be, 16 MiB; others have as many cells as a netlist may
+have, or chains of as many gates; and some are short, and have large functions. With WORD only the kinds are tried whose name
+has it. A run is stopped after a minute.
 """
+import itertools
 import os
+import random
 import subprocess
 import sys
 import tempfile
 import threading
 import time
+
+from thrown import bank, cell
 
 MOST_BYTES = 16 << 20
 MOST_CELLS = 131_072
@@ -110,6 +115,67 @@ def covers(count, order=1, last="a"):
     yield f".names {last} n{count}\n1 1\n.end\n"
 
 
+def two_rails(name):
+    return [f"{name}_{rail}" for rail in (0, 1)]
+
+
+def module(ins, outs, body):
+    """A netlist of two banks with these rails, and what stands in it."""
+    names, ends = sum(ins, []) + ["ki", "rst"], sum(outs, []) + ["ko"]
+    return f"module t({','.join(names + ends)});\ninput {','.join(names)};\noutput {','.join(ends)};\n{body}endmodule\n"
+
+
+def summed(pairs, name):
+    """The sum of bits, one XOR after another, and its cells."""
+    last, text = pairs[0], ""
+    for place, pair in enumerate(pairs[1:]):
+        out = two_rails(f"{name}{place}")
+        for rail, other in ((0, pair), (1, pair[::-1])):
+            text += cell("THxor0", f"g{out[rail]}", [last[0], other[0], last[1], other[1]], out[rail])
+        last = out
+    return last, text
+
+
+def product(a, b, name):
+    """The AND of two bits, and its cells."""
+    out = two_rails(name)
+    return out, cell("THand0", f"g{out[0]}", [b[0], a[0], b[1], a[1]], out[0]) + cell("TH22", f"g{out[1]}", [a[1], b[1]], out[1])
+
+
+def asked_stage(half, count):
+    """A sound stage, asked variant by variant: the first output puts the bits in an order that is bad for the second, a sum of
+    products, to which the bits are added again and again, so that each of so many XORs has many nodes."""
+    ins = [two_rails(f"i{bit}") for bit in range(2 * half)]
+    bits, text = bank("p", ins, "c", "ko")
+    first, cells = summed(bits, "e")
+    products = [product(a, b, f"m{place}") for place, (a, b) in enumerate(zip(bits[:half], bits[half:]))]
+    last, chain = summed([out for out, _ in products] + list(itertools.islice(itertools.cycle(bits), count)), "x")
+    outs, back = bank("q", [first, last], "ki", "c")
+    yield module(ins, outs, text + cells + "".join(made for _, made in products) + chain + back)
+
+
+def wide(bits, outputs):
+    """A netlist of wires, with so many outputs."""
+    ins = [two_rails(f"i{bit}") for bit in range(bits)]
+    rails, text = bank("p", ins, "c", "ko")
+    outs, back = bank("q", list(itertools.islice(itertools.cycle(rails), outputs)), "ki", "c")
+    yield module(ins, outs, text + back)
+
+
+def covered(half, count, outputs):
+    """A cover that all outputs have: rows of the lower bits, one row for each number of the upper ones, and then rows that
+    cover nothing new, each of which goes over what there is."""
+    rand, names = random.Random(1), " ".join(f"a{bit}" for bit in range(2 * half))
+    outs = [f"z{place}" for place in range(outputs)]
+    yield f".model m\n.inputs {names}\n.outputs {' '.join(outs)}\n.names {names} g\n"
+    low = [format(value, f"0{half}b") for value in rand.sample(range(1 << half), 24)]
+    rows = ["-" * half + value for value in low]
+    rows += [format(value, f"0{half}b") + format(rand.randrange(1 << half), f"0{half}b") for value in range(1 << half)]
+    again = ["-" * (half - 4) + "".join(free) + value for free in itertools.product("-01", repeat=4) if "-" in free for value in low]
+    yield "".join(f"{row} 1\n" for row in rows + rand.sample(again, count))
+    yield "".join(f".names g {out}\n1 1\n" for out in outs) + ".end\n"
+
+
 NETLISTS = {
     "one name": filled("module ", "a"),
     "one escaped name": filled("module \\", "a"),
@@ -129,6 +195,8 @@ NETLISTS = {
     "a chain of 100,000 gates": gates(100_000, "TH12 g{0}(.A(n{1}),.B(n{1}),.Z(n{0}));\n"),
     "the chain in order": gates(100_000, "TH12 g{0}(.A(n{1}),.B(n{1}),.Z(n{0}));\n", -1),
     "a cycle of 100,000 gates": gates(100_000, "TH22 g{0}(.A(n{1}),.B(n0),.Z(n{0}));\n"),
+    "a stage with 100 XORs": asked_stage(9, 100),
+    "a stage with 200 XORs": asked_stage(9, 200),
 }
 MODELS = {
     "one signal": filled(".inputs ", "a"),
@@ -143,6 +211,12 @@ MODELS = {
     "a long chain of covers": covers(300_000),
     "that chain in order": covers(300_000, -1),
     "a cycle of covers": covers(300_000, last="n0"),
+}
+
+
+COVERS = {
+    "128 outputs and 400 rows again": covered(9, 400, 128),
+    "128 outputs and 1,200 rows again": covered(9, 1_200, 128),
 }
 
 
@@ -195,9 +269,11 @@ def main():
     with tempfile.TemporaryDirectory() as folder:
         netlist, _ = write(folder, "wires.v", wires())
         empty, _ = write(folder, "empty", [])
+        broad, _ = write(folder, "broad.v", wide(18, 128))
         forms = [
             ("check", NETLISTS, lambda file: ["check", file]),
             ("compile", MODELS, lambda file: ["compile", file]),
+            ("match", COVERS, lambda file: ["match", broad, file]),
             ("delays", lines(), lambda file: ["sim", netlist, "--delays", file, "--words", empty]),
             ("words", lines(), lambda file: ["sim", netlist, "--delays", empty, "--words", file]),
         ]

@@ -60,7 +60,7 @@ pub fn build(alloc: Global, parts: Parts) -> Result<Netlist, BuildFault>
         ports,
         cells,
     } = parts;
-    let mut names = number_ports(alloc, ports.items())?;
+    let mut names = number_ports(alloc, ports.items(), cells.items().len())?;
     let cells = number_cells(alloc, &mut names, cells.into_vec())?;
     let nets = into_nets(alloc, names)?;
     let counts = count_drivers(alloc, ports.items(), &cells, nets.len())?;

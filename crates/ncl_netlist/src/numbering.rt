@@ -90,13 +90,19 @@ pub(crate) fn number_cells(
     Ok(numbered)
 }
 
-/// The names of the ports, which are the first nets. Linear in the bytes of the names, each of which
-/// is copied.
-pub(crate) fn number_ports(alloc: Global, ports: &[Port]) -> Result<IndexSet<Name>, Memory>
+/// The names of the ports, which are the first nets, with room for as many names of cells' nets as are told.
+///
+/// Linear in the bytes of the names, each of which is copied, and in the room.
+pub(crate) fn number_ports(
+    alloc: Global,
+    ports: &[Port],
+    others: usize,
+) -> Result<IndexSet<Name>, Memory>
+    requires { length ports.now + others < 2 ^ 32 }
     ensures { IfOk result
         (λ names. names.keys ≡ insert_all same_name [] (map (λ port. port.name) ports.now)) }
 {
-    let mut names: IndexSet<Name> = IndexSet::new(alloc);
+    let mut names: IndexSet<Name> = IndexSet::with_capacity(alloc, ports.len() + others)?;
     for port in ports {
         names.insert(Name::from_bytes(alloc, port.name.bytes())?)?;
     }

@@ -15,7 +15,7 @@ number_cells-requires-clause-room c =
 pub count_drivers-requires-clause-ports : goal.count_drivers-requires-clause-ports
 count_drivers-requires-clause-ports c =
     let draft = drafted c.args.parts c.items.result.now c.into_vec.result.items c.in_ok-names.names.keys c.number_cells.new.names.keys c.in_ok-nets.nets.items c.in_ok-cells.cells.items c.items.ensures c.into_vec.ensures c.in_ok-names.ensures c.in_ok-cells.ensures.names c.in_ok-cells.ensures.cells c.in_ok-nets.ensures in
-    omega (arith, ap length c.items-2.ensures, c.len.ensures, c.in_ok-nets.nets.ok.0, ap length draft.nets_are, ports_within c.args.parts c.requires.ports_differ)
+    omega (arith, ap length c.items-3.ensures, c.len.ensures, c.in_ok-nets.nets.ok.0, ap length draft.nets_are, ports_within c.args.parts c.requires.ports_differ)
 
 pub count_drivers-requires-clause-fit : goal.count_drivers-requires-clause-fit
 count_drivers-requires-clause-fit c =
@@ -27,7 +27,7 @@ count_drivers-requires-clause-fit c =
 pub returns-in_err-check_drivers-clause-fault : goal.returns-in_err-check_drivers-clause-fault
 returns-in_err-check_drivers-clause-fault c =
     let draft = drafted c.args.parts c.items.result.now c.into_vec.result.items c.in_ok-names.names.keys c.number_cells.new.names.keys c.in_ok-nets.nets.items c.in_ok-cells.cells.items c.items.ensures c.into_vec.ensures c.in_ok-names.ensures c.in_ok-cells.ensures.names c.in_ok-cells.ensures.cells c.in_ok-nets.ensures in
-    let counts = counted c.args.parts c.in_ok-nets.nets.items c.in_ok-cells.cells.items c.items-2.result.now c.deref.result.now c.in_ok-counts.counts.items c.deref-2.result.now c.len.result draft c.items-2.ensures c.deref.ensures.value c.deref-2.ensures.value (omega (arith, c.in_ok-counts.counts.ok.0, c.in_ok-counts.ensures.len)) (omega (arith, c.len.ensures, c.in_ok-nets.nets.ok.0)) c.in_ok-counts.ensures.counts in
+    let counts = counted c.args.parts c.in_ok-nets.nets.items c.in_ok-cells.cells.items c.items-3.result.now c.deref.result.now c.in_ok-counts.counts.items c.deref-2.result.now c.len.result draft c.items-3.ensures c.deref.ensures.value c.deref-2.ensures.value (omega (arith, c.in_ok-counts.counts.ok.0, c.in_ok-counts.ensures.len)) (omega (arith, c.len.ensures, c.in_ok-nets.nets.ok.0)) c.in_ok-counts.ensures.counts in
     passed_on (IsFaultOf c.args.parts) c.from_residual-in_err-check_drivers.result c.in_err-check_drivers.field-0.0 c.from_residual-in_err-check_drivers.ensures.1
     (fault_by_counts c.args.parts c.deref-2.result.now counts c.in_ok-check_cells.ensures.ok c.deref-3.result.now c.in_err-check_drivers.field-0.0 (c.deref-3.ensures.value ∙ draft.nets_are) c.in_err-check_drivers.ensures.fault)
 
@@ -35,7 +35,7 @@ pub invariant_of-result : goal.invariant_of-result
 invariant_of-result c =
     let parts = c.args.parts in
     let draft = drafted c.args.parts c.items.result.now c.into_vec.result.items c.in_ok-names.names.keys c.number_cells.new.names.keys c.in_ok-nets.nets.items c.in_ok-cells.cells.items c.items.ensures c.into_vec.ensures c.in_ok-names.ensures c.in_ok-cells.ensures.names c.in_ok-cells.ensures.cells c.in_ok-nets.ensures in
-    let counts = counted c.args.parts c.in_ok-nets.nets.items c.in_ok-cells.cells.items c.items-2.result.now c.deref.result.now c.in_ok-counts.counts.items c.deref-2.result.now c.len.result draft c.items-2.ensures c.deref.ensures.value c.deref-2.ensures.value (omega (arith, c.in_ok-counts.counts.ok.0, c.in_ok-counts.ensures.len)) (omega (arith, c.len.ensures, c.in_ok-nets.nets.ok.0)) c.in_ok-counts.ensures.counts in
+    let counts = counted c.args.parts c.in_ok-nets.nets.items c.in_ok-cells.cells.items c.items-3.result.now c.deref.result.now c.in_ok-counts.counts.items c.deref-2.result.now c.len.result draft c.items-3.ensures c.deref.ensures.value c.deref-2.ensures.value (omega (arith, c.in_ok-counts.counts.ok.0, c.in_ok-counts.ensures.len)) (omega (arith, c.len.ensures, c.in_ok-nets.nets.ok.0)) c.in_ok-counts.ensures.counts in
     let faultless = faultless_by_counts parts c.deref-2.result.now counts c.in_ok-check_cells.ensures.ok c.in_ok-check_drivers.ensures.ok in
     let ports = c.into_vec-2.ensures in
     let whole : ◌≡◌ {A = NetlistData} (record { name = parts.«module»; ports = c.into_vec-2.result.items; nets = c.in_ok-nets.nets.items; cells = c.in_ok-cells.cells.items }) (netlist_of parts) =
@@ -51,5 +51,5 @@ returns-clause-built c =
 pub returns-clause-faultless : goal.returns-clause-faultless
 returns-clause-faultless c =
     let draft = drafted c.args.parts c.items.result.now c.into_vec.result.items c.in_ok-names.names.keys c.number_cells.new.names.keys c.in_ok-nets.nets.items c.in_ok-cells.cells.items c.items.ensures c.into_vec.ensures c.in_ok-names.ensures c.in_ok-cells.ensures.names c.in_ok-cells.ensures.cells c.in_ok-nets.ensures in
-    let counts = counted c.args.parts c.in_ok-nets.nets.items c.in_ok-cells.cells.items c.items-2.result.now c.deref.result.now c.in_ok-counts.counts.items c.deref-2.result.now c.len.result draft c.items-2.ensures c.deref.ensures.value c.deref-2.ensures.value (omega (arith, c.in_ok-counts.counts.ok.0, c.in_ok-counts.ensures.len)) (omega (arith, c.len.ensures, c.in_ok-nets.nets.ok.0)) c.in_ok-counts.ensures.counts in
+    let counts = counted c.args.parts c.in_ok-nets.nets.items c.in_ok-cells.cells.items c.items-3.result.now c.deref.result.now c.in_ok-counts.counts.items c.deref-2.result.now c.len.result draft c.items-3.ensures c.deref.ensures.value c.deref-2.ensures.value (omega (arith, c.in_ok-counts.counts.ok.0, c.in_ok-counts.ensures.len)) (omega (arith, c.len.ensures, c.in_ok-nets.nets.ok.0)) c.in_ok-counts.ensures.counts in
     faultless_by_counts c.args.parts c.deref-2.result.now counts c.in_ok-check_cells.ensures.ok c.in_ok-check_drivers.ensures.ok

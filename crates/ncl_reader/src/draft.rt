@@ -144,6 +144,7 @@ impl<'a> Draft<'a> {
     }
 
     /// A name that isn't declared.
+    #[inline(always)]
     pub fn at_plain(&mut self, alloc: Global, place: Place, name: &'a [u8]) -> Step
         requires { takes_plain place ≡ true }
         ensures { StepsAt place self.old (NameLexeme name.now) result self.new }

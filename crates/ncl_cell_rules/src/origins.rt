@@ -20,6 +20,7 @@ use crate::pairing::first_unpaired;
 use crate::ports_read::first_unread;
 use crate::reading::{gate_reads, reads};
 use crate::source::Source;
+use crate::standing::{are_in_order, first_places};
 use crate::tying::first_loose;
 use ncl_base::Memory;
 use ncl_netlist::{CellId, NetId, Netlist};
@@ -83,7 +84,8 @@ impl Origins {
 }
 
 /// An order of all cells in which each gate cell stands after those that drive its pins, or the first gate cell on a
-/// cycle. Linear in cells and pins.
+/// cycle. Linear in cells and pins. Takes no memory but the order's where the cells stand so in the netlist, and then a
+/// search in depth would find the same order.
 fn cell_order(
     alloc: Global,
     netlist: &Netlist,
@@ -94,6 +96,9 @@ fn cell_order(
     ensures off_cycles { OnOk result (AreOffCycles netlist.now) }
     ensures fault { IfErr result (IsOrderFault netlist.now) }
 {
+    if are_in_order(netlist, drivers) {
+        return Ok(first_places(alloc, netlist.cells().len())?);
+    }
     let graph = gate_graph(alloc, netlist, drivers)?;
     if let Some(order) = graph.order(alloc)? {
         return Ok(order);

@@ -1,9 +1,26 @@
-use Rattle.std.proofs.Common.{subst}
+use Rattle.std.proofs.Common.{length, sym, ap, ◌∙◌, subst}
+use Rattle.std.specs.List.{range_with_len}
+use Rattle.std.proofs.lemmas.Bool.{OnTrue_at}
 use Rattle.ncl_graph.specs.Graph.{IsOrder, IsOnCycle}
 use Rattle.ncl_graph.proofs.Orders.{order_excludes_cycles}
 use Rattle.ncl_cell_rules.specs.GateGraph.{gate_graph}
+use Rattle.ncl_cell_rules.proofs.InOrder.{order_as_they_stand}
 use Rattle.ncl_cell_rules.proofs.OrderSteps.{order_of_cells, off_cycles, on_cycle, cell_on_cycle}
 use Rattle.ncl_cell_rules.proofs.origins.cell_order.Goals as goal
+
+-- the places in a row are an order of the graph
+in_a_row : (c : goal.In_ok-first_places) → IsOrder (gate_graph c.args.netlist.now c.args.drivers.now) c.in_ok-first_places.field-0.items
+in_a_row c =
+    let row = c.in_ok-first_places.ensures ∙ ap (λ l. range_with_len 0 (length l)) c.cells.ensures.cells in
+    subst (IsOrder (gate_graph c.args.netlist.now c.args.drivers.now)) (sym row)
+    (order_as_they_stand c.args.netlist.now c.requires.netlist c.args.drivers.now c.requires (OnTrue_at c.if-are_in_order.true c.are_in_order.ensures))
+
+pub returns-then-are_in_order-clause-order : goal.returns-then-are_in_order-clause-order
+returns-then-are_in_order-clause-order c = order_of_cells c.args.netlist.now c.requires.netlist c.args.drivers.now c.requires c.in_ok-first_places.field-0.items (in_a_row c)
+
+pub returns-then-are_in_order-clause-off_cycles : goal.returns-then-are_in_order-clause-off_cycles
+returns-then-are_in_order-clause-off_cycles c = λ k.
+    off_cycles c.args.netlist.now c.requires.netlist c.args.drivers.now c.requires k (order_excludes_cycles (gate_graph c.args.netlist.now c.args.drivers.now) c.in_ok-first_places.field-0.items (in_a_row c) k)
 
 pub returns-in-Some-clause-order : goal.returns-in-Some-clause-order
 returns-in-Some-clause-order c =

@@ -5,11 +5,11 @@ use Rattle.std.specs.Option.{option_to_list}
 use Rattle.std.specs.Cmp.{IsStrictWeakOrder}
 use Rattle.std.specs.List.{AllByRecursion}
 use Rattle.std.specs.List.Sorted.{IsPermutation, IsSorted}
-use Rattle.std.specs.BinaryHeap.{IsHeap, IsUpperBound}
+use Rattle.std.specs.BinaryHeap.{IsUpperBound}
 use Rattle.std.specs.Ordering.{is_lt, nat_cmp, ordering_then}
 use Rattle.std.specs.declared.cmp.Reverse.{Reverse}
 use Rattle.std.proofs.lemmas.Bool.Decides.{nat_tests}
-use Rattle.std.proofs.lemmas.List.{get_or_append_left, get_or_push}
+use Rattle.std.proofs.lemmas.List.{get_or_push}
 use Rattle.std.proofs.lemmas.List.Elements.{All-append, All-cons, All-contains, All-from_recursion, All-head, All-nil, All-weaker}
 use Rattle.std.proofs.lemmas.Option.{none-some, same_Some, slice_get-get_or}
 use Rattle.std.proofs.lemmas.List.Sorted.{All-permutation, IsPermutation-append_left, IsPermutation-append_right, IsPermutation-middle, IsPermutation-sym, IsPermutation-trans, length_permutation, sorted_far}
@@ -65,23 +65,7 @@ last-first front e sorted k d lt =
     before-from_tests e.0 (get_or (front ++ e ∷ []) k d).0
     (subst (λ x. is_less x (get_or (front ++ e ∷ []) k d) ≡ false) last (sorted_far is_less less-orders (front ++ e ∷ []) sorted k (length front) d (omega (arith, size, lt)) (omega (arith, size))))
 
--- what is left without it is sorted
-pub front-sorted : (front : List Event) (e : Event) → IsSorted event_cmp (front ++ e ∷ []) → IsSorted event_cmp front
-front-sorted front e sorted k d low lt =
-    let size : length (front ++ e ∷ []) ≡ length front + 1 = length-append front (e ∷ []) in
-    let here : get_or (front ++ e ∷ []) k d ≡ get_or front k d = get_or_append_left front (e ∷ []) d k (omega arith) in
-    let next : get_or (front ++ e ∷ []) (k + 1) d ≡ get_or front (k + 1) d = get_or_append_left front (e ∷ []) d (k + 1) lt in
-    subst (λ x. is_less (get_or front (k + 1) d) x ≡ false) here
-    (subst (λ x. is_less x (get_or (front ++ e ∷ []) k d) ≡ false) next (sorted k d low (omega (arith, size, lt))))
-
-pub none-sorted : IsSorted event_cmp []
-none-sorted k d low lt = absurd (omega arith)
-
 -- ---- the last of sorted events, and the first of a heap
-
-pub last-none : (xs : List Event) → None ≡ slice_get xs (length xs - 1) → xs ≡ []
-last-none [] at = refl
-last-none (x ∷ xs) at = absurd (none-some (get_or (x ∷ xs) (length (x ∷ xs) - 1) x) (at ∙ slice_get-get_or (x ∷ xs) (length (x ∷ xs) - 1) x (omega arith)))
 
 pub last-some : (xs : List Event) (last : Event) → Some last ≡ slice_get xs (length xs - 1) → (front : List Event) × (xs ≡ front ++ last ∷ [])
 last-some xs last at = elim (last_of xs) [
@@ -94,14 +78,7 @@ last-some xs last at = elim (last_of xs) [
       (front, is ∙ ap (λ x. front ++ x ∷ []) (sym same))
 ]
 
--- where the last that was opened comes before the first of the heap, it comes before all of it
-pub heap-after : (opened heap : List Event) (last other : Event) → Some last ≡ slice_get opened (length opened - 1) → IsUpperBound event_cmp other heap → IsBefore last.0 other.0 → (e : Event) → ComesBeforeAll e opened → ComesBeforeAll e heap
-heap-after opened heap last other at bound before e all =
-    let (front, is) = last-some opened last at in
-    let first : IsBefore e.0 last.0 = All-contains (λ x. IsBefore e.0 x.0) (front ++ last ∷ []) last (subst (ComesBeforeAll e) is all) (Contains-last front last) in
-    before-along e other heap (before-trans e.0 last.0 other.0 first before) (before-from_bound other heap bound)
-
--- and else what comes before all of the heap comes before all that was opened
+-- where the first of a heap comes before the last that was opened, what comes before all of the heap comes before all that was opened
 pub opened-after : (opened heap : List Event) (last other : Event) → IsSorted event_cmp opened → Some last ≡ slice_get opened (length opened - 1) → other ≡ get_or heap 0 other → 0 < length heap → IsBefore other.0 last.0 → (e : Event) → ComesBeforeAll e heap → ComesBeforeAll e opened
 opened-after opened heap last other sorted at read some before e all =
     let (front, is) = last-some opened last at in
@@ -227,16 +204,5 @@ module _ (opened : List Event) (wheel : WheelData) (heap : List Event) (is : IsC
     due = subst (λ t. All (IsDueBy t) opened) (sym time) is.due;
     later = subst (λ t. All (IsDueAfter t) more.waiting) (sym time)
         (All-permutation (IsDueAfter wheel.time) (e ∷ wheel.waiting) more.waiting into (All-cons (IsDueAfter wheel.time) e wheel.waiting after is.later));
-    in_order = is.in_order;
-  }
-
-  pub calendar-heap : (more : List Event) → IsHeap event_cmp more → IsCalendar opened wheel more
-  calendar-heap more order = record { sorted = is.sorted; due = is.due; later = is.later; in_order = order }
-
-  pub calendar-same : (more : WheelData) → more.time ≡ wheel.time → more.waiting ≡ wheel.waiting → IsCalendar opened more heap
-  calendar-same more time waiting = record {
-    sorted = is.sorted;
-    due = subst (λ t. All (IsDueBy t) opened) (sym time) is.due;
-    later = subst (λ t. All (IsDueAfter t) more.waiting) (sym time) (subst (All (IsDueAfter wheel.time)) (sym waiting) is.later);
     in_order = is.in_order;
   }

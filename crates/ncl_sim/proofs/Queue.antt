@@ -154,14 +154,6 @@ module _ (p : PipelineData) (d : DelaysData) (offered : List (List Bool)) (steps
       lost = is.lost;
     }
 
-    -- a number that is enabled, or where nothing waits, was not lost
-    pub enabled_not_lost : enabled p next_state (candidate p next_state k) ≡ true → IsSeenLost p d offered steps f k → ⊥
-    enabled_not_lost is_on is_lost = both_ways (enabled p next_state (candidate p next_state k)) is_lost.off is_on
-
-    pub resting_not_lost : slice_get waits k ≡ Some None → IsSeenLost p d offered steps f k → ⊥
-    resting_not_lost at is_lost =
-        none-some is_lost.due (same_Some None (due_at p d offered steps k) (sym at ∙ is.lost k lt is_lost) ∙ is_lost.waited)
-
     -- enabled, and it waits already: nothing changes
     pub goes_on_waiting : (due : ℕ) → slice_get waits k ≡ Some (Some due) → enabled p next_state (candidate p next_state k) ≡ true → IsLooking p d offered steps f (λ j. Seen j ⊎ (k ≡ j)) waits
     goes_on_waiting due at is_on =

@@ -1,11 +1,12 @@
 -- What the row of a cell tells: whether the cell is excited, and its delay.
-use Rattle.std.proofs.Common.{◌≡◌, ◌⊎◌, ℕ, zero, suc, ◌+◌, ◌-◌, ◌<◌, ◌≤◌, true, false, not, List, [], ◌∷◌, ◌++◌, length, take, get_or, Option, Some, None, refl, sym, ap, subst, ◌∙◌, arith, inl, inr}
+use Rattle.std.proofs.Common.{◌≡◌, ℕ, ◌+◌, ◌-◌, ◌<◌, ◌≤◌, true, false, not, List, [], ◌∷◌, ◌++◌, length, take, get_or, Option, Some, None, refl, sym, ap, subst, ◌∙◌, arith, inl, inr}
 use Rattle.std.specs.Prelude.{slice_get}
 use Rattle.std.proofs.lemmas.Bool.{cases_lt}
 use Rattle.std.proofs.lemmas.List.{get_or_past, length_push}
 use Rattle.std.proofs.lemmas.List.Elements.{All-contains}
-use Rattle.std.proofs.lemmas.Option.{none-some, same_Some, slice_get_within}
+use Rattle.std.proofs.lemmas.Option.{same_Some, slice_get_within}
 use Rattle.ncl_base.proofs.Members.{Contains-from_slice_get, slice_get-some}
+use Rattle.ncl_base.proofs.Places.{push_cases}
 use Rattle.ncl_gates.specs.Cell.{next_of_cell, pins_of}
 use Rattle.ncl_gates.specs.NextWord.{own_pins}
 use Rattle.ncl_gates.proofs.PinLaws.{pins_of-few}
@@ -126,12 +127,6 @@ pub record AreFirstRows (d : DelaysData) (cells : List Cell) (count : ℕ) (rows
   pub size : length rows ≡ count
   pub each : (k : ℕ) (c : Cell) (row : Row) → slice_get cells k ≡ Some c → slice_get rows k ≡ Some row → IsRowOf (edges_of_cell d (record { 0 = k })) c row
 
-pushed : {X : Type 0} (xs : List X) (y : X) (k : ℕ) (x : X) → slice_get (xs ++ y ∷ []) k ≡ Some x → (slice_get xs k ≡ Some x) ⊎ ((k ≡ length xs) × (y ≡ x))
-pushed [] y zero x at = inr (refl, same_Some y x at)
-pushed [] y (suc k) x at = absurd (none-some x at)
-pushed (z ∷ xs) y zero x at = inl at
-pushed (z ∷ xs) y (suc k) x at = elim (pushed xs y k x at) [ inl before ↦ inl before | inr (last, same) ↦ inr (ap suc last, same) ]
-
 -- the delays of a record of two
 edges-are : (e : Edges) (rise fall : ℕ) → rise ≡ e.rise → fall ≡ e.fall → ◌≡◌ {A = Edges} (record { rise = rise; fall = fall }) e
 edges-are e rise fall up down = λ i. record { rise = up i; fall = down i }
@@ -139,7 +134,7 @@ edges-are e rise fall up down = λ i. record { rise = up i; fall = down i }
 pub rows-next : (d : DelaysData) (cells : List Cell) (count : ℕ) (rows : List Row) (c : Cell) (row : Row) (rise fall : ℕ) → AreFirstRows d cells count rows → slice_get cells count ≡ Some c → rise ≡ delay_of d (Fire (record { 0 = count })) true → fall ≡ delay_of d (Fire (record { 0 = count })) false → IsRowOf (record { rise = rise; fall = fall }) c row → AreFirstRows d cells (count + 1) (rows ++ row ∷ [])
 rows-next d cells count rows c row rise fall first at up down is = record {
   size = length_push rows row ∙ ap (λ n. n + 1) first.size;
-  each = λ k other there at_cell at_row. elim (pushed rows row k there at_row) [
+  each = λ k other there at_cell at_row. elim (push_cases rows row k there at_row) [
     | inl before ↦ first.each k other there at_cell before
     | inr (last, same) ↦
         let place : count ≡ k = sym (last ∙ first.size) in

@@ -1,11 +1,11 @@
 -- A wheel keeps each event in the list of its due.
-use Rattle.std.proofs.Common.{◌≡◌, ◌≢◌, ℕ, zero, suc, ◌+◌, ◌-◌, ◌%◌, ◌<◌, Bool, true, false, List, [], ◌∷◌, ◌++◌, length, map, get_or, replicate, set, Vec, Global, refl, sym, ap, subst, ◌∙◌, arith, append_assoc, inl, inr}
+use Rattle.std.proofs.Common.{◌≡◌, ◌≢◌, ℕ, zero, suc, ◌+◌, ◌-◌, ◌%◌, ◌<◌, Bool, true, false, List, [], ◌∷◌, ◌++◌, length, map, get_or, set, Vec, Global, refl, sym, ap, subst, ◌∙◌, arith, append_assoc, inl, inr}
 use Rattle.std.specs.Prelude.{All}
 use Rattle.std.specs.List.{flat_map}
 use Rattle.std.specs.List.Sorted.{IsPermutation}
 use Rattle.std.specs.declared.cmp.Reverse.{Reverse}
 use Rattle.std.proofs.lemmas.Bool.{cases_eq, cases_lt}
-use Rattle.std.proofs.lemmas.List.{get_or-map, get_or-set_other, get_or-set_same, length-map, length-replicate, length-set, map-set, set-get_or}
+use Rattle.std.proofs.lemmas.List.{get_or-map, get_or-set_other, get_or-set_same, length-map, length-set, map-set, set-get_or}
 use Rattle.std.proofs.lemmas.List.Elements.{All-append, All-contains, All-nil, All-push, All-weaker}
 use Rattle.std.proofs.lemmas.List.Sorted.{IsPermutation-append_comm, IsPermutation-append_left, IsPermutation-append_right, IsPermutation-cons, IsPermutation-middle, IsPermutation-refl, IsPermutation-sym, IsPermutation-trans}
 use Rattle.ncl_base.proofs.Members.{Member, All-from_members, Contains-from_Member, Member-get_or, here}
@@ -53,11 +53,6 @@ module _ {X : Type 0} where
   joined-none [] each = refl
   joined-none (l ∷ lists) each = (λ i. each 0 i ++ all_of lists) ∙ joined-none lists (λ slot. each (suc slot))
 
-  nothing-there : (n slot : ℕ) → get_or {A = List X} (replicate n []) slot [] ≡ []
-  nothing-there zero slot = refl
-  nothing-there (suc n) zero = refl
-  nothing-there (suc n) (suc slot) = nothing-there n slot
-
   pub no-length : (xs : List X) → length xs ≡ 0 → xs ≡ []
   no-length [] none = refl
   no-length (x ∷ xs) none = absurd (omega arith)
@@ -94,13 +89,6 @@ length-tables lists = length-map lists (λ (l : Vec Event Global). l.items)
 
 no-member : (e : Event) → Member e [] → ⊥
 no-member e m = elim m [ ]
-
-pub wheel-new : (n : ℕ) (lists : List (List Event)) → n ≡ 64 → lists ≡ replicate n [] → IsWheel 0 true lists
-wheel-new n lists all empty = record {
-  size = ap length empty ∙ length-replicate n [] ∙ all;
-  dues = λ slot. subst (All (IsDueIn 0 slot)) (sym (ap (λ ls. list_at ls slot) empty ∙ nothing-there n slot)) (All-nil (IsDueIn 0 slot));
-  none = λ idle. joined-none lists (λ slot. ap (λ ls. list_at ls slot) empty ∙ nothing-there n slot);
-}
 
 module _ (time : ℕ) (idle : Bool) (lists : List (List Event)) (is : IsWheel time idle lists) where
   pub wheel-later : All (IsDueAfter time) (joined lists)

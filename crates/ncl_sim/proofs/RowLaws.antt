@@ -1,6 +1,6 @@
 -- What the row of a cell tells: whether the cell is excited, and its delay.
 use Rattle.std.proofs.Common.{◌≡◌, ℕ, ◌+◌, ◌-◌, ◌<◌, ◌≤◌, true, false, not, List, [], ◌∷◌, ◌++◌, length, take, get_or, Option, Some, None, refl, sym, ap, subst, ◌∙◌, arith, inl, inr}
-use Rattle.std.specs.Prelude.{slice_get}
+use Rattle.std.specs.Prelude.{IfSome, slice_get}
 use Rattle.std.proofs.lemmas.Bool.{cases_lt}
 use Rattle.std.proofs.lemmas.List.{get_or_past, length_push}
 use Rattle.std.proofs.lemmas.List.Elements.{All-contains}
@@ -20,6 +20,7 @@ use Rattle.ncl_shape.specs.Closure.{pin_values}
 use Rattle.ncl_shape.specs.Nets.{Nets}
 use Rattle.ncl_shape.specs.Pipeline.{PipelineData}
 use Rattle.ncl_shape.specs.Shape.{Shape}
+use Rattle.ncl_machine.specs.OneChange.{net_of_step, out_at}
 use Rattle.ncl_machine.specs.State.{State}
 use Rattle.ncl_machine.specs.Steps.{differ, enabled, is_excited, next_value}
 use Rattle.ncl_delay.specs.Delays.{DelaysData, delay_of, edge, edges_of_cell}
@@ -119,6 +120,15 @@ module _ (p : PipelineData) (d : DelaysData) (rows : List Row) (are : AreRowsOf 
   told-there s told is =
       let (c, here, fits) = cell-there in
       told-row p d k c row here fits (are.each k c row here at) s told is
+
+  -- the row has the net that the item of its number changes
+  pub output-there : (s : State) (net : NetId) → IfSome (net_of_step p s (candidate p s k)) (λ changed. net.0 ≡ changed) → row.output ≡ net
+  output-there s net told =
+      let (c, here, fits) = cell-there in
+      let item : IfSome (out_at (slice_get p.netlist.cells k)) (λ changed. net.0 ≡ changed) =
+      subst (λ (item : Item). IfSome (net_of_step p s item) (λ changed. net.0 ≡ changed)) (cell_candidate p s k (slice_get_within p.netlist.cells k c here)) told in
+      let same : net.0 ≡ c.out.0 = subst (λ (found : Option Cell). IfSome (out_at found) (λ changed. net.0 ≡ changed)) here item in
+      (are.each k c row here at).output ∙ (λ i. record { 0 = sym same i })
 
 -- ---- the rows as they are made
 

@@ -47,6 +47,7 @@ impl Agenda {
     }
 
     /// Lets a number wait at which nothing waits. Takes time in the logarithm of how many wait.
+    #[inline(always)]
     pub(crate) fn wait(&mut self, number: u32, due: u64) -> Result<(), Memory>
         requires { slice_get self.old number ≡ Some None }
         ensures { OnOk result (self.new ≡ set self.old number (Some due)) }

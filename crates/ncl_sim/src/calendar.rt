@@ -85,6 +85,18 @@ fn is_first(opened: &[Event], others: &BinaryHeap<Event>) -> bool
     is_before(last.0, other.0)
 }
 
+/// Puts an event into a heap. Takes time in the logarithm of how many it has.
+#[inline(never)]
+fn push_other(others: &mut BinaryHeap<Event>, event: Event) -> Result<(), Memory>
+    requires { IsHeap event_cmp (heap_items others.old) }
+    ensures in_order { IsHeap event_cmp (heap_items others.new) }
+    ensures more { OnOk result (IsPermutation (event ∷ heap_items others.old) (heap_items others.new)) }
+    ensures unchanged { OnErr result (heap_items others.new ≡ heap_items others.old) }
+{
+    others.push(event)?;
+    Ok(())
+}
+
 impl Calendar {
     /// No events.
     pub(crate) fn new(alloc: Global) -> Result<Calendar, Memory>
@@ -99,6 +111,7 @@ impl Calendar {
     }
 
     /// Puts an event in. Takes constant time where it is due soon, or else time in the logarithm of how many are not.
+    #[inline(always)]
     pub(crate) fn push(&mut self, event: Event) -> Result<(), Memory>
         ensures more { OnOk result (IsPermutation (event ∷ self.old) self.new) }
         ensures unchanged { OnErr result (self.new ≡ self.old) }
@@ -107,7 +120,7 @@ impl Calendar {
             self.wheel.put(event)?;
             return Ok(());
         }
-        self.others.push(event)?;
+        push_other(&mut self.others, event)?;
         Ok(())
     }
 

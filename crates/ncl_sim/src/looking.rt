@@ -65,7 +65,6 @@ fn rises(pipeline: &Pipeline, state: &State, item: Item) -> bool
 }
 
 /// The delay of the item of a number, where that is enabled, found by asking the netlist.
-#[inline(never)]
 fn delay_asked(pipeline: &Pipeline, delays: &Delays, state: &State, number: u32) -> Option<u32>
     requires made { IsFor pipeline.now state.now }
     requires within { number < number_count pipeline.now }
@@ -78,30 +77,59 @@ fn delay_asked(pipeline: &Pipeline, delays: &Delays, state: &State, number: u32)
     Some(delays.of(pipeline, item, rises(pipeline, state, item)))
 }
 
-/// The delay of the item of a number, where that is enabled. Takes constant time.
-fn delay_at(
+/// Looks at a number whose item has this delay where it is enabled. Takes the time to let the number wait.
+#[inline(always)]
+fn look_with(
+    agenda: &mut Agenda,
     pipeline: &Pipeline,
     delays: &Delays,
-    rows: &[Row],
     state: &State,
+    time: u64,
     number: u32,
-) -> Option<u32>
-    requires made { IsFor pipeline.now state.now }
-    requires rows { AreRowsOf pipeline.now delays.now rows.now }
+    delay: Option<u32>,
+) -> Result<bool, Memory>
+    requires count { length agenda.old ≡ number_count pipeline.now }
     requires within { number < number_count pipeline.now }
-    ensures { IsDelayAt pipeline.now delays.now (meaning state.now) number result }
+    requires time { time ≤ 2 ^ 63 }
+    requires delay { IsDelayAt pipeline.now delays.now (meaning state.now) number delay }
+    ensures waits { OnOk result (agenda.new ≡ look_at pipeline.now delays.now (meaning state.now) time agenda.old number) }
+    ensures lost { IfOk result (λ lost. lost ≡ loses pipeline.now (meaning state.now) agenda.old number) }
 {
-    pipeline.facts();
-    let place = number as usize;
-    if place < rows.len() {
-        let row = &rows[place];
-        return row.delay(state);
+    let waits = agenda.is_waiting(number);
+    let Some(delay) = delay else {
+        return Ok(waits);
+    };
+    if !waits {
+        agenda.wait(number, time + u64::from(delay))?;
     }
-    delay_asked(pipeline, delays, state, number)
+    Ok(false)
+}
+
+/// Looks at a number, asking the netlist for its item's delay: that of a bit or of the sink, which have no row. Stays out of
+/// line, since most looks are at cells.
+#[inline(never)]
+fn look_asked(
+    agenda: &mut Agenda,
+    pipeline: &Pipeline,
+    delays: &Delays,
+    state: &State,
+    time: u64,
+    number: u32,
+) -> Result<bool, Memory>
+    requires made { IsFor pipeline.now state.now }
+    requires count { length agenda.old ≡ number_count pipeline.now }
+    requires within { number < number_count pipeline.now }
+    requires time { time ≤ 2 ^ 63 }
+    ensures waits { OnOk result (agenda.new ≡ look_at pipeline.now delays.now (meaning state.now) time agenda.old number) }
+    ensures lost { IfOk result (λ lost. lost ≡ loses pipeline.now (meaning state.now) agenda.old number) }
+{
+    let delay = delay_asked(pipeline, delays, state, number);
+    look_with(agenda, pipeline, delays, state, time, number, delay)
 }
 
 /// Looks at a number, after a step or at the start: it begins to wait where its item is enabled and doesn't wait.
 /// Answers whether it was lost, which is where it waits and its item isn't enabled.
+#[inline(always)]
 pub(crate) fn look(
     agenda: &mut Agenda,
     pipeline: &Pipeline,
@@ -119,14 +147,21 @@ pub(crate) fn look(
     ensures waits { OnOk result (agenda.new ≡ look_at pipeline.now delays.now (meaning state.now) time agenda.old number) }
     ensures lost { IfOk result (λ lost. lost ≡ loses pipeline.now (meaning state.now) agenda.old number) }
 {
-    let waits = agenda.is_waiting(number);
-    let Some(delay) = delay_at(pipeline, delays, rows, state, number) else {
-        return Ok(waits);
-    };
-    if !waits {
-        agenda.wait(number, time + u64::from(delay))?;
+    pipeline.facts();
+    let place = number as usize;
+    if place < rows.len() {
+        let row = &rows[place];
+        return look_with(
+            agenda,
+            pipeline,
+            delays,
+            state,
+            time,
+            number,
+            row.delay(state),
+        );
     }
-    Ok(false)
+    look_asked(agenda, pipeline, delays, state, time, number)
 }
 
 /// The lesser of a number and one that may be there.

@@ -1,7 +1,8 @@
 //! What a look at a cell needs of it.
-ghost use Rattle.std.specs.Prelude.{◌≡◌, ◌<◌, ◌≤◌, IfOk, length};
+ghost use Rattle.std.specs.Prelude.{◌≡◌, ◌<◌, ◌≤◌, IfOk, Some, length, slice_get};
 ghost use Rattle.ncl_gates.specs.NextWord.{place_of_values, value_of};
 ghost use Rattle.ncl_machine.specs.Held.{meaning};
+ghost use Rattle.ncl_sim.specs.declared.rows.Row.{Row as RowData};
 ghost use Rattle.ncl_sim.specs.Rows.{AreRowsOf, HasNetsBelow, IsDelayOfRow, IsRowOf, next_by_row, pin_or_output};
 
 use ncl_base::Memory;
@@ -96,11 +97,23 @@ impl Row {
         if self.next(state) == high {
             return None;
         }
-        if high {
-            return Some(self.delays.fall);
-        }
-        Some(self.delays.rise)
+        let Edges { rise, fall } = self.delays;
+        Some(if high { fall } else { rise })
     }
+}
+
+/// The net that the item of a number changes: that of its row where it has one. A look at the cell has read the row, so it is
+/// nearer at hand than the cell, and what follows needn't wait for the cell.
+pub(crate) fn net_by_row(rows: &[Row], number: u32, net: NetId) -> NetId
+    requires { (row : RowData) → slice_get rows.now number ≡ Some row → row.output ≡ net }
+    ensures { result ≡ net }
+{
+    let place = number as usize;
+    if place < rows.len() {
+        let row = &rows[place];
+        return row.output;
+    }
+    net
 }
 
 /// The rows of the cells of a pipeline with these delays, in the order of their numbers. Linear in the cells.

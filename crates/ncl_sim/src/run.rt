@@ -11,7 +11,7 @@ ghost use Rattle.ncl_sim.specs.Running.{HasTouched, IsPopped, IsStopped, IsUnder
 
 use crate::agenda::Agenda;
 use crate::looking::{candidate, look_all, started};
-use crate::rows::Row;
+use crate::rows::{Row, net_by_row};
 use crate::touched::Touched;
 use crate::trace::End;
 use ncl_base::{Memory, Word};
@@ -54,7 +54,15 @@ impl Run {
     }
 
     /// Makes the step of a number, whose item is enabled, and tells the net that it changed.
-    fn fire(&mut self, pipeline: &Pipeline, time: u64, number: u32) -> Result<NetId, Memory>
+    fn fire(
+        &mut self,
+        pipeline: &Pipeline,
+        delays: &Delays,
+        rows: &[Row],
+        time: u64,
+        number: u32,
+    ) -> Result<NetId, Memory>
+        requires rows { AreRowsOf pipeline.now delays.now rows.now }
         requires made { IsFor pipeline.now self.old.state }
         requires within { number < number_count pipeline.now }
         requires can { enabled pipeline.now (meaning self.old.state) (candidate pipeline.now (meaning self.old.state) number) ≡ true }
@@ -68,7 +76,8 @@ impl Run {
         let item = candidate(pipeline, &self.state, number);
         let net = self.state.fire(pipeline, item)?;
         self.steps.push(Fired { time, item })?;
-        Ok(net)
+        pipeline.facts();
+        Ok(net_by_row(rows, number, net))
     }
 
     /// Makes the step of what was due first, looks at what it touches, and answers the least number that was lost.
@@ -93,7 +102,7 @@ impl Run {
         ensures offered { OnOk result (self.new.state.offered ≡ self.old.state.offered) }
         ensures steps { OnOk result (length self.new.steps.items ≡ length self.old.steps.items + 1) }
     {
-        let net = self.fire(pipeline, time, number)?;
+        let net = self.fire(pipeline, delays, rows, time, number)?;
         pipeline.facts();
         let numbers = touched.of(net);
         let lost = look_all(

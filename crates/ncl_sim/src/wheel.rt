@@ -53,6 +53,29 @@ fn next_list(lists: &[Vec<Event>], time: u64) -> Option<usize>
     None
 }
 
+/// Puts an event to the end of a full list, which takes memory. Stays out of line, since few events find their list full.
+#[inline(never)]
+fn append_to_full(list: &mut Vec<Event>, event: Event) -> Result<(), Memory>
+    ensures more { OnOk result (list.new.items ≡ list.old.items ++ event ∷ []) }
+    ensures unchanged { OnErr result (list.new.items ≡ list.old.items) }
+{
+    list.push(event)?;
+    Ok(())
+}
+
+/// Puts an event to the end of a list.
+#[inline(always)]
+fn append(list: &mut Vec<Event>, event: Event) -> Result<(), Memory>
+    ensures more { OnOk result (list.new.items ≡ list.old.items ++ event ∷ []) }
+    ensures unchanged { OnErr result (list.new.items ≡ list.old.items) }
+{
+    if list.len() == list.capacity() {
+        return append_to_full(list, event);
+    }
+    list.push(event)?;
+    Ok(())
+}
+
 impl Wheel {
     /// Nothing waits, at time 0.
     pub(crate) fn new(alloc: Global) -> Result<Wheel, Memory>
@@ -81,6 +104,7 @@ impl Wheel {
     }
 
     /// Puts an event to the list of its due.
+    #[inline(always)]
     pub(crate) fn put(&mut self, event: Event) -> Result<(), Memory>
         requires later { self.old.time < event.0.0 }
         requires soon { event.0.0 < self.old.time + 64 }
@@ -89,7 +113,7 @@ impl Wheel {
         ensures unchanged { OnErr result (self.new.waiting ≡ self.old.waiting) }
     {
         let slot = (event.0.0 % LISTS) as usize;
-        self.lists[slot].push(event)?;
+        append(&mut self.lists[slot], event)?;
         self.idle = false;
         Ok(())
     }

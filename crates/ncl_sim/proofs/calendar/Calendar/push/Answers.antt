@@ -19,5 +19,5 @@ pub returns-clause-more : goal.returns-clause-more
 returns-clause-more c =
     let opened = c.self.inside.opened.items in
     let waiting = c.self.inside.wheel.waiting in
-    subst (λ all. IsPermutation (c.args.event ∷ all) (opened ++ (waiting ++ heap_items c.push.new.self))) c.self.view_is
-    (more-heaped opened waiting (heap_items c.self.inside.others) c.args.event (heap_items c.push.new.self) c.in_ok-push.ensures.permutation)
+    subst (λ all. IsPermutation (c.args.event ∷ all) (opened ++ (waiting ++ heap_items c.push_other.new.others))) c.self.view_is
+    (more-heaped opened waiting (heap_items c.self.inside.others) c.args.event (heap_items c.push_other.new.others) c.in_ok-push_other.ensures.more)

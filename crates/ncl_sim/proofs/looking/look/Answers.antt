@@ -3,7 +3,7 @@ use Rattle.std.proofs.lemmas.Option.{slice_get-get_or}
 use Rattle.ncl_machine.specs.Held.{meaning}
 use Rattle.ncl_sim.specs.Rows.{HasNetsBelow}
 use Rattle.ncl_sim.proofs.RowLaws.{nets-there, no_row, told-there}
-use Rattle.ncl_sim.proofs.looking.delay_at.Goals as goal
+use Rattle.ncl_sim.proofs.looking.look.Goals as goal
 
 pub delay-requires : goal.delay-requires
 delay-requires c =
@@ -11,8 +11,8 @@ delay-requires c =
     subst (λ nets. HasNetsBelow nets row) (sym c.requires.made.values)
     (nets-there c.args.pipeline.now c.args.delays.now c.args.rows.now c.requires.rows c.facts.ensures c.args.number row (slice_get-get_or c.args.rows.now c.args.number no_row c.if-place-rows.true))
 
-pub returns-then-place-rows : goal.returns-then-place-rows
-returns-then-place-rows c =
+pub look_with-requires-clause-delay : goal.look_with-requires-clause-delay
+look_with-requires-clause-delay c =
     let row = get_or c.args.rows.now c.args.number no_row in
     told-there c.args.pipeline.now c.args.delays.now c.args.rows.now c.requires.rows c.facts.ensures c.args.number row (slice_get-get_or c.args.rows.now c.args.number no_row c.if-place-rows.true)
     (meaning c.args.state.now) c.delay.result c.delay.ensures

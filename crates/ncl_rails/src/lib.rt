@@ -17,6 +17,7 @@ mod signal_pairs;
 mod spreading;
 mod stage_gates;
 mod summing;
+mod timing;
 mod unread;
 
 pub use parts::{StageParts, stage_parts};

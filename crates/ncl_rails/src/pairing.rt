@@ -99,11 +99,15 @@ impl Joiner {
 
 /// Nodes of a network that are joined with nodes that only they read, where the table has two gates for both and
 /// something else waits for what these don't, or where both are the sum beside a carry; and what each node that is left then
-/// waits for. Nothing where none is joined. Where nodes may not wait for less, sums and their carries alone do. Near linear in the
+/// waits for. Sums stand beside carries where no more than so many nodes then stand one after another. Nothing where none is joined. Where nodes may not wait for less, sums and their carries alone do. Near linear in the
 /// network. The only error is want of memory.
-pub(crate) fn joins_of(alloc: Global, network: &Network) -> Result<Option<Joins>, Memory> {
+pub(crate) fn joins_of(
+    alloc: Global,
+    network: &Network,
+    most: u32,
+) -> Result<Option<Joins>, Memory> {
     let relax = may_relax(network) && network.nodes.items().len() <= MOST_NODES;
-    let sums = sums_of(alloc, network)?;
+    let sums = sums_of(alloc, network, most)?;
     if !relax && sums.is_empty() {
         return Ok(None);
     }

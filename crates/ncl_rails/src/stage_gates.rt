@@ -66,6 +66,7 @@ fn better_gates(
     alloc: Global,
     network: &Network,
     usual: Layout,
+    most: u32,
     joined: &Network,
     waits: Vec<Waits>,
 ) -> Result<Layout, Memory>
@@ -81,7 +82,7 @@ fn better_gates(
         return Ok(usual);
     }
     let depth = depth_of(alloc, &layout, network.inputs)?;
-    if depth > most_depth(alloc, network)? {
+    if depth > most {
         return Ok(usual);
     }
     Ok(layout)
@@ -92,6 +93,7 @@ fn joined_gates(
     alloc: Global,
     network: &Network,
     usual: Layout,
+    most: u32,
     other: &Network,
 ) -> Result<Layout, Memory>
     requires network { CanHaveGates network.now }
@@ -101,29 +103,34 @@ fn joined_gates(
     ensures gates { IfOk result (λ layout. AreGatesOf network.now layout.gates layout.outputs.items) }
     ensures fewer { IfOk result (λ layout. length layout.gates.cells ≤ length usual.gates.cells) }
 {
-    let Some(Joins { offers, waits }) = joins_of(alloc, other)? else {
+    let Some(Joins { offers, waits }) = joins_of(alloc, other, most)? else {
         return Ok(usual);
     };
     match recast(alloc, other, &offers)? {
-        Some(joined) => better_gates(alloc, network, usual, &joined, waits),
+        Some(joined) => better_gates(alloc, network, usual, most, &joined, waits),
         None => Ok(usual),
     }
 }
 
 /// The gates of a network, or those of the network with its carries before its sums and with some nodes joined, where these are
 /// better.
-fn summed_gates(alloc: Global, network: &Network, usual: Layout) -> Result<Layout, Memory>
+fn summed_gates(
+    alloc: Global,
+    network: &Network,
+    usual: Layout,
+    most: u32,
+) -> Result<Layout, Memory>
     requires network { CanHaveGates network.now }
     requires usual { AreGatesOf network.now usual.gates usual.outputs.items }
     ensures gates { IfOk result (λ layout. AreGatesOf network.now layout.gates layout.outputs.items) }
     ensures fewer { IfOk result (λ layout. length layout.gates.cells ≤ length usual.gates.cells) }
 {
-    if sums_of(alloc, network)?.is_empty() {
+    if sums_of(alloc, network, most)?.is_empty() {
         return Ok(usual);
     }
     let order = carries_first(alloc, network)?;
     match reordered(alloc, network, &order)? {
-        Some(other) => joined_gates(alloc, network, usual, &other),
+        Some(other) => joined_gates(alloc, network, usual, most, &other),
         None => Ok(usual),
     }
 }
@@ -134,6 +141,7 @@ pub(crate) fn stage_gates(alloc: Global, network: &Network) -> Result<Layout, Me
     ensures { IfOk result (λ layout. AreGatesOf network.now layout.gates layout.outputs.items) }
 {
     let usual = gates_of(alloc, network, None)?;
-    let joined = joined_gates(alloc, network, usual, network)?;
-    summed_gates(alloc, network, joined)
+    let most = most_depth(alloc, network)?;
+    let joined = joined_gates(alloc, network, usual, most, network)?;
+    summed_gates(alloc, network, joined, most)
 }

@@ -3,6 +3,7 @@
 use crate::joiner::{Joiner, Pair, State};
 use crate::joint::{Sources, inverted, node_of};
 use crate::relaxing::Holders;
+use crate::timing::Timing;
 use ncl_base::Memory;
 use ncl_cells::{Leaves, table_over};
 use ncl_network::{Network, Node, Signal, SignalSource};
@@ -133,12 +134,15 @@ pub(crate) struct Sum {
     pub node: Node,
 }
 
-/// A network, its nodes of three inputs, and how many signals are of each input and node.
+/// A network, its nodes of three inputs, how many signals are of each input and node, and how many nodes stand one after another
+/// and may.
 #[derive(Drop)]
 struct Finder<'a> {
     network: &'a Network,
     carries: BTreeMap<Triple, u32>,
     readers: Holders,
+    timing: Timing,
+    most: u32,
 }
 
 impl<'a> Finder<'a> {
@@ -175,6 +179,9 @@ impl<'a> Finder<'a> {
         let Some(carry) = self.carries.get(&triple).copied() else {
             return Ok(None);
         };
+        if !self.timing.may_read(place, carry, self.most) {
+            return Ok(None);
+        }
         let own = table_over(alloc, self.network, number, sources.leaves())?;
         let other = table_over(alloc, self.network, carry, sources.leaves())?;
         let (Some(own), Some(other)) = (own, other) else {
@@ -241,19 +248,25 @@ fn sum_of(
     }))
 }
 
-/// The sums of a network that can be made beside carries: parities of three sources, of two nodes of which one reads the other and
-/// nothing else does, where another node is a majority of the same three. Near linear in the network. The only error is want of
-/// memory.
-pub(crate) fn sums_of(alloc: Global, network: &Network) -> Result<Vec<Sum>, Memory> {
-    let finder = Finder {
+/// The sums of a network that can be made beside carries, such that no more than so many nodes stand one after another: parities of
+/// three sources, of two nodes of which one reads the other and nothing else does, where another node is a majority of the same
+/// three. Near linear in the network. The only error is want of memory.
+pub(crate) fn sums_of(alloc: Global, network: &Network, most: u32) -> Result<Vec<Sum>, Memory> {
+    let mut finder = Finder {
         network,
         carries: nodes_of_three(alloc, network)?,
         readers: Holders::of(alloc, network)?,
+        timing: Timing::of(alloc, network)?,
+        most,
     };
     let mut sums = Vec::new(alloc);
-    for place in 0..network.nodes.items().len() {
-        if let Some(sum) = finder.sum_at(alloc, place)? {
-            sums.push(sum)?;
+    for (place, node) in network.nodes.items().iter().enumerate() {
+        match finder.sum_at(alloc, place)? {
+            Some(sum) => {
+                finder.timing.settle(place, sum.node.ins.items());
+                sums.push(sum)?;
+            }
+            None => finder.timing.settle(place, node.ins.items()),
         }
     }
     Ok(sums)

@@ -117,10 +117,10 @@ fn better(first: Weighed, second: Weighed) -> Weighed {
 }
 
 impl Chooser {
-    /// Looks at each node alone.
-    pub(crate) fn new(alloc: Global) -> Result<Chooser, Memory> {
+    /// Looks at each node alone, at these prices.
+    pub(crate) fn new(alloc: Global, prices: Prices) -> Result<Chooser, Memory> {
         Ok(Chooser {
-            planner: Planner::new(alloc, Prices::WAITING)?,
+            planner: Planner::new(alloc, prices)?,
             look: Look::Alone,
             readers: Vec::new(alloc),
             cuts: Vec::new(alloc),
@@ -130,16 +130,17 @@ impl Chooser {
 
     /// Begins with the nodes of a network. Linear in them.
     pub(crate) fn begin(&mut self, alloc: Global, network: &Network) -> Result<(), Memory> {
-        let prices = Prices::of(network);
-        if prices != self.planner.prices {
-            self.planner = Planner::new(alloc, prices)?;
-        }
         self.readers = readers_of(alloc, network)?;
         self.levels = Vec::new(alloc);
         if self.look != Look::Alone {
             self.cuts = network_cuts(alloc, network)?;
         }
         Ok(())
+    }
+
+    /// At which prices it chooses.
+    pub(crate) fn prices(&self) -> Prices {
+        self.planner.prices
     }
 
     /// Whether it has no other way to look.

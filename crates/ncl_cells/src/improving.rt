@@ -24,7 +24,7 @@ struct Round {
 }
 
 /// The better of two networks: the second if it has fewer cells and costs no more than it may.
-fn better(network: Network, made: Network, bound: usize) -> Round
+fn better(network: Network, made: Network, bound: usize, prices: Prices) -> Round
     requires network { IsSplit network }
     requires bound { (cost_of_network network ≤ bound) × (bound ≤ most_cost) }
     requires made { IsRemadeOf network made }
@@ -32,7 +32,6 @@ fn better(network: Network, made: Network, bound: usize) -> Round
     ensures same { IsSameAs network result.network }
     ensures cost { cost_of_network result.network ≤ bound }
 {
-    let prices = Prices::of(&network);
     if cost(&made) <= bound && cells(prices, &made) < cells(prices, &network) {
         Round {
             network: made,
@@ -60,7 +59,7 @@ fn one_round(
     ensures cost { IfOk result (λ r. cost_of_network r.network ≤ bound) }
 {
     match remake(alloc, &network, chooser) {
-        Ok(made) => Ok(better(network, made, bound)),
+        Ok(made) => Ok(better(network, made, bound, chooser.prices())),
         Err(Stop::Memory) => Err(Memory),
         Err(Stop::GivenUp) => Ok(Round {
             network,
@@ -71,10 +70,15 @@ fn one_round(
 
 /// A network with the same answers that costs no more than a bound: its nodes are taken apart into nodes of two
 /// inputs, majorities and choices, equal ones are shared, and what few signals compute is made anew of these, where
-/// that saves cells as `cells` reckons them.
+/// that saves cells as `cells` reckons them at these prices.
 ///
 /// Near linear in the network, with a fixed number of rounds. The only error is want of memory.
-pub fn improve(alloc: Global, network: Network, bound: usize) -> Result<Network, Memory>
+pub fn improve(
+    alloc: Global,
+    network: Network,
+    bound: usize,
+    prices: Prices,
+) -> Result<Network, Memory>
     requires network { IsSplit network }
     requires bound { (cost_of_network network ≤ bound) × (bound ≤ most_cost) }
     ensures network { IfOk result IsSplit }
@@ -83,7 +87,7 @@ pub fn improve(alloc: Global, network: Network, bound: usize) -> Result<Network,
     ensures same { IfOk result (λ n. (word : List Bool) → answer_of n word ≡ answer_of network word) }
     ensures cost { IfOk result (λ n. cost_of_network n ≤ bound) }
 {
-    let mut chooser = Chooser::new(alloc)?;
+    let mut chooser = Chooser::new(alloc, prices)?;
     let mut current = network;
     'rounds: for _ in 0..ROUNDS {
         let Round { network, is_new } = one_round(alloc, current, bound, &mut chooser)?;

@@ -34,6 +34,6 @@ pub use cone::Leaves;
 pub use cone_table::table_over;
 pub use improving::improve;
 pub use offer::Offer;
-pub use prices::may_relax;
+pub use prices::{Prices, may_relax};
 pub use recasting::recast;
 pub use reordering::reordered;

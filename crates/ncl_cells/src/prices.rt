@@ -6,10 +6,10 @@ use ncl_network::Network;
 const FEW_INPUTS: usize = 10;
 
 /// So do those of one with at most so many nodes for its inputs: the nodes times the inputs.
-const FEW_NODES: usize = 4_096;
+const FEW_NODES: usize = 25_000;
 
 /// Whether nodes of a network may wait for less than all that they read. Where more stays high without an input, a judge needs more
-/// nodes of decision diagrams, in large stages of many inputs up to four times as many, and could pass its usual limit where it
+/// nodes of decision diagrams, in large stages of many inputs up to ten times as many, and could pass its usual limit where it
 /// didn't.
 pub fn may_relax(network: &Network) -> bool {
     let inputs = network.inputs as usize;
@@ -19,8 +19,10 @@ pub fn may_relax(network: &Network) -> bool {
 
 /// About how many cells a majority becomes, and a choice.
 #[derive(Clone, Copy, Debug, PartialEq, Eq)]
-pub(crate) struct Prices {
+pub struct Prices {
+    /// A majority.
     pub majority: u8,
+    /// A choice.
     pub choice: u8,
 }
 
@@ -31,18 +33,10 @@ impl Prices {
         choice: 5,
     };
 
-    /// Where nodes may wait for less: what something else waits for needs two cells for a majority, and more than two for most.
-    const EAGER: Prices = Prices {
+    /// Where nodes may wait for less. Both then have two cells and may need more to wait; a majority is reckoned cheaper, since a sum
+    /// can stand beside it.
+    pub const EAGER: Prices = Prices {
         majority: 4,
         choice: 5,
     };
-
-    /// Those of the nodes of a network.
-    pub fn of(network: &Network) -> Prices {
-        if may_relax(network) {
-            Prices::EAGER
-        } else {
-            Prices::WAITING
-        }
-    }
 }

@@ -9,7 +9,7 @@ use crate::naming::{inner_pairs, numbered};
 use crate::sizing::model_weight;
 use ncl_base::Memory;
 use ncl_blif::Model;
-use ncl_cells::improve;
+use ncl_cells::{Prices, improve};
 use ncl_decomp::split;
 use ncl_network::reduce;
 use ncl_rails::{StageParts, stage_parts};
@@ -24,10 +24,13 @@ fn stage_of(alloc: Global, number: usize, model: &Model) -> Result<StageParts, M
 {
     let folded = reduce(alloc, model)?;
     let narrow = split(alloc, &folded)?;
-    let network = improve(alloc, narrow, 5 * model_weight(model))?;
+    let bound = 5 * model_weight(model);
+    let copy = narrow.clone()?;
+    let waiting = improve(alloc, copy, bound, Prices::WAITING)?;
+    let eager = improve(alloc, narrow, bound, Prices::EAGER)?;
     let ins = inner_pairs(alloc, number, model.inputs.items().len())?;
     let prefix = numbered(alloc, b's', number)?;
-    stage_parts(alloc, &network, &ins, &prefix)
+    stage_parts(alloc, &waiting, &eager, &ins, &prefix)
 }
 
 /// The stages that models become, in their order. Near linear in the rows of the models.

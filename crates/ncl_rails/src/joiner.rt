@@ -2,10 +2,11 @@
 
 use crate::joint::{Sources, depends_on, node_of};
 use crate::relaxing::Holders;
+use crate::timing::Timing;
 use ncl_base::Memory;
 use ncl_cells::{Leaves, Offer, table_over};
 use ncl_network::{Network, Node, SignalSource};
-use ncl_template::{Waits, least_waits, offered};
+use ncl_template::{Waits, least_waits, levels, offered};
 use std::alloc::Global;
 
 /// What has become of a node.
@@ -15,7 +16,7 @@ pub(crate) enum State {
     Kept,
     /// It reads what nodes that it read have read, and is a function of these sources.
     Joined(Leaves),
-    /// Its only reader is joined with it.
+    /// Each node that read it is joined with it.
     Gone,
 }
 
@@ -101,6 +102,22 @@ impl Joiner {
         }
     }
 
+    /// How many gates stand one after another, where there may be so many in all. Linear in the nodes.
+    pub fn timing(&self, alloc: Global, network: &Network, most: u32) -> Result<Timing, Memory> {
+        let mut own = Vec::new(alloc);
+        for slot in self.slots.iter() {
+            own.push(levels(&slot.node, slot.waits))?;
+        }
+        Timing::of(alloc, network, &own, most)
+    }
+
+    /// Sets the level of a node as it now is.
+    pub fn settle(&self, place: usize, timing: &mut Timing) {
+        if let Some(slot) = self.slots.get(place) {
+            timing.settle(place, slot.node.ins.items(), levels(&slot.node, slot.waits));
+        }
+    }
+
     /// What two nodes read, the second of which the first reads, if it is at most four sources.
     pub fn sources(&self, place: usize, inner: u32) -> Option<Sources> {
         let outer = self.slots.get(place)?;
@@ -159,24 +176,29 @@ impl Joiner {
         }
     }
 
-    /// The two gates of a node that is joined with one that it reads. Both hold nothing meanwhile.
+    /// The gates of a node that is joined with one that it reads, if they are in time. Both hold nothing meanwhile.
     pub fn pair(
         &self,
         alloc: Global,
         network: &Network,
         place: usize,
         sources: &Sources,
+        timing: &Timing,
     ) -> Result<Option<Pair>, Memory> {
         let Ok(number) = u32::try_from(place) else {
             return Ok(None);
         };
-        match table_over(alloc, network, number, sources.leaves())? {
+        let found = match table_over(alloc, network, number, sources.leaves())? {
             Some(table) if depends_on(table, sources.count) => {
                 let needed = self.needed(sources);
-                pair_of(alloc, sources, table, needed)
+                pair_of(alloc, sources, table, needed)?
             }
-            _ => Ok(None),
-        }
+            _ => None,
+        };
+        Ok(found.filter(|pair| {
+            let own = levels(&pair.node, pair.waits);
+            timing.is_in_time(place, pair.node.ins.items(), own)
+        }))
     }
 
     /// What is found.

@@ -2,6 +2,7 @@
 
 use crate::joiner::{Joiner, Joins};
 use crate::summing::{Sum, sums_of};
+use crate::timing::Timing;
 use ncl_base::Memory;
 use ncl_cells::may_relax;
 use ncl_network::{Network, SignalSource};
@@ -31,13 +32,14 @@ impl Joiner {
         network: &Network,
         place: usize,
         inner: u32,
+        timing: &Timing,
     ) -> Result<bool, Memory> {
         let Some(sources) = self.sources(place, inner) else {
             return Ok(false);
         };
         self.release(place);
         self.release(inner as usize);
-        let found = self.pair(alloc, network, place, &sources)?;
+        let found = self.pair(alloc, network, place, &sources, timing)?;
         let joins = found.is_some();
         match found {
             Some(pair) => {
@@ -51,10 +53,16 @@ impl Joiner {
     }
 
     /// Joins a node with the first that it can be joined with, and tells whether there is one.
-    fn join_one(&mut self, alloc: Global, network: &Network, place: usize) -> Result<bool, Memory> {
+    fn join_one(
+        &mut self,
+        alloc: Global,
+        network: &Network,
+        place: usize,
+        timing: &Timing,
+    ) -> Result<bool, Memory> {
         for at in 0..4usize {
             if let Some(inner) = self.only_read(place, at) {
-                if self.join(alloc, network, place, inner)? {
+                if self.join(alloc, network, place, inner, timing)? {
                     return Ok(true);
                 }
             }
@@ -63,9 +71,15 @@ impl Joiner {
     }
 
     /// Joins a node with those that it can be joined with, one after another.
-    fn join_at(&mut self, alloc: Global, network: &Network, place: usize) -> Result<(), Memory> {
+    fn join_at(
+        &mut self,
+        alloc: Global,
+        network: &Network,
+        place: usize,
+        timing: &Timing,
+    ) -> Result<(), Memory> {
         for _ in 0..4u32 {
-            if !self.join_one(alloc, network, place)? {
+            if !self.join_one(alloc, network, place, timing)? {
                 return Ok(());
             }
         }
@@ -73,9 +87,15 @@ impl Joiner {
     }
 
     /// Joins all nodes that can be.
-    fn join_all(&mut self, alloc: Global, network: &Network) -> Result<(), Memory> {
+    fn join_all(
+        &mut self,
+        alloc: Global,
+        network: &Network,
+        timing: &mut Timing,
+    ) -> Result<(), Memory> {
         for place in 0..network.nodes.items().len() {
-            self.join_at(alloc, network, place)?;
+            self.join_at(alloc, network, place, timing)?;
+            self.settle(place, timing);
         }
         Ok(())
     }
@@ -87,11 +107,13 @@ impl Joiner {
         alloc: Global,
         network: &Network,
         sums: Vec<Sum>,
+        most: u32,
     ) -> Result<(), Memory> {
         self.relax(false);
+        let mut timing = self.timing(alloc, network, most)?;
         self.add_sums(sums);
-        self.join_all(alloc, network)?;
-        self.spread_all(alloc, network)?;
+        self.join_all(alloc, network, &mut timing)?;
+        self.spread_all(alloc, network, &mut timing)?;
         self.relax(true);
         Ok(())
     }
@@ -99,21 +121,23 @@ impl Joiner {
 
 /// Nodes of a network that are joined with nodes that only they read, where the table has two gates for both and
 /// something else waits for what these don't, or where both are the sum beside a carry; and what each node that is left then
-/// waits for. Sums stand beside carries where no more than so many nodes then stand one after another. Nothing where none is joined. Where nodes may not wait for less, sums and their carries alone do. Near linear in the
-/// network. The only error is want of memory.
+/// waits for. No more gates than one number then stand one after another, as is reckoned, but for sums beside carries, for which there
+/// is another number. Nothing where none is joined. Where nodes may not wait for less, sums and their carries alone do. Near linear in
+/// the network. The only error is want of memory.
 pub(crate) fn joins_of(
     alloc: Global,
     network: &Network,
+    most_of_sums: u32,
     most: u32,
 ) -> Result<Option<Joins>, Memory> {
     let relax = may_relax(network) && network.nodes.items().len() <= MOST_NODES;
-    let sums = sums_of(alloc, network, most)?;
+    let sums = sums_of(alloc, network, most_of_sums)?;
     if !relax && sums.is_empty() {
         return Ok(None);
     }
     let mut joiner = Joiner::new(alloc, network)?;
     if relax {
-        joiner.relax_and_join(alloc, network, sums)?;
+        joiner.relax_and_join(alloc, network, sums, most)?;
     } else {
         joiner.add_sums(sums);
     }

@@ -1,5 +1,7 @@
 //! The parts of a stage.
 ghost use Rattle.std.specs.Prelude.{IfOk};
+ghost use Rattle.ncl_decomp.specs.Split.{IsSplit};
+ghost use Rattle.ncl_cells.specs.Remade.{IsSameAs};
 ghost use Rattle.ncl_rails.specs.StageParts.{CanBeStage, AreStageParts};
 
 use crate::naming::{names_of_pairs, parts_of_gates};
@@ -19,17 +21,21 @@ pub struct StageParts {
 /// The stage of gates that computes a network between rails of these names: input-complete and observable, so that
 /// it works at every gate delay. Inputs that nothing reads are joined to the first output.
 ///
-/// Near linear in the network. The only error is want of memory.
+/// It may be made of another network with the same answers, where fewer gates come of that and not many more stand one
+/// after another. Near linear in both. The only error is want of memory.
 pub fn stage_parts(
     alloc: Global,
     network: &Network,
+    other: &Network,
     ins: &[NamePair],
     prefix: &[u8],
 ) -> Result<StageParts, Memory>
-    requires { CanBeStage network.now ins.now prefix.now }
+    requires stage { CanBeStage network.now ins.now prefix.now }
+    requires other { IsSplit other.now }
+    requires same { IsSameAs network.now other.now }
     ensures { IfOk result (AreStageParts network.now ins.now prefix.now) }
 {
-    let layout = stage_gates(alloc, network)?;
+    let layout = stage_gates(alloc, network, other)?;
     let cells = parts_of_gates(alloc, ins, prefix, layout.gates.cells())?;
     let outputs = names_of_pairs(alloc, ins, prefix, &layout.outputs)?;
     Ok(StageParts {

@@ -1,6 +1,7 @@
 //! Nodes that are joined with each node that reads them.
 
 use crate::joiner::{Joiner, Pair, State};
+use crate::timing::Timing;
 use ncl_base::Memory;
 use ncl_cells::Leaves;
 use ncl_network::{Network, Signal, SignalSource};
@@ -78,11 +79,12 @@ impl Joiner {
         network: &Network,
         place: u32,
         inner: u32,
+        timing: &Timing,
     ) -> Result<Option<Taker>, Memory> {
         let Some(sources) = self.sources(place as usize, inner) else {
             return Ok(None);
         };
-        let found = self.pair(alloc, network, place as usize, &sources)?;
+        let found = self.pair(alloc, network, place as usize, &sources, timing)?;
         Ok(found.map(|pair| Taker {
             place,
             leaves: sources.leaves(),
@@ -98,10 +100,11 @@ impl Joiner {
         network: &Network,
         inner: u32,
         by: &[u32],
+        timing: &Timing,
     ) -> Result<Vec<Taker>, Memory> {
         let mut takers = Vec::new(alloc);
         for place in by {
-            let Some(taker) = self.taker(alloc, network, *place, inner)? else {
+            let Some(taker) = self.taker(alloc, network, *place, inner, timing)? else {
                 return Ok(takers);
             };
             self.holders
@@ -129,12 +132,13 @@ impl Joiner {
         network: &Network,
         inner: u32,
         by: &[u32],
+        timing: &mut Timing,
     ) -> Result<(), Memory> {
         self.release(inner as usize);
         for place in by {
             self.release(*place as usize);
         }
-        let takers = self.takers(alloc, network, inner, by)?;
+        let takers = self.takers(alloc, network, inner, by, timing)?;
         if takers.len() < by.len() {
             self.take_back(takers, by);
             self.hold(inner as usize);
@@ -142,6 +146,7 @@ impl Joiner {
         }
         for taker in takers {
             self.put(taker.place as usize, taker.leaves, taker.pair);
+            self.settle(taker.place as usize, timing);
         }
         self.drop_node(inner as usize);
         Ok(())
@@ -149,14 +154,19 @@ impl Joiner {
 
     /// Joins nodes that several nodes read with each of these, where all can take them in. What a node read at first is looked at,
     /// not what it comes to read. Near linear in the nodes.
-    pub fn spread_all(&mut self, alloc: Global, network: &Network) -> Result<(), Memory> {
+    pub fn spread_all(
+        &mut self,
+        alloc: Global,
+        network: &Network,
+        timing: &mut Timing,
+    ) -> Result<(), Memory> {
         let readers = self.readers_by_place(alloc)?;
         for (place, by) in readers.iter().enumerate() {
             let Ok(inner) = u32::try_from(place) else {
                 return Ok(());
             };
             if self.only_these_read(SignalSource::Node(inner), by) {
-                self.spread(alloc, network, inner, by)?;
+                self.spread(alloc, network, inner, by, timing)?;
             }
         }
         Ok(())

@@ -61,23 +61,24 @@ fn most_depth(alloc: Global, network: &Network) -> Result<u32, Memory>
     Ok(depth.saturating_add(depth / 10))
 }
 
-/// The gates of a network, or those of another one with the same answers, where these are fewer and not too deep.
+/// The gates of a network, or those of another one with the same answers, where these are fewer and not too deep. What the nodes of
+/// the other one wait for is told or found.
 fn better_gates(
     alloc: Global,
     network: &Network,
     usual: Layout,
     most: u32,
-    joined: &Network,
-    waits: Vec<Waits>,
+    other: &Network,
+    told: Option<Vec<Waits>>,
 ) -> Result<Layout, Memory>
     requires network { CanHaveGates network.now }
     requires usual { AreGatesOf network.now usual.gates usual.outputs.items }
-    requires joined { IsSplit joined.now }
-    requires same { IsSameAs network.now joined.now }
+    requires other { IsSplit other.now }
+    requires same { IsSameAs network.now other.now }
     ensures gates { IfOk result (λ layout. AreGatesOf network.now layout.gates layout.outputs.items) }
     ensures fewer { IfOk result (λ layout. length layout.gates.cells ≤ length usual.gates.cells) }
 {
-    let layout = gates_of(alloc, joined, Some(waits))?;
+    let layout = gates_of(alloc, other, told)?;
     if layout.gates.cells().len() >= usual.gates.cells().len() {
         return Ok(usual);
     }
@@ -88,7 +89,34 @@ fn better_gates(
     Ok(layout)
 }
 
-/// The gates of a network, or those of another one with the same answers and with some nodes joined, where these are better.
+/// The gates of a network, or those of another one with the same answers and with some nodes joined, where these are better. Nodes
+/// are joined such that so many gates stand one after another, as is reckoned.
+fn joined_within(
+    alloc: Global,
+    network: &Network,
+    usual: Layout,
+    most: u32,
+    other: &Network,
+    reckoned: u32,
+) -> Result<Layout, Memory>
+    requires network { CanHaveGates network.now }
+    requires usual { AreGatesOf network.now usual.gates usual.outputs.items }
+    requires other { IsSplit other.now }
+    requires same { IsSameAs network.now other.now }
+    ensures gates { IfOk result (λ layout. AreGatesOf network.now layout.gates layout.outputs.items) }
+    ensures fewer { IfOk result (λ layout. length layout.gates.cells ≤ length usual.gates.cells) }
+{
+    let Some(Joins { offers, waits }) = joins_of(alloc, other, most, reckoned)? else {
+        return Ok(usual);
+    };
+    match recast(alloc, other, &offers)? {
+        Some(joined) => better_gates(alloc, network, usual, most, &joined, Some(waits)),
+        None => Ok(usual),
+    }
+}
+
+/// The same, where nodes are joined as if any number of gates might stand one after another, or where fewer gates come of it as
+/// if no more might than may.
 fn joined_gates(
     alloc: Global,
     network: &Network,
@@ -103,45 +131,70 @@ fn joined_gates(
     ensures gates { IfOk result (λ layout. AreGatesOf network.now layout.gates layout.outputs.items) }
     ensures fewer { IfOk result (λ layout. length layout.gates.cells ≤ length usual.gates.cells) }
 {
-    let Some(Joins { offers, waits }) = joins_of(alloc, other, most)? else {
-        return Ok(usual);
-    };
-    match recast(alloc, other, &offers)? {
-        Some(joined) => better_gates(alloc, network, usual, most, &joined, waits),
-        None => Ok(usual),
-    }
+    let joined = joined_within(alloc, network, usual, most, other, u32::MAX)?;
+    joined_within(alloc, network, joined, most, other, most)
 }
 
-/// The gates of a network, or those of the network with its carries before its sums and with some nodes joined, where these are
-/// better.
+/// The gates of a network, or those of another one with the same answers, with its carries before its sums and with some nodes
+/// joined, where these are better.
 fn summed_gates(
     alloc: Global,
     network: &Network,
     usual: Layout,
     most: u32,
+    other: &Network,
 ) -> Result<Layout, Memory>
     requires network { CanHaveGates network.now }
     requires usual { AreGatesOf network.now usual.gates usual.outputs.items }
+    requires other { IsSplit other.now }
+    requires same { IsSameAs network.now other.now }
     ensures gates { IfOk result (λ layout. AreGatesOf network.now layout.gates layout.outputs.items) }
     ensures fewer { IfOk result (λ layout. length layout.gates.cells ≤ length usual.gates.cells) }
 {
-    if sums_of(alloc, network, most)?.is_empty() {
+    if sums_of(alloc, other, most)?.is_empty() {
         return Ok(usual);
     }
-    let order = carries_first(alloc, network)?;
-    match reordered(alloc, network, &order)? {
-        Some(other) => joined_gates(alloc, network, usual, most, &other),
+    let order = carries_first(alloc, other)?;
+    match reordered(alloc, other, &order)? {
+        Some(turned) => joined_gates(alloc, network, usual, most, &turned),
         None => Ok(usual),
     }
 }
 
-/// Gates that compute a network. Near linear in the network. The only error is want of memory.
-pub(crate) fn stage_gates(alloc: Global, network: &Network) -> Result<Layout, Memory>
-    requires { CanHaveGates network.now }
+/// The gates of a network, or those of another one with the same answers and with some nodes joined, where these are better.
+fn best_gates(
+    alloc: Global,
+    network: &Network,
+    usual: Layout,
+    most: u32,
+    other: &Network,
+) -> Result<Layout, Memory>
+    requires network { CanHaveGates network.now }
+    requires usual { AreGatesOf network.now usual.gates usual.outputs.items }
+    requires other { IsSplit other.now }
+    requires same { IsSameAs network.now other.now }
+    ensures gates { IfOk result (λ layout. AreGatesOf network.now layout.gates layout.outputs.items) }
+    ensures fewer { IfOk result (λ layout. length layout.gates.cells ≤ length usual.gates.cells) }
+{
+    let joined = joined_gates(alloc, network, usual, most, other)?;
+    summed_gates(alloc, network, joined, most, other)
+}
+
+/// Gates that compute a network: its own, or those of another one with the same answers, where these are fewer and at most a
+/// tenth deeper than where all nodes of the first wait for all. Near linear in both. The only error is want of memory.
+pub(crate) fn stage_gates(
+    alloc: Global,
+    network: &Network,
+    other: &Network,
+) -> Result<Layout, Memory>
+    requires network { CanHaveGates network.now }
+    requires other { IsSplit other.now }
+    requires same { IsSameAs network.now other.now }
     ensures { IfOk result (λ layout. AreGatesOf network.now layout.gates layout.outputs.items) }
 {
     let usual = gates_of(alloc, network, None)?;
     let most = most_depth(alloc, network)?;
-    let joined = joined_gates(alloc, network, usual, most, network)?;
-    summed_gates(alloc, network, joined, most)
+    let found = best_gates(alloc, network, usual, most, network)?;
+    let found = better_gates(alloc, network, found, most, other, None)?;
+    best_gates(alloc, network, found, most, other)
 }

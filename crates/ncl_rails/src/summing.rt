@@ -134,15 +134,13 @@ pub(crate) struct Sum {
     pub node: Node,
 }
 
-/// A network, its nodes of three inputs, how many signals are of each input and node, and how many nodes stand one after another
-/// and may.
+/// A network, its nodes of three inputs, how many signals are of each input and node, and how many gates stand one after another.
 #[derive(Drop)]
 struct Finder<'a> {
     network: &'a Network,
     carries: BTreeMap<Triple, u32>,
     readers: Holders,
     timing: Timing,
-    most: u32,
 }
 
 impl<'a> Finder<'a> {
@@ -179,7 +177,7 @@ impl<'a> Finder<'a> {
         let Some(carry) = self.carries.get(&triple).copied() else {
             return Ok(None);
         };
-        if !self.timing.may_read(place, carry, self.most) {
+        if !self.timing.is_in_time(place, &[carried(carry)], 1) {
             return Ok(None);
         }
         let own = table_over(alloc, self.network, number, sources.leaves())?;
@@ -220,6 +218,14 @@ impl<'a> Finder<'a> {
     }
 }
 
+/// The signal of a carry.
+fn carried(carry: u32) -> Signal {
+    Signal {
+        from: SignalSource::Node(carry),
+        inverted: false,
+    }
+}
+
 /// A sum over three sources and their carry.
 fn sum_of(
     alloc: Global,
@@ -231,11 +237,7 @@ fn sum_of(
 ) -> Result<Option<Sum>, Memory> {
     let leaves = sources.leaves();
     let mut sources = sources;
-    let read = Signal {
-        from: SignalSource::Node(carry),
-        inverted: false,
-    };
-    if !sources.add_all(&[read], SignalSource::Const(false)) {
+    if !sources.add_all(&[carried(carry)], SignalSource::Const(false)) {
         return Ok(None);
     }
     let node = node_of(alloc, &sources, table)?;
@@ -248,25 +250,25 @@ fn sum_of(
     }))
 }
 
-/// The sums of a network that can be made beside carries, such that no more than so many nodes stand one after another: parities of
+/// The sums of a network that can be made beside carries, such that no more than so many gates stand one after another: parities of
 /// three sources, of two nodes of which one reads the other and nothing else does, where another node is a majority of the same
 /// three. Near linear in the network. The only error is want of memory.
 pub(crate) fn sums_of(alloc: Global, network: &Network, most: u32) -> Result<Vec<Sum>, Memory> {
+    let own = vec![in alloc; 1u32; network.nodes.items().len()]?;
     let mut finder = Finder {
         network,
         carries: nodes_of_three(alloc, network)?,
         readers: Holders::of(alloc, network)?,
-        timing: Timing::of(alloc, network)?,
-        most,
+        timing: Timing::of(alloc, network, &own, most)?,
     };
     let mut sums = Vec::new(alloc);
     for (place, node) in network.nodes.items().iter().enumerate() {
         match finder.sum_at(alloc, place)? {
             Some(sum) => {
-                finder.timing.settle(place, sum.node.ins.items());
+                finder.timing.settle(place, sum.node.ins.items(), 1);
                 sums.push(sum)?;
             }
-            None => finder.timing.settle(place, node.ins.items()),
+            None => finder.timing.settle(place, node.ins.items(), 1),
         }
     }
     Ok(sums)

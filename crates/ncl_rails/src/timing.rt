@@ -1,14 +1,23 @@
-//! How many nodes stand one after another, before and behind each node.
+//! How many gates stand one after another, before and behind each node.
 
 use ncl_base::Memory;
 use ncl_network::{Network, Signal, SignalSource};
 use std::alloc::Global;
 
-/// For each node of a network how many nodes stand one after another up to it, and behind it.
+/// For each node of a network how many gates stand one after another up to its rails, and behind them.
 #[derive(Drop)]
 pub(crate) struct Timing {
     levels: Vec<u32>,
     behind: Vec<u32>,
+    most: u32,
+}
+
+/// The number at a place, or 0 where there is none.
+fn at(numbers: &[u32], place: usize) -> u32 {
+    match numbers.get(place) {
+        Some(number) => *number,
+        None => 0,
+    }
 }
 
 /// Raises what nodes that are read have behind them.
@@ -22,59 +31,55 @@ fn raise(behind: &mut [u32], signals: &[Signal], least: u32) {
     }
 }
 
-/// How many nodes stand one after another behind each node. Linear in the network.
-fn behind_of(alloc: Global, network: &Network) -> Result<Vec<u32>, Memory> {
+/// How many gates stand one after another behind each node, where each node has so many itself. Linear in the network.
+fn behind_of(alloc: Global, network: &Network, own: &[u32]) -> Result<Vec<u32>, Memory> {
     let nodes = network.nodes.items();
     let mut behind = vec![in alloc; 0u32; nodes.len()]?;
     for (place, node) in nodes.iter().enumerate().rev() {
-        let own = match behind.get(place) {
-            Some(own) => *own,
-            None => 0,
-        };
-        raise(&mut behind, node.ins.items(), own.saturating_add(1));
+        let least = at(&behind, place).saturating_add(at(own, place));
+        raise(&mut behind, node.ins.items(), least);
     }
     Ok(behind)
 }
 
 impl Timing {
-    /// Of a network as it stands. Linear in it.
-    pub fn of(alloc: Global, network: &Network) -> Result<Timing, Memory> {
+    /// Of a network whose nodes have so many gates one after another, and which may have so many in all. Linear in it.
+    pub fn of(alloc: Global, network: &Network, own: &[u32], most: u32) -> Result<Timing, Memory> {
         let levels = vec![in alloc; 0u32; network.nodes.items().len()]?;
-        let behind = behind_of(alloc, network)?;
-        let mut timing = Timing { levels, behind };
+        let behind = behind_of(alloc, network, own)?;
+        let mut timing = Timing {
+            levels,
+            behind,
+            most,
+        };
         for (place, node) in network.nodes.items().iter().enumerate() {
-            timing.settle(place, node.ins.items());
+            timing.settle(place, node.ins.items(), at(own, place));
         }
         Ok(timing)
     }
 
-    /// How many nodes stand one after another up to a node.
-    fn level(&self, place: usize) -> u32 {
-        match self.levels.get(place) {
-            Some(level) => *level,
-            None => 0,
-        }
-    }
-
-    /// Sets the level of a node: one more than the highest that it reads.
-    pub fn settle(&mut self, place: usize, signals: &[Signal]) {
+    /// How many gates stand one after another up to the rails of a node that reads these and has so many itself.
+    fn level(&self, signals: &[Signal], own: u32) -> u32 {
         let mut highest = 0u32;
         for signal in signals {
             if let SignalSource::Node(read) = signal.from {
-                highest = highest.max(self.level(read as usize));
+                highest = highest.max(at(&self.levels, read as usize));
             }
         }
-        if let Some(level) = self.levels.get_mut(place) {
-            *level = highest.saturating_add(1);
+        highest.saturating_add(own)
+    }
+
+    /// Sets the level of a node.
+    pub fn settle(&mut self, place: usize, signals: &[Signal], own: u32) {
+        let level = self.level(signals, own);
+        if let Some(known) = self.levels.get_mut(place) {
+            *known = level;
         }
     }
 
-    /// Whether no more than so many nodes stand one after another where a node also reads another.
-    pub fn may_read(&self, place: usize, other: u32, most: u32) -> bool {
-        let own = self.level(other as usize).saturating_add(1);
-        match self.behind.get(place) {
-            Some(behind) => own.saturating_add(*behind) <= most,
-            None => false,
-        }
+    /// Whether no more gates than may stand one after another where a node reads these and has so many itself.
+    pub fn is_in_time(&self, place: usize, signals: &[Signal], own: u32) -> bool {
+        let level = self.level(signals, own);
+        level.saturating_add(at(&self.behind, place)) <= self.most
     }
 }

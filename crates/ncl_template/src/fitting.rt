@@ -218,6 +218,17 @@ pub fn least_waits(node: &Node, waits: Waits) -> Waits {
     }
 }
 
+/// How many gates stand one after another at most in those of a node that waits for these: one, and one more where there
+/// is an inner gate. Where the table has none for it, what its own template has. Linear in the rows of the node.
+pub fn levels(node: &Node, waits: Waits) -> u32 {
+    match fitting(node, waits) {
+        Some(form) if form.inner.is_some() => 2,
+        Some(_) => 1,
+        None if node.ins.items().len() <= 2 => 1,
+        None => 3,
+    }
+}
+
 /// Gates that the table has for a function: for which inputs they wait, and how many transistors they take.
 #[derive(Clone, Copy, Debug, PartialEq, Eq)]
 pub struct Offer {

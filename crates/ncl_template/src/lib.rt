@@ -19,6 +19,6 @@ mod turning;
 mod waits;
 
 pub use eager::add_waiting;
-pub use fitting::{Offer, least_waits, offered};
+pub use fitting::{Offer, least_waits, levels, offered};
 pub use joint::waits_with_last;
 pub use waits::Waits;

@@ -1,5 +1,5 @@
 use Rattle.ncl_rails.proofs.GatesLaws.{IsSameAs-itself}
 use Rattle.ncl_rails.proofs.stage_gates.stage_gates.Goals as goal
 
-pub joined_gates-requires-clause-same : goal.joined_gates-requires-clause-same
-joined_gates-requires-clause-same c = IsSameAs-itself c.args.network.now
+pub best_gates-requires-clause-same : goal.best_gates-requires-clause-same
+best_gates-requires-clause-same c = IsSameAs-itself c.args.network.now

@@ -1,7 +1,7 @@
 use Rattle.std.proofs.Common.{subst, IfSome}
 use Rattle.ncl_cells.specs.Remade.{IsSameAs}
 use Rattle.ncl_rails.proofs.GatesLaws.{IsSameAs-then}
-use Rattle.ncl_rails.proofs.stage_gates.joined_gates.Goals as goal
+use Rattle.ncl_rails.proofs.stage_gates.joined_within.Goals as goal
 
 pub better_gates-requires-clause-same : goal.better_gates-requires-clause-same
 better_gates-requires-clause-same c =

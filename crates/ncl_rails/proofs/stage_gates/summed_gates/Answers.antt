@@ -1,0 +1,9 @@
+use Rattle.std.proofs.Common.{subst, IfSome}
+use Rattle.ncl_cells.specs.Remade.{IsSameAs}
+use Rattle.ncl_rails.proofs.GatesLaws.{IsSameAs-then}
+use Rattle.ncl_rails.proofs.stage_gates.summed_gates.Goals as goal
+
+pub joined_gates-requires-clause-same : goal.joined_gates-requires-clause-same
+joined_gates-requires-clause-same c =
+    let turned = c.in-Some.turned in
+    IsSameAs-then c.args.network.now c.args.other.now turned c.requires.same (subst (λ found. IfSome found (IsSameAs c.args.other.now)) c.in-Some.is c.in_ok-turned.ensures.same)

@@ -5,7 +5,7 @@ ghost use Rattle.ncl_decomp.specs.Split.{IsSplit, cost_of_network};
 
 use ncl_base::{MOST_BYTES, Memory};
 use ncl_blif::{Model, read_blif};
-use ncl_cells::improve;
+use ncl_cells::{Prices, improve};
 use ncl_decomp::split;
 use ncl_network::{Network, SignalSource, reduce};
 use std::alloc::Global;
@@ -39,7 +39,7 @@ fn improved(rt: &(impl Abort + AllocGlobal), text: &str) -> Result<Network, Fail
     let models = models_of(rt, text)?;
     assert!(rt; models.len() == 1);
     let network = split_model(rt, &models[0])?;
-    Ok(improve(rt.alloc(), network, BOUND)?)
+    Ok(improve(rt.alloc(), network, BOUND, Prices::EAGER)?)
 }
 
 /// How many nodes of two, three and four inputs there are.

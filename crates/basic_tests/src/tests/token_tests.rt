@@ -6,23 +6,28 @@ use ncl_token::{Token, TokenFault, TokenKind, Tokens};
 use std::process::Abort;
 use std::test::Fail;
 
-/// Reads a text to its end or its bad byte, and asks there once more.
-fn check(rt: &impl Abort, text: &[u8], want: &[(TokenKind, usize, usize)], bad: Option<usize>) {
-    let mut tokens = Tokens::new(text);
+/// Whether the next tokens are these.
+fn come(tokens: &mut Tokens<'_>, want: &[(TokenKind, usize, usize)]) -> bool {
     for (kind, start, end) in want {
         let token = Token {
             kind: *kind,
             start: *start,
             end: *end,
         };
-        assert_eq!(rt; tokens.next(), Ok(Some(token)), "in {text:?}");
+        if tokens.next() != Ok(Some(token)) {
+            return false;
+        }
     }
-    let stop = match bad {
-        None => Ok(None),
-        Some(place) => Err(TokenFault::BadByte(place)),
-    };
-    assert_eq!(rt; tokens.next(), stop, "at the end of {text:?}");
-    assert_eq!(rt; tokens.next(), stop, "once more at the end of {text:?}");
+    true
+}
+
+/// Reads a text to its end or its bad byte, and asks there once more.
+fn check(rt: &impl Abort, text: &[u8], want: &[(TokenKind, usize, usize)], bad: Option<usize>) {
+    let mut tokens = Tokens::new(text);
+    let found = come(&mut tokens, want);
+    let stop = bad.map_or(Ok(None), |place| Err(TokenFault::BadByte(place)));
+    let stops = tokens.next() == stop && tokens.next() == stop;
+    assert!(rt; found && stops, "{text:?}");
 }
 
 #[test]

@@ -14,13 +14,15 @@ import sys
 
 TOP = pathlib.Path(__file__).resolve().parent.parent
 LINE = re.compile(r"^(\w+)[^:#]*:(.*)$", re.MULTILINE)
-FILES = ("src/**/*.rt", "specs/**/*.antt", "proofs/**/*.antt", "must-fail/*.edit")
+# The files that name crates, and how their comments begin.
+FILES = {"src/**/*.rt": "//", "specs/**/*.antt": "--", "proofs/**/*.antt": "--", "must-fail/*.edit": "//"}
 
 
 def used(crate):
     """The words of a crate's files."""
-    paths = [path for files in FILES for path in (TOP / "crates" / crate).glob(files)]
-    return {word for path in paths for word in re.findall(r"\w+", re.sub(r"//.*", "", path.read_text()))}
+    texts = [re.sub(rf"(?<!\S){begin}.*", "", path.read_text())
+             for files, begin in FILES.items() for path in (TOP / "crates" / crate).glob(files)]
+    return {word for text in texts for word in re.findall(r"\w+", text)}
 
 
 def main():

@@ -12,6 +12,12 @@ use std::marker::Model;
 // How many buckets there are at first.
 const FIRST_BUCKETS: usize = 1 << 8;
 
+// The most keys that one operation may meet. With their buckets and answers so many take some 170 MB.
+const MOST_KEYS: usize = 1 << 22;
+
+// The most keys of an operation whose room is kept for the next one.
+pub(crate) const MOST_KEPT: usize = 1 << 16;
+
 /// A bucket: in the round of this number it has the index of a key, in each other it is free.
 #[derive(Clone, Copy, Debug)]
 pub(crate) struct Bucket {
@@ -63,7 +69,7 @@ fn filled(alloc: Global, keys: &[Key], round: u32, count: usize) -> Result<Vec<B
 {
     let mut buckets = Vec::from_elem(alloc, Bucket { round: 0, index: 0 }, count)?;
     'filling: for index in 0..keys.len() {
-        if index > u32::MAX as usize {
+        if index >= MOST_KEYS {
             return Err(SpaceFault::Memory);
         }
         let key = keys[index];
@@ -79,7 +85,7 @@ fn filled(alloc: Global, keys: &[Key], round: u32, count: usize) -> Result<Vec<B
     Ok(buckets)
 }
 
-// Puts a key last, with its index in the free bucket where its walk ends.
+// Puts a key last, with its index in the free bucket where its walk ends. Past the most keys it answers `Memory`.
 fn put(
     keys: &mut Vec<Key>,
     buckets: &mut Vec<Bucket>,
@@ -98,7 +104,7 @@ fn put(
     ensures never_full { result ≢ Err SpaceFault.Full }
 {
     let index = keys.len();
-    if index > u32::MAX as usize {
+    if index >= MOST_KEYS {
         return Err(SpaceFault::Memory);
     }
     keys.push(key)?;
@@ -188,16 +194,15 @@ impl Keys {
         Ok(())
     }
 
-    /// Forgets the keys, of which no two were one. The buckets are free in the next round.
+    /// Forgets the keys, of which no two were one. The buckets are free in the next round, or go where there were many keys.
     pub(crate) fn clear(&mut self)
         ensures none { self.new ≡ [] }
         ensures distinct { IsDistinct is_key self.old }
     {
-        self.keys.truncate(0);
-        if self.round == u32::MAX {
-            self.buckets.truncate(0);
-            self.round = 1;
+        if self.keys.len() > MOST_KEPT || self.round == u32::MAX {
+            *self = Keys::new(self.alloc);
         } else {
+            self.keys.truncate(0);
             self.round += 1;
         }
     }

@@ -4,7 +4,7 @@ ghost use Rattle.std.specs.List.{IsDistinct};
 ghost use Rattle.ncl_diagram.specs.Memo.{IsKeyPut, MayAdd, is_key};
 ghost use Rattle.ncl_diagram.specs.Keys.{hash_of};
 
-use crate::keys::Keys;
+use crate::keys::{Keys, MOST_KEPT};
 use ncl_space::{Ref, SpaceFault};
 use std::alloc::Global;
 
@@ -84,5 +84,6 @@ impl Memo {
     {
         self.keys.clear();
         self.found.truncate(0);
+        self.found.shrink_to(MOST_KEPT);
     }
 }

@@ -1,9 +1,6 @@
 use Rattle.std.proofs.Common.{◌+◌, arith}
-use Rattle.ncl_diagram.proofs.KeyLaws.{table_none, table_cleared}
+use Rattle.ncl_diagram.proofs.KeyLaws.{table_cleared}
 use Rattle.ncl_diagram.proofs.keys.Keys.clear.Goals as goal
-
-pub invariant_of-self : goal.invariant_of-self
-invariant_of-self c = rw (c.truncate.ensures.items, c.truncate-then-self.ensures.items) table_none
 
 pub invariant_of-self-else-self : goal.invariant_of-self-else-self
 invariant_of-self-else-self c =

@@ -1,5 +1,7 @@
 //! The gates.
 ghost use Rattle.std.specs.Prelude.{◌≡◌, ◌≢◌, ℕ, false, [], ◌∷◌, IfNone, IfSome, length, slice_index_or};
+ghost use Rattle.std.specs.List.{find};
+ghost use Rattle.std.specs.Str.{bytes_eq};
 ghost use Rattle.ncl_gates.specs.declared.kind.Kind.{Kind};
 ghost use Rattle.ncl_gates.specs.Bits.{is_set};
 ghost use Rattle.ncl_gates.specs.Dual.{dual_of, is_crossed};
@@ -273,37 +275,15 @@ impl Kind {
         ensures some { IfSome result (λ kind. name_of kind ≡ name.now) }
         ensures none { IfNone result ((kind : Kind) → name_of kind ≢ name.now) }
     {
-        match name {
-            b"TH12" => Some(Kind::Th12),
-            b"TH22" => Some(Kind::Th22),
-            b"TH13" => Some(Kind::Th13),
-            b"TH23" => Some(Kind::Th23),
-            b"TH33" => Some(Kind::Th33),
-            b"TH23w2" => Some(Kind::Th23w2),
-            b"TH33w2" => Some(Kind::Th33w2),
-            b"TH14" => Some(Kind::Th14),
-            b"TH24" => Some(Kind::Th24),
-            b"TH34" => Some(Kind::Th34),
-            b"TH44" => Some(Kind::Th44),
-            b"TH24w2" => Some(Kind::Th24w2),
-            b"TH34w2" => Some(Kind::Th34w2),
-            b"TH44w2" => Some(Kind::Th44w2),
-            b"TH34w3" => Some(Kind::Th34w3),
-            b"TH44w3" => Some(Kind::Th44w3),
-            b"TH24w22" => Some(Kind::Th24w22),
-            b"TH34w22" => Some(Kind::Th34w22),
-            b"TH44w22" => Some(Kind::Th44w22),
-            b"TH54w22" => Some(Kind::Th54w22),
-            b"TH34w32" => Some(Kind::Th34w32),
-            b"TH54w32" => Some(Kind::Th54w32),
-            b"TH44w322" => Some(Kind::Th44w322),
-            b"TH54w322" => Some(Kind::Th54w322),
-            b"THxor0" => Some(Kind::ThXor0),
-            b"THand0" => Some(Kind::ThAnd0),
-            b"TH24comp" => Some(Kind::Th24comp),
-            _ => None,
-        }
+        named(&KINDS, name)
     }
+}
+
+/// The first of these gates that has a name.
+fn named(kinds: &[Kind], name: &[u8]) -> Option<Kind>
+    ensures { result ≡ find (λ kind. bytes_eq (name_of kind) name.now) kinds.now }
+{
+    kinds.iter().copied().find(|kind| kind.name() == name)
 }
 
 /// Whether some input is 1. Linear in the inputs.

@@ -45,23 +45,22 @@ fn fault(
 
 #[test]
 fn loads_in_pieces(rt: HostRuntime) -> Result<(), Fail> {
-    let read = Some(LoadFault::Read);
-    let cases = [
+    static CASES: [(usize, u64, &str, Option<LoadFault>); 10] = [
         (1, NEVER, "a", None),
         (2, NEVER, "a", None),
         (9000, NEVER, "a", None),
         (3, NEVER, "empty", None),
-        (3, NEVER, "absent", read),
-        (3, 1, "a", read),
-        (3, 2, "a", read),
-        (3, 3, "a", read),
-        (3, 4, "a", read),
+        (3, NEVER, "absent", Some(LoadFault::Read)),
+        (3, 1, "a", Some(LoadFault::Read)),
+        (3, 2, "a", Some(LoadFault::Read)),
+        (3, 3, "a", Some(LoadFault::Read)),
+        (3, 4, "a", Some(LoadFault::Read)),
         (3, 5, "a", None),
     ];
-    for (piece, failing, name, wanted) in cases {
+    for (piece, failing, name, wanted) in &CASES {
         let files = files(&rt)?;
-        let fault = fault(&rt, files, name, piece, failing)?;
-        assert!(rt; fault == wanted, "{name} by {piece}");
+        let fault = fault(&rt, files, name, *piece, *failing)?;
+        assert!(rt; fault == *wanted, "{name} by {piece}");
     }
     Ok(())
 }
@@ -116,7 +115,7 @@ fn sink(
 
 #[test]
 fn delivers_in_pieces(rt: HostRuntime) -> Result<(), Fail> {
-    let cases = [
+    static CASES: [(usize, usize, u64, &str, bool, &str); 9] = [
         (9, 9, NEVER, "hello", true, "hello"),
         (5, 2, NEVER, "hello", true, "hello"),
         (4, 3, NEVER, "hello", false, "hell"),
@@ -127,7 +126,7 @@ fn delivers_in_pieces(rt: HostRuntime) -> Result<(), Fail> {
         (0, 1, NEVER, "", true, ""),
         (0, 1, NEVER, "x", false, ""),
     ];
-    for (room, piece, failing, bytes, whole, held) in cases {
+    for &(room, piece, failing, bytes, whole, held) in &CASES {
         let mut sink = sink(&rt, room, piece, failing)?;
         let delivered = deliver(&mut sink, bytes.as_bytes()).is_ok();
         assert!(rt; delivered == whole, "{bytes} into {room} by {piece}");

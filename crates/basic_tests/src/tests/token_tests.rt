@@ -32,7 +32,7 @@ fn check(rt: &impl Abort, text: &[u8], want: &[(TokenKind, usize, usize)], bad: 
 
 #[test]
 fn tokens_of_each_kind(rt: HostRuntime) {
-    let cases: [(&[u8], &[(TokenKind, usize, usize)]); 12] = [
+    static CASES: [(&[u8], &[(TokenKind, usize, usize)]); 12] = [
         (b"", &[]),
         (b"_a$1 B9", &[(Word, 0, 4), (Word, 5, 7)]),
         (
@@ -84,7 +84,7 @@ fn tokens_of_each_kind(rt: HostRuntime) {
             &[(Other, 0, 6), (Comma, 6, 7), (Other, 7, 10)],
         ),
     ];
-    for (text, want) in cases {
+    for &(text, want) in &CASES {
         check(&rt, text, want, None);
     }
 }
@@ -92,7 +92,7 @@ fn tokens_of_each_kind(rt: HostRuntime) {
 /// The example of the document on netlist texts.
 #[test]
 fn tokens_of_a_cell(rt: HostRuntime) {
-    let want = [
+    static WANT: [(TokenKind, usize, usize); 10] = [
         (Word, 0, 4),
         (Word, 5, 7),
         (LParen, 7, 8),
@@ -104,12 +104,12 @@ fn tokens_of_a_cell(rt: HostRuntime) {
         (RParen, 18, 19),
         (Semi, 19, 20),
     ];
-    check(&rt, b"TH12 u1(.A(\\x[0] )); // gate", &want, None);
+    check(&rt, b"TH12 u1(.A(\\x[0] )); // gate", &WANT, None);
 }
 
 #[test]
 fn white_space_comments_and_attributes(rt: HostRuntime) {
-    let cases: [(&[u8], &[(TokenKind, usize, usize)]); 14] = [
+    static CASES: [(&[u8], &[(TokenKind, usize, usize)]); 14] = [
         (b" \t\n\x0c\r", &[]),
         (b"a\r\nb", &[(Word, 0, 1), (Word, 3, 4)]),
         (b"//x\r\ny", &[(Word, 5, 6)]),
@@ -125,14 +125,14 @@ fn white_space_comments_and_attributes(rt: HostRuntime) {
         (b"(* x=1 *)(a", &[(LParen, 9, 10), (Word, 10, 11)]),
         (b"a(*b*)/*c*/d", &[(Word, 0, 1), (Word, 11, 12)]),
     ];
-    for (text, want) in cases {
+    for &(text, want) in &CASES {
         check(&rt, text, want, None);
     }
 }
 
 #[test]
 fn bad_bytes(rt: HostRuntime) {
-    let cases: [(&[u8], usize); 24] = [
+    static CASES: [(&[u8], usize); 24] = [
         (b"/*", 2),
         (b"/*/", 3),
         (b"/* *", 4),
@@ -158,14 +158,14 @@ fn bad_bytes(rt: HostRuntime) {
         (b"$a", 0),
         (b"//\n-", 3),
     ];
-    for (text, bad) in cases {
+    for &(text, bad) in &CASES {
         check(&rt, text, &[], Some(bad));
     }
 }
 
 #[test]
 fn bad_bytes_after_tokens(rt: HostRuntime) {
-    let cases: [(&[u8], &[(TokenKind, usize, usize)], usize); 7] = [
+    static CASES: [(&[u8], &[(TokenKind, usize, usize)], usize); 7] = [
         (b"a /*", &[(Word, 0, 1)], 4),
         (b"a/", &[(Word, 0, 1)], 1),
         (b"1a$", &[(Other, 0, 2)], 2),
@@ -174,21 +174,21 @@ fn bad_bytes_after_tokens(rt: HostRuntime) {
         (b"a\"\n", &[(Word, 0, 1)], 3),
         (b"\\a b\x00", &[(Escaped, 0, 3), (Word, 3, 4)], 4),
     ];
-    for (text, want, bad) in cases {
+    for &(text, want, bad) in &CASES {
         check(&rt, text, want, Some(bad));
     }
 }
 
 #[test]
 fn names(rt: HostRuntime) -> Result<(), Fail> {
-    let cases: [(&[u8], &[u8]); 5] = [
+    static CASES: [(&[u8], &[u8]); 5] = [
         (b" ab(", b"ab"),
         (b"\\a+b c", b"a+b"),
         (b"\\x\n", b"x"),
         (b"\"a b\"", b"\"a b\""),
         (b"(", b"("),
     ];
-    for (text, name) in cases {
+    for &(text, name) in &CASES {
         let mut tokens = Tokens::new(text);
         let token = tokens.next()?.ok_or("a token")?;
         assert_eq!(rt; tokens.text(&token), name, "of {text:?}");

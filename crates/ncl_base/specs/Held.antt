@@ -31,18 +31,22 @@ bytes_in (Some file) = file.bytes
 abbrev pub bytes_at : List MemFile → ℕ → List ℕ
 bytes_at files place = bytes_in (slice_get files place)
 
--- held files, and the rest of the one that was begun; the bytes that its reads have given so far
+-- held files, and the rest of the one that was begun; the bytes that its reads have given so far, and how
+-- many times a file was to be begun
 pub record SteadySourceData : Type 0 where
   pub files : Files
   pub left : List ℕ
   pub given : ℕ
+  pub opens : ℕ
 
--- held files and the rest of the one that was begun; the bytes that its reads have given so far, and the
--- most bytes of a read; the numbers of the calls that fail; the calls so far, and how many of them failed
+-- held files and the rest of the one that was begun; the bytes that its reads have given so far, how many
+-- times a file was to be begun, and the most bytes of a read; the numbers of the calls that fail; the calls
+-- so far, and how many of them failed
 pub record MemSourceData : Type 0 where
   pub files : Files
   pub left : List ℕ
   pub given : ℕ
+  pub opens : ℕ
   pub piece : ℕ
   pub failing : List ℕ
   pub calls : ℕ

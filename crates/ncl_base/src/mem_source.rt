@@ -30,6 +30,7 @@ impl Model for MemSource {
       files = s.held.files;
       left = s.held.left;
       given = s.held.given;
+      opens = s.held.opens;
       piece = s.piece;
       failing = s.calls.failing.items;
       calls = s.calls.made;
@@ -48,6 +49,7 @@ impl MemSource {
           files = files_of files.items;
           left = [];
           given = 0;
+          opens = 0;
           piece = piece;
           failing = failing.items;
           calls = 0;
@@ -71,6 +73,8 @@ impl Source for MemSource {
 
     ghost given = { λ s. s.given };
 
+    ghost opens = { λ s. s.opens };
+
     ghost allowed = { λ s name. true };
 
     ghost begun = { λ s. true };
@@ -85,10 +89,12 @@ impl Source for MemSource {
             ↔ IsTrue (next_fails self.old.failing self.old.calls || not (has_file self.old.files name.now)) }
         ensures begun { OnOk result (self.new ≡ record self.old {
           left = bytes_of self.old.files name.now;
+          opens = next_count self.old.opens;
           calls = next_count self.old.calls;
         }) }
         ensures failed { OnErr result (self.new ≡ record self.old {
           left = [];
+          opens = next_count self.old.opens;
           calls = next_count self.old.calls;
           faults = next_count self.old.faults;
         }) }

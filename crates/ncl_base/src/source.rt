@@ -39,6 +39,9 @@ pub trait Source {
     /// How many bytes the reads have given so far.
     ghost given: { Self → ℕ };
 
+    /// How many times a file was to be begun so far.
+    ghost opens: { Self → ℕ };
+
     /// The names that may be begun.
     ghost allowed: { Self → List ℕ → Bool };
 
@@ -53,6 +56,7 @@ pub trait Source {
         ensures none_left { OnErr result (IfSome (left self.new) (λ l. l ≡ [])) }
         ensures begun { OnOk result (IsTrue (begun self.new)) }
         ensures given { given self.new ≡ given self.old }
+        ensures opens { opens self.new ≡ raised (opens self.old) 1 }
         ensures files { files self.new ≡ files self.old }
         ensures faults { faults self.old ≤ faults self.new }
         ensures allowed { allowed self.new ≡ allowed self.old };
@@ -67,6 +71,7 @@ pub trait Source {
         ensures given { IfOk result (λ n. given self.new ≡ raised (given self.old) n) }
         ensures kept { OnErr result (left self.new ≡ left self.old) }
         ensures given_kept { OnErr result (given self.new ≡ given self.old) }
+        ensures opens { opens self.new ≡ opens self.old }
         ensures begun { begun self.new ≡ begun self.old }
         ensures files { files self.new ≡ files self.old }
         ensures faults { faults self.old ≤ faults self.new }
@@ -100,6 +105,7 @@ pub fn load<S: Source>(alloc: Global, source: &mut S, name: &str) -> Result<Vec<
         → S.given source.new ≡ raised (S.given source.old) (MOST_BYTES + 1) }
     ensures few { S.given source.new ≤ S.given source.old + (MOST_BYTES + 1) }
     ensures fewer { IsErrOf result LoadFault.Read → S.given source.new ≤ S.given source.old + MOST_BYTES }
+    ensures once { S.opens source.new ≡ raised (S.opens source.old) 1 }
     ensures files { S.files source.new ≡ S.files source.old }
     ensures faults { S.faults source.old ≤ S.faults source.new }
     ensures allowed { S.allowed source.new ≡ S.allowed source.old }

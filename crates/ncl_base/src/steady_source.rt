@@ -1,7 +1,7 @@
 //! A source that never fails.
 ghost use Rattle.std.specs.Prelude.{◌≡◌, ℕ, ◌<◌, ◌≤◌, ◌++◌, [], length, take, drop, min, nat_lt, Some, true, IsOk, IfOk};
 ghost use Rattle.ncl_base.specs.Files.{bytes_of, raised};
-ghost use Rattle.ncl_base.specs.Held.{files_of, has_file, bytes_at};
+ghost use Rattle.ncl_base.specs.Held.{files_of, has_file, bytes_at, next_count};
 
 use crate::mem_file::MemFile;
 use crate::source::{Failed, Source};
@@ -17,6 +17,7 @@ pub struct SteadySource {
     file: usize,
     place: usize,
     given: u64,
+    opens: u64,
 }
 
 impl Model for SteadySource {
@@ -29,18 +30,20 @@ impl Model for SteadySource {
       files = files_of s.files.items;
       left = drop s.place (bytes_at s.files.items s.file);
       given = s.given;
+      opens = s.opens;
     } };
 }
 
 impl SteadySource {
     /// A source of these files, none of which is begun. Takes no memory.
     pub fn new(files: Vec<MemFile>) -> SteadySource
-        ensures { result ≡ record { files = files_of files.items; left = []; given = 0 } }
+        ensures { result ≡ record { files = files_of files.items; left = []; given = 0; opens = 0 } }
     {
         SteadySource {
             file: files.len(),
             place: 0,
             given: 0,
+            opens: 0,
             files,
         }
     }
@@ -50,17 +53,22 @@ impl SteadySource {
     /// Walks over the files once.
     pub(crate) fn find(&mut self, name: &[u8]) -> bool
         ensures found { result ≡ has_file self.old.files name.now }
-        ensures begun { self.new ≡ record self.old { left = bytes_of self.old.files name.now } }
+        ensures begun { self.new ≡ record self.old {
+          left = bytes_of self.old.files name.now;
+          opens = next_count self.old.opens;
+        } }
     {
+        self.opens = self.opens.saturating_add(1);
         self.place = 0;
         self.file = place_of(&self.files, name);
         self.file < self.files.len()
     }
 
-    /// Leaves nothing of the file that was begun.
+    /// Leaves nothing of the file that was begun, as where one can't be begun.
     pub(crate) fn close(&mut self)
-        ensures { self.new ≡ record self.old { left = [] } }
+        ensures { self.new ≡ record self.old { left = []; opens = next_count self.old.opens } }
     {
+        self.opens = self.opens.saturating_add(1);
         self.file = self.files.len();
     }
 
@@ -128,6 +136,8 @@ impl Source for SteadySource {
 
     ghost given = { λ s. s.given };
 
+    ghost opens = { λ s. s.opens };
+
     ghost allowed = { λ s name. true };
 
     ghost begun = { λ s. true };
@@ -135,7 +145,10 @@ impl Source for SteadySource {
     /// Begins the first file of the name, by one walk over the files.
     fn begin(&mut self, name: &str) -> Result<(), Failed>
         ensures ok { IsOk result }
-        ensures begun { self.new ≡ record self.old { left = bytes_of self.old.files name.now } }
+        ensures begun { self.new ≡ record self.old {
+          left = bytes_of self.old.files name.now;
+          opens = next_count self.old.opens;
+        } }
     {
         self.find(name.as_bytes());
         Ok(())

@@ -137,6 +137,11 @@ files_named (sim netlist delays words vcd) = netlist ∷ delays ∷ words ∷ []
 files_named (matching netlist blif limit) = netlist ∷ blif ∷ []
 files_named (demo bits) = []
 
+-- how many files a command names, and none where there is no command
+abbrev pub count_named : Option Command → ℕ
+count_named None = 0
+count_named (Some command) = length (files_named command)
+
 -- the command's files may be begun
 abbrev pub AllowsFiles : (Text → Bool) → Command → Type 0
 AllowsFiles allowed command = All (λ file. IsTrue (allowed file)) (files_named command)

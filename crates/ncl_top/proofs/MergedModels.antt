@@ -26,8 +26,8 @@ use Rattle.ncl_shape.specs.Pipeline.{PipelineData}
 use Rattle.ncl_shape.specs.SamePipeline.{IsSameStage, IsSamePipeline}
 use Rattle.ncl_shape.specs.Shape.{Shape}
 use Rattle.ncl_shape.proofs.ShapeLaws.{shape_is_one}
-use Rattle.ncl_stage.specs.declared.variant.Variant.TheVariants.{Base}
-use Rattle.ncl_stage.specs.Values.{val}
+use Rattle.ncl_faults.specs.declared.variant.Variant.TheVariants.{Base}
+use Rattle.ncl_faults.specs.Values.{val}
 use Rattle.ncl_compile.specs.Compiled.{ComputesModel, Compiled, IsPlain, net_named}
 use Rattle.ncl_compile.specs.Ports.{names_of_rails}
 use Rattle.ncl_merge.specs.Choice.{is_stage_cell}

@@ -1,5 +1,5 @@
 -- How the parts of a simulation come to its reply.
-use Rattle.std.proofs.Common.{◌≡◌, ◌≢◌, ◌⊎◌, ℕ, ◌≤◌, List, length, Some, inl, inr, sym, subst, arith}
+use Rattle.std.proofs.Common.{◌≡◌, ◌≢◌, ◌⊎◌, ℕ, ◌≤◌, List, length, Some, Result, Ok, Err, inl, inr, sym, subst, arith}
 use Rattle.ncl_base.specs.declared.source.TheConstants.{MOST_BYTES}
 use Rattle.ncl_netlist.specs.Netlist.{NetlistData}
 use Rattle.ncl_delay.specs.Lines.{told_lines}
@@ -16,13 +16,20 @@ use Rattle.ncl_shape.specs.Shape.{Shape}
 use Rattle.ncl_cell_roles.proofs.LaidOut.{laid_out_of}
 use Rattle.ncl_top.specs.declared.reply.Reply.{Reply}
 use Rattle.ncl_top.specs.declared.reply.Reply.TheVariants.{Made, Fixed}
-use Rattle.ncl_top.specs.Replies.{Gives}
+use Rattle.ncl_top.specs.declared.fault.Fault.{Fault}
+use Rattle.ncl_top.specs.Replies.{Gives, Replies}
+use Rattle.ncl_top.proofs.Refusals.{Refuses-weaker}
 use Rattle.ncl_top.specs.Simulating.{AreRefusedDelays, AreRefusedWords, broken_delays, broken_words}
 
 -- a reply that stands in one relation stands in another that follows
 pub gives_from : (relation other : ℕ → List ℕ → Type 0) → ((status : ℕ) (text : List ℕ) → relation status text → other status text) → (r : Reply) → Gives relation r → Gives other r
 gives_from relation other follows (Made status text) h = follows status text.items h
 gives_from relation other follows (Fixed status text) h = follows status text.now h
+
+-- what is replied, or refused, in one relation is so in another that follows
+pub Replies-weaker : (relation other : ℕ → List ℕ → Type 0) → ((status : ℕ) (text : List ℕ) → relation status text → other status text) → (r : Result Reply Fault) → Replies relation r → Replies other r
+Replies-weaker relation other follows (Ok reply) h = gives_from relation other follows reply h
+Replies-weaker relation other follows (Err fault) h = Refuses-weaker (relation 3) (other 3) (λ line. follows 3 line) fault h
 
 -- a pipeline has 1 to 128 inputs
 pub inputs_some : (p : PipelineData) → Shape p.netlist p → (1 ≤ length p.inputs) × (length p.inputs ≤ MOST_BITS)

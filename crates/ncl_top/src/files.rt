@@ -1,10 +1,13 @@
 //! What each command makes of the files that it names.
-ghost use Rattle.std.specs.Prelude.{◌≡◌, ◌≤◌, IsErrOf, IsTrue};
+ghost use Rattle.std.specs.Prelude.{◌≡◌, ◌+◌, ◌*◌, ◌≤◌, IfErr, IfOk, IsErrOf, IsTrue};
 ghost use Rattle.ncl_base.specs.Files.{Rose};
+ghost use Rattle.ncl_base.specs.declared.source.TheConstants.{MOST_BYTES};
 ghost use Rattle.ncl_top.specs.Answer.{IsCompiledFile, IsFileReply, status_of};
-ghost use Rattle.ncl_top.specs.Matching.{IsMatchReply};
-ghost use Rattle.ncl_top.specs.Replies.{Replies};
-ghost use Rattle.ncl_top.specs.Simulating.{IsSimReply};
+ghost use Rattle.ncl_reader.specs.GraphicNames.{HasGraphicNames};
+ghost use Rattle.ncl_top.specs.Given.{IsNetlistFile, IsRefusedFile};
+ghost use Rattle.ncl_top.specs.Matching.{IsMatchReply, IsModelsMatched};
+ghost use Rattle.ncl_top.specs.Replies.{Refuses, Replies};
+ghost use Rattle.ncl_top.specs.Simulating.{IsDelaysReply, IsSimReply, IsWordsReply};
 
 use crate::compiling::compile_models;
 use crate::fault::Fault;
@@ -15,6 +18,9 @@ use crate::reply::Reply;
 use crate::simulating::run_reply;
 use ncl_base::Source;
 use ncl_check::{Outcome, check, netlist_in, pipeline_in};
+use ncl_delay::Delays;
+use ncl_netlist::Netlist;
+use ncl_shape::Pipeline;
 use ncl_verdict::Judge;
 use std::alloc::Global;
 use std::thread::Threads;
@@ -38,6 +44,8 @@ pub fn check_file<R: Threads + Sync, S: Source, J: Judge + Sync>(
     ensures files { S.files source.new ≡ S.files source.old }
     ensures allowed { S.allowed source.new ≡ S.allowed source.old }
     ensures faults { S.faults source.old ≤ S.faults source.new }
+    ensures opens { S.opens source.new ≤ S.opens source.old + 1 }
+    ensures given { S.given source.new ≤ S.given source.old + (MOST_BYTES + 1) }
 {
     let bytes = load_file(alloc, source, file, b"netlist: too long\n")?;
     let reply = check(rt, alloc, judge, &bytes, limit, why)?;
@@ -59,6 +67,8 @@ pub fn compile_file<S: Source>(
     ensures files { S.files source.new ≡ S.files source.old }
     ensures allowed { S.allowed source.new ≡ S.allowed source.old }
     ensures faults { S.faults source.old ≤ S.faults source.new }
+    ensures opens { S.opens source.new ≤ S.opens source.old + 1 }
+    ensures given { S.given source.new ≤ S.given source.old + (MOST_BYTES + 1) }
 {
     let bytes = load_file(alloc, source, file, b"blif: too long\n")?;
     let models = models_in(alloc, &bytes)?;
@@ -85,15 +95,12 @@ pub fn sim_files<S: Source>(
     ensures files { S.files source.new ≡ S.files source.old }
     ensures allowed { S.allowed source.new ≡ S.allowed source.old }
     ensures faults { S.faults source.old ≤ S.faults source.new }
+    ensures opens { S.opens source.new ≤ S.opens source.old + 3 }
+    ensures given { S.given source.new ≤ S.given source.old + 3 * (MOST_BYTES + 1) }
 {
-    let bytes = load_file(alloc, source, netlist, b"netlist: too long\n")?;
-    let netlist = netlist_in(alloc, &bytes)?;
+    let netlist = netlist_of(alloc, source, netlist)?;
     let pipeline = pipeline_in(alloc, &netlist)?;
-    let bytes = load_file(alloc, source, delays, b"delays: too long\n")?;
-    let delays = delays_in(alloc, &bytes, &netlist)?;
-    let bytes = load_file(alloc, source, words, b"words: too long\n")?;
-    let words = words_in(alloc, &bytes, &pipeline)?;
-    Ok(run_reply(alloc, &pipeline, &delays, &words, vcd)?)
+    delays_reply(alloc, source, &pipeline, delays, words, vcd)
 }
 
 /// Loads a netlist and models, and replies to `match` of them, where an output may have so many nodes. They are read in
@@ -116,13 +123,101 @@ pub fn match_files<R: Threads + Sync, S: Source>(
     ensures files { S.files source.new ≡ S.files source.old }
     ensures allowed { S.allowed source.new ≡ S.allowed source.old }
     ensures faults { S.faults source.old ≤ S.faults source.new }
+    ensures opens { S.opens source.new ≤ S.opens source.old + 2 }
+    ensures given { S.given source.new ≤ S.given source.old + 2 * (MOST_BYTES + 1) }
 {
-    let bytes = load_file(alloc, source, netlist, b"netlist: too long\n")?;
-    let netlist = netlist_in(alloc, &bytes)?;
+    let netlist = netlist_of(alloc, source, netlist)?;
     let pipeline = pipeline_in(alloc, &netlist)?;
+    models_reply(rt, alloc, source, &pipeline, blif, limit)
+}
+
+/// Loads a netlist. Costs a pass over the bytes, and what reading them costs.
+fn netlist_of<S: Source>(alloc: Global, source: &mut S, file: &str) -> Result<Netlist, Fault>
+    requires { IsTrue (S.allowed source.old file.now) }
+    ensures netlist { IfOk result (IsNetlistFile (S.files source.old) file.now) }
+    ensures refused { IfErr result (Refuses (IsRefusedFile (S.files source.old) file.now)) }
+    ensures read { IsErrOf result Fault.Read → Rose (S.faults source.old) (S.faults source.new) }
+    ensures files { S.files source.new ≡ S.files source.old }
+    ensures allowed { S.allowed source.new ≡ S.allowed source.old }
+    ensures faults { S.faults source.old ≤ S.faults source.new }
+    ensures opens { S.opens source.new ≤ S.opens source.old + 1 }
+    ensures given { S.given source.new ≤ S.given source.old + (MOST_BYTES + 1) }
+{
+    let bytes = load_file(alloc, source, file, b"netlist: too long\n")?;
+    Ok(netlist_in(alloc, &bytes)?)
+}
+
+/// Loads delays and words, and replies to `sim` of a pipeline at them.
+fn delays_reply<S: Source>(
+    alloc: Global,
+    source: &mut S,
+    pipeline: &Pipeline,
+    delays: &str,
+    words: &str,
+    vcd: bool,
+) -> Result<Reply, Fault>
+    requires delays { IsTrue (S.allowed source.old delays.now) }
+    requires words { IsTrue (S.allowed source.old words.now) }
+    requires names { HasGraphicNames pipeline.now.netlist }
+    ensures replies { Replies (IsDelaysReply (S.files source.old) pipeline.now delays.now words.now vcd) result }
+    ensures read { IsErrOf result Fault.Read → Rose (S.faults source.old) (S.faults source.new) }
+    ensures files { S.files source.new ≡ S.files source.old }
+    ensures allowed { S.allowed source.new ≡ S.allowed source.old }
+    ensures faults { S.faults source.old ≤ S.faults source.new }
+    ensures opens { S.opens source.new ≤ S.opens source.old + 2 }
+    ensures given { S.given source.new ≤ S.given source.old + 2 * (MOST_BYTES + 1) }
+{
+    let bytes = load_file(alloc, source, delays, b"delays: too long\n")?;
+    let delays = delays_in(alloc, &bytes, pipeline.netlist())?;
+    words_reply(alloc, source, pipeline, &delays, words, vcd)
+}
+
+/// Loads words, and replies to `sim` of a pipeline at some delays over them.
+fn words_reply<S: Source>(
+    alloc: Global,
+    source: &mut S,
+    pipeline: &Pipeline,
+    delays: &Delays,
+    words: &str,
+    vcd: bool,
+) -> Result<Reply, Fault>
+    requires words { IsTrue (S.allowed source.old words.now) }
+    requires names { HasGraphicNames pipeline.now.netlist }
+    ensures replies { Replies (IsWordsReply (S.files source.old) pipeline.now delays.now words.now vcd) result }
+    ensures read { IsErrOf result Fault.Read → Rose (S.faults source.old) (S.faults source.new) }
+    ensures files { S.files source.new ≡ S.files source.old }
+    ensures allowed { S.allowed source.new ≡ S.allowed source.old }
+    ensures faults { S.faults source.old ≤ S.faults source.new }
+    ensures opens { S.opens source.new ≤ S.opens source.old + 1 }
+    ensures given { S.given source.new ≤ S.given source.old + (MOST_BYTES + 1) }
+{
+    let bytes = load_file(alloc, source, words, b"words: too long\n")?;
+    let words = words_in(alloc, &bytes, pipeline)?;
+    Ok(run_reply(alloc, pipeline, delays, &words, vcd)?)
+}
+
+/// Loads models, and replies to `match` of a pipeline and them, where an output may have so many nodes.
+fn models_reply<R: Threads + Sync, S: Source>(
+    rt: &R,
+    alloc: Global,
+    source: &mut S,
+    pipeline: &Pipeline,
+    blif: &str,
+    limit: u32,
+) -> Result<Reply, Fault>
+    requires blif { IsTrue (S.allowed source.old blif.now) }
+    requires limit { 1 ≤ limit }
+    ensures replies { Replies (IsModelsMatched (S.files source.old) pipeline.now blif.now limit) result }
+    ensures read { IsErrOf result Fault.Read → Rose (S.faults source.old) (S.faults source.new) }
+    ensures files { S.files source.new ≡ S.files source.old }
+    ensures allowed { S.allowed source.new ≡ S.allowed source.old }
+    ensures faults { S.faults source.old ≤ S.faults source.new }
+    ensures opens { S.opens source.new ≤ S.opens source.old + 1 }
+    ensures given { S.given source.new ≤ S.given source.old + (MOST_BYTES + 1) }
+{
     let bytes = load_file(alloc, source, blif, b"blif: too long\n")?;
     let models = models_in(alloc, &bytes)?;
-    Ok(match_models(rt, alloc, &pipeline, &models, limit)?)
+    Ok(match_models(rt, alloc, pipeline, &models, limit)?)
 }
 
 /// The status of a check that ends so.

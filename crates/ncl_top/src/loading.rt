@@ -1,5 +1,5 @@
 //! Files, as a command loads them.
-ghost use Rattle.std.specs.Prelude.{◌≡◌, ◌≢◌, ◌≤◌, IfOk, IfErr, IsErrOf, IsTrue, length};
+ghost use Rattle.std.specs.Prelude.{◌≡◌, ◌≢◌, ◌+◌, ◌≤◌, IfOk, IfErr, IsErrOf, IsTrue, length};
 ghost use Rattle.ncl_base.specs.Files.{Rose};
 ghost use Rattle.ncl_base.specs.declared.source.TheConstants.{MOST_BYTES};
 ghost use Rattle.ncl_top.specs.Given.{IsGiven, IsTooLong};
@@ -24,6 +24,8 @@ pub fn load_file<S: Source>(
     ensures files { S.files source.new ≡ S.files source.old }
     ensures allowed { S.allowed source.new ≡ S.allowed source.old }
     ensures faults { S.faults source.old ≤ S.faults source.new }
+    ensures opens { S.opens source.new ≤ S.opens source.old + 1 }
+    ensures given { S.given source.new ≤ S.given source.old + (MOST_BYTES + 1) }
 {
     match load(alloc, source, file) {
         Ok(bytes) => Ok(bytes),

@@ -1,6 +1,7 @@
 //! What a call has to say.
-ghost use Rattle.std.specs.Prelude.{◌≡◌, ◌≤◌, ◌≢◌, [], IsErrOf};
+ghost use Rattle.std.specs.Prelude.{◌≡◌, ◌+◌, ◌*◌, ◌≤◌, ◌≢◌, [], length, IsErrOf};
 ghost use Rattle.ncl_base.specs.Files.{Rose};
+ghost use Rattle.ncl_base.specs.declared.source.TheConstants.{MOST_BYTES};
 ghost use Rattle.ncl_command.specs.Command.{AllowsFiles, HasBits, HasLimit, files_named};
 ghost use Rattle.ncl_command.specs.Meaning.{command_meant};
 ghost use Rattle.ncl_top.specs.Answer.{IsReply};
@@ -43,6 +44,8 @@ pub fn carry_out<R: Threads + Sync, S: Source, J: Judge + Sync>(
     ensures files { S.files source.new ≡ S.files source.old }
     ensures allowed { S.allowed source.new ≡ S.allowed source.old }
     ensures faults { S.faults source.old ≤ S.faults source.new }
+    ensures opens { S.opens source.new ≤ S.opens source.old + length (files_named (command_meant command.entry)) }
+    ensures given { S.given source.new ≤ S.given source.old + length (files_named (command_meant command.entry)) * (MOST_BYTES + 1) }
 {
     match command {
         Command::Check { file, limit, why } => {

@@ -1,6 +1,7 @@
 //! The top call: all that the program does, between a source of files and a sink of bytes.
-ghost use Rattle.std.specs.Prelude.{◌≡◌, ◌≤◌, map};
-ghost use Rattle.ncl_command.specs.Command.{AllowsNamed};
+ghost use Rattle.std.specs.Prelude.{◌≡◌, ◌+◌, ◌*◌, ◌≤◌, map};
+ghost use Rattle.ncl_base.specs.declared.source.TheConstants.{MOST_BYTES};
+ghost use Rattle.ncl_command.specs.Command.{AllowsNamed, command_of, count_named};
 ghost use Rattle.ncl_top.specs.Answer.{Says, CameOut, AcceptsWhatWorks};
 ghost use Rattle.ncl_top.specs.Answered.{IsAnswered};
 ghost use Rattle.ncl_top.specs.Replies.{Gives};
@@ -27,8 +28,9 @@ use std::thread::Threads;
 /// which that is a part. One that is refused isn't delay-insensitive where an input brings the told word to the told
 /// stage, as one always does to the first: `refusal`. What is compiled works too, and `check` accepts it: `compiles`. A
 /// run of a netlist of sound stages ends with status 0 at whatever delays: `simulates`. Models that match a netlist give
-/// what it gives at each word: `matches`. Costs what the command costs, and a pass over the text. Stages are judged, and
-/// outputs compared, by up to four threads.
+/// what it gives at each word: `matches`. A file is begun at most as many times as the arguments name files: `opens`; and
+/// in all no more bytes are read than so many of the longest files have, and one more for each: `given`. Costs what the
+/// command costs, and a pass over the text. Stages are judged, and outputs compared, by up to four threads.
 pub fn run<R: Threads + Sync, S: Source, K: Sink>(
     rt: &R,
     alloc: Global,
@@ -47,6 +49,10 @@ pub fn run<R: Threads + Sync, S: Source, K: Sink>(
         (record { files = S.files source.old; faults = S.faults source.old })
         result }
     ensures allowed { S.allowed source.new ≡ S.allowed source.old }
+    ensures opens { S.opens source.new
+        ≤ S.opens source.old + count_named (command_of (map (λ argument. argument.now) arguments.now)) }
+    ensures given { S.given source.new ≤ S.given source.old
+        + count_named (command_of (map (λ argument. argument.now) arguments.now)) * (MOST_BYTES + 1) }
 {
     run_by(rt, alloc, arguments, source, sink, &Stages)
 }
@@ -68,6 +74,10 @@ pub fn run_by<R: Threads + Sync, S: Source, K: Sink, J: Judge + Sync>(
         (record { written = K.written sink.new; faults = K.faults sink.new })
         result }
     ensures allowed { S.allowed source.new ≡ S.allowed source.old }
+    ensures opens { S.opens source.new
+        ≤ S.opens source.old + count_named (command_of (map (λ argument. argument.now) arguments.now)) }
+    ensures given { S.given source.new ≤ S.given source.old
+        + count_named (command_of (map (λ argument. argument.now) arguments.now)) * (MOST_BYTES + 1) }
 {
     match answer(rt, alloc, arguments, source, judge) {
         Reply::Made(status, text) => tell(sink, status, &text),
@@ -90,6 +100,10 @@ fn answer<R: Threads + Sync, S: Source, J: Judge + Sync>(
     ensures files { S.files source.new ≡ S.files source.old }
     ensures allowed { S.allowed source.new ≡ S.allowed source.old }
     ensures faults { S.faults source.old ≤ S.faults source.new }
+    ensures opens { S.opens source.new
+        ≤ S.opens source.old + count_named (command_of (map (λ argument. argument.now) arguments.now)) }
+    ensures given { S.given source.new ≤ S.given source.old
+        + count_named (command_of (map (λ argument. argument.now) arguments.now)) * (MOST_BYTES + 1) }
 {
     let command = match Command::parse(alloc, arguments) {
         Ok(Some(command)) => command,

@@ -1,8 +1,10 @@
 //! What the process does, from its arguments to its status.
-ghost use Rattle.std.specs.Prelude.{◌≡◌, ℕ, List, [], map, drop, string_bytes, IfOk, IfErr, IsTrue, MatchResult};
+ghost use Rattle.std.specs.Prelude.{◌≡◌, ◌≢◌, [], map, drop, string_bytes, Err, IfOk, IfErr, OnErr, MatchResult};
+ghost use Rattle.ncl_command.specs.Command.{AllowsNamed};
 ghost use Rattle.std.specs.Vec.Iter.{into_iter_items};
 ghost use Rattle.std.specs.IoError.{error_kind};
 ghost use Rattle.std.specs.Process.{exit_status};
+ghost use Rattle.ncl_process.specs.Ended.{Ended};
 ghost use Rattle.ncl_top.specs.Answered.{IsAnswered};
 
 use crate::arguments::{arguments_given, views};
@@ -23,9 +25,42 @@ pub fn process<R>(rt: &R) -> ExitCode
 where
     R: Threads + Sync + Env + Files + Print + AllocGlobal,
 {
-    let mut source = FileSource::new(rt);
-    let mut sink = StdoutSink::new(rt);
-    code_of(answer(rt, env::args(rt), &mut source, &mut sink))
+    answer(
+        rt,
+        env::args(rt),
+        &mut FileSource::new(rt),
+        &mut StdoutSink::new(rt),
+    )
+}
+
+/// Answers these arguments of a command line, the program's name first, from a source of which the files that they name
+/// may be begun.
+///
+/// The code to end with is the status of the top call's answer to the arguments after the program's name. Where one of
+/// them is no text, none of them is asked for. Where there was no memory for the arguments it is 7, and nothing is begun
+/// or written.
+pub fn answer<R, S, K>(rt: &R, args: io::Result<Args>, source: &mut S, sink: &mut K) -> ExitCode
+where
+    R: Threads + Sync + AllocGlobal,
+    S: Source,
+    K: Sink,
+    requires { IfOk args (λ given. AllowsNamed (S.allowed source.old) (map (λ argument. string_bytes argument) (drop 1 (into_iter_items given)))) }
+    ensures answered { IfOk args (λ given. Ended (map (λ argument. string_bytes argument) (drop 1 (into_iter_items given)))
+        (record { files = S.files source.old; faults = S.faults source.old })
+        (record { files = S.files source.new; faults = S.faults source.new })
+        (record { written = K.written sink.old; faults = K.faults sink.old })
+        (record { written = K.written sink.new; faults = K.faults sink.new })
+        ((source.new ≡ source.old) × (sink.new ≡ sink.old)) (exit_status result)) }
+    ensures no_text { IfErr args (λ error. error_kind error ≡ ErrorKind.InvalidData → Ended []
+        (record { files = S.files source.old; faults = S.faults source.old })
+        (record { files = S.files source.new; faults = S.faults source.new })
+        (record { written = K.written sink.old; faults = K.faults sink.old })
+        (record { written = K.written sink.new; faults = K.faults sink.new })
+        ((source.new ≡ source.old) × (sink.new ≡ sink.old)) (exit_status result)) }
+    ensures no_arguments { IfErr args (λ error. error_kind error ≢ ErrorKind.InvalidData
+        → (exit_status result ≡ 7) × ((source.new ≡ source.old) × (sink.new ≡ sink.old))) }
+{
+    code_of(status_for(rt, args, source, sink))
 }
 
 /// The code of this status, whether there was memory for the arguments or not.
@@ -37,11 +72,8 @@ fn code_of(answered: Result<u8, u8>) -> ExitCode
     }
 }
 
-/// Answers these arguments of a command line, the program's name first, from a source of which each file may be begun.
-///
-/// The status to end with is that of the top call's answer to the arguments after the program's name. Where one of them
-/// is no text, none of them is asked for. It is an error where there was no memory for the arguments, and then it is 7.
-pub fn answer<R, S, K>(
+/// The status of the answer to these arguments, or 7 where there was no memory for them.
+fn status_for<R, S, K>(
     rt: &R,
     args: io::Result<Args>,
     source: &mut S,
@@ -51,7 +83,7 @@ where
     R: Threads + Sync + AllocGlobal,
     S: Source,
     K: Sink,
-    requires { (name : List ℕ) → IsTrue (S.allowed source.old name) }
+    requires { IfOk args (λ given. AllowsNamed (S.allowed source.old) (map (λ argument. string_bytes argument) (drop 1 (into_iter_items given)))) }
     ensures answered { IfOk args (λ given. IfOk result (IsAnswered (map (λ argument. string_bytes argument) (drop 1 (into_iter_items given)))
         (record { files = S.files source.old; faults = S.faults source.old })
         (record { files = S.files source.new; faults = S.faults source.new })
@@ -63,6 +95,8 @@ where
         (record { written = K.written sink.old; faults = K.faults sink.old })
         (record { written = K.written sink.new; faults = K.faults sink.new }))) }
     ensures no_memory { IfErr result (λ status. status ≡ 7) }
+    ensures no_arguments { IfErr args (λ error. error_kind error ≢ ErrorKind.InvalidData → result ≡ Err 7) }
+    ensures untouched { OnErr result ((source.new ≡ source.old) × (sink.new ≡ sink.old)) }
 {
     let arguments = arguments_given(rt.alloc(), args)?;
     let arguments = views(rt.alloc(), &arguments)?;

@@ -7,6 +7,7 @@ use std::alloc::Global;
 use std::env::{Env, FillError};
 use std::fmt::Display;
 use std::io::{ErrorKind, Print};
+use std::process::ExitCode;
 use std::rt::Files;
 use std::sync::atomic::{AtomicU64, AtomicUsize, Ordering};
 use std::test::Fail;
@@ -83,8 +84,10 @@ fn length<R: Files>(
 
 #[test]
 fn what_can_not_be_read_is_told(rt: HostRuntime) {
-    let cases: [(&str, Result<usize, LoadFault>); 5] = [
+    let cases: [(&str, Result<usize, LoadFault>); 7] = [
         ("/dev/null", Ok(0)),
+        ("/dev/null ", Err(LoadFault::Read)),
+        (" /dev/null", Err(LoadFault::Read)),
         ("/", Err(LoadFault::Read)),
         ("absent", Err(LoadFault::Read)),
         ("", Err(LoadFault::Read)),
@@ -141,7 +144,7 @@ fn arguments_that_are_no_text_are_of_no_form(rt: HostRuntime) {
     let given = (NoText, rt.alloc());
     let mut source = SteadySource::new(Vec::new(rt.alloc()));
     let answered = answer(&rt, env::args(&given), &mut source, &mut NullSink::new());
-    assert_eq!(rt; answered, Ok(2));
+    assert_eq!(rt; answered, ExitCode::from(2));
 }
 
 #[test]
@@ -149,5 +152,5 @@ fn arguments_without_memory_have_status_7(rt: HostRuntime) {
     let mut source = SteadySource::new(Vec::new(rt.alloc()));
     let args = Err(io::Error::from(ErrorKind::OutOfMemory));
     let answered = answer(&rt, args, &mut source, &mut NullSink::new());
-    assert_eq!(rt; answered, Err(7));
+    assert_eq!(rt; answered, ExitCode::from(7));
 }

@@ -6,8 +6,8 @@ use ncl_base::{Failed, Source};
 use std::fs::File;
 use std::rt::Files;
 
-/// A source of the system's files, of which nothing is told but how many calls have failed and how
-/// many bytes were read.
+/// A source of the system's files, of which nothing is told but how many calls have failed, how
+/// many bytes were read and how many files were to be opened.
 ///
 /// A name is a path. Each call makes at most one call of the system.
 #[derive(Drop)]
@@ -20,7 +20,7 @@ pub struct FileSource<'a, R: Files> {
 impl<'a, R: Files> FileSource<'a, R> {
     /// A source that has begun no file.
     pub fn new(rt: &'a R) -> Self
-        ensures counts { result.tally ≡ record { faults = 0; given = 0 } }
+        ensures counts { result.tally ≡ record { faults = 0; given = 0; opens = 0 } }
         ensures file { result.file ≡ None }
     {
         FileSource {
@@ -39,6 +39,8 @@ impl<'a, R: Files> Source for FileSource<'a, R> {
     ghost faults = { λ source. source.tally.faults };
 
     ghost given = { λ source. source.tally.given };
+
+    ghost opens = { λ source. source.tally.opens };
 
     ghost allowed = { λ source name. true };
 

@@ -7,6 +7,8 @@ mod arguments;
 #[cfg(test)]
 mod edge_tests;
 mod file_source;
+#[cfg(test)]
+mod process_tests;
 mod stdout_sink;
 mod tally;
 

@@ -18,7 +18,7 @@ pub struct StdoutSink<'a, P: Print> {
 impl<'a, P: Print> StdoutSink<'a, P> {
     /// A sink to which nothing was written.
     pub fn new(rt: &'a P) -> Self
-        ensures counts { result.tally ≡ record { faults = 0; given = 0 } }
+        ensures counts { result.tally ≡ record { faults = 0; given = 0; opens = 0 } }
     {
         StdoutSink {
             rt,

@@ -7,23 +7,26 @@ use ncl_base::Failed;
 use std::io;
 use std::io::{Read, Write};
 
-/// How many calls of the system have failed, and how many bytes its reads have given.
+/// How many calls of the system have failed, how many bytes its reads have given, and how many files it was to open.
 #[derive(Clone, Copy, Debug)]
 pub struct Tally {
     /// The calls that failed, which count no further than 2^64 - 1.
     pub faults: u64,
     /// The bytes that were read, which count no further than that either.
     pub given: u64,
+    /// The files that were to be opened, which count no further than that either.
+    pub opens: u64,
 }
 
 impl Tally {
     /// No calls yet.
     pub fn new() -> Tally
-        ensures { result ≡ record { faults = 0; given = 0 } }
+        ensures { result ≡ record { faults = 0; given = 0; opens = 0 } }
     {
         Tally {
             faults: 0,
             given: 0,
+            opens: 0,
         }
     }
 
@@ -36,12 +39,16 @@ impl Tally {
         Failed
     }
 
-    /// The file that the system opened, or `None` where it failed, which is counted.
+    /// The file that the system opened, or `None` where it failed. Both are counted.
     pub fn after_open<F>(&mut self, opened: io::Result<F>) -> Option<F>
-        ensures file { IfOk opened (λ file. (result ≡ Some file) × (self.new ≡ self.old)) }
-        ensures failed { OnErr opened ((result ≡ None) × (self.new ≡ record self.old { faults = raised self.old.faults 1 })) }
+        ensures file { IfOk opened (λ file. (result ≡ Some file) × (self.new ≡ record self.old { opens = raised self.old.opens 1 })) }
+        ensures failed { OnErr opened ((result ≡ None) × (self.new ≡ record self.old {
+          faults = raised self.old.faults 1;
+          opens = raised self.old.opens 1;
+        })) }
         ensures faults { self.old.faults ≤ self.new.faults }
     {
+        self.opens = self.opens.saturating_add(1);
         match opened {
             Ok(file) => Some(file),
             Err(_) => {

@@ -14,7 +14,7 @@ use Rattle.ncl_netlist.specs.declared.parts.Parts.{Parts}
 use Rattle.ncl_netlist.specs.Parts.{HasAllPins, output_name, netlist_of}
 use Rattle.ncl_shape.specs.declared.stage.StageCell.{StageCell}
 use Rattle.ncl_shape.specs.Stage.{StageData}
-use Rattle.ncl_stage.specs.Faults.{IsSound}
+use Rattle.ncl_faults.specs.Faults.{IsSound}
 use Rattle.ncl_rails.specs.Naming.{named_pair, names_known, IsNumberedStage}
 use Rattle.ncl_rails.specs.declared.StageParts.{StageParts}
 use Rattle.ncl_tree.specs.NamePairs.{pair_names}

@@ -15,7 +15,7 @@ use Rattle.ncl_netlist.specs.declared.parts.PartCell.{PartCell}
 use Rattle.ncl_netlist.specs.declared.parts.Parts.{Parts}
 use Rattle.ncl_netlist.specs.Netlist.{IsNetlist}
 use Rattle.ncl_netlist.specs.Parts.{cell_of, nets_of, netlist_of}
-use Rattle.ncl_stage.specs.Faults.{IsSound}
+use Rattle.ncl_faults.specs.Faults.{IsSound}
 use Rattle.ncl_rails.specs.Naming.{named_net}
 use Rattle.ncl_rails.specs.declared.StageParts.{StageParts}
 use Rattle.ncl_bank.specs.declared.BankParts.{BankParts}

@@ -12,7 +12,7 @@ use Rattle.ncl_shape.specs.Stage.{StageData}
 use Rattle.ncl_shape.specs.Closure.{function_of}
 use Rattle.ncl_shape.specs.Pipeline.{PipelineData}
 use Rattle.ncl_shape.specs.Shape.{Shape}
-use Rattle.ncl_stage.specs.Faults.{IsSound}
+use Rattle.ncl_faults.specs.Faults.{IsSound}
 use Rattle.ncl_machine.specs.Composition.{stage_function, composed}
 use Rattle.ncl_insensitivity.proofs.Headline.{is_composition}
 use Rattle.ncl_rails.specs.StageParts.{Answers}

@@ -12,9 +12,9 @@ use Rattle.ncl_shape.specs.Stage.{StageData}
 use Rattle.ncl_shape.specs.Pipeline.{PipelineData}
 use Rattle.ncl_shape.specs.Closure.{function_of}
 use Rattle.ncl_shape.specs.Shape.{Shape}
-use Rattle.ncl_stage.specs.declared.variant.Variant.TheVariants.{Base}
-use Rattle.ncl_stage.specs.Values.{val}
-use Rattle.ncl_stage.specs.Faults.{IsSound}
+use Rattle.ncl_faults.specs.declared.variant.Variant.TheVariants.{Base}
+use Rattle.ncl_faults.specs.Values.{val}
+use Rattle.ncl_faults.specs.Faults.{IsSound}
 use Rattle.ncl_writer.specs.Names.{is_plain}
 use Rattle.ncl_writer.specs.Text.{text_of}
 use Rattle.ncl_compile.specs.Size.{compile_size, widths_of}

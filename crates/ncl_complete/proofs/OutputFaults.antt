@@ -12,11 +12,11 @@ use Rattle.ncl_space.specs.Space.{SpaceData}
 use Rattle.ncl_space.specs.Making.{HaveTables}
 use Rattle.ncl_space.specs.declared.space.Ref.{Ref}
 use Rattle.ncl_space.proofs.MakingLaws.{have-length, have-at}
-use Rattle.ncl_stage.specs.declared.variant.Variant.TheVariants.{Base}
-use Rattle.ncl_stage.specs.Faults.{BothRails, NoRail, has_data, is_illegal}
+use Rattle.ncl_faults.specs.declared.variant.Variant.TheVariants.{Base}
+use Rattle.ncl_faults.specs.Faults.{BothRails, NoRail, has_data, is_illegal}
 use Rattle.ncl_stage.specs.LeastWords.{below, first_of, least_word_by}
 use Rattle.ncl_stage.specs.Tables.{data_functions, function_tables_by, illegal_functions}
-use Rattle.ncl_stage.specs.Values.{val}
+use Rattle.ncl_faults.specs.Values.{val}
 use Rattle.ncl_stage.proofs.OutputLaws.{values_at}
 use Rattle.ncl_stage.proofs.LeastLaws.{least-shown, least-hidden, both-shown, none-shown, outputs-grouped, first_below-none, first_below-some}
 use Rattle.ncl_complete.specs.declared.rail_fault.RailFault.{RailFault}

@@ -1,8 +1,8 @@
 -- The first fault of an output: both its rails are high, or none is.
 use Rattle.std.specs.Prelude.{ℕ, List, Bool, Option, Some, None, map, option_and_then}
 use Rattle.ncl_shape.specs.Stage.{StageData}
-use Rattle.ncl_stage.specs.declared.variant.Variant.TheVariants.{Base}
-use Rattle.ncl_stage.specs.Faults.{StageFault, BothRails, NoRail, Incomplete, Orphan}
+use Rattle.ncl_faults.specs.declared.variant.Variant.TheVariants.{Base}
+use Rattle.ncl_faults.specs.Faults.{StageFault, BothRails, NoRail, Incomplete, Orphan}
 use Rattle.ncl_stage.specs.LeastWords.{faults_of, first_of, least_word_by}
 use Rattle.ncl_complete.specs.declared.rail_fault.RailFault.{RailFault}
 use Rattle.ncl_complete.specs.declared.rail_fault.RailFault.TheVariants as rail

@@ -1,7 +1,7 @@
 //! Input-completeness.
 ghost use Rattle.std.specs.Prelude.{◌≡◌, ◌<◌, IfOk, IsErrOf, OnOk, false, length, true};
 ghost use Rattle.ncl_space.specs.Space.{IsSpace, Keeps, Restores, fits};
-ghost use Rattle.ncl_stage.specs.Faults.{Incomplete};
+ghost use Rattle.ncl_faults.specs.Faults.{Incomplete};
 ghost use Rattle.ncl_stage.specs.LeastWords.{least_word_by};
 ghost use Rattle.ncl_stage.specs.StageTables.{AreValues};
 ghost use Rattle.ncl_stage.specs.Tables.{tables_by};

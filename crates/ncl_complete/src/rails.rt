@@ -6,7 +6,7 @@ ghost use Rattle.ncl_space.specs.Space.{IsSpace, Keeps, Restores, fits, with_tab
 ghost use Rattle.ncl_stage.specs.BitOrder.{IsOrderOf};
 ghost use Rattle.ncl_stage.specs.StageTables.{AreValues};
 ghost use Rattle.ncl_stage.specs.Tables.{ValuesAt, data_functions, function_tables_by, illegal_functions, tables_by};
-ghost use Rattle.ncl_stage.specs.Values.{val};
+ghost use Rattle.ncl_faults.specs.Values.{val};
 
 use crate::rail_fault::RailFault;
 use ncl_gates::Kind;

@@ -4,7 +4,7 @@ use Rattle.std.specs.Prelude.{slice_get}
 use Rattle.ncl_shape.specs.Stage.{StageData}
 use Rattle.ncl_shape.specs.Pipeline.{PipelineData}
 use Rattle.ncl_shape.specs.Shape.{Shape}
-use Rattle.ncl_stage.specs.Faults.{StageFault, shows}
+use Rattle.ncl_faults.specs.Faults.{StageFault, shows}
 use Rattle.ncl_machine.specs.DelayInsensitive.{IsDelayInsensitive}
 use Rattle.ncl_hazard.specs.Trying.{HasNoDataBank}
 use Rattle.ncl_refusal.specs.Reached.{GoesWrong}

@@ -11,7 +11,7 @@ use Rattle.ncl_shape.specs.Examples.{bit, rails, net_id, cell}
 use Rattle.ncl_assembly.specs.Assembled.{HasGate, IsWiredBank, IsWiredStage, WiredBank, WiredBit}
 use Rattle.ncl_assembly.proofs.AssembledShape.{Shape-from_assembled}
 use Rattle.ncl_assembly.proofs.WrittenBanks.{wired, wired_bit, bank_of_one, one_wired, bank_of_two, two_wired, numbered_one, numbered_two, one_bit_shape}
-use Rattle.ncl_stage.proofs.StageTest.{is_stage, IsStage-from_test}
+use Rattle.ncl_faults.proofs.StageTest.{is_stage, IsStage-from_test}
 use Rattle.ncl_insensitivity.proofs.WrittenNetlists.{netlist_from_tests}
 use Rattle.ncl_faulty.specs.Examples.{gate_netlist, gate_stage, with_gate, with_both_rails, with_dead_rail, with_orphan, eager_netlist, eager_stage, with_eager_and, twins_netlist, doubling, differing, twins}
 

@@ -3,7 +3,7 @@ use Rattle.std.proofs.Common.{◌≡◌, ℕ, zero, suc, Bool, true, false, List
 use Rattle.std.specs.Prelude.{slice_get}
 use Rattle.std.proofs.lemmas.Option.{same_Some}
 use Rattle.ncl_shape.specs.Stage.{StageData}
-use Rattle.ncl_stage.specs.Faults.{shows}
+use Rattle.ncl_faults.specs.Faults.{shows}
 use Rattle.ncl_machine.specs.SoundAt.{IsSoundAt}
 use Rattle.ncl_hazard.specs.Why.{brings}
 use Rattle.ncl_insensitivity.proofs.ByComputation.{condition_of-other, other_faults}

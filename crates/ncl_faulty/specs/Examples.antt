@@ -8,7 +8,7 @@ use Rattle.ncl_shape.specs.declared.rails.Rails.{Rails}
 use Rattle.ncl_shape.specs.Stage.{StageData}
 use Rattle.ncl_shape.specs.Pipeline.{PipelineData}
 use Rattle.ncl_shape.specs.Examples.{rails, bit, cell, input, output, registers, ack_of, one_bit, with_ports, bank, two_banks, one_bit_ports, one_bit_pipeline}
-use Rattle.ncl_stage.specs.Examples.{gate, stage}
+use Rattle.ncl_faults.specs.Examples.{gate, stage}
 
 -- ---- two banks of one bit, and between them a gate of both rails of the bit. The nets are x1_0 0, x1_1 1, ki 2, rst 3,
 -- z1_0 4, z1_1 5, ko 6, c 7, p1_0 8, p1_1 9, and g 10, the output of the gate

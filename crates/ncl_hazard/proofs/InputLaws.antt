@@ -11,9 +11,9 @@ use Rattle.ncl_shape.specs.Shape.{Shape}
 use Rattle.ncl_cell_roles.proofs.LaidOut.{laid_out}
 use Rattle.ncl_space.specs.Table.{words, table_of}
 use Rattle.ncl_space.specs.Beads.{distinct_beads}
-use Rattle.ncl_stage.specs.Values.{val}
-use Rattle.ncl_stage.specs.declared.variant.Variant.TheVariants.{Base, Cell as Without}
-use Rattle.ncl_stage.specs.Faults.{IsSound, Orphan}
+use Rattle.ncl_faults.specs.Values.{val}
+use Rattle.ncl_faults.specs.declared.variant.Variant.TheVariants.{Base, Cell as Without}
+use Rattle.ncl_faults.specs.Faults.{IsSound, Orphan}
 use Rattle.ncl_stage.specs.LeastWords.{least_word_by}
 use Rattle.ncl_stage.specs.StageTables.{net_tables_by}
 use Rattle.ncl_stage.specs.Tables.{net_functions, functions_of, tables_by}

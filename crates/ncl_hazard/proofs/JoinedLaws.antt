@@ -14,13 +14,13 @@ use Rattle.ncl_cell_roles.specs.Layout.{in_rail, rail_at, Layout, IsLayoutOf, wi
 use Rattle.ncl_cell_roles.proofs.RailNets.{rail-place}
 use Rattle.ncl_cell_roles.proofs.Numbering.{inner_stage}
 use Rattle.ncl_space.proofs.TableLaws.{find-same}
-use Rattle.ncl_stage.specs.declared.variant.Variant.{Variant}
-use Rattle.ncl_stage.specs.declared.variant.Variant.TheVariants.{Base, Cell as Without}
-use Rattle.ncl_stage.specs.Values.{kept_low, output_net, val}
-use Rattle.ncl_stage.specs.Faults.{IsSound, Orphan, shows, holds_at, all_data}
+use Rattle.ncl_faults.specs.declared.variant.Variant.{Variant}
+use Rattle.ncl_faults.specs.declared.variant.Variant.TheVariants.{Base, Cell as Without}
+use Rattle.ncl_faults.specs.Values.{kept_low, output_net, val}
+use Rattle.ncl_faults.specs.Faults.{IsSound, Orphan, shows, holds_at, all_data}
 use Rattle.ncl_stage.specs.LeastWords.{least_word_by}
 use Rattle.ncl_stage.proofs.OrderLaws.{words_by-ascending}
-use Rattle.ncl_stage.proofs.ValueLaws.{rail-no_output}
+use Rattle.ncl_faults.proofs.ValueLaws.{rail-no_output}
 use Rattle.ncl_insensitivity.proofs.Composition.{word_at}
 use Rattle.ncl_machine.proofs.StageNets.{rail-listed, gate-listed}
 use Rattle.ncl_insensitivity.proofs.WiresSound.{wires_sound}

@@ -19,7 +19,7 @@ use Rattle.ncl_shape.specs.Stage.{IsStage, Reads, IsInOrder, rail_nets, nets_of,
 use Rattle.ncl_shape.specs.Pipeline.{PipelineData}
 use Rattle.ncl_cell_roles.specs.Layout.{out_rail, Layout, IsLayoutOf, stage_nets}
 use Rattle.ncl_cell_roles.proofs.RailNets.{rail-place}
-use Rattle.ncl_stage.proofs.Apart.{right-differ}
+use Rattle.ncl_faults.proofs.Apart.{right-differ}
 use Rattle.ncl_stage.proofs.NetLaws.{left-differ}
 use Rattle.ncl_machine.proofs.StageNets.{gate-listed, out-listed}
 use Rattle.ncl_hazard.specs.Joined.{Names, named_as, net_as, rails_as, gate_as}

@@ -16,9 +16,9 @@ use Rattle.ncl_space.specs.Table.{words, table_of}
 use Rattle.ncl_space.specs.Beads.{distinct_beads}
 use Rattle.ncl_space.proofs.TableLaws.{table_of-same}
 use Rattle.ncl_space.proofs.BeadLaws.{HasMembers, distinct_beads-same}
-use Rattle.ncl_stage.specs.declared.variant.Variant.TheVariants.{Base, Cell as Without}
-use Rattle.ncl_stage.specs.Values.{val}
-use Rattle.ncl_stage.specs.Faults.{IsSound, has_data}
+use Rattle.ncl_faults.specs.declared.variant.Variant.TheVariants.{Base, Cell as Without}
+use Rattle.ncl_faults.specs.Values.{val}
+use Rattle.ncl_faults.specs.Faults.{IsSound, has_data}
 use Rattle.ncl_stage.specs.Tables.{WordFunction, ValuesAt, fronts, net_functions, data_functions, data_fronts, all_data_function, orphan_function}
 use Rattle.ncl_stage.proofs.OutputLaws.{fronts-map}
 use Rattle.ncl_machine.specs.Composition.{stage_function, composed}

@@ -7,7 +7,7 @@ use Rattle.ncl_space.specs.Beads.{bead_count}
 use Rattle.ncl_space.specs.Space.{SpaceData, IsNew, Keeps, fits, is_within, with_tables}
 use Rattle.ncl_space.proofs.SpaceLaws.{count_of_both, too_much_by_front}
 use Rattle.ncl_space.proofs.MakingLaws.{fits-along}
-use Rattle.ncl_stage.specs.declared.variant.Variant.TheVariants.{Base, Cell}
+use Rattle.ncl_faults.specs.declared.variant.Variant.TheVariants.{Base, Cell}
 use Rattle.ncl_stage.specs.StageTables.{net_tables_by}
 use Rattle.ncl_stage.specs.Tables.{tables_by}
 use Rattle.ncl_hazard.specs.Search.{ascending, made_count}

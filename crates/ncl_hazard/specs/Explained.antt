@@ -5,7 +5,7 @@ use Rattle.ncl_netlist.specs.declared.ids.CellId.{CellId}
 use Rattle.ncl_shape.specs.declared.stage.StageCell.{StageCell}
 use Rattle.ncl_shape.specs.Stage.{StageData}
 use Rattle.ncl_shape.specs.Pipeline.{PipelineData}
-use Rattle.ncl_stage.specs.Faults.{IsSound}
+use Rattle.ncl_faults.specs.Faults.{IsSound}
 use Rattle.ncl_verdict.specs.declared.verdict.Verdict.TheVariants.{Orphan}
 use Rattle.ncl_verdict.specs.Judgement.{judgement}
 use Rattle.ncl_machine.specs.State.{reset}

@@ -3,7 +3,7 @@ use Rattle.std.specs.Prelude.{ℕ, List, ◌++◌, length}
 use Rattle.std.specs.List.{range_with_len}
 use Rattle.ncl_shape.specs.Stage.{StageData}
 use Rattle.ncl_space.specs.Beads.{bead_count}
-use Rattle.ncl_stage.specs.declared.variant.Variant.TheVariants.{Base, Cell}
+use Rattle.ncl_faults.specs.declared.variant.Variant.TheVariants.{Base, Cell}
 use Rattle.ncl_stage.specs.StageTables.{net_tables_by}
 use Rattle.ncl_stage.specs.Tables.{tables_by}
 

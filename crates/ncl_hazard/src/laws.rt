@@ -6,7 +6,7 @@ ghost use Rattle.ncl_shape.specs.declared.item.Item.{Item};
 ghost use Rattle.ncl_shape.specs.Stage.{StageData};
 ghost use Rattle.ncl_shape.specs.Pipeline.{PipelineData};
 ghost use Rattle.ncl_shape.specs.Shape.{Shape};
-ghost use Rattle.ncl_stage.specs.Faults.{Orphan, shows};
+ghost use Rattle.ncl_faults.specs.Faults.{Orphan, shows};
 ghost use Rattle.ncl_netlist.specs.declared.ids.CellId.{CellId};
 ghost use Rattle.ncl_verdict.specs.declared.verdict.Verdict.TheVariants.{Orphan as JudgedOrphan};
 ghost use Rattle.ncl_verdict.specs.Judgement.{judgement};

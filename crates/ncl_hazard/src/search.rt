@@ -3,7 +3,7 @@ ghost use Rattle.std.specs.Prelude.{◌≡◌, ◌<◌, ◌≤◌, ℕ, IfOk, Is
 ghost use Rattle.ncl_shape.specs.Stage.{StageData};
 ghost use Rattle.ncl_hazard.specs.Explained.{AreSoundBefore};
 ghost use Rattle.ncl_hazard.specs.Why.{least_input, why_count};
-ghost use Rattle.ncl_stage.specs.Faults.{Orphan as IsOrphan};
+ghost use Rattle.ncl_faults.specs.Faults.{Orphan as IsOrphan};
 ghost use Rattle.ncl_stage.specs.LeastWords.{least_word_by};
 ghost use Rattle.ncl_hazard.specs.Search.{ascending, made_count};
 

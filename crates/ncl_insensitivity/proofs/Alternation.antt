@@ -10,8 +10,8 @@ use Rattle.ncl_cell_rules.specs.Origin.{IsInputPort}
 use Rattle.ncl_base.proofs.Members.{Member-from_Contains, Contains-from_slice_get}
 use Rattle.ncl_cell_rules.proofs.Drivers.{no_cell_drives_port}
 use Rattle.ncl_cell_roles.proofs.EndLaws.{ki_is_port, ki_is_no_input}
-use Rattle.ncl_stage.proofs.Apart.{named-within}
-use Rattle.ncl_stage.proofs.OnePass.{among-from_member}
+use Rattle.ncl_faults.proofs.Apart.{named-within}
+use Rattle.ncl_faults.proofs.OnePass.{among-from_member}
 use Rattle.ncl_machine.proofs.AtWorkLaws.{with_net-elsewhere}
 use Rattle.ncl_insensitivity.proofs.RunLaws.{IsRunFrom-suffix}
 use Rattle.ncl_insensitivity.proofs.StepValues.{lowered-value}

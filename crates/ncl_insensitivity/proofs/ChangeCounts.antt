@@ -9,7 +9,7 @@ use Rattle.ncl_shape.specs.declared.stage.StageCell.{StageCell}
 use Rattle.ncl_shape.specs.Nets.{Nets, with_net}
 use Rattle.ncl_shape.specs.Stage.{out_of}
 use Rattle.ncl_cell_roles.specs.Layout.{Layout}
-use Rattle.ncl_stage.specs.Faults.{has_data}
+use Rattle.ncl_faults.specs.Faults.{has_data}
 use Rattle.ncl_machine.proofs.AtWorkLaws.{with_net-elsewhere}
 use Rattle.ncl_machine.proofs.LocalNets.{with_net-here, in_stage, in_tree}
 use Rattle.ncl_machine.proofs.Numbers.{even, one_if, one_if-most, place-here, place-other}

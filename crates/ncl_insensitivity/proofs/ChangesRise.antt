@@ -13,8 +13,8 @@ use Rattle.ncl_shape.specs.Stage.{out_of}
 use Rattle.ncl_shape.specs.Pipeline.{PipelineData}
 use Rattle.ncl_cell_roles.specs.Layout.{no_rails, Layout, width, stage_nets, in_rail}
 use Rattle.ncl_cell_roles.proofs.RailNets.{rail-within}
-use Rattle.ncl_stage.specs.Faults.{has_data}
-use Rattle.ncl_stage.proofs.ValueLaws.{rail-no_output}
+use Rattle.ncl_faults.specs.Faults.{has_data}
+use Rattle.ncl_faults.proofs.ValueLaws.{rail-no_output}
 use Rattle.ncl_machine.specs.State.{State}
 use Rattle.ncl_machine.specs.Steps.{step}
 use Rattle.ncl_machine.proofs.AtWorkLaws.{with_net-elsewhere}

@@ -13,7 +13,7 @@ use Rattle.ncl_shape.specs.Nets.{with_net}
 use Rattle.ncl_shape.specs.Stage.{out_of}
 use Rattle.ncl_shape.specs.Pipeline.{PipelineData}
 use Rattle.ncl_cell_roles.specs.Layout.{Layout, in_rail, stage_nets, width}
-use Rattle.ncl_stage.specs.Faults.{has_data}
+use Rattle.ncl_faults.specs.Faults.{has_data}
 use Rattle.ncl_machine.specs.State.{State}
 use Rattle.ncl_machine.specs.Steps.{step, fired, next_value}
 use Rattle.ncl_machine.proofs.AtWorkLaws.{with_net-elsewhere}

@@ -13,7 +13,7 @@ use Rattle.ncl_shape.specs.declared.item.Item.TheVariants.{Cell as Fire, Raise, 
 use Rattle.ncl_shape.specs.Stage.{named_rails}
 use Rattle.ncl_shape.specs.Pipeline.{PipelineData}
 use Rattle.ncl_cell_roles.specs.Layout.{Layout, width, IsRegisterOf, in_rail, out_rail, stage_nets, Part, of_stage, of_bank, of_tree}
-use Rattle.ncl_stage.specs.Faults.{has_data}
+use Rattle.ncl_faults.specs.Faults.{has_data}
 use Rattle.ncl_machine.specs.State.{State}
 use Rattle.ncl_machine.specs.Steps.{enabled, next_value, differ, is_excited, is_null, is_data, has_value, current_rails, rails_of_word}
 use Rattle.ncl_machine.proofs.TruthValues.{same-from_differ}

@@ -12,7 +12,7 @@ use Rattle.ncl_shape.specs.declared.item.Item.TheVariants.{Cell as Fire, Raise, 
 use Rattle.ncl_shape.specs.Nets.{Nets, with_net}
 use Rattle.ncl_shape.specs.Pipeline.{PipelineData}
 use Rattle.ncl_cell_roles.specs.Layout.{Layout, width, IsCellOf, IsRegisterOf, in_rail, out_rail}
-use Rattle.ncl_stage.specs.Faults.{has_data}
+use Rattle.ncl_faults.specs.Faults.{has_data}
 use Rattle.ncl_machine.specs.State.{State}
 use Rattle.ncl_machine.specs.Steps.{is_null, is_data, current_rails}
 use Rattle.ncl_machine.specs.AtWork.{IsExcited}

@@ -18,7 +18,7 @@ use Rattle.ncl_shape.specs.Shape.{Shape}
 use Rattle.ncl_shape.proofs.PinLaws.{some_high-low}
 use Rattle.ncl_cell_roles.specs.Layout.{no_rails, Layout, IsLayoutOf, in_rail, out_rail, width, stage_nets, IsRegisterOf, Part, of_stage, of_bank, of_tree, TreePart, acks, completes}
 use Rattle.ncl_cell_roles.proofs.LaidOut.{laid_out_of}
-use Rattle.ncl_stage.specs.Faults.{has_data}
+use Rattle.ncl_faults.specs.Faults.{has_data}
 use Rattle.ncl_machine.specs.State.{no_nets, reset, reset_nets}
 use Rattle.ncl_machine.specs.Steps.{next_value, differ, is_excited, is_data}
 use Rattle.ncl_machine.specs.AtWork.{next_of_gate}

@@ -15,7 +15,7 @@ use Rattle.ncl_shape.specs.Pipeline.{PipelineData}
 use Rattle.ncl_shape.proofs.RailLaws.{rails-length}
 use Rattle.ncl_cell_roles.specs.Layout.{no_rails, Layout, width, stage_nets, out_rail}
 use Rattle.ncl_cell_roles.proofs.RailNets.{rail-place}
-use Rattle.ncl_stage.specs.Faults.{has_data}
+use Rattle.ncl_faults.specs.Faults.{has_data}
 use Rattle.ncl_machine.specs.State.{State}
 use Rattle.ncl_machine.specs.Steps.{step}
 use Rattle.ncl_machine.specs.Run.{IsRunFrom}

@@ -1,8 +1,8 @@
 -- The AND of two bits is a sound stage: by computation, at each word and fault.
 use Rattle.std.proofs.Common.{◌≡◌, zero, suc, Bool, true, false, [], ◌∷◌, refl}
 use Rattle.ncl_gates.proofs.GateLaws.{of_two}
-use Rattle.ncl_stage.specs.Examples.{and_stage}
-use Rattle.ncl_stage.specs.Faults.{StageFault, BothRails, NoRail, Incomplete, Orphan, IsSound, shows}
+use Rattle.ncl_faults.specs.Examples.{and_stage}
+use Rattle.ncl_faults.specs.Faults.{StageFault, BothRails, NoRail, Incomplete, Orphan, IsSound, shows}
 
 -- what holds of each pair of bits in turn
 pub of_each : (P : Bool → Bool → Type 0) → P false false → P false true → P true false → P true true → (a b : Bool) → P a b

@@ -10,7 +10,7 @@ use Rattle.ncl_shape.specs.Nets.{Nets}
 use Rattle.ncl_shape.specs.Stage.{named_rails}
 use Rattle.ncl_shape.specs.Pipeline.{PipelineData}
 use Rattle.ncl_cell_roles.specs.Layout.{in_rail, Layout, width, stage_nets}
-use Rattle.ncl_stage.specs.Faults.{has_data}
+use Rattle.ncl_faults.specs.Faults.{has_data}
 use Rattle.ncl_machine.specs.State.{State}
 use Rattle.ncl_machine.specs.Steps.{current_rails, rails_of_word}
 use Rattle.ncl_insensitivity.proofs.ListTests.{member-fails}

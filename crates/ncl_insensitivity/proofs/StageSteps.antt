@@ -8,7 +8,7 @@ use Rattle.ncl_shape.specs.Nets.{Nets, with_net}
 use Rattle.ncl_shape.specs.Stage.{out_of}
 use Rattle.ncl_shape.specs.Pipeline.{PipelineData}
 use Rattle.ncl_cell_roles.specs.Layout.{in_rail, out_rail, Layout, width}
-use Rattle.ncl_stage.specs.Faults.{has_data}
+use Rattle.ncl_faults.specs.Faults.{has_data}
 use Rattle.ncl_machine.specs.AtWork.{IsExcited}
 use Rattle.ncl_machine.proofs.AtWorkLaws.{with_net-elsewhere, with_net-raised, with_net-lowered}
 use Rattle.ncl_machine.proofs.NamedRails.{bit_at, rail-is_one, data-same}

@@ -5,8 +5,8 @@ use Rattle.ncl_shape.specs.Nets.{among}
 use Rattle.ncl_shape.specs.Stage.{named_rails}
 use Rattle.ncl_shape.specs.Pipeline.{PipelineData}
 use Rattle.ncl_cell_roles.specs.Layout.{in_rail, out_rail, Layout, IsLayoutOf, width}
-use Rattle.ncl_stage.specs.Faults.{has_data}
-use Rattle.ncl_stage.proofs.OnePass.{among-from_member}
+use Rattle.ncl_faults.specs.Faults.{has_data}
+use Rattle.ncl_faults.proofs.OnePass.{among-from_member}
 use Rattle.ncl_machine.specs.State.{reset, reset_nets}
 use Rattle.ncl_machine.proofs.NamedRails.{bit_at, named-has, rail-data}
 use Rattle.ncl_machine.proofs.StageNets.{in_bit, root-listed, tree-listed}

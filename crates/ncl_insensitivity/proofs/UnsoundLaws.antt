@@ -2,7 +2,7 @@
 use Rattle.std.proofs.Common.{◌≡◌, ◌≢◌, zero, suc, Bool, true, false, [], ◌∷◌, refl, ◌∙◌, sym, length}
 use Rattle.ncl_gates.proofs.GateLaws.{of_two}
 use Rattle.ncl_shape.specs.Stage.{StageData}
-use Rattle.ncl_stage.specs.Faults.{StageFault, BothRails, NoRail, Incomplete, Orphan, shows}
+use Rattle.ncl_faults.specs.Faults.{StageFault, BothRails, NoRail, Incomplete, Orphan, shows}
 use Rattle.ncl_insensitivity.specs.Unsound.{condition_of, BreaksOnly, orphan_stage, dead_stage, illegal_stage, eager_stage}
 use Rattle.ncl_insensitivity.proofs.SoundAnd.{of_each}
 use Rattle.ncl_insensitivity.proofs.ByComputation.{IsHiddenAtOne, IsHiddenAtOne-word, other_faults}

@@ -8,9 +8,9 @@ use Rattle.ncl_base.proofs.Members.{Contains-from_Member}
 use Rattle.ncl_shape.specs.declared.rails.Rails.{Rails}
 use Rattle.ncl_shape.specs.Stage.{StageData, IsStage}
 use Rattle.ncl_cell_roles.specs.Layout.{no_rails, rail_at, IsWires}
-use Rattle.ncl_stage.specs.declared.variant.Variant.TheVariants.{Base}
-use Rattle.ncl_stage.specs.Values.{val}
-use Rattle.ncl_stage.specs.Faults.{IsWordOf}
+use Rattle.ncl_faults.specs.declared.variant.Variant.TheVariants.{Base}
+use Rattle.ncl_faults.specs.Values.{val}
+use Rattle.ncl_faults.specs.Faults.{IsWordOf}
 use Rattle.ncl_machine.specs.Composition.{stage_function}
 use Rattle.ncl_machine.proofs.AtWorkLaws.{named-within_values}
 use Rattle.ncl_machine.proofs.NamedRails.{bit_at, named-has}

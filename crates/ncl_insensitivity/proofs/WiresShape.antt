@@ -7,7 +7,7 @@ use Rattle.ncl_shape.specs.Shape.{Shape}
 use Rattle.ncl_shape.specs.Examples.{wires, wires_pipeline}
 use Rattle.ncl_assembly.specs.Assembled.{HasGate}
 use Rattle.ncl_assembly.proofs.WrittenBanks.{one_bit_stage, one_bit_shape}
-use Rattle.ncl_stage.proofs.StageTest.{IsStage-from_test}
+use Rattle.ncl_faults.proofs.StageTest.{IsStage-from_test}
 use Rattle.ncl_insensitivity.proofs.WrittenNetlists.{netlist_from_tests}
 
 pub wires_netlist : IsNetlist wires

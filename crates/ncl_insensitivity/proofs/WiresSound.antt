@@ -9,10 +9,10 @@ use Rattle.ncl_shape.specs.declared.stage.StageCell.{StageCell}
 use Rattle.ncl_shape.specs.Nets.{among}
 use Rattle.ncl_shape.specs.Stage.{StageData, IsStage, rail_of, named_rails, out_of}
 use Rattle.ncl_cell_roles.specs.Layout.{no_rails}
-use Rattle.ncl_stage.specs.declared.variant.Variant.TheVariants.{Base, Bit, Cell}
-use Rattle.ncl_stage.specs.Values.{both_rails, kept_low, val}
-use Rattle.ncl_stage.specs.Faults.{StageFault, BothRails, NoRail, Incomplete, Orphan, shows, holds_at, is_illegal, IsSound, all_data, has_data}
-use Rattle.ncl_stage.proofs.ValueLaws.{val-rail}
+use Rattle.ncl_faults.specs.declared.variant.Variant.TheVariants.{Base, Bit, Cell}
+use Rattle.ncl_faults.specs.Values.{both_rails, kept_low, val}
+use Rattle.ncl_faults.specs.Faults.{StageFault, BothRails, NoRail, Incomplete, Orphan, shows, holds_at, is_illegal, IsSound, all_data, has_data}
+use Rattle.ncl_faults.proofs.ValueLaws.{val-rail}
 use Rattle.ncl_machine.proofs.AtWorkLaws.{named-within_values}
 use Rattle.ncl_machine.proofs.InOrder.{one_named}
 use Rattle.ncl_machine.proofs.SoundLaws.{named-from_high}

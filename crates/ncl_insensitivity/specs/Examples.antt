@@ -9,7 +9,7 @@ use Rattle.ncl_shape.specs.Pipeline.{PipelineData}
 use Rattle.ncl_shape.specs.declared.item.Item.{Item}
 use Rattle.ncl_shape.specs.declared.item.Item.TheVariants.{Cell, Raise, Lower, Take, Ready}
 use Rattle.ncl_shape.specs.Examples.{rails, bit, cell, ack_of, one_bit, with_ports, bank, wired, one_bit_ports, one_bit_pipeline, wires_pipeline, three}
-use Rattle.ncl_stage.specs.Examples.{gate, stage}
+use Rattle.ncl_faults.specs.Examples.{gate, stage}
 use Rattle.ncl_machine.specs.State.{State, reset}
 use Rattle.ncl_machine.specs.Run.{after}
 

@@ -10,8 +10,8 @@ use Rattle.ncl_shape.specs.declared.rails.Rails.{Rails}
 use Rattle.ncl_shape.specs.Stage.{IsStage, StageData}
 use Rattle.ncl_shape.specs.Pipeline.{PipelineData}
 use Rattle.ncl_shape.specs.Examples.{rails, bit, cell, input, output, registers, ack_of, one_bit, with_ports, bank, two_banks, one_bit_ports, one_bit_pipeline}
-use Rattle.ncl_stage.specs.Examples.{gate, stage}
-use Rattle.ncl_stage.specs.Faults.{StageFault, BothRails, NoRail, Incomplete, Orphan, shows, IsWordOf}
+use Rattle.ncl_faults.specs.Examples.{gate, stage}
+use Rattle.ncl_faults.specs.Faults.{StageFault, BothRails, NoRail, Incomplete, Orphan, shows, IsWordOf}
 use Rattle.ncl_machine.specs.State.{State, reset}
 use Rattle.ncl_machine.specs.Run.{IsRun, after}
 use Rattle.ncl_insensitivity.specs.Examples.{fire}

@@ -8,10 +8,10 @@ use Rattle.ncl_shape.specs.Nets.{Nets, IsBelow, among, with_net}
 use Rattle.ncl_shape.specs.Stage.{StageData, named_rails}
 use Rattle.ncl_shape.specs.Closure.{pin_values}
 use Rattle.ncl_base.proofs.Members.{Member-from_Contains}
-use Rattle.ncl_stage.specs.declared.variant.Variant.TheVariants.{Base}
-use Rattle.ncl_stage.specs.Values.{holds, kept_low, val}
-use Rattle.ncl_stage.proofs.ValueLaws.{holds-grows, val-keeps, val-settled}
-use Rattle.ncl_stage.proofs.OnePass.{among-from_member}
+use Rattle.ncl_faults.specs.declared.variant.Variant.TheVariants.{Base}
+use Rattle.ncl_faults.specs.Values.{holds, kept_low, val}
+use Rattle.ncl_faults.proofs.ValueLaws.{holds-grows, val-keeps, val-settled}
+use Rattle.ncl_faults.proofs.OnePass.{among-from_member}
 use Rattle.ncl_machine.specs.Steps.{differ}
 use Rattle.ncl_machine.specs.AtWork.{next_of_gate, IsExcited, IsRising, IsFalling, null, raise, settled, lower, fire}
 

@@ -6,7 +6,7 @@ use Rattle.ncl_shape.specs.Stage.{rail_nets}
 use Rattle.ncl_shape.specs.Pipeline.{PipelineData}
 use Rattle.ncl_cell_roles.specs.Layout.{Layout, IsLayoutOf, in_rail, stage_nets, width, Part, of_stage, of_bank, of_tree}
 use Rattle.ncl_cell_roles.proofs.RailNets.{rail-within}
-use Rattle.ncl_stage.proofs.ValueLaws.{rail-no_output}
+use Rattle.ncl_faults.proofs.ValueLaws.{rail-no_output}
 use Rattle.ncl_machine.proofs.StageNets.{rail-listed, gate-listed, tree-listed, ki-listed}
 
 module _ {p : PipelineData} {l : Layout} (is : IsLayoutOf p l) where

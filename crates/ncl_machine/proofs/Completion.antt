@@ -21,8 +21,8 @@ use Rattle.ncl_shape.specs.Closure.{pin_values, net_of}
 use Rattle.ncl_shape.specs.Pipeline.{PipelineData}
 use Rattle.ncl_shape.proofs.PinLaws.{some_high-low, all_high-from}
 use Rattle.ncl_cell_roles.specs.Layout.{in_rail, stage_nets, IsAckOn, IsAckOf, Layout, IsLayoutOf, TreePart, acks, completes, width}
-use Rattle.ncl_stage.specs.Faults.{has_data}
-use Rattle.ncl_stage.proofs.Apart.{same_from_value}
+use Rattle.ncl_faults.specs.Faults.{has_data}
+use Rattle.ncl_faults.proofs.Apart.{same_from_value}
 use Rattle.ncl_machine.specs.Steps.{differ, next_value}
 use Rattle.ncl_machine.proofs.FallingLaws.{unfed-at}
 use Rattle.ncl_machine.proofs.TruthValues.{same_or_not, not_itself, differ_from_not, not-from_differ}

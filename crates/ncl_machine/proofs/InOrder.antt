@@ -11,7 +11,7 @@ use Rattle.ncl_shape.specs.declared.stage.StageCell.{StageCell}
 use Rattle.ncl_shape.specs.Nets.{among}
 use Rattle.ncl_shape.specs.Stage.{StageData, IsStage, named_rails, rail_nets, rail_of, nets_of, out_of}
 use Rattle.ncl_base.proofs.Members.{here, there, Member-append_cases, Contains-from_Member, Member-from_Contains, Member-append_left, Member-append_right}
-use Rattle.ncl_stage.proofs.Apart.{parts-differ, right-differ, named-within}
+use Rattle.ncl_faults.proofs.Apart.{parts-differ, right-differ, named-within}
 use Rattle.ncl_base.specs.Members.{Member}
 use Rattle.ncl_shape.proofs.RailLaws.{rails_within}
 

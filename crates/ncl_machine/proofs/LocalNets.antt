@@ -9,7 +9,7 @@ use Rattle.ncl_shape.specs.declared.rails.Rails.{Rails}
 use Rattle.ncl_shape.specs.Nets.{Nets, among, with_net}
 use Rattle.ncl_shape.specs.Closure.{pin_values}
 use Rattle.ncl_cell_roles.specs.Layout.{Layout, stage_nets}
-use Rattle.ncl_stage.proofs.OnePass.{among-from_member}
+use Rattle.ncl_faults.proofs.OnePass.{among-from_member}
 use Rattle.ncl_machine.proofs.AtWorkLaws.{with_net-elsewhere}
 use Rattle.ncl_machine.proofs.NamedRails.{member-from_among}
 use Rattle.ncl_base.specs.Members.{Member}

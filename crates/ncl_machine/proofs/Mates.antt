@@ -10,7 +10,7 @@ use Rattle.ncl_shape.specs.declared.rails.Rails.{Rails}
 use Rattle.ncl_shape.specs.Nets.{Nets, with_net}
 use Rattle.ncl_shape.specs.Stage.{rail_nets}
 use Rattle.ncl_shape.proofs.RailLaws.{rails_within}
-use Rattle.ncl_stage.specs.Faults.{has_data}
+use Rattle.ncl_faults.specs.Faults.{has_data}
 use Rattle.ncl_machine.specs.Held.{net_values}
 use Rattle.ncl_machine.specs.Tallies.{count_of, mate_of, mate_in, is_covered_by}
 use Rattle.ncl_machine.proofs.AtWorkLaws.{with_net-elsewhere}

@@ -9,9 +9,9 @@ use Rattle.ncl_shape.specs.Nets.{Nets, among}
 use Rattle.ncl_shape.specs.Stage.{rail_of, rail_nets, named_rails}
 use Rattle.ncl_cell_roles.specs.Layout.{no_rails, rail_at}
 use Rattle.ncl_cell_roles.proofs.RailNets.{rail-within}
-use Rattle.ncl_stage.specs.Faults.{has_data}
-use Rattle.ncl_stage.proofs.Apart.{parts-differ, right-differ}
-use Rattle.ncl_stage.proofs.OnePass.{among-from_member}
+use Rattle.ncl_faults.specs.Faults.{has_data}
+use Rattle.ncl_faults.proofs.Apart.{parts-differ, right-differ}
+use Rattle.ncl_faults.proofs.OnePass.{among-from_member}
 use Rattle.ncl_machine.proofs.InOrder.{one_named}
 use Rattle.ncl_base.specs.Members.{Member}
 use Rattle.ncl_shape.proofs.RailLaws.{own_rail}

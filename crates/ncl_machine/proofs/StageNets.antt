@@ -14,7 +14,7 @@ use Rattle.ncl_shape.specs.Pipeline.{PipelineData}
 use Rattle.ncl_shape.proofs.RailLaws.{rails_within}
 use Rattle.ncl_cell_roles.specs.Layout.{no_rails, Layout, IsLayoutOf, stage_nets, out_rail, rail_at, width}
 use Rattle.ncl_cell_roles.proofs.RailNets.{rail-within}
-use Rattle.ncl_stage.proofs.ValueLaws.{rail-no_output, same_output}
+use Rattle.ncl_faults.proofs.ValueLaws.{rail-no_output, same_output}
 use Rattle.ncl_machine.proofs.InOrder.{in_order}
 
 -- bit b of bank k

@@ -21,8 +21,8 @@ use Rattle.ncl_shape.specs.Pipeline.{PipelineData}
 use Rattle.ncl_shape.proofs.Rounds.{rounds-each, rounds-settled}
 use Rattle.ncl_shape.proofs.PinLaws.{high_net, some_high-from, some_high-low}
 use Rattle.ncl_cell_roles.specs.Layout.{in_rail, Layout, IsLayoutOf, IsAckOf, Part, of_stage, of_bank, of_tree, TreePart, acks, completes, width, stage_nets, holds_rail}
-use Rattle.ncl_stage.specs.Faults.{has_data}
-use Rattle.ncl_stage.proofs.OnePass.{among-from_member}
+use Rattle.ncl_faults.specs.Faults.{has_data}
+use Rattle.ncl_faults.proofs.OnePass.{among-from_member}
 use Rattle.ncl_machine.specs.State.{joins_kind, joins_tree, no_nets, data_nets, tree_nets, reset_nets}
 use Rattle.ncl_machine.proofs.NamedRails.{bit_at, member-from_among, named-has, named-place}
 use Rattle.ncl_machine.proofs.StageNets.{in_bit, rail-listed, inputs-listed, tree-listed, ki-listed}

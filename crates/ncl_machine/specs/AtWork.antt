@@ -5,8 +5,8 @@ use Rattle.ncl_shape.specs.declared.stage.StageCell.{StageCell}
 use Rattle.ncl_shape.specs.Nets.{Nets, with_net}
 use Rattle.ncl_shape.specs.Stage.{StageData, named_rails, rail_nets}
 use Rattle.ncl_shape.specs.Closure.{pin_values}
-use Rattle.ncl_stage.specs.declared.variant.Variant.TheVariants.{Base}
-use Rattle.ncl_stage.specs.Values.{val}
+use Rattle.ncl_faults.specs.declared.variant.Variant.TheVariants.{Base}
+use Rattle.ncl_faults.specs.Values.{val}
 use Rattle.ncl_machine.specs.State.{no_nets}
 use Rattle.ncl_machine.specs.Steps.{differ}
 

@@ -3,9 +3,9 @@ use Rattle.std.specs.Prelude.{◌≡◌, ◌≢◌, ℕ, true, false, Bool, List
 use Rattle.ncl_shape.specs.declared.stage.StageCell.{StageCell}
 use Rattle.ncl_shape.specs.Nets.{Nets, with_net}
 use Rattle.ncl_shape.specs.Stage.{StageData, named_rails, rail_nets}
-use Rattle.ncl_stage.specs.declared.variant.Variant.TheVariants.{Base}
-use Rattle.ncl_stage.specs.Values.{val}
-use Rattle.ncl_stage.specs.Faults.{all_data, is_illegal}
+use Rattle.ncl_faults.specs.declared.variant.Variant.TheVariants.{Base}
+use Rattle.ncl_faults.specs.Values.{val}
+use Rattle.ncl_faults.specs.Faults.{all_data, is_illegal}
 use Rattle.ncl_machine.specs.Steps.{is_null}
 use Rattle.ncl_machine.specs.AtWork.{next_of_gate, IsExcited}
 

@@ -7,7 +7,7 @@ use Rattle.ncl_netlist.specs.declared.ids.NetId.{NetId}
 use Rattle.ncl_shape.specs.declared.rails.Rails.{Rails}
 use Rattle.ncl_shape.specs.Nets.{Nets}
 use Rattle.ncl_shape.specs.Stage.{rail_nets, named_rails}
-use Rattle.ncl_stage.specs.Faults.{has_data}
+use Rattle.ncl_faults.specs.Faults.{has_data}
 use Rattle.ncl_machine.specs.Steps.{rails_of_word, pair_at}
 use Rattle.ncl_machine.specs.Held.{Held, net_values}
 

@@ -21,9 +21,9 @@ use Rattle.ncl_shape.proofs.PinLaws.{first_pin-is}
 use Rattle.ncl_cell_roles.specs.Layout.{Layout, IsLayoutOf, Part, of_stage, of_bank, of_tree, in_rail, out_rail, width, stage_nets, rail_at, no_rails}
 use Rattle.ncl_cell_roles.proofs.RailNets.{rail-within}
 use Rattle.ncl_space.specs.Functions.{is_value}
-use Rattle.ncl_stage.proofs.Apart.{named-within}
+use Rattle.ncl_faults.proofs.Apart.{named-within}
 use Rattle.ncl_stage.proofs.NetLaws.{left-differ, named-at}
-use Rattle.ncl_stage.proofs.ValueLaws.{rail-no_output, same_output}
+use Rattle.ncl_faults.proofs.ValueLaws.{rail-no_output, same_output}
 use Rattle.ncl_match.specs.Circuit.{closed, circuit_of}
 
 abbrev AllDiffer : List ℕ → Type 0

@@ -13,7 +13,7 @@ use Rattle.ncl_shape.specs.declared.stage.StageCell.{StageCell}
 use Rattle.ncl_shape.specs.Stage.{StageData, IsStage, rail_nets, nets_of, out_of}
 use Rattle.ncl_shape.specs.Pipeline.{PipelineData}
 use Rattle.ncl_cell_roles.specs.Layout.{Layout, IsLayoutOf, in_rail, out_rail, rail_at, stage_nets, width}
-use Rattle.ncl_stage.proofs.Apart.{parts-differ, right-differ}
+use Rattle.ncl_faults.proofs.Apart.{parts-differ, right-differ}
 use Rattle.ncl_stage.proofs.NetLaws.{left-differ}
 use Rattle.ncl_match.specs.declared.planning.DataCell.{DataCell}
 use Rattle.ncl_match.specs.Plan.{Drives, IsKnown}

@@ -25,7 +25,7 @@ use Rattle.ncl_shape.specs.Stage.{StageData}
 use Rattle.ncl_shape.specs.Held.{word_held, value_or_low}
 use Rattle.ncl_shape.specs.Pipeline.{PipelineData}
 use Rattle.ncl_shape.specs.Shape.{Shape}
-use Rattle.ncl_stage.specs.Faults.{IsSound}
+use Rattle.ncl_faults.specs.Faults.{IsSound}
 use Rattle.ncl_machine.specs.Composition.{stage_function}
 use Rattle.ncl_insensitivity.proofs.Headline.{is_composition}
 use Rattle.ncl_merge.specs.Fold.{with_cells}

@@ -21,10 +21,10 @@ use Rattle.ncl_shape.specs.Held.{is_data_bank, word_held}
 use Rattle.ncl_shape.specs.Closure.{close, function_at, held_nets}
 use Rattle.ncl_shape.specs.Pipeline.{PipelineData}
 use Rattle.ncl_shape.specs.SamePipeline.{IsSameStage, IsSamePipeline}
-use Rattle.ncl_stage.specs.declared.variant.Variant.{Variant}
-use Rattle.ncl_stage.specs.declared.variant.Variant.TheVariants.{Base, Bit, Cell}
-use Rattle.ncl_stage.specs.Values.{val}
-use Rattle.ncl_stage.specs.Faults.{BothRails, NoRail, Incomplete, Orphan, holds_at, is_illegal, has_data, all_data, IsWordOf, IsSound}
+use Rattle.ncl_faults.specs.declared.variant.Variant.{Variant}
+use Rattle.ncl_faults.specs.declared.variant.Variant.TheVariants.{Base, Bit, Cell}
+use Rattle.ncl_faults.specs.Values.{val}
+use Rattle.ncl_faults.specs.Faults.{BothRails, NoRail, Incomplete, Orphan, holds_at, is_illegal, has_data, all_data, IsWordOf, IsSound}
 use Rattle.ncl_stage.proofs.Reordered.{IsSameVariant, base, bit, cell, same_values}
 use Rattle.ncl_cell_roles.proofs.HeldWords.{held-some}
 use Rattle.ncl_machine.specs.Composition.{stage_function}

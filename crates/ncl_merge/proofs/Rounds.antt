@@ -13,7 +13,7 @@ use Rattle.ncl_shape.specs.Shape.{Shape, Broken, IsShapeFault}
 use Rattle.ncl_shape.proofs.FaultLaws.{shape_is_unbroken}
 use Rattle.ncl_shape.proofs.ShapeLaws.{shape_is_one}
 use Rattle.ncl_shape.proofs.ZippedLists.{AllZip-found}
-use Rattle.ncl_stage.specs.Faults.{IsSound}
+use Rattle.ncl_faults.specs.Faults.{IsSound}
 use Rattle.ncl_merge.specs.Fold.{pins_of}
 use Rattle.ncl_merge.specs.Folding.{HasNoFoldable, AreFewer}
 use Rattle.ncl_merge.specs.Choice.{folded_netlist}

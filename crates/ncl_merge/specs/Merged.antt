@@ -14,7 +14,7 @@ use Rattle.ncl_shape.specs.Held.{is_data_bank, word_held}
 use Rattle.ncl_shape.specs.Closure.{function_of, function_at}
 use Rattle.ncl_shape.specs.Pipeline.{PipelineData}
 use Rattle.ncl_shape.specs.Shape.{Shape}
-use Rattle.ncl_stage.specs.Faults.{IsSound}
+use Rattle.ncl_faults.specs.Faults.{IsSound}
 use Rattle.ncl_machine.specs.Composition.{stage_function}
 use Rattle.ncl_writer.specs.Text.{text_of}
 use Rattle.ncl_merge.specs.Fold.{IsFoldable}

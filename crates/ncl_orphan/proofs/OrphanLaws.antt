@@ -10,12 +10,12 @@ use Rattle.ncl_space.specs.Table.{table_of}
 use Rattle.ncl_stage.specs.BitOrder.{IsOrderOf, placed, words_by}
 use Rattle.ncl_stage.proofs.OrderedTables.{ordered-at, ordered-same}
 use Rattle.ncl_space.specs.Functions.{at, gate_table, least}
-use Rattle.ncl_stage.specs.declared.variant.Variant.TheVariants.{Base, Cell}
-use Rattle.ncl_stage.specs.Faults.{Orphan, all_data, holds_at}
+use Rattle.ncl_faults.specs.declared.variant.Variant.TheVariants.{Base, Cell}
+use Rattle.ncl_faults.specs.Faults.{Orphan, all_data, holds_at}
 use Rattle.ncl_stage.specs.LeastWords.{least_word_by}
 use Rattle.ncl_stage.specs.StageTables.{net_table_by, shared_tables_by}
 use Rattle.ncl_stage.specs.Tables.{all_data_function, function_tables_by, orphan_function, tables_by}
-use Rattle.ncl_stage.specs.Values.{val}
+use Rattle.ncl_faults.specs.Values.{val}
 use Rattle.ncl_stage.proofs.OutputLaws.{values_at, and_gate}
 use Rattle.ncl_stage.proofs.LeastLaws.{least-shown, tables_of-parts}
 

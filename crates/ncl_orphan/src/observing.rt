@@ -4,7 +4,7 @@ ghost use Rattle.std.specs.Option.{option_map};
 ghost use Rattle.ncl_space.specs.Functions.{least};
 ghost use Rattle.ncl_space.specs.Space.{IsLive, IsSpace, Keeps, Restores, fits};
 ghost use Rattle.ncl_stage.specs.BitOrder.{placed};
-ghost use Rattle.ncl_stage.specs.Faults.{Orphan};
+ghost use Rattle.ncl_faults.specs.Faults.{Orphan};
 ghost use Rattle.ncl_stage.specs.LeastWords.{least_word_by};
 ghost use Rattle.ncl_stage.specs.StageTables.{AreValues};
 ghost use Rattle.ncl_stage.specs.Tables.{tables_by};

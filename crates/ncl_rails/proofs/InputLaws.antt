@@ -8,12 +8,12 @@ use Rattle.ncl_shape.specs.Nets.{among}
 use Rattle.ncl_shape.specs.Stage.{StageData, IsStage, rail_nets, rail_of, named_rails, out_of}
 use Rattle.ncl_base.proofs.Members.{Member, here, there, Member-append_left, Member-from_Contains, Contains-from_slice_get}
 use Rattle.ncl_shape.proofs.RailLaws.{rails_within, own_rail}
-use Rattle.ncl_stage.specs.declared.variant.Variant.{Variant}
-use Rattle.ncl_stage.specs.declared.variant.Variant.TheVariants.{Base, Bit, Cell}
-use Rattle.ncl_stage.specs.Values.{holds, both_rails, output_net, val}
-use Rattle.ncl_stage.proofs.Apart.{parts-differ, right-differ, named-within}
-use Rattle.ncl_stage.proofs.ValueLaws.{val-rail, val-output}
-use Rattle.ncl_stage.proofs.OnePass.{among-from_member}
+use Rattle.ncl_faults.specs.declared.variant.Variant.{Variant}
+use Rattle.ncl_faults.specs.declared.variant.Variant.TheVariants.{Base, Bit, Cell}
+use Rattle.ncl_faults.specs.Values.{holds, both_rails, output_net, val}
+use Rattle.ncl_faults.proofs.Apart.{parts-differ, right-differ, named-within}
+use Rattle.ncl_faults.proofs.ValueLaws.{val-rail, val-output}
+use Rattle.ncl_faults.proofs.OnePass.{among-from_member}
 use Rattle.ncl_template.specs.Template.{Shows, IsNull}
 
 rail_within : (r : Rails) (inputs : List Rails) → Member r inputs → (b : Bool) → Member (rail_of r b) (rail_nets inputs)

@@ -30,7 +30,7 @@ use Rattle.ncl_rails.specs.Complete.{IsComplete}
 use Rattle.ncl_rails.specs.Layout.{AreLaidOut, input_pair, input_pairs, no_rails, source_pair, exchanged, signal_pair}
 use Rattle.ncl_shape.proofs.JoinedLists.{append_split}
 use Rattle.ncl_shape.proofs.RailLaws.{rails_within}
-use Rattle.ncl_stage.proofs.WiringLaws.{rail_nets-append}
+use Rattle.ncl_faults.proofs.WiringLaws.{rail_nets-append}
 use Rattle.ncl_rails.proofs.Lists.{at_member, stands_before}
 use Rattle.ncl_rails.proofs.Covering.{reads_before_at}
 use Rattle.ncl_rails.proofs.Composition.{reads_at}

@@ -10,8 +10,8 @@ use Rattle.ncl_shape.specs.Nets.{Nets}
 use Rattle.ncl_shape.specs.Stage.{StageData}
 use Rattle.ncl_shape.specs.Closure.{pin_values}
 use Rattle.ncl_shape.specs.Renamed.{renamed_net, renamed_rails, IsRenamedCell}
-use Rattle.ncl_stage.specs.Values.{holds}
-use Rattle.ncl_stage.specs.Faults.{has_data}
+use Rattle.ncl_faults.specs.Values.{holds}
+use Rattle.ncl_faults.specs.Faults.{has_data}
 use Rattle.ncl_template.specs.Template.{Shows, IsNull, ShowWord}
 
 -- a stage of the same gates

@@ -3,7 +3,7 @@ use Rattle.std.proofs.Common.{◌≡◌, Bool, true, false, not, if◌then◌els
 use Rattle.std.proofs.lemmas.Bool.{or_from, or_left, or_right, and_left, and_right}
 use Rattle.ncl_shape.specs.declared.rails.Rails.{Rails}
 use Rattle.ncl_shape.specs.Nets.{Nets}
-use Rattle.ncl_stage.specs.Faults.{has_data, is_illegal}
+use Rattle.ncl_faults.specs.Faults.{has_data, is_illegal}
 use Rattle.ncl_template.specs.Template.{Shows, IsNull}
 use Rattle.ncl_rails.specs.Layout.{exchanged}
 

@@ -13,11 +13,11 @@ use Rattle.ncl_shape.specs.declared.rails.Rails.{Rails}
 use Rattle.ncl_shape.specs.declared.stage.StageCell.{StageCell}
 use Rattle.ncl_shape.specs.Nets.{Nets}
 use Rattle.ncl_shape.specs.Stage.{StageData, IsStage, out_of}
-use Rattle.ncl_stage.specs.declared.variant.Variant.{Variant}
-use Rattle.ncl_stage.specs.declared.variant.Variant.TheVariants.{Base, Bit, Cell}
-use Rattle.ncl_stage.specs.Values.{holds, val}
-use Rattle.ncl_stage.specs.Faults.{holds_at, has_data, is_illegal, all_data, IsWordOf, IsSound, BothRails, NoRail, Incomplete, Orphan}
-use Rattle.ncl_stage.proofs.ValueLaws.{val-below_base}
+use Rattle.ncl_faults.specs.declared.variant.Variant.{Variant}
+use Rattle.ncl_faults.specs.declared.variant.Variant.TheVariants.{Base, Bit, Cell}
+use Rattle.ncl_faults.specs.Values.{holds, val}
+use Rattle.ncl_faults.specs.Faults.{holds_at, has_data, is_illegal, all_data, IsWordOf, IsSound, BothRails, NoRail, Incomplete, Orphan}
+use Rattle.ncl_faults.proofs.ValueLaws.{val-below_base}
 use Rattle.ncl_network.specs.declared.network.SignalSource.{SignalSource}
 use Rattle.ncl_network.specs.declared.network.SignalSource.TheVariants.{Input}
 use Rattle.ncl_network.specs.declared.network.Network.{Network}

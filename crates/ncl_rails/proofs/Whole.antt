@@ -14,9 +14,9 @@ use Rattle.ncl_netlist.specs.Parts.{HasAllPins, output_name}
 use Rattle.ncl_shape.specs.declared.rails.Rails.{Rails}
 use Rattle.ncl_shape.specs.declared.stage.StageCell.{StageCell}
 use Rattle.ncl_shape.specs.Stage.{StageData, IsStage, nets_of, rail_nets}
-use Rattle.ncl_stage.specs.declared.variant.Variant.TheVariants.{Base}
-use Rattle.ncl_stage.specs.Values.{val}
-use Rattle.ncl_stage.specs.Faults.{IsSound, IsWordOf}
+use Rattle.ncl_faults.specs.declared.variant.Variant.TheVariants.{Base}
+use Rattle.ncl_faults.specs.Values.{val}
+use Rattle.ncl_faults.specs.Faults.{IsSound, IsWordOf}
 use Rattle.ncl_network.specs.declared.network.Signal.{Signal}
 use Rattle.ncl_network.specs.declared.network.Network.{Network}
 use Rattle.ncl_network.specs.Network.{IsSource, answer_of}

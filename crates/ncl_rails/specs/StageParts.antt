@@ -9,9 +9,9 @@ use Rattle.ncl_netlist.specs.Names.{AllDiffer}
 use Rattle.ncl_netlist.specs.Parts.{HasAllPins, input_names, output_name}
 use Rattle.ncl_shape.specs.declared.rails.Rails.{Rails}
 use Rattle.ncl_shape.specs.Stage.{StageData, IsStage}
-use Rattle.ncl_stage.specs.declared.variant.Variant.TheVariants.{Base}
-use Rattle.ncl_stage.specs.Values.{val}
-use Rattle.ncl_stage.specs.Faults.{IsSound, IsWordOf}
+use Rattle.ncl_faults.specs.declared.variant.Variant.TheVariants.{Base}
+use Rattle.ncl_faults.specs.Values.{val}
+use Rattle.ncl_faults.specs.Faults.{IsSound, IsWordOf}
 use Rattle.ncl_network.specs.declared.network.Network.{Network}
 use Rattle.ncl_network.specs.Network.{answer_of}
 use Rattle.ncl_decomp.specs.Split.{IsSplit, cost_of_network}

@@ -14,7 +14,7 @@ use Rattle.std.specs.Option.{option_map}
 use Rattle.std.proofs.lemmas.Option.{slice_get-map}
 use Rattle.ncl_netlist.specs.Netlist.{NetlistData}
 use Rattle.ncl_shape.specs.Shape.{Shape}
-use Rattle.ncl_stage.specs.Faults.{IsSound}
+use Rattle.ncl_faults.specs.Faults.{IsSound}
 use Rattle.ncl_machine.specs.DelayInsensitive.{IsAtRest}
 use Rattle.ncl_insensitivity.proofs.Headline.{rests_where_quiet, run_bound, safe}
 use Rattle.ncl_sim.specs.declared.trace.Taken.{Taken}

@@ -4,7 +4,7 @@ ghost use Rattle.ncl_netlist.specs.Netlist.{NetlistData};
 ghost use Rattle.ncl_shape.specs.declared.item.Item.{Item};
 ghost use Rattle.ncl_shape.specs.Pipeline.{PipelineData};
 ghost use Rattle.ncl_shape.specs.Shape.{Shape};
-ghost use Rattle.ncl_stage.specs.Faults.{IsSound};
+ghost use Rattle.ncl_faults.specs.Faults.{IsSound};
 ghost use Rattle.ncl_machine.specs.Run.{AreWordsOf};
 ghost use Rattle.ncl_machine.specs.Held.{InRange};
 ghost use Rattle.ncl_delay.specs.Delays.{DelaysData};

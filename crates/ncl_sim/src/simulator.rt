@@ -1,7 +1,7 @@
 //! The simulator.
 ghost use Rattle.std.specs.Prelude.{◌≡◌, ◌≤◌, ◌*◌, ◌^◌, All, IfOk, filter, length, map};
 ghost use Rattle.ncl_shape.specs.Pipeline.{PipelineData};
-ghost use Rattle.ncl_stage.specs.Faults.{IsSound};
+ghost use Rattle.ncl_faults.specs.Faults.{IsSound};
 ghost use Rattle.ncl_machine.specs.Run.{AreWordsOf};
 ghost use Rattle.ncl_sim.specs.TimedRun.{DeliversAll, IsTimedRun, takes_in};
 ghost use Rattle.ncl_delay.specs.declared.fired.Fired.{Fired as FiredStep};

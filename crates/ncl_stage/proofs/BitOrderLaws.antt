@@ -15,16 +15,16 @@ use Rattle.ncl_base.proofs.Members.{Member, here, there, member_cases, member_of
 use Rattle.ncl_base.proofs.Lists.{pairs-head, pairs-tail}
 use Rattle.ncl_stage.specs.BitOrder.{bit_order, bits_from, driver_of, met, place_in, read_by, with_bits}
 use Rattle.ncl_stage.specs.Changes.{net_at}
-use Rattle.ncl_stage.specs.Examples.{gate}
+use Rattle.ncl_faults.specs.Examples.{gate}
 use Rattle.ncl_stage.specs.Walk.{AreMet, ReadEarlier}
 use Rattle.ncl_stage.specs.Wiring.{pin_places, rail_places}
-use Rattle.ncl_stage.proofs.Apart.{right-differ}
+use Rattle.ncl_faults.proofs.Apart.{right-differ}
 use Rattle.ncl_shape.proofs.RailLaws.{rails-length}
 use Rattle.ncl_stage.proofs.ChangedLaws.{nets-length, net_at-rail, net_at-cell, nets-before}
 use Rattle.ncl_stage.proofs.NetLaws.{left-differ, nets-cut, out_at, out_at-is, place_in-front, reads-before}
 use Rattle.ncl_stage.proofs.PlaceLaws.{place_in-at}
-use Rattle.ncl_stage.proofs.ValueLaws.{rail-no_output}
-use Rattle.ncl_stage.proofs.WiringLaws.{AllDiffer}
+use Rattle.ncl_faults.proofs.ValueLaws.{rail-no_output}
+use Rattle.ncl_faults.proofs.WiringLaws.{AllDiffer}
 
 -- ---- lists of lists
 

@@ -23,17 +23,17 @@ use Rattle.ncl_space.proofs.MakingLaws.{have-kept, have-at, have-length}
 use Rattle.ncl_space.proofs.TableLaws.{length-table_of}
 use Rattle.ncl_stage.specs.BitOrder.{IsOrderOf, placed, words_by}
 use Rattle.ncl_stage.proofs.OrderedTables.{table-any}
-use Rattle.ncl_stage.specs.declared.variant.Variant.{Variant}
-use Rattle.ncl_stage.specs.declared.variant.Variant.TheVariants.{Base}
-use Rattle.ncl_stage.specs.Examples.{gate}
+use Rattle.ncl_faults.specs.declared.variant.Variant.{Variant}
+use Rattle.ncl_faults.specs.declared.variant.Variant.TheVariants.{Base}
+use Rattle.ncl_faults.specs.Examples.{gate}
 use Rattle.ncl_stage.specs.Changes.{net_at, IsUnchanged, IsUnreached, MarksChanges}
 use Rattle.ncl_stage.specs.StageTables.{ValuesData, AreValues, net_table_by, net_tables_by, rail_at}
-use Rattle.ncl_stage.specs.Values.{val}
+use Rattle.ncl_faults.specs.Values.{val}
 use Rattle.ncl_stage.specs.Wiring.{WiringData, IsWiring, place_in, pin_places}
 use Rattle.ncl_stage.proofs.NetLaws.{cell-net, nets-cut, out_at, out_at-is, pins-of, place_in-front, reads-before}
-use Rattle.ncl_stage.proofs.ValueLaws.{val-rail}
+use Rattle.ncl_faults.proofs.ValueLaws.{val-rail}
 use Rattle.ncl_stage.proofs.PlaceLaws.{place_in-at}
-use Rattle.ncl_stage.proofs.WiringLaws.{AllDiffer, reads-within}
+use Rattle.ncl_faults.proofs.WiringLaws.{AllDiffer, reads-within}
 
 pub nets-length : (s : StageData) → length (nets_of s.inputs s.cells) ≡ 2 * length s.inputs + length s.cells
 nets-length s = length-append (rail_nets s.inputs) (map out_of s.cells) ∙ (λ i. rails-length s.inputs i + length-map s.cells out_of i)

@@ -10,14 +10,14 @@ use Rattle.ncl_shape.specs.declared.rails.Rails.{Rails}
 use Rattle.ncl_shape.specs.Stage.{StageData}
 use Rattle.ncl_space.specs.Table.{table_of}
 use Rattle.ncl_space.specs.Functions.{least}
-use Rattle.ncl_stage.specs.declared.variant.Variant.{Variant}
-use Rattle.ncl_stage.specs.declared.variant.Variant.TheVariants.{Base, Bit}
+use Rattle.ncl_faults.specs.declared.variant.Variant.{Variant}
+use Rattle.ncl_faults.specs.declared.variant.Variant.TheVariants.{Base, Bit}
 use Rattle.ncl_stage.specs.BitOrder.{IsOrderOf, placed, words_by}
-use Rattle.ncl_stage.specs.Faults.{StageFault, BothRails, NoRail, Incomplete, has_data, is_illegal, all_data, holds_at, shows}
+use Rattle.ncl_faults.specs.Faults.{StageFault, BothRails, NoRail, Incomplete, has_data, is_illegal, all_data, holds_at, shows}
 use Rattle.ncl_stage.specs.LeastWords.{below, first_of, least_word_by}
 use Rattle.ncl_stage.specs.StageTables.{shared_tables_by}
 use Rattle.ncl_stage.specs.Tables.{ValuesAt, net_functions, data_functions, data_fronts, function_tables_by, question_functions, tables_by}
-use Rattle.ncl_stage.specs.Values.{val}
+use Rattle.ncl_faults.specs.Values.{val}
 use Rattle.ncl_stage.proofs.OrderedTables.{ordered-one, ordered-zero}
 use Rattle.ncl_stage.proofs.OutputLaws.{values_at}
 

@@ -19,17 +19,17 @@ use Rattle.ncl_space.specs.Space.{SpaceData, IsLive}
 use Rattle.ncl_space.specs.Making.{HaveTables}
 use Rattle.ncl_space.specs.declared.space.Ref.{Ref}
 use Rattle.ncl_space.proofs.MakingLaws.{have-length, have-at}
-use Rattle.ncl_stage.specs.declared.variant.Variant.{Variant}
+use Rattle.ncl_faults.specs.declared.variant.Variant.{Variant}
 use Rattle.ncl_stage.specs.BitOrder.{IsOrderOf, placed}
-use Rattle.ncl_stage.specs.Values.{holds, kept_low, val}
+use Rattle.ncl_faults.specs.Values.{holds, kept_low, val}
 use Rattle.ncl_stage.specs.Wiring.{WiringData, IsWiring, place_in, pin_places}
 use Rattle.ncl_stage.specs.StageTables.{net_table_by, rail_at, ref_at}
-use Rattle.ncl_stage.proofs.Apart.{named-within}
+use Rattle.ncl_faults.proofs.Apart.{named-within}
 use Rattle.ncl_stage.proofs.OrderLaws.{placed-at}
 use Rattle.ncl_stage.proofs.OrderedTables.{ordered-at, ordered-same, placed-length}
-use Rattle.ncl_stage.proofs.ValueLaws.{val-rail, val-output}
+use Rattle.ncl_faults.proofs.ValueLaws.{val-rail, val-output}
 use Rattle.ncl_stage.proofs.PlaceLaws.{place_in-at}
-use Rattle.ncl_stage.proofs.WiringLaws.{AllDiffer, zero-member, one-member}
+use Rattle.ncl_faults.proofs.WiringLaws.{AllDiffer, zero-member, one-member}
 
 pub rail-member : (rails : List Rails) (i : ℕ) (d : Rails) (value : Bool) → i < length rails → Member (rail_of (get_or rails i d) value) (rail_nets rails)
 rail-member rails i d true lt = one-member rails i d lt

@@ -16,13 +16,13 @@ use Rattle.ncl_shape.specs.Stage.{StageData, IsStage, named_rails, nets_of, out_
 use Rattle.ncl_base.proofs.Growing.{split_at}
 use Rattle.ncl_base.proofs.Members.{Member, here, there, member_cases, Contains-from_Member, Member-from_Contains, Member-append_right, Member-append_cases, Member-map, slice_get-from_Contains, Contains-from_slice_get}
 use Rattle.ncl_space.specs.Functions.{is_value}
-use Rattle.ncl_stage.specs.declared.variant.Variant.{Variant}
-use Rattle.ncl_stage.specs.declared.variant.Variant.TheVariants.{Base, Bit, Cell}
-use Rattle.ncl_stage.specs.Values.{both_rails, holds, kept_low, output_net, val}
-use Rattle.ncl_stage.specs.Faults.{BothRails, NoRail, Incomplete, Orphan, IsSound, IsWordOf, all_data, has_data, holds_at, is_illegal}
+use Rattle.ncl_faults.specs.declared.variant.Variant.{Variant}
+use Rattle.ncl_faults.specs.declared.variant.Variant.TheVariants.{Base, Bit, Cell}
+use Rattle.ncl_faults.specs.Values.{both_rails, holds, kept_low, output_net, val}
+use Rattle.ncl_faults.specs.Faults.{BothRails, NoRail, Incomplete, Orphan, IsSound, IsWordOf, all_data, has_data, holds_at, is_illegal}
 use Rattle.ncl_stage.specs.Observed.{AreObserved, HasValidRails, falls_with}
-use Rattle.ncl_stage.proofs.Apart.{parts-differ}
-use Rattle.ncl_stage.proofs.ValueLaws.{holds-grows, val-below_base, val-output, val-rail}
+use Rattle.ncl_faults.proofs.Apart.{parts-differ}
+use Rattle.ncl_faults.proofs.ValueLaws.{holds-grows, val-below_base, val-output, val-rail}
 use Rattle.ncl_stage.proofs.NetLaws.{left-differ, named-at, rail-member}
 
 not_true : (b : Bool) → not b ≡ true → b ≡ false

@@ -24,11 +24,11 @@ use Rattle.ncl_space.proofs.MakingLaws.{have-at, have-kept}
 use Rattle.ncl_space.proofs.TableLaws.{at_table}
 use Rattle.ncl_stage.specs.BitOrder.{IsOrderOf, place_in, placed, taken}
 use Rattle.ncl_stage.specs.Changes.{net_at}
-use Rattle.ncl_stage.specs.declared.variant.Variant.TheVariants.{Base}
+use Rattle.ncl_faults.specs.declared.variant.Variant.TheVariants.{Base}
 use Rattle.ncl_stage.specs.Observed.{SomeFalls}
 use Rattle.ncl_stage.specs.Observing.{IsAlwaysObserved, IsLeft, IsShown, low_table_by, low_tables_by, table_without}
 use Rattle.ncl_stage.specs.StageTables.{net_table_by, net_tables_by, rail_at, ref_at}
-use Rattle.ncl_stage.specs.Values.{holds, val}
+use Rattle.ncl_faults.specs.Values.{holds, val}
 use Rattle.ncl_stage.specs.Wiring.{WiringData, IsWiring, rail_places}
 use Rattle.ncl_stage.proofs.ChangedLaws.{net_at-cell, net_at-place}
 use Rattle.ncl_stage.proofs.NetLaws.{rail-net, out_at-is}
@@ -36,8 +36,8 @@ use Rattle.ncl_stage.proofs.OrderLaws.{length-taken, placed-taken}
 use Rattle.ncl_stage.proofs.OrderedTables.{ordered-at, ordered-same}
 use Rattle.ncl_stage.proofs.OutputLaws.{net-ref}
 use Rattle.ncl_stage.proofs.PlaceLaws.{place_in-at}
-use Rattle.ncl_stage.proofs.ValueLaws.{val-output}
-use Rattle.ncl_stage.proofs.WiringLaws.{AllDiffer}
+use Rattle.ncl_faults.proofs.ValueLaws.{val-output}
+use Rattle.ncl_faults.proofs.WiringLaws.{AllDiffer}
 
 -- ---- lists that grow
 -- one table more

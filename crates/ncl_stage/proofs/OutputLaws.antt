@@ -20,16 +20,16 @@ use Rattle.ncl_space.specs.Making.{HaveTables}
 use Rattle.ncl_space.specs.declared.space.Ref.{Ref}
 use Rattle.ncl_space.proofs.TableLaws.{pow_suc, table_of-same, table_of-halves, at_table, at-low, at-high}
 use Rattle.ncl_space.proofs.MakingLaws.{have-length, have-at}
-use Rattle.ncl_stage.specs.declared.variant.Variant.{Variant}
+use Rattle.ncl_faults.specs.declared.variant.Variant.{Variant}
 use Rattle.ncl_stage.specs.BitOrder.{IsOrderOf, placed, words_by}
-use Rattle.ncl_stage.specs.Faults.{has_data, is_illegal}
+use Rattle.ncl_faults.specs.Faults.{has_data, is_illegal}
 use Rattle.ncl_stage.specs.Tables.{ValuesAt, fronts, net_functions, data_functions, data_fronts, function_tables_by, illegal_functions, all_data_function}
-use Rattle.ncl_stage.specs.Values.{val}
+use Rattle.ncl_faults.specs.Values.{val}
 use Rattle.ncl_stage.specs.Wiring.{WiringData, IsWiring, place_in, rail_places}
 use Rattle.ncl_stage.specs.StageTables.{net_table_by, net_tables_by, shared_tables_by, pair_table, all_table, conjunction, front_tables}
 use Rattle.ncl_stage.proofs.OrderedTables.{ordered-at, ordered-same}
 use Rattle.ncl_stage.proofs.PlaceLaws.{place_in-at}
-use Rattle.ncl_stage.proofs.WiringLaws.{at_rail}
+use Rattle.ncl_faults.proofs.WiringLaws.{at_rail}
 
 -- a table is that of its values
 pub table_of-at : (n : ℕ) (t : List Bool) → length t ≡ 2 ^ n → table_of (words n) (at t) ≡ t

@@ -13,7 +13,7 @@ use Rattle.ncl_base.proofs.NumberLists.{grows-put, put-has}
 use Rattle.ncl_stage.specs.Wiring.{WiringData, IsWiring, pin_places, place_in}
 use Rattle.ncl_stage.proofs.ChangedLaws.{nets-length}
 use Rattle.ncl_stage.proofs.PlaceLaws.{place_in-at}
-use Rattle.ncl_stage.proofs.WiringLaws.{reads-within}
+use Rattle.ncl_faults.proofs.WiringLaws.{reads-within}
 
 -- a reader comes to a net
 pub more-at : (lists new : List (List ℕ)) (net reader : ℕ) → new ≡ put_into lists net reader → net < length lists → ((count : ℕ) → reader < count → Grows count lists new) × Contains (numbers_at new net) reader

@@ -10,9 +10,9 @@ use Rattle.ncl_shape.specs.Stage.{StageData, rail_nets, nets_of, out_of}
 use Rattle.ncl_space.specs.Table.{table_of}
 use Rattle.ncl_stage.specs.BitOrder.{bit_order, words_by}
 use Rattle.ncl_space.proofs.BeadLaws.{bead_count-permuted}
-use Rattle.ncl_stage.specs.declared.variant.Variant.{Variant}
-use Rattle.ncl_stage.specs.declared.variant.Variant.TheVariants.{Base, Bit, Cell}
-use Rattle.ncl_stage.specs.Values.{kept_low, output_net, rises, start, val}
+use Rattle.ncl_faults.specs.declared.variant.Variant.{Variant}
+use Rattle.ncl_faults.specs.declared.variant.Variant.TheVariants.{Base, Bit, Cell}
+use Rattle.ncl_faults.specs.Values.{kept_low, output_net, rises, start, val}
 use Rattle.ncl_stage.specs.Tables.{ValuesAt, net_functions, data_functions, data_fronts, all_data_function, orphan_function, question_functions, functions_of, tables_of, count}
 
 -- as many rounds over the same cells in another order

@@ -8,7 +8,7 @@ use Rattle.ncl_shape.specs.declared.stage.StageCell.{StageCell}
 use Rattle.ncl_shape.specs.Stage.{StageData, IsStage, rail_nets, out_of}
 use Rattle.ncl_base.proofs.Members.{Member, here, there, member_cases, Contains-from_Member, Member-from_Contains}
 use Rattle.ncl_stage.specs.BitOrder.{bit_order, bits_from, driver_of, met, read_by, with_bits}
-use Rattle.ncl_stage.proofs.Apart.{right-differ}
+use Rattle.ncl_faults.proofs.Apart.{right-differ}
 use Rattle.ncl_stage.proofs.BitOrderLaws.{driver-none, driver-some, flat_map_same}
 use Rattle.ncl_stage.proofs.Reordered.{with_cells}
 

@@ -13,15 +13,15 @@ use Rattle.ncl_shape.specs.Stage.{StageData, IsStage, named_rails, nets_of, out_
 use Rattle.ncl_shape.proofs.ClosureLaws.{set_of-grows}
 use Rattle.ncl_base.proofs.Members.{Member, here, there, member_cases, Contains-from_Member, Member-from_Contains, Member-append_left, Member-append_right, Member-append_cases, Member-map, member_of_map, recursion_from_members, slice_get-from_Contains}
 use Rattle.ncl_space.specs.Functions.{is_value}
-use Rattle.ncl_stage.specs.declared.variant.Variant.{Variant}
-use Rattle.ncl_stage.specs.declared.variant.Variant.TheVariants.{Base, Bit, Cell}
-use Rattle.ncl_stage.specs.Values.{both_rails, holds, kept_low, output_net, val}
-use Rattle.ncl_stage.specs.Faults.{NoRail, Incomplete, Orphan, IsSound, IsWordOf, all_data, has_data, holds_at}
+use Rattle.ncl_faults.specs.declared.variant.Variant.{Variant}
+use Rattle.ncl_faults.specs.declared.variant.Variant.TheVariants.{Base, Bit, Cell}
+use Rattle.ncl_faults.specs.Values.{both_rails, holds, kept_low, output_net, val}
+use Rattle.ncl_faults.specs.Faults.{NoRail, Incomplete, Orphan, IsSound, IsWordOf, all_data, has_data, holds_at}
 use Rattle.ncl_stage.specs.Observed.{AreObserved, falls_with}
 use Rattle.ncl_stage.proofs.NetLaws.{left-differ, named-at}
 use Rattle.ncl_stage.proofs.ObservedLaws.{rail-cases}
 use Rattle.ncl_stage.proofs.ObservingLaws.{rails-listed}
-use Rattle.ncl_stage.proofs.ValueLaws.{val-output, val-rail, val-within}
+use Rattle.ncl_faults.proofs.ValueLaws.{val-output, val-rail, val-within}
 
 -- what holds of the rails of the inputs, and of the output of each cell where it holds of its pins, holds of every net
 module _ (s : StageData) (is : IsStage s) (P : ℕ → Type 0) (cell : (c : StageCell) → Member c s.cells → ((pin : NetId) → Member pin c.ins.items → P pin.0) → P (out_of c)) where

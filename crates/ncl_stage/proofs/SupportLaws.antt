@@ -12,11 +12,11 @@ use Rattle.ncl_shape.specs.Closure.{pin_values}
 use Rattle.ncl_shape.specs.Stage.{StageData, IsStage, named_rails, nets_of, out_of, rail_nets, rail_of}
 use Rattle.ncl_base.proofs.Members.{Member, here, there, member_cases, Contains-from_Member, Member-from_Contains, Member-append_left, Member-append_right, Member-append_cases, Member-map, member_of_map, slice_get-from_Contains}
 use Rattle.ncl_space.specs.Functions.{is_value}
-use Rattle.ncl_stage.specs.declared.variant.Variant.{Variant}
-use Rattle.ncl_stage.specs.Values.{kept_low, val}
-use Rattle.ncl_stage.specs.Faults.{IsWordOf}
+use Rattle.ncl_faults.specs.declared.variant.Variant.{Variant}
+use Rattle.ncl_faults.specs.Values.{kept_low, val}
+use Rattle.ncl_faults.specs.Faults.{IsWordOf}
 use Rattle.ncl_stage.specs.Supports.{AgreeOn, AreSupports, Marks}
-use Rattle.ncl_stage.proofs.ValueLaws.{val-output, val-rail}
+use Rattle.ncl_faults.proofs.ValueLaws.{val-output, val-rail}
 use Rattle.ncl_stage.proofs.NetLaws.{left-differ, named-at}
 use Rattle.ncl_stage.proofs.ObservedLaws.{rail-cases}
 

@@ -13,11 +13,11 @@ use Rattle.ncl_space.specs.Making.{HaveTables}
 use Rattle.ncl_space.specs.declared.space.Ref.{Ref}
 use Rattle.ncl_space.proofs.MakingLaws.{Making, held-along, with_tables-live}
 use Rattle.ncl_stage.specs.BitOrder.{IsOrderOf}
-use Rattle.ncl_stage.specs.declared.variant.Variant.{Variant}
-use Rattle.ncl_stage.specs.declared.variant.Variant.TheVariants.{Base}
+use Rattle.ncl_faults.specs.declared.variant.Variant.{Variant}
+use Rattle.ncl_faults.specs.declared.variant.Variant.TheVariants.{Base}
 use Rattle.ncl_stage.specs.Changes.{IsUnchanged, MarksChanges, net_at}
 use Rattle.ncl_stage.specs.StageTables.{net_table_by, net_tables_by}
-use Rattle.ncl_stage.specs.Values.{both_rails, kept_low}
+use Rattle.ncl_faults.specs.Values.{both_rails, kept_low}
 use Rattle.ncl_stage.specs.Wiring.{WiringData, IsWiring, place_in}
 use Rattle.ncl_stage.proofs.ChangedLaws.{nets-length, net_at-rail, net_at-cell, pins-before, rail-unreached, places-unreached}
 use Rattle.ncl_stage.proofs.PlaceLaws.{place_in-at}

@@ -5,9 +5,9 @@ use Rattle.std.proofs.lemmas.Bool.{cases_eq, cases_lt}
 use Rattle.std.proofs.lemmas.List.{get_or-set_other, get_or-set_same, take_more}
 use Rattle.ncl_base.proofs.Growing.{from_push}
 use Rattle.ncl_shape.specs.Stage.{StageData, IsStage}
-use Rattle.ncl_stage.specs.declared.variant.Variant.{Variant}
+use Rattle.ncl_faults.specs.declared.variant.Variant.{Variant}
 use Rattle.ncl_stage.specs.Changes.{IsUnchanged, net_at}
-use Rattle.ncl_stage.specs.Values.{kept_low}
+use Rattle.ncl_faults.specs.Values.{kept_low}
 use Rattle.ncl_stage.specs.Wiring.{WiringData, IsWiring}
 use Rattle.ncl_stage.proofs.Unvisited.{unvisited}
 

@@ -1,10 +1,10 @@
 -- What a variant changes: the nets of a stage that have another table than under Base.
 use Rattle.std.specs.Prelude.{◌≡◌, ◌↔◌, ℕ, ◌<◌, Bool, true, false, List, length, slice_index_or}
 use Rattle.ncl_shape.specs.Stage.{StageData, nets_of}
-use Rattle.ncl_stage.specs.declared.variant.Variant.{Variant}
-use Rattle.ncl_stage.specs.declared.variant.Variant.TheVariants.{Base}
+use Rattle.ncl_faults.specs.declared.variant.Variant.{Variant}
+use Rattle.ncl_faults.specs.declared.variant.Variant.TheVariants.{Base}
 use Rattle.ncl_stage.specs.StageTables.{net_table_by}
-use Rattle.ncl_stage.specs.Values.{kept_low}
+use Rattle.ncl_faults.specs.Values.{kept_low}
 
 -- the net at a place in the order of the stage's nets
 abbrev pub net_at : StageData → ℕ → ℕ

@@ -4,9 +4,9 @@ use Rattle.std.specs.Prelude.{◌≡◌, ◌⊎◌, ℕ, Bool, true, false, not,
 use Rattle.ncl_shape.specs.declared.stage.StageCell.{StageCell}
 use Rattle.ncl_shape.specs.Nets.{Nets, with_net}
 use Rattle.ncl_shape.specs.Stage.{StageData, rail_nets}
-use Rattle.ncl_stage.specs.declared.variant.Variant.TheVariants.{Base}
-use Rattle.ncl_stage.specs.Values.{holds, val}
-use Rattle.ncl_stage.specs.Faults.{BothRails, NoRail, IsWordOf, shows}
+use Rattle.ncl_faults.specs.declared.variant.Variant.TheVariants.{Base}
+use Rattle.ncl_faults.specs.Values.{holds, val}
+use Rattle.ncl_faults.specs.Faults.{BothRails, NoRail, IsWordOf, shows}
 
 -- a gate that is high falls with a net: its set function doesn't hold where that net alone is low
 abbrev pub falls_with : Nets → ℕ → StageCell → Bool

@@ -7,10 +7,10 @@ use Rattle.ncl_shape.specs.Stage.{StageData, nets_of}
 use Rattle.ncl_space.specs.Functions.{at}
 use Rattle.ncl_space.specs.Table.{table_of}
 use Rattle.ncl_stage.specs.BitOrder.{placed, words_by}
-use Rattle.ncl_stage.specs.declared.variant.Variant.TheVariants.{Base}
-use Rattle.ncl_stage.specs.Faults.{IsWordOf}
+use Rattle.ncl_faults.specs.declared.variant.Variant.TheVariants.{Base}
+use Rattle.ncl_faults.specs.Faults.{IsWordOf}
 use Rattle.ncl_stage.specs.Observed.{IsObserved, SomeFalls}
-use Rattle.ncl_stage.specs.Values.{holds, val}
+use Rattle.ncl_faults.specs.Values.{holds, val}
 
 -- the table of where a net is low under Base, over the words in an order of the bits
 abbrev pub low_table_by : List ℕ → StageData → ℕ → List Bool

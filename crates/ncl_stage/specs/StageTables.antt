@@ -10,9 +10,9 @@ use Rattle.ncl_space.specs.Functions.{at, gate_table}
 use Rattle.ncl_space.specs.Space.{SpaceData}
 use Rattle.ncl_space.specs.Making.{HaveTables}
 use Rattle.ncl_space.specs.declared.space.Ref.{Ref}
-use Rattle.ncl_stage.specs.declared.variant.Variant.{Variant}
+use Rattle.ncl_faults.specs.declared.variant.Variant.{Variant}
 use Rattle.ncl_stage.specs.Tables.{ValuesAt, fronts, function_tables_by, net_functions, data_functions, data_fronts}
-use Rattle.ncl_stage.specs.Values.{val}
+use Rattle.ncl_faults.specs.Values.{val}
 use Rattle.ncl_stage.specs.Wiring.{WiringData, IsWiring}
 
 -- the table of a net under a variant, over the words in an order of the bits

@@ -8,10 +8,10 @@ use Rattle.ncl_shape.specs.Stage.{StageData, nets_of}
 use Rattle.ncl_space.specs.Table.{table_of}
 use Rattle.ncl_stage.specs.BitOrder.{bit_order, words_by}
 use Rattle.ncl_space.specs.Beads.{bead_count}
-use Rattle.ncl_stage.specs.declared.variant.Variant.{Variant}
-use Rattle.ncl_stage.specs.declared.variant.Variant.TheVariants.{Base, Bit, Cell}
-use Rattle.ncl_stage.specs.Values.{val}
-use Rattle.ncl_stage.specs.Faults.{has_data, is_illegal}
+use Rattle.ncl_faults.specs.declared.variant.Variant.{Variant}
+use Rattle.ncl_faults.specs.declared.variant.Variant.TheVariants.{Base, Bit, Cell}
+use Rattle.ncl_faults.specs.Values.{val}
+use Rattle.ncl_faults.specs.Faults.{has_data, is_illegal}
 
 -- a function of the words of a stage
 abbrev pub WordFunction : Type 0

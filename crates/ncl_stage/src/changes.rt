@@ -6,14 +6,15 @@ ghost use Rattle.ncl_space.specs.Making.{HaveTables, MakesAll};
 ghost use Rattle.ncl_space.specs.Space.{IsSpace, Keeps, Makes, fits};
 ghost use Rattle.ncl_stage.specs.Changes.{IsUnreached, MarksChanges, net_at};
 ghost use Rattle.ncl_stage.specs.StageTables.{AreValues, net_table_by, net_tables_by};
-ghost use Rattle.ncl_stage.specs.Values.{kept_low};
+ghost use Rattle.ncl_faults.specs.Values.{kept_low};
 ghost use Rattle.ncl_stage.specs.Wiring.{IsWiring};
 
 use crate::net_values::Values;
 use crate::nets::net_ref;
-use crate::variant::{Variant, is_kept_low};
+use crate::variant::is_kept_low;
 use crate::wiring::Wiring;
 use ncl_base::Memory;
+use ncl_faults::Variant;
 use ncl_shape::Stage;
 use ncl_space::{Ref, Space, SpaceFault};
 use std::alloc::Global;

@@ -5,14 +5,14 @@ ghost use Rattle.ncl_shape.specs.Nets.{IsBelow};
 ghost use Rattle.ncl_shape.specs.Stage.{StageData, IsStage, rail_nets, nets_of, out_of};
 ghost use Rattle.ncl_space.specs.Table.{word_number, words};
 ghost use Rattle.ncl_stage.specs.BitOrder.{IsOrderOf, bit_order, taken, words_by};
-ghost use Rattle.ncl_stage.specs.declared.variant.Variant.{Variant};
-ghost use Rattle.ncl_stage.specs.declared.variant.Variant.TheVariants.{Base};
-ghost use Rattle.ncl_stage.specs.Values.{kept_low, rises, start, val};
-ghost use Rattle.ncl_stage.specs.Pass.{pass};
-ghost use Rattle.ncl_stage.specs.Faults.{IsSound, IsWordOf};
+ghost use Rattle.ncl_faults.specs.declared.variant.Variant.{Variant};
+ghost use Rattle.ncl_faults.specs.declared.variant.Variant.TheVariants.{Base};
+ghost use Rattle.ncl_faults.specs.Values.{kept_low, rises, start, val};
+ghost use Rattle.ncl_faults.specs.Pass.{pass};
+ghost use Rattle.ncl_faults.specs.Faults.{IsSound, IsWordOf};
 ghost use Rattle.ncl_stage.specs.Supports.{AgreeOn, AreSupports, Marks};
 ghost use Rattle.ncl_stage.specs.Observed.{AreObserved, HasValidRails};
-ghost use Rattle.ncl_stage.specs.Examples.{and_stage, eager_and_stage, orphan_and_stage, crossed_stage, dead_rail_stage, adder_stage, sum_stage, swapped_stage, straight_stage, unmet_stage};
+ghost use Rattle.ncl_faults.specs.Examples.{and_stage, eager_and_stage, orphan_and_stage, crossed_stage, dead_rail_stage, adder_stage, sum_stage, swapped_stage, straight_stage, unmet_stage};
 
 /// A rail of the inputs is high exactly where the word names it and the variant doesn't keep it low.
 pub fn rails_are_named()

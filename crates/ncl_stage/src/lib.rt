@@ -16,8 +16,8 @@ mod wiring;
 
 pub use evaluation::{revalue, values, values_in};
 pub use input_order::{BitOrder, bit_order};
+pub use ncl_faults::Variant;
 pub use net_values::Values;
 pub use observing::all_observed;
 pub use outputs::{all_data, data_fronts, data_tables, least_one, least_zero, pair_refs};
-pub use variant::Variant;
 pub use wiring::{Wiring, place_of};

@@ -4,7 +4,7 @@ ghost use Rattle.ncl_shape.specs.Stage.{StageData};
 ghost use Rattle.ncl_space.specs.Space.{IsLive, SpaceData};
 ghost use Rattle.ncl_stage.specs.StageTables.{AreValues, net_table_by, ref_at};
 ghost use Rattle.ncl_stage.specs.Wiring.{place_in};
-ghost use Rattle.ncl_stage.specs.declared.variant.Variant.{Variant};
+ghost use Rattle.ncl_faults.specs.declared.variant.Variant.{Variant};
 
 use crate::input_order::BitOrder;
 use crate::wiring::Wiring;

@@ -7,9 +7,10 @@ ghost use Rattle.ncl_stage.specs.Changes.{net_at};
 ghost use Rattle.ncl_stage.specs.StageTables.{net_table_by, net_tables_by, ref_at};
 ghost use Rattle.ncl_stage.specs.Wiring.{IsWiring};
 
-use crate::variant::{Variant, is_kept_low};
+use crate::variant::is_kept_low;
 use crate::wiring::Wiring;
 use arrayvec::ArrayVec;
+use ncl_faults::Variant;
 use ncl_shape::Stage;
 use ncl_space::{Ref, Space, SpaceFault};
 use std::alloc::Global;

@@ -14,10 +14,10 @@ ghost use Rattle.ncl_shape.specs.declared.stage.StageCell.{StageCell};
 
 use crate::net_values::Values;
 use crate::nets::refs_at;
-use crate::variant::Variant;
 use crate::wiring::Wiring;
 use arrayvec::ArrayVec;
 use ncl_base::Memory;
+use ncl_faults::Variant;
 use ncl_gates::Kind;
 use ncl_shape::Stage;
 use ncl_space::{Ref, Space, SpaceFault};

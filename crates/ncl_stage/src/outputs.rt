@@ -9,14 +9,14 @@ ghost use Rattle.ncl_space.specs.Table.{table_of};
 ghost use Rattle.ncl_stage.specs.BitOrder.{placed, words_by};
 ghost use Rattle.ncl_stage.specs.StageTables.{AreValues, conjunction, front_tables, pair_table, shared_tables_by};
 ghost use Rattle.ncl_stage.specs.Tables.{ValuesAt, all_data_function};
-ghost use Rattle.ncl_stage.specs.Values.{val};
+ghost use Rattle.ncl_faults.specs.Values.{val};
 
 use crate::changes::net_refs_from;
 use crate::input_order::BitOrder;
 use crate::net_values::Values;
-use crate::variant::Variant;
 use crate::wiring::Wiring;
 use ncl_base::Word;
+use ncl_faults::Variant;
 use ncl_gates::Kind;
 use ncl_shape::Stage;
 use ncl_space::{Ref, Space, SpaceFault};

@@ -11,7 +11,7 @@ use Rattle.ncl_shape.specs.Stage.{out_of}
 use Rattle.ncl_base.proofs.Members.{Member-append_cases, Member, here, there, Contains-from_Member, Member-from_Contains, Contains-from_slice_get, slice_get-from_Contains, Member-append_left, Member-append_right}
 use Rattle.ncl_base.proofs.Places.{at_of_map}
 use Rattle.ncl_base.proofs.Joined.{Member-flat_map, member_of_flat_map}
-use Rattle.ncl_stage.specs.Values.{holds}
+use Rattle.ncl_faults.specs.Values.{holds}
 use Rattle.ncl_template.specs.Template.{IsNull, ShowWord, Obeys, IsCase}
 use Rattle.ncl_tree.specs.declared.tree.Family.TheVariants.{Any}
 use Rattle.ncl_tree.specs.GateTree.{GateTree}

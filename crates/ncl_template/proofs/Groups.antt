@@ -9,7 +9,7 @@ use Rattle.ncl_shape.specs.declared.stage.StageCell.{StageCell}
 use Rattle.ncl_shape.specs.Nets.{Nets, IsBelow}
 use Rattle.ncl_shape.specs.Stage.{out_of}
 use Rattle.ncl_base.proofs.Members.{Member-append_cases, Member, here, there, Contains-from_Member, Member-from_Contains, list_any-from_member, Member-append_left, Member-append_right, Member-map}
-use Rattle.ncl_stage.specs.Values.{holds}
+use Rattle.ncl_faults.specs.Values.{holds}
 use Rattle.ncl_template.specs.Template.{Shows, IsNull, ShowWord, Obeys, IsSupported, IsCase, IsTemplate}
 use Rattle.ncl_tree.specs.declared.tree.Family.TheVariants.{Any}
 use Rattle.ncl_tree.specs.GateTree.{GateTree}

@@ -8,7 +8,7 @@ use Rattle.ncl_shape.specs.declared.rails.Rails.{Rails}
 use Rattle.ncl_shape.specs.declared.stage.StageCell.{StageCell}
 use Rattle.ncl_shape.specs.Nets.{Nets}
 use Rattle.ncl_shape.specs.Stage.{out_of}
-use Rattle.ncl_stage.specs.Values.{holds}
+use Rattle.ncl_faults.specs.Values.{holds}
 use Rattle.ncl_decomp.specs.Split.{cost_of_inputs}
 use Rattle.ncl_template.specs.declared.form.FormPin.{FormPin}
 use Rattle.ncl_template.specs.declared.form.FormPin.TheVariants.{Zero, One, Inner}

@@ -15,7 +15,7 @@ use Rattle.ncl_shape.specs.Stage.{out_of}
 use Rattle.ncl_shape.specs.Closure.{pin_values}
 use Rattle.ncl_blif.proofs.Commands.{or-false}
 use Rattle.ncl_base.proofs.Members.{Member, here, there, Contains-from_Member, Member-from_Contains}
-use Rattle.ncl_stage.specs.Values.{holds}
+use Rattle.ncl_faults.specs.Values.{holds}
 use Rattle.ncl_template.specs.Template.{Obeys, IsSupported}
 use Rattle.ncl_tree.specs.declared.tree.Family.TheVariants.{Any}
 use Rattle.ncl_tree.specs.GateTree.{IsOfFamily, any_two, any_three, any_four, IsFamilyGate, GateTree, one, more}

@@ -10,7 +10,7 @@ use Rattle.ncl_shape.specs.declared.rails.Rails.{Rails}
 use Rattle.ncl_shape.specs.declared.stage.StageCell.{StageCell}
 use Rattle.ncl_shape.specs.Nets.{Nets}
 use Rattle.ncl_shape.specs.Closure.{pin_values}
-use Rattle.ncl_stage.specs.Values.{holds}
+use Rattle.ncl_faults.specs.Values.{holds}
 use Rattle.ncl_template.specs.declared.table.TableRow.{TableRow}
 use Rattle.ncl_template.specs.Template.{IsNull}
 use Rattle.ncl_template.specs.Tables.{pair_number, bit_at}

@@ -5,7 +5,7 @@ use Rattle.ncl_netlist.specs.declared.ids.NetId.{NetId}
 use Rattle.ncl_shape.specs.declared.rails.Rails.{Rails}
 use Rattle.ncl_shape.specs.declared.stage.StageCell.{StageCell}
 use Rattle.ncl_shape.specs.Nets.{Nets, IsBelow}
-use Rattle.ncl_stage.specs.Values.{holds}
+use Rattle.ncl_faults.specs.Values.{holds}
 use Rattle.ncl_tree.specs.declared.tree.Family.TheVariants.{Any}
 use Rattle.ncl_tree.specs.GateTree.{GateTree}
 use Rattle.ncl_template.specs.declared.code.Class.{Class}

@@ -5,7 +5,7 @@ use Rattle.ncl_shape.specs.declared.rails.Rails.{Rails}
 use Rattle.ncl_shape.specs.declared.stage.StageCell.{StageCell}
 use Rattle.ncl_shape.specs.Nets.{Nets, IsBelow}
 use Rattle.ncl_shape.specs.Stage.{out_of, rail_of}
-use Rattle.ncl_stage.specs.Values.{holds}
+use Rattle.ncl_faults.specs.Values.{holds}
 use Rattle.ncl_network.specs.declared.network.Node.{Node}
 
 -- the pair shows a bit: its rail is high, and the other is low

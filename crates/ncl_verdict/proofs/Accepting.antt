@@ -9,8 +9,8 @@ use Rattle.ncl_shape.specs.Stage.{StageData}
 use Rattle.ncl_stage.specs.BitOrder.{bit_order, words_by}
 use Rattle.ncl_stage.proofs.OrderLaws.{words_by-length}
 use Rattle.ncl_stage.proofs.OrderedTables.{order-is}
-use Rattle.ncl_stage.specs.declared.variant.Variant.{Variant}
-use Rattle.ncl_stage.specs.Faults.{StageFault, shows, IsSound}
+use Rattle.ncl_faults.specs.declared.variant.Variant.{Variant}
+use Rattle.ncl_faults.specs.Faults.{StageFault, shows, IsSound}
 use Rattle.ncl_stage.specs.Tables.{count}
 use Rattle.ncl_verdict.specs.declared.verdict.Verdict.{Verdict}
 use Rattle.ncl_verdict.specs.declared.verdict.Verdict.TheVariants as verdict

@@ -15,9 +15,9 @@ use Rattle.ncl_space.specs.declared.space.SpaceFault.TheVariants.{Full}
 use Rattle.ncl_space.proofs.BeadLaws.{distinct_beads-append}
 use Rattle.ncl_space.proofs.MakingLaws.{have-kept}
 use Rattle.ncl_space.proofs.SpaceLaws.{fits_fewer}
-use Rattle.ncl_stage.specs.declared.variant.Variant.{Variant}
-use Rattle.ncl_stage.specs.declared.variant.Variant.TheVariants.{Base}
-use Rattle.ncl_stage.specs.Faults.{StageFault}
+use Rattle.ncl_faults.specs.declared.variant.Variant.{Variant}
+use Rattle.ncl_faults.specs.declared.variant.Variant.TheVariants.{Base}
+use Rattle.ncl_faults.specs.Faults.{StageFault}
 use Rattle.ncl_stage.specs.LeastWords.{faults_of, least_word_by}
 use Rattle.ncl_stage.specs.StageTables.{ValuesData, net_tables_by}
 use Rattle.ncl_stage.specs.Tables.{count, tables_by, tables_of}

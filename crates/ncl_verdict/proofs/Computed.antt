@@ -2,7 +2,7 @@
 use Rattle.std.proofs.Common.{◌≡◌, ℕ, List, Some, None, ap}
 use Rattle.std.specs.Prelude.{nat_lt, if◌then◌else◌}
 use Rattle.ncl_shape.specs.Stage.{StageData}
-use Rattle.ncl_stage.specs.declared.variant.Variant.{Variant}
+use Rattle.ncl_faults.specs.declared.variant.Variant.{Variant}
 use Rattle.ncl_stage.proofs.Counted.{counted, count-computes}
 use Rattle.ncl_verdict.specs.declared.verdict.Verdict.TheVariants.{Limit}
 use Rattle.ncl_verdict.specs.Judgement.{Stop, judged, judgement}

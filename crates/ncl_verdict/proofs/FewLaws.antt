@@ -13,13 +13,13 @@ use Rattle.ncl_space.specs.Table.{table_of}
 use Rattle.ncl_space.proofs.TableLaws.{beads_of-constant, table_of-same}
 use Rattle.ncl_stage.specs.BitOrder.{bit_order, placed, words_by}
 use Rattle.ncl_stage.specs.Changes.{net_at}
-use Rattle.ncl_stage.specs.declared.variant.Variant.{Variant}
-use Rattle.ncl_stage.specs.declared.variant.Variant.TheVariants.{Base}
-use Rattle.ncl_stage.specs.Faults.{IsWordOf, has_data}
+use Rattle.ncl_faults.specs.declared.variant.Variant.{Variant}
+use Rattle.ncl_faults.specs.declared.variant.Variant.TheVariants.{Base}
+use Rattle.ncl_faults.specs.Faults.{IsWordOf, has_data}
 use Rattle.ncl_stage.specs.Observed.{HasValidRails}
 use Rattle.ncl_stage.specs.Supports.{AreSupports}
 use Rattle.ncl_stage.specs.Tables.{WordFunction, count, data_fronts, data_functions, fronts, functions_of, net_functions, question_functions, tables_of}
-use Rattle.ncl_stage.specs.Values.{val}
+use Rattle.ncl_faults.specs.Values.{val}
 use Rattle.ncl_stage.specs.Wiring.{WiringData, IsWiring, rail_places}
 use Rattle.ncl_stage.proofs.OrderedTables.{ordered-table}
 use Rattle.ncl_stage.proofs.OutputLaws.{fronts-map, values_at}

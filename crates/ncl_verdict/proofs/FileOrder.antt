@@ -16,8 +16,8 @@ use Rattle.ncl_shape.specs.Stage.{StageData, IsStage}
 use Rattle.ncl_base.proofs.Members.{Member, here, there, member_cases, Member-append_cases, Member-map, member_of_map, All-from_members, Contains-from_Member, Member-from_Contains, Contains-from_slice_get, slice_get-from_Contains, slice_get-some}
 use Rattle.ncl_base.proofs.Lists.{HasKeys, AreIncreasing, Differ, pairs-head, pairs-tail, differ_of_map, same_increasing}
 use Rattle.ncl_base.proofs.Ranges.{below_of_range}
-use Rattle.ncl_stage.proofs.Apart.{same_from_value}
-use Rattle.ncl_stage.specs.declared.variant.Variant.TheVariants.{Bit, Cell}
+use Rattle.ncl_faults.proofs.Apart.{same_from_value}
+use Rattle.ncl_faults.specs.declared.variant.Variant.TheVariants.{Bit, Cell}
 use Rattle.ncl_verdict.specs.InSpace.{IsAfterBase}
 use Rattle.ncl_verdict.specs.Judgement.{after_base, below, cell_number, file_number, file_order, inserted, ordered_by}
 use Rattle.ncl_verdict.proofs.Places.{Member-below, Member-ordered_by}

@@ -14,9 +14,9 @@ use Rattle.ncl_space.specs.Space.{SpaceData, Restores, fits, with_tables, is_wit
 use Rattle.ncl_space.proofs.BeadLaws.{HasMembers, distinct_beads-append, distinct_beads-same}
 use Rattle.ncl_space.proofs.SpaceLaws.{count_of_both, too_much_by_front}
 use Rattle.ncl_space.proofs.MakingLaws.{have-kept}
-use Rattle.ncl_stage.specs.declared.variant.Variant.{Variant}
-use Rattle.ncl_stage.specs.declared.variant.Variant.TheVariants.{Base}
-use Rattle.ncl_stage.specs.Faults.{StageFault, BothRails, NoRail}
+use Rattle.ncl_faults.specs.declared.variant.Variant.{Variant}
+use Rattle.ncl_faults.specs.declared.variant.Variant.TheVariants.{Base}
+use Rattle.ncl_faults.specs.Faults.{StageFault, BothRails, NoRail}
 use Rattle.ncl_stage.specs.BitOrder.{bit_order}
 use Rattle.ncl_stage.specs.LeastWords.{below, faults_of, first_of, least_word, least_word_by}
 use Rattle.ncl_stage.specs.StageTables.{ValuesData, net_tables, net_tables_by}

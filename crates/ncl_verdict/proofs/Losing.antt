@@ -9,13 +9,13 @@ use Rattle.ncl_shape.specs.declared.stage.StageCell.{StageCell}
 use Rattle.ncl_shape.specs.Stage.{StageData, IsStage, nets_of, out_of, rail_nets}
 use Rattle.ncl_base.proofs.Members.{Member, here, there, member_cases, member_of_map, Member-append_right, Member-from_Contains, Member-map, Contains-from_slice_get}
 use Rattle.ncl_stage.specs.BitOrder.{placed}
-use Rattle.ncl_stage.specs.declared.variant.Variant.{Variant}
-use Rattle.ncl_stage.specs.declared.variant.Variant.TheVariants.{Base, Bit, Cell}
-use Rattle.ncl_stage.specs.Faults.{IsWordOf, all_data, has_data, is_illegal}
+use Rattle.ncl_faults.specs.declared.variant.Variant.{Variant}
+use Rattle.ncl_faults.specs.declared.variant.Variant.TheVariants.{Base, Bit, Cell}
+use Rattle.ncl_faults.specs.Faults.{IsWordOf, all_data, has_data, is_illegal}
 use Rattle.ncl_stage.specs.Observed.{HasValidRails}
 use Rattle.ncl_stage.specs.Supports.{AreSupports}
 use Rattle.ncl_stage.specs.Tables.{WordFunction, orphan_function, question_functions}
-use Rattle.ncl_stage.specs.Values.{both_rails, kept_low, output_net, val}
+use Rattle.ncl_faults.specs.Values.{both_rails, kept_low, output_net, val}
 use Rattle.ncl_stage.specs.Wiring.{WiringData, IsWiring, place_in, rail_places}
 use Rattle.ncl_stage.proofs.ChangedLaws.{nets-length}
 use Rattle.ncl_stage.proofs.OrderedTables.{placed-length}

@@ -12,14 +12,14 @@ use Rattle.ncl_shape.specs.Nets.{among}
 use Rattle.ncl_shape.specs.Closure.{pin_values}
 use Rattle.ncl_shape.specs.Stage.{StageData, IsStage, named_rails, nets_of, out_of, rail_nets}
 use Rattle.ncl_base.proofs.Members.{Member, here, there, member_cases, Contains-from_Member, Member-from_Contains, Member-append_left, Member-append_right, Member-append_cases, Member-map, member_of_map, slice_get-from_Contains}
-use Rattle.ncl_stage.specs.declared.variant.Variant.{Variant}
-use Rattle.ncl_stage.specs.declared.variant.Variant.TheVariants.{Base}
-use Rattle.ncl_stage.specs.Values.{kept_low, val}
-use Rattle.ncl_stage.specs.Faults.{IsWordOf, has_data, holds_at, is_illegal}
+use Rattle.ncl_faults.specs.declared.variant.Variant.{Variant}
+use Rattle.ncl_faults.specs.declared.variant.Variant.TheVariants.{Base}
+use Rattle.ncl_faults.specs.Values.{kept_low, val}
+use Rattle.ncl_faults.specs.Faults.{IsWordOf, has_data, holds_at, is_illegal}
 use Rattle.ncl_stage.specs.Observed.{HasValidRails}
 use Rattle.ncl_stage.specs.Tables.{fronts}
-use Rattle.ncl_stage.proofs.ValueLaws.{val-output, val-rail}
-use Rattle.ncl_stage.proofs.WiringLaws.{at_rail}
+use Rattle.ncl_faults.proofs.ValueLaws.{val-output, val-rail}
+use Rattle.ncl_faults.proofs.WiringLaws.{at_rail}
 
 -- the rails of an output are nets
 pub known-rails : (s : StageData) → IsStage s → (r : Rails) → Member r s.outputs → Member r.zero.0 (nets_of s.inputs s.cells) × Member r.one.0 (nets_of s.inputs s.cells)

@@ -9,10 +9,10 @@ use Rattle.ncl_base.proofs.Members.{Member, here, there, All-from_members, membe
 use Rattle.ncl_stage.specs.BitOrder.{bit_order, words_by}
 use Rattle.ncl_stage.proofs.OrderLaws.{Member-words_by}
 use Rattle.ncl_stage.proofs.OrderedTables.{order-is}
-use Rattle.ncl_stage.specs.declared.variant.Variant.{Variant}
-use Rattle.ncl_stage.specs.declared.variant.Variant.TheVariants.{Base, Bit, Cell}
-use Rattle.ncl_stage.specs.Values.{val}
-use Rattle.ncl_stage.specs.Faults.{StageFault, BothRails, NoRail, Incomplete, Orphan, shows, holds_at, is_illegal, has_data, all_data, IsSound, IsWordOf}
+use Rattle.ncl_faults.specs.declared.variant.Variant.{Variant}
+use Rattle.ncl_faults.specs.declared.variant.Variant.TheVariants.{Base, Bit, Cell}
+use Rattle.ncl_faults.specs.Values.{val}
+use Rattle.ncl_faults.specs.Faults.{StageFault, BothRails, NoRail, Incomplete, Orphan, shows, holds_at, is_illegal, has_data, all_data, IsSound, IsWordOf}
 use Rattle.ncl_stage.specs.Observed.{HasValidRails}
 use Rattle.ncl_stage.specs.Tables.{count}
 use Rattle.ncl_verdict.specs.declared.verdict.Verdict.{Verdict}

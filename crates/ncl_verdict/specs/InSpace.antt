@@ -6,8 +6,8 @@ use Rattle.ncl_space.specs.Beads.{distinct_beads}
 use Rattle.ncl_space.specs.Space.{SpaceData, IsSpace}
 use Rattle.ncl_space.specs.declared.space.Mark.{Mark}
 use Rattle.ncl_stage.specs.BitOrder.{bit_order}
-use Rattle.ncl_stage.specs.declared.variant.Variant.{Variant}
-use Rattle.ncl_stage.specs.declared.variant.Variant.TheVariants.{Base, Bit, Cell}
+use Rattle.ncl_faults.specs.declared.variant.Variant.{Variant}
+use Rattle.ncl_faults.specs.declared.variant.Variant.TheVariants.{Base, Bit, Cell}
 use Rattle.ncl_stage.specs.StageTables.{AreValues, ValuesData}
 use Rattle.ncl_stage.specs.Tables.{tables_of}
 use Rattle.ncl_complete.specs.declared.rail_fault.RailFault.{RailFault}

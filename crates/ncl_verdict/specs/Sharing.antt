@@ -1,7 +1,7 @@
 -- What is said of the variants of a stage that several threads share.
 use Rattle.std.specs.Prelude.{◌≡◌, ⊤, ℕ, Bool, false, true, List, map, Option, Some, None, IfSome, get_or, option_and_then, slice_get}
 use Rattle.ncl_shape.specs.Stage.{StageData}
-use Rattle.ncl_stage.specs.declared.variant.Variant.{Variant}
+use Rattle.ncl_faults.specs.declared.variant.Variant.{Variant}
 use Rattle.ncl_verdict.specs.declared.sharing.Heard.{Heard}
 use Rattle.ncl_verdict.specs.declared.sharing.Heard.TheVariants.{Nothing, Said, Open}
 use Rattle.ncl_verdict.specs.declared.sharing.Part.{Part}

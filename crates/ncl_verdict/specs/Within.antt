@@ -1,7 +1,7 @@
 -- Stages whose diagrams stay within a limit.
 use Rattle.std.specs.Prelude.{ℕ, ◌≤◌, List, Contains}
 use Rattle.ncl_shape.specs.Stage.{StageData}
-use Rattle.ncl_stage.specs.declared.variant.Variant.{Variant}
+use Rattle.ncl_faults.specs.declared.variant.Variant.{Variant}
 use Rattle.ncl_stage.specs.Tables.{count}
 use Rattle.ncl_verdict.specs.Judgement.{variants}
 

@@ -2,7 +2,7 @@
 ghost use Rattle.std.specs.Prelude.{◌≡◌, ◌<◌, ℕ, IfOk, IsErrOf, IsTrue, OnOk, Option, false, length, true};
 ghost use Rattle.ncl_shape.specs.Stage.{StageData};
 ghost use Rattle.ncl_space.specs.Space.{is_within};
-ghost use Rattle.ncl_stage.specs.Faults.{Incomplete, Orphan};
+ghost use Rattle.ncl_faults.specs.Faults.{Incomplete, Orphan};
 ghost use Rattle.ncl_stage.specs.LeastWords.{least_word_by};
 ghost use Rattle.ncl_stage.specs.StageTables.{ValuesData};
 ghost use Rattle.ncl_stage.specs.Tables.{count};

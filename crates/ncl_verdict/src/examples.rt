@@ -1,8 +1,8 @@
 //! Worked examples: what the judgement says of small stages.
 ghost use Rattle.std.specs.Prelude.{◌≡◌, true, false, [], ◌∷◌};
-ghost use Rattle.ncl_stage.specs.Examples.{and_stage, eager_and_stage, orphan_and_stage, crossed_stage, dead_rail_stage, adder_stage, sum_stage, swapped_stage, straight_stage};
+ghost use Rattle.ncl_faults.specs.Examples.{and_stage, eager_and_stage, orphan_and_stage, crossed_stage, dead_rail_stage, adder_stage, sum_stage, swapped_stage, straight_stage};
 ghost use Rattle.ncl_stage.specs.Tables.{count};
-ghost use Rattle.ncl_stage.specs.declared.variant.Variant.TheVariants.{Base};
+ghost use Rattle.ncl_faults.specs.declared.variant.Variant.TheVariants.{Base};
 ghost use Rattle.ncl_verdict.specs.Judgement.{judgement};
 ghost use Rattle.ncl_verdict.specs.declared.verdict.Verdict.TheVariants.{Accepted, BothRails, NoRail, Incomplete, Orphan, Limit};
 

@@ -5,7 +5,7 @@ ghost use Rattle.ncl_stage.specs.BitOrder.{bit_order};
 ghost use Rattle.ncl_stage.specs.Observed.{HasValidRails};
 ghost use Rattle.ncl_stage.specs.Tables.{tables_of};
 ghost use Rattle.ncl_stage.specs.Wiring.{IsWiring};
-ghost use Rattle.ncl_stage.specs.declared.variant.Variant.TheVariants.{Base};
+ghost use Rattle.ncl_faults.specs.declared.variant.Variant.TheVariants.{Base};
 ghost use Rattle.ncl_verdict.specs.Masks.{Covers, lost_mask, weight_lost, weight_of};
 ghost use Rattle.ncl_verdict.specs.Within.{IsWithin};
 

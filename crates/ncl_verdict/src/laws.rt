@@ -3,7 +3,7 @@ ghost use Rattle.std.specs.Prelude.{◌≡◌, ◌⊎◌, ℕ, List, All};
 ghost use Rattle.ncl_shape.specs.Stage.{StageData, IsStage};
 ghost use Rattle.ncl_shape.specs.Pipeline.{PipelineData};
 ghost use Rattle.ncl_shape.specs.SamePipeline.{IsSamePipeline};
-ghost use Rattle.ncl_stage.specs.Faults.{IsSound};
+ghost use Rattle.ncl_faults.specs.Faults.{IsSound};
 ghost use Rattle.ncl_verdict.specs.Judgement.{judgement};
 ghost use Rattle.ncl_verdict.specs.declared.verdict.Verdict.TheVariants.{Accepted, Limit};
 ghost use Rattle.ncl_verdict.specs.Within.{AreWithin};

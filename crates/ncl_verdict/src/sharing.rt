@@ -2,7 +2,7 @@
 ghost use Rattle.std.specs.Prelude.{◌≡◌, ◌⊎◌, ◌<◌, ◌≤◌, ℕ, List, All, IfOk, true, false, get_or, length};
 ghost use Rattle.std.specs.Thread.{IsSync};
 ghost use Rattle.ncl_shape.specs.Stage.{StageData};
-ghost use Rattle.ncl_stage.specs.declared.variant.Variant.{Variant as VariantData};
+ghost use Rattle.ncl_faults.specs.declared.variant.Variant.{Variant as VariantData};
 ghost use Rattle.ncl_verdict.specs.InSpace.{IsAfterBase, IsAsked, stopped_within};
 ghost use Rattle.ncl_verdict.specs.Judgement.{Stop, after_base, stopped_at};
 ghost use Rattle.ncl_verdict.specs.Sharing.{IsHeard, IsPart};

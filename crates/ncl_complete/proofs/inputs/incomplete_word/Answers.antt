@@ -1,10 +1,10 @@
 use Rattle.std.proofs.Common.{true, length, sym, ◌∙◌, ap}
 use Rattle.ncl_shape.specs.Stage.{StageData}
 use Rattle.ncl_space.specs.Functions.{least}
-use Rattle.ncl_stage.specs.declared.variant.Variant.TheVariants.{Base, Bit}
+use Rattle.ncl_faults.specs.declared.variant.Variant.TheVariants.{Base, Bit}
 use Rattle.std.specs.Option.{option_map}
 use Rattle.ncl_stage.specs.BitOrder.{placed}
-use Rattle.ncl_stage.specs.Faults.{Incomplete}
+use Rattle.ncl_faults.specs.Faults.{Incomplete}
 use Rattle.ncl_stage.specs.Tables.{all_data_function}
 use Rattle.ncl_stage.proofs.OutputLaws.{values_at}
 use Rattle.ncl_stage.proofs.LeastLaws.{least-shown, incomplete-shown}

@@ -7,10 +7,10 @@ use Rattle.ncl_space.specs.Making.{HaveTables}
 use Rattle.ncl_space.specs.declared.space.Ref.{Ref}
 use Rattle.std.specs.Option.{option_map}
 use Rattle.ncl_stage.specs.BitOrder.{IsOrderOf, placed}
-use Rattle.ncl_stage.specs.declared.variant.Variant.TheVariants.{Base}
+use Rattle.ncl_faults.specs.declared.variant.Variant.TheVariants.{Base}
 use Rattle.ncl_stage.specs.Tables.{data_functions, function_tables_by, illegal_functions}
 use Rattle.ncl_stage.proofs.OutputLaws.{values_at}
-use Rattle.ncl_stage.specs.Faults.{BothRails, NoRail}
+use Rattle.ncl_faults.specs.Faults.{BothRails, NoRail}
 use Rattle.ncl_stage.specs.LeastWords.{least_word_by}
 use Rattle.ncl_complete.specs.declared.rail_fault.RailFault.TheVariants as rail
 use Rattle.ncl_complete.proofs.OutputFaults.{output_fault, both-found, none-found, fault-both, fault-empty, fault-none, first-fault, no-fault}

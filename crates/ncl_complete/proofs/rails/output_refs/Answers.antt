@@ -9,7 +9,7 @@ use Rattle.ncl_space.specs.Making.{HaveTables, IsNamed, MakesAll}
 use Rattle.ncl_space.specs.declared.space.Ref.{Ref}
 use Rattle.ncl_space.proofs.SpaceLaws.{keeps_all, keeps_along, too_much_by_front}
 use Rattle.ncl_space.proofs.MakingLaws.{have-length, have-kept, tables-kept, held-along, too_much-after, handed_on, with_tables-live, named-all}
-use Rattle.ncl_stage.specs.declared.variant.Variant.TheVariants.{Base}
+use Rattle.ncl_faults.specs.declared.variant.Variant.TheVariants.{Base}
 use Rattle.ncl_stage.specs.Tables.{data_functions, data_fronts, function_tables_by, illegal_functions, tables_by}
 use Rattle.ncl_stage.specs.BitOrder.{IsOrderOf}
 use Rattle.ncl_stage.specs.Wiring.{WiringData}

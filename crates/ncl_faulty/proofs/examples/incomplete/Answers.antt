@@ -1,5 +1,5 @@
 use Rattle.std.proofs.Common.{false, [], ◌∷◌, refl}
-use Rattle.ncl_stage.specs.Faults.{Incomplete}
+use Rattle.ncl_faults.specs.Faults.{Incomplete}
 use Rattle.ncl_verdict.proofs.Computed.{judgement-computes}
 use Rattle.ncl_faulty.specs.Examples.{eager_stage, with_eager_and}
 use Rattle.ncl_faulty.proofs.Shapes.{eager_and_shape}

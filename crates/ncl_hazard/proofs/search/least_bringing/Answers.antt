@@ -3,7 +3,7 @@ use Rattle.std.proofs.lemmas.Result.{IfOk-weaker}
 use Rattle.ncl_base.proofs.Members.{slice_get-some}
 use Rattle.ncl_shape.specs.Stage.{StageData}
 use Rattle.ncl_shape.specs.Pipeline.{PipelineData}
-use Rattle.ncl_stage.specs.Faults.{Orphan}
+use Rattle.ncl_faults.specs.Faults.{Orphan}
 use Rattle.ncl_stage.specs.LeastWords.{least_word_by}
 use Rattle.ncl_hazard.specs.Joined.{joined, joined_cells}
 use Rattle.ncl_hazard.specs.Search.{ascending, made_count}

@@ -5,8 +5,8 @@ use Rattle.ncl_shape.specs.Stage.{StageData}
 use Rattle.ncl_space.specs.Space.{SpaceData, fits}
 use Rattle.ncl_space.proofs.MakingLaws.{handed_on}
 use Rattle.ncl_diagram.specs.Diagram.{diagram_space}
-use Rattle.ncl_stage.specs.declared.variant.Variant.TheVariants.{Cell}
-use Rattle.ncl_stage.specs.Faults.{Orphan}
+use Rattle.ncl_faults.specs.declared.variant.Variant.TheVariants.{Cell}
+use Rattle.ncl_faults.specs.Faults.{Orphan}
 use Rattle.ncl_stage.specs.LeastWords.{least_word_by}
 use Rattle.ncl_stage.specs.Tables.{tables_by}
 use Rattle.ncl_hazard.specs.Search.{ascending, made_count}

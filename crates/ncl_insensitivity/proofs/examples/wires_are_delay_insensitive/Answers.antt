@@ -3,9 +3,9 @@ use Rattle.std.specs.Prelude.{All}
 use Rattle.ncl_base.proofs.Members.{All-from_members, member_cases}
 use Rattle.ncl_shape.specs.Stage.{StageData}
 use Rattle.ncl_shape.specs.Examples.{rails, wires, wires_pipeline}
-use Rattle.ncl_stage.specs.Examples.{stage}
-use Rattle.ncl_stage.specs.Faults.{IsSound}
-use Rattle.ncl_stage.proofs.StageTest.{IsStage-from_test}
+use Rattle.ncl_faults.specs.Examples.{stage}
+use Rattle.ncl_faults.specs.Faults.{IsSound}
+use Rattle.ncl_faults.proofs.StageTest.{IsStage-from_test}
 use Rattle.ncl_insensitivity.proofs.WiresSound.{wires_sound}
 use Rattle.ncl_insensitivity.proofs.WiresShape.{wires_shape}
 use Rattle.ncl_insensitivity.proofs.Headline.{delay_insensitive}

@@ -1,5 +1,5 @@
 use Rattle.std.proofs.Common.{refl, arith}
-use Rattle.ncl_stage.proofs.StageTest.{IsStage-from_test}
+use Rattle.ncl_faults.proofs.StageTest.{IsStage-from_test}
 use Rattle.ncl_insensitivity.specs.Examples.{chain, chain_stage, chain_pipeline, where_the_chain_rests}
 use Rattle.ncl_insensitivity.proofs.WrittenNetlists.{netlist_from_tests}
 use Rattle.ncl_insensitivity.proofs.ByComputation.{quiet_by_cells, IsHiddenAtOne, IsHiddenAtOne-word, condition_of-other, other_faults}

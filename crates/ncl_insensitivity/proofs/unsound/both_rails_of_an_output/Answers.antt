@@ -1,5 +1,5 @@
 use Rattle.std.proofs.Common.{◌≡◌, true, false, [], ◌∷◌, not, map, refl, sym, ap, ◌∙◌, arith}
-use Rattle.ncl_stage.proofs.StageTest.{IsStage-from_test}
+use Rattle.ncl_faults.proofs.StageTest.{IsStage-from_test}
 use Rattle.ncl_machine.specs.Run.{IsRun}
 use Rattle.ncl_machine.specs.DelayInsensitive.{DeliversWhatIsDue}
 use Rattle.ncl_insensitivity.specs.Examples.{one_word}

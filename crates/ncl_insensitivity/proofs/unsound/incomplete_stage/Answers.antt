@@ -1,5 +1,5 @@
 use Rattle.std.proofs.Common.{refl, arith}
-use Rattle.ncl_stage.proofs.StageTest.{IsStage-from_test}
+use Rattle.ncl_faults.proofs.StageTest.{IsStage-from_test}
 use Rattle.ncl_machine.specs.Run.{IsRun}
 use Rattle.ncl_insensitivity.specs.Unsound.{eager_stage, two_zeros, delivers_too_early, with_eager_and}
 use Rattle.ncl_insensitivity.proofs.UnsoundLaws.{eager_stage_breaks}

@@ -1,5 +1,5 @@
 use Rattle.std.proofs.Common.{refl, arith}
-use Rattle.ncl_stage.proofs.StageTest.{IsStage-from_test}
+use Rattle.ncl_faults.proofs.StageTest.{IsStage-from_test}
 use Rattle.ncl_machine.specs.Run.{IsQuiet, IsRun}
 use Rattle.ncl_insensitivity.specs.Unsound.{dead_stage, with_dead_rail, one_zero, gets_stuck, after_run}
 use Rattle.ncl_insensitivity.proofs.UnsoundLaws.{dead_stage_breaks}

@@ -1,5 +1,5 @@
 use Rattle.std.proofs.Common.{refl, arith}
-use Rattle.ncl_stage.proofs.StageTest.{IsStage-from_test}
+use Rattle.ncl_faults.proofs.StageTest.{IsStage-from_test}
 use Rattle.ncl_machine.specs.Run.{IsRun}
 use Rattle.ncl_insensitivity.specs.Examples.{fire, one_word}
 use Rattle.ncl_insensitivity.specs.Unsound.{orphan_stage, with_orphan, leaves_a_gate_behind}

@@ -3,7 +3,7 @@ use Rattle.std.specs.Option.{option_map}
 use Rattle.ncl_space.specs.Functions.{least}
 use Rattle.ncl_space.specs.Space.{SpaceData}
 use Rattle.ncl_stage.specs.BitOrder.{placed}
-use Rattle.ncl_stage.specs.declared.variant.Variant.TheVariants.{Base}
+use Rattle.ncl_faults.specs.declared.variant.Variant.TheVariants.{Base}
 use Rattle.ncl_stage.proofs.ChangedLaws.{values-width}
 use Rattle.ncl_orphan.proofs.observing.orphan_word.Goals as goal
 

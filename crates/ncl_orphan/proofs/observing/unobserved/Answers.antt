@@ -9,8 +9,8 @@ use Rattle.ncl_space.specs.Functions.{gate_table, least}
 use Rattle.ncl_space.specs.Space.{SpaceData, fits}
 use Rattle.ncl_space.proofs.SpaceLaws.{too_much_by_front}
 use Rattle.ncl_space.proofs.MakingLaws.{fits-along, handed_on}
-use Rattle.ncl_stage.specs.declared.variant.Variant.TheVariants.{Base, Cell}
-use Rattle.ncl_stage.specs.Faults.{Orphan}
+use Rattle.ncl_faults.specs.declared.variant.Variant.TheVariants.{Base, Cell}
+use Rattle.ncl_faults.specs.Faults.{Orphan}
 use Rattle.std.specs.Option.{option_map}
 use Rattle.ncl_stage.specs.BitOrder.{placed}
 use Rattle.ncl_stage.specs.LeastWords.{least_word_by}

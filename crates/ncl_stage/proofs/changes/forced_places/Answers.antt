@@ -6,10 +6,10 @@ use Rattle.ncl_shape.specs.declared.rails.Rails.{Rails}
 use Rattle.ncl_shape.specs.declared.stage.StageCell.{StageCell}
 use Rattle.ncl_shape.specs.Stage.{StageData, IsStage, rail_nets, nets_of, out_of}
 use Rattle.ncl_stage.specs.Changes.{net_at}
-use Rattle.ncl_stage.specs.Values.{both_rails, kept_low, output_net}
+use Rattle.ncl_faults.specs.Values.{both_rails, kept_low, output_net}
 use Rattle.ncl_stage.specs.Wiring.{place_in}
 use Rattle.ncl_stage.proofs.Unvisited.{other-rail, other-output, place-within, some-net}
-use Rattle.ncl_stage.proofs.WiringLaws.{zero-member, one-member}
+use Rattle.ncl_faults.proofs.WiringLaws.{zero-member, one-member}
 use Rattle.ncl_stage.proofs.changes.forced_places.Goals as goal
 
 -- the rails of an input that is read are nets

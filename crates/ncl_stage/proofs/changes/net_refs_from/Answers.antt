@@ -8,8 +8,8 @@ use Rattle.ncl_space.specs.Making.{HaveTables, MakesAll}
 use Rattle.ncl_space.specs.declared.space.Ref.{Ref}
 use Rattle.ncl_space.proofs.SpaceLaws.{keeps_along}
 use Rattle.ncl_space.proofs.MakingLaws.{Making, making-none, making-next, too_much-next, have-length, handed_on}
-use Rattle.ncl_stage.specs.declared.variant.Variant.{Variant}
-use Rattle.ncl_stage.specs.declared.variant.Variant.TheVariants.{Base}
+use Rattle.ncl_faults.specs.declared.variant.Variant.{Variant}
+use Rattle.ncl_faults.specs.declared.variant.Variant.TheVariants.{Base}
 use Rattle.ncl_stage.specs.Changes.{IsUnchanged, MarksChanges, net_at}
 use Rattle.ncl_stage.specs.StageTables.{ValuesData, AreValues, net_table_by, net_tables_by}
 use Rattle.ncl_stage.specs.Wiring.{WiringData, pin_places}

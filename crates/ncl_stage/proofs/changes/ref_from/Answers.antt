@@ -7,10 +7,10 @@ use Rattle.ncl_space.specs.Making.{HaveTables}
 use Rattle.ncl_space.specs.Space.{SpaceData, IsLive, Makes, fits}
 use Rattle.ncl_space.specs.declared.space.Ref.{Ref}
 use Rattle.ncl_space.proofs.MakingLaws.{makes-live}
-use Rattle.ncl_stage.specs.declared.variant.Variant.TheVariants.{Base}
+use Rattle.ncl_faults.specs.declared.variant.Variant.TheVariants.{Base}
 use Rattle.ncl_stage.specs.Changes.{IsUnreached, MarksChanges, net_at}
 use Rattle.ncl_stage.specs.StageTables.{net_table_by, net_tables_by}
-use Rattle.ncl_stage.specs.Values.{kept_low}
+use Rattle.ncl_faults.specs.Values.{kept_low}
 use Rattle.ncl_stage.specs.Wiring.{WiringData}
 use Rattle.ncl_stage.proofs.ChangedLaws.{value-at, values-width}
 use Rattle.ncl_stage.proofs.NetLaws.{low-net}

@@ -1,4 +1,4 @@
-use Rattle.ncl_stage.proofs.OnePass.{pass-val}
+use Rattle.ncl_faults.proofs.OnePass.{pass-val}
 use Rattle.ncl_stage.proofs.laws.one_pass_is_enough.Goals as goal
 
 pub returns : goal.returns

@@ -1,4 +1,4 @@
-use Rattle.ncl_stage.proofs.ValueLaws.{val-outputs}
+use Rattle.ncl_faults.proofs.ValueLaws.{val-outputs}
 use Rattle.ncl_stage.proofs.laws.outputs_are_set.Goals as goal
 
 pub returns : goal.returns

@@ -1,4 +1,4 @@
-use Rattle.ncl_stage.proofs.ValueLaws.{val-rails}
+use Rattle.ncl_faults.proofs.ValueLaws.{val-rails}
 use Rattle.ncl_stage.proofs.laws.rails_are_named.Goals as goal
 
 pub returns : goal.returns

@@ -11,11 +11,11 @@ use Rattle.ncl_space.specs.Functions.{constant_table, gate_table, rail_table}
 use Rattle.ncl_space.specs.Making.{HaveTables}
 use Rattle.ncl_space.proofs.MakingLaws.{makes-live}
 use Rattle.ncl_space.specs.declared.space.Ref.{Ref}
-use Rattle.ncl_stage.specs.declared.variant.Variant.{Variant}
+use Rattle.ncl_faults.specs.declared.variant.Variant.{Variant}
 use Rattle.ncl_stage.specs.BitOrder.{IsOrderOf, place_in}
 use Rattle.ncl_stage.specs.Changes.{net_at}
 use Rattle.ncl_stage.specs.StageTables.{net_table_by, net_tables_by, rail_at, ref_at}
-use Rattle.ncl_stage.specs.Values.{kept_low}
+use Rattle.ncl_faults.specs.Values.{kept_low}
 use Rattle.ncl_stage.specs.Wiring.{WiringData, IsWiring, pin_places}
 use Rattle.ncl_stage.proofs.ChangedLaws.{net_at-cell, net_at-place, tables-before, behind-inputs}
 use Rattle.ncl_stage.proofs.NetLaws.{Shows, low-net, rail-net, cell-net, cell-refs, pins-of, out_at, out_at-is}

@@ -4,7 +4,7 @@ use Rattle.ncl_shape.specs.Stage.{StageData, nets_of}
 use Rattle.ncl_space.specs.Making.{MakesAll}
 use Rattle.ncl_space.specs.Space.{SpaceData}
 use Rattle.ncl_space.proofs.MakingLaws.{Making, making-none, making-next, too_much-next, handed_on}
-use Rattle.ncl_stage.specs.declared.variant.Variant.{Variant}
+use Rattle.ncl_faults.specs.declared.variant.Variant.{Variant}
 use Rattle.ncl_stage.specs.Changes.{net_at}
 use Rattle.ncl_stage.specs.StageTables.{net_table_by, net_tables_by}
 use Rattle.ncl_stage.proofs.ChangedLaws.{table-at}

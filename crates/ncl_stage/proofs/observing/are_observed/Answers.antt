@@ -12,14 +12,14 @@ use Rattle.ncl_stage.specs.BitOrder.{place_in}
 use Rattle.ncl_stage.specs.Changes.{net_at}
 use Rattle.ncl_stage.specs.Observed.{IsObserved}
 use Rattle.ncl_stage.specs.Observing.{IsAlwaysObserved, IsShown, low_table_by, low_tables_by}
-use Rattle.ncl_stage.specs.Values.{val}
+use Rattle.ncl_faults.specs.Values.{val}
 use Rattle.ncl_stage.specs.Wiring.{WiringData}
-use Rattle.ncl_stage.specs.declared.variant.Variant.TheVariants.{Base}
+use Rattle.ncl_faults.specs.declared.variant.Variant.TheVariants.{Base}
 use Rattle.ncl_stage.proofs.ChangedLaws.{values-kept}
 use Rattle.ncl_stage.proofs.ObservingLaws.{shown-net}
 use Rattle.ncl_stage.proofs.OutputLaws.{outputs-within}
 use Rattle.ncl_stage.proofs.PlaceLaws.{place_in-at}
-use Rattle.ncl_stage.proofs.ValueLaws.{val-within}
+use Rattle.ncl_faults.proofs.ValueLaws.{val-within}
 use Rattle.ncl_stage.proofs.observing.are_observed.Goals as goal
 
 pub output_marks-requires : goal.output_marks-requires

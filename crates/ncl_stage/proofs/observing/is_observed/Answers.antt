@@ -9,7 +9,7 @@ use Rattle.ncl_space.proofs.MakingLaws.{have-kept}
 use Rattle.ncl_stage.specs.Changes.{net_at}
 use Rattle.ncl_stage.specs.Observing.{IsAlwaysObserved, IsLeft, low_tables_by}
 use Rattle.ncl_stage.specs.StageTables.{AreValues, ValuesData}
-use Rattle.ncl_stage.specs.declared.variant.Variant.TheVariants.{Base}
+use Rattle.ncl_faults.specs.declared.variant.Variant.TheVariants.{Base}
 use Rattle.ncl_stage.proofs.ChangedLaws.{value-at, values-kept, values-width}
 use Rattle.ncl_stage.proofs.ObservingLaws.{left-first, none-left}
 use Rattle.ncl_stage.proofs.observing.is_observed.Goals as goal

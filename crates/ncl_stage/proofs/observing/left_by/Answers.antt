@@ -9,9 +9,9 @@ use Rattle.ncl_space.specs.Space.{SpaceData}
 use Rattle.ncl_space.specs.declared.space.Ref.{Ref}
 use Rattle.ncl_space.proofs.MakingLaws.{have-length}
 use Rattle.ncl_stage.specs.Changes.{net_at}
-use Rattle.ncl_stage.specs.Examples.{gate}
+use Rattle.ncl_faults.specs.Examples.{gate}
 use Rattle.ncl_stage.specs.Observing.{IsLeft, low_table_by, low_tables_by}
-use Rattle.ncl_stage.specs.declared.variant.Variant.TheVariants.{Base}
+use Rattle.ncl_faults.specs.declared.variant.Variant.TheVariants.{Base}
 use Rattle.ncl_stage.proofs.ChangedLaws.{nets-length, values-width}
 use Rattle.ncl_stage.proofs.ObservingLaws.{left-by}
 use Rattle.ncl_stage.proofs.observing.left_by.Goals as goal

@@ -19,7 +19,7 @@ use Rattle.ncl_stage.specs.Changes.{net_at}
 use Rattle.ncl_stage.specs.Observing.{low_table_by, low_tables_by}
 use Rattle.ncl_stage.specs.StageTables.{ref_at}
 use Rattle.ncl_stage.specs.Wiring.{WiringData, IsWiring, pin_places, place_in}
-use Rattle.ncl_stage.specs.declared.variant.Variant.TheVariants.{Base}
+use Rattle.ncl_faults.specs.declared.variant.Variant.TheVariants.{Base}
 use Rattle.ncl_stage.proofs.ChangedLaws.{nets-before, nets-length, net_at-cell, value-at, values-width, behind-inputs}
 use Rattle.ncl_stage.proofs.NetLaws.{Shows, cell-refs, out_at-is, pins-of}
 use Rattle.ncl_stage.proofs.ObservingLaws.{dual_pins-all, low-cell, low-place}

@@ -6,7 +6,7 @@ use Rattle.ncl_space.specs.Space.{SpaceData}
 use Rattle.ncl_space.proofs.SpaceLaws.{keeps_along}
 use Rattle.ncl_stage.specs.Changes.{net_at}
 use Rattle.ncl_stage.specs.Observing.{low_table_by, low_tables_by}
-use Rattle.ncl_stage.specs.declared.variant.Variant.TheVariants.{Base}
+use Rattle.ncl_faults.specs.declared.variant.Variant.TheVariants.{Base}
 use Rattle.ncl_stage.proofs.ChangedLaws.{values-kept}
 use Rattle.ncl_stage.proofs.ObservingLaws.{have-next, low-table_at}
 use Rattle.ncl_stage.proofs.observing.low_refs.Goals as goal

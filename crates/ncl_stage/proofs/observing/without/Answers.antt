@@ -10,15 +10,15 @@ use Rattle.ncl_space.specs.Functions.{constant_table, gate_table}
 use Rattle.ncl_space.specs.Space.{SpaceData, IsLive, IsSpace}
 use Rattle.ncl_space.specs.declared.space.Ref.{Ref}
 use Rattle.ncl_stage.specs.Changes.{net_at}
-use Rattle.ncl_stage.specs.Examples.{gate}
+use Rattle.ncl_faults.specs.Examples.{gate}
 use Rattle.ncl_stage.specs.Observing.{table_without}
 use Rattle.ncl_stage.specs.StageTables.{AreValues, ValuesData, ref_at}
 use Rattle.ncl_stage.specs.Wiring.{WiringData, IsWiring, place_in}
-use Rattle.ncl_stage.specs.declared.variant.Variant.TheVariants.{Base}
+use Rattle.ncl_faults.specs.declared.variant.Variant.TheVariants.{Base}
 use Rattle.ncl_stage.proofs.ChangedLaws.{values-width}
 use Rattle.ncl_stage.proofs.NetLaws.{pins-of}
 use Rattle.ncl_stage.proofs.ObservingLaws.{PinsWithout, pins-without, without-table}
-use Rattle.ncl_stage.proofs.WiringLaws.{reads-within}
+use Rattle.ncl_faults.proofs.WiringLaws.{reads-within}
 use Rattle.ncl_stage.proofs.observing.without.Goals as goal
 
 -- the places of the pins of a cell

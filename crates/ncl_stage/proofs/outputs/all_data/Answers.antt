@@ -14,14 +14,14 @@ use Rattle.ncl_space.specs.Making.{HaveTables, MakesAll}
 use Rattle.ncl_space.specs.declared.space.Ref.{Ref}
 use Rattle.ncl_space.proofs.SpaceLaws.{keeps_along, too_much_by_front}
 use Rattle.ncl_space.proofs.MakingLaws.{have-length, have-at, held-along, too_much-after, handed_on}
-use Rattle.ncl_stage.specs.declared.variant.Variant.{Variant}
-use Rattle.ncl_stage.specs.Faults.{has_data}
+use Rattle.ncl_faults.specs.declared.variant.Variant.{Variant}
+use Rattle.ncl_faults.specs.Faults.{has_data}
 use Rattle.ncl_stage.specs.Tables.{fronts, function_tables_by, data_functions, data_fronts}
-use Rattle.ncl_stage.specs.Values.{val}
+use Rattle.ncl_faults.specs.Values.{val}
 use Rattle.ncl_stage.specs.Wiring.{WiringData, IsWiring}
 use Rattle.ncl_stage.specs.StageTables.{net_table_by, net_tables_by, pair_table, front_tables}
 use Rattle.ncl_stage.proofs.OutputLaws.{values_at, outputs-within, data-tables, front-tables, shared-tables, last-front, length-fronts}
-use Rattle.ncl_stage.specs.declared.variant.Variant.TheVariants.{Base}
+use Rattle.ncl_faults.specs.declared.variant.Variant.TheVariants.{Base}
 use Rattle.ncl_stage.proofs.ChangedLaws.{values-width}
 use Rattle.ncl_stage.proofs.outputs.all_data.Goals as goal
 

@@ -3,7 +3,7 @@ use Rattle.std.specs.Prelude.{nat_eq}
 use Rattle.indexmap.specs.IndexSet.{insert_key}
 use Rattle.ncl_shape.specs.declared.rails.Rails.{Rails}
 use Rattle.ncl_shape.specs.Stage.{StageData, rail_nets}
-use Rattle.ncl_stage.proofs.WiringLaws.{insert_rails}
+use Rattle.ncl_faults.proofs.WiringLaws.{insert_rails}
 use Rattle.ncl_stage.proofs.wiring.number_rails.Goals as goal
 
 pub loop-pair-preserved : goal.loop-pair-preserved

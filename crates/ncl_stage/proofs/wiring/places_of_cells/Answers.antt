@@ -3,7 +3,7 @@ use Rattle.std.specs.Prelude.{All, Contains}
 use Rattle.ncl_netlist.specs.declared.ids.NetId.{NetId}
 use Rattle.ncl_shape.specs.declared.stage.StageCell.{StageCell}
 use Rattle.ncl_shape.specs.Stage.{StageData}
-use Rattle.ncl_stage.proofs.WiringLaws.{reads-within, cell-read}
+use Rattle.ncl_faults.proofs.WiringLaws.{reads-within, cell-read}
 use Rattle.ncl_stage.proofs.wiring.places_of_cells.Goals as goal
 
 pub places_of_pins-requires : goal.places_of_pins-requires

@@ -1,6 +1,6 @@
 use Rattle.std.proofs.Common.{◌∙◌}
 use Rattle.std.proofs.lemmas.Result.{on_ok_weaker}
-use Rattle.ncl_stage.specs.declared.variant.Variant.TheVariants.{Bit}
+use Rattle.ncl_faults.specs.declared.variant.Variant.TheVariants.{Bit}
 use Rattle.ncl_verdict.proofs.AskingLaws.{asked-back, asked-kept, fits-asked, ready-back, within-back}
 use Rattle.ncl_verdict.proofs.asking.bit_word.Goals as goal
 

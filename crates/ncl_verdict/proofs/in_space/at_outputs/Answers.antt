@@ -4,7 +4,7 @@ use Rattle.std.proofs.lemmas.Result.{IfOk-weaker}
 use Rattle.ncl_shape.specs.Stage.{StageData}
 use Rattle.ncl_space.specs.Space.{SpaceData, fits, with_tables}
 use Rattle.ncl_space.proofs.MakingLaws.{have-kept}
-use Rattle.ncl_stage.specs.declared.variant.Variant.TheVariants.{Base}
+use Rattle.ncl_faults.specs.declared.variant.Variant.TheVariants.{Base}
 use Rattle.ncl_stage.specs.BitOrder.{bit_order}
 use Rattle.ncl_stage.specs.Tables.{tables_by}
 use Rattle.ncl_stage.specs.StageTables.{ValuesData, net_tables_by}

@@ -1,7 +1,7 @@
 use Rattle.std.proofs.Common.{Some, Err, sym, ◌∙◌, ap}
 use Rattle.ncl_shape.specs.Stage.{StageData}
 use Rattle.ncl_space.specs.Space.{SpaceData}
-use Rattle.ncl_stage.specs.declared.variant.Variant.TheVariants.{Base}
+use Rattle.ncl_faults.specs.declared.variant.Variant.TheVariants.{Base}
 use Rattle.ncl_verdict.specs.declared.verdict.Verdict.TheVariants as verdict
 use Rattle.ncl_verdict.specs.Judgement.{Stop}
 use Rattle.ncl_verdict.specs.InSpace.{stopped_within}

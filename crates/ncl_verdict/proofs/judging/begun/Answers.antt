@@ -3,7 +3,7 @@ use Rattle.std.specs.Prelude.{MatchResult}
 use Rattle.ncl_shape.specs.Stage.{StageData}
 use Rattle.ncl_space.specs.Space.{SpaceData}
 use Rattle.ncl_diagram.specs.Diagram.{diagram_space}
-use Rattle.ncl_stage.specs.declared.variant.Variant.TheVariants.{Base}
+use Rattle.ncl_faults.specs.declared.variant.Variant.TheVariants.{Base}
 use Rattle.ncl_verdict.specs.Judgement.{at_variant}
 use Rattle.ncl_verdict.specs.InSpace.{IsReady, stopped_within}
 use Rattle.ncl_verdict.proofs.Sound.{base-valid}

@@ -1,5 +1,5 @@
 use Rattle.std.proofs.Common.{◌≡◌, ℕ, ◌<◌, true, false, Some, IfSome, get_or, sym, ◌∙◌, subst, arith}
-use Rattle.ncl_stage.specs.declared.variant.Variant.TheVariants.{Base}
+use Rattle.ncl_faults.specs.declared.variant.Variant.TheVariants.{Base}
 use Rattle.ncl_verdict.specs.Judgement.{at_variant}
 use Rattle.ncl_verdict.specs.Sharing.{at_place}
 use Rattle.ncl_verdict.proofs.InSpaceLaws.{first-none_at, first-some_at}

@@ -1,5 +1,5 @@
 use Rattle.std.proofs.Common.{◌≡◌, ℕ, ◌<◌, None, get_or}
-use Rattle.ncl_stage.specs.declared.variant.Variant.{Variant}
+use Rattle.ncl_faults.specs.declared.variant.Variant.{Variant}
 use Rattle.ncl_verdict.specs.Judgement.{at_variant}
 use Rattle.ncl_verdict.specs.InSpace.{IsAsked, stopped_within}
 use Rattle.ncl_verdict.proofs.variants.first_said.Given as goal

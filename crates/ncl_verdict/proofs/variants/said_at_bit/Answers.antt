@@ -1,7 +1,7 @@
 use Rattle.std.proofs.Common.{◌+◌, Some, None, Err, refl, sym, ◌∙◌, ap}
 use Rattle.ncl_shape.specs.Stage.{StageData}
-use Rattle.ncl_stage.specs.declared.variant.Variant.TheVariants.{Bit}
-use Rattle.ncl_stage.specs.Faults.{Incomplete}
+use Rattle.ncl_faults.specs.declared.variant.Variant.TheVariants.{Bit}
+use Rattle.ncl_faults.specs.Faults.{Incomplete}
 use Rattle.ncl_verdict.specs.declared.verdict.Verdict.TheVariants as verdict
 use Rattle.ncl_verdict.proofs.AskingLaws.{asked-full, asked-word}
 use Rattle.ncl_verdict.proofs.variants.said_at_bit.Goals as goal

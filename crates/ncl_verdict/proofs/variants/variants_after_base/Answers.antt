@@ -2,7 +2,7 @@ use Rattle.std.proofs.Common.{◌≡◌, ◌++◌, ℕ, length, map, sym, ◌∙
 use Rattle.std.proofs.lemmas.Simd.{map-map}
 use Rattle.ncl_shape.specs.Stage.{StageData}
 use Rattle.ncl_stage.specs.LeastWords.{below}
-use Rattle.ncl_stage.specs.declared.variant.Variant.TheVariants.{Bit, Cell}
+use Rattle.ncl_faults.specs.declared.variant.Variant.TheVariants.{Bit, Cell}
 use Rattle.ncl_verdict.proofs.variants.variants_after_base.Goals as goal
 
 pub returns : goal.returns

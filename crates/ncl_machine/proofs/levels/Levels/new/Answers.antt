@@ -1,5 +1,5 @@
 use Rattle.std.proofs.Common.{Bool, List, sym, ap, ◌∙◌, subst}
-use Rattle.ncl_stage.specs.Faults.{has_data}
+use Rattle.ncl_faults.specs.Faults.{has_data}
 use Rattle.ncl_machine.specs.Held.{net_values}
 use Rattle.ncl_machine.specs.Tallies.{AreCovered, count_of}
 use Rattle.ncl_machine.proofs.levels.Levels.new.Goals as goal

@@ -2,7 +2,7 @@
 use Rattle.std.specs.Prelude.{List, [], ◌∷◌}
 use Rattle.ncl_shape.specs.declared.stage.StageCell.{StageCell}
 use Rattle.ncl_shape.specs.Nets.{Nets, with_net}
-use Rattle.ncl_stage.specs.Values.{rises}
+use Rattle.ncl_faults.specs.Values.{rises}
 
 -- each cell in turn gives its output the value that it then has, where some nets are kept low
 abbrev pub pass : Nets → List StageCell → Nets → Nets

@@ -14,10 +14,10 @@ use Rattle.ncl_shape.specs.Stage.{StageData, IsStage, rail_nets, nets_of, out_of
 use Rattle.ncl_shape.specs.Closure.{pin_values}
 use Rattle.ncl_base.proofs.Members.{Member, here, list_any-from_member, member_from_list_any, Member-from_Contains, Member-append_right}
 use Rattle.ncl_base.proofs.Tests.{same_from_both}
-use Rattle.ncl_stage.specs.declared.variant.Variant.{Variant}
-use Rattle.ncl_stage.specs.Values.{kept_low, rises, start, val}
-use Rattle.ncl_stage.specs.Pass.{pass}
-use Rattle.ncl_stage.proofs.ValueLaws.{val-keeps, val-rail, val-output, val-within, start-within}
+use Rattle.ncl_faults.specs.declared.variant.Variant.{Variant}
+use Rattle.ncl_faults.specs.Values.{kept_low, rises, start, val}
+use Rattle.ncl_faults.specs.Pass.{pass}
+use Rattle.ncl_faults.proofs.ValueLaws.{val-keeps, val-rail, val-output, val-within, start-within}
 
 -- the values where some cells have been evaluated: those of the rails and of the outputs of these cells,
 -- and all else is low

@@ -6,8 +6,8 @@ use Rattle.ncl_shape.specs.declared.stage.StageCell.{StageCell}
 use Rattle.ncl_shape.specs.Nets.{Nets, among, rounds}
 use Rattle.ncl_shape.specs.Stage.{StageData, named_rails, out_of}
 use Rattle.ncl_shape.specs.Closure.{pin_values}
-use Rattle.ncl_stage.specs.declared.variant.Variant.{Variant}
-use Rattle.ncl_stage.specs.declared.variant.Variant.TheVariants.{Base, Bit, Cell}
+use Rattle.ncl_faults.specs.declared.variant.Variant.{Variant}
+use Rattle.ncl_faults.specs.declared.variant.Variant.TheVariants.{Base, Bit, Cell}
 
 -- both nets of a bit; none where there is no such bit
 abbrev pub both_rails : Option Rails → Nets

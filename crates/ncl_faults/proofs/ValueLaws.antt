@@ -10,10 +10,10 @@ use Rattle.ncl_base.proofs.Members.{Member, All-from_members, Contains-from_Memb
 use Rattle.ncl_base.proofs.Tests.{same_from_both}
 use Rattle.ncl_shape.proofs.Rounds.{IsMonotone, rounds-below, rounds-keep, rounds-support, rounds-settled}
 use Rattle.ncl_shape.proofs.ClosureLaws.{set_of-grows, below_at}
-use Rattle.ncl_stage.specs.declared.variant.Variant.{Variant}
-use Rattle.ncl_stage.specs.declared.variant.Variant.TheVariants.{Base}
-use Rattle.ncl_stage.specs.Values.{holds, kept_low, rises, start, val}
-use Rattle.ncl_stage.proofs.Apart.{parts-differ, right-differ, same_from_value, named-within}
+use Rattle.ncl_faults.specs.declared.variant.Variant.{Variant}
+use Rattle.ncl_faults.specs.declared.variant.Variant.TheVariants.{Base}
+use Rattle.ncl_faults.specs.Values.{holds, kept_low, rises, start, val}
+use Rattle.ncl_faults.proofs.Apart.{parts-differ, right-differ, same_from_value, named-within}
 
 -- a set function holds where more is high
 pub holds-grows : (v w : Nets) → IsBelow v w → (c : StageCell) → holds v c ≡ true → holds w c ≡ true

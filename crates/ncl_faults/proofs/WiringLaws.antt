@@ -10,7 +10,7 @@ use Rattle.ncl_shape.specs.declared.stage.StageCell.{StageCell}
 use Rattle.ncl_shape.specs.Stage.{StageData, IsStage, rail_nets, nets_of, out_of}
 use Rattle.ncl_netlist.specs.declared.ids.NetId.{NetId}
 use Rattle.ncl_base.proofs.Members.{Member, here, there, Member-append_left, Member-from_Contains, Contains-from_Member, member_from_list_any}
-use Rattle.ncl_stage.proofs.Apart.{parts-differ}
+use Rattle.ncl_faults.proofs.Apart.{parts-differ}
 
 abbrev pub AllDiffer : List ℕ → Type 0
 AllDiffer nets = AllPairs (λ x y. x ≢ y) nets

@@ -1,0 +1,5 @@
+pub mod Apart
+pub mod ValueLaws
+pub mod OnePass
+pub mod StageTest
+pub mod WiringLaws

@@ -1,5 +1,4 @@
 //! The tests, and what they share.
-mod bound_tests;
 mod diagram_tests;
 mod gate_tests;
 mod plain_tests;

@@ -1,7 +1,7 @@
 //! What the tests are run with: worked examples of stages, and a space that counts the gates that are asked of it.
 ghost use Rattle.std.specs.Prelude.{◌≡◌, ◌≤◌, IfOk, length};
 ghost use Rattle.ncl_space.specs.Plain.{plain_space};
-ghost use Rattle.ncl_stage.specs.Examples.{adder_stage, gate, rails, unmet_stage};
+ghost use Rattle.ncl_faults.specs.Examples.{adder_stage, gate, rails, unmet_stage};
 
 use arrayvec::ArrayVec;
 use ncl_base::{Items, Memory, Word};

@@ -7,6 +7,8 @@ use ncl_shape::{Pipeline, shape};
 use std::alloc::Global;
 use std::sync::atomic::{AtomicBool, AtomicUsize, Ordering};
 use std::test::Fail;
+use std::thread::sleep;
+use std::time::{Clock, Duration};
 
 /// The AND of two bits, at three outputs.
 const THREE: &str = "module m(x0,x1,y0,y1,ki,rst,z0,z1,v0,v1,w0,w1,ko);input x0,x1,y0,y1,ki,rst;\
@@ -61,27 +63,29 @@ fn all_numbers_of_parts_answer_alike(rt: HostRuntime) -> Result<(), Fail> {
 
 /// Compares the first output and the others once it has seen that one of the others, or the first, is being compared.
 #[derive(Drop)]
-struct Meeting {
+struct Meeting<'a, C: Clock> {
+    clock: &'a C,
     first: AtomicBool,
     other: AtomicBool,
     met: AtomicUsize,
 }
 
-impl Meeting {
-    /// Whether another output is begun before this one has looked for it often enough.
+impl<C: Clock> Meeting<'_, C> {
+    /// Whether another output is begun within twenty seconds, which a machine with much else to do may need.
     fn meets(&self, own: &AtomicBool, other: &AtomicBool) -> bool {
         own.store(true, Ordering::SeqCst);
-        for _ in 0..100_000_000u32 {
+        for _ in 0..20_000u32 {
             if other.load(Ordering::SeqCst) {
                 self.met.fetch_add(1, Ordering::SeqCst);
                 return true;
             }
+            sleep(self.clock, Duration::from_millis(1));
         }
         false
     }
 }
 
-impl CompareBit for Meeting {
+impl<C: Clock> CompareBit for Meeting<'_, C> {
     fn compare_bit(
         &self,
         alloc: Global,
@@ -109,6 +113,7 @@ fn two_outputs_are_compared_at_one_time(rt: HostRuntime) -> Result<(), Fail> {
     let pipeline = shape(rt.alloc(), &netlist)?;
     let models = read_blif(rt.alloc(), THREE_MODEL)?;
     let bits = Meeting {
+        clock: &rt,
         first: AtomicBool::new(false),
         other: AtomicBool::new(false),
         met: AtomicUsize::new(0),

@@ -1,5 +1,5 @@
 use Rattle.std.proofs.Common.{◌≡◌, map, take}
-use Rattle.ncl_stage.specs.Examples.{net_id}
+use Rattle.ncl_faults.specs.Examples.{net_id}
 use Rattle.judging_tests.proofs.tests.testing.cell.Given as goal
 
 -- the inputs so far

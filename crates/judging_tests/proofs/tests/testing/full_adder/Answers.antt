@@ -1,7 +1,7 @@
 use Rattle.std.proofs.Common.{◌≡◌, [], ◌∷◌, refl, sym, ◌∙◌, subst}
 use Rattle.ncl_shape.specs.Stage.{IsStage}
-use Rattle.ncl_stage.specs.Examples.{adder_stage}
-use Rattle.ncl_stage.proofs.StageTest.{IsStage-from_test}
+use Rattle.ncl_faults.specs.Examples.{adder_stage}
+use Rattle.ncl_faults.proofs.StageTest.{IsStage-from_test}
 use Rattle.judging_tests.proofs.tests.testing.full_adder.Goals as goal
 
 pub new-requires : goal.new-requires

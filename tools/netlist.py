@@ -35,46 +35,97 @@ def rises(kind):
     return sum((sum(w for pin, w in zip(pins, each) if pin in high) >= threshold) << m for m, high in enumerate(sets))
 
 
-TOKEN = re.compile(r"(?:\s|//[^\n]*|/\*.*?\*/|\(\*.*?\*\))*(?:(\\[!-~]+)\s|([A-Za-z_][\w$]*|\d+(?![\w'])|[(),;.\[\]:])|\Z)", re.S | re.A)
+def rows_of(kind):
+    """The rows of a cover that is the set function, without what they end in."""
+    table, count = rises(kind), len(inputs_of(kind))
+    return ["".join(str(word >> i & 1) for i in range(count)) for word in range(1 << count) if table >> word & 1]
+
+
+SPACE = r"(?:\s|//[^\n]*|/\*.*?\*/|\(\*.*?\*\))*"
+TOKEN = re.compile(SPACE + r"(?:(\\[!-~]+)\s|([A-Za-z_][\w$]*|\d+(?![\w'])|[(),;.\[\]:])|\Z)", re.S | re.A)
+DIRECTIVE = re.compile(SPACE + r"(`\w+)", re.S | re.A)
 NAME = r"(\\\S+|[A-Za-z_]\S*)"
 CONNECTION = rf"\. {NAME} \( {NAME} (?:\[ (\d+) \] )?\)"
 CELL = re.compile(rf"{NAME} {NAME} \( ({CONNECTION}(?: , {CONNECTION})*) \)")
 RANGE = r"\[ (\d{1,5}) : (\d{1,5}) \]"
 
 
-def read_netlist(text):
-    """The name, the input ports, the output ports, and the cells as kind, name and nets by pin."""
-    at, statements = 0, [[]]
+def written(name):
+    """A name in Verilog."""
+    return name if re.fullmatch(r"[A-Za-z_][\w$]*", name, re.A) else f"\\{name} "
+
+
+def tokens(text):
+    """The tokens of a text with their places, but for comments; an escaped name has its backslash."""
+    at = 0
     while at < len(text):
         found = TOKEN.match(text, at)
         if not found:
-            raise Refused(f"netlist: not understood behind byte {at}")
+            directive = DIRECTIVE.match(text, at)
+            raise Refused(f"netlist: the directive {directive[1]}" if directive else f"netlist: not understood behind byte {at}")
         at, token = found.end(), found[1] or found[2]
+        if token:
+            yield at - len(token) - bool(found[1]), token
+
+
+def placed(text):
+    """Of each statement the place, from the end of the one before it, and the tokens; the last is what follows the last semicolon."""
+    begin, words = 0, []
+    for at, token in tokens(text):
         if token == ";":
-            statements.append([])
-        elif token:
-            statements[-1].append(token)
-    head, items, vectors, ways, cells = statements[0], statements[1:], {}, {}, []
-    if head[:1] != ["module"] or len(head) < 2 or items[-1:] != [["endmodule"]]:
+            yield begin, at + 1, words
+            begin, words = at + 1, []
+        else:
+            words.append(token)
+    yield begin, len(text), words
+
+
+def statements(text):
+    """The tokens of each statement, of which the first is the header and the last `endmodule`."""
+    found = [words for _, _, words in placed(text)]
+    if found[0][:1] != ["module"] or len(found[0]) < 2 or found[-1] != ["endmodule"] or len(found) < 2:
         raise Refused("netlist: not one module from module to endmodule")
-    declare(head[3:-1], vectors, ways)
-    for item in items[:-1]:
-        if item[:1] and item[0] in ("input", "output", "wire"):
-            declare(item, vectors, ways)
-            continue
-        found = CELL.fullmatch(" ".join(item))
-        if not found:
-            raise Refused("netlist: not understood: " + " ".join(item)[:60])
-        kind, name = found[1], found[2].lstrip("\\")
-        if kind not in GATES and kind not in REGISTERS and kind != "TH12B":
-            raise Refused(f"netlist: unknown cell {kind}")
-        pins = {pin: net.lstrip("\\") + (index and f"[{int(index)}]") for pin, net, index in re.findall(CONNECTION, found[3])}
-        if set(pins) != set(inputs_of(kind)) | {"Z"} | ({"RST"} if kind in REGISTERS else set()):
-            raise Refused(f"netlist: bad pins of {name}")
-        cells.append((kind, name, pins))
-    bits = lambda name: [f"{name}[{i}]" for i in vectors[name]] if name in vectors else [name]
-    ports = {way: [net for name in ways if ways[name] == way for net in bits(name)] for way in ("input", "output")}
-    return head[1].lstrip("\\"), ports["input"], ports["output"], cells
+    return found
+
+
+def read_cell(item):
+    """The kind, the name and the nets by pin of an instance."""
+    found = CELL.fullmatch(" ".join(item))
+    if not found:
+        raise Refused("netlist: not understood: " + " ".join(item)[:60])
+    kind, name = found[1], found[2].lstrip("\\")
+    if kind not in GATES and kind not in REGISTERS and kind != "TH12B":
+        raise Refused(f"netlist: unknown cell {kind}")
+    pins = {pin: net.lstrip("\\") + (index and f"[{int(index)}]") for pin, net, index in re.findall(CONNECTION, found[3])}
+    if set(pins) != set(inputs_of(kind)) | {"Z"} | ({"RST"} if kind in REGISTERS else set()):
+        raise Refused(f"netlist: bad pins of {name}")
+    return kind, name, pins
+
+
+def read_ports(text):
+    """The name of the module, and its ports as in the header: a name, a way, and the numbers of a vector's bits or None."""
+    return ports_in(statements(text))
+
+
+def ports_in(parts):
+    head, *items = parts
+    vectors, ways = {}, {}
+    for item in [head[3:-1], *(item for item in items if item[:1] and item[0] in ("input", "output", "wire"))]:
+        declare(item, vectors, ways)
+    return head[1].lstrip("\\"), [(name, way, vectors.get(name)) for name, way in ways.items() if way]
+
+
+def bits_of(name, span):
+    return [name] if span is None else [f"{name}[{i}]" for i in span]
+
+
+def read_netlist(text):
+    """The name, the input ports, the output ports, and the cells as kind, name and nets by pin."""
+    parts = statements(text)
+    name, ports = ports_in(parts)
+    cells = [read_cell(item) for item in parts[1:-1] if item[:1] not in (["input"], ["output"], ["wire"])]
+    nets = lambda wanted: [net for port, way, span in ports if way == wanted for net in bits_of(port, span)]
+    return name, nets("input"), nets("output"), cells
 
 
 def declare(tokens, vectors, ways):

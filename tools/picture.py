@@ -1,22 +1,29 @@
 """Draws a netlist as SVG."""
 import html
 
-from layout import BIT, GAP, PIN, WIDE, Layout
+from figures import longest
+from layout import BIT, GAP, PIN, WIDE, Layout, short
 from netlist import GATES, REGISTERS, weights
 
 
-class Picture(Layout):
-    """The netlist as SVG. Each wire has the class w and its net, and each cell the class c and its number."""
+class Drawing:
+    """A drawing as SVG. Each wire has the class w and its net, and each cell the class c and its number."""
 
-    def __init__(self, pipe, stage):
-        super().__init__(pipe, stage)
-        self.wires, self.shapes, self.rail = [], [], {}
-        for k, bits in enumerate(pipe.banks):
+    def __init__(self, pipe):
+        self.pipe, self.boxes, self.wires, self.shapes, self.rail, self.deep = pipe, [], [], [], {}, set()
+        for bits in pipe.banks:
             for bit in bits:
                 for r in (0, 1):
                     self.rail[pipe.out(bit[r])] = r
                     self.rail.setdefault(pipe.cells[bit[r]][2]["A"], r)
-        self.draw(*self.layout())
+
+    def curve(self, said, points):
+        """A wire as dot bends it, to a gate or a bank; on a longest way there is a band below it."""
+        number, _, head = said.partition(" ")
+        net, path = self.pipe.nets[int(number)], "M%g %gC" % points[0] + " ".join("%g,%g" % p for p in points[1:])
+        if self.pipe.driver.get(net) in self.deep and head[:1] == "g" and int(head[1:]) in self.deep:
+            self.boxes.append(f'<path class="way" d="{path}"/>')
+        self.wire(net, path)
 
     def wire(self, net, path, dots=()):
         number = self.pipe.number[net]
@@ -39,18 +46,35 @@ class Picture(Layout):
         label = lambda name, x, y, words: f'<text class="{name}" x="{x}" y="{y:g}">{html.escape(words)}</text>'
         heavy = "".join(label("pin", 5 - WIDE // 2, (i - (len(each) - 1) / 2) * PIN + 3, str(w)) for i, w in enumerate(each) if w > 1)
         title = f"{kind} {name}: " + ", ".join(f"{p} {n}" for p, n in pins.items())
-        short = name if len(name) < 12 else "…" + name[-10:]
+        beside = f'<text class="name" x="{-5 - WIDE // 2 if left else 5 + WIDE // 2 + 6 * (kind == "TH12B")}" y="-3" text-anchor="{"end" if left else "start"}">{html.escape(short(name))}</text>'
         self.shapes.append(
             f'<g class="c" data-c="{c}" transform="translate({x:g} {y:g})"><title>{html.escape(title)}</title>'
-            + shape("ring", WIDE // 2 + 4, h / 2 + 4) + shape("body", WIDE // 2, h / 2) + bubble + heavy
-            + label("sign", 3 if left or heavy else -2, 4, sign) + label("name", -4, h / 2 + 9, short)
+            + shape("ring", WIDE // 2 + 4, h / 2 + 4) + shape("body deep" if c in self.deep else "body", WIDE // 2, h / 2) + bubble + heavy
+            + label("sign", 3 if left or heavy else -2, 4, sign) + beside
             + label("mark", WIDE // 2 + 2, 1 - h / 2, "") + "</g>")
+
+    def svg(self, said):
+        x1, y1, x2, y2 = self.box
+        return (f'<svg class="picture" data-stage="{html.escape(said)}" role="img" aria-label="schematic" viewBox="{x1:g} {y1:g} {x2 - x1:g} {y2 - y1:g}" style="--w:{x2 - x1:g}px">'
+            + "".join(self.boxes + self.wires + self.shapes) + "</svg>")
+
+
+class Picture(Drawing, Layout):
+    """All of a netlist, or a stage with its two banks."""
+
+    def __init__(self, pipe, stage, level):
+        Drawing.__init__(self, pipe)
+        Layout.__init__(self, pipe, stage)
+        ways = [longest(pipe, level, k) for k in self.shown[:-1]]
+        most = max(map(len, ways))
+        self.deep = {c for way in ways if len(way) == most for c in way}
+        self.most = most
+        self.draw(*self.layout())
 
     def draw(self, places, curves, height):
         pipe, bottom = self.pipe, height + 14
-        for number, points in curves:
-            path = "M%g %gC" % points[0] + " ".join("%g,%g" % p for p in points[1:])
-            self.wire(pipe.nets[number], path)
+        for said, points in curves:
+            self.curve(said, points)
         for c in self.gates:
             self.gate(c, *places[f"g{c}"])
         trees = {k: self.tree(k, places[f"b{k}_0"][0] - self.bank_width(k) / 2, bottom) for k in self.shown}
@@ -79,7 +103,7 @@ class Picture(Layout):
                 self.text(left - 44, away + 4, pipe.roots[k], "port", "end")
         margin = 52 + 7 * max(len(pipe.cells[r][2][pin]) for k in self.shown for bit in pipe.banks[k] for r in bit[:2] for pin in "AZ")
         first = self.shown[0]
-        self.boxes = boxes
+        self.boxes = boxes + self.boxes
         self.box = (places[f"b{first}_0"][0] - self.bank_width(first) / 2 - margin, -34, right + margin, low + 26)
 
     def bit(self, k, bit, left, top, tracks, wide, i):
@@ -136,8 +160,3 @@ class Picture(Layout):
             tracks[pipe.roots[k]][1] = max(root, tracks[pipe.roots[k]][1])
         self.wire(pipe.roots[k], f"M{x:g} {root:g}H{left + 18:g}")
         return tracks, lowest, root
-
-    def svg(self, said):
-        x1, y1, x2, y2 = self.box
-        return (f'<svg class="picture" data-stage="{html.escape(said)}" role="img" aria-label="schematic" viewBox="{x1:g} {y1:g} {x2 - x1:g} {y2 - y1:g}" style="--w:{x2 - x1:g}px">'
-            + "".join(self.boxes + self.wires + self.shapes) + "</svg>")

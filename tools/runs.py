@@ -5,11 +5,19 @@ import re
 from script import Refused
 
 
+def whole(what, text, end=""):
+    """The text, which is refused where it ends within a line, or before what stands at its end."""
+    if not text.endswith("\n") or end not in text[text.rfind("\n", 0, -1) + 1:]:
+        raise Refused(f"{what}: it is cut off: write it again, whole")
+    return text
+
+
 def read_why(text, pipe):
     lines = text.splitlines()
     word = next((line[10:].strip() for line in lines if re.fullmatch("why: word [01]+", line)), None)
     if word is None or len(word) != len(pipe.banks[0]):
         raise Refused("why: there is no run in it for this netlist")
+    whole("why", text, "lost: cell ")
     cells = {name: c for c, (_, name, _) in enumerate(pipe.cells)}
     values, changes, lost = pipe.reset(), [], None
     begin = values[:]
@@ -40,11 +48,13 @@ def read_why(text, pipe):
 
 def read_vcd(text, pipe):
     if "$dumpvars" not in text:
-        raise Refused("vcd: no dump of values")
+        raise Refused("vcd: there is no dump of values, or it is cut off")
     codes = {code: net for code, net in re.findall(r"^\$var wire 1 (\S+) (\S+) \$end$", text, re.M)}
     if set(codes.values()) != set(pipe.nets):
         raise Refused("vcd: its nets are not those of this netlist")
-    body, _, rest = text.partition("$dumpvars")[2].partition("$end")
+    body, ended, rest = whole("vcd", text).partition("$dumpvars")[2].partition("$end\n")
+    if not ended:
+        raise Refused("vcd: it is cut off: write it again, whole")
     begin = [0] * len(pipe.nets)
     for value, code in re.findall(r"^([01])(\S+)$", body, re.M):
         begin[pipe.number[codes[code]]] = int(value)

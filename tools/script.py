@@ -5,7 +5,11 @@ import sys
 
 
 class Refused(Exception):
-    """What can't be read or done, in words."""
+    """What can't be read or done, in words. A script may have statuses of its own for what it refuses."""
+
+    def __init__(self, words, status=1):
+        super().__init__(words)
+        self.status = status
 
 
 class Parser(argparse.ArgumentParser):
@@ -23,8 +27,18 @@ def text_of(name):
     return pathlib.Path(name).read_bytes().decode("latin-1")
 
 
+def put(text):
+    """Writes a text as `text_of` reads it."""
+    sys.stdout.buffer.write(text.encode("latin-1"))
+
+
+def tell(name, text):
+    """One line beside what is written."""
+    sys.stderr.write(f"{name}: {text}\n")
+
+
 def carry_out(name, work):
-    """Ends with the status of the work, or with status 1 and one line where it refuses something."""
+    """Ends with the status of the work, or with one line and the status of what it refuses."""
     try:
         status = work()
         sys.stdout.flush()
@@ -32,5 +46,7 @@ def carry_out(name, work):
         sys.stderr.close()
         sys.exit(1)
     except (Refused, OSError) as why:
-        sys.exit(f"{name}: {why}".replace("\n", " "))
+        line = f"{name}: {why}".replace("\n", " ")
+        print("".join(each if each.isprintable() else "?" for each in line), file=sys.stderr)
+        status = getattr(why, "status", 1)
     sys.exit(status)

@@ -1,15 +1,24 @@
 # Completion of nclc for bash: commands, options, and files by their endings.
 _nclc() {
-    local cur=${COMP_WORDS[COMP_CWORD]} prev=${COMP_WORDS[COMP_CWORD-1]} command=${COMP_WORDS[1]} ending options= word files=0 i
+    local line=${COMP_LINE:0:COMP_POINT} cur prev= command ending options= word files=0 value=0 words i
     COMPREPLY=()
-    if ((COMP_CWORD == 1)); then
+    # The words as a shell splits them: bash's own are cut at an =, and the value of an option stands behind it.
+    read -ra words <<< "$line"
+    [[ $line == *[[:space:]] ]] && words+=('')
+    cur=${words[${#words[@]}-1]} command=${words[1]-}
+    if ((${#words[@]} <= 2)); then
         COMPREPLY=($(compgen -W "check compile match sim demo" -- "$cur"))
         return
     fi
-    for ((i = 2; i < COMP_CWORD; i++)); do
-        word=${COMP_WORDS[i]}
-        [[ $word != -* && ${COMP_WORDS[i-1]} != --@(limit|delays|words) ]] && ((files++))
+    for ((i = 2; i < ${#words[@]} - 1; i++)); do
+        word=${words[i]} prev=
+        if ((value)); then value=0
+        elif [[ $word == --@(limit|delays|words) ]]; then value=1 prev=$word
+        elif [[ $word != -* ]]; then ((files++)); fi
     done
+    case $cur in
+        --limit=* | --delays=* | --words=*) prev=${cur%%=*} cur=${cur#*=} ;;
+    esac
     case $command in
         check) options="--limit --why" ending=v ;;
         compile) options=--merge ending=blif ;;

@@ -15,6 +15,9 @@ import sys
 import tempfile
 import time
 
+sys.path.insert(0, str(pathlib.Path(__file__).resolve().parent.parent / "tools"))
+from script import Parser
+
 USUAL = 100_000
 AND, OR, XOR = "11 1\n", "1- 1\n-1 1\n", "10 1\n01 1\n"
 SUM = "100 1\n010 1\n001 1\n111 1\n"
@@ -125,8 +128,11 @@ def measured(program, limit, text, folder):
 
 
 def main():
-    program = sys.argv[1]
-    limit = int(sys.argv[2]) if len(sys.argv) > 2 else USUAL
+    parser = Parser(__doc__)
+    parser.add_argument("program")
+    parser.add_argument("limit", nargs="?", type=int, default=USUAL)
+    given = parser.parse_args()
+    program, limit = given.program, given.limit
     print("design   gates  cells    nodes  compile    check  answer")
     with tempfile.TemporaryDirectory() as folder:
         for name, make in [("adder", adder), ("less", comparator), ("unit", unit)]:
@@ -134,4 +140,5 @@ def main():
                 print(f"{name + str(bits):7}", measured(program, limit, make(bits), pathlib.Path(folder)), flush=True)
 
 
-main()
+if __name__ == "__main__":
+    main()

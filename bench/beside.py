@@ -20,6 +20,9 @@ import sys
 import tempfile
 import time
 
+sys.path.insert(0, str(pathlib.Path(__file__).resolve().parent.parent / "tools"))
+from script import Parser
+
 ROUNDS = 5
 
 
@@ -67,8 +70,13 @@ def beside(program, checker, netlist):
 
 
 def main():
-    program, checker = str(pathlib.Path(sys.argv[1]).resolve()), shlex.split(sys.argv[2])
-    pairs = [beside(program, checker, netlist) for netlist in sys.argv[3:]]
+    parser = Parser(__doc__)
+    parser.add_argument("program")
+    parser.add_argument("checker")
+    parser.add_argument("netlists", nargs="+")
+    given = parser.parse_args()
+    program, checker = str(pathlib.Path(given.program).resolve()), shlex.split(given.checker)
+    pairs = [beside(program, checker, netlist) for netlist in given.netlists]
     ours, peer = sum(pair[0] for pair in pairs), sum(pair[1] for pair in pairs)
     print(f"together: {ours:.2f} beside {peer:.2f}, {ours / max(peer, 0.001):.2f}")
 

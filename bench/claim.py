@@ -1,31 +1,44 @@
 #!/usr/bin/env python3
-"""Writes docs/claim.md: the definitions that a yes of `check` rests on, as they stand, in the order in which they are met.
+"""Compares docs/claim.md with the definitions that a yes and a no of `check` rest on, as they stand, or writes it.
 
-    bench/claim.py [--compare]
+    bench/claim.py [--write]
 
-It begins with `IsDelayInsensitiveText` and goes on to what each definition names, in the files of `specs/` and, of the types
-of the program, in those of `src/`. With `--compare` nothing is written, and the status is 1 where the page is another.
+The page begins with `IsDelayInsensitiveText` and goes on to what each definition names, in the files of `specs/` and, of the
+types of the program, in those of `src/`; then it does so for `IsWrongText`. Without --write nothing is written, and the status
+is 1 where the page is another.
 """
 import pathlib
 import re
 import sys
 
 TOP = pathlib.Path(__file__).resolve().parent.parent
+sys.path.insert(0, str(TOP / "tools"))
+from script import Parser, Refused, carry_out
+
 PAGE = TOP / "docs/claim.md"
+# What a yes and a no claim: each stands alone in its section, and what it names in those behind it.
+CLAIMS = (("ncl_check", "Headline", "IsDelayInsensitiveText"), ("ncl_check", "Refusal", "IsWrongText"))
 # The sections of the page, each with the definition that it begins with.
 SECTIONS = [
-    ("The claim", "What a yes says of the bytes of a file.", ("ncl_check", "Headline", "IsDelayInsensitiveText")),
+    ("A yes", "What a yes says of the bytes of a file.", CLAIMS[0]),
     ("Delay-insensitive", "The firing machine and what holds after each of its runs.", ("ncl_machine", "DelayInsensitive", "IsDelayInsensitive")),
     ("The shape of a netlist", "Which cells are banks, stages and completion trees.", ("ncl_shape", "Shape", "Shape")),
     ("Netlists", "Cells that are joined by nets, and the parts that they are built of.", ("ncl_netlist", "Faults", "IsFaultless")),
     ("Texts", "What a text of a netlist says, by the grammar of its tokens.", ("ncl_reader", "Reads", "Reads")),
+    ("A no", "What a no says of the bytes of a file, and of the text that was written.", CLAIMS[1]),
+    ("Faults of a stage", "What a stage does at a word, and the faults that the word can show.", ("ncl_faults", "Faults", "shows")),
+    ("The verdict of a fault", "How a fault of a stage at a word is told.", ("ncl_verdict", "Judgement", "verdict_of")),
+    ("Words that are brought", "What an input makes of the stages before one.", ("ncl_hazard", "Why", "brings")),
+    ("What is told", "The stage and the word in a verdict.", ("ncl_refusal", "Told", "Tells")),
+    ("The line", "The text that tells a verdict.", ("ncl_lines", "VerdictText", "verdict_line")),
 ]
-HEAD = """# What a yes claims
+HEAD = """# What a yes and a no claim
 
-Where `nclc check` says yes, `IsDelayInsensitiveText` holds of the bytes of the file: the clause `headline` of `run`. This page
-has that definition and all that it rests on, as they stand in the crates, each file where it is first met; a definition has
-its meaning in front. Who reads it has read the whole claim: what follows in other files is proof and program.
-[headline.md](headline.md) says in words what the claim means and why it is true.
+Where `nclc check` says yes, `IsDelayInsensitiveText` holds of the bytes of the file: the clause `headline` of `run`. Where it says
+no, `IsWrongText` holds of them and of what was written: the part `refusal` of its clause `answered`. This page has the two
+definitions and all that they rest on, as they stand in the crates, each definition where it is first met, under the name of its
+file, and with its meaning in front; a file that two sections need stands in both. Who reads the page has read both claims: what
+follows in other files is proof and program. [headline.md](headline.md) says in words what they mean and why they are true.
 
 `bench/claim.py` writes this page. Words as `All`, `map` and `slice_get` are those of the library, over lists; `≡` says that two
 values are one, `×` *and*, `⊎` *or*, `⊥` that something can't be; `(x : T) → P` is *for each*, and `(x : T) × P` *for some*.
@@ -80,10 +93,23 @@ class Claim:
 
     def __init__(self):
         self.files, self.shown, self.types = {}, {}, {}
-        first = SECTIONS[0][2]
-        self.sections = [[(self.file_of(*first[:2]), [self.file_of(*first[:2]).part_of(first[2])])]]
-        self.shown[first[:2]] = list(self.sections[0][0][1])
-        self.sections += [self.section(start) for _, _, start in SECTIONS[1:]]
+        self.sections = [self.alone(start) if start in CLAIMS else self.section(start) for _, _, start in SECTIONS]
+        for claim in CLAIMS:
+            self.lacks(claim)
+
+    def alone(self, start):
+        """The section of one definition and nothing that it names."""
+        file = self.file_of(*start[:2])
+        part = file.part_of(start[2])
+        self.shown.setdefault(start[:2], []).append(part)
+        return [(file, [part])]
+
+    def lacks(self, claim):
+        """Refuses a claim that names what no section has."""
+        file = self.file_of(*claim[:2])
+        for crate, place, name in self.named_in(file, file.part_of(claim[2])):
+            if not place.startswith("declared.") and self.file_of(crate, place).part_of(name) not in self.shown.get((crate, place), []):
+                raise Refused(f"no section has {name} of {crate}, which {claim[2]} names")
 
     def file_of(self, crate, name):
         """A file of definitions. Constructors are named under their type, whose file it is."""
@@ -136,19 +162,20 @@ def page():
     for path, found in claim.types.items():
         shown = "\n\n".join(found)
         text.append(f"`{path.as_posix().removeprefix('crates/')}`\n\n```rust\n{shown}\n```\n")
-    text.insert(1, f"There are {lines} lines of definitions, from {files} places, and the types at the end.\n")
+    text.insert(1, f"There are {lines:,} lines of definitions, from {files} places, and the types at the end.\n")
     return "\n".join(text)
 
 
 def main():
-    wanted = page()
-    if sys.argv[1:] == ["--compare"]:
-        same = PAGE.exists() and PAGE.read_text() == wanted
-        print("docs/claim.md is as it is to be" if same else "docs/claim.md is another: run bench/claim.py")
-        return 0 if same else 1
-    PAGE.write_text(wanted)
-    return 0
+    parser = Parser(__doc__)
+    parser.add_argument("--write", action="store_true")
+    write, wanted = parser.parse_args().write, page()
+    same = PAGE.exists() and PAGE.read_text() == wanted
+    if write:
+        PAGE.write_text(wanted)
+    print("docs/claim.md is " + ("as it is to be" if same else "written" if write else "another: run bench/claim.py --write"))
+    return 0 if same or write else 1
 
 
 if __name__ == "__main__":
-    sys.exit(main())
+    carry_out("claim", main)

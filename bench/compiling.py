@@ -7,11 +7,15 @@ PROGRAM is the built nclc. Writes ripple adders, of one stage and of one stage f
 as may be, and prints for each the bytes, the cells, the gates on the longest way through a stage, and the seconds of
 compiling and of the check.
 """
+import pathlib
 import re
 import subprocess
 import sys
 import tempfile
 import time
+
+sys.path.insert(0, str(pathlib.Path(__file__).resolve().parent.parent / "tools"))
+from script import Parser
 
 CARRY = ".names {a} {b} {c} {out}\n11- 1\n1-1 1\n-11 1\n"
 SUM = ".names {a} {b} {c} {out}\n100 1\n010 1\n001 1\n111 1\n"
@@ -71,7 +75,10 @@ def timed(words):
 
 
 def main():
-    program = sys.argv[1]
+    parser = Parser(__doc__)
+    parser.add_argument("program")
+    given = parser.parse_args()
+    program = given.program
     cases = [("adder of 8 bits, one stage", adder(8)), ("adder of 8 bits, eight stages", pipeline(8)),
              ("adder of 32 bits, one stage", adder(32)), ("adder of 32 bits, 32 stages", pipeline(32)),
              ("8,191 rows of one input", rows(8191))]

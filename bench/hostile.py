@@ -9,12 +9,16 @@ has it. A run is stopped after a minute.
 """
 import itertools
 import os
+import pathlib
 import random
 import subprocess
 import sys
 import tempfile
 import threading
 import time
+
+sys.path.insert(0, str(pathlib.Path(__file__).resolve().parent.parent / "tools"))
+from script import Parser
 
 from thrown import bank, cell
 
@@ -154,6 +158,35 @@ def asked_stage(half, count):
     yield module(ins, outs, text + cells + "".join(made for _, made in products) + chain + back)
 
 
+def joined(nets, kind, name):
+    """Nets joined by gates of a kind that their number of pins tells, four at a time, and the cells."""
+    text = ""
+    for number in itertools.count():
+        if len(nets) == 1:
+            return nets[0], text
+        taken = nets[:4]
+        text += cell(kind.format(len(taken)), f"g{name}{number}", taken, f"{name}{number}")
+        nets = [*nets[4:], f"{name}{number}"]
+
+
+def met_stage(functions, pairs):
+    """A stage with a gate that meets the product of the nodes of some functions: each is a sum of products, of bits that stand far
+    from one another, and of the last bit or its complement. Together they are never high, so that of all that is met no node comes."""
+    ins, far = [two_rails(f"i{bit}") for bit in range(2 * functions * pairs + 1)], functions * pairs
+    bits, text = bank("p", ins, "c", "ko")
+    first, cells = summed(bits, "e")
+    ends = []
+    for number in range(functions):
+        places = range(number * pairs, (number + 1) * pairs)
+        cells += "".join(cell("TH22", f"gm{place}", [bits[place][1], bits[far + place][1]], f"m{place}") for place in places)
+        some, made = joined([f"m{place}" for place in places], "TH1{}", f"s{number}_")
+        cells += made + cell("TH22", f"gf{number}", [some, bits[-1][int(number == 0)]], f"f{number}")
+        ends.append(f"f{number}")
+    last, made = joined(ends, "TH{0}{0}", "a")
+    outs, back = bank("q", [first, [last, bits[0][1]]], "ki", "c")
+    yield module(ins, outs, text + cells + made + back)
+
+
 def wide(bits, outputs):
     """A netlist of wires, with so many outputs."""
     ins = [two_rails(f"i{bit}") for bit in range(bits)]
@@ -197,6 +230,8 @@ NETLISTS = {
     "a cycle of 100,000 gates": gates(100_000, "TH22 g{0}(.A(n{1}),.B(n0),.Z(n{0}));\n"),
     "a stage with 100 XORs": asked_stage(9, 100),
     "a stage with 200 XORs": asked_stage(9, 200),
+    "a gate over 4 sums of 5 products": met_stage(4, 5),
+    "a gate over 4 sums of 6 products": met_stage(4, 6),
 }
 MODELS = {
     "one signal": filled(".inputs ", "a"),
@@ -264,7 +299,11 @@ def row(kind, size, answer):
 
 
 def main():
-    program, word = sys.argv[1], sys.argv[2] if len(sys.argv) > 2 else ""
+    parser = Parser(__doc__)
+    parser.add_argument("program")
+    parser.add_argument("word", nargs="?", default="")
+    given = parser.parse_args()
+    program, word = given.program, given.word
     print(f"{'kind':<34}{'bytes':>10}{'seconds':>8}{'MB':>8}{'a byte':>8}{'':>4}  answer")
     with tempfile.TemporaryDirectory() as folder:
         netlist, _ = write(folder, "wires.v", wires())

@@ -10,6 +10,7 @@ each with its places, then the sums. The status is 1 where a statement stands tw
 """
 import argparse
 import collections
+import os
 import pathlib
 import re
 import sys
@@ -39,23 +40,27 @@ def paragraphs(lines):
 def alike(statement):
     """A statement with the names of what it binds as numbers."""
     bound = dict.fromkeys(name for group in re.findall(r"[({]([\w ]+) :", statement) for name in group.split())
-    for number, name in enumerate(bound):
-        statement = re.sub(rf"(?<![\w.'-]){re.escape(name)}(?![\w'-])", f"v{number}", statement)
-    return statement
+    number = {name: f"v{place}" for place, name in enumerate(bound)}
+    return re.sub(r"(?<![\w.'-])[\w'-]+", lambda found: number.get(found[0], found[0]), statement)
 
 
 def words(text):
-    """How often each word stands in a file, but in its comments and imports."""
+    """The words of a file, but those of its comments and imports."""
     skipped = ("--", "//", "use ", "pub use ", "ghost use ")
-    return collections.Counter(word for line in text.split("\n") if not line.lstrip().startswith(skipped)
-                               for word in WORD.findall(line))
+    return WORD.findall("\n".join(line for line in text.split("\n") if not line.lstrip().startswith(skipped)))
+
+
+def sources():
+    """The files of definitions, proofs and programs. What a build leaves in out/ is many times as much, and isn't looked at."""
+    for folder, inner, names in os.walk(TOP / "crates"):
+        inner[:] = sorted(name for name in inner if name != "out")
+        yield from (pathlib.Path(folder, name) for name in sorted(names) if name.endswith((".antt", ".rt")))
 
 
 def main():
     argparse.ArgumentParser(description=__doc__, formatter_class=argparse.RawDescriptionHelpFormatter).parse_args()
-    texts = {path: path.read_text() for kind in ("antt", "rt") for path in sorted(TOP.glob(f"crates/*/**/*.{kind}"))
-             if "out" not in path.parts}
-    cited = sum(map(words, texts.values()), collections.Counter())
+    texts = {path: path.read_text() for path in sources()}
+    cited = collections.Counter(word for text in texts.values() for word in words(text))
     places, unused = collections.defaultdict(list), []
     for path, text in texts.items():
         if path.suffix != ".antt" or "proofs" not in path.parts:

@@ -19,11 +19,15 @@ the two are the same and where they differ. An answer that isn't as expected end
 """
 import itertools
 import os
+import pathlib
 import re
 import subprocess
 import sys
 import tempfile
 import time
+
+sys.path.insert(0, str(pathlib.Path(__file__).resolve().parent.parent / "tools"))
+from script import Parser
 
 from stages import adder, cover, model, multiplier, three
 from waves import is_set, read_netlist
@@ -204,10 +208,15 @@ def measured(program, abc, text, folder):
 
 
 def main():
-    program, abc = sys.argv[1:3]
+    parser = Parser(__doc__)
+    parser.add_argument("program")
+    parser.add_argument("abc")
+    parser.add_argument("name", nargs="?", default="")
+    given = parser.parse_args()
+    program, abc = given.program, given.abc
     print(f"{'design':<24}{'cells':>8}{'nodes':>10}{'match':>10}{'abc':>10}{'match':>10}{'abc':>10}")
     for name, text in DESIGNS.items():
-        if len(sys.argv) > 3 and sys.argv[3] not in name:
+        if given.name not in name:
             continue
         with tempfile.TemporaryDirectory() as folder:
             cells, nodes, seconds = measured(program, abc, text, folder)

@@ -1,21 +1,24 @@
 #!/usr/bin/env python3
 """Compares the names in clauses of public functions with the tables of docs/names.md.
 
-    bench/named.py
+    bench/named.py [--write]
 
 A public function is one that its crate hands out: in a public module, or of a name or a type in a `pub use`. Its clauses are its
 `requires` and `ensures`; a name is one that the file imports from definitions of this repository. Not asked for are types and
 constants of the program, and names of worked examples. Prints what stands on one side alone.
 
 Then it reads README.md and all pages of docs/: a name that is said to be "of" a crate stands in this crate, each path is there,
-and each definition of a table that has a file is public in this file. Prints what isn't so. The status is 1 where something was
-printed.
+and each definition of a table that has a file is public in this file. With --write the files of docs/names.md are put there first,
+as the definitions stand. Prints what isn't so. The status is 1 where something was printed.
 """
 import pathlib
 import re
 import sys
 
 TOP = pathlib.Path(__file__).resolve().parent.parent
+sys.path.insert(0, str(TOP / "tools"))
+from script import Parser, carry_out
+
 EXAMPLES = {"Examples", "IllShaped", "Unsound"}
 # They stand in a file of examples, and say what each example shows.
 COUNTEREXAMPLES = ("TakesBack", "BreaksOnly", "IsCounterexample")
@@ -104,19 +107,47 @@ def lost_paths():
                 yield f"{place}: no {path}"
 
 
+def public_in(crate, name):
+    """The files of a crate in which a definition is public."""
+    public = re.compile(rf"^ *((abbrev|unfoldable) )*pub ((data|record|abbrev) )*{name}\b|^  {name} :", re.MULTILINE)
+    return [file.stem for file in sorted((TOP / "crates" / crate / "specs").rglob("*.antt")) if public.search(file.read_text())]
+
+
+def files_of(crate, names, shown):
+    """The files of the definitions of a row, in their order; of several that have one name those that are shown."""
+    found = []
+    for name in re.findall(r"`(\w+)`", names):
+        files = public_in(crate, name)
+        found += [file for file in files if file in shown] or files[:1]
+    return ", ".join(dict.fromkeys(found)) or ", ".join(shown)
+
+
+def write_files():
+    """Puts the files of all rows into the tables."""
+    page = TOP / "docs/names.md"
+    parts = re.split(r"^(?=## )", page.read_text(), flags=re.MULTILINE)
+    row = re.compile(r"^\| (`[^|]*`) \|([^|]*)\| ([^|]*) \|$", re.MULTILINE)
+    for place, part in enumerate(parts):
+        if crate := re.match(r"## (ncl_\w+)\n", part):
+            parts[place] = row.sub(lambda found: f"| {found[1]} |{found[2]}| {files_of(crate[1], found[1], found[3].split(', '))} |", part)
+    page.write_text("".join(parts))
+
+
 def hidden():
     """Definitions in the table that aren't public in their files."""
     rows = {}
     for name, crate, file in listed():
         rows.setdefault((name, crate), []).append(file)
     for (name, crate), files in sorted(rows.items()):
-        texts = [found.read_text() for file in files for found in (TOP / "crates" / crate / "specs").rglob(f"{file}.antt")]
-        public = re.compile(rf"^ *((abbrev|unfoldable) )*pub ((data|record|abbrev) )*{name}\b|^  {name} :", re.MULTILINE)
-        if not any(public.search(text) for text in texts):
+        if not set(files) & set(public_in(crate, name)):
             yield f"docs/names.md: {name} is not public in {', '.join(files)} of {crate}"
 
 
 def main():
+    parser = Parser(__doc__)
+    parser.add_argument("--write", action="store_true")
+    if parser.parse_args().write:
+        write_files()
     rows = set(listed())
     crates = [crate for crate in sorted((TOP / "crates").glob("ncl_*")) if (crate / "src/lib.rt").exists()]
     cited = {found for crate in crates for found in named_in(crate)}
@@ -135,4 +166,4 @@ def main():
 
 
 if __name__ == "__main__":
-    sys.exit(main())
+    carry_out("named", main)

@@ -14,6 +14,9 @@ import sys
 import tempfile
 import time
 
+sys.path.insert(0, str(pathlib.Path(__file__).resolve().parent.parent / "tools"))
+from script import Parser, carry_out
+
 PROGRAM = pathlib.Path(__file__).resolve().parent.parent / "crates/nclc/out/nclc"
 
 
@@ -91,9 +94,12 @@ def pipeline(bits, stages, layers):
 
 
 def main():
-    bits = int(sys.argv[1]) if len(sys.argv) > 1 else 10
-    stages = int(sys.argv[2]) if len(sys.argv) > 2 else 60
-    layers = int(sys.argv[3]) if len(sys.argv) > 3 else 1
+    parser = Parser(__doc__)
+    parser.add_argument("bits", nargs="?", type=int, default=10)
+    parser.add_argument("stages", nargs="?", type=int, default=60)
+    parser.add_argument("layers", nargs="?", type=int, default=1)
+    given = parser.parse_args()
+    bits, stages, layers = given.bits, given.stages, given.layers
     print(f"{'stages':>8}{'cells':>10}{'bytes':>12}{'seconds':>10}{'cells/s':>12}{'bytes/s':>12}")
     for factor in (1, 2, 4):
         text, cells = pipeline(bits, stages * factor, layers)
@@ -110,4 +116,4 @@ def main():
 
 
 if __name__ == "__main__":
-    main()
+    carry_out("pipelines", main)

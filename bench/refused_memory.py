@@ -6,12 +6,17 @@
 PROGRAM is the built nclc. A small library, which is made here by `cc` and loaded before the C library, answers the Nth
 request that the program makes with nothing. Each run has to end with status 7, having written a first part of `out of
 memory` and a line feed, or as it ends with all of its memory. It prints how many requests there are and how many runs
-ended so.
+ended so; `figures.py PROGRAM memory` compares these with the table in docs/limits.md, or writes it.
 """
 import os
+import pathlib
+import shutil
 import subprocess
 import sys
 import tempfile
+
+sys.path.insert(0, str(pathlib.Path(__file__).resolve().parent.parent / "tools"))
+from script import Parser, Refused, carry_out
 
 REFUSING = r"""
 #include <errno.h>
@@ -103,30 +108,37 @@ def ran(program, library, folder, words, request=0):
     return (done.returncode, done.stdout), came
 
 
-def main():
-    program = os.path.abspath(sys.argv[1])
+def ends(program, words):
+    """How many requests a run makes, and how many of the runs in which one is refused end with status 7, and how many as with
+    all of the memory."""
     with tempfile.TemporaryDirectory() as folder:
         for name, text in FILES.items():
             with open(os.path.join(folder, name), "w") as file:
                 file.write(text)
         library = os.path.join(folder, "refusing.so")
         subprocess.run(["cc", "-O1", "-shared", "-fPIC", "-xc", "-", "-o", library], input=REFUSING, text=True, check=True)
-        for words in RUNS:
-            wanted, _ = ran(program, library, folder, words)
-            request, refused, whole = 1, 0, 0
-            while True:
-                got, came = ran(program, library, folder, words, request)
-                if not came:
-                    break
-                if got == wanted:
-                    whole += 1
-                elif got[0] == 7 and OUT_OF_MEMORY.startswith(got[1]):
-                    refused += 1
-                else:
-                    sys.exit(f"{' '.join(words)}, request {request}: status {got[0]}, {got[1]!r}")
-                request += 1
-            print(f"{' '.join(words)}: {request - 1} requests, {refused} out of memory, {whole} as with it", flush=True)
+        wanted, _ = ran(program, library, folder, words)
+        request, refused, whole = 1, 0, 0
+        got, came = ran(program, library, folder, words, request)
+        while came:
+            if got != wanted and (got[0] != 7 or not OUT_OF_MEMORY.startswith(got[1])):
+                raise Refused(f"{' '.join(words)}, request {request}: status {got[0]}, {got[1][:200]!r}")
+            whole, refused = whole + (got == wanted), refused + (got != wanted)
+            request += 1
+            got, came = ran(program, library, folder, words, request)
+    return request - 1, refused, whole
+
+
+def main():
+    parser = Parser(__doc__)
+    parser.add_argument("program")
+    program = shutil.which(os.path.abspath(parser.parse_args().program))
+    if program is None:
+        raise Refused("there is no such program")
+    for words in RUNS:
+        requests, refused, whole = ends(program, words)
+        print(f"{' '.join(words)}: {requests} requests, {refused} out of memory, {whole} as with it", flush=True)
 
 
 if __name__ == "__main__":
-    main()
+    carry_out("refused_memory", main)

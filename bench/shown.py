@@ -3,10 +3,11 @@
 
     bench/shown.py PROGRAM [--write] [PAGE ..]
 
-PROGRAM is the built nclc. Without pages, README and those of docs/ are taken. The commands of a page, the lines that begin
-with `$ ` in its blocks, run one after another in a folder of their own, in which the files of examples/ lie, and lie under
-examples/ too; tools/ is at the end of the path. One whose program isn't on the path is passed over, and gtkwave always. With
---write, what a command prints is put below it. Prints each command that differs; the status is 1 where one does.
+PROGRAM is the built nclc, a file of this name. Without pages, README and those of docs/ are taken. The commands of a page, the
+lines that begin with `$ ` in its blocks, run one after another in a folder of their own, in which the files of examples/ lie, as
+the pages tell their readers to make one; the program's folder is first on the path, and tools/ last. Where a program isn't on
+the path that a command asks for, nothing is run; gtkwave alone, which waits for a person, is never run. With --write, what a
+command prints is put below it. Prints each command that differs; the status is 1 where one does.
 """
 import os
 import pathlib
@@ -17,13 +18,27 @@ import sys
 import tempfile
 
 TOP = pathlib.Path(__file__).resolve().parent.parent
+sys.path.insert(0, str(TOP / "tools"))
+from script import Parser, Refused, carry_out
+
+SECONDS = 600
+# What else commands ask for, and a script of tools/ by what it calls.
+ASKED = {"yosys": "yosys", "berkeley-abc": "berkeley-abc", "iverilog": "iverilog", "vvp": "vvp", "awk": "awk",
+         "second_opinion": "berkeley-abc", "split_model": "berkeley-abc", "prepare": "berkeley-abc", "carry_in": "yosys",
+         "show": "dot"}
 
 
-def missing(command):
-    """Whether a program of the command isn't there to be run."""
-    names = re.findall(r"\b(yosys|berkeley-abc|iverilog|vvp|gtkwave|second_opinion|show)\b", command)
-    asks = {"second_opinion": "berkeley-abc", "show": "dot"}
-    return any(name == "gtkwave" or shutil.which(asks.get(name, name)) is None for name in names)
+def text_of(page):
+    """The text of a page."""
+    try:
+        return page.read_text()
+    except UnicodeDecodeError:
+        raise Refused(f"{page}: no text") from None
+
+
+def is_run(line):
+    """Whether a line of a block is a command that can be run without a person."""
+    return line.startswith("$ ") and not line.startswith("$ gtkwave")
 
 
 def blocks(text):
@@ -37,11 +52,21 @@ def blocks(text):
             yield line, inside
 
 
+def lacking(pages):
+    """The programs that commands of the pages ask for and that aren't on the path, each with its page."""
+    commands = [(page, line) for page in pages for line, inside in blocks(text_of(page)) if inside and is_run(line)]
+    asked = [(page, ASKED[word]) for page, line in commands for word in re.findall(r"[\w-]+", line) if word in ASKED]
+    return sorted({f"{name} ({page.name})" for page, name in asked if shutil.which(name) is None})
+
+
 def ran(command, folder, program):
     """What a command prints."""
-    command = re.sub(r"crates/nclc/out/nclc|\bnclc\b(?= (check|compile|sim|match|demo))", program, command)
-    with_tools = dict(os.environ, PATH=f"{os.environ['PATH']}:{TOP / 'tools'}")
-    done = subprocess.run(["bash", "-c", command], cwd=folder, env=with_tools, capture_output=True, text=True, timeout=300)
+    command = re.sub(r"\bnclc\b(?= (check|compile|sim|match|demo))", program, command)
+    with_tools = dict(os.environ, PATH=f"{pathlib.Path(program).parent}:{os.environ['PATH']}:{TOP / 'tools'}")
+    try:
+        done = subprocess.run(["bash", "-c", command], cwd=folder, env=with_tools, capture_output=True, text=True, timeout=SECONDS)
+    except subprocess.TimeoutExpired:
+        return [f"no end in {SECONDS} seconds"]
     return done.stdout.split("\n")[:-1]
 
 
@@ -61,28 +86,38 @@ def page_as_run(text, folder, program):
         elif shown is not None:
             wanted.append(line)
         lines.append(line)
-        if inside and line.startswith("$ ") and not missing(line):
+        if inside and is_run(line):
             shown = ran(line[2:], folder, program)
     return "\n".join(lines), differ
 
 
+def compare(page, program, write):
+    """How many commands of a page differ; each is printed."""
+    with tempfile.TemporaryDirectory() as folder:
+        shutil.copytree(TOP / "examples", folder, dirs_exist_ok=True)
+        text, differ = page_as_run(text_of(page), folder, program)
+    for command, shown in differ:
+        print(f"{page.name}: {command}", *shown, sep="\n    ", flush=True)
+    if write and differ:
+        page.write_text(text)
+    return len(differ)
+
+
 def main():
-    program, write = str(pathlib.Path(sys.argv[1]).resolve()), "--write" in sys.argv
-    pages = [pathlib.Path(word) for word in sys.argv[2:] if word != "--write"]
-    count = 0
-    for page in pages or [TOP / "README.md", *sorted((TOP / "docs").glob("*.md"))]:
-        with tempfile.TemporaryDirectory() as folder:
-            for place in (folder, f"{folder}/examples"):
-                shutil.copytree(TOP / "examples", place, dirs_exist_ok=True)
-            text, differ = page_as_run(page.read_text(), folder, program)
-        for command, shown in differ:
-            print(f"{page.name}: {command}", *shown, sep="\n    ")
-        count += len(differ)
-        if write and differ:
-            page.write_text(text)
+    parser = Parser(__doc__)
+    parser.add_argument("program", metavar="PROGRAM", type=pathlib.Path)
+    parser.add_argument("--write", action="store_true")
+    parser.add_argument("pages", metavar="PAGE", nargs="*", type=pathlib.Path)
+    words = parser.parse_intermixed_args()
+    pages = words.pages or [TOP / "README.md", *sorted((TOP / "docs").glob("*.md"))]
+    if shutil.which(str(words.program)) is None:
+        raise Refused(f"{words.program}: no program")
+    if lacks := lacking(pages):
+        raise Refused(f"not on the path: {', '.join(lacks)}")
+    count = sum(compare(page, str(words.program.resolve()), words.write) for page in pages)
     print(f"{count} commands print something else")
     return 1 if count else 0
 
 
 if __name__ == "__main__":
-    sys.exit(main())
+    carry_out("shown", main)

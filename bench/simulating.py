@@ -4,7 +4,7 @@
     bench/simulating.py PROGRAM [BITS [STAGES [LAYERS [WORDS [MOST_DELAY]]]]]
 
 PROGRAM is the built nclc; iverilog and vvp have to be on the path. Icarus runs the netlist with examples/cells.v and
-examples/bench.v, for which examples/bench.awk writes the names and delays. First come the runs of examples/, then a
+the test bench of tools/bench. First come the runs of examples/, then a
 pipeline of bench/pipelines.py twice: STAGES stages of LAYERS layers of half adders of BITS bits, where no bank holds a
 word at reset, and where every third does. Each cell, the source and the sink have random delays from 1 to MOST_DELAY.
 The lines of the words have to be the same, and each net has to change at the same times. Prints the cells, the seconds of
@@ -17,6 +17,9 @@ import subprocess
 import sys
 import tempfile
 import time
+
+sys.path.insert(0, str(pathlib.Path(__file__).resolve().parent.parent / "tools"))
+from script import Parser
 
 HERE = pathlib.Path(__file__).resolve().parent
 EXAMPLES = HERE.parent / "examples"
@@ -49,9 +52,9 @@ def changes_of(text, begin):
 
 def peer(folder, netlist, delays, words, dump):
     """What Icarus prints for a netlist with a file of delays and one of words, and its seconds."""
-    header = subprocess.run(["awk", "-f", EXAMPLES / "bench.awk", delays, netlist], capture_output=True, text=True, check=True)
-    pathlib.Path(folder, "bench.vh").write_text(header.stdout)
-    subprocess.run(["iverilog", "-s", "bench", "-o", "bench", EXAMPLES / "cells.v", EXAMPLES / "bench.v", netlist], cwd=folder, check=True)
+    bench = subprocess.run([HERE.parent / "tools/bench", netlist, "--delays", delays], capture_output=True, text=True, check=True)
+    pathlib.Path(folder, "bench.v").write_text(bench.stdout)
+    subprocess.run(["iverilog", "-s", "bench", "-o", "bench", EXAMPLES / "cells.v", "bench.v", netlist], cwd=folder, check=True)
     ran, seconds = timed(["vvp", "-n", f"{folder}/bench", f"+words={words}", *([f"+vcd={folder}/peer.vcd"] if dump else [])])
     return "".join(line + "\n" for line in ran.stdout.splitlines() if line.startswith("word ")), seconds
 
@@ -99,8 +102,12 @@ def files_of(folder, netlist, bits, count, most, chance):
 
 
 def main():
-    program = str(pathlib.Path(sys.argv[1]).resolve())
-    bits, stages, layers, count, most = ([int(word) for word in sys.argv[2:]] + [10, 30, 40, 512, 30][len(sys.argv) - 2:])
+    parser = Parser(__doc__)
+    parser.add_argument("program")
+    parser.add_argument("numbers", nargs="*", type=int, metavar="NUMBER")
+    given = parser.parse_args()
+    program, usual = str(pathlib.Path(given.program).resolve()), [10, 30, 40, 512, 30]
+    bits, stages, layers, count, most = [*given.numbers[:5], *usual[len(given.numbers):]]
     for run in waves.RUNS:
         if run[0] != "orphan.v":
             compare(program, *(str(EXAMPLES / name) for name in run))

@@ -10,10 +10,14 @@ those of the processors together, of the clock, and of the clock on one processo
 by side.
 """
 import os
+import pathlib
 import subprocess
 import sys
 import tempfile
 import time
+
+sys.path.insert(0, str(pathlib.Path(__file__).resolve().parent.parent / "tools"))
+from script import Parser
 
 LARGEST = 1_000_000
 
@@ -129,7 +133,11 @@ def least_limit(program, netlist):
 
 
 def main():
-    program = sys.argv[1]
+    parser = Parser(__doc__)
+    parser.add_argument("program")
+    parser.add_argument("name", nargs="?", default="")
+    given = parser.parse_args()
+    program = given.program
     print(f"{'stage':<24}{'cells':>8}{'nodes':>10}{'processors':>12}{'clock':>8}{'on one':>8}{'MB':>8}")
     stages = {
         "adder of 65 bits": adder(32),
@@ -139,7 +147,7 @@ def main():
         "four multipliers": multipliers(6, 4),
     }
     for name, text in stages.items():
-        if len(sys.argv) > 2 and sys.argv[2] not in name:
+        if given.name not in name:
             continue
         with tempfile.TemporaryDirectory() as folder:
             blif, netlist = os.path.join(folder, "s.blif"), os.path.join(folder, "s.v")

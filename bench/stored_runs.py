@@ -1,53 +1,95 @@
 #!/usr/bin/env python3
 """Runs the built program on the stored commands, and compares what it writes and its status with what is stored.
 
-    bench/stored_runs.py PROGRAM
+    bench/stored_runs.py PROGRAM [--write]
 
-PROGRAM is the built nclc. The gate makes the same runs through the top call; here they go through the program's own
-words, files, standard output and status, and nothing may come to standard error. Prints each run that differs, and how many there were: those of `crates/runs`, and
-those of the pages, which `crates/examples` makes.
+PROGRAM is the built nclc. The gate makes the same runs through the top call; here they go through the program's own arguments,
+files, standard output and status, and nothing may come to standard error. Prints each run that differs, each that is stored and
+that no command makes, each file of `crates/runs/data` that no command names, and how many runs there were: those of
+`crates/runs`, and those of the pages, which `crates/examples` makes. The status is 1 where something is printed beside that.
+With --write the runs of the pages are stored, behind what that program prints before them.
 """
 import pathlib
+import re
 import shutil
 import subprocess
 import sys
 import tempfile
 
-CRATES = pathlib.Path(__file__).resolve().parent.parent / "crates"
+TOP = pathlib.Path(__file__).resolve().parent.parent
+CRATES = TOP / "crates"
+sys.path.insert(0, str(TOP / "tools"))
+from script import Parser, Refused, carry_out
+
+SECONDS = 120
 
 
 def told(program, line, folder):
     """What is stored of a command that answers so."""
     command, _, name = line.partition(" > ")
-    ran = subprocess.run([program, *command.split(" ")], cwd=folder, capture_output=True, timeout=120)
+    try:
+        ran = subprocess.run([program, *command.split(" ")], cwd=folder, capture_output=True, timeout=SECONDS)
+    except subprocess.TimeoutExpired:
+        return f"$ nclc {line}\nmore than {SECONDS} seconds\n"
     if name:
         pathlib.Path(folder, name).write_bytes(ran.stdout)
-    text = "" if name else ran.stdout.decode()
-    error = f"standard error: {ran.stderr.decode()}" if ran.stderr else ""
+    text = "" if name else ran.stdout.decode(errors="replace")
+    error = "standard error: " + ran.stderr.decode(errors="replace") if ran.stderr else ""
     return f"$ nclc {line}\n{text}{error}status {ran.returncode}\n"
 
 
-def are_same(program, crate):
-    """Whether the runs of a crate are as they are stored."""
-    stored = (CRATES / crate / "stdout").read_text()
-    wanted = stored[stored.index("$ nclc "):]
+def stored_of(text):
+    """What is stored before the first run, and the runs one behind the other, each from its command to its status."""
+    first, *found = re.split(r"^(?=\$ nclc )", text, flags=re.M)
+    if not found:
+        raise Refused("no run is stored")
+    return first, found
+
+
+def unnamed(folder, lines):
+    """The files of a folder that no command names."""
+    named = {part for line in lines for word in line.split(" ") for part in (word, word.partition("=")[2])}
+    return sorted(path.name for path in folder.iterdir() if path.name not in named | {"commands"})
+
+
+def runs_of(program, data, lines):
+    """The runs of some commands, in a copy of the folder."""
     with tempfile.TemporaryDirectory() as folder:
-        shutil.copytree(CRATES / crate / "data", folder, dirs_exist_ok=True)
-        lines = (CRATES / crate / "data/commands").read_text().split("\n")[:-1]
-        runs = [told(program, line, folder) for line in lines]
-    for run in runs:
-        if run not in wanted:
-            print("differs:", run)
-    same = "".join(runs) == wanted
+        shutil.copytree(data, folder, dirs_exist_ok=True)
+        return [told(program, line, folder) for line in lines]
+
+
+def are_same(program, crate, write):
+    """Whether the runs of a crate are as they are stored, or are stored now."""
+    data, page = CRATES / crate / "data", CRATES / crate / "stdout"
+    (first, stored), lines = stored_of(page.read_text()), (data / "commands").read_text().splitlines()
+    runs = runs_of(program, data, lines)
+    if write:
+        page.write_text(first + "".join(runs))
+        stored = runs
+    for run in sorted(set(runs) - set(stored)):
+        print("differs:", run)
+    made = {run.partition("\n")[0] for run in runs}
+    gone = [run.partition("\n")[0] for run in stored if run.partition("\n")[0] not in made]
+    gone += [f"a command for {name}" for name in unnamed(data, lines)] if crate == "runs" else []
+    for what in gone:
+        print("gone:", what)
+    same = runs == stored and not gone
     print(f"{crate}: {len(runs)} runs, {'all as stored' if same else 'NOT as stored'}")
     return same
 
 
 def main():
-    program = str(pathlib.Path(sys.argv[1]).resolve())
-    answers = [are_same(program, crate) for crate in ("runs", "examples")]
+    parser = Parser(__doc__)
+    parser.add_argument("program", metavar="PROGRAM")
+    parser.add_argument("--write", action="store_true")
+    words = parser.parse_args()
+    program = shutil.which(str(pathlib.Path(words.program).resolve()))
+    if program is None:
+        raise Refused(f"{words.program}: no program")
+    answers = [are_same(program, crate, words.write and crate == "examples") for crate in ("runs", "examples")]
     return 0 if all(answers) else 1
 
 
 if __name__ == "__main__":
-    sys.exit(main())
+    carry_out("stored_runs", main)

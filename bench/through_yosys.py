@@ -14,6 +14,9 @@ import subprocess
 import sys
 import tempfile
 
+sys.path.insert(0, str(pathlib.Path(__file__).resolve().parent.parent / "tools"))
+from script import Parser
+
 EXAMPLES = pathlib.Path(__file__).resolve().parent.parent / "examples"
 PASSES = {"vectors": "opt_clean -purge; splitnets; opt_clean -purge", "bits": "splitnets -ports; opt_clean -purge"}
 GATES = ("TH12 TH22 TH13 TH23 TH33 TH23w2 TH33w2 TH14 TH24 TH34 TH44 TH24w2 TH34w2 TH44w2 TH34w3 TH44w3 TH24w22 TH34w22"
@@ -94,11 +97,15 @@ def same_lines(program, folder, netlist):
 
 
 def main():
-    program = str(pathlib.Path(sys.argv[1]).resolve())
+    parser = Parser(__doc__)
+    parser.add_argument("program")
+    parser.add_argument("netlists", nargs="*")
+    given = parser.parse_args()
+    program = str(pathlib.Path(given.program).resolve())
     same = True
     with tempfile.TemporaryDirectory() as name:
         folder = pathlib.Path(name)
-        for netlist in [pathlib.Path(path) for path in sys.argv[2:]] or list(compiled(program, folder)):
+        for netlist in [pathlib.Path(path) for path in given.netlists] or list(compiled(program, folder)):
             same &= same_lines(program, folder, netlist)
     return 0 if same else 1
 

@@ -16,6 +16,9 @@ import subprocess
 import sys
 import tempfile
 
+sys.path.insert(0, str(pathlib.Path(__file__).resolve().parent.parent / "tools"))
+from script import Parser
+
 GATES = {2: ["TH12", "TH22"], 3: ["TH13", "TH23", "TH33", "TH23w2", "TH33w2"],
          4: ["TH14", "TH24", "TH34", "TH44", "TH24w2", "TH34w2", "TH44w2", "TH34w3", "TH44w3", "TH24w22", "TH34w22", "TH44w22",
              "TH54w22", "TH34w32", "TH54w32", "TH44w322", "TH54w322", "THxor0", "THand0", "TH24comp"]}
@@ -96,8 +99,13 @@ def least(program, file):
 
 
 def main():
-    program, other = sys.argv[1:3]
-    count, seed = int((sys.argv[3:4] or ["1500"])[0]), int((sys.argv[4:5] or ["1"])[0])
+    parser = Parser(__doc__)
+    parser.add_argument("program")
+    parser.add_argument("other")
+    parser.add_argument("count", nargs="?", type=int, default=1500)
+    parser.add_argument("seed", nargs="?", type=int, default=1)
+    given = parser.parse_args()
+    program, other, count, seed = given.program, given.other, given.count, given.seed
     rand, kinds, differ = random.Random(seed), collections.Counter(), 0
     with tempfile.TemporaryDirectory() as folder:
         file, blif = pathlib.Path(folder, "thrown.v"), pathlib.Path(folder, "thrown.blif")

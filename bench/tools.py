@@ -3,47 +3,59 @@
 
     bench/tools.py PROGRAM [NAME ..]
 
-PROGRAM is the built nclc. Without names all tests are run; each is a function `NAME_..` of the script NAME, in `tools_texts.py`,
-`tools_cells.py` and `tools_install.py`. Where a test asks for another program, as yosys or iverilog, that isn't on the path,
+PROGRAM is the built nclc. Without names all tests are run; each is a function `NAME_..` of the script NAME, in a file
+`tools_..` beside this one. Where a test asks for another program, as yosys or iverilog, that isn't on the path,
 it is passed over with a line. Prints a line for each test; the status is 1 where one fails.
 """
+import importlib
 import pathlib
 import shutil
-import sys
+import subprocess
 import tempfile
 
-import tools_cells
 import tools_help
-import tools_install
-import tools_texts
+
+from script import Parser, Refused, carry_out
+
+MODULES = [importlib.import_module(path.stem) for path in sorted(pathlib.Path(__file__).parent.glob("tools_*.py"))]
 
 
 def tests():
     """The tests by name."""
-    mine = {name: test for module in (tools_texts, tools_cells, tools_install) for name, test in vars(module).items()}
-    scripts = ["bench_awk", "cells_lib", "completions", "manual", *(path.name for path in tools_help.TOOLS.iterdir())]
+    mine = {name: test for module in MODULES for name, test in vars(module).items()}
+    scripts = ["bench", "cells_lib", "completions", "manual", *(path.name for path in tools_help.TOOLS.iterdir())]
     return {name: test for name, test in mine.items() if any(name.startswith(f"{script}_") for script in scripts)}
 
 
+def carried_out(test):
+    """Whether a test holds; what it says is printed."""
+    needs = [word for word in getattr(test, "needs", ()) if shutil.which(word) is None]
+    if needs:
+        print(f"{test.__name__}: passed over, no {needs[0]}")
+        return True
+    with tempfile.TemporaryDirectory() as folder:
+        try:
+            test(pathlib.Path(folder))
+        except (AssertionError, OSError, subprocess.TimeoutExpired) as why:
+            print(f"{test.__name__}: FAILS: {why}", flush=True)
+            return False
+    print(f"{test.__name__}: ok", flush=True)
+    return True
+
+
 def main():
-    tools_help.PROGRAM.append(str(pathlib.Path(sys.argv[1]).resolve()))
-    failed = 0
-    for name, test in tests().items():
-        if sys.argv[2:] and not name.startswith(tuple(sys.argv[2:])):
-            continue
-        needs = [word for word in getattr(test, "needs", ()) if shutil.which(word) is None]
-        if needs:
-            print(f"{name}: passed over, no {needs[0]}")
-            continue
-        with tempfile.TemporaryDirectory() as folder:
-            try:
-                test(pathlib.Path(folder))
-                print(f"{name}: ok", flush=True)
-            except AssertionError as why:
-                failed += 1
-                print(f"{name}: FAILS: {why}", flush=True)
-    return 1 if failed else 0
+    parser = Parser(__doc__)
+    parser.add_argument("program")
+    parser.add_argument("names", nargs="*", metavar="NAME")
+    given = parser.parse_args()
+    program = shutil.which(str(pathlib.Path(given.program).resolve()))
+    chosen = [test for name, test in tests().items() if name.startswith(tuple(given.names or [""]))]
+    if program is None or not chosen:
+        raise Refused(f"there is no program {given.program}" if program is None else f"there is no test {given.names[0]}")
+    tools_help.PROGRAM.append(program)
+    answers = [carried_out(test) for test in chosen]
+    return 0 if all(answers) else 1
 
 
 if __name__ == "__main__":
-    sys.exit(main())
+    carry_out("tools", main)

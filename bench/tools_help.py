@@ -1,4 +1,6 @@
 """What the tests of tools/ share."""
+import functools
+import os
 import pathlib
 import subprocess
 import sys
@@ -26,8 +28,18 @@ def nclc(*words, status=0, folder=None):
     return ran([PROGRAM[0], *words], status=status, folder=folder)
 
 
+@functools.lru_cache(maxsize=None)
+def compiled(name):
+    """The netlist that the program makes of a BLIF text of the examples."""
+    return nclc("compile", EXAMPLES / f"{name}.blif")
+
+
 def same(found, wanted):
-    assert found == wanted, f"found {found!r}, wanted {wanted!r}"
+    """Says where two values begin to differ, if they do."""
+    if found != wanted:
+        told = [repr(found), repr(wanted)]
+        at = max(0, len(os.path.commonprefix(told)) - 100)
+        raise AssertionError("found {}, wanted {}".format(*(each[at:at + 400] for each in told)))
 
 
 def refuses(name, *words, status=1):

@@ -2,8 +2,11 @@
 import random
 import re
 import subprocess
+import sys
 
-from tools_help import EXAMPLES, PROGRAM, TOOLS, nclc, needing, ran, refuses, same, tool
+import tools_cells
+from tools_help import EXAMPLES, PROGRAM, TOOLS, TOP, nclc, needing, ran, refuses, same, tool
+import shape
 
 
 def interleave_puts_bits_in_turn(folder):
@@ -47,6 +50,61 @@ def place_points_at_lines(folder):
         assert found.startswith(f"{text}:{wanted}: "), (found, wanted)
     tool("place", text, given="shape: no chain, rule 5\n", status=1)
     refuses("place", status=2)
+
+
+def place_knows_what_answers_count(folder):
+    """Bits, outputs, stages and rules lead to a cell of the netlist, and models to their line."""
+    text, netlist = (EXAMPLES / "full_adder.v").read_text(), EXAMPLES / "full_adder.v"
+    cell_at = lambda name: next((k, line.index(f" {name} ") + 2) for k, line in enumerate(text.split("\n"), 1) if f" {name} (" in line)
+    register = {(bank, bit): re.search(rf"TH22N (\w+) .*\.Z *\({net}\)", text)[1] for (bank, bit), net in {(1, 2): "p2_1", (2, 1): "z1_1", (2, 2): "z2_1"}.items()}
+    for answer, cell in [("refused stage 1: both rails, output 2, word 000", register[2, 2]), ("refused stage 1: no rail, output 1, word 000", register[2, 1]),
+                         ("refused stage 1: incomplete, bit 2, word 000", register[1, 2]), ("differ at word 000, output 2", register[2, 2]),
+                         ("limit output 1: more than 5 nodes", register[2, 1]), ("limit stage 1: more than 5 nodes", "co0")]:
+        same(tool("place", netlist, given=answer), "{}:{}:{}: {}\n".format(netlist, *cell_at(cell), answer))
+    same(tool("place", netlist, given="refused stage 7: no rail, output 1, word 000", status=1)[-4:], "000\n")
+    models = folder / "m.blif"
+    models.write_text("# .model no\n.model a\n.inputs a\n.outputs a\n.end\n .model b\n.inputs a b\n.outputs a\n")
+    same(tool("place", models, given="blif: width of model 2"), f"{models}:6:2: blif: width of model 2\n")
+    for name in ("exercise_7.v", "neighbours_held.v"):
+        answer = nclc("check", EXAMPLES / name, status=3)
+        assert tool("place", EXAMPLES / name, given=answer).split(":")[1] != "1", answer
+
+
+def place_takes_escaped_names_and_passes_over_comments(folder):
+    text = folder / "odd.v"
+    text.write_text("// TH22 k2 (.A(x)\nmodule k2(a, z);\n(* TH22 k2 (.A(q) *) /* \\g,1 (.A( */ input a; output z;\n"
+                    "  \\TH23 \\g,1 (.\\A (a), .B(a), .C(a), .Z(q));\n  TH12 k2 ( .A(q), .B(\\r[1] ), .Z(z));\nendmodule\n")
+    for answer, wanted in [("refused stage 1: orphan, cell g,1, word 000", "4:9"), ("hazard at 6: cell g,1, after 19 steps, delivered 1 of 3", "4:9"), ("shape: loose at cell k2", "5:8"),
+                           ("netlist: two cells g,1", "4:9"), ("netlist: no driver of r[1]", "5:23"), ("netlist: no driver of q", "4:41"), ("lost: cell g,1", "4:9")]:
+        same(tool("place", text, given=answer), f"{text}:{wanted}: {answer}\n")
+    for text, given in (("", "shape: loose at cell k2"), ("\0\xff", "netlist: two cells k"), ("(" * 1000000, "shape: no chain, rule 5")):
+        (folder / "bad.v").write_text(text)
+        same(tool("place", folder / "bad.v", given=given, status=1), f"{folder}/bad.v:1:1: {given}\n")
+
+
+def banks_tell_the_rule_of_shape(folder):
+    count, wrong = 0, []
+    for netlist in sorted((*EXAMPLES.glob("*.v"), *(TOP / "crates/runs/data").glob("*.v"))):
+        check = subprocess.run([PROGRAM[0], "check", netlist], capture_output=True, text=True).stdout
+        if check.startswith(("shape: ", "accepted", "refused")):
+            count += 1
+            told = shape.fault(shape.Shape(netlist.read_text("latin-1")))
+            wrong += [] if (told[0] if told else "") == (check.strip() if check.startswith("shape: ") else "") else [(netlist.name, check, told)]
+    same(wrong, [])
+    assert count > 150, count
+    for name, last in (("forgotten_bit", "shape: loose at cell k2"), ("orphan", "no rule of shape is broken")):
+        same(tool("banks", EXAMPLES / f"{name}.v").splitlines()[-1], last)
+    same(refuses("banks", EXAMPLES / "unknown_cell.v").partition(":")[0], "banks")
+    refuses("banks", EXAMPLES / "absent.v")
+    refuses("banks", status=2)
+
+
+def banks_tell_who_requests(folder):
+    found = tool("banks", EXAMPLES / "exercise_7.v").splitlines()
+    same([line.partition(": ")[2] for line in found if line.startswith("bank ")],
+         ["request c3, driven by TH12B zk1, completion of bank 3", "request c2, driven by TH12B qk1, completion of bank 2", "request ki, driven by an input port"])
+    same(found[-1], "shape: no chain, rule 5")
+    same([line.strip() for line in found if "root" in line], ["root: ko (output port)", "root: c2 (requests bank 2)", "root: c3 (requests bank 1)"])
 
 
 @needing("vim")
@@ -115,9 +173,34 @@ def second_opinion_is_that_of_match(folder):
             match = subprocess.run([PROGRAM[0], "match", netlist, blif], capture_output=True, text=True) if blif.exists() else None
             if match and match.returncode < 2:
                 same(tool("second_opinion", netlist, blif, status=match.returncode).split()[0].strip(","), match.stdout.split()[0])
-    refuses("second_opinion", EXAMPLES / "exercise_7.v", EXAMPLES / "exercise_7.blif")
-    refuses("second_opinion", EXAMPLES / "and.v", EXAMPLES / "latch.blif")
+    refuses("second_opinion", EXAMPLES / "and.v", EXAMPLES / "latch.blif", status=3)
     same(tool("second_opinion", EXAMPLES / "and.v", EXAMPLES / "full_adder.blif", status=1), "widths differ: netlist 2 to 1, blif 3 to 2\n")
+
+
+def second_opinion_has_statuses_of_its_own(folder):
+    undriven, netlist = folder / "undriven.blif", EXAMPLES / "and.v"
+    undriven.write_text(".model m\n.inputs a b\n.outputs y\n.names a q t\n11 1\n.names t b y\n11 1\n.end\n")
+    same(refuses("second_opinion", netlist, undriven, status=3), "second_opinion: blif: nothing drives q\n")
+    for bad in (folder / "absent", folder, "/dev/null"):
+        refuses("second_opinion", bad, EXAMPLES / "and.blif", status=3)
+        refuses("second_opinion", netlist, bad, status=3)
+    refuses("second_opinion", netlist, status=2)
+    (folder / "python3").symlink_to(sys.executable)
+    done = subprocess.run([TOOLS / "second_opinion", netlist, EXAMPLES / "and.blif"], env={"PATH": str(folder)}, capture_output=True, text=True)
+    if done.returncode != 127:
+        same((done.returncode, done.stdout, done.stderr), (4, "", "second_opinion: no ABC on the path: berkeley-abc, yosys-abc or abc\n"))
+
+
+def second_opinion_tells_shapes_as_match_does(folder):
+    count, found, blif = 0, [], EXAMPLES / "and.blif"
+    for netlist in sorted((*EXAMPLES.glob("*.v"), *(TOP / "crates/runs/data").glob("*.v"))):
+        match = subprocess.run([PROGRAM[0], "match", netlist, blif], capture_output=True, text=True).stdout
+        if match.startswith("shape: "):
+            count += 1
+            told = refuses("second_opinion", netlist, blif, status=3)
+            found += [] if told == f"second_opinion: {match}" else [(netlist.name, match, told)]
+    same(found, [])
+    assert count > 60, count
 
 
 def order_sorts_the_bits_of_banks(folder):
@@ -155,9 +238,7 @@ def why_delays_bring_it_in_icarus(folder):
         runs.append((EXAMPLES / f"{name}.v", folder / f"{name}.why"))
     for text, why in runs:
         tool("why_delays", text, why, folder / "run")
-        (folder / "bench.vh").write_text(ran(["awk", "-f", EXAMPLES / "bench.awk", "run.delays", text], folder=folder))
-        ran(["iverilog", "-s", "bench", "-o", "bench", EXAMPLES / "cells.v", EXAMPLES / "bench.v", text], folder=folder)
-        ran(["vvp", "-n", "bench", "+words=run.words", "+vcd=run.vcd"], folder=folder)
+        tools_cells.in_icarus(folder, text, folder / "run.words", folder / "run.delays")
         lost = tool("cone", text, why).splitlines()[-1].split(": ")[2].split()[0]
         dump = (folder / "run.vcd").read_text()
         code = re.search(rf"\$var \w+ 1 (\S+) {re.escape(lost)} \$end", dump)[1]

@@ -16,6 +16,9 @@ import subprocess
 import sys
 import tempfile
 
+sys.path.insert(0, str(pathlib.Path(__file__).resolve().parent.parent / "tools"))
+from script import Parser
+
 EXAMPLES = pathlib.Path(__file__).resolve().parent.parent / "examples"
 RUNS = [
     ("full_adder.v", "unit.delays", "three_bits.words"),
@@ -229,8 +232,12 @@ def compare(program, files, folder):
 
 
 def main():
-    program = str(pathlib.Path(sys.argv[1]).resolve())
-    runs = [tuple(sys.argv[2:5])] if len(sys.argv) > 2 else [tuple(str(EXAMPLES / file) for file in run) for run in RUNS]
+    parser = Parser(__doc__)
+    parser.add_argument("program")
+    parser.add_argument("files", nargs="*", metavar="NETLIST DELAYS WORDS")
+    given = parser.parse_args()
+    program = str(pathlib.Path(given.program).resolve())
+    runs = [tuple(given.files[:3])] if given.files else [tuple(str(EXAMPLES / file) for file in run) for run in RUNS]
     with tempfile.TemporaryDirectory() as folder:
         for files in runs:
             compare(program, files, folder)

@@ -1,0 +1,80 @@
+#!/usr/bin/env python3
+"""Says what the proof of a crate costs, function by function.
+
+    bench/costs.py CRATE .. [--least SECONDS]
+
+`rt check` writes a file into crates/CRATE/out/incremental for each part of a function's proof as it ends with it, so the time
+between two files is what the later one took. That holds for a check from nothing by one job: remove crates/CRATE/out/incremental
+and run `rt check --jobs 1` in crates/CRATE first, with nothing else running. For each crate the first line tells how long all
+functions took together, and how much of it went into functions that took more than 5 seconds each; then comes a line for each
+function that took at least so many seconds (3 without --least): the seconds, of them those of the generated steps, of the
+written answers, and of the rest of the proof. What is above 10 seconds mostly holds many owned values while it calls what may
+fail: give it parts that take references.
+"""
+import collections
+import os
+import pathlib
+import re
+import sys
+
+TOP = pathlib.Path(__file__).resolve().parent.parent
+sys.path.insert(0, str(TOP / "tools"))
+from script import Parser, Refused, carry_out
+
+# How the file of a part of a proof ends its name; what is left is the function, or a file of lemmas.
+PARTS = r"Lts|Proof|Tie|Code|Statement|Goals|Met|Kinds[-\d]*|Invariants|Answers|Reads|Given|View|Layout|Named|Symbol|Key|TheLink"
+MANY = 5
+
+
+def files_of(folder):
+    """The time, and the name of the module, of each file of proofs below the folder, in the order in which they were written."""
+    found = []
+    for at, _, names in os.walk(folder):
+        for name in names:
+            if name.endswith(".oantt"):
+                found.append((os.stat(f"{at}/{name}").st_mtime, name.removesuffix(".oantt").removesuffix(".decls")))
+    return sorted(found)
+
+
+def part_of(name):
+    """The function or the file of lemmas that a module belongs to, and the kind of the part."""
+    words, part = re.sub(r"^Rattle-\w+(-specs|-proofs)?\.?", "", name).split("."), ""
+    while len(words) > 1 and re.fullmatch(PARTS, words[-1]):
+        part = words.pop()
+    return ".".join(words) or "(all that is below the crate)", part
+
+
+def costs_of(crate):
+    """The seconds of each function of the crate, by the kind of the part, and those of all together."""
+    files = files_of(TOP / "crates" / crate / "out/incremental")
+    if not files:
+        raise Refused(f"crates/{crate}/out/incremental holds nothing: run rt check --jobs 1 in crates/{crate} first")
+    costs, last = collections.defaultdict(collections.Counter), files[0][0]
+    for time, name in files:
+        function, part = part_of(name)
+        costs[function][part] += time - last
+        last = time
+    return costs, files[-1][0] - files[0][0]
+
+
+def tell(crate, least):
+    costs, whole = costs_of(crate)
+    sums = {name: sum(parts.values()) for name, parts in costs.items()}
+    print(f"{crate}: {whole:.0f} s, {sum(max(it - MANY, 0) for it in sums.values()):.0f} s of them above {MANY} s a function")
+    for name, took in sorted(sums.items(), key=lambda it: -it[1]):
+        if took >= least:
+            steps, answers = costs[name]["Lts"], costs[name]["Answers"]
+            print(f"{took:8.1f}  {name}  (steps {steps:.1f}, answers {answers:.1f}, rest {took - steps - answers:.1f})")
+
+
+def main():
+    parser = Parser(__doc__)
+    parser.add_argument("crates", nargs="+", metavar="CRATE")
+    parser.add_argument("--least", type=float, default=3.0, metavar="SECONDS")
+    given = parser.parse_args()
+    for crate in given.crates:
+        tell(crate, given.least)
+
+
+if __name__ == "__main__":
+    carry_out("costs", main)

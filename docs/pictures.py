@@ -55,14 +55,23 @@ def spans(net, values, changes, end):
     return found + ([(since, end)] if since is not None else [])
 
 
+def legend(picture, y):
+    """What the colours mean, in a row."""
+    for place, (colour, words) in enumerate(((ONE, "rail 1 high"), (ZERO, "rail 0 high"), (OTHER, "another net high"))):
+        picture.box(110 + 105 * place, y - 9, 14, 9, colour)
+        picture.text(130 + 105 * place, y, words)
+
+
 def wave(name, dump, rows):
-    """A row for each name and its nets: two for a bit, rail 1 first, and one for another net."""
+    """A row for each name and its nets: two for a bit, rail 1 first, and one for another net; and the meaning of the colours."""
     left, top, unit, row, high = 110, 24, 20, 34, 9
     _, _, values, changes = waves.read_dump(dump)
     end = changes[-1][0] + 2
-    picture = Picture(left + unit * end + 10, top + row * len(rows) + 6)
+    bottom = top + row * len(rows)
+    picture = Picture(left + unit * end + 10, bottom + 26)
+    legend(picture, bottom + 18)
     for time in range(0, end + 1, 5):
-        picture.line(left + unit * time, top - 4, left + unit * time, picture.height - 6, PALE)
+        picture.line(left + unit * time, top - 4, left + unit * time, bottom, PALE)
         picture.text(left + unit * time, 14, time, "middle")
     for place, (words, nets) in enumerate(rows):
         picture.text(8, top + row * place + 21, words)

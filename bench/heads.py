@@ -1,11 +1,11 @@
 #!/usr/bin/env python3
-"""Compares what docs/architecture.md says of each crate with the head of the crate's root, or takes it from there.
+"""Compares what docs/architecture.md says of each crate with the head of the crate's root, or writes it from there.
 
     bench/heads.py [--write]
 
-An entry of "Who does what" is the first paragraph of the crate's `lib.rt` or `main.rt`, where that has at least as many words; a
-longer entry is one by hand, until the head says as much. Without --write nothing is written. Prints the crates whose entry is
-another, and which are left by hand; the status is 1 where one is another.
+An entry of "Who does what" is the head of the crate's `lib.rt` or `main.rt`, up to the paragraph that introduces an example, which
+ends with a colon; the crates have the order and the groups of crates.txt. Without --write nothing is written. Prints the crates
+whose entry is another; the status is 1 where there are some, or where a crate has no head.
 """
 import pathlib
 import re
@@ -20,21 +20,31 @@ PAGE, TITLE = TOP / "docs/architecture.md", "## Who does what\n\n"
 
 
 def head_of(crate):
-    """The first paragraph of the comment at the head of a crate's root, or nothing."""
+    """What the comment at the head of a crate's root says before it comes to an example."""
     roots = [file for name in ("lib.rt", "main.rt") if (file := TOP / "crates" / crate / "src" / name).exists()]
     lines = roots[0].read_text().split("\n") if roots else []
-    end = next((place for place, line in enumerate(lines) if not line.startswith("//! ")), len(lines))
-    return " ".join(line[4:].strip() for line in lines[:end])
+    end = next((place for place, line in enumerate(lines) if not line.startswith("//!")), len(lines))
+    paragraphs = "\n".join(line[3:].strip() for line in lines[:end]).split("\n\n")
+    stop = next((place for place, text in enumerate(paragraphs) if text.endswith(":") or text.startswith("```")), len(paragraphs))
+    if not "".join(paragraphs[:stop]):
+        raise Refused(f"{crate}: no head")
+    return " ".join(" ".join(paragraphs[:stop]).split())
 
 
-def entry_of(old):
-    """An entry as it is to be, its crate, and whether it stays as it stands, by hand."""
-    crate = re.match(r"- \*\*(\w+)\*\*", old)
-    head = head_of(crate[1]) if crate else ""
-    said = re.sub(r"^- \*\*\w+\*\*:? ", "", old)
-    if not head or len(head.split()) < len(said.split()):
-        return old, crate and crate[1], True
-    return textwrap.fill(f"- **{crate[1]}**: {head}", 125, subsequent_indent="  ", break_on_hyphens=False), crate[1], False
+def entries():
+    """The crates with their entries, and the groups between them, as the page has them."""
+    for line in (TOP / "crates.txt").read_text().split("\n"):
+        group, crate = re.match(r"# ([a-z]+): ", line), re.match(r"(\w+)[^#:]*:", line)
+        if group:
+            yield None, f"### {group[1].capitalize()}\n"
+        elif crate:
+            said = f"- **{crate[1]}**: {head_of(crate[1])}"
+            yield crate[1], textwrap.fill(said, 125, subsequent_indent="  ", break_on_hyphens=False, break_long_words=False)
+
+
+def laid_out(listed):
+    """The section of the page, with an empty line before each group and after its heading."""
+    return "\n".join(text if crate or not place else f"\n{text}" for place, (crate, text) in enumerate(listed))
 
 
 def main():
@@ -45,14 +55,13 @@ def main():
         raise Refused(f"{PAGE.name}: no heading {TITLE.strip()}")
     front, _, rest = text.partition(TITLE)
     body, mark, behind = rest.partition("\n\n## ")
-    olds = re.split(r"\n(?=- )", body)
-    entries = [entry_of(old) for old in olds]
-    differ = [crate for old, (new, crate, _) in zip(olds, entries) if new != old]
+    listed = list(entries())
+    differ = [crate for crate, entry in listed if crate and entry not in body]
+    made = laid_out(listed)
     if write:
-        PAGE.write_text(front + TITLE + "\n".join(new for new, _, _ in entries) + mark + behind)
-    by_hand = [crate for _, crate, kept in entries if kept]
-    print(f"{'written' if write else 'differ'}: {', '.join(differ) or 'none'}; {len(by_hand)} of {len(entries)} by hand")
-    return 1 if differ and not write else 0
+        PAGE.write_text(front + TITLE + made + mark + behind)
+    print(f"{'written' if write else 'differ'}: {', '.join(differ) or 'none'}")
+    return 0 if write or made == body else 1
 
 
 if __name__ == "__main__":

@@ -1,5 +1,7 @@
-//! The libraries together, from BLIF to a wave; a netlist file whose gates are merged; and then each command of the file `commands` by the top call, over the files
-//! that lie beside it: those that the pages show.
+//! The libraries together, from BLIF to a wave; a netlist file whose gates are merged; and then each command of the file
+//! `commands` by the top call, over the files that lie beside it: those that the pages show.
+//!
+//! `bench/commands.py` writes the file. What is printed is compared with `stdout`, so that no answer on a page goes stale.
 #![tactic(auto)]
 
 mod merging;

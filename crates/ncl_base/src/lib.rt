@@ -1,5 +1,9 @@
-//! What every other crate of nclc stands on: lists, names and words, and the two edges of the
-//! program as values: a source of files and a sink of bytes.
+//! What every other crate stands on: lists, names and words, and the two edges of the program as traits: a `Source` gives
+//! files by name, and a `Sink` takes bytes.
+//!
+//! Source and sink count their faults, and may tell a contract what they hold. `load` reads a file whole and `deliver`
+//! writes a text whole, for any of them. `MemSource` and `MemSink` hold everything in memory and fail at the calls that they
+//! are told to; `SteadySource` and `NullSink` never fail.
 #![tactic(auto)]
 
 mod calls;

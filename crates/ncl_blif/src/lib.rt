@@ -1,5 +1,9 @@
 //! BLIF (Berkeley Logic Interchange Format) as synthesis tools write it: the reader of a file of models,
 //! and what the models mean.
+//!
+//! The reader has four passes: `line` makes lines of fields, `part` puts rows to their commands, `draft` makes models whose
+//! signals go by their names and refuses the first broken line, and `finish` gives the signals numbers and refuses what a
+//! whole model breaks. `dependence` makes a graph of the covers.
 #![tactic(auto)]
 
 mod command;

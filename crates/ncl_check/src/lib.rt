@@ -1,4 +1,8 @@
-//! From the bytes of a netlist to what `check` replies, and what an acceptance says of the circuit.
+//! From the bytes of a netlist to what `check` replies: the whole way, with the headline as a clause of its one call, and
+//! what a refusal says as another.
+//!
+//! The way from bytes to a pipeline stands in `text`, with two calls, one for the netlist and one for its shape, since a
+//! pipeline keeps its netlist by reference; `sim` takes the same way.
 //!
 //! The line of `nclc check` and its status, by four threads at most:
 //!

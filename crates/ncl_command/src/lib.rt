@@ -1,4 +1,8 @@
-//! The arguments that nclc is called with, read with `clap` as a command.
+//! The arguments that the program is called with, read with `clap` as a command: `Reading` gathers a file and options by
+//! their bytes, and `Command` has a form for each command.
+//!
+//! `form` makes a command of `clap` for a form and reads the arguments with it, `number` reads a number, and `command` puts
+//! the values together. The proofs follow `clap` argument by argument.
 #![tactic(auto)]
 
 mod command;

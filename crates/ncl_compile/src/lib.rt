@@ -1,5 +1,9 @@
 //! Models as netlists of clockless pipelines, which the check accepts.
 //!
+//! The sizes are asked (`sizing`), the stages made and then the banks between them, their cells put together, and `build` of
+//! `ncl_netlist` numbers the nets. In proofs, `PartsAssembled` shows that the netlist is put together of banks and stages,
+//! and `ncl_assembly` that it has a shape.
+//!
 //! From BLIF to the text of a netlist:
 //!
 //! ```

@@ -1,5 +1,8 @@
 //! The files of a simulation: delays of cells, source and sink, and words to be offered; and what a
 //! simulation tells, its steps with their times.
+//!
+//! `lines` gives the lines that say something, `statement` what a line of delays states, `delays` keeps them, and
+//! `word_text` reads the words.
 #![tactic(auto)]
 
 mod delay_text;

@@ -1,4 +1,7 @@
-//! The demo: an adder of 1 to 32 bits as models, one for each bit, and eight words that are offered to it.
+//! The demo: an adder of 1 to 32 bits as models, one for each bit (`models`, `covers`), and eight words that are offered to
+//! it (`words`).
+//!
+//! In the definitions an adder is what its models answer to words (`Adding`, `Adder`), whatever their covers.
 #![tactic(auto)]
 
 mod covers;

@@ -1,4 +1,7 @@
-//! The lines that tell what `check` found of a netlist: its verdict, why there is none, and why a cell is an orphan.
+//! The lines that tell what `check` found of a netlist: its verdict, a fault of its text or its shape, and why a cell is an
+//! orphan.
+//!
+//! `ncl_check` needs no other lines.
 #![tactic(auto)]
 
 mod explanations;

@@ -1,4 +1,7 @@
 //! Networks of two-level nodes: a model with its constants, inversions and dead inputs folded away.
+//!
+//! One cover is folded after the other, in the order that `ncl_graph` finds, and then the nodes that nothing reads are left
+//! out.
 #![tactic(auto)]
 
 mod columns;

@@ -1,4 +1,4 @@
-//! Whether some output observes each gate of a stage.
+//! Whether some output observes each gate of a stage, with the least word at which none does.
 #![tactic(auto)]
 
 mod observing;

@@ -1,5 +1,8 @@
 //! The edges of the process: the arguments that it is called with, the system's files, standard output, and the status
 //! that it ends with.
+//!
+//! `process` takes the arguments, makes the real source and sink, `FileSource` and `StdoutSink`, which tell a contract
+//! nothing of content, and ends with the status of `answer`, which calls `run` and is proved for every source and sink.
 #![tactic(auto)]
 
 mod answering;

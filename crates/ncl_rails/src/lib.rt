@@ -1,4 +1,11 @@
 //! Networks as stages of gates: sound, of the same function, and told by names.
+//!
+//! A network is completed (`complete`: `constants`, `unread`), what nodes needn't wait for is found (`relaxing`, tested by
+//! `held`), and one template is laid after another (`layout`). `joiner` keeps nodes as they are joined: `pairing` joins
+//! those that only one other reads, `spreading` those that several read, and `summing` puts sums beside their carries, all
+//! where gates come in time (`timing`); `joint` makes a node that has two gates. `stage_gates` lays two networks out so, in
+//! a few ways, and takes what is better (`depth`). `naming` names what comes of it. In proofs, `Composition` is the theorem
+//! that templates of a covered network are a sound stage, and `Renaming` that numbers don't matter.
 #![tactic(auto)]
 
 mod complete;

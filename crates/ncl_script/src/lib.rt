@@ -1,4 +1,5 @@
-//! Commands as lines of text, carried out by the top call over files that lie in the folder or were kept.
+//! Commands as lines of text, each carried out by `run` over files that lie in the folder or were kept, and what is written
+//! printed with the status.
 #![tactic(auto)]
 
 use ncl_base::{Items, MemFile, MemSink, MemSource, Name};

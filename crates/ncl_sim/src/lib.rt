@@ -1,5 +1,10 @@
 //! Timed runs: what a pipeline does where each cell, the source and the sink have delays.
 //!
+//! An `Agenda` keeps what is due in a calendar queue, a wheel of 64 lists for what is due soon and a heap, `looking` looks
+//! again at a number, `rows` has of each cell what a look needs, `touched` says which numbers a change of a net can touch,
+//! and `run` makes one step after another. The proofs show that a row tells what its cell does (`RowLaws`), that nothing but
+//! what is looked at can change (`Locality`), and that there is one run (`Oneness`, `Existence`).
+//!
 //! A run of a pipeline at the delays of a file, and the lines that tell it:
 //!
 //! ```

@@ -1,5 +1,8 @@
-//! Functions of the words of a stage, as values of a space that gives them names: the trait that every
-//! space meets, what generic callers prove about sequences of its calls, and the space of truth tables.
+//! Functions of the words of a stage, as values of a space that gives them names (`Space`): it makes the functions that it
+//! is asked for, holds the beads of their tables, and goes back to a mark.
+//!
+//! What generic callers prove about sequences of its calls stands here, and `Plain`, which keeps truth tables, 64 values in
+//! a number, for up to ten bits.
 #![tactic(auto)]
 
 pub mod laws;

@@ -1,4 +1,9 @@
-//! The values of a stage at a word, and the faults that a stage can have.
+//! The tables of a stage, and the functions of its nets under a variant, in any space.
+//!
+//! Those of Base are made by one pass over the cells (`evaluation`, `nets`), and those of any other variant from them, by
+//! the cells alone that a changed net reaches (`changes`): lists of the cells that read each net (`readers`) say which to
+//! look at. These lists and the places of the nets are tabulated once (`wiring`) and shared. Whether each net is observed by
+//! the gates that read it is asked without a variant (`observing`).
 #![tactic(auto)]
 
 mod changes;

@@ -1,4 +1,6 @@
 //! Gates that are added one by one over numbered nets, trees of them, and names for them.
+//!
+//! A tree is added by a queue of what is to be joined.
 #![tactic(auto)]
 
 mod gates;

@@ -1,4 +1,8 @@
-//! The judgement of a pipeline.
+//! The judgement of a pipeline: its definition, and its answer.
+//!
+//! A yes that needs no variant is looked for first (`acceptance`, `few`, `supports`). Any other stage is judged variant by
+//! variant (`in_space`, `variants`, `judging`), and a pipeline stage by stage, or in halves by several threads (`parallel`),
+//! as are the variants of one large stage (`sharing`).
 #![tactic(auto)]
 
 mod acceptance;

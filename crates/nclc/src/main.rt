@@ -1,4 +1,5 @@
-//! nclc: judges netlists of pipelines in NULL Convention Logic.
+//! The program that judges netlists of pipelines in NULL Convention Logic: `main` calls `process`. Its stored run ends with
+//! the status 1.
 #![tactic(auto)]
 
 use ncl_process::process;

@@ -1,9 +1,10 @@
 #!/usr/bin/env python3
 """Writes the counts in the tables of docs/: cells, gates, nodes, and requests for memory.
 
-    bench/figures.py PROGRAM [--write] [--forms FOLDER] [TABLE ..]
+    bench/figures.py PROGRAM [--examples FILE] [--write] [--forms FOLDER] [TABLE ..]
 
-PROGRAM is the built nclc; yosys, berkeley-abc and cc have to be on the path. Each table has a name, and its rows and columns are
+PROGRAM is the built nclc, and FILE the built program `examples`, which merges a netlist by the library, if it isn't where the gate
+leaves it; yosys, berkeley-abc and cc have to be on the path. Each table has a name, and its rows and columns are
 those of the page: what is counted of a row stands in its columns here, and cells of other columns, as seconds are, stay as they
 are. Without --write the pages are compared, each cell that differs is printed, and the status is 1 where one does. The texts of
 the designs (`designs.py`) are made in FOLDER, and stay there for another time. Without names all tables are taken.
@@ -24,6 +25,7 @@ import arithmetic
 import compiling
 import designs
 import matching
+import minterms
 import refused_memory
 import stages
 from netlist import inputs_of, read_netlist
@@ -34,10 +36,10 @@ WORDS = 200
 
 
 class Bench:
-    """The program, and the folder in which texts and netlists are made."""
+    """The programs, and the folder in which texts and netlists are made."""
 
-    def __init__(self, program, folder, forms):
-        self.program, self.folder, self.forms = program, folder, forms
+    def __init__(self, program, examples, folder, forms):
+        self.program, self.examples, self.folder, self.forms = program, examples, folder, forms
         self.made = {}
 
     def run(self, *words):
@@ -55,6 +57,18 @@ class Bench:
             netlist.write_text(told)
             self.made[key] = (blif, netlist, told) if status == 0 else None
         return self.made[key]
+
+    def merged(self, text):
+        """The netlist of a text as the library merges it: `examples` does so with a file of its folder."""
+        with tempfile.TemporaryDirectory() as folder:
+            for name in ("full_adder.blif", "unit.delays", "three_bits.words"):
+                shutil.copy(TOP / "crates/examples/data" / name, folder)
+            pathlib.Path(folder, "and_of_minterms.v").write_text(text)
+            pathlib.Path(folder, "commands").write_text("")
+            done = subprocess.run([self.examples], cwd=folder, capture_output=True, text=True)
+        if done.returncode:
+            raise Refused(f"{self.examples}: {done.stderr.strip() or done.returncode}")
+        return done.stdout[done.stdout.rindex("module "):]
 
     def of_form(self, design, form, *flags):
         """The netlist of a design in a form, or None where it has none."""
@@ -208,6 +222,22 @@ def area_row(bench, blif, _):
     return [told["cells"], told["all transistors"], told["in registers"]]
 
 
+def merged_row(bench, draw, _):
+    """The gates of a netlist before and after they are merged, and those on the longest way through a stage. Both have to be
+    accepted, and what is merged to compute what the stages did before."""
+    texts = {"before": draw(), "after": bench.merged(draw())}
+    for name, text in texts.items():
+        (bench.folder / f"{name}.v").write_text(text)
+        if bench.run("check", f"{name}.v")[0]:
+            raise Refused(f"minterms, {name} they are merged: not accepted")
+    models = subprocess.run([sys.executable, TOP / "tools/models", bench.folder / "before.v"], capture_output=True, text=True, check=True)
+    (bench.folder / "before.blif").write_text(models.stdout)
+    if bench.run("match", "after.v", "before.blif")[0]:
+        raise Refused("minterms: another function once they are merged")
+    told = {name: counts(text) for name, text in texts.items()}
+    return [told[name][what] for what in ("gates", "longest") for name in texts]
+
+
 def memory_row(bench, words, _):
     """How many requests for memory a run makes, and how the runs end in which one is refused."""
     return refused_memory.ends(bench.program, words)
@@ -262,6 +292,7 @@ TABLES = {
     "forms": ("compiler.md", "| form | designs | gates |", form_row, FORMS),
     "ripples": ("compiler.md", "| bits | gates |", ripple_row, {str(bits): bits for bits in (1, 4, 8, 16, 32, 48)}),
     "sizes": ("compiler.md", "| models | cells |", size_row, SIZES),
+    "merging": ("compiler.md", "| netlist | gates | merged |", merged_row, minterms.NETLISTS),
     "scripts": ("from-verilog.md", "| what `compile` is given |", script_row, SCRIPTS),
     "check": ("speed.md", "| `check` | cells | nodes |", check_row, CHECKS),
     "match": ("speed.md", "| `match` | cells | nodes |", match_row, MATCHES),
@@ -311,6 +342,7 @@ def table_of(bench, name, write):
 def main():
     parser = Parser(__doc__)
     parser.add_argument("program", metavar="PROGRAM", type=pathlib.Path)
+    parser.add_argument("--examples", metavar="FILE", type=pathlib.Path, default=TOP / "crates/examples/out/examples")
     parser.add_argument("--write", action="store_true")
     parser.add_argument("--forms", metavar="FOLDER", type=pathlib.Path)
     parser.add_argument("tables", metavar="TABLE", nargs="*")
@@ -318,12 +350,12 @@ def main():
     for name in words.tables:
         if name not in TABLES:
             parser.error(f"no table {name}; there are {', '.join(TABLES)}")
-    if lacks := [name for name in (str(words.program), "yosys", "berkeley-abc", "cc") if shutil.which(name) is None]:
+    if lacks := [name for name in (str(words.program), str(words.examples), "yosys", "berkeley-abc", "cc") if shutil.which(name) is None]:
         raise Refused(f"no program {', '.join(lacks)}")
     with tempfile.TemporaryDirectory() as folder:
         forms = (words.forms or pathlib.Path(folder, "forms")).resolve()
         forms.mkdir(parents=True, exist_ok=True)
-        bench = Bench(str(words.program.resolve()), pathlib.Path(folder), forms)
+        bench = Bench(str(words.program.resolve()), str(words.examples.resolve()), pathlib.Path(folder), forms)
         differ = sum(table_of(bench, name, words.write) for name in words.tables or TABLES)
     print(f"{differ} rows {'written' if words.write else 'differ'}")
     return 1 if differ and not words.write else 0

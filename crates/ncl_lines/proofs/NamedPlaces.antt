@@ -19,17 +19,18 @@ use Rattle.ncl_verdict.proofs.NamedCell.{NamesBelow, names_of_pipeline}
 use Rattle.ncl_lines.specs.ShapeText.{NamesPlaceOf}
 use Rattle.ncl_lines.specs.VerdictText.{NamesCellOf}
 
+-- a verdict that names no cell but the first so many names cells of the netlist
+pub names_below : (n : NetlistData) (v : Verdict) → NamesBelow (length n.cells) v → NamesCellOf n v
+names_below n (Orphan stage cell word) below = below
+names_below n Accepted below = tt
+names_below n (BothRails stage output word) below = tt
+names_below n (NoRail stage output word) below = tt
+names_below n (Incomplete stage bit word) below = tt
+names_below n (Limit stage) below = tt
+
 -- the verdict on a pipeline names no cell but those of its netlist
 pub names_cell_of : (n : NetlistData) (p : PipelineData) (limit : ℕ) → Shape n p → NamesCellOf n (judgement limit p.stages)
-names_cell_of n p limit shape = by (judgement limit p.stages) (names_of_pipeline n p shape limit)
-  where
-    by : (v : Verdict) → NamesBelow (length n.cells) v → NamesCellOf n v
-    by (Orphan stage cell word) below = below
-    by Accepted below = tt
-    by (BothRails stage output word) below = tt
-    by (NoRail stage output word) below = tt
-    by (Incomplete stage bit word) below = tt
-    by (Limit stage) below = tt
+names_cell_of n p limit shape = names_below n (judgement limit p.stages) (names_of_pipeline n p shape limit)
 
 -- a rule of cells fails first at a cell that is there
 cell_within : (n : NetlistData) (Rule : NetlistData → Cell → Type 0) (k : ℕ) → FailsFirst (AtCell Rule n) k → k < length n.cells

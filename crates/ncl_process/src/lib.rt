@@ -16,5 +16,6 @@ mod stdout_sink;
 mod tally;
 
 pub use answering::{answer, process};
+pub use arguments::{arguments_given, views};
 pub use file_source::FileSource;
 pub use stdout_sink::StdoutSink;

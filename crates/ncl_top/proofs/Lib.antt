@@ -9,7 +9,7 @@ mod Sameness
 mod Saying
 mod Ends
 mod Statuses
-mod Acceptance
+pub mod Acceptance
 mod Compiled
 mod OneFunction
 mod Running

@@ -221,7 +221,7 @@ fn models_reply<R: Threads + Sync, S: Source>(
 }
 
 /// The status of a check that ends so.
-fn status_of(outcome: Outcome) -> u8
+pub fn status_of(outcome: Outcome) -> u8
     ensures { result ≡ status_of outcome }
 {
     match outcome {

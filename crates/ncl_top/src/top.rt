@@ -118,8 +118,8 @@ fn answer<R: Threads + Sync, S: Source, J: Judge + Sync>(
     }
 }
 
-/// Writes a text, and gives its status, or 5 where the sink fails.
-fn tell<K: Sink>(sink: &mut K, said: u8, text: &[u8]) -> u8
+/// Writes a text, and gives its status, or 5 where the sink fails. Linear in the text.
+pub fn tell<K: Sink>(sink: &mut K, said: u8, text: &[u8]) -> u8
     ensures tells { CameOut
         (record { written = K.written sink.old; faults = K.faults sink.old })
         (record { written = K.written sink.new; faults = K.faults sink.new })

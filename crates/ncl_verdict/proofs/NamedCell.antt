@@ -107,3 +107,9 @@ pub names_of_pipeline : (n : NetlistData) (p : PipelineData) → Shape n p → (
 names_of_pipeline n p shape limit =
     let (register, (place, within, at), is) = shape.chained SomeRegister in
     names_of_stages (length n.cells) (omega arith) limit p.stages (stage_cells_within n p shape)
+
+-- nor does that of a fault of one of its stages
+pub names_of_fault : (n : NetlistData) (p : PipelineData) → Shape n p → (j : ℕ) (s : StageData) → slice_get p.stages j ≡ Some s → (fault : StageFault) (word : List Bool) → NamesBelow (length n.cells) (verdict_of s fault word)
+names_of_fault n p shape j s at_stage fault word =
+    let (register, (place, within, at), is) = shape.chained SomeRegister in
+    of_fault (length n.cells) (omega arith) 0 s (stage_cells_within n p shape j s at_stage) fault word

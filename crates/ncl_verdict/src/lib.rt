@@ -22,4 +22,5 @@ mod verdict;
 pub use in_space::first_answer;
 pub use judging::{judge, judge_stage, judge_stage_par};
 pub use parallel::{Judge, Stages, judge_par};
+pub use variants::variants_after_base;
 pub use verdict::Verdict;

@@ -18,7 +18,7 @@ use std::alloc::Global;
 /// An error is want of memory.
 ///
 /// Takes time for sorting the cells.
-pub(crate) fn variants_after_base(alloc: Global, stage: &Stage) -> Result<Vec<Variant>, Memory>
+pub fn variants_after_base(alloc: Global, stage: &Stage) -> Result<Vec<Variant>, Memory>
     ensures { IfOk result (λ variants. variants.items ≡ after_base stage.now) }
 {
     let cells = cells_in_file_order(alloc, stage)?;

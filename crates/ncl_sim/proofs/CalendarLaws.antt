@@ -14,7 +14,7 @@ use Rattle.std.proofs.lemmas.List.Elements.{All-append, All-cons, All-contains, 
 use Rattle.std.proofs.lemmas.Option.{none-some, same_Some, slice_get-get_or}
 use Rattle.std.proofs.lemmas.List.Sorted.{All-permutation, IsPermutation-append_left, IsPermutation-append_right, IsPermutation-middle, IsPermutation-sym, IsPermutation-trans, length_permutation, sorted_far}
 use Rattle.ncl_base.proofs.Growing.{Contains-last, last_of}
-use Rattle.ncl_sim.specs.Calendar.{ComesBeforeAll, IsCalendar, IsDueAfter, IsDueBy, WheelData, event_cmp}
+use Rattle.ncl_sim.specs.Calendar.{ComesBeforeAll, IsCalendar, IsDueAfter, IsDueAt, WheelData, event_cmp}
 use Rattle.ncl_sim.specs.Queue.{IsBefore}
 use Rattle.ncl_sim.proofs.WheelLaws.{no-length}
 
@@ -104,12 +104,12 @@ before-le x y (inl a) = omega arith
 before-le x y (inr a) = let same = a.0 in omega arith
 
 -- so does what comes before all that was opened, where nothing is due later unless something was opened
-pub others-before : (time : ℕ) (e : Event) (opened later : List Event) → ComesBeforeAll e opened → All (IsDueBy time) opened → All (IsDueAfter time) later → (opened ≡ [] → later ≡ []) → ComesBeforeAll e later
+pub others-before : (time : ℕ) (e : Event) (opened later : List Event) → ComesBeforeAll e opened → All (IsDueAt time) opened → All (IsDueAfter time) later → (opened ≡ [] → later ≡ []) → ComesBeforeAll e later
 others-before time e [] later before due after none = subst (ComesBeforeAll e) (sym (none refl)) (All-nil (λ x. IsBefore e.0 x.0))
 others-before time e (y ∷ opened) later before due after none =
     let first : IsBefore e.0 y.0 = All-head (λ x. IsBefore e.0 x.0) y opened before in
     let le : e.0.0 ≤ y.0.0 = before-le e.0 y.0 first in
-    let by : y.0.0 ≤ time = All-head (IsDueBy time) y opened due in
+    let at : y.0.0 ≡ time = All-head (IsDueAt time) y opened due in
     due-before time e later (omega arith) after
 
 -- no event comes before every event
@@ -120,8 +120,8 @@ none-opened (y ∷ opened) all =
     let le : y.0.0 + 1 ≤ y.0.0 = before-le late.0 y.0 (All-head (λ x. IsBefore late.0 x.0) y opened (all late)) in
     absurd (omega arith)
 
-pub last-due : (time : ℕ) (front : List Event) (e : Event) → All (IsDueBy time) (front ++ e ∷ []) → e.0.0 ≤ time
-last-due time front e due = All-contains (IsDueBy time) (front ++ e ∷ []) e due (Contains-last front e)
+pub last-due : (time : ℕ) (front : List Event) (e : Event) → All (IsDueAt time) (front ++ e ∷ []) → e.0.0 ≡ time
+last-due time front e due = All-contains (IsDueAt time) (front ++ e ∷ []) e due (Contains-last front e)
 
 -- ---- a list that was opened, and sorted
 
@@ -173,14 +173,20 @@ some-out None opened front waiting heap old is same = tt
 some-out (Some e) opened front waiting heap old is same =
     IsPermutation-trans old (opened ++ (waiting ++ heap)) (e ∷ (front ++ (waiting ++ heap))) same (less-opened opened waiting heap front e is)
 
-pub some-first : (r : Option Event) (time : ℕ) (opened front waiting heap old : List Event) → opened ≡ front ++ option_to_list r → IsPermutation old (opened ++ (waiting ++ heap)) → IsSorted event_cmp opened → All (IsDueBy time) opened → All (IsDueAfter time) waiting → ((e : Event) → ComesBeforeAll e opened → ComesBeforeAll e heap) → IfSome r (λ e. ComesBeforeAll e old)
+pub some-first : (r : Option Event) (time : ℕ) (opened front waiting heap old : List Event) → opened ≡ front ++ option_to_list r → IsPermutation old (opened ++ (waiting ++ heap)) → IsSorted event_cmp opened → All (IsDueAt time) opened → All (IsDueAfter time) waiting → ((e : Event) → ComesBeforeAll e opened → ComesBeforeAll e heap) → IfSome r (λ e. ComesBeforeAll e old)
 some-first None time opened front waiting heap old is same sorted due later after = tt
 some-first (Some e) time opened front waiting heap old is same sorted due later after =
     let first : ComesBeforeAll e opened = subst (ComesBeforeAll e) (sym is) (last-first front e (subst (IsSorted event_cmp) is sorted)) in
-    before-whole opened waiting heap e old same first (due-before time e waiting (last-due time front e (subst (All (IsDueBy time)) is due)) later) (after e first)
+    let at : e.0.0 ≡ time = last-due time front e (subst (All (IsDueAt time)) is due) in
+    before-whole opened waiting heap e old same first (due-before time e waiting (omega arith) later) (after e first)
+
+-- it is due at the time of the wheel
+pub some-time : (r : Option Event) (time : ℕ) (opened front : List Event) → opened ≡ front ++ option_to_list r → All (IsDueAt time) opened → IfSome r (λ e. front ≡ [] → time ≡ e.0.0)
+some-time None time opened front is due = tt
+some-time (Some e) time opened front is due = λ _. sym (last-due time front e (subst (All (IsDueAt time)) is due))
 
 -- the first of the heap comes out
-pub heap-first : (time : ℕ) (x : Event) (opened waiting heap old : List Event) → IsPermutation old (opened ++ (waiting ++ heap)) → IsUpperBound event_cmp x heap → All (IsDueBy time) opened → All (IsDueAfter time) waiting → (opened ≡ [] → waiting ≡ []) → ((e : Event) → ComesBeforeAll e heap → ComesBeforeAll e opened) → ComesBeforeAll x old
+pub heap-first : (time : ℕ) (x : Event) (opened waiting heap old : List Event) → IsPermutation old (opened ++ (waiting ++ heap)) → IsUpperBound event_cmp x heap → All (IsDueAt time) opened → All (IsDueAfter time) waiting → (opened ≡ [] → waiting ≡ []) → ((e : Event) → ComesBeforeAll e heap → ComesBeforeAll e opened) → ComesBeforeAll x old
 heap-first time x opened waiting heap old same bound due later all after =
     let third : ComesBeforeAll x heap = before-from_bound x heap bound in
     let first : ComesBeforeAll x opened = after x third in
@@ -201,7 +207,7 @@ module _ (opened : List Event) (wheel : WheelData) (heap : List Event) (is : IsC
   pub calendar-more : (e : Event) (more : WheelData) → more.time ≡ wheel.time → wheel.time < e.0.0 → IsPermutation (e ∷ wheel.waiting) more.waiting → IsCalendar opened more heap
   calendar-more e more time after into = record {
     sorted = is.sorted;
-    due = subst (λ t. All (IsDueBy t) opened) (sym time) is.due;
+    due = subst (λ t. All (IsDueAt t) opened) (sym time) is.due;
     later = subst (λ t. All (IsDueAfter t) more.waiting) (sym time)
         (All-permutation (IsDueAfter wheel.time) (e ∷ wheel.waiting) more.waiting into (All-cons (IsDueAfter wheel.time) e wheel.waiting after is.later));
     in_order = is.in_order;

@@ -1,15 +1,15 @@
 -- A wheel keeps each event in the list of its due.
-use Rattle.std.proofs.Common.{◌≡◌, ◌≢◌, ℕ, zero, suc, ◌+◌, ◌-◌, ◌%◌, ◌<◌, Bool, true, false, List, [], ◌∷◌, ◌++◌, length, map, get_or, set, Vec, Global, refl, sym, ap, subst, ◌∙◌, arith, append_assoc, inl, inr}
+use Rattle.std.proofs.Common.{◌≡◌, ◌≢◌, ℕ, zero, suc, ◌+◌, ◌-◌, ◌%◌, ◌<◌, Bool, true, false, eqb, List, [], ◌∷◌, ◌++◌, length, map, get_or, set, Vec, Global, refl, sym, ap, subst, ◌∙◌, arith, append_assoc, inl, inr}
 use Rattle.std.specs.Prelude.{All}
 use Rattle.std.specs.List.{flat_map}
 use Rattle.std.specs.List.Sorted.{IsPermutation}
 use Rattle.std.specs.declared.cmp.Reverse.{Reverse}
-use Rattle.std.proofs.lemmas.Bool.{cases_eq, cases_lt}
+use Rattle.std.proofs.lemmas.Bool.{cases_eq, cases_lt, eqb-true}
 use Rattle.std.proofs.lemmas.List.{get_or-map, get_or-set_other, get_or-set_same, length-map, length-set, map-set, set-get_or}
 use Rattle.std.proofs.lemmas.List.Elements.{All-append, All-contains, All-nil, All-push, All-weaker}
 use Rattle.std.proofs.lemmas.List.Sorted.{IsPermutation-append_comm, IsPermutation-append_left, IsPermutation-append_right, IsPermutation-cons, IsPermutation-middle, IsPermutation-refl, IsPermutation-sym, IsPermutation-trans}
 use Rattle.ncl_base.proofs.Members.{Member, All-from_members, Contains-from_Member, Member-get_or, here}
-use Rattle.ncl_sim.specs.Calendar.{IsDueAfter, IsDueBy, IsDueIn, IsNextList, IsWheel, joined, list_at}
+use Rattle.ncl_sim.specs.Calendar.{IsDueAfter, IsDueAt, IsDueIn, IsNextList, IsWheel, joined, list_at}
 
 -- ---- lists joined, one of which comes to the front
 
@@ -78,6 +78,10 @@ Event = Reverse (ℕ × ℕ)
 abbrev pub tables : List (Vec Event Global) → List (List Event)
 tables lists = map (λ (l : Vec Event Global). l.items) lists
 
+-- a vector that says it is empty has no items
+pub no-items : (v : Vec Event Global) (is_empty : Bool) → is_empty ≡ eqb v.len 0 → is_empty ≡ true → v.items ≡ []
+no-items v is_empty says on = let none : v.len ≡ 0 = eqb-true v.len 0 (sym says ∙ on) in no-length v.items (omega (arith, none, v.ok.0))
+
 pub table-at : (lists : List (Vec Event Global)) (slot : ℕ) (v : Vec Event Global) → slot < length lists → v ≡ get_or lists slot v → v.items ≡ list_at (tables lists) slot
 table-at lists slot v lt read = ap (λ (l : Vec Event Global). l.items) read ∙ sym (get_or-map (λ (l : Vec Event Global). l.items) lists slot v [] lt)
 
@@ -100,11 +104,11 @@ module _ (time : ℕ) (idle : Bool) (lists : List (List Event)) (is : IsWheel ti
   pub wheel-idle : joined lists ≡ [] → IsWheel time true lists
   wheel-idle none = record { size = is.size; dues = is.dues; none = λ on. none }
 
-  -- where it is idle, it may be at any time
-  pub wheel-pass : (now : ℕ) → idle ≡ true → IsWheel now idle lists
-  wheel-pass now on = record {
+  -- where nothing waits, it may be at any time
+  pub wheel-pass : (now : ℕ) → joined lists ≡ [] → IsWheel now idle lists
+  wheel-pass now none = record {
     size = is.size;
-    dues = λ slot. subst (All (IsDueIn now slot)) (sym (none-joined lists (is.none on) slot)) (All-nil (IsDueIn now slot));
+    dues = λ slot. subst (All (IsDueIn now slot)) (sym (none-joined lists none slot)) (All-nil (IsDueIn now slot));
     none = is.none;
   }
 
@@ -164,7 +168,7 @@ module _ (time : ℕ) (idle : Bool) (lists : List (List Event)) (is : IsWheel ti
           ])
         ]
 
-    pub wheel-open : (opened : List Event) (rest : List (List Event)) (x : Event) (now : ℕ) → idle ≡ false → opened ≡ list_at lists slot → rest ≡ set lists slot [] → x ≡ get_or opened 0 x → now ≡ x.0.0 → IsWheel now idle rest × All (IsDueBy now) opened
+    pub wheel-open : (opened : List Event) (rest : List (List Event)) (x : Event) (now : ℕ) → idle ≡ false → opened ≡ list_at lists slot → rest ≡ set lists slot [] → x ≡ get_or opened 0 x → now ≡ x.0.0 → IsWheel now idle rest × All (IsDueAt now) opened
     wheel-open opened rest x now busy is_opened is_rest read first =
         let some : 0 < length opened = subst (λ l. 0 < length l) (sym is_opened) next.some in
         let listed : Member x (list_at lists slot) = subst (Member x) is_opened (subst (λ y. Member y opened) (sym read) (Member-get_or opened 0 x some)) in
@@ -181,8 +185,7 @@ module _ (time : ℕ) (idle : Bool) (lists : List (List Event)) (is : IsWheel ti
             ]);
             none = λ on. absurd (never (sym busy ∙ on));
           }),
-          subst (All (IsDueBy now)) (sym is_opened)
-              (All-from_members (IsDueBy now) (list_at lists slot) (λ e m. let at = due-there e m in omega (arith, at, time_is))),
+          subst (All (IsDueAt now)) (sym is_opened) (All-from_members (IsDueAt now) (list_at lists slot) (λ e m. due-there e m ∙ sym time_is)),
         )
       where
         never : false ≡ true → ⊥

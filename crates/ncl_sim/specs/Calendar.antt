@@ -2,7 +2,7 @@
 --
 -- R. Brown, "Calendar queues: a fast O(1) priority queue implementation for the simulation event set problem",
 -- Communications of the ACM 31(10), 1988.
-use Rattle.std.specs.Prelude.{◌≡◌, ℕ, ◌+◌, ◌%◌, ◌<◌, ◌≤◌, Bool, true, All, List, [], length}
+use Rattle.std.specs.Prelude.{◌≡◌, ℕ, ◌+◌, ◌%◌, ◌<◌, Bool, true, All, List, [], ◌++◌, length}
 use Rattle.std.specs.List.{flat_map, slice_index_or}
 use Rattle.std.specs.List.Sorted.{IsSorted}
 use Rattle.std.specs.BinaryHeap.{IsHeap}
@@ -19,8 +19,9 @@ event_cmp x y = ordering_then (nat_cmp y.0.0 x.0.0) (nat_cmp y.0.1 x.0.1)
 abbrev pub ComesBeforeAll : Reverse (ℕ × ℕ) → List (Reverse (ℕ × ℕ)) → Type 0
 ComesBeforeAll e others = All (λ other. IsBefore e.0 other.0) others
 
-abbrev pub IsDueBy : ℕ → Reverse (ℕ × ℕ) → Type 0
-IsDueBy time e = e.0.0 ≤ time
+-- due at this time, and after it
+abbrev pub IsDueAt : ℕ → Reverse (ℕ × ℕ) → Type 0
+IsDueAt time e = e.0.0 ≡ time
 
 abbrev pub IsDueAfter : ℕ → Reverse (ℕ × ℕ) → Type 0
 IsDueAfter time e = time < e.0.0
@@ -29,6 +30,10 @@ IsDueAfter time e = time < e.0.0
 
 abbrev pub list_at : List (List (Reverse (ℕ × ℕ))) → ℕ → List (Reverse (ℕ × ℕ))
 list_at lists slot = slice_index_or lists slot []
+
+-- due within the 63 units after this time: while the wheel is there, it has a list for it
+abbrev pub IsSoon : ℕ → ℕ → Type 0
+IsSoon time due = (time < due) × (due < time + 64)
 
 -- the events of all lists
 abbrev pub joined : List (List (Reverse (ℕ × ℕ))) → List (Reverse (ℕ × ℕ))
@@ -60,9 +65,19 @@ pub record WheelData : Type 0 where
 
 -- ---- the queue
 
--- what was opened is sorted, the first at its end, and due by the time of the wheel; what the wheel has is due after it
+-- a calendar as what is left of the list that was opened last, the wheel, and what is in the heap
+pub record CalendarData : Type 0 where
+  pub opened : List (Reverse (ℕ × ℕ))
+  pub wheel : WheelData
+  pub others : List (Reverse (ℕ × ℕ))
+
+-- all events of a calendar
+abbrev pub all_events : CalendarData → List (Reverse (ℕ × ℕ))
+all_events calendar = calendar.opened ++ (calendar.wheel.waiting ++ calendar.others)
+
+-- what was opened is sorted, the first at its end, and due at the time of the wheel; what the wheel has is due after it
 pub record IsCalendar (opened : List (Reverse (ℕ × ℕ))) (wheel : WheelData) (heap : List (Reverse (ℕ × ℕ))) : Type 0 where
   pub sorted : IsSorted event_cmp opened
-  pub due : All (IsDueBy wheel.time) opened
+  pub due : All (IsDueAt wheel.time) opened
   pub later : All (IsDueAfter wheel.time) wheel.waiting
   pub in_order : IsHeap event_cmp heap

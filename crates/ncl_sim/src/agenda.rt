@@ -20,12 +20,13 @@ pub(crate) struct Agenda {
 impl Model for Agenda {
     ghost use Rattle.std.specs.Prelude.{List, Option, ℕ};
     ghost use Rattle.ncl_sim.specs.Agenda.{IsQueueOf};
+    ghost use Rattle.ncl_sim.specs.Calendar.{all_events};
 
     ghost Value = { List (Option ℕ) };
 
     ghost view = { λ a. a.waits.items };
 
-    ghost invariant = { λ a. IsQueueOf a.waits.items a.queue };
+    ghost invariant = { λ a. IsQueueOf a.waits.items (all_events a.queue) };
 }
 
 impl Agenda {

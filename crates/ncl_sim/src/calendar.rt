@@ -3,7 +3,7 @@ ghost use Rattle.std.specs.Prelude.{◌≡◌, ◌<◌, ℕ, All, IfNone, IfOk, 
 ghost use Rattle.std.specs.List.Sorted.{IsPermutation, IsSorted};
 ghost use Rattle.std.specs.BinaryHeap.{IsHeap, heap_items};
 ghost use Rattle.std.specs.declared.cmp.Reverse.{Reverse};
-ghost use Rattle.ncl_sim.specs.Calendar.{ComesBeforeAll, IsDueAfter, IsDueBy, event_cmp};
+ghost use Rattle.ncl_sim.specs.Calendar.{ComesBeforeAll, IsDueAfter, IsDueAt, IsSoon, all_events, event_cmp};
 ghost use Rattle.ncl_sim.specs.Queue.{IsBefore};
 
 use crate::wheel::{Event, Wheel};
@@ -17,7 +17,7 @@ use std::marker::Model;
 /// What is due soon waits in the list of its time, which is sorted when its time comes, so that most events cost
 /// no more than their part of that. What is due later, or by the time of the list that was opened last, waits in a heap.
 ///
-/// Contracts see it as a list of events, in any order.
+/// Contracts see it as these parts: what is opened, the wheel, and what is in the heap.
 #[derive(Drop)]
 pub(crate) struct Calendar {
     /// What is left of the list that was opened last, its first event at the end.
@@ -27,14 +27,12 @@ pub(crate) struct Calendar {
 }
 
 impl Model for Calendar {
-    ghost use Rattle.std.specs.Prelude.{List, ℕ, ◌++◌};
     ghost use Rattle.std.specs.BinaryHeap.{heap_items};
-    ghost use Rattle.std.specs.declared.cmp.Reverse.{Reverse};
-    ghost use Rattle.ncl_sim.specs.Calendar.{IsCalendar};
+    ghost use Rattle.ncl_sim.specs.Calendar.{CalendarData, IsCalendar};
 
-    ghost Value = { List (Reverse (ℕ × ℕ)) };
+    ghost Value = { CalendarData };
 
-    ghost view = { λ a. a.opened.items ++ (a.wheel.waiting ++ heap_items a.others) };
+    ghost view = { λ a. record { opened = a.opened.items; wheel = a.wheel; others = heap_items a.others } };
 
     ghost invariant = { λ a. IsCalendar a.opened.items a.wheel (heap_items a.others) };
 }
@@ -42,11 +40,11 @@ impl Model for Calendar {
 /// Opens the next list, where none of the last is left.
 fn refill(opened: &mut Vec<Event>, wheel: &mut Wheel)
     requires sorted { IsSorted event_cmp opened.old.items }
-    requires due { All (IsDueBy wheel.old.time) opened.old.items }
+    requires due { All (IsDueAt wheel.old.time) opened.old.items }
     requires later { All (IsDueAfter wheel.old.time) wheel.old.waiting }
     ensures same { IsPermutation (opened.old.items ++ wheel.old.waiting) (opened.new.items ++ wheel.new.waiting) }
     ensures sorted { IsSorted event_cmp opened.new.items }
-    ensures due { All (IsDueBy wheel.new.time) opened.new.items }
+    ensures due { All (IsDueAt wheel.new.time) opened.new.items }
     ensures later { All (IsDueAfter wheel.new.time) wheel.new.waiting }
     ensures all { opened.new.items ≡ [] → wheel.new.waiting ≡ [] }
 {
@@ -100,7 +98,7 @@ fn push_other(others: &mut BinaryHeap<Event>, event: Event) -> Result<(), Memory
 impl Calendar {
     /// No events.
     pub(crate) fn new(alloc: Global) -> Result<Calendar, Memory>
-        ensures { IfOk result (λ calendar. calendar ≡ []) }
+        ensures { IfOk result (λ calendar. calendar ≡ record { opened = []; wheel = record { time = 0; waiting = [] }; others = [] }) }
     {
         let wheel = Wheel::new(alloc)?;
         Ok(Calendar {
@@ -110,10 +108,14 @@ impl Calendar {
         })
     }
 
-    /// Puts an event in. Takes constant time where it is due soon, or else time in the logarithm of how many are not.
+    /// Puts an event in: what is due soon into a list of the wheel, and the rest into the heap.
+    ///
+    /// Takes constant time where it is due soon, or else time in the logarithm of how many are not.
     #[inline(always)]
     pub(crate) fn push(&mut self, event: Event) -> Result<(), Memory>
-        ensures more { OnOk result (IsPermutation (event ∷ self.old) self.new) }
+        ensures more { OnOk result (IsPermutation (event ∷ all_events self.old) (all_events self.new)) }
+        ensures soon { IsSoon self.old.wheel.time event.0.0 → self.new.others ≡ self.old.others }
+        ensures time { self.new.wheel.time ≡ self.old.wheel.time }
         ensures unchanged { OnErr result (self.new ≡ self.old) }
     {
         if self.wheel.has_list(event.0.0) {
@@ -124,13 +126,16 @@ impl Calendar {
         Ok(())
     }
 
-    /// Takes out the first event. Where the next list is opened, that takes the time to sort it and to look at 63 lists
-    /// at most, and else it takes time in the logarithm of how many events were not due soon.
+    /// Takes out the first event. Then the wheel stands at its due, or at that of what is left of the list that was opened.
+    ///
+    /// Where the next list is opened, that takes the time to sort it and to look at 63 lists at most, and else it takes time
+    /// in the logarithm of how many events were not due soon.
     pub(crate) fn pop(&mut self) -> Option<Event>
-        ensures rest { IfSome result (λ e. IsPermutation self.old (e ∷ self.new)) }
-        ensures first { IfSome result (λ e. ComesBeforeAll e self.old) }
-        ensures none { IfNone result (self.old ≡ []) }
-        ensures left { IfNone result (self.new ≡ []) }
+        ensures rest { IfSome result (λ e. IsPermutation (all_events self.old) (e ∷ all_events self.new)) }
+        ensures first { IfSome result (λ e. ComesBeforeAll e (all_events self.old)) }
+        ensures time { IfSome result (λ e. self.new.opened ≡ [] → self.new.wheel.time ≡ e.0.0) }
+        ensures none { IfNone result (all_events self.old ≡ []) }
+        ensures left { IfNone result (all_events self.new ≡ []) }
     {
         refill(&mut self.opened, &mut self.wheel);
         if is_first(self.opened.as_slice(), &self.others) {

@@ -1,8 +1,7 @@
 //! Lists of what is due soon, one for each time.
-ghost use Rattle.std.specs.Prelude.{◌≡◌, ℕ, ◌+◌, ◌%◌, ◌<◌, All, IfNone, IfOk, IfSome, OnErr, OnOk, [], ◌∷◌, ◌++◌, length, map};
-ghost use Rattle.std.specs.Bool.{OnTrue};
+ghost use Rattle.std.specs.Prelude.{◌≡◌, ◌↔◌, ℕ, ◌+◌, ◌%◌, ◌<◌, All, IfNone, IfOk, IfSome, IsTrue, OnErr, OnOk, [], ◌∷◌, ◌++◌, length, map};
 ghost use Rattle.std.specs.List.Sorted.{IsPermutation};
-ghost use Rattle.ncl_sim.specs.Calendar.{IsDueAfter, IsDueBy, IsNextList, list_at};
+ghost use Rattle.ncl_sim.specs.Calendar.{IsDueAfter, IsDueAt, IsNextList, IsSoon, list_at};
 
 use ncl_base::Memory;
 use std::alloc::Global;
@@ -94,8 +93,7 @@ impl Wheel {
 
     /// Whether there is a list for this due.
     pub(crate) fn has_list(&self, due: u64) -> bool
-        ensures later { OnTrue result (self.now.time < due) }
-        ensures soon { OnTrue result (due < self.now.time + 64) }
+        ensures { IsTrue result ↔ IsSoon self.now.time due }
     {
         if due <= self.time {
             return false;
@@ -106,8 +104,7 @@ impl Wheel {
     /// Puts an event to the list of its due.
     #[inline(always)]
     pub(crate) fn put(&mut self, event: Event) -> Result<(), Memory>
-        requires later { self.old.time < event.0.0 }
-        requires soon { event.0.0 < self.old.time + 64 }
+        requires { IsSoon self.old.time event.0.0 }
         ensures time { self.new.time ≡ self.old.time }
         ensures more { OnOk result (IsPermutation (event ∷ self.old.waiting) self.new.waiting) }
         ensures unchanged { OnErr result (self.new.waiting ≡ self.old.waiting) }
@@ -122,7 +119,7 @@ impl Wheel {
     pub(crate) fn open(&mut self, opened: &mut Vec<Event>)
         requires { opened.old.items ≡ [] }
         ensures same { IsPermutation self.old.waiting (opened.new.items ++ self.new.waiting) }
-        ensures due { All (IsDueBy self.new.time) opened.new.items }
+        ensures due { All (IsDueAt self.new.time) opened.new.items }
         ensures later { All (IsDueAfter self.new.time) self.new.waiting }
         ensures all { opened.new.items ≡ [] → self.new.waiting ≡ [] }
     {
@@ -140,11 +137,10 @@ impl Wheel {
 
     /// Goes on to a time, where nothing waits.
     pub(crate) fn pass(&mut self, time: u64)
-        ensures waiting { self.new.waiting ≡ self.old.waiting }
-        ensures later { All (IsDueAfter self.new.time) self.new.waiting }
+        requires { self.old.waiting ≡ [] }
+        ensures time { self.new.time ≡ time }
+        ensures waiting { self.new.waiting ≡ [] }
     {
-        if self.idle {
-            self.time = time;
-        }
+        self.time = time;
     }
 }

@@ -1,13 +1,14 @@
 use Rattle.std.proofs.Common.{◌<◌, ◌∙◌, length, arith, subst, sym}
 use Rattle.std.proofs.lemmas.Option.{slice_get_within}
 use Rattle.ncl_sim.specs.Agenda.{IsQueueOf}
+use Rattle.ncl_sim.specs.Calendar.{all_events}
 use Rattle.ncl_sim.specs.Queue.{IsFirst, NoneWaits}
 use Rattle.ncl_sim.proofs.QueueLaws.{empty-none_waits, out-first, out-waits, queue-rest}
 use Rattle.ncl_sim.proofs.agenda.Agenda.take_first.Goals as goal
 
 pub returns-in_default-clause-none : goal.returns-in_default-clause-none
 returns-in_default-clause-none c =
-    subst NoneWaits c.self.view_is (empty-none_waits c.self.inside.waits.items c.self.inside.queue c.self.invariant c.in_default.ensures.none)
+    subst NoneWaits c.self.view_is (empty-none_waits c.self.inside.waits.items (all_events c.self.inside.queue) c.self.invariant c.in_default.ensures.none)
 
 pub index_mut-requires : goal.index_mut-requires
 index_mut-requires c =

@@ -29,7 +29,7 @@ invariant_of-self-2 c =
     let was = table-at lists (c.args.event.0.0 % 64) c.index_mut.result.now within c.index_mut.ensures.value in
     let time = ap (λ (w : WheelData). w.time) c.self.view_is in
     wheel-put c.self.inside.time c.self.inside.idle (tables lists) c.self.invariant (c.args.event.0.0 % 64) c.args.event (tables (set lists (c.args.event.0.0 % 64) c.append.new.list)) (λ i. c.args.event.0.0 % 64)
-    (omega (arith, c.requires.later, time)) (omega (arith, c.requires.soon, time))
+    (omega (arith, c.requires.0, time)) (omega (arith, c.requires.1, time))
     (tables-set lists (c.args.event.0.0 % 64) c.append.new.list _ (c.in_ok-append.ensures.more ∙ ap (λ l. l ++ c.args.event ∷ []) was))
 
 pub returns-clause-more : goal.returns-clause-more

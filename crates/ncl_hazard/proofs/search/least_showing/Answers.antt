@@ -21,7 +21,7 @@ returns-in_err-base-clause-full c = λ e.
     let width : a.width ≡ length s.inputs = c.new-space.ensures.width ∙ long in
     let order : List ℕ = c.in_ok-order.order in
     let ordered : order ≡ ascending s = c.in_ok-order.ensures.bits ∙ ap (range_with_len 0) long in
-    nets_over a s c.args.cell c.args.limit width c.new-space.ensures.limit c.new-space.ensures.new order ordered
+    nets_over a s (Cell c.args.cell) c.args.limit width c.new-space.ensures.limit c.new-space.ensures.new order ordered
     (c.in_err-base.ensures.full (ap Err (handed_on c.from_residual-in_err-base.result c.in_err-base.field-0.0 c.from_residual-in_err-base.ensures.1 e)))
 
 pub returns : goal.returns
@@ -39,10 +39,10 @@ returns c =
           c.orphan.ensures.word;
       few = OnOk-more c.orphan.result (fits b (tables_by c.in_ok-base.base.wiring.order s (Cell c.args.cell)) ≡ true) (made_count s c.args.cell ≤ c.args.limit)
           (λ h.
-          all_few a s c.args.cell c.args.limit width c.new-space.ensures.limit c.new-space.ensures.new order ordered b c.in_ok-base.ensures.kept c.in_ok-base.ensures.held
+          all_few a s (Cell c.args.cell) c.args.limit width c.new-space.ensures.limit c.new-space.ensures.new order ordered b c.in_ok-base.ensures.kept c.in_ok-base.ensures.held
           (subst (λ (o : List ℕ). fits b (tables_by o s (Cell c.args.cell)) ≡ true) c.in_ok-base.ensures.order h))
           c.orphan.ensures.fits;
       full = λ e.
-          all_over a s c.args.cell c.args.limit width c.new-space.ensures.limit c.new-space.ensures.new order ordered b c.in_ok-base.ensures.kept c.in_ok-base.ensures.held
+          all_over a s (Cell c.args.cell) c.args.limit width c.new-space.ensures.limit c.new-space.ensures.new order ordered b c.in_ok-base.ensures.kept c.in_ok-base.ensures.held
           (subst (λ (o : List ℕ). fits b (tables_by o s (Cell c.args.cell)) ≡ false) c.in_ok-base.ensures.order (c.orphan.ensures.full e));
     }

@@ -1,0 +1,82 @@
+-- One stage more of a pipeline is asked.
+use Rattle.std.proofs.Common.{◌≡◌, ℕ, suc, ◌+◌, ◌<◌, ◌≤◌, Bool, List, length, Option, Some, None, sym, ap, ◌∙◌, subst, arith}
+use Rattle.std.specs.Prelude.{All, slice_get}
+use Rattle.std.proofs.lemmas.Option.{slice_get_within}
+use Rattle.ncl_shape.specs.declared.rails.Rails.{Rails}
+use Rattle.ncl_shape.specs.Stage.{StageData, nets_of}
+use Rattle.ncl_shape.specs.Pipeline.{PipelineData}
+use Rattle.ncl_shape.specs.Shape.{Shape}
+use Rattle.ncl_cell_roles.proofs.LaidOut.{laid_out}
+use Rattle.ncl_faults.specs.declared.variant.Variant.{Variant}
+use Rattle.ncl_faults.specs.Faults.{StageFault, IsSound}
+use Rattle.ncl_machine.specs.SoundAt.{IsSoundAt}
+use Rattle.ncl_verdict.specs.declared.verdict.Verdict.{Verdict}
+use Rattle.ncl_verdict.specs.Judgement.{verdict_of}
+use Rattle.ncl_hazard.specs.Search.{ascending, question_count}
+use Rattle.ncl_hazard.specs.Why.{brings}
+use Rattle.ncl_hazard.proofs.Found.{word-brought}
+use Rattle.ncl_hazard.proofs.Handing.{wide-at}
+use Rattle.ncl_reaching.specs.Answers.{IsPastLimit, IsShown}
+use Rattle.ncl_reaching.specs.Asking.{EndsWith, inputs_of_chain, IsFaultOf}
+use Rattle.ncl_reaching.specs.Chain.{CanFollow, chain, followed, followed_by}
+use Rattle.ncl_reaching.specs.Evaluating.{word_on}
+use Rattle.ncl_reaching.specs.Reaching.{AreSoundWhereReached, Shown, first_reached, first_shown}
+use Rattle.ncl_reaching.proofs.ChainLaws.{can-follow-here, ends-with, inputs-are, nets-within, whole-inputs, word-here}
+use Rattle.ncl_reaching.proofs.ReachingLaws.{brought-from_some, first-same, is-shown, number-is, sound-from_none, sound-more}
+
+module _ (p : PipelineData) (shape : Shape p.netlist p) (k : ℕ) (s : StageData) (at : slice_get p.stages k ≡ Some s) (sound : AreSoundWhereReached p k) where
+  -- a stage that is sound at all words is sound where reached
+  pub sound-accepted : IsSound s → AreSoundWhereReached p (k + 1)
+  sound-accepted good = sound-more p k s at sound (λ input wide fault.
+      let (l, is) = laid_out p shape in
+      let lt : k < length p.stages = slice_get_within p.stages k s at in
+      let many = is.as_many in
+      good fault (brings p.stages k input)
+      (ap length (sym (word-brought p shape l is input wide k (omega (arith, lt)))) ∙ wide-at is input wide (suc k) (omega (arith, lt, many)) ∙ ap (λ (t : StageData). length t.inputs) (is.in_order k s at)))
+
+  -- as is one of which nothing is found
+  pub sound-asked : first_reached p k s ≡ None → AreSoundWhereReached p (k + 1)
+  sound-asked none = sound-more p k s at sound (sound-from_none p k s none)
+
+  pub can-go_on : (front : StageData) → front ≡ chain p k → CanFollow front s
+  can-go_on front was = subst (λ f. CanFollow f s) (sym was) (can-follow-here p shape k s at)
+
+  module _ (front c : StageData) (was : front ≡ chain p k) (now : c ≡ followed front s) where
+    whole-is : c ≡ chain p (suc k)
+    whole-is = now ∙ ap (λ f. followed f s) was ∙ sym (ap (followed_by (chain p k)) at)
+
+    pub next-is : c ≡ chain p (k + 1)
+    next-is = whole-is ∙ ap (chain p) (let e : suc k ≡ k + 1 = omega arith in e)
+
+    pub ends-here : EndsWith c s
+    ends-here = subst (λ x. EndsWith x s) (sym whole-is) (ends-with p shape k s at)
+
+    pub within-here : All (λ net. net < length p.netlist.nets) (nets_of c.inputs c.cells)
+    within-here = subst (λ (x : StageData). All (λ net. net < length p.netlist.nets) (nets_of x.inputs x.cells)) (sym whole-is) (nets-within p shape k s at)
+
+    -- what is found of it
+    pub first-found : (o : Option Shown) → o ≡ first_shown (inputs_of_chain (ascending c) c s) s → o ≡ first_reached p k s
+    first-found o is = is ∙ ap (λ (x : StageData). first_shown (inputs_of_chain (ascending x) x s) s) whole-is ∙ first-same s _ _ (inputs-are p shape k s at sound)
+
+    pub past-limit : (limit : ℕ) → (variant : Variant) × (limit < question_count c variant) → IsPastLimit p s.number limit
+    past-limit limit (variant, past) =
+        let numbered = number-is p shape k s at in
+        let lt : k < length p.stages = slice_get_within p.stages k s at in
+        record {
+          counted = omega (arith, numbered);
+          within = omega (arith, numbered, lt);
+          variant = variant;
+          past = subst (λ x. limit < question_count x variant) (next-is ∙ ap (chain p) (sym numbered)) past;
+        }
+
+    module _ (fault : StageFault) (input : List Bool) (first : first_reached p k s ≡ Some (fault, input)) where
+      pub fault-here : IsFaultOf s fault
+      fault-here = (brought-from_some p k s fault input first).of_stage
+
+      pub wide-here : length input ≡ length c.inputs
+      wide-here = (brought-from_some p k s fault input first).wide ∙ sym (ap (λ (x : StageData). length x.inputs) whole-is ∙ ap (λ (bits : List Rails). length bits) (whole-inputs p shape k s at))
+
+      pub shown-here : IsShown p input (verdict_of s fault (word_on c input s.inputs))
+      shown-here =
+          is-shown p shape k s at sound fault input first (verdict_of s fault (word_on c input s.inputs))
+          (ap (verdict_of s fault) (ap (λ x. word_on x input s.inputs) whole-is ∙ word-here p shape k s at sound input (brought-from_some p k s fault input first).wide))

@@ -1,0 +1,16 @@
+use Rattle.std.proofs.Common.{◌≡◌, ◌≤◌, ◌||◌, ℕ, drop, length}
+use Rattle.ncl_shape.specs.Nets.{among}
+use Rattle.ncl_shape.specs.Stage.{named_rails}
+use Rattle.ncl_reaching.specs.Evaluating.{value_in}
+use Rattle.ncl_reaching.proofs.evaluating.raise.Given as goal
+
+-- the rails of the bits from here on are raised
+abbrev pub invariant-loop-left : goal.invariant-loop-left
+invariant-loop-left l = record {
+  many : length l.values.items ≡ length l.fn.values.items;
+  within : l.left ≤ length l.inputs;
+  named : (net : ℕ) → value_in l.values.items net ≡ (among (named_rails (drop l.left l.inputs) (drop l.left l.word)) net || value_in l.fn.values.items net);
+}
+
+abbrev pub decreases-loop-left : goal.decreases-loop-left
+decreases-loop-left l = l.left

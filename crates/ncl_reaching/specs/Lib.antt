@@ -1,0 +1,5 @@
+pub mod Chain
+pub mod Reaching
+pub mod Asking
+pub mod Evaluating
+pub mod Answers

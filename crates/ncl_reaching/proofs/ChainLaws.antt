@@ -1,8 +1,8 @@
 -- The chain of the first stages of a pipeline: it is a stage, it makes of an input the word that the input brings, and its last
 -- stage shows in it what it shows at that word.
-use Rattle.std.proofs.Common.{◌≡◌, ℕ, zero, suc, ◌+◌, ◌*◌, ◌<◌, ◌≤◌, Bool, true, false, ◌||◌, List, [], ◌∷◌, ◌++◌, map, length, Some, refl, sym, ap, ◌∙◌, subst, inl, inr, arith}
+use Rattle.std.proofs.Common.{◌≡◌, ℕ, zero, suc, ◌+◌, ◌*◌, ◌<◌, ◌≤◌, Bool, ◌||◌, List, ◌++◌, map, length, Some, refl, sym, ap, ◌∙◌, subst, inl, inr, arith}
 use Rattle.std.specs.Prelude.{All, slice_get}
-use Rattle.std.specs.List.{find, range_with_len}
+use Rattle.std.specs.List.{find}
 use Rattle.std.proofs.lemmas.List.{length-append, length-map}
 use Rattle.std.proofs.lemmas.Option.{slice_get_within}
 use Rattle.ncl_base.proofs.Members.{Member, Member-append_cases, All-from_members, slice_get-some}
@@ -16,7 +16,6 @@ use Rattle.ncl_cell_roles.proofs.LaidOut.{laid_out}
 use Rattle.ncl_space.specs.Table.{words}
 use Rattle.ncl_space.proofs.TableLaws.{find-same}
 use Rattle.ncl_faults.specs.Faults.{StageFault, BothRails, NoRail, Incomplete, Orphan, shows}
-use Rattle.ncl_stage.specs.LeastWords.{least_word_by}
 use Rattle.ncl_stage.specs.BitOrder.{words_by}
 use Rattle.ncl_stage.proofs.OrderLaws.{words_by-ascending}
 use Rattle.ncl_machine.specs.Composition.{stage_function}

@@ -1,5 +1,5 @@
 -- One pass over a table of nets gives it the values of a stage.
-use Rattle.std.proofs.Common.{◌≡◌, ℕ, zero, suc, ◌+◌, ◌<◌, Bool, true, false, not, ◌||◌, ◌&&◌, cond, List, [], ◌∷◌, ◌++◌, length, map, get_or, take, drop, set, replicate, inl, inr, refl, sym, ap, ◌∙◌, subst, arith}
+use Rattle.std.proofs.Common.{◌≡◌, ℕ, zero, suc, ◌+◌, ◌<◌, Bool, true, false, ◌||◌, ◌&&◌, cond, List, [], ◌∷◌, ◌++◌, length, map, get_or, take, drop, set, replicate, inl, inr, refl, sym, ap, ◌∙◌, arith}
 use Rattle.std.proofs.Math.Path.{fun_ext}
 use Rattle.std.specs.Prelude.{nat_eq}
 use Rattle.std.proofs.lemmas.Bool.{cases_eq, eq-eqb, ne_eqb}
@@ -10,7 +10,7 @@ use Rattle.ncl_shape.specs.Nets.{Nets, among, with_net}
 use Rattle.ncl_shape.specs.Stage.{StageData, IsStage, named_rails, rail_of}
 use Rattle.ncl_faults.specs.declared.variant.Variant.TheVariants.{Base}
 use Rattle.ncl_faults.specs.Pass.{pass}
-use Rattle.ncl_faults.specs.Values.{holds, kept_low, rises, start, val}
+use Rattle.ncl_faults.specs.Values.{holds, rises, val}
 use Rattle.ncl_faults.proofs.OnePass.{pass-val}
 use Rattle.ncl_reaching.specs.Evaluating.{none_low, value_in, word_on}
 

@@ -1,16 +1,14 @@
 -- A stage behind another: together they are a stage, and the back one has in it the values that it has at the word which the front
 -- one makes.
-use Rattle.std.proofs.Common.{◌≡◌, ◌≢◌, ℕ, zero, suc, ◌+◌, ◌*◌, ◌<◌, ◌≤◌, Bool, true, false, not, ◌&&◌, ◌||◌, List, [], ◌∷◌, ◌++◌, map, length, get_or, Option, Some, None, inl, inr, refl, sym, ap, ◌∙◌, subst, append_assoc, arith}
-use Rattle.std.specs.Prelude.{All, AllPairs, Contains, nat_eq, slice_get}
+use Rattle.std.proofs.Common.{◌≡◌, ◌≢◌, ℕ, zero, suc, ◌+◌, ◌*◌, ◌<◌, Bool, true, false, not, ◌&&◌, ◌||◌, List, [], ◌∷◌, ◌++◌, map, length, Option, Some, None, inl, inr, refl, sym, ap, ◌∙◌, subst, append_assoc, arith}
+use Rattle.std.specs.Prelude.{All, AllPairs, Contains, slice_get}
 use Rattle.std.specs.List.{list_all}
-use Rattle.std.proofs.lemmas.Bool.{cases_eq, eq-eqb, ne_eqb, and_from, and_parts, or_cases, both_ways, false_from_ne_true, not_from_true}
-use Rattle.std.proofs.lemmas.List.{length-map, length-append, map-append, get_or-map}
+use Rattle.std.proofs.lemmas.List.{length-map, map-append, get_or-map}
 use Rattle.std.proofs.lemmas.List.Elements.{All-contains}
 use Rattle.std.proofs.lemmas.List.Kept.{AllPairs-cons}
 use Rattle.std.proofs.lemmas.Option.{slice_get_within, get_or_from_slice_get}
 use Rattle.ncl_base.proofs.Lists.{pairs-head, pairs-tail, same_from_lengths}
-use Rattle.ncl_base.proofs.Members.{Member, here, there, Member-append_left, Member-append_right, Member-append_cases, Member-map, member_of_map, member_cases, Member-get_or, Member-from_Contains, Contains-from_Member, Contains-from_slice_get, slice_get-from_Contains, All-from_members}
-use Rattle.ncl_base.proofs.Places.{slice_get-append_left, slice_get-append_right, at_map}
+use Rattle.ncl_base.proofs.Members.{Member, here, there, Member-append_left, Member-append_right, Member-append_cases, Member-map, member_of_map, Member-from_Contains, Contains-from_Member, Contains-from_slice_get, All-from_members}
 use Rattle.ncl_base.proofs.Tests.{AllPairs-append, map-same, same_from_both}
 use Rattle.ncl_gates.specs.Gate.{arity_of, set_of}
 use Rattle.ncl_gates.specs.declared.kind.Kind.TheVariants.{Th22}
@@ -18,23 +16,23 @@ use Rattle.ncl_netlist.specs.declared.ids.NetId.{NetId}
 use Rattle.ncl_shape.specs.declared.rails.Rails.{Rails}
 use Rattle.ncl_shape.specs.declared.stage.StageCell.{StageCell}
 use Rattle.ncl_shape.specs.Nets.{Nets, among}
-use Rattle.ncl_shape.specs.Stage.{StageData, IsStage, Reads, IsInOrder, rail_nets, rail_of, nets_of, out_of, named_rails}
+use Rattle.ncl_shape.specs.Stage.{StageData, IsStage, Reads, IsInOrder, rail_nets, nets_of, out_of, named_rails}
 use Rattle.ncl_shape.specs.Closure.{pin_values}
 use Rattle.ncl_shape.proofs.ClosureLaws.{pin_values-same}
 use Rattle.ncl_shape.proofs.JoinedLists.{append_split}
 use Rattle.ncl_cell_roles.specs.Layout.{no_rails, rail_at}
-use Rattle.ncl_cell_roles.proofs.RailNets.{rail-within, rail-place}
+use Rattle.ncl_cell_roles.proofs.RailNets.{rail-place}
 use Rattle.ncl_faults.specs.declared.variant.Variant.{Variant}
-use Rattle.ncl_faults.specs.declared.variant.Variant.TheVariants.{Base, Bit, Cell}
-use Rattle.ncl_faults.specs.Values.{both_rails, holds, kept_low, output_net, val}
-use Rattle.ncl_faults.specs.Faults.{BothRails, NoRail, Incomplete, Orphan, shows, holds_at, has_data, is_illegal, all_data, IsWordOf}
+use Rattle.ncl_faults.specs.declared.variant.Variant.TheVariants.{Base}
+use Rattle.ncl_faults.specs.Values.{holds, kept_low, val}
+use Rattle.ncl_faults.specs.Faults.{BothRails, NoRail, shows, holds_at, has_data, is_illegal, all_data}
 use Rattle.ncl_faults.proofs.Apart.{right-differ}
 use Rattle.ncl_faults.proofs.OnePass.{among-from_member}
-use Rattle.ncl_faults.proofs.ValueLaws.{val-rail, val-output, rail-no_output}
+use Rattle.ncl_faults.proofs.ValueLaws.{val-rail, val-output}
 use Rattle.ncl_machine.specs.Composition.{stage_function}
 use Rattle.ncl_machine.proofs.InOrder.{in_order}
-use Rattle.ncl_machine.proofs.NamedRails.{bit_at, named-has, named-only}
-use Rattle.ncl_machine.proofs.StageNets.{rail-listed, gate-listed, output-listed, outputs-listed}
+use Rattle.ncl_machine.proofs.NamedRails.{named-has, named-only}
+use Rattle.ncl_machine.proofs.StageNets.{gate-listed, output-listed, outputs-listed}
 use Rattle.ncl_hazard.proofs.Handing.{IsOneRailed, value-high, high-value}
 use Rattle.ncl_reaching.specs.Chain.{CanFollow, by_net, follower, followers, followed}
 
@@ -103,7 +101,7 @@ by_net-split (g ∷ gates) (b ∷ before) after c e =
     let same : by_net g ≡ b = cc in
     let rest : map by_net gates ≡ before ++ c ∷ after = cc in
     let (front, h, back, parts, fronts, at) = by_net-split gates before after c rest in
-    (g ∷ front, h, back, ap (λ zs. g ∷ zs) parts, (λ i. sym same i ∷ fronts i), at)
+    (g ∷ front, h, back, (λ i. g ∷ parts i), (λ i. sym same i ∷ fronts i), at)
 
 -- gates that go by their nets differ where their nets do
 by_nets-differ : (gates : List StageCell) → ((g : StageCell) → Member g gates → g.cell.0 ≡ out_of g) → AllPairs (λ x y. x ≢ y) (map out_of gates) → AllPairs (λ (x y : StageCell). x.cell.0 ≢ y.cell.0) gates

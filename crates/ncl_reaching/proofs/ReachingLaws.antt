@@ -1,11 +1,10 @@
 -- What the first fault that inputs show says of all faults of a stage, and what an answer means.
-use Rattle.std.proofs.Common.{◌≡◌, ℕ, zero, suc, ◌+◌, ◌-◌, ◌<◌, ◌≤◌, Bool, true, false, not, ◌&&◌, List, [], ◌∷◌, map, length, Option, Some, None, ◌⊎◌, inl, inr, refl, sym, ap, ◌∙◌, subst, arith}
-use Rattle.std.specs.Prelude.{All, slice_get}
-use Rattle.std.specs.List.{find, flat_map}
+use Rattle.std.proofs.Common.{◌≡◌, ℕ, ◌+◌, ◌-◌, ◌<◌, ◌≤◌, Bool, true, false, not, ◌&&◌, List, [], ◌∷◌, map, length, Option, Some, None, ◌⊎◌, inl, inr, refl, sym, ap, ◌∙◌, subst, arith}
+use Rattle.std.specs.Prelude.{slice_get}
 use Rattle.std.specs.Option.{option_map}
 use Rattle.std.proofs.lemmas.Bool.{both_ways, cases_eq}
 use Rattle.std.proofs.lemmas.Option.{slice_get_within}
-use Rattle.ncl_base.proofs.Members.{Member, here, there, member_cases, Member-append_left, Member-append_right, Member-map, member_of_map, Contains-from_Member, slice_get-some}
+use Rattle.ncl_base.proofs.Members.{Member, here, there, member_cases, Member-append_left, Member-append_right, Member-map, member_of_map, slice_get-some}
 use Rattle.ncl_base.proofs.Joined.{member_of_flat_map, Member-flat_map}
 use Rattle.ncl_base.proofs.Ranges.{below_of_range}
 use Rattle.ncl_base.proofs.Tests.{All-member, map-same}
@@ -18,8 +17,7 @@ use Rattle.ncl_space.specs.Table.{words}
 use Rattle.ncl_faults.specs.declared.variant.Variant.{Variant}
 use Rattle.ncl_faults.specs.declared.variant.Variant.TheVariants.{Base, Bit, Cell}
 use Rattle.ncl_faults.specs.Values.{val}
-use Rattle.ncl_faults.specs.Faults.{StageFault, BothRails, NoRail, Incomplete, Orphan, IsSound, shows, holds_at, is_illegal, has_data, all_data}
-use Rattle.ncl_stage.specs.BitOrder.{words_by}
+use Rattle.ncl_faults.specs.Faults.{StageFault, BothRails, NoRail, Incomplete, Orphan, shows, holds_at, is_illegal, has_data, all_data}
 use Rattle.ncl_stage.specs.LeastWords.{below, faults_of, first_of}
 use Rattle.ncl_stage.proofs.OrderLaws.{Member-words_by, ascending-order, words-length, words_by-ascending}
 use Rattle.ncl_machine.specs.DelayInsensitive.{IsDelayInsensitive}
@@ -36,7 +34,6 @@ use Rattle.ncl_hazard.proofs.OrphanPlaces.{found-some, first-among}
 use Rattle.ncl_refusal.specs.Reached.{IsSoundWhereReached}
 use Rattle.ncl_refusal.specs.Told.{Tells, both_rails, no_rail, incomplete, orphan}
 use Rattle.ncl_refusal.proofs.Converse.{insensitive-reached, refused-breaks}
-use Rattle.ncl_refusal.proofs.Exact.{reached-insensitive}
 use Rattle.ncl_reaching.specs.Answers.{IsShown, GoesWrongAsTold}
 use Rattle.ncl_reaching.specs.Asking.{IsFaultOf}
 use Rattle.ncl_reaching.specs.Reaching.{AreSoundWhereReached, Inputs, Shown, brings_fault, first_at, first_reached, first_shown, least_bringing, shown_by}

@@ -1,5 +1,5 @@
 -- One stage more of a pipeline is asked.
-use Rattle.std.proofs.Common.{◌≡◌, ℕ, suc, ◌+◌, ◌<◌, ◌≤◌, Bool, List, length, Option, Some, None, sym, ap, ◌∙◌, subst, arith}
+use Rattle.std.proofs.Common.{◌≡◌, ℕ, suc, ◌+◌, ◌<◌, Bool, List, length, Option, Some, None, sym, ap, ◌∙◌, subst, arith}
 use Rattle.std.specs.Prelude.{All, slice_get}
 use Rattle.std.proofs.lemmas.Option.{slice_get_within}
 use Rattle.ncl_shape.specs.declared.rails.Rails.{Rails}
@@ -9,8 +9,6 @@ use Rattle.ncl_shape.specs.Shape.{Shape}
 use Rattle.ncl_cell_roles.proofs.LaidOut.{laid_out}
 use Rattle.ncl_faults.specs.declared.variant.Variant.{Variant}
 use Rattle.ncl_faults.specs.Faults.{StageFault, IsSound}
-use Rattle.ncl_machine.specs.SoundAt.{IsSoundAt}
-use Rattle.ncl_verdict.specs.declared.verdict.Verdict.{Verdict}
 use Rattle.ncl_verdict.specs.Judgement.{verdict_of}
 use Rattle.ncl_hazard.specs.Search.{ascending, question_count}
 use Rattle.ncl_hazard.specs.Why.{brings}

@@ -4,7 +4,7 @@ use Rattle.std.proofs.Common.{◌≡◌, ℕ, ◌+◌, ◌<◌, Bool, true, fals
 use Rattle.std.specs.Prelude.{nat_eq, slice_get}
 use Rattle.std.proofs.lemmas.Bool.{ne_eqb, eqb-true, both_ways, false_from_ne_true, or_from}
 use Rattle.std.proofs.lemmas.Option.{slice_get-get_or}
-use Rattle.ncl_base.proofs.Members.{Member, Member-append_left, Member-from_Contains, Contains-from_slice_get}
+use Rattle.ncl_base.proofs.Members.{Member, Member-from_Contains, Contains-from_slice_get}
 use Rattle.ncl_base.proofs.Places.{slice_get-append_left, slice_get-append_right, at_map}
 use Rattle.ncl_shape.specs.declared.rails.Rails.{Rails}
 use Rattle.ncl_shape.specs.declared.stage.StageCell.{StageCell}
@@ -12,7 +12,6 @@ use Rattle.ncl_shape.specs.Nets.{among}
 use Rattle.ncl_shape.specs.Stage.{StageData, nets_of, out_of, named_rails}
 use Rattle.ncl_cell_roles.specs.Layout.{no_rails, rail_at}
 use Rattle.ncl_cell_roles.proofs.RailNets.{rail-within}
-use Rattle.ncl_faults.specs.declared.variant.Variant.{Variant}
 use Rattle.ncl_faults.specs.declared.variant.Variant.TheVariants.{Base, Bit, Cell}
 use Rattle.ncl_faults.specs.Values.{both_rails, kept_low, output_net, val}
 use Rattle.ncl_faults.specs.Faults.{Incomplete, Orphan, shows, holds_at, all_data}

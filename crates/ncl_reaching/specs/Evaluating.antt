@@ -1,5 +1,5 @@
 -- The values of a stage at a word, in a table of nets.
-use Rattle.std.specs.Prelude.{ℕ, Bool, false, List, map, slice_index_or}
+use Rattle.std.specs.Prelude.{Bool, false, List, map, slice_index_or}
 use Rattle.ncl_shape.specs.declared.rails.Rails.{Rails}
 use Rattle.ncl_shape.specs.Nets.{Nets}
 use Rattle.ncl_shape.specs.Stage.{StageData}

@@ -49,14 +49,7 @@ pub(crate) fn ask(
         return Ok(Some(found));
     }
     let variants = variants_after_base(alloc, stage)?;
-    first_found(
-        alloc,
-        &mut space,
-        chain,
-        stage,
-        &base,
-        variants.as_slice(),
-    )
+    first_found(alloc, &mut space, chain, stage, &base, variants.as_slice())
 }
 
 /// The first fault of an output that some input shows, with the least such input.

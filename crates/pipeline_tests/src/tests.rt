@@ -4,5 +4,6 @@ mod merge_tests;
 mod merging_tests;
 mod netlist_tests;
 mod netlist_texts;
+mod reaching_tests;
 mod shape_tests;
 mod signal_tests;

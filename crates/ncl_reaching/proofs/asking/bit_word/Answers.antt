@@ -1,4 +1,4 @@
-use Rattle.std.proofs.Common.{◌≡◌, Err, length, sym, ap, ◌∙◌}
+use Rattle.std.proofs.Common.{Err, length, sym, ap, ◌∙◌}
 use Rattle.ncl_shape.specs.Stage.{StageData}
 use Rattle.ncl_space.proofs.MakingLaws.{handed_on}
 use Rattle.ncl_diagram.specs.Diagram.{diagram_space}

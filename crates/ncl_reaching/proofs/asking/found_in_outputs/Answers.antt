@@ -1,4 +1,4 @@
-use Rattle.std.proofs.Common.{◌≡◌, Some, None, sym, ap, ◌∙◌}
+use Rattle.std.proofs.Common.{◌≡◌, Some, sym, ap, ◌∙◌}
 use Rattle.std.specs.Option.{option_map}
 use Rattle.ncl_complete.specs.declared.rail_fault.RailFault.TheVariants as rail
 use Rattle.ncl_reaching.proofs.QuestionLaws.{rail_shown, outputs-found}

@@ -1,7 +1,4 @@
-use Rattle.std.proofs.Common.{◌+◌, ◌<◌, ◌++◌, ◌∷◌, [], List, length, take, append_assoc, sym, ap, ◌∙◌, subst}
 use Rattle.ncl_shape.specs.declared.rails.Rails.{Rails}
-use Rattle.ncl_shape.specs.declared.stage.StageCell.{StageCell}
-use Rattle.ncl_reaching.specs.Chain.{followers}
 use Rattle.ncl_reaching.proofs.PushLaws.{followers-next}
 use Rattle.ncl_reaching.proofs.chain.push_followers.Goals as goal
 

@@ -1,5 +1,5 @@
 use Rattle.std.proofs.Common.{◌≡◌, ◌≤◌, length, [], ◌∙◌, sym, subst, arith}
-use Rattle.ncl_shape.specs.Stage.{StageData, IsStage}
+use Rattle.ncl_shape.specs.Stage.{IsStage}
 use Rattle.ncl_cell_roles.proofs.LaidOut.{laid_out}
 use Rattle.ncl_reaching.proofs.ChainLaws.{chained}
 use Rattle.ncl_reaching.proofs.chain.source.Goals as goal

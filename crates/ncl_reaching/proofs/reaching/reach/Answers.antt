@@ -1,4 +1,4 @@
-use Rattle.std.proofs.Common.{◌≡◌, ℕ, ◌<◌, ◌≤◌, List, Option, Some, None, Err, length, get_or, sym, ap, ◌∙◌, subst}
+use Rattle.std.proofs.Common.{◌≡◌, ℕ, ◌<◌, ◌≤◌, List, Some, None, Err, length, get_or, sym, ap, ◌∙◌, subst}
 use Rattle.std.specs.Prelude.{slice_get}
 use Rattle.std.specs.Option.{option_map}
 use Rattle.std.proofs.lemmas.Result.{IfOk-weaker}
@@ -11,7 +11,7 @@ use Rattle.ncl_refusal.proofs.Exact.{reached-insensitive}
 use Rattle.ncl_reaching.specs.Answers.{Answers, IsPastLimit, IsShown, Means}
 use Rattle.ncl_reaching.specs.Asking.{fault_of, shown_of}
 use Rattle.ncl_reaching.specs.Evaluating.{word_on}
-use Rattle.ncl_reaching.specs.Reaching.{Shown, first_reached}
+use Rattle.ncl_reaching.specs.Reaching.{first_reached}
 use Rattle.ncl_reaching.proofs.ReachingLaws.{all-sound, shown-sensitive, shown-wrong}
 use Rattle.ncl_reaching.proofs.StageTurn.{can-go_on, ends-here, fault-here, first-found, next-is, past-limit, shown-here, sound-accepted, sound-asked, wide-here, within-here}
 use Rattle.ncl_reaching.proofs.reaching.reach.Goals as goal

@@ -34,7 +34,7 @@ use Rattle.ncl_match.specs.Plan.{pair_at}
 use Rattle.ncl_match.specs.Sides.{HasSignal, HoldsSignals}
 use Rattle.ncl_match.specs.Signals.{first_tables, functions_read, tables_of_step, step_tables, HaveBits, HaveSignals, HaveSteps}
 use Rattle.ncl_match.specs.Answer.{outputs_of}
-use Rattle.ncl_match.specs.Steps.{bit_at, signal_function, AreOrdered, HasStep, AreNumbered}
+use Rattle.ncl_match.specs.Steps.{bit_at, signal_function, AreInRow, AreOrdered, HasStep, AreNumbered}
 use Rattle.ncl_match.specs.Turns.{gathered}
 use Rattle.ncl_match.proofs.StepLaws.{outs_many}
 use Rattle.ncl_match.proofs.GatherLaws.{gathers-more, overflows-after}
@@ -284,24 +284,32 @@ module _ (c : Circuit) (models : List Model) (are : AreModels models) (wide : le
 
 -- ---- the same at the width of the models
 
-pub record IsRow (n : ℕ) (models : List Model) (steps : List Step) (outs : List ℕ) (output : ℕ) (marks : List Bool) : Type 0 where
-  pub numbered : AreNumbered n steps models (range_with_len 0 n) outs
-  pub ordered : AreOrdered n steps
-  pub needed : AreNeeded n steps (get_or outs output 0) marks 0
-
 -- inputs that have their functions have them as signals
 pub bits-signals : (old mid : SpaceData) (steps : List Step) (marks : List Bool) (pairs : List Pair) (n : ℕ) → mid.width ≡ n → HaveBits old mid marks pairs n → HaveSignals mid steps marks pairs mid.width
 bits-signals old mid steps marks pairs n wide h x lt mark =
     same-function mid (pair_at pairs x) (bit_function x) (signal_function steps x) (λ w long. bit-function n steps x (omega (arith, lt, wide)) w (long ∙ wide)) (h.have x (omega (arith, lt, wide)) mark)
 
-module _ (models : List Model) (are : AreModels models) (steps : List Step) (outs : List ℕ) (output : ℕ) (within : output < outputs_of models) (marks : List Bool) (row : IsRow (width_of models) models steps outs output marks) (c : Circuit) (wide : length c.inputs ≡ width_of models) (old : SpaceData) (old_wide : old.width ≡ width_of models) where
-  inside : output < length outs
-  inside =
-      let many = outs_many (width_of models) steps models (range_with_len 0 (width_of models)) outs row.numbered are.some in
-      omega (arith, many, within)
+-- an output of the models has a number
+pub output-inside : (models : List Model) (steps : List Step) (outs : List ℕ) (output : ℕ) → AreInRow models steps outs → output < outputs_of models → output < length outs
+output-inside models steps outs output row within =
+    let many = outs_many (width_of models) steps models (range_with_len 0 (width_of models)) outs row.numbered row.are_models.some in
+    omega (arith, many, within)
 
-  own : IsRow (length c.inputs) models steps outs output marks
-  own = subst (λ k. IsRow k models steps outs output marks) (sym wide) row
+module _ (models : List Model) (steps : List Step) (outs : List ℕ) (row : AreInRow models steps outs) (output : ℕ) (within : output < outputs_of models) (marks : List Bool) (needed : AreNeeded (width_of models) steps (get_or outs output 0) marks 0) (c : Circuit) (wide : length c.inputs ≡ width_of models) (old : SpaceData) (old_wide : old.width ≡ width_of models) where
+  are : AreModels models
+  are = row.are_models
+
+  inside : output < length outs
+  inside = output-inside models steps outs output row within
+
+  own_numbered : AreNumbered (length c.inputs) steps models (range_with_len 0 (length c.inputs)) outs
+  own_numbered = subst (λ k. AreNumbered k steps models (range_with_len 0 k) outs) (sym wide) row.numbered
+
+  own_ordered : AreOrdered (length c.inputs) steps
+  own_ordered = subst (λ k. AreOrdered k steps) (sym wide) row.ordered
+
+  own_needed : AreNeeded (length c.inputs) steps (get_or outs output 0) marks 0
+  own_needed = subst (λ k. AreNeeded k steps (get_or outs output 0) marks 0) (sym wide) needed
 
   old_is : old.width ≡ length c.inputs
   old_is = old_wide ∙ sym wide
@@ -312,7 +320,7 @@ module _ (models : List Model) (are : AreModels models) (steps : List Step) (out
   first-tables-listed : All Listed (gathered (first_tables old.width marks) (width_of models))
   first-tables-listed =
       subst (λ k. All Listed (gathered (first_tables old.width marks) k)) wide
-      (subst (λ k. All Listed (gathered (first_tables k marks) (length c.inputs))) (sym old_is) (bits-listed c models are wide steps outs own.numbered own.ordered output inside marks own.needed))
+      (subst (λ k. All Listed (gathered (first_tables k marks) (length c.inputs))) (sym old_is) (bits-listed c models are wide steps outs own_numbered own_ordered output inside marks own_needed))
 
   pub bits-overflow : fits old (gathered (first_tables old.width marks) (width_of models)) ≡ false → Overflows Listed old
   bits-overflow full = record { tables = gathered (first_tables old.width marks) (width_of models); each = first-tables-listed; over = full }
@@ -326,7 +334,7 @@ module _ (models : List Model) (are : AreModels models) (steps : List Step) (out
 
     step-tables-listed : All Listed (gathered (step_tables mid.width steps marks) (length steps))
     step-tables-listed =
-        subst (λ k. All Listed (gathered (step_tables k steps marks) (length steps))) (sym mid_is) (steps-listed c models are wide steps outs own.numbered own.ordered output inside marks own.needed)
+        subst (λ k. All Listed (gathered (step_tables k steps marks) (length steps))) (sym mid_is) (steps-listed c models are wide steps outs own_numbered own_ordered output inside marks own_needed)
 
     pub steps-overflow : fits mid (gathered (step_tables mid.width steps marks) (length steps)) ≡ false → Overflows Listed old
     steps-overflow full =
@@ -343,7 +351,7 @@ module _ (models : List Model) (are : AreModels models) (steps : List Step) (out
       own_have = subst (λ k. HaveSignals new steps marks pairs (k + length steps)) mid_is s.have
 
       pub all-held : HoldsSignals new c models output
-      all-held = signals-held c models are wide steps outs own.numbered own.ordered output inside marks own.needed mid new pairs mid_is later.width space own_held own_have
+      all-held = signals-held c models are wide steps outs own_numbered own_ordered output inside marks own_needed mid new pairs mid_is later.width space own_held own_have
 
       pub output-had : HasSignal new (pair_at pairs (get_or outs output 0)) c models output
-      output-had = signal-had c models are wide steps outs own.numbered own.ordered output inside marks own.needed mid new pairs mid_is later.width space own_held own_have
+      output-had = signal-had c models are wide steps outs own_numbered own_ordered output inside marks own_needed mid new pairs mid_is later.width space own_held own_have

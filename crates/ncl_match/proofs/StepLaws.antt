@@ -19,7 +19,7 @@ use Rattle.ncl_blif.proofs.Fitting.{outs_differ}
 use Rattle.ncl_network.proofs.CoverOrder.{HoldsOf, covers_few, holds_of_all, length-order, turn_done, turn_holds, turn_within}
 use Rattle.ncl_match.specs.Answer.{outputs_of}
 use Rattle.ncl_match.specs.declared.steps.Step.{Step}
-use Rattle.ncl_match.specs.Steps.{AreOrdered, HasStep, IsNumbered, AreNumbered, Stay, AddsStep, IsOutOf, AreAdded, AddsModel}
+use Rattle.ncl_match.specs.Steps.{AreInRow, AreOrdered, HasStep, IsNumbered, AreNumbered, Stay, AddsStep, IsOutOf, AreAdded, AddsModel}
 
 -- ---- a list with one more at its end
 
@@ -355,12 +355,21 @@ module _ (n : ℕ) (models : List Model) (are : AreModels models) (steps : List 
       let first = width_size models in
       omega (arith, own, so_far, sizes, first, wide, are.small)
 
-pub models-end : (n : ℕ) (models : List Model) (steps : List Step) (outs : List ℕ) (place : ℕ) → AreModels models → n ≡ width_of models → length models ≤ place → ModelsLoop n models steps outs place → n + length steps < 2 ^ 32
+pub models-end : (n : ℕ) (models : List Model) (steps : List Step) (outs : List ℕ) (place : ℕ) → AreModels models → n ≡ width_of models → length models ≤ place → ModelsLoop n models steps outs place → AreInRow models steps outs
 models-end n models steps outs place are wide past l =
-    let own : length steps ≡ sum_by (λ (x : Model). length x.covers) models = l.count ∙ ap (λ ms. sum_by (λ (x : Model). length x.covers) ms) (take_all place models past) in
+    let w : ℕ = width_of models in
+    let all : take place models ≡ models = take_all place models past in
+    let done : ModelsLoop w models steps outs place = subst (λ k. ModelsLoop k models steps outs place) wide l in
+    let own : length steps ≡ sum_by (λ (x : Model). length x.covers) models = done.count ∙ ap (λ ms. sum_by (λ (x : Model). length x.covers) ms) all in
     let sizes = covers_sizes models in
     let first = width_size models in
-    omega (arith, own, sizes, first, wide, are.small)
+    record {
+      are_models = are;
+      numbered = subst (λ ms. AreNumbered w steps ms (range_with_len 0 w) outs) all done.numbered;
+      ordered = done.ordered;
+      below = done.below;
+      few = omega (arith, own, sizes, first, are.small);
+    }
 
 -- as many numbers of outputs as the last model has outputs
 pub outs_many : (n : ℕ) (steps : List Step) (models : List Model) (ins outs : List ℕ) → AreNumbered n steps models ins outs → 0 < length models → length outs ≡ outputs_of models

@@ -1,8 +1,10 @@
 -- The covers of models in one row, where each signal of each model has a number.
-use Rattle.std.specs.Prelude.{◌≡◌, ℕ, ◌+◌, ◌<◌, List, [], ◌∷◌, ◌++◌, Bool, false, Option, Some, length, map, All, Contains, slice_get, slice_index_or, ◌⊎◌}
+use Rattle.std.specs.Prelude.{◌≡◌, ℕ, ◌+◌, ◌<◌, ◌^◌, List, [], ◌∷◌, ◌++◌, Bool, false, Option, Some, length, map, All, Contains, slice_get, slice_index_or, ◌⊎◌}
+use Rattle.std.specs.List.{range_with_len}
 use Rattle.ncl_blif.specs.declared.model.Cover.{Cover}
 use Rattle.ncl_blif.specs.declared.model.Model.{Model}
-use Rattle.ncl_blif.specs.Meaning.{cover_value}
+use Rattle.ncl_blif.specs.Meaning.{cover_value, width_of}
+use Rattle.ncl_blif.specs.Model.{AreModels}
 use Rattle.ncl_match.specs.declared.steps.Step.{Step}
 use Rattle.ncl_match.specs.Pairs.{WordFunction}
 
@@ -48,6 +50,14 @@ abbrev pub AreNumbered : ℕ → List Step → List Model → List ℕ → List 
 AreNumbered n steps [] ins outs = outs ≡ ins
 AreNumbered n steps (model ∷ models) ins outs =
     (number : ℕ → Option ℕ) × (between : List ℕ) × IsNumbered n steps model number ins between × AreNumbered n steps models between outs
+
+-- the covers of all models stand in one row, where the outputs of the last model have these numbers
+pub record AreInRow (models : List Model) (steps : List Step) (outs : List ℕ) : Type 0 where
+  pub are_models : AreModels models
+  pub numbered : AreNumbered (width_of models) steps models (range_with_len 0 (width_of models)) outs
+  pub ordered : AreOrdered (width_of models) steps
+  pub below : All (λ x. x < width_of models + length steps) outs
+  pub few : width_of models + length steps < 2 ^ 32
 
 -- steps that there were stand where they stood
 abbrev pub Stay : List Step → List Step → Type 0

@@ -5,9 +5,8 @@ ghost use Rattle.ncl_match.specs.Question.{CanBeAsked, QuestionData};
 
 use crate::answer::BitAnswer;
 use crate::comparing::CompareBit;
+use crate::preparing::Sides;
 use ncl_base::Memory;
-use ncl_blif::Model;
-use ncl_shape::Pipeline;
 use std::alloc::Global;
 
 /// What answers the outputs of a question.
@@ -21,22 +20,21 @@ pub(crate) trait Ask {
         ensures { let q = question self.now in IfOk result (IsBitAnswer q.circuit q.models q.limit output) };
 }
 
-/// The outputs of a pipeline and models, compared by `bits`.
+/// The outputs of two sides, compared by `bits`.
 #[derive(Drop)]
 pub(crate) struct Question<'a, B> {
     pub(crate) bits: &'a B,
-    pub(crate) pipeline: &'a Pipeline<'a>,
-    pub(crate) models: &'a [Model],
+    pub(crate) sides: Sides<'a>,
     pub(crate) limit: u32,
 }
 
 impl<'a, B: CompareBit> Ask for Question<'a, B> {
     ghost use Rattle.ncl_match.specs.Circuit.{circuit_of};
 
-    ghost question = { λ a. record { circuit = circuit_of a.pipeline.now; models = a.models.now; limit = a.limit } };
+    ghost question = { λ a. record { circuit = circuit_of a.sides.pipeline; models = a.sides.models; limit = a.limit } };
 
     fn ask(&self, alloc: Global, output: u32) -> Result<BitAnswer, Memory> {
         self.bits
-            .compare_bit(alloc, self.pipeline, self.models, self.limit, output)
+            .compare_bit(alloc, &self.sides, self.limit, output)
     }
 }

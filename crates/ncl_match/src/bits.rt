@@ -4,11 +4,10 @@ ghost use Rattle.std.specs.Prelude.{◌≡◌, ◌≤◌};
 use crate::answer::BitAnswer;
 use crate::bit::told;
 use crate::comparing::CompareBit;
+use crate::preparing::Sides;
 use crate::sides::difference;
 use ncl_base::Memory;
-use ncl_blif::Model;
 use ncl_diagram::Diagram;
-use ncl_shape::Pipeline;
 use ncl_space::SpaceFault;
 use std::alloc::Global;
 
@@ -20,14 +19,14 @@ impl CompareBit for Bits {
     fn compare_bit(
         &self,
         alloc: Global,
-        pipeline: &Pipeline,
-        models: &[Model],
+        sides: &Sides,
         limit: u32,
         bit: u32,
     ) -> Result<BitAnswer, Memory> {
+        let pipeline = sides.pipeline.pipeline();
         pipeline.facts();
         let mut space = Diagram::new(alloc, pipeline.inputs().len(), limit);
-        match difference(alloc, &mut space, pipeline, models, bit) {
+        match difference(alloc, &mut space, sides, bit) {
             Ok(either) => Ok(told(&space, either)),
             Err(SpaceFault::Full) => Ok(BitAnswer::Full),
             Err(SpaceFault::Memory) => Err(Memory),

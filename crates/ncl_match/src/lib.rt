@@ -1,13 +1,13 @@
 //! Whether a pipeline and models have the same function, output by output.
 //!
-//! `pair` keeps a function with its complement, which a gate's dual makes (`duals`). On the side of the netlist `planning`
-//! lists the data cells in the order of the pipeline, `marks` finds those that the output is reached from, and `inputs`,
-//! `nets` and `netlist` make their functions. On the side of the models `steps` puts the covers of all models in one row,
-//! each after those that it reads, `needed` finds the signals that the output depends on, and `cover` and `signals` make the
-//! functions of rows and signals. `sides` and `bit` ask where the two differ, and `bits` does all this in a diagram.
-//! `halves` splits the outputs for several threads, each asked through `asking`, and `joining` puts two answers together by
-//! the order of words (`order`). The laws say what the closure is cell by cell (`ClosedLaws`), and that there is one answer
-//! (`AnswerLaws`).
+//! `pair` keeps a function with its complement, which a gate's dual makes (`duals`). Two things are made once, for all
+//! outputs (`preparing`): on the side of the netlist `planning` lists the data cells in the order of the pipeline, and on
+//! the side of the models `steps` puts the covers of all models in one row, each after those that it reads. Then for each
+//! output `marks` finds the nets that it is reached from, and `inputs`, `nets` and `netlist` make their functions; `needed`
+//! finds the signals that it depends on, and `cover` and `signals` make the functions of rows and signals. `sides` and `bit`
+//! ask where the two differ, and `bits` does all this in a diagram. `halves` splits the outputs for several threads, each
+//! asked through `asking`, and `joining` puts two answers together by the order of words (`order`). The laws say what the
+//! closure is cell by cell (`ClosedLaws`), and that there is one answer (`AnswerLaws`).
 //!
 //! Models and the pipeline of a netlist, by four threads at most:
 //!
@@ -43,6 +43,7 @@ mod nets;
 mod order;
 mod pair;
 mod planning;
+mod preparing;
 mod sides;
 mod signals;
 mod steps;
@@ -51,5 +52,8 @@ mod widths;
 pub use answer::{BitAnswer, CompareFault, Compared};
 pub use bits::Bits;
 pub use comparing::{CompareBit, compare};
+pub use planning::PlannedPipeline;
+pub use preparing::Sides;
 pub use signals::models_pair;
+pub use steps::OrderedModels;
 pub use widths::{first_width, last_width};

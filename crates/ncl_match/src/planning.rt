@@ -8,6 +8,7 @@ use ncl_gates::Kind;
 use ncl_netlist::NetId;
 use ncl_shape::{Pipeline, Rails, StageCell};
 use std::alloc::Global;
+use std::marker::Model;
 
 /// A cell that passes DATA on: a gate cell of a stage, or a register cell.
 #[derive(Clone, Debug, Drop)]
@@ -18,6 +19,49 @@ pub struct DataCell {
     pub ins: ArrayVec<NetId, 4>,
     /// The net that it drives.
     pub out: NetId,
+}
+
+/// A pipeline with its plan.
+#[derive(Drop)]
+pub struct PlannedPipeline<'a> {
+    pipeline: &'a Pipeline<'a>,
+    cells: Vec<DataCell>,
+}
+
+impl<'a> Model for PlannedPipeline<'a> {
+    ghost use Rattle.std.specs.Prelude.{◌≡◌};
+    ghost use Rattle.ncl_shape.specs.Pipeline.{PipelineData};
+    ghost use Rattle.ncl_match.specs.Planned.{plan_of};
+
+    ghost Value = { PipelineData };
+
+    ghost view = { λ a. a.pipeline.now };
+
+    ghost invariant = { λ a. a.cells.items ≡ plan_of a.pipeline.now };
+}
+
+impl<'a> PlannedPipeline<'a> {
+    /// A pipeline with its plan. Linear in the rails and the gates. An error is want of memory.
+    pub fn of(alloc: Global, pipeline: &'a Pipeline<'a>) -> Result<PlannedPipeline<'a>, Memory>
+        ensures { IfOk result (λ planned. planned ≡ pipeline.now) }
+    {
+        let cells = plan(alloc, pipeline)?;
+        Ok(PlannedPipeline { pipeline, cells })
+    }
+
+    /// The pipeline.
+    pub fn pipeline(&self) -> &'a Pipeline<'a>
+        ensures { result.now ≡ self.now }
+    {
+        self.pipeline
+    }
+
+    /// Its data cells in their order.
+    pub(crate) fn cells(&self) -> &[DataCell]
+        ensures { result.now ≡ plan_of self.now }
+    {
+        self.cells.as_slice()
+    }
 }
 
 /// The plan of a pipeline: for each bank its register cells, bit by bit, rail 0 first, and then the gate cells of the

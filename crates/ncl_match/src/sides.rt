@@ -11,9 +11,8 @@ ghost use Rattle.ncl_match.specs.Sides.{HasApart};
 use crate::bit::apart;
 use crate::netlist::netlist_pair;
 use crate::pair::Pair;
+use crate::preparing::Sides;
 use crate::signals::models_pair;
-use ncl_blif::Model;
-use ncl_shape::Pipeline;
 use ncl_space::{Space, SpaceFault};
 use std::alloc::Global;
 
@@ -25,25 +24,24 @@ use std::alloc::Global;
 pub fn difference<P: Space>(
     alloc: Global,
     space: &mut P,
-    pipeline: &Pipeline,
-    models: &[Model],
+    sides: &Sides,
     output: u32,
 ) -> Result<Pair, SpaceFault>
     requires space { IsSpace (P.meaning space.old) }
-    requires width { (P.meaning space.old).width ≡ length pipeline.now.inputs }
-    requires models { AreModels models.now }
-    requires widths { HaveWidths (circuit_of pipeline.now) models.now }
-    requires output { (1 ≤ output) × (output ≤ length pipeline.now.outputs) }
-    ensures apart { IfOk result (λ p. HasApart (P.meaning space.new) p (circuit_of pipeline.now) models.now (output - 1)) }
-    ensures whole { OnOk result ((table : List Bool) → IsListed (circuit_of pipeline.now) models.now (output - 1) table → IsHeld (P.meaning space.new) table) }
-    ensures gathers { OnOk result (Gathers (IsListed (circuit_of pipeline.now) models.now (output - 1)) (P.meaning space.old) (P.meaning space.new)) }
+    requires width { (P.meaning space.old).width ≡ length sides.now.pipeline.inputs }
+    requires models { AreModels sides.now.models }
+    requires widths { HaveWidths (circuit_of sides.now.pipeline) sides.now.models }
+    requires output { (1 ≤ output) × (output ≤ length sides.now.pipeline.outputs) }
+    ensures apart { IfOk result (λ p. HasApart (P.meaning space.new) p (circuit_of sides.now.pipeline) sides.now.models (output - 1)) }
+    ensures whole { OnOk result ((table : List Bool) → IsListed (circuit_of sides.now.pipeline) sides.now.models (output - 1) table → IsHeld (P.meaning space.new) table) }
+    ensures gathers { OnOk result (Gathers (IsListed (circuit_of sides.now.pipeline) sides.now.models (output - 1)) (P.meaning space.old) (P.meaning space.new)) }
     ensures kept { Keeps (P.meaning space.old) (P.meaning space.new) }
     ensures space { IsSpace (P.meaning space.new) }
-    ensures full { IsErrOf result SpaceFault.Full → Overflows (IsListed (circuit_of pipeline.now) models.now (output - 1)) (P.meaning space.old) }
+    ensures full { IsErrOf result SpaceFault.Full → Overflows (IsListed (circuit_of sides.now.pipeline) sides.now.models (output - 1)) (P.meaning space.old) }
 {
     let place = output as usize - 1;
-    let f = netlist_pair(alloc, space, pipeline, place)?;
-    let g = models_pair(alloc, space, models, place)?;
+    let f = netlist_pair(alloc, space, &sides.pipeline, place)?;
+    let g = models_pair(alloc, space, &sides.models, place)?;
     let either = apart(space, f, g)?;
     Ok(either)
 }

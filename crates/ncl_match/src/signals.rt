@@ -1,6 +1,5 @@
 //! The functions of the signals of models in a space.
 ghost use Rattle.std.specs.Prelude.{◌≡◌, ℕ, ◌+◌, ◌<◌, ◌≤◌, List, [], true, false, if◌then◌else◌, All, IfOk, OnOk, IsErrOf, length, map};
-ghost use Rattle.ncl_blif.specs.Model.{AreModels};
 ghost use Rattle.ncl_blif.specs.Meaning.{width_of};
 ghost use Rattle.ncl_space.specs.Space.{IsSpace, Keeps, fits, with_tables};
 ghost use Rattle.ncl_match.specs.Answer.{outputs_of};
@@ -20,10 +19,9 @@ ghost use Rattle.ncl_match.specs.Turns.{gathered};
 use crate::cover::cover_pair;
 use crate::needed::needed_signals;
 use crate::pair::{Pair, constant_pair, rail_pair};
-use crate::steps::{Step, all_steps};
+use crate::steps::{OrderedModels, Step};
 use crate::widths::first_width;
 use ncl_base::Memory;
-use ncl_blif::Model;
 use ncl_space::{Space, SpaceFault};
 use std::alloc::Global;
 
@@ -146,32 +144,30 @@ fn step_pairs<P: Space>(
 /// The function of an output of the last model, from 0, over the words of the inputs of the first. It makes the functions
 /// of the signals that the output depends on, with those of the rows of their covers, and their complements.
 ///
-/// `n log n` in the models, with one function and its complement for each literal of these rows. `Full` comes exactly
+/// Linear in the models, with one function and its complement for each literal of these rows. `Full` comes exactly
 /// where the beads held with those of all these are more than the limit. What is made before a refusal stays.
 pub fn models_pair<P: Space>(
     alloc: Global,
     space: &mut P,
-    models: &[Model],
+    ordered: &OrderedModels,
     output: usize,
 ) -> Result<Pair, SpaceFault>
     requires space { IsSpace (P.meaning space.old) }
-    requires models { AreModels models.now }
-    requires width { (P.meaning space.old).width ≡ width_of models.now }
-    requires output { output < outputs_of models.now }
-    ensures signal { (c : Circuit) → length c.inputs ≡ width_of models.now → IfOk result (λ p. HasSignal (P.meaning space.new) p c models.now output) }
-    ensures signals { (c : Circuit) → length c.inputs ≡ width_of models.now → OnOk result (HoldsSignals (P.meaning space.new) c models.now output) }
-    ensures gathers { (c : Circuit) → length c.inputs ≡ width_of models.now → OnOk result (Gathers (IsListed c models.now output) (P.meaning space.old) (P.meaning space.new)) }
+    requires width { (P.meaning space.old).width ≡ width_of ordered.now }
+    requires output { output < outputs_of ordered.now }
+    ensures signal { (c : Circuit) → length c.inputs ≡ width_of ordered.now → IfOk result (λ p. HasSignal (P.meaning space.new) p c ordered.now output) }
+    ensures signals { (c : Circuit) → length c.inputs ≡ width_of ordered.now → OnOk result (HoldsSignals (P.meaning space.new) c ordered.now output) }
+    ensures gathers { (c : Circuit) → length c.inputs ≡ width_of ordered.now → OnOk result (Gathers (IsListed c ordered.now output) (P.meaning space.old) (P.meaning space.new)) }
     ensures kept { Keeps (P.meaning space.old) (P.meaning space.new) }
     ensures space { IsSpace (P.meaning space.new) }
-    ensures full { (c : Circuit) → length c.inputs ≡ width_of models.now → IsErrOf result SpaceFault.Full → Overflows (IsListed c models.now output) (P.meaning space.old) }
+    ensures full { (c : Circuit) → length c.inputs ≡ width_of ordered.now → IsErrOf result SpaceFault.Full → Overflows (IsListed c ordered.now output) (P.meaning space.old) }
 {
-    let inputs = first_width(models);
-    let all = all_steps(alloc, models)?;
-    let outputs = all.outputs.as_slice();
+    let inputs = first_width(ordered.models());
+    let outputs = ordered.outputs.as_slice();
     let root = outputs[output];
-    let marks = needed_signals(alloc, inputs, &all.steps, root)?;
+    let marks = needed_signals(alloc, inputs, &ordered.steps, root)?;
     let mut pairs = bit_pairs(alloc, space, inputs, &marks)?;
-    step_pairs(alloc, space, &all.steps, &marks, &mut pairs)?;
+    step_pairs(alloc, space, &ordered.steps, &marks, &mut pairs)?;
     let made = pairs.as_slice();
     Ok(made[root as usize])
 }

@@ -24,13 +24,26 @@ pub(crate) struct Step<'a> {
     pub(crate) cover: &'a Cover,
 }
 
-/// The covers of all models.
+/// Models with their covers in one row.
 #[derive(Drop)]
-pub(crate) struct Steps<'a> {
-    /// Each after those that it reads.
+pub struct OrderedModels<'a> {
+    models: &'a [Model],
+    /// The covers of all models, each after those that it reads.
     pub(crate) steps: Vec<Step<'a>>,
     /// The numbers of the outputs of the last model.
     pub(crate) outputs: Vec<u32>,
+}
+
+impl<'a> std::marker::Model for OrderedModels<'a> {
+    ghost use Rattle.std.specs.Prelude.{List};
+    ghost use Rattle.ncl_blif.specs.declared.model.Model.{Model};
+    ghost use Rattle.ncl_match.specs.Steps.{AreInRow};
+
+    ghost Value = { List Model };
+
+    ghost view = { λ a. a.models.now };
+
+    ghost invariant = { λ a. AreInRow a.models.now a.steps.items a.outputs.items };
 }
 
 // The numbers of the inputs of a model by their signals. `n log n` in the inputs.
@@ -120,19 +133,30 @@ fn first_numbers(alloc: Global, inputs: usize) -> Result<Vec<u32>, Memory>
     Ok(numbers)
 }
 
-/// The covers of all models, one model after another. `n log n` in the models. The only error is want of memory.
-pub(crate) fn all_steps(alloc: Global, models: &[Model]) -> Result<Steps<'_>, Memory>
-    requires { AreModels models.now }
-    ensures numbered { IfOk result (λ s. AreNumbered (width_of models.now) s.steps.items models.now (range_with_len 0 (width_of models.now)) s.outputs.items) }
-    ensures ordered { IfOk result (λ s. AreOrdered (width_of models.now) s.steps.items) }
-    ensures below { IfOk result (λ s. All (λ x. x < width_of models.now + length s.steps.items) s.outputs.items) }
-    ensures few { IfOk result (λ s. width_of models.now + length s.steps.items < 2 ^ 32) }
-{
-    let inputs = first_width(models);
-    let mut outputs = first_numbers(alloc, inputs)?;
-    let mut steps = Vec::new(alloc);
-    for model in models {
-        outputs = add_model(alloc, inputs, &outputs, model, &mut steps)?;
+impl<'a> OrderedModels<'a> {
+    /// Models with their covers in one row, one model after another. `n log n` in the models. The only error is want of
+    /// memory.
+    pub fn of(alloc: Global, models: &'a [Model]) -> Result<OrderedModels<'a>, Memory>
+        requires { AreModels models.now }
+        ensures { IfOk result (λ ordered. ordered ≡ models.now) }
+    {
+        let inputs = first_width(models);
+        let mut outputs = first_numbers(alloc, inputs)?;
+        let mut steps = Vec::new(alloc);
+        for model in models {
+            outputs = add_model(alloc, inputs, &outputs, model, &mut steps)?;
+        }
+        Ok(OrderedModels {
+            models,
+            steps,
+            outputs,
+        })
     }
-    Ok(Steps { steps, outputs })
+
+    /// The models.
+    pub fn models(&self) -> &'a [Model]
+        ensures { result.now ≡ self.now }
+    {
+        self.models
+    }
 }

@@ -1,9 +1,9 @@
 //! Netlists are compared with models by several threads, with one answer for every number of parts.
 use super::netlist_texts::netlist;
 use ncl_base::Memory;
-use ncl_blif::{Model, read_blif};
-use ncl_match::{BitAnswer, Bits, CompareBit, CompareFault, Compared, compare};
-use ncl_shape::{Pipeline, shape};
+use ncl_blif::read_blif;
+use ncl_match::{BitAnswer, Bits, CompareBit, CompareFault, Compared, Sides, compare};
+use ncl_shape::shape;
 use std::alloc::Global;
 use std::sync::atomic::{AtomicBool, AtomicUsize, Ordering};
 use std::test::Fail;
@@ -89,8 +89,7 @@ impl<C: Clock> CompareBit for Meeting<'_, C> {
     fn compare_bit(
         &self,
         alloc: Global,
-        pipeline: &Pipeline,
-        models: &[Model],
+        sides: &Sides,
         limit: u32,
         bit: u32,
     ) -> Result<BitAnswer, Memory> {
@@ -100,7 +99,7 @@ impl<C: Clock> CompareBit for Meeting<'_, C> {
             self.meets(&self.other, &self.first)
         };
         if meets {
-            Bits.compare_bit(alloc, pipeline, models, limit, bit)
+            Bits.compare_bit(alloc, sides, limit, bit)
         } else {
             Err(Memory)
         }
@@ -159,13 +158,12 @@ impl CompareBit for Counting {
     fn compare_bit(
         &self,
         alloc: Global,
-        pipeline: &Pipeline,
-        models: &[Model],
+        sides: &Sides,
         limit: u32,
         bit: u32,
     ) -> Result<BitAnswer, Memory> {
         self.begin();
-        let answer = Bits.compare_bit(alloc, pipeline, models, limit, bit);
+        let answer = Bits.compare_bit(alloc, sides, limit, bit);
         self.running.fetch_sub(1, Ordering::SeqCst);
         answer
     }

@@ -3,7 +3,7 @@
 use ncl_base::MOST_BYTES;
 use ncl_blif::read_blif;
 use ncl_diagram::Diagram;
-use ncl_match::{first_width, last_width, models_pair};
+use ncl_match::{OrderedModels, first_width, last_width, models_pair};
 use ncl_space::SpaceFault;
 use std::process::Abort;
 
@@ -75,7 +75,8 @@ fn are_within(rt: &(impl Abort + AllocGlobal), text: &str, limit: u32) -> Result
     let outputs = last_width(&models);
     assert!(rt; inputs >= 1 && inputs <= 128 && outputs >= 1);
     let mut space = Diagram::new(rt.alloc(), inputs, limit);
-    match models_pair(rt.alloc(), &mut space, &models, 0) {
+    let ordered = OrderedModels::of(rt.alloc(), &models)?;
+    match models_pair(rt.alloc(), &mut space, &ordered, 0) {
         Ok(_) => Ok(true),
         Err(SpaceFault::Full) => Ok(false),
         Err(SpaceFault::Memory) => Err(SpaceFault::Memory),

@@ -1,5 +1,6 @@
-use Rattle.std.proofs.Common.{◌≡◌, ◌≤◌, List, length, ap, subst, arith}
+use Rattle.std.proofs.Common.{◌≡◌, ℕ, ◌≤◌, List, length, ap, subst, subst₂, arith}
 use Rattle.ncl_base.specs.declared.word.TheConstants.{MOST_BITS}
+use Rattle.ncl_blif.specs.declared.model.Model.{Model}
 use Rattle.ncl_shape.specs.declared.rails.Rails.{Rails}
 use Rattle.ncl_shape.specs.Pipeline.{PipelineData}
 use Rattle.ncl_shape.specs.Shape.{Shape}
@@ -7,6 +8,7 @@ use Rattle.ncl_cell_roles.specs.Layout.{Layout, IsLayoutOf}
 use Rattle.ncl_cell_roles.proofs.LaidOut.{laid_out_of}
 use Rattle.ncl_match.specs.Answer.{IsRunAnswer}
 use Rattle.ncl_match.specs.Circuit.{circuit_of}
+use Rattle.ncl_match.specs.declared.answer.RunAnswer.{RunAnswer}
 use Rattle.ncl_match.specs.declared.answer.RunAnswer.TheVariants as run
 use Rattle.ncl_match.proofs.comparing.compare.Goals as goal
 
@@ -23,16 +25,23 @@ overflow_cast-outputs g c =
     let many : length c.outputs.result.now ≡ length c.args.pipeline.now.outputs = ap length c.outputs.ensures.outputs in
     record { fits = omega (arith, few, many) }
 
+-- the answer to all outputs of the sides is that to those of the pipeline and the models
+answer-of : (p q : PipelineData) (models own : List Model) (limit : ℕ) (outputs : List Rails) (answer : RunAnswer) → q ≡ p → own ≡ models → outputs ≡ p.outputs → IsRunAnswer (circuit_of q) own limit 0 (length outputs) answer
+    → IsRunAnswer (circuit_of p) models limit 0 (length p.outputs) answer
+answer-of p q models own limit outputs answer same same_models same_outputs is =
+    subst (λ (bits : List Rails). IsRunAnswer (circuit_of p) models limit 0 (length bits) answer) same_outputs
+    (subst₂ (λ (r : PipelineData) (ms : List Model). IsRunAnswer (circuit_of r) ms limit 0 (length outputs) answer) same same_models is)
+
 pub returns-in-Ok-Same : goal.returns-in-Ok-Same
 returns-in-Ok-Same g c = (
   c.have_widths.ensures.yes c.if-not-have_widths.false,
-  subst (λ (bits : List Rails). IsRunAnswer (circuit_of c.args.pipeline.now) c.args.models.now c.args.limit 0 (length bits) run.Same) c.outputs.ensures.outputs
-      (subst (IsRunAnswer (circuit_of c.args.pipeline.now) c.args.models.now c.args.limit 0 (length c.outputs.result.now)) c.in-Ok-Same.field-0-is c.in-Ok-Same.ensures),
+  answer-of c.args.pipeline.now c.in-Ok.sides.pipeline c.args.models.now c.in-Ok.sides.models c.args.limit c.outputs.result.now run.Same c.in-Ok.ensures.pipeline c.in-Ok.ensures.models c.outputs.ensures.outputs
+      (subst (IsRunAnswer (circuit_of c.in-Ok.sides.pipeline) c.in-Ok.sides.models c.args.limit 0 (length c.outputs.result.now)) c.in-Ok-Same.field-0-is c.in-Ok-Same.ensures),
 )
 
 pub returns-in-Ok-Differ : goal.returns-in-Ok-Differ
 returns-in-Ok-Differ g c = (
   c.have_widths.ensures.yes c.if-not-have_widths.false,
-  subst (λ (bits : List Rails). IsRunAnswer (circuit_of c.args.pipeline.now) c.args.models.now c.args.limit 0 (length bits) (run.Differ c.in-Ok-Differ.word c.in-Ok-Differ.output)) c.outputs.ensures.outputs
-      (subst (IsRunAnswer (circuit_of c.args.pipeline.now) c.args.models.now c.args.limit 0 (length c.outputs.result.now)) c.in-Ok-Differ.field-0-is c.in-Ok-Differ.ensures),
+  answer-of c.args.pipeline.now c.in-Ok.sides.pipeline c.args.models.now c.in-Ok.sides.models c.args.limit c.outputs.result.now (run.Differ c.in-Ok-Differ.word c.in-Ok-Differ.output) c.in-Ok.ensures.pipeline c.in-Ok.ensures.models c.outputs.ensures.outputs
+      (subst (IsRunAnswer (circuit_of c.in-Ok.sides.pipeline) c.in-Ok.sides.models c.args.limit 0 (length c.outputs.result.now)) c.in-Ok-Differ.field-0-is c.in-Ok-Differ.ensures),
 )

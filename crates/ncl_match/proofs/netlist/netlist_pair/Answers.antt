@@ -26,21 +26,24 @@ marks-for p output cells nets outputs made marks lt cells_are many same marks_ar
 
 pub marked_nets-requires-clause-ordered : goal.marked_nets-requires-clause-ordered
 marked_nets-requires-clause-ordered g c =
-    let p : PipelineData = c.args.pipeline.now in
+    let p : PipelineData = c.pipeline-pipeline.result.now in
     let (l, is) = laid_out_of p.netlist p c.outputs.ensures.shape in
     let many : length p.netlist.nets ≡ length c.nets-nets.result.now = ap length (sym (c.nets-nets.ensures.nets ∙ ap (λ (n : NetlistData). n.nets) c.netlist.ensures.netlist)) in
-    subst (λ cells. IsOrdered cells (length c.nets-nets.result.now)) (sym (c.deref.ensures.value ∙ c.in_ok-plan.ensures)) (subst (IsOrdered (plan_of p)) many (plan-ordered is))
+    subst (λ cells. IsOrdered cells (length c.nets-nets.result.now)) (sym (c.cells.ensures ∙ ap plan_of (sym c.pipeline-pipeline.ensures))) (subst (IsOrdered (plan_of p)) many (plan-ordered is))
 
 pub marked_nets-requires-clause-root : goal.marked_nets-requires-clause-root
 marked_nets-requires-clause-root g c =
-    let p : PipelineData = c.args.pipeline.now in
+    let p : PipelineData = c.pipeline-pipeline.result.now in
     let (l, is) = laid_out_of p.netlist p c.outputs.ensures.shape in
     let many : length p.netlist.nets ≡ length c.nets-nets.result.now = ap length (sym (c.nets-nets.ensures.nets ∙ ap (λ (n : NetlistData). n.nets) c.netlist.ensures.netlist)) in
-    let within = output-within is c.args.output (get_or p.outputs c.args.output no_rails) (slice_get-get_or p.outputs c.args.output no_rails c.requires.output) in
+    let lt : c.args.output < length p.outputs = subst (λ (q : PipelineData). c.args.output < length q.outputs) (sym c.pipeline-pipeline.ensures) c.requires.output in
+    let within = output-within is c.args.output (get_or p.outputs c.args.output no_rails) (slice_get-get_or p.outputs c.args.output no_rails lt) in
     subst (λ (xs : List Rails). (get_or xs c.args.output no_rails).one.0 < length c.nets-nets.result.now) (sym c.outputs.ensures.outputs) (subst (λ n. (get_or p.outputs c.args.output no_rails).one.0 < n) many within)
 
 pub filled_pair-requires-clause-marks : goal.filled_pair-requires-clause-marks
 filled_pair-requires-clause-marks g c =
-    let p : PipelineData = c.args.pipeline.now in
+    let p : PipelineData = c.pipeline-pipeline.result.now in
     let many : length p.netlist.nets ≡ length c.nets-nets.result.now = ap length (sym (c.nets-nets.ensures.nets ∙ ap (λ (n : NetlistData). n.nets) c.netlist.ensures.netlist)) in
-    marks-for p c.args.output c.deref.result.now (length c.nets-nets.result.now) c.outputs.result.now c.in_ok-marks.marks.items c.deref-3.result.now c.requires.output (c.deref.ensures.value ∙ c.in_ok-plan.ensures) many c.outputs.ensures.outputs c.deref-3.ensures.value c.in_ok-marks.ensures
+    let lt : c.args.output < length p.outputs = subst (λ (q : PipelineData). c.args.output < length q.outputs) (sym c.pipeline-pipeline.ensures) c.requires.output in
+    subst (λ q. AreMarksFor q c.args.output c.deref.result.now) c.pipeline-pipeline.ensures
+    (marks-for p c.args.output c.cells.result.now (length c.nets-nets.result.now) c.outputs.result.now c.in_ok-marks.marks.items c.deref.result.now lt (c.cells.ensures ∙ ap plan_of (sym c.pipeline-pipeline.ensures)) many c.outputs.ensures.outputs c.deref.ensures.value c.in_ok-marks.ensures)

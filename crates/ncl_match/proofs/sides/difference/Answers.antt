@@ -79,21 +79,21 @@ module _ (circuit : Circuit) (models : List Model) (output : ℕ) (old a b : Spa
 
 pub returns-in_err-g-clause-full : goal.returns-in_err-g-clause-full
 returns-in_err-g-clause-full g c = λ e.
-    let circuit : Circuit = circuit_of c.args.pipeline.now in
-    overflows-along (IsListed circuit c.args.models.now (c.args.output - 1)) (g.P.Space.meaning c.args.space.now) (g.P.Space.meaning c.netlist_pair.new.space) (c.in_ok-f.ensures.made.gathers c.args.models.now) c.in_ok-f.ensures.kept
+    let circuit : Circuit = circuit_of c.args.sides.now.pipeline in
+    overflows-along (IsListed circuit c.args.sides.now.models (c.args.output - 1)) (g.P.Space.meaning c.args.space.now) (g.P.Space.meaning c.netlist_pair.new.space) (c.in_ok-f.ensures.made.gathers c.args.sides.now.models) c.in_ok-f.ensures.kept
     (c.in_err-g.ensures.full circuit c.requires.widths.inputs (ap Err (handed_on c.from_residual-in_err-g.result c.in_err-g.field-0.0 c.from_residual-in_err-g.ensures.1 e)))
 
 pub returns-in_err-either-clause-full : goal.returns-in_err-either-clause-full
 returns-in_err-either-clause-full g c = λ e.
-    let circuit : Circuit = circuit_of c.args.pipeline.now in
-    let models : List Model = c.args.models.now in
+    let circuit : Circuit = circuit_of c.args.sides.now.pipeline in
+    let models : List Model = c.args.sides.now.models in
     third-over circuit models c.args.output (g.P.Space.meaning c.args.space.now) (g.P.Space.meaning c.netlist_pair.new.space) (g.P.Space.meaning c.models_pair.new.space) c.in_ok-f.f c.in_ok-g.g c.requires.width c.in_ok-f.ensures.kept c.in_ok-g.ensures.kept c.in_ok-f.ensures.made.rail (c.in_ok-g.ensures.signal circuit c.requires.widths.inputs) (c.in_ok-f.ensures.made.gathers models) (c.in_ok-g.ensures.gathers circuit c.requires.widths.inputs)
     (c.in_err-either.ensures.full (ap Err (handed_on c.from_residual-in_err-either.result c.in_err-either.field-0.0 c.from_residual-in_err-either.ensures.1 e)))
 
 pub returns : goal.returns
 returns g c =
-    let circuit : Circuit = circuit_of c.args.pipeline.now in
-    let models : List Model = c.args.models.now in
+    let circuit : Circuit = circuit_of c.args.sides.now.pipeline in
+    let models : List Model = c.args.sides.now.models in
     let old : SpaceData = g.P.Space.meaning c.args.space.now in
     let a : SpaceData = g.P.Space.meaning c.netlist_pair.new.space in
     let b : SpaceData = g.P.Space.meaning c.models_pair.new.space in
@@ -110,4 +110,4 @@ returns g c =
     }
 
 pub apart-requires-clause-g : goal.apart-requires-clause-g
-apart-requires-clause-g g c = (c.in_ok-g.ensures.signal (circuit_of c.args.pipeline.now) c.requires.widths.inputs).has.pair
+apart-requires-clause-g g c = (c.in_ok-g.ensures.signal (circuit_of c.args.sides.now.pipeline) c.requires.widths.inputs).has.pair

@@ -9,20 +9,21 @@ use Rattle.ncl_match.specs.declared.steps.Step.{Step}
 use Rattle.ncl_match.specs.Needed.{AreNeeded}
 use Rattle.ncl_match.specs.Plan.{pair_at}
 use Rattle.ncl_match.specs.Sides.{HasSignal}
-use Rattle.ncl_match.specs.Steps.{AreNumbered, AreOrdered}
+use Rattle.ncl_match.specs.Steps.{AreInRow}
 use Rattle.ncl_match.specs.Signals.{HaveBits, HaveSteps, first_tables, step_tables}
 use Rattle.ncl_match.specs.Turns.{gathered}
-use Rattle.ncl_match.proofs.ModelLaws.{IsRow, bits-signals, bits-overflow, steps-overflow, steps-gather, all-held, output-had}
-use Rattle.ncl_match.proofs.StepLaws.{outputs_size, outs_many}
+use Rattle.ncl_match.proofs.ModelLaws.{bits-signals, bits-overflow, steps-overflow, steps-gather, all-held, output-had, output-inside}
+use Rattle.ncl_match.proofs.StepLaws.{outputs_size}
 use Rattle.ncl_match.proofs.signals.models_pair.Goals as goal
 
--- the row with its marks, from what the calls say
-row-of : (n w : ℕ) (models : List Model) (steps read : List Step) (outs now : List ℕ) (output : ℕ) (marks : List Bool) → n ≡ w → read ≡ steps → now ≡ outs → AreNumbered w steps models (range_with_len 0 w) outs → AreOrdered w steps → AreNeeded n read (get_or now output 0) marks 0 → IsRow w models steps outs output marks
-row-of n w models steps read outs now output marks e f h numbered ordered needed = record {
-  numbered = numbered;
-  ordered = ordered;
-  needed = subst (λ k. AreNeeded k steps (get_or outs output 0) marks 0) e (subst₂ (λ l outs. AreNeeded n l (get_or outs output 0) marks 0) f h needed);
-}
+-- the row by the models that it is of
+in-row : (models own : List Model) (steps : List Step) (outs : List ℕ) → own ≡ models → AreInRow own steps outs → AreInRow models steps outs
+in-row models own steps outs same row = subst (λ ms. AreInRow ms steps outs) same row
+
+-- the marks by the steps and the numbers that are theirs
+needed-of : (n w : ℕ) (steps read : List Step) (outs now : List ℕ) (output : ℕ) (marks : List Bool) → n ≡ w → read ≡ steps → now ≡ outs → AreNeeded n read (get_or now output 0) marks 0 → AreNeeded w steps (get_or outs output 0) marks 0
+needed-of n w steps read outs now output marks e f h needed =
+    subst (λ k. AreNeeded k steps (get_or outs output 0) marks 0) e (subst₂ (λ l outs. AreNeeded n l (get_or outs output 0) marks 0) f h needed)
 
 -- the inputs by the marks and the width that are theirs
 bits-of : (old mid : SpaceData) (l marks : List Bool) (pairs : List Pair) (n w : ℕ) → l ≡ marks → n ≡ w → HaveBits old mid l pairs n → HaveBits old mid marks pairs w
@@ -30,24 +31,27 @@ bits-of old mid l marks pairs n w same wide have = subst₂ (λ l n. HaveBits ol
 
 pub offset_bounds-outputs-output : goal.offset_bounds-outputs-output
 offset_bounds-outputs-output g c =
-    omega (arith, outputs_size c.args.models.now, c.requires.models.small, c.requires.output)
+    let row : AreInRow c.args.ordered.now c.ordered.inside.steps.items c.ordered.inside.outputs.items = in-row _ _ _ _ c.ordered.view_is c.ordered.invariant in
+    omega (arith, outputs_size c.args.ordered.now, row.are_models.small, c.requires.output)
 
 pub bounds-outputs-output : goal.bounds-outputs-output
 bounds-outputs-output g c =
-    let models : List Model = c.args.models.now in
-    let w : ℕ = width_of models in
-    let many = outs_many w c.in_ok-all.all.steps.items models (range_with_len 0 w) c.in_ok-all.all.outputs.items c.in_ok-all.ensures.numbered c.requires.models.some in
+    let row = in-row _ _ _ _ c.ordered.view_is c.ordered.invariant in
+    let inside = output-inside c.args.ordered.now _ _ c.args.output row c.requires.output in
     let same = ap length c.as_slice-outputs.ensures.value in
-    omega (arith, many, same, c.requires.output)
+    omega (arith, inside, same)
 
 pub returns-in_err-pairs-clause-full : goal.returns-in_err-pairs-clause-full
 returns-in_err-pairs-clause-full g c = λ circuit wide e.
     let old : SpaceData = g.P.Space.meaning c.args.space.now in
-    let models : List Model = c.args.models.now in
+    let models : List Model = c.args.ordered.now in
+    let steps : List Step = c.ordered.inside.steps.items in
+    let outs : List ℕ = c.ordered.inside.outputs.items in
     let marks : List Bool = c.in_ok-marks.marks.items in
-    let row = row-of _ _ models _ _ _ _ c.args.output marks c.first_width-inputs.ensures c.deref.ensures.value c.as_slice-outputs.ensures.value c.in_ok-all.ensures.numbered c.in_ok-all.ensures.ordered c.in_ok-marks.ensures in
-    bits-overflow models c.requires.models _ _ c.args.output c.requires.output marks row circuit wide old c.requires.width
-    (subst₂ (λ l n. fits old (gathered (first_tables old.width l) n) ≡ false) c.deref-2.ensures.value c.first_width-inputs.ensures
+    let n_is : c.first_width-inputs.result ≡ width_of models = c.first_width-inputs.ensures ∙ ap width_of c.models.ensures in
+    let needed = needed-of _ _ steps _ outs _ c.args.output marks n_is c.deref.ensures.value c.as_slice-outputs.ensures.value c.in_ok-marks.ensures in
+    bits-overflow models steps outs (in-row _ _ _ _ c.ordered.view_is c.ordered.invariant) c.args.output c.requires.output marks needed circuit wide old c.requires.width
+    (subst₂ (λ l n. fits old (gathered (first_tables old.width l) n) ≡ false) c.deref-2.ensures.value n_is
     (c.in_err-pairs.ensures.full (ap Err (handed_on c.from_residual-in_err-pairs.result c.in_err-pairs.field-0.0 c.from_residual-in_err-pairs.ensures.1 e))))
 
 pub step_pairs-requires-clause-have : goal.step_pairs-requires-clause-have
@@ -55,7 +59,7 @@ step_pairs-requires-clause-have g c =
     let old : SpaceData = g.P.Space.meaning c.args.space.now in
     let mid : SpaceData = g.P.Space.meaning c.bit_pairs.new.space in
     let n : ℕ = c.first_width-inputs.result in
-    let mid_wide : mid.width ≡ n = c.in_ok-pairs.ensures.kept.width ∙ c.requires.width ∙ sym c.first_width-inputs.ensures in
+    let mid_wide : mid.width ≡ n = c.in_ok-pairs.ensures.kept.width ∙ c.requires.width ∙ sym (c.first_width-inputs.ensures ∙ ap width_of c.models.ensures) in
     let same_marks : c.deref-2.result.now ≡ c.deref-4.result.now = c.deref-2.ensures.value ∙ sym c.deref-4.ensures.value in
     bits-signals old mid c.deref-3.result.now c.deref-4.result.now c.in_ok-pairs.pairs.items n mid_wide
     (subst (λ l. HaveBits old mid l c.in_ok-pairs.pairs.items n) same_marks c.in_ok-pairs.ensures.have)
@@ -64,11 +68,14 @@ pub returns-in_err-step_pairs-clause-full : goal.returns-in_err-step_pairs-claus
 returns-in_err-step_pairs-clause-full g c = λ circuit wide e.
     let old : SpaceData = g.P.Space.meaning c.args.space.now in
     let mid : SpaceData = g.P.Space.meaning c.bit_pairs.new.space in
-    let models : List Model = c.args.models.now in
+    let models : List Model = c.args.ordered.now in
+    let steps : List Step = c.ordered.inside.steps.items in
+    let outs : List ℕ = c.ordered.inside.outputs.items in
     let marks : List Bool = c.in_ok-marks.marks.items in
-    let row = row-of _ _ models _ _ _ _ c.args.output marks c.first_width-inputs.ensures c.deref.ensures.value c.as_slice-outputs.ensures.value c.in_ok-all.ensures.numbered c.in_ok-all.ensures.ordered c.in_ok-marks.ensures in
-    let bits = bits-of old mid _ marks c.in_ok-pairs.pairs.items _ _ c.deref-2.ensures.value c.first_width-inputs.ensures c.in_ok-pairs.ensures.have in
-    steps-overflow models c.requires.models _ _ c.args.output c.requires.output marks row circuit wide old c.requires.width mid _ c.in_ok-pairs.ensures.kept bits
+    let n_is : c.first_width-inputs.result ≡ width_of models = c.first_width-inputs.ensures ∙ ap width_of c.models.ensures in
+    let needed = needed-of _ _ steps _ outs _ c.args.output marks n_is c.deref.ensures.value c.as_slice-outputs.ensures.value c.in_ok-marks.ensures in
+    let bits = bits-of old mid _ marks c.in_ok-pairs.pairs.items _ _ c.deref-2.ensures.value n_is c.in_ok-pairs.ensures.have in
+    steps-overflow models steps outs (in-row _ _ _ _ c.ordered.view_is c.ordered.invariant) c.args.output c.requires.output marks needed circuit wide old c.requires.width mid _ c.in_ok-pairs.ensures.kept bits
     (subst₂ (λ steps l. fits mid (gathered (step_tables mid.width steps l) (length steps)) ≡ false) c.deref-3.ensures.value c.deref-4.ensures.value
     (c.in_err-step_pairs.ensures.full (ap Err (handed_on c.from_residual-in_err-step_pairs.result c.in_err-step_pairs.field-0.0 c.from_residual-in_err-step_pairs.ensures.1 e))))
 
@@ -77,19 +84,22 @@ returns g c =
     let old : SpaceData = g.P.Space.meaning c.args.space.now in
     let mid : SpaceData = g.P.Space.meaning c.bit_pairs.new.space in
     let new : SpaceData = g.P.Space.meaning c.step_pairs.new.space in
-    let models : List Model = c.args.models.now in
-    let outs : List ℕ = c.in_ok-all.all.outputs.items in
+    let models : List Model = c.args.ordered.now in
+    let steps : List Step = c.ordered.inside.steps.items in
+    let outs : List ℕ = c.ordered.inside.outputs.items in
     let marks : List Bool = c.in_ok-marks.marks.items in
     let pairs : List Pair = c.step_pairs.new.pairs.items in
-    let row = row-of _ _ models _ _ outs _ c.args.output marks c.first_width-inputs.ensures c.deref.ensures.value c.as_slice-outputs.ensures.value c.in_ok-all.ensures.numbered c.in_ok-all.ensures.ordered c.in_ok-marks.ensures in
-    let bits = bits-of old mid _ marks c.in_ok-pairs.pairs.items _ _ c.deref-2.ensures.value c.first_width-inputs.ensures c.in_ok-pairs.ensures.have in
+    let row = in-row _ _ _ _ c.ordered.view_is c.ordered.invariant in
+    let n_is : c.first_width-inputs.result ≡ width_of models = c.first_width-inputs.ensures ∙ ap width_of c.models.ensures in
+    let needed = needed-of _ _ steps _ outs _ c.args.output marks n_is c.deref.ensures.value c.as_slice-outputs.ensures.value c.in_ok-marks.ensures in
+    let bits = bits-of old mid _ marks c.in_ok-pairs.pairs.items _ _ c.deref-2.ensures.value n_is c.in_ok-pairs.ensures.have in
     let done = subst₂ (λ steps l. HaveSteps mid new steps l pairs (length steps)) c.deref-3.ensures.value c.deref-4.ensures.value c.in_ok-step_pairs.ensures.have in
     record {
       signal = λ circuit wide.
           subst₂ (λ ps outs. HasSignal new (pair_at ps (get_or outs c.args.output 0)) circuit models c.args.output) (sym c.as_slice-made.ensures.value) (sym c.as_slice-outputs.ensures.value)
-          (output-had models c.requires.models _ outs c.args.output c.requires.output marks row circuit wide old c.requires.width mid _ c.in_ok-pairs.ensures.kept bits new pairs c.in_ok-step_pairs.ensures.kept c.in_ok-step_pairs.ensures.space done);
-      signals = λ circuit wide. all-held models c.requires.models _ outs c.args.output c.requires.output marks row circuit wide old c.requires.width mid _ c.in_ok-pairs.ensures.kept bits new pairs c.in_ok-step_pairs.ensures.kept c.in_ok-step_pairs.ensures.space done;
-      gathers = λ circuit wide. steps-gather models c.requires.models _ outs c.args.output c.requires.output marks row circuit wide old c.requires.width mid _ c.in_ok-pairs.ensures.kept bits new pairs c.in_ok-step_pairs.ensures.kept c.in_ok-step_pairs.ensures.space done;
+          (output-had models steps outs row c.args.output c.requires.output marks needed circuit wide old c.requires.width mid _ c.in_ok-pairs.ensures.kept bits new pairs c.in_ok-step_pairs.ensures.kept c.in_ok-step_pairs.ensures.space done);
+      signals = λ circuit wide. all-held models steps outs row c.args.output c.requires.output marks needed circuit wide old c.requires.width mid _ c.in_ok-pairs.ensures.kept bits new pairs c.in_ok-step_pairs.ensures.kept c.in_ok-step_pairs.ensures.space done;
+      gathers = λ circuit wide. steps-gather models steps outs row c.args.output c.requires.output marks needed circuit wide old c.requires.width mid _ c.in_ok-pairs.ensures.kept bits new pairs c.in_ok-step_pairs.ensures.kept c.in_ok-step_pairs.ensures.space done;
       kept = search rules;
       space = search rules;
       full = search rules;

@@ -1,10 +1,10 @@
-use Rattle.std.proofs.Common.{◌≡◌, ℕ, ◌+◌, ◌<◌, ◌^◌, List, Some, length, refl, sym, ap, ◌∙◌, subst}
+use Rattle.std.proofs.Common.{◌≡◌, ℕ, List, Some, length, refl, sym, ap, ◌∙◌, subst}
 use Rattle.std.specs.Prelude.{slice_get}
 use Rattle.std.proofs.lemmas.Option.{slice_get_read}
 use Rattle.ncl_blif.specs.declared.model.Model.{Model}
 use Rattle.ncl_match.specs.Steps.{AddsModel}
 use Rattle.ncl_match.proofs.StepLaws.{ModelsLoop, models-end, models-none, models-more, models-few}
-use Rattle.ncl_match.proofs.steps.all_steps.Goals as goal
+use Rattle.ncl_match.proofs.steps.OrderedModels.of.Goals as goal
 
 pub loop-model-init : goal.loop-model-init
 loop-model-init c =
@@ -36,7 +36,6 @@ loop-model-preserved c =
     models-more n models c.requires c.loop-model.steps.items c.loop-model.outputs.items place m at c.loop-model.invariant c.add_model.new.steps.items c.in_ok-outputs-2.outputs.items
     (subst (λ ins. AddsModel n c.loop-model.steps.items c.add_model.new.steps.items m ins c.in_ok-outputs-2.outputs.items) c.deref.ensures.value c.in_ok-outputs-2.ensures)
 
-pub returns-clause-few : goal.returns-clause-few
-returns-clause-few c =
-    subst (λ k. k + length c.loop-model.steps.items < 2 ^ 32) c.first_width-inputs.ensures
-    (models-end c.first_width-inputs.result c.args.models.now c.loop-model.steps.items c.loop-model.outputs.items c.loop-model.model-index c.requires c.first_width-inputs.ensures c.loop-model-test.false c.loop-model.invariant)
+pub invariant_of-result : goal.invariant_of-result
+invariant_of-result c =
+    models-end c.first_width-inputs.result c.args.models.now c.loop-model.steps.items c.loop-model.outputs.items c.loop-model.model-index c.requires c.first_width-inputs.ensures c.loop-model-test.false c.loop-model.invariant

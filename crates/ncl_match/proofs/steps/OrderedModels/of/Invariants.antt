@@ -1,5 +1,5 @@
 use Rattle.ncl_match.proofs.StepLaws.{ModelsLoop}
-use Rattle.ncl_match.proofs.steps.all_steps.Given as goal
+use Rattle.ncl_match.proofs.steps.OrderedModels.of.Given as goal
 
 -- the models so far have their steps
 abbrev pub invariant-loop-model : goal.invariant-loop-model

@@ -4,8 +4,7 @@ ghost use Rattle.std.specs.Ordering.{nat_cmp};
 ghost use Rattle.std.specs.BTreeMap.{get};
 ghost use Rattle.std.specs.List.{range_with_len};
 ghost use Rattle.ncl_blif.specs.Model.{AreModels, IsModel};
-ghost use Rattle.ncl_blif.specs.Meaning.{width_of};
-ghost use Rattle.ncl_match.specs.Steps.{AddsModel, AddsStep, AreNumbered, AreOrdered};
+ghost use Rattle.ncl_match.specs.Steps.{AddsModel, AddsStep, AreOrdered};
 
 use crate::widths::first_width;
 use ncl_base::{Items, Memory};

@@ -1,5 +1,4 @@
 use Rattle.std.proofs.Common.{◌≡◌, ℕ, Bool, false, List, Err, length, get_or, sym, ap, ◌∙◌, subst, subst₂, arith, rules}
-use Rattle.std.specs.List.{range_with_len}
 use Rattle.ncl_blif.specs.declared.model.Model.{Model}
 use Rattle.ncl_blif.specs.Meaning.{width_of}
 use Rattle.ncl_space.specs.Space.{SpaceData, fits}

@@ -9,7 +9,7 @@ use ncl_blif::Model;
 use ncl_shape::Pipeline;
 use std::alloc::Global;
 
-/// The two sides of a comparison.
+/// The two sides of a comparison, with what all outputs share.
 #[derive(Drop)]
 pub struct Sides<'a> {
     /// The pipeline with its plan.
@@ -19,7 +19,7 @@ pub struct Sides<'a> {
 }
 
 impl<'a> Sides<'a> {
-    /// A pipeline and models. Linear in the pipeline, and `n log n` in the models. An error is want of memory.
+    /// The sides of a pipeline and models. Linear in the pipeline, and `n log n` in the models. An error is want of memory.
     pub fn of(
         alloc: Global,
         pipeline: &'a Pipeline<'a>,

@@ -145,12 +145,13 @@ module _ (p : PipelineData) (k : ℕ) (s : StageData) where
     pub of_stage : IsFaultOf s fault
     pub wide : length input ≡ length p.inputs
     pub shown : shows s (brings p.stages k input) fault ≡ true
+    pub least : least_bringing p k s fault ≡ Some input
 
   pub brought-from_some : (fault : StageFault) (input : List Bool) → first_reached p k s ≡ Some (fault, input) → IsBrought fault input
   brought-from_some fault input e =
       let (within, least) = some-shown (least_bringing p k s) s fault input e in
       let (m, shown) = found-some (brings_fault p k s fault) (words (length p.inputs)) input least in
-      record { of_stage = within; wide = words-length (length p.inputs) input m; shown = shown }
+      record { of_stage = within; wide = words-length (length p.inputs) input m; shown = shown; least = least }
 
 -- ---- the answers
 
@@ -204,6 +205,7 @@ module _ (p : PipelineData) (shape : Shape p.netlist p) (k : ℕ) (s : StageData
         fault = fault;
         is = sym is;
         shown = brought.shown;
+        least = ap (λ i. least_bringing p i s fault) back ∙ brought.least;
         first = ap (λ i. first_reached p i s) back ∙ first;
         sound = subst (AreSoundWhereReached p) (sym back) sound;
       }

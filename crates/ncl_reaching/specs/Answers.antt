@@ -15,7 +15,7 @@ use Rattle.ncl_refusal.specs.Breaks.{BreaksAsTold}
 use Rattle.ncl_refusal.specs.Reached.{IsSoundWhereReached}
 use Rattle.ncl_refusal.specs.Told.{Tells}
 use Rattle.ncl_reaching.specs.Chain.{chain}
-use Rattle.ncl_reaching.specs.Reaching.{AreSoundWhereReached, first_reached}
+use Rattle.ncl_reaching.specs.Reaching.{AreSoundWhereReached, first_reached, least_bringing}
 use Rattle.ncl_reaching.specs.declared.reaching.Reached.{Reached}
 use Rattle.ncl_reaching.specs.declared.reaching.Reached.TheVariants.{Never, Shown, Limit}
 
@@ -34,6 +34,7 @@ pub record IsShown (p : PipelineData) (input : List Bool) (verdict : Verdict) : 
   pub fault : StageFault
   pub is : verdict_of stage fault word ≡ verdict
   pub shown : shows stage word fault ≡ true
+  pub least : least_bringing p (number - 1) stage fault ≡ Some input
   pub first : first_reached p (number - 1) stage ≡ Some (fault, input)
   pub sound : AreSoundWhereReached p (number - 1)
 

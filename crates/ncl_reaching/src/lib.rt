@@ -5,6 +5,13 @@
 //! DATA the answer is exact: `Never` says that the pipeline is delay-insensitive, and `Shown` that it isn't, with an input over
 //! which alone a run goes wrong.
 //!
+//! It goes along the stages with the chain of those so far as one stage, in which each rail of a bank is the output of a
+//! gate that follows the output that it takes (`chain`). A stage that `judge_stage` doesn't accept is asked over the inputs
+//! of the pipeline (`asking`): the outputs of the chain are its own, its gates stand in the chain, and a bit of it isn't
+//! waited for at an input exactly where the follower of one of that bit's rails is an orphan of the chain, so `valid_rails`
+//! and `orphan` answer all four questions from one set of functions. `lesser` takes the lesser of two words, `evaluating`
+//! the word that an input brings, and `telling` makes the verdict.
+//!
 //! ```
 //! use ncl_reaching::{Reached, reach};
 //!

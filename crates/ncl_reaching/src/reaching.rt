@@ -33,9 +33,10 @@ pub enum Reached {
 /// Whether an input of a pipeline brings to some stage a word at which the stage shows a fault: of the first stage of which one
 /// does, the first fault in the order of the judgement, with the least input.
 ///
-/// A stage that is accepted by itself is asked nothing more, so a pipeline that `judge` accepts costs what that costs. Any other is
-/// asked over the inputs of the pipeline, by diagrams with at most `limit` nodes: for each input bit of the stage twice, and for each
-/// gate of it once, it goes over the gates of the stages up to this one that the change reaches. An error is want of memory.
+/// A stage that is accepted by itself is asked nothing more, so a pipeline that `judge` accepts costs what that costs, and a copy
+/// of its gates. Any other is asked over the inputs of the pipeline, by diagrams with at most `limit` nodes: for each input bit
+/// of the stage twice, and for each gate of it once, it goes over the gates of the stages up to this one that the change reaches.
+/// An error is want of memory.
 pub fn reach(alloc: Global, pipeline: &Pipeline, limit: u32) -> Result<Reached, Memory>
     requires { 1 ≤ limit }
     ensures answers { IfOk result (Answers pipeline.now limit) }

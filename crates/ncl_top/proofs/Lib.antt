@@ -15,6 +15,6 @@ mod OneFunction
 mod Running
 mod Demonstrated
 mod SimReplies
-mod Refusals
+pub mod Refusals
 mod MergedModels
 mod Answered

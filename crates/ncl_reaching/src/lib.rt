@@ -17,7 +17,7 @@
 //!
 //! match reach(alloc, &pipeline, 1_000_000)? {
 //!     Reached::Never => println!(rt; "sound at every word that comes")?,
-//!     Reached::Shown { input, verdict } => println!(rt; "input {}: {verdict:?}", input.bits().len())?,
+//!     Reached::Shown { verdict, .. } => println!(rt; "an input brings it: {verdict:?}")?,
 //!     Reached::Limit { stage } => println!(rt; "stage {stage}: not decided")?,
 //! }
 //! ```

@@ -37,6 +37,7 @@ pub mod WiresPass
 pub mod Composition
 pub mod OfferedWords
 pub mod HeldDue
+pub mod HeldLayout
 pub mod StartKept
 pub mod Alternation
 pub mod Headline

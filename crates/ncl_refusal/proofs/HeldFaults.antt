@@ -246,7 +246,7 @@ module _ {p : PipelineData} {l : Layout} (is : IsLayoutOf p l) (n : ℕ) (word :
           let listed = output-listed own_is j r lj in (
             r,
             all.grown (rail_at own.outputs j r) listed (reaches is n word held inner (Without place) s1.end.value s1.holding
-            (λ c m free. others_still c m (λ e. both_ways (kept_low own (Without place) (out_of c)) free (ap (λ o. output_net o (out_of c)) at ∙ eq-eqb (out_of c) net e))) (rail_at own.outputs j r) listed up),
+                (λ c m free. others_still c m (λ e. both_ways (kept_low own (Without place) (out_of c)) free (ap (λ o. output_net o (out_of c)) at ∙ eq-eqb (out_of c) net e))) (rail_at own.outputs j r) listed up),
           )
 
       -- where the bank after that one asked for DATA, it had all of it, and the tree would turn

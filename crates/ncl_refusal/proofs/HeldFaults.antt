@@ -45,13 +45,13 @@ use Rattle.ncl_hazard.proofs.StageSweeps.{AreCellsOf}
 use Rattle.ncl_refusal.proofs.Behind.{IsBehind, avoids, behind-itself, behind-kept, cell_still, picks}
 use Rattle.ncl_refusal.proofs.Ends as ends
 use Rattle.ncl_refusal.proofs.HeldRuns.{cell-enabled, gate-enabled, gate-excited, avoids-cell, of_stage, of_stage-cell, other-stays, picks-cell, picks-gate, run-among, stays-enabled}
-use Rattle.ncl_refusal.proofs.HeldStage.{Acknowledged, Asks, GoesOn, IsHolding, asks-reset, gate-low, goes_on, holding-kept, holding-reset, not_full, reaches}
+use Rattle.ncl_refusal.proofs.HeldStage.{Acknowledged, Asks, GoesOn, IsBeginning, IsHolding, goes_on, holding-kept, not_full, reaches}
 use Rattle.ncl_refusal.proofs.Outputs.{standing}
-use Rattle.ncl_refusal.proofs.Reaching.{IsReached, reached-reset, reached-run, run-keeps}
+use Rattle.ncl_refusal.proofs.Reaching.{IsReached, reached-run, run-keeps}
 use Rattle.ncl_refusal.proofs.Rest.{null-rails}
 
-module _ {p : PipelineData} {l : Layout} (is : IsLayoutOf p l) (n : ℕ) (word : List Bool) (held : l.held n ≡ Some word) (inner : suc n < l.last)
-    (shape : Shape p.netlist p) (good : IsDelayInsensitive p) where
+module _ {p : PipelineData} {l : Layout} (is : IsLayoutOf p l) (n : ℕ) (word : List Bool) (wide : length word ≡ width l (suc n)) (inner : suc n < l.last)
+    (shape : Shape p.netlist p) (good : IsDelayInsensitive p) (s0 : State) (begins : IsBeginning is n word wide inner s0) where
   abbrev own : StageData
   own = l.stage (suc n)
 
@@ -68,10 +68,10 @@ module _ {p : PipelineData} {l : Layout} (is : IsLayoutOf p l) (n : ℕ) (word :
   cells = cells_are p shape l is (suc n) le
 
   abbrev pub Holding : Nets → Type 0
-  Holding = IsHolding is n word held inner
+  Holding = IsHolding is n word wide inner
 
   abbrev pub AsksData : Nets → Type 0
-  AsksData = Asks is n word held inner
+  AsksData = Asks is n word wide inner
 
   -- ---- the stage rises alone
 
@@ -81,31 +81,34 @@ module _ {p : PipelineData} {l : Layout} (is : IsLayoutOf p l) (n : ℕ) (word :
     pub reached : IsReached p [] end
     pub holding : Holding end.value
     pub asks : AsksData end.value
-    pub spared : (net : ℕ) → Member net (stage_nets l (suc n)) → free net ≡ false → end.value net ≡ (reset p []).value net
+    pub spared : (net : ℕ) → Member net (stage_nets l (suc n)) → free net ≡ false → end.value net ≡ s0.value net
+    pub others : (net : ℕ) → (Member net (stage_nets l (suc n)) → ⊥) → end.value net ≡ s0.value net
     pub still : (g : StageCell) → Member g own.cells → free (out_of g) ≡ true → IsExcited end.value g → ⊥
 
   pub risen : (free : ℕ → Bool) → HasRisen free
   risen free =
-      let all = ends.stops-among is (cells_are p shape l is) (of_stage p l (suc n) free) (reset p []) in
-      let end : State = after p (reset p []) all.run in
-      let (holds, asks, same) = run-among p (of_stage p l (suc n) free) Kept keeps all.run (reset p []) (holding-reset is n word held inner, asks-reset is n word held inner, λ net m fixed. refl) all.is_run all.among in
+      let all = ends.stops-among is (cells_are p shape l is) (of_stage p l (suc n) free) s0 in
+      let end : State = after p s0 all.run in
+      let (holds, asks, same, others) = run-among p (of_stage p l (suc n) free) Kept keeps all.run s0 (begins.holding, begins.asks, λ net m fixed. refl, λ net m. refl) all.is_run all.among in
       record {
         end = end;
-        reached = reached-run p [] (reached-reset p []) all.run all.is_run;
+        reached = reached-run p [] begins.reached all.run all.is_run;
         holding = holds;
         asks = asks;
         spared = same;
+        others = others;
         still = λ g m is_free excited. both_ways (enabled p end (Fire g.cell)) (all.quiet (Fire g.cell) (picks-gate p l (suc n) free cells g m is_free)) (gate-enabled p l (suc n) cells end g m excited);
       }
     where
       Kept : State → Type 0
-      Kept t = Holding t.value × AsksData t.value × ((net : ℕ) → Member net (stage_nets l (suc n)) → free net ≡ false → t.value net ≡ (reset p []).value net)
+      Kept t = Holding t.value × AsksData t.value × ((net : ℕ) → Member net (stage_nets l (suc n)) → free net ≡ false → t.value net ≡ s0.value net) × ((net : ℕ) → (Member net (stage_nets l (suc n)) → ⊥) → t.value net ≡ s0.value net)
 
       keeps : (t : State) (item : Item) → Kept t → enabled p t item ≡ true → of_stage p l (suc n) free item ≡ true → Kept (step p t item)
-      keeps t item (h, asks, same) can picked = (
-        holding-kept is n word held inner t h asks item can,
+      keeps t item (h, asks, same, others) can picked = (
+        holding-kept is n word wide inner t h asks item can,
         other-stays p l (suc n) free t item picked (l.root (suc n)) (λ m f. is.apart (suc n) (suc n) (l.root (suc n)) le le m (root-listed is (suc n) le)) ∙ asks,
         λ net m fixed. other-stays p l (suc n) free t item picked net (λ k f. both_ways (free net) fixed f) ∙ same net m fixed,
+        λ net none. other-stays p l (suc n) free t item picked net (λ k f. none k) ∙ others net none,
       )
 
   -- ---- one high rail of each output
@@ -116,7 +119,7 @@ module _ {p : PipelineData} {l : Layout} (is : IsLayoutOf p l) (n : ℕ) (word :
       let (zero_high, one_high) = and_parts (base r.zero.0) (base r.one.0) both in
       let (zero_in, one_in) = outputs-listed own_is r m in
       let high : (net : ℕ) → Member net (stage_nets l (suc n)) → base net ≡ true → all.end.value net ≡ true =
-      reaches is n word held inner Base all.end.value all.holding (λ g k free. all.still g k refl) in
+      reaches is n word wide inner Base all.end.value all.holding (λ g k free. all.still g k refl) in
       let legal : IsLegalState p all.end = subst (IsLegalState p) all.reached.leads (good.safe.legal [] all.reached.items tt all.reached.is_run) in
       both_ways _ (legal.outputs own r listed (Contains-from_Member r m)) (and_from _ _ (high r.zero.0 zero_in zero_high) (high r.one.0 one_in one_high)))
 
@@ -139,7 +142,7 @@ module _ {p : PipelineData} {l : Layout} (is : IsLayoutOf p l) (n : ℕ) (word :
     s1 = risen spare
 
     g_low : s1.end.value net ≡ false
-    g_low = s1.spared net net_in (ap not (eq-eqb net net refl)) ∙ gate-low is n word held inner g g_in
+    g_low = s1.spared net net_in (ap not (eq-eqb net net refl)) ∙ begins.gates g g_in
 
     others_still : (c : StageCell) → Member c own.cells → (out_of c ≡ net → ⊥) → IsExcited s1.end.value c → ⊥
     others_still c m apart = s1.still c m (ap not (ne_eqb (out_of c) net apart))
@@ -147,7 +150,7 @@ module _ {p : PipelineData} {l : Layout} (is : IsLayoutOf p l) (n : ℕ) (word :
     -- the cell is excited, else the stage had come to its values
     g_excited : IsExcited s1.end.value g
     g_excited = true_from_ne_false _ (λ none.
-        both_ways (s1.end.value net) g_low (reaches is n word held inner Base s1.end.value s1.holding
+        both_ways (s1.end.value net) g_low (reaches is n word wide inner Base s1.end.value s1.holding
         (λ c m free excited. elim (cases_eq (out_of c) net) [
           | inl same ↦ both_ways _ none (subst (λ k. IsExcited s1.end.value k) (same_output own own_is c g m g_in same) excited)
           | inr apart ↦ others_still c m apart excited
@@ -160,7 +163,7 @@ module _ {p : PipelineData} {l : Layout} (is : IsLayoutOf p l) (n : ℕ) (word :
     not_cell = let (c, at_c, same) = cells g g_in in avoids-cell p net g.cell c at_c same.out
 
     -- the bank after the stage acknowledges without the cell, and the cell goes on being excited; then all of the stage falls
-    module _ (found : Acknowledged is n word held inner s1.end rest.run) where
+    module _ (found : Acknowledged is n word wide inner s1.end rest.run) where
       abbrev u : State
       u = after p s1.end found.first
 
@@ -226,7 +229,7 @@ module _ {p : PipelineData} {l : Layout} (is : IsLayoutOf p l) (n : ℕ) (word :
           both_ways _ (ap (λ x. differ x (end.value net)) next ∙ ap (differ false) (all_low net net_in)) excited
 
     -- the bank after the stage never acknowledges
-    module _ (all : GoesOn is n word held inner s1.end rest.run) where
+    module _ (all : GoesOn is n word wide inner s1.end rest.run) where
       abbrev t : State
       t = after p s1.end rest.run
 
@@ -245,7 +248,7 @@ module _ {p : PipelineData} {l : Layout} (is : IsLayoutOf p l) (n : ℕ) (word :
           let (r, up) = some-rail (val own word (Without place)) own.outputs j (list_all-member (has_data (val own word (Without place))) own.outputs full (get_or own.outputs j no_rails) (Member-get_or own.outputs j no_rails lj)) in
           let listed = output-listed own_is j r lj in (
             r,
-            all.grown (rail_at own.outputs j r) listed (reaches is n word held inner (Without place) s1.end.value s1.holding
+            all.grown (rail_at own.outputs j r) listed (reaches is n word wide inner (Without place) s1.end.value s1.holding
                 (λ c m free. others_still c m (λ e. both_ways (kept_low own (Without place) (out_of c)) free (ap (λ o. output_net o (out_of c)) at ∙ eq-eqb (out_of c) net e))) (rail_at own.outputs j r) listed up),
           )
 
@@ -278,7 +281,7 @@ module _ {p : PipelineData} {l : Layout} (is : IsLayoutOf p l) (n : ℕ) (word :
 
       stuck_kept : (x : State) (item : Item) → Stuck x → enabled p x item ≡ true → Stuck (step p x item)
       stuck_kept x item (h, behind) can = (
-        holding-kept is n word held inner x h (behind.trees (suc n) (l.root (suc n)) (omega arith) le (root-listed is (suc n) le) ∙ all.asks) item can,
+        holding-kept is n word wide inner x h (behind.trees (suc n) (l.root (suc n)) (omega arith) le (root-listed is (suc n) le) ∙ all.asks) item can,
         behind-kept is (suc n) inner t net net_in rest.quiet x behind
             (λ j r lj a_is b_is. elim (cases_Bool (x.value (in_rail l (suc (suc n)) j r))) [
               | inl up ↦ both_ways _ (a_is ∙ ap not up) (h.up j r lj up)
@@ -290,10 +293,10 @@ module _ {p : PipelineData} {l : Layout} (is : IsLayoutOf p l) (n : ℕ) (word :
       goes_on-stuck =
           let (run, is_run, quiet) = ends.stops is (cells_are p shape l is) t in
           let (h, behind) = run-keeps p Stuck stuck_kept run t (all.holding, behind-itself is (suc n) inner t net net_in rest.quiet) is_run in
-          not_full is n word held inner shape good (after p t run) (reached-run p [] t_reached run is_run) quiet h
+          not_full is n word wide inner shape good (after p t run) (reached-run p [] t_reached run is_run) quiet h
 
     pub no_orphan : ⊥
-    no_orphan = elim (goes_on is n word held inner rest.run s1.end s1.holding s1.asks rest.is_run) [
+    no_orphan = elim (goes_on is n word wide inner rest.run s1.end s1.holding s1.asks rest.is_run) [
       | inl all ↦ goes_on-stuck all
       | inr found ↦ acknowledged-lost found
     ]

@@ -49,12 +49,12 @@ use Rattle.ncl_refusal.proofs.Behind.{IsBehind, avoids, behind-itself, behind-ke
 use Rattle.ncl_refusal.proofs.Does.{later, MovesStage, by_gate, by_register, by_source, stage-moves}
 use Rattle.ncl_refusal.proofs.Ends as ends
 use Rattle.ncl_refusal.proofs.HeldRuns.{avoided-stays, avoids-cell, cell-enabled, cell-excited, gate-enabled, of_stage, other-stays, picks-cell, picks-gate, run-among, stays-enabled}
-use Rattle.ncl_refusal.proofs.HeldStage.{Acknowledged, acknowledges, asks-reset, bank-full, holding-reset}
-use Rattle.ncl_refusal.proofs.Reaching.{IsReached, reached-reset, reached-run, run-keeps}
+use Rattle.ncl_refusal.proofs.HeldStage.{Acknowledged, IsBeginning, acknowledges, bank-full}
+use Rattle.ncl_refusal.proofs.Reaching.{IsReached, reached-run, run-keeps}
 use Rattle.ncl_refusal.proofs.Rest.{null-rails}
 
-module _ {p : PipelineData} {l : Layout} (is : IsLayoutOf p l) (n : ℕ) (word : List Bool) (held : l.held n ≡ Some word) (inner : suc n < l.last)
-    (shape : Shape p.netlist p) (good : IsDelayInsensitive p) (bit : ℕ) (within : bit < width l (suc n))
+module _ {p : PipelineData} {l : Layout} (is : IsLayoutOf p l) (n : ℕ) (word : List Bool) (wide : length word ≡ width l (suc n)) (inner : suc n < l.last)
+    (shape : Shape p.netlist p) (good : IsDelayInsensitive p) (s0 : State) (begins : IsBeginning is n word wide inner s0) (bit : ℕ) (within : bit < width l (suc n))
     (left : is_left_high (l.stage (suc n)) word (in_rail l (suc n) bit (bit_at word bit)) ≡ true) where
   abbrev own : StageData
   own = l.stage (suc n)
@@ -89,7 +89,7 @@ module _ {p : PipelineData} {l : Layout} (is : IsLayoutOf p l) (n : ℕ) (word :
   OnlyRail v = (x : ℕ) → Member x (stage_nets l (suc n)) → (x ≡ rail → ⊥) → v x ≡ false
 
   rail_base : base rail ≡ true
-  rail_base = named-within_values own word rail (Contains-from_Member rail (named-has own.inputs word (is.held_wide n word held).1 bit within))
+  rail_base = named-within_values own word rail (Contains-from_Member rail (named-has own.inputs word wide bit within))
 
   -- no gate that is high at the word reads the rail
   not_read : (g : StageCell) → Member g own.cells → base (out_of g) ≡ true → (x : NetId) → Member x g.ins.items → x.0 ≡ rail → ⊥
@@ -148,17 +148,17 @@ module _ {p : PipelineData} {l : Layout} (is : IsLayoutOf p l) (n : ℕ) (word :
 
   -- ---- the bank after the stage acknowledges, and all of the stage but the rail falls
 
-  acks_found : (run : List Item) × Acknowledged is n word held inner (reset p []) run
-  acks_found = acknowledges is n word held inner shape good (reset p []) (reached-reset p []) (holding-reset is n word held inner) (asks-reset is n word held inner)
+  acks_found : (run : List Item) × Acknowledged is n word wide inner s0 run
+  acks_found = acknowledges is n word wide inner shape good s0 begins.reached begins.holding begins.asks
 
-  abbrev found : Acknowledged is n word held inner (reset p []) acks_found.0
+  abbrev found : Acknowledged is n word wide inner s0 acks_found.0
   found = acks_found.1
 
   abbrev u : State
-  u = after p (reset p []) found.first
+  u = after p s0 found.first
 
   u_reached : IsReached p [] u
-  u_reached = reached-run p [] (reached-reset p []) found.first found.is_run
+  u_reached = reached-run p [] begins.reached found.first found.is_run
 
   abbrev down : Item → Bool
   down = of_stage p l (suc n) spare
@@ -197,7 +197,7 @@ module _ {p : PipelineData} {l : Layout} (is : IsLayoutOf p l) (n : ℕ) (word :
   fallen = run-among p down IsFalling falling_kept fall.run u (record {
     root_low = found.asks_null;
     low = found.holding.low;
-    high = bank-full is n word held inner found.holding bit within;
+    high = bank-full is n word wide inner found.holding bit within;
     below = found.holding.below;
   }) fall.is_run fall.among
 

@@ -45,7 +45,7 @@ use Rattle.ncl_refusal.proofs.Ends as ends
 use Rattle.ncl_refusal.proofs.Reaching.{IsReached, reached-reset, reached-run}
 use Rattle.ncl_refusal.proofs.Rest.{null-rails}
 
-module _ {p : PipelineData} {l : Layout} (is : IsLayoutOf p l) (n : ℕ) (word : List Bool) (held : l.held n ≡ Some word) (inner : suc n < l.last) where
+module _ {p : PipelineData} {l : Layout} (is : IsLayoutOf p l) (n : ℕ) (word : List Bool) (wide : length word ≡ width l (suc n)) (inner : suc n < l.last) where
   before : n < l.last
   before = omega (arith, inner)
 
@@ -55,30 +55,8 @@ module _ {p : PipelineData} {l : Layout} (is : IsLayoutOf p l) (n : ℕ) (word :
   own_is : IsStage own
   own_is = is.is_stage (suc n) before
 
-  wide : length word ≡ width l (suc n)
-  wide = (is.held_wide n word held).1
-
   abbrev base : Nets
   base = val own word Base
-
-  -- the banks beside it hold none
-  none-next : l.held (suc n) ≡ None
-  none-next = by (l.held (suc n)) refl
-    where
-      by : (o : Option (List Bool)) → l.held (suc n) ≡ o → l.held (suc n) ≡ None
-      by None e = e
-      by (Some other) e = absurd (is.held_apart n word other held e)
-
-  none-there : held_in l n ≡ None
-  none-there = by n held
-    where
-      by : (k : ℕ) → l.held k ≡ Some word → held_in l k ≡ None
-      by zero at = refl
-      by (suc k) at = one (l.held k) refl
-        where
-          one : (o : Option (List Bool)) → l.held k ≡ o → l.held k ≡ None
-          one None e = e
-          one (Some other) e = absurd (is.held_apart k other word e at)
 
   -- the bank has its word and asks for NULL, and the stage before it is empty; the stage rises, and the bank after it takes
   -- what is high
@@ -294,30 +272,12 @@ module _ {p : PipelineData} {l : Layout} (is : IsLayoutOf p l) (n : ℕ) (word :
     pub holding-kept : IsHolding u
     holding-kept = record { low = low-kept; acked = acked-kept; rails = rails-kept; below = below-kept; rises = rises-kept; up = up-kept; follows = follows-kept }
 
-  -- ---- at reset
-
-  reset-rail : (net : ℕ) → Member net (stage_nets l (suc n)) → reset_nets p net ≡ among (named_rails own.inputs word) net
-  reset-rail net m = sym (local-at (stage_nets l (suc n)) (reset_nets p) net m) ∙ ap (λ v. v net) (stage-held is n word held)
-
-  pub gate-low : (g : StageCell) → Member g own.cells → reset_nets p (out_of g) ≡ false
-  gate-low g m = reset-rail (out_of g) (gate-listed own g m) ∙ false_from_ne_true _ (λ named.
-      named-no_output own own_is word (out_of g) (Contains-from_Member (out_of g) (member-from_among (out_of g) (named_rails own.inputs word) named)) g m refl)
-
-  pub holding-reset : IsHolding (reset_nets p)
-  holding-reset = record {
-    low = λ net m. sym (local-at (stage_nets l n) (reset_nets p) net m) ∙ ap (λ v. v net) (stage-none is n (omega (arith, inner)) (none-there));
-    acked = λ c m. tree-value is n c.out.0 (omega (arith, inner)) (tree-listed is n c before m) ∙ ap (λ o. not (is_some o)) held;
-    rails = λ j r lj. reset-rail (in_rail l (suc n) j r) (rail-listed own j r lj);
-    below = λ net m high. named-within_values own word net (Contains-from_Member net (member-from_among net (named_rails own.inputs word) (sym (reset-rail net m) ∙ high)));
-    rises = λ g m high. absurd (both_ways (reset_nets p (out_of g)) (gate-low g m) high);
-    up = λ j r lj high.
-        absurd (both_ways (reset_nets p (in_rail l (suc (suc n)) j r))
-        (sym (local-at (stage_nets l (suc (suc n))) (reset_nets p) _ (rail-listed (l.stage (suc (suc n))) j r lj)) ∙ ap (λ v. v (in_rail l (suc (suc n)) j r)) (stage-none is (suc (suc n)) inner (none-next))) high);
-    follows = λ c m low. absurd (both_ways (in_tree l (reset_nets p) (suc n) c.out.0) low (tree-at is (suc n) c.out.0 before (tree-listed is (suc n) c inner m) ∙ ap (λ o. not (is_some o)) (none-next)));
-  }
-
-  pub asks-reset : Asks (reset_nets p)
-  asks-reset = tree-value is (suc n) (l.root (suc n)) before (root-listed is (suc n) before) ∙ ap (λ o. not (is_some o)) (none-next)
+  -- a state that a run reaches in which it is so, and no gate of the stage is high yet
+  pub record IsBeginning (s : State) : Type 0 where
+    pub reached : IsReached p [] s
+    pub holding : IsHolding s.value
+    pub asks : Asks s.value
+    pub gates : (g : StageCell) → Member g own.cells → s.value (out_of g) ≡ false
 
   -- ---- until the bank after the stage acknowledges
 
@@ -412,9 +372,9 @@ module _ {p : PipelineData} {l : Layout} (is : IsLayoutOf p l) (n : ℕ) (word :
         ]
 
     -- so at the word each output has data
-    pub some-data : (j : ℕ) → j < length own.outputs → has_data base (get_or own.outputs j no_rails) ≡ true
-    some-data j lj =
-        let (run, found) = acknowledges (reset p []) (reached-reset p []) holding-reset asks-reset in
-        let v : Nets = (after p (reset p []) found.first).value in
+    pub some-data : (s : State) → IsBeginning s → (j : ℕ) → j < length own.outputs → has_data base (get_or own.outputs j no_rails) ≡ true
+    some-data s begins j lj =
+        let (run, found) = acknowledges s begins.reached begins.holding begins.asks in
+        let v : Nets = (after p s found.first).value in
         let (r, high) = some-rail v own.outputs j (full-outputs v found.holding found.asks_null j lj) in
         rail-data base own.outputs j r (found.holding.below (rail_at own.outputs j r) (output-listed own_is j r lj) high)

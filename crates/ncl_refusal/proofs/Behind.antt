@@ -22,7 +22,7 @@ use Rattle.ncl_shape.specs.Pipeline.{PipelineData}
 use Rattle.ncl_shape.proofs.ClosureLaws.{pin_values-same}
 use Rattle.ncl_cell_roles.specs.Layout.{in_rail, out_rail, Layout, IsLayoutOf, TreePart, acks, completes, width, stage_nets}
 use Rattle.ncl_machine.specs.State.{State}
-use Rattle.ncl_machine.specs.Steps.{differ, enabled, is_data, is_excited, is_null, next_value, step}
+use Rattle.ncl_machine.specs.Steps.{differ, enabled, is_excited, next_value}
 use Rattle.ncl_machine.specs.AtWork.{IsExcited, next_of_gate}
 use Rattle.ncl_machine.proofs.StageNets.{in_bit, rail-listed, gate-listed, inputs-listed, out-listed, outputs-listed, root-listed, tree-listed}
 use Rattle.ncl_insensitivity.proofs.NextValues.{gate-next, register-excited}

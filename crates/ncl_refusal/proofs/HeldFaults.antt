@@ -1,15 +1,13 @@
 -- What a delay-insensitive pipeline owes at a word that a bank holds at reset, in the stage after the bank: one high rail of
 -- each output, and no orphan.
-use Rattle.std.proofs.Common.{◌≡◌, ◌≢◌, ℕ, suc, ◌<◌, ◌≤◌, Bool, true, false, not, ◌&&◌, ◌||◌, List, [], ◌∷◌, length, get_or, Some, inl, inr, refl, sym, ap, ◌∙◌, subst, arith}
+use Rattle.std.proofs.Common.{◌≡◌, ◌≢◌, ℕ, suc, ◌<◌, ◌≤◌, Bool, true, false, not, List, [], length, get_or, Some, inl, inr, refl, sym, ap, ◌∙◌, subst, arith}
 use Rattle.std.specs.Prelude.{Contains, nat_eq, slice_get}
 use Rattle.std.proofs.lemmas.Bool.{and_from, and_parts, both_ways, cases_Bool, cases_eq, eq-eqb, false_from_ne_true, ne_eqb, true_from_ne_false}
-use Rattle.std.proofs.lemmas.Option.{slice_get_within, get_or_from_slice_get}
 use Rattle.ncl_base.proofs.Members.{Member, Member-get_or, Contains-from_Member, Contains-from_slice_get, Member-from_Contains, slice_get-from_Contains}
 use Rattle.ncl_base.proofs.Tests.{list_all-member}
 use Rattle.ncl_gates.specs.Gate.{set_of, some_high}
 use Rattle.ncl_gates.proofs.GateLaws.{set_of-low}
 use Rattle.ncl_netlist.specs.declared.cell.Cell.{Cell}
-use Rattle.ncl_netlist.specs.declared.ids.NetId.{NetId}
 use Rattle.ncl_cell_rules.specs.Origin.{CellAt}
 use Rattle.ncl_shape.specs.declared.item.Item.{Item}
 use Rattle.ncl_shape.specs.declared.item.Item.TheVariants.{Cell as Fire}
@@ -25,12 +23,12 @@ use Rattle.ncl_cell_roles.specs.Layout.{no_rails, rail_at, in_rail, out_rail, La
 use Rattle.ncl_cell_roles.proofs.RailNets.{rail-place, rail-within}
 use Rattle.ncl_faults.specs.declared.variant.Variant.TheVariants.{Base, Cell as Without}
 use Rattle.ncl_faults.specs.Values.{kept_low, output_net, val}
-use Rattle.ncl_faults.specs.Faults.{BothRails, NoRail, Orphan, all_data, has_data, is_illegal, shows}
+use Rattle.ncl_faults.specs.Faults.{all_data, has_data, is_illegal}
 use Rattle.ncl_faults.proofs.ValueLaws.{rail-no_output, same_output}
-use Rattle.ncl_machine.specs.State.{State, reset}
+use Rattle.ncl_machine.specs.State.{State}
 use Rattle.ncl_machine.specs.AtWork.{IsExcited, next_of_gate}
 use Rattle.ncl_machine.specs.Steps.{differ, enabled, next_value, step}
-use Rattle.ncl_machine.specs.Run.{IsQuiet, IsRunFrom, after}
+use Rattle.ncl_machine.specs.Run.{after}
 use Rattle.ncl_machine.specs.DelayInsensitive.{IsDelayInsensitive, IsLegalState}
 use Rattle.ncl_machine.proofs.Completion.{ReadsNew, all_are_new, old_is_turning}
 use Rattle.ncl_machine.proofs.FallingLaws.{IsUnfed, excited-from_unfed, next-from_unfed}
@@ -38,17 +36,15 @@ use Rattle.ncl_machine.proofs.InOrder.{in_order}
 use Rattle.ncl_machine.proofs.LocalNets.{local-at, in_stage, in_tree}
 use Rattle.ncl_machine.proofs.NamedRails.{rail-data, some-rail}
 use Rattle.ncl_machine.proofs.StageNets.{in_bit, in_outputs, rail-listed, gate-listed, inputs-listed, outputs-listed, out-listed, output-listed, root-listed, tree-listed}
-use Rattle.ncl_insensitivity.proofs.NextValues.{gate-next, register-excited}
+use Rattle.ncl_insensitivity.proofs.NextValues.{register-excited}
 use Rattle.ncl_insensitivity.proofs.RisingLaws.{waits-from_excited}
 use Rattle.ncl_hazard.proofs.Found.{cells_are}
 use Rattle.ncl_hazard.proofs.StageSweeps.{AreCellsOf}
-use Rattle.ncl_refusal.proofs.Behind.{IsBehind, avoids, behind-itself, behind-kept, cell_still, picks}
+use Rattle.ncl_refusal.proofs.Behind.{IsBehind, avoids, behind-itself, behind-kept, cell_still}
 use Rattle.ncl_refusal.proofs.Ends as ends
 use Rattle.ncl_refusal.proofs.HeldRuns.{cell-enabled, gate-enabled, gate-excited, avoids-cell, of_stage, of_stage-cell, other-stays, picks-cell, picks-gate, run-among, stays-enabled}
 use Rattle.ncl_refusal.proofs.HeldStage.{Acknowledged, Asks, GoesOn, IsBeginning, IsHolding, goes_on, holding-kept, not_full, reaches}
-use Rattle.ncl_refusal.proofs.Outputs.{standing}
 use Rattle.ncl_refusal.proofs.Reaching.{IsReached, reached-run, run-keeps}
-use Rattle.ncl_refusal.proofs.Rest.{null-rails}
 
 module _ {p : PipelineData} {l : Layout} (is : IsLayoutOf p l) (n : ℕ) (word : List Bool) (wide : length word ≡ width l (suc n)) (inner : suc n < l.last)
     (shape : Shape p.netlist p) (good : IsDelayInsensitive p) (s0 : State) (begins : IsBeginning is n word wide inner s0) where

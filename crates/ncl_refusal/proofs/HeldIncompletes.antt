@@ -1,7 +1,7 @@
 -- A word that a bank held at reset comes to a stage past the bank's own: there the stage must wait for each bit, as at a word
 -- that an input brings.
-use Rattle.std.proofs.Common.{◌≡◌, ◌≢◌, ℕ, suc, ◌<◌, ◌≤◌, Bool, true, false, not, ◌&&◌, ◌||◌, List, [], ◌∷◌, length, map, get_or, Some, refl, sym, ap, ◌∙◌, subst, arith}
-use Rattle.std.specs.Prelude.{nat_eq, slice_get}
+use Rattle.std.proofs.Common.{◌≡◌, ◌≢◌, ℕ, suc, ◌<◌, ◌≤◌, Bool, true, false, not, ◌&&◌, ◌||◌, List, [], length, map, get_or, refl, sym, ap, ◌∙◌, subst, arith}
+use Rattle.std.specs.Prelude.{nat_eq}
 use Rattle.std.proofs.lemmas.Bool.{and_from, and_parts, both_ways, eq-eqb, not-true, or_left, or_right, true_from_ne_false}
 use Rattle.std.proofs.lemmas.Option.{slice_get-get_or}
 use Rattle.ncl_base.proofs.Members.{Member, Member-append_left, Member-append_right, Member-get_or, Member-map, member_of_map, recursion_from_members}
@@ -13,13 +13,12 @@ use Rattle.ncl_cell_rules.specs.Origin.{CellAt}
 use Rattle.ncl_shape.specs.declared.item.Item.{Item}
 use Rattle.ncl_shape.specs.declared.item.Item.TheVariants.{Cell as Fire}
 use Rattle.ncl_shape.specs.declared.rails.Rails.{Rails}
-use Rattle.ncl_shape.specs.declared.stage.StageCell.{StageCell}
 use Rattle.ncl_shape.specs.Nets.{Nets, among}
 use Rattle.ncl_shape.specs.Stage.{StageData, IsStage, named_rails, out_of, rail_nets}
 use Rattle.ncl_shape.specs.Pipeline.{PipelineData}
 use Rattle.ncl_shape.specs.Shape.{Shape}
 use Rattle.ncl_shape.proofs.ClosureLaws.{set_of-grows}
-use Rattle.ncl_cell_roles.specs.Layout.{no_rails, rail_at, in_rail, out_rail, Layout, IsLayoutOf, IsRegisterOf, width, stage_nets}
+use Rattle.ncl_cell_roles.specs.Layout.{no_rails, in_rail, out_rail, Layout, IsLayoutOf, IsRegisterOf, width, stage_nets}
 use Rattle.ncl_cell_roles.proofs.RailNets.{rail-place, rail-within}
 use Rattle.ncl_faults.specs.declared.variant.Variant.TheVariants.{Base, Bit}
 use Rattle.ncl_faults.specs.Values.{both_rails, holds, kept_low, val}
@@ -28,19 +27,18 @@ use Rattle.ncl_faults.proofs.OnePass.{among-from_member}
 use Rattle.ncl_faults.proofs.ValueLaws.{rail-no_output, val-output, val-rail}
 use Rattle.ncl_machine.specs.State.{State}
 use Rattle.ncl_machine.specs.AtWork.{IsExcited, next_of_gate}
-use Rattle.ncl_machine.specs.Steps.{differ, enabled, next_value}
+use Rattle.ncl_machine.specs.Steps.{differ, enabled}
 use Rattle.ncl_machine.specs.Run.{after}
 use Rattle.ncl_machine.specs.Composition.{stage_function}
 use Rattle.ncl_machine.specs.DelayInsensitive.{IsDelayInsensitive}
 use Rattle.ncl_machine.proofs.InOrder.{in_order}
 use Rattle.ncl_machine.proofs.NamedRails.{bit_at, member-from_among, named-has, rail-data, some-rail}
-use Rattle.ncl_machine.proofs.StageNets.{in_bit, in_outputs, rail-listed, gate-listed, out-listed, root-listed}
+use Rattle.ncl_machine.proofs.StageNets.{in_bit, in_outputs, rail-listed, out-listed, root-listed}
 use Rattle.ncl_insensitivity.proofs.NextValues.{gate-next, register-excited, register-turns}
 use Rattle.ncl_insensitivity.proofs.RisingLaws.{excited-from_waiting}
 use Rattle.ncl_hazard.proofs.Handing.{IsOneRailed}
 use Rattle.ncl_refusal.proofs.Behind.{passes_at, picks}
-use Rattle.ncl_refusal.proofs.HeldFaults.{HasRisen}
-use Rattle.ncl_refusal.proofs.HeldPass.{HasMoved, IsAt, beginning, moved, next-wide, output-named, settled, settled-value, tree-moved}
+use Rattle.ncl_refusal.proofs.HeldPass.{HasMoved, IsAt, moved, next-wide, output-named, settled, settled-value, tree-moved}
 use Rattle.ncl_refusal.proofs.HeldRuns.{cell-enabled, cell-excited, stays-enabled}
 use Rattle.ncl_refusal.proofs.Reaching.{IsReached, reached-run}
 

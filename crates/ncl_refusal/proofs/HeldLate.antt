@@ -1,9 +1,9 @@
 -- No bit of a word that a bank holds at reset may be late in a delay-insensitive pipeline: where nothing waits for its rail to
 -- fall, the bank after the stage goes on to NULL, and asks for DATA, while the register cell of the rail is still to fall.
-use Rattle.std.proofs.Common.{◌≡◌, ◌≢◌, ℕ, suc, ◌<◌, ◌≤◌, Bool, true, false, not, ◌&&◌, ◌||◌, List, [], ◌∷◌, length, get_or, Some, ◌⊎◌, inl, inr, refl, sym, ap, ◌∙◌, subst, arith}
-use Rattle.std.specs.Prelude.{nat_eq, slice_get}
+use Rattle.std.proofs.Common.{◌≡◌, ℕ, suc, ◌<◌, ◌≤◌, Bool, true, false, not, ◌||◌, List, [], ◌∷◌, length, get_or, inl, inr, refl, sym, ap, ◌∙◌, subst, arith}
+use Rattle.std.specs.Prelude.{nat_eq}
 use Rattle.std.specs.List.{list_any}
-use Rattle.std.proofs.lemmas.Bool.{and_from, and_parts, both_ways, cases_Bool, cases_eq, eq-eqb, false_from_ne_true, ne_eqb, not-true, or_from, or_parts, true_from_ne_false}
+use Rattle.std.proofs.lemmas.Bool.{and_from, and_parts, both_ways, cases_eq, eq-eqb, false_from_ne_true, ne_eqb, not-true, or_from, or_parts, true_from_ne_false}
 use Rattle.ncl_base.proofs.Members.{Member, Member-get_or, Contains-from_Member, list_any-from_member, member_cases, recursion_from_members, slice_get-from_Contains}
 use Rattle.ncl_base.proofs.Tests.{list_all-member}
 use Rattle.ncl_gates.specs.Gate.{set_of, some_high}
@@ -16,7 +16,7 @@ use Rattle.ncl_shape.specs.declared.item.Item.{Item}
 use Rattle.ncl_shape.specs.declared.item.Item.TheVariants.{Cell as Fire}
 use Rattle.ncl_shape.specs.declared.rails.Rails.{Rails}
 use Rattle.ncl_shape.specs.declared.stage.StageCell.{StageCell}
-use Rattle.ncl_shape.specs.Nets.{Nets, IsBelow, among}
+use Rattle.ncl_shape.specs.Nets.{Nets, among}
 use Rattle.ncl_shape.specs.Stage.{StageData, IsStage, out_of}
 use Rattle.ncl_shape.specs.Closure.{pin_values}
 use Rattle.ncl_shape.specs.Pipeline.{PipelineData}
@@ -24,31 +24,29 @@ use Rattle.ncl_shape.specs.Shape.{Shape}
 use Rattle.ncl_shape.proofs.ClosureLaws.{set_of-grows}
 use Rattle.ncl_shape.proofs.PinLaws.{some_high-low}
 use Rattle.ncl_cell_roles.specs.Layout.{no_rails, rail_at, in_rail, out_rail, Layout, IsLayoutOf, IsRegisterOf, width, stage_nets}
-use Rattle.ncl_cell_roles.proofs.RailNets.{rail-place, rail-within}
+use Rattle.ncl_cell_roles.proofs.RailNets.{rail-place}
 use Rattle.ncl_faults.specs.declared.variant.Variant.TheVariants.{Base}
 use Rattle.ncl_faults.specs.Values.{holds, kept_low, val}
-use Rattle.ncl_faults.specs.Faults.{has_data}
-use Rattle.ncl_faults.proofs.ValueLaws.{rail-no_output, val-settled}
+use Rattle.ncl_faults.proofs.ValueLaws.{val-settled}
 use Rattle.ncl_machine.specs.SoundAt.{is_held_up, is_left_high, only}
 use Rattle.ncl_machine.specs.State.{State, no_nets, reset}
 use Rattle.ncl_machine.specs.AtWork.{IsExcited, next_of_gate}
 use Rattle.ncl_machine.specs.Steps.{differ, enabled, is_null, next_value, step}
-use Rattle.ncl_machine.specs.Run.{IsQuiet, IsRunFrom, after}
+use Rattle.ncl_machine.specs.Run.{IsQuiet, after}
 use Rattle.ncl_machine.specs.DelayInsensitive.{IsDelayInsensitive}
 use Rattle.ncl_machine.proofs.AtWorkLaws.{holds-excited, named-within_values}
-use Rattle.ncl_machine.proofs.Completion.{ReadsNew, nets_new, old_is_turning, reads-bit, up_the_tree}
 use Rattle.ncl_machine.proofs.FallingLaws.{IsUnfed, excited-from_unfed, next-from_unfed, unfed-at}
 use Rattle.ncl_machine.proofs.InOrder.{in_order}
-use Rattle.ncl_machine.proofs.LocalNets.{local-at, in_stage, in_tree, with_net-here}
+use Rattle.ncl_machine.proofs.LocalNets.{with_net-here}
 use Rattle.ncl_machine.proofs.NamedRails.{bit_at, named-has}
-use Rattle.ncl_machine.proofs.StageNets.{in_bit, in_outputs, rail-listed, gate-listed, inputs-listed, out-listed, root-listed, tree-listed}
+use Rattle.ncl_machine.proofs.StageNets.{in_outputs, rail-listed, gate-listed, inputs-listed, out-listed, root-listed, tree-listed}
 use Rattle.ncl_insensitivity.proofs.NextValues.{register-excited, register-turns}
 use Rattle.ncl_hazard.proofs.Found.{cells_are}
 use Rattle.ncl_hazard.proofs.StageSweeps.{AreCellsOf}
 use Rattle.ncl_refusal.proofs.Behind.{IsBehind, avoids, behind-itself, behind-kept, cell_still}
-use Rattle.ncl_refusal.proofs.Does.{later, MovesStage, by_gate, by_register, by_source, stage-moves}
+use Rattle.ncl_refusal.proofs.Does.{MovesStage, by_gate, by_register, by_source, stage-moves}
 use Rattle.ncl_refusal.proofs.Ends as ends
-use Rattle.ncl_refusal.proofs.HeldRuns.{avoided-stays, avoids-cell, cell-enabled, cell-excited, gate-enabled, of_stage, other-stays, picks-cell, picks-gate, run-among, stays-enabled}
+use Rattle.ncl_refusal.proofs.HeldRuns.{avoided-stays, avoids-cell, cell-enabled, cell-excited, gate-enabled, of_stage, other-stays, picks-cell, picks-gate, run-among, stays-enabled, tree-settled}
 use Rattle.ncl_refusal.proofs.HeldStage.{Acknowledged, IsBeginning, acknowledges, bank-full}
 use Rattle.ncl_refusal.proofs.Reaching.{IsReached, reached-run, run-keeps}
 use Rattle.ncl_refusal.proofs.Rest.{null-rails}
@@ -310,24 +308,10 @@ module _ {p : PipelineData} {l : Layout} (is : IsLayoutOf p l) (n : ℕ) (word :
       )
 
   -- so the bank after the stage is NULL, and asks for DATA
-  tree_high : (c : Cell) → Member c (l.tree (suc n)) → t.value c.out.0 ≡ true
-  tree_high = up_the_tree is (suc n) inner (λ (c : Cell). t.value c.out.0 ≡ true)
-      (λ c m b lb on.
-      up c m (reads-bit (in_stage l t.value (suc (suc n))) (in_tree l t.value (suc n)) false c (in_bit l (suc (suc n)) b) on (or_from _ _ (bit_low b false lb) (bit_low b true lb))))
-      (λ c m kind is_gate is_tree arity known.
-      up c m (nets_new kind is_gate (λ x r. let (y, in_y, out, high) = known x r in
-      local-at (l.tree_nets (suc n)) t.value x.0 (subst (λ (q : NetId). Member q.0 (l.tree_nets (suc n))) out (tree-listed is (suc n) y inner in_y)) ∙ ap (λ (q : NetId). t.value q.0) (sym out) ∙ high)))
-    where
-      bit_low : (b : ℕ) (r : Bool) → b < width l (suc (suc n)) → in_stage l t.value (suc (suc n)) (in_rail l (suc (suc n)) b r) ≡ false
-      bit_low b r lb = local-at (stage_nets l (suc (suc n))) t.value (in_rail l (suc (suc n)) b r) (rail-listed (l.stage (suc (suc n))) b r lb) ∙ next_low b r lb
-
-      up : (c : Cell) → Member c (l.tree (suc n)) → ReadsNew (in_stage l t.value (suc (suc n))) (in_tree l t.value (suc n)) false c → t.value c.out.0 ≡ true
-      up c m reads = true_from_ne_false _ (λ low.
-          let (i, at_c) = slice_get-from_Contains p.netlist.cells c (is.tree_cell (suc n) c inner m).0 in
-          cannot i c at_c (λ e. is.apart (suc n) (suc n) rail le le rail_in (subst (λ x. Member x (l.tree_nets (suc n))) e (tree-listed is (suc n) c inner m)))
-          (old_is_turning is (suc n) inner t.value false c m low reads))
-
   pub not_late : ⊥
-  not_late =
-      let (root, m, is_root) = is.root_in (suc n) inner in
-      both_ways (t.value (l.root (suc n))) root_low (ap t.value (sym is_root) ∙ tree_high root m)
+  not_late = both_ways (t.value (l.root (suc n))) root_low
+      (tree-settled is t.value (suc n) inner false (λ b lb. or_from _ _ (next_low b false lb) (next_low b true lb))
+      (λ c m excited.
+      let (i, at_c) = slice_get-from_Contains p.netlist.cells c (is.tree_cell (suc n) c inner m).0 in
+      cannot i c at_c (λ e. is.apart (suc n) (suc n) rail le le rail_in (subst (λ x. Member x (l.tree_nets (suc n))) e (tree-listed is (suc n) c inner m))) excited)
+      (l.root (suc n)) (root-listed is (suc n) le))

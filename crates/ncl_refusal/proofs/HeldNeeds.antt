@@ -1,12 +1,9 @@
 -- What a delay-insensitive pipeline owes at the words that banks hold at reset, in the stages after these banks and past them.
-use Rattle.std.proofs.Common.{◌≡◌, ℕ, zero, suc, ◌+◌, ◌-◌, ◌<◌, ◌≤◌, Bool, true, false, List, [], ◌∷◌, length, drop, Option, None, Some, refl, sym, ap, ◌∙◌, subst, arith}
-use Rattle.std.specs.Prelude.{Contains, slice_get}
+use Rattle.std.proofs.Common.{◌≡◌, ℕ, zero, suc, ◌+◌, ◌-◌, ◌<◌, ◌≤◌, Bool, false, List, [], ◌∷◌, length, drop, Some, refl, sym, ap, ◌∙◌, subst, arith}
+use Rattle.std.specs.Prelude.{slice_get}
 use Rattle.std.proofs.lemmas.Bool.{false_from_ne_true}
 use Rattle.std.proofs.lemmas.Option.{slice_get_within}
-use Rattle.ncl_base.proofs.Members.{Contains-from_slice_get}
-use Rattle.ncl_shape.specs.declared.bank.Bank.{Bank}
 use Rattle.ncl_shape.specs.declared.rails.Rails.{Rails}
-use Rattle.ncl_shape.specs.Held.{word_held}
 use Rattle.ncl_shape.specs.Stage.{StageData}
 use Rattle.ncl_shape.specs.Pipeline.{PipelineData}
 use Rattle.ncl_shape.specs.Shape.{Shape}
@@ -28,7 +25,6 @@ use Rattle.ncl_refusal.specs.Reached.{IsSoundWhereHeld, IsSoundPastHeld}
 use Rattle.ncl_refusal.proofs.HeldIncompletes.{not_incomplete}
 use Rattle.ncl_refusal.proofs.HeldPass.{IsAt, beginning, empty-past, goes-on, gone_on, listed-stage, next-wide, one-railed, starts}
 use Rattle.ncl_refusal.proofs.HeldSound.{sound-where_begun}
-use Rattle.ncl_refusal.proofs.HeldStage.{IsBeginning}
 use Rattle.ncl_refusal.proofs.Outputs.{standing}
 
 -- a stage more takes what is brought to it

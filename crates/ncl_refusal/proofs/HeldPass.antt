@@ -1,9 +1,8 @@
 -- From reset a delay-insensitive pipeline can deliver the words that banks hold one after another, the last bank's first, and
 -- be empty behind each bank in turn: each word goes from bank to bank, and NULL after it.
-use Rattle.std.proofs.Common.{◌≡◌, ◌≢◌, ℕ, zero, suc, ◌+◌, ◌-◌, ◌<◌, ◌≤◌, Bool, true, false, not, ◌&&◌, ◌||◌, List, [], ◌∷◌, length, map, get_or, Option, None, Some, is_some, inl, inr, refl, sym, ap, ◌∙◌, subst, arith}
-use Rattle.std.specs.Prelude.{Contains, slice_get}
-use Rattle.std.specs.List.{list_all}
-use Rattle.std.proofs.lemmas.Bool.{and_from, and_parts, both_ways, cases_eq, false_from_ne_true, not_from_false, or_from, true_from_ne_false}
+use Rattle.std.proofs.Common.{◌≡◌, ◌≢◌, ℕ, zero, suc, ◌+◌, ◌-◌, ◌<◌, ◌≤◌, Bool, true, false, not, ◌||◌, List, [], ◌∷◌, length, map, Option, None, Some, is_some, inl, inr, refl, sym, ap, ◌∙◌, subst, arith}
+use Rattle.std.specs.Prelude.{Contains}
+use Rattle.std.proofs.lemmas.Bool.{and_from, both_ways, cases_eq, false_from_ne_true, not_from_false, or_from, true_from_ne_false}
 use Rattle.std.proofs.lemmas.List.{length-map}
 use Rattle.std.proofs.lemmas.Option.{slice_get_within, get_or_from_slice_get}
 use Rattle.ncl_base.proofs.Members.{Member, Contains-from_Member, Contains-from_slice_get, Member-append_cases, Member-append_left, member_cases, member_of_map, slice_get-from_Contains}
@@ -11,7 +10,6 @@ use Rattle.ncl_base.proofs.Tests.{same_from_both}
 use Rattle.ncl_gates.specs.Gate.{set_of, some_high}
 use Rattle.ncl_gates.proofs.GateLaws.{set_of-low}
 use Rattle.ncl_netlist.specs.declared.cell.Cell.{Cell}
-use Rattle.ncl_netlist.specs.declared.ids.NetId.{NetId}
 use Rattle.ncl_cell_rules.specs.Origin.{CellAt}
 use Rattle.ncl_shape.specs.declared.item.Item.{Item}
 use Rattle.ncl_shape.specs.declared.item.Item.TheVariants.{Cell as Fire, Take, Ready}
@@ -23,7 +21,7 @@ use Rattle.ncl_shape.specs.Closure.{pin_values}
 use Rattle.ncl_shape.specs.Pipeline.{PipelineData}
 use Rattle.ncl_shape.specs.Shape.{Shape}
 use Rattle.ncl_shape.proofs.PinLaws.{some_high-low}
-use Rattle.ncl_cell_roles.specs.Layout.{no_rails, rail_at, in_rail, out_rail, Layout, IsLayoutOf, width, stage_nets}
+use Rattle.ncl_cell_roles.specs.Layout.{no_rails, in_rail, out_rail, Layout, IsLayoutOf, width, stage_nets}
 use Rattle.ncl_cell_roles.proofs.Numbering.{stage_at, inner_stage}
 use Rattle.ncl_cell_roles.proofs.RailNets.{rail-place, rail-within}
 use Rattle.ncl_faults.specs.declared.variant.Variant.TheVariants.{Base}
@@ -38,15 +36,13 @@ use Rattle.ncl_machine.specs.Composition.{stage_function}
 use Rattle.ncl_machine.specs.Run.{IsRunFrom, after}
 use Rattle.ncl_machine.specs.DelayInsensitive.{IsDelayInsensitive}
 use Rattle.ncl_machine.proofs.AtWorkLaws.{named-within_values, with_net-elsewhere}
-use Rattle.ncl_machine.proofs.Completion.{ReadsNew, nets_new, old_is_turning, reads-bit, up_the_tree}
 use Rattle.ncl_machine.proofs.FallingLaws.{IsUnfed, excited-from_unfed}
-use Rattle.ncl_machine.proofs.HeldCounts.{holds_word, none_past}
+use Rattle.ncl_machine.proofs.HeldCounts.{none_past}
 use Rattle.ncl_machine.proofs.InOrder.{in_order}
-use Rattle.ncl_machine.proofs.LocalNets.{local-at, in_stage, in_tree, with_net-here}
+use Rattle.ncl_machine.proofs.LocalNets.{local-at, in_tree, with_net-here}
 use Rattle.ncl_machine.proofs.NamedRails.{all-from_places, bit_at, member-from_among, named-has, named-only, rail-data}
 use Rattle.ncl_machine.proofs.Start.{held_in, stage-none, stage-held, tree-value}
 use Rattle.ncl_machine.proofs.StageNets.{in_bit, in_outputs, ki-listed, rail-listed, gate-listed, out-listed, output-listed, root-listed, tree-listed}
-use Rattle.ncl_machine.proofs.TruthValues.{same_or_not}
 use Rattle.ncl_insensitivity.proofs.NextValues.{gate-next, register-excited}
 use Rattle.ncl_insensitivity.proofs.RisingLaws.{named-no_output}
 use Rattle.ncl_hazard.proofs.Found.{cells_are, own_stage}
@@ -54,7 +50,7 @@ use Rattle.ncl_hazard.proofs.Handing.{IsOneRailed, value-high, high-value}
 use Rattle.ncl_refusal.proofs.Behind.{passes_at, picks}
 use Rattle.ncl_refusal.proofs.Ends as ends
 use Rattle.ncl_refusal.proofs.HeldFaults.{HasRisen, not_illegal, risen}
-use Rattle.ncl_refusal.proofs.HeldRuns.{cell-enabled, gate-enabled, picked-elsewhere, run-among}
+use Rattle.ncl_refusal.proofs.HeldRuns.{cell-enabled, picked-elsewhere, run-among, tree-settled}
 use Rattle.ncl_refusal.proofs.HeldStage.{Asks, IsBeginning, IsHolding, holding-kept, reaches, some-data}
 use Rattle.ncl_refusal.proofs.Reaching.{IsReached, reached-reset, reached-run}
 
@@ -83,34 +79,12 @@ module _ {p : PipelineData} {l : Layout} (is : IsLayoutOf p l) (shape : Shape p.
             both_ways (enabled p (after p t all.run) (Fire (record { 0 = i }))) (all.quiet (Fire (record { 0 = i })) (ap (passes_at test) at ∙ named)) (cell-enabled p (after p t all.run) (record { 0 = i }) c at excited);
       }
 
-  -- where each bit of a bank is as said, and no cell of its tree is excited, each cell of the tree has turned
-  pub tree-settled : (v : Nets) (k : ℕ) (lt : k < l.last) (e : Bool) → ((b : ℕ) → b < width l (suc k) → has_data v (in_bit l (suc k) b) ≡ e)
-      → ((c : Cell) → Member c (l.tree k) → differ (next_value v c) (v c.out.0) ≡ true → ⊥) → (net : ℕ) → Member net (l.tree_nets k) → v net ≡ not e
-  tree-settled v k lt e bits still net m =
-      let (c, in_c, same) = member_of_map (λ (c : Cell). c.out.0) (l.tree k) net (subst (Member net) (is.tree_outputs k lt) m) in
-      ap v (sym same)
-      ∙ up_the_tree is k lt (λ (c : Cell). v c.out.0 ≡ not e)
-      (λ c in_c b lb on. up c in_c (reads-bit (in_stage l v (suc k)) (in_tree l v k) e c (in_bit l (suc k) b) on (local_bit b lb ∙ bits b lb)))
-      (λ c in_c kind is_gate is_tree arity known.
-      up c in_c (nets_new kind is_gate (λ x r. let (y, in_y, out, turned) = known x r in
-      local-at (l.tree_nets k) v x.0 (subst (λ (q : NetId). Member q.0 (l.tree_nets k)) out (tree-listed is k y lt in_y)) ∙ ap (λ (q : NetId). v q.0) (sym out) ∙ turned)))
-      c in_c
-    where
-      local_rail : (b : ℕ) (r : Bool) → b < width l (suc k) → in_stage l v (suc k) (in_rail l (suc k) b r) ≡ v (in_rail l (suc k) b r)
-      local_rail b r lb = local-at (stage_nets l (suc k)) v (in_rail l (suc k) b r) (rail-listed (l.stage (suc k)) b r lb)
-
-      local_bit : (b : ℕ) → b < width l (suc k) → has_data (in_stage l v (suc k)) (in_bit l (suc k) b) ≡ has_data v (in_bit l (suc k) b)
-      local_bit b lb = ap (λ x. x || in_stage l v (suc k) (in_rail l (suc k) b true)) (local_rail b false lb) ∙ ap (λ x. v (in_rail l (suc k) b false) || x) (local_rail b true lb)
-
-      up : (c : Cell) → Member c (l.tree k) → ReadsNew (in_stage l v (suc k)) (in_tree l v k) e c → v c.out.0 ≡ not e
-      up c in_c reads = elim (same_or_not (v c.out.0) e) [ inl old ↦ absurd (still c in_c (old_is_turning is k lt v e c in_c old reads)) | inr new ↦ new ]
-
-  -- so after a run of the tree
+  -- where each bit of a bank is as said, its tree has turned after a run of its cells
   pub tree-moved : (k : ℕ) (lt : k < l.last) (e : Bool) (t : State) → ((b : ℕ) → b < width l (suc k) → has_data t.value (in_bit l (suc k) b) ≡ e)
       → (net : ℕ) → Member net (l.tree_nets k) → (after p t (moved (among (l.tree_nets k)) t).run).value net ≡ not e
   tree-moved k lt e t bits =
       let m = moved (among (l.tree_nets k)) t in
-      tree-settled (after p t m.run).value k lt e
+      tree-settled is (after p t m.run).value k lt e
       (λ b lb. ap (λ x. x || (after p t m.run).value (in_rail l (suc k) b true)) (m.others (in_rail l (suc k) b false) (no_tree b false lb))
       ∙ ap (λ x. t.value (in_rail l (suc k) b false) || x) (m.others (in_rail l (suc k) b true) (no_tree b true lb)) ∙ bits b lb)
       (λ c in_c excited.
@@ -484,27 +458,30 @@ module _ {p : PipelineData} {l : Layout} (is : IsLayoutOf p l) (shape : Shape p.
     left_tree k net lk one two listed = left net (λ x. is.apart (suc n) k net end_le lk x listed) (λ x. one (is.trees_apart k (suc n) net lk end_le listed x)) (λ x. two (is.trees_apart k n net lk (omega (arith, last)) listed x))
 
     pub arrives : (t : State) × IsEmptyPast m t
-    arrives = (delivered, record {
-      reached = reached-run p [] (reached-run p [] (reached-run p [] (reached-run p [] here.reached (Take ∷ []) (can_take, tt)) a4.run a4.is_run) (Ready ∷ []) (can_ready, tt)) a5.run a5.is_run;
-      behind = λ k net past lk listed. elim (cases_eq k (suc n)) [
-        | inl e ↦
-            let here_in : Member net (stage_nets l (suc n)) = subst (λ x. Member net (stage_nets l x)) e listed in
-            a5.others net (λ named. is.apart (suc n) n net end_le (omega (arith, last)) here_in (member-from_among net (l.tree_nets n) named)) ∙ t3_low net here_in
-        | inr apart ↦ left_stage k net lk apart listed ∙ here.passed k net past (omega (arith, lk, apart, last)) listed
-      ];
-      trees = λ k net past lk listed. elim (cases_eq k (suc n)) [
-        | inl e ↦
-            let here_in : Member net (l.tree_nets (suc n)) = subst (λ x. Member net (l.tree_nets x)) e listed in
-            a5.others net (λ named. let same = is.trees_apart (suc n) n net end_le (omega (arith, last)) here_in (member-from_among net (l.tree_nets n) named) in omega (arith, same))
-            ∙ ap t3.value (only_ki net here_in) ∙ with_net-here t2.value p.ki true
-        | inr one ↦ elim (cases_eq k n) [
-          | inl e ↦ tree_turned net (subst (λ x. Member net (l.tree_nets x)) e listed)
-          | inr two ↦ left_tree k net lk one two listed ∙ here.passed_trees k net past (omega (arith, lk, one, two, last)) listed
-        ]
-      ];
-      same = λ k net lk listed. left_stage k net (omega (arith, lk, m_le, last)) (λ e. absurd (omega (arith, e, lk, m_le))) listed ∙ here.same k net lk listed;
-      same_trees = λ k net lk listed. left_tree k net (omega (arith, lk, m_le, last)) (λ e. absurd (omega (arith, e, lk, m_le))) (λ e. absurd (omega (arith, e, lk, m_le))) listed ∙ here.same_trees k net lk listed;
-    })
+    arrives = (
+      delivered,
+      record {
+        reached = reached-run p [] (reached-run p [] (reached-run p [] (reached-run p [] here.reached (Take ∷ []) (can_take, tt)) a4.run a4.is_run) (Ready ∷ []) (can_ready, tt)) a5.run a5.is_run;
+        behind = λ k net past lk listed. elim (cases_eq k (suc n)) [
+          | inl e ↦
+              let here_in : Member net (stage_nets l (suc n)) = subst (λ x. Member net (stage_nets l x)) e listed in
+              a5.others net (λ named. is.apart (suc n) n net end_le (omega (arith, last)) here_in (member-from_among net (l.tree_nets n) named)) ∙ t3_low net here_in
+          | inr apart ↦ left_stage k net lk apart listed ∙ here.passed k net past (omega (arith, lk, apart, last)) listed
+        ];
+        trees = λ k net past lk listed. elim (cases_eq k (suc n)) [
+          | inl e ↦
+              let here_in : Member net (l.tree_nets (suc n)) = subst (λ x. Member net (l.tree_nets x)) e listed in
+              a5.others net (λ named. let same = is.trees_apart (suc n) n net end_le (omega (arith, last)) here_in (member-from_among net (l.tree_nets n) named) in omega (arith, same))
+              ∙ ap t3.value (only_ki net here_in) ∙ with_net-here t2.value p.ki true
+          | inr one ↦ elim (cases_eq k n) [
+            | inl e ↦ tree_turned net (subst (λ x. Member net (l.tree_nets x)) e listed)
+            | inr two ↦ left_tree k net lk one two listed ∙ here.passed_trees k net past (omega (arith, lk, one, two, last)) listed
+          ]
+        ];
+        same = λ k net lk listed. left_stage k net (omega (arith, lk, m_le, last)) (λ e. absurd (omega (arith, e, lk, m_le))) listed ∙ here.same k net lk listed;
+        same_trees = λ k net lk listed. left_tree k net (omega (arith, lk, m_le, last)) (λ e. absurd (omega (arith, e, lk, m_le))) (λ e. absurd (omega (arith, e, lk, m_le))) listed ∙ here.same_trees k net lk listed;
+      },
+    )
 
   -- ---- from bank to bank
 
@@ -572,34 +549,40 @@ module _ {p : PipelineData} {l : Layout} (is : IsLayoutOf p l) (shape : Shape p.
 
   -- so all can be empty behind each bank
   pub empty-past : (d m : ℕ) → m + d ≡ l.last → (t : State) × IsEmptyPast m t
-  empty-past zero m e = (reset p [], record {
-    reached = reached-reset p [];
-    behind = λ k net past lk listed. absurd (omega (arith, e, past, lk));
-    trees = λ k net past lk listed. tree-value is k net lk listed ∙ ap not (none_past is k (omega (arith, e, past)));
-    same = λ k net lk listed. refl;
-    same_trees = λ k net lk listed. refl;
-  })
+  empty-past zero m e = (
+    reset p [],
+    record {
+      reached = reached-reset p [];
+      behind = λ k net past lk listed. absurd (omega (arith, e, past, lk));
+      trees = λ k net past lk listed. tree-value is k net lk listed ∙ ap not (none_past is k (omega (arith, e, past)));
+      same = λ k net lk listed. refl;
+      same_trees = λ k net lk listed. refl;
+    },
+  )
   empty-past (suc d) m e = by (empty-past d (suc m) (omega (arith, e))) (l.held m) refl
     where
       le : suc m ≤ l.last
       le = omega (arith, e)
 
       by : (t : State) × IsEmptyPast (suc m) t → (o : Option (List Bool)) → l.held m ≡ o → (t : State) × IsEmptyPast m t
-      by (t, empty) None none = (t, record {
-        reached = empty.reached;
-        behind = λ k net past lk listed. elim (cases_eq k (suc m)) [
-          | inl q ↦
-              let own : Member net (stage_nets l (suc m)) = subst (λ x. Member net (stage_nets l x)) q listed in
-              empty.same (suc m) net (omega arith) own ∙ sym (local-at (stage_nets l (suc m)) (reset_nets p) net own) ∙ ap (λ v. v net) (stage-none is (suc m) le none)
-          | inr apart ↦ empty.behind k net (omega (arith, past, apart)) lk listed
-        ];
-        trees = λ k net past lk listed. elim (cases_eq k m) [
-          | inl q ↦
-              let own : Member net (l.tree_nets m) = subst (λ x. Member net (l.tree_nets x)) q listed in
-              empty.same_trees m net (omega arith) own ∙ tree-value is m net (omega (arith, le)) own ∙ ap (λ o. not (is_some o)) none
-          | inr apart ↦ empty.trees k net (omega (arith, past, apart)) lk listed
-        ];
-        same = λ k net lk listed. empty.same k net (omega (arith, lk)) listed;
-        same_trees = λ k net lk listed. empty.same_trees k net (omega (arith, lk)) listed;
-      })
+      by (t, empty) None none = (
+        t,
+        record {
+          reached = empty.reached;
+          behind = λ k net past lk listed. elim (cases_eq k (suc m)) [
+            | inl q ↦
+                let own : Member net (stage_nets l (suc m)) = subst (λ x. Member net (stage_nets l x)) q listed in
+                empty.same (suc m) net (omega arith) own ∙ sym (local-at (stage_nets l (suc m)) (reset_nets p) net own) ∙ ap (λ v. v net) (stage-none is (suc m) le none)
+            | inr apart ↦ empty.behind k net (omega (arith, past, apart)) lk listed
+          ];
+          trees = λ k net past lk listed. elim (cases_eq k m) [
+            | inl q ↦
+                let own : Member net (l.tree_nets m) = subst (λ x. Member net (l.tree_nets x)) q listed in
+                empty.same_trees m net (omega arith) own ∙ tree-value is m net (omega (arith, le)) own ∙ ap (λ o. not (is_some o)) none
+            | inr apart ↦ empty.trees k net (omega (arith, past, apart)) lk listed
+          ];
+          same = λ k net lk listed. empty.same k net (omega (arith, lk)) listed;
+          same_trees = λ k net lk listed. empty.same_trees k net (omega (arith, lk)) listed;
+        },
+      )
       by (t, empty) (Some word) some = passes (l.last - suc m) m m word (omega (arith, le)) (omega arith) (is.held_wide m word some).1 t (starts m word some t empty)

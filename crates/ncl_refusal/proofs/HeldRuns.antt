@@ -1,28 +1,33 @@
 -- Runs of a delay-insensitive pipeline that spare a net, and of the cells of one stage alone.
-use Rattle.std.proofs.Common.{◌≡◌, ◌≢◌, ℕ, suc, ◌<◌, ◌≤◌, Bool, true, false, not, ◌&&◌, List, [], ◌∷◌, Option, None, Some, refl, sym, ap, ◌∙◌, subst, arith}
+use Rattle.std.proofs.Common.{◌≡◌, ◌≢◌, ℕ, suc, ◌<◌, ◌≤◌, Bool, true, false, not, ◌&&◌, ◌||◌, List, [], ◌∷◌, Option, None, Some, inl, inr, refl, sym, ap, ◌∙◌, subst, arith}
 use Rattle.std.specs.Prelude.{nat_eq, slice_get}
 use Rattle.std.specs.List.{list_all}
 use Rattle.std.proofs.lemmas.Bool.{and_from, and_parts, both_ways, eq-eqb, not-true}
-use Rattle.ncl_base.proofs.Members.{Member, here, there}
+use Rattle.ncl_base.proofs.Members.{Member, here, there, member_of_map}
 use Rattle.ncl_netlist.specs.declared.ids.CellId.{CellId}
 use Rattle.ncl_netlist.specs.declared.cell.Cell.{Cell}
+use Rattle.ncl_netlist.specs.declared.ids.NetId.{NetId}
 use Rattle.ncl_cell_rules.specs.Origin.{CellAt}
 use Rattle.ncl_shape.specs.declared.item.Item.{Item}
 use Rattle.ncl_shape.specs.declared.item.Item.TheVariants.{Cell as Fire, Raise, Lower, Take, Ready}
 use Rattle.ncl_shape.specs.declared.stage.StageCell.{StageCell}
-use Rattle.ncl_shape.specs.Nets.{Nets, among, with_net}
+use Rattle.ncl_shape.specs.Nets.{Nets, among}
 use Rattle.ncl_shape.specs.Stage.{out_of}
 use Rattle.ncl_shape.specs.Pipeline.{PipelineData}
-use Rattle.ncl_cell_roles.specs.Layout.{Layout, IsLayoutOf, stage_nets}
+use Rattle.ncl_cell_roles.specs.Layout.{in_rail, Layout, IsLayoutOf, stage_nets, width}
+use Rattle.ncl_faults.specs.Faults.{has_data}
 use Rattle.ncl_faults.proofs.OnePass.{among-from_member}
-use Rattle.ncl_machine.specs.State.{State, reset}
+use Rattle.ncl_machine.specs.State.{State}
 use Rattle.ncl_machine.specs.AtWork.{IsExcited, next_of_gate}
 use Rattle.ncl_machine.specs.Steps.{current_rails, differ, enabled, fired, is_excited, next_value, put_at, step}
 use Rattle.ncl_machine.specs.Run.{IsRunFrom, IsPersistent, after}
 use Rattle.ncl_machine.specs.DelayInsensitive.{IsDelayInsensitive}
 use Rattle.ncl_machine.proofs.AtWorkLaws.{with_net-elsewhere}
+use Rattle.ncl_machine.proofs.Completion.{ReadsNew, nets_new, old_is_turning, reads-bit, up_the_tree}
+use Rattle.ncl_machine.proofs.LocalNets.{local-at, in_stage, in_tree}
 use Rattle.ncl_machine.proofs.NamedRails.{member-from_among}
-use Rattle.ncl_machine.proofs.StageNets.{gate-listed, ki-listed}
+use Rattle.ncl_machine.proofs.StageNets.{in_bit, gate-listed, ki-listed, rail-listed, tree-listed}
+use Rattle.ncl_machine.proofs.TruthValues.{same_or_not}
 use Rattle.ncl_insensitivity.proofs.NextValues.{gate-next}
 use Rattle.ncl_insensitivity.proofs.StepValues.{lowered-value}
 use Rattle.ncl_hazard.proofs.StageSweeps.{AreCellsOf}
@@ -91,6 +96,31 @@ module _ {p : PipelineData} {l : Layout} (is : IsLayoutOf p l) (k : ℕ) (first 
 pub avoids-cell : (p : PipelineData) (net : ℕ) (i : CellId) (c : Cell) → CellAt p.netlist i.0 c → c.out.0 ≡ net → (item : Item) → avoids p net item ≡ true → item ≢ Fire i
 avoids-cell p net i c at out item avoided e =
     both_ways (avoids p net (Fire i)) (ap (passes_at (λ x. not (nat_eq x net))) at ∙ ap not (eq-eqb c.out.0 net out)) (subst (λ x. avoids p net x ≡ true) e avoided)
+
+-- ---- a tree
+
+module _ {p : PipelineData} {l : Layout} (is : IsLayoutOf p l) where
+  -- where each bit of a bank is as said, and no cell of its tree is excited, each cell of the tree has turned
+  pub tree-settled : (v : Nets) (k : ℕ) (lt : k < l.last) (e : Bool) → ((b : ℕ) → b < width l (suc k) → has_data v (in_bit l (suc k) b) ≡ e)
+      → ((c : Cell) → Member c (l.tree k) → differ (next_value v c) (v c.out.0) ≡ true → ⊥) → (net : ℕ) → Member net (l.tree_nets k) → v net ≡ not e
+  tree-settled v k lt e bits still net m =
+      let (c, in_c, same) = member_of_map (λ (c : Cell). c.out.0) (l.tree k) net (subst (Member net) (is.tree_outputs k lt) m) in
+      ap v (sym same)
+      ∙ up_the_tree is k lt (λ (c : Cell). v c.out.0 ≡ not e)
+      (λ c in_c b lb on. up c in_c (reads-bit (in_stage l v (suc k)) (in_tree l v k) e c (in_bit l (suc k) b) on (local_bit b lb ∙ bits b lb)))
+      (λ c in_c kind is_gate is_tree arity known.
+      up c in_c (nets_new kind is_gate (λ x r. let (y, in_y, out, turned) = known x r in
+      local-at (l.tree_nets k) v x.0 (subst (λ (q : NetId). Member q.0 (l.tree_nets k)) out (tree-listed is k y lt in_y)) ∙ ap (λ (q : NetId). v q.0) (sym out) ∙ turned)))
+      c in_c
+    where
+      local_rail : (b : ℕ) (r : Bool) → b < width l (suc k) → in_stage l v (suc k) (in_rail l (suc k) b r) ≡ v (in_rail l (suc k) b r)
+      local_rail b r lb = local-at (stage_nets l (suc k)) v (in_rail l (suc k) b r) (rail-listed (l.stage (suc k)) b r lb)
+
+      local_bit : (b : ℕ) → b < width l (suc k) → has_data (in_stage l v (suc k)) (in_bit l (suc k) b) ≡ has_data v (in_bit l (suc k) b)
+      local_bit b lb = ap (λ x. x || in_stage l v (suc k) (in_rail l (suc k) b true)) (local_rail b false lb) ∙ ap (λ x. v (in_rail l (suc k) b false) || x) (local_rail b true lb)
+
+      up : (c : Cell) → Member c (l.tree k) → ReadsNew (in_stage l v (suc k)) (in_tree l v k) e c → v c.out.0 ≡ not e
+      up c in_c reads = elim (same_or_not (v c.out.0) e) [ inl old ↦ absurd (still c in_c (old_is_turning is k lt v e c in_c old reads)) | inr new ↦ new ]
 
 -- ---- persistence
 

@@ -1,16 +1,14 @@
 -- What a delay-insensitive pipeline owes in the stage after a bank that holds a word at reset.
-use Rattle.std.proofs.Common.{◌≡◌, ℕ, suc, ◌<◌, Bool, true, false, not, ◌&&◌, List, length, get_or, Option, None, Some, inl, inr, sym, ap, ◌∙◌, subst, arith}
+use Rattle.std.proofs.Common.{◌≡◌, ℕ, suc, ◌<◌, Bool, false, not, ◌&&◌, List, length, inl, inr, sym, ap, ◌∙◌}
 use Rattle.std.specs.Prelude.{Contains, slice_get}
 use Rattle.std.proofs.lemmas.Bool.{and_parts, both_ways, cases_lt, false_from_ne_true, not-true}
 use Rattle.std.proofs.lemmas.Option.{slice_get_within, get_or_from_slice_get}
 use Rattle.ncl_base.proofs.Members.{Contains-from_slice_get, Member-from_Contains}
-use Rattle.ncl_shape.specs.declared.rails.Rails.{Rails}
 use Rattle.ncl_shape.specs.declared.stage.StageCell.{StageCell}
-use Rattle.ncl_shape.specs.Stage.{StageData, named_rails}
+use Rattle.ncl_shape.specs.Stage.{StageData}
 use Rattle.ncl_shape.specs.Pipeline.{PipelineData}
 use Rattle.ncl_shape.specs.Shape.{Shape}
 use Rattle.ncl_cell_roles.specs.Layout.{Layout, IsLayoutOf, no_rails, width}
-use Rattle.ncl_cell_roles.proofs.LaidOut.{laid_out}
 use Rattle.ncl_faults.specs.declared.variant.Variant.TheVariants.{Base, Cell as Without}
 use Rattle.ncl_faults.specs.Values.{val}
 use Rattle.ncl_faults.specs.Faults.{BothRails, NoRail, Orphan, all_data, has_data, holds_at, is_illegal, shows}
@@ -18,8 +16,6 @@ use Rattle.ncl_machine.specs.SoundAt.{IsSoundWhenHeld, is_late, is_left_high}
 use Rattle.ncl_machine.specs.State.{State}
 use Rattle.ncl_machine.specs.DelayInsensitive.{IsDelayInsensitive}
 use Rattle.ncl_machine.proofs.NamedRails.{named-get, named-past}
-use Rattle.ncl_insensitivity.proofs.HeldLayout.{held-in}
-use Rattle.ncl_refusal.specs.Reached.{IsSoundWhereHeld}
 use Rattle.ncl_refusal.proofs.HeldFaults.{no_orphan, not_illegal}
 use Rattle.ncl_refusal.proofs.HeldLate.{not_late}
 use Rattle.ncl_refusal.proofs.HeldStage.{IsBeginning, some-data}
@@ -56,4 +52,3 @@ module _ {p : PipelineData} {l : Layout} (is : IsLayoutOf p l) (n : ℕ) (word :
   -- where its bank has the word and all behind it waits, the stage is sound at the word as is asked of it there
   pub sound-where_begun : IsSoundWhenHeld own word
   sound-where_begun = record { both = both; none = none; orphan = orphan; late = late }
-

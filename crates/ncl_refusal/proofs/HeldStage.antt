@@ -1,13 +1,10 @@
 -- The stage after a bank that holds a word at reset. As long as the bank after the stage asks for DATA, the bank keeps its
 -- word, the stage before it stays empty, and the stage rises.
-use Rattle.std.proofs.Common.{◌≡◌, ℕ, zero, suc, ◌<◌, ◌≤◌, Bool, true, false, not, ◌&&◌, List, [], ◌∷◌, length, get_or, Option, ◌⊎◌, None, Some, is_some, inl, inr, refl, sym, ap, ◌∙◌, subst, arith}
-use Rattle.std.specs.Prelude.{slice_get}
+use Rattle.std.proofs.Common.{◌≡◌, ℕ, suc, ◌<◌, Bool, true, false, not, ◌&&◌, List, [], ◌∷◌, length, get_or, ◌⊎◌, inl, inr, refl, sym, ap, ◌∙◌, subst, arith}
 use Rattle.std.proofs.lemmas.Bool.{and_parts, and_from, both_ways, cases_Bool, false_from_ne_true, not-true, true_from_ne_false}
-use Rattle.ncl_base.proofs.Members.{Member, here, there, member_cases, Contains-from_Member, recursion_from_members}
-use Rattle.ncl_gates.specs.Gate.{set_of}
+use Rattle.ncl_base.proofs.Members.{Member, here, there, member_cases, recursion_from_members}
 use Rattle.ncl_netlist.specs.declared.ids.NetId.{NetId}
 use Rattle.ncl_netlist.specs.declared.cell.Cell.{Cell}
-use Rattle.ncl_shape.specs.declared.rails.Rails.{Rails}
 use Rattle.ncl_shape.specs.declared.stage.StageCell.{StageCell}
 use Rattle.ncl_shape.specs.declared.item.Item.{Item}
 use Rattle.ncl_shape.specs.declared.item.Item.TheVariants.{Raise}
@@ -25,24 +22,23 @@ use Rattle.ncl_faults.specs.Values.{holds, kept_low, val}
 use Rattle.ncl_faults.specs.Faults.{has_data}
 use Rattle.ncl_faults.proofs.OnePass.{among-from_member}
 use Rattle.ncl_faults.proofs.ValueLaws.{val-output, val-rail, val-settled, rail-no_output, same_output}
-use Rattle.ncl_machine.specs.State.{State, reset, reset_nets}
+use Rattle.ncl_machine.specs.State.{State, reset}
 use Rattle.ncl_machine.specs.Steps.{differ, enabled, next_value, step}
 use Rattle.ncl_machine.specs.AtWork.{IsExcited}
 use Rattle.ncl_machine.specs.Run.{IsQuiet, IsRunFrom, after}
 use Rattle.ncl_machine.specs.DelayInsensitive.{IsDelayInsensitive}
-use Rattle.ncl_machine.proofs.AtWorkLaws.{holds-excited, named-within_values}
+use Rattle.ncl_machine.proofs.AtWorkLaws.{holds-excited}
 use Rattle.ncl_machine.proofs.Completion.{Follows, ReadsNew, one_cell, nets_new, reads-bit, reads-more, turning_is_old, others_are_new}
 use Rattle.ncl_machine.proofs.FallingLaws.{next-from_unfed}
 use Rattle.ncl_machine.proofs.InOrder.{in_order}
 use Rattle.ncl_machine.proofs.LocalNets.{local-at, in_stage, in_tree}
 use Rattle.ncl_machine.proofs.NamedRails.{bit_at, member-from_among, named-has, rail-is_one, rail-data, some-rail}
-use Rattle.ncl_machine.proofs.Start.{held_in, stage-none, stage-held, tree-at, tree-value}
-use Rattle.ncl_machine.proofs.StageNets.{in_bit, in_outputs, rail-listed, gate-listed, inputs-listed, out-listed, output-listed, root-listed, tree-listed}
-use Rattle.ncl_insensitivity.proofs.RisingLaws.{IsSupported, excited-from_waiting, waits-from_excited, named-no_output}
+use Rattle.ncl_machine.proofs.StageNets.{in_bit, rail-listed, gate-listed, inputs-listed, out-listed, output-listed, tree-listed}
+use Rattle.ncl_insensitivity.proofs.RisingLaws.{IsSupported, excited-from_waiting, waits-from_excited}
 use Rattle.ncl_hazard.proofs.Found.{cells_are}
 use Rattle.ncl_refusal.proofs.Does.{later, MovesStage, by_gate, by_register, by_source, stage-moves, MovesTree, by_cell, by_take, by_ready, tree-moves}
 use Rattle.ncl_refusal.proofs.Ends as ends
-use Rattle.ncl_refusal.proofs.Reaching.{IsReached, reached-reset, reached-run}
+use Rattle.ncl_refusal.proofs.Reaching.{IsReached, reached-run}
 use Rattle.ncl_refusal.proofs.Rest.{null-rails}
 
 module _ {p : PipelineData} {l : Layout} (is : IsLayoutOf p l) (n : ℕ) (word : List Bool) (wide : length word ≡ width l (suc n)) (inner : suc n < l.last) where

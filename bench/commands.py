@@ -1,5 +1,5 @@
 #!/usr/bin/env python3
-"""Writes the commands of nclc that the pages show, in their order and each once, into examples/commands.
+"""Writes the commands of nclc and ncl_reach that the pages show, in their order and each once, into examples/commands.
 
     bench/commands.py [--compare]
 
@@ -21,8 +21,8 @@ from script import Parser, carry_out
 
 def commands(text):
     """The commands that a page shows."""
-    for line in re.findall(r"^\$ nclc (.*)$", text, re.MULTILINE):
-        yield re.split(r"; | \| ", line)[0]
+    for nclc, reach in re.findall(r"^\$ (?:nclc (.*)|(ncl_reach .*))$", text, re.MULTILINE):
+        yield re.split(r"; | \| ", nclc or reach)[0]
 
 
 def shown(pages, examples):

@@ -3,7 +3,7 @@
 
     bench/shown.py PROGRAM [--write] [PAGE ..]
 
-PROGRAM is the built nclc, a file of this name. Without pages, README and those of docs/ are taken. The commands of a page, the
+PROGRAM is the built nclc, a file of this name, and ncl_reach stands beside it. Without pages, README and those of docs/ are taken. The commands of a page, the
 lines that begin with `$ ` in its blocks, run one after another in a folder of their own, in which the files of examples/ lie, as
 the pages tell their readers to make one; the program's folder is first on the path, and tools/ last. Where a program isn't on
 the path that a command asks for, nothing is run; gtkwave alone, which waits for a person, is never run. With --write, what a
@@ -25,7 +25,7 @@ SECONDS = 600
 # What else commands ask for, and a script of tools/ by what it calls.
 ASKED = {"yosys": "yosys", "berkeley-abc": "berkeley-abc", "iverilog": "iverilog", "vvp": "vvp", "awk": "awk",
          "second_opinion": "berkeley-abc", "split_model": "berkeley-abc", "prepare": "berkeley-abc", "carry_in": "yosys",
-         "show": "dot"}
+         "show": "dot", "ncl_reach": "ncl_reach"}
 
 
 def text_of(page):
@@ -52,19 +52,23 @@ def blocks(text):
             yield line, inside
 
 
-def lacking(pages):
+def path_to(program):
+    """The path of the commands: the program's folder first, and tools/ last."""
+    return f"{pathlib.Path(program).parent}:{os.environ['PATH']}:{TOP / 'tools'}"
+
+
+def lacking(pages, program):
     """The programs that commands of the pages ask for and that aren't on the path, each with its page."""
     commands = [(page, line) for page in pages for line, inside in blocks(text_of(page)) if inside and is_run(line)]
     asked = [(page, ASKED[word]) for page, line in commands for word in re.findall(r"[\w-]+", line) if word in ASKED]
-    return sorted({f"{name} ({page.name})" for page, name in asked if shutil.which(name) is None})
+    return sorted({f"{name} ({page.name})" for page, name in asked if shutil.which(name, path=path_to(program)) is None})
 
 
 def ran(command, folder, program):
     """What a command prints."""
     command = re.sub(r"\bnclc\b(?= (check|compile|sim|match|demo))", program, command)
-    with_tools = dict(os.environ, PATH=f"{pathlib.Path(program).parent}:{os.environ['PATH']}:{TOP / 'tools'}")
     try:
-        done = subprocess.run(["bash", "-c", command], cwd=folder, env=with_tools, capture_output=True, text=True, timeout=SECONDS)
+        done = subprocess.run(["bash", "-c", command], cwd=folder, env=dict(os.environ, PATH=path_to(program)), capture_output=True, text=True, timeout=SECONDS)
     except subprocess.TimeoutExpired:
         return [f"no end in {SECONDS} seconds"]
     return done.stdout.split("\n")[:-1]
@@ -112,9 +116,10 @@ def main():
     pages = words.pages or [TOP / "README.md", *sorted((TOP / "docs").glob("*.md"))]
     if shutil.which(str(words.program)) is None:
         raise Refused(f"{words.program}: no program")
-    if lacks := lacking(pages):
+    program = str(words.program.resolve())
+    if lacks := lacking(pages, program):
         raise Refused(f"not on the path: {', '.join(lacks)}")
-    count = sum(compare(page, str(words.program.resolve()), words.write) for page in pages)
+    count = sum(compare(page, program, words.write) for page in pages)
     print(f"{count} commands print something else")
     return 1 if count else 0
 

@@ -3,7 +3,7 @@
 
     bench/stored_runs.py PROGRAM [--write]
 
-PROGRAM is the built nclc. The gate makes the same runs through the top call; here they go through the program's own arguments,
+PROGRAM is the built nclc, and ncl_reach stands beside it. The gate makes the same runs through the top call; here they go through the program's own arguments,
 files, standard output and status, and nothing may come to standard error. Prints each run that differs, each that is stored and
 that no command makes, each file of `crates/runs/data` that no command names, and how many runs there were: those of
 `crates/runs`, and those of the pages, which `crates/examples` makes. The status is 1 where something is printed beside that.
@@ -27,20 +27,24 @@ SECONDS = 120
 def told(program, line, folder):
     """What is stored of a command that answers so."""
     command, _, name = line.partition(" > ")
+    words = [program, *command.split(" ")]
+    shown = f"nclc {line}"
+    if words[1] == "ncl_reach":
+        words, shown = [str(pathlib.Path(program).parent / "ncl_reach"), *words[2:]], line
     try:
-        ran = subprocess.run([program, *command.split(" ")], cwd=folder, capture_output=True, timeout=SECONDS)
+        ran = subprocess.run(words, cwd=folder, capture_output=True, timeout=SECONDS)
     except subprocess.TimeoutExpired:
-        return f"$ nclc {line}\nmore than {SECONDS} seconds\n"
+        return f"$ {shown}\nmore than {SECONDS} seconds\n"
     if name:
         pathlib.Path(folder, name).write_bytes(ran.stdout)
     text = "" if name else ran.stdout.decode(errors="replace")
     error = "standard error: " + ran.stderr.decode(errors="replace") if ran.stderr else ""
-    return f"$ nclc {line}\n{text}{error}status {ran.returncode}\n"
+    return f"$ {shown}\n{text}{error}status {ran.returncode}\n"
 
 
 def stored_of(text):
     """What is stored before the first run, and the runs one behind the other, each from its command to its status."""
-    first, *found = re.split(r"^(?=\$ nclc )", text, flags=re.M)
+    first, *found = re.split(r"^(?=\$ (?:nclc|ncl_reach) )", text, flags=re.M)
     if not found:
         raise Refused("no run is stored")
     return first, found
@@ -85,8 +89,8 @@ def main():
     parser.add_argument("--write", action="store_true")
     words = parser.parse_args()
     program = shutil.which(str(pathlib.Path(words.program).resolve()))
-    if program is None:
-        raise Refused(f"{words.program}: no program")
+    if program is None or shutil.which(str(pathlib.Path(program).parent / "ncl_reach")) is None:
+        raise Refused(f"{words.program}: no program, or no ncl_reach beside it")
     answers = [are_same(program, crate, words.write and crate == "examples") for crate in ("runs", "examples")]
     return 0 if all(answers) else 1
 

@@ -1,8 +1,9 @@
-//! Commands as lines of text, each carried out by `run` over files that lie in the folder or were kept, and what is written
-//! printed with the status.
+//! Commands as lines of text, each carried out by `run`, or by `run_reach` where it begins with `ncl_reach`, over files that lie
+//! in the folder or were kept, and what is written printed with the status.
 #![tactic(auto)]
 
 use ncl_base::{Items, MemFile, MemSink, MemSource, Name};
+use ncl_reach_top::run_reach;
 use ncl_top::run;
 use std::alloc::Global;
 use std::fs;
@@ -63,7 +64,10 @@ fn status_and_text<R: Threads + Sync + Files + AllocGlobal>(
     let files = files_of(rt, alloc, &arguments, kept)?;
     let mut source = MemSource::new(files, AT_ONCE, Vec::new(alloc));
     let mut sink = MemSink::new(alloc, ROOM, AT_ONCE, Vec::new(alloc))?;
-    let status = run(rt, alloc, &arguments, &mut source, &mut sink);
+    let status = match arguments.as_slice() {
+        ["ncl_reach", rest @ ..] => run_reach(alloc, rest, &mut source, &mut sink),
+        all => run(rt, alloc, all, &mut source, &mut sink),
+    };
     Ok((status, sink.bytes().to_vec(alloc)?))
 }
 
@@ -74,7 +78,12 @@ fn carry_out_line<R: Threads + Sync + Files + AllocGlobal + Print>(
     line: &str,
     kept: &mut Vec<MemFile>,
 ) -> anyhow::Result<()> {
-    println!(rt; "$ nclc {line}")?;
+    let program = if line.starts_with("ncl_reach ") {
+        ""
+    } else {
+        "nclc "
+    };
+    println!(rt; "$ {program}{line}")?;
     let (command, name) = match line.split_once(" > ") {
         Some((command, name)) => (command, Some(name)),
         None => (line, None),

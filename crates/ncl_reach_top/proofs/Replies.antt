@@ -1,0 +1,67 @@
+-- How the parts of a reply come to the whole.
+use Rattle.std.proofs.Common.{◌≡◌, ℕ, List, Result, Ok, Err, IfOk, refl, sym, subst}
+use Rattle.std.proofs.lemmas.Result.{IfOk-weaker}
+use Rattle.ncl_base.specs.declared.memory.Memory.{Memory}
+use Rattle.ncl_shape.specs.Pipeline.{PipelineData}
+use Rattle.ncl_shape.specs.Shape.{Shape}
+use Rattle.ncl_machine.specs.DelayInsensitive.{IsDelayInsensitive}
+use Rattle.ncl_verdict.proofs.Sound.{judgement-sound}
+use Rattle.ncl_insensitivity.proofs.Headline.{delay_insensitive}
+use Rattle.ncl_refusal.proofs.Exact.{reached-insensitive}
+use Rattle.ncl_reaching.proofs.ReachingLaws.{shown-sensitive, shown-wrong}
+use Rattle.ncl_check.specs.declared.reply.Outcome.{Outcome}
+use Rattle.ncl_check.specs.declared.reply.Outcome.TheVariants.{Accepted, Refused, NoPipeline}
+use Rattle.ncl_check.specs.declared.reply.Reply.{Reply}
+use Rattle.ncl_check.specs.Headline.{IsDelayInsensitiveText}
+use Rattle.ncl_check.specs.Text.{IsPipelineText, IsRefusedText}
+use Rattle.ncl_reach_top.specs.Reply.{IsPipelineReply, never, sound, held, shown, past, IsReachReply, refused, replied, IsWrongFor, IsWrongForInput}
+
+-- the reply that tells why bytes are the text of no pipeline
+pub refused_reply : (limit : ℕ) (bytes : List ℕ) (r : Result Reply Memory) → IfOk r (λ reply. reply.outcome ≡ NoPipeline) → IfOk r (λ reply. IsRefusedText bytes reply.text.items) → IfOk r (λ reply. IsReachReply limit bytes reply.outcome reply.text.items)
+refused_reply limit bytes (Ok reply) ends none = subst (λ outcome. IsReachReply limit bytes outcome reply.text.items) (sym ends) (refused reply.text.items none)
+refused_reply limit bytes (Err memory) ends none = tt
+
+-- the reply to their pipeline
+pub pipeline_reply : (limit : ℕ) (bytes : List ℕ) (p : PipelineData) → IsPipelineText bytes p → (r : Result Reply Memory) → IfOk r (λ reply. IsPipelineReply limit p reply.outcome reply.text.items) → IfOk r (λ reply. IsReachReply limit bytes reply.outcome reply.text.items)
+pipeline_reply limit bytes p is r h = IfOk-weaker r _ _ (λ reply told. replied p is reply.outcome reply.text.items told) h
+
+-- the text of a pipeline that works
+works_text : (bytes : List ℕ) (p : PipelineData) → IsPipelineText bytes p → IsDelayInsensitive p → IsDelayInsensitiveText bytes
+works_text bytes p is insensitive = record {
+  parts = is.text.parts;
+  reads = is.text.reads;
+  builds = is.text.builds;
+  pipeline = p;
+  shape = subst (λ n. Shape n p) is.text.netlist is.shape;
+  insensitive = insensitive;
+}
+
+-- an acceptance says that the pipeline works
+works_by : (limit : ℕ) (p : PipelineData) → Shape p.netlist p → {outcome : Outcome} {text : List ℕ} → IsPipelineReply limit p outcome text → outcome ≡ Accepted → IsDelayInsensitive p
+works_by limit p shape (never null answers) e = reached-insensitive p shape null answers
+works_by limit p shape (sound accepted) e = delay_insensitive p.netlist p shape (judgement-sound limit p.stages accepted)
+works_by limit p shape (held answers) e = absurd cc
+works_by limit p shape (shown input v answers) e = absurd cc
+works_by limit p shape (past stage answers) e = absurd cc
+
+pub reach_works : (limit : ℕ) (bytes : List ℕ) {outcome : Outcome} {text : List ℕ} → IsReachReply limit bytes outcome text → outcome ≡ Accepted → IsDelayInsensitiveText bytes
+reach_works limit bytes (refused text none) e = absurd cc
+reach_works limit bytes (replied p is outcome text told) e = works_text bytes p is (works_by limit p is.shape told e)
+
+-- a refusal that it goes wrong for an input
+wrong_by : (limit : ℕ) (p : PipelineData) → Shape p.netlist p → {outcome : Outcome} {text : List ℕ} → IsPipelineReply limit p outcome text → outcome ≡ Refused → IsWrongFor limit p text
+wrong_by limit p shape (never null answers) e = absurd cc
+wrong_by limit p shape (sound accepted) e = absurd cc
+wrong_by limit p shape (held answers) e = absurd cc
+wrong_by limit p shape (shown input v answers) e = record {
+  verdict = v;
+  input = input;
+  told = refl;
+  shown = answers;
+  means = (shown-sensitive p shape input v answers, shown-wrong p shape input v answers);
+}
+wrong_by limit p shape (past stage answers) e = absurd cc
+
+pub reach_wrong : (limit : ℕ) (bytes : List ℕ) {outcome : Outcome} {text : List ℕ} → IsReachReply limit bytes outcome text → outcome ≡ Refused → IsWrongForInput limit bytes text
+reach_wrong limit bytes (refused text none) e = absurd cc
+reach_wrong limit bytes (replied p is outcome text told) e = record { pipeline = p; is = is; wrong = wrong_by limit p is.shape told e }

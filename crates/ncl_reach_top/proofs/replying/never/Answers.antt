@@ -1,0 +1,18 @@
+use Rattle.std.proofs.Common.{IsTrue, rules, sym, subst}
+use Rattle.ncl_hazard.specs.Trying.{HasNoDataBank}
+use Rattle.ncl_check.specs.declared.reply.Outcome.TheVariants.{Unjudged}
+use Rattle.ncl_reach_top.specs.Reply.{IsPipelineReply, never, sound, held}
+use Rattle.ncl_reach_top.proofs.replying.never.Goals as goal
+
+pub returns-then-data_banks-eq0 : goal.returns-then-data_banks-eq0
+returns-then-data_banks-eq0 c =
+    let null : HasNoDataBank c.args.pipeline.now = search rules in
+    c.accepted.ensures (never null c.requires.answers)
+
+pub returns-then-branch : goal.returns-then-branch
+returns-then-branch c =
+    let is : IsTrue c.in_ok-is_sound.field-0 = search rules in
+    c.accepted-then-branch.ensures (sound (c.in_ok-is_sound.ensures is))
+
+pub returns : goal.returns
+returns c = subst (IsPipelineReply c.args.limit c.args.pipeline.now Unjudged) (sym c.in_ok-text.ensures) (held c.requires.answers)

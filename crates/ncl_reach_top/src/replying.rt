@@ -1,0 +1,154 @@
+//! What is replied to the bytes of a netlist.
+ghost use Rattle.std.specs.Prelude.{◌≡◌, ◌≤◌, ℕ, List, IfOk, IsTrue};
+ghost use Rattle.ncl_check.specs.Headline.{IsDelayInsensitiveText};
+ghost use Rattle.ncl_check.specs.Refusals.{TellsLine};
+ghost use Rattle.ncl_check.specs.Text.{IsRefusedText};
+ghost use Rattle.ncl_check.specs.declared.reply.Outcome.TheVariants.{Accepted, NoPipeline, Refused};
+ghost use Rattle.ncl_check.specs.Reply.{verdict_on};
+ghost use Rattle.ncl_verdict.specs.declared.verdict.Verdict.TheVariants.{Accepted as AllSound};
+ghost use Rattle.ncl_reaching.specs.Answers.{Answers};
+ghost use Rattle.ncl_reaching.specs.declared.reaching.Reached.TheVariants.{Limit as PastLimit, Never as NoFault, Shown as FaultShown};
+ghost use Rattle.ncl_reach_top.specs.Reply.{IsPipelineReply, IsReachReply, IsWrongForInput, line_on, with_input};
+
+use ncl_base::{Memory, Word};
+use ncl_check::{Outcome, Refusal, Reply, netlist_in, pipeline_in};
+use ncl_lines::{line_of, push_word, verdict_text};
+use ncl_reaching::{Reached, reach};
+use ncl_shape::Pipeline;
+use ncl_verdict::{Verdict, judge};
+use std::alloc::Global;
+
+/// What `ncl_reach` replies to the bytes of a file: the first thing that keeps them from being the text of a pipeline; or whether
+/// an input brings to some stage a word at which that stage shows a fault, asked by diagrams with at most `limit` nodes.
+///
+/// An acceptance says that the circuit works at every gate delay: clause `headline`. A refusal says that it doesn't, and names an
+/// input: clause `refusal`. Where banks hold words at reset and no input brings a fault, the pipeline is accepted if each stage is
+/// sound at all words, and else nothing is known of it. Costs as reading the bytes, finding the shape and `reach` do.
+pub fn reply(alloc: Global, bytes: &[u8], limit: u32) -> Result<Reply, Memory>
+    requires { 1 ≤ limit }
+    ensures reply { IfOk result (λ reply. IsReachReply limit bytes.now reply.outcome reply.text.items) }
+    ensures headline { IfOk result (λ reply. reply.outcome ≡ Accepted → IsDelayInsensitiveText bytes.now) }
+    ensures refusal { IfOk result (λ reply. reply.outcome ≡ Refused → IsWrongForInput limit bytes.now reply.text.items) }
+{
+    let netlist = match netlist_in(alloc, bytes) {
+        Ok(netlist) => netlist,
+        Err(refusal) => return refused(refusal),
+    };
+    let pipeline = match pipeline_in(alloc, &netlist) {
+        Ok(pipeline) => pipeline,
+        Err(refusal) => return refused(refusal),
+    };
+    answered(alloc, &pipeline, limit)
+}
+
+/// The reply to bytes that are the text of no pipeline.
+fn refused(refusal: Refusal) -> Result<Reply, Memory>
+    ensures outcome { IfOk result (λ reply. reply.outcome ≡ NoPipeline) }
+    ensures text { (bytes : List ℕ) → TellsLine (IsRefusedText bytes) refusal → IfOk result (λ reply. IsRefusedText bytes reply.text.items) }
+{
+    match refusal {
+        Refusal::Told(text) => Ok(Reply {
+            outcome: Outcome::NoPipeline,
+            text,
+        }),
+        Refusal::Memory => Err(Memory),
+    }
+}
+
+/// The reply to a pipeline.
+fn answered(alloc: Global, pipeline: &Pipeline, limit: u32) -> Result<Reply, Memory>
+    requires { 1 ≤ limit }
+    ensures { IfOk result (λ reply. IsPipelineReply limit pipeline.now reply.outcome reply.text.items) }
+{
+    match reach(alloc, pipeline, limit)? {
+        Reached::Never => never(alloc, pipeline, limit),
+        Reached::Shown { input, verdict } => shown(alloc, pipeline, &input, &verdict, limit),
+        Reached::Limit { stage } => past_limit(alloc, pipeline, stage, limit),
+    }
+}
+
+/// The reply to a pipeline of which no input brings a fault. Where a bank holds a word at reset each stage is judged by itself.
+fn never(alloc: Global, pipeline: &Pipeline, limit: u32) -> Result<Reply, Memory>
+    requires limit { 1 ≤ limit }
+    requires answers { Answers pipeline.now limit NoFault }
+    ensures { IfOk result (λ reply. IsPipelineReply limit pipeline.now reply.outcome reply.text.items) }
+{
+    if pipeline.data_banks() == 0 {
+        return accepted(alloc, pipeline, limit);
+    }
+    if is_sound(alloc, pipeline, limit)? {
+        return accepted(alloc, pipeline, limit);
+    }
+    let text = line_of(alloc, b"held words: no input brings a fault", b"")?;
+    Ok(Reply {
+        outcome: Outcome::Unjudged,
+        text,
+    })
+}
+
+/// The reply to a pipeline that is accepted.
+fn accepted(alloc: Global, pipeline: &Pipeline, limit: u32) -> Result<Reply, Memory>
+    ensures { (why : IsPipelineReply limit pipeline.now Accepted (line_on limit pipeline.now AllSound)) → IfOk result (λ reply. IsPipelineReply limit pipeline.now reply.outcome reply.text.items) }
+{
+    let text = verdict_text(alloc, pipeline, &Verdict::Accepted, limit)?;
+    Ok(Reply {
+        outcome: Outcome::Accepted,
+        text,
+    })
+}
+
+/// Whether each stage by itself is accepted, with at most so many nodes.
+fn is_sound(alloc: Global, pipeline: &Pipeline, limit: u32) -> Result<bool, Memory>
+    requires { 1 ≤ limit }
+    ensures { IfOk result (λ sound. IsTrue sound → verdict_on limit pipeline.now ≡ AllSound) }
+{
+    match judge(alloc, pipeline, limit)? {
+        Verdict::Accepted => Ok(true),
+        _ => Ok(false),
+    }
+}
+
+/// The reply to a pipeline of which an input brings to a stage a word that shows a fault: the line of that verdict, and the input
+/// at its end.
+fn shown(
+    alloc: Global,
+    pipeline: &Pipeline,
+    input: &Word,
+    verdict: &Verdict,
+    limit: u32,
+) -> Result<Reply, Memory>
+    requires { Answers pipeline.now limit (FaultShown input.now verdict.now) }
+    ensures { IfOk result (λ reply. IsPipelineReply limit pipeline.now reply.outcome reply.text.items) }
+{
+    pipeline.facts();
+    let line = verdict_text(alloc, pipeline, verdict, limit)?;
+    let text = behind(line, input)?;
+    Ok(Reply {
+        outcome: Outcome::Refused,
+        text,
+    })
+}
+
+/// A line with an input at its end, before the line feed. Linear in the input.
+fn behind(line: Vec<u8>, input: &Word) -> Result<Vec<u8>, Memory>
+    ensures { IfOk result (λ text. text.items ≡ with_input line.items input.now) }
+{
+    let mut text = line;
+    text.truncate(text.len().saturating_sub(1));
+    text.extend_from_slice(b", input ")?;
+    push_word(&mut text, input)?;
+    text.extend_from_slice(b"\n")?;
+    Ok(text)
+}
+
+/// The reply to a pipeline of which a question has more nodes than the limit.
+fn past_limit(alloc: Global, pipeline: &Pipeline, stage: u32, limit: u32) -> Result<Reply, Memory>
+    requires { Answers pipeline.now limit (PastLimit stage) }
+    ensures { IfOk result (λ reply. IsPipelineReply limit pipeline.now reply.outcome reply.text.items) }
+{
+    let text = verdict_text(alloc, pipeline, &Verdict::Limit { stage }, limit)?;
+    Ok(Reply {
+        outcome: Outcome::Unjudged,
+        text,
+    })
+}

@@ -117,10 +117,6 @@ both-one : (high : Bool) → set_of Th22 (high ∷ high ∷ []) ≡ high
 both-one true = refl
 both-one false = refl
 
-and-true : (b : Bool) → (b && true) ≡ b
-and-true true = refl
-and-true false = refl
-
 and-false : (b : Bool) → (b && false) ≡ false
 and-false true = refl
 and-false false = refl

@@ -9,7 +9,6 @@ use Rattle.ncl_shape.specs.declared.rails.Rails.{Rails}
 use Rattle.ncl_shape.specs.Stage.{StageData}
 use Rattle.ncl_space.specs.Beads.{distinct_beads}
 use Rattle.ncl_space.specs.Space.{SpaceData, IsNew, Keeps, Restores, fits, is_within, with_tables}
-use Rattle.ncl_space.proofs.SpaceLaws.{keeps_along}
 use Rattle.ncl_faults.specs.declared.variant.Variant.{Variant}
 use Rattle.ncl_faults.specs.declared.variant.Variant.TheVariants.{Base}
 use Rattle.ncl_faults.specs.Faults.{StageFault, BothRails, NoRail, shows}
@@ -25,13 +24,6 @@ use Rattle.ncl_hazard.specs.Search.{ascending, question_count}
 use Rattle.ncl_hazard.proofs.SearchLaws.{nets_over, all_over}
 use Rattle.ncl_reaching.specs.Asking.{IsPast, inputs_of_chain}
 use Rattle.ncl_reaching.specs.Reaching.{Shown, first_at, first_shown, shown_by}
-
-pub restores-along : (a b d : SpaceData) → Restores a b → Restores b d → Restores a d
-restores-along a b d first second = record {
-  keeps = keeps_along a b d first.keeps second.keeps;
-  live = λ r. second.live r ∙ first.live r;
-  held = second.held ∙ first.held;
-}
 
 pub fits-restored : (a b : SpaceData) (tables : List (List Bool)) → Restores a b → fits b tables ≡ fits a tables
 fits-restored a b tables back = λ i. is_within (back.keeps.limit i) (set.len (set.union (back.held i) (distinct_beads (back.keeps.width i) tables)))

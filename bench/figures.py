@@ -350,13 +350,15 @@ def main():
     for name in words.tables:
         if name not in TABLES:
             parser.error(f"no table {name}; there are {', '.join(TABLES)}")
-    if lacks := [name for name in (str(words.program), str(words.examples), "yosys", "berkeley-abc", "cc") if shutil.which(name) is None]:
+    asked = words.tables or list(TABLES)
+    needed = [str(words.program), "yosys", "berkeley-abc", "cc"] + [str(words.examples)] * ("merging" in asked)
+    if lacks := [name for name in needed if shutil.which(name) is None]:
         raise Refused(f"no program {', '.join(lacks)}")
     with tempfile.TemporaryDirectory() as folder:
         forms = (words.forms or pathlib.Path(folder, "forms")).resolve()
         forms.mkdir(parents=True, exist_ok=True)
         bench = Bench(str(words.program.resolve()), str(words.examples.resolve()), pathlib.Path(folder), forms)
-        differ = sum(table_of(bench, name, words.write) for name in words.tables or TABLES)
+        differ = sum(table_of(bench, name, words.write) for name in asked)
     print(f"{differ} rows {'written' if words.write else 'differ'}")
     return 1 if differ and not words.write else 0
 

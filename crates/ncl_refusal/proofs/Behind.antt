@@ -1,6 +1,7 @@
 -- What stands behind a stage: where only a cell of the stage itself can move, and then the bank after the stage can't take or
 -- give up a rail, all of it stays as it is.
-use Rattle.std.proofs.Common.{◌≡◌, ℕ, suc, ◌<◌, ◌≤◌, Bool, true, false, not, ◌||◌, ◌&&◌, List, [], ◌∷◌, Option, None, Some, inl, inr, refl, sym, ap, ◌∙◌, subst, arith}
+use Rattle.std.proofs.lemmas.List.Folds.{list_all-map}
+use Rattle.std.proofs.Common.{◌≡◌, ℕ, suc, ◌<◌, ◌≤◌, Bool, true, false, not, ◌||◌, [], ◌∷◌, Option, None, Some, inl, inr, refl, sym, ap, ◌∙◌, subst, arith}
 use Rattle.std.specs.Prelude.{nat_eq, slice_get}
 use Rattle.std.specs.List.{list_all}
 use Rattle.std.proofs.Math.Bool.{not-not}
@@ -25,13 +26,13 @@ use Rattle.ncl_machine.specs.State.{State}
 use Rattle.ncl_machine.specs.Steps.{differ, enabled, is_excited, next_value}
 use Rattle.ncl_machine.specs.AtWork.{IsExcited, next_of_gate}
 use Rattle.ncl_machine.proofs.StageNets.{in_bit, rail-listed, gate-listed, inputs-listed, out-listed, outputs-listed, root-listed, tree-listed}
+use Rattle.ncl_base.proofs.Tests.{map-same}
 use Rattle.ncl_insensitivity.proofs.NextValues.{gate-next, register-excited}
 use Rattle.ncl_refusal.proofs.Does.{later, MovesStage, by_gate, by_register, by_source, stage-moves, MovesTree, by_cell, by_take, by_ready, tree-moves}
 
--- tests that agree on each member
-all-same : {X : Type 0} (f g : X → Bool) (xs : List X) → ((x : X) → Member x xs → f x ≡ g x) → list_all f xs ≡ list_all g xs
-all-same f g [] same = refl
-all-same f g (x ∷ xs) same = ap (λ b. b && list_all f xs) (same x here) ∙ ap (λ b. g x && b) (all-same f g xs (λ y m. same y (there m)))
+-- tests that agree on each output
+outputs-alike : (p : PipelineData) (f g : Rails → Bool) → ((r : Rails) → Member r p.outputs → f r ≡ g r) → list_all f p.outputs ≡ list_all g p.outputs
+outputs-alike p f g same = sym (list_all-map (λ b. b) f p.outputs) ∙ ap (list_all (λ b. b)) (map-same f g p.outputs same) ∙ list_all-map (λ b. b) g p.outputs
 
 -- the item is of a cell whose output passes a test, or it is another, and these count as said
 abbrev pub passes_at : (ℕ → Bool) → Option Cell → Bool
@@ -150,9 +151,9 @@ module _ {p : PipelineData} {l : Layout} (is : IsLayoutOf p l) (z : ℕ) (in_las
         by_move : MovesTree is u item can k net → ⊥
         by_move (by_cell d lk in_k e excited is_next) = tree_still d lk in_k e excited
         by_move (by_take last e all up is_next) =
-            both_ways (enabled p t Take) (quiet Take refl) (and_from _ _ (ki_same e ∙ up) (all-same (λ (r : Rails). t.value r.zero.0 || t.value r.one.0) (λ (r : Rails). v r.zero.0 || v r.one.0) p.outputs outputs_same ∙ all))
+            both_ways (enabled p t Take) (quiet Take refl) (and_from _ _ (ki_same e ∙ up) (outputs-alike p (λ r. t.value r.zero.0 || t.value r.one.0) (λ r. v r.zero.0 || v r.one.0) outputs_same ∙ all))
         by_move (by_ready last e all low is_next) =
-            both_ways (enabled p t Ready) (quiet Ready refl) (and_from _ _ (not_from_false _ (ki_same e ∙ low)) (all-same (λ (r : Rails). not (t.value r.zero.0 || t.value r.one.0)) (λ (r : Rails). not (v r.zero.0 || v r.one.0)) p.outputs (λ r m. ap not (outputs_same r m)) ∙ all))
+            both_ways (enabled p t Ready) (quiet Ready refl) (and_from _ _ (not_from_false _ (ki_same e ∙ low)) (outputs-alike p (λ r. not (t.value r.zero.0 || t.value r.one.0)) (λ r. not (v r.zero.0 || v r.one.0)) (λ r m. ap not (outputs_same r m)) ∙ all))
 
     pub behind-kept : IsBehind (later is u item can)
     behind-kept = record { stages = stages-kept; trees = trees-kept }

@@ -40,7 +40,7 @@ works_text bytes p is insensitive = record {
 works_by : (limit : ℕ) (p : PipelineData) → Shape p.netlist p → {outcome : Outcome} {text : List ℕ} → IsPipelineReply limit p outcome text → outcome ≡ Accepted → IsDelayInsensitive p
 works_by limit p shape (never null answers) e = reached-insensitive p shape null answers
 works_by limit p shape (sound accepted) e = delay_insensitive p.netlist p shape (judgement-sound limit p.stages accepted)
-works_by limit p shape (held answers) e = absurd cc
+works_by limit p shape (held some isnt answers) e = absurd cc
 works_by limit p shape (shown input v answers) e = absurd cc
 works_by limit p shape (past stage answers) e = absurd cc
 
@@ -52,7 +52,7 @@ reach_works limit bytes (replied p is outcome text told) e = works_text bytes p 
 wrong_by : (limit : ℕ) (p : PipelineData) → Shape p.netlist p → {outcome : Outcome} {text : List ℕ} → IsPipelineReply limit p outcome text → outcome ≡ Refused → IsWrongFor limit p text
 wrong_by limit p shape (never null answers) e = absurd cc
 wrong_by limit p shape (sound accepted) e = absurd cc
-wrong_by limit p shape (held answers) e = absurd cc
+wrong_by limit p shape (held some isnt answers) e = absurd cc
 wrong_by limit p shape (shown input v answers) e = record {
   verdict = v;
   input = input;

@@ -28,8 +28,8 @@ pub data IsPipelineReply (limit : ℕ) (p : PipelineData) : Outcome → List ℕ
   never : HasNoDataBank p → Answers p limit Never → IsPipelineReply limit p Accepted (line_on limit p verdict.Accepted)
   -- each stage is sound at all words
   sound : verdict_on limit p ≡ verdict.Accepted → IsPipelineReply limit p Accepted (line_on limit p verdict.Accepted)
-  -- no input brings a fault; of the words that banks hold at reset nothing is known
-  held : Answers p limit Never → IsPipelineReply limit p Unjudged (line (codes "held words: no input brings a fault"))
+  -- no input brings a fault, but some bank holds a word at reset and the judgement doesn't accept: nothing is known of such words
+  held : (HasNoDataBank p → ⊥) → (verdict_on limit p ≡ verdict.Accepted → ⊥) → Answers p limit Never → IsPipelineReply limit p Unjudged (line (codes "held words: no input brings a fault"))
   -- an input brings a fault
   shown : (input : List Bool) (v : Verdict) → Answers p limit (Shown input v) → IsPipelineReply limit p Refused (with_input (line_on limit p v) input)
   -- a question has more nodes

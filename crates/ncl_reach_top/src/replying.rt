@@ -1,5 +1,5 @@
 //! What is replied to the bytes of a netlist.
-ghost use Rattle.std.specs.Prelude.{◌≡◌, ◌≤◌, ℕ, List, IfOk, IsTrue};
+ghost use Rattle.std.specs.Prelude.{◌≡◌, ◌≤◌, ℕ, List, IfOk, IsFalse, IsTrue};
 ghost use Rattle.ncl_check.specs.Headline.{IsDelayInsensitiveText};
 ghost use Rattle.ncl_check.specs.Refusals.{TellsLine};
 ghost use Rattle.ncl_check.specs.Text.{IsRefusedText};
@@ -100,7 +100,8 @@ fn accepted(alloc: Global, pipeline: &Pipeline, limit: u32) -> Result<Reply, Mem
 /// Whether each stage by itself is accepted, with at most so many nodes.
 fn is_sound(alloc: Global, pipeline: &Pipeline, limit: u32) -> Result<bool, Memory>
     requires { 1 ≤ limit }
-    ensures { IfOk result (λ sound. IsTrue sound → verdict_on limit pipeline.now ≡ AllSound) }
+    ensures yes { IfOk result (λ sound. IsTrue sound → verdict_on limit pipeline.now ≡ AllSound) }
+    ensures no { IfOk result (λ sound. IsFalse sound → verdict_on limit pipeline.now ≡ AllSound → ⊥) }
 {
     match judge(alloc, pipeline, limit)? {
         Verdict::Accepted => Ok(true),

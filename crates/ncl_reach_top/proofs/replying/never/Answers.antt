@@ -1,4 +1,4 @@
-use Rattle.std.proofs.Common.{IsTrue, rules, sym, subst}
+use Rattle.std.proofs.Common.{IsFalse, IsTrue, rules, sym, subst}
 use Rattle.ncl_hazard.specs.Trying.{HasNoDataBank}
 use Rattle.ncl_check.specs.declared.reply.Outcome.TheVariants.{Unjudged}
 use Rattle.ncl_reach_top.specs.Reply.{IsPipelineReply, never, sound, held}
@@ -12,7 +12,10 @@ returns-then-data_banks-eq0 c =
 pub returns-then-branch : goal.returns-then-branch
 returns-then-branch c =
     let is : IsTrue c.in_ok-is_sound.field-0 = search rules in
-    c.accepted-then-branch.ensures (sound (c.in_ok-is_sound.ensures is))
+    c.accepted-then-branch.ensures (sound (c.in_ok-is_sound.ensures.yes is))
 
 pub returns : goal.returns
-returns c = subst (IsPipelineReply c.args.limit c.args.pipeline.now Unjudged) (sym c.in_ok-text.ensures) (held c.requires.answers)
+returns c =
+    let some : HasNoDataBank c.args.pipeline.now → ⊥ = λ null. search rules in
+    let isnt : IsFalse c.in_ok-is_sound.field-0 = search rules in
+    subst (IsPipelineReply c.args.limit c.args.pipeline.now Unjudged) (sym c.in_ok-text.ensures) (held some (c.in_ok-is_sound.ensures.no isnt) c.requires.answers)

@@ -1,9 +1,9 @@
 #!/usr/bin/env python3
 """Writes the counts in the tables of docs/: cells, gates, nodes, and requests for memory.
 
-    bench/figures.py PROGRAM [--examples FILE] [--write] [--forms FOLDER] [TABLE ..]
+    bench/figures.py PROGRAM [--runs FILE] [--write] [--forms FOLDER] [TABLE ..]
 
-PROGRAM is the built nclc, and FILE the built program `examples`, which merges a netlist by the library, if it isn't where the gate
+PROGRAM is the built nclc, and FILE the built program `runs`, which merges a netlist by the library, if it isn't where the gate
 leaves it; yosys, berkeley-abc and cc have to be on the path. Each table has a name, and its rows and columns are
 those of the page: what is counted of a row stands in its columns here, and cells of other columns, as seconds are, stay as they
 are. Without --write the pages are compared, each cell that differs is printed, and the status is 1 where one does. The texts of
@@ -38,8 +38,8 @@ WORDS = 200
 class Bench:
     """The programs, and the folder in which texts and netlists are made."""
 
-    def __init__(self, program, examples, folder, forms):
-        self.program, self.examples, self.folder, self.forms = program, examples, folder, forms
+    def __init__(self, program, runs, folder, forms):
+        self.program, self.runs, self.folder, self.forms = program, runs, folder, forms
         self.made = {}
 
     def run(self, *words):
@@ -59,15 +59,18 @@ class Bench:
         return self.made[key]
 
     def merged(self, text):
-        """The netlist of a text as the library merges it: `examples` does so with a file of its folder."""
+        """The netlist of a text as the library merges it: the program `runs` does so with a file of its folder."""
         with tempfile.TemporaryDirectory() as folder:
+            examples = pathlib.Path(folder, "examples")
+            examples.mkdir()
             for name in ("full_adder.blif", "unit.delays", "three_bits.words"):
-                shutil.copy(TOP / "crates/examples/data" / name, folder)
-            pathlib.Path(folder, "and_of_minterms.v").write_text(text)
-            pathlib.Path(folder, "commands").write_text("")
-            done = subprocess.run([self.examples], cwd=folder, capture_output=True, text=True)
+                shutil.copy(TOP / "examples" / name, examples)
+            (examples / "and_of_minterms.v").write_text(text)
+            for place in (examples, pathlib.Path(folder)):
+                (place / "commands").write_text("")
+            done = subprocess.run([self.runs], cwd=folder, capture_output=True, text=True)
         if done.returncode:
-            raise Refused(f"{self.examples}: {done.stderr.strip() or done.returncode}")
+            raise Refused(f"{self.runs}: {done.stderr.strip() or done.returncode}")
         return done.stdout[done.stdout.rindex("module "):]
 
     def of_form(self, design, form, *flags):
@@ -342,7 +345,7 @@ def table_of(bench, name, write):
 def main():
     parser = Parser(__doc__)
     parser.add_argument("program", metavar="PROGRAM", type=pathlib.Path)
-    parser.add_argument("--examples", metavar="FILE", type=pathlib.Path, default=TOP / "crates/examples/out/examples")
+    parser.add_argument("--runs", metavar="FILE", type=pathlib.Path, default=TOP / "crates/runs/out/runs")
     parser.add_argument("--write", action="store_true")
     parser.add_argument("--forms", metavar="FOLDER", type=pathlib.Path)
     parser.add_argument("tables", metavar="TABLE", nargs="*")
@@ -351,13 +354,13 @@ def main():
         if name not in TABLES:
             parser.error(f"no table {name}; there are {', '.join(TABLES)}")
     asked = words.tables or list(TABLES)
-    needed = [str(words.program), "yosys", "berkeley-abc", "cc"] + [str(words.examples)] * ("merging" in asked)
+    needed = [str(words.program), "yosys", "berkeley-abc", "cc"] + [str(words.runs)] * ("merging" in asked)
     if lacks := [name for name in needed if shutil.which(name) is None]:
         raise Refused(f"no program {', '.join(lacks)}")
     with tempfile.TemporaryDirectory() as folder:
         forms = (words.forms or pathlib.Path(folder, "forms")).resolve()
         forms.mkdir(parents=True, exist_ok=True)
-        bench = Bench(str(words.program.resolve()), str(words.examples.resolve()), pathlib.Path(folder), forms)
+        bench = Bench(str(words.program.resolve()), str(words.runs.resolve()), pathlib.Path(folder), forms)
         differ = sum(table_of(bench, name, words.write) for name in asked)
     print(f"{differ} rows {'written' if words.write else 'differ'}")
     return 1 if differ and not words.write else 0

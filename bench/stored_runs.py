@@ -5,9 +5,9 @@
 
 PROGRAM is the built nclc, and ncl_reach stands beside it. The gate makes the same runs through the top call; here they go through the program's own arguments,
 files, standard output and status, and nothing may come to standard error. Prints each run that differs, each that is stored and
-that no command makes, each file of `crates/runs/data` that no command names, and how many runs there were: those of
-`crates/runs`, and those of the pages, which `crates/examples` makes. The status is 1 where something is printed beside that.
-With --write the runs of the pages are stored, behind what that program prints before them.
+that no command makes, each file of `crates/runs/data` that no command names, and how many runs there were, those of the pages
+first. The status is 1 where something is printed beside that. With --write the runs of the pages are stored, behind what the
+program `runs` prints before them.
 """
 import pathlib
 import re
@@ -17,7 +17,7 @@ import sys
 import tempfile
 
 TOP = pathlib.Path(__file__).resolve().parent.parent
-CRATES = TOP / "crates"
+DATA, STORED = TOP / "crates/runs/data", TOP / "crates/runs/stdout"
 sys.path.insert(0, str(TOP / "tools"))
 from script import Parser, Refused, carry_out
 
@@ -53,7 +53,7 @@ def stored_of(text):
 def unnamed(folder, lines):
     """The files of a folder that no command names."""
     named = {part for line in lines for word in line.split(" ") for part in (word, word.partition("=")[2])}
-    return sorted(path.name for path in folder.iterdir() if path.name not in named | {"commands"})
+    return sorted(path.name for path in folder.iterdir() if path.is_file() and path.name not in named | {"commands"})
 
 
 def runs_of(program, data, lines):
@@ -63,23 +63,27 @@ def runs_of(program, data, lines):
         return [told(program, line, folder) for line in lines]
 
 
-def are_same(program, crate, write):
-    """Whether the runs of a crate are as they are stored, or are stored now."""
-    data, page = CRATES / crate / "data", CRATES / crate / "stdout"
-    (first, stored), lines = stored_of(page.read_text()), (data / "commands").read_text().splitlines()
-    runs = runs_of(program, data, lines)
+def commands_of(folder):
+    """The commands of a folder."""
+    return (folder / "commands").read_text().splitlines()
+
+
+def are_same(program, write):
+    """Whether the runs are as they are stored, or those of the pages are stored now."""
+    (first, stored), shown, single = stored_of(STORED.read_text()), commands_of(DATA / "examples"), commands_of(DATA)
+    runs = runs_of(program, DATA / "examples", shown) + runs_of(program, DATA, single)
     if write:
-        page.write_text(first + "".join(runs))
-        stored = runs
+        stored = runs[:len(shown)] + stored[-len(single):]
+        STORED.write_text(first + "".join(stored))
     for run in sorted(set(runs) - set(stored)):
         print("differs:", run)
     made = {run.partition("\n")[0] for run in runs}
     gone = [run.partition("\n")[0] for run in stored if run.partition("\n")[0] not in made]
-    gone += [f"a command for {name}" for name in unnamed(data, lines)] if crate == "runs" else []
+    gone += [f"a command for {name}" for name in unnamed(DATA, single)]
     for what in gone:
         print("gone:", what)
     same = runs == stored and not gone
-    print(f"{crate}: {len(runs)} runs, {'all as stored' if same else 'NOT as stored'}")
+    print(f"{len(shown)} and {len(single)} runs, {'all as stored' if same else 'NOT as stored'}")
     return same
 
 
@@ -91,8 +95,7 @@ def main():
     program = shutil.which(str(pathlib.Path(words.program).resolve()))
     if program is None or shutil.which(str(pathlib.Path(program).parent / "ncl_reach")) is None:
         raise Refused(f"{words.program}: no program, or no ncl_reach beside it")
-    answers = [are_same(program, crate, words.write and crate == "examples") for crate in ("runs", "examples")]
-    return 0 if all(answers) else 1
+    return 0 if are_same(program, words.write) else 1
 
 
 if __name__ == "__main__":

@@ -74,23 +74,25 @@ def bench_lemmas_finds_what_stands_twice(folder):
 
 
 def bench_stored_runs_tells_what_is_gone(folder):
-    top = copied(folder, "bench/stored_runs.py", *(f"crates/{crate}/{name}" for crate in ("runs", "examples") for name in ("stdout", "data/commands")))
-    for crate in ("runs", "examples"):
-        (top / f"crates/{crate}/data/wires.v").write_bytes((TOP / "crates/runs/data/wires.v").read_bytes())
-        (top / f"crates/{crate}/data/commands").write_text("check wires.v\n")
-        (top / f"crates/{crate}/stdout").write_text("ran\n$ nclc check wires.v\naccepted banks=2 stages=1 cells=6\nstatus 0\n")
-    stored, commands = top / "crates/runs/stdout", top / "crates/runs/data/commands"
+    top = copied(folder, "bench/stored_runs.py", "crates/runs/stdout", "crates/runs/data/commands", "crates/runs/data/examples/commands")
+    stored, data = top / "crates/runs/stdout", top / "crates/runs/data"
+    run = "$ nclc check wires.v\naccepted banks=2 stages=1 cells=6\nstatus 0\n"
+    for place in (data, data / "examples"):
+        (place / "wires.v").write_bytes((TOP / "crates/runs/data/wires.v").read_bytes())
+        (place / "commands").write_text("check wires.v\n")
+    stored.write_text(f"ran\n{run}{run}")
     found = lambda: script("stored_runs.py", PROGRAM[0], top=top)
-    same(found(), (0, "runs: 1 runs, all as stored\nexamples: 1 runs, all as stored\n"))
+    same(found(), (0, "1 and 1 runs, all as stored\n"))
     text = stored.read_text()
     stored.write_text(text + "$ nclc check absent\nread failed\nstatus 4\n")
     same((found()[0], found()[1].split("\n")[0]), (1, "gone: $ nclc check absent"))
     stored.write_text(text.replace("cells=6", "cells=7"))
     assert found()[0] == 1 and "differs: $ nclc check wires.v" in found()[1]
     stored.write_text(text)
-    (commands.parent / "left.v").write_text("")
+    (data / "left.v").write_text("")
     same((found()[0], found()[1].split("\n")[0]), (1, "gone: a command for left.v"))
-    commands.write_text("")
+    for place in (data, data / "examples"):
+        (place / "commands").write_text("")
     assert found()[0] == 1 and "gone: $ nclc check wires.v" in found()[1]
 
 

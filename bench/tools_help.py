@@ -6,7 +6,7 @@ import subprocess
 import sys
 
 TOP = pathlib.Path(__file__).resolve().parent.parent
-TOOLS, EXAMPLES = TOP / "tools", TOP / "crates/examples/data"
+TOOLS, EXAMPLES = TOP / "tools", TOP / "crates/runs/data/examples"
 PROGRAM = []  # the built nclc, once it is known
 sys.path.insert(0, str(TOOLS))
 

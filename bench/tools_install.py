@@ -163,7 +163,7 @@ def pack_makes_an_archive(folder):
 def pack_certifies_what_rt_has_linked(folder):
     """An rt in place of the true one links a program, or leaves what stands there, or answers something else."""
     top, built = folder / "top", folder / "top/crates/nclc/out/nclc"
-    for part in ("tools", "docs", "bench", "crates/examples/data"):
+    for part in ("tools", "docs", "bench", "crates/runs/data/examples"):
         shutil.copytree(TOP / part, top / part)
     for file in ("README.md", "CHANGELOG.md", "CITATION.cff", "LICENSE-MIT", "LICENSE-APACHE"):
         shutil.copy(TOP / file, top)

@@ -2,8 +2,8 @@
 //! system's files and standard output to `run_reach`.
 #![tactic(auto)]
 
-use ncl_process::{FileSource, StdoutSink, arguments_given, views};
 use ncl_reach_top::run_reach;
+use ncl_system::{FileSource, StdoutSink, arguments_given, views};
 use std::env;
 use std::process::ExitCode;
 

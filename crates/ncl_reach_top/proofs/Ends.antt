@@ -3,11 +3,11 @@ use Rattle.std.proofs.Common.{◌≡◌, ◌≤◌, ℕ, false, List, Some, sym,
 use Rattle.ncl_base.specs.Files.{Files, bytes_of, Grew}
 use Rattle.ncl_command.specs.Command.{Arguments, check}
 use Rattle.ncl_check.specs.Headline.{IsDelayInsensitiveText}
-use Rattle.ncl_top.specs.Answer.{SourceState, SinkState, CameOut, whole, cut_short}
-use Rattle.ncl_top.specs.Replies.{Gives}
-use Rattle.ncl_top.specs.declared.reply.Reply.{Reply}
-use Rattle.ncl_top.specs.declared.reply.Reply.TheVariants.{Made, Fixed}
-use Rattle.ncl_top.proofs.Acceptance.{accepted_by_status, refused_by_status}
+use Rattle.ncl_reply.specs.Devices.{SourceState, SinkState, CameOut, whole, cut_short}
+use Rattle.ncl_reply.specs.Replies.{Gives}
+use Rattle.ncl_reply.specs.declared.reply.Reply.{Reply}
+use Rattle.ncl_reply.specs.declared.reply.Reply.TheVariants.{Made, Fixed}
+use Rattle.ncl_reply.proofs.Statuses.{accepted_by_status, refused_by_status}
 use Rattle.ncl_reach_top.specs.Reply.{IsWrongForInput}
 use Rattle.ncl_reach_top.specs.Answered.{Asks, IsReachedFile, SaysReached, not_understood, replied, read_failed, no_memory, IsReachAnswered}
 use Rattle.ncl_reach_top.proofs.Replies.{reach_works, reach_wrong}

@@ -5,8 +5,9 @@ use Rattle.ncl_command.specs.Command.{Arguments, check, command_of}
 use Rattle.ncl_lines.specs.Line.{line}
 use Rattle.ncl_check.specs.Headline.{IsDelayInsensitiveText}
 use Rattle.ncl_check.specs.declared.reply.Outcome.{Outcome}
-use Rattle.ncl_top.specs.Answer.{SourceState, SinkState, CameOut, status_of}
-use Rattle.ncl_top.specs.Given.{IsGiven}
+use Rattle.ncl_reply.specs.Devices.{SourceState, SinkState, CameOut}
+use Rattle.ncl_reply.specs.Status.{status_of}
+use Rattle.ncl_reply.specs.Given.{IsGiven}
 use Rattle.ncl_reach_top.specs.Reply.{IsReachReply, IsWrongForInput}
 
 -- the arguments are those of `check` without its name

@@ -4,13 +4,13 @@ ghost use Rattle.ncl_base.specs.Files.{Rose};
 ghost use Rattle.ncl_base.specs.declared.source.TheConstants.{MOST_BYTES};
 ghost use Rattle.ncl_command.specs.Command.{AllowsNamed, HasLimit, check};
 ghost use Rattle.ncl_command.specs.Meaning.{command_meant};
-ghost use Rattle.ncl_top.specs.Replies.{Gives, Replies};
+ghost use Rattle.ncl_reply.specs.Replies.{Gives, Replies};
 ghost use Rattle.ncl_reach_top.specs.Answered.{IsReachAnswered, IsReachedFile, SaysReached, as_check};
 
 use crate::replying::reply;
 use ncl_base::{Memory, Sink, Source};
 use ncl_command::Command;
-use ncl_top::{Fault, Reply, load_file, status_of, tell};
+use ncl_reply::{Fault, Reply, load_file, status_of, tell};
 use std::alloc::Global;
 
 /// Answers the arguments that follow the program's name, `FILE [--limit N]`, and gives the status to end with.

@@ -15,7 +15,8 @@ use Rattle.ncl_check.proofs.OneReply.{outcome_is}
 use Rattle.ncl_compile.specs.Compiled.{Compiled}
 use Rattle.ncl_command.specs.Command.{Arguments, compile}
 use Rattle.ncl_top.specs.Compiling.{IsCompiledText, plain, merged, IsModelsReply, too_large, compiled, IsCompileReply, no_models, modelled}
-use Rattle.ncl_top.specs.Answer.{WorksAndIsAccepted, IsMergedText, SourceState, SinkState, Ran, CompilesWhatWorks}
+use Rattle.ncl_reply.specs.Devices.{SourceState, SinkState}
+use Rattle.ncl_top.specs.Answer.{WorksAndIsAccepted, IsMergedText, Ran, CompilesWhatWorks}
 use Rattle.ncl_top.proofs.Ends.{replied_well}
 use Rattle.ncl_top.proofs.PlainNames.{writable}
 

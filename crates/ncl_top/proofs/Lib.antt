@@ -1,4 +1,3 @@
-mod Held
 mod ModelsText
 mod CompileStatus
 mod PlainNames
@@ -9,12 +8,11 @@ mod Sameness
 mod Saying
 mod Ends
 mod Statuses
-pub mod Acceptance
+mod Acceptance
 mod Compiled
 mod OneFunction
 mod Running
 mod Demonstrated
 mod SimReplies
-pub mod Refusals
 mod MergedModels
 mod Answered

@@ -16,7 +16,8 @@ use Rattle.ncl_match.specs.declared.answer.Compared.TheVariants.{Same}
 use Rattle.ncl_check.specs.Text.{IsPipelineText}
 use Rattle.ncl_command.specs.Command.{Arguments, matching}
 use Rattle.ncl_top.specs.Matching.{IsMatched, widths, full, differs, same, IsModelsMatched, no_models, compared, IsMatchReply, no_pipeline, piped}
-use Rattle.ncl_top.specs.Answer.{SourceState, SinkState, Ran, HaveOneFunction, MatchesWhatIsSame}
+use Rattle.ncl_reply.specs.Devices.{SourceState, SinkState}
+use Rattle.ncl_top.specs.Answer.{Ran, HaveOneFunction, MatchesWhatIsSame}
 use Rattle.ncl_top.proofs.Ends.{replied_well}
 
 -- bits that don't differ are one

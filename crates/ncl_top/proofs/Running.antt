@@ -10,7 +10,8 @@ use Rattle.ncl_sim.proofs.Existence.{some_run}
 use Rattle.ncl_sim.proofs.Quiet.{sound-ends_quiet, sound-delivers}
 use Rattle.ncl_command.specs.Command.{Arguments, sim, command_of}
 use Rattle.ncl_top.specs.Simulating.{end_status, run_status, run_text, IsRunReply, ran, delayed, piped}
-use Rattle.ncl_top.specs.Answer.{Answer, replied, arguments_determine_text, arguments_determine_status, SourceState, SinkState, Ran, AnswersExactly, SimulatesWhatWorks}
+use Rattle.ncl_reply.specs.Devices.{SourceState, SinkState}
+use Rattle.ncl_top.specs.Answer.{Answer, replied, arguments_determine_text, arguments_determine_status, Ran, AnswersExactly, SimulatesWhatWorks}
 use Rattle.ncl_top.proofs.Ends.{answers_exactly}
 use Rattle.ncl_top.proofs.WordsRead.{words_fit}
 

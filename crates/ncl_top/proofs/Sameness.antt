@@ -9,7 +9,8 @@ use Rattle.ncl_top.specs.Compiling.{IsCompileReply}
 use Rattle.ncl_top.proofs.CompileStatus.{same_compile_status}
 use Rattle.ncl_top.proofs.Matched.{one_match_reply}
 use Rattle.ncl_top.proofs.Simulated.{one_sim_reply}
-use Rattle.ncl_top.specs.Answer.{status_of, IsFileReply, IsReply, Answer, not_understood, replied, arguments_determine_text, determines_text, arguments_determine_status, determines_status}
+use Rattle.ncl_reply.specs.Status.{status_of}
+use Rattle.ncl_top.specs.Answer.{IsFileReply, IsReply, Answer, not_understood, replied, arguments_determine_text, determines_text, arguments_determine_status, determines_status}
 
 -- the bytes that both replies are to
 same_file_reply : (files : Files) (file : List ℕ) (limit : ℕ) (why : Bool) (status other : ℕ) (text line : List ℕ) → IsFileReply (Some files) file limit why status text → IsFileReply (Some files) file limit why other line → (status ≡ other) × (why ≡ false → text ≡ line)

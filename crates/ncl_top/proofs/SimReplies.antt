@@ -14,11 +14,11 @@ use Rattle.ncl_base.specs.declared.word.TheConstants.{MOST_BITS}
 use Rattle.ncl_shape.specs.Pipeline.{PipelineData}
 use Rattle.ncl_shape.specs.Shape.{Shape}
 use Rattle.ncl_cell_roles.proofs.LaidOut.{laid_out_of}
-use Rattle.ncl_top.specs.declared.reply.Reply.{Reply}
-use Rattle.ncl_top.specs.declared.reply.Reply.TheVariants.{Made, Fixed}
-use Rattle.ncl_top.specs.declared.fault.Fault.{Fault}
-use Rattle.ncl_top.specs.Replies.{Gives, Replies}
-use Rattle.ncl_top.proofs.Refusals.{Refuses-weaker}
+use Rattle.ncl_reply.specs.declared.reply.Reply.{Reply}
+use Rattle.ncl_reply.specs.declared.reply.Reply.TheVariants.{Made, Fixed}
+use Rattle.ncl_reply.specs.declared.fault.Fault.{Fault}
+use Rattle.ncl_reply.specs.Replies.{Gives, Replies}
+use Rattle.ncl_reply.proofs.Refusals.{Refuses-weaker}
 use Rattle.ncl_top.specs.Simulating.{AreRefusedDelays, AreRefusedWords, broken_delays, broken_words}
 
 -- a reply that stands in one relation stands in another that follows

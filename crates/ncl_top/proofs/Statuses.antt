@@ -16,7 +16,9 @@ use Rattle.ncl_match.specs.Circuit.{Circuit, circuit_of}
 use Rattle.ncl_top.specs.Matching.{IsMatched, IsModelsMatched, IsMatchReply}
 use Rattle.ncl_top.specs.Matching as compares
 use Rattle.ncl_top.specs.Simulating.{end_status, IsRunReply, IsWordsReply, IsDelaysReply, IsSimReply, no_words, ran, no_delays, delayed, no_pipeline, piped}
-use Rattle.ncl_top.specs.Answer.{status_of, IsReply, Answer, not_understood, replied, SourceState, SinkState, Says, answered, read_failed, no_memory, CameOut, whole, cut_short, Ran}
+use Rattle.ncl_reply.specs.Devices.{SourceState, SinkState, CameOut, whole, cut_short}
+use Rattle.ncl_reply.specs.Status.{status_of}
+use Rattle.ncl_top.specs.Answer.{IsReply, Answer, not_understood, replied, Says, answered, read_failed, no_memory, Ran}
 
 -- neither that of a source that failed nor that of a sink that did
 abbrev IsOfNoFault : ℕ → Type 0

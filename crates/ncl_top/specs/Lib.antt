@@ -1,8 +1,6 @@
-pub mod Given
 pub mod Compiling
 pub mod Simulating
 pub mod Matching
 pub mod Demonstrating
 pub mod Answer
-pub mod Replies
 pub mod Answered

@@ -11,7 +11,7 @@ use Rattle.ncl_match.specs.declared.answer.Compared.TheVariants.{Same, Differ, W
 use Rattle.ncl_match.specs.declared.answer.CompareFault.TheVariants.{Full}
 use Rattle.ncl_lines.specs.Line.{line}
 use Rattle.ncl_check.specs.Text.{IsPipelineText, IsRefusedText}
-use Rattle.ncl_top.specs.Given.{IsGiven}
+use Rattle.ncl_reply.specs.Given.{IsGiven}
 use Rattle.ncl_top.specs.Compiling.{AreModelsText, AreRefusedModels}
 
 -- the line that tells how many bits the words of the netlist and of the models have, at the inputs and at the outputs

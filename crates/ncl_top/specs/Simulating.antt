@@ -19,7 +19,7 @@ use Rattle.ncl_report.specs.DelayText.{delay_line, words_line}
 use Rattle.ncl_report.specs.TraceText.{trace_lines}
 use Rattle.ncl_vcd.specs.RunDump.{dump_of}
 use Rattle.ncl_check.specs.Text.{IsPipelineText, IsRefusedText}
-use Rattle.ncl_top.specs.Given.{IsGiven}
+use Rattle.ncl_reply.specs.Given.{IsGiven}
 
 -- the bytes state these delays for the cells of the netlist, and for the source and the sink
 pub record AreDelaysText (n : NetlistData) (bytes : List ℕ) (d : DelaysData) : Type 0 where

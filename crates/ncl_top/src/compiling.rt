@@ -5,14 +5,14 @@ ghost use Rattle.ncl_compile.specs.declared.fault.CompileFault.TheVariants.{Memo
 ghost use Rattle.ncl_report.specs.CompileText.{compile_line};
 ghost use Rattle.ncl_compile.specs.Compiled.{Compiled};
 ghost use Rattle.ncl_top.specs.Compiling.{IsCompiledText, IsModelsReply};
-ghost use Rattle.ncl_top.specs.Replies.{Gives};
+ghost use Rattle.ncl_reply.specs.Replies.{Gives};
 
-use crate::reply::Reply;
 use ncl_base::Memory;
 use ncl_blif::Model;
 use ncl_compile::{CompileFault, compile};
 use ncl_merge::merge;
 use ncl_netlist::Netlist;
+use ncl_reply::Reply;
 use ncl_report::compile_text;
 use ncl_writer::write_netlist;
 use std::alloc::Global;

@@ -2,24 +2,22 @@
 ghost use Rattle.std.specs.Prelude.{◌≡◌, ◌+◌, ◌*◌, ◌≤◌, IfErr, IfOk, IsErrOf, IsTrue};
 ghost use Rattle.ncl_base.specs.Files.{Rose};
 ghost use Rattle.ncl_base.specs.declared.source.TheConstants.{MOST_BYTES};
-ghost use Rattle.ncl_top.specs.Answer.{IsCompiledFile, IsFileReply, status_of};
+ghost use Rattle.ncl_top.specs.Answer.{IsCompiledFile, IsFileReply};
 ghost use Rattle.ncl_reader.specs.GraphicNames.{HasGraphicNames};
-ghost use Rattle.ncl_top.specs.Given.{IsNetlistFile, IsRefusedFile};
+ghost use Rattle.ncl_reply.specs.Given.{IsNetlistFile, IsRefusedFile};
 ghost use Rattle.ncl_top.specs.Matching.{IsMatchReply, IsModelsMatched};
-ghost use Rattle.ncl_top.specs.Replies.{Refuses, Replies};
+ghost use Rattle.ncl_reply.specs.Replies.{Refuses, Replies};
 ghost use Rattle.ncl_top.specs.Simulating.{IsDelaysReply, IsSimReply, IsWordsReply};
 
 use crate::compiling::compile_models;
-use crate::fault::Fault;
-use crate::loading::load_file;
 use crate::matching::match_models;
 use crate::reading::{delays_in, models_in, words_in};
-use crate::reply::Reply;
 use crate::simulating::run_reply;
 use ncl_base::Source;
-use ncl_check::{Outcome, check, netlist_in, pipeline_in};
+use ncl_check::{check, netlist_in, pipeline_in};
 use ncl_delay::Delays;
 use ncl_netlist::Netlist;
+use ncl_reply::{Fault, Reply, load_file, status_of};
 use ncl_shape::Pipeline;
 use ncl_verdict::Judge;
 use std::alloc::Global;
@@ -218,16 +216,4 @@ fn models_reply<R: Threads + Sync, S: Source>(
     let bytes = load_file(alloc, source, blif, b"blif: too long\n")?;
     let models = models_in(alloc, &bytes)?;
     Ok(match_models(rt, alloc, pipeline, &models, limit)?)
-}
-
-/// The status of a check that ends so.
-pub fn status_of(outcome: Outcome) -> u8
-    ensures { result ≡ status_of outcome }
-{
-    match outcome {
-        Outcome::Accepted => 0,
-        Outcome::Refused => 1,
-        Outcome::NoPipeline => 3,
-        Outcome::Unjudged => 6,
-    }
 }

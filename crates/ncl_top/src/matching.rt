@@ -2,15 +2,15 @@
 ghost use Rattle.std.specs.Prelude.{◌≡◌, ◌≤◌, IfOk};
 ghost use Rattle.ncl_blif.specs.Model.{AreModels};
 ghost use Rattle.ncl_match.specs.Circuit.{circuit_of};
-ghost use Rattle.ncl_top.specs.Replies.{Gives};
+ghost use Rattle.ncl_reply.specs.Replies.{Gives};
 ghost use Rattle.ncl_top.specs.Matching.{IsMatched};
 
 use crate::match_text::{differ_text, widths_text};
-use crate::reply::Reply;
 use ncl_base::Memory;
 use ncl_blif::Model;
 use ncl_check::PARTS;
 use ncl_match::{Bits, CompareFault, Compared, compare};
+use ncl_reply::Reply;
 use ncl_report::limit_text;
 use ncl_shape::Pipeline;
 use std::alloc::Global;

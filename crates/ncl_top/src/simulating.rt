@@ -3,12 +3,12 @@ ghost use Rattle.std.specs.Prelude.{◌≡◌, ◌≤◌, IfOk, length};
 ghost use Rattle.ncl_machine.specs.Run.{AreWordsOf};
 ghost use Rattle.ncl_delay.specs.declared.word_text.TheConstants.{MOST_WORDS};
 ghost use Rattle.ncl_reader.specs.GraphicNames.{HasGraphicNames};
-ghost use Rattle.ncl_top.specs.Replies.{Gives};
+ghost use Rattle.ncl_reply.specs.Replies.{Gives};
 ghost use Rattle.ncl_top.specs.Simulating.{IsRunReply, end_status};
 
-use crate::reply::Reply;
 use ncl_base::{Memory, Word};
 use ncl_delay::Delays;
+use ncl_reply::Reply;
 use ncl_report::trace_text;
 use ncl_shape::Pipeline;
 use ncl_sim::{End, simulate};

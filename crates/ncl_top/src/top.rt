@@ -2,14 +2,15 @@
 ghost use Rattle.std.specs.Prelude.{◌≡◌, ◌+◌, ◌*◌, ◌≤◌, map};
 ghost use Rattle.ncl_base.specs.declared.source.TheConstants.{MOST_BYTES};
 ghost use Rattle.ncl_command.specs.Command.{AllowsNamed, command_of, count_named};
-ghost use Rattle.ncl_top.specs.Answer.{Says, CameOut, AcceptsWhatWorks};
+ghost use Rattle.ncl_reply.specs.Devices.{CameOut};
+ghost use Rattle.ncl_top.specs.Answer.{Says, AcceptsWhatWorks};
 ghost use Rattle.ncl_top.specs.Answered.{IsAnswered};
-ghost use Rattle.ncl_top.specs.Replies.{Gives};
+ghost use Rattle.ncl_reply.specs.Replies.{Gives};
 
-use crate::fault::Fault;
-use crate::reply::{Reply, carry_out};
-use ncl_base::{Sink, Source, deliver};
+use crate::carrying::carry_out;
+use ncl_base::{Sink, Source};
 use ncl_command::Command;
+use ncl_reply::{Fault, Reply, tell};
 use ncl_verdict::{Judge, Stages};
 use std::alloc::Global;
 use std::thread::Threads;
@@ -115,19 +116,5 @@ fn answer<R: Threads + Sync, S: Source, J: Judge + Sync>(
         Err(Fault::Refused(line)) => Reply::Made(3, line),
         Err(Fault::Read) => Reply::Fixed(4, b"read failed\n"),
         Err(Fault::Memory) => Reply::Fixed(7, b"out of memory\n"),
-    }
-}
-
-/// Writes a text, and gives its status, or 5 where the sink fails. Linear in the text.
-pub fn tell<K: Sink>(sink: &mut K, said: u8, text: &[u8]) -> u8
-    ensures tells { CameOut
-        (record { written = K.written sink.old; faults = K.faults sink.old })
-        (record { written = K.written sink.new; faults = K.faults sink.new })
-        said text.now result }
-    ensures faults { K.faults sink.old ≤ K.faults sink.new }
-{
-    match deliver(sink, text) {
-        Ok(()) => said,
-        Err(_) => 5,
     }
 }

@@ -1,21 +1,27 @@
-//! Carries out each command of the file `commands` by the top call, over the files that lie beside it, and prints the
-//! command, what is written, and the status. So a whole run of the program is a line and some files.
+//! The libraries together, from BLIF to a wave; a netlist file whose gates are merged; and then each command of two files
+//! `commands` by the top calls, over the files that lie beside it: those that the pages show, in `examples`, and those that show
+//! one thing each.
 //!
-//! A command that ends with `> NAME` has what it writes kept under that name, as a file for those that follow. The tests are
-//! those that call `run` with sources and sinks that fail, with judges of their own, or very often.
+//! Each command is printed, with what is written and the status: so a whole run of the program is a line and some files.
+//! `bench/commands.py` writes the commands of the pages. What is printed is compared with `stdout`, so that no answer on a page
+//! goes stale.
 #![tactic(auto)]
 
-#[cfg(test)]
-mod asking;
-#[cfg(test)]
-mod edge_tests;
-#[cfg(test)]
-mod parallel_tests;
+mod merging;
+mod script;
+mod whole_way;
 
-use ncl_script::carry_out;
+use merging::print_merged;
+use script::carry_out;
 use std::fs;
+use whole_way::go_all_the_way;
 
 fn main(rt: HostRuntime) -> anyhow::Result<()> {
-    let commands = fs::read_to_string(&rt, "commands")?;
-    carry_out(&rt, &commands)
+    let blif = fs::read(&rt, "examples/full_adder.blif")?;
+    let delays = fs::read(&rt, "examples/unit.delays")?;
+    let words = fs::read(&rt, "examples/three_bits.words")?;
+    go_all_the_way(&rt, &blif, &delays, &words)?;
+    print_merged(&rt, &fs::read(&rt, "examples/and_of_minterms.v")?)?;
+    carry_out(&rt, "examples/")?;
+    carry_out(&rt, "./")
 }

@@ -1,6 +1,6 @@
 use Rattle.std.proofs.Common.{Err, map, ap, sym, ◌∙◌, subst}
 use Rattle.ncl_command.specs.Command.{command_of}
-use Rattle.ncl_top.specs.Replies.{Refuses}
+use Rattle.ncl_reply.specs.Replies.{Refuses}
 use Rattle.ncl_reach_top.specs.Answered.{Asks, IsReachedFile, not_understood, replied, read_failed, no_memory}
 use Rattle.ncl_reach_top.proofs.Ends.{says_reached}
 use Rattle.ncl_reach_top.proofs.top.answer.Goals as goal

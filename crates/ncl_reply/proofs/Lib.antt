@@ -1,0 +1,3 @@
+mod Held
+pub mod Refusals
+pub mod Statuses

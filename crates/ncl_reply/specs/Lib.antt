@@ -1,0 +1,4 @@
+pub mod Given
+pub mod Devices
+pub mod Status
+pub mod Replies

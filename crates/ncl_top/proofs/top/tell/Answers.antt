@@ -1,8 +1,0 @@
-use Rattle.ncl_top.specs.Answer.{whole, cut_short}
-use Rattle.ncl_top.proofs.top.tell.Goals as goal
-
-pub returns-in-Ok-clause-tells : goal.returns-in-Ok-clause-tells
-returns-in-Ok-clause-tells g c = whole c.in-Ok.ensures.ok
-
-pub returns-in-Err-clause-tells : goal.returns-in-Err-clause-tells
-returns-in-Err-clause-tells g c = cut_short c.in-Err.ensures.rose c.in-Err.ensures.part

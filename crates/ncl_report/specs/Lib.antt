@@ -1,5 +1,4 @@
 pub mod BlifText
-pub mod CompileText
 pub mod DelayText
 pub mod TraceText
 pub mod DemoText

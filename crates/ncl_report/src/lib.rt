@@ -3,13 +3,11 @@
 #![tactic(auto)]
 
 mod blif_faults;
-mod compile_faults;
 mod delay_faults;
 mod demos;
 mod traces;
 
 pub use blif_faults::blif_text;
-pub use compile_faults::compile_text;
 pub use delay_faults::{delay_text, words_text};
 pub use demos::demo_text;
 pub use ncl_lines::{limit_text, net_text, push_word, verdict_text};

@@ -1,3 +1,4 @@
+pub mod CompileText
 pub mod Compiling
 pub mod Simulating
 pub mod Matching

@@ -2,7 +2,7 @@
 ghost use Rattle.std.specs.Prelude.{◌≡◌, ◌≢◌, true, false, IfOk, OnOk};
 ghost use Rattle.ncl_blif.specs.Model.{AreModels};
 ghost use Rattle.ncl_compile.specs.declared.fault.CompileFault.TheVariants.{Memory as CompileMemory};
-ghost use Rattle.ncl_report.specs.CompileText.{compile_line};
+ghost use Rattle.ncl_top.specs.CompileText.{compile_line};
 ghost use Rattle.ncl_compile.specs.Compiled.{Compiled};
 ghost use Rattle.ncl_top.specs.Compiling.{IsCompiledText, IsModelsReply};
 ghost use Rattle.ncl_reply.specs.Replies.{Gives};
@@ -10,10 +10,10 @@ ghost use Rattle.ncl_reply.specs.Replies.{Gives};
 use ncl_base::Memory;
 use ncl_blif::Model;
 use ncl_compile::{CompileFault, compile};
+use ncl_lines::{line_of, numbered_line};
 use ncl_merge::merge;
 use ncl_netlist::Netlist;
 use ncl_reply::Reply;
-use ncl_report::compile_text;
 use ncl_writer::write_netlist;
 use std::alloc::Global;
 
@@ -69,13 +69,17 @@ fn merged_text(alloc: Global, models: &[Model], netlist: &Netlist) -> Result<Vec
     Ok(text)
 }
 
-/// The line that tells why models are not compiled, where that isn't want of memory.
+/// The line that tells which limit models pass, with the number of the first model that is too wide, or want of memory.
 fn too_large_text(alloc: Global, fault: CompileFault) -> Result<Vec<u8>, Memory>
     ensures text { IfOk result (λ text. text.items ≡ compile_line fault) }
     ensures memory { OnOk result (fault ≢ CompileMemory) }
 {
     match fault {
+        CompileFault::TooWide(model) => {
+            numbered_line(alloc, b"compile: too wide, model ", model as usize)
+        }
+        CompileFault::TooLong => line_of(alloc, b"compile: too long", b""),
+        CompileFault::TooMany => line_of(alloc, b"compile: too many cells", b""),
         CompileFault::Memory => Err(Memory),
-        fault => compile_text(alloc, &fault),
     }
 }

@@ -1,9 +1,8 @@
 //! The texts that no stored run shows.
 use ncl_blif::BlifFault;
-use ncl_compile::CompileFault;
 use ncl_netlist::BuildFault;
 use ncl_reader::NetFault;
-use ncl_report::{blif_text, compile_text, net_text};
+use ncl_report::{blif_text, net_text};
 use std::test::Fail;
 
 #[test]
@@ -25,13 +24,6 @@ fn tells_of_no_memory_for_a_netlist(rt: HostRuntime) -> Result<(), Fail> {
 #[test]
 fn tells_of_no_memory_for_models(rt: HostRuntime) -> Result<(), Fail> {
     let told = blif_text(rt.alloc(), &BlifFault::Memory)?;
-    assert_eq!(rt; told.as_slice(), b"out of memory\n".as_slice());
-    Ok(())
-}
-
-#[test]
-fn tells_of_no_memory_to_compile(rt: HostRuntime) -> Result<(), Fail> {
-    let told = compile_text(rt.alloc(), &CompileFault::Memory)?;
     assert_eq!(rt; told.as_slice(), b"out of memory\n".as_slice());
     Ok(())
 }

@@ -1,6 +1,5 @@
 //! Operations on signals, added to a pool.
-ghost use Rattle.std.specs.Prelude.{◌≡◌, List, Bool, ℕ, IfOk, length};
-ghost use Rattle.ncl_network.specs.Network.{IsSource};
+ghost use Rattle.std.specs.Prelude.{IfOk};
 ghost use Rattle.ncl_cells.specs.declared.small.Op.TheVariants.{And, Differ, Majority, Choose};
 ghost use Rattle.ncl_cells.specs.Adding.{AddsOp};
 

@@ -1,6 +1,4 @@
 //! What each node of a network becomes.
-ghost use Rattle.std.specs.Prelude.{◌≡◌, ◌<◌, ◌≤◌, IfOk};
-
 use crate::cone::Leaves;
 use crate::cone_table::cone_table;
 use crate::cut::{Cut, NodeCuts, network_cuts, source_of};

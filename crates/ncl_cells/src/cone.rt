@@ -1,5 +1,5 @@
 //! The bits of nodes that depend on few others.
-ghost use Rattle.std.specs.Prelude.{◌≡◌, List, [], ◌∷◌, ◌++◌, Bool, IfOk, IfSome, All, map, slice_get, Some};
+ghost use Rattle.std.specs.Prelude.{◌≡◌, Bool, IfOk, map, Some};
 ghost use Rattle.ncl_blif.specs.Meaning.{cover_value};
 ghost use Rattle.ncl_network.specs.declared.network.SignalSource.{SignalSource};
 ghost use Rattle.ncl_cells.specs.Cones.{IsKnown, Respects, signal_in};

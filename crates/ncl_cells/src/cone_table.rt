@@ -1,6 +1,4 @@
 //! The table of a node over leaves.
-ghost use Rattle.std.specs.Prelude.{◌≡◌, ◌<◌, ◌≤◌, IfOk};
-
 use crate::cone::Leaves;
 use crate::freeing::cone_of;
 use crate::stop::Stop;

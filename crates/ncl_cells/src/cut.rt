@@ -1,6 +1,4 @@
 //! Cuts: for each node of a network, some small sets of sources that it is computed of.
-ghost use Rattle.std.specs.Prelude.{◌≡◌, ◌<◌, ◌≤◌, IfOk};
-
 use ncl_base::Memory;
 use ncl_network::{Network, Node, SignalSource};
 use std::alloc::Global;

@@ -1,6 +1,4 @@
 //! Plans by rules.
-ghost use Rattle.std.specs.Prelude.{◌≡◌, ◌<◌, ◌≤◌, IfOk};
-
 use crate::plan::{Arg, Step};
 use crate::rules::{Planner, Rule, join, others};
 use crate::small::Op;

@@ -1,6 +1,4 @@
 //! What is read no more once a node is made of leaves.
-ghost use Rattle.std.specs.Prelude.{◌≡◌, ◌<◌, ◌≤◌, IfOk};
-
 use crate::cone::Leaves;
 use crate::costs::node_cells;
 use crate::prices::Prices;

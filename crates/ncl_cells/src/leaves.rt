@@ -1,6 +1,4 @@
 //! The order of the leaves that a node is made of.
-ghost use Rattle.std.specs.Prelude.{◌≡◌, ◌<◌, ◌≤◌, IfOk};
-
 use crate::cone::Leaves;
 use crate::levels::signal_level;
 use crate::trying::Reached;

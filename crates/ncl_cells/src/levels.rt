@@ -1,6 +1,4 @@
 //! How many gates stand one after another up to small nodes.
-ghost use Rattle.std.specs.Prelude.{◌≡◌, ◌<◌, ◌≤◌, IfOk};
-
 use crate::small::{Op, Small};
 use ncl_base::Memory;
 use ncl_network::{Signal, SignalSource};

@@ -1,5 +1,5 @@
 //! A network whose nodes stand in another order.
-ghost use Rattle.std.specs.Prelude.{◌≡◌, [], IfOk, IfSome, OnOk};
+ghost use Rattle.std.specs.Prelude.{[], IfOk, IfSome, OnOk};
 ghost use Rattle.std.specs.List.{AllZip};
 ghost use Rattle.ncl_decomp.specs.Split.{IsSplit};
 ghost use Rattle.ncl_cells.specs.Remade.{IsRebuiltOf, IsSameAs};

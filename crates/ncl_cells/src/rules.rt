@@ -1,6 +1,4 @@
 //! How a function of up to four bits is made of small nodes.
-ghost use Rattle.std.specs.Prelude.{◌≡◌, ◌<◌, ◌≤◌, IfOk};
-
 use crate::prices::Prices;
 use crate::table::{cofactor, depends, input, joined, support};
 use ncl_base::Memory;

@@ -1,6 +1,4 @@
 //! What a plan would add to a pool.
-ghost use Rattle.std.specs.Prelude.{◌≡◌, ◌<◌, ◌≤◌, IfOk};
-
 use crate::form::{Form, and, choose, differ, majority};
 use crate::levels::{op_level, signal_level};
 use crate::plan::{Arg, Plan, Step};

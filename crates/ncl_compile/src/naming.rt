@@ -1,5 +1,5 @@
 //! The names of ports and nets of a compiled netlist.
-ghost use Rattle.std.specs.Prelude.{◌≡◌, ◌<◌, ◌^◌, ◌∷◌, ◌++◌, List, [], IfOk, codes, decimal, map};
+ghost use Rattle.std.specs.Prelude.{◌≡◌, ◌<◌, ◌∷◌, ◌++◌, [], IfOk, codes, map};
 ghost use Rattle.std.specs.List.{range_with_len};
 ghost use Rattle.ncl_compile.specs.Ports.{port_pair};
 ghost use Rattle.ncl_compile.specs.InnerNames.{three_digits, numbered, inner_pair, inner_pairs, pairs_driven, root_name, request_name};

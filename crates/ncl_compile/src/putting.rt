@@ -1,5 +1,5 @@
 //! Ports, banks and stages, put together as the parts of a netlist.
-ghost use Rattle.std.specs.Prelude.{◌≡◌, ◌<◌, ◌≤◌, ◌++◌, List, [], ◌∷◌, length, codes, IfOk, OnOk};
+ghost use Rattle.std.specs.Prelude.{◌≡◌, ◌<◌, ◌≤◌, ◌++◌, [], ◌∷◌, IfOk, OnOk};
 ghost use Rattle.std.specs.List.{flat_map};
 ghost use Rattle.ncl_base.specs.declared.word.TheConstants.{MOST_BITS};
 ghost use Rattle.ncl_blif.specs.Model.{AreModels};

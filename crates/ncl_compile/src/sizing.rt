@@ -1,5 +1,5 @@
 //! How large models are.
-ghost use Rattle.std.specs.Prelude.{◌≡◌, ◌≤◌, ◌<◌, ◌^◌, IsTrue, ◌↔◌, IfErr, OnOk};
+ghost use Rattle.std.specs.Prelude.{◌≡◌, ◌≤◌, ◌<◌, IsTrue, ◌↔◌, IfErr, OnOk};
 ghost use Rattle.ncl_blif.specs.Model.{AreModels, most_size, weight_of_rows};
 ghost use Rattle.ncl_network.specs.Network.{weight_of_model};
 ghost use Rattle.ncl_compile.specs.Size.{compile_size, IsSlim, IsCompileFault, CanBeCompiled};

@@ -1,6 +1,5 @@
 //! The line that tells a verdict on a pipeline.
-ghost use Rattle.std.specs.Prelude.{◌≡◌, ◌+◌, ◌<◌, ◌^◌, ◌++◌, IfOk, OnOk, codes, decimal, length};
-ghost use Rattle.ncl_base.specs.Words.{text_of as word_text};
+ghost use Rattle.std.specs.Prelude.{◌≡◌, ◌+◌, ◌<◌, ◌^◌, ◌++◌, IfOk, codes, decimal, length};
 ghost use Rattle.ncl_lines.specs.Line.{line};
 ghost use Rattle.ncl_lines.specs.VerdictText.{verdict_line, refusal, NamesCellOf};
 

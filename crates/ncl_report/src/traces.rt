@@ -1,5 +1,5 @@
 //! The lines that tell a run.
-ghost use Rattle.std.specs.Prelude.{◌≡◌, ◌+◌, ◌<◌, ◌^◌, ◌++◌, ◌==◌, IfOk, OnOk, codes, decimal, length};
+ghost use Rattle.std.specs.Prelude.{◌≡◌, ◌+◌, ◌<◌, ◌++◌, ◌==◌, IfOk, OnOk, codes, decimal};
 ghost use Rattle.ncl_machine.specs.Held.{InRange};
 ghost use Rattle.ncl_sim.specs.TimedRun.{last_time};
 ghost use Rattle.ncl_report.specs.TraceText.{NamesItemOf, counts, end_line, end_words, mark_of, marks, quiet_word, taken_line, taken_lines, trace_lines, who};

@@ -1,5 +1,5 @@
 //! What `match` replies to a pipeline and models.
-ghost use Rattle.std.specs.Prelude.{◌≡◌, ◌≤◌, IfOk};
+ghost use Rattle.std.specs.Prelude.{◌≤◌, IfOk};
 ghost use Rattle.ncl_blif.specs.Model.{AreModels};
 ghost use Rattle.ncl_match.specs.Circuit.{circuit_of};
 ghost use Rattle.ncl_reply.specs.Replies.{Gives};

@@ -2,7 +2,6 @@
 ghost use Rattle.std.specs.Prelude.{◌≡◌, ◌+◌, ◌*◌, ◌≤◌, map};
 ghost use Rattle.ncl_base.specs.declared.source.TheConstants.{MOST_BYTES};
 ghost use Rattle.ncl_command.specs.Command.{AllowsNamed, command_of, count_named};
-ghost use Rattle.ncl_reply.specs.Devices.{CameOut};
 ghost use Rattle.ncl_top.specs.Answer.{Says, AcceptsWhatWorks};
 ghost use Rattle.ncl_top.specs.Answered.{IsAnswered};
 ghost use Rattle.ncl_reply.specs.Replies.{Gives};

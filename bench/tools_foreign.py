@@ -1,4 +1,4 @@
-"""Tests of what carries netlists in and reports on them: carry_in, bench, ports, report, prepare. `bench/tools.py` runs them."""
+"""Tests of what carries netlists in and reports on them: carry_in, bench, ports, report. `bench/tools.py` runs them."""
 import itertools
 import random
 import re
@@ -282,50 +282,3 @@ def report_refuses_in_one_line(folder):
         refuses("report", "--no-runs", "--lib", folder / "bad.lib", EXAMPLES / "and.v")
     refuses("report", "--nclc", folder / "absent", EXAMPLES / "and.v")
     refuses("report", status=2)
-
-
-def prepared(folder, blif, *options):
-    """What prepare makes of a text, its remarks, and the gates of what is compiled of it."""
-    text = tool("prepare", "--nclc", PROGRAM[0], *options, blif)
-    (folder / "new.blif").write_text(text)
-    (folder / "new.v").write_text(nclc("compile", folder / "new.blif"))
-    return [line for line in text.split("\n") if line[:1] == "#"], sum(int(row.get("gates", 0)) for row in table_of(tool("report", "--no-runs", folder / "new.v")))
-
-
-@needing("berkeley-abc", "yosys")
-def prepare_keeps_the_least_of_each_model(folder):
-    """A rotation loses gates and stays what it was; two models are prepared each by itself; nothing gets worse."""
-    (folder / "rotate.v").write_text("module m (input [7:0] d, input [2:0] by, output [7:0] q); assign q = d << by | d >> (8 - by); endmodule\n")
-    ran(["yosys", "-q", "-p", "read_verilog rotate.v; synth -flatten; abc -g AND,XOR; opt_clean -purge; write_blif rotate.blif"], folder=folder)
-    for name, most in (("rotate", 0.6), ("multiplier4", 1), ("add8", 1)):
-        blif = folder / "rotate.blif" if name == "rotate" else EXAMPLES / f"{name}.blif"
-        (folder / "old.v").write_text(nclc("compile", blif))
-        before = sum(int(row.get("gates", 0)) for row in table_of(tool("report", "--no-runs", folder / "old.v")))
-        remarks, gates = prepared(folder, blif, "--rounds", "1")
-        same(sum(int(re.match(r"# kept: (\d+) gates", line)[1]) for line in remarks if "kept" in line), gates)
-        assert gates <= before * most and any("yosys: " in line for line in remarks), (name, gates, before)
-        same((name, nclc("match", folder / "new.v", blif)), (name, "same\n"))
-
-
-@needing("berkeley-abc")
-def prepare_keeps_bounds(folder):
-    blif = EXAMPLES / "exercise_3.blif"
-    remarks, _ = prepared(folder, blif, "--rounds", "1", "--transistors")
-    counts = [int(line.split(", ")[1].split()[0]) for line in remarks if " transistors" in line]
-    same(counts[0], min(counts))
-    depths = [int(re.search(r"(\d+) on the longest way", line)[1]) for line in remarks if " gates" in line]
-    remarks, _ = prepared(folder, blif, "--rounds", "1", "--depth", max(depths), "--limit", 1000)
-    assert "is within the bounds" not in remarks[0]
-    assert "nothing that was tried is within the bounds" in refuses("prepare", "--nclc", PROGRAM[0], "--depth", min(depths) - 1 or 1, "--limit", 3, EXAMPLES / "add8.blif")
-
-
-@needing("berkeley-abc")
-def prepare_refuses_in_one_line(folder):
-    file = folder / "bad.blif"
-    for text in ("", "\x7fELF\0\xff", (EXAMPLES / "latch.blif").read_text(), ".model m\n.inputs a\n.outputs z\n", "." * 17000000):
-        file.write_text(text, "latin-1")
-        assert "blif: " in refuses("prepare", "--nclc", PROGRAM[0], file), text[:40]
-    refuses("prepare", "--nclc", folder / "absent", EXAMPLES / "and.blif")
-    refuses("prepare", "--nclc", PROGRAM[0], folder / "absent")
-    refuses("prepare", "--nclc", PROGRAM[0], "--depth", "x", EXAMPLES / "and.blif", status=2)
-    refuses("prepare", status=2)

@@ -29,3 +29,15 @@ def models(text):
         if line.strip():
             parts[-1].append(line.strip() + "\n")
     return ["".join(part) for part in parts]
+
+
+def pieces(text):
+    """The text cut where a model begins, with all that stands there; remarks before the first model are the first one's."""
+    parts, said = [""], False
+    for line, was in logical_lines(text):
+        if said and line.split()[:1] == [".model"]:
+            parts.append("")
+        said = said or bool(line.strip())
+        parts[-1] += was + "\n"
+    parts[-1] = parts[-1][:-1]
+    return parts

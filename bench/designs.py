@@ -4,7 +4,8 @@
     bench/designs.py FOLDER [--form NAME ..] [--design NAME ..]
 
 The designs are the modules of bench/designs/designs.v. There are larger ones, which have the form yosys-pairs alone: the stages
-of examples/aes_column.v, SubBytes of 128 bits, which is made of them, and two products. Each goes to FOLDER/DESIGN.FORM.blif,
+of examples/aes_column.v, SubBytes of 128 bits, which is made of them, and two products; and a rotation of 32 bits, which has the
+forms of Yosys. Each goes to FOLDER/DESIGN.FORM.blif,
 where it doesn't stand there yet. yosys and berkeley-abc have to be on the path. The forms are
 
     yosys-plain   the operators as they are, mapped to gates          abc-aig      ABC, a network of ANDs
@@ -28,7 +29,7 @@ from script import Parser, Refused, carry_out
 DESIGNS = HERE / "designs/designs.v"
 COLUMN, PRODUCTS = [HERE.parent / "examples/aes_column.v", HERE / "designs/sub_state.v"], [HERE / "designs/products.v"]
 LARGER = {"sub_bytes": COLUMN, "mix_columns": COLUMN, "mix_state": COLUMN, "sub_state": COLUMN,
-          "mul8": PRODUCTS, "mul12": PRODUCTS}
+          "mul8": PRODUCTS, "mul12": PRODUCTS, "rotate32": [HERE / "designs/rotate32.v"]}
 PLAIN = "hierarchy -top {}; proc; flatten; opt; memory; opt; techmap; opt"
 PAIRS = "synth -flatten -top {}; abc -g AND,XOR; opt_clean -purge"
 YOSYS = {"yosys-plain": PLAIN, "yosys-gates": "synth -flatten -top {}", "yosys-pairs": PAIRS,
@@ -59,7 +60,7 @@ def width(blif):
 def written(design, form, folder):
     """The text of a design in a form, or None where it has none; what it is made of is written too."""
     file = folder / f"{design}.{form}.blif"
-    if design in LARGER and form != "yosys-pairs":
+    if design in LARGER and form not in (YOSYS if design == "rotate32" else ["yosys-pairs"]):
         return None
     if form in ABC:
         plain = written(design, "yosys-plain", folder)

@@ -241,6 +241,50 @@ def merged_row(bench, draw, _):
     return [told[name][what] for what in ("gates", "longest") for name in texts]
 
 
+def prepared(bench, design, *options):
+    """The text that tools/prepare makes of the tables of a design by this program; it stays with the forms for another time."""
+    file = bench.forms / f"{design}.prepared-{zlib.crc32(pathlib.Path(bench.program).read_bytes()):08x}.blif"
+    if not file.exists():
+        given = designs.written(design, "yosys-tables", bench.forms)
+        done = subprocess.run([TOP / "tools/prepare", "--nclc", bench.program, *options, given], capture_output=True, text=True)
+        if done.returncode:
+            raise Refused(f"prepare, {design}: {done.stderr.strip()[-200:]}")
+        file.write_text(done.stdout)
+    return file
+
+
+def prepared_row(bench, names, _):
+    """The gates, transistors and gates on the longest ways of designs, before and after they are prepared; each is to be accepted."""
+    before, after = [], []
+    for design in names:
+        before.append(bench.of_form(design, "yosys-tables"))
+        after.append(bench.compiled(f"{design}.prepared", prepared(bench, design).read_text()))
+        if bench.run("check", after[-1][1])[0]:
+            raise Refused(f"{after[-1][1].name}: not accepted")
+    sums = [[counts(text) for _, _, text in each] for each in (before, after)]
+    return [sum(each[what] for each in told) for what in ("gates", "transistors", "depth") for told in sums]
+
+
+def adder_row(bench, design, _):
+    """The gates of an adder in two forms of Yosys, and those on its longest way."""
+    told = [counts(bench.of_form(design, form)[2]) for form in ("yosys-pairs", "yosys-tables")]
+    return [each[what] for what in ("gates", "longest") for each in told]
+
+
+def rotation_row(bench, form, page):
+    """The gates of a rotation of 32 bits in a form, and the least limit with which `check` accepts it."""
+    if form == "prepared":
+        made = bench.compiled("rotate32.prepared", prepared(bench, "rotate32", "--limit", "100000").read_text())
+    elif form == "reversed":
+        text = designs.written("rotate32", "yosys-tables", bench.forms).read_text()
+        turned = re.sub(r"^(\.outputs)(.*)$", lambda found: " ".join([found[1], *found[2].split()[::-1]]), text, flags=re.MULTILINE)
+        made = bench.compiled("rotate32.reversed", turned)
+    else:
+        made = bench.of_form("rotate32", form)
+    accepted = bench.run("check", made[1], "--limit", MOST_NODES)[0] == 0
+    return [counts(made[2])["gates"], bench.checked(made[1], guessed(page, 2)) if accepted else f"more than {MOST_NODES:,}"]
+
+
 def memory_row(bench, words, _):
     """How many requests for memory a run makes, and how the runs end in which one is refused."""
     return refused_memory.ends(bench.program, words)
@@ -285,6 +329,11 @@ PRODUCTS = {"a product of 8 bits by 8": ["mul8"], "a product of 12 bits by 12": 
 AREAS = {"a full adder": "full_adder.blif", "an adder of 8 bits": "add8.blif", "an adder of 16 bits": "add16_in_turn.blif",
          "a product of 4 bits by 4, two stages": "multiplier4.blif",
          "a half adder, an inverter and an OR, three stages": "three_stages.blif"}
+PREPARED = {**{name: [name] for name in designs.modules()}, "all 22": designs.modules()}
+ROTATIONS = {
+    "Yosys, tables of up to four inputs": "yosys-tables", "Yosys, its own gates": "yosys-gates",
+    "Yosys, nodes of two inputs": "yosys-pairs", "the tables, with the last output first and the first one last": "reversed",
+    "the tables behind `prepare --limit 100000`": "prepared"}
 MEMORY = dict(zip(("`check` of an AND of two bits", "the same with `--limit 5`",
                    "`check --why` of the AND beside a gate that nothing waits for", "`sim` of two banks joined by wires, two words",
                    "`sim --vcd` of them, one word", "`compile` of a XOR and an AND",
@@ -297,7 +346,10 @@ TABLES = {
     "sizes": ("compiler.md", "| models | cells |", size_row, SIZES),
     "merging": ("compiler.md", "| netlist | gates | merged |", merged_row, minterms.NETLISTS),
     "scripts": ("from-verilog.md", "| what `compile` is given |", script_row, SCRIPTS),
+    "adders": ("from-verilog.md", "| adder with a carry in |", adder_row, {f"{bits} bits": f"add{bits}" for bits in (8, 16, 32)}),
+    "prepared": ("from-verilog.md", "| design | gates | prepared |", prepared_row, PREPARED),
     "check": ("speed.md", "| `check` | cells | nodes |", check_row, CHECKS),
+    "rotations": ("limits.md", "| a rotation of 32 bits |", rotation_row, ROTATIONS),
     "match": ("speed.md", "| `match` | cells | nodes |", match_row, MATCHES),
     "operands": ("limits.md", "| models | bits in turn |", operands_row, OPERANDS),
     "memory": ("limits.md", "| run | requests |", memory_row, MEMORY),
@@ -316,7 +368,7 @@ def counted(bench, row, count, what):
     """The line of a table with what is counted in its first columns behind the name."""
     cells = cells_of(row)
     for column, value in enumerate(count(bench, what, cells), 1):
-        cells[column] = f"{value:,}"
+        cells[column] = value if isinstance(value, str) else f"{value:,}"
     return "|" + "".join(f" {cell} |" if cell else " |" for cell in cells)
 
 

@@ -1,5 +1,6 @@
 """Tests of prepare. `bench/tools.py` runs them."""
 import os
+import pathlib
 import re
 import subprocess
 
@@ -66,14 +67,16 @@ def prepare_leaves_what_is_best(folder):
 
 @needing("berkeley-abc")
 def prepare_keeps_bounds(folder):
-    """With each depth that something tried has, nothing deeper is kept; and of all the fewest transistors."""
-    blif = EXAMPLES / "exercise_3.blif"
+    """With each depth that something tried has, the best that is no deeper is kept; and of all the fewest transistors."""
+    blif = folder / "products.blif"
+    blif.write_text(pieces((EXAMPLES / "multiplier4.blif").read_text())[0])
     _, told, before, after = prepared(folder, blif, "--transistors", "--all")
     tried = [numbers(row) for row in re.findall(rf"tried, {COUNTS}", told)] + before
     same(after[0][1], min(area for _, area, _ in tried))
-    for depth in sorted({depth for _, _, depth in tried}):
-        kept = prepared(folder, blif, "--depth", depth, "--limit", 1000)[3]
-        same(kept[0], min(row for row in tried if row[2] <= depth))
+    depths = sorted({depth for _, _, depth in tried})
+    kept = [prepared(folder, blif, "--depth", depth, "--limit", 1000)[3][0] for depth in depths]
+    same(kept, [min(row for row in tried if row[2] <= depth) for depth in depths])
+    assert kept[0][0] > kept[-1][0], kept
     words = [TOOLS / "prepare", "--nclc", PROGRAM[0], "--rounds", "1", "--limit", "3", EXAMPLES / "add8.blif"]
     done = subprocess.run(words, capture_output=True, text=True)
     assert (done.returncode, done.stdout) == (1, "") and "model 1: nothing that was tried is within the bounds" in done.stderr, done
@@ -82,7 +85,7 @@ def prepare_keeps_bounds(folder):
 @needing("berkeley-abc")
 def prepare_passes_over_what_fails(folder):
     """An ABC that never ends, one that writes nothing and one that writes another function: each is told, and the text stays."""
-    for name, body, told in (("slow", "sleep 50 & wait", "no end in 1 seconds"), ("none", "exit 1", "no model comes of it"),
+    for name, body, told in (("slow", "sleep 50 & echo $! > $(dirname $0)/pid; wait", "no end in 1 seconds"), ("none", "exit 1", "no model comes of it"),
                              ("wrong", f"printf '{WIRES}' > new.blif", "not found equal"),
                              ("ends", f"printf '{WIRES.replace('y z', 'z y')}' > new.blif", "other inputs or outputs")):
         home, blif = folder / name, folder / f"{name}.blif"
@@ -94,6 +97,8 @@ def prepare_passes_over_what_fails(folder):
                               env={**os.environ, "PATH": f"{home}:{os.environ['PATH']}"}, timeout=60)
         same((done.returncode, done.stdout), (0, TWO))
         assert f"prepare: model 1: passed over, {told}: abc: " in done.stderr, (name, done.stderr)
+    below = pathlib.Path("/proc", (folder / "slow/pid").read_text().strip(), "stat")
+    assert not below.exists() or " Z " in below.read_text(), "what a script started goes on behind it"
 
 
 @needing("berkeley-abc")

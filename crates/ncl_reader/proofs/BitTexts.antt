@@ -5,10 +5,10 @@ use Rattle.std.specs.Str.Parse.{AllDigits, digits_value}
 use Rattle.std.proofs.lemmas.Bool.{cases_lt}
 use Rattle.std.proofs.lemmas.Fmt.{decimal_is_IsNumeral, decimal_digit, first_decimal, length-decimal-le, decimal-digits_value}
 use Rattle.std.proofs.lemmas.Str.Parse.{IsNumeralModel}
-use Rattle.std.proofs.lemmas.List.{append_assoc}
+use Rattle.std.proofs.lemmas.List.{append_assoc, same_from_push}
 use Rattle.ncl_reader.specs.Vectors.{IsTooLarge, bit_name}
 use Rattle.ncl_reader.specs.BitNames.{HasBracketAt}
-use Rattle.ncl_reader.proofs.Bits.{without_last}
+use Rattle.ncl_reader.proofs.Bits.{NoOpen, digits_open, one_open}
 
 own : IsNumeralModel (AllDigits 10) (digits_value 10)
 own = record { to = λ ds all. all; from = λ ds all. all; same = λ ds all. refl }
@@ -67,32 +67,13 @@ bracket-front bytes n some within other none front rest e = by front (sym parts 
     by [] e = let same : get_or bytes (n - 1) 0 ≡ 91 = cc in other same
     by (f ∷ front) e = let more : drop n bytes ≡ front ++ 91 ∷ rest = cc in none front rest more
 
--- no bracket stands
-abbrev pub NoOpen : List ℕ → Type 0
-NoOpen bytes = (front rest : List ℕ) → bytes ≢ front ++ 91 ∷ rest
-
-digits_open : (digits front rest : List ℕ) → AllDigits 10 digits → digits ≡ front ++ 91 ∷ rest → ⊥
-digits_open [] [] rest all e = absurd cc
-digits_open [] (f ∷ front) rest all e = absurd cc
-digits_open (c ∷ digits) [] rest all e = let same : c ≡ 91 = cc in bracket (subst (λ b. AllDigits 10 (b ∷ digits)) same all)
-  where
-    bracket : AllDigits 10 (91 ∷ digits) → ⊥
-    bracket all = omega (arith, all.0)
-digits_open (c ∷ digits) (f ∷ front) rest all e = let others : digits ≡ front ++ 91 ∷ rest = cc in digits_open digits front rest all.1 others
-
-one_open : (v w d e : List ℕ) → NoOpen d → NoOpen e → v ++ 91 ∷ d ≡ w ++ 91 ∷ e → d ≡ e
-one_open [] [] d e ds es same = let rest : d ≡ e = cc in rest
-one_open [] (x ∷ w) d e ds es same = absurd (ds w e (let rest : d ≡ w ++ 91 ∷ e = cc in rest))
-one_open (x ∷ v) [] d e ds es same = absurd (es v d (let rest : e ≡ v ++ 91 ∷ d = cc in rest))
-one_open (x ∷ v) (y ∷ w) d e ds es same = one_open v w d e ds es (let rest : v ++ 91 ∷ d ≡ w ++ 91 ∷ e = cc in rest)
-
 -- the name of a bit without its `]`
 inner_of : (name inner vector : List ℕ) (k : ℕ) → name ≡ inner ++ 93 ∷ [] → name ≡ bit_name vector k → inner ≡ vector ++ 91 ∷ decimal k
-inner_of name inner vector k ends is = without_last inner (vector ++ 91 ∷ decimal k) (sym ends ∙ is ∙ sym (append_assoc vector (91 ∷ decimal k) (93 ∷ [])))
+inner_of name inner vector k ends is = (same_from_push inner (vector ++ 91 ∷ decimal k) 93 93 (sym ends ∙ is ∙ sym (append_assoc vector (91 ∷ decimal k) (93 ∷ [])))).0
 
 pub no_bit_open : (name inner : List ℕ) → name ≡ inner ++ 93 ∷ [] → NoOpen inner → (vector : List ℕ) (k : ℕ) → k < 65536 → name ≢ bit_name vector k
 no_bit_open name inner ends none vector k small is = none vector (decimal k) (inner_of name inner vector k ends is)
 
 pub no_bit_number : (name inner : List ℕ) (place : ℕ) → name ≡ inner ++ 93 ∷ [] → HasBracketAt inner place → ((k : ℕ) → k < 65536 → drop (place + 1) inner ≢ decimal k) → (vector : List ℕ) (k : ℕ) → k < 65536 → name ≢ bit_name vector k
 no_bit_number name inner place ends at none vector k small is =
-    none k small (one_open (take place inner) vector (drop (place + 1) inner) (decimal k) at.last (λ front rest. digits_open (decimal k) front rest (decimal-digits k small)) (sym at.parts ∙ inner_of name inner vector k ends is))
+    none k small (one_open (take place inner) vector (drop (place + 1) inner) (decimal k) at.last (digits_open (decimal k) (decimal-digits k small)) (sym at.parts ∙ inner_of name inner vector k ends is)).1

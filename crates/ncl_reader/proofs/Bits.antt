@@ -1,55 +1,50 @@
 -- The names of bits, and the numbers of a vector.
-use Rattle.std.proofs.Common.{◌≡◌, ℕ, zero, suc, ◌+◌, ◌-◌, ◌^◌, ◌<◌, ◌≤◌, arith, List, [], ◌∷◌, ◌++◌, length, get_or, Bool, true, false, cond, refl, sym, ap, ◌∙◌, subst}
+use Rattle.std.proofs.Common.{◌≡◌, ℕ, zero, suc, ◌+◌, ◌-◌, ◌^◌, ◌<◌, ◌≤◌, arith, List, [], ◌∷◌, ◌++◌, length, get_or, Bool, true, false, cond, refl, sym, ◌∙◌, subst, ◌≢◌, inl, inr}
 use Rattle.std.specs.Prelude.{decimal, nat_le}
 use Rattle.std.specs.Str.Parse.{AllDigits}
 use Rattle.std.proofs.lemmas.Bool.{false≢true, le-leb, leb-true}
 use Rattle.std.proofs.lemmas.Fmt.{decimal_is_IsNumeral, decimal_injective}
 use Rattle.ncl_reader.specs.declared.span.Span.{Span}
 use Rattle.ncl_reader.specs.Vectors.{width, bit_name, up_from, down_from, numbers_of}
+use Rattle.std.proofs.lemmas.List.{same_from_push}
+use Rattle.ncl_base.proofs.Growing.{split_push}
+use Rattle.ncl_reader.proofs.Breaking.{no_token}
 
--- digits and a `]` have no `[`
-no_bracket : (digits more rest : List ℕ) → AllDigits 10 digits → digits ++ 93 ∷ [] ≡ more ++ 91 ∷ rest → ⊥
-no_bracket [] [] rest all e = let same : 93 ≡ 91 = ap (λ l. get_or l 0 0) e in omega (arith, same)
-no_bracket [] (m ∷ []) rest all e = absurd cc
-no_bracket [] (m ∷ n ∷ more) rest all e = absurd cc
-no_bracket (c ∷ digits) [] rest all e =
-    let same : c ≡ 91 = ap (λ l. get_or l 0 0) e in
-    bracket (subst (λ b. AllDigits 10 (b ∷ digits)) same all)
+-- no `[` stands
+abbrev pub NoOpen : List ℕ → Type 0
+NoOpen bytes = (front rest : List ℕ) → bytes ≢ front ++ 91 ∷ rest
+
+-- digits have none, nor have they with a `]`
+pub digits_open : (digits : List ℕ) → AllDigits 10 digits → NoOpen digits
+digits_open [] all front rest e = no_token front rest 91 e
+digits_open (c ∷ digits) all [] rest e = let same : c ≡ 91 = cc in bracket (subst (λ b. AllDigits 10 (b ∷ digits)) same all)
   where
     bracket : AllDigits 10 (91 ∷ digits) → ⊥
     bracket all = omega (arith, all.0)
-no_bracket (c ∷ digits) (m ∷ more) rest all e =
-    let others : digits ++ 93 ∷ [] ≡ more ++ 91 ∷ rest = cc in
-    no_bracket digits more rest all.1 others
+digits_open (c ∷ digits) all (f ∷ front) rest e = let others : digits ≡ front ++ 91 ∷ rest = cc in digits_open digits all.1 front rest others
+
+closed_open : (digits : List ℕ) → AllDigits 10 digits → NoOpen (digits ++ 93 ∷ [])
+closed_open digits all front rest e = elim (split_push digits 93 front 91 rest e) [
+  | inl (same, last) ↦ omega (arith, last)
+  | inr (left, inside) ↦ digits_open digits all front left inside
+]
 
 -- two texts with a `[`, behind which none stands, are cut there alike
-one_bracket : (v w d e : List ℕ) → AllDigits 10 d → AllDigits 10 e → v ++ 91 ∷ (d ++ 93 ∷ []) ≡ w ++ 91 ∷ (e ++ 93 ∷ []) → (v ≡ w) × (d ++ 93 ∷ [] ≡ e ++ 93 ∷ [])
-one_bracket [] [] d e ds es same = (refl, let rest : d ++ 93 ∷ [] ≡ e ++ 93 ∷ [] = cc in rest)
-one_bracket [] (x ∷ w) d e ds es same = absurd (no_bracket d w (e ++ 93 ∷ []) ds (let rest : d ++ 93 ∷ [] ≡ w ++ 91 ∷ (e ++ 93 ∷ []) = cc in rest))
-one_bracket (x ∷ v) [] d e ds es same = absurd (no_bracket e v (d ++ 93 ∷ []) es (let rest : e ++ 93 ∷ [] ≡ v ++ 91 ∷ (d ++ 93 ∷ []) = cc in rest))
-one_bracket (x ∷ v) (y ∷ w) d e ds es same =
-    let here : x ≡ y = cc in
-    let rest : v ++ 91 ∷ (d ++ 93 ∷ []) ≡ w ++ 91 ∷ (e ++ 93 ∷ []) = cc in
-    let (fronts, backs) = one_bracket v w d e ds es rest in
-    (ap (λ l. x ∷ l) fronts ∙ ap (λ b. b ∷ w) here, backs)
-
--- without its last byte
-pub without_last : (d e : List ℕ) → d ++ 93 ∷ [] ≡ e ++ 93 ∷ [] → d ≡ e
-without_last [] [] same = refl
-without_last [] (y ∷ []) same = absurd cc
-without_last [] (y ∷ z ∷ e) same = absurd cc
-without_last (x ∷ []) [] same = absurd cc
-without_last (x ∷ z ∷ d) [] same = absurd cc
-without_last (x ∷ d) (y ∷ e) same =
-    let here : x ≡ y = cc in
-    let rest : d ++ 93 ∷ [] ≡ e ++ 93 ∷ [] = cc in
-    ap (λ l. x ∷ l) (without_last d e rest) ∙ ap (λ b. b ∷ e) here
+pub one_open : (v w d e : List ℕ) → NoOpen d → NoOpen e → v ++ 91 ∷ d ≡ w ++ 91 ∷ e → (v ≡ w) × (d ≡ e)
+one_open [] [] d e ds es same = (refl, let rest : d ≡ e = cc in rest)
+one_open [] (x ∷ w) d e ds es same = absurd (ds w e (let rest : d ≡ w ++ 91 ∷ e = cc in rest))
+one_open (x ∷ v) [] d e ds es same = absurd (es v d (let rest : e ≡ v ++ 91 ∷ d = cc in rest))
+one_open (x ∷ v) (y ∷ w) d e ds es same =
+    let heads : x ≡ y = cc in
+    let rest : v ++ 91 ∷ d ≡ w ++ 91 ∷ e = cc in
+    let (fronts, backs) = one_open v w d e ds es rest in
+    ((λ i. heads i ∷ fronts i), backs)
 
 -- the name of a bit tells the vector and the number
 pub bit_name-injective : (v w : List ℕ) (k j : ℕ) → k < 2 ^ 64 → j < 2 ^ 64 → bit_name v k ≡ bit_name w j → (v ≡ w) × (k ≡ j)
 bit_name-injective v w k j few less same =
-    let (fronts, backs) = one_bracket v w (decimal k) (decimal j) (decimal_is_IsNumeral k few).0.1 (decimal_is_IsNumeral j less).0.1 same in
-    (fronts, decimal_injective k j few less (without_last (decimal k) (decimal j) backs))
+    let (fronts, backs) = one_open v w (decimal k ++ 93 ∷ []) (decimal j ++ 93 ∷ []) (closed_open (decimal k) (decimal_is_IsNumeral k few).0.1) (closed_open (decimal j) (decimal_is_IsNumeral j less).0.1) same in
+    (fronts, decimal_injective k j few less (same_from_push (decimal k) (decimal j) 93 93 backs).0)
 
 -- the numbers of a vector: as many as its width
 pub length-up_from : (k n : ℕ) → length (up_from k n) ≡ n

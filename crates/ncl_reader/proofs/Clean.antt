@@ -1,31 +1,31 @@
 -- Lists of tokens in which no rule is broken.
-use Rattle.std.proofs.Common.{◌≡◌, List, [], ◌∷◌, ◌++◌, Option, Some, None, refl, sym, ap, ◌∙◌, subst}
+use Rattle.std.proofs.Common.{[], ◌≡◌, List, ◌∷◌, ◌++◌, Option, Some, None, refl, sym, ap, ◌∙◌, subst}
 use Rattle.std.specs.Prelude.{option_and_then}
 use Rattle.std.proofs.lemmas.Option.{same_Some, none-some}
 use Rattle.ncl_reader.specs.Lexemes.{Lexeme}
 use Rattle.ncl_reader.specs.Grammar.{Text, text_phrase}
-use Rattle.ncl_reader.specs.Rules.{BreaksRule, Breaks, NoneBreaks}
+use Rattle.ncl_reader.specs.Rules.{Breaks, NoneBreaks}
 use Rattle.ncl_reader.specs.Partial.{Partial, start, done, spelled}
 use Rattle.ncl_reader.proofs.Steps.{step, run}
 use Rattle.ncl_reader.proofs.Runs.{run-append, run-spelled}
 use Rattle.ncl_reader.proofs.Grows.{grows-run}
 use Rattle.ncl_reader.proofs.Viable.{front_run, not_taken}
-use Rattle.ncl_reader.proofs.Breaking.{breaks-taken}
+use Rattle.ncl_reader.proofs.Breaking.{breaks-taken, no_token}
 use Rattle.ncl_reader.proofs.PlainNames.{NoBracket, front_none}
+use Rattle.ncl_reader.proofs.RulesAt.{BreaksAt, breaks-here}
 
 -- from a partial tree on, no token of the list breaks a rule
 abbrev pub Clean : Partial → List Lexeme → Type 0
-Clean p xs = (before : List Lexeme) (t : Lexeme) (after : List Lexeme) (q : Partial) → xs ≡ before ++ t ∷ after → run p before ≡ Some q → NoBracket (spelled q) → BreaksRule (spelled q) t → ⊥
+Clean p xs = (before : List Lexeme) (t : Lexeme) (after : List Lexeme) (q : Partial) → xs ≡ before ++ t ∷ after → run p before ≡ Some q → NoBracket (spelled q) → BreaksAt q t → ⊥
 
 pub clean-none : (p : Partial) → Clean p []
-clean-none p [] t after q e at none breaks = absurd cc
-clean-none p (b ∷ before) t after q e at none breaks = absurd cc
+clean-none p before t after q e = absurd (no_token before after t e)
 
 -- one token in front
-pub clean-one : (p q : Partial) (t : Lexeme) (xs : List Lexeme) → step p t ≡ Some q → (NoBracket (spelled p) → BreaksRule (spelled p) t → ⊥) → Clean q xs → Clean p (t ∷ xs)
+pub clean-one : (p q : Partial) (t : Lexeme) (xs : List Lexeme) → step p t ≡ Some q → (NoBracket (spelled p) → BreaksAt p t → ⊥) → Clean q xs → Clean p (t ∷ xs)
 clean-one p q t xs some no_rule clean [] u after r e at none breaks =
     let same : t ≡ u = cc in
-    no_rule (subst (λ s. NoBracket (spelled s)) (sym (same_Some p r at)) none) (subst (λ z. BreaksRule (spelled p) z) (sym same) (subst (λ s. BreaksRule (spelled s) u) (sym (same_Some p r at)) breaks))
+    no_rule (subst (λ s. NoBracket (spelled s)) (sym (same_Some p r at)) none) (subst (λ z. BreaksAt p z) (sym same) (subst (λ s. BreaksAt s u) (sym (same_Some p r at)) breaks))
 clean-one p q t xs some no_rule clean (b ∷ before) u after r e at none breaks =
     let same : t ≡ b = cc in
     let rest : xs ≡ before ++ u ∷ after = cc in
@@ -33,7 +33,7 @@ clean-one p q t xs some no_rule clean (b ∷ before) u after r e at none breaks 
     clean before u after r rest at_q none breaks
 
 -- one token alone
-pub clean-last : (p q : Partial) (t : Lexeme) → step p t ≡ Some q → (NoBracket (spelled p) → BreaksRule (spelled p) t → ⊥) → Clean p (t ∷ [])
+pub clean-last : (p q : Partial) (t : Lexeme) → step p t ≡ Some q → (NoBracket (spelled p) → BreaksAt p t → ⊥) → Clean p (t ∷ [])
 clean-last p q t some no_rule = clean-one p q t [] some no_rule (clean-none q)
 
 -- behind the first token
@@ -60,6 +60,6 @@ unbroken-clean text none clean before t after e breaks =
     let front : NoBracket (spelled q) = subst NoBracket (sym here) (front_none (text_phrase text) before (t ∷ after) e none) in
     by q (step q t) refl (sym (run-append start q before (t ∷ after) at) ∙ whole) (subst (λ b. Breaks b t) (sym here) breaks) (clean before t after q e at front)
   where
-    by : (q : Partial) (next : Option Partial) → step q t ≡ next → run q (t ∷ after) ≡ Some (done text.head text.items) → Breaks (spelled q) t → (BreaksRule (spelled q) t → ⊥) → ⊥
+    by : (q : Partial) (next : Option Partial) → step q t ≡ next → run q (t ∷ after) ≡ Some (done text.head text.items) → Breaks (spelled q) t → (BreaksAt q t → ⊥) → ⊥
     by q None s goes breaks no_rule = not_taken q (done text.head text.items) t after s goes
-    by q (Some r) s goes breaks no_rule = no_rule (breaks-taken q r t s breaks)
+    by q (Some r) s goes breaks no_rule = no_rule (breaks-here q t (breaks-taken q r t s breaks))

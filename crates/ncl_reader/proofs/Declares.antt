@@ -29,6 +29,15 @@ range_here (heading name groups part) = part_range part
 range_here (inside head items (declaring part)) = part_range part
 range_here p = None
 
+-- a fact of what is there
+abbrev pub Of : {S : Type 0} → Option S → (S → Type 0) → Type 0
+Of None P = ⊥
+Of (Some s) P = P s
+
+pub some_of : {S : Type 0} (found : Option S) (P : S → Type 0) → Of found P → (s : S) × (found ≡ Some s) × P s
+some_of None P none = absurd none
+some_of (Some s) P holds = (s, refl, holds)
+
 -- a list has a last one, or none
 last_or_none : {X : Type 0} (xs : List X) → (xs ≡ []) ⊎ ((row : Row X) × (xs ≡ all_of row))
 last_or_none [] = inl refl
@@ -43,6 +52,14 @@ module _ {L : Type 0} (phrase : L → List Lexeme) where
     pub is : group_spelled phrase part ≡ spec_phrase phrase spec ++ with_commas name_phrase names
     pub says : part_spec part ≡ Some spec
     pub stand : part_names part ≡ names
+
+  -- a fact of them
+  module _ (P : Spec L → List (List ℕ) → Type 0) (spec : Spec L) (names : List (List ℕ)) (part : GroupPart L) (is : IsPart spec names part) where
+    pub told : P spec names → Of (part_spec part) (λ s. P s (part_names part))
+    told holds = subst (λ f. Of f (λ s. P s (part_names part))) (sym is.says) (subst (P spec) (sym is.stand) holds)
+
+    pub untold : Of (part_spec part) (λ s. P s (part_names part)) → P spec names
+    untold holds = subst (P spec) is.stand (subst (λ f. Of f (λ s. P s (part_names part))) is.says holds)
 
   lead_part : (l : L) (range : Option Range) → (part : GroupPart L) × IsPart (record { lead = l; range = range }) [] part
   lead_part l None = (leading (led l), record { is = sym (append-nil (phrase l)) ∙ sym (append-nil (phrase l ++ [])); says = refl; stand = refl })

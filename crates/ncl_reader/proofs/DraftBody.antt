@@ -1,5 +1,5 @@
 -- What is kept of a header and of items, with a name or a declaration more.
-use Rattle.std.proofs.Common.{◌≡◌, ℕ, ◌+◌, ◌*◌, ◌<◌, ◌≤◌, List, [], ◌∷◌, ◌++◌, length, map, sum, Bool, true, false, Option, Some, None, inl, inr, ◌⊎◌, refl, sym, ap, ◌∙◌, subst, append_assoc, arith, Contains}
+use Rattle.std.proofs.Common.{[], ◌≡◌, ℕ, ◌+◌, ◌*◌, ◌<◌, ◌≤◌, List, ◌∷◌, ◌++◌, length, map, sum, Bool, true, false, Option, Some, None, inl, inr, ◌⊎◌, refl, sym, ap, ◌∙◌, subst, append_assoc, arith, Contains}
 use Rattle.std.specs.List.{flat_map}
 use Rattle.std.specs.Option.{option_map}
 use Rattle.std.proofs.Math.Nat.{mul-suc}
@@ -23,6 +23,7 @@ use Rattle.ncl_reader.specs.Lead.{IsSaid, lead_output}
 use Rattle.ncl_reader.specs.Known.{KeepsNames}
 use Rattle.ncl_reader.proofs.Among.{among_or_not}
 use Rattle.ncl_reader.proofs.SaidNames.{names-append, bits-append, names-said_of, bits-said_of, said_of-push, names-header, bits-header, names-said_by, bits-said_by}
+use Rattle.ncl_reader.proofs.RulesAt.{crowds-head, crowds-item}
 
 -- what is read doesn't depend on how its lists are named
 pub read-along : (draft : Draft) (form other : Bool) (names ns : List (List ℕ)) (said ss : List Said) (cells cs : List Joined) → form ≡ other → names ≡ ns → said ≡ ss → cells ≡ cs → IsRead draft form names said cells → IsRead draft other ns ss cs
@@ -138,16 +139,7 @@ few-ranged (Some range) (Some s) bits few numbers ranged many = ranged range s r
 -- where a name breaks no rule, ports don't have too many bits
 pub few-grouped : (xs : List Lexeme) (title : List ℕ) (groups : List (Group Direction)) (spec : Spec Direction) (names : List (List ℕ)) (x : List ℕ) (header : Header) (span : Option Span) → xs ≡ in_ansi title groups spec names → IsHeader header (flat_map group_names groups ++ names) (flat_map said_in_header groups ++ said_of spec.lead spec.range names) → option_map span_of spec.range ≡ span → (Contains (flat_map group_names groups ++ names) x → ⊥) → (BreaksRule xs (Name x) → ⊥) → MOST_PORT_BITS < bits_said (flat_map said_in_header groups ++ said_of spec.lead spec.range names) + span_width span → ⊥
 few-grouped xs title groups spec names x header span is kept same new fine =
-    few-ranged spec.range span (bits_said (flat_map said_in_header groups ++ said_of spec.lead spec.range names)) kept.few same (λ range s e numbers many. fine (inr (inr (inr (inr (inr (inr (inr (inl (record {
-      title = title;
-      groups = groups;
-      direction = spec.lead;
-      range = range;
-      names = names;
-      is = is ∙ ap (λ r. in_ansi title groups (record { lead = spec.lead; range = r }) names) e;
-      new = new;
-      many = subst (λ n. MOST_PORT_BITS < n) (bits-grouped_more groups spec names range s e numbers) many;
-    }))))))))))
+    few-ranged spec.range span (bits_said (flat_map said_in_header groups ++ said_of spec.lead spec.range names)) kept.few same (λ range s e numbers many. fine (subst (λ l. BreaksRule l (Name x)) (sym is) (inr (inr (inr (inr (inr (inr (inr (crowds-head title groups spec names x range e new (subst (λ n. MOST_PORT_BITS < n) (bits-grouped_more groups spec names range s e numbers) many)))))))))))
 
 pub ansi_groups : (ports : Option Listing) → is_ansi ports ≡ true → (groups : Row (Group Direction)) × (ports ≡ Some (Ansi groups))
 ansi_groups (Some (Ansi groups)) e = (groups, refl)
@@ -190,17 +182,7 @@ module _ (head : Head) (items : List Item) (spec : Spec Lead) (names : List (Lis
 
   pub few-body : (header : Header) (span : Option Span) → groups_of head.ports ≡ [] → IsHeader header (header_of head) (said_by (record { head = head; items = items }) ++ said_with spec names) → option_map span_of spec.range ≡ span → Contains (header_of head) x × (Contains (directed_by head items ++ names) x → ⊥) → (BreaksRule (at_declared head items spec names) (Name x) → ⊥) → MOST_PORT_BITS < bits_said (said_by (record { head = head; items = items }) ++ said_with spec names) + span_width span → ⊥
   few-body header span none kept same known fine =
-      few-ranged spec.range span (bits_said (said_by (record { head = head; items = items }) ++ said_with spec names)) kept.few same (λ range s e numbers many. fine (inr (inr (inr (inr (inr (inr (inr (inr (record {
-        head = head;
-        items = items;
-        direction = direction;
-        range = range;
-        names = names;
-        is = same_form ∙ ap (λ r. at_declared head items (record { lead = Gives direction; range = r }) names) e;
-        stands = known.0;
-        new = known.1;
-        many = subst (λ n. MOST_PORT_BITS < n) (bits-body head items spec names direction gives none range s e numbers) many;
-      }))))))))))
+      few-ranged spec.range span (bits_said (said_by (record { head = head; items = items }) ++ said_with spec names)) kept.few same (λ range s e numbers many. fine (inr (inr (inr (inr (inr (inr (inr (crowds-item head items spec names x direction range gives e known.0 known.1 (subst (λ n. MOST_PORT_BITS < n) (bits-body head items spec names direction gives none range s e numbers) many))))))))))
 
 -- what holds of a draft that takes a name of a declaration of an item
 pub declared_next : (head : Head) (items : List Item) (spec : Spec Lead) (names : List (List ℕ)) (x : List ℕ) (new : Draft) → KeepsNames new.known (at_declared head items spec names ++ Name x ∷ []) → IsSaid lead_output spec new.lead → IsEarly new → new.title.now ≡ head.name → new.ansi ≡ is_ansi head.ports → IsHeader new.header (header_of head) (said_by (record { head = head; items = items }) ++ said_with spec (names ++ x ∷ [])) → AreCellsOf (flat_map joined_in items) new.cells.items → IsDeclaredNext head items spec names x new

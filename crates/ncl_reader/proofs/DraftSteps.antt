@@ -1,9 +1,9 @@
 -- Tokens that are taken, and tokens that break.
-use Rattle.std.proofs.Common.{◌≡◌, ◌≢◌, ℕ, ◌<◌, length, arith, List, [], ◌∷◌, ◌++◌, None, Some, inr, refl, sym, ◌∙◌, subst}
+use Rattle.std.proofs.Common.{[], ◌≡◌, ◌≢◌, ℕ, List, ◌∷◌, ◌++◌, None, Some, inr, refl, sym, ◌∙◌, subst, inl}
 use Rattle.ncl_reader.specs.declared.lexeme.Lexeme.{Lexeme as Read}
 use Rattle.ncl_reader.specs.declared.lexeme.Lexeme.TheVariants as read
 use Rattle.ncl_reader.specs.Meant.{meant}
-use Rattle.ncl_reader.specs.declared.lexeme.Sign.TheVariants.{LParen, RParen, Comma, Semi, Dot, LBracket, RBracket}
+use Rattle.ncl_reader.specs.declared.lexeme.Sign.TheVariants.{RParen, Comma, LBracket}
 use Rattle.ncl_reader.specs.declared.place.Place.{Place}
 use Rattle.ncl_reader.specs.declared.draft.Draft.{Draft}
 use Rattle.ncl_reader.specs.declared.keyword.Way.{Way}
@@ -12,13 +12,13 @@ use Rattle.ncl_reader.specs.Lexemes.{Lexeme, Word, Name, Number, Mark}
 use Rattle.ncl_reader.specs.Grammar.{Head, Item, Conn, Row, Direction, Lead, Spec, Group}
 use Rattle.ncl_reader.specs.Rules.{BreaksRule, Breaks, Clashes}
 use Rattle.ncl_reader.specs.Known.{KeepsNames}
-use Rattle.ncl_reader.specs.Partial.{Partial, naming, going, start, begun, listing, heading, inside, at_item, ended, declaring, celled, named, joining, dotted, pinned, opened, netted, indexing, indexed, picked, joined, closed, spelled}
+use Rattle.ncl_reader.specs.Partial.{Partial, going, start, listing, heading, inside, at_item, ended, declaring, opened, netted, indexing, picked, joined, spelled}
 use Rattle.ncl_reader.specs.Draft.{HoldsAt, HoldsBy, Takes, TakesOrBreaks}
 use Rattle.ncl_reader.proofs.Steps.{step}
 use Rattle.ncl_reader.proofs.Grows.{grows}
 use Rattle.ncl_reader.proofs.Breaking.{breaks-taken, breaks-untaken}
 use Rattle.ncl_reader.proofs.KeptNames.{kept_mark}
-use Rattle.ncl_reader.proofs.NameRules.{clash_rule}
+use Rattle.ncl_reader.proofs.RulesAt.{BreaksAt, breaks-here, breaks-back}
 
 -- what breaks doesn't depend on how what stands is named
 along : (p tree : Partial) (t u : Lexeme) → p ≡ tree → t ≡ u → Breaks (spelled p) t → Breaks (spelled tree) u
@@ -30,55 +30,44 @@ module _ (at : Place) (p tree : Partial) (t : Lexeme) (draft : Draft) (is : p �
   untaken none holds = (along tree p t t (sym is) refl (breaks-untaken tree t none), holds)
 
   -- a token that breaks a rule
-  pub against : (u : Lexeme) → t ≡ u → BreaksRule (spelled tree) u → HoldsAt at draft p → TakesOrBreaks at p t None draft
-  against u same breaks holds = (along tree p u t (sym is) (sym same) (inr breaks), holds)
+  pub against : (u : Lexeme) → t ≡ u → BreaksAt tree u → HoldsAt at draft p → TakesOrBreaks at p t None draft
+  against u same breaks holds = (along tree p u t (sym is) (sym same) (inr (breaks-back tree u breaks)), holds)
 
 -- a name that clashes
 pub clashing : (at : Place) (p : Partial) (t : Lexeme) (x : List ℕ) (draft : Draft) → t ≡ Name x → Clashes (spelled p) x → HoldsAt at draft p → TakesOrBreaks at p t None draft
-clashing at p t x draft same clashes holds = against at p p t draft refl (Name x) same (clash_rule (spelled p) x clashes) holds
+clashing at p t x draft same clashes holds = against at p p t draft refl (Name x) same (inr (inr (inl clashes))) holds
 
 module _ (p tree q : Partial) (t u : Lexeme) (after : Place) (draft : Draft) (is : p ≡ tree) (same : t ≡ u) (some : step tree u ≡ Some q) where
   taken_at : step p t ≡ Some q
   taken_at = (λ i. step (is i) (same i)) ∙ some
 
   -- a token that is taken and breaks no rule
-  pub taken : KeepsNames draft.known (spelled p ++ t ∷ []) → HoldsBy after draft q → (BreaksRule (spelled tree) u → ⊥) → Takes p t after draft
+  pub taken : KeepsNames draft.known (spelled p ++ t ∷ []) → HoldsBy after draft q → (BreaksAt tree u → ⊥) → Takes p t after draft
   taken kept by no_rule = record {
     tree = q;
     holds = (subst (KeepsNames draft.known) (sym (grows p t q taken_at)) kept, by);
     grows = grows p t q taken_at;
-    unbroken = λ breaks. no_rule (breaks-taken tree q u some (along p tree t u is same breaks));
+    unbroken = λ breaks. no_rule (breaks-here tree u (breaks-taken tree q u some (along p tree t u is same breaks)));
   }
 
   -- so of one that is no name
-  pub taken_mark : ((x : List ℕ) → u ≢ Name x) → KeepsNames draft.known (spelled p) → HoldsBy after draft q → (BreaksRule (spelled tree) u → ⊥) → Takes p t after draft
+  pub taken_mark : ((x : List ℕ) → u ≢ Name x) → KeepsNames draft.known (spelled p) → HoldsBy after draft q → (BreaksAt tree u → ⊥) → Takes p t after draft
   taken_mark other kept by no_rule = taken (kept_mark draft.known (spelled p) t (λ x e. other x (sym same ∙ e)) kept) by no_rule
 
 -- and of a name
 pub taken_name : (p tree q : Partial) (t : Lexeme) (x : List ℕ) (after : Place) (draft : Draft) → p ≡ tree → t ≡ Name x → step tree (Name x) ≡ Some q → KeepsNames draft.known (spelled p ++ Name x ∷ []) → HoldsBy after draft q → (BreaksRule (spelled p) (Name x) → ⊥) → Takes p t after draft
-taken_name p tree q t x after draft is same some kept by no_rule = taken p tree q t (Name x) after draft is same some (subst (λ u. KeepsNames draft.known (spelled p ++ u ∷ [])) (sym same) kept) by (λ breaks. no_rule (subst (λ r. BreaksRule (spelled r) (Name x)) (sym is) breaks))
+taken_name p tree q t x after draft is same some kept by no_rule = taken p tree q t (Name x) after draft is same some (subst (λ u. KeepsNames draft.known (spelled p ++ u ∷ [])) (sym same) kept) by (λ breaks. no_rule (subst (λ r. BreaksRule (spelled r) (Name x)) (sym is) (breaks-back tree (Name x) breaks)))
 
 -- which tokens aren't taken
 pub others-start : (t : Lexeme) → t ≢ Word Module → step start t ≡ None
 others-start (Word Module) wrong = absurd (wrong refl)
 others-start t wrong = refl
 
-pub others-begun : (t : Lexeme) → ((x : List ℕ) → t ≢ Name x) → step begun t ≡ None
-others-begun (Name x) wrong = absurd (wrong x refl)
-others-begun t wrong = refl
-
 pub others-first : (title : List ℕ) (t : Lexeme) → t ≢ Mark RParen → ((way : Way) → t ≢ Word (word_of way)) → ((x : List ℕ) → t ≢ Name x) → step (listing title []) t ≡ None
 others-first title (Mark RParen) one ways two = absurd (one refl)
 others-first title (Word (word_of way)) one ways two = absurd (ways way refl)
 others-first title (Name x) one ways two = absurd (two x refl)
 others-first title t one ways two = refl
-
-pub others-listing : (title : List ℕ) (names : List (List ℕ)) (t : Lexeme) → 0 < length names → ((x : List ℕ) → t ≢ Name x) → step (listing title names) t ≡ None
-others-listing title names (Name x) some name = absurd (name x refl)
-others-listing title [] t some name = absurd (omega (arith, some))
-others-listing title (x ∷ names) (Mark RParen) some name = refl
-others-listing title (x ∷ names) (Word (word_of way)) some name = refl
-others-listing title (x ∷ names) t some name = refl
 
 pub others-going : (title : List ℕ) (groups : List (Group Direction)) (spec : Spec Direction) (row : Row (List ℕ)) (t : Lexeme) → ((way : Way) → t ≢ Word (word_of way)) → ((x : List ℕ) → t ≢ Name x) → step (heading title groups (going spec row)) t ≡ None
 others-going title groups spec row (Word (word_of way)) ways names = absurd (ways way refl)
@@ -97,32 +86,7 @@ module _ (head : Head) (items : List Item) where
   others-declaring spec row (Name x) one = absurd (one x refl)
   others-declaring spec row t one = refl
 
-  pub others-declared : (spec : Spec Lead) (names : List (List ℕ)) (last : List ℕ) (t : Lexeme) → t ≢ Mark Comma → t ≢ Mark Semi → step (inside head items (declaring (naming spec names last))) t ≡ None
-  others-declared spec names last (Mark Comma) one two = absurd (one refl)
-  others-declared spec names last (Mark Semi) one two = absurd (two refl)
-  others-declared spec names last t one two = refl
-
-  pub others-celled : (cell : List ℕ) (t : Lexeme) → ((x : List ℕ) → t ≢ Name x) → step (inside head items (celled cell)) t ≡ None
-  others-celled cell (Name x) one = absurd (one x refl)
-  others-celled cell t one = refl
-
-  pub others-named : (cell name : List ℕ) (t : Lexeme) → t ≢ Mark LParen → step (inside head items (named cell name)) t ≡ None
-  others-named cell name (Mark LParen) one = absurd (one refl)
-  others-named cell name t one = refl
-
   module _ (cell name : List ℕ) (conns : List Conn) where
-    pub others-joining : (t : Lexeme) → t ≢ Mark Dot → step (inside head items (joining cell name conns)) t ≡ None
-    others-joining (Mark Dot) one = absurd (one refl)
-    others-joining t one = refl
-
-    pub others-dotted : (t : Lexeme) → ((x : List ℕ) → t ≢ Name x) → step (inside head items (dotted cell name conns)) t ≡ None
-    others-dotted (Name x) one = absurd (one x refl)
-    others-dotted t one = refl
-
-    pub others-pinned : (pin : List ℕ) (t : Lexeme) → t ≢ Mark LParen → step (inside head items (pinned cell name conns pin)) t ≡ None
-    others-pinned pin (Mark LParen) one = absurd (one refl)
-    others-pinned pin t one = refl
-
     pub others-opened : (pin : List ℕ) (t : Lexeme) → ((x : List ℕ) → t ≢ Name x) → step (inside head items (opened cell name conns pin)) t ≡ None
     others-opened pin (Name x) one = absurd (one x refl)
     others-opened pin t one = refl
@@ -136,10 +100,6 @@ module _ (head : Head) (items : List Item) where
     others-indexing pin net (Number x) one = absurd (one x refl)
     others-indexing pin net t one = refl
 
-    pub others-indexed : (pin net digits : List ℕ) (t : Lexeme) → t ≢ Mark RBracket → step (inside head items (indexed cell name conns pin net digits)) t ≡ None
-    others-indexed pin net digits (Mark RBracket) one = absurd (one refl)
-    others-indexed pin net digits t one = refl
-
     pub others-picked : (pin net digits : List ℕ) (t : Lexeme) → t ≢ Mark RParen → step (inside head items (picked cell name conns pin net digits)) t ≡ None
     others-picked pin net digits (Mark RParen) one = absurd (one refl)
     others-picked pin net digits t one = refl
@@ -148,10 +108,6 @@ module _ (head : Head) (items : List Item) where
     others-joined conn (Mark Comma) one two = absurd (one refl)
     others-joined conn (Mark RParen) one two = absurd (two refl)
     others-joined conn t one two = refl
-
-    pub others-closed : (conn : Conn) (t : Lexeme) → t ≢ Mark Semi → step (inside head items (closed cell name conns conn)) t ≡ None
-    others-closed conn (Mark Semi) one = absurd (one refl)
-    others-closed conn t one = refl
 
 -- behind `endmodule`
 pub others-ended : (head : Head) (items : List Item) (t : Read) → step (ended head items) (meant t) ≡ None

@@ -15,7 +15,7 @@ use Rattle.ncl_reader.specs.Partial.{Partial, start, spelled}
 use Rattle.ncl_reader.proofs.Steps.{run}
 use Rattle.ncl_reader.proofs.Runs.{run-spelled}
 use Rattle.ncl_reader.proofs.Grows.{grows-run}
-use Rattle.ncl_reader.proofs.Breaking.{front_or_last}
+use Rattle.ncl_reader.proofs.Breaking.{no_token, name_in}
 use Rattle.ncl_reader.proofs.Declares.{range_here, declaring_tree, declaring-here, here-declaring}
 
 -- a fact holds or it doesn't
@@ -47,18 +47,6 @@ abbrev pub Any : (List Lexeme → List ℕ → Type 0) → List Lexeme → Type 
 Any P xs = (front : List Lexeme) × (y : List ℕ) × (rest : List Lexeme) × (xs ≡ front ++ Name y ∷ rest) × P front y
 
 module _ (P : List Lexeme → List ℕ → Type 0) where
-  pub any-more : (xs : List Lexeme) (t : Lexeme) → Any P (xs ++ t ∷ []) → Any P xs ⊎ ((y : List ℕ) × (t ≡ Name y) × P xs y)
-  any-more xs t (front, y, rest, e, holds) = elim (front_or_last xs front t (Name y) rest e) [
-    | inl found ↦ inl (front, y, found.0, found.1, holds)
-    | inr last ↦ inr (y, last.1, subst (λ l. P l y) (sym last.0) holds)
-  ]
-
-  pub any-old : (xs ys : List Lexeme) → Any P xs → Any P (xs ++ ys)
-  any-old xs ys (front, y, rest, e, holds) = (front, y, rest ++ ys, ap (λ l. l ++ ys) e ∙ append_assoc front (Name y ∷ rest) ys, holds)
-
-  pub any-new : (xs : List Lexeme) (y : List ℕ) → P xs y → Any P (xs ++ Name y ∷ [])
-  any-new xs y holds = (xs, y, [], refl, holds)
-
   -- a name or none stands so
   pub any-or-not : ((front : List Lexeme) (y : List ℕ) → Decided (P front y)) → (xs : List Lexeme) → Decided (Any P xs)
   any-or-not decided xs = elim (scan [] xs) [
@@ -70,21 +58,14 @@ module _ (P : List Lexeme → List ℕ → Type 0) where
       Rest front rest = (more : List Lexeme) × (y : List ℕ) × (behind : List Lexeme) × (rest ≡ more ++ Name y ∷ behind) × P (front ++ more) y
 
       scan : (front rest : List Lexeme) → Decided (Rest front rest)
-      scan front [] = inr (λ found. none found.0 found.1 found.2 found.3)
-        where
-          none : (more : List Lexeme) (y : List ℕ) (behind : List Lexeme) → [] ≡ more ++ Name y ∷ behind → ⊥
-          none [] y behind e = absurd cc
-          none (m ∷ more) y behind e = absurd cc
+      scan front [] = inr (λ (more, y, behind, e, holds). no_token more behind (Name y) e)
       scan front (t ∷ rest) = by_later (here t) (scan (front ++ t ∷ []) rest)
         where
           here : (u : Lexeme) → Decided ((y : List ℕ) × (u ≡ Name y) × P front y)
           here (Name y) = elim (decided front y) [
             | inl holds ↦ inl (y, refl, holds)
-            | inr fails ↦ inr (λ found. let same : y ≡ found.0 = name_in (found.1) in fails (subst (P front) (sym same) found.2))
+            | inr fails ↦ inr (λ (z, is, holds). fails (subst (P front) (sym (name_in is)) holds))
           ]
-            where
-              name_in : {a b : List ℕ} → Name a ≡ Name b → a ≡ b
-              name_in e = cc
           here u = inr (λ found. let e : u ≡ Name found.0 = found.1 in absurd cc)
 
           by_later : Decided ((y : List ℕ) × (t ≡ Name y) × P front y) → Decided (Rest (front ++ t ∷ []) rest) → Decided (Rest front (t ∷ rest))

@@ -1,5 +1,5 @@
 -- Steps behind what a declaration begins with, and at its names.
-use Rattle.std.proofs.Common.{◌≡◌, ◌≢◌, ℕ, List, [], ◌∷◌, ◌++◌, None, Some, inr, refl, sym, ap, ◌∙◌, subst}
+use Rattle.std.proofs.Common.{[], ◌≡◌, ◌≢◌, ℕ, List, ◌∷◌, ◌++◌, None, Some, inr, refl, sym, ap, ◌∙◌, subst}
 use Rattle.ncl_reader.specs.declared.place.Place.{Place}
 use Rattle.ncl_reader.specs.declared.place.Place.TheVariants as place
 use Rattle.ncl_reader.specs.declared.draft.Draft.{Draft}

@@ -9,7 +9,7 @@ use Rattle.ncl_reader.specs.Forms.{IsDeclaring}
 use Rattle.ncl_reader.specs.Vectors.{span_of, Covers, bit_name, Stands, IsDeclared, IsVector, IsBit, IsClear}
 use Rattle.ncl_reader.specs.Rules.{Clashes}
 use Rattle.ncl_reader.proofs.Said.{declared-more, stands-more}
-use Rattle.ncl_reader.proofs.KeptUses.{name_in}
+use Rattle.ncl_reader.proofs.Breaking.{no_token, name_in}
 
 -- no name is that of its own bit
 not_own : (x : List ℕ) (k : ℕ) → x ≢ bit_name x k
@@ -39,11 +39,7 @@ clear-other xs t other clear vector range k declared covers stands = by (declare
     by (inr (e, declares)) stood = other vector e
 
 pub clear-none : IsClear []
-clear-none vector range k (front, rest, e, declares) covers stands = nothing front rest e
-  where
-    nothing : (front rest : List Lexeme) → [] ≡ front ++ Name vector ∷ rest → ⊥
-    nothing [] rest e = absurd cc
-    nothing (f ∷ front) rest e = absurd cc
+clear-none vector range k (front, rest, e, declares) covers stands = no_token front rest (Name vector) e
 
 -- a vector that is declared again clashes only by its own name
 pub clear-again : (xs : List Lexeme) (x : List ℕ) (range other : Range) → IsClear xs → IsDeclaring xs (Some range) → ((r : Option Range) → IsDeclaring xs r → r ≡ Some range) → IsVector xs x other → span_of other ≡ span_of range → (IsBit xs x → ⊥) → Clashes xs x → ⊥

@@ -16,13 +16,12 @@ use Rattle.ncl_reader.specs.KeptBits.{IsStanding}
 use Rattle.ncl_reader.specs.Rules.{Redeclares, Clashes}
 use Rattle.ncl_reader.specs.Known.{KeepsNames}
 use Rattle.ncl_reader.specs.Partial.{inside, opened}
-use Rattle.ncl_reader.proofs.Said.{stands-more, declaring-once}
+use Rattle.ncl_reader.proofs.Said.{stands-more, declaring-once, stands-old}
 use Rattle.ncl_reader.proofs.KeptRanges.{ranges-other}
 use Rattle.ncl_reader.proofs.KeptUses.{uses-other}
 use Rattle.ncl_reader.proofs.KeptClear.{clear-other, clear-again}
 use Rattle.ncl_reader.proofs.Declares.{declaring-here}
 use Rattle.ncl_reader.proofs.Facts.{spans_or_not}
-use Rattle.ncl_reader.proofs.KeptStanding.{stands-old}
 
 -- a token that is no name
 pub standing_mark : (kept : KeptBits) (xs : List Lexeme) (t : Lexeme) → ((x : List ℕ) → t ≢ Name x) → IsStanding kept xs → IsStanding kept (xs ++ t ∷ [])

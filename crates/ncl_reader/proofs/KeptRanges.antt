@@ -12,7 +12,8 @@ use Rattle.ncl_reader.specs.Forms.{IsDeclaring}
 use Rattle.ncl_reader.specs.Vectors.{span_of, IsDeclared}
 use Rattle.ncl_reader.specs.NameSet.{has_name}
 use Rattle.ncl_reader.specs.Ranges.{IsRanges, range_at, vector_at, kept_as}
-use Rattle.ncl_reader.proofs.Said.{declared-more, declared-old, declared-new, declaring-once}
+use Rattle.ncl_reader.proofs.Said.{declared-more, declared-old, declaring-once}
+use Rattle.ncl_reader.proofs.Breaking.{no_token, name_in}
 
 -- a declaration more
 module _ (old new : Ranges) (xs : List Lexeme) (x : List ℕ) (range : Option Range) (span : Option Span) where
@@ -39,15 +40,12 @@ module _ (old new : Ranges) (xs : List Lexeme) (x : List ℕ) (range : Option Ra
       few y s true e found = fits s (same_Some span (Some s) found)
       few y s false e found = is.small y s found
 
-      name_in : {a b : List ℕ} → Name a ≡ Name b → a ≡ b
-      name_in e = cc
-
       declared : (y : List ℕ) (r : Option Range) → IsDeclared xs y r ⊎ ((Name x ≡ Name y) × IsDeclaring xs r) → range_at new y ≡ Some (option_map span_of r)
       declared y r (inl d) = old_declared y r (bytes_eq x y) refl d
       declared y r (inr (e, declaring)) = here y (name_in e) ∙ ap (λ s. Some s) (sym same ∙ ap (option_map span_of) (declaring-once xs range r declares declaring))
 
       only : (y : List ℕ) (s : Option Span) (b : Bool) → bytes_eq x y ≡ b → cond b (Some span) (range_at old y) ≡ Some s → (r : Option Range) × IsDeclared (xs ++ Name x ∷ []) y r × (option_map span_of r ≡ s)
-      only y s true e found = (range, subst (λ z. IsDeclared (xs ++ Name x ∷ []) z range) ((bytes_eq-Decides x y).0 e) (declared-new xs x range declares), same ∙ same_Some span s found)
+      only y s true e found = (range, subst (λ z. IsDeclared (xs ++ Name x ∷ []) z range) ((bytes_eq-Decides x y).0 e) (xs, [], refl, declares), same ∙ same_Some span s found)
       only y s false e found = let (r, d, is_s) = is.only y s found in (r, declared-old xs (Name x ∷ []) y r d, is_s)
 
 -- a name more that isn't declared, or another token
@@ -65,13 +63,9 @@ ranges-other ranges xs t other is = record {
 pub ranges-none : (ranges : Ranges) → ((y : List ℕ) → range_at ranges y ≡ None) → IsRanges ranges []
 ranges-none ranges none = record {
   small = λ y s e. absurd (none-some (Some s) (sym (none y) ∙ e));
-  declared = λ y r (front, rest, e, declares). absurd (nothing front y rest e);
+  declared = λ y r (front, rest, e, declares). absurd (no_token front rest (Name y) e);
   only = λ y s e. absurd (none-some s (sym (none y) ∙ e));
 }
-  where
-    nothing : (front : List Lexeme) (y : List ℕ) (rest : List Lexeme) → [] ≡ front ++ Name y ∷ rest → ⊥
-    nothing [] y rest e = absurd cc
-    nothing (f ∷ front) y rest e = absurd cc
 
 -- a vector more, and a name with no range more, which is no vector
 pub kept-vector : (e : Bool) (span : Span) (kept : Option Span) (plain : Bool) → kept_as (cond e (Some span) kept) plain ≡ cond e (Some (Some span)) (kept_as kept plain)

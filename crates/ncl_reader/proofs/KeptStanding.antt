@@ -1,5 +1,5 @@
 -- What is kept of names that stand, with a name more.
-use Rattle.std.proofs.Common.{◌≡◌, ◌≢◌, ℕ, zero, suc, ◌<◌, arith, List, get_or, [], ◌∷◌, ◌++◌, length, Bool, true, false, cond, Contains, inl, inr, ◌⊎◌, refl, sym, ap, ◌∙◌, subst, append_assoc}
+use Rattle.std.proofs.Common.{◌≡◌, ◌≢◌, ℕ, zero, suc, ◌<◌, arith, List, get_or, [], ◌∷◌, ◌++◌, length, Bool, true, false, cond, Contains, inl, inr, ◌⊎◌, refl, sym, ap, ◌∙◌, subst}
 use Rattle.std.specs.Prelude.{slice_index}
 use Rattle.std.specs.Str.{bytes_eq}
 use Rattle.std.proofs.lemmas.List.Elements.{Contains-append_left, Contains-append_right, Contains-append_cases}
@@ -10,14 +10,9 @@ use Rattle.ncl_reader.specs.Lexemes.{Lexeme, Name}
 use Rattle.ncl_reader.specs.Vectors.{Covers, Stands, bit_name}
 use Rattle.ncl_reader.specs.KeptBits.{IsStanding, numbers_at}
 use Rattle.ncl_reader.proofs.Bits.{bit_name-injective}
-use Rattle.ncl_reader.proofs.Said.{stands-more}
-
-one_of : (y x : ℕ) → Contains (y ∷ []) x → y ≡ x
-one_of y x (zero, lt, e) = e
-one_of y x (suc k, lt, e) = absurd (omega (arith, lt))
-
-pub stands-old : (xs ys : List Lexeme) (x : List ℕ) → Stands xs x → Stands (xs ++ ys) x
-stands-old xs ys x (front, rest, e) = (front, rest ++ ys, ap (λ l. l ++ ys) e ∙ append_assoc front (Name x ∷ rest) ys)
+use Rattle.ncl_reader.proofs.Said.{stands-more, stands-old}
+use Rattle.ncl_reader.proofs.Breaking.{no_token, name_in}
+use Rattle.ncl_reader.proofs.Looked.{single}
 
 module _ (old new : KeptBits) (xs : List Lexeme) (vector : List ℕ) (number : ℕ) (name : List ℕ) where
   pub standing-more : name ≡ bit_name vector number → number < 65536 → ((v : List ℕ) → numbers_at new v ≡ cond (bytes_eq vector v) (numbers_at old vector ++ number ∷ []) (numbers_at old v)) → IsStanding old xs → IsStanding new (xs ++ Name name ∷ [])
@@ -36,16 +31,13 @@ module _ (old new : KeptBits) (xs : List Lexeme) (vector : List ℕ) (number : �
       here : (k : ℕ) → Contains (numbers_at old vector ++ number ∷ []) k → Both vector k
       here k found = elim (Contains-append_cases (numbers_at old vector) (number ∷ []) k found) [
         | inl was ↦ before vector k was
-        | inr last ↦ let same : number ≡ k = one_of number k last in
+        | inr last ↦ let same : number ≡ k = single number k last in
             subst (Both vector) same ((xs, [], ap (λ n. xs ++ Name n ∷ []) is), few)
       ]
 
       split : (v : List ℕ) (k : ℕ) (b : Bool) → bytes_eq vector v ≡ b → Contains (cond b (numbers_at old vector ++ number ∷ []) (numbers_at old v)) k → Both v k
       split v k true e found = subst (λ w. Both w k) ((bytes_eq-Decides vector v).0 e) (here k found)
       split v k false e found = before v k found
-
-      name_in : {a b : List ℕ} → Name a ≡ Name b → a ≡ b
-      name_in e = cc
 
       known : (v : List ℕ) (k : ℕ) (b : Bool) → bytes_eq vector v ≡ b → Contains (numbers_at old v) k → Contains (cond b (numbers_at old vector ++ number ∷ []) (numbers_at old v)) k
       known v k true e found = Contains-append_left (numbers_at old vector) (number ∷ []) k (subst (λ w. Contains (numbers_at old w) k) (sym ((bytes_eq-Decides vector v).0 e)) found)
@@ -69,24 +61,14 @@ standing-other kept xs name other is = record {
     | inr last ↦ absurd (other v k small (name_in last))
   ];
 }
-  where
-    name_in : {a b : List ℕ} → Name a ≡ Name b → a ≡ b
-    name_in e = cc
 
 -- nothing stands
 pub standing-none : (kept : KeptBits) → ((v : List ℕ) → numbers_at kept v ≡ []) → IsStanding kept []
 standing-none kept none = record {
-  stands = λ v k found. absurd (nothing k (subst (λ l. Contains l k) (none v) found));
-  small = λ v k found. absurd (nothing k (subst (λ l. Contains l k) (none v) found));
-  kept = λ v k small (front, rest, e). absurd (empty front (bit_name v k) rest e);
+  stands = λ v k found. let (i, less, e) = subst (λ l. Contains l k) (none v) found in absurd (omega (arith, less));
+  small = λ v k found. let (i, less, e) = subst (λ l. Contains l k) (none v) found in absurd (omega (arith, less));
+  kept = λ v k small (front, rest, e). absurd (no_token front rest (Name (bit_name v k)) e);
 }
-  where
-    nothing : (k : ℕ) → Contains [] k → ⊥
-    nothing k found = omega (arith, found.1)
-
-    empty : (front : List Lexeme) (y : List ℕ) (rest : List Lexeme) → [] ≡ front ++ Name y ∷ rest → ⊥
-    empty [] y rest e = absurd cc
-    empty (f ∷ front) y rest e = absurd cc
 
 -- an element doesn't depend on what stands for none
 at_default : (xs : List ℕ) (i a b : ℕ) → i < length xs → get_or xs i a ≡ get_or xs i b

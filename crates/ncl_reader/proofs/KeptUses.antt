@@ -1,5 +1,5 @@
 -- What is kept of names that connections used, with a token more.
-use Rattle.std.proofs.Common.{◌≡◌, ℕ, List, [], ◌∷◌, ◌++◌, Bool, true, false, cond, inl, inr, ◌⊎◌, refl, sym, ap, ◌∙◌, subst, append_assoc}
+use Rattle.std.proofs.Common.{◌≡◌, ℕ, List, [], ◌∷◌, ◌++◌, Bool, true, false, cond, inl, inr, ◌⊎◌, refl, sym, ◌∙◌, subst}
 use Rattle.std.specs.Str.{bytes_eq}
 use Rattle.std.proofs.lemmas.Bool.{false≢true}
 use Rattle.std.proofs.lemmas.Slice.Eq.{bytes_eq-Decides}
@@ -9,13 +9,8 @@ use Rattle.ncl_reader.specs.Forms.{IsAtNet}
 use Rattle.ncl_reader.specs.Vectors.{IsUsed}
 use Rattle.ncl_reader.specs.NameSet.{has_name}
 use Rattle.ncl_reader.specs.Uses.{IsUses}
-use Rattle.ncl_reader.proofs.Said.{used-more}
-
-used-old : (xs ys : List Lexeme) (y : List ℕ) → IsUsed xs y → IsUsed (xs ++ ys) y
-used-old xs ys y (front, rest, e, net) = (front, rest ++ ys, ap (λ l. l ++ ys) e ∙ append_assoc front (Name y ∷ rest) ys, net)
-
-pub name_in : {a b : List ℕ} → Name a ≡ Name b → a ≡ b
-name_in e = cc
+use Rattle.ncl_reader.proofs.Said.{used-more, used-old}
+use Rattle.ncl_reader.proofs.Breaking.{no_token, name_in}
 
 pub uses-more : (old new : NameSet) (xs : List Lexeme) (x : List ℕ) → ((y : List ℕ) → has_name new y ≡ cond (bytes_eq x y) true (has_name old y)) → IsUses old xs → IsAtNet xs → IsUses new (xs ++ Name x ∷ [])
 uses-more old new xs x updates is net = record {
@@ -44,13 +39,9 @@ uses-other uses xs t other is = record {
 
 pub uses-none : (uses : NameSet) → ((y : List ℕ) → has_name uses y ≡ false) → IsUses uses []
 uses-none uses none = record {
-  used = λ y (front, rest, e, net). absurd (nothing front y rest e);
+  used = λ y (front, rest, e, net). absurd (no_token front rest (Name y) e);
   only = λ y e. absurd (false≢true (sym (none y) ∙ e));
 }
-  where
-    nothing : (front : List Lexeme) (y : List ℕ) (rest : List Lexeme) → [] ≡ front ++ Name y ∷ rest → ⊥
-    nothing [] y rest e = absurd cc
-    nothing (f ∷ front) y rest e = absurd cc
 
 -- the same names
 pub uses-same : (old new : NameSet) (xs : List Lexeme) → ((y : List ℕ) → has_name new y ≡ has_name old y) → IsUses old xs → IsUses new xs

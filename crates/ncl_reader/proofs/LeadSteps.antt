@@ -1,5 +1,5 @@
 -- One token more in what a declaration begins with.
-use Rattle.std.proofs.Common.{◌≡◌, ◌≢◌, ℕ, ◌<◌, List, [], ◌∷◌, ◌++◌, Option, Some, None, Bool, true, false, inl, inr, ◌⊎◌, refl, sym, ap, ◌∙◌, subst, append_assoc}
+use Rattle.std.proofs.Common.{[], ◌≡◌, ◌≢◌, ℕ, ◌<◌, List, Option, Some, None, Bool, true, false, inl, inr, ◌⊎◌, refl, sym, ap, ◌∙◌, subst}
 use Rattle.std.specs.Prelude.{MatchOption}
 use Rattle.std.specs.Option.{option_map}
 use Rattle.std.specs.Str.Parse.{digits_value}
@@ -9,20 +9,19 @@ use Rattle.ncl_reader.specs.declared.place.LeadPlace.{LeadPlace}
 use Rattle.ncl_reader.specs.declared.place.LeadPlace.TheVariants as lead
 use Rattle.ncl_reader.specs.declared.lead.Lead.{Lead as Led}
 use Rattle.ncl_reader.specs.declared.span.Span.{Span}
-use Rattle.ncl_reader.specs.declared.keyword.Keyword.TheVariants.{Module, Wire}
-use Rattle.ncl_reader.specs.declared.lexeme.Sign.TheVariants.{LParen, LBracket, RBracket, Colon}
+use Rattle.ncl_reader.specs.declared.keyword.Keyword.TheVariants.{Wire}
+use Rattle.ncl_reader.specs.declared.lexeme.Sign.TheVariants.{LBracket, RBracket, Colon}
 use Rattle.ncl_reader.specs.Lexemes.{Lexeme, Word, Name, Number, Mark}
-use Rattle.ncl_reader.specs.Grammar.{Direction, Plain, Wired, direction_phrase, Lead, Gives, Wires, lead_phrase, Range, Spec, Group, group_phrase, Item, Head, with_commas, body_phrase}
-use Rattle.ncl_reader.specs.Forms.{IsBehindNet, IsAtIndex, IsAtLast}
+use Rattle.ncl_reader.specs.Grammar.{Direction, Plain, Wired, direction_phrase, Lead, Gives, Wires, lead_phrase, Range, Spec, Group, Item, Head}
 use Rattle.ncl_reader.specs.Vectors.{width, IsTooLarge, MOST_VECTOR_BITS}
-use Rattle.ncl_reader.specs.Rules.{Breaks, BreaksRule, HasNoBits}
-use Rattle.ncl_reader.specs.Partial.{LeadPart, led, bracketed, firsted, coloned, lasted, ranged, leading, naming, lead_place, lead_spelled, direction_place, word_place, Partial, heading, inside, declaring, netted, indexing, spelled}
+use Rattle.ncl_reader.specs.Rules.{Breaks}
+use Rattle.ncl_reader.specs.Partial.{LeadPart, led, bracketed, firsted, coloned, lasted, ranged, leading, naming, lead_place, direction_place, word_place, Partial, heading, inside, declaring, spelled}
 use Rattle.ncl_reader.specs.Lead.{LeadTakes, IsLed, IsSaid, IsSpanOf, IsValue, takes_name, direction_output, lead_output}
 use Rattle.ncl_reader.proofs.Steps.{step, or_else, lead_step, direction_more, lead_more}
 use Rattle.ncl_reader.proofs.Grows.{grows}
-use Rattle.ncl_reader.proofs.Viable.{same_tree}
 use Rattle.ncl_reader.proofs.Breaking.{breaks-taken, breaks-untaken}
 use Rattle.ncl_reader.proofs.Declares.{part_spec}
+use Rattle.ncl_reader.proofs.RulesAt.{TooLong, LongPart, BreaksAt, breaks-here, breaks-back}
 
 -- where a declaration is read: in the header, or as an item
 pub record Site (L : Type 0) : Type 0 where
@@ -31,58 +30,32 @@ pub record Site (L : Type 0) : Type 0 where
   pub output : L → Option Bool
   pub of : L → LeadPlace
   pub more : L → Option L
-  pub front : List Lexeme
-  pub spell : (part : LeadPart L) → spelled (tree part) ≡ front ++ lead_spelled phrase part
   pub takes : (part next : LeadPart L) (t : Lexeme) → lead_step more part t ≡ Some (leading next) → step (tree part) t ≡ Some (tree next)
   pub leaves : (part : LeadPart L) (t : Lexeme) → lead_step more part t ≡ None → step (tree part) t ≡ None
-  pub no_net : (part : LeadPart L) (net : List ℕ) → IsBehindNet (spelled (tree part)) net → ⊥
-  pub no_index : (part : LeadPart L) (net : List ℕ) → IsAtIndex (spelled (tree part)) net → ⊥
+  pub opens : (part : LeadPart L) → BreaksAt (tree part) (Mark LBracket) → ⊥
+  pub numbers : (part : LeadPart L) (digits : List ℕ) → BreaksAt (tree part) (Number digits) → IsTooLarge digits ⊎ LongPart part digits
+  pub long : (part : LeadPart L) (digits : List ℕ) → LongPart part digits → BreaksAt (tree part) (Number digits)
   pub wires : (l : L) → of l ≡ lead.Direction → (m : L) × (more l ≡ Some m) × (of m ≡ lead.Wire) × (output m ≡ output l)
   pub wired : (l : L) → of l ≡ lead.Wire → more l ≡ None
   pub forms : (l : L) → (of l ≡ lead.Direction) ⊎ (of l ≡ lead.Wire)
-
--- the last token of a list is one
-last_token : (xs ys : List Lexeme) (t u : Lexeme) → xs ++ t ∷ [] ≡ ys ++ u ∷ [] → (xs ≡ ys) × (t ≡ u)
-last_token [] [] t u e = (refl, let same : t ≡ u = cc in same)
-last_token [] (y ∷ []) t u e = absurd cc
-last_token [] (y ∷ z ∷ ys) t u e = absurd cc
-last_token (x ∷ []) [] t u e = absurd cc
-last_token (x ∷ z ∷ xs) [] t u e = absurd cc
-last_token (x ∷ xs) (y ∷ ys) t u e =
-    let same : x ≡ y = cc in
-    let rest : xs ++ t ∷ [] ≡ ys ++ u ∷ [] = cc in
-    let (front, last) = last_token xs ys t u rest in
-    ((λ i. same i ∷ front i), last)
-
--- of two ranges that are spelled so the first numbers are the same
-colon_first : (a b : List Lexeme) (first other : List ℕ) → a ++ Mark LBracket ∷ Number first ∷ Mark Colon ∷ [] ≡ b ++ Mark LBracket ∷ Number other ∷ Mark Colon ∷ [] → first ≡ other
-colon_first a b first other e =
-    let outer = last_token (a ++ Mark LBracket ∷ Number first ∷ []) (b ++ Mark LBracket ∷ Number other ∷ []) (Mark Colon) (Mark Colon) (append_assoc a (Mark LBracket ∷ Number first ∷ []) (Mark Colon ∷ []) ∙ e ∙ sym (append_assoc b (Mark LBracket ∷ Number other ∷ []) (Mark Colon ∷ []))) in
-    let inner = last_token (a ++ Mark LBracket ∷ []) (b ++ Mark LBracket ∷ []) (Number first) (Number other) (append_assoc a (Mark LBracket ∷ []) (Number first ∷ []) ∙ outer.0 ∙ sym (append_assoc b (Mark LBracket ∷ []) (Number other ∷ []))) in
-    number_in inner.1
-  where
-    number_in : {x y : List ℕ} → Number x ≡ Number y → x ≡ y
-    number_in e = cc
 
 module _ {L : Type 0} (site : Site L) (kept : Led) where
   abbrev Answer : LeadPart L → Lexeme → Option LeadPlace → Type 0
   Answer part t result = LeadTakes site.tree site.output site.of part t result kept
 
-  took : (part next : LeadPart L) (t : Lexeme) (after : LeadPlace) → lead_step site.more part t ≡ Some (leading next) → lead_place site.of next ≡ after → IsLed site.output next kept → (BreaksRule (spelled (site.tree part)) t → ⊥) → Answer part t (Some after)
+  took : (part next : LeadPart L) (t : Lexeme) (after : LeadPlace) → lead_step site.more part t ≡ Some (leading next) → lead_place site.of next ≡ after → IsLed site.output next kept → (BreaksAt (site.tree part) t → ⊥) → Answer part t (Some after)
   took part next t after is at keeps fine =
       let some = site.takes part next t is in
-      (next, at, keeps, grows (site.tree part) t (site.tree next) some, λ breaks. fine (breaks-taken (site.tree part) (site.tree next) t some breaks))
+      (next, at, keeps, grows (site.tree part) t (site.tree next) some, λ breaks. fine (breaks-here (site.tree part) t (breaks-taken (site.tree part) (site.tree next) t some breaks)))
 
   left : (part : LeadPart L) (t : Lexeme) → lead_step site.more part t ≡ None → IsLed site.output part kept → Answer part t None
   left part t none keeps = (breaks-untaken (site.tree part) t (site.leaves part t none), keeps)
 
-  no_bits : (part : LeadPart L) → HasNoBits (spelled (site.tree part)) → ⊥
-  no_bits part (net, behind, none) = site.no_net part net behind
-
-  number_rule : (part : LeadPart L) (digits : List ℕ) → (IsTooLarge digits → ⊥) → ((first : List ℕ) → IsAtLast (spelled (site.tree part)) first → MOST_VECTOR_BITS < width (record { first = digits_value 10 first; last = digits_value 10 digits }) → ⊥) → BreaksRule (spelled (site.tree part)) (Number digits) → ⊥
-  number_rule part digits small short (inl large) = small large
-  number_rule part digits small short (inr (inl (first, at, long))) = short first at long
-  number_rule part digits small short (inr (inr (net, range, at, vector, outside))) = site.no_index part net at
+  number_rule : (part : LeadPart L) (digits : List ℕ) → (IsTooLarge digits → ⊥) → (LongPart part digits → ⊥) → BreaksAt (site.tree part) (Number digits) → ⊥
+  number_rule part digits small short breaks = elim (site.numbers part digits breaks) [
+    | inl large ↦ small large
+    | inr long ↦ short long
+  ]
 
   -- what begins a declaration is in front of "wire", a bracket or a name
   no_place : (l : L) (at : LeadPlace) → (lead.Direction ≡ at → ⊥) → (lead.Wire ≡ at → ⊥) → site.of l ≡ at → ⊥
@@ -99,7 +72,7 @@ module _ {L : Type 0} (site : Site L) (kept : Led) where
   at_wire part t at keeps is = absurd cc
 
   bracket_led : (l : L) (t : Lexeme) → IsLed site.output (led l) kept → t ≡ Mark LBracket → Answer (led l) t (Some lead.First)
-  bracket_led l t keeps is = subst (λ u. Answer (led l) u (Some lead.First)) (sym is) (took (led l) (bracketed l) (Mark LBracket) lead.First refl refl keeps.0 (no_bits (led l)))
+  bracket_led l t keeps is = subst (λ u. Answer (led l) u (Some lead.First)) (sym is) (took (led l) (bracketed l) (Mark LBracket) lead.First refl refl keeps.0 (site.opens (led l)))
 
   pub at_bracket : (part : LeadPart L) (t : Lexeme) → lead_place site.of part ≡ lead.Direction → IsLed site.output part kept → t ≡ Mark LBracket → Answer part t (Some lead.First)
   at_bracket (led l) t at keeps is = bracket_led l t keeps is
@@ -109,19 +82,35 @@ module _ {L : Type 0} (site : Site L) (kept : Led) where
   wire_bracket (led l) t at keeps is = bracket_led l t keeps is
   wire_bracket part t at keeps is = absurd cc
 
+  -- tokens that aren't taken
   others-led : (l : L) (t : Lexeme) → (t ≡ Word Wire → site.more l ≡ None) → t ≢ Mark LBracket → ((x : List ℕ) → t ≢ Name x) → lead_step site.more (led l) t ≡ None
   others-led l (Word Wire) wire bracket names = ap (option_map (λ n. leading (led n))) (wire refl)
   others-led l (Mark LBracket) wire bracket names = absurd (bracket refl)
   others-led l (Name x) wire bracket names = absurd (names x refl)
   others-led l t wire bracket names = refl
 
-  pub at_none : (part : LeadPart L) (t : Lexeme) → lead_place site.of part ≡ lead.Direction → IsLed site.output part kept → t ≢ Word Wire → t ≢ Mark LBracket → ((x : List ℕ) → t ≢ Name x) → Answer part t None
-  at_none (led l) t at keeps wire bracket names = left (led l) t (others-led l t (λ is. absurd (wire is)) bracket names) keeps
-  at_none part t at keeps wire bracket names = absurd cc
+  abbrev pub Others : LeadPlace → Lexeme → Type 0
+  Others lead.Direction t = (t ≢ Word Wire) × (t ≢ Mark LBracket) × ((x : List ℕ) → t ≢ Name x)
+  Others lead.Wire t = (t ≢ Mark LBracket) × ((x : List ℕ) → t ≢ Name x)
+  Others lead.Colon t = t ≢ Mark Colon
+  Others lead.Close t = t ≢ Mark RBracket
+  Others lead.Range t = (x : List ℕ) → t ≢ Name x
+  Others at t = (digits : List ℕ) → t ≢ Number digits
 
-  pub wire_none : (part : LeadPart L) (t : Lexeme) → lead_place site.of part ≡ lead.Wire → IsLed site.output part kept → t ≢ Mark LBracket → ((x : List ℕ) → t ≢ Name x) → Answer part t None
-  wire_none (led l) t at keeps bracket names = left (led l) t (others-led l t (λ is. site.wired l at) bracket names) keeps
-  wire_none part t at keeps bracket names = absurd cc
+  others : (part : LeadPart L) (t : Lexeme) → Others (lead_place site.of part) t → lead_step site.more part t ≡ None
+  others (led l) t none = elim (site.forms l) [
+    | inl at ↦ let (wire, bracket, names) = subst (λ h. Others h t) at none in others-led l t (λ is. absurd (wire is)) bracket names
+    | inr at ↦ let (bracket, names) = subst (λ h. Others h t) at none in others-led l t (λ is. site.wired l at) bracket names
+  ]
+  others (bracketed l) (Number digits) none = absurd (none digits refl)
+  others (firsted l first) (Mark Colon) none = absurd (none refl)
+  others (coloned l first) (Number digits) none = absurd (none digits refl)
+  others (lasted l first last) (Mark RBracket) none = absurd (none refl)
+  others (ranged l range) (Name x) none = absurd (none x refl)
+  others part t none = refl
+
+  pub left_at : (part : LeadPart L) (t : Lexeme) (at : LeadPlace) → lead_place site.of part ≡ at → IsLed site.output part kept → Others at t → Answer part t None
+  left_at part t at here keeps none = left part t (others part t (subst (λ h. Others h t) (sym here) none)) keeps
 
   -- behind the bracket, and behind the colon
   number_or_none : (t : Lexeme) → ((digits : List ℕ) × (t ≡ Number digits)) ⊎ ((digits : List ℕ) → t ≢ Number digits)
@@ -134,68 +123,33 @@ module _ {L : Type 0} (site : Site L) (kept : Led) where
     | inr none ↦ left part t (others none) keeps
   ]
 
-  others-bracketed : (l : L) (t : Lexeme) → ((digits : List ℕ) → t ≢ Number digits) → lead_step site.more (bracketed l) t ≡ None
-  others-bracketed l (Number digits) numbers = absurd (numbers digits refl)
-  others-bracketed l t numbers = refl
-
-  others-coloned : (l : L) (first : List ℕ) (t : Lexeme) → ((digits : List ℕ) → t ≢ Number digits) → lead_step site.more (coloned l first) t ≡ None
-  others-coloned l first (Number digits) numbers = absurd (numbers digits refl)
-  others-coloned l first t numbers = refl
-
   pub first_none : (part : LeadPart L) (t : Lexeme) → lead_place site.of part ≡ lead.First → IsLed site.output part kept → ((digits : List ℕ) → t ≡ Number digits → IsTooLarge digits) → Answer part t None
-  first_none (bracketed l) t at keeps large = too_large (bracketed l) t keeps large (others-bracketed l t)
+  first_none (bracketed l) t at keeps large = too_large (bracketed l) t keeps large (others (bracketed l) t)
   first_none (led l) t at keeps large = absurd (no_place l lead.First (λ e. absurd cc) (λ e. absurd cc) at)
   first_none part t at keeps large = absurd cc
 
   pub last_none : (part : LeadPart L) (t : Lexeme) → lead_place site.of part ≡ lead.Last → IsLed site.output part kept → ((digits : List ℕ) → t ≡ Number digits → IsTooLarge digits) → Answer part t None
-  last_none (coloned l first) t at keeps large = too_large (coloned l first) t keeps large (others-coloned l first t)
+  last_none (coloned l first) t at keeps large = too_large (coloned l first) t keeps large (others (coloned l first) t)
   last_none (led l) t at keeps large = absurd (no_place l lead.Last (λ e. absurd cc) (λ e. absurd cc) at)
   last_none part t at keeps large = absurd cc
 
   -- behind the first number, and behind the last
-  others-firsted : (l : L) (first : List ℕ) (t : Lexeme) → t ≢ Mark Colon → lead_step site.more (firsted l first) t ≡ None
-  others-firsted l first (Mark Colon) other = absurd (other refl)
-  others-firsted l first t other = refl
-
-  others-lasted : (l : L) (first last : List ℕ) (t : Lexeme) → t ≢ Mark RBracket → lead_step site.more (lasted l first last) t ≡ None
-  others-lasted l first last (Mark RBracket) other = absurd (other refl)
-  others-lasted l first last t other = refl
-
-  others-ranged : (l : L) (range : Range) (t : Lexeme) → ((x : List ℕ) → t ≢ Name x) → lead_step site.more (ranged l range) t ≡ None
-  others-ranged l range (Name x) names = absurd (names x refl)
-  others-ranged l range t names = refl
 
   pub colon : (part : LeadPart L) (t : Lexeme) → lead_place site.of part ≡ lead.Colon → IsLed site.output part kept → t ≡ Mark Colon → Answer part t (Some lead.Last)
   colon (firsted l first) t at keeps is = subst (λ u. Answer (firsted l first) u (Some lead.Last)) (sym is) (took (firsted l first) (coloned l first) (Mark Colon) lead.Last refl refl keeps (λ none. none))
   colon (led l) t at keeps is = absurd (no_place l lead.Colon (λ e. absurd cc) (λ e. absurd cc) at)
   colon part t at keeps is = absurd cc
 
-  pub colon_none : (part : LeadPart L) (t : Lexeme) → lead_place site.of part ≡ lead.Colon → IsLed site.output part kept → t ≢ Mark Colon → Answer part t None
-  colon_none (firsted l first) t at keeps other = left (firsted l first) t (others-firsted l first t other) keeps
-  colon_none (led l) t at keeps other = absurd (no_place l lead.Colon (λ e. absurd cc) (λ e. absurd cc) at)
-  colon_none part t at keeps other = absurd cc
-
   pub close : (part : LeadPart L) (t : Lexeme) → lead_place site.of part ≡ lead.Close → IsLed site.output part kept → t ≡ Mark RBracket → Answer part t (Some lead.Range)
   close (lasted l first last) t at keeps is = subst (λ u. Answer (lasted l first last) u (Some lead.Range)) (sym is) (took (lasted l first last) (ranged l (record { first = first; last = last })) (Mark RBracket) lead.Range refl refl keeps (λ none. none))
   close (led l) t at keeps is = absurd (no_place l lead.Close (λ e. absurd cc) (λ e. absurd cc) at)
   close part t at keeps is = absurd cc
 
-  pub close_none : (part : LeadPart L) (t : Lexeme) → lead_place site.of part ≡ lead.Close → IsLed site.output part kept → t ≢ Mark RBracket → Answer part t None
-  close_none (lasted l first last) t at keeps other = left (lasted l first last) t (others-lasted l first last t other) keeps
-  close_none (led l) t at keeps other = absurd (no_place l lead.Close (λ e. absurd cc) (λ e. absurd cc) at)
-  close_none part t at keeps other = absurd cc
-
-  pub range_none : (part : LeadPart L) (t : Lexeme) → lead_place site.of part ≡ lead.Range → IsLed site.output part kept → ((x : List ℕ) → t ≢ Name x) → Answer part t None
-  range_none (ranged l range) t at keeps names = left (ranged l range) t (others-ranged l range t names) keeps
-  range_none (led l) t at keeps names = absurd (no_place l lead.Range (λ e. absurd cc) (λ e. absurd cc) at)
-  range_none part t at keeps names = absurd cc
-
   -- a range that is too long
   pub last_long : (part : LeadPart L) (t : Lexeme) (digits : List ℕ) (n : ℕ) → lead_place site.of part ≡ lead.Last → IsLed site.output part kept → t ≡ Number digits → IsValue digits n → MOST_VECTOR_BITS < width (record { first = kept.first; last = n }) → Answer part t None
   last_long (coloned l first) t digits n at keeps is value long =
-      let too_long : MOST_VECTOR_BITS < width (record { first = digits_value 10 first; last = digits_value 10 digits }) = subst (λ f. MOST_VECTOR_BITS < width (record { first = f; last = digits_value 10 digits })) keeps.1.0 (subst (λ m. MOST_VECTOR_BITS < width (record { first = kept.first; last = m })) value.0 long) in
-      let at_last : IsAtLast (spelled (site.tree (coloned l first))) first = (site.front ++ site.phrase l, site.spell (coloned l first) ∙ sym (append_assoc site.front (site.phrase l) (Mark LBracket ∷ Number first ∷ Mark Colon ∷ []))) in
-      (subst (Breaks (spelled (site.tree (coloned l first)))) (sym is) (inr (inr (inl (first, at_last, too_long)))), keeps)
+      let too_long : TooLong first digits = subst (λ f. MOST_VECTOR_BITS < width (record { first = f; last = digits_value 10 digits })) keeps.1.0 (subst (λ m. MOST_VECTOR_BITS < width (record { first = kept.first; last = m })) value.0 long) in
+      (subst (Breaks (spelled (site.tree (coloned l first)))) (sym is) (inr (breaks-back (site.tree (coloned l first)) (Number digits) (site.long (coloned l first) digits too_long))), keeps)
   last_long (led l) t digits n at keeps is value long = absurd (no_place l lead.Last (λ e. absurd cc) (λ e. absurd cc) at)
   last_long part t digits n at keeps is value long = absurd cc
 
@@ -245,12 +199,7 @@ module _ {L : Type 0} (site : Site L) (kept : Led) where
 -- numbers that are taken
 module _ {L : Type 0} (site : Site L) (old new : Led) where
   pub first : (part : LeadPart L) (t : Lexeme) (digits : List ℕ) → lead_place site.of part ≡ lead.First → IsLed site.output part old → t ≡ Number digits → new.output ≡ old.output → IsValue digits new.first → (IsTooLarge digits → ⊥) → LeadTakes site.tree site.output site.of part t (Some lead.Colon) new
-  first (bracketed l) t digits at keeps is same value small = subst (λ u. LeadTakes site.tree site.output site.of (bracketed l) u (Some lead.Colon) new) (sym is) (took site new (bracketed l) (firsted l digits) (Number digits) lead.Colon refl refl (same ∙ keeps, value) (number_rule site new (bracketed l) digits small no_colon))
-    where
-      no_colon : (other : List ℕ) → IsAtLast (spelled (site.tree (bracketed l))) other → MOST_VECTOR_BITS < width (record { first = digits_value 10 other; last = digits_value 10 digits }) → ⊥
-      no_colon other (before, e) long =
-          let (fronts, signs) = last_token (site.front ++ site.phrase l) (before ++ Mark LBracket ∷ Number other ∷ []) (Mark LBracket) (Mark Colon) (append_assoc site.front (site.phrase l) (Mark LBracket ∷ []) ∙ sym (site.spell (bracketed l)) ∙ e ∙ sym (append_assoc before (Mark LBracket ∷ Number other ∷ []) (Mark Colon ∷ []))) in
-          let wrong : Mark LBracket ≡ Mark Colon = signs in absurd cc
+  first (bracketed l) t digits at keeps is same value small = subst (λ u. LeadTakes site.tree site.output site.of (bracketed l) u (Some lead.Colon) new) (sym is) (took site new (bracketed l) (firsted l digits) (Number digits) lead.Colon refl refl (same ∙ keeps, value) (number_rule site new (bracketed l) digits small (λ none. none)))
   first (led l) t digits at keeps is same value small = absurd (no_place site old l lead.First (λ e. absurd cc) (λ e. absurd cc) at)
   first part t digits at keeps is same value small = absurd cc
 
@@ -266,10 +215,8 @@ module _ {L : Type 0} (site : Site L) (old new : Led) where
         few = λ s e. subst numbers (same_Some (record { first = old.first; last = n }) s (sym spans ∙ e)) (keeps.1.1, value.1);
       }
 
-      no_long : (other : List ℕ) → IsAtLast (spelled (site.tree (coloned l first_digits))) other → MOST_VECTOR_BITS < width (record { first = digits_value 10 other; last = digits_value 10 digits }) → ⊥
-      no_long other (before, e) long =
-          let firsts : first_digits ≡ other = colon_first (site.front ++ site.phrase l) before first_digits other (append_assoc site.front (site.phrase l) (Mark LBracket ∷ Number first_digits ∷ Mark Colon ∷ []) ∙ sym (site.spell (coloned l first_digits)) ∙ e) in
-          short (subst (λ f. MOST_VECTOR_BITS < width (record { first = f; last = n })) (ap (digits_value 10) (sym firsts) ∙ sym keeps.1.0) (subst (λ m. MOST_VECTOR_BITS < width (record { first = digits_value 10 other; last = m })) (sym value.0) long))
+      no_long : TooLong first_digits digits → ⊥
+      no_long long = short (subst (λ f. MOST_VECTOR_BITS < width (record { first = f; last = n })) (sym keeps.1.0) (subst (λ m. MOST_VECTOR_BITS < width (record { first = digits_value 10 first_digits; last = m })) (sym value.0) long))
   last (led l) t digits n at keeps is same spans value small short = absurd (no_place site old l lead.Last (λ e. absurd cc) (λ e. absurd cc) at)
   last part t digits n at keeps is same spans value small short = absurd cc
 
@@ -301,19 +248,10 @@ word_forms (Gives (Plain way)) = inl refl
 word_forms (Gives (Wired way)) = inr refl
 word_forms Wires = inr refl
 
-module _ (title : List ℕ) (groups : List (Group Direction)) (part : LeadPart Direction) (net : List ℕ) where
-  pub no_net_in_header : IsBehindNet (spelled (heading title groups (leading part))) net → ⊥
-  no_net_in_header (head, items, cell, name, conns, pin, is) = let wrong : heading title groups (leading part) ≡ inside head items (netted cell name conns pin net) = same_tree (heading title groups (leading part)) (inside head items (netted cell name conns pin net)) is in absurd cc
-
-  pub no_index_in_header : IsAtIndex (spelled (heading title groups (leading part))) net → ⊥
-  no_index_in_header (head, items, cell, name, conns, pin, is) = let wrong : heading title groups (leading part) ≡ inside head items (indexing cell name conns pin net) = same_tree (heading title groups (leading part)) (inside head items (indexing cell name conns pin net)) is in absurd cc
-
-module _ (head : Head) (items : List Item) (part : LeadPart Lead) (net : List ℕ) where
-  pub no_net_in_item : IsBehindNet (spelled (inside head items (declaring (leading part)))) net → ⊥
-  no_net_in_item (h, i, cell, name, conns, pin, is) = let wrong : inside head items (declaring (leading part)) ≡ inside h i (netted cell name conns pin net) = same_tree (inside head items (declaring (leading part))) (inside h i (netted cell name conns pin net)) is in absurd cc
-
-  pub no_index_in_item : IsAtIndex (spelled (inside head items (declaring (leading part)))) net → ⊥
-  no_index_in_item (h, i, cell, name, conns, pin, is) = let wrong : inside head items (declaring (leading part)) ≡ inside h i (indexing cell name conns pin net) = same_tree (inside head items (declaring (leading part))) (inside h i (indexing cell name conns pin net)) is in absurd cc
+pub number_part : {A B : Type 0} → A ⊎ (B ⊎ ⊥) → A ⊎ B
+number_part (inl a) = inl a
+number_part (inr (inl b)) = inr b
+number_part (inr (inr none)) = absurd none
 
 abbrev pub in_header : List ℕ → List (Group Direction) → Site Direction
 in_header title groups = record {
@@ -322,12 +260,11 @@ in_header title groups = record {
   output = direction_output;
   of = direction_place;
   more = direction_more;
-  front = Word Module ∷ Name title ∷ Mark LParen ∷ with_commas (group_phrase direction_phrase) groups;
-  spell = λ part. refl;
   takes = λ part next t is. ap (λ found. or_else (option_map (heading title groups) found) None) is;
   leaves = λ part t is. ap (λ found. or_else (option_map (heading title groups) found) None) is;
-  no_net = no_net_in_header title groups;
-  no_index = no_index_in_header title groups;
+  opens = λ part none. none;
+  numbers = λ part digits b. number_part b;
+  long = λ part digits b. inr (inl b);
   wires = direction_wires;
   wired = direction_wired;
   forms = direction_forms;
@@ -340,12 +277,11 @@ in_item head items = record {
   output = lead_output;
   of = word_place;
   more = lead_more;
-  front = body_phrase head items;
-  spell = λ part. refl;
   takes = λ part next t is. ap (λ found. or_else (option_map (λ more. inside head items (declaring more)) found) None) is;
   leaves = λ part t is. ap (λ found. or_else (option_map (λ more. inside head items (declaring more)) found) None) is;
-  no_net = no_net_in_item head items;
-  no_index = no_index_in_item head items;
+  opens = λ part none. none;
+  numbers = λ part digits b. number_part b;
+  long = λ part digits b. inr (inl b);
   wires = word_wires;
   wired = word_wired;
   forms = word_forms;

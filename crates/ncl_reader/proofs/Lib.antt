@@ -22,6 +22,7 @@ pub mod NetSteps
 mod HeaderPorts
 mod Ways
 pub mod SaidNames
+mod RulesAt
 mod Rules
 mod SomeFault
 mod Standing

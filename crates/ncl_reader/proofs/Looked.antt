@@ -4,7 +4,7 @@ use Rattle.std.proofs.lemmas.List.{take_more, map_push, take_all, get_or-map, le
 use Rattle.std.proofs.lemmas.List.Elements.{Contains-append_cases}
 
 -- the one element of a list
-pub single : (y x : List ℕ) → Contains (y ∷ []) x → y ≡ x
+pub single : {X : Type 0} (y x : X) → Contains (y ∷ []) x → y ≡ x
 single y x (zero, lt, e) = e
 single y x (suc k, lt, e) = absurd (omega (arith, lt))
 

@@ -5,21 +5,15 @@ use Rattle.std.specs.List.{list_any}
 use Rattle.std.specs.Str.{bytes_eq}
 use Rattle.std.proofs.lemmas.List.Folds.{list_any-append}
 use Rattle.ncl_reader.proofs.Among.{bytes_eq-comm}
-
-now_append : (xs : List (Bor (List ℕ))) (n : Bor (List ℕ)) → map (λ y. y.now) (xs ++ n ∷ []) ≡ map (λ y. y.now) xs ++ n.now ∷ []
-now_append [] n = refl
-now_append (x ∷ xs) n = ap (λ l. x.now ∷ l) (now_append xs n)
-
-last : (b : Bool) → (b || false) ≡ b
-last true = refl
-last false = refl
+use Rattle.std.proofs.Math.Bool.{or-false}
+use Rattle.std.proofs.lemmas.List.{map_push}
 
 -- a name is among names with one more
 pub waits-more : (x : List ℕ) (names : List (Bor (List ℕ))) (n : Bor (List ℕ)) → list_any (bytes_eq x) (map (λ y. y.now) (names ++ n ∷ [])) ≡ (list_any (bytes_eq x) (map (λ y. y.now) names) || bytes_eq n.now x)
 waits-more x names n =
-    ap (list_any (bytes_eq x)) (now_append names n)
+    ap (list_any (bytes_eq x)) (map_push (λ y. y.now) names n)
     ∙ list_any-append (bytes_eq x) (map (λ y. y.now) names) (n.now ∷ [])
-    ∙ ap (λ b. list_any (bytes_eq x) (map (λ y. y.now) names) || b) (last (bytes_eq x n.now) ∙ bytes_eq-comm x n.now)
+    ∙ ap (λ b. list_any (bytes_eq x) (map (λ y. y.now) names) || b) (or-false (bytes_eq x n.now) ∙ bytes_eq-comm x n.now)
 
 -- one that waits more
 pub one-waits : (s w e : Bool) → (s || (w || e)) ≡ cond e true (s || w)
@@ -32,7 +26,7 @@ one-waits false false false = refl
 
 -- one that waited is sorted in
 pub one-sorted : {X : Type 0} (v : X) (kept : Option X) (w e : Bool) → (is_some (cond e (Some v) kept) || w) ≡ (is_some kept || (w || e))
-one-sorted v kept w false = ap (λ b. is_some kept || b) (sym (last w))
+one-sorted v kept w false = ap (λ b. is_some kept || b) (sym (or-false w))
 one-sorted v None true true = refl
 one-sorted v None false true = refl
 one-sorted v (Some k) w true = refl

@@ -1,17 +1,15 @@
 -- Where no bracket stands, names break no rule of vectors.
-use Rattle.std.proofs.Common.{◌≡◌, ℕ, List, ◌∷◌, ◌++◌, Option, Some, None, inl, inr, ◌⊎◌, refl, sym, ap, ◌∙◌, subst, append_assoc, Contains}
+use Rattle.std.proofs.Common.{◌≡◌, ℕ, List, ◌∷◌, ◌++◌, Option, Some, None, inl, inr, refl, sym, ap, ◌∙◌, subst, append_assoc}
 use Rattle.std.specs.Option.{option_map}
-use Rattle.ncl_gates.specs.Name.{cell_name_of}
 use Rattle.ncl_reader.specs.declared.keyword.Keyword.TheVariants.{Module}
-use Rattle.ncl_reader.specs.declared.lexeme.Sign.TheVariants.{LBracket, LParen, RParen}
+use Rattle.ncl_reader.specs.declared.lexeme.Sign.TheVariants.{LBracket, LParen}
 use Rattle.ncl_reader.specs.Lexemes.{Lexeme, Word, Name, Mark}
-use Rattle.ncl_reader.specs.Grammar.{Direction, direction_phrase, Lead, Gives, lead_phrase, Range, Spec, spec_phrase, Group, group_phrase, Conn, Item, Head, with_commas, name_phrase, body_phrase, header_of}
+use Rattle.ncl_reader.specs.Grammar.{direction_phrase, Gives, lead_phrase, Range, spec_phrase, group_phrase, with_commas, name_phrase, body_phrase}
 use Rattle.ncl_reader.specs.Forms.{IsDeclaring}
 use Rattle.ncl_reader.specs.Vectors.{span_of, IsDeclared, IsVector}
-use Rattle.ncl_reader.specs.Rules.{directed_by, RepeatsPort, RepeatsHeaded, Misdirects, NamesNoCell, Misjoins, LeavesPin, Redeclares, Clashes, Crowds, BreaksRule}
-use Rattle.ncl_reader.specs.Partial.{GroupPart, Partial, listing, heading, at_item, inside, declaring, dotted, joined, spelled}
-use Rattle.ncl_reader.proofs.Viable.{same_tree}
-use Rattle.ncl_reader.proofs.Declares.{part_spec, part_names, part_at, heading_form, declaring_form}
+use Rattle.ncl_reader.specs.Rules.{Redeclares, Clashes, Crowds}
+use Rattle.ncl_reader.specs.Partial.{Partial, spelled}
+use Rattle.ncl_reader.proofs.RulesAt.{NameAt, BreaksAt}
 
 -- no bracket stands
 abbrev pub NoBracket : List Lexeme → Type 0
@@ -56,42 +54,9 @@ no_crowds : (xs : List Lexeme) (x : List ℕ) → NoBracket xs → Crowds xs x �
 no_crowds xs x none (inl c) = no_range xs c.range none (inl (c.title, c.groups, c.direction, c.names, c.is))
 no_crowds xs x none (inr c) = no_range xs c.range none (inr (c.head, c.items, Gives c.direction, c.names, c.is))
 
--- where a rule can be broken
-pub headed_only : (p : Partial) (x : List ℕ) → RepeatsHeaded (spelled p) x → (title : List ℕ) × (groups : List (Group Direction)) × (part : GroupPart Direction) × (p ≡ heading title groups part)
-headed_only p x b =
-    let (q, is) = part_at direction_phrase b.spec b.names in
-    (b.title, b.groups, q, same_tree p (heading b.title b.groups q) (b.is ∙ sym (heading_form b.title b.groups q b.spec b.names is)))
-
-pub repeats_only : (p : Partial) (x : List ℕ) → RepeatsPort (spelled p) x → (title : List ℕ) × (names : List (List ℕ)) × (p ≡ listing title names) × Contains names x
-repeats_only p x b = (b.title, b.names, same_tree p (listing b.title b.names) b.is, b.stands)
-
-pub misdirects_only : (p : Partial) (x : List ℕ) → Misdirects (spelled p) x → (head : Head) × (items : List Item) × (part : GroupPart Lead) × (direction : Direction) × (range : Option Range) × (p ≡ inside head items (declaring part)) × (part_spec part ≡ Some (record { lead = Gives direction; range = range })) × (¬ Contains (header_of head) x ⊎ Contains (directed_by head items ++ part_names part) x)
-misdirects_only p x b =
-    let spec : Spec Lead = record { lead = Gives b.direction; range = b.range } in
-    let (q, is) = part_at lead_phrase spec b.names in
-    (b.head, b.items, q, b.direction, b.range, same_tree p (inside b.head b.items (declaring q)) (b.is ∙ sym (declaring_form b.head b.items q spec b.names is)), is.says, subst (λ ns. ¬ Contains (header_of b.head) x ⊎ Contains (directed_by b.head b.items ++ ns) x) (sym is.stand) b.breaks)
-
-pub unknown_only : (p : Partial) (x : List ℕ) → NamesNoCell (spelled p) x → (head : Head) × (items : List Item) × (p ≡ at_item head items)
-unknown_only p x b = (b.head, b.items, same_tree p (at_item b.head b.items) b.is)
-
-pub misjoins_only : (p : Partial) (x : List ℕ) → Misjoins (spelled p) x → (head : Head) × (items : List Item) × (cell : List ℕ) × (name : List ℕ) × (conns : List Conn) × (p ≡ inside head items (dotted cell name conns))
-misjoins_only p x b = (b.head, b.items, cell_name_of b.kind, b.name, b.conns, same_tree p (inside b.head b.items (dotted (cell_name_of b.kind) b.name b.conns)) b.is)
-
--- a name breaks one of these four rules or none
-pub name_rule : (p : Partial) (x : List ℕ) → NoBracket (spelled p) → (RepeatsHeaded (spelled p) x → ⊥) → (RepeatsPort (spelled p) x → ⊥) → (Misdirects (spelled p) x → ⊥) → (NamesNoCell (spelled p) x → ⊥) → (Misjoins (spelled p) x → ⊥) → BreaksRule (spelled p) (Name x) → ⊥
-name_rule p x none headed repeats misdirects unknown misjoins (inl b) = repeats b
-name_rule p x none headed repeats misdirects unknown misjoins (inr (inl b)) = headed b
-name_rule p x none headed repeats misdirects unknown misjoins (inr (inr (inl b))) = misdirects b
-name_rule p x none headed repeats misdirects unknown misjoins (inr (inr (inr (inl b)))) = unknown b
-name_rule p x none headed repeats misdirects unknown misjoins (inr (inr (inr (inr (inl b))))) = misjoins b
-name_rule p x none headed repeats misdirects unknown misjoins (inr (inr (inr (inr (inr (inl b)))))) = no_redeclares (spelled p) x none b
-name_rule p x none headed repeats misdirects unknown misjoins (inr (inr (inr (inr (inr (inr (inl b))))))) = no_clashes (spelled p) x none b
-name_rule p x none headed repeats misdirects unknown misjoins (inr (inr (inr (inr (inr (inr (inr b))))))) = no_crowds (spelled p) x none b
-
--- a `)` breaks a rule nowhere but behind a connection
-pub close_rule : (p : Partial) → NoBracket (spelled p) → (LeavesPin (spelled p) → ⊥) → BreaksRule (spelled p) (Mark RParen) → ⊥
-close_rule p none leaves (inl (net, range, behind, vector)) = no_vector (spelled p) net range none vector
-close_rule p none leaves (inr b) = leaves b
-
-pub leaves_only : (p : Partial) → LeavesPin (spelled p) → (head : Head) × (items : List Item) × (cell : List ℕ) × (name : List ℕ) × (conns : List Conn) × (conn : Conn) × (p ≡ inside head items (joined cell name conns conn))
-leaves_only p b = (b.head, b.items, cell_name_of b.kind, b.name, b.conns.before, b.conns.last, same_tree p (inside b.head b.items (joined (cell_name_of b.kind) b.name b.conns.before b.conns.last)) b.is)
+-- so a name breaks what its tree says or nothing
+pub plain_free : (p : Partial) (x : List ℕ) → (NameAt p x → ⊥) → NoBracket (spelled p) → BreaksAt p (Name x) → ⊥
+plain_free p x name none (inl b) = name b
+plain_free p x name none (inr (inl b)) = no_redeclares (spelled p) x none b
+plain_free p x name none (inr (inr (inl b))) = no_clashes (spelled p) x none b
+plain_free p x name none (inr (inr (inr b))) = no_crowds (spelled p) x none b

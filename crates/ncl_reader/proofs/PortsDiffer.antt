@@ -6,6 +6,7 @@ use Rattle.std.proofs.lemmas.Bool.{false≢true, cases_lt}
 use Rattle.std.proofs.lemmas.List.{map-append, get_or-map, length-map}
 use Rattle.std.proofs.lemmas.Map.Keys.{IsDistinct-tail, IsDistinct-cons, IsDistinct-from_apart, apart_from_distinct}
 use Rattle.std.proofs.lemmas.Slice.Eq.{bytes_eq-Decides}
+use Rattle.ncl_base.proofs.Joined.{member_of_flat_map}
 use Rattle.ncl_base.proofs.Members.{Member, here, there, Member-append_cases, member_of_map, Contains-from_Member, recursion_from_members}
 use Rattle.ncl_netlist.specs.Names.{AllDiffer}
 use Rattle.ncl_netlist.specs.declared.port.Port.{Port}
@@ -39,21 +40,13 @@ differ_join (x ∷ a) b one two apart =
     ])))
     (differ_join a b (IsDistinct-tail bytes_eq x a one) two (λ z front back. apart z (there front) back))
 
--- what is a member of lists in a row is a member of one of them
-member_of_flat : (g : List ℕ → List (List ℕ)) (names : List (List ℕ)) (z : List ℕ) → Member z (flat_map g names) → (y : List ℕ) × Member y names × Member z (g y)
-member_of_flat g [] z among = elim among [ ]
-member_of_flat g (x ∷ names) z among = elim (Member-append_cases z (g x) (flat_map g names) among) [
-  | inl front ↦ (x, here, front)
-  | inr back ↦ let (y, stands, is) = member_of_flat g names z back in (y, there stands, is)
-]
-
 -- names of names, of which two have none in common
 differ_flat : (g : List ℕ → List (List ℕ)) (names : List (List ℕ)) → AllDiffer names → ((x : List ℕ) → Member x names → AllDiffer (g x)) → ((x y z : List ℕ) → Member x names → Member y names → Member z (g x) → Member z (g y) → x ≡ y) → AllDiffer (flat_map g names)
 differ_flat g [] all each one = differ_none
 differ_flat g (x ∷ names) all each one =
     differ_join (g x) (flat_map g names) (each x here)
     (differ_flat g names (IsDistinct-tail bytes_eq x names all) (λ y among. each y (there among)) (λ y w z first second. one y w z (there first) (there second)))
-    (λ z front back. let (y, among, is) = member_of_flat g names z back in differ_member x names all y among (one x y z here (there among) front is))
+    (λ z front back. let (y, among, is) = member_of_flat_map g names z back in differ_member x names all y among (one x y z here (there among) front is))
 
 -- the numbers of a vector are covered, and differ
 number_at : (span : Span) (i : ℕ) → i < width span → ((span.first ≤ span.last) × (get_or (numbers_of span) i 0 ≡ span.first + i)) ⊎ ((span.last < span.first) × (get_or (numbers_of span) i 0 ≡ span.first - i))
@@ -93,7 +86,7 @@ module _ (x : List ℕ) (span : Span) (few : (k : ℕ) → Covers span k → k <
       let names = sym (bit_at i d (omega (arith, before, less))) ∙ (bytes_eq-Decides (get_or (map (bit_name x) (numbers_of span)) i d) (get_or (map (bit_name x) (numbers_of span)) j d)).0 same ∙ bit_at j d less in
       other_number span i j before less (bit_name-injective x x (get_or (numbers_of span) i 0) (get_or (numbers_of span) j 0) (omega (arith, first)) (omega (arith, second)) names).1))
 
-bit_of_map : (x : List ℕ) (span : Span) (z : List ℕ) → Member z (map (bit_name x) (numbers_of span)) → (k : ℕ) × (z ≡ bit_name x k) × Covers span k
+pub bit_of_map : (x : List ℕ) (span : Span) (z : List ℕ) → Member z (map (bit_name x) (numbers_of span)) → (k : ℕ) × (z ≡ bit_name x k) × Covers span k
 bit_of_map x span z among =
     let (k, stands, is) = member_of_map (bit_name x) (numbers_of span) z among in
     let (i, within, at) = Contains-from_Member k stands in
@@ -106,7 +99,7 @@ bit_of_map x span z among =
     same_number (n ∷ ks) (suc i) k within = same_number ks i k (omega (arith, within))
 
 -- the one name
-alone : (x z : List ℕ) → Member z (x ∷ []) → z ≡ x
+pub alone : (x z : List ℕ) → Member z (x ∷ []) → z ≡ x
 alone x z here = refl
 alone x z (there none) = elim none [ ]
 
@@ -123,7 +116,7 @@ names-ports_of : (found : Option Said) → map (λ (port : Port). port.name) (po
 names-ports_of None = refl
 names-ports_of (Some said) = names_again said.output (bits_of said.name said.range)
 
-names-ports : (said : List Said) (names : List (List ℕ)) → map (λ (port : Port). port.name) (flat_map (ports_at said) names) ≡ flat_map (λ x. names_of (said_at said x)) names
+pub names-ports : (said : List Said) (names : List (List ℕ)) → map (λ (port : Port). port.name) (flat_map (ports_at said) names) ≡ flat_map (λ x. names_of (said_at said x)) names
 names-ports said [] = refl
 names-ports said (x ∷ names) = map-append (λ (port : Port). port.name) (ports_at said x) (flat_map (ports_at said) names) ∙ (λ i. names-ports_of (said_at said x) i ++ names-ports said names i)
 

@@ -1,5 +1,5 @@
 -- A partial tree is what its tokens lead to.
-use Rattle.std.proofs.Common.{◌≡◌, ℕ, List, [], ◌∷◌, ◌++◌, Option, Some, None, refl, sym, ap, ◌∙◌, append_assoc}
+use Rattle.std.proofs.Common.{[], ◌≡◌, ℕ, List, ◌∷◌, ◌++◌, Option, Some, None, refl, sym, ap, ◌∙◌, append_assoc}
 use Rattle.std.specs.Prelude.{option_and_then}
 use Rattle.std.proofs.lemmas.List.{append-nil}
 use Rattle.std.proofs.lemmas.Option.{same_Some}
@@ -121,13 +121,13 @@ module _ (head : Head) (items : List Item) where
   run-going-on spec row [] last = ap (λ xs. Some (inside head items (declaring (naming spec xs last)))) (sym (append-nil (all_of row)))
   run-going-on spec row (x ∷ names) last = run-going-on spec (record { before = all_of row; last = x }) names last ∙ ap (λ xs. Some (inside head items (declaring (naming spec xs last)))) (append_assoc (all_of row) (x ∷ []) names)
 
-  run-names : (l : Lead) (range : Option Range) (names : List (List ℕ)) (last : List ℕ) → run (inside head items (declaring (leading (led l)))) (maybe_phrase range ++ (with_commas name_phrase names ++ Name last ∷ [])) ≡ Some (inside head items (declaring (naming (record { lead = l; range = range }) names last)))
+  pub run-names : (l : Lead) (range : Option Range) (names : List (List ℕ)) (last : List ℕ) → run (inside head items (declaring (leading (led l)))) (maybe_phrase range ++ (with_commas name_phrase names ++ Name last ∷ [])) ≡ Some (inside head items (declaring (naming (record { lead = l; range = range }) names last)))
   run-names l None [] last = refl
   run-names l (Some range) [] last = refl
   run-names l None (x ∷ names) last = run-going-on (record { lead = l; range = None }) (record { before = []; last = x }) names last
   run-names l (Some range) (x ∷ names) last = run-going-on (record { lead = l; range = Some range }) (record { before = []; last = x }) names last
 
-  run-word : (l : Lead) → run (at_item head items) (lead_phrase l) ≡ Some (inside head items (declaring (leading (led l))))
+  pub run-word : (l : Lead) → run (at_item head items) (lead_phrase l) ≡ Some (inside head items (declaring (leading (led l))))
   run-word (Gives (Plain way)) = refl
   run-word (Gives (Wired way)) = refl
   run-word Wires = refl
@@ -153,7 +153,7 @@ module _ (head : Head) (items : List Item) where
       ∙ run-append (at_item head items) (inside head items (declaring (naming spec row.before row.last))) (spec_phrase lead_phrase spec ++ row_phrase name_phrase row) (Mark Comma ∷ []) (run-declared spec row.before row.last)
 
   -- connections
-  run-conn : (cell name : List ℕ) (conns : List Conn) (conn : Conn) → run (inside head items (joining cell name conns)) (conn_phrase conn) ≡ Some (inside head items (joined cell name conns conn))
+  pub run-conn : (cell name : List ℕ) (conns : List Conn) (conn : Conn) → run (inside head items (joining cell name conns)) (conn_phrase conn) ≡ Some (inside head items (joined cell name conns conn))
   run-conn cell name conns conn = by conn.pin conn.net.name conn.net.index
     where
       by : (pin net : List ℕ) (index : Option (List ℕ)) → run (inside head items (joining cell name conns)) (conn_phrase (record { pin = pin; net = record { name = net; index = index } })) ≡ Some (inside head items (joined cell name conns (record { pin = pin; net = record { name = net; index = index } })))

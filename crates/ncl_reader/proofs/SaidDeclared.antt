@@ -1,5 +1,5 @@
 -- What is said of a port was declared, and the names of a header stand.
-use Rattle.std.proofs.Common.{◌≡◌, ℕ, ◌+◌, ◌≤◌, arith, List, [], ◌∷◌, ◌++◌, length, Option, Some, None, inl, inr, refl, sym, ap, ◌∙◌, subst, append_assoc}
+use Rattle.std.proofs.Common.{[], ◌≡◌, ℕ, ◌+◌, ◌≤◌, arith, List, ◌∷◌, ◌++◌, length, Option, Some, None, inl, inr, refl, sym, ap, ◌∙◌, subst, append_assoc}
 use Rattle.std.specs.Prelude.{Contains}
 use Rattle.std.specs.List.{flat_map}
 use Rattle.std.proofs.lemmas.List.{append-nil, length-append}
@@ -7,16 +7,16 @@ use Rattle.std.proofs.lemmas.Grind.{flat_map-append}
 use Rattle.ncl_base.proofs.Members.{Member, here, there, Member-append_cases, member_of_map, Member-from_Contains}
 use Rattle.ncl_base.proofs.Joined.{member_of_flat_map}
 use Rattle.ncl_reader.specs.declared.keyword.Keyword.TheVariants.{Module, EndModule}
-use Rattle.ncl_reader.specs.declared.lexeme.Sign.TheVariants.{LParen, RParen, Comma, Semi}
+use Rattle.ncl_reader.specs.declared.lexeme.Sign.TheVariants.{LParen, RParen, Comma, Semi, Dot}
 use Rattle.ncl_reader.specs.Lexemes.{Lexeme, Word, Name, Mark}
-use Rattle.ncl_reader.specs.Grammar.{Row, all_of, with_commas, row_phrase, name_phrase, Direction, direction_phrase, Lead, Gives, Wires, lead_phrase, Range, spec_phrase, Group, group_names, group_phrase, Item, Declares, Joins, item_phrase, Listing, Empty, Names, Ansi, Head, head_phrase, body_phrase, groups_of, names_in, header_of}
+use Rattle.ncl_reader.specs.Grammar.{Row, all_of, with_commas, row_phrase, name_phrase, Direction, direction_phrase, Lead, Gives, Wires, lead_phrase, Range, spec_phrase, Group, group_names, group_phrase, Item, Declares, Joins, item_phrase, Listing, Empty, Names, Ansi, Head, head_phrase, body_phrase, groups_of, names_in, header_of, Conn, conn_phrase, index_phrase}
 use Rattle.ncl_reader.specs.Forms.{in_ansi, at_declared}
 use Rattle.ncl_reader.specs.Vectors.{Stands, IsDeclared}
 use Rattle.ncl_reader.specs.Says.{Said, said_of, said_in_header, said_in, said_by}
 use Rattle.ncl_reader.specs.Header.{AreDeclared}
 
 -- the lexemes up to `endmodule`
-abbrev whole : Head → List Item → List Lexeme
+abbrev pub whole : Head → List Item → List Lexeme
 whole head items = body_phrase head items ++ Word EndModule ∷ []
 
 -- what stands in front of one of a row, and behind it
@@ -148,7 +148,32 @@ stand_in name None items x among = elim among [ ]
 pub header_stands : (head : Head) (items : List Item) (x : List ℕ) → Contains (header_of head) x → Stands (whole head items) x
 header_stands head items x found = stand_in head.name head.ports items x (Member-from_Contains (header_of head) x found)
 
--- and are no more than the lexemes
+-- so do the name of an instance and the names of its nets
+instance_name : (h f m r d : List Lexeme) (cell name : Lexeme) → (h ++ (f ++ ((cell ∷ name ∷ m) ++ r))) ++ d ≡ ((h ++ f) ++ cell ∷ []) ++ name ∷ (m ++ (r ++ d))
+instance_name h f m r d cell name = simp append_assoc
+
+instance_net : (h f k w o one n r2 s r1 d : List Lexeme) → (h ++ (f ++ ((k ++ ((w ++ ((o ++ (one ++ n)) ++ r2)) ++ s)) ++ r1))) ++ d ≡ (h ++ (f ++ (k ++ (w ++ o)))) ++ (one ++ (n ++ (r2 ++ (s ++ (r1 ++ d)))))
+instance_net h f k w o one n r2 s r1 d = simp append_assoc
+
+pub instance_stands : (head : Head) (items : List Item) (cell name : List ℕ) (conns : Row Conn) → Member (Joins cell name conns) items → Stands (whole head items) name × ((c : Conn) → Member c (all_of conns) → Stands (whole head items) c.net.name)
+instance_stands head items cell name conns among =
+    let (before, r1, e1) = item_split items (Joins cell name conns) among in
+    let d : List Lexeme = Word EndModule ∷ [] in
+    let k : List Lexeme = Name cell ∷ Name name ∷ Mark LParen ∷ [] in
+    let s : List Lexeme = Mark RParen ∷ Mark Semi ∷ [] in
+    let m : List Lexeme = Mark LParen ∷ (row_phrase conn_phrase conns ++ s) in
+    let h = head_phrase head in
+    let f = flat_map item_phrase before in (
+      ((h ++ f) ++ Name cell ∷ [], m ++ (r1 ++ d), ap (λ r. (h ++ r) ++ d) e1 ∙ instance_name h f m r1 d (Name cell) (Name name)),
+      λ c stands.
+          let (some, r2, e2) = row_split conn_phrase conns c stands in
+          let w = with_commas conn_phrase some in
+          let o : List Lexeme = Mark Dot ∷ Name c.pin ∷ Mark LParen ∷ [] in
+          let n = index_phrase c.net.index ++ Mark RParen ∷ [] in
+          (h ++ (f ++ (k ++ (w ++ o))), n ++ (r2 ++ (s ++ (r1 ++ d))), ap (λ r. (h ++ r) ++ d) (e1 ∙ ap (λ l. f ++ ((k ++ (l ++ s)) ++ r1)) e2) ∙ instance_net h f k w o (Name c.net.name ∷ []) n r2 s r1 d),
+    )
+
+-- the names of a header are no more than the lexemes
 few_names : (names : List (List ℕ)) → length names ≤ length (with_commas name_phrase names)
 few_names [] = omega arith
 few_names (x ∷ names) = omega (arith, few_names names)

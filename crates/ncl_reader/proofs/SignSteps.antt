@@ -1,5 +1,5 @@
 -- Tokens at places where a sign alone says what comes next.
-use Rattle.std.proofs.Common.{◌≡◌, ℕ, ◌<◌, List, ◌∷◌, [], ◌++◌, length, Option, Some, None, true, refl, arith}
+use Rattle.std.proofs.Common.{[], ◌≡◌, ℕ, ◌<◌, List, ◌∷◌, ◌++◌, length, Option, Some, None, true, refl, arith}
 use Rattle.std.proofs.lemmas.Bool.{false≢true}
 use Rattle.std.proofs.lemmas.List.{length-append}
 use Rattle.ncl_reader.specs.declared.place.Place.{Place}
@@ -9,13 +9,12 @@ use Rattle.ncl_reader.specs.declared.lexeme.Sign.{Sign}
 use Rattle.ncl_reader.specs.declared.lexeme.Sign.TheVariants.{LParen, RParen, Comma, Semi, Dot, RBracket}
 use Rattle.ncl_reader.specs.Lexemes.{Lexeme, Mark}
 use Rattle.ncl_reader.specs.Grammar.{Row, Head, Names, Ansi, Declares, Joins}
-use Rattle.ncl_reader.specs.Rules.{BreaksRule}
 use Rattle.ncl_reader.specs.Known.{KeepsNames}
-use Rattle.ncl_reader.specs.Partial.{Partial, spelled, listing, listed, headed, heading, naming, going, at_item, inside, declaring, joining, dotted, opened, picked}
+use Rattle.ncl_reader.specs.Partial.{Partial, spelled, listing, headed, heading, going, at_item, inside, declaring, joining, dotted, opened, picked}
 use Rattle.ncl_reader.specs.Draft.{HoldsAt, HoldsBy, Takes, TakesOrBreaks, cell_in, name_in}
 use Rattle.ncl_reader.specs.Next.{takes_sign, after_sign}
 use Rattle.ncl_reader.proofs.Steps.{step}
-use Rattle.ncl_reader.proofs.NameRules.{close_free}
+use Rattle.ncl_reader.proofs.RulesAt.{BreaksAt}
 use Rattle.ncl_reader.proofs.DraftBody.{header-ends, body-declares}
 use Rattle.ncl_reader.proofs.DraftSteps as steps
 use Rattle.ncl_reader.proofs.NetSteps as nets
@@ -26,9 +25,9 @@ after_token at (Mark sign) = after_sign at sign
 after_token at t = None
 
 -- a sign is taken
-taken : {p tree : Partial} (q : Partial) (sign : Sign) (after : Place) (d : Draft) → p ≡ tree → step tree (Mark sign) ≡ Some q → KeepsNames d.known (spelled p) → HoldsBy after d q → ¬ BreaksRule (spelled tree) (Mark sign) → Takes p (Mark sign) after d
+taken : {p tree : Partial} (q : Partial) (sign : Sign) (after : Place) (d : Draft) → p ≡ tree → step tree (Mark sign) ≡ Some q → KeepsNames d.known (spelled p) → HoldsBy after d q → ¬ BreaksAt tree (Mark sign) → Takes p (Mark sign) after d
 taken {p} {tree} q sign after d is some kept by fine =
-    steps.taken_mark p tree q (Mark sign) (Mark sign) after d is refl some (nets.mark_no_name sign) kept by fine
+    steps.taken_mark p tree q (Mark sign) (Mark sign) after d is refl some (λ x e. absurd cc) kept by fine
 
 -- another token isn't
 untaken : {p tree : Partial} (at : Place) (t : Lexeme) (d : Draft) → p ≡ tree → step tree t ≡ None → HoldsAt at d p → TakesOrBreaks at p t None d
@@ -47,7 +46,7 @@ sign_step place.AfterPort d (Mark Comma) p here (kept, (names, last, is, read)) 
     taken (listing d.title.now (names ++ last ∷ [])) Comma place.Port d is refl kept (names ++ last ∷ [], refl, some, read) (λ none. none)
 sign_step place.AfterPort d (Mark RParen) p here (kept, (names, last, is, read)) =
     let ports = Names (record { before = names; last = last }) in
-    taken (headed d.title.now ports) RParen place.AfterPorts d is refl kept (ports, refl, (refl, read)) (close_free (listed d.title.now names last) refl)
+    taken (headed d.title.now ports) RParen place.AfterPorts d is refl kept (ports, refl, (refl, read)) (λ none. none)
 sign_step place.AfterPort d t p here (kept, (names, last, is, read)) = untaken place.AfterPort t d is refl (kept, (names, last, is, read))
 sign_step place.AfterHeaderName d (Mark Comma) p here (kept, (groups, spec, names, last, is, said, read)) =
     let row : Row (List ℕ) = record { before = names; last = last } in
@@ -55,7 +54,7 @@ sign_step place.AfterHeaderName d (Mark Comma) p here (kept, (groups, spec, name
 sign_step place.AfterHeaderName d (Mark RParen) p here (kept, (groups, spec, names, last, is, said, read)) =
     let row : Row (List ℕ) = record { before = names; last = last } in
     let ports = Ansi (record { before = groups; last = record { spec = spec; names = row } }) in
-    taken (headed d.title.now ports) RParen place.AfterPorts d is refl kept (ports, refl, header-ends d groups spec row read) (close_free (heading d.title.now groups (naming spec names last)) refl)
+    taken (headed d.title.now ports) RParen place.AfterPorts d is refl kept (ports, refl, header-ends d groups spec row read) (λ none. none)
 sign_step place.AfterHeaderName d t p here (kept, (groups, spec, names, last, is, said, read)) =
     untaken place.AfterHeaderName t d is refl (kept, (groups, spec, names, last, is, said, read))
 sign_step place.AfterPorts d (Mark Semi) p here (kept, (ports, is, body)) =

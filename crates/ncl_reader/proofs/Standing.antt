@@ -1,5 +1,5 @@
 -- Tokens that are read, none of which breaks.
-use Rattle.std.proofs.Common.{◌≡◌, ℕ, List, [], ◌∷◌, ◌++◌, None, inl, inr, ◌⊎◌, refl, sym, ap, ◌∙◌, subst}
+use Rattle.std.proofs.Common.{[], ◌≡◌, ℕ, List, ◌∷◌, ◌++◌, None, inl, inr, ◌⊎◌, refl, sym, ap, ◌∙◌, subst}
 use Rattle.std.proofs.lemmas.List.{map-append}
 use Rattle.ncl_reader.specs.declared.place.Place.TheVariants as place
 use Rattle.ncl_reader.specs.declared.net_fault.NetFault.{NetFault}
@@ -8,10 +8,10 @@ use Rattle.ncl_reader.specs.Lexemes.{End, Bad, Placed, lexemes}
 use Rattle.ncl_reader.specs.Grammar.{Head, Item, text_phrase}
 use Rattle.ncl_reader.specs.Rules.{Breaks, BreaksRule, NoneBreaks}
 use Rattle.ncl_reader.specs.Refusals.{IsFaultAt, IsRefusedAt}
-use Rattle.ncl_reader.specs.Partial.{led, bracketed, firsted, coloned, lasted, ranged, leading, naming, going, Partial, start, heading, ended, done, inside, declaring, celled, named, joining, dotted, pinned, opened, netted, indexing, indexed, picked, joined, closed, spelled, place_of}
+use Rattle.ncl_reader.specs.Partial.{led, leading, Partial, start, heading, ended, done, inside, declaring, spelled, place_of}
 use Rattle.ncl_reader.proofs.Steps.{step}
 use Rattle.ncl_reader.proofs.Grows.{grows}
-use Rattle.ncl_reader.proofs.Breaking.{breaks-untaken, breaks-taken, unbroken-more}
+use Rattle.ncl_reader.proofs.Breaking.{breaks-untaken, breaks-taken, unbroken-more, no_token}
 
 -- the tokens before are those of a partial tree, and none of them breaks
 pub record Stands (before : List Placed) : Type 0 where
@@ -21,8 +21,7 @@ pub record Stands (before : List Placed) : Type 0 where
 
 -- nothing is read
 pub none_of_none : NoneBreaks []
-none_of_none [] t after e = absurd cc
-none_of_none (b ∷ before) t after e = absurd cc
+none_of_none before t after e = absurd (no_token before after t e)
 
 abbrev pub stands-first : Stands []
 stands-first = record { tree = start; is = refl; unbroken = none_of_none }
@@ -53,64 +52,12 @@ module _ (before : List Placed) (stands : Stands before) where
 -- the end of the text is taken behind `endmodule` alone, and a bad byte nowhere
 pub bad-untaken : (p : Partial) → step p Bad ≡ None
 bad-untaken (heading name before (leading (led l))) = refl
-bad-untaken (heading name before (leading (bracketed l))) = refl
-bad-untaken (heading name before (leading (firsted l first))) = refl
-bad-untaken (heading name before (leading (coloned l first))) = refl
-bad-untaken (heading name before (leading (lasted l first last))) = refl
-bad-untaken (heading name before (leading (ranged l range))) = refl
-bad-untaken (heading name before (naming spec names last)) = refl
-bad-untaken (heading name before (going spec names)) = refl
 bad-untaken (inside head items (declaring (leading (led l)))) = refl
-bad-untaken (inside head items (declaring (leading (bracketed l)))) = refl
-bad-untaken (inside head items (declaring (leading (firsted l first)))) = refl
-bad-untaken (inside head items (declaring (leading (coloned l first)))) = refl
-bad-untaken (inside head items (declaring (leading (lasted l first last)))) = refl
-bad-untaken (inside head items (declaring (leading (ranged l range)))) = refl
-bad-untaken (inside head items (declaring (naming spec names last))) = refl
-bad-untaken (inside head items (declaring (going spec names))) = refl
-bad-untaken (inside head items (celled cell)) = refl
-bad-untaken (inside head items (named cell name)) = refl
-bad-untaken (inside head items (joining cell name conns)) = refl
-bad-untaken (inside head items (dotted cell name conns)) = refl
-bad-untaken (inside head items (pinned cell name conns pin)) = refl
-bad-untaken (inside head items (opened cell name conns pin)) = refl
-bad-untaken (inside head items (netted cell name conns pin net)) = refl
-bad-untaken (inside head items (indexing cell name conns pin net)) = refl
-bad-untaken (inside head items (indexed cell name conns pin net digits)) = refl
-bad-untaken (inside head items (picked cell name conns pin net digits)) = refl
-bad-untaken (inside head items (joined cell name conns conn)) = refl
-bad-untaken (inside head items (closed cell name conns conn)) = refl
 bad-untaken p = refl
 
 pub end-cases : (p : Partial) → (step p End ≡ None) ⊎ ((head : Head) × (items : List Item) × (p ≡ ended head items))
 end-cases (heading name before (leading (led l))) = inl refl
-end-cases (heading name before (leading (bracketed l))) = inl refl
-end-cases (heading name before (leading (firsted l first))) = inl refl
-end-cases (heading name before (leading (coloned l first))) = inl refl
-end-cases (heading name before (leading (lasted l first last))) = inl refl
-end-cases (heading name before (leading (ranged l range))) = inl refl
-end-cases (heading name before (naming spec names last)) = inl refl
-end-cases (heading name before (going spec names)) = inl refl
 end-cases (inside head items (declaring (leading (led l)))) = inl refl
-end-cases (inside head items (declaring (leading (bracketed l)))) = inl refl
-end-cases (inside head items (declaring (leading (firsted l first)))) = inl refl
-end-cases (inside head items (declaring (leading (coloned l first)))) = inl refl
-end-cases (inside head items (declaring (leading (lasted l first last)))) = inl refl
-end-cases (inside head items (declaring (leading (ranged l range)))) = inl refl
-end-cases (inside head items (declaring (naming spec names last))) = inl refl
-end-cases (inside head items (declaring (going spec names))) = inl refl
-end-cases (inside head items (celled cell)) = inl refl
-end-cases (inside head items (named cell name)) = inl refl
-end-cases (inside head items (joining cell name conns)) = inl refl
-end-cases (inside head items (dotted cell name conns)) = inl refl
-end-cases (inside head items (pinned cell name conns pin)) = inl refl
-end-cases (inside head items (opened cell name conns pin)) = inl refl
-end-cases (inside head items (netted cell name conns pin net)) = inl refl
-end-cases (inside head items (indexing cell name conns pin net)) = inl refl
-end-cases (inside head items (indexed cell name conns pin net digits)) = inl refl
-end-cases (inside head items (picked cell name conns pin net digits)) = inl refl
-end-cases (inside head items (joined cell name conns conn)) = inl refl
-end-cases (inside head items (closed cell name conns conn)) = inl refl
 end-cases (ended head items) = inr (head, items, refl)
 end-cases p = inl refl
 

@@ -6,6 +6,7 @@ use Rattle.ncl_reader.specs.Lexemes.{Lexeme, Mark}
 use Rattle.ncl_reader.specs.Grammar.{Row, Direction, Plain, Wired, Lead, Gives, Wires, lead_phrase, Range, maybe_phrase, spec_phrase, Group, group_phrase, index_phrase, Conn, conn_phrase, Item, Declares, Joins, item_phrase, Listing, Empty, Names, Ansi, header_phrase, head_phrase, Text, text_phrase, with_commas, row_phrase, name_phrase}
 use Rattle.ncl_reader.specs.Whole.{AreWhole, IsScalar, AreScalar, IsPlain}
 use Rattle.ncl_reader.proofs.PlainNames.{NoBracket}
+use Rattle.ncl_reader.proofs.Breaking.{no_token}
 
 abbrev pub Unbracketed : List Lexeme → Type 0
 Unbracketed [] = Unit {0}
@@ -55,8 +56,7 @@ text_free : (text : Text) → IsPlain text → Unbracketed (text_phrase text)
 text_free text plain = both (head_phrase text.head ++ flat_map item_phrase text.items) _ (both (head_phrase text.head) (flat_map item_phrase text.items) (λ e. cc, (λ e. cc, both (header_phrase text.head.ports) (Mark Semi ∷ []) (header_free text.head.ports plain.header) (λ e. cc, tt))) (items_free text.items plain.items)) (λ e. cc, (λ e. cc, tt))
 
 none_in : (xs front rest : List Lexeme) → Unbracketed xs → xs ≡ front ++ Mark LBracket ∷ rest → ⊥
-none_in [] [] rest free e = absurd cc
-none_in [] (f ∷ front) rest free e = absurd cc
+none_in [] front rest free e = no_token front rest (Mark LBracket) e
 none_in (x ∷ xs) [] rest free e = let same : x ≡ Mark LBracket = cc in free.0 same
 none_in (x ∷ xs) (f ∷ front) rest free e = let others : xs ≡ front ++ Mark LBracket ∷ rest = cc in none_in xs front rest free.1 others
 

@@ -1,11 +1,11 @@
 -- What begins a shaped list is what the tokens of a partial tree are, and what may come next is what a step takes.
-use Rattle.std.proofs.Common.{◌≡◌, List, [], ◌∷◌, ◌++◌, Option, Some, None, refl, sym, ap, ◌∙◌, append_assoc, ℕ}
+use Rattle.std.proofs.Common.{[], ◌≡◌, List, ◌∷◌, ◌++◌, Option, Some, None, refl, sym, ap, ◌∙◌, append_assoc}
 use Rattle.std.specs.Prelude.{option_and_then, codes}
 use Rattle.std.proofs.lemmas.Option.{same_Some, none-some}
 use Rattle.ncl_reader.specs.declared.keyword.Keyword.TheVariants.{Module, EndModule}
 use Rattle.ncl_reader.specs.declared.lexeme.Sign.TheVariants.{LParen, RParen, Semi, Dot, RBracket, Colon}
 use Rattle.ncl_reader.specs.Lexemes.{Lexeme, Word, Name, Number, Mark, End}
-use Rattle.ncl_reader.specs.Grammar.{Text, BeginsShaped, Head, Item, Conn}
+use Rattle.ncl_reader.specs.Grammar.{Text, BeginsShaped}
 use Rattle.ncl_reader.specs.Partial.{LeadPart, led, bracketed, firsted, coloned, lasted, ranged, GroupPart, leading, naming, going, Partial, start, begun, titled, listing, listed, heading, headed, at_item, inside, ended, done, ItemPart, declaring, celled, named, joining, dotted, pinned, opened, netted, indexing, indexed, picked, joined, closed, spelled}
 use Rattle.ncl_reader.proofs.Steps.{step, run}
 use Rattle.ncl_reader.proofs.Runs.{run-append, run-spelled}
@@ -63,43 +63,9 @@ pub record EndsWell (p : Partial) : Type 0 where
 
 -- every partial tree can be ended
 pub ends : (p : Partial) → EndsWell p
-ends start = record { text = record { head = _; items = _ }; runs = refl }
-ends begun = record { text = record { head = _; items = _ }; runs = refl }
-ends (titled name) = record { text = record { head = _; items = _ }; runs = refl }
-ends (listing name names) = record { text = record { head = _; items = _ }; runs = refl }
-ends (listed name names last) = record { text = record { head = _; items = _ }; runs = refl }
 ends (heading name groups (leading (led l))) = record { text = record { head = _; items = _ }; runs = refl }
-ends (heading name groups (leading (bracketed l))) = record { text = record { head = _; items = _ }; runs = refl }
-ends (heading name groups (leading (firsted l first))) = record { text = record { head = _; items = _ }; runs = refl }
-ends (heading name groups (leading (coloned l first))) = record { text = record { head = _; items = _ }; runs = refl }
-ends (heading name groups (leading (lasted l first last))) = record { text = record { head = _; items = _ }; runs = refl }
-ends (heading name groups (leading (ranged l range))) = record { text = record { head = _; items = _ }; runs = refl }
-ends (heading name groups (naming spec names last)) = record { text = record { head = _; items = _ }; runs = refl }
-ends (heading name groups (going spec names)) = record { text = record { head = _; items = _ }; runs = refl }
-ends (headed name ports) = record { text = record { head = _; items = _ }; runs = refl }
-ends (at_item head items) = record { text = record { head = _; items = _ }; runs = refl }
 ends (inside head items (declaring (leading (led l)))) = record { text = record { head = _; items = _ }; runs = refl }
-ends (inside head items (declaring (leading (bracketed l)))) = record { text = record { head = _; items = _ }; runs = refl }
-ends (inside head items (declaring (leading (firsted l first)))) = record { text = record { head = _; items = _ }; runs = refl }
-ends (inside head items (declaring (leading (coloned l first)))) = record { text = record { head = _; items = _ }; runs = refl }
-ends (inside head items (declaring (leading (lasted l first last)))) = record { text = record { head = _; items = _ }; runs = refl }
-ends (inside head items (declaring (leading (ranged l range)))) = record { text = record { head = _; items = _ }; runs = refl }
-ends (inside head items (declaring (naming spec names last))) = record { text = record { head = _; items = _ }; runs = refl }
-ends (inside head items (declaring (going spec names))) = record { text = record { head = _; items = _ }; runs = refl }
-ends (inside head items (celled cell)) = record { text = record { head = _; items = _ }; runs = refl }
-ends (inside head items (named cell name)) = record { text = record { head = _; items = _ }; runs = refl }
-ends (inside head items (joining cell name conns)) = record { text = record { head = _; items = _ }; runs = refl }
-ends (inside head items (dotted cell name conns)) = record { text = record { head = _; items = _ }; runs = refl }
-ends (inside head items (pinned cell name conns pin)) = record { text = record { head = _; items = _ }; runs = refl }
-ends (inside head items (opened cell name conns pin)) = record { text = record { head = _; items = _ }; runs = refl }
-ends (inside head items (netted cell name conns pin net)) = record { text = record { head = _; items = _ }; runs = refl }
-ends (inside head items (indexing cell name conns pin net)) = record { text = record { head = _; items = _ }; runs = refl }
-ends (inside head items (indexed cell name conns pin net digits)) = record { text = record { head = _; items = _ }; runs = refl }
-ends (inside head items (picked cell name conns pin net digits)) = record { text = record { head = _; items = _ }; runs = refl }
-ends (inside head items (joined cell name conns conn)) = record { text = record { head = _; items = _ }; runs = refl }
-ends (inside head items (closed cell name conns conn)) = record { text = record { head = _; items = _ }; runs = refl }
-ends (ended head items) = record { text = record { head = _; items = _ }; runs = refl }
-ends (done head items) = record { text = record { head = _; items = _ }; runs = refl }
+ends p = record { text = record { head = _; items = _ }; runs = refl }
 
 -- the tokens of a partial tree begin a shaped list
 pub viable : (p : Partial) → BeginsShaped (spelled p)
@@ -127,13 +93,3 @@ front_run p q (x ∷ xs) ys e = by (step p x) (λ r. front_run r q xs ys) e
     by : (next : Option Partial) → ((r : Partial) → run r (xs ++ ys) ≡ Some q → (s : Partial) × (run r xs ≡ Some s)) → option_and_then (λ r. run r (xs ++ ys)) next ≡ Some q → (s : Partial) × (option_and_then (λ r. run r xs) next ≡ Some s)
     by None rec e = absurd cc
     by (Some r) rec e = rec r e
-
--- what partial trees that are the same are made of
-pub item_parts : {head h : Head} {items is : List Item} → at_item head items ≡ at_item h is → (head ≡ h) × (items ≡ is)
-item_parts e = (cc, cc)
-
-pub dotted_parts : {head h : Head} {items is : List Item} {cell c name n : List ℕ} {conns cs : List Conn} → inside head items (dotted cell name conns) ≡ inside h is (dotted c n cs) → (cell ≡ c) × (conns ≡ cs)
-dotted_parts e = (cc, cc)
-
-pub joined_parts : {head h : Head} {items is : List Item} {cell c name n : List ℕ} {conns cs : List Conn} {conn d : Conn} → inside head items (joined cell name conns conn) ≡ inside h is (joined c n cs d) → (cell ≡ c) × (conns ≡ cs) × (conn ≡ d)
-joined_parts e = (cc, cc, cc)

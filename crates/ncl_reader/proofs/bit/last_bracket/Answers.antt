@@ -1,14 +1,11 @@
-use Rattle.std.proofs.Common.{◌≡◌, ℕ, List, [], ◌∷◌, ◌++◌, length, sym, ◌∙◌, arith}
+use Rattle.std.proofs.Common.{length, sym, ◌∙◌, arith}
 use Rattle.std.proofs.lemmas.List.{drop_all}
 use Rattle.ncl_reader.proofs.BitTexts.{bracket-front}
+use Rattle.ncl_reader.proofs.Breaking.{no_token}
 use Rattle.ncl_reader.proofs.bit.last_bracket.Goals as goal
 
-nothing : (front rest : List ℕ) → [] ≡ front ++ 91 ∷ rest → ⊥
-nothing [] rest e = absurd cc
-nothing (f ∷ front) rest e = absurd cc
-
 pub loop-place-init : goal.loop-place-init
-loop-place-init c = (omega arith, λ front rest e. nothing front rest (sym (drop_all (length c.args.bytes.now) c.args.bytes.now (omega arith)) ∙ e))
+loop-place-init c = (omega arith, λ front rest e. no_token front rest 91 (sym (drop_all (length c.args.bytes.now) c.args.bytes.now (omega arith)) ∙ e))
 
 pub loop-place-preserved : goal.loop-place-preserved
 loop-place-preserved c = (omega (arith, c.loop-place.invariant.0), bracket-front c.args.bytes.now c.loop-place.place c.loop-place-test.true c.loop-place.invariant.0 c.if-bytes-place-eq91.false c.loop-place.invariant.1)

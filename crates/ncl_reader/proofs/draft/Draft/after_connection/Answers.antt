@@ -11,12 +11,13 @@ use Rattle.ncl_reader.specs.Instance.{Closes}
 use Rattle.ncl_reader.specs.Partial.{inside, joining, joined, closed}
 use Rattle.ncl_reader.proofs.DraftSteps as steps
 use Rattle.ncl_reader.proofs.NetSteps as nets
+use Rattle.ncl_reader.proofs.NameRules.{close_free}
 use Rattle.ncl_reader.proofs.draft.Draft.after_connection.Goals as goal
 
 pub returns-then-is_mark : goal.returns-then-is_mark
 returns-then-is_mark c = λ p (kept, (head, items, conns, conn, is, body, are)).
     steps.taken_mark p (inside head items (joined (cell_name_of c.args.self.now.instance.kind) c.args.self.now.instance.name.now conns conn)) (inside head items (joining (cell_name_of c.args.self.now.instance.kind) c.args.self.now.instance.name.now (conns ++ conn ∷ []))) (meant c.args.lexeme.now) (Mark Comma) place.Connection c.args.self.now is (c.is_mark.ensures.0 c.if-is_mark.true) refl
-    (nets.mark_no_name Comma) kept (head, items, conns ++ conn ∷ [], refl, body, are) (λ none. none)
+    (λ x e. absurd cc) kept (head, items, conns ++ conn ∷ [], refl, body, are) (λ none. none)
 
 pub returns-then-not-is_mark : goal.returns-then-not-is_mark
 returns-then-not-is_mark c = λ p (kept, (head, items, conns, conn, is, body, are)).
@@ -28,7 +29,7 @@ pub returns-in_default : goal.returns-in_default
 returns-in_default c = λ p (kept, (head, items, conns, conn, is, body, are)).
     let left : Closes c.args.self.now.instance (conns ++ conn ∷ []) None = subst (λ r. Closes c.args.self.now.instance (conns ++ conn ∷ []) r) c.in_default.is (c.in_ok-cell.ensures (conns ++ conn ∷ []) are) in
     steps.against place.AfterConnection p (inside head items (joined (cell_name_of c.args.self.now.instance.kind) c.args.self.now.instance.name.now conns conn)) (meant c.args.lexeme.now) c.args.self.now is (Mark RParen) (c.is_mark-2.ensures.0 c.if-not-is_mark.false)
-    (inr (record { head = head; items = items; kind = c.args.self.now.instance.kind; name = c.args.self.now.instance.name.now; conns = record { before = conns; last = conn }; is = refl; pin = left.0; stands = left.1; unjoined = left.2 }))
+    (c.args.self.now.instance.kind, refl, left)
     (kept, (head, items, conns, conn, is, body, are))
 
 pub returns : goal.returns
@@ -36,7 +37,7 @@ returns c = λ p (kept, (head, items, conns, conn, is, body, are)).
     let closes : Closes c.args.self.now.instance (conns ++ conn ∷ []) (Some c.in-Some.cell) = subst (λ r. Closes c.args.self.now.instance (conns ++ conn ∷ []) r) c.in-Some.is (c.in_ok-cell.ensures (conns ++ conn ∷ []) are) in
     let read = body.1 in
     steps.taken_mark p (inside head items (joined (cell_name_of c.args.self.now.instance.kind) c.args.self.now.instance.name.now conns conn)) (inside head items (closed (cell_name_of c.args.self.now.instance.kind) c.args.self.now.instance.name.now conns conn)) (meant c.args.lexeme.now) (Mark RParen) place.AfterInstance _ is (c.is_mark-2.ensures.0 c.if-not-is_mark.false) refl
-    (nets.mark_no_name RParen) kept (
+    (λ x e. absurd cc) kept (
       head,
       items,
       conns,
@@ -51,4 +52,4 @@ returns c = λ p (kept, (head, items, conns, conn, is, body, are)).
         },
       ),
     )
-    (nets.close_free head items c.args.self.now.instance.kind c.args.self.now.instance.name.now conns conn closes.0)
+    (close_free head items c.args.self.now.instance.kind c.args.self.now.instance.name.now conns conn closes.0)

@@ -19,7 +19,7 @@ returns-then-is_none c = λ p (kept, (head, items, conns, is, body, are)).
     let tree : Partial = inside head items (netted (cell_name_of c.args.self.now.instance.kind) c.args.self.now.instance.name.now conns c.args.self.now.instance.pin.now c.args.self.now.instance.net.now) in
     let scalar = nets.vector_missing (spelled p) c.args.self.now.instance.net.now c.net_range-range.result (c.net_range-range.ensures (spelled p) kept) (c.is_none.ensures ∙ ap not c.if-is_none.true) in
     steps.against place.AfterNet p tree (meant c.args.lexeme.now) c.args.self.now is (Mark LBracket) (c.is_mark.ensures.0 c.if-is_mark.true)
-    (c.args.self.now.instance.net.now, (head, items, (cell_name_of c.args.self.now.instance.kind), c.args.self.now.instance.name.now, conns, c.args.self.now.instance.pin.now, refl), λ range vector. scalar range (subst (λ q. IsVector (spelled q) c.args.self.now.instance.net.now range) (sym is) vector))
+    (λ range vector. scalar range (subst (λ q. IsVector (spelled q) c.args.self.now.instance.net.now range) (sym is) vector))
     (kept, (head, items, conns, is, body, are))
 
 pub returns-then-is_mark : goal.returns-then-is_mark
@@ -28,8 +28,8 @@ returns-then-is_mark c = λ p (kept, (head, items, conns, is, body, are)).
     let (range, vector) = nets.vector_found (spelled p) c.args.self.now.instance.net.now c.net_range-range.result (c.net_range-range.ensures (spelled p) kept) (c.is_none.ensures ∙ ap not c.if-is_none.false) in
     let here : IsVector (spelled tree) c.args.self.now.instance.net.now range = subst (λ q. IsVector (spelled q) c.args.self.now.instance.net.now range) is vector in
     steps.taken_mark p tree (inside head items (indexing (cell_name_of c.args.self.now.instance.kind) c.args.self.now.instance.name.now conns c.args.self.now.instance.pin.now c.args.self.now.instance.net.now)) (meant c.args.lexeme.now) (Mark LBracket) place.Index c.args.self.now is (c.is_mark.ensures.0 c.if-is_mark.true) refl
-    (nets.mark_no_name LBracket) kept ((head, items, conns, refl, body, are), (range, nets.vector_next head items (cell_name_of c.args.self.now.instance.kind) c.args.self.now.instance.name.now conns c.args.self.now.instance.pin.now c.args.self.now.instance.net.now range here))
-    (λ (other, behind, scalar). scalar range (subst (λ x. IsVector (spelled tree) x range) (nets.behind_net_at head items (cell_name_of c.args.self.now.instance.kind) c.args.self.now.instance.name.now conns c.args.self.now.instance.pin.now c.args.self.now.instance.net.now other behind) here))
+    (λ x e. absurd cc) kept ((head, items, conns, refl, body, are), (range, nets.vector_next head items (cell_name_of c.args.self.now.instance.kind) c.args.self.now.instance.name.now conns c.args.self.now.instance.pin.now c.args.self.now.instance.net.now range here))
+    (λ scalar. scalar range here)
 
 pub returns-then-not-is_mark : goal.returns-then-not-is_mark
 returns-then-not-is_mark c = λ p (kept, (head, items, conns, is, body, are)).
@@ -42,7 +42,7 @@ returns-then-is_some c = λ p (kept, (head, items, conns, is, body, are)).
     let tree : Partial = inside head items (netted (cell_name_of c.args.self.now.instance.kind) c.args.self.now.instance.name.now conns c.args.self.now.instance.pin.now c.args.self.now.instance.net.now) in
     let (range, vector) = nets.vector_found (spelled p) c.args.self.now.instance.net.now c.net_range-range.result (c.net_range-range.ensures (spelled p) kept) (sym c.is_some.ensures ∙ c.if-is_some.true) in
     steps.against place.AfterNet p tree (meant c.args.lexeme.now) c.args.self.now is (Mark RParen) (c.is_mark-2.ensures.0 c.if-not-is_mark.false)
-    (inl (c.args.self.now.instance.net.now, range, (head, items, (cell_name_of c.args.self.now.instance.kind), c.args.self.now.instance.name.now, conns, c.args.self.now.instance.pin.now, refl), subst (λ q. IsVector (spelled q) c.args.self.now.instance.net.now range) is vector))
+    (range, subst (λ q. IsVector (spelled q) c.args.self.now.instance.net.now range) is vector)
     (kept, (head, items, conns, is, body, are))
 
 pub returns : goal.returns
@@ -51,6 +51,6 @@ returns c = λ p (kept, (head, items, conns, is, body, are)).
     let scalar = nets.vector_missing (spelled p) c.args.self.now.instance.net.now c.net_range-range.result (c.net_range-range.ensures (spelled p) kept) (sym c.is_some.ensures ∙ c.if-is_some.false) in
     let conn : Conn = record { pin = c.args.self.now.instance.pin.now; net = record { name = c.args.self.now.instance.net.now; index = None } } in
     steps.taken_mark p tree (inside head items (joined (cell_name_of c.args.self.now.instance.kind) c.args.self.now.instance.name.now conns conn)) (meant c.args.lexeme.now) (Mark RParen) place.AfterConnection _ is (c.is_mark-2.ensures.0 c.if-not-is_mark.false) refl
-    (nets.mark_no_name RParen) kept
+    (λ x e. absurd cc) kept
     (head, items, conns, conn, refl, (body.0, record { ansi = body.1.ansi; header = body.1.header; cells = body.1.cells }), subst (AreJoins (conns ++ conn ∷ [])) (sym c.in_ok-push.ensures.items) (joins-more conns c.args.self.now.instance.joins.items conn _ are refl))
-    (nets.whole_net head items (cell_name_of c.args.self.now.instance.kind) c.args.self.now.instance.name.now conns c.args.self.now.instance.pin.now c.args.self.now.instance.net.now (λ range vector. scalar range (subst (λ q. IsVector (spelled q) c.args.self.now.instance.net.now range) (sym is) vector)))
+    (λ (range, vector). scalar range (subst (λ q. IsVector (spelled q) c.args.self.now.instance.net.now range) (sym is) vector))

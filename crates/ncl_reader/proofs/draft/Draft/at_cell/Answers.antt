@@ -7,13 +7,14 @@ use Rattle.ncl_reader.specs.Rules.{BreaksRule, Clashes}
 use Rattle.ncl_reader.specs.Meant.{meant}
 use Rattle.ncl_reader.specs.Partial.{at_item, inside, celled, spelled}
 use Rattle.ncl_reader.proofs.Declares.{range_here}
-use Rattle.ncl_reader.proofs.NameRules.{opens, item_rule, not_declaring, not_net}
+use Rattle.ncl_reader.proofs.NameRules.{opens, not_declaring, not_net, may_stand}
+use Rattle.ncl_reader.proofs.RulesAt.{NameAt}
 use Rattle.ncl_reader.proofs.DraftSteps as steps
 use Rattle.ncl_reader.proofs.draft.Draft.at_cell.Goals as goal
 
 pub returns-in_default : goal.returns-in_default
 returns-in_default c = λ named p (kept, (head, items, is, body)).
-    steps.against place.Item p (at_item head items) (meant c.args.lexeme.now) c.args.self.now is (Name c.args.name.now) named (inr (inr (inr (inl (record { head = head; items = items; is = refl; none = c.in_default.ensures.none }))))) (kept, (head, items, is, body))
+    steps.against place.Item p (at_item head items) (meant c.args.lexeme.now) c.args.self.now is (Name c.args.name.now) named (inl c.in_default.ensures.none) (kept, (head, items, is, body))
 
 pub returns-then-clashes : goal.returns-then-clashes
 returns-then-clashes c = λ named p (kept, (head, items, is, body)).
@@ -29,4 +30,4 @@ returns c = λ named p (kept, (head, items, is, body)).
     steps.taken_name p (at_item head items) (inside head items (celled x)) (meant c.args.lexeme.now) x place.InstanceName new is named refl
     (c.in_ok-stand.ensures (spelled p) kept plain (not_net p (ap opens is)) fine)
     (head, items, ap (λ z. inside head items (celled z)) (sym c.in-Some.ensures.some), (body.0, record { ansi = body.1.ansi; header = body.1.header; cells = body.1.cells }), ap (map joint_of) c.clear.ensures.items)
-    (subst (λ q. (Clashes (spelled q) x → ⊥) → BreaksRule (spelled q) (Name x) → ⊥) (sym is) (item_rule head items kind x c.in-Some.ensures.some) fine)
+    (may_stand p x (ap range_here is) (λ b. subst (λ q. NameAt q x) is b kind c.in-Some.ensures.some) fine)

@@ -10,14 +10,13 @@ use Rattle.ncl_reader.specs.Grammar.{Plain, Empty}
 use Rattle.ncl_reader.specs.Meant.{meant}
 use Rattle.ncl_reader.specs.Partial.{listing, heading, headed, leading, led}
 use Rattle.ncl_reader.specs.Draft.{TakesOrBreaks}
-use Rattle.ncl_reader.proofs.NameRules.{close_free, not_late}
 use Rattle.ncl_reader.proofs.DraftSteps as steps
 use Rattle.ncl_reader.proofs.draft.Draft.at_first_port.Goals as goal
 
 pub returns-then-is_mark : goal.returns-then-is_mark
 returns-then-is_mark c = λ p (kept, (is, bare)).
     let title = c.args.self.now.title.now in
-    steps.taken_mark p (listing title []) (headed title Empty) (meant c.args.lexeme.now) (Mark RParen) place.AfterPorts c.args.self.now is (c.is_mark.ensures.0 c.if-is_mark.true) refl (λ x e. absurd cc) kept (Empty, refl, (refl, bare)) (close_free (listing title []) refl)
+    steps.taken_mark p (listing title []) (headed title Empty) (meant c.args.lexeme.now) (Mark RParen) place.AfterPorts c.args.self.now is (c.is_mark.ensures.0 c.if-is_mark.true) refl (λ x e. absurd cc) kept (Empty, refl, (refl, bare)) (λ none. none)
 
 pub returns-in-Some : goal.returns-in-Some
 returns-in-Some c = λ p (kept, (is, bare)).
@@ -25,7 +24,7 @@ returns-in-Some c = λ p (kept, (is, bare)).
     let way = c.in-Some.way in
     steps.taken_mark p (listing title []) (heading title [] (leading (led (Plain way)))) (meant c.args.lexeme.now) (Word (word_of way)) (place.HeaderLead lead.Direction) (record c.args.self.now { ansi = true; lead = c.begun-self.result }) is c.in-Some.ensures refl (λ x e. absurd cc) kept
     ([], led (Plain way), refl, refl, (c.begun-self.ensures.output, c.begun-self.ensures.span), record { ansi = refl; header = bare.header; cells = bare.cells })
-    (not_late (listing title []) refl)
+    (λ none. none)
 
 pub returns-in_default-name : goal.returns-in_default-name
 returns-in_default-name c = λ p (kept, (is, bare)).

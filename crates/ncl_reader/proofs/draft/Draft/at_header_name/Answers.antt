@@ -11,7 +11,6 @@ use Rattle.ncl_reader.specs.Grammar.{all_of, Plain, direction_phrase}
 use Rattle.ncl_reader.specs.Meant.{meant}
 use Rattle.ncl_reader.specs.Partial.{going, leading, led, heading}
 use Rattle.ncl_reader.proofs.Declares.{at_part}
-use Rattle.ncl_reader.proofs.NameRules.{not_late}
 use Rattle.ncl_reader.proofs.DraftBody.{grouped-ends}
 use Rattle.ncl_reader.proofs.HeaderSteps.{headed_form, headed_taken, name_left}
 use Rattle.ncl_reader.proofs.DraftSteps as steps
@@ -25,7 +24,7 @@ returns-in-Some c = λ p (kept, (groups, spec, row, is, said, read)).
     let ends = grouped-ends c.args.self.now groups spec row read in
     steps.taken_mark p (heading title groups (going spec row)) (heading title more (leading (led (Plain way)))) (meant c.args.lexeme.now) (Word (word_of way)) (place.HeaderLead lead.Direction) (record c.args.self.now { lead = c.begun-self.result }) is c.in-Some.ensures refl (λ x e. absurd cc) kept
     (more, led (Plain way), refl, refl, (c.begun-self.ensures.output, c.begun-self.ensures.span), record { ansi = ends.ansi; header = ends.header; cells = ends.cells })
-    (not_late (heading title groups (going spec row)) refl)
+    (λ none. none)
 
 pub returns-in_default-name : goal.returns-in_default-name
 returns-in_default-name c = λ p (kept, (groups, spec, row, is, said, read)).

@@ -27,7 +27,7 @@ returns-then-is_outside c = λ p (kept, ((head, items, conns, is, body, are), ve
     let (range, stands, span) = c.in-Some-net_range.ensures (spelled p) kept in
     let outside = c.is_outside.ensures.0 c.if-is_outside.true in
     steps.against place.Index p tree (meant c.args.lexeme.now) c.args.self.now is (Number digits) c.in-Some.ensures
-    (inr (inr (c.args.self.now.instance.net.now, range, (head, items, (cell_name_of c.args.self.now.instance.kind), c.args.self.now.instance.name.now, conns, c.args.self.now.instance.pin.now, refl), subst (λ q. IsVector (spelled q) c.args.self.now.instance.net.now range) is stands, λ covers. outside (subst (λ s. Covers s (digits_value 10 digits)) span covers))))
+    (inr (inr (range, subst (λ q. IsVector (spelled q) c.args.self.now.instance.net.now range) is stands, λ covers. outside (subst (λ s. Covers s (digits_value 10 digits)) span covers))))
     (kept, ((head, items, conns, is, body, are), vector))
 
 pub returns-in_default-small : goal.returns-in_default-small
@@ -41,5 +41,5 @@ returns c = λ p (kept, ((head, items, conns, is, body, are), vector)).
     let (range, stands, span) = c.in-Some-net_range.ensures (spelled p) kept in
     let inner : (Covers (span_of range) (digits_value 10 digits) → ⊥) → ⊥ = λ fails. false≢true (sym c.if-is_outside.false ∙ c.is_outside.ensures.1 (λ covers. fails (subst (λ s. Covers s (digits_value 10 digits)) (sym span) covers))) in
     steps.taken_mark p tree (inside head items (indexed (cell_name_of c.args.self.now.instance.kind) c.args.self.now.instance.name.now conns c.args.self.now.instance.pin.now c.args.self.now.instance.net.now digits)) (meant c.args.lexeme.now) (Number digits) place.AfterIndex _ is c.in-Some.ensures refl
-    (nets.number_no_name digits) kept (digits, (head, items, conns, refl, (body.0, record { ansi = body.1.ansi; header = body.1.header; cells = body.1.cells }), are), c.in-Some-small.ensures.0)
-    (nets.index_rule head items (cell_name_of c.args.self.now.instance.kind) c.args.self.now.instance.name.now conns c.args.self.now.known c.args.self.now.instance.pin.now c.args.self.now.instance.net.now digits range (subst (λ q. KeepsNames c.args.self.now.known (spelled q)) is kept) (subst (λ q. IsVector (spelled q) c.args.self.now.instance.net.now range) is stands) c.in-Some-small.ensures.1 inner)
+    (λ x e. absurd cc) kept (digits, (head, items, conns, refl, (body.0, record { ansi = body.1.ansi; header = body.1.header; cells = body.1.cells }), are), c.in-Some-small.ensures.0)
+    (nets.index_rule head items (cell_name_of c.args.self.now.instance.kind) c.args.self.now.instance.name.now conns c.args.self.now.instance.pin.now c.args.self.now.instance.net.now c.args.self.now.known digits range (subst (λ q. KeepsNames c.args.self.now.known (spelled q)) is kept) (subst (λ q. IsVector (spelled q) c.args.self.now.instance.net.now range) is stands) c.in-Some-small.ensures.1 inner)

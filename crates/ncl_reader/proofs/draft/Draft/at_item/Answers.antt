@@ -1,4 +1,4 @@
-use Rattle.std.proofs.Common.{◌≢◌, Contains, None, true, false, refl, sym, ◌∙◌, subst}
+use Rattle.std.proofs.Common.{◌≢◌, Contains, None, true, false, refl, sym, ◌∙◌, subst, ap}
 use Rattle.std.proofs.lemmas.Bool.{false≢true}
 use Rattle.std.proofs.lemmas.Option.{none-some}
 use Rattle.ncl_reader.specs.declared.place.Place.TheVariants as place
@@ -10,10 +10,10 @@ use Rattle.ncl_reader.specs.Says.{said_by}
 use Rattle.ncl_reader.specs.Header.{AllDirected}
 use Rattle.ncl_reader.specs.Meant.{meant}
 use Rattle.ncl_reader.specs.Partial.{at_item, inside, declaring, leading, led, ended}
-use Rattle.ncl_reader.proofs.NameRules.{not_late_here, not_early}
 use Rattle.ncl_reader.proofs.SaidNames.{names-said_by}
 use Rattle.ncl_reader.proofs.DraftBody.{ansi_groups}
 use Rattle.ncl_reader.proofs.DraftSteps as steps
+use Rattle.ncl_reader.specs.Draft.{is_ansi}
 use Rattle.ncl_reader.proofs.draft.Draft.at_item.Goals as goal
 
 pub returns-in-Some : goal.returns-in-Some
@@ -22,7 +22,7 @@ returns-in-Some c = c.at_cell.ensures c.in-Some.ensures
 pub returns-then-self : goal.returns-then-self
 returns-then-self c = λ p (kept, (head, items, is, body)).
     let (groups, ports) = ansi_groups head.ports (sym body.1.ansi ∙ c.if-self.true) in
-    steps.against place.Item p (at_item head items) (meant c.args.lexeme.now) c.args.self.now is (Word (word_of c.in-Some-way.way)) c.in-Some-way.ensures (record { head = head; items = items; is = refl; groups = groups; ansi = ports }) (kept, (head, items, is, body))
+    steps.against place.Item p (at_item head items) (meant c.args.lexeme.now) c.args.self.now is (Word (word_of c.in-Some-way.way)) c.in-Some-way.ensures (groups, ports) (kept, (head, items, is, body))
 
 pub returns-in-Some-way : goal.returns-in-Some-way
 returns-in-Some-way c = λ p (kept, (head, items, is, body)).
@@ -30,7 +30,7 @@ returns-in-Some-way c = λ p (kept, (head, items, is, body)).
     let new = record c.args.self.now { lead = c.begun-self.result } in
     steps.taken_mark p (at_item head items) (inside head items (declaring (leading (led (Gives (Plain way)))))) (meant c.args.lexeme.now) (Word (word_of way)) (place.Lead lead.Direction) new is c.in-Some-way.ensures refl (λ x e. absurd cc) kept
     (head, items, led (Gives (Plain way)), refl, refl, (c.begun-self.ensures.output, c.begun-self.ensures.span), λ o e. c.if-self.false, (body.0, record { ansi = body.1.ansi; header = body.1.header; cells = body.1.cells }))
-    (not_late_here head items (sym body.1.ansi ∙ c.if-self.false))
+    (λ (groups, ports). false≢true (sym c.if-self.false ∙ body.1.ansi ∙ ap is_ansi ports))
 
 pub returns-then-is_word : goal.returns-then-is_word
 returns-then-is_word c = λ p (kept, (head, items, is, body)).
@@ -49,10 +49,10 @@ pub returns-then-not-all_directed : goal.returns-then-not-all_directed
 returns-then-not-all_directed c = λ p (kept, (head, items, is, body)).
     let said = said_by (record { head = head; items = items }) in
     let left : AllDirected false (header_of head) said = subst (λ b. AllDirected b (header_of head) said) c.if-not-all_directed.true (c.all_directed.ensures (header_of head) said body.1.header) in
-    steps.against place.Item p (at_item head items) (meant c.args.lexeme.now) c.args.self.now is (Word EndModule) (c.is_word-2.ensures.0 c.if-not-is_word.false) (record { head = head; items = items; is = refl; port = left.0; stands = left.1; undirected = subst (λ l. ¬ Contains l left.0) (names-said_by head items) left.2 }) (kept, (head, items, is, body))
+    steps.against place.Item p (at_item head items) (meant c.args.lexeme.now) c.args.self.now is (Word EndModule) (c.is_word-2.ensures.0 c.if-not-is_word.false) (left.0, left.1, subst (λ l. ¬ Contains l left.0) (names-said_by head items) left.2) (kept, (head, items, is, body))
 
 pub returns : goal.returns
 returns c = λ p (kept, (head, items, is, body)).
     let said = said_by (record { head = head; items = items }) in
     let all : AllDirected true (header_of head) said = subst (λ b. AllDirected b (header_of head) said) c.if-not-all_directed.false (c.all_directed.ensures (header_of head) said body.1.header) in
-    steps.taken_mark p (at_item head items) (ended head items) (meant c.args.lexeme.now) (Word EndModule) place.End c.args.self.now is (c.is_word-2.ensures.0 c.if-not-is_word.false) refl (λ x e. absurd cc) kept (head, items, refl, body) (not_early head items (λ x stands. subst (λ l. Contains l x) (names-said_by head items) (all x stands)))
+    steps.taken_mark p (at_item head items) (ended head items) (meant c.args.lexeme.now) (Word EndModule) place.End c.args.self.now is (c.is_word-2.ensures.0 c.if-not-is_word.false) refl (λ x e. absurd cc) kept (head, items, refl, body) (λ (port, stands, undirected). undirected (subst (λ l. Contains l port) (names-said_by head items) (all port stands)))

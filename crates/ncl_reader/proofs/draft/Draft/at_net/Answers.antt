@@ -1,4 +1,4 @@
-use Rattle.std.proofs.Common.{refl, sym, ap, ◌∙◌, subst}
+use Rattle.std.proofs.Common.{refl, sym, ap, ◌∙◌, subst, inr, inl}
 use Rattle.std.proofs.lemmas.Bool.{false≢true}
 use Rattle.ncl_gates.specs.Name.{cell_name_of}
 use Rattle.ncl_reader.specs.declared.place.Place.TheVariants as place
@@ -7,7 +7,8 @@ use Rattle.ncl_reader.specs.Meant.{meant}
 use Rattle.ncl_reader.specs.Rules.{Clashes}
 use Rattle.ncl_reader.specs.Partial.{Partial, inside, opened, netted, spelled}
 use Rattle.ncl_reader.proofs.DraftSteps as steps
-use Rattle.ncl_reader.proofs.NameRules.{free_rule}
+use Rattle.ncl_reader.proofs.NameRules.{not_declaring, plain_rule}
+use Rattle.ncl_reader.proofs.Declares.{range_here}
 use Rattle.ncl_reader.proofs.NetSteps as nets
 use Rattle.ncl_reader.proofs.draft.Draft.at_net.Goals as goal
 
@@ -19,15 +20,15 @@ pub returns-then-clashes : goal.returns-then-clashes
 returns-then-clashes c = λ p (kept, (head, items, conns, is, body, are)).
     let x = c.in-Some.name.now in
     let tree : Partial = inside head items (opened (cell_name_of c.args.self.now.instance.kind) c.args.self.now.instance.name.now conns c.args.self.now.instance.pin.now) in
-    let clashes = (c.clashes.ensures (spelled p) kept (nets.undeclared_at p tree is refl)).0 c.if-clashes.true in
-    steps.against place.Net p tree (meant c.args.lexeme.now) c.args.self.now is (Name x) c.in-Some.ensures (nets.clashing tree x (subst (λ q. Clashes (spelled q) x) is clashes)) (kept, (head, items, conns, is, body, are))
+    let clashes = (c.clashes.ensures (spelled p) kept (not_declaring p (ap range_here is))).0 c.if-clashes.true in
+    steps.against place.Net p tree (meant c.args.lexeme.now) c.args.self.now is (Name x) c.in-Some.ensures (inr (inr (inl (subst (λ q. Clashes (spelled q) x) is clashes)))) (kept, (head, items, conns, is, body, are))
 
 pub returns : goal.returns
 returns c = λ p (kept, (head, items, conns, is, body, are)).
     let x = c.in-Some.name.now in
     let tree : Partial = inside head items (opened (cell_name_of c.args.self.now.instance.kind) c.args.self.now.instance.name.now conns c.args.self.now.instance.pin.now) in
-    let none = nets.undeclared_at p tree is refl in
+    let none = not_declaring p (ap range_here is) in
     let fine : Clashes (spelled p) x → ⊥ = λ clashes. false≢true (sym c.if-clashes.false ∙ (c.clashes.ensures (spelled p) kept none).1 clashes) in
     steps.taken p tree (inside head items (netted (cell_name_of c.args.self.now.instance.kind) c.args.self.now.instance.name.now conns c.args.self.now.instance.pin.now x)) (meant c.args.lexeme.now) (Name x) place.AfterNet _ is c.in-Some.ensures refl
     (nets.kept_here _ (spelled p) x (meant c.args.lexeme.now) c.in-Some.ensures (c.in_ok-join.ensures (spelled p) kept (head, items, (cell_name_of c.args.self.now.instance.kind), c.args.self.now.instance.name.now, conns, c.args.self.now.instance.pin.now, ap spelled is) fine)) (head, items, conns, refl, (body.0, record { ansi = body.1.ansi; header = body.1.header; cells = body.1.cells }), are)
-    (free_rule tree x refl (λ clashes. fine (subst (λ q. Clashes (spelled q) x) (sym is) clashes)))
+    (plain_rule tree x refl (λ none. none) (λ clashes. fine (subst (λ q. Clashes (spelled q) x) (sym is) clashes)))

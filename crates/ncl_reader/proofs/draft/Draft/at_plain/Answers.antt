@@ -7,6 +7,7 @@ use Rattle.ncl_reader.specs.Next.{MayStand}
 use Rattle.ncl_reader.proofs.NameRules.{not_declaring}
 use Rattle.ncl_reader.proofs.PlainSteps.{plain_free}
 use Rattle.ncl_reader.proofs.DraftSteps as steps
+use Rattle.ncl_reader.proofs.RulesAt.{breaks-here}
 use Rattle.ncl_reader.proofs.draft.Draft.at_plain.Goals as goal
 
 pub returns-then-clashes : goal.returns-then-clashes
@@ -19,7 +20,7 @@ pub returns-then-not-may_stand : goal.returns-then-not-may_stand
 returns-then-not-may_stand c = λ p (kept, by).
     let x = c.args.name.now in
     let breaks = subst (λ may. MayStand may (spelled p) x) c.if-not-may_stand.true (c.may_stand.ensures p by) in
-    steps.against c.args.place p p (Name x) c.args.self.now refl (Name x) refl breaks (kept, by)
+    steps.against c.args.place p p (Name x) c.args.self.now refl (Name x) refl (breaks-here p (Name x) breaks) (kept, by)
 
 pub returns : goal.returns
 returns c = λ p (kept, by).

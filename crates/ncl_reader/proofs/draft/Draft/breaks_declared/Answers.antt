@@ -6,9 +6,9 @@ use Rattle.ncl_reader.specs.Rules.{directed_by, Redeclares, Clashes}
 use Rattle.ncl_reader.specs.Says.{said_by}
 use Rattle.ncl_reader.specs.Header.{LacksWay}
 use Rattle.ncl_reader.specs.Draft.{said_with}
-use Rattle.ncl_reader.proofs.NameRules.{declared_rule, clash_rule}
+use Rattle.ncl_reader.proofs.NameRules.{clash_rule}
 use Rattle.ncl_reader.proofs.DraftBody.{names-body, gives_of, wire_of}
-use Rattle.ncl_reader.proofs.RefusalNames as refused
+use Rattle.ncl_reader.proofs.RulesAt.{some_given, declared_rule, crowds_declared}
 use Rattle.ncl_reader.proofs.draft.Draft.breaks_declared.Goals as goal
 
 pub returns-then-redeclares : goal.returns-then-redeclares
@@ -37,7 +37,12 @@ returns-then-is_none c = λ head items spec names kept said early body.
     let fine : Clashes xs x → ⊥ = λ r. false≢true (sym c.if-clashes_declared.false ∙ (c.clashes_declared.ensures xs spec.range kept declares said.1.same agrees).1 r) in
     let wire : (direction : Direction) → spec.lead ≡ Gives direction → ⊥ = wire_of spec c.args.self.now.lead said.0 (c.is_none.ensures ∙ ap not c.if-is_none.true) in (
       λ e. absurd (false≢true e),
-      λ breaks. let (direction, range, gives, is, many) = declared_rule head items spec names x (λ direction gives. absurd (wire direction gives)) agrees fine breaks in absurd (wire direction gives),
+      λ breaks. absurd (elim (declared_rule head items spec names x breaks) [
+        | inl given ↦ let (direction, gives, why) = some_given spec.lead _ given in wire direction gives
+        | inr (inl r) ↦ agrees r
+        | inr (inr (inl clashes)) ↦ fine clashes
+        | inr (inr (inr crowds)) ↦ let (direction, gives, rest) = crowds_declared head items spec names x crowds in wire direction gives
+      ]),
     )
 
 pub returns-then-not-lacks_way : goal.returns-then-not-lacks_way
@@ -64,7 +69,13 @@ returns c = λ head items spec names kept said early body.
     let free : Contains (directed_by head items ++ names) x → ⊥ = λ r. lacks.1 (subst (λ l. Contains l x) (sym (names-body head items spec names direction gives)) r) in
     let decides = c.crowds_items.ensures head items spec names said early body in (
       λ e. inr (inr (inr (inr (inr (inr (inr (decides.0 e))))))),
-      λ breaks.
-          let (other, range, gave, is, many) = declared_rule head items spec names x (λ o g. (lacks.0, free)) agrees fine breaks in
-          decides.1 (refused.crowds_item head items spec names x (record { direction = other; range = range; gives = gave; is = is; stands = lacks.0; new = free; many = many })),
+      λ breaks. elim (declared_rule head items spec names x breaks) [
+        | inl given ↦ let (o, g, why) = some_given spec.lead _ given in absurd (elim why [
+          | inl absent ↦ absent lacks.0
+          | inr again ↦ free again
+        ])
+        | inr (inl r) ↦ absurd (agrees r)
+        | inr (inr (inl clashes)) ↦ absurd (fine clashes)
+        | inr (inr (inr crowds)) ↦ decides.1 crowds
+      ],
     )

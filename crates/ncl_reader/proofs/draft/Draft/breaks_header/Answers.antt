@@ -5,8 +5,8 @@ use Rattle.ncl_reader.specs.Grammar.{group_names}
 use Rattle.ncl_reader.specs.Forms.{in_ansi, IsDeclaring}
 use Rattle.ncl_reader.specs.Rules.{Redeclares, Clashes}
 use Rattle.ncl_reader.specs.Says.{said_in_header, said_of}
-use Rattle.ncl_reader.proofs.NameRules.{headed_rule, clash_rule}
-use Rattle.ncl_reader.proofs.RefusalNames as refused
+use Rattle.ncl_reader.proofs.NameRules.{clash_rule}
+use Rattle.ncl_reader.proofs.RulesAt.{headed_rule}
 use Rattle.ncl_reader.proofs.draft.Draft.breaks_header.Goals as goal
 
 pub returns-then-has : goal.returns-then-has
@@ -45,7 +45,10 @@ returns c = λ groups spec names kept said read.
     let new : Contains listed x → ⊥ = λ r. false≢true (sym c.if-has.false ∙ (c.has.ensures listed told read.header).1 r) in
     let decides = c.crowds_header.ensures groups spec names said read in (
       λ e. inr (inr (inr (inr (inr (inr (inr (decides.0 e))))))),
-      λ breaks.
-          let (range, is, many) = headed_rule title groups spec names x new agrees fine breaks in
-          decides.1 (refused.crowds_head title groups spec names x (record { range = range; is = is; new = new; many = many })),
+      λ breaks. elim (headed_rule title groups spec names x breaks) [
+        | inl stands ↦ absurd (new stands)
+        | inr (inl r) ↦ absurd (agrees r)
+        | inr (inr (inl clashes)) ↦ absurd (fine clashes)
+        | inr (inr (inr crowds)) ↦ decides.1 crowds
+      ],
     )

@@ -8,22 +8,23 @@ use Rattle.ncl_reader.specs.Vectors.{span_of, MOST_PORT_BITS}
 use Rattle.ncl_reader.specs.Says.{said_in_header, said_of}
 use Rattle.ncl_reader.proofs.DraftBody.{bits-grouped_more}
 use Rattle.ncl_reader.proofs.RefusalNames as refused
+use Rattle.ncl_reader.proofs.RulesAt.{crowds-head, crowds_headed}
 use Rattle.ncl_reader.proofs.draft.Draft.crowds_header.Goals as goal
 
 pub returns-in_default : goal.returns-in_default
 returns-in_default c = λ groups spec names said read. (
   λ e. absurd (false≢true e),
   λ crowds.
-      let h = refused.head_crowds c.args.self.now.title.now groups spec names c.args.name.now crowds in
-      absurd (none-some (span_of h.range) (sym c.in_default.is ∙ sym said.1.same ∙ ap (option_map span_of) h.is)),
+      let (range, is, (new, many)) = crowds_headed c.args.self.now.title.now groups spec names c.args.name.now crowds in
+      absurd (none-some (span_of range) (sym c.in_default.is ∙ sym said.1.same ∙ ap (option_map span_of) is)),
 )
 
 pub returns-then-has : goal.returns-then-has
 returns-then-has c = λ groups spec names said read. (
   λ e. absurd (false≢true e),
   λ crowds.
-      let h = refused.head_crowds c.args.self.now.title.now groups spec names c.args.name.now crowds in
-      absurd (h.new ((c.has.ensures (flat_map group_names groups ++ names) (flat_map said_in_header groups ++ said_of spec.lead spec.range names) read.header).0 c.if-has.true)),
+      let (range, is, (new, many)) = crowds_headed c.args.self.now.title.now groups spec names c.args.name.now crowds in
+      absurd (new ((c.has.ensures (flat_map group_names groups ++ names) (flat_map said_in_header groups ++ said_of spec.lead spec.range names) read.header).0 c.if-has.true)),
 )
 
 pub returns : goal.returns
@@ -34,8 +35,8 @@ returns c = λ groups spec names said read.
     let span = c.in-Some.span in
     let new : Contains listed x → ⊥ = λ found. false≢true (sym c.if-has.false ∙ (c.has.ensures listed told read.header).1 found) in
     let (range, is, numbers) = refused.range_of spec.range span (said.1.same ∙ c.in-Some.is) in (
-      λ e. refused.crowds_head c.args.self.now.title.now groups spec names x (record { range = range; is = is; new = new; many = subst (λ n. MOST_PORT_BITS < n) (bits-grouped_more groups spec names range span is numbers) ((c.crowds.ensures listed told read.header).0 e) }),
+      λ e. crowds-head c.args.self.now.title.now groups spec names x range is new (subst (λ n. MOST_PORT_BITS < n) (bits-grouped_more groups spec names range span is numbers) ((c.crowds.ensures listed told read.header).0 e)),
       λ crowds.
-          let h = refused.head_crowds c.args.self.now.title.now groups spec names x crowds in
-          (c.crowds.ensures listed told read.header).1 (subst (λ n. MOST_PORT_BITS < n) (sym (bits-grouped_more groups spec names h.range span h.is (same_Some (span_of h.range) span (ap (option_map span_of) (sym h.is) ∙ said.1.same ∙ c.in-Some.is)))) h.many),
+          let (other, also, (fresh, many)) = crowds_headed c.args.self.now.title.now groups spec names x crowds in
+          (c.crowds.ensures listed told read.header).1 (subst (λ n. MOST_PORT_BITS < n) (sym (bits-grouped_more groups spec names other span also (same_Some (span_of other) span (ap (option_map span_of) (sym also) ∙ said.1.same ∙ c.in-Some.is)))) many),
     )

@@ -1,14 +1,13 @@
 use Rattle.std.proofs.Common.{◌≡◌, Some, sym, ap, ◌∙◌, subst}
 use Rattle.std.specs.Str.Parse.{digits_value}
 use Rattle.std.proofs.lemmas.Bool.{false≢true}
-use Rattle.std.proofs.lemmas.Option.{same_Some}
 use Rattle.ncl_gates.specs.Name.{cell_name_of}
-use Rattle.ncl_reader.specs.Forms.{IsAtIndex}
 use Rattle.ncl_reader.specs.Vectors.{IsVector, span_of, Covers}
 use Rattle.ncl_reader.specs.Draft.{HoldsAt}
 use Rattle.ncl_reader.specs.Partial.{spelled}
 use Rattle.ncl_reader.proofs.Loop.{holds-place}
-use Rattle.ncl_reader.proofs.NetSteps.{at_index_at}
+use Rattle.ncl_reader.proofs.NetSteps.{same_numbers}
+use Rattle.ncl_reader.proofs.RulesAt.{OutsideAt, outside-here}
 use Rattle.ncl_reader.proofs.Places as places
 use Rattle.ncl_reader.proofs.draft.Draft.has_no_bit.Goals as goal
 
@@ -27,11 +26,9 @@ returns-in-Some c = λ p holds.
     let value = digits_value 10 c.args.number.digits.now in
     let (range, stands, span) = c.in-Some.ensures (spelled p) kept in (
       λ e. (net, range, (head, items, cell, name, conns, pin, ap spelled is), stands, λ covers. c.is_outside.ensures.0 e (subst (λ s. Covers s value) span covers)),
-      λ (other, r, at, also, outside).
-          let same : net ≡ other = at_index_at head items cell name conns pin net other (subst (λ q. IsAtIndex (spelled q) other) is at) in
-          let mine = kept.ranges.declared net (Some range) stands in
-          let yours = kept.ranges.declared net (Some r) (subst (λ x. IsVector (spelled p) x r) (sym same) also) in
-          let spans : span_of range ≡ span_of r = same_Some (span_of range) (span_of r) (same_Some (Some (span_of range)) (Some (span_of r)) (sym mine ∙ yours)) in
+      λ breaks.
+          let (r, also, outside) = subst (λ q. OutsideAt q c.args.number.digits.now) is (outside-here p c.args.number.digits.now breaks) in
+          let spans = same_numbers c.args.self.now.known (spelled p) net range r kept stands (subst (λ q. IsVector (spelled q) net r) (sym is) also) in
           c.is_outside.ensures.1 (λ covers. outside (subst (λ s. Covers s value) (sym span ∙ spans) covers)),
     )
 

@@ -21,6 +21,6 @@ pub returns : goal.returns
 returns c = λ p (kept, (digits, (head, items, conns, is, body, are), value)).
     let conn : Conn = record { pin = c.args.self.now.instance.pin.now; net = record { name = c.args.self.now.instance.net.now; index = Some digits } } in
     steps.taken_mark p (inside head items (picked (cell_name_of c.args.self.now.instance.kind) c.args.self.now.instance.name.now conns c.args.self.now.instance.pin.now c.args.self.now.instance.net.now digits)) (inside head items (joined (cell_name_of c.args.self.now.instance.kind) c.args.self.now.instance.name.now conns conn)) (meant c.args.lexeme.now) (Mark RParen) place.AfterConnection _ is (c.is_mark.ensures.0 c.if-not-is_mark.false) refl
-    (nets.mark_no_name RParen) kept
+    (λ x e. absurd cc) kept
     (head, items, conns, conn, refl, (body.0, record { ansi = body.1.ansi; header = body.1.header; cells = body.1.cells }), subst (AreJoins (conns ++ conn ∷ [])) (sym c.in_ok-push.ensures.items) (joins-more conns c.args.self.now.instance.joins.items conn _ are (nets.bit_joint c.args.self.now.instance.pin.now c.args.self.now.instance.net.now digits c.args.self.now.instance.index value)))
-    (nets.bit_closes head items (cell_name_of c.args.self.now.instance.kind) c.args.self.now.instance.name.now conns c.args.self.now.instance.pin.now c.args.self.now.instance.net.now digits)
+    (λ none. none)

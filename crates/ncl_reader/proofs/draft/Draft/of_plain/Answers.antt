@@ -1,6 +1,6 @@
 use Rattle.std.proofs.Common.{Some, inl, inr, refl, sym, ◌∙◌}
 use Rattle.std.proofs.lemmas.Bool.{false≢true}
-use Rattle.ncl_reader.proofs.RefusalNames as refused
+use Rattle.ncl_reader.proofs.NameRules.{crowds_declares}
 use Rattle.ncl_reader.proofs.draft.Draft.of_plain.Goals as goal
 
 pub returns-then-clashes : goal.returns-then-clashes
@@ -21,7 +21,7 @@ returns c = λ xs kept none item pin conn. (
     | inl at ↦ conn at
     | inr more ↦ elim more [
       | inl clashes ↦ false≢true (sym c.if-clashes.false ∙ (c.clashes.ensures xs kept none).1 clashes)
-      | inr crowds ↦ let (range, declares) = refused.crowds_declares xs c.args.name.now crowds in none (Some range) declares
+      | inr crowds ↦ let (range, declares) = crowds_declares xs c.args.name.now crowds in none (Some range) declares
     ]
   ]),
 )

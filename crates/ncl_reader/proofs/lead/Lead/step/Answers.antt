@@ -14,34 +14,34 @@ pub returns-then-is_word-clause-item : goal.returns-then-is_word-clause-item
 returns-then-is_word-clause-item c = λ head items part names at keeps. steps.at_wire (steps.in_item head items) c.args.self.now part (meant c.args.lexeme.now) (at ∙ c.in-Direction.is) keeps (c.is_word.ensures.0 c.if-is_word.true)
 
 pub returns-else-is_word-clause-header : goal.returns-else-is_word-clause-header
-returns-else-is_word-clause-header c = λ title groups part names at keeps. steps.by_sign (steps.in_header title groups) c.args.self.now part (meant c.args.lexeme.now) (Mark LBracket) lead.First c.behind.result c.behind.ensures (λ is. steps.at_bracket (steps.in_header title groups) c.args.self.now part (meant c.args.lexeme.now) (at ∙ c.in-Direction.is) keeps is) (λ other. steps.at_none (steps.in_header title groups) c.args.self.now part (meant c.args.lexeme.now) (at ∙ c.in-Direction.is) keeps (λ is. false≢true (sym c.if-is_word.false ∙ c.is_word.ensures.1 is)) other names)
+returns-else-is_word-clause-header c = λ title groups part names at keeps. steps.by_sign (steps.in_header title groups) c.args.self.now part (meant c.args.lexeme.now) (Mark LBracket) lead.First c.behind.result c.behind.ensures (λ is. steps.at_bracket (steps.in_header title groups) c.args.self.now part (meant c.args.lexeme.now) (at ∙ c.in-Direction.is) keeps is) (λ other. steps.left_at (steps.in_header title groups) c.args.self.now part (meant c.args.lexeme.now) lead.Direction (at ∙ c.in-Direction.is) keeps ((λ is. false≢true (sym c.if-is_word.false ∙ c.is_word.ensures.1 is)), other, names))
 
 pub returns-else-is_word-clause-item : goal.returns-else-is_word-clause-item
-returns-else-is_word-clause-item c = λ head items part names at keeps. steps.by_sign (steps.in_item head items) c.args.self.now part (meant c.args.lexeme.now) (Mark LBracket) lead.First c.behind.result c.behind.ensures (λ is. steps.at_bracket (steps.in_item head items) c.args.self.now part (meant c.args.lexeme.now) (at ∙ c.in-Direction.is) keeps is) (λ other. steps.at_none (steps.in_item head items) c.args.self.now part (meant c.args.lexeme.now) (at ∙ c.in-Direction.is) keeps (λ is. false≢true (sym c.if-is_word.false ∙ c.is_word.ensures.1 is)) other names)
+returns-else-is_word-clause-item c = λ head items part names at keeps. steps.by_sign (steps.in_item head items) c.args.self.now part (meant c.args.lexeme.now) (Mark LBracket) lead.First c.behind.result c.behind.ensures (λ is. steps.at_bracket (steps.in_item head items) c.args.self.now part (meant c.args.lexeme.now) (at ∙ c.in-Direction.is) keeps is) (λ other. steps.left_at (steps.in_item head items) c.args.self.now part (meant c.args.lexeme.now) lead.Direction (at ∙ c.in-Direction.is) keeps ((λ is. false≢true (sym c.if-is_word.false ∙ c.is_word.ensures.1 is)), other, names))
 
 pub returns-in-Wire-clause-header : goal.returns-in-Wire-clause-header
-returns-in-Wire-clause-header c = λ title groups part names at keeps. steps.by_sign (steps.in_header title groups) c.args.self.now part (meant c.args.lexeme.now) (Mark LBracket) lead.First c.behind-in-Wire.result c.behind-in-Wire.ensures (λ is. steps.wire_bracket (steps.in_header title groups) c.args.self.now part (meant c.args.lexeme.now) (at ∙ c.in-Wire.is) keeps is) (λ other. steps.wire_none (steps.in_header title groups) c.args.self.now part (meant c.args.lexeme.now) (at ∙ c.in-Wire.is) keeps other names)
+returns-in-Wire-clause-header c = λ title groups part names at keeps. steps.by_sign (steps.in_header title groups) c.args.self.now part (meant c.args.lexeme.now) (Mark LBracket) lead.First c.behind-in-Wire.result c.behind-in-Wire.ensures (λ is. steps.wire_bracket (steps.in_header title groups) c.args.self.now part (meant c.args.lexeme.now) (at ∙ c.in-Wire.is) keeps is) (λ other. steps.left_at (steps.in_header title groups) c.args.self.now part (meant c.args.lexeme.now) lead.Wire (at ∙ c.in-Wire.is) keeps (other, names))
 
 pub returns-in-Wire-clause-item : goal.returns-in-Wire-clause-item
-returns-in-Wire-clause-item c = λ head items part names at keeps. steps.by_sign (steps.in_item head items) c.args.self.now part (meant c.args.lexeme.now) (Mark LBracket) lead.First c.behind-in-Wire.result c.behind-in-Wire.ensures (λ is. steps.wire_bracket (steps.in_item head items) c.args.self.now part (meant c.args.lexeme.now) (at ∙ c.in-Wire.is) keeps is) (λ other. steps.wire_none (steps.in_item head items) c.args.self.now part (meant c.args.lexeme.now) (at ∙ c.in-Wire.is) keeps other names)
+returns-in-Wire-clause-item c = λ head items part names at keeps. steps.by_sign (steps.in_item head items) c.args.self.now part (meant c.args.lexeme.now) (Mark LBracket) lead.First c.behind-in-Wire.result c.behind-in-Wire.ensures (λ is. steps.wire_bracket (steps.in_item head items) c.args.self.now part (meant c.args.lexeme.now) (at ∙ c.in-Wire.is) keeps is) (λ other. steps.left_at (steps.in_item head items) c.args.self.now part (meant c.args.lexeme.now) lead.Wire (at ∙ c.in-Wire.is) keeps (other, names))
 
 pub returns-in-Colon-clause-header : goal.returns-in-Colon-clause-header
-returns-in-Colon-clause-header c = λ title groups part names at keeps. steps.by_sign (steps.in_header title groups) c.args.self.now part (meant c.args.lexeme.now) (Mark Colon) lead.Last c.behind-in-Colon.result c.behind-in-Colon.ensures (λ is. steps.colon (steps.in_header title groups) c.args.self.now part (meant c.args.lexeme.now) (at ∙ c.in-Colon.is) keeps is) (λ other. steps.colon_none (steps.in_header title groups) c.args.self.now part (meant c.args.lexeme.now) (at ∙ c.in-Colon.is) keeps other)
+returns-in-Colon-clause-header c = λ title groups part names at keeps. steps.by_sign (steps.in_header title groups) c.args.self.now part (meant c.args.lexeme.now) (Mark Colon) lead.Last c.behind-in-Colon.result c.behind-in-Colon.ensures (λ is. steps.colon (steps.in_header title groups) c.args.self.now part (meant c.args.lexeme.now) (at ∙ c.in-Colon.is) keeps is) (λ other. steps.left_at (steps.in_header title groups) c.args.self.now part (meant c.args.lexeme.now) lead.Colon (at ∙ c.in-Colon.is) keeps other)
 
 pub returns-in-Colon-clause-item : goal.returns-in-Colon-clause-item
-returns-in-Colon-clause-item c = λ head items part names at keeps. steps.by_sign (steps.in_item head items) c.args.self.now part (meant c.args.lexeme.now) (Mark Colon) lead.Last c.behind-in-Colon.result c.behind-in-Colon.ensures (λ is. steps.colon (steps.in_item head items) c.args.self.now part (meant c.args.lexeme.now) (at ∙ c.in-Colon.is) keeps is) (λ other. steps.colon_none (steps.in_item head items) c.args.self.now part (meant c.args.lexeme.now) (at ∙ c.in-Colon.is) keeps other)
+returns-in-Colon-clause-item c = λ head items part names at keeps. steps.by_sign (steps.in_item head items) c.args.self.now part (meant c.args.lexeme.now) (Mark Colon) lead.Last c.behind-in-Colon.result c.behind-in-Colon.ensures (λ is. steps.colon (steps.in_item head items) c.args.self.now part (meant c.args.lexeme.now) (at ∙ c.in-Colon.is) keeps is) (λ other. steps.left_at (steps.in_item head items) c.args.self.now part (meant c.args.lexeme.now) lead.Colon (at ∙ c.in-Colon.is) keeps other)
 
 pub returns-in-Close-clause-header : goal.returns-in-Close-clause-header
-returns-in-Close-clause-header c = λ title groups part names at keeps. steps.by_sign (steps.in_header title groups) c.args.self.now part (meant c.args.lexeme.now) (Mark RBracket) lead.Range c.behind-in-Close.result c.behind-in-Close.ensures (λ is. steps.close (steps.in_header title groups) c.args.self.now part (meant c.args.lexeme.now) (at ∙ c.in-Close.is) keeps is) (λ other. steps.close_none (steps.in_header title groups) c.args.self.now part (meant c.args.lexeme.now) (at ∙ c.in-Close.is) keeps other)
+returns-in-Close-clause-header c = λ title groups part names at keeps. steps.by_sign (steps.in_header title groups) c.args.self.now part (meant c.args.lexeme.now) (Mark RBracket) lead.Range c.behind-in-Close.result c.behind-in-Close.ensures (λ is. steps.close (steps.in_header title groups) c.args.self.now part (meant c.args.lexeme.now) (at ∙ c.in-Close.is) keeps is) (λ other. steps.left_at (steps.in_header title groups) c.args.self.now part (meant c.args.lexeme.now) lead.Close (at ∙ c.in-Close.is) keeps other)
 
 pub returns-in-Close-clause-item : goal.returns-in-Close-clause-item
-returns-in-Close-clause-item c = λ head items part names at keeps. steps.by_sign (steps.in_item head items) c.args.self.now part (meant c.args.lexeme.now) (Mark RBracket) lead.Range c.behind-in-Close.result c.behind-in-Close.ensures (λ is. steps.close (steps.in_item head items) c.args.self.now part (meant c.args.lexeme.now) (at ∙ c.in-Close.is) keeps is) (λ other. steps.close_none (steps.in_item head items) c.args.self.now part (meant c.args.lexeme.now) (at ∙ c.in-Close.is) keeps other)
+returns-in-Close-clause-item c = λ head items part names at keeps. steps.by_sign (steps.in_item head items) c.args.self.now part (meant c.args.lexeme.now) (Mark RBracket) lead.Range c.behind-in-Close.result c.behind-in-Close.ensures (λ is. steps.close (steps.in_item head items) c.args.self.now part (meant c.args.lexeme.now) (at ∙ c.in-Close.is) keeps is) (λ other. steps.left_at (steps.in_item head items) c.args.self.now part (meant c.args.lexeme.now) lead.Close (at ∙ c.in-Close.is) keeps other)
 
 pub returns-in-Range-clause-header : goal.returns-in-Range-clause-header
-returns-in-Range-clause-header c = λ title groups part names at keeps. steps.range_none (steps.in_header title groups) c.args.self.now part (meant c.args.lexeme.now) (at ∙ c.in-Range.is) keeps names
+returns-in-Range-clause-header c = λ title groups part names at keeps. steps.left_at (steps.in_header title groups) c.args.self.now part (meant c.args.lexeme.now) lead.Range (at ∙ c.in-Range.is) keeps names
 
 pub returns-in-Range-clause-item : goal.returns-in-Range-clause-item
-returns-in-Range-clause-item c = λ head items part names at keeps. steps.range_none (steps.in_item head items) c.args.self.now part (meant c.args.lexeme.now) (at ∙ c.in-Range.is) keeps names
+returns-in-Range-clause-item c = λ head items part names at keeps. steps.left_at (steps.in_item head items) c.args.self.now part (meant c.args.lexeme.now) lead.Range (at ∙ c.in-Range.is) keeps names
 
 pub returns-in_default-clause-header : goal.returns-in_default-clause-header
 returns-in_default-clause-header c = λ title groups part names at keeps. steps.first_none (steps.in_header title groups) c.args.self.now part (meant c.args.lexeme.now) (at ∙ c.in-First.is) keeps c.in_default.ensures

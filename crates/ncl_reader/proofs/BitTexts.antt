@@ -1,13 +1,6 @@
 -- The texts of numbers of bits.
-use Rattle.std.proofs.Common.{◌≡◌, ◌≢◌, ℕ, zero, suc, ◌+◌, ◌-◌, ◌<◌, ◌≤◌, arith, List, [], ◌∷◌, ◌++◌, length, take, drop, drop-cons, get_or, inl, inr, refl, sym, ap, ◌∙◌, subst}
-use Rattle.std.specs.Prelude.{decimal, slice_index}
-use Rattle.std.specs.Str.Parse.{AllDigits, digits_value}
-use Rattle.std.proofs.lemmas.Bool.{cases_lt}
-use Rattle.std.proofs.lemmas.Fmt.{decimal_is_IsNumeral, decimal_digit, first_decimal, length-decimal-le, decimal-digits_value}
-use Rattle.std.proofs.lemmas.Str.Parse.{IsNumeralModel}
-use Rattle.std.proofs.lemmas.List.{append_assoc, same_from_push}
-use Rattle.ncl_reader.specs.Vectors.{IsTooLarge, bit_name}
-use Rattle.ncl_reader.specs.BitNames.{HasBracketAt}
+use Rattle.ncl_reader.proofs.Kit.{◌≡◌, ◌≢◌, ℕ, zero, suc, ◌+◌, ◌-◌, ◌<◌, ◌≤◌, arith, List, [], ◌∷◌, ◌++◌, length, take, drop, drop-cons, get_or, inl, inr, refl, sym, ap, ◌∙◌, subst, decimal, slice_index, AllDigits, digits_value, cases_lt, decimal_is_IsNumeral, decimal_digit, first_decimal, length-decimal-le, decimal-digits_value, IsNumeralModel, append_assoc, same_from_push}
+use Rattle.ncl_reader.proofs.Terms.{IsTooLarge, bit_name, HasBracketAt}
 use Rattle.ncl_reader.proofs.Bits.{NoOpen, digits_open, one_open}
 
 own : IsNumeralModel (AllDigits 10) (digits_value 10)

@@ -1,13 +1,6 @@
 -- The names of bits, and the numbers of a vector.
-use Rattle.std.proofs.Common.{◌≡◌, ℕ, zero, suc, ◌+◌, ◌-◌, ◌^◌, ◌<◌, ◌≤◌, arith, List, [], ◌∷◌, ◌++◌, length, get_or, Bool, true, false, cond, refl, sym, ◌∙◌, subst, ◌≢◌, inl, inr}
-use Rattle.std.specs.Prelude.{decimal, nat_le}
-use Rattle.std.specs.Str.Parse.{AllDigits}
-use Rattle.std.proofs.lemmas.Bool.{false≢true, le-leb, leb-true}
-use Rattle.std.proofs.lemmas.Fmt.{decimal_is_IsNumeral, decimal_injective}
-use Rattle.ncl_reader.specs.declared.span.Span.{Span}
-use Rattle.ncl_reader.specs.Vectors.{width, bit_name, up_from, down_from, numbers_of}
-use Rattle.std.proofs.lemmas.List.{same_from_push}
-use Rattle.ncl_base.proofs.Growing.{split_push}
+use Rattle.ncl_reader.proofs.Kit.{◌≡◌, ℕ, zero, suc, ◌+◌, ◌-◌, ◌^◌, ◌<◌, ◌≤◌, arith, List, [], ◌∷◌, ◌++◌, length, get_or, Bool, true, false, cond, refl, sym, ◌∙◌, subst, ◌≢◌, inl, inr, decimal, nat_le, AllDigits, false≢true, le-leb, leb-true, decimal_is_IsNumeral, decimal_injective, same_from_push}
+use Rattle.ncl_reader.proofs.Terms.{Span, width, bit_name, up_from, down_from, numbers_of, split_push}
 use Rattle.ncl_reader.proofs.Breaking.{no_token}
 
 -- no `[` stands

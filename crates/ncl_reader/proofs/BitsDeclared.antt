@@ -1,13 +1,6 @@
 -- Names of bits of vectors that are declared.
-use Rattle.std.proofs.Common.{◌≡◌, ◌≢◌, ℕ, ◌<◌, arith, List, Option, Some, None, inl, inr, sym, ap, ◌∙◌, subst}
-use Rattle.std.specs.Option.{option_map}
-use Rattle.std.proofs.lemmas.Option.{same_Some}
-use Rattle.ncl_reader.specs.declared.span.Span.{Span}
-use Rattle.ncl_reader.specs.declared.ranges.Ranges.{Ranges}
-use Rattle.ncl_reader.specs.Lexemes.{Lexeme}
-use Rattle.ncl_reader.specs.Grammar.{Range}
-use Rattle.ncl_reader.specs.Vectors.{span_of, Covers, bit_name, IsDeclared, IsVector, IsBit}
-use Rattle.ncl_reader.specs.Ranges.{IsRanges, range_at}
+use Rattle.ncl_reader.proofs.Kit.{◌≡◌, ◌≢◌, ℕ, ◌<◌, arith, List, Option, Some, None, inl, inr, sym, ap, ◌∙◌, subst, option_map, same_Some}
+use Rattle.ncl_reader.proofs.Terms.{Span, Ranges, Lexeme, Range, span_of, Covers, bit_name, IsDeclared, IsVector, IsBit, IsRanges, range_at}
 use Rattle.ncl_reader.proofs.Bits.{bit_name-injective}
 
 module _ (ranges : Ranges) (xs : List Lexeme) (is : IsRanges ranges xs) where

@@ -1,11 +1,6 @@
 -- Lists of tokens in which no rule is broken.
-use Rattle.std.proofs.Common.{[], ◌≡◌, List, ◌∷◌, ◌++◌, Option, Some, None, refl, sym, ap, ◌∙◌, subst}
-use Rattle.std.specs.Prelude.{option_and_then}
-use Rattle.std.proofs.lemmas.Option.{same_Some, none-some}
-use Rattle.ncl_reader.specs.Lexemes.{Lexeme}
-use Rattle.ncl_reader.specs.Grammar.{Text, text_phrase}
-use Rattle.ncl_reader.specs.Rules.{Breaks, NoneBreaks}
-use Rattle.ncl_reader.specs.Partial.{Partial, start, done, spelled}
+use Rattle.ncl_reader.proofs.Kit.{[], ◌≡◌, List, ◌∷◌, ◌++◌, Option, Some, None, refl, sym, ap, ◌∙◌, subst, option_and_then, same_Some, none-some}
+use Rattle.ncl_reader.proofs.Terms.{Lexeme, Text, text_phrase, Breaks, NoneBreaks, Partial, start, done, spelled}
 use Rattle.ncl_reader.proofs.Steps.{step, run}
 use Rattle.ncl_reader.proofs.Runs.{run-append, run-spelled}
 use Rattle.ncl_reader.proofs.Grows.{grows-run}

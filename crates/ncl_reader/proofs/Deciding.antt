@@ -1,7 +1,6 @@
 -- Whether what stands has a form.
-use Rattle.std.proofs.Common.{◌≡◌, ℕ, List, inl, inr, refl}
-use Rattle.ncl_reader.specs.Forms.{IsAtItem, IsAtConn, IsAtPin, IsAtNet, IsBehindNet, IsAtIndex, IsAtClose}
-use Rattle.ncl_reader.specs.Partial.{Partial, at_item, inside, joining, dotted, opened, netted, indexing, joined, spelled}
+use Rattle.ncl_reader.proofs.Kit.{◌≡◌, ℕ, List, inl, inr, refl}
+use Rattle.ncl_reader.proofs.Terms.{IsAtItem, IsAtConn, IsAtPin, IsAtNet, IsBehindNet, IsAtIndex, IsAtClose, Partial, at_item, inside, joining, dotted, opened, netted, indexing, joined, spelled}
 use Rattle.ncl_reader.proofs.Viable.{same_tree}
 use Rattle.ncl_reader.proofs.Facts.{Decided}
 

@@ -1,12 +1,6 @@
 -- What a name that stands next is declared with, by the partial tree in front of it.
-use Rattle.std.proofs.Common.{◌≡◌, ℕ, List, [], ◌∷◌, ◌++◌, Option, Some, None, inl, inr, ◌⊎◌, refl, sym, ap, ◌∙◌, subst}
-use Rattle.std.specs.Option.{option_map}
-use Rattle.std.proofs.lemmas.List.{append-nil}
-use Rattle.std.proofs.lemmas.Option.{same_Some}
-use Rattle.ncl_reader.specs.Lexemes.{Lexeme}
-use Rattle.ncl_reader.specs.Grammar.{Row, all_of, Direction, direction_phrase, Lead, lead_phrase, Range, range_phrase, Spec, spec_phrase, Group, group_phrase, Item, Head, with_commas, name_phrase, body_phrase}
-use Rattle.ncl_reader.specs.Forms.{in_ansi, at_declared, IsDeclaring}
-use Rattle.ncl_reader.specs.Partial.{led, ranged, GroupPart, leading, going, group_spelled, Partial, heading, inside, declaring, spelled, header_spelled}
+use Rattle.ncl_reader.proofs.Kit.{◌≡◌, ℕ, List, [], ◌∷◌, ◌++◌, Option, Some, None, inl, inr, ◌⊎◌, refl, sym, ap, ◌∙◌, subst, option_map, append-nil, same_Some}
+use Rattle.ncl_reader.proofs.Terms.{Lexeme, Row, all_of, Direction, direction_phrase, Lead, lead_phrase, Range, range_phrase, Spec, spec_phrase, Group, group_phrase, Item, Head, with_commas, name_phrase, body_phrase, in_ansi, at_declared, IsDeclaring, led, ranged, GroupPart, leading, going, group_spelled, Partial, heading, inside, declaring, spelled, header_spelled}
 use Rattle.ncl_reader.proofs.Grows.{more_commas}
 use Rattle.ncl_reader.proofs.Viable.{same_tree}
 

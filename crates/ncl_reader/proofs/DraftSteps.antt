@@ -1,19 +1,7 @@
 -- Tokens that are taken, and tokens that break.
-use Rattle.std.proofs.Common.{[], ◌≡◌, ◌≢◌, ℕ, List, ◌∷◌, ◌++◌, None, Some, inr, refl, sym, ◌∙◌, subst, inl}
-use Rattle.ncl_reader.specs.declared.lexeme.Lexeme.{Lexeme as Read}
+use Rattle.ncl_reader.proofs.Kit.{[], ◌≡◌, ◌≢◌, ℕ, List, ◌∷◌, ◌++◌, None, Some, inr, refl, sym, ◌∙◌, subst, inl}
+use Rattle.ncl_reader.proofs.Terms.{Read, meant, RParen, Comma, LBracket, Place, Draft, Way, Module, EndModule, Wire, word_of, Lexeme, Word, Name, Number, Mark, Head, Item, Conn, Row, Direction, Lead, Spec, Group, BreaksRule, Breaks, Clashes, KeepsNames, Partial, going, start, listing, heading, inside, at_item, ended, declaring, opened, netted, indexing, picked, joined, spelled, HoldsAt, HoldsBy, Takes, TakesOrBreaks}
 use Rattle.ncl_reader.specs.declared.lexeme.Lexeme.TheVariants as read
-use Rattle.ncl_reader.specs.Meant.{meant}
-use Rattle.ncl_reader.specs.declared.lexeme.Sign.TheVariants.{RParen, Comma, LBracket}
-use Rattle.ncl_reader.specs.declared.place.Place.{Place}
-use Rattle.ncl_reader.specs.declared.draft.Draft.{Draft}
-use Rattle.ncl_reader.specs.declared.keyword.Way.{Way}
-use Rattle.ncl_reader.specs.declared.keyword.Keyword.TheVariants.{Module, EndModule, Wire, Way as word_of}
-use Rattle.ncl_reader.specs.Lexemes.{Lexeme, Word, Name, Number, Mark}
-use Rattle.ncl_reader.specs.Grammar.{Head, Item, Conn, Row, Direction, Lead, Spec, Group}
-use Rattle.ncl_reader.specs.Rules.{BreaksRule, Breaks, Clashes}
-use Rattle.ncl_reader.specs.Known.{KeepsNames}
-use Rattle.ncl_reader.specs.Partial.{Partial, going, start, listing, heading, inside, at_item, ended, declaring, opened, netted, indexing, picked, joined, spelled}
-use Rattle.ncl_reader.specs.Draft.{HoldsAt, HoldsBy, Takes, TakesOrBreaks}
 use Rattle.ncl_reader.proofs.Steps.{step}
 use Rattle.ncl_reader.proofs.Grows.{grows}
 use Rattle.ncl_reader.proofs.Breaking.{breaks-taken, breaks-untaken}

@@ -1,17 +1,6 @@
 -- What is said of names by what stands: one token more, and whether it is said.
-use Rattle.std.proofs.Common.{◌≡◌, ℕ, zero, suc, ◌+◌, ◌<◌, ◌≤◌, arith, List, [], ◌∷◌, ◌++◌, Option, Some, None, Bool, true, false, inl, inr, ◌⊎◌, refl, sym, ap, ◌∙◌, subst, append_assoc}
-use Rattle.std.specs.Option.{option_map}
-use Rattle.std.specs.Str.{bytes_eq}
-use Rattle.std.proofs.lemmas.Bool.{false≢true, cases_eq, cases_lt}
-use Rattle.std.proofs.lemmas.List.{append-nil}
-use Rattle.std.proofs.lemmas.Option.{same_Some, none-some}
-use Rattle.std.proofs.lemmas.Slice.Eq.{bytes_eq-Decides}
-use Rattle.ncl_reader.specs.Lexemes.{Lexeme, Name}
-use Rattle.ncl_reader.specs.Grammar.{Range}
-use Rattle.ncl_reader.specs.Forms.{IsDeclaring}
-use Rattle.ncl_reader.specs.declared.span.Span.{Span}
-use Rattle.ncl_reader.specs.Vectors.{span_of, Covers}
-use Rattle.ncl_reader.specs.Partial.{Partial, start, spelled}
+use Rattle.ncl_reader.proofs.Kit.{◌≡◌, ℕ, zero, suc, ◌+◌, ◌<◌, ◌≤◌, arith, List, [], ◌∷◌, ◌++◌, Option, Some, None, Bool, true, false, inl, inr, ◌⊎◌, refl, sym, ap, ◌∙◌, subst, append_assoc, option_map, bytes_eq, false≢true, cases_eq, cases_lt, append-nil, same_Some, none-some, bytes_eq-Decides}
+use Rattle.ncl_reader.proofs.Terms.{Lexeme, Name, Range, IsDeclaring, Span, span_of, Covers, Partial, start, spelled}
 use Rattle.ncl_reader.proofs.Steps.{run}
 use Rattle.ncl_reader.proofs.Runs.{run-spelled}
 use Rattle.ncl_reader.proofs.Grows.{grows-run}

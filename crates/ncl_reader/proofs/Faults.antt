@@ -1,11 +1,6 @@
 -- A text is refused with one fault.
-use Rattle.std.proofs.Common.{◌≡◌, List, [], ◌∷◌, ◌++◌, inl, inr, ◌⊎◌, refl, sym, ap, ◌∙◌, subst}
-use Rattle.std.proofs.lemmas.List.{map-append}
-use Rattle.ncl_reader.specs.declared.net_fault.NetFault.{NetFault}
-use Rattle.ncl_reader.specs.declared.net_fault.NetFault.TheVariants.{Syntax, UnknownCell, BadPins, Unsupported, Build, Memory}
-use Rattle.ncl_reader.specs.Lexemes.{Lexeme, Placed, lexemes}
-use Rattle.ncl_reader.specs.Refusals.{IsFaultAt, IsRefusedAt}
-use Rattle.ncl_reader.specs.Rules.{Breaks, NoneBreaks}
+use Rattle.ncl_reader.proofs.Kit.{◌≡◌, List, [], ◌∷◌, ◌++◌, inl, inr, ◌⊎◌, refl, sym, ap, ◌∙◌, subst, map-append}
+use Rattle.ncl_reader.proofs.Terms.{NetFault, Syntax, UnknownCell, BadPins, Unsupported, Build, Memory, Lexeme, Placed, lexemes, IsFaultAt, IsRefusedAt, Breaks, NoneBreaks}
 
 module _ (before : List Lexeme) where
   one_fault_at : (t : Placed) (fault other : NetFault) → IsFaultAt before t fault → IsFaultAt before t other → fault ≡ other

@@ -1,42 +1,9 @@
 -- Names of a text are made of printing characters.
-use Rattle.std.proofs.Common.{[], ◌≡◌, ℕ, zero, suc, ◌+◌, ◌-◌, ◌<◌, ◌≤◌, ◌/◌, ◌%◌, arith, List, ◌∷◌, ◌++◌, length, map, take, Bool, true, false, Option, Some, None, not, refl, sym, ap, ◌∙◌, subst, append_assoc, unwrap_or}
-use Rattle.std.specs.Prelude.{slice_range, codes, decimal, nat_lt, ◌==◌, All, if◌then◌else◌}
-use Rattle.std.specs.Fmt.{digits, digits_onto, digit_glyph}
-use Rattle.std.specs.List.{list_all, flat_map, find, AllByRecursion}
-use Rattle.std.specs.Option.{option_map}
-use Rattle.std.specs.Str.{bytes_eq}
-use Rattle.std.specs.Str.Parse.{digits_value}
-use Rattle.std.proofs.lemmas.Bool.Decides.{nat_tests}
-use Rattle.std.proofs.lemmas.Bool.{and_parts, and_from}
-use Rattle.std.proofs.lemmas.List.{take_at, length-append}
-use Rattle.std.proofs.lemmas.List.Elements.{All-nil, All-cons, All-head, All-tail, All-append, All-filter}
-use Rattle.ncl_token.specs.declared.token.Token.{Token}
-use Rattle.ncl_token.specs.declared.token.TokenKind.{TokenKind}
-use Rattle.ncl_token.specs.Bytes.{begins_word, continues_word, is_graphic}
-use Rattle.ncl_token.specs.Tokens.{IsToken, is_word, is_escaped, Stop, End as at_end, Bad as at_bad}
-use Rattle.ncl_token.specs.Reading.{name_of, IsTokenOf}
-use Rattle.ncl_token.proofs.InOrder.{tokens_in_text}
-use Rattle.ncl_gates.specs.Cell.{pins_of}
-use Rattle.ncl_netlist.specs.declared.port.Port.{Port}
-use Rattle.ncl_netlist.specs.declared.cell.Cell.{Cell}
-use Rattle.ncl_netlist.specs.declared.parts.Parts.{Parts}
-use Rattle.ncl_netlist.specs.declared.parts.PartCell.{PartCell}
-use Rattle.ncl_netlist.specs.Names.{same_name, once_each}
-use Rattle.ncl_netlist.specs.Parts.{netlist_of, nets_of, port_names, cell_of}
-use Rattle.ncl_reader.specs.declared.keyword.Keyword.{Keyword}
-use Rattle.ncl_reader.specs.declared.keyword.Keyword.TheVariants.{EndModule, Module}
-use Rattle.ncl_reader.specs.Lexemes.{Lexeme, Word, Name, End, lexemes}
-use Rattle.ncl_reader.specs.Words.{lexeme_of, word_lexeme, keyword_of}
-use Rattle.ncl_reader.specs.Grammar.{all_of, Range, Net, Conn, Item, Declares, Joins, text_phrase, body_phrase, header_of, Head}
-use Rattle.ncl_reader.specs.Vectors.{bit_name, span_of, Stands}
-use Rattle.ncl_reader.specs.Says.{Said, Joined, joined_in, bits_of, said_by, net_name, net_on, AreCellsOf}
-use Rattle.ncl_reader.specs.Reads.{Reads, placed_in}
-use Rattle.ncl_reader.specs.GraphicNames.{IsGraphicName, HasGraphicNames}
-use Rattle.ncl_base.proofs.Members.{Member, here, there, Contains-from_Member, All-from_members}
-use Rattle.ncl_base.proofs.Joined.{member_of_flat_map}
+use Rattle.ncl_reader.proofs.Kit.{[], ◌≡◌, ℕ, zero, suc, ◌+◌, ◌-◌, ◌<◌, ◌≤◌, ◌/◌, ◌%◌, arith, List, ◌∷◌, ◌++◌, length, map, take, Bool, true, false, Option, Some, None, not, refl, sym, ap, ◌∙◌, subst, append_assoc, unwrap_or, slice_range, codes, decimal, nat_lt, ◌==◌, All, if◌then◌else◌, digits_onto, digit_glyph, list_all, flat_map, find, AllByRecursion, option_map, bytes_eq, digits_value, nat_tests, and_parts, and_from, take_at, length-append, All-nil, All-cons, All-head, All-tail, All-append, All-filter}
+use Rattle.ncl_reader.proofs.Terms.{Token, TokenKind, begins_word, continues_word, is_graphic, IsToken, is_word, is_escaped, Stop, at_end, at_bad, name_of, IsTokenOf, tokens_in_text, pins_of, Port, Cell, Parts, PartCell, same_name, once_each, netlist_of, nets_of, port_names, cell_of, Keyword, EndModule, Module, Lexeme, Word, Name, End, lexemes, lexeme_of, word_lexeme, keyword_of, all_of, Range, Net, Conn, Item, Declares, Joins, text_phrase, body_phrase, header_of, Head, bit_name, span_of, Stands, Said, Joined, joined_in, bits_of, said_by, net_name, net_on, AreCellsOf, Reads, placed_in, IsGraphicName, HasGraphicNames, Member, here, there, Contains-from_Member, All-from_members, member_of_flat_map, ports_at, said_at}
+use Rattle.std.specs.Fmt.{digits}
 use Rattle.ncl_reader.proofs.PortsDiffer.{alone, bit_of_map, names-ports, names_of}
 use Rattle.ncl_reader.proofs.SaidDeclared.{whole, header_stands, instance_stands}
-use Rattle.ncl_reader.specs.Header.{ports_at, said_at}
 use Rattle.ncl_reader.proofs.Ways.{some-said}
 use Rattle.ncl_reader.proofs.Said.{stands-old}
 

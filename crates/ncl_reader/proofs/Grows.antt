@@ -1,16 +1,6 @@
 -- A step adds its token, and every partial tree can be ended.
-use Rattle.std.proofs.Common.{◌≡◌, ℕ, List, [], ◌∷◌, ◌++◌, Option, Some, None, refl, sym, ap, ◌∙◌, append_assoc}
-use Rattle.std.specs.Prelude.{option_and_then}
-use Rattle.std.specs.Option.{option_map}
-use Rattle.std.proofs.lemmas.List.{append-nil}
-use Rattle.std.proofs.lemmas.Option.{same_Some}
-use Rattle.std.proofs.lemmas.Grind.{flat_map-append}
-use Rattle.std.specs.List.{flat_map}
-use Rattle.ncl_reader.specs.declared.keyword.Keyword.TheVariants.{Module, EndModule, Wire, Way as word_of}
-use Rattle.ncl_reader.specs.declared.lexeme.Sign.TheVariants.{LParen, RParen, Comma, Semi, Dot, LBracket, RBracket, Colon}
-use Rattle.ncl_reader.specs.Lexemes.{Lexeme, Word, Name, Number, Mark, End}
-use Rattle.ncl_reader.specs.Grammar.{Direction, Plain, Wired, direction_phrase, Lead, Gives, Wires, lead_phrase, spec_phrase, Group, group_phrase, Conn, Item, Declares, Joins, Head, with_commas, name_phrase, conn_phrase, row_phrase, item_phrase, head_phrase, body_phrase}
-use Rattle.ncl_reader.specs.Partial.{LeadPart, led, bracketed, firsted, coloned, lasted, ranged, GroupPart, leading, naming, going, group_spelled, lead_spelled, Partial, start, begun, titled, listing, listed, heading, headed, at_item, inside, ended, ItemPart, declaring, celled, named, joining, dotted, pinned, opened, netted, indexing, indexed, picked, joined, closed, spelled, part_spelled, header_spelled, conn_spelled}
+use Rattle.ncl_reader.proofs.Kit.{◌≡◌, ℕ, List, [], ◌∷◌, ◌++◌, Option, Some, None, refl, sym, ap, ◌∙◌, append_assoc, option_and_then, option_map, append-nil, same_Some, flat_map-append, flat_map}
+use Rattle.ncl_reader.proofs.Terms.{Module, EndModule, Wire, word_of, LParen, RParen, Comma, Semi, Dot, LBracket, RBracket, Colon, Lexeme, Word, Name, Number, Mark, End, Direction, Plain, Wired, direction_phrase, Lead, Gives, Wires, lead_phrase, spec_phrase, Group, group_phrase, Conn, Item, Declares, Joins, Head, with_commas, name_phrase, conn_phrase, row_phrase, item_phrase, head_phrase, body_phrase, LeadPart, led, bracketed, firsted, coloned, lasted, ranged, GroupPart, leading, naming, going, group_spelled, lead_spelled, Partial, start, begun, titled, listing, listed, heading, headed, at_item, inside, ended, ItemPart, declaring, celled, named, joining, dotted, pinned, opened, netted, indexing, indexed, picked, joined, closed, spelled, part_spelled, header_spelled, conn_spelled}
 use Rattle.ncl_reader.proofs.Steps.{direction_more, lead_more, lead_step, group_step, or_else, heading_ends, declaring_ends, step, item_step, run}
 
 pub more_commas : {X : Type 0} (phrase : X → List Lexeme) (xs : List X) (x : X) → with_commas phrase (xs ++ x ∷ []) ≡ (with_commas phrase xs ++ phrase x) ++ Mark Comma ∷ []

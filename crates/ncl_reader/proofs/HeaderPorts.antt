@@ -1,17 +1,6 @@
 -- The ports of a name, by what was said of it and how it was declared.
-use Rattle.std.proofs.Common.{◌≡◌, ◌≢◌, ℕ, List, [], ◌∷◌, map, Bool, true, false, Option, Some, None, MatchOption, refl, sym, ap, ◌∙◌, subst}
-use Rattle.std.specs.List.{list_any}
-use Rattle.std.specs.Option.{option_map}
-use Rattle.std.specs.Str.{bytes_eq}
-use Rattle.std.proofs.lemmas.Option.{same_Some}
-use Rattle.ncl_reader.specs.declared.span.Span.{Span}
-use Rattle.ncl_reader.specs.Lexemes.{Lexeme}
-use Rattle.ncl_reader.specs.Grammar.{Range}
-use Rattle.ncl_reader.specs.Vectors.{span_of, numbers_of, bit_name, IsDeclared}
-use Rattle.ncl_reader.specs.declared.ranges.Ranges.{Ranges}
-use Rattle.ncl_reader.specs.Ranges.{range_at, IsRanges}
-use Rattle.ncl_reader.specs.Says.{Said, ports_of}
-use Rattle.ncl_reader.specs.Header.{said_at, way_by, way_of, AreDeclared, ports_at, ports_by, bit_port}
+use Rattle.ncl_reader.proofs.Kit.{◌≡◌, ◌≢◌, ℕ, List, [], ◌∷◌, map, Bool, true, false, Option, Some, None, MatchOption, refl, sym, ap, ◌∙◌, subst, list_any, option_map, bytes_eq, same_Some}
+use Rattle.ncl_reader.proofs.Terms.{Span, Lexeme, Range, span_of, numbers_of, bit_name, IsDeclared, Ranges, range_at, IsRanges, Said, ports_of, said_at, way_by, way_of, AreDeclared, ports_at, ports_by, bit_port}
 use Rattle.ncl_reader.proofs.Ways.{some-said}
 
 bit_ports : (x : List ℕ) (output : Bool) (ks : List ℕ) → map (λ bit. record { name = bit; output = output }) (map (bit_name x) ks) ≡ map (bit_port x output) ks

@@ -1,15 +1,7 @@
 -- Steps behind what a declaration begins with, and at its names.
-use Rattle.std.proofs.Common.{[], ◌≡◌, ◌≢◌, ℕ, List, ◌∷◌, ◌++◌, None, Some, inr, refl, sym, ap, ◌∙◌, subst}
-use Rattle.ncl_reader.specs.declared.place.Place.{Place}
+use Rattle.ncl_reader.proofs.Kit.{[], ◌≡◌, ◌≢◌, ℕ, List, ◌∷◌, ◌++◌, None, Some, inr, refl, sym, ap, ◌∙◌, subst}
+use Rattle.ncl_reader.proofs.Terms.{Place, Draft, Lexeme, Name, Direction, direction_phrase, Lead, lead_phrase, Spec, Group, Head, Item, in_ansi, at_declared, BreaksRule, Breaks, KeepsNames, GroupPart, naming, Partial, heading, inside, declaring, spelled, HoldsAt, HoldsBy, Takes, TakesOrBreaks, IsHeadedNext, IsDeclaredNext}
 use Rattle.ncl_reader.specs.declared.place.Place.TheVariants as place
-use Rattle.ncl_reader.specs.declared.draft.Draft.{Draft}
-use Rattle.ncl_reader.specs.Lexemes.{Lexeme, Name}
-use Rattle.ncl_reader.specs.Grammar.{Direction, direction_phrase, Lead, lead_phrase, Spec, Group, Head, Item}
-use Rattle.ncl_reader.specs.Forms.{in_ansi, at_declared}
-use Rattle.ncl_reader.specs.Rules.{BreaksRule, Breaks}
-use Rattle.ncl_reader.specs.Known.{KeepsNames}
-use Rattle.ncl_reader.specs.Partial.{GroupPart, naming, Partial, heading, inside, declaring, spelled}
-use Rattle.ncl_reader.specs.Draft.{HoldsAt, HoldsBy, Takes, TakesOrBreaks, IsHeadedNext, IsDeclaredNext}
 use Rattle.ncl_reader.proofs.Steps.{step}
 use Rattle.ncl_reader.proofs.Declares.{IsPart, heading_form, declaring_form}
 use Rattle.ncl_reader.proofs.KeptNames.{kept_mark}

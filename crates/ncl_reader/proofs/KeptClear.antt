@@ -1,13 +1,6 @@
 -- Names of bits beside their vectors.
-use Rattle.std.proofs.Common.{◌≡◌, ◌≢◌, ℕ, ◌+◌, arith, List, [], ◌∷◌, ◌++◌, length, Option, Some, inl, inr, ◌⊎◌, refl, sym, ap, ◌∙◌, subst}
-use Rattle.std.specs.Prelude.{codes, decimal}
-use Rattle.std.proofs.lemmas.List.{length-append}
-use Rattle.std.proofs.lemmas.Option.{same_Some}
-use Rattle.ncl_reader.specs.Lexemes.{Lexeme, Name}
-use Rattle.ncl_reader.specs.Grammar.{Range}
-use Rattle.ncl_reader.specs.Forms.{IsDeclaring}
-use Rattle.ncl_reader.specs.Vectors.{span_of, Covers, bit_name, Stands, IsDeclared, IsVector, IsBit, IsClear}
-use Rattle.ncl_reader.specs.Rules.{Clashes}
+use Rattle.ncl_reader.proofs.Kit.{◌≡◌, ◌≢◌, ℕ, ◌+◌, arith, List, [], ◌∷◌, ◌++◌, length, Option, Some, inl, inr, ◌⊎◌, refl, sym, ap, ◌∙◌, subst, codes, decimal, length-append, same_Some}
+use Rattle.ncl_reader.proofs.Terms.{Lexeme, Name, Range, IsDeclaring, span_of, Covers, bit_name, Stands, IsDeclared, IsVector, IsBit, IsClear, Clashes}
 use Rattle.ncl_reader.proofs.Said.{declared-more, stands-more}
 use Rattle.ncl_reader.proofs.Breaking.{no_token, name_in}
 

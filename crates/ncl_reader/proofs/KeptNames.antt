@@ -1,21 +1,6 @@
 -- What is kept of names, with a token more.
-use Rattle.std.proofs.Common.{◌≡◌, ◌≢◌, ℕ, List, [], ◌∷◌, ◌++◌, Option, Some, None, true, inl, inr, refl, sym, ap, ◌∙◌, subst}
-use Rattle.std.specs.Option.{option_map}
-use Rattle.std.specs.Prelude.{is_some}
-use Rattle.std.proofs.lemmas.Bool.{false≢true}
-use Rattle.std.proofs.lemmas.Option.{same_Some, none-some}
-use Rattle.ncl_reader.specs.declared.known.Known.{Known}
-use Rattle.ncl_reader.specs.declared.kept_bits.KeptBits.{KeptBits}
-use Rattle.ncl_reader.specs.Lexemes.{Lexeme, Name}
-use Rattle.ncl_reader.specs.Grammar.{Range}
-use Rattle.ncl_reader.specs.Forms.{IsDeclaring, IsAtNet}
-use Rattle.ncl_reader.specs.declared.span.Span.{Span}
-use Rattle.ncl_reader.specs.Ranges.{range_at}
-use Rattle.ncl_reader.specs.Vectors.{span_of, Covers, Stands, bit_name, IsDeclared, IsUsed, IsBit}
-use Rattle.ncl_reader.specs.KeptBits.{IsStanding}
-use Rattle.ncl_reader.specs.Rules.{Redeclares, Clashes}
-use Rattle.ncl_reader.specs.Known.{KeepsNames}
-use Rattle.ncl_reader.specs.Partial.{inside, opened}
+use Rattle.ncl_reader.proofs.Kit.{◌≡◌, ◌≢◌, ℕ, List, [], ◌∷◌, ◌++◌, Option, Some, None, true, inl, inr, refl, sym, ap, ◌∙◌, subst, option_map, is_some, false≢true, same_Some, none-some}
+use Rattle.ncl_reader.proofs.Terms.{Known, KeptBits, Lexeme, Name, Range, IsDeclaring, IsAtNet, Span, range_at, span_of, Covers, Stands, bit_name, IsDeclared, IsUsed, IsBit, IsStanding, Redeclares, Clashes, KeepsNames, inside, opened}
 use Rattle.ncl_reader.proofs.Said.{stands-more, declaring-once, stands-old}
 use Rattle.ncl_reader.proofs.KeptRanges.{ranges-other}
 use Rattle.ncl_reader.proofs.KeptUses.{uses-other}

@@ -1,17 +1,6 @@
 -- What is kept of how names were declared, with a token more.
-use Rattle.std.proofs.Common.{◌≡◌, ◌≢◌, MatchOption, ◌<◌, ℕ, List, [], ◌∷◌, ◌++◌, Option, Some, None, Bool, true, false, cond, inl, inr, ◌⊎◌, refl, sym, ap, ◌∙◌, subst}
-use Rattle.std.specs.Option.{option_map}
-use Rattle.std.specs.Str.{bytes_eq}
-use Rattle.std.proofs.lemmas.Option.{same_Some, none-some}
-use Rattle.std.proofs.lemmas.Slice.Eq.{bytes_eq-Decides}
-use Rattle.ncl_reader.specs.declared.span.Span.{Span}
-use Rattle.ncl_reader.specs.declared.ranges.Ranges.{Ranges}
-use Rattle.ncl_reader.specs.Lexemes.{Lexeme, Name}
-use Rattle.ncl_reader.specs.Grammar.{Range}
-use Rattle.ncl_reader.specs.Forms.{IsDeclaring}
-use Rattle.ncl_reader.specs.Vectors.{span_of, IsDeclared}
-use Rattle.ncl_reader.specs.NameSet.{has_name}
-use Rattle.ncl_reader.specs.Ranges.{IsRanges, range_at, vector_at, kept_as}
+use Rattle.ncl_reader.proofs.Kit.{◌≡◌, ◌≢◌, MatchOption, ◌<◌, ℕ, List, [], ◌∷◌, ◌++◌, Option, Some, None, Bool, true, false, cond, inl, inr, ◌⊎◌, refl, sym, ap, ◌∙◌, subst, option_map, bytes_eq, same_Some, none-some, bytes_eq-Decides}
+use Rattle.ncl_reader.proofs.Terms.{Span, Ranges, Lexeme, Name, Range, IsDeclaring, span_of, IsDeclared, has_name, IsRanges, range_at, vector_at, kept_as}
 use Rattle.ncl_reader.proofs.Said.{declared-more, declared-old, declaring-once}
 use Rattle.ncl_reader.proofs.Breaking.{no_token, name_in}
 

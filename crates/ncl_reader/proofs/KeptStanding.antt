@@ -1,14 +1,6 @@
 -- What is kept of names that stand, with a name more.
-use Rattle.std.proofs.Common.{◌≡◌, ◌≢◌, ℕ, zero, suc, ◌<◌, arith, List, get_or, [], ◌∷◌, ◌++◌, length, Bool, true, false, cond, Contains, inl, inr, ◌⊎◌, refl, sym, ap, ◌∙◌, subst}
-use Rattle.std.specs.Prelude.{slice_index}
-use Rattle.std.specs.Str.{bytes_eq}
-use Rattle.std.proofs.lemmas.List.Elements.{Contains-append_left, Contains-append_right, Contains-append_cases}
-use Rattle.std.proofs.lemmas.Slice.Eq.{bytes_eq-Decides}
-use Rattle.ncl_reader.specs.declared.span.Span.{Span}
-use Rattle.ncl_reader.specs.declared.kept_bits.KeptBits.{KeptBits}
-use Rattle.ncl_reader.specs.Lexemes.{Lexeme, Name}
-use Rattle.ncl_reader.specs.Vectors.{Covers, Stands, bit_name}
-use Rattle.ncl_reader.specs.KeptBits.{IsStanding, numbers_at}
+use Rattle.ncl_reader.proofs.Kit.{◌≡◌, ◌≢◌, ℕ, zero, suc, ◌<◌, arith, List, get_or, [], ◌∷◌, ◌++◌, length, Bool, true, false, cond, Contains, inl, inr, ◌⊎◌, refl, sym, ap, ◌∙◌, subst, slice_index, bytes_eq, Contains-append_left, Contains-append_right, Contains-append_cases, bytes_eq-Decides}
+use Rattle.ncl_reader.proofs.Terms.{Span, KeptBits, Lexeme, Name, Covers, Stands, bit_name, IsStanding, numbers_at}
 use Rattle.ncl_reader.proofs.Bits.{bit_name-injective}
 use Rattle.ncl_reader.proofs.Said.{stands-more, stands-old}
 use Rattle.ncl_reader.proofs.Breaking.{no_token, name_in}

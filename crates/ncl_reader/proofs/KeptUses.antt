@@ -1,14 +1,6 @@
 -- What is kept of names that connections used, with a token more.
-use Rattle.std.proofs.Common.{◌≡◌, ℕ, List, [], ◌∷◌, ◌++◌, Bool, true, false, cond, inl, inr, ◌⊎◌, refl, sym, ◌∙◌, subst}
-use Rattle.std.specs.Str.{bytes_eq}
-use Rattle.std.proofs.lemmas.Bool.{false≢true}
-use Rattle.std.proofs.lemmas.Slice.Eq.{bytes_eq-Decides}
-use Rattle.ncl_reader.specs.declared.name_set.NameSet.{NameSet}
-use Rattle.ncl_reader.specs.Lexemes.{Lexeme, Name}
-use Rattle.ncl_reader.specs.Forms.{IsAtNet}
-use Rattle.ncl_reader.specs.Vectors.{IsUsed}
-use Rattle.ncl_reader.specs.NameSet.{has_name}
-use Rattle.ncl_reader.specs.Uses.{IsUses}
+use Rattle.ncl_reader.proofs.Kit.{◌≡◌, ℕ, List, [], ◌∷◌, ◌++◌, Bool, true, false, cond, inl, inr, ◌⊎◌, refl, sym, ◌∙◌, subst, bytes_eq, false≢true, bytes_eq-Decides}
+use Rattle.ncl_reader.proofs.Terms.{NameSet, Lexeme, Name, IsAtNet, IsUsed, has_name, IsUses}
 use Rattle.ncl_reader.proofs.Said.{used-more, used-old}
 use Rattle.ncl_reader.proofs.Breaking.{no_token, name_in}
 

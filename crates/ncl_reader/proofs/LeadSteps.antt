@@ -1,22 +1,7 @@
 -- One token more in what a declaration begins with.
-use Rattle.std.proofs.Common.{[], ◌≡◌, ◌≢◌, ℕ, ◌<◌, List, Option, Some, None, Bool, true, false, inl, inr, ◌⊎◌, refl, sym, ap, ◌∙◌, subst}
-use Rattle.std.specs.Prelude.{MatchOption}
-use Rattle.std.specs.Option.{option_map}
-use Rattle.std.specs.Str.Parse.{digits_value}
-use Rattle.std.proofs.lemmas.Bool.{false≢true}
-use Rattle.std.proofs.lemmas.Option.{same_Some, none-some}
-use Rattle.ncl_reader.specs.declared.place.LeadPlace.{LeadPlace}
+use Rattle.ncl_reader.proofs.Kit.{[], ◌≡◌, ◌≢◌, ℕ, ◌<◌, List, Option, Some, None, Bool, true, false, inl, inr, ◌⊎◌, refl, sym, ap, ◌∙◌, subst, MatchOption, option_map, digits_value, false≢true, same_Some, none-some}
+use Rattle.ncl_reader.proofs.Terms.{LeadPlace, Led, Span, Wire, LBracket, RBracket, Colon, Lexeme, Word, Name, Number, Mark, Direction, Plain, Wired, direction_phrase, Lead, Gives, Wires, lead_phrase, Range, Spec, Group, Item, Head, width, IsTooLarge, MOST_VECTOR_BITS, Breaks, LeadPart, led, bracketed, firsted, coloned, lasted, ranged, leading, naming, lead_place, direction_place, word_place, Partial, heading, inside, declaring, spelled, LeadTakes, IsLed, IsSaid, IsSpanOf, IsValue, takes_name, direction_output, lead_output}
 use Rattle.ncl_reader.specs.declared.place.LeadPlace.TheVariants as lead
-use Rattle.ncl_reader.specs.declared.lead.Lead.{Lead as Led}
-use Rattle.ncl_reader.specs.declared.span.Span.{Span}
-use Rattle.ncl_reader.specs.declared.keyword.Keyword.TheVariants.{Wire}
-use Rattle.ncl_reader.specs.declared.lexeme.Sign.TheVariants.{LBracket, RBracket, Colon}
-use Rattle.ncl_reader.specs.Lexemes.{Lexeme, Word, Name, Number, Mark}
-use Rattle.ncl_reader.specs.Grammar.{Direction, Plain, Wired, direction_phrase, Lead, Gives, Wires, lead_phrase, Range, Spec, Group, Item, Head}
-use Rattle.ncl_reader.specs.Vectors.{width, IsTooLarge, MOST_VECTOR_BITS}
-use Rattle.ncl_reader.specs.Rules.{Breaks}
-use Rattle.ncl_reader.specs.Partial.{LeadPart, led, bracketed, firsted, coloned, lasted, ranged, leading, naming, lead_place, direction_place, word_place, Partial, heading, inside, declaring, spelled}
-use Rattle.ncl_reader.specs.Lead.{LeadTakes, IsLed, IsSaid, IsSpanOf, IsValue, takes_name, direction_output, lead_output}
 use Rattle.ncl_reader.proofs.Steps.{step, or_else, lead_step, direction_more, lead_more}
 use Rattle.ncl_reader.proofs.Grows.{grows}
 use Rattle.ncl_reader.proofs.Breaking.{breaks-taken, breaks-untaken}

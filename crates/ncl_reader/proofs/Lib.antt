@@ -1,3 +1,5 @@
+pub mod Kit
+pub mod Terms
 pub mod Steps
 mod Runs
 mod Grows

@@ -1,7 +1,5 @@
 -- Names that a loop has looked at.
-use Rattle.std.proofs.Common.{◌≡◌, ℕ, zero, suc, ◌+◌, ◌<◌, ◌≤◌, length, arith, List, [], ◌∷◌, ◌++◌, map, take, get_or, sym, ap, ◌∙◌, Contains, subst, inl, inr, ◌⊎◌}
-use Rattle.std.proofs.lemmas.List.{take_more, map_push, take_all, get_or-map, length-map}
-use Rattle.std.proofs.lemmas.List.Elements.{Contains-append_cases}
+use Rattle.ncl_reader.proofs.Kit.{◌≡◌, ℕ, zero, suc, ◌+◌, ◌<◌, ◌≤◌, length, arith, List, [], ◌∷◌, ◌++◌, map, take, get_or, sym, ap, ◌∙◌, Contains, subst, inl, inr, ◌⊎◌, take_more, map_push, take_all, get_or-map, length-map, Contains-append_cases}
 
 -- the one element of a list
 pub single : {X : Type 0} (y x : X) → Contains (y ∷ []) x → y ≡ x

@@ -1,13 +1,7 @@
 -- The steps of the loop over tokens, and what is kept of what was read.
-use Rattle.std.proofs.Common.{◌≡◌, ℕ, ◌<◌, length, arith, List, [], ◌∷◌, ◌++◌, refl, ap, ◌∙◌}
-use Rattle.ncl_netlist.specs.declared.parts.Parts.{Parts}
-use Rattle.ncl_reader.specs.declared.place.Place.{Place}
+use Rattle.ncl_reader.proofs.Kit.{◌≡◌, ℕ, ◌<◌, length, arith, List, [], ◌∷◌, ◌++◌, refl, ap, ◌∙◌}
+use Rattle.ncl_reader.proofs.Terms.{Parts, Place, Draft, End, Placed, ReadsTokens, Partial, listing, place_of, HoldsAt, Takes, SaysAt}
 use Rattle.ncl_reader.specs.declared.place.Place.TheVariants as place
-use Rattle.ncl_reader.specs.declared.draft.Draft.{Draft}
-use Rattle.ncl_reader.specs.Lexemes.{End, Placed}
-use Rattle.ncl_reader.specs.Reads.{ReadsTokens}
-use Rattle.ncl_reader.specs.Partial.{Partial, listing, place_of}
-use Rattle.ncl_reader.specs.Draft.{HoldsAt, Takes, SaysAt}
 use Rattle.ncl_reader.proofs.Standing.{Stands, stands-more, stands-whole}
 
 -- the tokens before are read, and the draft has what they say

@@ -1,27 +1,7 @@
 -- The loop over tokens, and what is left of them.
-use Rattle.std.proofs.Common.{◌≡◌, ℕ, ◌+◌, ◌≤◌, arith, List, [], ◌∷◌, ◌++◌, map, drop, length, refl, sym, ap, ◌∙◌, subst, append_assoc, Option, Some, None, Ok, Err, Result, slice_range}
-use Rattle.std.proofs.lemmas.List.{length-append, length-map}
-use Rattle.ncl_netlist.specs.declared.parts.Parts.{Parts}
-use Rattle.ncl_token.specs.declared.token.Token.{Token}
-use Rattle.ncl_token.specs.Spaces.{IsSpace}
-use Rattle.ncl_token.specs.Tokens.{AreTokens, TokensOf, IsNextToken, IsBadByte, Stop, End as at_end, Bad as at_bad, at_end as none_left, at_bad_byte}
-use Rattle.ncl_token.specs.Reading.{TokensData, IsAnswer, place_after, name_of}
-use Rattle.ncl_token.proofs.OneList.{list_once}
-use Rattle.ncl_token.proofs.Left.{next_left, tokens_few}
-use Rattle.ncl_reader.specs.declared.place.Place.{Place}
+use Rattle.ncl_reader.proofs.Kit.{◌≡◌, ℕ, ◌+◌, ◌≤◌, arith, List, [], ◌∷◌, ◌++◌, map, drop, length, refl, sym, ap, ◌∙◌, subst, append_assoc, Option, Some, None, Ok, Err, Result, slice_range, length-append, length-map}
+use Rattle.ncl_reader.proofs.Terms.{Parts, Token, IsSpace, AreTokens, TokensOf, IsNextToken, IsBadByte, Stop, at_end, at_bad, none_left, at_bad_byte, TokensData, IsAnswer, place_after, name_of, list_once, next_left, tokens_few, Place, NetFault, Syntax, Memory, TokenFault, BadByte, Draft, Breaks, Lexeme, Placed, lexeme_of, IsFaultAt, placed_of, stop_of, placed_in, IsLexed, Reads, IsRefused, IsReadFault, Partial, spelled, start, place_of, HoldsAt, Takes, SaysAt}
 use Rattle.ncl_reader.specs.declared.place.Place.TheVariants as place
-use Rattle.ncl_reader.specs.declared.net_fault.NetFault.{NetFault}
-use Rattle.ncl_reader.specs.declared.net_fault.NetFault.TheVariants.{Syntax, Memory}
-use Rattle.ncl_token.specs.declared.token.TokenFault.{TokenFault}
-use Rattle.ncl_token.specs.declared.token.TokenFault.TheVariants.{BadByte}
-use Rattle.ncl_reader.specs.declared.draft.Draft.{Draft}
-use Rattle.ncl_reader.specs.Rules.{Breaks}
-use Rattle.ncl_reader.specs.Lexemes.{Lexeme, Placed}
-use Rattle.ncl_reader.specs.Words.{lexeme_of}
-use Rattle.ncl_reader.specs.Refusals.{IsFaultAt}
-use Rattle.ncl_reader.specs.Reads.{placed_of, stop_of, placed_in, IsLexed, Reads, IsRefused, IsReadFault}
-use Rattle.ncl_reader.specs.Partial.{Partial, spelled, start, place_of}
-use Rattle.ncl_reader.specs.Draft.{HoldsAt, Takes, SaysAt}
 use Rattle.ncl_reader.proofs.Standing.{stands-first, stands-broken, stands-bad, stands-short}
 use Rattle.ncl_reader.proofs.Loop.{Holds, holds-more, holds-whole}
 

@@ -1,17 +1,6 @@
 -- Which rules a name can break, by what stands before it.
-use Rattle.std.proofs.Common.{[], ◌≡◌, ℕ, List, ◌∷◌, ◌++◌, Bool, true, false, Option, Some, None, inl, inr, sym, ap, ◌∙◌, subst, Contains}
-use Rattle.std.proofs.lemmas.Bool.{false≢true}
-use Rattle.ncl_gates.specs.declared.cell_kind.CellKind.{CellKind}
-use Rattle.ncl_gates.specs.Name.{cell_name_of}
-use Rattle.ncl_gates.specs.Cell.{pins_of}
-use Rattle.ncl_gates.proofs.NameLaws.{cell_name_of-distinct}
-use Rattle.ncl_reader.specs.Lexemes.{Lexeme, Name}
-use Rattle.ncl_reader.specs.Grammar.{Gives, Range, Conn, Item, Head}
-use Rattle.ncl_reader.specs.Forms.{IsDeclaring, IsAtNet}
-use Rattle.ncl_reader.specs.Rules.{Clashes, Crowds, BreaksRule}
-use Rattle.ncl_reader.specs.Instance.{MayJoin, pins_in}
-use Rattle.ncl_reader.specs.Next.{MayStand}
-use Rattle.ncl_reader.specs.Partial.{Partial, inside, dotted, opened, joined, spelled}
+use Rattle.ncl_reader.proofs.Kit.{[], ◌≡◌, ℕ, List, ◌∷◌, ◌++◌, Bool, true, false, Option, Some, None, inl, inr, sym, ap, ◌∙◌, subst, Contains, false≢true}
+use Rattle.ncl_reader.proofs.Terms.{CellKind, cell_name_of, pins_of, cell_name_of-distinct, Lexeme, Name, Gives, Range, Conn, Item, Head, IsDeclaring, IsAtNet, Clashes, Crowds, BreaksRule, MayJoin, pins_in, MayStand, Partial, inside, dotted, opened, joined, spelled}
 use Rattle.ncl_reader.proofs.Viable.{same_tree}
 use Rattle.ncl_reader.proofs.Declares.{range_here, declaring-here}
 use Rattle.ncl_reader.proofs.RulesAt.{NameAt, ClosesAt, BreaksAt, breaks-here}

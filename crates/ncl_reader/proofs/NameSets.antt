@@ -1,12 +1,6 @@
 -- Sets of names, with a name more.
-use Rattle.std.proofs.Common.{◌≡◌, ℕ, Bool, true, false, ◌||◌, cond, List, [], ◌∷◌, ◌++◌, map, Bor, Option, Some, None, refl, sym, ap, ◌∙◌}
-use Rattle.std.specs.Prelude.{is_some}
-use Rattle.std.specs.List.{list_any}
-use Rattle.std.specs.Str.{bytes_eq}
-use Rattle.std.proofs.lemmas.List.Folds.{list_any-append}
+use Rattle.ncl_reader.proofs.Kit.{◌≡◌, ℕ, Bool, true, false, ◌||◌, cond, List, [], ◌∷◌, ◌++◌, map, Bor, Option, Some, None, refl, sym, ap, ◌∙◌, is_some, list_any, bytes_eq, list_any-append, or-false, map_push}
 use Rattle.ncl_reader.proofs.Among.{bytes_eq-comm}
-use Rattle.std.proofs.Math.Bool.{or-false}
-use Rattle.std.proofs.lemmas.List.{map_push}
 
 -- a name is among names with one more
 pub waits-more : (x : List ℕ) (names : List (Bor (List ℕ))) (n : Bor (List ℕ)) → list_any (bytes_eq x) (map (λ y. y.now) (names ++ n ∷ [])) ≡ (list_any (bytes_eq x) (map (λ y. y.now) names) || bytes_eq n.now x)

@@ -1,25 +1,6 @@
 -- Steps in an instance and in the net of a connection.
-use Rattle.std.proofs.Common.{[], ◌≡◌, ◌≢◌, ℕ, List, ◌∷◌, ◌++◌, true, false, Option, None, Some, inl, inr, refl, sym, ap, ◌∙◌, subst}
-use Rattle.std.specs.Prelude.{MatchOption}
-use Rattle.std.specs.List.{flat_map}
-use Rattle.std.specs.Option.{is_some}
-use Rattle.std.specs.Str.Parse.{digits_value}
-use Rattle.std.proofs.lemmas.Bool.{false≢true}
-use Rattle.std.proofs.lemmas.List.{append-nil, flat_map_more}
-use Rattle.std.proofs.lemmas.Option.{same_Some}
-use Rattle.ncl_netlist.specs.declared.parts.PartCell.{PartCell}
-use Rattle.ncl_reader.specs.declared.span.Span.{Span}
-use Rattle.ncl_reader.specs.declared.lexeme.Sign.TheVariants.{LBracket}
-use Rattle.ncl_reader.specs.declared.draft.Draft.{Draft}
-use Rattle.ncl_reader.specs.declared.known.Known.{Known}
-use Rattle.ncl_reader.specs.Lexemes.{Lexeme, Name, Number, Mark}
-use Rattle.ncl_reader.specs.Grammar.{Range, Row, Conn, Head, Item, Joins, groups_of, header_of}
-use Rattle.ncl_reader.specs.Vectors.{span_of, bit_name, Covers, IsTooLarge, IsVector}
-use Rattle.ncl_reader.specs.Says.{Joined, joined_in, said_by, said_in, said_in_header, AreCellsOf, IsCellOf}
-use Rattle.ncl_reader.specs.Instance.{joint_in, picked_name}
-use Rattle.ncl_reader.specs.Known.{KeepsNames}
-use Rattle.ncl_reader.specs.Partial.{inside, netted, indexing, spelled}
-use Rattle.ncl_reader.specs.Draft.{is_ansi, IsRead, IsBody, IsBodyAnd}
+use Rattle.ncl_reader.proofs.Kit.{[], ◌≡◌, ◌≢◌, ℕ, List, ◌∷◌, ◌++◌, true, false, Option, None, Some, inl, inr, refl, sym, ap, ◌∙◌, subst, MatchOption, flat_map, is_some, digits_value, false≢true, append-nil, flat_map_more, same_Some}
+use Rattle.ncl_reader.proofs.Terms.{PartCell, Span, LBracket, Draft, Known, Lexeme, Name, Number, Mark, Range, Row, Conn, Head, Item, Joins, groups_of, header_of, span_of, bit_name, Covers, IsTooLarge, IsVector, Joined, joined_in, said_by, said_in, said_in_header, AreCellsOf, IsCellOf, joint_in, picked_name, KeepsNames, inside, netted, indexing, spelled, is_ansi, IsRead, IsBody, IsBodyAnd}
 use Rattle.ncl_reader.proofs.Grows.{grows}
 use Rattle.ncl_reader.proofs.RulesAt.{BreaksAt}
 use Rattle.ncl_reader.proofs.Said.{declared-old}

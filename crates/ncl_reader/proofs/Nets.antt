@@ -1,15 +1,6 @@
 -- Nets on pins.
-use Rattle.std.proofs.Common.{◌≡◌, ℕ, zero, suc, ◌+◌, ◌<◌, length, arith, List, [], ◌∷◌, ◌++◌, Bool, true, false, map, take, get_or, Option, Some, None, refl, sym, ap, ◌∙◌, Contains, drop, drop-cons, subst, Bor}
-use Rattle.std.specs.List.{find}
-use Rattle.std.specs.Option.{option_map}
-use Rattle.std.specs.Str.{bytes_eq}
-use Rattle.std.proofs.lemmas.Bool.{false≢true}
-use Rattle.std.proofs.lemmas.List.{take_more, map_push, take-append-drop, map-append}
-use Rattle.std.proofs.lemmas.Slice.Eq.{bytes_eq-Decides}
-use Rattle.ncl_reader.specs.declared.instance.Join.{Join}
-use Rattle.ncl_reader.specs.Grammar.{Conn}
-use Rattle.ncl_reader.specs.Says.{net_name, net_on}
-use Rattle.ncl_reader.specs.Instance.{Joint, joint_of, joint_in, AreJoins, picked_name, pins_in}
+use Rattle.ncl_reader.proofs.Kit.{◌≡◌, ℕ, zero, suc, ◌+◌, ◌<◌, length, arith, List, [], ◌∷◌, ◌++◌, Bool, true, false, map, take, get_or, Option, Some, None, refl, sym, ap, ◌∙◌, Contains, drop, drop-cons, subst, Bor, find, option_map, bytes_eq, false≢true, take_more, map_push, take-append-drop, map-append, bytes_eq-Decides}
+use Rattle.ncl_reader.proofs.Terms.{Join, Conn, net_name, net_on, Joint, joint_of, joint_in, AreJoins, picked_name, pins_in}
 use Rattle.ncl_reader.proofs.Looked.{among-item}
 
 -- the net on a pin, by what is kept

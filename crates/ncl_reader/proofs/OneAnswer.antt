@@ -1,12 +1,6 @@
 -- A text has one answer.
-use Rattle.std.proofs.Common.{◌≡◌, ℕ, List, ◌∷◌, sym, ap, ◌∙◌, subst}
-use Rattle.std.proofs.lemmas.List.{map-append}
-use Rattle.ncl_token.proofs.OneList.{list_once}
-use Rattle.ncl_netlist.specs.declared.parts.Parts.{Parts}
-use Rattle.ncl_reader.specs.declared.net_fault.NetFault.{NetFault}
-use Rattle.ncl_reader.specs.Lexemes.{Placed, lexemes}
-use Rattle.ncl_reader.specs.Refusals.{IsRefusedAt}
-use Rattle.ncl_reader.specs.Reads.{ReadsTokens, IsLexed, Reads, IsRefused, placed_in}
+use Rattle.ncl_reader.proofs.Kit.{◌≡◌, ℕ, List, ◌∷◌, sym, ap, ◌∙◌, subst, map-append}
+use Rattle.ncl_reader.proofs.Terms.{list_once, Parts, NetFault, Placed, lexemes, IsRefusedAt, ReadsTokens, IsLexed, Reads, IsRefused, placed_in}
 use Rattle.ncl_reader.proofs.Faults.{one_fault}
 use Rattle.ncl_reader.proofs.OneParts.{one_parts}
 

@@ -1,15 +1,6 @@
 -- A text says one list of parts.
-use Rattle.std.proofs.Common.{◌≡◌, List, [], ◌∷◌, map, refl, sym, ap, ◌∙◌, subst, unwrap_or}
-use Rattle.ncl_gates.specs.Cell.{pins_of}
-use Rattle.std.specs.List.{flat_map}
-use Rattle.ncl_gates.proofs.NameLaws.{cell_name_of-distinct}
-use Rattle.ncl_netlist.specs.declared.parts.PartCell.{PartCell}
-use Rattle.ncl_netlist.specs.declared.parts.Parts.{Parts}
-use Rattle.ncl_reader.specs.Grammar.{Text, Head, Item}
-use Rattle.ncl_reader.specs.Lexemes.{Placed}
-use Rattle.ncl_reader.specs.Says.{Joined, joined_in, IsCellOf, AreCellsOf, Says, net_on}
-use Rattle.ncl_reader.specs.Reads.{ReadsTokens}
-use Rattle.ncl_reader.specs.Partial.{done}
+use Rattle.ncl_reader.proofs.Kit.{◌≡◌, List, [], ◌∷◌, map, refl, sym, ap, ◌∙◌, subst, unwrap_or, flat_map}
+use Rattle.ncl_reader.proofs.Terms.{pins_of, cell_name_of-distinct, PartCell, Parts, Text, Head, Item, Placed, Joined, joined_in, IsCellOf, AreCellsOf, Says, net_on, ReadsTokens, done}
 use Rattle.ncl_reader.proofs.Viable.{same_tree}
 
 one_cell : (j : Joined) (c d : PartCell) → IsCellOf j c → IsCellOf j d → c ≡ d

@@ -1,12 +1,6 @@
 -- What holds of the cells that a text says.
-use Rattle.std.proofs.Common.{List, [], ◌∷◌, length, ap, ◌∙◌}
-use Rattle.std.specs.Prelude.{All}
-use Rattle.std.proofs.lemmas.List.{length-map}
-use Rattle.std.proofs.lemmas.List.Elements.{All-nil, All-cons}
-use Rattle.ncl_gates.specs.Cell.{pins_of}
-use Rattle.ncl_netlist.specs.declared.parts.PartCell.{PartCell}
-use Rattle.ncl_netlist.specs.Parts.{HasAllPins}
-use Rattle.ncl_reader.specs.Says.{Joined, AreCellsOf}
+use Rattle.ncl_reader.proofs.Kit.{List, [], ◌∷◌, length, ap, ◌∙◌, All, length-map, All-nil, All-cons}
+use Rattle.ncl_reader.proofs.Terms.{pins_of, PartCell, HasAllPins, Joined, AreCellsOf}
 
 -- a cell has a net on each pin
 pub all_pins : (js : List Joined) (cs : List PartCell) → AreCellsOf js cs → All HasAllPins cs

@@ -1,17 +1,7 @@
 -- What may come next, by the form of what stands before it.
-use Rattle.std.proofs.Common.{◌≡◌, ◌≢◌, ℕ, List, [], ◌∷◌, Option, Some, None, false, inl, inr, ◌⊎◌, refl, sym, ap, ◌∙◌, subst}
-use Rattle.std.proofs.lemmas.Bool.{false≢true}
-use Rattle.ncl_reader.specs.declared.place.Place.{Place}
+use Rattle.ncl_reader.proofs.Kit.{◌≡◌, ◌≢◌, ℕ, List, [], ◌∷◌, Option, Some, None, false, inl, inr, ◌⊎◌, refl, sym, ap, ◌∙◌, subst, false≢true}
+use Rattle.ncl_reader.proofs.Terms.{Place, LeadPlace, Syntax, Unsupported, Lexeme, Name, Direction, Plain, Wired, Lead, Gives, Wires, Range, takes_name, LeadPart, led, ranged, lead_place, direction_place, word_place, leading, naming, going, Partial, listing, heading, at_item, inside, declaring, joining, dotted, opened, netted, indexing, joined, spelled, place_of, IsDeclaring, IsAtItem, IsAtConn, IsAtPin, IsAtNet, IsBehindNet, IsAtIndex, IsAtClose, Redeclares, Clashes, Crowds, IsLeftOut, IsFaultAt}
 use Rattle.ncl_reader.specs.declared.place.Place.TheVariants as place
-use Rattle.ncl_reader.specs.declared.place.LeadPlace.{LeadPlace}
-use Rattle.ncl_reader.specs.declared.net_fault.NetFault.TheVariants.{Syntax, Unsupported}
-use Rattle.ncl_reader.specs.Lexemes.{Lexeme, Name}
-use Rattle.ncl_reader.specs.Grammar.{Direction, Plain, Wired, Lead, Gives, Wires, Range}
-use Rattle.ncl_reader.specs.Lead.{takes_name}
-use Rattle.ncl_reader.specs.Partial.{LeadPart, led, ranged, lead_place, direction_place, word_place, leading, naming, going, Partial, listing, heading, at_item, inside, declaring, joining, dotted, opened, netted, indexing, joined, spelled, place_of}
-use Rattle.ncl_reader.specs.Forms.{IsDeclaring, IsAtItem, IsAtConn, IsAtPin, IsAtNet, IsBehindNet, IsAtIndex, IsAtClose}
-use Rattle.ncl_reader.specs.Rules.{Redeclares, Clashes, Crowds}
-use Rattle.ncl_reader.specs.Refusals.{IsLeftOut, IsFaultAt}
 use Rattle.ncl_reader.proofs.Viable.{same_tree}
 use Rattle.ncl_reader.proofs.Declares.{part_range, range_here, declaring_tree, declaring-here}
 

@@ -1,14 +1,6 @@
 -- Where no bracket stands, names break no rule of vectors.
-use Rattle.std.proofs.Common.{◌≡◌, ℕ, List, ◌∷◌, ◌++◌, Option, Some, None, inl, inr, refl, sym, ap, ◌∙◌, subst, append_assoc}
-use Rattle.std.specs.Option.{option_map}
-use Rattle.ncl_reader.specs.declared.keyword.Keyword.TheVariants.{Module}
-use Rattle.ncl_reader.specs.declared.lexeme.Sign.TheVariants.{LBracket, LParen}
-use Rattle.ncl_reader.specs.Lexemes.{Lexeme, Word, Name, Mark}
-use Rattle.ncl_reader.specs.Grammar.{direction_phrase, Gives, lead_phrase, Range, spec_phrase, group_phrase, with_commas, name_phrase, body_phrase}
-use Rattle.ncl_reader.specs.Forms.{IsDeclaring}
-use Rattle.ncl_reader.specs.Vectors.{span_of, IsDeclared, IsVector}
-use Rattle.ncl_reader.specs.Rules.{Redeclares, Clashes, Crowds}
-use Rattle.ncl_reader.specs.Partial.{Partial, spelled}
+use Rattle.ncl_reader.proofs.Kit.{◌≡◌, ℕ, List, ◌∷◌, ◌++◌, Option, Some, None, inl, inr, refl, sym, ap, ◌∙◌, subst, append_assoc, option_map}
+use Rattle.ncl_reader.proofs.Terms.{Module, LBracket, LParen, Lexeme, Word, Name, Mark, direction_phrase, Gives, lead_phrase, Range, spec_phrase, group_phrase, with_commas, name_phrase, body_phrase, IsDeclaring, span_of, IsDeclared, IsVector, Redeclares, Clashes, Crowds, Partial, spelled}
 use Rattle.ncl_reader.proofs.RulesAt.{NameAt, BreaksAt}
 
 -- no bracket stands

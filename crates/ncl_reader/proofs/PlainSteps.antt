@@ -1,24 +1,7 @@
 -- Names that aren't declared, at the places that take them.
-use Rattle.std.proofs.Common.{[], ◌≡◌, ◌≢◌, ℕ, List, ◌∷◌, ◌++◌, Contains, Bool, true, false, not, None, Option, inl, refl, sym, ap, ◌∙◌, subst, arith}
-use Rattle.std.specs.Bool.{Decides}
-use Rattle.std.proofs.lemmas.Bool.{false≢true}
-use Rattle.ncl_gates.specs.declared.cell_kind.CellKind.{CellKind}
-use Rattle.ncl_gates.specs.Name.{cell_name_of}
-use Rattle.ncl_reader.specs.declared.place.Place.{Place}
+use Rattle.ncl_reader.proofs.Kit.{[], ◌≡◌, ◌≢◌, ℕ, List, ◌∷◌, ◌++◌, Contains, Bool, true, false, not, None, Option, inl, refl, sym, ap, ◌∙◌, subst, arith, Decides, false≢true}
+use Rattle.ncl_reader.proofs.Terms.{CellKind, cell_name_of, Place, Draft, Known, word_of, RParen, Lexeme, Word, Name, Mark, Conn, Head, Item, Range, IsDeclaring, IsAtNet, KeepsNames, BreaksRule, Clashes, MayJoin, Partial, begun, listing, inside, celled, dotted, spelled, HoldsAt, HoldsBy, TakesOrBreaks, IsListed, cell_in, name_in, takes_plain, takes_name_alone, MayStand}
 use Rattle.ncl_reader.specs.declared.place.Place.TheVariants as place
-use Rattle.ncl_reader.specs.declared.draft.Draft.{Draft}
-use Rattle.ncl_reader.specs.declared.known.Known.{Known}
-use Rattle.ncl_reader.specs.declared.keyword.Keyword.TheVariants.{Way as word_of}
-use Rattle.ncl_reader.specs.declared.lexeme.Sign.TheVariants.{RParen}
-use Rattle.ncl_reader.specs.Lexemes.{Lexeme, Word, Name, Mark}
-use Rattle.ncl_reader.specs.Grammar.{Conn, Head, Item, Range}
-use Rattle.ncl_reader.specs.Forms.{IsDeclaring, IsAtNet}
-use Rattle.ncl_reader.specs.Known.{KeepsNames}
-use Rattle.ncl_reader.specs.Rules.{BreaksRule, Clashes}
-use Rattle.ncl_reader.specs.Instance.{MayJoin}
-use Rattle.ncl_reader.specs.Partial.{Partial, begun, listing, inside, celled, dotted, spelled}
-use Rattle.ncl_reader.specs.Draft.{HoldsAt, HoldsBy, TakesOrBreaks, IsListed, cell_in, name_in}
-use Rattle.ncl_reader.specs.Next.{takes_plain, takes_name_alone, MayStand}
 use Rattle.ncl_reader.proofs.Steps.{step}
 use Rattle.ncl_reader.proofs.Declares.{range_here}
 use Rattle.ncl_reader.proofs.RulesAt.{NameAt, breaks-back}

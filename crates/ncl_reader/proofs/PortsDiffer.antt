@@ -1,23 +1,6 @@
 -- The ports of a header differ.
-use Rattle.std.proofs.Common.{◌≡◌, ℕ, zero, suc, ◌+◌, ◌-◌, ◌<◌, ◌≤◌, arith, List, [], ◌∷◌, ◌++◌, length, map, get_or, Bool, false, Option, Some, None, inl, inr, ◌⊎◌, refl, sym, ap, ◌∙◌, subst, Contains}
-use Rattle.std.specs.List.{flat_map}
-use Rattle.std.specs.Str.{bytes_eq}
-use Rattle.std.proofs.lemmas.Bool.{false≢true, cases_lt}
-use Rattle.std.proofs.lemmas.List.{map-append, get_or-map, length-map}
-use Rattle.std.proofs.lemmas.Map.Keys.{IsDistinct-tail, IsDistinct-cons, IsDistinct-from_apart, apart_from_distinct}
-use Rattle.std.proofs.lemmas.Slice.Eq.{bytes_eq-Decides}
-use Rattle.ncl_base.proofs.Joined.{member_of_flat_map}
-use Rattle.ncl_base.proofs.Members.{Member, here, there, Member-append_cases, member_of_map, Contains-from_Member, recursion_from_members}
-use Rattle.ncl_netlist.specs.Names.{AllDiffer}
-use Rattle.ncl_netlist.specs.declared.port.Port.{Port}
-use Rattle.ncl_reader.specs.declared.span.Span.{Span}
-use Rattle.ncl_reader.specs.declared.ranges.Ranges.{Ranges}
-use Rattle.ncl_reader.specs.Lexemes.{Lexeme}
-use Rattle.ncl_reader.specs.Grammar.{Range}
-use Rattle.ncl_reader.specs.Vectors.{span_of, width, Covers, bit_name, numbers_of, Stands, IsDeclared, IsVector, IsClear}
-use Rattle.ncl_reader.specs.Ranges.{IsRanges}
-use Rattle.ncl_reader.specs.Says.{Said, bits_of, ports_of}
-use Rattle.ncl_reader.specs.Header.{said_at, AreDeclared, ports_at}
+use Rattle.ncl_reader.proofs.Kit.{◌≡◌, ℕ, zero, suc, ◌+◌, ◌-◌, ◌<◌, ◌≤◌, arith, List, [], ◌∷◌, ◌++◌, length, map, get_or, Bool, false, Option, Some, None, inl, inr, ◌⊎◌, refl, sym, ap, ◌∙◌, subst, Contains, flat_map, bytes_eq, false≢true, cases_lt, map-append, get_or-map, length-map, IsDistinct-tail, IsDistinct-cons, IsDistinct-from_apart, apart_from_distinct, bytes_eq-Decides}
+use Rattle.ncl_reader.proofs.Terms.{member_of_flat_map, Member, here, there, Member-append_cases, member_of_map, Contains-from_Member, recursion_from_members, AllDiffer, Port, Span, Ranges, Lexeme, Range, span_of, width, Covers, bit_name, numbers_of, Stands, IsDeclared, IsVector, IsClear, IsRanges, Said, bits_of, ports_of, said_at, AreDeclared, ports_at}
 use Rattle.ncl_reader.proofs.Bits.{bit_name-injective, length-numbers_of, number-rises, number-falls}
 use Rattle.ncl_reader.proofs.BitsDeclared.{few_bit}
 use Rattle.ncl_reader.proofs.Ways.{differ_none, differ_more, not_any, some-said}

@@ -1,17 +1,6 @@
 -- The ports of a header are few.
-use Rattle.std.proofs.Common.{◌≡◌, ℕ, ◌+◌, ◌≤◌, arith, List, [], ◌∷◌, length, Bool, true, false, Option, Some, None, refl, sym, ap, ◌∙◌}
-use Rattle.std.specs.List.{flat_map}
-use Rattle.std.specs.Str.{bytes_eq}
-use Rattle.std.proofs.lemmas.List.{length-append, length-map}
-use Rattle.std.proofs.lemmas.List.Sums.{sum_by-cons}
-use Rattle.std.proofs.lemmas.Map.Keys.{IsDistinct-tail}
-use Rattle.std.proofs.lemmas.Slice.Eq.{bytes_eq-Decides}
-use Rattle.ncl_base.proofs.Members.{Member, here, there}
-use Rattle.ncl_netlist.specs.Names.{AllDiffer}
-use Rattle.ncl_reader.specs.Grammar.{Range}
-use Rattle.ncl_reader.specs.Vectors.{span_of, range_width, bit_name, numbers_of}
-use Rattle.ncl_reader.specs.Says.{Said, bits_of, ports_of}
-use Rattle.ncl_reader.specs.Header.{said_at, bits_said, ports_at}
+use Rattle.ncl_reader.proofs.Kit.{◌≡◌, ℕ, ◌+◌, ◌≤◌, arith, List, [], ◌∷◌, length, Bool, true, false, Option, Some, None, refl, sym, ap, ◌∙◌, flat_map, bytes_eq, length-append, length-map, sum_by-cons, IsDistinct-tail, bytes_eq-Decides}
+use Rattle.ncl_reader.proofs.Terms.{Member, here, there, AllDiffer, Range, span_of, range_width, bit_name, numbers_of, Said, bits_of, ports_of, said_at, bits_said, ports_at}
 use Rattle.ncl_reader.proofs.Bits.{length-numbers_of}
 use Rattle.ncl_reader.proofs.Ways.{said-here, said-there}
 use Rattle.ncl_reader.proofs.PortsDiffer.{differ_member}

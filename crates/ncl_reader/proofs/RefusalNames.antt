@@ -1,20 +1,6 @@
 -- Names that make the bits of ports too many, and what a refusal asks of tokens.
-use Rattle.std.proofs.Common.{◌≡◌, ◌≢◌, ℕ, List, Bool, Option, Some, None, inr, refl, sym, subst}
-use Rattle.std.specs.Bool.{Decides}
-use Rattle.std.specs.Option.{option_map}
-use Rattle.std.proofs.lemmas.Option.{same_Some}
-use Rattle.ncl_reader.specs.declared.span.Span.{Span}
-use Rattle.ncl_reader.specs.declared.lexeme.Sign.{Sign}
-use Rattle.ncl_reader.specs.declared.lexeme.Sign.TheVariants.{LParen, RParen, Comma, Semi, Dot, LBracket, RBracket, Colon, Other}
-use Rattle.ncl_reader.specs.declared.keyword.Keyword.{Keyword}
-use Rattle.ncl_reader.specs.declared.keyword.Keyword.TheVariants.{Module, EndModule, Wire, LeftOut, Way as word_of}
-use Rattle.ncl_reader.specs.declared.net_fault.NetFault.TheVariants.{Syntax, Unsupported}
-use Rattle.ncl_reader.specs.Lexemes.{Lexeme, Mark, Word}
-use Rattle.ncl_reader.specs.Grammar.{Range}
-use Rattle.ncl_reader.specs.Forms.{IsDeclaring}
-use Rattle.ncl_reader.specs.Vectors.{span_of}
-use Rattle.ncl_reader.specs.Rules.{Crowds}
-use Rattle.ncl_reader.specs.Refusals.{IsFaultAt}
+use Rattle.ncl_reader.proofs.Kit.{◌≡◌, ◌≢◌, ℕ, List, Bool, Option, Some, None, inr, refl, sym, subst, Decides, option_map, same_Some}
+use Rattle.ncl_reader.proofs.Terms.{Span, Sign, LParen, RParen, Comma, Semi, Dot, LBracket, RBracket, Colon, Other, Keyword, Module, EndModule, Wire, LeftOut, word_of, Syntax, Unsupported, Lexeme, Mark, Word, Range, IsDeclaring, span_of, Crowds, IsFaultAt}
 
 -- the range that has these numbers
 pub range_of : (range : Option Range) (span : Span) → option_map span_of range ≡ Some span → (r : Range) × (range ≡ Some r) × (span_of r ≡ span)

@@ -1,32 +1,12 @@
 -- It is decided whether a token breaks a rule.
-use Rattle.std.proofs.Common.{[], ◌≡◌, ◌≢◌, ℕ, ◌<◌, length, List, ◌∷◌, ◌++◌, Option, Some, None, inl, inr, refl, sym, ap, ◌∙◌, subst, Contains, arith}
-use Rattle.std.specs.Option.{option_map}
-use Rattle.std.specs.List.{flat_map}
-use Rattle.std.specs.Str.Parse.{digits_value}
-use Rattle.std.proofs.lemmas.Bool.{cases_lt}
-use Rattle.std.proofs.lemmas.Option.{same_Some}
-use Rattle.std.proofs.lemmas.List.Elements.{Contains-append_right, Contains-append_cases}
-use Rattle.ncl_gates.specs.declared.cell_kind.CellKind.{CellKind}
-use Rattle.ncl_gates.specs.Name.{cell_name_of}
-use Rattle.ncl_gates.specs.Cell.{pins_of}
-use Rattle.ncl_gates.proofs.NameLaws.{cell_or_none, cell_name_of-distinct}
-use Rattle.ncl_reader.specs.declared.keyword.Keyword.TheVariants.{EndModule, Way as word_of}
-use Rattle.ncl_reader.specs.declared.lexeme.Sign.TheVariants.{RParen, LBracket}
-use Rattle.ncl_reader.specs.Lexemes.{Lexeme, Word, Name, Number, Mark}
-use Rattle.ncl_reader.specs.Grammar.{Row, Direction, Lead, Gives, Wires, Range, Group, group_names, Listing, Empty, Names, Ansi, header_of}
-use Rattle.ncl_reader.specs.Forms.{IsDeclaring, IsAtNet}
-use Rattle.ncl_reader.specs.Vectors.{span_of, Covers, bit_name, MOST_VECTOR_BITS, MOST_PORT_BITS, Stands, IsDeclared, IsVector}
-use Rattle.ncl_reader.specs.Rules.{directed_by, IsOutside, Redeclares, Clashes, Crowds, BreaksRule}
-use Rattle.ncl_reader.specs.Instance.{pins_in}
-use Rattle.ncl_reader.specs.Partial.{LeadPart, coloned, leading, Partial, listing, heading, at_item, inside, declaring, dotted, netted, indexing, opened, joined, spelled}
+use Rattle.ncl_reader.proofs.Kit.{[], ◌≡◌, ◌≢◌, ℕ, ◌<◌, length, List, ◌∷◌, ◌++◌, Option, Some, None, inl, inr, refl, sym, ap, ◌∙◌, subst, Contains, arith, option_map, flat_map, digits_value, cases_lt, same_Some, Contains-append_right, Contains-append_cases}
+use Rattle.ncl_reader.proofs.Terms.{CellKind, cell_name_of, pins_of, cell_or_none, cell_name_of-distinct, EndModule, word_of, RParen, LBracket, Lexeme, Word, Name, Number, Mark, Row, Direction, Lead, Gives, Wires, Range, Group, group_names, Listing, Empty, Names, Ansi, header_of, IsDeclaring, IsAtNet, span_of, Covers, bit_name, MOST_VECTOR_BITS, MOST_PORT_BITS, Stands, IsDeclared, IsVector, directed_by, IsOutside, Redeclares, Clashes, Crowds, BreaksRule, pins_in, LeadPart, coloned, leading, Partial, listing, heading, at_item, inside, declaring, dotted, netted, indexing, opened, joined, spelled, Keyword, Sign}
 use Rattle.ncl_reader.proofs.Among.{among_or_not}
 use Rattle.ncl_reader.proofs.Declares.{Of, part_spec, part_names}
 use Rattle.ncl_reader.proofs.Facts.{Decided, both_decided, either_decided, same_or_not, any-or-not, tree_or_not, declaring_or_not, spans_or_not, covers_or_not, bit_or_not}
 use Rattle.ncl_reader.proofs.Deciding.{net_or_not}
 use Rattle.ncl_reader.proofs.Looked.{single}
 use Rattle.ncl_reader.proofs.RulesAt.{Given, NameAt, CrowdsAt, LongPart, LongAt, OutsideAt, BreaksAt, crowds-here, crowds-back, outside-here, outside-back, breaks-here, breaks-back}
-use Rattle.ncl_reader.specs.declared.keyword.Keyword.{Keyword}
-use Rattle.ncl_reader.specs.declared.lexeme.Sign.{Sign}
 
 -- what isn't
 not_decided : {P : Type 0} → Decided P → Decided (P → ⊥)

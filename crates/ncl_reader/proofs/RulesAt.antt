@@ -1,20 +1,6 @@
 -- The rules by the partial tree in front of a token.
-use Rattle.std.proofs.Common.{[], ◌≡◌, ◌≢◌, ℕ, ◌+◌, ◌*◌, ◌<◌, length, List, ◌∷◌, ◌++◌, Some, map, sum, inl, inr, ◌⊎◌, refl, sym, ap, ◌∙◌, subst, Contains, append_assoc, false}
-use Rattle.std.specs.List.{flat_map}
-use Rattle.std.specs.Str.Parse.{digits_value}
-use Rattle.std.proofs.lemmas.Option.{same_Some}
-use Rattle.ncl_gates.specs.declared.cell_kind.CellKind.{CellKind}
-use Rattle.ncl_gates.specs.Name.{cell_name_of}
-use Rattle.ncl_gates.specs.Cell.{pins_of}
-use Rattle.ncl_reader.specs.declared.keyword.Keyword.TheVariants.{EndModule, Way as word_of}
-use Rattle.ncl_reader.specs.declared.lexeme.Sign.TheVariants.{RParen, LBracket, Colon}
-use Rattle.ncl_reader.specs.Lexemes.{Lexeme, Word, Name, Number, Mark}
-use Rattle.ncl_reader.specs.Grammar.{Row, Direction, direction_phrase, Lead, Gives, Wires, lead_phrase, Range, Spec, Group, group_phrase, group_names, with_commas, Item, Ansi, Head, header_of, body_phrase}
-use Rattle.ncl_reader.specs.Forms.{in_ansi, at_declared}
-use Rattle.ncl_reader.specs.Vectors.{span_of, width, Covers, IsTooLarge, MOST_VECTOR_BITS, MOST_PORT_BITS, IsVector}
-use Rattle.ncl_reader.specs.Rules.{directed_by, group_bits, item_bits, LeavesPort, DirectsLate, HasNoBits, IsTooLong, IsOutside, Redeclares, Clashes, Crowds, BreaksRule}
-use Rattle.ncl_reader.specs.Instance.{MayJoin, pins_in}
-use Rattle.ncl_reader.specs.Partial.{LeadPart, led, coloned, GroupPart, leading, Partial, start, listing, heading, at_item, inside, declaring, dotted, netted, indexing, joined, header_spelled, spelled}
+use Rattle.ncl_reader.proofs.Kit.{[], ◌≡◌, ◌≢◌, ℕ, ◌+◌, ◌*◌, ◌<◌, length, List, ◌∷◌, ◌++◌, Some, map, sum, inl, inr, ◌⊎◌, refl, sym, ap, ◌∙◌, subst, Contains, append_assoc, false, flat_map, digits_value, same_Some}
+use Rattle.ncl_reader.proofs.Terms.{CellKind, cell_name_of, pins_of, EndModule, word_of, RParen, LBracket, Colon, Lexeme, Word, Name, Number, Mark, Row, Direction, direction_phrase, Lead, Gives, Wires, lead_phrase, Range, Spec, Group, group_phrase, group_names, with_commas, Item, Ansi, Head, header_of, body_phrase, in_ansi, at_declared, span_of, width, Covers, IsTooLarge, MOST_VECTOR_BITS, MOST_PORT_BITS, IsVector, directed_by, group_bits, item_bits, LeavesPort, DirectsLate, HasNoBits, IsTooLong, IsOutside, Redeclares, Clashes, Crowds, BreaksRule, MayJoin, pins_in, LeadPart, led, coloned, GroupPart, leading, Partial, start, listing, heading, at_item, inside, declaring, dotted, netted, indexing, joined, header_spelled, spelled}
 use Rattle.ncl_reader.proofs.Steps.{run}
 use Rattle.ncl_reader.proofs.Runs.{run-append, run-spelled}
 use Rattle.ncl_reader.proofs.Viable.{same_tree, front_run}

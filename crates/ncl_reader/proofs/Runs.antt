@@ -1,15 +1,6 @@
 -- A partial tree is what its tokens lead to.
-use Rattle.std.proofs.Common.{[], ◌≡◌, ℕ, List, ◌∷◌, ◌++◌, Option, Some, None, refl, sym, ap, ◌∙◌, append_assoc}
-use Rattle.std.specs.Prelude.{option_and_then}
-use Rattle.std.proofs.lemmas.List.{append-nil}
-use Rattle.std.proofs.lemmas.Option.{same_Some}
-use Rattle.std.specs.List.{flat_map}
-use Rattle.ncl_reader.specs.declared.keyword.Keyword.TheVariants.{EndModule, Wire, Way as word_of}
-use Rattle.ncl_reader.specs.declared.keyword.Way.{Way}
-use Rattle.ncl_reader.specs.declared.lexeme.Sign.TheVariants.{RParen, Semi, Comma}
-use Rattle.ncl_reader.specs.Lexemes.{Lexeme, Word, Name, Mark, End}
-use Rattle.ncl_reader.specs.Grammar.{Row, all_of, Direction, Plain, Wired, direction_phrase, Lead, Gives, Wires, lead_phrase, Range, maybe_phrase, Spec, spec_phrase, Group, group_phrase, Conn, Item, Declares, Joins, Listing, Empty, Names, Ansi, listing_phrase, Head, with_commas, name_phrase, conn_phrase, row_phrase, item_phrase, head_phrase, body_phrase}
-use Rattle.ncl_reader.specs.Partial.{led, bracketed, firsted, coloned, lasted, ranged, GroupPart, leading, naming, going, group_spelled, Partial, start, begun, titled, listing, listed, heading, headed, at_item, inside, ended, done, ItemPart, declaring, celled, named, joining, dotted, pinned, opened, netted, indexing, indexed, picked, joined, closed, spelled, part_spelled}
+use Rattle.ncl_reader.proofs.Kit.{[], ◌≡◌, ℕ, List, ◌∷◌, ◌++◌, Option, Some, None, refl, sym, ap, ◌∙◌, append_assoc, option_and_then, append-nil, same_Some, flat_map}
+use Rattle.ncl_reader.proofs.Terms.{EndModule, Wire, word_of, Way, RParen, Semi, Comma, Lexeme, Word, Name, Mark, End, Row, all_of, Direction, Plain, Wired, direction_phrase, Lead, Gives, Wires, lead_phrase, Range, maybe_phrase, Spec, spec_phrase, Group, group_phrase, Conn, Item, Declares, Joins, Listing, Empty, Names, Ansi, listing_phrase, Head, with_commas, name_phrase, conn_phrase, row_phrase, item_phrase, head_phrase, body_phrase, led, bracketed, firsted, coloned, lasted, ranged, GroupPart, leading, naming, going, group_spelled, Partial, start, begun, titled, listing, listed, heading, headed, at_item, inside, ended, done, ItemPart, declaring, celled, named, joining, dotted, pinned, opened, netted, indexing, indexed, picked, joined, closed, spelled, part_spelled}
 use Rattle.ncl_reader.proofs.Steps.{step, run}
 
 pub run-append : (p q : Partial) (xs ys : List Lexeme) → run p xs ≡ Some q → run p (xs ++ ys) ≡ run q ys

@@ -1,10 +1,6 @@
 -- What one token more says of names.
-use Rattle.std.proofs.Common.{◌≡◌, ℕ, List, [], ◌∷◌, ◌++◌, Option, inl, inr, ◌⊎◌, sym, ap, ◌∙◌, subst, append_assoc}
-use Rattle.ncl_reader.specs.Lexemes.{Lexeme, Name}
-use Rattle.ncl_reader.specs.Grammar.{Range}
-use Rattle.ncl_reader.specs.Forms.{IsDeclaring, IsAtNet}
-use Rattle.ncl_reader.specs.Vectors.{Stands, IsDeclared, IsUsed}
-use Rattle.ncl_base.proofs.Growing.{split_push}
+use Rattle.ncl_reader.proofs.Kit.{◌≡◌, ℕ, List, [], ◌∷◌, ◌++◌, Option, inl, inr, ◌⊎◌, sym, ap, ◌∙◌, subst, append_assoc}
+use Rattle.ncl_reader.proofs.Terms.{Lexeme, Name, Range, IsDeclaring, IsAtNet, Stands, IsDeclared, IsUsed, split_push}
 use Rattle.ncl_reader.proofs.Facts.{declaring_or_not}
 
 -- a name stands behind what is such

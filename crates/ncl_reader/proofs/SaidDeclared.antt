@@ -1,19 +1,6 @@
 -- What is said of a port was declared, and the names of a header stand.
-use Rattle.std.proofs.Common.{[], ◌≡◌, ℕ, ◌+◌, ◌≤◌, arith, List, ◌∷◌, ◌++◌, length, Option, Some, None, inl, inr, refl, sym, ap, ◌∙◌, subst, append_assoc}
-use Rattle.std.specs.Prelude.{Contains}
-use Rattle.std.specs.List.{flat_map}
-use Rattle.std.proofs.lemmas.List.{append-nil, length-append}
-use Rattle.std.proofs.lemmas.Grind.{flat_map-append}
-use Rattle.ncl_base.proofs.Members.{Member, here, there, Member-append_cases, member_of_map, Member-from_Contains}
-use Rattle.ncl_base.proofs.Joined.{member_of_flat_map}
-use Rattle.ncl_reader.specs.declared.keyword.Keyword.TheVariants.{Module, EndModule}
-use Rattle.ncl_reader.specs.declared.lexeme.Sign.TheVariants.{LParen, RParen, Comma, Semi, Dot}
-use Rattle.ncl_reader.specs.Lexemes.{Lexeme, Word, Name, Mark}
-use Rattle.ncl_reader.specs.Grammar.{Row, all_of, with_commas, row_phrase, name_phrase, Direction, direction_phrase, Lead, Gives, Wires, lead_phrase, Range, spec_phrase, Group, group_names, group_phrase, Item, Declares, Joins, item_phrase, Listing, Empty, Names, Ansi, Head, head_phrase, body_phrase, groups_of, names_in, header_of, Conn, conn_phrase, index_phrase}
-use Rattle.ncl_reader.specs.Forms.{in_ansi, at_declared}
-use Rattle.ncl_reader.specs.Vectors.{Stands, IsDeclared}
-use Rattle.ncl_reader.specs.Says.{Said, said_of, said_in_header, said_in, said_by}
-use Rattle.ncl_reader.specs.Header.{AreDeclared}
+use Rattle.ncl_reader.proofs.Kit.{[], ◌≡◌, ℕ, ◌+◌, ◌≤◌, arith, List, ◌∷◌, ◌++◌, length, Option, Some, None, inl, inr, refl, sym, ap, ◌∙◌, subst, append_assoc, Contains, flat_map, append-nil, length-append, flat_map-append}
+use Rattle.ncl_reader.proofs.Terms.{Member, here, there, Member-append_cases, member_of_map, Member-from_Contains, member_of_flat_map, Module, EndModule, LParen, RParen, Comma, Semi, Dot, Lexeme, Word, Name, Mark, Row, all_of, with_commas, row_phrase, name_phrase, Direction, direction_phrase, Lead, Gives, Wires, lead_phrase, Range, spec_phrase, Group, group_names, group_phrase, Item, Declares, Joins, item_phrase, Listing, Empty, Names, Ansi, Head, head_phrase, body_phrase, groups_of, names_in, header_of, Conn, conn_phrase, index_phrase, in_ansi, at_declared, Stands, IsDeclared, Said, said_of, said_in_header, said_in, said_by, AreDeclared}
 
 -- the lexemes up to `endmodule`
 abbrev pub whole : Head → List Item → List Lexeme

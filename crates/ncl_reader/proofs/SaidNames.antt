@@ -1,17 +1,6 @@
 -- Names and bits of what declarations say.
-use Rattle.std.proofs.Common.{◌≡◌, ℕ, ◌+◌, ◌*◌, length, arith, List, [], ◌∷◌, ◌++◌, map, Option, refl, sym, ap, ◌∙◌}
-use Rattle.std.specs.Prelude.{sum, Some, None}
-use Rattle.std.specs.Option.{option_map}
-use Rattle.ncl_reader.specs.declared.span.Span.{Span}
-use Rattle.std.specs.List.{flat_map, sum_by}
-use Rattle.std.proofs.lemmas.List.Sums.{sum_by-append, sum_by-cons, sum-map}
-use Rattle.std.proofs.Math.Nat.{mul-suc}
-use Rattle.std.proofs.lemmas.List.{map-append}
-use Rattle.ncl_reader.specs.Grammar.{Row, all_of, Direction, Lead, Gives, Wires, Range, Group, group_names, Conn, Item, Declares, Joins, Head, groups_of}
-use Rattle.ncl_reader.specs.Vectors.{span_of, range_width}
-use Rattle.ncl_reader.specs.Rules.{directed_in, directed_by, group_bits, item_bits}
-use Rattle.ncl_reader.specs.Says.{Said, is_output, said_of, said_in_header, said_in, said_by}
-use Rattle.ncl_reader.specs.Header.{names_said, bits_said, span_width}
+use Rattle.ncl_reader.proofs.Kit.{◌≡◌, ℕ, ◌+◌, ◌*◌, length, arith, List, [], ◌∷◌, ◌++◌, map, Option, refl, sym, ap, ◌∙◌, sum, Some, None, option_map, flat_map, sum_by, sum_by-append, sum_by-cons, sum-map, mul-suc, map-append}
+use Rattle.ncl_reader.proofs.Terms.{Span, Row, all_of, Direction, Lead, Gives, Wires, Range, Group, group_names, Conn, Item, Declares, Joins, Head, groups_of, span_of, range_width, directed_in, directed_by, group_bits, item_bits, Said, is_output, said_of, said_in_header, said_in, said_by, names_said, bits_said, span_width}
 
 -- of two lists
 pub names-append : (a b : List Said) → names_said (a ++ b) ≡ names_said a ++ names_said b

@@ -1,18 +1,7 @@
 -- Tokens at places where a sign alone says what comes next.
-use Rattle.std.proofs.Common.{[], ◌≡◌, ℕ, ◌<◌, List, ◌∷◌, ◌++◌, length, Option, Some, None, true, refl, arith}
-use Rattle.std.proofs.lemmas.Bool.{false≢true}
-use Rattle.std.proofs.lemmas.List.{length-append}
-use Rattle.ncl_reader.specs.declared.place.Place.{Place}
+use Rattle.ncl_reader.proofs.Kit.{[], ◌≡◌, ℕ, ◌<◌, List, ◌∷◌, ◌++◌, length, Option, Some, None, true, refl, arith, false≢true, length-append}
+use Rattle.ncl_reader.proofs.Terms.{Place, Draft, Sign, LParen, RParen, Comma, Semi, Dot, RBracket, Lexeme, Mark, Row, Head, Names, Ansi, Declares, Joins, KeepsNames, Partial, spelled, listing, headed, heading, going, at_item, inside, declaring, joining, dotted, opened, picked, HoldsAt, HoldsBy, Takes, TakesOrBreaks, cell_in, name_in, takes_sign, after_sign}
 use Rattle.ncl_reader.specs.declared.place.Place.TheVariants as place
-use Rattle.ncl_reader.specs.declared.draft.Draft.{Draft}
-use Rattle.ncl_reader.specs.declared.lexeme.Sign.{Sign}
-use Rattle.ncl_reader.specs.declared.lexeme.Sign.TheVariants.{LParen, RParen, Comma, Semi, Dot, RBracket}
-use Rattle.ncl_reader.specs.Lexemes.{Lexeme, Mark}
-use Rattle.ncl_reader.specs.Grammar.{Row, Head, Names, Ansi, Declares, Joins}
-use Rattle.ncl_reader.specs.Known.{KeepsNames}
-use Rattle.ncl_reader.specs.Partial.{Partial, spelled, listing, headed, heading, going, at_item, inside, declaring, joining, dotted, opened, picked}
-use Rattle.ncl_reader.specs.Draft.{HoldsAt, HoldsBy, Takes, TakesOrBreaks, cell_in, name_in}
-use Rattle.ncl_reader.specs.Next.{takes_sign, after_sign}
 use Rattle.ncl_reader.proofs.Steps.{step}
 use Rattle.ncl_reader.proofs.RulesAt.{BreaksAt}
 use Rattle.ncl_reader.proofs.DraftBody.{header-ends, body-declares}

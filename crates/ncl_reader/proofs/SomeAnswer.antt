@@ -1,24 +1,6 @@
 -- Each text says parts or is refused.
-use Rattle.std.proofs.Common.{◌≡◌, ℕ, List, [], ◌∷◌, ◌++◌, map, length, Option, Some, None, inl, inr, ◌⊎◌, refl, sym, ap, ◌∙◌, subst, append_assoc, unwrap_or}
-use Rattle.std.specs.List.{flat_map}
-use Rattle.std.proofs.lemmas.List.{append-nil, flat_map_more}
-use Rattle.ncl_token.specs.declared.token.Token.{Token}
-use Rattle.ncl_token.specs.Tokens.{Stop, End as at_end, Bad as at_bad}
-use Rattle.ncl_token.proofs.SomeList.{some_list}
-use Rattle.ncl_gates.specs.Cell.{pins_of}
-use Rattle.ncl_gates.proofs.NameLaws.{cell_or_none}
-use Rattle.ncl_netlist.specs.declared.parts.PartCell.{PartCell}
-use Rattle.ncl_netlist.specs.declared.parts.Parts.{Parts}
-use Rattle.ncl_reader.specs.declared.keyword.Keyword.TheVariants.{EndModule}
-use Rattle.ncl_reader.specs.declared.net_fault.NetFault.{NetFault}
-use Rattle.ncl_reader.specs.declared.net_fault.NetFault.TheVariants.{Syntax}
-use Rattle.ncl_reader.specs.Lexemes.{Lexeme, Word, Name, End, Placed, lexemes}
-use Rattle.ncl_reader.specs.Grammar.{Item, Declares, Joins, Head, Text, item_phrase, head_phrase, body_phrase, text_phrase, header_of, all_of}
-use Rattle.ncl_reader.specs.Rules.{Breaks, NoneBreaks}
-use Rattle.ncl_reader.specs.Says.{net_on, ports_said, joined_in, AreCellsOf, Says}
-use Rattle.ncl_reader.specs.Refusals.{IsRefusedAt}
-use Rattle.ncl_reader.specs.Reads.{placed_of, placed_in, IsLexed, Reads, IsRefused}
-use Rattle.ncl_reader.specs.Partial.{Partial, spelled}
+use Rattle.ncl_reader.proofs.Kit.{◌≡◌, ℕ, List, [], ◌∷◌, ◌++◌, map, length, Option, Some, None, inl, inr, ◌⊎◌, refl, sym, ap, ◌∙◌, subst, append_assoc, unwrap_or, flat_map, append-nil, flat_map_more}
+use Rattle.ncl_reader.proofs.Terms.{Token, Stop, at_end, at_bad, some_list, pins_of, cell_or_none, PartCell, Parts, EndModule, NetFault, Syntax, Lexeme, Word, Name, End, Placed, lexemes, Item, Declares, Joins, Head, Text, item_phrase, head_phrase, body_phrase, text_phrase, header_of, all_of, Breaks, NoneBreaks, net_on, ports_said, joined_in, AreCellsOf, Says, IsRefusedAt, placed_of, placed_in, IsLexed, Reads, IsRefused, Partial, spelled}
 use Rattle.ncl_reader.proofs.Steps.{step}
 use Rattle.ncl_reader.proofs.Grows.{grows}
 use Rattle.ncl_reader.proofs.Breaking.{breaks-untaken, breaks-taken}

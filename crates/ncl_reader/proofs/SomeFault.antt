@@ -1,12 +1,6 @@
 -- A token that breaks has a fault.
-use Rattle.std.proofs.Common.{ℕ, inl, inr, refl}
-use Rattle.ncl_reader.specs.declared.keyword.Keyword.TheVariants.{EndModule}
-use Rattle.ncl_reader.specs.declared.lexeme.Sign.TheVariants.{RParen, LBracket, RBracket, Colon, Other}
-use Rattle.ncl_reader.specs.declared.net_fault.NetFault.{NetFault}
-use Rattle.ncl_reader.specs.declared.net_fault.NetFault.TheVariants.{Syntax, UnknownCell, BadPins, Unsupported}
-use Rattle.ncl_reader.specs.Lexemes.{Lexeme, Word, Name, Number, Mark}
-use Rattle.ncl_reader.specs.Refusals.{IsUnknown, HasBadPins, IsMisread, IsLeftOut, IsFaultAt}
-use Rattle.ncl_reader.specs.Partial.{Partial, spelled}
+use Rattle.ncl_reader.proofs.Kit.{ℕ, inl, inr, refl}
+use Rattle.ncl_reader.proofs.Terms.{EndModule, RParen, LBracket, RBracket, Colon, Other, NetFault, Syntax, UnknownCell, BadPins, Unsupported, Lexeme, Word, Name, Number, Mark, IsUnknown, HasBadPins, IsMisread, IsLeftOut, IsFaultAt, Partial, spelled}
 use Rattle.ncl_reader.proofs.Facts.{Decided, either_decided}
 use Rattle.ncl_reader.proofs.Deciding.{item_or_not, conn_or_not, pin_or_not, net_or_not, behind_or_not, index_or_not, close_or_not}
 use Rattle.ncl_reader.proofs.Rules.{redeclares_or_not, clashes_or_not, crowds_or_not, outside_or_not}

@@ -1,14 +1,7 @@
 -- Tokens that are read, none of which breaks.
-use Rattle.std.proofs.Common.{[], ◌≡◌, ℕ, List, ◌∷◌, ◌++◌, None, inl, inr, ◌⊎◌, refl, sym, ap, ◌∙◌, subst}
-use Rattle.std.proofs.lemmas.List.{map-append}
+use Rattle.ncl_reader.proofs.Kit.{[], ◌≡◌, ℕ, List, ◌∷◌, ◌++◌, None, inl, inr, ◌⊎◌, refl, sym, ap, ◌∙◌, subst, map-append}
+use Rattle.ncl_reader.proofs.Terms.{NetFault, Syntax, End, Bad, Placed, lexemes, Head, Item, text_phrase, Breaks, BreaksRule, NoneBreaks, IsFaultAt, IsRefusedAt, led, leading, Partial, start, heading, ended, done, inside, declaring, spelled, place_of}
 use Rattle.ncl_reader.specs.declared.place.Place.TheVariants as place
-use Rattle.ncl_reader.specs.declared.net_fault.NetFault.{NetFault}
-use Rattle.ncl_reader.specs.declared.net_fault.NetFault.TheVariants.{Syntax}
-use Rattle.ncl_reader.specs.Lexemes.{End, Bad, Placed, lexemes}
-use Rattle.ncl_reader.specs.Grammar.{Head, Item, text_phrase}
-use Rattle.ncl_reader.specs.Rules.{Breaks, BreaksRule, NoneBreaks}
-use Rattle.ncl_reader.specs.Refusals.{IsFaultAt, IsRefusedAt}
-use Rattle.ncl_reader.specs.Partial.{led, leading, Partial, start, heading, ended, done, inside, declaring, spelled, place_of}
 use Rattle.ncl_reader.proofs.Steps.{step}
 use Rattle.ncl_reader.proofs.Grows.{grows}
 use Rattle.ncl_reader.proofs.Breaking.{breaks-untaken, breaks-taken, unbroken-more, no_token}

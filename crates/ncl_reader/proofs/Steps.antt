@@ -1,11 +1,6 @@
 -- One token more in a partial tree.
-use Rattle.std.specs.Prelude.{ℕ, List, [], ◌∷◌, ◌++◌, Option, Some, None, option_and_then}
-use Rattle.std.specs.Option.{option_map}
-use Rattle.ncl_reader.specs.declared.keyword.Keyword.TheVariants.{Module, EndModule, Wire, Way as word_of}
-use Rattle.ncl_reader.specs.declared.lexeme.Sign.TheVariants.{LParen, RParen, Comma, Semi, Dot, LBracket, RBracket, Colon}
-use Rattle.ncl_reader.specs.Lexemes.{Lexeme, Word, Name, Number, Mark, End}
-use Rattle.ncl_reader.specs.Grammar.{Direction, Plain, Wired, Lead, Gives, Wires, Group, all_of, Empty, Names, Ansi, Item, Declares, Joins, Head}
-use Rattle.ncl_reader.specs.Partial.{LeadPart, led, bracketed, firsted, coloned, lasted, ranged, GroupPart, leading, naming, going, Partial, start, begun, titled, listing, listed, heading, headed, at_item, inside, ended, done, ItemPart, declaring, celled, named, joining, dotted, pinned, opened, netted, indexing, indexed, picked, joined, closed}
+use Rattle.ncl_reader.proofs.Kit.{ℕ, List, [], ◌∷◌, ◌++◌, Option, Some, None, option_and_then, option_map}
+use Rattle.ncl_reader.proofs.Terms.{Module, EndModule, Wire, word_of, LParen, RParen, Comma, Semi, Dot, LBracket, RBracket, Colon, Lexeme, Word, Name, Number, Mark, End, Direction, Plain, Wired, Lead, Gives, Wires, Group, all_of, Empty, Names, Ansi, Item, Declares, Joins, Head, LeadPart, led, bracketed, firsted, coloned, lasted, ranged, GroupPart, leading, naming, going, Partial, start, begun, titled, listing, listed, heading, headed, at_item, inside, ended, done, ItemPart, declaring, celled, named, joining, dotted, pinned, opened, netted, indexing, indexed, picked, joined, closed}
 
 -- "wire" behind a direction
 abbrev pub direction_more : Direction → Option Direction

@@ -1,10 +1,6 @@
 -- A text without ranges and indices has no bracket.
-use Rattle.std.proofs.Common.{◌≡◌, ◌≢◌, ℕ, List, [], ◌∷◌, ◌++◌, Option, Some, None, refl, sym, subst, append_assoc}
-use Rattle.std.specs.List.{flat_map}
-use Rattle.ncl_reader.specs.declared.lexeme.Sign.TheVariants.{LBracket, Comma, RParen, Semi}
-use Rattle.ncl_reader.specs.Lexemes.{Lexeme, Mark}
-use Rattle.ncl_reader.specs.Grammar.{Row, Direction, Plain, Wired, Lead, Gives, Wires, lead_phrase, Range, maybe_phrase, spec_phrase, Group, group_phrase, index_phrase, Conn, conn_phrase, Item, Declares, Joins, item_phrase, Listing, Empty, Names, Ansi, header_phrase, head_phrase, Text, text_phrase, with_commas, row_phrase, name_phrase}
-use Rattle.ncl_reader.specs.Whole.{AreWhole, IsScalar, AreScalar, IsPlain}
+use Rattle.ncl_reader.proofs.Kit.{◌≡◌, ◌≢◌, ℕ, List, [], ◌∷◌, ◌++◌, Option, Some, None, refl, sym, subst, append_assoc, flat_map}
+use Rattle.ncl_reader.proofs.Terms.{LBracket, Comma, RParen, Semi, Lexeme, Mark, Row, Direction, Plain, Wired, Lead, Gives, Wires, lead_phrase, Range, maybe_phrase, spec_phrase, Group, group_phrase, index_phrase, Conn, conn_phrase, Item, Declares, Joins, item_phrase, Listing, Empty, Names, Ansi, header_phrase, head_phrase, Text, text_phrase, with_commas, row_phrase, name_phrase, AreWhole, IsScalar, AreScalar, IsPlain}
 use Rattle.ncl_reader.proofs.PlainNames.{NoBracket}
 use Rattle.ncl_reader.proofs.Breaking.{no_token}
 

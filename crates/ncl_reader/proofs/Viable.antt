@@ -1,12 +1,6 @@
 -- What begins a shaped list is what the tokens of a partial tree are, and what may come next is what a step takes.
-use Rattle.std.proofs.Common.{[], ◌≡◌, List, ◌∷◌, ◌++◌, Option, Some, None, refl, sym, ap, ◌∙◌, append_assoc}
-use Rattle.std.specs.Prelude.{option_and_then, codes}
-use Rattle.std.proofs.lemmas.Option.{same_Some, none-some}
-use Rattle.ncl_reader.specs.declared.keyword.Keyword.TheVariants.{Module, EndModule}
-use Rattle.ncl_reader.specs.declared.lexeme.Sign.TheVariants.{LParen, RParen, Semi, Dot, RBracket, Colon}
-use Rattle.ncl_reader.specs.Lexemes.{Lexeme, Word, Name, Number, Mark, End}
-use Rattle.ncl_reader.specs.Grammar.{Text, BeginsShaped}
-use Rattle.ncl_reader.specs.Partial.{LeadPart, led, bracketed, firsted, coloned, lasted, ranged, GroupPart, leading, naming, going, Partial, start, begun, titled, listing, listed, heading, headed, at_item, inside, ended, done, ItemPart, declaring, celled, named, joining, dotted, pinned, opened, netted, indexing, indexed, picked, joined, closed, spelled}
+use Rattle.ncl_reader.proofs.Kit.{[], ◌≡◌, List, ◌∷◌, ◌++◌, Option, Some, None, refl, sym, ap, ◌∙◌, append_assoc, option_and_then, codes, same_Some, none-some}
+use Rattle.ncl_reader.proofs.Terms.{Module, EndModule, LParen, RParen, Semi, Dot, RBracket, Colon, Lexeme, Word, Name, Number, Mark, End, Text, BeginsShaped, LeadPart, led, bracketed, firsted, coloned, lasted, ranged, GroupPart, leading, naming, going, Partial, start, begun, titled, listing, listed, heading, headed, at_item, inside, ended, done, ItemPart, declaring, celled, named, joining, dotted, pinned, opened, netted, indexing, indexed, picked, joined, closed, spelled}
 use Rattle.ncl_reader.proofs.Steps.{step, run}
 use Rattle.ncl_reader.proofs.Runs.{run-append, run-spelled}
 use Rattle.ncl_reader.proofs.Grows.{grows-run}

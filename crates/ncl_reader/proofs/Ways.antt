@@ -1,17 +1,6 @@
 -- What a header keeps of a name.
-use Rattle.std.proofs.Common.{◌≡◌, ℕ, zero, suc, arith, List, [], ◌∷◌, ◌++◌, Bool, true, false, ◌||◌, not, cond, subst, Option, Some, None, inl, inr, refl, sym, ap, ◌∙◌, Contains}
-use Rattle.std.specs.List.{list_any}
-use Rattle.std.specs.Option.{is_some, option_or}
-use Rattle.std.specs.Str.{bytes_eq}
-use Rattle.std.proofs.lemmas.Bool.{false≢true}
-use Rattle.std.proofs.lemmas.List.Folds.{find-append}
-use Rattle.std.proofs.lemmas.Map.Keys.{IsDistinct-push, IsDistinct-from_apart}
-use Rattle.std.specs.Cmp.{nat_eq_equiv}
-use Rattle.std.specs.Cmp.Lexicographic.{lists_equiv}
-use Rattle.std.proofs.lemmas.Slice.Eq.{bytes_eq-Decides}
-use Rattle.ncl_netlist.specs.Names.{AllDiffer}
-use Rattle.ncl_reader.specs.Says.{Said}
-use Rattle.ncl_reader.specs.Header.{said_at, names_said, way_by, way_of, LacksWay}
+use Rattle.ncl_reader.proofs.Kit.{◌≡◌, ℕ, zero, suc, arith, List, [], ◌∷◌, ◌++◌, Bool, true, false, ◌||◌, not, cond, subst, Option, Some, None, inl, inr, refl, sym, ap, ◌∙◌, Contains, list_any, is_some, option_or, bytes_eq, false≢true, find-append, IsDistinct-push, IsDistinct-from_apart, nat_eq_equiv, lists_equiv, bytes_eq-Decides}
+use Rattle.ncl_reader.proofs.Terms.{AllDiffer, Said, said_at, names_said, way_by, way_of, LacksWay}
 use Rattle.ncl_reader.proofs.Among.{contains-from_any, any-from_contains, any-push, bytes_eq-comm}
 
 -- what is told of the first that is said

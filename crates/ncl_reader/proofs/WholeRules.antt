@@ -1,24 +1,6 @@
 -- A text without vectors that keeps the rules as a whole breaks none at any of its tokens.
-use Rattle.std.proofs.Common.{[], ◌≡◌, ◌≢◌, ℕ, zero, suc, List, ◌∷◌, ◌++◌, Contains, Option, Some, None, false, inl, inr, refl, sym, ap, ◌∙◌, append_assoc, subst, arith}
-use Rattle.std.specs.List.{flat_map, AllByRecursion}
-use Rattle.std.proofs.lemmas.Bool.{false≢true}
-use Rattle.std.proofs.lemmas.List.{append-nil, map-append, flat_map_more}
-use Rattle.std.proofs.lemmas.List.Elements.{Contains-append_left, Contains-append_right}
-use Rattle.std.proofs.lemmas.Map.Keys.{IsDistinct-head, IsDistinct-tail}
-use Rattle.std.proofs.lemmas.Slice.Eq.{bytes_eq-Decides}
-use Rattle.ncl_gates.specs.declared.cell_kind.CellKind.{CellKind}
-use Rattle.ncl_gates.specs.Name.{cell_name_of}
-use Rattle.ncl_gates.specs.Cell.{pins_of}
-use Rattle.ncl_netlist.specs.Names.{same_name, AllDiffer}
-use Rattle.ncl_reader.specs.declared.keyword.Keyword.TheVariants.{Module, EndModule, Wire, Way as word_of}
-use Rattle.ncl_reader.specs.declared.lexeme.Sign.TheVariants.{LParen, RParen, Comma, Semi, Dot}
-use Rattle.ncl_reader.specs.Lexemes.{Word, Name, Mark, End}
-use Rattle.ncl_reader.specs.Grammar.{Row, all_of, with_commas, row_phrase, name_phrase, Direction, Plain, Wired, Lead, Gives, Wires, lead_phrase, Spec, Group, group_names, Conn, conn_phrase, Item, Declares, Joins, item_phrase, Listing, Empty, Names, Ansi, Head, head_phrase, body_phrase, Text, text_phrase, groups_of, header_of}
-use Rattle.ncl_reader.specs.Rules.{NoneBreaks, directed_in, directed_by}
-use Rattle.ncl_reader.specs.Says.{Joined, joined_in}
-use Rattle.ncl_reader.specs.Whole.{IsInstanceOf, KeepsRules, AreWhole, IsScalar, AreScalar, IsPlain}
-use Rattle.ncl_reader.specs.Partial.{led, GroupPart, leading, naming, going, Partial, start, begun, titled, listing, listed, headed, at_item, inside, ended, done, declaring, celled, named, joining, dotted, pinned, opened, netted, joined, closed, spelled}
-use Rattle.ncl_reader.specs.Instance.{pins_in}
+use Rattle.ncl_reader.proofs.Kit.{[], ◌≡◌, ◌≢◌, ℕ, zero, suc, List, ◌∷◌, ◌++◌, Contains, Option, Some, None, false, inl, inr, refl, sym, ap, ◌∙◌, append_assoc, subst, arith, flat_map, AllByRecursion, false≢true, append-nil, map-append, flat_map_more, Contains-append_left, Contains-append_right, IsDistinct-head, IsDistinct-tail, bytes_eq-Decides}
+use Rattle.ncl_reader.proofs.Terms.{CellKind, cell_name_of, pins_of, same_name, AllDiffer, Module, EndModule, Wire, word_of, LParen, RParen, Comma, Semi, Dot, Word, Name, Mark, End, Row, all_of, with_commas, row_phrase, name_phrase, Direction, Plain, Wired, Lead, Gives, Wires, lead_phrase, Spec, Group, group_names, Conn, conn_phrase, Item, Declares, Joins, item_phrase, Listing, Empty, Names, Ansi, Head, head_phrase, body_phrase, Text, text_phrase, groups_of, header_of, NoneBreaks, directed_in, directed_by, Joined, joined_in, IsInstanceOf, KeepsRules, AreWhole, IsScalar, AreScalar, IsPlain, led, GroupPart, leading, naming, going, Partial, start, begun, titled, listing, listed, headed, at_item, inside, ended, done, declaring, celled, named, joining, dotted, pinned, opened, netted, joined, closed, spelled, pins_in}
 use Rattle.ncl_reader.proofs.Steps.{step}
 use Rattle.ncl_reader.proofs.Runs.{run-append, run-both, run-listing, run-listed, run-headed, run-word, run-names, run-conn, run-joining, run-joined, run-head, run-item, run-body}
 use Rattle.ncl_reader.proofs.Declares.{part_names}

@@ -1,5 +1,4 @@
-use Rattle.std.proofs.Common.{arith}
-use Rattle.std.proofs.lemmas.Int.Digits.{digits_more}
+use Rattle.ncl_reader.proofs.Kit.{arith, digits_more}
 use Rattle.ncl_reader.proofs.Digits.{digit_at}
 use Rattle.ncl_reader.proofs.bit.are_digits.Goals as goal
 

@@ -1,5 +1,4 @@
-use Rattle.std.proofs.Common.{take}
-use Rattle.std.specs.Str.Parse.{AllDigits}
+use Rattle.ncl_reader.proofs.Kit.{take, AllDigits}
 use Rattle.ncl_reader.proofs.bit.are_digits.Given as goal
 
 -- the bytes so far are digits

@@ -1,8 +1,5 @@
-use Rattle.std.proofs.Common.{◌≡◌, ◌≢◌, ℕ, ◌<◌, ◌≤◌, ◌⊎◌, inl, inr, List, length, Option, Some, None, sym, ◌∙◌, subst, arith}
-use Rattle.std.specs.Prelude.{MatchOption, decimal, slice_index}
-use Rattle.std.specs.Str.Parse.{AllDigits, digits_value}
-use Rattle.std.proofs.lemmas.Bool.{false≢true, cases_lt}
-use Rattle.ncl_reader.specs.Vectors.{IsTooLarge}
+use Rattle.ncl_reader.proofs.Kit.{◌≡◌, ◌≢◌, ℕ, ◌<◌, ◌≤◌, ◌⊎◌, inl, inr, List, length, Option, Some, None, sym, ◌∙◌, subst, arith, MatchOption, decimal, slice_index, AllDigits, digits_value, false≢true, cases_lt}
+use Rattle.ncl_reader.proofs.Terms.{IsTooLarge}
 use Rattle.ncl_reader.proofs.BitTexts.{decimal-digits, no_leading, not_large, is_decimal}
 use Rattle.ncl_reader.proofs.bit.decimal_of.Goals as goal
 

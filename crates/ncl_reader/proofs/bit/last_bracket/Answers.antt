@@ -1,5 +1,4 @@
-use Rattle.std.proofs.Common.{length, sym, ◌∙◌, arith}
-use Rattle.std.proofs.lemmas.List.{drop_all}
+use Rattle.ncl_reader.proofs.Kit.{length, sym, ◌∙◌, arith, drop_all}
 use Rattle.ncl_reader.proofs.BitTexts.{bracket-front}
 use Rattle.ncl_reader.proofs.Breaking.{no_token}
 use Rattle.ncl_reader.proofs.bit.last_bracket.Goals as goal

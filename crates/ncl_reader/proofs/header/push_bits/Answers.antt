@@ -1,7 +1,5 @@
-use Rattle.std.proofs.Common.{◌<◌, length, ◌∷◌, [], ◌++◌, map, take, get_or, sym, ap, ◌∙◌, arith, append_assoc}
-use Rattle.std.proofs.lemmas.List.{take_more, map_push, take_all}
-use Rattle.ncl_reader.specs.Header.{bit_port}
-use Rattle.ncl_reader.specs.Vectors.{numbers_of}
+use Rattle.ncl_reader.proofs.Kit.{◌<◌, length, ◌∷◌, [], ◌++◌, map, take, get_or, sym, ap, ◌∙◌, arith, append_assoc, take_more, map_push, take_all}
+use Rattle.ncl_reader.proofs.Terms.{bit_port, numbers_of}
 use Rattle.ncl_reader.proofs.Bits.{length-numbers_of}
 use Rattle.ncl_reader.proofs.header.push_bits.Goals as goal
 

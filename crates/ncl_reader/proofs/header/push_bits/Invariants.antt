@@ -1,6 +1,5 @@
-use Rattle.std.proofs.Common.{◌≡◌, ◌++◌, map, take}
-use Rattle.ncl_reader.specs.Header.{bit_port}
-use Rattle.ncl_reader.specs.Vectors.{numbers_of}
+use Rattle.ncl_reader.proofs.Kit.{◌≡◌, ◌++◌, map, take}
+use Rattle.ncl_reader.proofs.Terms.{bit_port, numbers_of}
 use Rattle.ncl_reader.proofs.header.push_bits.Given as goal
 
 -- so many bits stand behind the ports

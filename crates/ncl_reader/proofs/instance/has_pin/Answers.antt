@@ -1,6 +1,4 @@
-use Rattle.std.proofs.Common.{Contains, subst, inl, inr, refl, sym, ◌∙◌, map, arith}
-use Rattle.std.proofs.lemmas.Bool.{false≢true}
-use Rattle.std.proofs.lemmas.Slice.Eq.{bytes_eq-Decides}
+use Rattle.ncl_reader.proofs.Kit.{Contains, subst, inl, inr, refl, sym, ◌∙◌, map, arith, false≢true, bytes_eq-Decides}
 use Rattle.ncl_reader.proofs.Looked.{among-all, among-cases, among-item}
 use Rattle.ncl_reader.proofs.instance.has_pin.Goals as goal
 

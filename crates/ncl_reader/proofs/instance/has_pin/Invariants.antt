@@ -1,4 +1,4 @@
-use Rattle.std.proofs.Common.{map, take, Contains}
+use Rattle.ncl_reader.proofs.Kit.{map, take, Contains}
 use Rattle.ncl_reader.proofs.instance.has_pin.Given as goal
 
 -- the pin is none so far

@@ -1,6 +1,5 @@
-use Rattle.std.proofs.Common.{ℕ, ◌<◌}
-use Rattle.std.specs.Prelude.{slice_index}
-use Rattle.ncl_reader.specs.Vectors.{Covers}
+use Rattle.ncl_reader.proofs.Kit.{ℕ, ◌<◌, slice_index}
+use Rattle.ncl_reader.proofs.Terms.{Covers}
 use Rattle.ncl_reader.proofs.kept_bits.covers_one.Given as goal
 
 -- none so far is one

@@ -1,4 +1,4 @@
-use Rattle.std.proofs.lemmas.Bool.{false≢true}
+use Rattle.ncl_reader.proofs.Kit.{false≢true}
 use Rattle.ncl_reader.proofs.BitsDeclared.{no_bit, some_bit, bit_covers, no_vector_bit}
 use Rattle.ncl_reader.proofs.names.is_bit.Goals as goal
 

@@ -1,5 +1,5 @@
-use Rattle.std.proofs.Common.{refl, sym, subst, arith}
-use Rattle.ncl_reader.specs.Vectors.{Covers}
+use Rattle.ncl_reader.proofs.Kit.{refl, sym, subst, arith}
+use Rattle.ncl_reader.proofs.Terms.{Covers}
 use Rattle.ncl_reader.proofs.Digits.{outside_large}
 use Rattle.ncl_reader.proofs.number.lies_outside.Goals as goal
 

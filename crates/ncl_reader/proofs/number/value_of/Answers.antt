@@ -1,5 +1,4 @@
-use Rattle.std.proofs.Common.{arith}
-use Rattle.std.proofs.lemmas.Int.Digits.{digits_value_more}
+use Rattle.ncl_reader.proofs.Kit.{arith, digits_value_more}
 use Rattle.ncl_reader.proofs.Digits.{digit_at, value_few}
 use Rattle.ncl_reader.proofs.number.value_of.Goals as goal
 

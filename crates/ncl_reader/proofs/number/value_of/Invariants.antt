@@ -1,5 +1,4 @@
-use Rattle.std.proofs.Common.{◌≡◌, take}
-use Rattle.std.specs.Str.Parse.{digits_value}
+use Rattle.ncl_reader.proofs.Kit.{◌≡◌, take, digits_value}
 use Rattle.ncl_reader.proofs.number.value_of.Given as goal
 
 -- the value is that of the digits so far

@@ -1,4 +1,4 @@
-use Rattle.std.proofs.Common.{◌≡◌, ℕ, ◌-◌, ◌<◌, ◌≤◌, length, get_or}
+use Rattle.ncl_reader.proofs.Kit.{◌≡◌, ℕ, ◌-◌, ◌<◌, ◌≤◌, length, get_or}
 use Rattle.ncl_reader.proofs.number.without_zeros.Given as goal
 
 -- so many zeros stand at the front

@@ -1,7 +1,5 @@
-use Rattle.std.proofs.Common.{arith, subst, sym}
-use Rattle.std.specs.List.{flat_map}
-use Rattle.ncl_reader.specs.Says.{joined_in}
-use Rattle.ncl_reader.specs.GraphicNames.{HasGraphicNames}
+use Rattle.ncl_reader.proofs.Kit.{arith, subst, sym, flat_map}
+use Rattle.ncl_reader.proofs.Terms.{joined_in, HasGraphicNames}
 use Rattle.ncl_reader.proofs.GraphicNames.{graphic_names}
 use Rattle.ncl_reader.proofs.PartsRead as parts
 use Rattle.ncl_reader.proofs.reader.read_netlist.Goals as goal

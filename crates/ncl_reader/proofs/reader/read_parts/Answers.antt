@@ -1,11 +1,6 @@
-use Rattle.std.proofs.Common.{arith, Ok, Err, sym, ap, ◌∙◌, subst}
-use Rattle.ncl_token.proofs.SomeList.{some_list}
+use Rattle.ncl_reader.proofs.Kit.{arith, Ok, Err, sym, ap, ◌∙◌, subst}
+use Rattle.ncl_reader.proofs.Terms.{some_list, meant, IsFaultAt, Breaks, spelled, HoldsAt, Takes, TakesOrBreaks}
 use Rattle.ncl_reader.specs.declared.place.Place.TheVariants as place
-use Rattle.ncl_reader.specs.Meant.{meant}
-use Rattle.ncl_reader.specs.Refusals.{IsFaultAt}
-use Rattle.ncl_reader.specs.Rules.{Breaks}
-use Rattle.ncl_reader.specs.Partial.{spelled}
-use Rattle.ncl_reader.specs.Draft.{HoldsAt, Takes, TakesOrBreaks}
 use Rattle.ncl_reader.proofs.Loop.{holds-place}
 use Rattle.ncl_reader.proofs.LoopTokens.{LoopAt, loop-first, loop-more, loop-broken, loop-bad, loop-short, few_before, read-token, placed-token, next-space, next-bad, refused-fault, whole-at}
 use Rattle.ncl_reader.proofs.reader.read_parts.Goals as goal

@@ -1,5 +1,5 @@
-use Rattle.std.proofs.Common.{refl}
-use Rattle.ncl_reader.specs.Partial.{spelled}
+use Rattle.ncl_reader.proofs.Kit.{refl}
+use Rattle.ncl_reader.proofs.Terms.{spelled}
 use Rattle.ncl_reader.proofs.RefusalNames as refused
 use Rattle.ncl_reader.proofs.refusal.of_mark.Goals as goal
 

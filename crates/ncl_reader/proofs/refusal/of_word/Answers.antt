@@ -1,6 +1,6 @@
-use Rattle.std.proofs.Common.{inl, refl, sym, ◌∙◌}
+use Rattle.ncl_reader.proofs.Kit.{inl, refl, sym, ◌∙◌}
+use Rattle.ncl_reader.proofs.Terms.{spelled}
 use Rattle.ncl_reader.specs.declared.place.Place.TheVariants as place
-use Rattle.ncl_reader.specs.Partial.{spelled}
 use Rattle.ncl_reader.proofs.Places as places
 use Rattle.ncl_reader.proofs.RefusalNames as refused
 use Rattle.ncl_reader.proofs.refusal.of_word.Goals as goal

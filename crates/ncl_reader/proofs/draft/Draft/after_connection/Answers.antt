@@ -1,14 +1,6 @@
-use Rattle.std.proofs.Common.{◌∷◌, [], ◌++◌, Some, None, inr, refl, sym, ◌∙◌, subst}
-use Rattle.std.specs.List.{flat_map}
-use Rattle.std.proofs.lemmas.Bool.{false≢true}
-use Rattle.ncl_gates.specs.Name.{cell_name_of}
+use Rattle.ncl_reader.proofs.Kit.{◌∷◌, [], ◌++◌, Some, None, inr, refl, sym, ◌∙◌, subst, flat_map, false≢true}
+use Rattle.ncl_reader.proofs.Terms.{cell_name_of, RParen, Comma, Mark, meant, joined_in, AreCellsOf, Closes, inside, joining, joined, closed}
 use Rattle.ncl_reader.specs.declared.place.Place.TheVariants as place
-use Rattle.ncl_reader.specs.declared.lexeme.Sign.TheVariants.{RParen, Comma}
-use Rattle.ncl_reader.specs.Lexemes.{Mark}
-use Rattle.ncl_reader.specs.Meant.{meant}
-use Rattle.ncl_reader.specs.Says.{joined_in, AreCellsOf}
-use Rattle.ncl_reader.specs.Instance.{Closes}
-use Rattle.ncl_reader.specs.Partial.{inside, joining, joined, closed}
 use Rattle.ncl_reader.proofs.DraftSteps as steps
 use Rattle.ncl_reader.proofs.NetSteps as nets
 use Rattle.ncl_reader.proofs.NameRules.{close_free}

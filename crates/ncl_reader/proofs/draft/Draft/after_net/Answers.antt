@@ -1,14 +1,6 @@
-use Rattle.std.proofs.Common.{not, ◌∷◌, [], ◌++◌, None, inl, refl, sym, ap, ◌∙◌, subst}
-use Rattle.std.proofs.lemmas.Bool.{false≢true}
-use Rattle.ncl_gates.specs.Name.{cell_name_of}
+use Rattle.ncl_reader.proofs.Kit.{not, ◌∷◌, [], ◌++◌, None, inl, refl, sym, ap, ◌∙◌, subst, false≢true}
+use Rattle.ncl_reader.proofs.Terms.{cell_name_of, RParen, LBracket, Mark, Conn, meant, IsVector, AreJoins, Partial, inside, netted, indexing, joined, spelled}
 use Rattle.ncl_reader.specs.declared.place.Place.TheVariants as place
-use Rattle.ncl_reader.specs.declared.lexeme.Sign.TheVariants.{RParen, LBracket}
-use Rattle.ncl_reader.specs.Lexemes.{Mark}
-use Rattle.ncl_reader.specs.Grammar.{Conn}
-use Rattle.ncl_reader.specs.Meant.{meant}
-use Rattle.ncl_reader.specs.Vectors.{IsVector}
-use Rattle.ncl_reader.specs.Instance.{AreJoins}
-use Rattle.ncl_reader.specs.Partial.{Partial, inside, netted, indexing, joined, spelled}
 use Rattle.ncl_reader.proofs.DraftSteps as steps
 use Rattle.ncl_reader.proofs.NetSteps as nets
 use Rattle.ncl_reader.proofs.Nets.{joins-more}

@@ -1,11 +1,6 @@
-use Rattle.std.proofs.Common.{map, inr, inl, refl, sym, ap, ◌∙◌, subst}
-use Rattle.std.proofs.lemmas.Bool.{false≢true}
+use Rattle.ncl_reader.proofs.Kit.{map, inr, inl, refl, sym, ap, ◌∙◌, subst, false≢true}
+use Rattle.ncl_reader.proofs.Terms.{Name, joint_of, BreaksRule, Clashes, meant, at_item, inside, celled, spelled}
 use Rattle.ncl_reader.specs.declared.place.Place.TheVariants as place
-use Rattle.ncl_reader.specs.Lexemes.{Name}
-use Rattle.ncl_reader.specs.Instance.{joint_of}
-use Rattle.ncl_reader.specs.Rules.{BreaksRule, Clashes}
-use Rattle.ncl_reader.specs.Meant.{meant}
-use Rattle.ncl_reader.specs.Partial.{at_item, inside, celled, spelled}
 use Rattle.ncl_reader.proofs.Declares.{range_here}
 use Rattle.ncl_reader.proofs.NameRules.{opens, not_declaring, not_net, may_stand}
 use Rattle.ncl_reader.proofs.RulesAt.{NameAt}

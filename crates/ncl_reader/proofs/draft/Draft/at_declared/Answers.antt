@@ -1,13 +1,6 @@
-use Rattle.std.proofs.Common.{refl, sym, ◌∙◌, subst}
-use Rattle.std.proofs.lemmas.Bool.{false≢true}
+use Rattle.ncl_reader.proofs.Kit.{refl, sym, ◌∙◌, subst, false≢true}
+use Rattle.ncl_reader.proofs.Terms.{Name, all_of, lead_phrase, at_declared, BreaksRule, KeepsNames, meant, going, inside, declaring}
 use Rattle.ncl_reader.specs.declared.place.Place.TheVariants as place
-use Rattle.ncl_reader.specs.Lexemes.{Name}
-use Rattle.ncl_reader.specs.Grammar.{all_of, lead_phrase}
-use Rattle.ncl_reader.specs.Forms.{at_declared}
-use Rattle.ncl_reader.specs.Rules.{BreaksRule}
-use Rattle.ncl_reader.specs.Known.{KeepsNames}
-use Rattle.ncl_reader.specs.Meant.{meant}
-use Rattle.ncl_reader.specs.Partial.{going, inside, declaring}
 use Rattle.ncl_reader.proofs.Declares.{at_part}
 use Rattle.ncl_reader.proofs.HeaderSteps.{declared_form, declared_taken, name_left}
 use Rattle.ncl_reader.proofs.DraftSteps as steps

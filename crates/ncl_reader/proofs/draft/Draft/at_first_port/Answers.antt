@@ -1,15 +1,7 @@
-use Rattle.std.proofs.Common.{◌≢◌, [], true, refl, sym, ◌∙◌, subst}
-use Rattle.std.specs.Prelude.{IfOk}
-use Rattle.std.proofs.lemmas.Bool.{false≢true}
+use Rattle.ncl_reader.proofs.Kit.{◌≢◌, [], true, refl, sym, ◌∙◌, subst, IfOk, false≢true}
+use Rattle.ncl_reader.proofs.Terms.{word_of, RParen, Mark, Word, Plain, Empty, meant, listing, heading, headed, leading, led, TakesOrBreaks}
 use Rattle.ncl_reader.specs.declared.place.Place.TheVariants as place
 use Rattle.ncl_reader.specs.declared.place.LeadPlace.TheVariants as lead
-use Rattle.ncl_reader.specs.declared.keyword.Keyword.TheVariants.{Way as word_of}
-use Rattle.ncl_reader.specs.declared.lexeme.Sign.TheVariants.{RParen}
-use Rattle.ncl_reader.specs.Lexemes.{Mark, Word}
-use Rattle.ncl_reader.specs.Grammar.{Plain, Empty}
-use Rattle.ncl_reader.specs.Meant.{meant}
-use Rattle.ncl_reader.specs.Partial.{listing, heading, headed, leading, led}
-use Rattle.ncl_reader.specs.Draft.{TakesOrBreaks}
 use Rattle.ncl_reader.proofs.DraftSteps as steps
 use Rattle.ncl_reader.proofs.draft.Draft.at_first_port.Goals as goal
 

@@ -1,15 +1,7 @@
-use Rattle.std.proofs.Common.{◌∷◌, [], ◌++◌, refl, sym, ◌∙◌, subst}
-use Rattle.std.proofs.lemmas.Bool.{false≢true}
+use Rattle.ncl_reader.proofs.Kit.{◌∷◌, [], ◌++◌, refl, sym, ◌∙◌, subst, false≢true}
+use Rattle.ncl_reader.proofs.Terms.{word_of, Name, Word, in_ansi, BreaksRule, KeepsNames, all_of, Plain, direction_phrase, meant, going, leading, led, heading}
 use Rattle.ncl_reader.specs.declared.place.Place.TheVariants as place
 use Rattle.ncl_reader.specs.declared.place.LeadPlace.TheVariants as lead
-use Rattle.ncl_reader.specs.declared.keyword.Keyword.TheVariants.{Way as word_of}
-use Rattle.ncl_reader.specs.Lexemes.{Name, Word}
-use Rattle.ncl_reader.specs.Forms.{in_ansi}
-use Rattle.ncl_reader.specs.Rules.{BreaksRule}
-use Rattle.ncl_reader.specs.Known.{KeepsNames}
-use Rattle.ncl_reader.specs.Grammar.{all_of, Plain, direction_phrase}
-use Rattle.ncl_reader.specs.Meant.{meant}
-use Rattle.ncl_reader.specs.Partial.{going, leading, led, heading}
 use Rattle.ncl_reader.proofs.Declares.{at_part}
 use Rattle.ncl_reader.proofs.DraftBody.{grouped-ends}
 use Rattle.ncl_reader.proofs.HeaderSteps.{headed_form, headed_taken, name_left}

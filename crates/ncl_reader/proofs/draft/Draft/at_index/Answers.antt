@@ -1,13 +1,6 @@
-use Rattle.std.proofs.Common.{inl, inr, refl, sym, ◌∙◌, subst}
-use Rattle.std.specs.Str.Parse.{digits_value}
-use Rattle.std.proofs.lemmas.Bool.{false≢true}
-use Rattle.ncl_gates.specs.Name.{cell_name_of}
+use Rattle.ncl_reader.proofs.Kit.{inl, inr, refl, sym, ◌∙◌, subst, digits_value, false≢true}
+use Rattle.ncl_reader.proofs.Terms.{cell_name_of, Number, KeepsNames, meant, IsVector, span_of, Covers, Partial, inside, indexing, indexed, spelled}
 use Rattle.ncl_reader.specs.declared.place.Place.TheVariants as place
-use Rattle.ncl_reader.specs.Lexemes.{Number}
-use Rattle.ncl_reader.specs.Known.{KeepsNames}
-use Rattle.ncl_reader.specs.Meant.{meant}
-use Rattle.ncl_reader.specs.Vectors.{IsVector, span_of, Covers}
-use Rattle.ncl_reader.specs.Partial.{Partial, inside, indexing, indexed, spelled}
 use Rattle.ncl_reader.proofs.DraftSteps as steps
 use Rattle.ncl_reader.proofs.NetSteps as nets
 use Rattle.ncl_reader.proofs.draft.Draft.at_index.Goals as goal

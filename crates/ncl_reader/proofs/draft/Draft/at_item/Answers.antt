@@ -1,19 +1,10 @@
-use Rattle.std.proofs.Common.{◌≢◌, Contains, None, true, false, refl, sym, ◌∙◌, subst, ap}
-use Rattle.std.proofs.lemmas.Bool.{false≢true}
-use Rattle.std.proofs.lemmas.Option.{none-some}
+use Rattle.ncl_reader.proofs.Kit.{◌≢◌, Contains, None, true, false, refl, sym, ◌∙◌, subst, ap, false≢true, none-some}
+use Rattle.ncl_reader.proofs.Terms.{EndModule, Wire, word_of, Word, Plain, Gives, Wires, header_of, said_by, AllDirected, meant, at_item, inside, declaring, leading, led, ended, is_ansi}
 use Rattle.ncl_reader.specs.declared.place.Place.TheVariants as place
 use Rattle.ncl_reader.specs.declared.place.LeadPlace.TheVariants as lead
-use Rattle.ncl_reader.specs.declared.keyword.Keyword.TheVariants.{EndModule, Wire, Way as word_of}
-use Rattle.ncl_reader.specs.Lexemes.{Word}
-use Rattle.ncl_reader.specs.Grammar.{Plain, Gives, Wires, header_of}
-use Rattle.ncl_reader.specs.Says.{said_by}
-use Rattle.ncl_reader.specs.Header.{AllDirected}
-use Rattle.ncl_reader.specs.Meant.{meant}
-use Rattle.ncl_reader.specs.Partial.{at_item, inside, declaring, leading, led, ended}
 use Rattle.ncl_reader.proofs.SaidNames.{names-said_by}
 use Rattle.ncl_reader.proofs.DraftBody.{ansi_groups}
 use Rattle.ncl_reader.proofs.DraftSteps as steps
-use Rattle.ncl_reader.specs.Draft.{is_ansi}
 use Rattle.ncl_reader.proofs.draft.Draft.at_item.Goals as goal
 
 pub returns-in-Some : goal.returns-in-Some

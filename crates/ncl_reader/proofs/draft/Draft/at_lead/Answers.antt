@@ -1,15 +1,6 @@
-use Rattle.std.proofs.Common.{◌≡◌, [], refl, sym, ap, ◌∙◌, subst, false, None}
-use Rattle.std.specs.Option.{option_map}
-use Rattle.std.proofs.lemmas.Bool.{false≢true}
+use Rattle.ncl_reader.proofs.Kit.{◌≡◌, [], refl, sym, ap, ◌∙◌, subst, false, None, option_map, false≢true}
+use Rattle.ncl_reader.proofs.Terms.{Name, lead_phrase, at_declared, BreaksRule, KeepsNames, LeadTakes, lead_output, takes_name, meant, leading, inside, declaring, lead_place, word_place}
 use Rattle.ncl_reader.specs.declared.place.Place.TheVariants as place
-use Rattle.ncl_reader.specs.Lexemes.{Name}
-use Rattle.ncl_reader.specs.Grammar.{lead_phrase}
-use Rattle.ncl_reader.specs.Forms.{at_declared}
-use Rattle.ncl_reader.specs.Rules.{BreaksRule}
-use Rattle.ncl_reader.specs.Known.{KeepsNames}
-use Rattle.ncl_reader.specs.Lead.{LeadTakes, lead_output, takes_name}
-use Rattle.ncl_reader.specs.Meant.{meant}
-use Rattle.ncl_reader.specs.Partial.{leading, inside, declaring, lead_place, word_place}
 use Rattle.ncl_reader.proofs.Steps.{or_else, step}
 use Rattle.ncl_reader.proofs.Declares.{at_part}
 use Rattle.ncl_reader.proofs.LeadSteps.{in_item, no_name, begins}

@@ -1,10 +1,6 @@
-use Rattle.std.proofs.Common.{◌≢◌, refl, sym, ◌∙◌}
-use Rattle.std.proofs.lemmas.Bool.{false≢true}
+use Rattle.ncl_reader.proofs.Kit.{◌≢◌, refl, sym, ◌∙◌, false≢true}
+use Rattle.ncl_reader.proofs.Terms.{Module, Word, meant, start, begun}
 use Rattle.ncl_reader.specs.declared.place.Place.TheVariants as place
-use Rattle.ncl_reader.specs.declared.keyword.Keyword.TheVariants.{Module}
-use Rattle.ncl_reader.specs.Lexemes.{Word}
-use Rattle.ncl_reader.specs.Meant.{meant}
-use Rattle.ncl_reader.specs.Partial.{start, begun}
 use Rattle.ncl_reader.proofs.DraftSteps as steps
 use Rattle.ncl_reader.proofs.draft.Draft.at_module.Goals as goal
 

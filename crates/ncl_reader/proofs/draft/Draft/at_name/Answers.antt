@@ -1,7 +1,5 @@
-use Rattle.std.proofs.Common.{sym, subst}
-use Rattle.std.specs.Prelude.{IfOk}
-use Rattle.ncl_reader.specs.Meant.{meant}
-use Rattle.ncl_reader.specs.Draft.{TakesOrBreaks}
+use Rattle.ncl_reader.proofs.Kit.{sym, subst, IfOk}
+use Rattle.ncl_reader.proofs.Terms.{meant, TakesOrBreaks}
 use Rattle.ncl_reader.proofs.PlainSteps.{no_name}
 use Rattle.ncl_reader.proofs.draft.Draft.at_name.Goals as goal
 

@@ -1,11 +1,6 @@
-use Rattle.std.proofs.Common.{refl, sym, ap, ◌∙◌, subst, inr, inl}
-use Rattle.std.proofs.lemmas.Bool.{false≢true}
-use Rattle.ncl_gates.specs.Name.{cell_name_of}
+use Rattle.ncl_reader.proofs.Kit.{refl, sym, ap, ◌∙◌, subst, inr, inl, false≢true}
+use Rattle.ncl_reader.proofs.Terms.{cell_name_of, Name, meant, Clashes, Partial, inside, opened, netted, spelled}
 use Rattle.ncl_reader.specs.declared.place.Place.TheVariants as place
-use Rattle.ncl_reader.specs.Lexemes.{Name}
-use Rattle.ncl_reader.specs.Meant.{meant}
-use Rattle.ncl_reader.specs.Rules.{Clashes}
-use Rattle.ncl_reader.specs.Partial.{Partial, inside, opened, netted, spelled}
 use Rattle.ncl_reader.proofs.DraftSteps as steps
 use Rattle.ncl_reader.proofs.NameRules.{not_declaring, plain_rule}
 use Rattle.ncl_reader.proofs.Declares.{range_here}

@@ -1,9 +1,5 @@
-use Rattle.std.proofs.Common.{refl, sym, ◌∙◌, subst}
-use Rattle.std.proofs.lemmas.Bool.{false≢true}
-use Rattle.ncl_reader.specs.Lexemes.{Name}
-use Rattle.ncl_reader.specs.Rules.{Clashes}
-use Rattle.ncl_reader.specs.Partial.{spelled}
-use Rattle.ncl_reader.specs.Next.{MayStand}
+use Rattle.ncl_reader.proofs.Kit.{refl, sym, ◌∙◌, subst, false≢true}
+use Rattle.ncl_reader.proofs.Terms.{Name, Clashes, spelled, MayStand}
 use Rattle.ncl_reader.proofs.NameRules.{not_declaring}
 use Rattle.ncl_reader.proofs.PlainSteps.{plain_free}
 use Rattle.ncl_reader.proofs.DraftSteps as steps

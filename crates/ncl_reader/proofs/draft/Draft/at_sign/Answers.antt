@@ -1,10 +1,6 @@
-use Rattle.std.proofs.Common.{◌≡◌, ◌≢◌, None, refl, sym, ap, ◌∙◌, subst}
-use Rattle.ncl_reader.specs.declared.place.Place.{Place}
-use Rattle.ncl_reader.specs.declared.lexeme.Sign.{Sign}
-use Rattle.ncl_reader.specs.declared.lexeme.Lexeme.{Lexeme as Read}
+use Rattle.ncl_reader.proofs.Kit.{◌≡◌, ◌≢◌, None, refl, sym, ap, ◌∙◌, subst}
+use Rattle.ncl_reader.proofs.Terms.{Place, Sign, Read, meant, TakesOrBreaks}
 use Rattle.ncl_reader.specs.declared.lexeme.Lexeme.TheVariants as read
-use Rattle.ncl_reader.specs.Meant.{meant}
-use Rattle.ncl_reader.specs.Draft.{TakesOrBreaks}
 use Rattle.ncl_reader.proofs.SignSteps.{after_token, sign_step}
 use Rattle.ncl_reader.proofs.draft.Draft.at_sign.Goals as goal
 

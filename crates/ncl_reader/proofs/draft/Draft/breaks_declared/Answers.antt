@@ -1,11 +1,5 @@
-use Rattle.std.proofs.Common.{◌≡◌, ◌++◌, Contains, inl, inr, ◌⊎◌, true, false, not, refl, sym, ap, ◌∙◌, subst}
-use Rattle.std.proofs.lemmas.Bool.{false≢true}
-use Rattle.ncl_reader.specs.Grammar.{Gives, Direction, header_of}
-use Rattle.ncl_reader.specs.Forms.{at_declared, IsDeclaring}
-use Rattle.ncl_reader.specs.Rules.{directed_by, Redeclares, Clashes}
-use Rattle.ncl_reader.specs.Says.{said_by}
-use Rattle.ncl_reader.specs.Header.{LacksWay}
-use Rattle.ncl_reader.specs.Draft.{said_with}
+use Rattle.ncl_reader.proofs.Kit.{◌≡◌, ◌++◌, Contains, inl, inr, ◌⊎◌, true, false, not, refl, sym, ap, ◌∙◌, subst, false≢true}
+use Rattle.ncl_reader.proofs.Terms.{Gives, Direction, header_of, at_declared, IsDeclaring, directed_by, Redeclares, Clashes, said_by, LacksWay, said_with}
 use Rattle.ncl_reader.proofs.NameRules.{clash_rule}
 use Rattle.ncl_reader.proofs.DraftBody.{names-body, gives_of, wire_of}
 use Rattle.ncl_reader.proofs.RulesAt.{some_given, declared_rule, crowds_declared}

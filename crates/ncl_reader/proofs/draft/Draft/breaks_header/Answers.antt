@@ -1,10 +1,5 @@
-use Rattle.std.proofs.Common.{◌++◌, Contains, inl, inr, refl, sym, ◌∙◌}
-use Rattle.std.specs.List.{flat_map}
-use Rattle.std.proofs.lemmas.Bool.{false≢true}
-use Rattle.ncl_reader.specs.Grammar.{group_names}
-use Rattle.ncl_reader.specs.Forms.{in_ansi, IsDeclaring}
-use Rattle.ncl_reader.specs.Rules.{Redeclares, Clashes}
-use Rattle.ncl_reader.specs.Says.{said_in_header, said_of}
+use Rattle.ncl_reader.proofs.Kit.{◌++◌, Contains, inl, inr, refl, sym, ◌∙◌, flat_map, false≢true}
+use Rattle.ncl_reader.proofs.Terms.{group_names, in_ansi, IsDeclaring, Redeclares, Clashes, said_in_header, said_of}
 use Rattle.ncl_reader.proofs.NameRules.{clash_rule}
 use Rattle.ncl_reader.proofs.RulesAt.{headed_rule}
 use Rattle.ncl_reader.proofs.draft.Draft.breaks_header.Goals as goal

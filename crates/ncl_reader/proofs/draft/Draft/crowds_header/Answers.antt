@@ -1,11 +1,5 @@
-use Rattle.std.proofs.Common.{◌<◌, ◌++◌, Contains, sym, ap, ◌∙◌, subst}
-use Rattle.std.specs.List.{flat_map}
-use Rattle.std.specs.Option.{option_map}
-use Rattle.std.proofs.lemmas.Bool.{false≢true}
-use Rattle.std.proofs.lemmas.Option.{none-some, same_Some}
-use Rattle.ncl_reader.specs.Grammar.{group_names}
-use Rattle.ncl_reader.specs.Vectors.{span_of, MOST_PORT_BITS}
-use Rattle.ncl_reader.specs.Says.{said_in_header, said_of}
+use Rattle.ncl_reader.proofs.Kit.{◌<◌, ◌++◌, Contains, sym, ap, ◌∙◌, subst, flat_map, option_map, false≢true, none-some, same_Some}
+use Rattle.ncl_reader.proofs.Terms.{group_names, span_of, MOST_PORT_BITS, said_in_header, said_of}
 use Rattle.ncl_reader.proofs.DraftBody.{bits-grouped_more}
 use Rattle.ncl_reader.proofs.RefusalNames as refused
 use Rattle.ncl_reader.proofs.RulesAt.{crowds-head, crowds_headed}

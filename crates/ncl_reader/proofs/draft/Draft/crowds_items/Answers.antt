@@ -1,14 +1,5 @@
-use Rattle.std.proofs.Common.{not, ◌<◌, ◌++◌, true, false, Contains, inl, inr, sym, ap, ◌∙◌, subst}
-use Rattle.std.specs.Option.{option_map}
-use Rattle.std.proofs.lemmas.Bool.{false≢true}
-use Rattle.std.proofs.lemmas.Option.{none-some, same_Some}
-use Rattle.ncl_reader.specs.Grammar.{header_of}
-use Rattle.ncl_reader.specs.Vectors.{span_of, MOST_PORT_BITS}
-use Rattle.ncl_reader.specs.Rules.{directed_by}
-use Rattle.ncl_reader.specs.Lead.{lead_output}
-use Rattle.ncl_reader.specs.Header.{LacksWay}
-use Rattle.ncl_reader.specs.Says.{said_by, is_output}
-use Rattle.ncl_reader.specs.Draft.{said_with}
+use Rattle.ncl_reader.proofs.Kit.{not, ◌<◌, ◌++◌, true, false, Contains, inl, inr, sym, ap, ◌∙◌, subst, option_map, false≢true, none-some, same_Some}
+use Rattle.ncl_reader.proofs.Terms.{header_of, span_of, MOST_PORT_BITS, directed_by, lead_output, LacksWay, said_by, is_output, said_with}
 use Rattle.ncl_reader.proofs.DraftBody.{bits-body, names-body, no_groups, gives_of, wire_of}
 use Rattle.ncl_reader.proofs.RefusalNames as refused
 use Rattle.ncl_reader.proofs.RulesAt.{crowds-item, crowds_declared}

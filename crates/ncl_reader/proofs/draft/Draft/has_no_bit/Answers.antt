@@ -1,10 +1,5 @@
-use Rattle.std.proofs.Common.{◌≡◌, Some, sym, ap, ◌∙◌, subst}
-use Rattle.std.specs.Str.Parse.{digits_value}
-use Rattle.std.proofs.lemmas.Bool.{false≢true}
-use Rattle.ncl_gates.specs.Name.{cell_name_of}
-use Rattle.ncl_reader.specs.Vectors.{IsVector, span_of, Covers}
-use Rattle.ncl_reader.specs.Draft.{HoldsAt}
-use Rattle.ncl_reader.specs.Partial.{spelled}
+use Rattle.ncl_reader.proofs.Kit.{◌≡◌, Some, sym, ap, ◌∙◌, subst, digits_value, false≢true}
+use Rattle.ncl_reader.proofs.Terms.{cell_name_of, IsVector, span_of, Covers, HoldsAt, spelled}
 use Rattle.ncl_reader.proofs.Loop.{holds-place}
 use Rattle.ncl_reader.proofs.NetSteps.{same_numbers}
 use Rattle.ncl_reader.proofs.RulesAt.{OutsideAt, outside-here}

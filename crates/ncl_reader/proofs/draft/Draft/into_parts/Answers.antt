@@ -1,11 +1,5 @@
-use Rattle.std.proofs.Common.{◌≡◌, arith, map, length, ◌∙◌, sym, ap, subst}
-use Rattle.std.specs.List.{flat_map}
-use Rattle.ncl_netlist.specs.declared.port.Port.{Port}
-use Rattle.ncl_netlist.specs.Names.{AllDiffer}
-use Rattle.ncl_reader.specs.Known.{KeepsNames}
-use Rattle.ncl_reader.specs.Grammar.{header_of}
-use Rattle.ncl_reader.specs.Says.{AreCellsOf, joined_in, said_by}
-use Rattle.ncl_reader.specs.Partial.{ended, spelled}
+use Rattle.ncl_reader.proofs.Kit.{◌≡◌, arith, map, length, ◌∙◌, sym, ap, subst, flat_map}
+use Rattle.ncl_reader.proofs.Terms.{Port, AllDiffer, KeepsNames, header_of, AreCellsOf, joined_in, said_by, ended, spelled}
 use Rattle.ncl_reader.proofs.SaidDeclared.{said_declared, header_stands, header_few}
 use Rattle.ncl_reader.proofs.PortsDiffer.{ports_differ}
 use Rattle.ncl_reader.proofs.PortsFew.{ports_few}

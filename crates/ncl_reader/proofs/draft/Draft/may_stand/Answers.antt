@@ -1,5 +1,5 @@
-use Rattle.std.proofs.Common.{[], subst}
-use Rattle.ncl_reader.specs.Draft.{HoldsBy}
+use Rattle.ncl_reader.proofs.Kit.{[], subst}
+use Rattle.ncl_reader.proofs.Terms.{HoldsBy}
 use Rattle.ncl_reader.proofs.PlainSteps.{free_may, port_may, pin_may}
 use Rattle.ncl_reader.proofs.draft.Draft.may_stand.Goals as goal
 

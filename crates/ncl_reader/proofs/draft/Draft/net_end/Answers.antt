@@ -1,13 +1,6 @@
-use Rattle.std.proofs.Common.{◌∷◌, [], ◌++◌, Some, refl, sym, ◌∙◌, subst}
-use Rattle.std.proofs.lemmas.Bool.{false≢true}
-use Rattle.ncl_gates.specs.Name.{cell_name_of}
+use Rattle.ncl_reader.proofs.Kit.{◌∷◌, [], ◌++◌, Some, refl, sym, ◌∙◌, subst, false≢true}
+use Rattle.ncl_reader.proofs.Terms.{cell_name_of, RParen, Mark, Conn, meant, AreJoins, inside, picked, joined}
 use Rattle.ncl_reader.specs.declared.place.Place.TheVariants as place
-use Rattle.ncl_reader.specs.declared.lexeme.Sign.TheVariants.{RParen}
-use Rattle.ncl_reader.specs.Lexemes.{Mark}
-use Rattle.ncl_reader.specs.Grammar.{Conn}
-use Rattle.ncl_reader.specs.Meant.{meant}
-use Rattle.ncl_reader.specs.Instance.{AreJoins}
-use Rattle.ncl_reader.specs.Partial.{inside, picked, joined}
 use Rattle.ncl_reader.proofs.DraftSteps as steps
 use Rattle.ncl_reader.proofs.NetSteps as nets
 use Rattle.ncl_reader.proofs.Nets.{joins-more}

@@ -1,13 +1,5 @@
-use Rattle.std.proofs.Common.{◌≡◌, ◌≢◌, ℕ, List, Option, Some, None, MatchOption}
-use Rattle.std.specs.Option.{option_map}
-use Rattle.std.proofs.lemmas.Option.{same_Some}
-use Rattle.ncl_reader.specs.declared.span.Span.{Span}
-use Rattle.ncl_reader.specs.declared.known.Known.{Known}
-use Rattle.ncl_reader.specs.Lexemes.{Lexeme}
-use Rattle.ncl_reader.specs.Grammar.{Range}
-use Rattle.ncl_reader.specs.Vectors.{span_of, IsDeclared}
-use Rattle.ncl_reader.specs.Ranges.{range_at}
-use Rattle.ncl_reader.specs.Known.{KeepsNames}
+use Rattle.ncl_reader.proofs.Kit.{◌≡◌, ◌≢◌, ℕ, List, Option, Some, None, MatchOption, option_map, same_Some}
+use Rattle.ncl_reader.proofs.Terms.{Span, Known, Lexeme, Range, span_of, IsDeclared, range_at, KeepsNames}
 use Rattle.ncl_reader.proofs.NetSteps.{IsFound}
 use Rattle.ncl_reader.proofs.draft.Draft.net_range.Goals as goal
 

@@ -1,6 +1,5 @@
-use Rattle.std.proofs.Common.{inl, inr, sym, ◌∙◌}
-use Rattle.std.proofs.lemmas.Bool.{false≢true}
-use Rattle.ncl_reader.specs.Rules.{Redeclares}
+use Rattle.ncl_reader.proofs.Kit.{inl, inr, sym, ◌∙◌, false≢true}
+use Rattle.ncl_reader.proofs.Terms.{Redeclares}
 use Rattle.ncl_reader.proofs.Places as places
 use Rattle.ncl_reader.proofs.draft.Draft.of_declared.Goals as goal
 

@@ -1,4 +1,4 @@
-use Rattle.std.proofs.Common.{sym, ◌∙◌}
+use Rattle.ncl_reader.proofs.Kit.{sym, ◌∙◌}
 use Rattle.ncl_reader.proofs.draft.Draft.of_led.Goals as goal
 
 pub returns-then-takes_name : goal.returns-then-takes_name

@@ -1,17 +1,6 @@
-use Rattle.std.proofs.Common.{◌≡◌, [], Option, true, inl, inr, refl, sym, ap, ◌∙◌, subst}
-use Rattle.std.specs.Bool.{Decides}
-use Rattle.std.specs.Option.{option_map}
+use Rattle.ncl_reader.proofs.Kit.{◌≡◌, [], Option, true, inl, inr, refl, sym, ap, ◌∙◌, subst, Decides, option_map}
+use Rattle.ncl_reader.proofs.Terms.{Name, all_of, direction_phrase, lead_phrase, Range, in_ansi, at_declared, IsDeclaring, span_of, Crowds, takes_name, IsFaultAt, KeepsNames, HoldsAt, going, leading, spelled}
 use Rattle.ncl_reader.specs.declared.place.Place.TheVariants as place
-use Rattle.ncl_reader.specs.Lexemes.{Name}
-use Rattle.ncl_reader.specs.Grammar.{all_of, direction_phrase, lead_phrase, Range}
-use Rattle.ncl_reader.specs.Forms.{in_ansi, at_declared, IsDeclaring}
-use Rattle.ncl_reader.specs.Vectors.{span_of}
-use Rattle.ncl_reader.specs.Rules.{Crowds}
-use Rattle.ncl_reader.specs.Lead.{takes_name}
-use Rattle.ncl_reader.specs.Refusals.{IsFaultAt}
-use Rattle.ncl_reader.specs.Known.{KeepsNames}
-use Rattle.ncl_reader.specs.Draft.{HoldsAt}
-use Rattle.ncl_reader.specs.Partial.{going, leading, spelled}
 use Rattle.ncl_reader.proofs.Declares.{at_part, heading_form, declaring_form, range_here}
 use Rattle.ncl_reader.proofs.DraftBody.{grouped-begins, body-begins}
 use Rattle.ncl_reader.proofs.LeadSteps.{in_header, in_item, begins}

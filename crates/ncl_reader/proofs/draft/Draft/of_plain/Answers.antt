@@ -1,5 +1,4 @@
-use Rattle.std.proofs.Common.{Some, inl, inr, refl, sym, ◌∙◌}
-use Rattle.std.proofs.lemmas.Bool.{false≢true}
+use Rattle.ncl_reader.proofs.Kit.{Some, inl, inr, refl, sym, ◌∙◌, false≢true}
 use Rattle.ncl_reader.proofs.NameRules.{crowds_declares}
 use Rattle.ncl_reader.proofs.draft.Draft.of_plain.Goals as goal
 

@@ -1,11 +1,6 @@
-use Rattle.std.proofs.Common.{◌≡◌, None, subst}
-use Rattle.ncl_reader.specs.declared.draft.Draft.{Draft}
-use Rattle.ncl_reader.specs.declared.place.Place.{Place}
+use Rattle.ncl_reader.proofs.Kit.{◌≡◌, None, subst}
+use Rattle.ncl_reader.proofs.Terms.{Draft, Place, Read, meant, HoldsAt, TakesOrBreaks, Partial, ended}
 use Rattle.ncl_reader.specs.declared.place.Place.TheVariants as place
-use Rattle.ncl_reader.specs.declared.lexeme.Lexeme.{Lexeme as Read}
-use Rattle.ncl_reader.specs.Meant.{meant}
-use Rattle.ncl_reader.specs.Draft.{HoldsAt, TakesOrBreaks}
-use Rattle.ncl_reader.specs.Partial.{Partial, ended}
 use Rattle.ncl_reader.proofs.DraftSteps as steps
 use Rattle.ncl_reader.proofs.draft.Draft.step.Goals as goal
 

@@ -1,12 +1,5 @@
-use Rattle.std.proofs.Common.{◌≡◌, ◌++◌, ◌∷◌, [], Contains, inl, inr, refl, sym, ap, ◌∙◌, subst, append_assoc}
-use Rattle.std.specs.List.{flat_map}
-use Rattle.std.proofs.lemmas.Option.{none-some, same_Some}
-use Rattle.ncl_base.proofs.Growing.{Contains-last}
-use Rattle.ncl_reader.specs.Grammar.{group_names}
-use Rattle.ncl_reader.specs.Forms.{in_ansi, IsDeclaring}
-use Rattle.ncl_reader.specs.Rules.{Redeclares, Clashes}
-use Rattle.ncl_reader.specs.Says.{is_output, said_in_header, said_of}
-use Rattle.ncl_reader.specs.Header.{IsHeader, names_said}
+use Rattle.ncl_reader.proofs.Kit.{◌≡◌, ◌++◌, ◌∷◌, [], Contains, inl, inr, refl, sym, ap, ◌∙◌, subst, append_assoc, flat_map, none-some, same_Some}
+use Rattle.ncl_reader.proofs.Terms.{Contains-last, group_names, in_ansi, IsDeclaring, Redeclares, Clashes, is_output, said_in_header, said_of, IsHeader, names_said}
 use Rattle.ncl_reader.proofs.NameRules.{clash_rule}
 use Rattle.ncl_reader.proofs.DraftBody.{names-grouped, few-grouped, said-grouped_more}
 use Rattle.ncl_reader.proofs.draft.Draft.take_header_name.Goals as goal

@@ -1,8 +1,6 @@
-use Rattle.std.proofs.Common.{[], Contains, refl, subst}
+use Rattle.ncl_reader.proofs.Kit.{[], Contains, refl, subst}
+use Rattle.ncl_reader.proofs.Terms.{Name, begun, titled, listing, listed, inside, celled, named, dotted, pinned, HoldsBy, cell_in, name_in}
 use Rattle.ncl_reader.specs.declared.place.Place.TheVariants as place
-use Rattle.ncl_reader.specs.Lexemes.{Name}
-use Rattle.ncl_reader.specs.Partial.{begun, titled, listing, listed, inside, celled, named, dotted, pinned}
-use Rattle.ncl_reader.specs.Draft.{HoldsBy, cell_in, name_in}
 use Rattle.ncl_reader.proofs.PlainSteps.{plain_kept, listing_at, repeats}
 use Rattle.ncl_reader.proofs.DraftSteps as steps
 use Rattle.ncl_reader.proofs.draft.Draft.take_plain.Goals as goal

@@ -1,8 +1,4 @@
-use Rattle.std.proofs.Common.{◌∷◌, [], ◌++◌, cond, Some, None, ap, ◌∙◌, map}
-use Rattle.std.proofs.lemmas.List.{map_push}
-use Rattle.std.proofs.lemmas.List.Elements.{Contains-append_left}
-use Rattle.std.proofs.lemmas.Map.Text.{btree_map_updates_str}
-use Rattle.std.specs.Str.{bytes_eq}
+use Rattle.ncl_reader.proofs.Kit.{◌∷◌, [], ◌++◌, cond, Some, None, ap, ◌∙◌, map, map_push, Contains-append_left, btree_map_updates_str, bytes_eq}
 use Rattle.ncl_reader.proofs.Ways.{differ_more, name_more}
 use Rattle.ncl_reader.proofs.header.Header.add.Goals as goal
 

@@ -1,5 +1,4 @@
-use Rattle.std.proofs.Common.{sym, ap, ◌∙◌}
-use Rattle.std.specs.Option.{is_some}
+use Rattle.ncl_reader.proofs.Kit.{sym, ap, ◌∙◌, is_some}
 use Rattle.ncl_reader.proofs.Ways.{kept_some, kept_known}
 use Rattle.ncl_reader.proofs.header.Header.has.Goals as goal
 

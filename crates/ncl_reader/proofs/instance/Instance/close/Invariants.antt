@@ -1,7 +1,5 @@
-use Rattle.std.proofs.Common.{◌≡◌, List, ℕ, [], map, take, unwrap_or, Contains}
-use Rattle.ncl_reader.specs.Grammar.{Conn}
-use Rattle.ncl_reader.specs.Says.{net_on}
-use Rattle.ncl_reader.specs.Instance.{AreJoins, pins_in}
+use Rattle.ncl_reader.proofs.Kit.{◌≡◌, List, ℕ, [], map, take, unwrap_or, Contains}
+use Rattle.ncl_reader.proofs.Terms.{Conn, net_on, AreJoins, pins_in}
 use Rattle.ncl_reader.proofs.instance.Instance.close.Given as goal
 
 -- the nets on the pins so far, which are joined

@@ -1,5 +1,5 @@
-use Rattle.std.proofs.Common.{◌≡◌, map, take, None}
-use Rattle.ncl_reader.specs.Instance.{joint_of}
+use Rattle.ncl_reader.proofs.Kit.{◌≡◌, map, take, None}
+use Rattle.ncl_reader.proofs.Terms.{joint_of}
 use Rattle.ncl_reader.proofs.Nets.{joint_on}
 use Rattle.ncl_reader.proofs.instance.Instance.join_on.Given as goal
 

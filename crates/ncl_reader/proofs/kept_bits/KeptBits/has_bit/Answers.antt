@@ -1,7 +1,5 @@
-use Rattle.std.proofs.Common.{◌≡◌, ℕ, List, [], unwrap_or, ap, ◌∙◌, arith}
-use Rattle.std.specs.Option.{option_map}
-use Rattle.std.proofs.lemmas.Bool.{false≢true}
-use Rattle.ncl_reader.specs.KeptBits.{numbers_at}
+use Rattle.ncl_reader.proofs.Kit.{◌≡◌, ℕ, List, [], unwrap_or, ap, ◌∙◌, arith, option_map, false≢true}
+use Rattle.ncl_reader.proofs.Terms.{numbers_at}
 use Rattle.ncl_reader.proofs.KeptStanding.{covers_stands, stands_covers}
 use Rattle.ncl_reader.proofs.kept_bits.KeptBits.has_bit.Goals as goal
 

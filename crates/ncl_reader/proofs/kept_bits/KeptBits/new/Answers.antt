@@ -1,4 +1,4 @@
-use Rattle.std.proofs.Common.{rules}
+use Rattle.ncl_reader.proofs.Kit.{rules}
 use Rattle.ncl_reader.proofs.KeptStanding.{standing-none}
 use Rattle.ncl_reader.proofs.kept_bits.KeptBits.new.Goals as goal
 

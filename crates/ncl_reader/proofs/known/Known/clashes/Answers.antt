@@ -1,4 +1,4 @@
-use Rattle.std.proofs.Common.{inl}
+use Rattle.ncl_reader.proofs.Kit.{inl}
 use Rattle.ncl_reader.proofs.KeptNames.{bit_of_clash}
 use Rattle.ncl_reader.proofs.known.Known.clashes.Goals as goal
 

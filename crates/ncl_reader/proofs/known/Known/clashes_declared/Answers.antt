@@ -1,5 +1,4 @@
-use Rattle.std.proofs.Common.{refl, sym, ◌∙◌, inl}
-use Rattle.std.proofs.lemmas.Bool.{false≢true}
+use Rattle.ncl_reader.proofs.Kit.{refl, sym, ◌∙◌, inl, false≢true}
 use Rattle.ncl_reader.proofs.KeptNames.{clashes_scalar, clashes_again, clashes_stands, stands_clashes, some_before}
 use Rattle.ncl_reader.proofs.known.Known.clashes_declared.Goals as goal
 

@@ -1,5 +1,5 @@
-use Rattle.std.proofs.Common.{◌++◌, ◌∷◌, []}
-use Rattle.ncl_reader.specs.Lexemes.{Name}
+use Rattle.ncl_reader.proofs.Kit.{◌++◌, ◌∷◌, []}
+use Rattle.ncl_reader.proofs.Terms.{Name}
 use Rattle.ncl_reader.proofs.KeptNames.{agrees_fine, declared_unused}
 use Rattle.ncl_reader.proofs.KeptUses.{uses-other, uses-same}
 use Rattle.ncl_reader.proofs.KeptClear.{clear-name}

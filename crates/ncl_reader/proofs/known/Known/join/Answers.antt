@@ -1,4 +1,4 @@
-use Rattle.ncl_reader.specs.Lexemes.{Name}
+use Rattle.ncl_reader.proofs.Terms.{Name}
 use Rattle.ncl_reader.proofs.KeptNames.{declared_unused}
 use Rattle.ncl_reader.proofs.KeptRanges.{ranges-other}
 use Rattle.ncl_reader.proofs.KeptUses.{uses-more}

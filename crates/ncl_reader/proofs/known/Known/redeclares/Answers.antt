@@ -1,8 +1,5 @@
-use Rattle.std.proofs.Common.{refl, sym, ap, ◌∙◌, inr}
-use Rattle.std.proofs.lemmas.Bool.{false≢true}
-use Rattle.std.proofs.lemmas.Option.{none-some}
-use Rattle.std.specs.Option.{option_map}
-use Rattle.ncl_reader.specs.Vectors.{span_of}
+use Rattle.ncl_reader.proofs.Kit.{refl, sym, ap, ◌∙◌, inr, false≢true, none-some, option_map}
+use Rattle.ncl_reader.proofs.Terms.{span_of}
 use Rattle.ncl_reader.proofs.KeptNames.{none_range, redeclares_other, redeclares_used}
 use Rattle.ncl_reader.proofs.known.Known.redeclares.Goals as goal
 

@@ -1,4 +1,4 @@
-use Rattle.ncl_reader.specs.Lexemes.{Name}
+use Rattle.ncl_reader.proofs.Terms.{Name}
 use Rattle.ncl_reader.proofs.KeptRanges.{ranges-other}
 use Rattle.ncl_reader.proofs.KeptUses.{uses-other}
 use Rattle.ncl_reader.proofs.KeptClear.{clear-name}

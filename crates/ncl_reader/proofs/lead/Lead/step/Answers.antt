@@ -1,9 +1,6 @@
-use Rattle.std.proofs.Common.{◌<◌, refl, sym, ◌∙◌, subst, arith, Some}
-use Rattle.std.proofs.lemmas.Bool.{false≢true}
+use Rattle.ncl_reader.proofs.Kit.{◌<◌, refl, sym, ◌∙◌, subst, arith, Some, false≢true}
+use Rattle.ncl_reader.proofs.Terms.{LBracket, RBracket, Colon, Mark, meant}
 use Rattle.ncl_reader.specs.declared.place.LeadPlace.TheVariants as lead
-use Rattle.ncl_reader.specs.declared.lexeme.Sign.TheVariants.{LBracket, RBracket, Colon}
-use Rattle.ncl_reader.specs.Lexemes.{Mark}
-use Rattle.ncl_reader.specs.Meant.{meant}
 use Rattle.ncl_reader.proofs.LeadSteps as steps
 use Rattle.ncl_reader.proofs.lead.Lead.step.Goals as goal
 

@@ -1,6 +1,4 @@
-use Rattle.std.proofs.Common.{◌||◌, map, sym, ap, ◌∙◌}
-use Rattle.std.specs.List.{list_any}
-use Rattle.std.specs.Str.{bytes_eq}
+use Rattle.ncl_reader.proofs.Kit.{◌||◌, map, sym, ap, ◌∙◌, list_any, bytes_eq}
 use Rattle.ncl_reader.proofs.Among.{any-now}
 use Rattle.ncl_reader.proofs.name_set.NameSet.has.Goals as goal
 

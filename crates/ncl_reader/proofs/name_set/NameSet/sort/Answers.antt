@@ -1,11 +1,4 @@
-use Rattle.std.proofs.Common.{◌||◌, true, map, sym, ap, ◌∙◌}
-use Rattle.std.specs.Prelude.{is_some}
-use Rattle.std.specs.BTreeMap.{get_by}
-use Rattle.std.specs.Cmp.Lexicographic.{slice_cmp}
-use Rattle.std.specs.Ordering.{nat_cmp}
-use Rattle.std.specs.List.{list_any}
-use Rattle.std.specs.Str.{bytes_eq}
-use Rattle.std.proofs.lemmas.Map.Text.{btree_map_updates_str}
+use Rattle.ncl_reader.proofs.Kit.{◌||◌, true, map, sym, ap, ◌∙◌, is_some, get_by, slice_cmp, nat_cmp, list_any, bytes_eq, btree_map_updates_str}
 use Rattle.ncl_reader.proofs.NameSets.{waits-more, one-sorted}
 use Rattle.ncl_reader.proofs.name_set.NameSet.sort.Goals as goal
 

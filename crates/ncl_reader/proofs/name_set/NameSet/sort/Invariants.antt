@@ -1,5 +1,5 @@
-use Rattle.std.proofs.Common.{◌≡◌, ℕ, List, vec_len}
-use Rattle.ncl_reader.specs.NameSet.{has_name}
+use Rattle.ncl_reader.proofs.Kit.{◌≡◌, ℕ, List, vec_len}
+use Rattle.ncl_reader.proofs.Terms.{has_name}
 use Rattle.ncl_reader.proofs.name_set.NameSet.sort.Given as goal
 
 -- the names are those of the beginning

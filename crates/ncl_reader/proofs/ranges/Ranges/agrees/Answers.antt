@@ -1,4 +1,4 @@
-use Rattle.std.proofs.Common.{refl, sym, ◌∙◌}
+use Rattle.ncl_reader.proofs.Kit.{refl, sym, ◌∙◌}
 use Rattle.ncl_reader.proofs.KeptRanges.{unvectored}
 use Rattle.ncl_reader.proofs.ranges.Ranges.agrees.Goals as goal
 

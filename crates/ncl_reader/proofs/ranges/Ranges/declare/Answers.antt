@@ -1,11 +1,5 @@
-use Rattle.std.proofs.Common.{◌≡◌, Option, Some, None, refl, ap, ◌∙◌}
-use Rattle.std.specs.Option.{option_map}
-use Rattle.std.specs.Str.{bytes_eq}
-use Rattle.std.proofs.lemmas.Map.Text.{btree_map_updates_str}
-use Rattle.ncl_reader.specs.Grammar.{Range}
-use Rattle.ncl_reader.specs.Vectors.{span_of, IsDeclared}
-use Rattle.ncl_reader.specs.NameSet.{has_name}
-use Rattle.ncl_reader.specs.Ranges.{vector_at, kept_as}
+use Rattle.ncl_reader.proofs.Kit.{◌≡◌, Option, Some, None, refl, ap, ◌∙◌, option_map, bytes_eq, btree_map_updates_str}
+use Rattle.ncl_reader.proofs.Terms.{Range, span_of, IsDeclared, has_name, vector_at, kept_as}
 use Rattle.ncl_reader.proofs.KeptRanges.{ranges-more, kept-vector, plain-more}
 use Rattle.ncl_reader.proofs.ranges.Ranges.declare.Goals as goal
 

@@ -1,6 +1,5 @@
-use Rattle.std.proofs.Common.{◌≡◌, None, ap, ◌∙◌, rules}
-use Rattle.ncl_reader.specs.NameSet.{has_name}
-use Rattle.ncl_reader.specs.Ranges.{vector_at, kept_as}
+use Rattle.ncl_reader.proofs.Kit.{◌≡◌, None, ap, ◌∙◌, rules}
+use Rattle.ncl_reader.proofs.Terms.{has_name, vector_at, kept_as}
 use Rattle.ncl_reader.proofs.KeptRanges.{ranges-none}
 use Rattle.ncl_reader.proofs.ranges.Ranges.new.Goals as goal
 

@@ -1,4 +1,4 @@
-use Rattle.std.proofs.Common.{rules}
+use Rattle.ncl_reader.proofs.Kit.{rules}
 use Rattle.ncl_reader.proofs.KeptRanges.{vector-found}
 use Rattle.ncl_reader.proofs.ranges.Ranges.vector.Goals as goal
 

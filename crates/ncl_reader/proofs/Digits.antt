@@ -65,17 +65,12 @@ after_most n (c ∷ cs) = let rest = after_most (n * 10 + digit_value c) cs in o
 
 -- six digits of which the first isn't 0
 pub six_digits : (cs : List ℕ) → 5 < length cs → AllDigits 10 cs → 48 < get_or cs 0 0 → 99999 < digits_value 10 cs
-six_digits [] many all first = absurd (omega (arith, many))
-six_digits (a ∷ []) many all first = absurd (omega (arith, many))
-six_digits (a ∷ b ∷ []) many all first = absurd (omega (arith, many))
-six_digits (a ∷ b ∷ c ∷ []) many all first = absurd (omega (arith, many))
-six_digits (a ∷ b ∷ c ∷ d ∷ []) many all first = absurd (omega (arith, many))
-six_digits (a ∷ b ∷ c ∷ d ∷ e ∷ []) many all first = absurd (omega (arith, many))
 six_digits (a ∷ b ∷ c ∷ d ∷ e ∷ f ∷ cs) many all first =
     let is = digit_at (a ∷ b ∷ c ∷ d ∷ e ∷ f ∷ cs) 0 all (omega arith) in
     let worth : 0 < digit_value a = omega (arith, is.worth, first) in
     let most = after_most (((((((0 * 10 + digit_value a) * 10 + digit_value b) * 10 + digit_value c) * 10 + digit_value d) * 10 + digit_value e) * 10 + digit_value f)) cs in
     omega (arith, most, worth)
+six_digits cs many all first = absurd (omega (arith, many))
 
 -- a number that is too large is none of a vector's
 pub outside_large : (span : Span) (digits : List ℕ) → span.first < 65536 → span.last < 65536 → AllDigits 10 digits → (0 < length digits → 48 < get_or digits 0 0) → IsTooLarge digits → Covers span (digits_value 10 digits) → ⊥

@@ -1,19 +1,23 @@
 -- Nets on pins.
-use Rattle.ncl_reader.proofs.Kit.{◌≡◌, ℕ, zero, suc, ◌+◌, ◌<◌, length, arith, List, [], ◌∷◌, ◌++◌, Bool, true, false, map, take, get_or, Option, Some, None, refl, sym, ap, ◌∙◌, Contains, drop, drop-cons, subst, Bor, find, option_map, bytes_eq, false≢true, take_more, map_push, take-append-drop, map-append, bytes_eq-Decides}
+use Rattle.ncl_reader.proofs.Kit.{◌≡◌, ℕ, suc, ◌+◌, ◌<◌, length, List, [], ◌∷◌, ◌++◌, Bool, true, false, map, take, get_or, Option, Some, None, refl, sym, ap, ◌∙◌, Contains, drop, drop-cons, subst, Bor, find, option_map, bytes_eq, take_more, map_push, take-append-drop, map-append, find-append, option_or, cond}
 use Rattle.ncl_reader.proofs.Terms.{Join, Conn, net_name, net_on, Joint, joint_of, joint_in, AreJoins, picked_name, pins_in}
 use Rattle.ncl_reader.proofs.Looked.{among-item}
+use Rattle.ncl_reader.proofs.Among.{found-name, none-among}
 
 -- the net on a pin, by what is kept
 abbrev pub joint_on : List Joint → List ℕ → Option (List ℕ)
 joint_on joints pin = option_map (λ (j : Joint). j.net) (find (λ (j : Joint). bytes_eq j.pin pin) joints)
 
+-- what is mapped is there where its image is
+mapped_none : {A B : Type 0} (f : A → B) (found : Option A) → option_map f found ≡ None → found ≡ None
+mapped_none f None e = refl
+mapped_none f (Some a) e = absurd cc
+
+mapped_some : {A B : Type 0} (f : A → B) (found : Option A) (b : B) → option_map f found ≡ Some b → (a : A) × (found ≡ Some a)
+mapped_some f None b e = absurd cc
+mapped_some f (Some a) b e = (a, refl)
+
 module _ (x : List ℕ) where
-  net-here : (c : Conn) (cs : List Conn) → bytes_eq c.pin x ≡ true → net_on (c ∷ cs) x ≡ Some (net_name c.net)
-  net-here c cs e = rw e refl
-
-  net-there : (c : Conn) (cs : List Conn) → bytes_eq c.pin x ≡ false → net_on (c ∷ cs) x ≡ net_on cs x
-  net-there c cs e = rw e refl
-
   joint-here : (j : Joint) (js : List Joint) → bytes_eq j.pin x ≡ true → joint_on (j ∷ js) x ≡ Some j.net
   joint-here j js e = rw e refl
 
@@ -21,42 +25,27 @@ module _ (x : List ℕ) where
   joint-there j js e = rw e refl
 
   pub none-free : (cs : List Conn) → net_on cs x ≡ None → Contains (pins_in cs) x → ⊥
-  none-free [] e found = absurd (omega (arith, found.1))
-  none-free (c ∷ cs) e found = by (none-free cs) (bytes_eq c.pin x) refl found
-    where
-      by : (net_on cs x ≡ None → Contains (pins_in cs) x → ⊥) → (b : Bool) → bytes_eq c.pin x ≡ b → Contains (pins_in (c ∷ cs)) x → ⊥
-      by rec true is found = let bad : Some (net_name c.net) ≡ None = sym (net-here c cs is) ∙ e in absurd cc
-      by rec false is (zero, lt, same) = false≢true (sym is ∙ (bytes_eq-Decides c.pin x).1 same)
-      by rec false is (suc k, lt, same) = rec (sym (net-there c cs is) ∙ e) (k, omega (arith, lt), same)
+  none-free cs e = none-among (λ (c : Conn). c.pin) x cs (mapped_none _ _ e)
 
   pub some-joined : (cs : List Conn) (n : List ℕ) → net_on cs x ≡ Some n → Contains (pins_in cs) x
-  some-joined [] n e = absurd cc
-  some-joined (c ∷ cs) n e = by (some-joined cs n) (bytes_eq c.pin x) refl
-    where
-      by : (net_on cs x ≡ Some n → Contains (pins_in cs) x) → (b : Bool) → bytes_eq c.pin x ≡ b → Contains (pins_in (c ∷ cs)) x
-      by rec true is = (0, omega arith, (bytes_eq-Decides c.pin x).0 is)
-      by rec false is = let found = rec (sym (net-there c cs is) ∙ e) in (suc found.0, omega (arith, found.1), found.2)
+  some-joined cs n e = let (c, found) = mapped_some _ _ n e in found-name (λ (c : Conn). c.pin) x cs c found
 
   -- what is kept tells the nets
   joint-net : (cs : List Conn) → joint_on (map joint_in cs) x ≡ net_on cs x
   joint-net [] = refl
-  joint-net (c ∷ cs) = by (joint-net cs) (bytes_eq c.pin x) refl
+  joint-net (c ∷ cs) = by (bytes_eq c.pin x) (joint-net cs)
     where
-      by : joint_on (map joint_in cs) x ≡ net_on cs x → (b : Bool) → bytes_eq c.pin x ≡ b → joint_on (map joint_in (c ∷ cs)) x ≡ net_on (c ∷ cs) x
-      by rec true is = joint-here (joint_in c) (map joint_in cs) is ∙ sym (net-here c cs is)
-      by rec false is = joint-there (joint_in c) (map joint_in cs) is ∙ rec ∙ sym (net-there c cs is)
+      by : (b : Bool) → joint_on (map joint_in cs) x ≡ net_on cs x → option_map (λ (j : Joint). j.net) (cond b (Some (joint_in c)) (find (λ (j : Joint). bytes_eq j.pin x) (map joint_in cs))) ≡ option_map (λ (c : Conn). net_name c.net) (cond b (Some c) (find (λ (c : Conn). bytes_eq c.pin x) cs))
+      by true rec = refl
+      by false rec = rec
 
   pub kept-net : (cs : List Conn) (joins : List Join) → AreJoins cs joins → net_on cs x ≡ joint_on (map joint_of joins) x
   kept-net cs joins are = sym (joint-net cs) ∙ sym (ap (λ js. joint_on js x) are)
 
   -- behind connections of which none is on the pin
   joint-behind : (js ks : List Joint) → joint_on js x ≡ None → joint_on (js ++ ks) x ≡ joint_on ks x
-  joint-behind [] ks e = refl
-  joint-behind (j ∷ js) ks e = by (joint-behind js ks) (bytes_eq j.pin x) refl
-    where
-      by : (joint_on js x ≡ None → joint_on (js ++ ks) x ≡ joint_on ks x) → (b : Bool) → bytes_eq j.pin x ≡ b → joint_on (j ∷ (js ++ ks)) x ≡ joint_on ks x
-      by rec true is = let bad : Some j.net ≡ None = sym (joint-here j js is) ∙ e in absurd cc
-      by rec false is = joint-there j (js ++ ks) is ∙ rec (sym (joint-there j js is) ∙ e)
+  joint-behind js ks e =
+      ap (option_map (λ (j : Joint). j.net)) (find-append (λ (j : Joint). bytes_eq j.pin x) js ks ∙ ap (λ found. option_or found (find (λ (j : Joint). bytes_eq j.pin x) ks)) (mapped_none (λ (j : Joint). j.net) _ e))
 
 -- connections that were looked at
 pub net-found : (xs ys : List Join) (same : ys ≡ xs) (i : ℕ) (d : Join) (x : List ℕ) → i < length ys → joint_on (map joint_of (take i xs)) x ≡ None → bytes_eq (get_or ys i d).pin.now x ≡ true → joint_on (map joint_of xs) x ≡ Some (picked_name (get_or ys i d).net.now (get_or ys i d).index)

@@ -1,22 +1,22 @@
 -- What may come next, by the form of what stands before it.
-use Rattle.ncl_reader.proofs.Kit.{◌≡◌, ◌≢◌, ℕ, List, [], ◌∷◌, Option, Some, None, false, inl, inr, ◌⊎◌, refl, sym, ap, ◌∙◌, subst, false≢true}
+use Rattle.ncl_reader.proofs.Kit.{◌≡◌, ◌≢◌, ℕ, List, [], Option, Some, None, false, inl, inr, ◌⊎◌, refl, sym, ap, ◌∙◌, subst, false≢true}
 use Rattle.ncl_reader.proofs.Terms.{Place, LeadPlace, Syntax, Unsupported, Lexeme, Name, Direction, Plain, Wired, Lead, Gives, Wires, Range, takes_name, LeadPart, led, ranged, lead_place, direction_place, word_place, leading, naming, going, Partial, listing, heading, at_item, inside, declaring, joining, dotted, opened, netted, indexing, joined, spelled, place_of, IsDeclaring, IsAtItem, IsAtConn, IsAtPin, IsAtNet, IsBehindNet, IsAtIndex, IsAtClose, Redeclares, Clashes, Crowds, IsLeftOut, IsFaultAt}
 use Rattle.ncl_reader.specs.declared.place.Place.TheVariants as place
 use Rattle.ncl_reader.proofs.Viable.{same_tree}
 use Rattle.ncl_reader.proofs.Declares.{part_range, range_here, declaring_tree, declaring-here}
 
--- the form of what stands before a place, for those at which a fault asks for it
-abbrev pub FormAt : Place → List Lexeme → Type 0
-FormAt place.Item xs = IsAtItem xs
-FormAt place.Connection xs = IsAtConn xs
-FormAt place.Pin xs = IsAtPin xs
-FormAt place.Net xs = IsAtNet xs
-FormAt place.AfterNet xs = (net : List ℕ) × IsBehindNet xs net
-FormAt place.Index xs = (net : List ℕ) × IsAtIndex xs net
-FormAt place.AfterConnection xs = IsAtClose xs
-FormAt at xs = Unit {0}
+-- the form of what stands before a place, for those at which a fault asks for it, or something else
+abbrev pub FormOr : Type 0 → Place → List Lexeme → Type 0
+FormOr D place.Item xs = IsAtItem xs
+FormOr D place.Connection xs = IsAtConn xs
+FormOr D place.Pin xs = IsAtPin xs
+FormOr D place.Net xs = IsAtNet xs
+FormOr D place.AfterNet xs = (net : List ℕ) × IsBehindNet xs net
+FormOr D place.Index xs = (net : List ℕ) × IsAtIndex xs net
+FormOr D place.AfterConnection xs = IsAtClose xs
+FormOr D at xs = D
 
-form_here : (p : Partial) → FormAt (place_of p) (spelled p)
+form_here : (p : Partial) → FormOr (Unit {0}) (place_of p) (spelled p)
 form_here (at_item head items) = (head, items, refl)
 form_here (inside head items (joining cell name conns)) = (head, items, cell, name, conns, refl)
 form_here (inside head items (dotted cell name conns)) = (head, items, cell, name, conns, refl)
@@ -25,45 +25,29 @@ form_here (inside head items (netted cell name conns pin net)) = (net, (head, it
 form_here (inside head items (indexing cell name conns pin net)) = (net, (head, items, cell, name, conns, pin, refl))
 form_here (inside head items (joined cell name conns conn)) = (head, items, cell, name, record { before = conns; last = conn }, refl)
 form_here (listing name []) = tt
-form_here (listing name (x ∷ names)) = tt
 form_here (heading name groups (leading part)) = tt
-form_here (heading name groups (naming spec names last)) = tt
-form_here (heading name groups (going spec row)) = tt
 form_here (inside head items (declaring (leading part))) = tt
-form_here (inside head items (declaring (naming spec names last))) = tt
-form_here (inside head items (declaring (going spec row))) = tt
 form_here p = tt
 
-pub form_at : (p : Partial) (at : Place) → place_of p ≡ at → FormAt at (spelled p)
-form_at p at e = subst (λ here. FormAt here (spelled p)) e (form_here p)
+pub form_at : (p : Partial) (at : Place) → place_of p ≡ at → FormOr (Unit {0}) at (spelled p)
+form_at p at e = subst (λ here. FormOr (Unit {0}) here (spelled p)) e (form_here p)
 
-pub item-place : (p : Partial) → IsAtItem (spelled p) → place_of p ≡ place.Item
-item-place p (head, items, is) = ap place_of (same_tree p (at_item head items) is)
-
-pub conn-place : (p : Partial) → IsAtConn (spelled p) → place_of p ≡ place.Connection
-conn-place p (head, items, cell, name, conns, is) = ap place_of (same_tree p (inside head items (joining cell name conns)) is)
-
-pub pin-place : (p : Partial) → IsAtPin (spelled p) → place_of p ≡ place.Pin
-pin-place p (head, items, cell, name, conns, is) = ap place_of (same_tree p (inside head items (dotted cell name conns)) is)
-
-pub net-place : (p : Partial) → IsAtNet (spelled p) → place_of p ≡ place.Net
-net-place p (head, items, cell, name, conns, pin, is) = ap place_of (same_tree p (inside head items (opened cell name conns pin)) is)
-
-pub behind-place : (p : Partial) → ((net : List ℕ) × IsBehindNet (spelled p) net) → place_of p ≡ place.AfterNet
-behind-place p (net, (head, items, cell, name, conns, pin, is)) = ap place_of (same_tree p (inside head items (netted cell name conns pin net)) is)
-
-pub index-place : (p : Partial) → ((net : List ℕ) × IsAtIndex (spelled p) net) → place_of p ≡ place.Index
-index-place p (net, (head, items, cell, name, conns, pin, is)) = ap place_of (same_tree p (inside head items (indexing cell name conns pin net)) is)
-
-pub close-place : (p : Partial) → IsAtClose (spelled p) → place_of p ≡ place.AfterConnection
-close-place p (head, items, cell, name, conns, is) = ap place_of (same_tree p (inside head items (joined cell name conns.before conns.last)) is)
+pub place_at : (p : Partial) (at : Place) → FormOr ⊥ at (spelled p) → place_of p ≡ at
+place_at p place.Item (head, items, is) = ap place_of (same_tree p (at_item head items) is)
+place_at p place.Connection (head, items, cell, name, conns, is) = ap place_of (same_tree p (inside head items (joining cell name conns)) is)
+place_at p place.Pin (head, items, cell, name, conns, is) = ap place_of (same_tree p (inside head items (dotted cell name conns)) is)
+place_at p place.Net (head, items, cell, name, conns, pin, is) = ap place_of (same_tree p (inside head items (opened cell name conns pin)) is)
+place_at p place.AfterNet (net, (head, items, cell, name, conns, pin, is)) = ap place_of (same_tree p (inside head items (netted cell name conns pin net)) is)
+place_at p place.Index (net, (head, items, cell, name, conns, pin, is)) = ap place_of (same_tree p (inside head items (indexing cell name conns pin net)) is)
+place_at p place.AfterConnection (head, items, cell, name, conns, is) = ap place_of (same_tree p (inside head items (joined cell name conns.before conns.last)) is)
+place_at p at none = absurd none
 
 -- no item, no pin and no connection is next at another place
 pub elsewhere : (p : Partial) (at : Place) → place_of p ≡ at → at ≢ place.Item → at ≢ place.Pin → at ≢ place.Connection → ¬ IsAtItem (spelled p) × ¬ IsAtPin (spelled p) × ¬ IsAtConn (spelled p)
 elsewhere p at is item pin conn = (
-  λ form. item (sym is ∙ item-place p form),
-  λ form. pin (sym is ∙ pin-place p form),
-  λ form. conn (sym is ∙ conn-place p form),
+  λ form. item (sym is ∙ place_at p place.Item form),
+  λ form. pin (sym is ∙ place_at p place.Pin form),
+  λ form. conn (sym is ∙ place_at p place.Connection form),
 )
 
 -- a name is declared at these places alone

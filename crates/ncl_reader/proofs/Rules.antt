@@ -1,6 +1,6 @@
 -- It is decided whether a token breaks a rule.
 use Rattle.ncl_reader.proofs.Kit.{[], ◌≡◌, ◌≢◌, ℕ, ◌<◌, length, List, ◌∷◌, ◌++◌, Option, Some, None, inl, inr, refl, sym, ap, ◌∙◌, subst, Contains, arith, option_map, flat_map, digits_value, cases_lt, same_Some, Contains-append_right, Contains-append_cases}
-use Rattle.ncl_reader.proofs.Terms.{CellKind, cell_name_of, pins_of, cell_or_none, cell_name_of-distinct, EndModule, word_of, RParen, LBracket, Lexeme, Word, Name, Number, Mark, Row, Direction, Lead, Gives, Wires, Range, Group, group_names, Listing, Empty, Names, Ansi, header_of, IsDeclaring, IsAtNet, span_of, Covers, bit_name, MOST_VECTOR_BITS, MOST_PORT_BITS, Stands, IsDeclared, IsVector, directed_by, IsOutside, Redeclares, Clashes, Crowds, BreaksRule, pins_in, LeadPart, coloned, leading, Partial, listing, heading, at_item, inside, declaring, dotted, netted, indexing, opened, joined, spelled, Keyword, Sign}
+use Rattle.ncl_reader.proofs.Terms.{CellKind, cell_name_of, pins_of, cell_or_none, cell_name_of-distinct, EndModule, word_of, RParen, LBracket, Lexeme, Word, Name, Number, Mark, Row, Direction, Lead, Gives, Wires, Range, Group, group_names, Listing, Empty, Names, Ansi, header_of, IsDeclaring, IsAtNet, span_of, Covers, bit_name, MOST_VECTOR_BITS, MOST_PORT_BITS, Stands, IsDeclared, IsVector, directed_by, IsOutside, Redeclares, Clashes, Crowds, BreaksRule, pins_in, LeadPart, coloned, leading, Partial, listing, heading, at_item, inside, declaring, dotted, netted, indexing, opened, joined, spelled, Wire, Comma}
 use Rattle.ncl_reader.proofs.Among.{among_or_not}
 use Rattle.ncl_reader.proofs.Declares.{Of, part_spec, part_names}
 use Rattle.ncl_reader.proofs.Facts.{Decided, both_decided, either_decided, same_or_not, any-or-not, tree_or_not, declaring_or_not, spans_or_not, covers_or_not, bit_or_not}
@@ -175,27 +175,17 @@ outside_or_not p digits = mapped (outside-back p digits) (outside-here p digits)
 is_vector : (xs : List Lexeme) (net : List ℕ) → Decided ((range : Range) × IsVector xs net range)
 is_vector xs net = mapped (λ (range, vector, u). (range, vector)) (λ (range, vector). (range, vector, tt)) (vector_or_not xs net (λ range. Unit {0}) (λ range. inl tt))
 
-word_or_not : (p : Partial) (word : Keyword) → Decided (BreaksAt p (Word word))
-word_or_not (at_item head items) EndModule = lacking_or_not (header_of head) (directed_by head items)
-word_or_not (at_item head items) (word_of way) = ansi_or_not head.ports
-word_or_not p EndModule = inr (λ none. none)
-word_or_not p (word_of way) = inr (λ none. none)
-word_or_not p word = inr (λ none. none)
-
-mark_or_not : (p : Partial) (sign : Sign) → Decided (BreaksAt p (Mark sign))
-mark_or_not (inside head items (netted cell name conns pin net)) LBracket =
-    mapped (λ none range vector. none (range, vector)) (λ none (range, vector). none range vector) (not_decided (is_vector (spelled (inside head items (netted cell name conns pin net))) net))
-mark_or_not (inside head items (netted cell name conns pin net)) RParen = is_vector (spelled (inside head items (netted cell name conns pin net))) net
-mark_or_not (inside head items (joined cell name conns conn)) RParen = kind_decided cell _ (λ kind. lacking_or_not (pins_of kind) (pins_in (conns ++ conn ∷ [])))
-mark_or_not p LBracket = inr (λ none. none)
-mark_or_not p RParen = inr (λ none. none)
-mark_or_not p sign = inr (λ none. none)
-
 at_or_not : (p : Partial) (t : Lexeme) → Decided (BreaksAt p t)
 at_or_not p (Name x) = either_decided (name_or_not p x) (either_decided (redeclares_or_not p x) (either_decided (clashes_or_not p x) (crowds_or_not p x)))
-at_or_not p (Word word) = word_or_not p word
+at_or_not (at_item head items) (Word EndModule) = lacking_or_not (header_of head) (directed_by head items)
+at_or_not (at_item head items) (Word (word_of way)) = ansi_or_not head.ports
+at_or_not p (Word Wire) = inr (λ none. none)
 at_or_not p (Number digits) = either_decided (either_decided (less_or_not 5 (length digits)) (less_or_not 65535 (digits_value 10 digits))) (either_decided (long_or_not p digits) (outside_at p digits))
-at_or_not p (Mark sign) = mark_or_not p sign
+at_or_not (inside head items (netted cell name conns pin net)) (Mark LBracket) =
+    mapped (λ none range vector. none (range, vector)) (λ none (range, vector). none range vector) (not_decided (is_vector (spelled (inside head items (netted cell name conns pin net))) net))
+at_or_not (inside head items (netted cell name conns pin net)) (Mark RParen) = is_vector (spelled (inside head items (netted cell name conns pin net))) net
+at_or_not (inside head items (joined cell name conns conn)) (Mark RParen) = kind_decided cell _ (λ kind. lacking_or_not (pins_of kind) (pins_in (conns ++ conn ∷ [])))
+at_or_not p (Mark Comma) = inr (λ none. none)
 at_or_not p t = inr (λ none. none)
 
 -- a token breaks a rule or it doesn't

@@ -1,6 +1,6 @@
 -- The rules by the partial tree in front of a token.
 use Rattle.ncl_reader.proofs.Kit.{[], ◌≡◌, ◌≢◌, ℕ, ◌+◌, ◌*◌, ◌<◌, length, List, ◌∷◌, ◌++◌, Some, map, sum, inl, inr, ◌⊎◌, refl, sym, ap, ◌∙◌, subst, Contains, append_assoc, false, flat_map, digits_value, same_Some}
-use Rattle.ncl_reader.proofs.Terms.{CellKind, cell_name_of, pins_of, EndModule, word_of, RParen, LBracket, Colon, Lexeme, Word, Name, Number, Mark, Row, Direction, direction_phrase, Lead, Gives, Wires, lead_phrase, Range, Spec, Group, group_phrase, group_names, with_commas, Item, Ansi, Head, header_of, body_phrase, in_ansi, at_declared, span_of, width, Covers, IsTooLarge, MOST_VECTOR_BITS, MOST_PORT_BITS, IsVector, directed_by, group_bits, item_bits, LeavesPort, DirectsLate, HasNoBits, IsTooLong, IsOutside, Redeclares, Clashes, Crowds, BreaksRule, MayJoin, pins_in, LeadPart, led, coloned, GroupPart, leading, Partial, start, listing, heading, at_item, inside, declaring, dotted, netted, indexing, joined, header_spelled, spelled}
+use Rattle.ncl_reader.proofs.Terms.{CellKind, cell_name_of, pins_of, EndModule, word_of, RParen, LBracket, Colon, Lexeme, Word, Name, Number, Mark, Row, Direction, direction_phrase, Lead, Gives, Wires, lead_phrase, Range, Spec, Group, group_phrase, group_names, with_commas, Item, Ansi, Head, header_of, body_phrase, in_ansi, at_declared, span_of, width, Covers, IsTooLarge, MOST_VECTOR_BITS, MOST_PORT_BITS, IsVector, directed_by, group_bits, item_bits, IsTooLong, IsOutside, Redeclares, Clashes, Crowds, BreaksRule, MayJoin, pins_in, LeadPart, led, coloned, GroupPart, leading, Partial, start, listing, heading, at_item, inside, declaring, dotted, netted, indexing, joined, header_spelled, spelled, Wire, Comma}
 use Rattle.ncl_reader.proofs.Steps.{run}
 use Rattle.ncl_reader.proofs.Runs.{run-append, run-spelled}
 use Rattle.ncl_reader.proofs.Viable.{same_tree, front_run}
@@ -200,34 +200,20 @@ name-back (inside head items (dotted cell name conns)) x (kind, is, breaks) =
     inr (inr (inr (inr (inl (record { head = head; items = items; kind = kind; name = name; conns = conns; is = ap (λ c. spelled (inside head items (dotted c name conns))) (sym is); breaks = breaks })))))
 name-back p x none = absurd none
 
-close-back : (p : Partial) → ClosesAt p → BreaksRule (spelled p) (Mark RParen)
-close-back (inside head items (netted cell name conns pin net)) (range, vector) = inl (net, range, (head, items, cell, name, conns, pin, refl), vector)
-close-back (inside head items (joined cell name conns conn)) (kind, is, (pin, stands, unjoined)) =
-    inr (record { head = head; items = items; kind = kind; name = name; conns = record { before = conns; last = conn }; is = ap (λ c. spelled (inside head items (joined c name conns conn))) (sym is); pin = pin; stands = stands; unjoined = unjoined })
-close-back p none = absurd none
-
-ends-back : (p : Partial) → EndsAt p → LeavesPort (spelled p)
-ends-back (at_item head items) (port, stands, undirected) = record { head = head; items = items; is = refl; port = port; stands = stands; undirected = undirected }
-ends-back p none = absurd none
-
-late-back : (p : Partial) → LateAt p → DirectsLate (spelled p)
-late-back (at_item head items) (groups, ansi) = record { head = head; items = items; is = refl; groups = groups; ansi = ansi }
-late-back p none = absurd none
-
-opens-back : (p : Partial) → OpensAt p → HasNoBits (spelled p)
-opens-back (inside head items (netted cell name conns pin net)) none = (net, (head, items, cell, name, conns, pin, refl), none)
-opens-back p none = absurd none
-
 pub breaks-back : (p : Partial) (t : Lexeme) → BreaksAt p t → BreaksRule (spelled p) t
 breaks-back p (Name x) (inl name) = name-back p x name
 breaks-back p (Name x) (inr vectored) = inr (inr (inr (inr (inr vectored))))
-breaks-back p (Word EndModule) ends = ends-back p ends
-breaks-back p (Word (word_of way)) late = late-back p late
+breaks-back (at_item head items) (Word EndModule) (port, stands, undirected) = record { head = head; items = items; is = refl; port = port; stands = stands; undirected = undirected }
+breaks-back (at_item head items) (Word (word_of way)) (groups, ansi) = record { head = head; items = items; is = refl; groups = groups; ansi = ansi }
+breaks-back p (Word Wire) none = absurd none
 breaks-back p (Number digits) (inl large) = inl large
 breaks-back p (Number digits) (inr (inl long)) = inr (inl (long-back p digits long))
 breaks-back p (Number digits) (inr (inr outside)) = inr (inr (outside-back p digits outside))
-breaks-back p (Mark LBracket) opens = opens-back p opens
-breaks-back p (Mark RParen) closes = close-back p closes
+breaks-back (inside head items (netted cell name conns pin net)) (Mark LBracket) none = (net, (head, items, cell, name, conns, pin, refl), none)
+breaks-back (inside head items (netted cell name conns pin net)) (Mark RParen) (range, vector) = inl (net, range, (head, items, cell, name, conns, pin, refl), vector)
+breaks-back (inside head items (joined cell name conns conn)) (Mark RParen) (kind, is, (pin, stands, unjoined)) =
+    inr (record { head = head; items = items; kind = kind; name = name; conns = record { before = conns; last = conn }; is = ap (λ c. spelled (inside head items (joined c name conns conn))) (sym is); pin = pin; stands = stands; unjoined = unjoined })
+breaks-back p (Mark Comma) none = absurd none
 breaks-back p t none = absurd none
 
 -- a name that is declared, by the form of what stands in front of it

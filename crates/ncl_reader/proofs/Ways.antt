@@ -1,7 +1,7 @@
 -- What a header keeps of a name.
-use Rattle.ncl_reader.proofs.Kit.{◌≡◌, ℕ, zero, suc, arith, List, [], ◌∷◌, ◌++◌, Bool, true, false, ◌||◌, not, cond, subst, Option, Some, None, inl, inr, refl, sym, ap, ◌∙◌, Contains, list_any, is_some, option_or, bytes_eq, false≢true, find-append, IsDistinct-push, IsDistinct-from_apart, nat_eq_equiv, lists_equiv, bytes_eq-Decides}
+use Rattle.ncl_reader.proofs.Kit.{◌≡◌, ℕ, arith, List, [], ◌∷◌, ◌++◌, Bool, true, false, not, cond, subst, Option, Some, None, inl, inr, refl, sym, ap, ◌∙◌, Contains, list_any, is_some, option_or, bytes_eq, false≢true, find-append, IsDistinct-push, IsDistinct-from_apart, nat_eq_equiv, lists_equiv, bytes_eq-Decides, ◌||◌}
 use Rattle.ncl_reader.proofs.Terms.{AllDiffer, Said, said_at, names_said, way_by, way_of, LacksWay}
-use Rattle.ncl_reader.proofs.Among.{contains-from_any, any-from_contains, any-push, bytes_eq-comm}
+use Rattle.ncl_reader.proofs.Among.{contains-from_any, any-from_contains, any-push, bytes_eq-comm, found-among, found-name, none-among}
 
 -- what is told of the first that is said
 pub said-here : (x : List ℕ) (s : Said) (said : List Said) → bytes_eq s.name x ≡ true → said_at (s ∷ said) x ≡ Some s
@@ -12,35 +12,14 @@ said-there x s said e = rw e refl
 
 -- nothing was said of names that aren't among those that something was said of
 pub none-said : (x : List ℕ) (said : List Said) → said_at said x ≡ None → Contains (names_said said) x → ⊥
-none-said x [] e found = absurd (omega (arith, found.1))
-none-said x (s ∷ said) e found = by (none-said x said) (bytes_eq s.name x) refl found
-  where
-    by : (said_at said x ≡ None → Contains (names_said said) x → ⊥) → (b : Bool) → bytes_eq s.name x ≡ b → Contains (names_said (s ∷ said)) x → ⊥
-    by rec true is found = let bad : Some s ≡ None = sym (said-here x s said is) ∙ e in absurd cc
-    by rec false is (zero, lt, same) = false≢true (sym is ∙ (bytes_eq-Decides s.name x).1 same)
-    by rec false is (suc k, lt, same) = rec (sym (said-there x s said is) ∙ e) (k, omega (arith, lt), same)
+none-said x said = none-among (λ (s : Said). s.name) x said
 
 -- what is found was said of the name
 pub some-said : (x : List ℕ) (said : List Said) (s : Said) → said_at said x ≡ Some s → Contains said s × (s.name ≡ x)
-some-said x [] s e = absurd cc
-some-said x (t ∷ said) s e = by (some-said x said s) (bytes_eq t.name x) refl
-  where
-    by : (said_at said x ≡ Some s → Contains said s × (s.name ≡ x)) → (b : Bool) → bytes_eq t.name x ≡ b → Contains (t ∷ said) s × (s.name ≡ x)
-    by rec true is =
-        let one : Some t ≡ Some s = sym (said-here x t said is) ∙ e in
-        let same : t ≡ s = cc in
-        ((0, omega arith, same), ap (λ (r : Said). r.name) (sym same) ∙ (bytes_eq-Decides t.name x).0 is)
-    by rec false is =
-        let (found, name) = rec (sym (said-there x t said is) ∙ e) in
-        ((suc found.0, omega (arith, found.1), found.2), name)
+some-said x said s = found-among (λ (s : Said). s.name) x said s
 
 pub found-said : (x : List ℕ) (said : List Said) (s : Said) → said_at said x ≡ Some s → Contains (names_said said) x
-found-said x [] s e = absurd cc
-found-said x (t ∷ said) s e = by (found-said x said s) (bytes_eq t.name x) refl
-  where
-    by : (said_at said x ≡ Some s → Contains (names_said said) x) → (b : Bool) → bytes_eq t.name x ≡ b → Contains (names_said (t ∷ said)) x
-    by rec true is = (0, omega arith, (bytes_eq-Decides t.name x).0 is)
-    by rec false is = let found = rec (sym (said-there x t said is) ∙ e) in (suc found.0, omega (arith, found.1), found.2)
+found-said x said s = found-name (λ (s : Said). s.name) x said s
 
 pub not-said : (x : List ℕ) (said : List Said) → (Contains (names_said said) x → ⊥) → said_at said x ≡ None
 not-said x said absent = by (said_at said x) refl

@@ -9,7 +9,7 @@ pub returns-in-Item : goal.returns-in-Item
 returns-in-Item c = λ p at. rw c.in-EndModule.is (refl, λ none. none, λ none. none, inl (places.form_at p place.Item (at ∙ c.in-Item.is)))
 
 pub returns-in_default-place : goal.returns-in_default-place
-returns-in_default-place c = λ p at. rw c.in-EndModule.is (refl, λ none. none, λ none. none, λ item. c.in_default-place.not-Item (sym at ∙ places.item-place p item), tt)
+returns-in_default-place c = λ p at. rw c.in-EndModule.is (refl, λ none. none, λ none. none, λ item. c.in_default-place.not-Item (sym at ∙ places.place_at p place.Item item), tt)
 
 pub returns-in_default : goal.returns-in_default
 returns-in_default c = λ p at. refused.other_word (spelled p) c.args.word c.args.at c.in_default.not-EndModule

@@ -17,7 +17,7 @@ pub returns-in-Pin : goal.returns-in-Pin
 returns-in-Pin c = λ p holds.
     let at = holds-place c.args.place c.args.self.now p holds ∙ c.in-Pin.is in (
       refl,
-      λ item. let wrong : place.Item ≡ place.Pin = sym (places.item-place p item) ∙ at in absurd cc,
+      λ item. let wrong : place.Item ≡ place.Pin = sym (places.place_at p place.Item item) ∙ at in absurd cc,
       places.form_at p place.Pin at,
     )
 
@@ -26,8 +26,8 @@ returns-in-Connection c = λ p holds.
     let at = holds-place c.args.place c.args.self.now p holds ∙ c.in-Connection.is in
     let conn = places.form_at p place.Connection at in (
       refl,
-      λ item. let wrong : place.Item ≡ place.Connection = sym (places.item-place p item) ∙ at in absurd cc,
-      λ pin. let wrong : place.Pin ≡ place.Connection = sym (places.pin-place p pin) ∙ at in absurd cc,
+      λ item. let wrong : place.Item ≡ place.Connection = sym (places.place_at p place.Item item) ∙ at in absurd cc,
+      λ pin. let wrong : place.Pin ≡ place.Connection = sym (places.place_at p place.Pin pin) ∙ at in absurd cc,
       λ (range, declares, why). places.declared_no_conn (spelled p) range declares conn,
       inl conn,
     )

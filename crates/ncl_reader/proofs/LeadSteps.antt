@@ -102,24 +102,13 @@ module _ {L : Type 0} (site : Site L) (kept : Led) where
   number_or_none (Number digits) = inl (digits, refl)
   number_or_none t = inr (λ digits e. absurd cc)
 
-  too_large : (part : LeadPart L) (t : Lexeme) → IsLed site.output part kept → ((digits : List ℕ) → t ≡ Number digits → IsTooLarge digits) → (((digits : List ℕ) → t ≢ Number digits) → lead_step site.more part t ≡ None) → Answer part t None
-  too_large part t keeps large others = elim (number_or_none t) [
+  pub large_at : (part : LeadPart L) (t : Lexeme) (at : LeadPlace) → lead_place site.of part ≡ at → (((digits : List ℕ) → t ≢ Number digits) → Others at t) → IsLed site.output part kept → ((digits : List ℕ) → t ≡ Number digits → IsTooLarge digits) → Answer part t None
+  large_at part t at here others keeps large = elim (number_or_none t) [
     | inl (digits, is) ↦ (subst (Breaks (spelled (site.tree part))) (sym is) (inr (inl (large digits is))), keeps)
-    | inr none ↦ left part t (others none) keeps
+    | inr none ↦ left_at part t at here keeps (others none)
   ]
 
-  pub first_none : (part : LeadPart L) (t : Lexeme) → lead_place site.of part ≡ lead.First → IsLed site.output part kept → ((digits : List ℕ) → t ≡ Number digits → IsTooLarge digits) → Answer part t None
-  first_none (bracketed l) t at keeps large = too_large (bracketed l) t keeps large (others (bracketed l) t)
-  first_none (led l) t at keeps large = absurd (no_place l lead.First (λ e. absurd cc) (λ e. absurd cc) at)
-  first_none part t at keeps large = absurd cc
-
-  pub last_none : (part : LeadPart L) (t : Lexeme) → lead_place site.of part ≡ lead.Last → IsLed site.output part kept → ((digits : List ℕ) → t ≡ Number digits → IsTooLarge digits) → Answer part t None
-  last_none (coloned l first) t at keeps large = too_large (coloned l first) t keeps large (others (coloned l first) t)
-  last_none (led l) t at keeps large = absurd (no_place l lead.Last (λ e. absurd cc) (λ e. absurd cc) at)
-  last_none part t at keeps large = absurd cc
-
   -- behind the first number, and behind the last
-
   pub colon : (part : LeadPart L) (t : Lexeme) → lead_place site.of part ≡ lead.Colon → IsLed site.output part kept → t ≡ Mark Colon → Answer part t (Some lead.Last)
   colon (firsted l first) t at keeps is = subst (λ u. Answer (firsted l first) u (Some lead.Last)) (sym is) (took (firsted l first) (coloned l first) (Mark Colon) lead.Last refl refl keeps (λ none. none))
   colon (led l) t at keeps is = absurd (no_place l lead.Colon (λ e. absurd cc) (λ e. absurd cc) at)
@@ -150,10 +139,7 @@ module _ {L : Type 0} (site : Site L) (kept : Led) where
     | inr wire ↦ false≢true (sym e ∙ ap takes_name wire)
   ])
   no_name (ranged l range) x e = absurd (false≢true (sym e))
-  no_name (bracketed l) x e = site.leaves (bracketed l) (Name x) refl
-  no_name (firsted l first) x e = site.leaves (firsted l first) (Name x) refl
-  no_name (coloned l first) x e = site.leaves (coloned l first) (Name x) refl
-  no_name (lasted l first last) x e = site.leaves (lasted l first last) (Name x) refl
+  no_name part x e = site.leaves part (Name x) refl
 
   -- what it is declared with
   pub record Begins (part : LeadPart L) (x : List ℕ) : Type 0 where

@@ -41,10 +41,10 @@ pub returns-in-Range-clause-item : goal.returns-in-Range-clause-item
 returns-in-Range-clause-item c = λ head items part names at keeps. steps.left_at (steps.in_item head items) c.args.self.now part (meant c.args.lexeme.now) lead.Range (at ∙ c.in-Range.is) keeps names
 
 pub returns-in_default-clause-header : goal.returns-in_default-clause-header
-returns-in_default-clause-header c = λ title groups part names at keeps. steps.first_none (steps.in_header title groups) c.args.self.now part (meant c.args.lexeme.now) (at ∙ c.in-First.is) keeps c.in_default.ensures
+returns-in_default-clause-header c = λ title groups part names at keeps. steps.large_at (steps.in_header title groups) c.args.self.now part (meant c.args.lexeme.now) lead.First (at ∙ c.in-First.is) (λ none. none) keeps c.in_default.ensures
 
 pub returns-in_default-clause-item : goal.returns-in_default-clause-item
-returns-in_default-clause-item c = λ head items part names at keeps. steps.first_none (steps.in_item head items) c.args.self.now part (meant c.args.lexeme.now) (at ∙ c.in-First.is) keeps c.in_default.ensures
+returns-in_default-clause-item c = λ head items part names at keeps. steps.large_at (steps.in_item head items) c.args.self.now part (meant c.args.lexeme.now) lead.First (at ∙ c.in-First.is) (λ none. none) keeps c.in_default.ensures
 
 pub returns-in-Some-clause-header : goal.returns-in-Some-clause-header
 returns-in-Some-clause-header c = λ title groups part names at keeps. let (digits, is, value, small) = c.in-Some.ensures in steps.first (steps.in_header title groups) c.args.self.now (record c.args.self.now { first = c.in-Some.first }) part (meant c.args.lexeme.now) digits (at ∙ c.in-First.is) keeps is refl value small
@@ -53,10 +53,10 @@ pub returns-in-Some-clause-item : goal.returns-in-Some-clause-item
 returns-in-Some-clause-item c = λ head items part names at keeps. let (digits, is, value, small) = c.in-Some.ensures in steps.first (steps.in_item head items) c.args.self.now (record c.args.self.now { first = c.in-Some.first }) part (meant c.args.lexeme.now) digits (at ∙ c.in-First.is) keeps is refl value small
 
 pub returns-in_default-small_number-clause-header : goal.returns-in_default-small_number-clause-header
-returns-in_default-small_number-clause-header c = λ title groups part names at keeps. steps.last_none (steps.in_header title groups) c.args.self.now part (meant c.args.lexeme.now) (at ∙ c.in-Last.is) keeps c.in_default-small_number.ensures
+returns-in_default-small_number-clause-header c = λ title groups part names at keeps. steps.large_at (steps.in_header title groups) c.args.self.now part (meant c.args.lexeme.now) lead.Last (at ∙ c.in-Last.is) (λ none. none) keeps c.in_default-small_number.ensures
 
 pub returns-in_default-small_number-clause-item : goal.returns-in_default-small_number-clause-item
-returns-in_default-small_number-clause-item c = λ head items part names at keeps. steps.last_none (steps.in_item head items) c.args.self.now part (meant c.args.lexeme.now) (at ∙ c.in-Last.is) keeps c.in_default-small_number.ensures
+returns-in_default-small_number-clause-item c = λ head items part names at keeps. steps.large_at (steps.in_item head items) c.args.self.now part (meant c.args.lexeme.now) lead.Last (at ∙ c.in-Last.is) (λ none. none) keeps c.in_default-small_number.ensures
 
 pub returns-then-width-gt-MOST_VECTOR_BITS-clause-header : goal.returns-then-width-gt-MOST_VECTOR_BITS-clause-header
 returns-then-width-gt-MOST_VECTOR_BITS-clause-header c = λ title groups part names at keeps. let (digits, is, value, small) = c.in-Some-small_number.ensures in steps.last_long (steps.in_header title groups) c.args.self.now part (meant c.args.lexeme.now) digits c.in-Some-small_number.last (at ∙ c.in-Last.is) keeps is value (subst (λ w. 1024 < w) c.width.ensures c.if-width-gt-MOST_VECTOR_BITS.true)

@@ -1,23 +1,7 @@
 -- Folding in all stages.
-use Rattle.std.proofs.Common.{◌≡◌, ◌<◌, ◌+◌, ℕ, Bool, true, false, List, [], ◌∷◌, ◌++◌, length, take, get_or, Some, ◌⊎◌, inl, inr, zero, suc, refl, sym, ap, ◌∙◌, subst, arith}
-use Rattle.std.specs.Prelude.{MatchOption, Option, None, ◌||◌, All, slice_get, sum_by}
-use Rattle.std.proofs.lemmas.Bool.{cases_lt, or_parts}
-use Rattle.std.proofs.lemmas.List.{length_push}
-use Rattle.std.proofs.lemmas.List.Sums.{sum_by_push, sum_by_more}
-use Rattle.std.proofs.lemmas.Option.{slice_get_within, get_or_from_slice_get, slice_get-get_or}
-use Rattle.ncl_netlist.specs.declared.cell.Cell.{Cell}
-use Rattle.ncl_netlist.specs.declared.ids.NetId.{NetId}
-use Rattle.ncl_netlist.specs.Netlist.{NetlistData}
-use Rattle.ncl_cell_rules.specs.Tables.{IsTable}
-use Rattle.ncl_shape.specs.declared.bank.Bank.{Bank}
-use Rattle.ncl_shape.specs.declared.stage.StageCell.{StageCell}
-use Rattle.ncl_shape.specs.Stage.{StageData}
-use Rattle.ncl_shape.specs.Pipeline.{PipelineData}
-use Rattle.ncl_shape.specs.Shape.{Shape, IsStageOf}
-use Rattle.ncl_base.proofs.Members.{slice_get-some, slice_get-from_Contains}
-use Rattle.ncl_base.proofs.Places.{pushed_last}
-use Rattle.ncl_merge.specs.Fold.{IsFoldable, pins_of, FoldsTo, none}
-use Rattle.ncl_merge.specs.Folding.{HasNoFoldable, CountsPins, HasNoneIn, AreFoldsOf, AreAllFolds}
+use Rattle.ncl_merge.proofs.Kit.{◌≡◌, ◌<◌, ◌+◌, ℕ, Bool, true, false, List, [], ◌∷◌, ◌++◌, length, take, get_or, Some, ◌⊎◌, inl, inr, zero, suc, refl, sym, ap, ◌∙◌, subst, arith, MatchOption, Option, None, ◌||◌, All, slice_get, sum_by, cases_lt, or_parts, length_push, sum_by_push, sum_by_more, slice_get_within, get_or_from_slice_get, slice_get-get_or}
+use Rattle.ncl_merge.proofs.Terms.{Cell, NetId, NetlistData, IsTable, Bank, StageCell, StageData, PipelineData, Shape, IsStageOf, slice_get-some, slice_get-from_Contains, pushed_last, IsFoldable, FoldsTo, none, HasNoFoldable, CountsPins, HasNoneIn, AreFoldsOf, AreAllFolds}
+use Rattle.ncl_merge.specs.Fold.{pins_of}
 use Rattle.ncl_merge.proofs.Tables.{counts-stage, none-foldable}
 
 module _ (n : NetlistData) (p : PipelineData) (shape : Shape n p) (k : ℕ) (s : StageData) (at : slice_get p.stages k ≡ Some s) where

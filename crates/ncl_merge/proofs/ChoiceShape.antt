@@ -1,34 +1,6 @@
 -- The netlist of the kept cells has the shape of the pipeline of the folded stages.
-use Rattle.std.proofs.Common.{◌≡◌, ◌≢◌, ◌<◌, ℕ, zero, suc, List, [], ◌∷◌, length, map, Some, inl, inr, refl, sym, ap, ◌∙◌, subst, arith}
-use Rattle.std.specs.Prelude.{AllPairs, Contains, slice_get}
-use Rattle.std.specs.List.{AllZip}
-use Rattle.std.proofs.lemmas.List.Kept.{AllPairs-cons}
-use Rattle.ncl_gates.specs.declared.kind.Kind.{Kind}
-use Rattle.ncl_gates.specs.declared.cell_kind.CellKind.TheVariants.{Gate}
-use Rattle.ncl_gates.proofs.RegisterLaws.{register_no_gate}
-use Rattle.ncl_netlist.specs.declared.ids.NetId.{NetId}
-use Rattle.ncl_netlist.specs.declared.cell.Cell.{Cell}
-use Rattle.ncl_netlist.specs.Netlist.{NetlistData, IsNetlist}
-use Rattle.ncl_netlist.specs.Names.{name_number}
-use Rattle.ncl_netlist.proofs.NameLists.{get_or-name_number, name_number-get_or}
-use Rattle.ncl_cell_rules.specs.Origin.{IsCell, CellAt}
-use Rattle.ncl_cell_rules.proofs.Drivers.{cell_fits, same_driver, same_place}
-use Rattle.ncl_cell_rules.proofs.OriginLaws.{place_of}
-use Rattle.ncl_shape.specs.declared.stage.StageCell.{StageCell}
-use Rattle.ncl_shape.specs.Stage.{StageData, rail_nets, nets_of, out_of}
-use Rattle.ncl_shape.specs.Pipeline.{PipelineData}
-use Rattle.ncl_shape.specs.Shape.{Shape}
-use Rattle.ncl_shape.proofs.ShapeLaws.{same_cell}
-use Rattle.ncl_base.proofs.Members.{Member, here, there, Member-append_right, Member-append_cases, Member-map, member_of_map, All-from_members, Contains-from_Member, Member-from_Contains, Contains-from_slice_get}
-use Rattle.ncl_base.proofs.Lists.{pairs-head, pairs-tail}
-use Rattle.ncl_base.proofs.Places.{at_map}
-use Rattle.ncl_cell_roles.proofs.NetsApart.{nets_at, stages_apart}
-use Rattle.ncl_merge.specs.Fold.{with_cells}
-use Rattle.ncl_merge.specs.Folding.{AreFewer}
-use Rattle.ncl_shape.specs.Renamed.{renamed_net, IsRenamedCell, IsRenamedStage}
-use Rattle.ncl_merge.specs.Thinned.{moved, IsRailGate, IsThinned, IsThinStage}
-use Rattle.ncl_merge.specs.Rebuilt.{kept, name_at, number_in}
-use Rattle.ncl_merge.specs.Choice.{with_gate_of, choice_of, folded_netlist, net_there, place_there, moved_gate, moved_stage, moved_stages, folded_pipeline}
+use Rattle.ncl_merge.proofs.Kit.{◌≡◌, ◌≢◌, ◌<◌, ℕ, zero, suc, List, [], ◌∷◌, length, map, Some, inl, inr, refl, sym, ap, ◌∙◌, subst, arith, AllPairs, Contains, slice_get, AllZip, AllPairs-cons}
+use Rattle.ncl_merge.proofs.Terms.{Kind, Gate, register_no_gate, NetId, Cell, NetlistData, IsNetlist, name_number, get_or-name_number, name_number-get_or, IsCell, CellAt, cell_fits, same_driver, same_place, place_of, StageCell, StageData, rail_nets, nets_of, out_of, PipelineData, Shape, same_cell, Member, here, there, Member-append_right, Member-append_cases, Member-map, member_of_map, All-from_members, Contains-from_Member, Member-from_Contains, Contains-from_slice_get, pairs-head, pairs-tail, at_map, nets_at, stages_apart, with_cells, AreFewer, renamed_net, IsRenamedCell, IsRenamedStage, moved, IsRailGate, IsThinned, IsThinStage, kept, name_at, number_in, with_gate_of, choice_of, folded_netlist, net_there, place_there, moved_gate, moved_stage, moved_stages, folded_pipeline}
 use Rattle.ncl_merge.proofs.Places.{outs-differ}
 use Rattle.ncl_merge.proofs.Folds.{cell-folded}
 use Rattle.ncl_merge.proofs.RenamedStage.{renamed-stage}

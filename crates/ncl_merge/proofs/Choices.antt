@@ -1,36 +1,6 @@
 -- What becomes of each cell of a netlist whose stages were folded, and that what is kept can be built.
-use Rattle.std.proofs.Common.{◌≡◌, ◌≢◌, ◌≤◌, ◌+◌, ℕ, suc, true, false, List, [], ◌∷◌, length, map, take, drop, Option, None, Some, ◌⊎◌, inl, inr, sym, ap, ◌∙◌, subst, arith}
-use Rattle.std.specs.Prelude.{AllPairs, Contains, slice_get, nat_eq, if◌then◌else◌}
-use Rattle.std.specs.List.{list_any, flat_map}
-use Rattle.std.proofs.lemmas.Bool.{cases_Bool, cases_eq, eq-eqb, ne_eqb, eqb-true, both_ways}
-use Rattle.std.proofs.lemmas.List.{take-append-drop}
-use Rattle.std.proofs.lemmas.Option.{slice_get_within}
-use Rattle.std.proofs.lemmas.Slice.Zip.{AllZip-long}
-use Rattle.ncl_netlist.specs.declared.ids.NetId.{NetId}
-use Rattle.ncl_netlist.specs.declared.ids.CellId.{CellId}
-use Rattle.ncl_netlist.specs.declared.cell.Cell.{Cell}
-use Rattle.ncl_netlist.specs.Netlist.{NetlistData}
-use Rattle.ncl_cell_rules.specs.Origin.{IsCell, CellAt, IsRegister, RailOf, ComesFrom}
-use Rattle.ncl_cell_rules.proofs.Drivers.{same_driver}
-use Rattle.ncl_cell_rules.proofs.OriginLaws.{place_of}
-use Rattle.ncl_shape.specs.declared.bank.Bank.{Bank}
-use Rattle.ncl_shape.specs.declared.stage.StageCell.{StageCell}
-use Rattle.ncl_shape.specs.Stage.{StageData, IsStage, rail_nets, nets_of, out_of}
-use Rattle.ncl_shape.specs.Pipeline.{PipelineData}
-use Rattle.ncl_shape.specs.Shape.{Shape, IsStageOf, AreRailsOf}
-use Rattle.ncl_base.proofs.Members.{Member, member_cases, Member-append_left, Member-append_right, Member-append_cases, Member-map, member_of_map, Contains-from_Member, Member-from_Contains, Contains-from_slice_get, slice_get-from_Contains, slice_get-some, list_any-from_member, member_from_list_any}
-use Rattle.ncl_base.proofs.Lists.{pairs-head, pairs-tail}
-use Rattle.ncl_base.proofs.Tests.{All-member}
-use Rattle.ncl_base.proofs.Joined.{Member-flat_map, member_of_flat_map}
-use Rattle.ncl_cell_roles.proofs.RailNets.{rail-place}
-use Rattle.ncl_cell_roles.proofs.BankBits.{drives_rail, register_of_rail}
-use Rattle.ncl_cell_roles.proofs.Numbering.{stage_at, inner_or_last, inner_stage, last_stage, bank_rails}
-use Rattle.ncl_cell_roles.proofs.BetweenBanks.{stage_origin, gate_of_stage}
-use Rattle.ncl_cell_roles.proofs.NetsApart.{nets_at, stages_apart}
-use Rattle.ncl_merge.specs.Fold.{with_cells, FoldsTo}
-use Rattle.ncl_merge.specs.Folding.{AreFewer}
-use Rattle.ncl_merge.specs.Thinned.{IsRailGate}
-use Rattle.ncl_merge.specs.Choice.{cell_driving, is_stage_cell, with_gate_of, becomes, choice_of}
+use Rattle.ncl_merge.proofs.Kit.{◌≡◌, ◌≢◌, ◌≤◌, ◌+◌, ℕ, suc, true, false, List, [], ◌∷◌, length, map, take, drop, Option, None, Some, ◌⊎◌, inl, inr, sym, ap, ◌∙◌, subst, arith, AllPairs, Contains, slice_get, nat_eq, if◌then◌else◌, list_any, flat_map, cases_Bool, cases_eq, eq-eqb, ne_eqb, eqb-true, both_ways, take-append-drop, slice_get_within, AllZip-long}
+use Rattle.ncl_merge.proofs.Terms.{NetId, CellId, Cell, NetlistData, IsCell, CellAt, IsRegister, RailOf, ComesFrom, same_driver, place_of, Bank, StageCell, StageData, IsStage, rail_nets, nets_of, out_of, PipelineData, Shape, IsStageOf, AreRailsOf, Member, member_cases, Member-append_left, Member-append_right, Member-append_cases, Member-map, member_of_map, Contains-from_Member, Member-from_Contains, Contains-from_slice_get, slice_get-from_Contains, slice_get-some, list_any-from_member, member_from_list_any, pairs-head, pairs-tail, All-member, Member-flat_map, member_of_flat_map, rail-place, drives_rail, register_of_rail, stage_at, inner_or_last, inner_stage, last_stage, bank_rails, stage_origin, gate_of_stage, nets_at, stages_apart, with_cells, FoldsTo, AreFewer, IsRailGate, cell_driving, is_stage_cell, with_gate_of, becomes, choice_of}
 use Rattle.ncl_merge.proofs.Places.{outs-differ}
 use Rattle.ncl_merge.proofs.Folds.{stage-folded, cell-folded}
 use Rattle.ncl_merge.proofs.FoldingStage.{cut-place}

@@ -1,36 +1,6 @@
 -- The parts of kept cells break no rule.
-use Rattle.std.proofs.Common.{◌≡◌, ◌≢◌, ◌<◌, ◌≤◌, ◌+◌, ℕ, Bool, cond, List, [], ◌∷◌, ◌++◌, length, map, take, drop, get_or, Option, Some, inl, inr, refl, sym, ap, ◌∙◌, subst, arith}
-use Rattle.std.specs.Prelude.{All, AllPairs, slice_get, nat_eq, count_by}
-use Rattle.std.specs.List.{flat_map}
-use Rattle.std.proofs.lemmas.Bool.{cases_Bool, cases_eq, cases_lt, eq-eqb, ne_eqb, eqb-true}
-use Rattle.std.proofs.lemmas.Bool.Decides.{Decides-eqb}
-use Rattle.std.proofs.lemmas.List.{length-map, get_or-map, get_or-take, get_or_past, length-take, length_push, take-append-drop}
-use Rattle.std.proofs.lemmas.Option.{slice_get_within, get_or_from_slice_get}
-use Rattle.std.proofs.lemmas.List.Kept.{AllPairs-cons}
-use Rattle.std.proofs.lemmas.List.Sums.{sum_by-cons}
-use Rattle.std.proofs.lemmas.Map.Made.{IsDistinct-from_AllPairs, AllPairs-from_IsDistinct}
-use Rattle.std.proofs.lemmas.Slice.Eq.{slice_eq-Decides}
-use Rattle.ncl_gates.specs.Cell.{pins_of}
-use Rattle.ncl_netlist.specs.declared.ids.NetId.{NetId}
-use Rattle.ncl_netlist.specs.declared.port.Port.{Port}
-use Rattle.ncl_netlist.specs.declared.cell.Cell.{Cell}
-use Rattle.ncl_netlist.specs.declared.parts.PartCell.{PartCell}
-use Rattle.ncl_netlist.specs.declared.parts.Parts.{Parts}
-use Rattle.ncl_netlist.specs.Names.{AllDiffer, same_name, once_each, name_number}
-use Rattle.ncl_netlist.specs.Netlist.{NetlistData, IsNetlist, drives, most_cells, pin_names}
-use Rattle.ncl_netlist.specs.Parts.{HasAllPins, port_names, cell_names, netlist_of, part_of}
-use Rattle.ncl_netlist.specs.Faults.{IsFaultless, drivers_at}
-use Rattle.ncl_netlist.proofs.NameLists.{same_itself, equal_names, take-once_each, name_number-get_or, list_any-once_each, AllDiffer-once_each}
-use Rattle.ncl_cell_rules.specs.Origin.{IsCell, IsInputPort, IsOutputPort}
-use Rattle.ncl_cell_rules.specs.Free.{IsFree}
-use Rattle.ncl_base.proofs.Members.{Member, here, there, member_cases, Member-append_left, Member-append_cases, Member-map, Member-get_or, member_of_map, Contains-from_Member, Member-from_Contains, All-from_members, Contains-from_slice_get, slice_get-from_Contains, list_any-from_member, member_from_list_any, member_from_count, count_from_member}
-use Rattle.ncl_base.proofs.Lists.{pairs-head, pairs-tail}
-use Rattle.ncl_base.proofs.Joined.{member_of_flat_map}
-use Rattle.ncl_base.proofs.Tests.{All-member}
-use Rattle.ncl_cell_rules.proofs.Drivers.{cell_fits, same_driver, no_cell_drives_port}
-use Rattle.ncl_cell_rules.proofs.OriginLaws.{place_of}
-use Rattle.ncl_merge.specs.Rebuilt.{kept, kept_parts, IsChoice, IsWhole, name_at}
-use Rattle.ncl_merge.specs.Thinned.{moved}
+use Rattle.ncl_merge.proofs.Kit.{◌≡◌, ◌≢◌, ◌<◌, ◌≤◌, ◌+◌, ℕ, Bool, cond, List, [], ◌∷◌, ◌++◌, length, map, take, drop, get_or, Option, Some, inl, inr, refl, sym, ap, ◌∙◌, subst, arith, All, AllPairs, slice_get, nat_eq, count_by, flat_map, cases_Bool, cases_eq, cases_lt, eq-eqb, ne_eqb, eqb-true, Decides-eqb, length-map, get_or-map, get_or-take, get_or_past, length-take, length_push, take-append-drop, slice_get_within, get_or_from_slice_get, AllPairs-cons, sum_by-cons, IsDistinct-from_AllPairs, AllPairs-from_IsDistinct, slice_eq-Decides}
+use Rattle.ncl_merge.proofs.Terms.{pins_of, NetId, Port, Cell, PartCell, Parts, AllDiffer, same_name, once_each, name_number, NetlistData, IsNetlist, drives, most_cells, pin_names, HasAllPins, port_names, cell_names, netlist_of, part_of, IsFaultless, drivers_at, same_itself, equal_names, take-once_each, name_number-get_or, list_any-once_each, AllDiffer-once_each, IsCell, IsInputPort, IsOutputPort, IsFree, Member, here, there, member_cases, Member-append_left, Member-append_cases, Member-map, Member-get_or, member_of_map, Contains-from_Member, Member-from_Contains, All-from_members, Contains-from_slice_get, slice_get-from_Contains, list_any-from_member, member_from_list_any, member_from_count, count_from_member, pairs-head, pairs-tail, member_of_flat_map, All-member, cell_fits, same_driver, no_cell_drives_port, place_of, kept, kept_parts, IsChoice, IsWhole, name_at, moved}
 use Rattle.ncl_merge.proofs.Rebuilt.{kept_some, kept_none, decide, kept_from, kept_at, place_in, m, to, from, back, named, out-in, cells-moved, rail_or_not, same-choice, port-name, port-within}
 
 -- names that differ, one way and the other

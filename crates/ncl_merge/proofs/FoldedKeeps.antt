@@ -1,40 +1,7 @@
 -- A folded netlist keeps what the netlist has.
-use Rattle.std.proofs.Common.{◌≡◌, ◌<◌, ◌+◌, ℕ, Bool, true, false, not, List, [], ◌∷◌, length, map, drop, None, Some, is_some, inl, inr, refl, sym, ap, ◌∙◌, subst, arith}
-use Rattle.std.specs.Prelude.{All, filter, slice_get, nat_eq, sum_by, if◌then◌else◌}
-use Rattle.std.specs.List.{AllZip, list_any, flat_map}
-use Rattle.std.proofs.lemmas.Bool.{cases_Bool, both_ways, eq-eqb, eqb-true, false_from_ne_true}
-use Rattle.std.proofs.lemmas.List.{length-map}
-use Rattle.std.proofs.lemmas.List.Concat.{length-flat_map}
-use Rattle.std.proofs.lemmas.List.Elements.{All-contains}
-use Rattle.std.proofs.lemmas.List.Sums.{sum_by-cons}
-use Rattle.std.proofs.lemmas.Option.{slice_get_within}
-use Rattle.ncl_base.proofs.Lists.{AllZip-from_places}
-use Rattle.ncl_base.proofs.Members.{Member, here, there, Member-map, member_of_map, All-from_members, Contains-from_Member, Member-from_Contains, Contains-from_slice_get, slice_get-from_Contains, slice_get-some, list_any-from_member, member_from_list_any}
-use Rattle.ncl_base.proofs.Places.{at_map}
-use Rattle.ncl_netlist.specs.declared.ids.NetId.{NetId}
-use Rattle.ncl_netlist.specs.declared.cell.Cell.{Cell}
-use Rattle.ncl_netlist.specs.Netlist.{NetlistData, IsNetlist}
-use Rattle.ncl_netlist.specs.Parts.{part_of}
-use Rattle.ncl_cell_rules.specs.Origin.{IsCell}
-use Rattle.ncl_cell_rules.proofs.Drivers.{same_driver}
-use Rattle.ncl_cell_rules.proofs.OriginLaws.{place_of}
-use Rattle.ncl_shape.specs.declared.bank.Bank.{Bank}
+use Rattle.ncl_merge.proofs.Kit.{◌≡◌, ◌<◌, ◌+◌, ℕ, Bool, true, false, not, List, [], ◌∷◌, length, map, drop, None, Some, is_some, inl, inr, refl, sym, ap, ◌∙◌, subst, arith, All, filter, slice_get, nat_eq, sum_by, if◌then◌else◌, AllZip, list_any, flat_map, cases_Bool, both_ways, eq-eqb, eqb-true, false_from_ne_true, length-map, length-flat_map, All-contains, sum_by-cons, slice_get_within}
+use Rattle.ncl_merge.proofs.Terms.{AllZip-from_places, Member, here, there, Member-map, member_of_map, All-from_members, Contains-from_Member, Member-from_Contains, Contains-from_slice_get, slice_get-from_Contains, slice_get-some, list_any-from_member, member_from_list_any, at_map, NetId, Cell, NetlistData, IsNetlist, part_of, IsCell, same_driver, place_of, Bank, StageCell, StageData, word_held, value_or_low, PipelineData, Shape, IsSound, stage_function, is_composition, with_cells, AreFewer, renamed_rails, moved, IsRailGate, moved_bit, moved_bank, kept, number_in, is_stage_cell, choice_of, folded_netlist, net_there, place_there, moved_gate, moved_stage, folded_pipeline, standing, HasLabelOf, IsMergedStage, IsMergedBank, Keeps, IsSmaller}
 use Rattle.ncl_shape.specs.declared.bank.Bit.{Bit}
-use Rattle.ncl_shape.specs.declared.stage.StageCell.{StageCell}
-use Rattle.ncl_shape.specs.Stage.{StageData}
-use Rattle.ncl_shape.specs.Held.{word_held, value_or_low}
-use Rattle.ncl_shape.specs.Pipeline.{PipelineData}
-use Rattle.ncl_shape.specs.Shape.{Shape}
-use Rattle.ncl_faults.specs.Faults.{IsSound}
-use Rattle.ncl_machine.specs.Composition.{stage_function}
-use Rattle.ncl_insensitivity.proofs.Headline.{is_composition}
-use Rattle.ncl_merge.specs.Fold.{with_cells}
-use Rattle.ncl_merge.specs.Folding.{AreFewer}
-use Rattle.ncl_shape.specs.Renamed.{renamed_rails}
-use Rattle.ncl_merge.specs.Thinned.{moved, IsRailGate, moved_bit, moved_bank}
-use Rattle.ncl_merge.specs.Rebuilt.{kept, number_in}
-use Rattle.ncl_merge.specs.Choice.{is_stage_cell, choice_of, folded_netlist, net_there, place_there, moved_gate, moved_stage, folded_pipeline}
-use Rattle.ncl_merge.specs.Merged.{standing, HasLabelOf, IsMergedStage, IsMergedBank, Keeps, IsSmaller}
 use Rattle.ncl_merge.proofs.Folds.{sound-folded, function-folded}
 use Rattle.ncl_merge.proofs.Renamed.{sound-renamed, function-renamed}
 use Rattle.ncl_merge.proofs.Rebuilt.{decide, kept_some, kept_none, map-twice, cells-moved}

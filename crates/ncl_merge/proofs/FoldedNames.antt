@@ -1,43 +1,6 @@
 -- The nets and cells of a folded netlist have the names that they had.
-use Rattle.std.proofs.Common.{◌≡◌, ◌<◌, ℕ, Bool, true, false, List, [], ◌∷◌, ◌++◌, length, map, drop, get_or, Option, Some, inl, inr, refl, sym, ap, ◌∙◌, subst, arith}
-use Rattle.std.specs.Prelude.{All, Contains, slice_get}
-use Rattle.std.specs.List.{flat_map}
-use Rattle.std.proofs.lemmas.List.{map-append, take-append-drop}
-use Rattle.std.proofs.lemmas.Option.{slice_get_within, get_or_from_slice_get}
-use Rattle.std.proofs.lemmas.Slice.Zip.{AllZip-long}
-use Rattle.ncl_base.proofs.Members.{Member, member_cases, Member-append_left, Member-append_cases, Member-map, member_of_map, Member-get_or, All-from_members, Contains-from_Member, Member-from_Contains, Contains-from_slice_get, slice_get-from_Contains}
-use Rattle.ncl_base.proofs.Tests.{map-same, All-member}
-use Rattle.ncl_base.proofs.Places.{at_map}
-use Rattle.ncl_base.proofs.Joined.{member_of_flat_map}
-use Rattle.ncl_gates.proofs.RegisterLaws.{register_no_gate}
-use Rattle.ncl_netlist.specs.declared.ids.NetId.{NetId}
-use Rattle.ncl_netlist.specs.declared.ids.CellId.{CellId}
-use Rattle.ncl_netlist.specs.declared.port.Port.{Port}
-use Rattle.ncl_netlist.specs.declared.cell.Cell.{Cell}
-use Rattle.ncl_netlist.specs.declared.parts.PartCell.{PartCell}
-use Rattle.ncl_netlist.specs.Netlist.{NetlistData, IsNetlist, pin_names}
-use Rattle.ncl_netlist.specs.Parts.{port_names, part_of}
-use Rattle.ncl_netlist.proofs.NameLists.{get_or-name_number, name_number-lt-length}
-use Rattle.ncl_cell_rules.specs.Origin.{IsCell, CellAt, IsRegister, IsInputPort, IsOutputPort}
-use Rattle.ncl_cell_rules.proofs.Drivers.{cell_fits}
-use Rattle.ncl_cell_rules.proofs.OriginLaws.{place_of}
-use Rattle.ncl_shape.specs.declared.rails.Rails.{Rails}
-use Rattle.ncl_shape.specs.declared.stage.StageCell.{StageCell}
-use Rattle.ncl_shape.specs.Stage.{StageData}
-use Rattle.ncl_shape.specs.Pipeline.{PipelineData}
-use Rattle.ncl_shape.specs.Shape.{Shape, AreRailsOf}
-use Rattle.ncl_shape.specs.Chain.{OneRootEach}
-use Rattle.ncl_shape.proofs.ShapeLaws.{requests, request_at, last_bank}
-use Rattle.ncl_cell_roles.specs.Layout.{no_rails, rail_at}
-use Rattle.ncl_cell_roles.proofs.BankBits.{drives_rail, register_of_rail}
-use Rattle.ncl_cell_roles.proofs.EndLaws.{first_bank, input_is_port, ki_is_port}
-use Rattle.ncl_merge.specs.Folding.{AreFewer}
-use Rattle.ncl_shape.specs.Renamed.{renamed_net, renamed_rails}
-use Rattle.ncl_shape.proofs.RailLaws.{rail_zero, rail_one}
-use Rattle.ncl_merge.specs.Thinned.{moved}
-use Rattle.ncl_merge.specs.Rebuilt.{kept, kept_parts, IsChoice, name_at}
-use Rattle.ncl_merge.specs.Choice.{with_gate_of, choice_of, folded_netlist, net_there, place_there, moved_gate}
-use Rattle.ncl_merge.specs.Merged.{cell_name, rail_names, HasLabelOf}
+use Rattle.ncl_merge.proofs.Kit.{◌≡◌, ◌<◌, ℕ, Bool, true, false, List, [], ◌∷◌, ◌++◌, length, map, drop, get_or, Option, Some, inl, inr, refl, sym, ap, ◌∙◌, subst, arith, All, Contains, slice_get, flat_map, map-append, take-append-drop, slice_get_within, get_or_from_slice_get, AllZip-long}
+use Rattle.ncl_merge.proofs.Terms.{Member, member_cases, Member-append_left, Member-append_cases, Member-map, member_of_map, Member-get_or, All-from_members, Contains-from_Member, Member-from_Contains, Contains-from_slice_get, slice_get-from_Contains, map-same, All-member, at_map, member_of_flat_map, register_no_gate, NetId, CellId, Port, Cell, PartCell, NetlistData, IsNetlist, pin_names, port_names, part_of, get_or-name_number, name_number-lt-length, IsCell, CellAt, IsRegister, IsInputPort, IsOutputPort, cell_fits, place_of, Rails, StageCell, StageData, PipelineData, Shape, AreRailsOf, OneRootEach, requests, request_at, last_bank, no_rails, rail_at, drives_rail, register_of_rail, first_bank, input_is_port, ki_is_port, AreFewer, renamed_net, renamed_rails, rail_zero, rail_one, moved, kept, kept_parts, IsChoice, name_at, with_gate_of, choice_of, folded_netlist, net_there, place_there, moved_gate, cell_name, rail_names, HasLabelOf}
 use Rattle.ncl_merge.proofs.Rebuilt.{map-twice, kept_at, kept_from, cells-moved, named, port-name, in-kept, out-in, rail_or_not, same-choice, out-source}
 use Rattle.ncl_merge.proofs.Faultless.{from_once}
 use Rattle.ncl_merge.proofs.Folds.{cell-folded}

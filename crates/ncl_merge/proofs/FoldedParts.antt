@@ -1,22 +1,6 @@
 -- The tables from which the netlist of a pipeline is rebuilt whose stages were folded, and the parts that say a netlist.
-use Rattle.std.proofs.Common.{◌≡◌, ◌<◌, ℕ, Bool, false, List, length, get_or, Option, None, Some, sym, ap, ◌∙◌, subst}
-use Rattle.std.specs.Prelude.{All, slice_get}
-use Rattle.std.proofs.lemmas.Option.{slice_get_within, get_or_from_slice_get}
-use Rattle.ncl_netlist.specs.declared.ids.NetId.{NetId}
-use Rattle.ncl_netlist.specs.Names.{AllDiffer}
-use Rattle.ncl_netlist.specs.Netlist.{NetlistData, IsNetlist}
-use Rattle.ncl_netlist.specs.Parts.{HasAllPins, part_of, parts_said, port_names}
-use Rattle.ncl_cell_rules.specs.Origin.{RailOf}
-use Rattle.ncl_cell_rules.specs.Tables.{IsTable}
-use Rattle.ncl_cell_rules.proofs.Drivers.{cell_fits}
-use Rattle.ncl_cell_rules.proofs.OriginLaws.{origin_within}
-use Rattle.ncl_shape.specs.declared.stage.StageCell.{StageCell}
-use Rattle.ncl_shape.specs.Pipeline.{PipelineData}
-use Rattle.ncl_shape.specs.Shape.{Shape}
-use Rattle.ncl_base.proofs.Members.{member_of_map, All-from_members, Contains-from_Member, Member-from_Contains}
-use Rattle.ncl_merge.specs.Folding.{AreFewer}
-use Rattle.ncl_merge.specs.Rebuilt.{kept}
-use Rattle.ncl_merge.specs.Choice.{DriveOnce, HaveGates, all_of, becomes, choice_by, choice_of, cell_driving, is_stage_net}
+use Rattle.ncl_merge.proofs.Kit.{◌≡◌, ◌<◌, ℕ, Bool, false, List, length, get_or, Option, None, Some, sym, ap, ◌∙◌, subst, All, slice_get, slice_get_within, get_or_from_slice_get}
+use Rattle.ncl_merge.proofs.Terms.{NetId, AllDiffer, NetlistData, IsNetlist, HasAllPins, part_of, parts_said, port_names, RailOf, IsTable, cell_fits, origin_within, StageCell, PipelineData, Shape, member_of_map, All-from_members, Contains-from_Member, Member-from_Contains, AreFewer, kept, DriveOnce, HaveGates, all_of, becomes, choice_by, choice_of, cell_driving, is_stage_net}
 use Rattle.ncl_merge.proofs.Faultless.{AllDiffer-take, pins-count}
 use Rattle.ncl_merge.proofs.NetTables.{driving-some, kept-same}
 use Rattle.ncl_merge.proofs.Choices.{comes-from, out-known, pin-known, place-in, one-driving}

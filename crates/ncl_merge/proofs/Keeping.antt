@@ -1,39 +1,8 @@
 -- What is kept doesn't depend on the order of the cells of stages, a pipeline keeps what it has itself, and what is kept
 -- once and again is kept.
-use Rattle.std.proofs.Common.{◌≡◌, ◌&&◌, ℕ, Bool, true, false, not, List, [], ◌∷◌, length, map, Option, None, Some, is_some, refl, sym, ap, ◌∙◌, subst, arith}
-use Rattle.std.specs.Prelude.{All, Contains, filter, slice_get, nat_eq}
-use Rattle.std.specs.List.{AllZip, list_any}
-use Rattle.std.specs.List.Sorted.{IsPermutation}
-use Rattle.std.proofs.lemmas.List.{length-map}
-use Rattle.std.proofs.lemmas.List.Elements.{filter_agree, All-contains}
-use Rattle.std.proofs.lemmas.List.Sorted.{list_any-IsPermutation, Contains-permutation, IsPermutation-sym}
-use Rattle.ncl_base.proofs.Members.{Contains-from_Member, Member-from_Contains, Member-map, member_of_map, All-from_members, Contains-from_slice_get, slice_get-from_Contains}
-use Rattle.ncl_base.proofs.Tests.{All-member}
-use Rattle.ncl_netlist.specs.declared.cell.Cell.{Cell as NetlistCell}
-use Rattle.ncl_netlist.specs.Netlist.{NetlistData}
-use Rattle.ncl_netlist.specs.Parts.{part_of}
-use Rattle.ncl_shape.specs.declared.bank.Bank.{Bank}
-use Rattle.ncl_shape.specs.declared.rails.Rails.{Rails}
-use Rattle.ncl_shape.specs.declared.stage.StageCell.{StageCell}
-use Rattle.ncl_shape.specs.Nets.{Nets, among}
-use Rattle.ncl_shape.specs.Stage.{StageData, named_rails}
-use Rattle.ncl_shape.specs.Held.{is_data_bank, word_held}
-use Rattle.ncl_shape.specs.Closure.{close, function_at, held_nets}
-use Rattle.ncl_shape.specs.Pipeline.{PipelineData}
-use Rattle.ncl_shape.specs.SamePipeline.{IsSameStage, IsSamePipeline}
-use Rattle.ncl_faults.specs.declared.variant.Variant.{Variant}
-use Rattle.ncl_faults.specs.declared.variant.Variant.TheVariants.{Base, Bit, Cell}
-use Rattle.ncl_faults.specs.Values.{val}
-use Rattle.ncl_faults.specs.Faults.{BothRails, NoRail, Incomplete, Orphan, holds_at, is_illegal, has_data, all_data, IsWordOf, IsSound}
-use Rattle.ncl_stage.proofs.Reordered.{IsSameVariant, base, bit, cell, same_values}
-use Rattle.ncl_cell_roles.proofs.HeldWords.{held-some}
-use Rattle.ncl_machine.specs.Composition.{stage_function}
-use Rattle.ncl_writer.specs.Text.{text_of}
-use Rattle.ncl_shape.proofs.ZippedLists.{AllZip-found}
-use Rattle.ncl_merge.specs.Fold.{with_cells}
-use Rattle.ncl_merge.specs.Rebuilt.{name_at}
-use Rattle.ncl_merge.specs.Choice.{is_stage_cell}
-use Rattle.ncl_merge.specs.Merged.{standing, cell_name, rail_names, IsMergedStage, IsMergedBank, Keeps}
+use Rattle.ncl_merge.proofs.Kit.{◌≡◌, ◌&&◌, ℕ, Bool, true, false, not, List, [], ◌∷◌, length, map, Option, None, Some, is_some, refl, sym, ap, ◌∙◌, subst, arith, All, Contains, filter, slice_get, nat_eq, AllZip, list_any, IsPermutation, length-map, filter_agree, All-contains, list_any-IsPermutation, Contains-permutation, IsPermutation-sym}
+use Rattle.ncl_merge.proofs.Terms.{Contains-from_Member, Member-from_Contains, Member-map, member_of_map, All-from_members, Contains-from_slice_get, slice_get-from_Contains, All-member, NetlistCell, NetlistData, part_of, Bank, Rails, StageCell, Nets, among, StageData, named_rails, is_data_bank, word_held, close, function_at, held_nets, PipelineData, IsSameStage, IsSamePipeline, Variant, Base, Bit, val, BothRails, NoRail, Incomplete, Orphan, holds_at, is_illegal, has_data, all_data, IsWordOf, IsSound, IsSameVariant, base, bit, cell, same_values, held-some, stage_function, text_of, AllZip-found, with_cells, name_at, is_stage_cell, standing, cell_name, rail_names, IsMergedStage, IsMergedBank, Keeps}
+use Rattle.ncl_faults.specs.declared.variant.Variant.TheVariants.{Cell}
 
 -- ---- the order of cells
 

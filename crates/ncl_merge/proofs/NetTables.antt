@@ -1,22 +1,6 @@
 -- Tables of nets in which the cells of stages are put one after another.
-use Rattle.std.proofs.Common.{◌≡◌, ◌≢◌, ℕ, ◌+◌, ◌<◌, Bool, false, List, [], ◌∷◌, ◌++◌, length, map, take, drop, set, get_or, Option, None, Some, inl, inr, refl, sym, ap, ◌∙◌, subst, arith, append_assoc}
-use Rattle.std.specs.Prelude.{All, if◌then◌else◌}
-use Rattle.std.proofs.lemmas.Bool.{cases_eq, eq-eqb, ne_eqb}
-use Rattle.std.proofs.lemmas.List.{map-append, take_more, take-append-drop, length-set, get_or-set_same, get_or-set_other}
-use Rattle.std.proofs.lemmas.List.Concat.{flat_map-cons}
-use Rattle.std.proofs.lemmas.Grind.{flat_map-append}
-use Rattle.std.proofs.lemmas.Option.{get_or_from_slice_get, slice_get-get_or}
-use Rattle.ncl_netlist.specs.declared.cell.Cell.{Cell}
-use Rattle.ncl_netlist.specs.declared.parts.PartCell.{PartCell}
-use Rattle.ncl_netlist.specs.Netlist.{NetlistData}
-use Rattle.ncl_netlist.specs.Parts.{part_of}
-use Rattle.ncl_shape.specs.declared.stage.StageCell.{StageCell}
-use Rattle.ncl_shape.specs.Stage.{StageData}
-use Rattle.ncl_base.proofs.Members.{Member, here, there, Member-append_left, Member-append_right, Member-get_or, All-from_members, Contains-from_Member, Member-from_Contains}
-use Rattle.ncl_base.proofs.Tests.{All-member}
-use Rattle.ncl_base.proofs.Joined.{Member-flat_map}
-use Rattle.ncl_merge.specs.Rebuilt.{kept, with_kept}
-use Rattle.ncl_merge.specs.Choice.{DriveOnce, HaveGates, all_of, becomes, choice_by, cell_driving, is_stage_net}
+use Rattle.ncl_merge.proofs.Kit.{◌≡◌, ◌≢◌, ℕ, ◌+◌, ◌<◌, Bool, false, List, [], ◌∷◌, ◌++◌, length, map, take, drop, set, get_or, Option, None, Some, inl, inr, refl, sym, ap, ◌∙◌, subst, arith, append_assoc, All, if◌then◌else◌, cases_eq, eq-eqb, ne_eqb, map-append, take_more, take-append-drop, length-set, get_or-set_same, get_or-set_other, flat_map-cons, flat_map-append, get_or_from_slice_get, slice_get-get_or}
+use Rattle.ncl_merge.proofs.Terms.{Cell, PartCell, NetlistData, part_of, StageCell, StageData, Member, here, there, Member-append_left, Member-append_right, Member-get_or, All-from_members, Contains-from_Member, Member-from_Contains, All-member, Member-flat_map, kept, with_kept, DriveOnce, HaveGates, all_of, becomes, choice_by, cell_driving, is_stage_net}
 use Rattle.ncl_merge.proofs.Rebuilt.{decide}
 
 -- ---- marks

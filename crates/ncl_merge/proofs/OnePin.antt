@@ -1,28 +1,7 @@
 -- A net that is on one pin of all cells, and on a pin of a stage, is on one pin of the stage and of the registers after it.
-use Rattle.std.proofs.Common.{◌≡◌, ◌≢◌, ◌≤◌, ◌<◌, ◌+◌, ℕ, true, List, [], ◌∷◌, length, map, get_or, Some, inl, inr, ◌⊎◌, refl, sym, ap, ◌∙◌, subst, length-set, arith}
-use Rattle.std.specs.Prelude.{All, AllPairs, slice_get, set, sum_by, count_by, nat_eq}
-use Rattle.std.proofs.lemmas.Bool.{cases_lt, eqb-true}
-use Rattle.std.proofs.lemmas.List.{get_or-set_other}
-use Rattle.std.proofs.lemmas.List.Kept.{AllPairs-cons}
-use Rattle.std.proofs.lemmas.List.Sums.{sum_by-cons, sum_by-set}
-use Rattle.std.proofs.lemmas.Option.{slice_get_within, get_or_from_slice_get}
-use Rattle.ncl_gates.specs.declared.cell_kind.CellKind.TheVariants.{Gate, Ack}
-use Rattle.ncl_gates.specs.Cell.{is_register}
-use Rattle.ncl_gates.proofs.RegisterLaws.{register_no_gate}
-use Rattle.ncl_netlist.specs.declared.ids.NetId.{NetId}
-use Rattle.ncl_netlist.specs.declared.cell.Cell.{Cell}
-use Rattle.ncl_netlist.specs.Netlist.{NetlistData}
-use Rattle.ncl_cell_rules.specs.Origin.{CellAt, OnPin, A}
-use Rattle.ncl_cell_rules.specs.Rules.{pins_with}
-use Rattle.ncl_shape.specs.declared.bank.Bank.{Bank}
-use Rattle.ncl_shape.specs.declared.rails.Rails.{Rails}
-use Rattle.ncl_shape.specs.declared.stage.StageCell.{StageCell}
-use Rattle.ncl_shape.specs.Stage.{StageData, rail_nets}
-use Rattle.ncl_shape.specs.Shape.{IsStageOf, IsBankOf, AreInputsOf}
-use Rattle.ncl_shape.proofs.ZippedLists.{AllZip-found}
-use Rattle.ncl_base.proofs.Members.{Member, here, there, member_cases, member_of_map, member_from_count, Member-from_Contains, slice_get-from_Contains, Contains-from_Member, Contains-from_slice_get, All-from_members}
-use Rattle.ncl_base.proofs.Lists.{pairs-head, pairs-tail, differ_of_map}
-use Rattle.ncl_merge.specs.Fold.{pins_of, pins_sum, one_at, IsOnOnePin}
+use Rattle.ncl_merge.proofs.Kit.{◌≡◌, ◌≢◌, ◌≤◌, ◌<◌, ◌+◌, ℕ, true, List, [], ◌∷◌, length, map, get_or, Some, inl, inr, ◌⊎◌, refl, sym, ap, ◌∙◌, subst, length-set, arith, All, AllPairs, slice_get, set, sum_by, count_by, nat_eq, cases_lt, eqb-true, get_or-set_other, AllPairs-cons, sum_by-cons, sum_by-set, slice_get_within, get_or_from_slice_get}
+use Rattle.ncl_merge.proofs.Terms.{Gate, Ack, is_register, register_no_gate, NetId, Cell, NetlistData, CellAt, OnPin, A, pins_with, Bank, Rails, StageCell, StageData, rail_nets, IsStageOf, IsBankOf, AreInputsOf, AllZip-found, Member, here, there, member_cases, member_of_map, member_from_count, Member-from_Contains, slice_get-from_Contains, Contains-from_Member, Contains-from_slice_get, All-from_members, pairs-head, pairs-tail, differ_of_map, pins_sum, one_at, IsOnOnePin}
+use Rattle.ncl_merge.specs.Fold.{pins_of}
 use Rattle.ncl_merge.proofs.Counting.{term_below, one_here}
 
 -- terms that are equal one by one

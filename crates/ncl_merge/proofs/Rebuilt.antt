@@ -1,33 +1,6 @@
 -- A netlist that is built of kept cells is thinned.
-use Rattle.std.proofs.Common.{◌≡◌, ◌<◌, ◌≤◌, ◌-◌, ℕ, zero, suc, Bool, true, false, not, cond, List, [], ◌∷◌, ◌++◌, length, map, take, get_or, Option, None, Some, ◌⊎◌, inl, inr, refl, sym, ap, ◌∙◌, subst, arith}
-use Rattle.std.specs.Prelude.{Contains, slice_get, filter}
-use Rattle.std.specs.List.{flat_map, list_any}
-use Rattle.std.proofs.lemmas.Bool.{cases_Bool}
-use Rattle.std.proofs.lemmas.List.{length-map, get_or-take, length-take}
-use Rattle.ncl_gates.specs.declared.cell_kind.CellKind.{CellKind}
-use Rattle.ncl_gates.specs.declared.cell_kind.CellKind.TheVariants.{Gate, Register, RegisterData, Ack}
-use Rattle.ncl_netlist.specs.declared.ids.NetId.{NetId}
-use Rattle.ncl_netlist.specs.declared.port.Port.{Port}
-use Rattle.ncl_netlist.specs.declared.cell.Cell.{Cell}
-use Rattle.ncl_netlist.specs.declared.parts.PartCell.{PartCell}
-use Rattle.ncl_netlist.specs.Names.{same_name, name_number}
-use Rattle.ncl_netlist.specs.Netlist.{NetlistData, IsNetlist}
-use Rattle.ncl_netlist.specs.Parts.{port_names, net_of, cell_of, netlist_of, part_of}
-use Rattle.ncl_netlist.proofs.NameLists.{same_itself, name_number-lt-length, get_or-name_number, name_number-get_or, list_any-once_each}
-use Rattle.ncl_cell_rules.specs.Origin.{IsCell, CellAt, IsGate, ReadsNet, RailOf, AckOf}
-use Rattle.ncl_cell_rules.specs.CellTests.{is_gate}
-use Rattle.ncl_cell_rules.specs.Free.{IsFree}
-use Rattle.ncl_base.proofs.Members.{Member, here, there, Member-append_left, Member-append_right, Member-map, member_of_map, Contains-from_Member, Member-from_Contains, Contains-from_slice_get, list_any-from_member}
-use Rattle.ncl_base.proofs.Joined.{Member-flat_map}
-use Rattle.ncl_base.proofs.Tests.{All-member}
-use Rattle.ncl_base.proofs.Places.{at_of_map, at_map}
-use Rattle.ncl_cell_rules.proofs.Drivers.{cell_fits}
-use Rattle.ncl_cell_rules.proofs.OriginLaws.{place_of}
-use Rattle.ncl_cell_rules.proofs.GateRanks.{gate_ranks}
-use Rattle.ncl_shape.proofs.NetSources.{only_origin}
-use Rattle.ncl_shape.specs.Renamed.{renamed_net}
-use Rattle.ncl_merge.specs.Thinned.{moved, IsRailGate, IsThinGate, IsStood, IsOld, IsThinned}
-use Rattle.ncl_merge.specs.Rebuilt.{with_kept, kept, kept_parts, IsChoice, name_at, number_in}
+use Rattle.ncl_merge.proofs.Kit.{◌≡◌, ◌<◌, ◌≤◌, ◌-◌, ℕ, zero, suc, Bool, true, false, not, cond, List, [], ◌∷◌, ◌++◌, length, map, take, get_or, Option, None, Some, ◌⊎◌, inl, inr, refl, sym, ap, ◌∙◌, subst, arith, Contains, slice_get, filter, flat_map, list_any, cases_Bool, length-map, get_or-take, length-take}
+use Rattle.ncl_merge.proofs.Terms.{CellKind, Gate, Register, RegisterData, Ack, NetId, Port, Cell, PartCell, same_name, name_number, NetlistData, IsNetlist, port_names, net_of, cell_of, netlist_of, part_of, same_itself, name_number-lt-length, get_or-name_number, name_number-get_or, list_any-once_each, IsCell, CellAt, IsGate, ReadsNet, RailOf, AckOf, is_gate, IsFree, Member, here, there, Member-append_left, Member-append_right, Member-map, member_of_map, Contains-from_Member, Member-from_Contains, Contains-from_slice_get, list_any-from_member, Member-flat_map, All-member, at_of_map, at_map, cell_fits, place_of, gate_ranks, only_origin, renamed_net, moved, IsRailGate, IsThinGate, IsStood, IsOld, IsThinned, with_kept, kept, kept_parts, IsChoice, name_at, number_in}
 
 -- ---- which cells are kept, and where
 

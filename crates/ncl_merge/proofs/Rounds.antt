@@ -1,23 +1,7 @@
 -- Rounds of folding, one after another.
-use Rattle.std.proofs.Common.{◌≡◌, ◌≢◌, List, inl, inr, refl, sym, ap, ◌∙◌, subst, arith}
-use Rattle.std.specs.Prelude.{All}
-use Rattle.std.proofs.lemmas.List.Sorted.{Contains-permutation, IsPermutation-sym}
-use Rattle.ncl_base.proofs.Members.{Contains-from_Member, Member-from_Contains}
-use Rattle.ncl_netlist.specs.Netlist.{NetlistData, IsNetlist}
-use Rattle.ncl_shape.specs.declared.fault.ShapeFault.{ShapeFault}
-use Rattle.ncl_shape.specs.declared.fault.ShapeFault.TheVariants.{CellRule, NoChain, TooWide, TooLong, Memory}
-use Rattle.ncl_shape.specs.declared.stage.StageCell.{StageCell}
-use Rattle.ncl_shape.specs.Pipeline.{PipelineData}
-use Rattle.ncl_shape.specs.SamePipeline.{IsSameStage}
-use Rattle.ncl_shape.specs.Shape.{Shape, Broken, IsShapeFault}
-use Rattle.ncl_shape.proofs.FaultLaws.{shape_is_unbroken}
-use Rattle.ncl_shape.proofs.ShapeLaws.{shape_is_one}
-use Rattle.ncl_shape.proofs.ZippedLists.{AllZip-found}
-use Rattle.ncl_faults.specs.Faults.{IsSound}
+use Rattle.ncl_merge.proofs.Kit.{◌≡◌, ◌≢◌, List, inl, inr, refl, sym, ap, ◌∙◌, subst, arith, All, Contains-permutation, IsPermutation-sym}
+use Rattle.ncl_merge.proofs.Terms.{Contains-from_Member, Member-from_Contains, NetlistData, IsNetlist, ShapeFault, CellRule, NoChain, TooWide, TooLong, Memory, StageCell, PipelineData, IsSameStage, Shape, Broken, IsShapeFault, shape_is_unbroken, shape_is_one, AllZip-found, IsSound, HasNoFoldable, AreFewer, folded_netlist, IsSoundNetlist, Merged, IsSmaller, NothingFoldable, IsOnTheWay}
 use Rattle.ncl_merge.specs.Fold.{pins_of}
-use Rattle.ncl_merge.specs.Folding.{HasNoFoldable, AreFewer}
-use Rattle.ncl_merge.specs.Choice.{folded_netlist}
-use Rattle.ncl_merge.specs.Merged.{IsSoundNetlist, Merged, IsSmaller, NothingFoldable, IsOnTheWay}
 use Rattle.ncl_merge.proofs.Keeping.{same-all_sound, keeps-itself, keeps-along}
 use Rattle.ncl_merge.proofs.FoldedKeeps.{folded-smaller}
 

@@ -1,32 +1,7 @@
 -- Where nets of a thinned netlist come from, and its first rules of shape.
-use Rattle.std.proofs.Common.{◌≡◌, ◌<◌, ◌+◌, ℕ, zero, suc, Bool, true, false, List, [], ◌∷◌, length, map, Some, ◌⊎◌, inl, inr, refl, sym, ap, ◌∙◌, subst, arith}
-use Rattle.std.specs.Prelude.{Contains, slice_get, not, cond, ◌==◌, filter, sum_by, count_by}
-use Rattle.std.proofs.lemmas.Option.{slice_get_within}
-use Rattle.ncl_gates.proofs.PinLaws.{pins_of-gate, arity_of-some}
-use Rattle.ncl_gates.specs.declared.kind.Kind.{Kind}
-use Rattle.ncl_gates.specs.Gate.{arity_of}
-use Rattle.ncl_gates.specs.Cell.{pins_of, is_register, is_data_register}
-use Rattle.ncl_gates.proofs.RegisterLaws.{register_no_gate, data_is_register}
-use Rattle.ncl_gates.specs.declared.cell_kind.CellKind.{CellKind}
-use Rattle.ncl_gates.specs.declared.cell_kind.CellKind.TheVariants.{Gate, Register, RegisterData, Ack}
-use Rattle.ncl_netlist.specs.declared.ids.NetId.{NetId}
-use Rattle.ncl_netlist.specs.declared.port.Port.{Port}
-use Rattle.ncl_netlist.specs.declared.cell.Cell.{Cell}
-use Rattle.ncl_netlist.specs.Netlist.{NetlistData}
-use Rattle.ncl_cell_rules.specs.Origin.{IsCell, CellAt, IsGate, IsRegister, IsAck, ReadsNet, OnPin, A, B, RST, IsInputPort, IsOutputPort, IsOfBank, AcksBank, IsDataBank, Origin, FromPort, RailOf, AckOf, ComesFrom, port, rail, ack, gate, HasOnlyOrigin, LeadsTo, one, more}
-use Rattle.ncl_cell_rules.specs.Rules.{IsReadPort, IsOffCycles, IsTied, IsUnmixed, IsGateOfOne, IsRegisterOfOne, IsAckOfOne, IsFirstOfBank, IsPaired, ack_pins, ack_pins_of, pins_with}
-use Rattle.ncl_cell_rules.specs.CellTests.{is_gate}
-use Rattle.std.proofs.lemmas.Bool.{cases_Bool, cases_eq, eq-eqb, ne_eqb, both_ways}
-use Rattle.std.proofs.lemmas.List.Sums.{sum_by-cons}
-use Rattle.ncl_cell_rules.specs.Free.{IsFree}
-use Rattle.ncl_base.proofs.Members.{Member, here, there, member_of_filter, Member-map, slice_get-some, Contains-from_Member, Member-from_Contains, Contains-from_slice_get, slice_get-from_Contains}
-use Rattle.ncl_base.proofs.Places.{at_of_map, at_map}
-use Rattle.ncl_base.proofs.Tests.{All-member}
-use Rattle.ncl_cell_rules.proofs.Drivers.{driver_of, cell_fits, same_place}
-use Rattle.ncl_cell_rules.proofs.OriginLaws.{place_of, sort_of, bank_of_register, bank_of_ack}
-use Rattle.ncl_shape.proofs.NetSources.{only_origin}
-use Rattle.ncl_shape.specs.Renamed.{renamed_net}
-use Rattle.ncl_merge.specs.Thinned.{moved, IsRailGate, IsStood, IsThinned}
+use Rattle.ncl_merge.proofs.Kit.{◌≡◌, ◌<◌, ◌+◌, ℕ, zero, suc, Bool, true, false, List, [], ◌∷◌, length, map, Some, ◌⊎◌, inl, inr, refl, sym, ap, ◌∙◌, subst, arith, Contains, slice_get, not, cond, ◌==◌, filter, sum_by, count_by, slice_get_within, cases_Bool, cases_eq, eq-eqb, ne_eqb, both_ways, sum_by-cons}
+use Rattle.ncl_merge.proofs.Terms.{pins_of-gate, arity_of-some, Kind, arity_of, pins_of, is_register, is_data_register, register_no_gate, data_is_register, CellKind, Gate, Register, RegisterData, Ack, NetId, Port, Cell, NetlistData, IsCell, CellAt, IsGate, IsRegister, IsAck, ReadsNet, OnPin, A, B, RST, IsInputPort, IsOutputPort, IsOfBank, AcksBank, IsDataBank, Origin, FromPort, RailOf, AckOf, ComesFrom, port, rail, ack, gate, HasOnlyOrigin, LeadsTo, one, IsReadPort, IsOffCycles, IsTied, IsUnmixed, IsGateOfOne, IsRegisterOfOne, IsAckOfOne, IsFirstOfBank, IsPaired, ack_pins, ack_pins_of, pins_with, is_gate, IsFree, Member, here, there, member_of_filter, Member-map, slice_get-some, Contains-from_Member, Member-from_Contains, Contains-from_slice_get, slice_get-from_Contains, at_of_map, at_map, All-member, driver_of, cell_fits, same_place, place_of, sort_of, bank_of_register, bank_of_ack, only_origin, renamed_net, moved, IsRailGate, IsStood, IsThinned}
+use Rattle.ncl_cell_rules.specs.Origin.{more}
 
 -- where an origin leads back to
 abbrev pub origin_back : (ℕ → ℕ) → Origin → Origin

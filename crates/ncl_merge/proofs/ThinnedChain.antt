@@ -1,22 +1,6 @@
 -- The banks of a thinned netlist form the chain that they formed.
-use Rattle.std.proofs.Common.{◌≡◌, ◌<◌, ◌+◌, ℕ, List, [], ◌∷◌, length, map, Some, ◌⊎◌, inl, inr, refl, sym, ap, ◌∙◌, subst, arith}
-use Rattle.std.specs.Prelude.{Contains, slice_get}
-use Rattle.std.proofs.lemmas.List.{length-map}
-use Rattle.std.proofs.lemmas.Option.{slice_get_within}
-use Rattle.ncl_gates.specs.Cell.{pins_of}
-use Rattle.ncl_netlist.specs.declared.ids.NetId.{NetId}
-use Rattle.ncl_netlist.specs.declared.cell.Cell.{Cell}
-use Rattle.ncl_netlist.specs.Netlist.{NetlistData}
-use Rattle.ncl_cell_rules.specs.Origin.{IsCell, OnPin, A, B, IsInputPort, IsOutputPort, IsOfBank, FromPort, RailOf, AckOf, ComesFrom, port, HasOnlyOrigin}
-use Rattle.ncl_cell_rules.specs.Rules.{IsRequest}
-use Rattle.ncl_cell_rules.specs.Free.{IsFree}
-use Rattle.ncl_base.proofs.Members.{Member-map, Contains-from_Member, Member-from_Contains, Contains-from_slice_get, slice_get-from_Contains}
-use Rattle.ncl_base.proofs.Places.{at_of_map, at_map}
-use Rattle.ncl_cell_rules.proofs.OriginLaws.{place_of, driver_of_ack}
-use Rattle.ncl_shape.specs.Chain.{IsBank, IsInputOf, IsFirstBank, IsLastBank, Follows, HasOne, IsPath, end, next, IsChain, IsRoot, HasRegister, HasEnds, IsUnforked, IsAcknowledged, HasRoots, IsClosed, OnPinNamed, HasOneRole, IsDataApart, IsHead, IsChained, SomeRegister, TwoEnds, NoFork, OneChain, ChainedRequests, OneRootEach, ShownOutputs, OneRoleEach, WordsApart}
-use Rattle.ncl_shape.proofs.ChainLaws.{banks_of_chain}
-use Rattle.ncl_shape.proofs.NetSources.{only_origin}
-use Rattle.ncl_merge.specs.Thinned.{moved, IsRailGate, IsThinned}
+use Rattle.ncl_merge.proofs.Kit.{◌≡◌, ◌<◌, ◌+◌, ℕ, List, [], ◌∷◌, length, map, Some, ◌⊎◌, inl, inr, refl, sym, ap, ◌∙◌, subst, arith, Contains, slice_get, length-map, slice_get_within}
+use Rattle.ncl_merge.proofs.Terms.{pins_of, NetId, Cell, NetlistData, IsCell, OnPin, A, B, IsInputPort, IsOutputPort, IsOfBank, FromPort, RailOf, AckOf, ComesFrom, port, HasOnlyOrigin, IsRequest, IsFree, Member-map, Contains-from_Member, Member-from_Contains, Contains-from_slice_get, slice_get-from_Contains, at_of_map, at_map, place_of, driver_of_ack, IsBank, IsInputOf, IsFirstBank, IsLastBank, Follows, HasOne, IsPath, end, next, IsChain, IsRoot, HasRegister, HasEnds, IsUnforked, IsAcknowledged, HasRoots, IsClosed, OnPinNamed, HasOneRole, IsDataApart, IsHead, IsChained, SomeRegister, TwoEnds, NoFork, OneChain, ChainedRequests, OneRootEach, ShownOutputs, OneRoleEach, WordsApart, banks_of_chain, only_origin, moved, IsRailGate, IsThinned}
 use Rattle.ncl_merge.proofs.Thinned.{register-no_rail, kind-apart, pin-back, pin-forth, out-back, bank-back, bank-forth, data-back, input-back, input-forth, output-back, output-forth, comes-back, comes-forth, only-forth, out-within, pin-within}
 
 module _ (n m : NetlistData) (is : IsThinned n m) (free : IsFree n) where

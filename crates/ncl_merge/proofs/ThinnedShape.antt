@@ -1,29 +1,7 @@
 -- A thinned netlist has a shape: the same banks, with the stages that those of the netlist have become.
-use Rattle.std.proofs.Common.{◌≡◌, ◌<◌, ◌≤◌, ◌+◌, ℕ, List, [], ◌∷◌, length, map, get_or, Some, None, inl, inr, refl, sym, ap, ◌∙◌, subst, arith}
-use Rattle.std.specs.Prelude.{slice_get}
-use Rattle.std.specs.List.{AllZip}
-use Rattle.std.proofs.lemmas.List.{length-map, get_or-map}
-use Rattle.std.proofs.lemmas.Option.{slice_get_within, slice_get-get_or}
-use Rattle.ncl_base.specs.declared.word.TheConstants.{MOST_BITS}
-use Rattle.ncl_netlist.specs.declared.ids.NetId.{NetId}
-use Rattle.ncl_netlist.specs.declared.cell.Cell.{Cell}
-use Rattle.ncl_netlist.specs.Netlist.{NetlistData}
-use Rattle.ncl_cell_rules.specs.Origin.{IsCell, CellAt, OnPin, A, B, IsOfBank, AcksBank, RailOf, ComesFrom}
-use Rattle.ncl_cell_rules.specs.Free.{IsFree}
-use Rattle.ncl_base.proofs.Members.{Member, here, there, Member-map, Contains-from_Member, Member-from_Contains, Contains-from_slice_get, slice_get-from_Contains, slice_get-some}
-use Rattle.ncl_base.proofs.Places.{at_of_map}
-use Rattle.ncl_cell_rules.proofs.OriginLaws.{place_of}
-use Rattle.ncl_shape.proofs.ChainLaws.{banks_of_chain}
-use Rattle.ncl_shape.specs.declared.bank.Bank.{Bank}
+use Rattle.ncl_merge.proofs.Kit.{◌≡◌, ◌<◌, ◌≤◌, ◌+◌, ℕ, List, [], ◌∷◌, length, map, get_or, Some, None, inl, inr, refl, sym, ap, ◌∙◌, subst, arith, slice_get, AllZip, length-map, get_or-map, slice_get_within, slice_get-get_or}
+use Rattle.ncl_merge.proofs.Terms.{MOST_BITS, NetId, Cell, NetlistData, IsCell, CellAt, OnPin, A, B, IsOfBank, AcksBank, RailOf, ComesFrom, IsFree, Member, here, there, Member-map, Contains-from_Member, Member-from_Contains, Contains-from_slice_get, slice_get-from_Contains, slice_get-some, at_of_map, place_of, banks_of_chain, Bank, Rails, StageData, IsChain, PipelineData, IsBitOf, AreBitsOf, IsBankOf, AreRailsOf, AreInputsOf, IsStageOf, Shape, same_cell, request_at, renamed_net, renamed_rails, moved, IsStood, IsThinned, IsThinStage, moved_bit, moved_bank, moved_pipeline}
 use Rattle.ncl_shape.specs.declared.bank.Bit.{Bit}
-use Rattle.ncl_shape.specs.declared.rails.Rails.{Rails}
-use Rattle.ncl_shape.specs.Stage.{StageData}
-use Rattle.ncl_shape.specs.Chain.{IsChain}
-use Rattle.ncl_shape.specs.Pipeline.{PipelineData}
-use Rattle.ncl_shape.specs.Shape.{IsBitOf, AreBitsOf, IsBankOf, AreRailsOf, AreInputsOf, IsStageOf, Shape}
-use Rattle.ncl_shape.proofs.ShapeLaws.{same_cell, request_at}
-use Rattle.ncl_shape.specs.Renamed.{renamed_net, renamed_rails}
-use Rattle.ncl_merge.specs.Thinned.{moved, IsStood, IsThinned, IsThinStage, moved_bit, moved_bank, moved_pipeline}
 use Rattle.ncl_merge.proofs.Thinned.{register-no_rail, ack-no_rail, pin-forth, bank-forth, acks-forth, acks-back, comes-back, comes-forth, out-within, out-back, free-thinned}
 use Rattle.ncl_merge.proofs.ThinnedChain.{bank-kept, chain-forth, root-forth, chained-thinned}
 

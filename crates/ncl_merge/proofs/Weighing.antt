@@ -1,30 +1,6 @@
 -- What cells weigh together, before folds and after: what the stages lose, the netlist loses.
-use Rattle.std.proofs.Common.{◌≡◌, ◌≢◌, ◌<◌, ◌≤◌, ◌+◌, ℕ, suc, Bool, true, false, cond, List, [], ◌∷◌, length, Option, None, Some, ◌⊎◌, inl, inr, refl, sym, ap, ◌∙◌, subst, arith}
-use Rattle.std.specs.Prelude.{AllPairs, slice_get, sum_by, nat_eq}
-use Rattle.std.specs.List.{list_any, flat_map}
-use Rattle.std.proofs.lemmas.Bool.{cases_Bool, eq-eqb, both_ways}
-use Rattle.std.proofs.lemmas.List.Concat.{flat_map-cons}
-use Rattle.std.proofs.lemmas.List.Kept.{AllPairs-cons}
-use Rattle.std.proofs.lemmas.List.Sums.{sum_by-cons, sum_by-append}
-use Rattle.std.proofs.lemmas.Option.{slice_get_within}
-use Rattle.ncl_base.proofs.Lists.{Differ, pairs-head, pairs-tail}
-use Rattle.ncl_base.proofs.Members.{Member, here, there, member_cases, Member-append_right, Member-map, All-from_members, Contains-from_Member, Member-from_Contains, Contains-from_slice_get, slice_get-from_Contains, slice_get-some, list_any-from_member}
-use Rattle.ncl_base.proofs.Tests.{AllPairs-append, All-member}
-use Rattle.ncl_base.proofs.Joined.{member_of_flat_map}
-use Rattle.ncl_gates.specs.Gate.{arity_of}
-use Rattle.ncl_netlist.specs.declared.cell.Cell.{Cell}
-use Rattle.ncl_netlist.specs.declared.ids.NetId.{NetId}
-use Rattle.ncl_netlist.specs.Netlist.{NetlistData}
-use Rattle.ncl_cell_rules.specs.Origin.{CellAt}
-use Rattle.ncl_cell_rules.proofs.Drivers.{same_driver, same_place}
-use Rattle.ncl_shape.specs.declared.stage.StageCell.{StageCell}
-use Rattle.ncl_shape.specs.Stage.{StageData, rail_nets, nets_of, out_of}
-use Rattle.ncl_shape.specs.Pipeline.{PipelineData}
-use Rattle.ncl_shape.specs.Shape.{Shape}
-use Rattle.ncl_cell_roles.proofs.NetsApart.{nets_at, stages_apart}
-use Rattle.ncl_merge.specs.Folding.{AreFewer}
-use Rattle.ncl_merge.specs.Rebuilt.{kept}
-use Rattle.ncl_merge.specs.Choice.{is_stage_cell, with_gate_of, choice_of}
+use Rattle.ncl_merge.proofs.Kit.{◌≡◌, ◌≢◌, ◌<◌, ◌≤◌, ◌+◌, ℕ, suc, Bool, true, false, cond, List, [], ◌∷◌, length, Option, None, Some, ◌⊎◌, inl, inr, refl, sym, ap, ◌∙◌, subst, arith, AllPairs, slice_get, sum_by, nat_eq, list_any, flat_map, cases_Bool, eq-eqb, both_ways, flat_map-cons, AllPairs-cons, sum_by-cons, sum_by-append, slice_get_within}
+use Rattle.ncl_merge.proofs.Terms.{Differ, pairs-head, pairs-tail, Member, here, there, member_cases, Member-append_right, Member-map, All-from_members, Contains-from_Member, Member-from_Contains, Contains-from_slice_get, slice_get-from_Contains, slice_get-some, list_any-from_member, AllPairs-append, All-member, member_of_flat_map, arity_of, Cell, NetId, NetlistData, CellAt, same_driver, same_place, StageCell, StageData, rail_nets, nets_of, out_of, PipelineData, Shape, nets_at, stages_apart, AreFewer, kept, is_stage_cell, with_gate_of, choice_of}
 use Rattle.ncl_merge.proofs.Places.{outs-differ}
 use Rattle.ncl_merge.proofs.Rebuilt.{decide, kept_some, kept_none}
 use Rattle.ncl_merge.proofs.Choices.{IsFoldedStageAt, folded-stage, is-folded, stage-is, gate-cell, place-in, stage-within, rail-staged, staged-rail, choice-stands, choice-rail}

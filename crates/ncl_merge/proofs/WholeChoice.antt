@@ -1,39 +1,7 @@
 -- The kept cells of a netlist whose stages were folded are a choice from which a netlist can be built.
-use Rattle.std.proofs.Common.{◌≡◌, ◌<◌, ◌+◌, ℕ, zero, suc, List, length, map, Option, Some, inl, inr, refl, sym, ap, ◌∙◌, subst, arith}
-use Rattle.std.specs.Prelude.{Contains, slice_get}
-use Rattle.std.proofs.lemmas.List.{length-map}
-use Rattle.std.proofs.lemmas.Option.{slice_get_within}
-use Rattle.ncl_gates.specs.Gate.{arity_of}
-use Rattle.ncl_gates.specs.Cell.{pins_of}
-use Rattle.ncl_gates.proofs.RegisterLaws.{register_no_gate, register_pins_of}
-use Rattle.ncl_netlist.specs.declared.ids.NetId.{NetId}
-use Rattle.ncl_netlist.specs.declared.cell.Cell.{Cell}
-use Rattle.ncl_netlist.specs.Netlist.{NetlistData}
-use Rattle.ncl_cell_rules.specs.Origin.{IsCell, CellAt, IsGate, IsRegister, ReadsNet, OnPin, A, B, IsInputPort, IsOutputPort, IsOfBank, Origin, RailOf, AckOf, ComesFrom, gate}
-use Rattle.ncl_cell_rules.proofs.Drivers.{cell_fits, same_driver, no_cell_drives_port}
-use Rattle.ncl_cell_rules.proofs.OriginLaws.{sort_of, place_of, origin_within, bank_of_register, cell_of_rail}
-use Rattle.ncl_shape.specs.declared.bank.Bank.{Bank}
-use Rattle.ncl_shape.specs.declared.stage.StageCell.{StageCell}
-use Rattle.ncl_shape.specs.Stage.{StageData, rail_nets, nets_of, out_of}
-use Rattle.ncl_shape.specs.Pipeline.{PipelineData}
-use Rattle.ncl_shape.specs.Shape.{Shape}
-use Rattle.ncl_shape.specs.Chain.{ShownOutputs}
-use Rattle.ncl_shape.proofs.NetSources.{only_origin}
-use Rattle.ncl_shape.proofs.ShapeLaws.{requests, request_at, last_bank}
-use Rattle.ncl_base.proofs.Members.{Member, Member-append_cases, member_of_map, Contains-from_Member, Member-from_Contains, Contains-from_slice_get, slice_get-from_Contains, slice_get-some}
-use Rattle.ncl_base.proofs.Tests.{All-member}
-use Rattle.ncl_cell_roles.specs.Layout.{rail_at}
-use Rattle.ncl_cell_roles.proofs.RailNets.{rail-within}
-use Rattle.ncl_cell_roles.proofs.BankBits.{rail_of_register}
-use Rattle.ncl_cell_roles.proofs.Numbering.{stage_at, inner_stage, bank_named}
-use Rattle.ncl_cell_roles.proofs.EndLaws.{first_bank, input_is_port}
-use Rattle.ncl_cell_roles.proofs.BetweenBanks.{stages_join, register_on}
-use Rattle.ncl_merge.specs.Folding.{AreFewer}
-use Rattle.ncl_merge.specs.Thinned.{IsRailGate}
-use Rattle.ncl_merge.specs.Rebuilt.{IsChoice, IsWhole}
-use Rattle.ncl_merge.specs.Choice.{with_gate_of, choice_of}
+use Rattle.ncl_merge.proofs.Kit.{◌≡◌, ◌<◌, ◌+◌, ℕ, zero, suc, List, length, map, Option, Some, inl, inr, refl, sym, ap, ◌∙◌, subst, arith, Contains, slice_get, length-map, slice_get_within}
+use Rattle.ncl_merge.proofs.Terms.{arity_of, pins_of, register_no_gate, register_pins_of, NetId, Cell, NetlistData, IsCell, CellAt, IsGate, IsRegister, ReadsNet, OnPin, A, B, IsInputPort, IsOutputPort, IsOfBank, Origin, RailOf, AckOf, ComesFrom, gate, cell_fits, same_driver, no_cell_drives_port, sort_of, place_of, origin_within, bank_of_register, cell_of_rail, Bank, StageCell, StageData, rail_nets, nets_of, out_of, PipelineData, Shape, ShownOutputs, only_origin, requests, request_at, last_bank, Member, Member-append_cases, member_of_map, Contains-from_Member, Member-from_Contains, Contains-from_slice_get, slice_get-from_Contains, slice_get-some, All-member, rail_at, rail-within, rail_of_register, stage_at, inner_stage, bank_named, first_bank, input_is_port, stages_join, register_on, AreFewer, IsRailGate, IsChoice, IsWhole, with_gate_of, choice_of, pins_of-gate}
 use Rattle.ncl_merge.proofs.Folds.{rank-folded}
-use Rattle.ncl_gates.proofs.PinLaws.{pins_of-gate}
 use Rattle.ncl_merge.proofs.Rebuilt.{rail_or_not, same-choice}
 use Rattle.ncl_merge.proofs.Choices.{IsFoldedStageAt, stage-pin, folded-stage, folds, is-folded, old-comes, comes-from, out-known, pin-known, output-known, input-register, in-all, place-in, choice-found, choice-stands, choice-rail}
 

@@ -1,42 +1,6 @@
 -- The text of a folded netlist is no longer than that of the netlist.
-use Rattle.std.proofs.Common.{◌≡◌, ◌≢◌, ◌≤◌, ◌+◌, ◌-◌, ℕ, suc, List, [], ◌∷◌, ◌++◌, length, map, take, drop, Some, inl, inr, refl, sym, ap, ◌∙◌, subst, arith}
-use Rattle.std.specs.Prelude.{Contains, slice_get, sum_by, codes}
-use Rattle.std.specs.List.{flat_map, zip}
-use Rattle.std.proofs.lemmas.Bool.{cases_lt}
-use Rattle.std.proofs.lemmas.List.{length-append, length-map, take-append-drop}
-use Rattle.std.proofs.lemmas.List.Concat.{length-flat_map}
-use Rattle.std.proofs.lemmas.List.Sums.{sum_by-cons, sum_by-append}
-use Rattle.std.proofs.lemmas.Option.{slice_get_within, get_or_from_slice_get}
-use Rattle.ncl_base.proofs.Growing.{sum_by-map}
-use Rattle.ncl_base.proofs.Lists.{Differ}
-use Rattle.ncl_base.proofs.Members.{Member, here, there, member_cases, Member-append_left, Member-append_cases, Contains-from_Member, Member-from_Contains, Contains-from_slice_get, slice_get-from_Contains}
-use Rattle.ncl_base.proofs.Joined.{length-join_with_byte}
-use Rattle.ncl_base.proofs.Tests.{All-member}
-use Rattle.ncl_gates.specs.declared.kind.Kind.{Kind}
-use Rattle.ncl_gates.specs.declared.cell_kind.CellKind.TheVariants.{Gate}
-use Rattle.ncl_gates.specs.Gate.{arity_of}
-use Rattle.ncl_gates.specs.Cell.{pins_of, input_pins}
-use Rattle.ncl_gates.specs.Name.{name_of, cell_name_of}
-use Rattle.ncl_netlist.specs.declared.ids.NetId.{NetId}
-use Rattle.ncl_netlist.specs.declared.cell.Cell.{Cell}
-use Rattle.ncl_netlist.specs.declared.parts.PartCell.{PartCell}
-use Rattle.ncl_netlist.specs.Netlist.{NetlistData, IsNetlist, pin_names}
-use Rattle.ncl_netlist.specs.Names.{name_number}
-use Rattle.ncl_netlist.proofs.NameLists.{name_number-get_or}
-use Rattle.ncl_cell_rules.specs.Origin.{CellAt}
-use Rattle.ncl_shape.specs.declared.stage.StageCell.{StageCell}
-use Rattle.ncl_shape.specs.Stage.{StageData}
-use Rattle.ncl_shape.specs.Pipeline.{PipelineData}
-use Rattle.ncl_shape.specs.Shape.{Shape}
-use Rattle.ncl_writer.specs.Names.{spelled_name}
-use Rattle.ncl_writer.specs.Text.{opened, header_line, port_line, wire_line, pin_text, pin_texts, cell_line, text_of}
-use Rattle.ncl_merge.specs.Fold.{FoldsTo, line_length}
-use Rattle.ncl_merge.specs.Folding.{AreFewer}
-use Rattle.ncl_merge.specs.Thinned.{moved}
-use Rattle.ncl_merge.specs.Rebuilt.{kept, name_at}
-use Rattle.ncl_merge.specs.Choice.{with_gate_of, choice_of, folded_netlist, net_there}
-use Rattle.ncl_merge.specs.Merged.{cell_name}
-use Rattle.ncl_gates.proofs.PinLaws.{pins_of-gate}
+use Rattle.ncl_merge.proofs.Kit.{◌≡◌, ◌≢◌, ◌≤◌, ◌+◌, ◌-◌, ℕ, suc, List, [], ◌∷◌, ◌++◌, length, map, take, drop, Some, inl, inr, refl, sym, ap, ◌∙◌, subst, arith, Contains, slice_get, sum_by, codes, flat_map, zip, cases_lt, length-append, length-map, take-append-drop, length-flat_map, sum_by-cons, sum_by-append, slice_get_within, get_or_from_slice_get}
+use Rattle.ncl_merge.proofs.Terms.{sum_by-map, Differ, Member, here, there, member_cases, Member-append_left, Member-append_cases, Contains-from_Member, Member-from_Contains, Contains-from_slice_get, slice_get-from_Contains, length-join_with_byte, All-member, Kind, Gate, arity_of, pins_of, input_pins, name_of, cell_name_of, NetId, Cell, PartCell, NetlistData, IsNetlist, pin_names, name_number, name_number-get_or, CellAt, StageCell, StageData, PipelineData, Shape, spelled_name, opened, header_line, port_line, wire_line, pin_text, pin_texts, cell_line, text_of, FoldsTo, line_length, AreFewer, moved, kept, name_at, with_gate_of, choice_of, folded_netlist, net_there, cell_name, pins_of-gate}
 use Rattle.ncl_merge.proofs.Rebuilt.{cells-moved, port-name, port-within}
 use Rattle.ncl_merge.proofs.Weights.{lines_no_longer}
 use Rattle.ncl_merge.proofs.WholeChoice.{is-choice}

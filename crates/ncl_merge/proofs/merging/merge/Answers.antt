@@ -1,6 +1,5 @@
-use Rattle.std.proofs.Common.{inl, subst}
-use Rattle.std.specs.Prelude.{MatchOption}
-use Rattle.ncl_merge.specs.Merged.{IsSmaller, NothingFoldable}
+use Rattle.ncl_merge.proofs.Kit.{inl, subst, MatchOption}
+use Rattle.ncl_merge.proofs.Terms.{IsSmaller, NothingFoldable}
 use Rattle.ncl_merge.proofs.Rounds.{way-sound, way-on, way-ends}
 use Rattle.ncl_merge.proofs.merging.merge.Goals as goal
 

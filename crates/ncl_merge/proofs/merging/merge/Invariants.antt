@@ -1,5 +1,5 @@
-use Rattle.std.proofs.Common.{length}
-use Rattle.ncl_merge.specs.Merged.{IsOnTheWay}
+use Rattle.ncl_merge.proofs.Kit.{length}
+use Rattle.ncl_merge.proofs.Terms.{IsOnTheWay}
 use Rattle.ncl_merge.proofs.merging.merge.Given as goal
 
 abbrev pub invariant-loop-merged : goal.invariant-loop-merged

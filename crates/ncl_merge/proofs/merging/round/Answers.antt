@@ -1,6 +1,5 @@
-use Rattle.std.proofs.Common.{sym, subst}
-use Rattle.std.specs.Prelude.{MatchOption}
-use Rattle.ncl_merge.specs.Folding.{HasNoFoldable, AreFewer}
+use Rattle.ncl_merge.proofs.Kit.{sym, subst, MatchOption}
+use Rattle.ncl_merge.proofs.Terms.{HasNoFoldable, AreFewer}
 use Rattle.ncl_merge.proofs.Rounds.{nothing-foldable, round-smaller}
 use Rattle.ncl_merge.proofs.merging.round.Goals as goal
 

@@ -1,4 +1,4 @@
-use Rattle.ncl_netlist.proofs.FaultLaws.{IsFaultOf-excludes}
+use Rattle.ncl_merge.proofs.Terms.{IsFaultOf-excludes}
 use Rattle.ncl_merge.proofs.rebuilding.built.Goals as goal
 
 -- no rule is broken, so `build` fails for want of memory alone

@@ -1,10 +1,5 @@
-use Rattle.std.proofs.Common.{◌<◌, ◌^◌, length, sym, ap, ◌∙◌, subst}
-use Rattle.std.specs.Prelude.{All}
-use Rattle.ncl_netlist.specs.declared.parts.Parts.{Parts}
-use Rattle.ncl_netlist.specs.Faults.{IsFaultless}
-use Rattle.ncl_netlist.specs.Names.{AllDiffer}
-use Rattle.ncl_netlist.specs.Parts.{HasAllPins, netlist_of, port_names}
-use Rattle.ncl_netlist.proofs.Said.{netlist_of-parts_said, faultless-parts_said}
+use Rattle.ncl_merge.proofs.Kit.{◌<◌, ◌^◌, length, sym, ap, ◌∙◌, subst, All}
+use Rattle.ncl_merge.proofs.Terms.{Parts, IsFaultless, AllDiffer, HasAllPins, netlist_of, port_names, netlist_of-parts_said, faultless-parts_said}
 use Rattle.ncl_merge.proofs.FoldedParts.{said-ports, said-pins}
 use Rattle.ncl_merge.proofs.rebuilding.copied_netlist.Goals as goal
 

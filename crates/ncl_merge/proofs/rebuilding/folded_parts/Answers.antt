@@ -1,12 +1,5 @@
-use Rattle.std.proofs.Common.{◌≡◌, ◌<◌, false, length, map, sym, ap, ◌∙◌, subst}
-use Rattle.std.specs.Prelude.{All}
-use Rattle.ncl_netlist.specs.declared.ids.NetId.{NetId}
-use Rattle.ncl_netlist.specs.Netlist.{NetlistData}
-use Rattle.ncl_netlist.specs.Parts.{part_of}
-use Rattle.ncl_cell_rules.specs.Tables.{IsTable}
-use Rattle.ncl_shape.specs.declared.stage.StageCell.{StageCell}
-use Rattle.ncl_merge.specs.Rebuilt.{kept}
-use Rattle.ncl_merge.specs.Choice.{HaveGates, all_of, choice_by, choice_of, is_stage_net}
+use Rattle.ncl_merge.proofs.Kit.{◌≡◌, ◌<◌, false, length, map, sym, ap, ◌∙◌, subst, All}
+use Rattle.ncl_merge.proofs.Terms.{NetId, NetlistData, part_of, IsTable, StageCell, kept, HaveGates, all_of, choice_by, choice_of, is_stage_net}
 use Rattle.ncl_merge.proofs.FoldedParts.{all-inside, all-once, gate-pins, kept-by-tables}
 use Rattle.ncl_merge.proofs.rebuilding.folded_parts.Goals as goal
 

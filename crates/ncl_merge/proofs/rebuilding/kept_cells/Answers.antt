@@ -1,8 +1,5 @@
-use Rattle.std.proofs.Common.{◌≡◌, ◌<◌, false, [], ◌++◌, length, map, get_or, sym, subst}
-use Rattle.ncl_netlist.specs.declared.cell.Cell.{Cell}
-use Rattle.ncl_netlist.specs.Parts.{part_of}
-use Rattle.ncl_merge.specs.Rebuilt.{with_kept}
-use Rattle.ncl_merge.specs.Choice.{becomes}
+use Rattle.ncl_merge.proofs.Kit.{◌≡◌, ◌<◌, false, [], ◌++◌, length, map, get_or, sym, subst}
+use Rattle.ncl_merge.proofs.Terms.{Cell, part_of, with_kept, becomes}
 use Rattle.ncl_merge.proofs.Lists.{member-read}
 use Rattle.ncl_merge.proofs.NetTables.{kept-more}
 use Rattle.ncl_merge.proofs.rebuilding.kept_cells.Goals as goal

@@ -1,7 +1,5 @@
-use Rattle.std.proofs.Common.{◌≡◌, map, take}
-use Rattle.ncl_netlist.specs.Parts.{part_of}
-use Rattle.ncl_merge.specs.Rebuilt.{kept}
-use Rattle.ncl_merge.specs.Choice.{choice_by}
+use Rattle.ncl_merge.proofs.Kit.{◌≡◌, map, take}
+use Rattle.ncl_merge.proofs.Terms.{part_of, kept, choice_by}
 use Rattle.ncl_merge.proofs.rebuilding.kept_cells.Given as goal
 
 abbrev pub invariant-loop-cell : goal.invariant-loop-cell

@@ -1,6 +1,5 @@
-use Rattle.std.proofs.Common.{◌≡◌, ℕ, ◌<◌, ◌||◌, false, length, take}
-use Rattle.std.specs.List.{slice_index_or}
-use Rattle.ncl_merge.specs.Choice.{is_driven}
+use Rattle.ncl_merge.proofs.Kit.{◌≡◌, ℕ, ◌<◌, ◌||◌, false, length, take, slice_index_or}
+use Rattle.ncl_merge.proofs.Terms.{is_driven}
 use Rattle.ncl_merge.proofs.rebuilding.mark.Given as goal
 
 -- the nets of the cells so far are marked

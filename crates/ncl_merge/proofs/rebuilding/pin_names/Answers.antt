@@ -1,5 +1,5 @@
-use Rattle.std.proofs.Common.{[], get_or}
-use Rattle.ncl_netlist.specs.declared.ids.NetId.{NetId}
+use Rattle.ncl_merge.proofs.Kit.{[], get_or}
+use Rattle.ncl_merge.proofs.Terms.{NetId}
 use Rattle.ncl_merge.proofs.Lists.{map-more, map-last}
 use Rattle.ncl_merge.proofs.rebuilding.pin_names.Goals as goal
 

@@ -1,6 +1,5 @@
-use Rattle.std.proofs.Common.{◌≡◌, [], map, take}
-use Rattle.std.specs.List.{slice_index_or}
-use Rattle.ncl_netlist.specs.declared.ids.NetId.{NetId}
+use Rattle.ncl_merge.proofs.Kit.{◌≡◌, [], map, take, slice_index_or}
+use Rattle.ncl_merge.proofs.Terms.{NetId}
 use Rattle.ncl_merge.proofs.rebuilding.pin_names.Given as goal
 
 -- the names of the pins so far

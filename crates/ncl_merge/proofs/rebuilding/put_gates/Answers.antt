@@ -1,7 +1,5 @@
-use Rattle.std.proofs.Common.{◌<◌, ◌++◌, length, sym, subst, arith}
-use Rattle.std.proofs.lemmas.List.{take_all}
-use Rattle.ncl_shape.specs.declared.stage.StageCell.{StageCell}
-use Rattle.ncl_merge.specs.Choice.{HaveGates}
+use Rattle.ncl_merge.proofs.Kit.{◌<◌, ◌++◌, length, sym, subst, arith, take_all}
+use Rattle.ncl_merge.proofs.Terms.{StageCell, HaveGates}
 use Rattle.ncl_merge.proofs.NetTables.{put-more}
 use Rattle.ncl_merge.proofs.rebuilding.put_gates.Goals as goal
 

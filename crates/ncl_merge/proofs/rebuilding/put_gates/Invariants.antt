@@ -1,6 +1,5 @@
-use Rattle.std.proofs.Common.{List, ◌++◌, take}
-use Rattle.ncl_shape.specs.declared.stage.StageCell.{StageCell}
-use Rattle.ncl_merge.specs.Choice.{DriveOnce, HaveGates}
+use Rattle.ncl_merge.proofs.Kit.{List, ◌++◌, take}
+use Rattle.ncl_merge.proofs.Terms.{StageCell, DriveOnce, HaveGates}
 use Rattle.ncl_merge.proofs.rebuilding.put_gates.Given as goal
 
 -- the cells so far are at their nets

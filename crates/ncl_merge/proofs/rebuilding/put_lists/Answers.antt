@@ -1,8 +1,5 @@
-use Rattle.std.proofs.Common.{◌≡◌, ◌<◌, ◌++◌, length, take, get_or, sym, ap, ◌∙◌, subst, arith}
-use Rattle.std.specs.Prelude.{All}
-use Rattle.std.proofs.lemmas.List.{take_all}
-use Rattle.ncl_shape.specs.declared.stage.StageCell.{StageCell}
-use Rattle.ncl_merge.specs.Choice.{HaveGates, DriveOnce, all_of}
+use Rattle.ncl_merge.proofs.Kit.{◌≡◌, ◌<◌, ◌++◌, length, take, get_or, sym, ap, ◌∙◌, subst, arith, All, take_all}
+use Rattle.ncl_merge.proofs.Terms.{StageCell, HaveGates, DriveOnce, all_of}
 use Rattle.ncl_merge.proofs.NetTables.{all_of-at, all_of-more, once-more}
 use Rattle.ncl_merge.proofs.rebuilding.put_lists.Goals as goal
 

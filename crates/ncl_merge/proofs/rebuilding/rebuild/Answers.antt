@@ -1,10 +1,5 @@
-use Rattle.std.proofs.Common.{◌<◌, ◌^◌, length, sym, subst}
-use Rattle.std.specs.Prelude.{All}
-use Rattle.ncl_netlist.specs.declared.parts.Parts.{Parts}
-use Rattle.ncl_netlist.specs.Faults.{IsFaultless}
-use Rattle.ncl_netlist.specs.Names.{AllDiffer}
-use Rattle.ncl_netlist.specs.Parts.{HasAllPins, port_names}
-use Rattle.ncl_merge.specs.Choice.{choice_of}
+use Rattle.ncl_merge.proofs.Kit.{◌<◌, ◌^◌, length, sym, subst, All}
+use Rattle.ncl_merge.proofs.Terms.{Parts, IsFaultless, AllDiffer, HasAllPins, port_names, choice_of}
 use Rattle.ncl_merge.proofs.Faultless.{faultless-kept, ports-apart, all-pins}
 use Rattle.ncl_merge.proofs.WholeChoice.{is-choice, is-whole}
 use Rattle.ncl_merge.proofs.rebuilding.rebuild.Goals as goal

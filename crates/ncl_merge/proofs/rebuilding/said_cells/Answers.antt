@@ -1,5 +1,5 @@
-use Rattle.std.proofs.Common.{◌≡◌, [], ◌∷◌, ◌++◌, ap, subst}
-use Rattle.ncl_netlist.specs.Parts.{part_of}
+use Rattle.ncl_merge.proofs.Kit.{◌≡◌, [], ◌∷◌, ◌++◌, ap, subst}
+use Rattle.ncl_merge.proofs.Terms.{part_of}
 use Rattle.ncl_merge.proofs.Lists.{map-more, member-read}
 use Rattle.ncl_merge.proofs.rebuilding.said_cells.Goals as goal
 

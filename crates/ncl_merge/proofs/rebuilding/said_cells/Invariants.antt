@@ -1,5 +1,5 @@
-use Rattle.std.proofs.Common.{◌≡◌, map, take}
-use Rattle.ncl_netlist.specs.Parts.{part_of}
+use Rattle.ncl_merge.proofs.Kit.{◌≡◌, map, take}
+use Rattle.ncl_merge.proofs.Terms.{part_of}
 use Rattle.ncl_merge.proofs.rebuilding.said_cells.Given as goal
 
 -- the cells so far

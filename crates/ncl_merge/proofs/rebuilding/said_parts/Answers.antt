@@ -1,5 +1,5 @@
-use Rattle.std.proofs.Common.{◌≡◌, map, ◌∙◌}
-use Rattle.ncl_netlist.specs.Parts.{part_of}
+use Rattle.ncl_merge.proofs.Kit.{◌≡◌, map, ◌∙◌}
+use Rattle.ncl_merge.proofs.Terms.{part_of}
 use Rattle.ncl_merge.proofs.rebuilding.said_parts.Goals as goal
 
 pub returns : goal.returns

@@ -1,6 +1,5 @@
-use Rattle.std.proofs.Common.{◌<◌, length, sym, ap, subst, arith}
-use Rattle.std.specs.Prelude.{All}
-use Rattle.ncl_shape.specs.declared.stage.StageCell.{StageCell}
+use Rattle.ncl_merge.proofs.Kit.{◌<◌, length, sym, ap, subst, arith, All}
+use Rattle.ncl_merge.proofs.Terms.{StageCell}
 use Rattle.ncl_merge.proofs.AllFolding.{item-at, stage-inside}
 use Rattle.ncl_merge.proofs.rebuilding.stage_nets.Goals as goal
 

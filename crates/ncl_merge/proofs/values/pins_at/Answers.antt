@@ -1,6 +1,5 @@
-use Rattle.std.proofs.Common.{◌∙◌}
-use Rattle.ncl_shape.proofs.ClosureLaws.{pin_values-same}
-use Rattle.ncl_merge.specs.Fold.{assigned}
+use Rattle.ncl_merge.proofs.Kit.{◌∙◌}
+use Rattle.ncl_merge.proofs.Terms.{pin_values-same, assigned}
 use Rattle.ncl_merge.proofs.FoldValues.{with_net-again}
 use Rattle.ncl_merge.proofs.values.pins_at.Goals as goal
 

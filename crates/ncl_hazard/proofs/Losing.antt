@@ -1,8 +1,8 @@
 -- What happens of the items that are tried is a run, and where a cell is enabled at first and not at the end, some item
 -- takes it back.
-use Rattle.std.proofs.Common.{◌≡◌, ◌≢◌, Bool, true, false, if◌then◌else◌, List, [], ◌∷◌, ◌++◌, inl, inr, refl, sym, ap, ◌∙◌, subst}
+use Rattle.std.proofs.Common.{◌≡◌, ◌≢◌, Bool, true, false, if◌then◌else◌, List, [], ◌∷◌, ◌++◌, ◌⊎◌, inl, inr, refl, sym, ap, ◌∙◌, subst}
 use Rattle.std.proofs.lemmas.Bool.{both_ways, cases_Bool}
-use Rattle.ncl_base.proofs.Members.{Member, here, there}
+use Rattle.ncl_base.proofs.Members.{Member, here, there, member_cases}
 use Rattle.ncl_netlist.specs.declared.ids.CellId.{CellId}
 use Rattle.ncl_shape.specs.declared.item.Item.{Item}
 use Rattle.ncl_shape.specs.declared.item.Item.TheVariants.{Cell as Fire}
@@ -31,6 +31,17 @@ happened-after p s (item ∷ items) = go (enabled p s item) (happened-after p (s
 pub tried-append : (p : PipelineData) (s : State) (xs ys : List Item) → tried p s (xs ++ ys) ≡ tried p (tried p s xs) ys
 tried-append p s [] ys = refl
 tried-append p s (x ∷ xs) ys = tried-append p (turned p s x) xs ys
+
+-- where none of the items happens, none of them can
+pub none-happens : (p : PipelineData) (s : State) (items : List Item) → happened p s items ≡ [] → (item : Item) → Member item items → enabled p s item ≡ false
+none-happens p s [] none item m = elim m [ ]
+none-happens p s (x ∷ items) none item m = go (none-happens p s items) (enabled p s x) refl none (member_cases item x items m)
+  where
+    go : (happened p s items ≡ [] → (item : Item) → Member item items → enabled p s item ≡ false) → (b : Bool) → enabled p s x ≡ b
+        → (if b then x ∷ [] else []) ++ happened p (if b then step p s x else s) items ≡ [] → (x ≡ item) ⊎ Member item items → enabled p s item ≡ false
+    go rest true e none which = absurd cc
+    go rest false e none (inl same) = subst (λ y. enabled p s y ≡ false) same e
+    go rest false e none (inr n) = rest none item n
 
 -- an item more before the run
 one-before : (p : PipelineData) (s : State) (cell : CellId) (item : Item) → enabled p s item ≡ true → (run : List Item) → Loses p (step p s item) cell run → Loses p s cell (item ∷ run)

@@ -16,9 +16,10 @@ use Rattle.ncl_shape.specs.Shape.{Shape}
 use Rattle.ncl_space.specs.Table.{words}
 use Rattle.ncl_stage.proofs.OrderLaws.{words-length}
 use Rattle.ncl_cell_roles.proofs.LaidOut.{laid_out}
+use Rattle.ncl_machine.specs.Held.{InRange}
 use Rattle.ncl_machine.specs.State.{reset}
 use Rattle.ncl_machine.specs.Steps.{enabled}
-use Rattle.ncl_hazard.specs.Trying.{tried, CanBeTried, HasNoDataBank}
+use Rattle.ncl_hazard.specs.Trying.{tried, HasNoDataBank}
 use Rattle.ncl_hazard.specs.Schedule.{coming, going}
 use Rattle.ncl_hazard.specs.Why.{brings_orphan, least_input}
 use Rattle.ncl_hazard.specs.Explained.{AreSoundBefore, BringsOrphan, IsPlaceOf}
@@ -52,12 +53,12 @@ module _ (p : PipelineData) (shape : Shape p.netlist p) (before : ℕ) (cell : C
       let (c, at_c, is_c) = cells_are p shape l is (suc before) (omega (arith, inner, many)) g m in
       subst (λ (x : CellId). x.0 < length p.netlist.cells) b.of_cell.1.2 (slice_get_within p.netlist.cells g.cell.0 c at_c)
 
-  pub coming-all : All (CanBeTried p) (coming p (before + 1) cell)
+  pub coming-all : All (InRange p) (coming p (before + 1) cell)
   coming-all = coming-tried p shape (before + 1) (omega (arith, inner)) cell
 
   module _ (null : HasNoDataBank p) (sounds : AreSoundBefore p before) (order : List ℕ) (ord : IsCellOrder p.netlist order) where
-    pub going-all : All (CanBeTried p) (going p (before + 1) cell order)
-    going-all = going-tried p shape (before + 1) (omega (arith, inner)) cell order ord
+    pub going-all : All (InRange p) (going p (before + 1) cell order)
+    going-all = going-tried p shape order ord (before + 1) (omega (arith, inner)) cell
 
     -- what trying the items comes to
     pub record Comes (stages : ℕ) (i : CellId) : Type 0 where

@@ -2,10 +2,9 @@
 use Rattle.std.specs.Prelude.{◌≡◌, ◌≢◌, true, false, if◌then◌else◌, List, [], ◌∷◌, ◌++◌}
 use Rattle.ncl_netlist.specs.declared.ids.CellId.{CellId}
 use Rattle.ncl_shape.specs.declared.item.Item.{Item}
-use Rattle.ncl_shape.specs.declared.item.Item.TheVariants.{Cell as Fire, Take}
+use Rattle.ncl_shape.specs.declared.item.Item.TheVariants.{Cell as Fire}
 use Rattle.ncl_shape.specs.Held.{data_banks}
 use Rattle.ncl_shape.specs.Pipeline.{PipelineData}
-use Rattle.ncl_machine.specs.Held.{InRange}
 use Rattle.ncl_machine.specs.State.{State}
 use Rattle.ncl_machine.specs.Steps.{enabled, step}
 use Rattle.ncl_machine.specs.Run.{IsRunFrom, after}
@@ -13,11 +12,6 @@ use Rattle.ncl_machine.specs.Run.{IsRunFrom, after}
 -- no bank of the pipeline is reset to DATA
 abbrev pub HasNoDataBank : PipelineData → Type 0
 HasNoDataBank p = data_banks p.banks ≡ 0
-
--- it is an item of the pipeline and no Take, so that to try it takes no memory
-pub record CanBeTried (p : PipelineData) (item : Item) : Type 0 where
-  pub within : InRange p item
-  pub other : item ≢ Take
 
 -- the state once an item was tried
 abbrev pub turned : PipelineData → State → Item → State

@@ -30,3 +30,7 @@ mod search;
 mod trying;
 
 pub use explaining::{Explained, Steps, explain};
+pub use schedule::{
+    acknowledging_items, all_items, coming_items, going_items, lacking_items, reaching_items,
+};
+pub use trying::{losing_run, try_items};

@@ -1,9 +1,9 @@
 //! Items that are tried in turn, and the run of those that happen.
 ghost use Rattle.std.specs.Prelude.{◌≡◌, ◌≢◌, ◌<◌, ◌++◌, ◌∷◌, [], true, false, All, OnOk, IfOk, length};
-ghost use Rattle.ncl_shape.specs.declared.item.Item.TheVariants.{Cell as Fire, Take as Taking};
+ghost use Rattle.ncl_shape.specs.declared.item.Item.TheVariants.{Cell as Fire};
 ghost use Rattle.ncl_machine.specs.Held.{IsFor, InRange, meaning};
 ghost use Rattle.ncl_machine.specs.Steps.{enabled};
-ghost use Rattle.ncl_hazard.specs.Trying.{turned, tried, happened, Loses, CanBeTried};
+ghost use Rattle.ncl_hazard.specs.Trying.{turned, tried, happened, Loses};
 
 use ncl_base::Memory;
 use ncl_machine::State;
@@ -11,7 +11,8 @@ use ncl_netlist::CellId;
 use ncl_shape::{Item, Pipeline};
 use std::alloc::Global;
 
-/// Tries an item: it happens where it is enabled, and then it is the next of the run. Takes constant time.
+/// Tries an item: it happens where it is enabled, and then it is the next of the run. Takes the time of the cell's own pins, but
+/// `Take` that of the outputs.
 fn attempt(
     pipeline: &Pipeline,
     state: &mut State,
@@ -19,7 +20,7 @@ fn attempt(
     item: Item,
 ) -> Result<(), Memory>
     requires made { IsFor pipeline.now state.old }
-    requires item { CanBeTried pipeline.now item }
+    requires item { InRange pipeline.now item }
     ensures made { IsFor pipeline.now state.new }
     ensures turned { OnOk result (meaning state.new ≡ turned pipeline.now (meaning state.old) item) }
     ensures run { OnOk result (run.new.items ≡ run.old.items ++ happened pipeline.now (meaning state.old) (item ∷ [])) }
@@ -27,9 +28,28 @@ fn attempt(
     if state.enabled(pipeline, item) {
         match state.step(pipeline, item) {
             Ok(()) => {}
-            Err(_) => unreachable!(),
+            Err(_) => return Err(Memory),
         }
         run.push(item)?;
+    }
+    Ok(())
+}
+
+/// Tries items in turn: those that happen come after others of a run. Linear in the items, and in the outputs for each `Take`.
+pub fn try_items(
+    pipeline: &Pipeline,
+    state: &mut State,
+    run: &mut Vec<Item>,
+    items: &[Item],
+) -> Result<(), Memory>
+    requires made { IsFor pipeline.now state.old }
+    requires items { All (InRange pipeline.now) items.now }
+    ensures made { IsFor pipeline.now state.new }
+    ensures tried { OnOk result (meaning state.new ≡ tried pipeline.now (meaning state.old) items.now) }
+    ensures run { OnOk result (run.new.items ≡ run.old.items ++ happened pipeline.now (meaning state.old) items.now) }
+{
+    for item in items {
+        attempt(pipeline, state, run, *item)?;
     }
     Ok(())
 }
@@ -38,7 +58,7 @@ fn attempt(
 /// tried the cell is excited, and once the others were it isn't. The state is that after the run.
 ///
 /// Linear in the items.
-pub(crate) fn losing_run(
+pub fn losing_run(
     alloc: Global,
     pipeline: &Pipeline,
     state: &mut State,
@@ -48,17 +68,15 @@ pub(crate) fn losing_run(
 ) -> Result<Vec<Item>, Memory>
     requires made { IsFor pipeline.now state.old }
     requires cell { cell.0 < length pipeline.now.netlist.cells }
-    requires coming { All (CanBeTried pipeline.now) coming.now }
-    requires going { All (CanBeTried pipeline.now) going.now }
+    requires coming { All (InRange pipeline.now) coming.now }
+    requires going { All (InRange pipeline.now) going.now }
     requires others { All (λ item. item ≢ Fire cell) going.now }
     requires comes { enabled pipeline.now (tried pipeline.now (meaning state.old) coming.now) (Fire cell) ≡ true }
     requires goes { enabled pipeline.now (tried pipeline.now (meaning state.old) (coming.now ++ going.now)) (Fire cell) ≡ false }
     ensures { IfOk result (λ run. Loses pipeline.now (meaning state.old) cell run.items) }
 {
     let mut run = Vec::new(alloc);
-    for item in coming {
-        attempt(pipeline, state, &mut run, *item)?;
-    }
+    try_items(pipeline, state, &mut run, coming)?;
     for next in going {
         attempt(pipeline, state, &mut run, *next)?;
         if !state.enabled(pipeline, Item::Cell(cell)) {

@@ -2,11 +2,11 @@ use Rattle.std.proofs.Common.{◌≡◌, ◌≢◌, ◌+◌, ◌++◌, [], ◌�
 use Rattle.std.specs.Prelude.{All, IfOk}
 use Rattle.ncl_shape.specs.declared.item.Item.{Item}
 use Rattle.ncl_shape.specs.declared.item.Item.TheVariants.{Cell as Fire}
-use Rattle.ncl_machine.specs.Held.{meaning}
+use Rattle.ncl_machine.specs.Held.{InRange, meaning}
 use Rattle.ncl_machine.specs.State.{State, reset}
 use Rattle.ncl_machine.specs.Steps.{enabled}
 use Rattle.ncl_hazard.specs.Schedule.{coming, going}
-use Rattle.ncl_hazard.specs.Trying.{CanBeTried, Loses, tried}
+use Rattle.ncl_hazard.specs.Trying.{Loses, tried}
 use Rattle.ncl_hazard.proofs.ShownLaws.{all-comes, cell-within, coming-all, going-all, order-of}
 use Rattle.ncl_hazard.proofs.explaining.shown_run.Goals as goal
 
@@ -22,8 +22,8 @@ losing_run-requires c =
     record {
       made = search rules;
       cell = cell-within p c.facts.ensures c.args.before c.args.cell c.args.input.now c.requires.brings;
-      coming = subst (All (CanBeTried p)) (sym first) (coming-all p c.facts.ensures c.args.before c.args.cell c.args.input.now c.requires.brings);
-      going = subst (All (CanBeTried p)) (sym then_on) (going-all p c.facts.ensures c.args.before c.args.cell c.args.input.now c.requires.brings c.requires.null c.requires.sound order ord);
+      coming = subst (All (InRange p)) (sym first) (coming-all p c.facts.ensures c.args.before c.args.cell c.args.input.now c.requires.brings);
+      going = subst (All (InRange p)) (sym then_on) (going-all p c.facts.ensures c.args.before c.args.cell c.args.input.now c.requires.brings c.requires.null c.requires.sound order ord);
       others = subst (All (λ (item : Item). item ≢ Fire c.args.cell)) (sym then_on) all.others;
       comes = (λ i. enabled p (tried p (started i) (first i)) (Fire c.args.cell)) ∙ all.comes;
       goes = (λ i. enabled p (tried p (started i) (first i ++ then_on i)) (Fire c.args.cell)) ∙ all.goes;

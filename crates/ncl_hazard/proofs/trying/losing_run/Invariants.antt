@@ -5,11 +5,7 @@ use Rattle.ncl_machine.specs.Steps.{enabled}
 use Rattle.ncl_hazard.proofs.Tries.{HasTried}
 use Rattle.ncl_hazard.proofs.trying.losing_run.Given as goal
 
--- the first items were tried
-abbrev pub invariant-loop-item : goal.invariant-loop-item
-invariant-loop-item l = IsFor l.pipeline l.state × HasTried l.pipeline (meaning l.fn.state) (meaning l.state) ([] ++ take l.item-index l.coming) l.run.items
-
--- so were all of them and the first of the others, and the cell is enabled still
+-- all of the first and the first of the others were tried, and the cell is enabled still
 abbrev pub invariant-loop-next : goal.invariant-loop-next
 invariant-loop-next l =
     IsFor l.pipeline l.state × HasTried l.pipeline (meaning l.fn.state) (meaning l.state) (l.coming ++ take l.next-index l.going) l.run.items

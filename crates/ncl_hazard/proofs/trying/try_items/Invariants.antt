@@ -1,0 +1,10 @@
+use Rattle.std.proofs.Common.{◌≡◌, ◌++◌, take}
+use Rattle.ncl_machine.specs.Held.{IsFor, meaning}
+use Rattle.ncl_hazard.specs.Trying.{tried, happened}
+use Rattle.ncl_hazard.proofs.trying.try_items.Given as goal
+
+-- the first items were tried
+abbrev pub invariant-loop-item : goal.invariant-loop-item
+invariant-loop-item l =
+    IsFor l.pipeline l.state × (meaning l.state ≡ tried l.pipeline (meaning l.fn.state) (take l.item-index l.items))
+    × (l.run.items ≡ l.fn.run.items ++ happened l.pipeline (meaning l.fn.state) (take l.item-index l.items))

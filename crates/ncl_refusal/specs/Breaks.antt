@@ -1,5 +1,5 @@
 -- Which thing it is that breaks in a run, by the fault that a word shows at a stage.
-use Rattle.std.specs.Prelude.{◌≡◌, ℕ, ◌-◌, Bool, true, List, [], ◌∷◌, Some, slice_get}
+use Rattle.std.specs.Prelude.{◌≡◌, ℕ, ◌-◌, Bool, true, List, [], ◌∷◌, Option, None, Some, slice_get}
 use Rattle.std.specs.List.{list_all}
 use Rattle.ncl_netlist.specs.declared.cell.Cell.{Cell}
 use Rattle.ncl_netlist.specs.declared.ids.CellId.{CellId}
@@ -16,20 +16,26 @@ use Rattle.ncl_verdict.specs.declared.verdict.Verdict.{Verdict}
 use Rattle.ncl_verdict.specs.Judgement.{verdict_of}
 use Rattle.ncl_hazard.specs.Trying.{Loses}
 
--- a run over an input alone breaks what a fault of a stage of the pipeline names
-pub data Breaks (p : PipelineData) (input : List Bool) (s : StageData) : StageFault → Type 0 where
+-- a run over an input alone breaks what a fault of a stage of the pipeline names, by the loss of a cell's excitation or without one
+pub data BreaksBy (p : PipelineData) (input : List Bool) (s : StageData) (items : List Item) : StageFault → Option CellId → Type 0 where
   -- both rails of an output: a state comes in which that output is illegal
-  illegal_output : (output : ℕ) (r : Rails) → slice_get s.outputs output ≡ Some r → (items : List Item) → IsRun p (input ∷ []) items
-      → is_illegal (after p (reset p (input ∷ [])) items).value r ≡ true → Breaks p input s (BothRails output)
+  illegal_output : (output : ℕ) (r : Rails) → slice_get s.outputs output ≡ Some r → IsRun p (input ∷ []) items
+      → is_illegal (after p (reset p (input ∷ [])) items).value r ≡ true → BreaksBy p input s items (BothRails output) None
   -- no rail of an output: the run comes to a stop in which each bit of the bank before the stage is DATA
-  stop_while_full : (output : ℕ) (items : List Item) → IsRun p (input ∷ []) items → IsQuiet p (after p (reset p (input ∷ [])) items)
-      → list_all (has_data (after p (reset p (input ∷ [])) items).value) s.inputs ≡ true → Breaks p input s (NoRail output)
+  stop_while_full : (output : ℕ) → IsRun p (input ∷ []) items → IsQuiet p (after p (reset p (input ∷ [])) items)
+      → list_all (has_data (after p (reset p (input ∷ [])) items).value) s.inputs ≡ true → BreaksBy p input s items (NoRail output) None
   -- a bit that isn't waited for: a register cell that drives a rail of that bit loses its excitation in the last step
   register_loses : (bit : ℕ) (r : Rails) → slice_get s.inputs bit ≡ Some r → (cell : CellId) (c : Cell) → CellAt p.netlist cell.0 c
-      → (rail : Bool) → c.out.0 ≡ rail_of r rail → (items : List Item) → Loses p (reset p (input ∷ [])) cell items → Breaks p input s (Incomplete bit)
+      → (rail : Bool) → c.out.0 ≡ rail_of r rail → Loses p (reset p (input ∷ [])) cell items → BreaksBy p input s items (Incomplete bit) (Some cell)
   -- an orphan: that gate does
-  gate_loses : (place : ℕ) (g : StageCell) → slice_get s.cells place ≡ Some g → (items : List Item) → Loses p (reset p (input ∷ [])) g.cell items
-      → Breaks p input s (Orphan place)
+  gate_loses : (place : ℕ) (g : StageCell) → slice_get s.cells place ≡ Some g → Loses p (reset p (input ∷ [])) g.cell items
+      → BreaksBy p input s items (Orphan place) (Some g.cell)
+
+-- some run over the input alone does
+pub record Breaks (p : PipelineData) (input : List Bool) (s : StageData) (fault : StageFault) : Type 0 where
+  pub items : List Item
+  pub lost : Option CellId
+  pub breaks : BreaksBy p input s items fault lost
 
 -- a verdict is that of a fault of the stage with this number, and a run over the input alone breaks what that fault names
 pub record BreaksAsTold (p : PipelineData) (number : ℕ) (word : List Bool) (v : Verdict) (input : List Bool) : Type 0 where

@@ -98,7 +98,7 @@ fn shown_text(
 }
 
 /// Appends a line for each step. Linear in the lines.
-fn push_steps(text: &mut Vec<u8>, pipeline: &Pipeline<'_>, run: &[Item]) -> Result<(), Memory>
+pub fn push_steps(text: &mut Vec<u8>, pipeline: &Pipeline<'_>, run: &[Item]) -> Result<(), Memory>
     requires { All (InRange pipeline.now) run.now }
     ensures { OnOk result (text.new.items ≡ text.old.items ++ step_lines pipeline.now.netlist 1 run.now) }
 {

@@ -1,7 +1,6 @@
 -- The names of bits, and the numbers of a vector.
-use Rattle.ncl_reader.proofs.Kit.{◌≡◌, ℕ, zero, suc, ◌+◌, ◌-◌, ◌^◌, ◌<◌, ◌≤◌, arith, List, [], ◌∷◌, ◌++◌, length, get_or, Bool, true, false, cond, refl, sym, ◌∙◌, subst, ◌≢◌, inl, inr, decimal, nat_le, AllDigits, false≢true, le-leb, leb-true, decimal_is_IsNumeral, decimal_injective, same_from_push}
+use Rattle.ncl_reader.proofs.Kit.{◌≡◌, ℕ, zero, suc, ◌+◌, ◌-◌, ◌^◌, ◌<◌, ◌≤◌, arith, List, [], ◌∷◌, ◌++◌, length, get_or, Bool, true, false, cond, refl, sym, ◌∙◌, subst, ◌≢◌, inl, inr, decimal, nat_le, AllDigits, false≢true, le-leb, leb-true, decimal_is_IsNumeral, decimal_injective, same_from_push, ap, length-append}
 use Rattle.ncl_reader.proofs.Terms.{Span, width, bit_name, up_from, down_from, numbers_of, split_push}
-use Rattle.ncl_reader.proofs.Breaking.{no_token}
 
 -- no `[` stands
 abbrev pub NoOpen : List ℕ → Type 0
@@ -9,7 +8,7 @@ NoOpen bytes = (front rest : List ℕ) → bytes ≢ front ++ 91 ∷ rest
 
 -- digits have none, nor have they with a `]`
 pub digits_open : (digits : List ℕ) → AllDigits 10 digits → NoOpen digits
-digits_open [] all front rest e = no_token front rest 91 e
+digits_open [] all front rest e = omega (arith, ap length e, length-append front (91 ∷ rest))
 digits_open (c ∷ digits) all [] rest e = let same : c ≡ 91 = cc in bracket (subst (λ b. AllDigits 10 (b ∷ digits)) same all)
   where
     bracket : AllDigits 10 (91 ∷ digits) → ⊥

@@ -1,5 +1,5 @@
 -- Nets on pins.
-use Rattle.ncl_reader.proofs.Kit.{◌≡◌, ℕ, suc, ◌+◌, ◌<◌, length, List, [], ◌∷◌, ◌++◌, Bool, true, false, map, take, get_or, Option, Some, None, refl, sym, ap, ◌∙◌, Contains, drop, drop-cons, subst, Bor, find, option_map, bytes_eq, take_more, map_push, take-append-drop, map-append, find-append, option_or, cond}
+use Rattle.ncl_reader.proofs.Kit.{◌≡◌, ℕ, suc, ◌+◌, ◌<◌, length, List, [], ◌∷◌, ◌++◌, Bool, true, false, map, take, get_or, Option, Some, None, refl, sym, ap, ◌∙◌, Contains, drop, drop-cons, subst, Bor, find, option_map, bytes_eq, take_more, map_push, take-append-drop, map-append, find-append, option_or, cond, MatchOption}
 use Rattle.ncl_reader.proofs.Terms.{Join, Conn, net_name, net_on, Joint, joint_of, joint_in, AreJoins, picked_name, pins_in}
 use Rattle.ncl_reader.proofs.Looked.{among-item}
 use Rattle.ncl_reader.proofs.Among.{found-name, none-among}
@@ -9,13 +9,11 @@ abbrev pub joint_on : List Joint → List ℕ → Option (List ℕ)
 joint_on joints pin = option_map (λ (j : Joint). j.net) (find (λ (j : Joint). bytes_eq j.pin pin) joints)
 
 -- what is mapped is there where its image is
-mapped_none : {A B : Type 0} (f : A → B) (found : Option A) → option_map f found ≡ None → found ≡ None
-mapped_none f None e = refl
-mapped_none f (Some a) e = absurd cc
-
-mapped_some : {A B : Type 0} (f : A → B) (found : Option A) (b : B) → option_map f found ≡ Some b → (a : A) × (found ≡ Some a)
-mapped_some f None b e = absurd cc
-mapped_some f (Some a) b e = (a, refl)
+mapped_back : {A B : Type 0} (f : A → B) (found : Option A) (result : Option B) → option_map f found ≡ result → MatchOption result (found ≡ None) (λ b. (a : A) × (found ≡ Some a))
+mapped_back f None None e = refl
+mapped_back f (Some a) (Some b) e = (a, refl)
+mapped_back f None (Some b) e = absurd cc
+mapped_back f (Some a) None e = absurd cc
 
 module _ (x : List ℕ) where
   joint-here : (j : Joint) (js : List Joint) → bytes_eq j.pin x ≡ true → joint_on (j ∷ js) x ≡ Some j.net
@@ -25,10 +23,10 @@ module _ (x : List ℕ) where
   joint-there j js e = rw e refl
 
   pub none-free : (cs : List Conn) → net_on cs x ≡ None → Contains (pins_in cs) x → ⊥
-  none-free cs e = none-among (λ (c : Conn). c.pin) x cs (mapped_none _ _ e)
+  none-free cs e = none-among (λ (c : Conn). c.pin) x cs (mapped_back _ _ None e)
 
   pub some-joined : (cs : List Conn) (n : List ℕ) → net_on cs x ≡ Some n → Contains (pins_in cs) x
-  some-joined cs n e = let (c, found) = mapped_some _ _ n e in found-name (λ (c : Conn). c.pin) x cs c found
+  some-joined cs n e = let (c, found) = mapped_back _ _ (Some n) e in found-name (λ (c : Conn). c.pin) x cs c found
 
   -- what is kept tells the nets
   joint-net : (cs : List Conn) → joint_on (map joint_in cs) x ≡ net_on cs x
@@ -45,7 +43,7 @@ module _ (x : List ℕ) where
   -- behind connections of which none is on the pin
   joint-behind : (js ks : List Joint) → joint_on js x ≡ None → joint_on (js ++ ks) x ≡ joint_on ks x
   joint-behind js ks e =
-      ap (option_map (λ (j : Joint). j.net)) (find-append (λ (j : Joint). bytes_eq j.pin x) js ks ∙ ap (λ found. option_or found (find (λ (j : Joint). bytes_eq j.pin x) ks)) (mapped_none (λ (j : Joint). j.net) _ e))
+      ap (option_map (λ (j : Joint). j.net)) (find-append (λ (j : Joint). bytes_eq j.pin x) js ks ∙ ap (λ found. option_or found (find (λ (j : Joint). bytes_eq j.pin x) ks)) (mapped_back (λ (j : Joint). j.net) _ None e))
 
 -- connections that were looked at
 pub net-found : (xs ys : List Join) (same : ys ≡ xs) (i : ℕ) (d : Join) (x : List ℕ) → i < length ys → joint_on (map joint_of (take i xs)) x ≡ None → bytes_eq (get_or ys i d).pin.now x ≡ true → joint_on (map joint_of xs) x ≡ Some (picked_name (get_or ys i d).net.now (get_or ys i d).index)

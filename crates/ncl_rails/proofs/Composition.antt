@@ -1,11 +1,12 @@
 -- What the pairs of a network show that is laid out, and what waits for what.
-use Rattle.std.proofs.Common.{◌≡◌, ℕ, suc, ◌+◌, ◌<◌, Bool, true, false, List, [], ◌∷◌, ◌++◌, length, map, Some, inl, inr, refl, sym, subst, arith}
+use Rattle.std.proofs.Common.{◌≡◌, ℕ, suc, ◌+◌, ◌<◌, Bool, true, false, List, [], ◌∷◌, ◌++◌, length, map, Some, inl, inr, refl, sym, ap, subst, ◌∙◌, arith}
 use Rattle.std.specs.Prelude.{All, slice_get}
+use Rattle.std.specs.Option.{option_map}
 use Rattle.std.specs.List.{list_all, slice_index_or}
 use Rattle.std.proofs.lemmas.Bool.{cases_lt}
 use Rattle.std.proofs.lemmas.List.{get_or_append_left, get_or_push, length_push}
 use Rattle.std.proofs.lemmas.List.Elements.{All-head, All-tail}
-use Rattle.std.proofs.lemmas.Option.{get_or_from_slice_get, slice_get_within}
+use Rattle.std.proofs.lemmas.Option.{get_or_from_slice_get, slice_get_within, slice_get-map}
 use Rattle.ncl_base.proofs.Members.{Member, Member-map, Contains-from_Member, Member-from_Contains, slice_get-from_Contains, slice_get-some}
 use Rattle.ncl_base.proofs.Tests.{All-at}
 use Rattle.ncl_base.proofs.Joined.{member_of_flat_map}
@@ -24,7 +25,7 @@ use Rattle.ncl_network.specs.Network.{IsSource, ReadBefore, is_constant, source_
 use Rattle.ncl_network.proofs.Walking.{IsSource-more}
 use Rattle.ncl_template.specs.Template.{Shows, IsNull, ShowWord, Obeys, IsCase}
 use Rattle.ncl_rails.specs.Complete.{IsComplete}
-use Rattle.ncl_rails.specs.Waiting.{IsCovered, Reaches, output, waiter}
+use Rattle.ncl_rails.specs.Waiting.{value_at, IsCovered, Reaches, output, waiter}
 use Rattle.ncl_rails.proofs.Covering.{reads_before_at, node_reaches}
 use Rattle.ncl_rails.specs.Layout.{AreLaidOut, no_rails, source_pair, signal_pair}
 use Rattle.ncl_rails.proofs.Lists.{list_all-fails}
@@ -35,7 +36,7 @@ reads_at inputs place nodes before k node at i d lt =
     let within : k < length nodes = slice_get_within nodes k node at in
     IsSource-more inputs (place + k) (place + length nodes) _ (omega (arith, within)) (reads_before_at inputs place nodes before k node at i d lt)
 
-module _ (network : Network) (waits : ℕ → List Signal) (inputs : List Rails) (cells : List StageCell) (pairs : List Rails) (complete : IsComplete network) (covered : IsCovered network waits) (laid : AreLaidOut inputs waits network.nodes cells pairs) where
+module _ (network : Network) (waits : ℕ → List Bool → ℕ → Bool) (inputs : List Rails) (cells : List StageCell) (pairs : List Rails) (complete : IsComplete network) (covered : IsCovered network waits) (laid : AreLaidOut inputs waits network.nodes cells pairs) where
   -- the pairs of the outputs
   unfoldable pub output_pairs : List Rails
   output_pairs = map (signal_pair inputs pairs) network.outputs
@@ -143,20 +144,20 @@ module _ (network : Network) (waits : ℕ → List Signal) (inputs : List Rails)
           IsNull-turned v (source_pair inputs pairs signal.from) signal.inverted (subst (λ f. IsNull v (source_pair inputs pairs f)) (sym is) null)
 
       -- where a source that reaches an output is NULL, some output is NULL
-      pub null_reaches : (from : SignalSource) → Reaches network waits from → IsNull v (source_pair inputs pairs from) → list_all (has_data v) output_pairs ≡ false
+      pub null_reaches : (from : SignalSource) → Reaches network waits (value_at network word) from → IsNull v (source_pair inputs pairs from) → list_all (has_data v) output_pairs ≡ false
       unfolding output_pairs
       null_reaches _ (output from given) null =
           list_all-fails (has_data v) (signal_pair inputs pairs given.signal) (Member-map (signal_pair inputs pairs) given.signal (Member-from_Contains network.outputs given.signal given.given))
           (null_has_none v (signal_pair inputs pairs given.signal) (signal_null given.signal from given.is null))
       null_reaches _ (waiter from await reach) null =
-          let (node, at) = slice_get-some network.nodes await.by await.within in
-          let (part, found) = part_at await.by await.within in
-          let (pair, paired) = pair_at await.by await.within in
-          let template = laid.templates await.by node part pair at found paired in
+          let within : await.by < length network.nodes = slice_get_within network.nodes await.by await.node await.stands in
+          let (part, found) = part_at await.by within in
+          let (pair, paired) = pair_at await.by within in
+          let template = laid.templates await.by await.node part pair await.stands found paired in
+          let here : slice_get (map (signal_pair inputs pairs) await.node.ins) await.awaits.place ≡ Some (signal_pair inputs pairs await.awaits.signal) = slice_get-map (signal_pair inputs pairs) await.node.ins await.awaits.place ∙ ap (option_map (signal_pair inputs pairs)) await.awaits.reads in
           let out_null =
-          template.needs base v (map (signal_value word (node_values word [] network.nodes)) node.ins) (node_case await.by node at) (signal_pair inputs pairs await.signal)
-          (Contains-from_Member (signal_pair inputs pairs await.signal) (Member-map (signal_pair inputs pairs) await.signal (Member-from_Contains (waits await.by) await.signal await.waited)))
-          (signal_null await.signal from await.is null) in
+          template.needs base v (map (signal_value word (node_values word [] network.nodes)) await.node.ins) (node_case await.by await.node await.stands) await.awaits.place (slice_get_within (map (signal_pair inputs pairs) await.node.ins) await.awaits.place (signal_pair inputs pairs await.awaits.signal) here) await.awaits.passes
+          (subst (IsNull v) (sym (get_or_from_slice_get (map (signal_pair inputs pairs) await.node.ins) await.awaits.place (signal_pair inputs pairs await.awaits.signal) no_rails here)) (signal_null await.awaits.signal from await.awaits.is null)) in
           null_reaches (FromNode await.by) reach (subst (IsNull v) (sym (get_or_from_slice_get pairs await.by pair no_rails paired)) out_null)
 
       -- where a gate that is high in base is low, some output is NULL
@@ -171,4 +172,4 @@ module _ (network : Network) (waits : ℕ → List Signal) (inputs : List Rails)
           let (pair, paired) = pair_at k inside in
           let template = laid.templates k node part pair at found paired in
           let out_null = template.observed base v (map (signal_value word (node_values word [] network.nodes)) node.ins) (node_case k node at) c (Contains-from_Member c in_part) high low in
-          null_reaches (FromNode k) (node_reaches network waits covered complete.varying.reads_before k inside) (subst (IsNull v) (sym (get_or_from_slice_get pairs k pair no_rails paired)) out_null)
+          null_reaches (FromNode k) (node_reaches network waits covered complete.varying.reads_before word k inside) (subst (IsNull v) (sym (get_or_from_slice_get pairs k pair no_rails paired)) out_null)

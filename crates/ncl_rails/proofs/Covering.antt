@@ -1,14 +1,14 @@
--- Where each source is awaited, an output waits for it.
-use Rattle.std.proofs.Common.{◌≡◌, ℕ, zero, suc, ◌+◌, ◌<◌, ◌≤◌, List, [], ◌∷◌, length, Some, inl, inr, subst, arith}
+-- Where each source is held, an output waits for it at each word.
+use Rattle.std.proofs.Common.{◌≡◌, ℕ, zero, suc, ◌+◌, ◌<◌, ◌≤◌, Bool, List, [], ◌∷◌, length, Some, inl, inr, subst, arith}
 use Rattle.std.specs.Prelude.{All, slice_get}
-use Rattle.ncl_base.proofs.Members.{slice_get-some}
+use Rattle.std.proofs.lemmas.Option.{slice_get_within}
+use Rattle.ncl_base.proofs.Tests.{All-at}
 use Rattle.ncl_network.specs.declared.network.SignalSource.TheVariants.{Input, Node as FromNode}
 use Rattle.ncl_network.specs.declared.network.Signal.{Signal}
 use Rattle.ncl_network.specs.declared.network.Node.{Node}
 use Rattle.ncl_network.specs.declared.network.Network.{Network}
 use Rattle.ncl_network.specs.Network.{IsSource, ReadBefore}
-use Rattle.ncl_rails.specs.Waiting.{IsAwaited, IsCovered, Reaches, output, waiter}
-use Rattle.ncl_rails.proofs.Lists.{at_member}
+use Rattle.ncl_rails.specs.Waiting.{value_at, IsAwaited, IsCovered, Reaches, output, waiter}
 
 -- what a node reads is there before it, and so among all
 pub reads_before_at : (inputs place : ℕ) (nodes : List Node) → ReadBefore inputs place nodes → (k : ℕ) (node : Node) → slice_get nodes k ≡ Some node → All (λ (signal : Signal). IsSource inputs (place + k) signal.from) node.ins
@@ -22,31 +22,30 @@ reads_before_at inputs place (first ∷ nodes) before (suc k) node at =
     let count : (place + 1) + k ≡ place + suc k = omega arith in
     subst (λ n. All (λ (signal : Signal). IsSource inputs n signal.from) node.ins) count (reads_before_at inputs (place + 1) nodes before.1 k node at)
 
-module _ (network : Network) (waits : ℕ → List Signal) (covered : IsCovered network waits) (before : ReadBefore network.inputs 0 network.nodes) where
+module _ (network : Network) (waits : ℕ → List Bool → ℕ → Bool) (covered : IsCovered network waits) (before : ReadBefore network.inputs 0 network.nodes) (word : List Bool) where
   -- what waits for a node comes after it
-  waiter_after : (k : ℕ) (await : IsAwaited waits (length network.nodes) (FromNode k)) → k < await.by
+  waiter_after : (k : ℕ) (await : IsAwaited network waits (value_at network word) (FromNode k)) → k < await.by
   waiter_after k await =
-      let (node, at) = slice_get-some network.nodes await.by await.within in
-      let there : IsSource network.inputs (0 + await.by) await.signal.from = at_member (λ (signal : Signal). IsSource network.inputs (0 + await.by) signal.from) node.ins (reads_before_at network.inputs 0 network.nodes before await.by node at) await.signal (covered.own await.by node at await.signal await.waited) in
-      let source : IsSource network.inputs (0 + await.by) (FromNode k) = subst (IsSource network.inputs (0 + await.by)) await.is there in
+      let there : IsSource network.inputs (0 + await.by) await.awaits.signal.from = All-at (λ (signal : Signal). IsSource network.inputs (0 + await.by) signal.from) await.node.ins (reads_before_at network.inputs 0 network.nodes before await.by await.node await.stands) await.awaits.place await.awaits.signal await.awaits.reads in
+      let source : IsSource network.inputs (0 + await.by) (FromNode k) = subst (IsSource network.inputs (0 + await.by)) await.awaits.is there in
       omega (arith, source)
 
-  climb : (room k : ℕ) → length network.nodes ≤ k + room → k < length network.nodes → Reaches network waits (FromNode k)
+  climb : (room k : ℕ) → length network.nodes ≤ k + room → k < length network.nodes → Reaches network waits (value_at network word) (FromNode k)
   climb zero k few lt = absurd (omega (arith, few, lt))
   climb (suc room) k few lt =
       elim (covered.nodes k lt) [
         | inl given ↦ output (FromNode k) given
         | inr await ↦
-            let after = waiter_after k await in
-            waiter (FromNode k) await (climb room await.by (omega (arith, few, after)) await.within)
+            let after = waiter_after k (await word) in
+            waiter (FromNode k) (await word) (climb room (await word).by (omega (arith, few, after)) (slice_get_within network.nodes (await word).by (await word).node (await word).stands))
       ]
 
-  pub node_reaches : (k : ℕ) → k < length network.nodes → Reaches network waits (FromNode k)
+  pub node_reaches : (k : ℕ) → k < length network.nodes → Reaches network waits (value_at network word) (FromNode k)
   node_reaches k lt = climb (length network.nodes) k (omega arith) lt
 
-  pub input_reaches : (i : ℕ) → i < network.inputs → Reaches network waits (Input i)
+  pub input_reaches : (i : ℕ) → i < network.inputs → Reaches network waits (value_at network word) (Input i)
   input_reaches i lt =
       elim (covered.inputs i lt) [
         | inl given ↦ output (Input i) given
-        | inr await ↦ waiter (Input i) await (node_reaches await.by await.within)
+        | inr await ↦ waiter (Input i) (await word) (node_reaches (await word).by (slice_get_within network.nodes (await word).by (await word).node (await word).stands))
       ]

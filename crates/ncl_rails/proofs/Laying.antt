@@ -65,7 +65,7 @@ rail_known nets (r ∷ rs) each net (there (there m)) = rail_known nets rs (λ x
 
 -- ---- nodes
 
-pub AreLaidOut-none : (inputs : List Rails) (waits : ℕ → List Signal) → AreLaidOut inputs waits [] [] []
+pub AreLaidOut-none : (inputs : List Rails) (waits : ℕ → List Bool → ℕ → Bool) → AreLaidOut inputs waits [] [] []
 AreLaidOut-none inputs waits = record {
   parts = [];
   as_many = refl;
@@ -96,7 +96,7 @@ pairs_stay inputs pairs out n (s ∷ signals) exist =
     λ i. cond s.inverted (exchanged (first i)) (first i) ∷ rest i
 
 -- what a signal of an input or an earlier node is shown at, is known
-module _ (inputs : List Rails) (waits : ℕ → List Signal) (done : List Node) (cells : List StageCell) (pairs : List Rails) (laid : AreLaidOut inputs waits done cells pairs) where
+module _ (inputs : List Rails) (waits : ℕ → List Bool → ℕ → Bool) (done : List Node) (cells : List StageCell) (pairs : List Rails) (laid : AreLaidOut inputs waits done cells pairs) where
   pairs_known : (r : Rails) → Member r pairs → IsKnown (nets_of inputs cells) r
   pairs_known r m =
       let (first, second) = rails_within r m in
@@ -127,15 +127,11 @@ module _ (inputs : List Rails) (waits : ℕ → List Signal) (done : List Node) 
 
   -- ---- one node further
 
-  module _ (node : Node) (new : List StageCell) (out : Rails) (before : ReadBefore (length inputs) 0 done) (exist : All (λ (s : Signal). IsSource (length inputs) (length done) s.from) node.ins) (narrow : IsNarrow node) (own : (k : ℕ) (other : Node) → slice_get (done ++ node ∷ []) k ≡ Some other → (signal : Signal) → Contains (waits k) signal → Contains other.ins signal) (adds : AddsAmong (node_function node) (map (signal_pair inputs pairs) node.ins) (map (signal_pair inputs pairs) (waits (length done))) (cost_of_inputs (length node.ins)) cells new out) where
+  module _ (node : Node) (new : List StageCell) (out : Rails) (before : ReadBefore (length inputs) 0 done) (exist : All (λ (s : Signal). IsSource (length inputs) (length done) s.from) node.ins) (narrow : IsNarrow node) (adds : AddsAmong (node_function node) (map (signal_pair inputs pairs) node.ins) (waits (length done)) (cost_of_inputs (length node.ins)) cells new out) where
     ins_known : (r : Rails) → Member r (map (signal_pair inputs pairs) node.ins) → IsKnown (nets_of inputs cells) r
     ins_known = signals_known node.ins (subst (λ n. All (λ (s : Signal). IsSource (length inputs) n s.from) node.ins) (sym laid.pairs_as_many) exist) narrow.no_constant
 
-    -- some of what exists
-    some_exist : (signals some : List Signal) → ((signal : Signal) → Contains some signal → Contains signals signal) → All (λ (s : Signal). IsSource (length inputs) (length pairs) s.from) signals → All (λ (s : Signal). IsSource (length inputs) (length pairs) s.from) some
-    some_exist signals some within all = All-from_members (λ (s : Signal). IsSource (length inputs) (length pairs) s.from) some (λ s m. at_member (λ (s : Signal). IsSource (length inputs) (length pairs) s.from) signals all s (within s (Contains-from_Member s m)))
-
-    templates : (k : ℕ) (other : Node) (part : List StageCell) (pair : Rails) → slice_get (done ++ node ∷ []) k ≡ Some other → slice_get (laid.parts ++ adds.made ∷ []) k ≡ Some part → slice_get (pairs ++ out ∷ []) k ≡ Some pair → IsTemplateAmong (cells ++ adds.made) (node_function other) (map (signal_pair inputs (pairs ++ out ∷ [])) other.ins) (map (signal_pair inputs (pairs ++ out ∷ [])) (waits k)) part pair
+    templates : (k : ℕ) (other : Node) (part : List StageCell) (pair : Rails) → slice_get (done ++ node ∷ []) k ≡ Some other → slice_get (laid.parts ++ adds.made ∷ []) k ≡ Some part → slice_get (pairs ++ out ∷ []) k ≡ Some pair → IsTemplateAmong (cells ++ adds.made) (node_function other) (map (signal_pair inputs (pairs ++ out ∷ [])) other.ins) (waits k) part pair
     templates k other part pair at found paired =
         let within : k < length (done ++ node ∷ []) = slice_get_within (done ++ node ∷ []) k other at in
         let count = length_push done node in
@@ -145,11 +141,9 @@ module _ (inputs : List Rails) (waits : ℕ → List Signal) (done : List Node) 
           | inl old ↦
               let stands : slice_get done k ≡ Some other = stands_before done node k other old at in
               let reads : All (λ (s : Signal). IsSource (length inputs) (length pairs) s.from) other.ins = subst (λ n. All (λ (s : Signal). IsSource (length inputs) n s.from) other.ins) (let same : 0 + length done ≡ length pairs = omega (arith, pairs_as_many) in same) (reads_at (length inputs) 0 done before k other stands) in
-              let waited : All (λ (s : Signal). IsSource (length inputs) (length pairs) s.from) (waits k) = some_exist other.ins (waits k) (own k other at) reads in
-              subst (λ rs. IsTemplateAmong (cells ++ adds.made) (node_function other) rs (map (signal_pair inputs (pairs ++ out ∷ [])) (waits k)) part pair) (sym (pairs_stay inputs pairs out (length inputs) other.ins reads))
-              (subst (λ ws. IsTemplateAmong (cells ++ adds.made) (node_function other) (map (signal_pair inputs pairs) other.ins) ws part pair) (sym (pairs_stay inputs pairs out (length inputs) (waits k) waited))
-              (among_more (cells ++ adds.made) cells (λ c m. Contains-from_Member c (Member-append_left c adds.made (Member-from_Contains cells c m))) (node_function other) (map (signal_pair inputs pairs) other.ins) (map (signal_pair inputs pairs) (waits k)) part pair
-              (laid.templates k other part pair stands (stands_before laid.parts adds.made k part (omega (arith, old, as_many)) found) (stands_before pairs out k pair (omega (arith, old, pairs_as_many)) paired))))
+              subst (λ rs. IsTemplateAmong (cells ++ adds.made) (node_function other) rs (waits k) part pair) (sym (pairs_stay inputs pairs out (length inputs) other.ins reads))
+              (among_more (cells ++ adds.made) cells (λ c m. Contains-from_Member c (Member-append_left c adds.made (Member-from_Contains cells c m))) (node_function other) (map (signal_pair inputs pairs) other.ins) (waits k) part pair
+              (laid.templates k other part pair stands (stands_before laid.parts adds.made k part (omega (arith, old, as_many)) found) (stands_before pairs out k pair (omega (arith, old, pairs_as_many)) paired)))
           | inr past ↦
               let last : k ≡ length done = omega (arith, within, count, past) in
               let last_part : k ≡ length laid.parts = omega (arith, last, as_many) in
@@ -158,16 +152,13 @@ module _ (inputs : List Rails) (waits : ℕ → List Signal) (done : List Node) 
               let same_part : adds.made ≡ part = pushed_last laid.parts adds.made part (subst (λ n. slice_get (laid.parts ++ adds.made ∷ []) n ≡ Some part) last_part found) in
               let same_pair : out ≡ pair = pushed_last pairs out pair (subst (λ n. slice_get (pairs ++ out ∷ []) n ≡ Some pair) last_pair paired) in
               let reads : All (λ (s : Signal). IsSource (length inputs) (length pairs) s.from) node.ins = subst (λ n. All (λ (s : Signal). IsSource (length inputs) n s.from) node.ins) (sym pairs_as_many) exist in
-              let own_last : (signal : Signal) → Contains (waits (length done)) signal → Contains node.ins signal = λ signal m. subst (λ (n : Node). Contains n.ins signal) (sym same_node) (own k other at signal (subst (λ n. Contains (waits n) signal) (sym last) m)) in
-              let waited : All (λ (s : Signal). IsSource (length inputs) (length pairs) s.from) (waits (length done)) = some_exist node.ins (waits (length done)) own_last reads in
-              let made_template : IsTemplateAmong (cells ++ adds.made) (node_function node) (map (signal_pair inputs pairs) node.ins) (map (signal_pair inputs pairs) (waits (length done))) adds.made out = subst (λ (all : List StageCell). IsTemplateAmong all (node_function node) (map (signal_pair inputs pairs) node.ins) (map (signal_pair inputs pairs) (waits (length done))) adds.made out) adds.added adds.template in
-              let shown : IsTemplateAmong (cells ++ adds.made) (node_function node) (map (signal_pair inputs (pairs ++ out ∷ [])) node.ins) (map (signal_pair inputs (pairs ++ out ∷ [])) (waits (length done))) adds.made out =
-              subst (λ rs. IsTemplateAmong (cells ++ adds.made) (node_function node) rs (map (signal_pair inputs (pairs ++ out ∷ [])) (waits (length done))) adds.made out) (sym (pairs_stay inputs pairs out (length inputs) node.ins reads))
-              (subst (λ ws. IsTemplateAmong (cells ++ adds.made) (node_function node) (map (signal_pair inputs pairs) node.ins) ws adds.made out) (sym (pairs_stay inputs pairs out (length inputs) (waits (length done)) waited)) made_template) in
-              subst (λ n. IsTemplateAmong (cells ++ adds.made) (node_function other) (map (signal_pair inputs (pairs ++ out ∷ [])) other.ins) (map (signal_pair inputs (pairs ++ out ∷ [])) (waits n)) part pair) (sym last)
-              (subst (λ (n : Node). IsTemplateAmong (cells ++ adds.made) (node_function n) (map (signal_pair inputs (pairs ++ out ∷ [])) n.ins) (map (signal_pair inputs (pairs ++ out ∷ [])) (waits (length done))) part pair) same_node
-              (subst (λ p. IsTemplateAmong (cells ++ adds.made) (node_function node) (map (signal_pair inputs (pairs ++ out ∷ [])) node.ins) (map (signal_pair inputs (pairs ++ out ∷ [])) (waits (length done))) p pair) same_part
-              (subst (IsTemplateAmong (cells ++ adds.made) (node_function node) (map (signal_pair inputs (pairs ++ out ∷ [])) node.ins) (map (signal_pair inputs (pairs ++ out ∷ [])) (waits (length done))) adds.made) same_pair shown)))
+              let shown : IsTemplateAmong (cells ++ adds.made) (node_function node) (map (signal_pair inputs (pairs ++ out ∷ [])) node.ins) (waits (length done)) adds.made out =
+              subst (λ rs. IsTemplateAmong (cells ++ adds.made) (node_function node) rs (waits (length done)) adds.made out) (sym (pairs_stay inputs pairs out (length inputs) node.ins reads))
+              (subst (λ (all : List StageCell). IsTemplateAmong all (node_function node) (map (signal_pair inputs pairs) node.ins) (waits (length done)) adds.made out) adds.added adds.template) in
+              subst (λ n. IsTemplateAmong (cells ++ adds.made) (node_function other) (map (signal_pair inputs (pairs ++ out ∷ [])) other.ins) (waits n) part pair) (sym last)
+              (subst (λ (n : Node). IsTemplateAmong (cells ++ adds.made) (node_function n) (map (signal_pair inputs (pairs ++ out ∷ [])) n.ins) (waits (length done)) part pair) same_node
+              (subst (λ p. IsTemplateAmong (cells ++ adds.made) (node_function node) (map (signal_pair inputs (pairs ++ out ∷ [])) node.ins) (waits (length done)) p pair) same_part
+              (subst (IsTemplateAmong (cells ++ adds.made) (node_function node) (map (signal_pair inputs (pairs ++ out ∷ [])) node.ins) (waits (length done)) adds.made) same_pair shown)))
         ]
 
     in_order : IsInOrder inputs (cells ++ adds.made)
@@ -228,15 +219,7 @@ ReadBefore-take inputs place (node ∷ nodes) (suc i) before = (before.0, ReadBe
 pub length-input_pairs : (inputs : List Rails) (n : ℕ) → inputs ≡ input_pairs n → length inputs ≡ n
 length-input_pairs inputs n is = ap length is ∙ length-map-range_with_len input_pair 0 n
 
--- what stands among the first stands among all
-taken_stands : {X : Type 0} (xs : List X) (n k : ℕ) (x : X) → slice_get (take n xs) k ≡ Some x → slice_get xs k ≡ Some x
-taken_stands [] zero k x at = at
-taken_stands [] (suc n) k x at = at
-taken_stands (y ∷ xs) zero k x at = absurd cc
-taken_stands (y ∷ xs) (suc n) zero x at = at
-taken_stands (y ∷ xs) (suc n) (suc k) x at = taken_stands xs n k x at
-
-module _ (network : Network) (waits : ℕ → List Signal) (complete : IsComplete network) (own : (k : ℕ) (node : Node) → slice_get network.nodes k ≡ Some node → (signal : Signal) → Contains (waits k) signal → Contains node.ins signal) (inputs : List Rails) (is : inputs ≡ input_pairs network.inputs) (i : ℕ) (node : Node) (lt : i < length network.nodes) (at : node ≡ get_or network.nodes i node) (cells : List StageCell) (pairs : List Rails) (laid : AreLaidOut inputs waits (take i network.nodes) cells pairs) where
+module _ (network : Network) (waits : ℕ → List Bool → ℕ → Bool) (complete : IsComplete network) (inputs : List Rails) (is : inputs ≡ input_pairs network.inputs) (i : ℕ) (node : Node) (lt : i < length network.nodes) (at : node ≡ get_or network.nodes i node) (cells : List StageCell) (pairs : List Rails) (laid : AreLaidOut inputs waits (take i network.nodes) cells pairs) where
   done_count : length (take i network.nodes) ≡ i
   done_count = length-take-le i network.nodes (omega (arith, lt))
 
@@ -257,13 +240,12 @@ module _ (network : Network) (waits : ℕ → List Signal) (complete : IsComplet
   pub turn_room : length cells ≤ cost_of_nodes network.nodes
   turn_room = omega (arith, laid.few, sum_by-take-le (λ (n : Node). cost_of_inputs (length n.ins)) network.nodes i)
 
-  pub turn_laid : (ins : List Rails) → ins ≡ map (signal_pair inputs pairs) node.ins → (new : List StageCell) (out : Rails) → AddsAmong (node_function node) ins (map (signal_pair inputs pairs) (waits i)) (cost_of_inputs (length node.ins)) cells new out → (longer : List Rails) → longer ≡ pairs ++ out ∷ [] → AreLaidOut inputs waits (take (i + 1) network.nodes) new longer
+  pub turn_laid : (ins : List Rails) → ins ≡ map (signal_pair inputs pairs) node.ins → (new : List StageCell) (out : Rails) → AddsAmong (node_function node) ins (waits i) (cost_of_inputs (length node.ins)) cells new out → (longer : List Rails) → longer ≡ pairs ++ out ∷ [] → AreLaidOut inputs waits (take (i + 1) network.nodes) new longer
   turn_laid ins shown new out adds longer pushed =
       let before : ReadBefore (length inputs) 0 (take i network.nodes) = subst (λ n. ReadBefore n 0 (take i network.nodes)) (sym (length-input_pairs inputs network.inputs is)) (ReadBefore-take network.inputs 0 network.nodes i complete.varying.reads_before) in
       let exist : All (λ (s : Signal). IsSource (length inputs) (length (take i network.nodes)) s.from) node.ins = subst (λ k. All (λ (s : Signal). IsSource (length inputs) k s.from) node.ins) (sym done_count) reads in
-      let adds_more : AddsAmong (node_function node) (map (signal_pair inputs pairs) node.ins) (map (signal_pair inputs pairs) (waits (length (take i network.nodes)))) (cost_of_inputs (length node.ins)) cells new out = subst (λ n. AddsAmong (node_function node) (map (signal_pair inputs pairs) node.ins) (map (signal_pair inputs pairs) (waits n)) (cost_of_inputs (length node.ins)) cells new out) (sym done_count) (subst (λ rs. AddsAmong (node_function node) rs (map (signal_pair inputs pairs) (waits i)) (cost_of_inputs (length node.ins)) cells new out) shown adds) in
+      let adds_more : AddsAmong (node_function node) (map (signal_pair inputs pairs) node.ins) (waits (length (take i network.nodes))) (cost_of_inputs (length node.ins)) cells new out = subst (λ n. AddsAmong (node_function node) (map (signal_pair inputs pairs) node.ins) (waits n) (cost_of_inputs (length node.ins)) cells new out) (sym done_count) (subst (λ rs. AddsAmong (node_function node) rs (waits i) (cost_of_inputs (length node.ins)) cells new out) shown adds) in
       let nodes : take i network.nodes ++ node ∷ [] ≡ take (i + 1) network.nodes = ap (λ n. take i network.nodes ++ n ∷ []) at ∙ sym (take_more network.nodes i node lt) in
-      let own_some : (k : ℕ) (other : Node) → slice_get (take i network.nodes ++ node ∷ []) k ≡ Some other → (signal : Signal) → Contains (waits k) signal → Contains other.ins signal = λ k other found. own k other (taken_stands network.nodes (i + 1) k other (subst (λ ns. slice_get ns k ≡ Some other) nodes found)) in
-      let more = AreLaidOut-more inputs waits (take i network.nodes) cells pairs laid node new out before exist turn_narrow own_some adds_more in
+      let more = AreLaidOut-more inputs waits (take i network.nodes) cells pairs laid node new out before exist turn_narrow adds_more in
       subst (λ ps. AreLaidOut inputs waits (take (i + 1) network.nodes) new ps) (sym pushed)
       (subst (λ ns. AreLaidOut inputs waits ns new (pairs ++ out ∷ [])) nodes more)

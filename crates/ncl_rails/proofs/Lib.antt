@@ -7,6 +7,7 @@ pub mod Joining
 pub mod Inputs
 pub mod Covering
 pub mod AllRead
+pub mod Holding
 pub mod Composition
 pub mod Laying
 pub mod NetNames
@@ -16,5 +17,4 @@ pub mod Renaming
 pub mod Numbering
 pub mod Distinct
 pub mod Soundness
-pub mod CoveringLaws
 pub mod Whole

@@ -23,9 +23,8 @@ use Rattle.ncl_network.specs.declared.network.SignalSource.TheVariants.{Input}
 use Rattle.ncl_network.specs.declared.network.Network.{Network}
 use Rattle.ncl_network.specs.Network.{answer_of}
 use Rattle.ncl_template.specs.Template.{Shows, IsNull, ShowWord}
-use Rattle.ncl_network.specs.declared.network.Signal.{Signal}
 use Rattle.ncl_rails.specs.Complete.{IsComplete}
-use Rattle.ncl_rails.specs.Waiting.{IsCovered, Reaches}
+use Rattle.ncl_rails.specs.Waiting.{value_at, IsCovered, Reaches}
 use Rattle.ncl_rails.proofs.Covering.{input_reaches}
 use Rattle.ncl_rails.specs.Layout.{AreLaidOut, no_rails, source_pair}
 use Rattle.ncl_rails.proofs.Lists.{zip_at}
@@ -40,7 +39,7 @@ holds_at-fails : {X : Type 0} (test : X → Bool) (o : Option X) → ((x : X) �
 holds_at-fails test None each = refl
 holds_at-fails test (Some x) each = each x refl
 
-module _ (network : Network) (waits : ℕ → List Signal) (inputs : List Rails) (cells : List StageCell) (pairs : List Rails) (complete : IsComplete network) (covered : IsCovered network waits) (laid : AreLaidOut inputs waits network.nodes cells pairs) (count : length inputs ≡ network.inputs) (number : ℕ → ℕ) (s : StageData) (is : IsStage s) (same : IsRenamed number inputs cells (output_pairs network waits inputs cells pairs complete covered laid) s) where
+module _ (network : Network) (waits : ℕ → List Bool → ℕ → Bool) (inputs : List Rails) (cells : List StageCell) (pairs : List Rails) (complete : IsComplete network) (covered : IsCovered network waits) (laid : AreLaidOut inputs waits network.nodes cells pairs) (count : length inputs ≡ network.inputs) (number : ℕ → ℕ) (s : StageData) (is : IsStage s) (same : IsRenamed number inputs cells (output_pairs network waits inputs cells pairs complete covered laid) s) where
   outs : List Rails
   outs = output_pairs network waits inputs cells pairs complete covered laid
 
@@ -98,7 +97,7 @@ module _ (network : Network) (waits : ℕ → List Signal) (inputs : List Rails)
   unfolding values outs
   all_data_seen word variant = ap (list_all (has_data (val s word variant))) same.outputs ∙ data_new (val s word variant) number outs
 
-  null_spreads : (word : List Bool) → IsWordOf s word → (variant : Variant) (from : SignalSource) → Reaches network waits from → IsNull (values word variant) (source_pair inputs pairs from) → all_data s (val s word variant) ≡ false
+  null_spreads : (word : List Bool) → IsWordOf s word → (variant : Variant) (from : SignalSource) → Reaches network waits (value_at network word) from → IsNull (values word variant) (source_pair inputs pairs from) → all_data s (val s word variant) ≡ false
   unfolding outs
   null_spreads word right variant from reach null =
       all_data_seen word variant
@@ -128,7 +127,7 @@ module _ (network : Network) (waits : ℕ → List Signal) (inputs : List Rails)
       let within : i < length s.inputs = slice_get_within s.inputs i r at in
       let old : Rails = get_or inputs i no_rails in
       let stands : slice_get inputs i ≡ Some old = slice_get-get_or inputs i no_rails (omega (arith, within, wide)) in
-      null_spreads word right (Bit i) (Input i) (input_reaches network waits covered complete.varying.reads_before i (omega (arith, within, wide, count)))
+      null_spreads word right (Bit i) (Input i) (input_reaches network waits covered complete.varying.reads_before word i (omega (arith, within, wide, count)))
       (null_old (val s word (Bit i)) number old (input_null s is word i (renamed_rails number old) (stage_input i old stands))))
   is_sound (Orphan g) word right =
       holds_at-fails (λ (c : StageCell). val s word Base c.out.0 && all_data s (val s word (Cell g))) (slice_get s.cells g)

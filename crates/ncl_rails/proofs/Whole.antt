@@ -40,7 +40,7 @@ use Rattle.ncl_rails.proofs.Composition.{output_pairs}
 use Rattle.ncl_rails.proofs.Soundness.{is_sound, outputs_answer}
 use Rattle.ncl_rails.proofs.Distinct.{AllDiffer-from, cells_differ, nets_differ, known_differ, cell_formed, net_formed, no_cell_is_net}
 
-module _ (network : Network) (ins : List NamePair) (prefix : List ℕ) (can : CanBeStage network ins prefix) (complete : Network) (is : IsComplete complete) (alike : AnswersAs network complete) (gates : GatesData) (few_cells : length gates.cells ≤ cost_of_network network + 2 * network.inputs + 2 * length network.outputs) (numbered : AreNumbered gates) (outs : List Rails) (waits : ℕ → List Signal) (covered : IsCovered complete waits) (laid : IsLaidOut complete waits gates outs) where
+module _ (network : Network) (ins : List NamePair) (prefix : List ℕ) (can : CanBeStage network ins prefix) (complete : Network) (is : IsComplete complete) (alike : AnswersAs network complete) (gates : GatesData) (few_cells : length gates.cells ≤ cost_of_network network + 2 * network.inputs + 2 * length network.outputs) (numbered : AreNumbered gates) (outs : List Rails) (waits : ℕ → List Bool → ℕ → Bool) (covered : IsCovered complete waits) (laid : IsLaidOut complete waits gates outs) where
   count : length ins ≡ complete.inputs
   count = can.as_many ∙ sym alike.inputs
 

@@ -1,8 +1,7 @@
 -- Gates that compute a network.
-use Rattle.std.specs.Prelude.{ℕ, ◌+◌, ◌*◌, ◌≤◌, List, length}
+use Rattle.std.specs.Prelude.{ℕ, ◌+◌, ◌*◌, ◌≤◌, List, Bool, length}
 use Rattle.ncl_base.specs.declared.word.TheConstants.{MOST_BITS}
 use Rattle.ncl_shape.specs.declared.rails.Rails.{Rails}
-use Rattle.ncl_network.specs.declared.network.Signal.{Signal}
 use Rattle.ncl_network.specs.declared.network.Network.{Network}
 use Rattle.ncl_decomp.specs.Split.{IsSplit, cost_of_network}
 use Rattle.ncl_tree.specs.Gates.{GatesData}
@@ -24,7 +23,7 @@ pub record AreGatesOf (network : Network) (gates : GatesData) (outs : List Rails
   pub complete : Network
   pub is : IsComplete complete
   pub alike : AnswersAs network complete
-  pub waits : ℕ → List Signal
+  pub waits : ℕ → List Bool → ℕ → Bool
   pub covered : IsCovered complete waits
   pub laid : IsLaidOut complete waits gates outs
   pub few : length gates.cells ≤ cost_of_network network + 2 * network.inputs + 2 * length network.outputs

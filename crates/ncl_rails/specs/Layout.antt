@@ -1,5 +1,5 @@
 -- Networks that are laid out by gates: one template for each node, over the pairs of what it reads.
-use Rattle.std.specs.Prelude.{◌≡◌, ℕ, ◌+◌, ◌*◌, ◌≤◌, List, if◌then◌else◌, length, map, All, Contains, slice_get, Some}
+use Rattle.std.specs.Prelude.{◌≡◌, ℕ, ◌+◌, ◌*◌, ◌≤◌, List, Bool, if◌then◌else◌, length, map, All, Contains, slice_get, Some}
 use Rattle.std.specs.List.{slice_index_or, flat_map, range_with_len}
 use Rattle.ncl_gates.specs.Gate.{arity_of}
 use Rattle.ncl_netlist.specs.declared.ids.NetId.{NetId}
@@ -45,14 +45,14 @@ signal_pair inputs pairs signal =
     if signal.inverted then exchanged (source_pair inputs pairs signal.from) else source_pair inputs pairs signal.from
 
 -- nodes are laid out over input pairs, and show their bits at these pairs
-pub record AreLaidOut (inputs : List Rails) (waits : ℕ → List Signal) (nodes : List Node) (cells : List StageCell) (pairs : List Rails) : Type 0 where
+pub record AreLaidOut (inputs : List Rails) (waits : ℕ → List Bool → ℕ → Bool) (nodes : List Node) (cells : List StageCell) (pairs : List Rails) : Type 0 where
   -- the cells are the gates of each node in turn
   pub parts : List (List StageCell)
   pub as_many : length parts ≡ length nodes
   pub pairs_as_many : length pairs ≡ length nodes
   pub joined : cells ≡ flat_map (λ part. part) parts
   -- which among all cells show its bit over the pairs of what it reads, and wait for some of these
-  pub templates : (k : ℕ) (node : Node) (part : List StageCell) (pair : Rails) → slice_get nodes k ≡ Some node → slice_get parts k ≡ Some part → slice_get pairs k ≡ Some pair → IsTemplateAmong cells (node_function node) (map (signal_pair inputs pairs) node.ins) (map (signal_pair inputs pairs) (waits k)) part pair
+  pub templates : (k : ℕ) (node : Node) (part : List StageCell) (pair : Rails) → slice_get nodes k ≡ Some node → slice_get parts k ≡ Some part → slice_get pairs k ≡ Some pair → IsTemplateAmong cells (node_function node) (map (signal_pair inputs pairs) node.ins) (waits k) part pair
   -- each gate has a net on each input pin, and reads only the inputs and gates before it, and some drive the pairs
   pub arities : All (λ (c : StageCell). length c.ins.items ≡ arity_of c.kind) cells
   pub in_order : IsInOrder inputs cells
@@ -60,7 +60,7 @@ pub record AreLaidOut (inputs : List Rails) (waits : ℕ → List Signal) (nodes
   pub few : length cells ≤ cost_of_nodes nodes
 
 -- a network is laid out by gates over the nets of its inputs, with pairs that show its outputs
-pub record IsLaidOut (network : Network) (waits : ℕ → List Signal) (gates : GatesData) (outs : List Rails) : Type 0 where
+pub record IsLaidOut (network : Network) (waits : ℕ → List Bool → ℕ → Bool) (gates : GatesData) (outs : List Rails) : Type 0 where
   pub pairs : List Rails
   pub first : gates.first ≡ 2 * network.inputs
   pub nodes : AreLaidOut (input_pairs network.inputs) waits network.nodes gates.cells pairs

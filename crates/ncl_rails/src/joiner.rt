@@ -2,10 +2,11 @@
 
 use crate::joint::{Sources, depends_on, node_of};
 use crate::relaxing::Holders;
+use crate::sharing::Sharers;
 use crate::timing::Timing;
 use ncl_base::Memory;
 use ncl_cells::{Leaves, Offer, table_over};
-use ncl_network::{Network, Node, SignalSource};
+use ncl_network::{Network, Node, Signal, SignalSource};
 use ncl_template::{Waits, least_waits, levels, offered};
 use std::alloc::Global;
 
@@ -48,6 +49,7 @@ pub(crate) struct Joiner {
     pub slots: Vec<Slot>,
     pub readers: Holders,
     pub holders: Holders,
+    pub sharers: Sharers,
     pub joins: usize,
 }
 
@@ -64,41 +66,60 @@ fn slots_of(alloc: Global, network: &Network) -> Result<Vec<Slot>, Memory> {
     Ok(slots)
 }
 
-/// The two gates of a function of some sources, which wait for those that nothing else holds, if there are such.
-fn pair_of(
-    alloc: Global,
-    sources: &Sources,
-    table: u16,
-    needed: Waits,
-) -> Result<Option<Pair>, Memory> {
-    if offered(sources.count, table, needed).is_none() {
-        return Ok(None);
+/// Whether two of the signals, which are at most three, are of one source.
+fn reads_twice(ins: &[Signal]) -> bool {
+    match ins {
+        [a, b] => a.from == b.from,
+        [a, b, c] => a.from == b.from || a.from == c.from || b.from == c.from,
+        _ => true,
     }
-    let node = node_of(alloc, sources, table)?;
-    let waits = least_waits(&node, needed);
-    if waits == Waits::ALL {
-        return Ok(None);
-    }
-    Ok(Some(Pair { node, waits }))
 }
 
 impl Joiner {
-    pub fn new(alloc: Global, network: &Network) -> Result<Joiner, Memory> {
+    /// The nodes of a network as they are, which wait for all until they are to wait for less. Linear in the network.
+    pub fn new(alloc: Global, network: &Network, relax: bool) -> Result<Joiner, Memory> {
         Ok(Joiner {
             slots: slots_of(alloc, network)?,
             readers: Holders::of(alloc, network)?,
             holders: Holders::of(alloc, network)?,
+            sharers: Sharers::new(alloc, network, relax)?,
             joins: 0,
         })
     }
 
-    /// Nodes that are as they were wait for less: those of two inputs, or the others. Linear in the nodes.
-    pub fn relax(&mut self, narrow: bool) {
-        for slot in self.slots.iter_mut() {
-            let is_narrow = slot.node.ins.items().len() <= 2;
-            if slot.state == State::Kept && is_narrow == narrow {
-                slot.waits = self.holders.relax(&slot.node);
+    /// Whether a node is as it was and has so many inputs.
+    fn is_kept(&self, place: usize, least: usize, most: usize) -> bool {
+        match self.slots.get(place) {
+            Some(slot) => {
+                let inputs = slot.node.ins.items().len();
+                slot.state == State::Kept && least <= inputs && inputs <= most
             }
+            None => false,
+        }
+    }
+
+    /// Nodes of so many inputs that are as they were wait for less. Linear in the nodes.
+    pub fn relax(&mut self, least: usize, most: usize) {
+        for place in 0..self.slots.len() {
+            if self.is_kept(place, least, most) {
+                self.release(place);
+                self.relax_one(place);
+                self.hold(place);
+            }
+        }
+    }
+
+    /// A node waits for what nothing else holds, and for what its gates then wait for besides; one that reads a source twice
+    /// for all. It holds nothing meanwhile.
+    fn relax_one(&mut self, place: usize) {
+        let waits = match self.slots.get(place) {
+            Some(slot) if !reads_twice(slot.node.ins.items()) => {
+                least_waits(&slot.node, self.needed(slot.node.ins.items()))
+            }
+            _ => Waits::ALL,
+        };
+        if let Some(slot) = self.slots.get_mut(place) {
+            slot.waits = waits;
         }
     }
 
@@ -132,10 +153,23 @@ impl Joiner {
         None
     }
 
+    /// What waits so for some signals holds them.
+    pub fn take(&mut self, ins: &[Signal], waits: Waits) {
+        self.holders.take(ins, waits);
+        self.sharers.take(ins, waits);
+    }
+
+    /// It holds them no more.
+    pub fn give_up(&mut self, ins: &[Signal], waits: Waits) {
+        self.holders.give_up(ins, waits);
+        self.sharers.give_up(ins, waits);
+    }
+
     /// A node holds what it waits for no more.
     pub fn release(&mut self, place: usize) {
         if let Some(slot) = self.slots.get(place) {
             self.holders.give_up(slot.node.ins.items(), slot.waits);
+            self.sharers.give_up(slot.node.ins.items(), slot.waits);
         }
     }
 
@@ -143,17 +177,34 @@ impl Joiner {
     pub fn hold(&mut self, place: usize) {
         if let Some(slot) = self.slots.get(place) {
             self.holders.take(slot.node.ins.items(), slot.waits);
+            self.sharers.take(slot.node.ins.items(), slot.waits);
         }
     }
 
-    /// Which of some sources nothing holds.
-    pub fn needed(&self, sources: &Sources) -> Waits {
-        Waits {
-            first: self.holders.is_free(sources.at[0]),
-            second: self.holders.is_free(sources.at[1]),
-            third: self.holders.is_free(sources.at[2]),
-            fourth: self.holders.is_free(sources.at[3]),
+    /// What holds none of some signals, each of another source, at which words of theirs.
+    fn needed(&self, ins: &[Signal]) -> Waits {
+        let mut waits = Waits::NONE;
+        for (place, signal) in ins.iter().enumerate() {
+            if self.holders.count_of(signal.from).unwrap_or(0) == 0 {
+                waits = waits.with(place, self.sharers.unheld(ins, signal.from));
+            }
         }
+        waits
+    }
+
+    /// The two gates of a function of some sources, which wait for those that nothing else holds, if there are such.
+    fn gates(&self, alloc: Global, sources: &Sources, table: u16) -> Result<Option<Pair>, Memory> {
+        let signals = sources.signals();
+        let needed = self.needed(&signals[..sources.count.min(4)]);
+        if offered(sources.count, table, needed).is_none() {
+            return Ok(None);
+        }
+        let node = node_of(alloc, sources, table)?;
+        let waits = least_waits(&node, self.needed(node.ins.items()));
+        if waits == Waits::ALL {
+            return Ok(None);
+        }
+        Ok(Some(Pair { node, waits }))
     }
 
     /// Drops a node.
@@ -190,8 +241,7 @@ impl Joiner {
         };
         let found = match table_over(alloc, network, number, sources.leaves())? {
             Some(table) if depends_on(table, sources.count) => {
-                let needed = self.needed(sources);
-                pair_of(alloc, sources, table, needed)?
+                self.gates(alloc, sources, table)?
             }
             _ => None,
         };

@@ -51,6 +51,14 @@ impl Sources {
         true
     }
 
+    /// The sources as signals that aren't inverted.
+    pub fn signals(&self) -> [Signal; 4] {
+        self.at.map(|from| Signal {
+            from,
+            inverted: false,
+        })
+    }
+
     /// The sources as leaves.
     pub fn leaves(&self) -> Leaves {
         Leaves {

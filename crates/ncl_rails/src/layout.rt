@@ -34,7 +34,7 @@ fn add_nodes(
     requires inputs { inputs.now ≡ input_pairs network.now.inputs }
     requires none { gates.old ≡ record { first = 2 * network.now.inputs; cells = [] } }
     requires room { 2 * network.now.inputs + cost_of_network network.now + 32 < 2 ^ 32 }
-    ensures laid_out { IfOk result (λ pairs. AreLaidOut inputs.now (waits_of network.now.nodes waits.now) network.now.nodes gates.new.cells pairs.items) }
+    ensures laid_out { IfOk result (λ pairs. AreLaidOut inputs.now (waits_of waits.now) network.now.nodes gates.new.cells pairs.items) }
     ensures first { gates.new.first ≡ gates.old.first }
 {
     let mut pairs = Vec::new(alloc);
@@ -52,7 +52,7 @@ pub(crate) fn lay_out(alloc: Global, network: &Network, waits: &[Waits]) -> Resu
     requires complete { IsComplete network.now }
     requires few_inputs { network.now.inputs ≤ MOST_BITS }
     requires cheap { cost_of_network network.now < 2 ^ 31 }
-    ensures { IfOk result (λ layout. IsLaidOut network.now (waits_of network.now.nodes waits.now) layout.gates layout.outputs.items) }
+    ensures { IfOk result (λ layout. IsLaidOut network.now (waits_of waits.now) layout.gates layout.outputs.items) }
 {
     let inputs = input_pairs(alloc, network.inputs)?;
     let mut gates = Gates::new(alloc, 2 * network.inputs);

@@ -1,7 +1,8 @@
 //! Networks as stages of gates: sound, of the same function, and told by names.
 //!
-//! A network is completed (`complete`: `constants`, `unread`), what nodes needn't wait for is found (`relaxing`, tested by
-//! `held`), and one template is laid after another (`layout`). `joiner` keeps nodes as they are joined: `pairing` joins
+//! A network is completed (`complete`: `constants`, `unread`), what nodes needn't wait for is found (`relaxing`; `sharing`
+//! keeps the nodes that hold a source together, which read what `together` has) and tested (`held`), and one template is
+//! laid after another (`layout`). `joiner` keeps nodes as they are joined: `pairing` joins
 //! those that only one other reads, `spreading` those that several read, and `summing` puts sums beside their carries, all
 //! where gates come in time (`timing`); `joint` makes a node that has two gates. `stage_gates` lays two networks out so, in
 //! a few ways, and takes what is better (`depth`). `naming` names what comes of it. In proofs, `Composition` is the theorem
@@ -20,11 +21,13 @@ mod naming;
 mod pairing;
 mod parts;
 mod relaxing;
+mod sharing;
 mod signal_pairs;
 mod spreading;
 mod stage_gates;
 mod summing;
 mod timing;
+mod together;
 mod unread;
 
 pub use parts::{StageParts, stage_parts};

@@ -109,12 +109,12 @@ impl Joiner {
         sums: Vec<Sum>,
         most: u32,
     ) -> Result<(), Memory> {
-        self.relax(false);
+        self.relax(3, 4);
         let mut timing = self.timing(alloc, network, most)?;
         self.add_sums(sums);
         self.join_all(alloc, network, &mut timing)?;
         self.spread_all(alloc, network, &mut timing)?;
-        self.relax(true);
+        self.relax(2, 2);
         Ok(())
     }
 }
@@ -135,7 +135,7 @@ pub(crate) fn joins_of(
     if !relax && sums.is_empty() {
         return Ok(None);
     }
-    let mut joiner = Joiner::new(alloc, network)?;
+    let mut joiner = Joiner::new(alloc, network, relax)?;
     if relax {
         joiner.relax_and_join(alloc, network, sums, most)?;
     } else {

@@ -3,14 +3,15 @@ ghost use Rattle.std.specs.Prelude.{◌≡◌, ◌<◌, ◌^◌, true, length, I
 ghost use Rattle.ncl_rails.specs.Complete.{IsComplete};
 ghost use Rattle.ncl_rails.specs.Waiting.{IsCovered, waits_of};
 
-use crate::held::{Cover, is_covered, waits_at};
+use crate::held::{Cover, MOST_HOLDERS, is_covered, is_shared, waits_at};
+use crate::joiner::Joiner;
 use ncl_base::Memory;
 use ncl_cells::may_relax;
-use ncl_network::{Network, Node, Signal, SignalSource};
-use ncl_template::{Waits, least_waits};
+use ncl_network::{Network, Signal, SignalSource};
+use ncl_template::Waits;
 use std::alloc::Global;
 
-/// For each input and each node how many outputs are of it, and how many nodes wait for it.
+/// For each input and each node how many outputs are of it, and how many nodes wait for it at every word.
 #[derive(Drop)]
 pub(crate) struct Holders {
     inputs: Vec<u32>,
@@ -48,17 +49,6 @@ impl Holders {
         }
     }
 
-    /// Whether a node has an input at a place whose source nothing else holds.
-    fn is_needed(&mut self, ins: &[Signal], place: usize) -> bool {
-        match ins.get(place) {
-            Some(signal) => match self.at(signal.from) {
-                Some(count) => *count < 2,
-                None => true,
-            },
-            None => false,
-        }
-    }
-
     /// How many hold a source.
     pub fn count_of(&self, source: SignalSource) -> Option<u32> {
         match source {
@@ -73,10 +63,10 @@ impl Holders {
         self.count_of(source) == Some(0)
     }
 
-    /// Adds a reader of each signal that is waited for.
+    /// Adds a reader of each signal that is waited for at every word.
     pub fn take(&mut self, ins: &[Signal], waits: Waits) {
         for (place, signal) in ins.iter().enumerate() {
-            if !waits.at(place) {
+            if !waits.always(place) {
                 continue;
             }
             if let Some(count) = self.at(signal.from) {
@@ -85,55 +75,16 @@ impl Holders {
         }
     }
 
-    /// Takes a reader of each signal away that is waited for.
+    /// Takes a reader of each signal away that is waited for at every word.
     pub fn give_up(&mut self, ins: &[Signal], waits: Waits) {
         for (place, signal) in ins.iter().enumerate() {
-            if !waits.at(place) {
+            if !waits.always(place) {
                 continue;
             }
             if let Some(count) = self.at(signal.from) {
                 *count = count.saturating_sub(1);
             }
         }
-    }
-
-    /// Takes a reader of each signal away that isn't waited for.
-    fn free(&mut self, ins: &[Signal], waits: Waits) {
-        for (place, signal) in ins.iter().enumerate() {
-            if waits.at(place) {
-                continue;
-            }
-            if let Some(count) = self.at(signal.from) {
-                *count = count.saturating_sub(1);
-            }
-        }
-    }
-
-    /// What a node waits for: what nothing else holds, and what its gates then wait for besides. A node that reads a
-    /// source twice waits for all.
-    pub fn relax(&mut self, node: &Node) -> Waits {
-        let ins = node.ins.items();
-        if reads_twice(ins) {
-            return Waits::ALL;
-        }
-        let needed = Waits {
-            first: self.is_needed(ins, 0),
-            second: self.is_needed(ins, 1),
-            third: self.is_needed(ins, 2),
-            fourth: self.is_needed(ins, 3),
-        };
-        let waits = least_waits(node, needed);
-        self.free(ins, waits);
-        waits
-    }
-}
-
-/// Whether two of the signals, which are at most four, are of one source.
-fn reads_twice(ins: &[Signal]) -> bool {
-    match ins {
-        [a, b] => a.from == b.from,
-        [a, b, c] => a.from == b.from || a.from == c.from || b.from == c.from,
-        _ => true,
     }
 }
 
@@ -142,12 +93,10 @@ fn waits_found(alloc: Global, network: &Network) -> Result<Vec<Waits>, Memory> {
     if !may_relax(network) {
         return Ok(Vec::new(alloc));
     }
-    let mut holders = Holders::of(alloc, network)?;
-    let mut waits = Vec::new(alloc);
-    for node in network.nodes.items() {
-        waits.push(holders.relax(node))?;
-    }
-    Ok(waits)
+    let mut joiner = Joiner::new(alloc, network, true)?;
+    joiner.relax(2, 4);
+    let joins = joiner.joins(alloc)?;
+    Ok(joins.waits)
 }
 
 /// What is claimed to hold each input and each node.
@@ -157,17 +106,34 @@ struct Claims {
     nodes: Vec<Cover>,
 }
 
+/// Adds a node to those that hold a source together.
+fn joined(cover: Cover, by: u32) -> Cover {
+    let Cover::Waiters(mut holders) = cover else {
+        return cover;
+    };
+    for holder in holders.iter_mut() {
+        if *holder == u32::MAX {
+            *holder = by;
+            return Cover::Waiters(holders);
+        }
+    }
+    cover
+}
+
 impl Claims {
-    /// An output that is of it, or a node that waits for it. Linear in the network.
+    /// An output that is of it, or a node that waits for it, or nodes that do at some words. Linear in the network.
     fn of(alloc: Global, network: &Network, waits: &[Waits]) -> Result<Claims, Memory> {
-        let inputs = vec![in alloc; Cover::Output(0); network.inputs as usize]?;
-        let nodes = vec![in alloc; Cover::Output(0); network.nodes.items().len()]?;
+        let none = Cover::Waiters([u32::MAX; MOST_HOLDERS]);
+        let inputs = vec![in alloc; none; network.inputs as usize]?;
+        let nodes = vec![in alloc; none; network.nodes.items().len()]?;
         let mut claims = Claims { inputs, nodes };
         for (by, node) in network.nodes.items().iter().enumerate() {
             claims.claim(by, node.ins.items(), waits_at(waits, by));
         }
         for (at, signal) in network.outputs.items().iter().enumerate() {
-            claims.put(signal.from, Cover::Output(at));
+            if let Some(cover) = claims.at(signal.from) {
+                *cover = Cover::Output(at);
+            }
         }
         Ok(claims)
     }
@@ -175,27 +141,70 @@ impl Claims {
     /// A node for the sources of the signals that it waits for.
     fn claim(&mut self, by: usize, ins: &[Signal], waits: Waits) {
         for (place, signal) in ins.iter().enumerate() {
-            if waits.at(place) {
-                self.put(signal.from, Cover::Waiter(by));
+            let Some(cover) = self.at(signal.from) else {
+                continue;
+            };
+            if waits.always(place) {
+                *cover = Cover::Waiter(by);
+            } else if waits.once(place)
+                && let Ok(by) = u32::try_from(by)
+            {
+                *cover = joined(*cover, by);
             }
         }
     }
 
-    /// Puts a cover where a source has its place.
-    fn put(&mut self, source: SignalSource, cover: Cover) {
+    /// The cover of a source, where it has a place.
+    fn at(&mut self, source: SignalSource) -> Option<&mut Cover> {
         match source {
-            SignalSource::Input(i) => put_at(&mut self.inputs, i as usize, cover),
-            SignalSource::Node(k) => put_at(&mut self.nodes, k as usize, cover),
-            SignalSource::Const(_) => {}
+            SignalSource::Input(i) => self.inputs.get_mut(i as usize),
+            SignalSource::Node(k) => self.nodes.get_mut(k as usize),
+            SignalSource::Const(_) => None,
         }
     }
 }
 
-/// Puts a cover at a place, if there is one.
-fn put_at(covers: &mut [Cover], place: usize, cover: Cover) {
-    if place < covers.len() {
-        covers[place] = cover;
+/// Whether nodes that are claimed to hold a source together don't.
+fn is_unheld(network: &Network, waits: &[Waits], cover: Cover, source: SignalSource) -> bool {
+    match cover {
+        Cover::Waiters(holders) => !is_shared(network, waits, &holders, source),
+        _ => false,
     }
+}
+
+impl Claims {
+    /// Whether nothing holds a source as is claimed. What holds it is not asked again.
+    fn is_open(&mut self, network: &Network, waits: &[Waits], source: SignalSource) -> bool {
+        let Some(cover) = self.at(source) else {
+            return false;
+        };
+        let claimed = *cover;
+        *cover = Cover::Output(0);
+        is_unheld(network, waits, claimed, source)
+    }
+
+    /// Whether nothing holds one of some signals.
+    fn are_open(&mut self, network: &Network, waits: &[Waits], ins: &[Signal]) -> bool {
+        let mut open = false;
+        for signal in ins {
+            open |= self.is_open(network, waits, signal.from);
+        }
+        open
+    }
+}
+
+/// What each node waits for, where the last that reads what isn't held waits for all. Linear in the network.
+fn raised(alloc: Global, network: &Network, waits: Vec<Waits>) -> Result<Vec<Waits>, Memory> {
+    let mut waits = waits;
+    let mut claims = Claims::of(alloc, network, &waits)?;
+    for (by, node) in network.nodes.items().iter().enumerate().rev() {
+        if claims.are_open(network, &waits, node.ins.items())
+            && let Some(own) = waits.get_mut(by)
+        {
+            *own = Waits::ALL;
+        }
+    }
+    Ok(waits)
 }
 
 /// What each node of a network waits for: what is told, if an output then waits for each input and each node, or else
@@ -207,8 +216,9 @@ pub(crate) fn told_or_all(
 ) -> Result<Vec<Waits>, Memory>
     requires complete { IsComplete network.now }
     requires few { length network.now.nodes < 2 ^ 32 }
-    ensures { IfOk result (λ waits. IsCovered network.now (waits_of network.now.nodes waits.items)) }
+    ensures { IfOk result (λ waits. IsCovered network.now (waits_of waits.items)) }
 {
+    let waits = raised(alloc, network, waits)?;
     let claims = Claims::of(alloc, network, &waits)?;
     if is_covered(network, &waits, &claims.inputs, &claims.nodes) {
         return Ok(waits);
@@ -222,7 +232,7 @@ pub(crate) fn told_or_all(
 pub(crate) fn relaxed(alloc: Global, network: &Network) -> Result<Vec<Waits>, Memory>
     requires complete { IsComplete network.now }
     requires few { length network.now.nodes < 2 ^ 32 }
-    ensures { IfOk result (λ waits. IsCovered network.now (waits_of network.now.nodes waits.items)) }
+    ensures { IfOk result (λ waits. IsCovered network.now (waits_of waits.items)) }
 {
     let waits = waits_found(alloc, network)?;
     told_or_all(alloc, network, waits)

@@ -107,8 +107,7 @@ impl Joiner {
             let Some(taker) = self.taker(alloc, network, *place, inner, timing)? else {
                 return Ok(takers);
             };
-            self.holders
-                .take(taker.pair.node.ins.items(), taker.pair.waits);
+            self.take(taker.pair.node.ins.items(), taker.pair.waits);
             takers.push(taker)?;
         }
         Ok(takers)
@@ -117,8 +116,7 @@ impl Joiner {
     /// Takes back what takers hold, and has the nodes hold what they held.
     fn take_back(&mut self, takers: Vec<Taker>, by: &[u32]) {
         for taker in takers {
-            self.holders
-                .give_up(taker.pair.node.ins.items(), taker.pair.waits);
+            self.give_up(taker.pair.node.ins.items(), taker.pair.waits);
         }
         for place in by {
             self.hold(*place as usize);

@@ -27,7 +27,7 @@ fn waits_for(
 ) -> Result<Vec<Waits>, Memory>
     requires complete { IsComplete network.now }
     requires few { length network.now.nodes < 2 ^ 32 }
-    ensures { IfOk result (λ waits. IsCovered network.now (waits_of network.now.nodes waits.items)) }
+    ensures { IfOk result (λ waits. IsCovered network.now (waits_of waits.items)) }
 {
     match told {
         Some(waits) => told_or_all(alloc, network, waits),

@@ -113,10 +113,8 @@ fn nodes_of_three(alloc: Global, network: &Network) -> Result<BTreeMap<Triple, u
 
 /// The first three of four inputs.
 const FIRST_THREE: Waits = Waits {
-    first: true,
-    second: true,
-    third: true,
-    fourth: false,
+    fourth: 0,
+    ..Waits::ALL
 };
 
 /// A sum that can be made beside a carry.

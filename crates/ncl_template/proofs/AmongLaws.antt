@@ -1,11 +1,12 @@
 -- Templates among other gates.
-use Rattle.std.proofs.Common.{ℕ, Bool, List, ◌++◌, sym, subst}
+use Rattle.std.proofs.Common.{◌≡◌, ℕ, ◌<◌, Bool, true, List, ◌++◌, length, get_or, sym, subst}
 use Rattle.std.specs.Prelude.{Contains}
-use Rattle.ncl_base.proofs.Members.{Member-append_right, Contains-from_Member, Member-from_Contains}
+use Rattle.ncl_base.proofs.Members.{Member-append_right, Member-get_or, Contains-from_Member, Member-from_Contains}
 use Rattle.ncl_shape.specs.declared.rails.Rails.{Rails}
 use Rattle.ncl_shape.specs.declared.stage.StageCell.{StageCell}
 use Rattle.ncl_shape.specs.Nets.{Nets}
-use Rattle.ncl_template.specs.Template.{Obeys, IsCase, IsTemplate}
+use Rattle.ncl_template.specs.Template.{IsNull, Obeys, IsCase, IsTemplate}
+use Rattle.ncl_template.specs.Forms.{no_pair}
 use Rattle.ncl_template.specs.Formed.{AddsTemplate}
 use Rattle.ncl_template.specs.Among.{IsTemplateAmong, AddsAmong}
 
@@ -23,30 +24,41 @@ module _ (cells part : List StageCell) (within : (c : StageCell) → Contains pa
   }
 
   -- what a template waits for among some cells, it waits for among more
-  pub among_more : (f : List Bool → Bool) (ins waits : List Rails) (gates : List StageCell) (out : Rails) → IsTemplateAmong part f ins waits gates out → IsTemplateAmong cells f ins waits gates out
+  pub among_more : (f : List Bool → Bool) (ins : List Rails) (waits : List Bool → ℕ → Bool) (gates : List StageCell) (out : Rails) → IsTemplateAmong part f ins waits gates out → IsTemplateAmong cells f ins waits gates out
   among_more f ins waits gates out template = record {
     value = λ base word obeys shown. template.value base word (obeys_part base obeys) shown;
-    needs = λ base v word case r m null. template.needs base v word (case_part base v ins word case) r m null;
+    needs = λ base v word case k lt waits null. template.needs base v word (case_part base v ins word case) k lt waits null;
     observed = λ base v word case c m high low. template.observed base v word (case_part base v ins word case) c m high low;
   }
 
-  -- and what it waits for alone
-  pub among_others : (f : List Bool → Bool) (ins waits : List Rails) (out : Rails) → IsTemplate f ins waits part out → IsTemplateAmong cells f ins waits part out
-  among_others f ins waits out template = record {
+  -- and what it shows alone, where it is told what it waits for among them
+  pub among_others : (f : List Bool → Bool) (ins some : List Rails) (waits : List Bool → ℕ → Bool) (out : Rails) → IsTemplate f ins some part out → ((base v : Nets) (word : List Bool) → IsCase base v ins cells word → (k : ℕ) → k < length ins → waits word k ≡ true → IsNull v (get_or ins k no_pair) → IsNull v out) → IsTemplateAmong cells f ins waits part out
+  among_others f ins some waits out template needs = record {
     value = λ base word obeys shown. template.value base word (obeys_part base obeys) shown;
-    needs = λ base v word case r m null. template.needs base v word (case_part base v ins word case) r m null;
+    needs = needs;
     observed = λ base v word case c m high low. template.observed base v word (case_part base v ins word case) c m high low;
   }
 
 pub made_within : (before made : List StageCell) (c : StageCell) → Contains made c → Contains (before ++ made) c
 made_within before made c m = Contains-from_Member c (Member-append_right before c (Member-from_Contains made c m))
 
--- a template that is added is one among the cells that were added before
-pub AddsAmong-alone : (f : List Bool → Bool) (ins waits : List Rails) (most : ℕ) (before after : List StageCell) (out : Rails) → AddsTemplate f ins waits most before after out → AddsAmong f ins waits most before after out
-AddsAmong-alone f ins waits most before after out adds = record {
-  made = adds.made;
-  added = adds.added;
-  template = subst (λ (cells : List StageCell). IsTemplateAmong cells f ins waits adds.made out) (sym adds.added) (among_others (before ++ adds.made) adds.made (made_within before adds.made) f ins waits out adds.template);
-  formed = adds.formed;
-  few = adds.few;
-}
+-- a template that is added is one among all cells
+module _ (f : List Bool → Bool) (ins some : List Rails) (waits : List Bool → ℕ → Bool) (most : ℕ) (before after : List StageCell) (out : Rails) (adds : AddsTemplate f ins some most before after out) where
+  pub made_in : (c : StageCell) → Contains adds.made c → Contains after c
+  made_in c m = subst (λ cells. Contains cells c) (sym adds.added) (made_within before adds.made c m)
+
+  pub AddsAmong-from : ((base v : Nets) (word : List Bool) → IsCase base v ins after word → (k : ℕ) → k < length ins → waits word k ≡ true → IsNull v (get_or ins k no_pair) → IsNull v out) → AddsAmong f ins waits most before after out
+  AddsAmong-from needs = record {
+    made = adds.made;
+    added = adds.added;
+    template = among_others after adds.made made_in f ins some waits out adds.template needs;
+    formed = adds.formed;
+    few = adds.few;
+  }
+
+-- one that waits for all waits for some
+pub AddsAmong-all : (f : List Bool → Bool) (ins : List Rails) (waits : List Bool → ℕ → Bool) (most : ℕ) (before after : List StageCell) (out : Rails) → AddsTemplate f ins ins most before after out → AddsAmong f ins waits most before after out
+AddsAmong-all f ins waits most before after out adds =
+    AddsAmong-from f ins ins waits most before after out adds
+    (λ base v word case k lt passes null.
+    adds.template.needs base v word (case_part after adds.made (made_in f ins ins waits most before after out adds) base v ins word case) (get_or ins k no_pair) (Contains-from_Member (get_or ins k no_pair) (Member-get_or ins k no_pair lt)) null)

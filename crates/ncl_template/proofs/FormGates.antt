@@ -10,22 +10,22 @@ use Rattle.ncl_shape.specs.declared.rails.Rails.{Rails}
 use Rattle.ncl_shape.specs.declared.stage.StageCell.{StageCell}
 use Rattle.ncl_shape.specs.Nets.{Nets}
 use Rattle.ncl_shape.specs.Closure.{pin_values}
+use Rattle.ncl_faults.specs.Values.{holds}
 use Rattle.ncl_shape.specs.Stage.{out_of, rail_nets}
 use Rattle.ncl_decomp.specs.Split.{cost_of_inputs}
 use Rattle.ncl_template.specs.declared.form.FormPin.{FormPin}
 use Rattle.ncl_template.specs.declared.form.FormPin.TheVariants.{Zero, One, Inner}
 use Rattle.ncl_template.specs.declared.form.FormGate.{FormGate}
 use Rattle.ncl_template.specs.declared.form.Form.{Form}
-use Rattle.ncl_template.specs.declared.waits.Waits.{Waits}
 use Rattle.ncl_template.specs.Template.{IsNull, ShowWord, Obeys, IsCase, IsTemplate}
 use Rattle.ncl_template.specs.Formed.{IsFormed, AddsTemplate}
-use Rattle.ncl_template.specs.Waits.{waits_at, waited}
+use Rattle.ncl_template.specs.Among.{AddsAmong}
 use Rattle.ncl_template.specs.Forms.{gate_bit, inner_bit, IsFormPin, IsFormGate, has_inner, IsInner, FitsAt, Fits, no_pair, no_net, pin_net, IsGateOf, AddsInner, AddsForm}
 use Rattle.ncl_template.proofs.Groups.{Leaf, IsLeaf, ShowWord-length, template_of_groups}
 use Rattle.ncl_template.proofs.InputLeaves.{group_of_one}
 use Rattle.ncl_template.proofs.Trees.{low_from_unset}
 use Rattle.ncl_template.proofs.InOrder.{AreInOrder, in_order-append, arities-in_order, IsInOrder-from}
-use Rattle.ncl_template.proofs.Picked.{picked_at}
+use Rattle.ncl_template.proofs.AmongLaws.{case_part, made_in, AddsAmong-from}
 use Rattle.ncl_template.proofs.FormLaws.{pins_shown, pins_unset, all_pins}
 
 -- ---- the inner gate
@@ -97,19 +97,14 @@ one_under ins gate c is of =
 
 -- ---- the rails
 
-module _ (ins : List Rails) (w : Waits) (inner : Option FormGate) (under : List StageCell) (net : NetId) (is_under : IsUnder ins inner under net) where
-  leaf_fits : (set : List Bool → Bool) (gate : FormGate) (c : StageCell) → ((word : List Bool) → length word ≡ length ins → FitsAt (set word) (waits_at w) inner gate word) → IsFormGate (length ins) (has_inner inner) gate → IsGateOf ins net gate c → IsLeaf ins (waited w ins) under (record { cell = c; at = set })
+module _ (ins : List Rails) (waits : List Bool → ℕ → Bool) (inner : Option FormGate) (under : List StageCell) (net : NetId) (is_under : IsUnder ins inner under net) where
+  leaf_fits : (set : List Bool → Bool) (gate : FormGate) (c : StageCell) → ((word : List Bool) → length word ≡ length ins → FitsAt (set word) waits inner gate word) → IsFormGate (length ins) (has_inner inner) gate → IsGateOf ins net gate c → IsLeaf ins [] under (record { cell = c; at = set })
   leaf_fits set gate c fits of is = record {
     exact = λ base word obeys shown.
         (λ i. set_of (is.kind i) (pin_values base (is.ins_are i)))
         ∙ ap (set_of gate.kind) (pins_shown ins word net base shown (inner_bit word (length word) inner) (has_inner inner) (is_under.high base word obeys shown) gate.pins.items (all_pins (length ins) (has_inner inner) gate of))
         ∙ (fits word (ShowWord-length base ins word shown)).exact;
-    waits_for = λ base v word case r m null.
-        let (k, lt, passes, at) = picked_at (waits_at w) ins no_pair r (Member-from_Contains (waited w ins) r m) in
-        let wide : length word ≡ length ins = ShowWord-length base ins word case.shown in
-        let null_is : k < length ins → IsNull v (get_or ins k no_pair) = λ within. subst (IsNull v) (sym at) null in
-        pins_unset ins word net base v case.below case.shown k null_is (inner_bit word k inner) (has_inner inner) (is_under.low base v word case k null_is) gate c is (all_pins (length ins) (has_inner inner) gate of)
-        ((fits word wide).waiting k (omega (arith, lt, wide)) passes);
+    waits_for = λ base v word case r m null. elim (Member-from_Contains [] r m) [ ];
     observes = λ base v word case g m high low.
         let wide : length word ≡ length ins = ShowWord-length base ins word case.shown in
         let (there_is, out) = is_under.only g m in
@@ -118,14 +113,36 @@ module _ (ins : List Rails) (w : Waits) (inner : Option FormGate) (under : List 
         ((fits word wide).observing up);
   }
 
-module _ (f : List Bool → Bool) (ins : List Rails) (w : Waits) (form : Form) (fits : Fits f (length ins) (waits_at w) form) (under : List StageCell) (net : NetId) (is_under : IsUnder ins form.inner under net) (c d : StageCell) (is_zero : IsGateOf ins net form.zero c) (is_one : IsGateOf ins net form.one d) where
-  form_template : IsTemplate f ins (waited w ins) (under ++ c ∷ d ∷ []) (record { zero = c.out; one = d.out })
+  -- where an input is NULL that is waited for at the word, a gate is not set
+  rail_waits : (bit : Bool) (gate : FormGate) (c : StageCell) (base v : Nets) (word : List Bool) → FitsAt bit waits inner gate word → IsFormGate (length ins) (has_inner inner) gate → IsGateOf ins net gate c → IsCase base v ins under word → (k : ℕ) → k < length ins → waits word k ≡ true → IsNull v (get_or ins k no_pair) → holds v c ≡ false
+  rail_waits bit gate c base v word fits of is case k lt passes null =
+      let wide : length word ≡ length ins = ShowWord-length base ins word case.shown in
+      pins_unset ins word net base v case.below case.shown k (λ within. null) (inner_bit word k inner) (has_inner inner) (is_under.low base v word case k (λ within. null)) gate c is (all_pins (length ins) (has_inner inner) gate of)
+      (fits.waiting k (omega (arith, lt, wide)) passes)
+
+module _ (f : List Bool → Bool) (ins : List Rails) (waits : List Bool → ℕ → Bool) (form : Form) (fits : Fits f (length ins) waits form) (under : List StageCell) (net : NetId) (is_under : IsUnder ins form.inner under net) (c d : StageCell) (is_zero : IsGateOf ins net form.zero c) (is_one : IsGateOf ins net form.one d) where
+  form_template : IsTemplate f ins [] (under ++ c ∷ d ∷ []) (record { zero = c.out; one = d.out })
   form_template =
       let zero : Leaf = record { cell = c; at = λ word. not (f word) } in
       let one : Leaf = record { cell = d; at = f } in
-      template_of_groups f ins (waited w ins) under (zero ∷ []) (one ∷ []) [] [] c.out d.out
-      (group_of_one (λ word. not (f word)) ins (waited w ins) under zero (leaf_fits ins w form.inner under net is_under (λ word. not (f word)) form.zero c (λ word wide. (fits.at word wide).0) fits.is.zero is_zero) (λ word wide. refl))
-      (group_of_one f ins (waited w ins) under one (leaf_fits ins w form.inner under net is_under f form.one d (λ word wide. (fits.at word wide).1) fits.is.one is_one) (λ word wide. refl))
+      template_of_groups f ins [] under (zero ∷ []) (one ∷ []) [] [] c.out d.out
+      (group_of_one (λ word. not (f word)) ins [] under zero (leaf_fits ins waits form.inner under net is_under (λ word. not (f word)) form.zero c (λ word wide. (fits.at word wide).0) fits.is.zero is_zero) (λ word wide. refl))
+      (group_of_one f ins [] under one (leaf_fits ins waits form.inner under net is_under f form.one d (λ word wide. (fits.at word wide).1) fits.is.one is_one) (λ word wide. refl))
+
+  form_waits : (cells : List StageCell) → ((g : StageCell) → Contains (under ++ c ∷ d ∷ []) g → Contains cells g) → (base v : Nets) (word : List Bool) → IsCase base v ins cells word → (k : ℕ) → k < length ins → waits word k ≡ true → IsNull v (get_or ins k no_pair) → IsNull v (record { zero = c.out; one = d.out })
+  form_waits cells within base v word case k lt passes null =
+      let below : IsCase base v ins under word = case_part cells under (λ g m. within g (Contains-from_Member g (Member-append_left g (c ∷ d ∷ []) (Member-from_Contains under g m)))) base v ins word case in
+      let wide : length word ≡ length ins = ShowWord-length base ins word case.shown in
+      let first : Member c (c ∷ d ∷ []) = here in
+      let second : Member d (c ∷ d ∷ []) = there here in
+      record {
+        zero =
+            low_from_unset v c (case.supported.each c (within c (Contains-from_Member c (Member-append_right under c first))))
+            (rail_waits ins waits form.inner under net is_under (not (f word)) form.zero c base v word (fits.at word wide).0 fits.is.zero is_zero below k lt passes null);
+        one =
+            low_from_unset v d (case.supported.each d (within d (Contains-from_Member d (Member-append_right under d second))))
+            (rail_waits ins waits form.inner under net is_under (f word) form.one d base v word (fits.at word wide).1 fits.is.one is_one below k lt passes null);
+      }
 
   form_formed : IsFormed ins (under ++ c ∷ d ∷ []) (record { zero = c.out; one = d.out })
   form_formed =
@@ -185,19 +202,36 @@ gate_count (suc (suc (suc zero))) under c d some most few none = omega (arith, f
 gate_count (suc (suc (suc (suc zero)))) under c d some most few none = omega (arith, few, length-append under (c ∷ d ∷ []))
 gate_count (suc (suc (suc (suc (suc n))))) under c d some most few none = absurd (omega (arith, most))
 
-module _ (f : List Bool → Bool) (ins : List Rails) (w : Waits) (form : Form) (fits : Fits f (length ins) (waits_at w) form) (before after : List StageCell) (out : Rails) (adds : AddsForm ins form before after out) where
+module _ (f : List Bool → Bool) (ins : List Rails) (waits : List Bool → ℕ → Bool) (form : Form) (fits : Fits f (length ins) waits form) (before after : List StageCell) (out : Rails) (adds : AddsForm ins form before after out) where
+  base_of : Below ins form.inner before adds.now adds.net
+  base_of = below ins form.inner before adds.now adds.net fits.is.inner adds.inner
+
+  rails_are : ◌≡◌ {A = Rails} (record { zero = adds.zero.cell.out; one = adds.one.cell.out }) out
+  rails_are = λ i. record { zero = adds.zero.drives i; one = adds.one.drives i }
+
+  made_of : List StageCell
+  made_of = base_of.under ++ adds.zero.cell ∷ adds.one.cell ∷ []
+
   -- the gates of a form that fits a function are a template of it
-  pub AddsTemplate-form : AddsTemplate f ins (waited w ins) (cost_of_inputs (length ins)) before after out
+  pub AddsTemplate-form : AddsTemplate f ins [] (cost_of_inputs (length ins)) before after out
+  unfolding made_of
   AddsTemplate-form =
-      let base = below ins form.inner before adds.now adds.net fits.is.inner adds.inner in
+      let base = base_of in
       let c : StageCell = adds.zero.cell in
       let d : StageCell = adds.one.cell in
-      let made : List StageCell = base.under ++ c ∷ d ∷ [] in
-      let same : ◌≡◌ {A = Rails} (record { zero = c.out; one = d.out }) out = λ i. record { zero = adds.zero.drives i; one = adds.one.drives i } in
       record {
-        made = made;
+        made = made_of;
         added = adds.one.added ∙ (λ i. adds.zero.added i ++ d ∷ []) ∙ append_assoc adds.now (c ∷ []) (d ∷ []) ∙ (λ i. base.added i ++ c ∷ d ∷ []) ∙ append_assoc before base.under (c ∷ d ∷ []);
-        template = subst (IsTemplate f ins (waited w ins) made) same (form_template f ins w form fits base.under adds.net base.is c d adds.zero.is adds.one.is);
-        formed = subst (IsFormed ins made) same (form_formed f ins w form fits base.under adds.net base.is c d adds.zero.is adds.one.is);
+        template = subst (IsTemplate f ins [] made_of) rails_are (form_template f ins waits form fits base.under adds.net base.is c d adds.zero.is adds.one.is);
+        formed = subst (IsFormed ins made_of) rails_are (form_formed f ins waits form fits base.under adds.net base.is c d adds.zero.is adds.one.is);
         few = gate_count (length ins) base.under c d fits.is.some fits.is.few base.few (λ two. base.none (fits.is.flat two));
       }
+
+  -- which waits among all cells as they fit
+  pub AddsAmong-form : AddsAmong f ins waits (cost_of_inputs (length ins)) before after out
+  unfolding made_of AddsTemplate-form
+  AddsAmong-form =
+      AddsAmong-from f ins [] waits (cost_of_inputs (length ins)) before after out AddsTemplate-form
+      (λ base v word case k lt passes null.
+      subst (IsNull v) rails_are
+      (form_waits f ins waits form fits base_of.under adds.net base_of.is adds.zero.cell adds.one.cell adds.zero.is adds.one.is after (made_in f ins [] waits (cost_of_inputs (length ins)) before after out AddsTemplate-form) base v word case k lt passes null))

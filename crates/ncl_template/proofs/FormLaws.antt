@@ -99,7 +99,7 @@ all_pins inputs has gate of p m = All-contains (IsFormPin inputs has) gate.pins.
 
 -- ---- words
 
-module _ (f : List Bool → Bool) (waits : ℕ → Bool) (form : Form) (n : ℕ) (is : IsForm n form) where
+module _ (f : List Bool → Bool) (waits : List Bool → ℕ → Bool) (form : Form) (n : ℕ) (is : IsForm n form) where
   pub fits_of_two : n ≡ 2 → ((a b : Bool) → FitsWord f waits form (a ∷ b ∷ [])) → Fits f n waits form
   fits_of_two two each = record { is = is; at = λ word wide. at word (wide ∙ two) }
     where

@@ -18,14 +18,14 @@ use Rattle.ncl_template.specs.declared.waits.Waits.{Waits}
 use Rattle.ncl_template.specs.Template.{IsNull, ShowWord, IsCase}
 use Rattle.ncl_template.specs.Among.{AddsAmong}
 use Rattle.ncl_template.specs.Formed.{AddsTemplate}
-use Rattle.ncl_template.specs.Waits.{waits_at, waited, no_inputs}
+use Rattle.ncl_template.specs.Waits.{waits_at, waits_once, no_inputs}
 use Rattle.ncl_template.specs.Forms.{pin_bit, gate_bit, IsFormPin, IsFormGate, has_inner, no_net, no_pair, pin_net, IsGateOf, AddsForm}
 use Rattle.ncl_template.specs.Joint.{IsGateAmong, IsPairAmong, joint_pin, joint_bit, FitsJointly}
 use Rattle.ncl_template.proofs.Trees.{low_from_unset}
-use Rattle.ncl_template.proofs.Picked.{picked_at}
+use Rattle.ncl_template.proofs.WaitsLaws.{once_at}
 use Rattle.ncl_template.proofs.FormLaws.{gate_unset, pin_rises, pins_unset, all_pins}
 use Rattle.ncl_template.proofs.FormGates.{AddsTemplate-form}
-use Rattle.ncl_template.proofs.AmongLaws.{obeys_part, case_part, made_within}
+use Rattle.ncl_template.proofs.AmongLaws.{AddsAmong-from}
 
 -- what is not false is true
 raised : (b : Bool) → (b ≡ false → ⊥) → b ≡ true
@@ -101,15 +101,12 @@ pair_more cells all ins pair low high within last = record { of_zero = more pair
 
 -- ---- what is added
 
-module _ (f : List Bool → Bool) (ins : List Rails) (w : Waits) (form : Form) (before after : List StageCell) (out : Rails) (joint : FitsJointly before f ins (waits_at w) form) (adds : AddsForm ins form before after out) where
-  alone : AddsTemplate f ins (waited no_inputs ins) (cost_of_inputs (length ins)) before after out
-  alone = AddsTemplate-form f ins no_inputs form joint.fits before after out adds
+module _ (f : List Bool → Bool) (ins : List Rails) (w : Waits) (form : Form) (before after : List StageCell) (out : Rails) (joint : FitsJointly before f ins (waits_once w) form) (adds : AddsForm ins form before after out) where
+  alone : AddsTemplate f ins [] (cost_of_inputs (length ins)) before after out
+  alone = AddsTemplate-form f ins (waits_at no_inputs) form joint.fits before after out adds
 
   before_in : (c : StageCell) → Contains before c → Contains after c
   before_in c m = Contains-from_Member c (subst (Member c) (sym alone.added) (Member-append_left c alone.made (Member-from_Contains before c m)))
-
-  made_in : (c : StageCell) → Contains alone.made c → Contains after c
-  made_in c m = subst (λ cells. Contains cells c) (sym alone.added) (made_within before alone.made c m)
 
   zero_in : Contains after adds.zero.cell
   zero_in =
@@ -124,36 +121,25 @@ module _ (f : List Bool → Bool) (ins : List Rails) (w : Waits) (form : Form) (
   flat : (gate : FormGate) → IsFormGate (length ins) (has_inner form.inner) gate → IsFormGate (length ins) false gate
   flat gate of = subst (λ has. IsFormGate (length ins) has gate) joint.flat of
 
-  needs : (base v : Nets) (word : List Bool) → IsCase base v ins after word → (r : Rails) → Contains (waited w ins) r → IsNull v r → IsNull v out
-  needs base v word case r m null =
-      let (k, lt, passes, at) = picked_at (waits_at w) ins no_pair r (Member-from_Contains (waited w ins) r m) in
+  needs : (base v : Nets) (word : List Bool) → IsCase base v ins after word → (k : ℕ) → k < length ins → waits_at w word k ≡ true → IsNull v (get_or ins k no_pair) → IsNull v out
+  needs base v word case k lt passes is =
       let four = joint.four in
+      let once : waits_once w k ≡ true = once_at w word k passes in
       let early : k < 3 =
       elim (cases_lt k 3) [
         | inl early ↦ early
-        | inr past ↦ let last : k ≡ 3 = omega (arith, past, lt, four) in absurd (both_ways (waits_at w 3) joint.not_last (subst (λ n. waits_at w n ≡ true) last passes))
+        | inr past ↦ let last : k ≡ 3 = omega (arith, past, lt, four) in absurd (both_ways (waits_once w 3) joint.not_last (subst (λ n. waits_once w n ≡ true) last once))
       ] in
-      let is : IsNull v (get_or ins k no_pair) = subst (IsNull v) (sym at) null in
       let last = pair_more before after (take 3 ins) (get_or ins 3 no_pair) joint.zero joint.one before_in joint.last in
       record {
         zero =
             sym (ap (λ (n : NetId). v n.0) adds.zero.drives)
-            ∙ rail_of_four ins word after base v joint.four case joint.zero joint.one last k is adds.net form.zero adds.zero.cell adds.zero.is (flat form.zero joint.fits.is.zero) zero_in (λ bits three. joint.of_zero bits three k (omega (arith, early, three)) passes);
+            ∙ rail_of_four ins word after base v joint.four case joint.zero joint.one last k is adds.net form.zero adds.zero.cell adds.zero.is (flat form.zero joint.fits.is.zero) zero_in (λ bits three. joint.of_zero bits three k (omega (arith, early, three)) once);
         one =
             sym (ap (λ (n : NetId). v n.0) adds.one.drives)
-            ∙ rail_of_four ins word after base v joint.four case joint.zero joint.one last k is adds.net form.one adds.one.cell adds.one.is (flat form.one joint.fits.is.one) one_in (λ bits three. joint.of_one bits three k (omega (arith, early, three)) passes);
+            ∙ rail_of_four ins word after base v joint.four case joint.zero joint.one last k is adds.net form.one adds.one.cell adds.one.is (flat form.one joint.fits.is.one) one_in (λ bits three. joint.of_one bits three k (omega (arith, early, three)) once);
       }
 
   -- the gates of a form that fits jointly are a template among the cells
-  pub AddsAmong-joint : AddsAmong f ins (waited w ins) (cost_of_inputs (length ins)) before after out
-  AddsAmong-joint = record {
-    made = alone.made;
-    added = alone.added;
-    template = record {
-      value = λ base word obeys shown. alone.template.value base word (obeys_part after alone.made made_in base obeys) shown;
-      needs = needs;
-      observed = λ base v word case c m high low. alone.template.observed base v word (case_part after alone.made made_in base v ins word case) c m high low;
-    };
-    formed = alone.formed;
-    few = alone.few;
-  }
+  pub AddsAmong-joint : AddsAmong f ins (waits_at w) (cost_of_inputs (length ins)) before after out
+  AddsAmong-joint = AddsAmong-from f ins [] (waits_at w) (cost_of_inputs (length ins)) before after out alone needs

@@ -16,7 +16,7 @@ pub mod InOrder
 pub mod Assembly
 pub mod Taken
 pub mod Whole
-pub mod Picked
+pub mod WaitsLaws
 pub mod FormLaws
 pub mod FormGates
 pub mod AmongLaws

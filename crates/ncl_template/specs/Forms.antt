@@ -50,9 +50,9 @@ IsInner inputs (Some gate) = IsFormGate inputs false gate
 
 -- at a word a gate has this bit; where an input that is waited for is NULL it is not set, and where the inner gate is
 -- high but its net still low it is not set either
-pub record FitsAt (bit : Bool) (waits : ℕ → Bool) (inner : Option FormGate) (gate : FormGate) (word : List Bool) : Type 0 where
+pub record FitsAt (bit : Bool) (waits : List Bool → ℕ → Bool) (inner : Option FormGate) (gate : FormGate) (word : List Bool) : Type 0 where
   pub exact : gate_bit word (length word) (inner_bit word (length word) inner) gate ≡ bit
-  pub waiting : (null : ℕ) → null < length word → waits null ≡ true → gate_bit word null (inner_bit word null inner) gate ≡ false
+  pub waiting : (null : ℕ) → null < length word → waits word null ≡ true → gate_bit word null (inner_bit word null inner) gate ≡ false
   pub observing : inner_bit word (length word) inner ≡ true → gate_bit word (length word) false gate ≡ false
 
 -- the gates of a form are gates over two to four inputs; over two there is no inner gate
@@ -65,12 +65,12 @@ pub record IsForm (inputs : ℕ) (form : Form) : Type 0 where
   pub one : IsFormGate inputs (has_inner form.inner) form.one
 
 -- at a word its rails show the bit of a function, and wait
-abbrev pub FitsWord : (List Bool → Bool) → (ℕ → Bool) → Form → List Bool → Type 0
+abbrev pub FitsWord : (List Bool → Bool) → (List Bool → ℕ → Bool) → Form → List Bool → Type 0
 FitsWord function waits form word =
     FitsAt (not (function word)) waits form.inner form.zero word × FitsAt (function word) waits form.inner form.one word
 
 -- the gates of a form show a function of so many inputs, and wait for some of these
-pub record Fits (function : List Bool → Bool) (inputs : ℕ) (waits : ℕ → Bool) (form : Form) : Type 0 where
+pub record Fits (function : List Bool → Bool) (inputs : ℕ) (waits : List Bool → ℕ → Bool) (form : Form) : Type 0 where
   pub is : IsForm inputs form
   pub at : (word : List Bool) → length word ≡ inputs → FitsWord function waits form word
 

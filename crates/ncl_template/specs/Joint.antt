@@ -43,7 +43,7 @@ pub record AreJoined (zero one gate : FormGate) : Type 0 where
   pub one_fits : IsFormGate 3 false one
   pub gate_fits : IsFormGate 4 false gate
 
--- at a word of the first inputs a gate is not set where one of these is NULL that is waited for
+-- at a word of the first inputs a gate is not set where one of these is NULL that is waited for at any word
 abbrev pub WaitsJointly : FormGate → FormGate → (ℕ → Bool) → FormGate → List Bool → Type 0
 WaitsJointly zero one waits gate word = (null : ℕ) → null < length word → waits null ≡ true → joint_bit zero one word null gate ≡ false
 

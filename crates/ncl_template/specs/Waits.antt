@@ -1,27 +1,33 @@
--- What a node waits for among what it reads.
-use Rattle.std.specs.Prelude.{ℕ, zero, suc, List, [], ◌∷◌, Bool, true, false, if◌then◌else◌}
+-- What a node waits for among what it reads, word by word.
+use Rattle.std.specs.Prelude.{ℕ, zero, suc, ◌+◌, List, Bool, false, not, nat_eq, if◌then◌else◌}
+use Rattle.std.specs.List.{slice_index_or}
+use Rattle.ncl_gates.specs.Bits.{is_set}
 use Rattle.ncl_template.specs.declared.waits.Waits.{Waits}
 
--- whether the input at a place is waited for
-abbrev pub waits_at : Waits → ℕ → Bool
-waits_at w zero = w.first
-waits_at w (suc zero) = w.second
-waits_at w (suc (suc zero)) = w.third
-waits_at w (suc (suc (suc n))) = w.fourth
+-- the words at which the input at a place is waited for, as the bits of a number
+abbrev pub mask_of : Waits → ℕ → ℕ
+mask_of w zero = w.first
+mask_of w (suc zero) = w.second
+mask_of w (suc (suc zero)) = w.third
+mask_of w (suc (suc (suc n))) = w.fourth
 
--- what stands at the places that pass a test
-abbrev pub picked : {X : Type 0} → (ℕ → Bool) → List X → List X
-picked test [] = []
-picked test (x ∷ xs) = if test 0 then x ∷ picked (λ k. test (suc k)) xs else picked (λ k. test (suc k)) xs
+-- the number of a word of at most four bits: bit k of it is the bit at place k
+abbrev pub word_number : List Bool → ℕ
+word_number word =
+    (if slice_index_or word 0 false then 1 else 0) + (if slice_index_or word 1 false then 2 else 0) + (if slice_index_or word 2 false then 4 else 0) + (if slice_index_or word 3 false then 8 else 0)
 
--- what belongs to the inputs that are waited for
-abbrev pub waited : {X : Type 0} → Waits → List X → List X
-waited w xs = picked (waits_at w) xs
+-- whether the input at a place is waited for at a word
+abbrev pub waits_at : Waits → List Bool → ℕ → Bool
+waits_at w word place = is_set (mask_of w place) (word_number word)
+
+-- and whether it is at any
+abbrev pub waits_once : Waits → ℕ → Bool
+waits_once w place = not (nat_eq (mask_of w place) 0)
 
 -- to wait for none
 abbrev pub no_inputs : Waits
-no_inputs = record { first = false; second = false; third = false; fourth = false }
+no_inputs = record { first = 0; second = 0; third = 0; fourth = 0 }
 
 -- to wait for all
 abbrev pub all_inputs : Waits
-all_inputs = record { first = true; second = true; third = true; fourth = true }
+all_inputs = record { first = 65535; second = 65535; third = 65535; fourth = 65535 }

@@ -6,7 +6,7 @@ ghost use Rattle.ncl_template.specs.Among.{AddsAmong};
 ghost use Rattle.ncl_template.specs.Forms.{IsInner, IsForm, IsGateOf, AddsInner, AddsForm, pin_net};
 ghost use Rattle.ncl_template.specs.PairGates.{AddsGate};
 ghost use Rattle.ncl_template.specs.Template.{node_function};
-ghost use Rattle.ncl_template.specs.Waits.{waited};
+ghost use Rattle.ncl_template.specs.Waits.{waits_at};
 
 use crate::fitting::fitting;
 use crate::form::{Form, FormGate, FormPin};
@@ -83,8 +83,8 @@ fn add_form(gates: &mut Gates, form: &Form, ins: &[Rails]) -> Result<Rails, Memo
     Ok(Rails { zero, one })
 }
 
-/// Adds the gates of a node that waits for some of its inputs, over the pairs of what it reads, and gives the pair
-/// that shows its bit: the first gates of the table that wait for these inputs, by themselves or, for the first three of
+/// Adds the gates of a node that waits for some of its inputs at some words, over the pairs of what it reads, and gives the pair
+/// that shows its bit: the first gates of the table that wait for these, by themselves or, for the first three of
 /// four, together with the gates of the last; or those of `add_template`, which wait for all. At most 2 gates for two
 /// inputs, 12 for three and 22 for four. Pairs may be equal, or each other's inverse.
 ///
@@ -99,7 +99,7 @@ pub fn add_waiting(
     requires narrow { IsNarrow node.now }
     requires as_many { length ins.now ≡ length node.now.ins }
     requires room { nets_so_far gates.old + 32 < 2 ^ 32 }
-    ensures template { IfOk result (AddsAmong (node_function node.now) ins.now (waited waits ins.now) (cost_of_inputs (length node.now.ins)) gates.old.cells gates.new.cells) }
+    ensures template { IfOk result (AddsAmong (node_function node.now) ins.now (waits_at waits) (cost_of_inputs (length node.now.ins)) gates.old.cells gates.new.cells) }
     ensures first { gates.new.first ≡ gates.old.first }
 {
     if let Some(form) = fitting(node, waits) {

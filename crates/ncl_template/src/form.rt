@@ -24,8 +24,8 @@ pub(crate) struct FormGate {
     pub pins: ArrayVec<FormPin, 4>,
 }
 
-/// The gates of a node: an inner gate, if there is one, and those of its two rails; and for which inputs they are made
-/// to wait.
+/// The gates of a node: an inner gate, if there is one, and those of its two rails; and for which inputs they wait,
+/// word by word.
 #[derive(Clone, Debug, Drop)]
 pub(crate) struct Form {
     pub inner: Option<FormGate>,
@@ -84,10 +84,10 @@ fn is_waiting_for(
 ) -> bool
     requires inner { IsInner (length word.now) inner.now }
     requires gate { IsFormGate (length word.now) (has_inner inner.now) gate.now }
-    ensures { result ≡ true → waits_at waits null ≡ true
+    ensures { result ≡ true → waits_at waits word.now null ≡ true
         → gate_bit word.now null (inner_bit word.now null inner.now) gate.now ≡ false }
 {
-    if !waits.at(null) {
+    if !waits.at(word, null) {
         return true;
     }
     let high = is_inner_set(word, null, inner);
@@ -98,7 +98,7 @@ fn is_waiting_for(
 fn is_waiting(word: &[bool], waits: Waits, inner: &Option<FormGate>, gate: &FormGate) -> bool
     requires inner { IsInner (length word.now) inner.now }
     requires gate { IsFormGate (length word.now) (has_inner inner.now) gate.now }
-    ensures { result ≡ true → (null : ℕ) → null < length word.now → waits_at waits null ≡ true
+    ensures { result ≡ true → (null : ℕ) → null < length word.now → waits_at waits word.now null ≡ true
         → gate_bit word.now null (inner_bit word.now null inner.now) gate.now ≡ false }
 {
     for null in 0..word.len() {

@@ -2,7 +2,7 @@
 ghost use Rattle.std.specs.Prelude.{◌≡◌, ◌<◌, ◌≤◌, ◌∷◌, [], ℕ, Bool, true, false, All, IfSome, length, map};
 ghost use Rattle.ncl_gates.specs.Gate.{arity_of};
 ghost use Rattle.ncl_template.specs.Template.{node_function};
-ghost use Rattle.ncl_template.specs.Waits.{waits_at};
+ghost use Rattle.ncl_template.specs.Waits.{waits_once};
 ghost use Rattle.ncl_template.specs.Forms.{IsFormPin, IsFormGate, no_net, pin_net, IsGateOf};
 ghost use Rattle.ncl_template.specs.Joint.{IsGateAmong, AreJoined, joint_pin, joint_bit, WaitsJointly, FitsJointly};
 
@@ -129,15 +129,15 @@ impl<'a> Beside<'a> {
     /// Whether it waits at a word for an input, if it is to.
     fn waits_for(&self, word: &[bool], null: usize) -> bool
         requires { AreJoined self.now.last.now.zero self.now.last.now.one self.now.gate.now }
-        ensures { result ≡ true → waits_at self.now.waits null ≡ true → joint_bit self.now.last.now.zero self.now.last.now.one word.now null self.now.gate.now ≡ false }
+        ensures { result ≡ true → waits_once self.now.waits null ≡ true → joint_bit self.now.last.now.zero self.now.last.now.one word.now null self.now.gate.now ≡ false }
     {
-        !self.waits.at(null) || !self.is_set(word, null)
+        !self.waits.once(null) || !self.is_set(word, null)
     }
 
     /// Whether it waits at a word for those of the first inputs that it is to wait for.
     fn waits_at(&self, word: &[bool]) -> bool
         requires { AreJoined self.now.last.now.zero self.now.last.now.one self.now.gate.now }
-        ensures { result ≡ true → WaitsJointly self.now.last.now.zero self.now.last.now.one (waits_at self.now.waits) self.now.gate.now word.now }
+        ensures { result ≡ true → WaitsJointly self.now.last.now.zero self.now.last.now.one (waits_once self.now.waits) self.now.gate.now word.now }
     {
         for null in 0..word.len() {
             if !self.waits_for(word, null) {
@@ -150,7 +150,7 @@ impl<'a> Beside<'a> {
     /// Whether it does at each word that begins with these bits.
     fn waits_last(&self, a: bool, b: bool) -> bool
         requires { AreJoined self.now.last.now.zero self.now.last.now.one self.now.gate.now }
-        ensures { result ≡ true → (c : Bool) → WaitsJointly self.now.last.now.zero self.now.last.now.one (waits_at self.now.waits) self.now.gate.now (a ∷ b ∷ c ∷ []) }
+        ensures { result ≡ true → (c : Bool) → WaitsJointly self.now.last.now.zero self.now.last.now.one (waits_once self.now.waits) self.now.gate.now (a ∷ b ∷ c ∷ []) }
     {
         self.waits_at(&[a, b, false]) && self.waits_at(&[a, b, true])
     }
@@ -158,7 +158,7 @@ impl<'a> Beside<'a> {
     /// Whether it does at each word that begins with this bit.
     fn waits_middle(&self, a: bool) -> bool
         requires { AreJoined self.now.last.now.zero self.now.last.now.one self.now.gate.now }
-        ensures { result ≡ true → (b c : Bool) → WaitsJointly self.now.last.now.zero self.now.last.now.one (waits_at self.now.waits) self.now.gate.now (a ∷ b ∷ c ∷ []) }
+        ensures { result ≡ true → (b c : Bool) → WaitsJointly self.now.last.now.zero self.now.last.now.one (waits_once self.now.waits) self.now.gate.now (a ∷ b ∷ c ∷ []) }
     {
         self.waits_last(a, false) && self.waits_last(a, true)
     }
@@ -166,7 +166,7 @@ impl<'a> Beside<'a> {
     /// Whether it does at each word.
     fn waits_always(&self) -> bool
         requires { AreJoined self.now.last.now.zero self.now.last.now.one self.now.gate.now }
-        ensures { result ≡ true → (a b c : Bool) → WaitsJointly self.now.last.now.zero self.now.last.now.one (waits_at self.now.waits) self.now.gate.now (a ∷ b ∷ c ∷ []) }
+        ensures { result ≡ true → (a b c : Bool) → WaitsJointly self.now.last.now.zero self.now.last.now.one (waits_once self.now.waits) self.now.gate.now (a ∷ b ∷ c ∷ []) }
     {
         self.waits_middle(false) && self.waits_middle(true)
     }
@@ -176,8 +176,8 @@ impl<'a> Beside<'a> {
 fn wait_beside(form: &Form, last: &Last, waits: Waits) -> bool
     requires zero { AreJoined last.now.zero last.now.one form.now.zero }
     requires one { AreJoined last.now.zero last.now.one form.now.one }
-    ensures zero { result ≡ true → (a b c : Bool) → WaitsJointly last.now.zero last.now.one (waits_at waits) form.now.zero (a ∷ b ∷ c ∷ []) }
-    ensures one { result ≡ true → (a b c : Bool) → WaitsJointly last.now.zero last.now.one (waits_at waits) form.now.one (a ∷ b ∷ c ∷ []) }
+    ensures zero { result ≡ true → (a b c : Bool) → WaitsJointly last.now.zero last.now.one (waits_once waits) form.now.zero (a ∷ b ∷ c ∷ []) }
+    ensures one { result ≡ true → (a b c : Bool) → WaitsJointly last.now.zero last.now.one (waits_once waits) form.now.one (a ∷ b ∷ c ∷ []) }
 {
     let zero = Beside {
         last,
@@ -201,9 +201,9 @@ pub(crate) fn joint_form(
     ins: &[Rails],
 ) -> Option<Form>
     requires { length ins.now ≡ length node.now.ins }
-    ensures { IfSome result (FitsJointly cells.now (node_function node.now) ins.now (waits_at waits)) }
+    ensures { IfSome result (FitsJointly cells.now (node_function node.now) ins.now (waits_once waits)) }
 {
-    if ins.len() != 4 || waits.fourth {
+    if ins.len() != 4 || waits.once(3) {
         return None;
     }
     let form = fitting(node, Waits::NONE)?;
@@ -223,10 +223,8 @@ pub(crate) fn joint_form(
 
 /// The first three of four inputs.
 const FIRST_THREE: Waits = Waits {
-    first: true,
-    second: true,
-    third: true,
-    fourth: false,
+    fourth: 0,
+    ..Waits::ALL
 };
 
 /// A pin over some signals as one over others, among which its signal's source is.

@@ -11,7 +11,7 @@ pub(crate) struct PatternGate {
     pub pins: &'static [FormPin],
 }
 
-/// Gates for a function: its table, how many transistors they take and for which inputs they wait, an inner gate, if
+/// Gates for a function: its table, how many transistors they take and for which inputs they wait at which words, an inner gate, if
 /// there is one, and those of the two rails. Bit w of the table is the value at the word w, and bit k of w is input k.
 /// The function falls with no input with which it doesn't rise too.
 #[derive(Clone, Copy, Debug)]

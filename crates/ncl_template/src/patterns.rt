@@ -12,7 +12,12 @@ static OF_TWO: [Pattern; 2] = [
     Pattern {
         table: 0x8888,
         transistors: 18,
-        waits: Waits::NONE,
+        waits: Waits {
+            first: 0xCCCC,
+            second: 0xAAAA,
+            third: 0x0000,
+            fourth: 0x0000,
+        },
         inner: None,
         zero: PatternGate {
             kind: Kind::Th12,
@@ -27,10 +32,10 @@ static OF_TWO: [Pattern; 2] = [
         table: 0x8888,
         transistors: 26,
         waits: Waits {
-            first: true,
-            second: false,
-            third: false,
-            fourth: false,
+            first: 0xFFFF,
+            second: 0xAAAA,
+            third: 0x0000,
+            fourth: 0x0000,
         },
         inner: None,
         zero: PatternGate {
@@ -50,7 +55,12 @@ static OF_THREE: [Pattern; 15] = [
     Pattern {
         table: 0x8080,
         transistors: 24,
-        waits: Waits::NONE,
+        waits: Waits {
+            first: 0xC0C0,
+            second: 0xA0A0,
+            third: 0x8888,
+            fourth: 0x0000,
+        },
         inner: None,
         zero: PatternGate {
             kind: Kind::Th13,
@@ -65,10 +75,10 @@ static OF_THREE: [Pattern; 15] = [
         table: 0x8080,
         transistors: 33,
         waits: Waits {
-            first: true,
-            second: false,
-            third: false,
-            fourth: false,
+            first: 0xFFFF,
+            second: 0xA0A0,
+            third: 0x8888,
+            fourth: 0x0000,
         },
         inner: None,
         zero: PatternGate {
@@ -84,10 +94,10 @@ static OF_THREE: [Pattern; 15] = [
         table: 0x8080,
         transistors: 47,
         waits: Waits {
-            first: true,
-            second: true,
-            third: false,
-            fourth: false,
+            first: 0xFFFF,
+            second: 0xFFFF,
+            third: 0x8888,
+            fourth: 0x0000,
         },
         inner: Some(PatternGate {
             kind: Kind::Th34w32,
@@ -105,7 +115,12 @@ static OF_THREE: [Pattern; 15] = [
     Pattern {
         table: 0xF8F8,
         transistors: 28,
-        waits: Waits::NONE,
+        waits: Waits {
+            first: 0x0C0C,
+            second: 0x0A0A,
+            third: 0x7777,
+            fourth: 0x0000,
+        },
         inner: None,
         zero: PatternGate {
             kind: Kind::Th33w2,
@@ -120,10 +135,10 @@ static OF_THREE: [Pattern; 15] = [
         table: 0xF8F8,
         transistors: 32,
         waits: Waits {
-            first: false,
-            second: false,
-            third: true,
-            fourth: false,
+            first: 0x0C0C,
+            second: 0x0A0A,
+            third: 0xFFFF,
+            fourth: 0x0000,
         },
         inner: None,
         zero: PatternGate {
@@ -139,10 +154,10 @@ static OF_THREE: [Pattern; 15] = [
         table: 0xF8F8,
         transistors: 39,
         waits: Waits {
-            first: true,
-            second: false,
-            third: false,
-            fourth: false,
+            first: 0xFFFF,
+            second: 0x0A0A,
+            third: 0x7777,
+            fourth: 0x0000,
         },
         inner: None,
         zero: PatternGate {
@@ -158,10 +173,10 @@ static OF_THREE: [Pattern; 15] = [
         table: 0xF8F8,
         transistors: 51,
         waits: Waits {
-            first: true,
-            second: true,
-            third: false,
-            fourth: false,
+            first: 0xFFFF,
+            second: 0xFFFF,
+            third: 0x7777,
+            fourth: 0x0000,
         },
         inner: Some(PatternGate {
             kind: Kind::ThAnd0,
@@ -180,10 +195,10 @@ static OF_THREE: [Pattern; 15] = [
         table: 0xF8F8,
         transistors: 52,
         waits: Waits {
-            first: true,
-            second: false,
-            third: true,
-            fourth: false,
+            first: 0xFFFF,
+            second: 0x0A0A,
+            third: 0xFFFF,
+            fourth: 0x0000,
         },
         inner: Some(PatternGate {
             kind: Kind::Th33w2,
@@ -201,7 +216,12 @@ static OF_THREE: [Pattern; 15] = [
     Pattern {
         table: 0xE8E8,
         transistors: 36,
-        waits: Waits::NONE,
+        waits: Waits {
+            first: 0x3C3C,
+            second: 0x5A5A,
+            third: 0x6666,
+            fourth: 0x0000,
+        },
         inner: None,
         zero: PatternGate {
             kind: Kind::Th23,
@@ -216,10 +236,10 @@ static OF_THREE: [Pattern; 15] = [
         table: 0xE8E8,
         transistors: 42,
         waits: Waits {
-            first: true,
-            second: false,
-            third: false,
-            fourth: false,
+            first: 0xFFFF,
+            second: 0x5A5A,
+            third: 0x6666,
+            fourth: 0x0000,
         },
         inner: None,
         zero: PatternGate {
@@ -235,10 +255,10 @@ static OF_THREE: [Pattern; 15] = [
         table: 0xE8E8,
         transistors: 58,
         waits: Waits {
-            first: true,
-            second: true,
-            third: false,
-            fourth: false,
+            first: 0xFFFF,
+            second: 0xFFFF,
+            third: 0x6666,
+            fourth: 0x0000,
         },
         inner: Some(PatternGate {
             kind: Kind::Th24comp,
@@ -256,7 +276,12 @@ static OF_THREE: [Pattern; 15] = [
     Pattern {
         table: 0xE4E4,
         transistors: 36,
-        waits: Waits::NONE,
+        waits: Waits {
+            first: 0x3C3C,
+            second: 0x5555,
+            third: 0xAAAA,
+            fourth: 0x0000,
+        },
         inner: None,
         zero: PatternGate {
             kind: Kind::Th24comp,
@@ -271,10 +296,10 @@ static OF_THREE: [Pattern; 15] = [
         table: 0xE4E4,
         transistors: 38,
         waits: Waits {
-            first: true,
-            second: false,
-            third: false,
-            fourth: false,
+            first: 0xFFFF,
+            second: 0x5555,
+            third: 0xAAAA,
+            fourth: 0x0000,
         },
         inner: None,
         zero: PatternGate {
@@ -290,10 +315,10 @@ static OF_THREE: [Pattern; 15] = [
         table: 0xE4E4,
         transistors: 52,
         waits: Waits {
-            first: true,
-            second: true,
-            third: false,
-            fourth: false,
+            first: 0xFFFF,
+            second: 0xFFFF,
+            third: 0xAAAA,
+            fourth: 0x0000,
         },
         inner: Some(PatternGate {
             kind: Kind::Th33w2,
@@ -312,10 +337,10 @@ static OF_THREE: [Pattern; 15] = [
         table: 0xE4E4,
         transistors: 52,
         waits: Waits {
-            first: true,
-            second: false,
-            third: true,
-            fourth: false,
+            first: 0xFFFF,
+            second: 0x5555,
+            third: 0xFFFF,
+            fourth: 0x0000,
         },
         inner: Some(PatternGate {
             kind: Kind::Th33w2,

@@ -11,7 +11,12 @@ pub(crate) static OF_FOUR: [Pattern; 19] = [
     Pattern {
         table: 0x8000,
         transistors: 30,
-        waits: Waits::NONE,
+        waits: Waits {
+            first: 0xC000,
+            second: 0xA000,
+            third: 0x8800,
+            fourth: 0x8080,
+        },
         inner: None,
         zero: PatternGate {
             kind: Kind::Th14,
@@ -26,10 +31,10 @@ pub(crate) static OF_FOUR: [Pattern; 19] = [
         table: 0x8000,
         transistors: 42,
         waits: Waits {
-            first: true,
-            second: false,
-            third: false,
-            fourth: false,
+            first: 0xFFFF,
+            second: 0xA000,
+            third: 0x8800,
+            fourth: 0x8080,
         },
         inner: Some(PatternGate {
             kind: Kind::Th44w3,
@@ -48,10 +53,10 @@ pub(crate) static OF_FOUR: [Pattern; 19] = [
         table: 0x8000,
         transistors: 54,
         waits: Waits {
-            first: true,
-            second: true,
-            third: false,
-            fourth: false,
+            first: 0xFFFF,
+            second: 0xFFFF,
+            third: 0x8800,
+            fourth: 0x8080,
         },
         inner: Some(PatternGate {
             kind: Kind::Th44w3,
@@ -69,7 +74,12 @@ pub(crate) static OF_FOUR: [Pattern; 19] = [
     Pattern {
         table: 0xE000,
         transistors: 34,
-        waits: Waits::NONE,
+        waits: Waits {
+            first: 0x3000,
+            second: 0x5000,
+            third: 0xEE00,
+            fourth: 0xE0E0,
+        },
         inner: None,
         zero: PatternGate {
             kind: Kind::Th24w22,
@@ -84,10 +94,10 @@ pub(crate) static OF_FOUR: [Pattern; 19] = [
         table: 0xE000,
         transistors: 44,
         waits: Waits {
-            first: false,
-            second: false,
-            third: true,
-            fourth: false,
+            first: 0x3000,
+            second: 0x5000,
+            third: 0xFFFF,
+            fourth: 0xE0E0,
         },
         inner: Some(PatternGate {
             kind: Kind::Th54w32,
@@ -106,10 +116,10 @@ pub(crate) static OF_FOUR: [Pattern; 19] = [
         table: 0xE000,
         transistors: 56,
         waits: Waits {
-            first: false,
-            second: false,
-            third: true,
-            fourth: true,
+            first: 0x3000,
+            second: 0x5000,
+            third: 0xFFFF,
+            fourth: 0xFFFF,
         },
         inner: Some(PatternGate {
             kind: Kind::Th54w32,
@@ -127,7 +137,12 @@ pub(crate) static OF_FOUR: [Pattern; 19] = [
     Pattern {
         table: 0xE800,
         transistors: 43,
-        waits: Waits::NONE,
+        waits: Waits {
+            first: 0x3C00,
+            second: 0x5A00,
+            third: 0x6600,
+            fourth: 0xE8E8,
+        },
         inner: None,
         zero: PatternGate {
             kind: Kind::Th24w2,
@@ -142,10 +157,10 @@ pub(crate) static OF_FOUR: [Pattern; 19] = [
         table: 0xE800,
         transistors: 52,
         waits: Waits {
-            first: false,
-            second: false,
-            third: false,
-            fourth: true,
+            first: 0x3C00,
+            second: 0x5A00,
+            third: 0x6600,
+            fourth: 0xFFFF,
         },
         inner: Some(PatternGate {
             kind: Kind::Th44w2,
@@ -163,7 +178,12 @@ pub(crate) static OF_FOUR: [Pattern; 19] = [
     Pattern {
         table: 0xF800,
         transistors: 37,
-        waits: Waits::NONE,
+        waits: Waits {
+            first: 0x0C00,
+            second: 0x0A00,
+            third: 0x7700,
+            fourth: 0xF8F8,
+        },
         inner: None,
         zero: PatternGate {
             kind: Kind::Th34w32,
@@ -178,10 +198,10 @@ pub(crate) static OF_FOUR: [Pattern; 19] = [
         table: 0xF800,
         transistors: 44,
         waits: Waits {
-            first: false,
-            second: false,
-            third: false,
-            fourth: true,
+            first: 0x0C00,
+            second: 0x0A00,
+            third: 0x7700,
+            fourth: 0xFFFF,
         },
         inner: Some(PatternGate {
             kind: Kind::Th54w22,
@@ -199,7 +219,12 @@ pub(crate) static OF_FOUR: [Pattern; 19] = [
     Pattern {
         table: 0xFE00,
         transistors: 34,
-        waits: Waits::NONE,
+        waits: Waits {
+            first: 0x0300,
+            second: 0x0500,
+            third: 0x1100,
+            fourth: 0xFEFE,
+        },
         inner: None,
         zero: PatternGate {
             kind: Kind::Th34w3,
@@ -214,10 +239,10 @@ pub(crate) static OF_FOUR: [Pattern; 19] = [
         table: 0xFE00,
         transistors: 42,
         waits: Waits {
-            first: false,
-            second: false,
-            third: false,
-            fourth: true,
+            first: 0x0300,
+            second: 0x0500,
+            third: 0x1100,
+            fourth: 0xFFFF,
         },
         inner: Some(PatternGate {
             kind: Kind::Th44,
@@ -235,7 +260,12 @@ pub(crate) static OF_FOUR: [Pattern; 19] = [
     Pattern {
         table: 0xE880,
         transistors: 50,
-        waits: Waits::NONE,
+        waits: Waits {
+            first: 0x3CC0,
+            second: 0x5AA0,
+            third: 0x6688,
+            fourth: 0x6868,
+        },
         inner: None,
         zero: PatternGate {
             kind: Kind::Th24,
@@ -249,7 +279,12 @@ pub(crate) static OF_FOUR: [Pattern; 19] = [
     Pattern {
         table: 0xF880,
         transistors: 44,
-        waits: Waits::NONE,
+        waits: Waits {
+            first: 0x0CC0,
+            second: 0x0AA0,
+            third: 0x7788,
+            fourth: 0x7878,
+        },
         inner: None,
         zero: PatternGate {
             kind: Kind::Th34w22,
@@ -263,7 +298,12 @@ pub(crate) static OF_FOUR: [Pattern; 19] = [
     Pattern {
         table: 0xFC80,
         transistors: 41,
-        waits: Waits::NONE,
+        waits: Waits {
+            first: 0x00C0,
+            second: 0x0FA0,
+            third: 0x3388,
+            fourth: 0x7C7C,
+        },
         inner: None,
         zero: PatternGate {
             kind: Kind::Th44w322,
@@ -277,7 +317,12 @@ pub(crate) static OF_FOUR: [Pattern; 19] = [
     Pattern {
         table: 0xFE80,
         transistors: 44,
-        waits: Waits::NONE,
+        waits: Waits {
+            first: 0x03C0,
+            second: 0x05A0,
+            third: 0x1188,
+            fourth: 0x7E7E,
+        },
         inner: None,
         zero: PatternGate {
             kind: Kind::Th34w2,
@@ -291,7 +336,12 @@ pub(crate) static OF_FOUR: [Pattern; 19] = [
     Pattern {
         table: 0xEAC0,
         transistors: 38,
-        waits: Waits::NONE,
+        waits: Waits {
+            first: 0x3F00,
+            second: 0x50F0,
+            third: 0x44CC,
+            fourth: 0x2A2A,
+        },
         inner: None,
         zero: PatternGate {
             kind: Kind::Th24comp,
@@ -305,7 +355,12 @@ pub(crate) static OF_FOUR: [Pattern; 19] = [
     Pattern {
         table: 0xFAC0,
         transistors: 38,
-        waits: Waits::NONE,
+        waits: Waits {
+            first: 0x0F00,
+            second: 0x00F0,
+            third: 0x55CC,
+            fourth: 0x3A3A,
+        },
         inner: None,
         zero: PatternGate {
             kind: Kind::ThAnd0,
@@ -320,10 +375,10 @@ pub(crate) static OF_FOUR: [Pattern; 19] = [
         table: 0xFAC0,
         transistors: 59,
         waits: Waits {
-            first: false,
-            second: false,
-            third: true,
-            fourth: false,
+            first: 0x0F0F,
+            second: 0xF0F0,
+            third: 0xFFFF,
+            fourth: 0x3A3A,
         },
         inner: Some(PatternGate {
             kind: Kind::ThAnd0,

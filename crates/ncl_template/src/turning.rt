@@ -10,6 +10,9 @@ use arrayvec::ArrayVec;
 /// The tables of the four inputs.
 const INPUTS: [u16; 4] = [0xAAAA, 0xCCCC, 0xF0F0, 0xFF00];
 
+/// The bit of each input in the number of a word.
+const BITS: [u32; 4] = [1, 2, 4, 8];
+
 /// A table with its inputs in some order and some of them inverted, and what stands then at each place for 1; or that
 /// of the inverse function, and then rails are exchanged.
 #[derive(Clone, Copy, Debug, Default)]
@@ -107,18 +110,57 @@ impl Turn {
         }
     }
 
+    /// The word of a pattern at a word of the inputs.
+    fn own_word(&self, word: u32) -> u32 {
+        let mut own = 0u32;
+        for (place, pin) in self.ones.iter().enumerate() {
+            let one = match *pin {
+                Zero(input) => word & BITS[input % 4] == 0,
+                One(input) => word & BITS[input % 4] != 0,
+                Inner => false,
+            };
+            if one {
+                own |= BITS[place % 4];
+            }
+        }
+        own
+    }
+
+    /// The words of the inputs where the word of a pattern is one of these.
+    fn mask(&self, own: u16) -> u16 {
+        let mut mask = 0u16;
+        for word in 0..16u32 {
+            if (own >> (self.own_word(word) % 16)) & 1 == 1 {
+                mask |= 1u16 << word;
+            }
+        }
+        mask
+    }
+
     /// For which inputs a pattern waits.
     pub(crate) fn waits(&self, pattern: &Pattern) -> Waits {
         let mut waits = Waits::NONE;
         for (place, pin) in self.ones.iter().enumerate() {
-            if pattern.waits.at(place) {
-                waits = match *pin {
-                    Zero(input) | One(input) => waits.with(input),
-                    Inner => waits,
-                };
+            if let Zero(input) | One(input) = *pin {
+                waits = waits.with(input, self.mask(pattern.waits.mask(place)));
             }
         }
         waits
+    }
+
+    /// Whether a pattern waits at least for these.
+    fn covers(&self, pattern: &Pattern, waits: Waits) -> bool {
+        for (place, pin) in self.ones.iter().enumerate() {
+            let own = pattern.waits.mask(place);
+            let wanted = match *pin {
+                Zero(input) | One(input) => waits.mask(input),
+                Inner => 0,
+            };
+            if wanted != 0 && own != u16::MAX && wanted & !self.mask(own) != 0 {
+                return false;
+            }
+        }
+        true
     }
 
     /// The gates of a pattern over the inputs.
@@ -166,7 +208,7 @@ pub(crate) fn turns_of(inputs: usize, table: u16) -> ArrayVec<Turn, 48> {
 /// The first turn at which a function is that of a pattern, which waits for these inputs.
 pub(crate) fn turn_for<'a>(pattern: &Pattern, turns: &'a [Turn], waits: Waits) -> Option<&'a Turn> {
     for turn in turns {
-        if turn.table == pattern.table && turn.waits(pattern).covers(waits) {
+        if turn.table == pattern.table && turn.covers(pattern, waits) {
             return Some(turn);
         }
     }

@@ -227,7 +227,7 @@ fn a_sum_waits_together_with_its_carry(rt: HostRuntime) -> Result<(), Fail> {
     let sum = node_of(&rt, &["1--0", "-1-0", "--10", "111-"], true)?;
     assert!(rt; waits_with_last(&sum, &carry, Waits::NONE));
     let inputs = Waits {
-        fourth: false,
+        fourth: 0,
         ..Waits::ALL
     };
     let mut ins = pairs(&rt, "012")?;

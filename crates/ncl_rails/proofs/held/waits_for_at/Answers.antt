@@ -1,8 +1,9 @@
 use Rattle.std.proofs.Common.{rules, false, sym, ◌∙◌}
 use Rattle.ncl_network.specs.declared.network.SignalSource.TheVariants.{Input}
-use Rattle.ncl_rails.proofs.CoveringLaws.{HasSource-waited}
+use Rattle.ncl_template.specs.Waits.{waits_at}
+use Rattle.ncl_rails.proofs.Holding.{WaitsFor-at}
 use Rattle.ncl_rails.proofs.held.waits_for_at.Goals as goal
 
 pub returns-then-at : goal.returns-then-at
 returns-then-at c = λ yes.
-    HasSource-waited c.args.waits c.args.ins.now c.args.source c.args.place (record { from = Input 0; inverted = false }) c.requires (sym c.at.ensures ∙ c.if-at.true) (search rules)
+    WaitsFor-at (waits_at c.args.waits c.args.word.now) c.args.ins.now c.args.source c.args.place (record { from = Input 0; inverted = false }) c.requires (search rules) (sym c.at.ensures ∙ c.if-at.true)

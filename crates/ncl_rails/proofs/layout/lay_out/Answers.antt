@@ -22,6 +22,6 @@ returns c =
     record {
       pairs = c.in_ok-pairs.pairs.items;
       first = c.in_ok-pairs.ensures.first ∙ ap (λ g. g.first) c.new-gates.ensures;
-      nodes = subst (λ rs. AreLaidOut rs (waits_of c.args.network.now.nodes c.args.waits.now) c.args.network.now.nodes c.add_nodes.new.gates.cells c.in_ok-pairs.pairs.items) inputs c.in_ok-pairs.ensures.laid_out;
+      nodes = subst (λ rs. AreLaidOut rs (waits_of c.args.waits.now) c.args.network.now.nodes c.add_nodes.new.gates.cells c.in_ok-pairs.pairs.items) inputs c.in_ok-pairs.ensures.laid_out;
       outputs = c.in_ok-outputs.ensures ∙ (λ i. map (signal_pair (inputs_2 i) (c.deref-3.ensures.value i)) (c.items.ensures i));
     }

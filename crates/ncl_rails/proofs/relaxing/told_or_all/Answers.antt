@@ -5,4 +5,4 @@ use Rattle.ncl_rails.proofs.AllRead.{covered_all}
 use Rattle.ncl_rails.proofs.relaxing.told_or_all.Goals as goal
 
 pub returns : goal.returns
-returns c = subst (λ waits. IsCovered c.args.network.now (waits_of c.args.network.now.nodes waits)) (sym c.new-none.ensures.items) (covered_all c.args.network.now c.requires.complete)
+returns c = subst (λ waits. IsCovered c.args.network.now (waits_of waits)) (sym c.new-none.ensures.items) (covered_all c.args.network.now c.requires.complete)

@@ -11,13 +11,13 @@ waits_for-requires-clause-few c =
 pub returns : goal.returns
 returns c =
     let complete = c.in_ok-complete.complete in
-    let laid : IsLaidOut complete (waits_of complete.nodes c.in_ok-waits.waits.items) c.in_ok-layout.layout.gates c.in_ok-layout.layout.outputs.items =
-    subst (λ ws. IsLaidOut complete (waits_of complete.nodes ws) c.in_ok-layout.layout.gates c.in_ok-layout.layout.outputs.items) c.deref.ensures.value c.in_ok-layout.ensures in
+    let laid : IsLaidOut complete (waits_of c.in_ok-waits.waits.items) c.in_ok-layout.layout.gates c.in_ok-layout.layout.outputs.items =
+    subst (λ ws. IsLaidOut complete (waits_of ws) c.in_ok-layout.layout.gates c.in_ok-layout.layout.outputs.items) c.deref.ensures.value c.in_ok-layout.ensures in
     record {
       complete = complete;
       is = c.in_ok-complete.ensures.complete;
       alike = c.in_ok-complete.ensures.same;
-      waits = waits_of complete.nodes c.in_ok-waits.waits.items;
+      waits = waits_of c.in_ok-waits.waits.items;
       covered = c.in_ok-waits.ensures;
       laid = laid;
       few = omega (arith, laid.nodes.few, c.in_ok-complete.ensures.cost);

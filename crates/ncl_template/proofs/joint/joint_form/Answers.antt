@@ -1,4 +1,4 @@
-use Rattle.std.proofs.Common.{◌≡◌, ℕ, Bool, false, List, [], ◌∷◌, Option, Some, None, take, length, refl, sym, subst, ◌∙◌, arith}
+use Rattle.std.proofs.Common.{◌≡◌, ℕ, Bool, false, List, Option, Some, None, take, length, refl, sym, subst, ◌∙◌, arith}
 use Rattle.std.specs.Option.{is_some}
 use Rattle.std.proofs.lemmas.Bool.{both_ways}
 use Rattle.std.proofs.lemmas.List.{length-take-le}
@@ -8,7 +8,7 @@ use Rattle.ncl_template.specs.declared.form.FormGate.{FormGate}
 use Rattle.ncl_template.specs.Forms.{has_inner, IsFormGate, Fits}
 use Rattle.ncl_template.specs.Joint.{WaitsJointly}
 use Rattle.ncl_template.specs.Template.{node_function}
-use Rattle.ncl_template.specs.Waits.{waits_at, no_inputs}
+use Rattle.ncl_template.specs.Waits.{waits_at, waits_once, no_inputs}
 use Rattle.ncl_template.proofs.joint.joint_form.Goals as goal
 
 flat : (inner : Option FormGate) (some : Bool) → some ≡ is_some inner → some ≡ false → has_inner inner ≡ false
@@ -49,10 +49,10 @@ returns-then-wait_beside c =
       fits = subst (λ n. Fits (node_function c.args.node.now) n (waits_at no_inputs) form) (sym c.requires) c.in_ok-form.ensures;
       four = c.if-ins-ne4.false;
       flat = flat form.inner c.is_some.result c.is_some.ensures c.if-is_some.false;
-      not_last = c.if-waits.false;
+      not_last = sym c.once.ensures ∙ c.if-once.false;
       zero = low;
       one = high;
       last = record { of_zero = c.in_ok-zero.ensures; of_one = c.in_ok-one.ensures };
-      of_zero = of_three (WaitsJointly low high (waits_at c.args.waits) form.zero) (c.wait_beside.ensures.zero c.if-wait_beside.true);
-      of_one = of_three (WaitsJointly low high (waits_at c.args.waits) form.one) (c.wait_beside.ensures.one c.if-wait_beside.true);
+      of_zero = of_three (WaitsJointly low high (waits_once c.args.waits) form.zero) (c.wait_beside.ensures.zero c.if-wait_beside.true);
+      of_one = of_three (WaitsJointly low high (waits_once c.args.waits) form.one) (c.wait_beside.ensures.one c.if-wait_beside.true);
     }

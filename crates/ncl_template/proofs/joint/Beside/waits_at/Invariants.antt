@@ -1,7 +1,7 @@
 use Rattle.std.proofs.Common.{◌≡◌, ℕ, ◌<◌, true, false}
-use Rattle.ncl_template.specs.Waits.{waits_at}
+use Rattle.ncl_template.specs.Waits.{waits_once}
 use Rattle.ncl_template.specs.Joint.{joint_bit}
 use Rattle.ncl_template.proofs.joint.Beside.waits_at.Given as goal
 
 abbrev pub invariant-loop-null : goal.invariant-loop-null
-invariant-loop-null l = (j : ℕ) → j < l.null → waits_at l.self.waits j ≡ true → joint_bit l.self.last.now.zero l.self.last.now.one l.word j l.self.gate.now ≡ false
+invariant-loop-null l = (j : ℕ) → j < l.null → waits_once l.self.waits j ≡ true → joint_bit l.self.last.now.zero l.self.last.now.one l.word j l.self.gate.now ≡ false

@@ -1,0 +1,7 @@
+use borrow.Author.Count.{below_more}
+use Rattle.ncl_network.specs.declared.network.SignalSource.TheVariants.{Input}
+use Rattle.ncl_rails.specs.Waiting.{IsHeld, waits_of}
+use Rattle.ncl_rails.proofs.held.inputs_held.Goals as goal
+
+pub loop-i-preserved : goal.loop-i-preserved
+loop-i-preserved c = below_more (λ k. IsHeld c.args.network.now (waits_of c.args.waits.now) (Input k)) c.loop-i.i c.loop-i.invariant (c.is_held.ensures c.if-not-is_held.false)

@@ -1,0 +1,6 @@
+use Rattle.std.proofs.Common.{ℕ, nat_eq, ap}
+use Rattle.std.proofs.lemmas.Nat.Bits.{shr_and_one}
+use Rattle.ncl_rails.proofs.held.is_set.Goals as goal
+
+pub returns : goal.returns
+returns c = ap (λ (b : ℕ). nat_eq b 1) (shr_and_one c.args.number c.args.place)

@@ -1,0 +1,11 @@
+use Rattle.std.proofs.Common.{◌≡◌, Bool, length, map, take}
+use Rattle.ncl_network.specs.declared.network.SignalSource.{SignalSource}
+use Rattle.ncl_cells.specs.Cones.{signal_in}
+use Rattle.ncl_rails.specs.Waiting.{HasBits}
+use Rattle.ncl_rails.proofs.held.word_there.Given as goal
+
+abbrev pub invariant-loop-signal : goal.invariant-loop-signal
+invariant-loop-signal l = record {
+  bits : (value : SignalSource → Bool) → HasBits value l.sources l.number → map (signal_in value) (take l.signal-index l.ins) ≡ l.word.items;
+  count : length l.word.items ≡ l.signal-index;
+}

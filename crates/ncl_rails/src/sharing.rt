@@ -1,0 +1,208 @@
+//! Nodes that hold a source together: each waits for it at some words.
+ghost use Rattle.std.specs.Prelude.{◌≤◌, length};
+
+use crate::held::{MOST_HOLDERS, waits_under};
+use crate::together::{MOST_SOURCES, Together};
+use ncl_base::Memory;
+use ncl_network::{Network, Signal, SignalSource};
+use ncl_template::Waits;
+use std::alloc::Global;
+
+/// What stands where there is no signal.
+const NONE: Signal = Signal {
+    from: SignalSource::Const(false),
+    inverted: false,
+};
+
+/// Nodes hold sources together in networks with at most so many nodes for the inputs: the nodes times the inputs.
+const FEW_NODES: usize = 5_000;
+
+/// Whether nodes of a network may hold sources together. Where they do, more stays high without an input, and a judge needs
+/// more nodes of decision diagrams in large stages, and could pass its usual limit where it didn't.
+fn is_small(network: &Network) -> bool {
+    let inputs = network.inputs as usize;
+    inputs.saturating_mul(network.nodes.items().len()) <= FEW_NODES
+}
+
+/// What a node of at most four inputs reads, and for what it waits.
+#[derive(Clone, Copy, Debug, PartialEq, Eq)]
+struct Sharer {
+    ins: [Signal; 4],
+    count: usize,
+    waits: Waits,
+}
+
+impl Sharer {
+    /// A node that reads these and waits so, if these are at most four.
+    fn of(ins: &[Signal], waits: Waits) -> Option<Sharer> {
+        let mut sharer = Sharer {
+            ins: [NONE; 4],
+            count: ins.len(),
+            waits,
+        };
+        for (place, signal) in ins.iter().enumerate() {
+            *sharer.ins.get_mut(place)? = *signal;
+        }
+        Some(sharer)
+    }
+
+    /// What it reads.
+    fn signals(&self) -> &[Signal] {
+        &self.ins[..self.count.min(4)]
+    }
+}
+
+/// The nodes that wait for a source at some words, at most six.
+#[derive(Clone, Copy, Debug)]
+struct Few {
+    at: [Option<Sharer>; MOST_HOLDERS],
+}
+
+impl Few {
+    /// Whether there is no free place.
+    fn is_full(&self) -> bool {
+        self.at.iter().all(|sharer| sharer.is_some())
+    }
+
+    /// Puts a node in the place of another, if that is there, or in a free place.
+    fn exchange(&mut self, old: Option<Sharer>, new: Option<Sharer>) {
+        for place in self.at.iter_mut() {
+            if *place == old {
+                *place = new;
+                return;
+            }
+        }
+    }
+}
+
+/// For each input and each node of a network some nodes that wait for it at some words.
+#[derive(Drop)]
+pub(crate) struct Sharers {
+    inputs: Vec<Few>,
+    nodes: Vec<Few>,
+}
+
+/// The number of a word of signals, where the bits of their sources are the first of a number.
+fn word_of(ins: &[Signal], number: u32) -> u32 {
+    let mut word = 0u32;
+    for (place, signal) in ins.iter().enumerate() {
+        let bit = [1u32, 2, 4, 8][place % 4];
+        if (number & bit != 0) != signal.inverted {
+            word |= bit;
+        }
+    }
+    word
+}
+
+impl Sharers {
+    /// None, and places for them where nodes may wait for less and the network is small. Linear in the network.
+    pub fn new(alloc: Global, network: &Network, relax: bool) -> Result<Sharers, Memory> {
+        let none = Few {
+            at: [None; MOST_HOLDERS],
+        };
+        let (inputs, nodes) = if relax && is_small(network) {
+            (network.inputs as usize, network.nodes.items().len())
+        } else {
+            (0, 0)
+        };
+        Ok(Sharers {
+            inputs: vec![in alloc; none; inputs]?,
+            nodes: vec![in alloc; none; nodes]?,
+        })
+    }
+
+    /// The nodes for a source.
+    fn of(&self, source: SignalSource) -> Option<&Few> {
+        match source {
+            SignalSource::Input(i) => self.inputs.get(i as usize),
+            SignalSource::Node(k) => self.nodes.get(k as usize),
+            SignalSource::Const(_) => None,
+        }
+    }
+
+    /// The nodes for a source, to be changed.
+    fn at(&mut self, source: SignalSource) -> Option<&mut Few> {
+        match source {
+            SignalSource::Input(i) => self.inputs.get_mut(i as usize),
+            SignalSource::Node(k) => self.nodes.get_mut(k as usize),
+            SignalSource::Const(_) => None,
+        }
+    }
+
+    /// Adds a node for each signal that it waits for at some words.
+    pub fn take(&mut self, ins: &[Signal], waits: Waits) {
+        let sharer = Sharer::of(ins, waits);
+        for (place, signal) in ins.iter().enumerate() {
+            if !waits.once(place) || waits.always(place) {
+                continue;
+            }
+            if let Some(few) = self.at(signal.from) {
+                few.exchange(None, sharer);
+            }
+        }
+    }
+
+    /// Takes such a node away.
+    pub fn give_up(&mut self, ins: &[Signal], waits: Waits) {
+        let sharer = Sharer::of(ins, waits);
+        for (place, signal) in ins.iter().enumerate() {
+            if !waits.once(place) || waits.always(place) {
+                continue;
+            }
+            if let Some(few) = self.at(signal.from) {
+                few.exchange(sharer, None);
+            }
+        }
+    }
+
+    /// The words of some signals, each of another source, at which nothing waits for a source: all, where there is no place
+    /// for one node more.
+    pub fn unheld(&self, ins: &[Signal], source: SignalSource) -> u16 {
+        let Some(few) = self.of(source) else {
+            return u16::MAX;
+        };
+        if few.at.iter().all(|sharer| sharer.is_none()) {
+            return u16::MAX;
+        }
+        let mut together = Together::new();
+        together.add_all(ins);
+        for sharer in few.at.iter() {
+            if let Some(sharer) = sharer {
+                together.add_all(sharer.signals());
+            }
+        }
+        let count = together.count.min(MOST_SOURCES);
+        let words = unheld_by(few, &together.at[..count], ins, source);
+        if words != 0 && few.is_full() {
+            return u16::MAX;
+        }
+        words
+    }
+}
+
+/// Whether one of some nodes waits for a source where the bits of some sources are those of a number.
+fn one_waits(few: &Few, sources: &[SignalSource], number: u32, source: SignalSource) -> bool
+    requires { length sources.now ≤ MOST_SOURCES }
+{
+    for sharer in few.at.iter() {
+        if let Some(sharer) = sharer
+            && waits_under(sources, number, sharer.waits, sharer.signals(), source)
+        {
+            return true;
+        }
+    }
+    false
+}
+
+/// The words of the first of some sources at which none of some nodes waits for a source, whatever the others are.
+fn unheld_by(few: &Few, sources: &[SignalSource], ins: &[Signal], source: SignalSource) -> u16
+    requires { length sources.now ≤ MOST_SOURCES }
+{
+    let mut words = 0u16;
+    for number in 0..1u32 << sources.len() {
+        if !one_waits(few, sources, number, source) {
+            words |= 1u16 << (word_of(ins, number) % 16);
+        }
+    }
+    words
+}

@@ -1,0 +1,34 @@
+//! Sources that some nodes read together.
+
+use ncl_network::{Signal, SignalSource};
+
+/// The most sources that nodes which hold one together may read together.
+pub(crate) const MOST_SOURCES: usize = 10;
+
+/// Some sources, each once.
+#[derive(Clone, Copy, Debug)]
+pub(crate) struct Together {
+    pub at: [SignalSource; MOST_SOURCES],
+    pub count: usize,
+}
+
+impl Together {
+    /// No source.
+    pub fn new() -> Together {
+        Together {
+            at: [SignalSource::Const(false); MOST_SOURCES],
+            count: 0,
+        }
+    }
+
+    /// Adds the sources of some signals that are not there yet, while there is room.
+    pub fn add_all(&mut self, ins: &[Signal]) {
+        for signal in ins {
+            let known = &self.at[..self.count.min(MOST_SOURCES)];
+            if self.count < MOST_SOURCES && !known.iter().any(|from| *from == signal.from) {
+                self.at[self.count] = signal.from;
+                self.count += 1;
+            }
+        }
+    }
+}

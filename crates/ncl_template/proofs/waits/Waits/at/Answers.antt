@@ -1,0 +1,9 @@
+use Rattle.std.proofs.Common.{ℕ, nat_eq, ap, ◌∙◌}
+use Rattle.std.proofs.lemmas.Nat.Bits.{shr_and_one}
+use Rattle.ncl_gates.specs.Bits.{is_set}
+use Rattle.ncl_template.proofs.waits.Waits.at.Goals as goal
+
+pub returns : goal.returns
+returns c =
+    ap (λ (b : ℕ). nat_eq b 1) (shr_and_one c.mask.result c.word_number.result)
+    ∙ (λ i. is_set (c.mask.ensures i) (c.word_number.ensures.is i))

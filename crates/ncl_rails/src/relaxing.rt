@@ -8,7 +8,7 @@ use crate::joiner::Joiner;
 use ncl_base::Memory;
 use ncl_cells::may_relax;
 use ncl_network::{Network, Signal, SignalSource};
-use ncl_template::Waits;
+use ncl_template::{Waits, least_waits};
 use std::alloc::Global;
 
 /// For each input and each node how many outputs are of it, and how many nodes wait for it at every word.
@@ -183,25 +183,29 @@ impl Claims {
         is_unheld(network, waits, claimed, source)
     }
 
-    /// Whether nothing holds one of some signals.
-    fn are_open(&mut self, network: &Network, waits: &[Waits], ins: &[Signal]) -> bool {
-        let mut open = false;
-        for signal in ins {
-            open |= self.is_open(network, waits, signal.from);
+    /// What a node that reads some signals waits for, and always for those that nothing holds.
+    fn wanted(&mut self, network: &Network, waits: &[Waits], ins: &[Signal], own: Waits) -> Waits {
+        let mut wanted = own;
+        for (place, signal) in ins.iter().enumerate() {
+            if self.is_open(network, waits, signal.from) {
+                wanted = wanted.with(place, u16::MAX);
+            }
         }
-        open
+        wanted
     }
 }
 
-/// What each node waits for, where the last that reads what isn't held waits for all. Linear in the network.
+/// What each node waits for, where the last that reads what isn't held waits for it always. Linear in the network.
 fn raised(alloc: Global, network: &Network, waits: Vec<Waits>) -> Result<Vec<Waits>, Memory> {
     let mut waits = waits;
     let mut claims = Claims::of(alloc, network, &waits)?;
     for (by, node) in network.nodes.items().iter().enumerate().rev() {
-        if claims.are_open(network, &waits, node.ins.items())
-            && let Some(own) = waits.get_mut(by)
+        let own = waits_at(&waits, by);
+        let wanted = claims.wanted(network, &waits, node.ins.items(), own);
+        if wanted != own
+            && let Some(raised) = waits.get_mut(by)
         {
-            *own = Waits::ALL;
+            *raised = least_waits(node, wanted);
         }
     }
     Ok(waits)

@@ -7,3 +7,5 @@ pub mod EvaluatingLaws
 pub mod PushLaws
 pub mod QuestionLaws
 pub mod StageTurn
+pub mod ToStop
+pub mod BreakingLaws

@@ -28,13 +28,14 @@ use Rattle.ncl_verdict.specs.Judgement.{verdict_of, variants, after_base, cell_n
 use Rattle.ncl_verdict.proofs.FileOrder.{Member-file_order, after_base-within}
 use Rattle.ncl_verdict.proofs.Firsts.{find-none}
 use Rattle.ncl_verdict.proofs.Places.{Member-below, slice_get-cases}
-use Rattle.ncl_hazard.specs.Trying.{HasNoDataBank}
 use Rattle.ncl_hazard.specs.Why.{brings}
 use Rattle.ncl_hazard.proofs.OrphanPlaces.{found-some, first-among}
 use Rattle.ncl_refusal.specs.Reached.{IsSoundWhereReached}
 use Rattle.ncl_refusal.specs.Told.{Tells, both_rails, no_rail, incomplete, orphan}
-use Rattle.ncl_refusal.proofs.Converse.{insensitive-reached, refused-breaks}
-use Rattle.ncl_reaching.specs.Answers.{IsShown, GoesWrongAsTold}
+use Rattle.ncl_refusal.proofs.Converse.{insensitive-reached}
+use Rattle.ncl_refusal.specs.Breaks.{BreaksBy}
+use Rattle.ncl_reaching.specs.declared.breaking.WrongRun.{WrongRun}
+use Rattle.ncl_reaching.specs.Answers.{IsShown, IsRunTold, GoesWrongBy}
 use Rattle.ncl_reaching.specs.Asking.{IsFaultOf}
 use Rattle.ncl_reaching.specs.Reaching.{AreSoundWhereReached, Inputs, Shown, brings_fault, first_at, first_reached, first_shown, least_bringing, shown_by}
 
@@ -184,10 +185,10 @@ number-is p shape k s at =
 
 module _ (p : PipelineData) (shape : Shape p.netlist p) (k : ℕ) (s : StageData) (at : slice_get p.stages k ≡ Some s) (sound : AreSoundWhereReached p k)
     (fault : StageFault) (input : List Bool) (first : first_reached p k s ≡ Some (fault, input)) (verdict : Verdict) (is : verdict ≡ verdict_of s fault (brings p.stages k input)) where
-  numbered : s.number ≡ k + 1
+  pub numbered : s.number ≡ k + 1
   numbered = number-is p shape k s at
 
-  back : s.number - 1 ≡ k
+  pub back : s.number - 1 ≡ k
   back = let e = numbered in omega (arith, e)
 
   pub is-shown : IsShown p input verdict
@@ -210,6 +211,26 @@ module _ (p : PipelineData) (shape : Shape p.netlist p) (k : ℕ) (s : StageData
         sound = subst (AreSoundWhereReached p) (sym back) sound;
       }
 
+  -- the run of the fault goes wrong as the verdict says
+  pub run-as_told : (run : Option WrongRun) → IsRunTold p (s.number - 1) input fault run → GoesWrongBy p input verdict run
+  run-as_told None some = some
+  run-as_told (Some run) (null, breaks) =
+      let here : slice_get p.stages (s.number - 1) ≡ Some s = ap (slice_get p.stages) back ∙ at in
+      let there = breaks.at in
+      let one : breaks.stage ≡ s = cc in (
+        null,
+        record {
+          number = s.number;
+          word = brings p.stages k input;
+          tells = subst (Tells s.number (brings p.stages k input)) (sym is) (tells-of s fault (brings p.stages k input));
+          stage = s;
+          at = here;
+          fault = fault;
+          is = sym is;
+          breaks = subst (λ (t : StageData). BreaksBy p input t run.steps fault run.lost) one breaks.breaks;
+        },
+      )
+
 -- what it means that one is shown
 module _ (p : PipelineData) (shape : Shape p.netlist p) (input : List Bool) (verdict : Verdict) (is : IsShown p input verdict) where
   shown-there : shows is.stage (brings p.stages (is.number - 1) input) is.fault ≡ true
@@ -217,17 +238,3 @@ module _ (p : PipelineData) (shape : Shape p.netlist p) (input : List Bool) (ver
 
   pub shown-sensitive : IsDelayInsensitive p → ⊥
   shown-sensitive good = both_ways _ (insensitive-reached p shape good input is.wide (is.number - 1) is.stage is.at is.fault) shown-there
-
-  pub shown-wrong : HasNoDataBank p → GoesWrongAsTold p input verdict
-  shown-wrong null = record {
-    number = is.number;
-    word = is.word;
-    tells = is.tells;
-    breaks = record {
-      stage = is.stage;
-      at = is.at;
-      fault = is.fault;
-      is = is.is;
-      breaks = refused-breaks p shape null input is.wide (is.number - 1) is.stage is.at (λ i t lt at_t. is.sound input is.wide i t lt at_t) is.fault shown-there;
-    };
-  }

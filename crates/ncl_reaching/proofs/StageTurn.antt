@@ -1,5 +1,5 @@
 -- One stage more of a pipeline is asked.
-use Rattle.std.proofs.Common.{◌≡◌, ℕ, suc, ◌+◌, ◌<◌, Bool, List, length, Option, Some, None, sym, ap, ◌∙◌, subst, arith}
+use Rattle.std.proofs.Common.{◌≡◌, ℕ, suc, ◌+◌, ◌-◌, ◌<◌, ◌≤◌, Bool, List, length, Option, Some, None, sym, ap, ◌∙◌, subst, arith}
 use Rattle.std.specs.Prelude.{All, slice_get}
 use Rattle.std.proofs.lemmas.Option.{slice_get_within}
 use Rattle.ncl_shape.specs.declared.rails.Rails.{Rails}
@@ -8,19 +8,23 @@ use Rattle.ncl_shape.specs.Pipeline.{PipelineData}
 use Rattle.ncl_shape.specs.Shape.{Shape}
 use Rattle.ncl_cell_roles.proofs.LaidOut.{laid_out}
 use Rattle.ncl_faults.specs.declared.variant.Variant.{Variant}
-use Rattle.ncl_faults.specs.Faults.{StageFault, IsSound}
+use Rattle.ncl_faults.specs.Faults.{StageFault, IsSound, shows}
+use Rattle.ncl_verdict.specs.declared.verdict.Verdict.{Verdict}
 use Rattle.ncl_verdict.specs.Judgement.{verdict_of}
+use Rattle.ncl_hazard.specs.Trying.{HasNoDataBank}
 use Rattle.ncl_hazard.specs.Search.{ascending, question_count}
 use Rattle.ncl_hazard.specs.Why.{brings}
 use Rattle.ncl_hazard.proofs.Found.{word-brought}
 use Rattle.ncl_hazard.proofs.Handing.{wide-at}
-use Rattle.ncl_reaching.specs.Answers.{IsPastLimit, IsShown}
+use Rattle.ncl_reaching.specs.declared.reaching.Reached.{Reached}
+use Rattle.ncl_reaching.specs.Answers.{Answers, IsFaultShown, IsPastLimit, IsShown, Means}
 use Rattle.ncl_reaching.specs.Asking.{EndsWith, inputs_of_chain, IsFaultOf}
+use Rattle.ncl_reaching.specs.Breaking.{BringsFault}
 use Rattle.ncl_reaching.specs.Chain.{CanFollow, chain, followed, followed_by}
 use Rattle.ncl_reaching.specs.Evaluating.{word_on}
 use Rattle.ncl_reaching.specs.Reaching.{AreSoundWhereReached, Shown, first_reached, first_shown}
 use Rattle.ncl_reaching.proofs.ChainLaws.{can-follow-here, ends-with, inputs-are, nets-within, whole-inputs, word-here}
-use Rattle.ncl_reaching.proofs.ReachingLaws.{brought-from_some, first-same, is-shown, number-is, sound-from_none, sound-more}
+use Rattle.ncl_reaching.proofs.ReachingLaws.{brought-from_some, first-same, is-shown, number-is, run-as_told, shown-sensitive, sound-from_none, sound-more}
 
 module _ (p : PipelineData) (shape : Shape p.netlist p) (k : ℕ) (s : StageData) (at : slice_get p.stages k ≡ Some s) (sound : AreSoundWhereReached p k) where
   -- a stage that is sound at all words is sound where reached
@@ -78,3 +82,40 @@ module _ (p : PipelineData) (shape : Shape p.netlist p) (k : ℕ) (s : StageData
       shown-here =
           is-shown p shape k s at sound fault input first (verdict_of s fault (word_on c input s.inputs))
           (ap (verdict_of s fault) (ap (λ x. word_on x input s.inputs) whole-is ∙ word-here p shape k s at sound input (brought-from_some p k s fault input first).wide))
+
+      wide : length input ≡ length p.inputs
+      wide = (brought-from_some p k s fault input first).wide
+
+      back : s.number - 1 ≡ k
+      back = let e = number-is p shape k s at in omega (arith, e)
+
+      pub counted-here : 1 ≤ s.number
+      counted-here = let e = number-is p shape k s at in omega (arith, e)
+
+      word-is : word_on c input s.inputs ≡ brings p.stages k input
+      word-is = ap (λ x. word_on x input s.inputs) whole-is ∙ word-here p shape k s at sound input wide
+
+      pub word-told : word_on c input s.inputs ≡ brings p.stages (s.number - 1) input
+      word-told = word-is ∙ ap (λ i. brings p.stages i input) (sym back)
+
+      pub fault-brought : HasNoDataBank p → BringsFault p (s.number - 1) input fault
+      fault-brought null = record {
+        null = null;
+        wide = wide;
+        stage = s;
+        at = ap (slice_get p.stages) back ∙ at;
+        sound = λ i t lt at_t. sound input wide i t (subst (λ n. i < n) back lt) at_t;
+        shown = ap (λ i. shows s (brings p.stages i input) fault) back ∙ (brought-from_some p k s fault input first).shown;
+      }
+
+      -- what is answered, and what it means
+      abbrev verdict : Verdict
+      verdict = verdict_of s fault (word_on c input s.inputs)
+
+      pub answer-here : (limit : ℕ) (answer : Reached) → IsFaultShown p (s.number - 1) fault input verdict answer → Answers p limit answer
+      answer-here limit answer told = subst (Answers p limit) (sym told.is) shown-here
+
+      pub means-here : (answer : Reached) → IsFaultShown p (s.number - 1) fault input verdict answer → Means p answer
+      means-here answer told =
+          subst (Means p) (sym told.is)
+          (shown-sensitive p shape input verdict shown-here, run-as_told p shape k s at sound fault input first verdict (ap (verdict_of s fault) word-is) told.run told.told)

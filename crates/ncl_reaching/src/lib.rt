@@ -10,7 +10,8 @@
 //! of the pipeline (`asking`): the outputs of the chain are its own, its gates stand in the chain, and a bit of it isn't
 //! waited for at an input exactly where the follower of one of that bit's rails is an orphan of the chain, so `valid_rails`
 //! and `orphan` answer all four questions from one set of functions. `lesser` takes the lesser of two words, `evaluating`
-//! the word that an input brings, and `telling` makes the verdict.
+//! the word that an input brings, and `telling` makes the verdict. Where no bank is reset to DATA `breaking` makes the run that
+//! goes wrong, by trying items in turn, and `stopping` goes on with one until nothing can move.
 //!
 //! ```
 //! use ncl_reaching::{Reached, reach};
@@ -24,11 +25,14 @@
 #![tactic(auto)]
 
 mod asking;
+mod breaking;
 mod chain;
 mod evaluating;
 mod fault;
 mod lesser;
 mod reaching;
+mod stopping;
 mod telling;
 
+pub use breaking::WrongRun;
 pub use reaching::{Reached, reach};

@@ -1,16 +1,20 @@
 //! Whether an input brings a word that shows a fault.
-ghost use Rattle.std.specs.Prelude.{◌≡◌, ◌<◌, ◌≤◌, All, IfOk, length, true};
+ghost use Rattle.std.specs.Prelude.{◌≡◌, ◌<◌, ◌≤◌, ◌-◌, All, IfOk, length, true};
 ghost use Rattle.ncl_shape.specs.Stage.{nets_of};
 ghost use Rattle.ncl_faults.specs.Faults.{IsSound};
 ghost use Rattle.ncl_verdict.specs.Judgement.{verdict_of};
-ghost use Rattle.ncl_reaching.specs.Answers.{Answers, Means};
+ghost use Rattle.ncl_hazard.specs.Trying.{HasNoDataBank};
+ghost use Rattle.ncl_hazard.specs.Why.{brings};
+ghost use Rattle.ncl_reaching.specs.Answers.{Answers, IsFaultShown, IsRunTold, Means};
 ghost use Rattle.ncl_reaching.specs.Asking.{IsFaultOf, fault_of};
+ghost use Rattle.ncl_reaching.specs.Breaking.{BringsFault};
 ghost use Rattle.ncl_reaching.specs.Evaluating.{word_on};
 
 use crate::asking::ask;
+use crate::breaking::{WrongRun, breaking_run};
 use crate::chain::{follow, source};
 use crate::evaluating::word_on;
-use crate::fault::Found;
+use crate::fault::{Fault, Found};
 use crate::telling::verdict_of;
 use ncl_base::{Memory, Word};
 use ncl_shape::{Pipeline, Stage};
@@ -24,10 +28,16 @@ pub enum Reached {
     /// No input does, to any stage.
     Never,
     /// The least input, as a binary number, that brings to a stage a word which shows its first fault; the verdict tells the stage,
-    /// the fault and the word.
-    Shown { input: Word, verdict: Verdict },
+    /// the fault and the word. The run, over this input alone, goes wrong; it is told where no bank is reset to DATA.
+    Shown {
+        input: Word,
+        verdict: Verdict,
+        run: Option<WrongRun>,
+    },
     /// The functions of a question about the stage have more nodes than the limit.
-    Limit { stage: u32 },
+    Limit {
+        stage: u32,
+    },
 }
 
 /// Whether an input of a pipeline brings to some stage a word at which the stage shows a fault: of the first stage of which one
@@ -36,7 +46,8 @@ pub enum Reached {
 /// A stage that is accepted by itself is asked nothing more, so a pipeline that `judge` accepts costs what that costs, and a copy
 /// of its gates. Any other is asked over the inputs of the pipeline, by diagrams with at most `limit` nodes: for each input bit
 /// of the stage twice, and for each gate of it once, it goes over the gates of the stages up to this one that the change reaches.
-/// An error is want of memory.
+/// The run is found in time linear in nets, cells and pins, but where an output has no rail, in some rounds over all cells. An error is
+/// want of memory.
 pub fn reach(alloc: Global, pipeline: &Pipeline, limit: u32) -> Result<Reached, Memory>
     requires { 1 ≤ limit }
     ensures answers { IfOk result (Answers pipeline.now limit) }
@@ -85,14 +96,40 @@ fn shown(
     requires fault { IsFaultOf stage.now (fault_of found.fault) }
     requires wide { length found.input ≡ length chain.now.inputs }
     requires within { All (λ net. net < length pipeline.now.netlist.nets) (nets_of chain.now.inputs chain.now.cells) }
-    ensures { IfOk result (λ answer. answer ≡ Reached.Shown found.input (verdict_of stage.now (fault_of found.fault) (word_on chain.now found.input stage.now.inputs))) }
+    requires number { 1 ≤ stage.now.number }
+    requires word { word_on chain.now found.input stage.now.inputs ≡ brings pipeline.now.stages (stage.now.number - 1) found.input }
+    requires brought { HasNoDataBank pipeline.now → BringsFault pipeline.now (stage.now.number - 1) found.input (fault_of found.fault) }
+    ensures { IfOk result (IsFaultShown pipeline.now (stage.now.number - 1) (fault_of found.fault) found.input (verdict_of stage.now (fault_of found.fault) (word_on chain.now found.input stage.now.inputs))) }
 {
     stage.facts();
     let nets = pipeline.netlist().nets().len();
     let word = word_on(alloc, chain, nets, &found.input, stage.inputs.items())?;
+    let before = stage.number as usize - 1;
+    let run = run_told(alloc, pipeline, before, found.fault, &found.input, &word)?;
     let verdict = verdict_of(stage, found.fault, word);
     Ok(Reached::Shown {
         input: found.input,
         verdict,
+        run,
     })
+}
+
+/// The run that is told of a fault that an input brings to the stage after so many others, where no bank is reset to DATA.
+fn run_told(
+    alloc: Global,
+    pipeline: &Pipeline,
+    before: usize,
+    fault: Fault,
+    input: &Word,
+    word: &Word,
+) -> Result<Option<WrongRun>, Memory>
+    requires brought { HasNoDataBank pipeline.now → BringsFault pipeline.now before input.now (fault_of fault) }
+    requires word { word.now ≡ brings pipeline.now.stages before input.now }
+    ensures { IfOk result (IsRunTold pipeline.now before input.now (fault_of fault)) }
+{
+    if pipeline.data_banks() != 0 {
+        return Ok(None);
+    }
+    let run = breaking_run(alloc, pipeline, before, fault, input, word)?;
+    Ok(Some(run))
 }

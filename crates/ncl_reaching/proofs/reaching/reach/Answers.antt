@@ -12,8 +12,8 @@ use Rattle.ncl_reaching.specs.Answers.{Answers, IsPastLimit, IsShown, Means}
 use Rattle.ncl_reaching.specs.Asking.{fault_of, shown_of}
 use Rattle.ncl_reaching.specs.Evaluating.{word_on}
 use Rattle.ncl_reaching.specs.Reaching.{first_reached}
-use Rattle.ncl_reaching.proofs.ReachingLaws.{all-sound, shown-sensitive, shown-wrong}
-use Rattle.ncl_reaching.proofs.StageTurn.{can-go_on, ends-here, fault-here, first-found, next-is, past-limit, shown-here, sound-accepted, sound-asked, wide-here, within-here}
+use Rattle.ncl_reaching.proofs.ReachingLaws.{all-sound}
+use Rattle.ncl_reaching.proofs.StageTurn.{answer-here, can-go_on, counted-here, ends-here, fault-brought, fault-here, first-found, means-here, next-is, past-limit, sound-accepted, sound-asked, wide-here, within-here, word-told}
 use Rattle.ncl_reaching.proofs.reaching.reach.Goals as goal
 
 -- the stage of the turn stands at its place
@@ -77,6 +77,39 @@ shown-requires-clause-within c =
     let at = stands p c.stages-stage-items.result.now c.loop-stage.stage-index c.stage-item.result c.stages-stage-items.ensures.stages c.stage-item.is c.loop-stage-test.true in
     within-here p c.facts.ensures c.loop-stage.stage-index c.stage-item.result at c.loop-stage.invariant.sound c.loop-stage.chain c.in_ok-chain-2.chain c.loop-stage.invariant.chained c.in_ok-chain-2.ensures
 
+pub shown-requires-clause-number : goal.shown-requires-clause-number
+shown-requires-clause-number c =
+    let p : PipelineData = c.args.pipeline.now in
+    let k = c.loop-stage.stage-index in
+    let s : StageData = c.stage-item.result in
+    let at = stands p c.stages-stage-items.result.now k s c.stages-stage-items.ensures.stages c.stage-item.is c.loop-stage-test.true in
+    let first : first_reached p k s ≡ Some (shown_of c.in-Some.found) =
+    sym (first-found p c.facts.ensures k s at c.loop-stage.invariant.sound c.loop-stage.chain c.in_ok-chain-2.chain c.loop-stage.invariant.chained c.in_ok-chain-2.ensures (option_map shown_of c.in-Ok.found) c.in-Ok.ensures.found)
+    ∙ ap (option_map shown_of) c.in-Some.is in
+    counted-here p c.facts.ensures k s at c.loop-stage.invariant.sound c.loop-stage.chain c.in_ok-chain-2.chain c.loop-stage.invariant.chained c.in_ok-chain-2.ensures (fault_of c.in-Some.found.fault) c.in-Some.found.input first
+
+pub shown-requires-clause-word : goal.shown-requires-clause-word
+shown-requires-clause-word c =
+    let p : PipelineData = c.args.pipeline.now in
+    let k = c.loop-stage.stage-index in
+    let s : StageData = c.stage-item.result in
+    let at = stands p c.stages-stage-items.result.now k s c.stages-stage-items.ensures.stages c.stage-item.is c.loop-stage-test.true in
+    let first : first_reached p k s ≡ Some (shown_of c.in-Some.found) =
+    sym (first-found p c.facts.ensures k s at c.loop-stage.invariant.sound c.loop-stage.chain c.in_ok-chain-2.chain c.loop-stage.invariant.chained c.in_ok-chain-2.ensures (option_map shown_of c.in-Ok.found) c.in-Ok.ensures.found)
+    ∙ ap (option_map shown_of) c.in-Some.is in
+    word-told p c.facts.ensures k s at c.loop-stage.invariant.sound c.loop-stage.chain c.in_ok-chain-2.chain c.loop-stage.invariant.chained c.in_ok-chain-2.ensures (fault_of c.in-Some.found.fault) c.in-Some.found.input first
+
+pub shown-requires-clause-brought : goal.shown-requires-clause-brought
+shown-requires-clause-brought c =
+    let p : PipelineData = c.args.pipeline.now in
+    let k = c.loop-stage.stage-index in
+    let s : StageData = c.stage-item.result in
+    let at = stands p c.stages-stage-items.result.now k s c.stages-stage-items.ensures.stages c.stage-item.is c.loop-stage-test.true in
+    let first : first_reached p k s ≡ Some (shown_of c.in-Some.found) =
+    sym (first-found p c.facts.ensures k s at c.loop-stage.invariant.sound c.loop-stage.chain c.in_ok-chain-2.chain c.loop-stage.invariant.chained c.in_ok-chain-2.ensures (option_map shown_of c.in-Ok.found) c.in-Ok.ensures.found)
+    ∙ ap (option_map shown_of) c.in-Some.is in
+    fault-brought p c.facts.ensures k s at c.loop-stage.invariant.sound c.loop-stage.chain c.in_ok-chain-2.chain c.loop-stage.invariant.chained c.in_ok-chain-2.ensures (fault_of c.in-Some.found.fault) c.in-Some.found.input first
+
 pub returns-in-Some-clause-answers : goal.returns-in-Some-clause-answers
 returns-in-Some-clause-answers c =
     let p : PipelineData = c.args.pipeline.now in
@@ -86,11 +119,7 @@ returns-in-Some-clause-answers c =
     let first : first_reached p k s ≡ Some (shown_of c.in-Some.found) =
     sym (first-found p c.facts.ensures k s at c.loop-stage.invariant.sound c.loop-stage.chain c.in_ok-chain-2.chain c.loop-stage.invariant.chained c.in_ok-chain-2.ensures (option_map shown_of c.in-Ok.found) c.in-Ok.ensures.found)
     ∙ ap (option_map shown_of) c.in-Some.is in
-    IfOk-weaker c.shown.result _ (Answers p c.args.limit)
-    (λ answer is.
-    subst (Answers p c.args.limit) (sym is)
-    (shown-here p c.facts.ensures k s at c.loop-stage.invariant.sound c.loop-stage.chain c.in_ok-chain-2.chain c.loop-stage.invariant.chained c.in_ok-chain-2.ensures (fault_of c.in-Some.found.fault) c.in-Some.found.input first))
-    c.shown.ensures
+    IfOk-weaker c.shown.result _ (Answers p c.args.limit) (answer-here p c.facts.ensures k s at c.loop-stage.invariant.sound c.loop-stage.chain c.in_ok-chain-2.chain c.loop-stage.invariant.chained c.in_ok-chain-2.ensures (fault_of c.in-Some.found.fault) c.in-Some.found.input first c.args.limit) c.shown.ensures
 
 pub returns-in-Some-clause-means : goal.returns-in-Some-clause-means
 returns-in-Some-clause-means c =
@@ -101,12 +130,7 @@ returns-in-Some-clause-means c =
     let first : first_reached p k s ≡ Some (shown_of c.in-Some.found) =
     sym (first-found p c.facts.ensures k s at c.loop-stage.invariant.sound c.loop-stage.chain c.in_ok-chain-2.chain c.loop-stage.invariant.chained c.in_ok-chain-2.ensures (option_map shown_of c.in-Ok.found) c.in-Ok.ensures.found)
     ∙ ap (option_map shown_of) c.in-Some.is in
-    let verdict : Verdict = verdict_of s (fault_of c.in-Some.found.fault) (word_on c.in_ok-chain-2.chain c.in-Some.found.input s.inputs) in
-    let told : IsShown p c.in-Some.found.input verdict =
-    shown-here p c.facts.ensures k s at c.loop-stage.invariant.sound c.loop-stage.chain c.in_ok-chain-2.chain c.loop-stage.invariant.chained c.in_ok-chain-2.ensures (fault_of c.in-Some.found.fault) c.in-Some.found.input first in
-    IfOk-weaker c.shown.result _ (Means p)
-    (λ answer is. subst (Means p) (sym is) (shown-sensitive p c.facts.ensures c.in-Some.found.input verdict told, shown-wrong p c.facts.ensures c.in-Some.found.input verdict told))
-    c.shown.ensures
+    IfOk-weaker c.shown.result _ (Means p) (means-here p c.facts.ensures k s at c.loop-stage.invariant.sound c.loop-stage.chain c.in_ok-chain-2.chain c.loop-stage.invariant.chained c.in_ok-chain-2.ensures (fault_of c.in-Some.found.fault) c.in-Some.found.input first) c.shown.ensures
 
 pub loop-stage-preserved : goal.loop-stage-preserved
 loop-stage-preserved c =

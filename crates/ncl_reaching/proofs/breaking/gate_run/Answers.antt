@@ -1,0 +1,55 @@
+use Rattle.std.proofs.Common.{◌≡◌, ◌≢◌, ◌+◌, [], ◌∷◌, ◌++◌, Some, get_or, sym, ap, ◌∙◌, subst, rules}
+use Rattle.std.specs.Prelude.{All, slice_get}
+use Rattle.ncl_base.proofs.Places.{place_read}
+use Rattle.ncl_netlist.specs.declared.ids.CellId.{CellId}
+use Rattle.ncl_shape.specs.declared.item.Item.{Item}
+use Rattle.ncl_shape.specs.declared.item.Item.TheVariants.{Cell as Fire}
+use Rattle.ncl_shape.specs.Stage.{StageData}
+use Rattle.ncl_faults.specs.Faults.{Orphan}
+use Rattle.ncl_machine.specs.Held.{InRange, meaning}
+use Rattle.ncl_machine.specs.State.{State, reset}
+use Rattle.ncl_machine.specs.Steps.{enabled}
+use Rattle.ncl_hazard.specs.Schedule.{coming, going}
+use Rattle.ncl_hazard.specs.Trying.{Loses, tried}
+use Rattle.ncl_hazard.proofs.ShownLaws.{order-of}
+use Rattle.ncl_reaching.proofs.BreakingLaws.{Takes, before-within, place-takes}
+use Rattle.ncl_reaching.proofs.breaking.gate_run.Goals as goal
+
+pub losing_run-requires : goal.losing_run-requires
+losing_run-requires c =
+    let p = c.args.pipeline.now in
+    let gates = c.items.result.now in
+    let cell : CellId = (get_or gates c.args.place c.index-items-place.result).cell in
+    let order = c.order.result.now in
+    let ord = order-of c.netlist.result.now p.netlist c.in_ok-origins.origins order c.in_ok-origins.ensures c.netlist.ensures.netlist c.order.ensures in
+    let at : slice_get p.stages c.args.before ≡ Some c.index-stages-before.result =
+    place_read p.stages c.stages.result.now c.args.before c.index-stages-before.result c.stages.ensures.stages c.index-stages-before.is (before-within p c.facts.ensures c.args.before c.args.input.now (Orphan c.args.place) c.requires) in
+    let taken : Takes p c.facts.ensures c.args.before c.args.input.now (Orphan c.args.place) cell (coming p (c.args.before + 1) cell) (going p (c.args.before + 1) cell order) =
+    place-takes p c.facts.ensures c.args.before c.args.input.now order ord c.args.place c.requires c.index-stages-before.result at gates (c.items.ensures ∙ ap (λ (s : StageData). s.cells) c.own.view_is) c.index-items-place.result in
+    let first : c.deref.result.now ≡ coming p (c.args.before + 1) cell = c.deref.ensures.value ∙ c.in_ok-coming.ensures in
+    let then_on : c.deref-2.result.now ≡ going p (c.args.before + 1) cell order = c.deref-2.ensures.value ∙ c.in_ok-going.ensures in
+    let started : meaning c.in_ok-state.state ≡ reset p (c.args.input.now ∷ []) = c.in_ok-state.ensures.reset in
+    record {
+      made = search rules;
+      cell = taken.within;
+      coming = subst (All (InRange p)) (sym first) taken.coming;
+      going = subst (All (InRange p)) (sym then_on) taken.going;
+      others = subst (All (λ (item : Item). item ≢ Fire cell)) (sym then_on) taken.others;
+      comes = (λ i. enabled p (tried p (started i) (first i)) (Fire cell)) ∙ taken.comes;
+      goes = (λ i. enabled p (tried p (started i) (first i ++ then_on i)) (Fire cell)) ∙ taken.goes;
+    }
+
+pub returns : goal.returns
+returns c =
+    let p = c.args.pipeline.now in
+    let gates = c.items.result.now in
+    let cell : CellId = (get_or gates c.args.place c.index-items-place.result).cell in
+    let order = c.order.result.now in
+    let ord = order-of c.netlist.result.now p.netlist c.in_ok-origins.origins order c.in_ok-origins.ensures c.netlist.ensures.netlist c.order.ensures in
+    let at : slice_get p.stages c.args.before ≡ Some c.index-stages-before.result =
+    place_read p.stages c.stages.result.now c.args.before c.index-stages-before.result c.stages.ensures.stages c.index-stages-before.is (before-within p c.facts.ensures c.args.before c.args.input.now (Orphan c.args.place) c.requires) in
+    let taken : Takes p c.facts.ensures c.args.before c.args.input.now (Orphan c.args.place) cell (coming p (c.args.before + 1) cell) (going p (c.args.before + 1) cell order) =
+    place-takes p c.facts.ensures c.args.before c.args.input.now order ord c.args.place c.requires c.index-stages-before.result at gates (c.items.ensures ∙ ap (λ (s : StageData). s.cells) c.own.view_is) c.index-items-place.result in
+    let started : meaning c.in_ok-state.state ≡ reset p (c.args.input.now ∷ []) = c.in_ok-state.ensures.reset in
+    taken.breaks c.from_vec.result
+    (subst (λ (s : State). Loses p s cell c.from_vec.result) started (subst (Loses p (meaning c.in_ok-state.state) cell) (sym c.from_vec.ensures) c.in_ok-run.ensures))

@@ -1,0 +1,20 @@
+use Rattle.std.proofs.Common.{sym, ◌∙◌, subst}
+use Rattle.std.specs.Prelude.{All}
+use Rattle.ncl_faults.specs.Faults.{BothRails}
+use Rattle.ncl_machine.specs.Held.{InRange, meaning}
+use Rattle.ncl_reaching.proofs.BreakingLaws.{happened-so, illegal-breaks, way-tried}
+use Rattle.ncl_reaching.proofs.breaking.illegal_run.Goals as goal
+
+pub try_items-requires-clause-items : goal.try_items-requires-clause-items
+try_items-requires-clause-items c =
+    let p = c.args.pipeline.now in
+    let (output, b) = c.requires in
+    subst (All (InRange p)) (sym (c.deref.ensures.value ∙ c.in_ok-coming.ensures)) (way-tried p c.facts.ensures c.args.before c.args.input.now (BothRails output) b)
+
+pub returns : goal.returns
+returns c = λ output b.
+    let p = c.args.pipeline.now in
+    illegal-breaks p c.facts.ensures c.args.before c.args.input.now output b c.from_vec.result
+    (c.from_vec.ensures
+    ∙ happened-so p c.facts.ensures c.args.before c.args.input.now c.try_items.new.run.items c.new-run.result.items c.deref.result.now (meaning c.in_ok-state.state)
+    c.in_ok-try_items.ensures.run c.new-run.ensures.items c.in_ok-state.ensures.reset (c.deref.ensures.value ∙ c.in_ok-coming.ensures))

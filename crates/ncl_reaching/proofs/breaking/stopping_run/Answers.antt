@@ -1,0 +1,33 @@
+use Rattle.std.proofs.Common.{◌≡◌, [], ◌∷◌, sym, ◌∙◌, subst}
+use Rattle.std.specs.Prelude.{All}
+use Rattle.ncl_faults.specs.Faults.{NoRail}
+use Rattle.ncl_machine.specs.Held.{InRange, meaning}
+use Rattle.ncl_machine.specs.State.{State, reset}
+use Rattle.ncl_hazard.specs.Schedule.{no_cell, reaching}
+use Rattle.ncl_hazard.specs.Trying.{tried}
+use Rattle.ncl_hazard.proofs.ShownLaws.{order-of}
+use Rattle.ncl_reaching.specs.Breaking.{GoesToStop}
+use Rattle.ncl_reaching.proofs.BreakingLaws.{happened-so, stop-breaks, way-tried}
+use Rattle.ncl_reaching.proofs.breaking.stopping_run.Goals as goal
+
+pub try_items-requires-clause-items : goal.try_items-requires-clause-items
+try_items-requires-clause-items c =
+    let p = c.args.pipeline.now in
+    let (output, b) = c.requires in
+    subst (All (InRange p)) (sym (c.deref.ensures.value ∙ c.in_ok-coming.ensures)) (way-tried p c.facts.ensures c.args.before c.args.input.now (NoRail output) b)
+
+pub push_stop-requires-clause-order : goal.push_stop-requires-clause-order
+push_stop-requires-clause-order c = order-of c.netlist.result.now c.args.pipeline.now.netlist c.in_ok-origins.origins c.order.result.now c.in_ok-origins.ensures c.netlist.ensures.netlist c.order.ensures
+
+pub returns : goal.returns
+returns c = λ output b.
+    let p = c.args.pipeline.now in
+    let first = c.try_items.new.run.items in
+    let now : State = meaning c.try_items.new.state in
+    let are = c.deref.ensures.value ∙ c.in_ok-coming.ensures in
+    let started : meaning c.in_ok-state.state ≡ reset p (c.args.input.now ∷ []) = c.in_ok-state.ensures.reset in
+    stop-breaks p c.facts.ensures c.args.before c.args.input.now output b c.from_vec.result first now
+    (happened-so p c.facts.ensures c.args.before c.args.input.now first c.new-run.result.items c.deref.result.now (meaning c.in_ok-state.state)
+    c.in_ok-try_items.ensures.run c.new-run.ensures.items started are)
+    (c.in_ok-try_items.ensures.tried ∙ (λ i. tried p (started i) (are i)))
+    (subst (GoesToStop p now first) (sym c.from_vec.ensures) c.in_ok-push_stop.ensures)

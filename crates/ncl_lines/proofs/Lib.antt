@@ -1,2 +1,2 @@
 pub mod NamedPlaces
-mod WrittenSteps
+pub mod WrittenSteps

@@ -30,7 +30,7 @@ steps_at n items place d within =
     ∙ steps_more n 1 (take place items) (get_or items place d)
     ∙ ap (λ k. step_lines n 1 (take place items) ++ step_line n k (get_or items place d)) (omega (arith, length-take place items))
 
-run-in_range : (p : PipelineData) (run : List Item) (s : State) → IsRunFrom p s run → (item : Item) → Member item run → InRange p item
+pub run-in_range : (p : PipelineData) (run : List Item) (s : State) → IsRunFrom p s run → (item : Item) → Member item run → InRange p item
 run-in_range p [] s is item m = elim m [ ]
 run-in_range p (x ∷ run) s is item m = elim (member_cases item x run m) [
   | inl own ↦ subst (InRange p) own (item_in_range p s x is.0)

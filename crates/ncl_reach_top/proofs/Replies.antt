@@ -8,7 +8,7 @@ use Rattle.ncl_machine.specs.DelayInsensitive.{IsDelayInsensitive}
 use Rattle.ncl_verdict.proofs.Sound.{judgement-sound}
 use Rattle.ncl_insensitivity.proofs.Headline.{delay_insensitive}
 use Rattle.ncl_refusal.proofs.Exact.{reached-insensitive}
-use Rattle.ncl_reaching.proofs.ReachingLaws.{shown-sensitive, shown-wrong}
+use Rattle.ncl_reaching.proofs.ReachingLaws.{shown-sensitive}
 use Rattle.ncl_check.specs.declared.reply.Outcome.{Outcome}
 use Rattle.ncl_check.specs.declared.reply.Outcome.TheVariants.{Accepted, Refused, NoPipeline}
 use Rattle.ncl_check.specs.declared.reply.Reply.{Reply}
@@ -41,7 +41,7 @@ works_by : (limit : ℕ) (p : PipelineData) → Shape p.netlist p → {outcome :
 works_by limit p shape (never null answers) e = reached-insensitive p shape null answers
 works_by limit p shape (sound accepted) e = delay_insensitive p.netlist p shape (judgement-sound limit p.stages accepted)
 works_by limit p shape (held some isnt answers) e = absurd cc
-works_by limit p shape (shown input v answers) e = absurd cc
+works_by limit p shape (shown input v run answers wrong) e = absurd cc
 works_by limit p shape (past stage answers) e = absurd cc
 
 pub reach_works : (limit : ℕ) (bytes : List ℕ) {outcome : Outcome} {text : List ℕ} → IsReachReply limit bytes outcome text → outcome ≡ Accepted → IsDelayInsensitiveText bytes
@@ -53,12 +53,13 @@ wrong_by : (limit : ℕ) (p : PipelineData) → Shape p.netlist p → {outcome :
 wrong_by limit p shape (never null answers) e = absurd cc
 wrong_by limit p shape (sound accepted) e = absurd cc
 wrong_by limit p shape (held some isnt answers) e = absurd cc
-wrong_by limit p shape (shown input v answers) e = record {
+wrong_by limit p shape (shown input v run answers wrong) e = record {
   verdict = v;
   input = input;
+  run = run;
   told = refl;
   shown = answers;
-  means = (shown-sensitive p shape input v answers, shown-wrong p shape input v answers);
+  means = (shown-sensitive p shape input v answers, wrong);
 }
 wrong_by limit p shape (past stage answers) e = absurd cc
 

@@ -1,19 +1,22 @@
 //! What is replied to the bytes of a netlist.
-ghost use Rattle.std.specs.Prelude.{◌≡◌, ◌≤◌, ℕ, List, IfOk, IsFalse, IsTrue};
+ghost use Rattle.std.specs.Prelude.{◌≡◌, ◌<◌, ◌≤◌, ◌++◌, ℕ, List, Some, None, IfOk, OnOk, IsFalse, IsTrue, codes, decimal, length};
+ghost use Rattle.ncl_netlist.specs.Netlist.{NetlistData};
 ghost use Rattle.ncl_check.specs.Headline.{IsDelayInsensitiveText};
 ghost use Rattle.ncl_check.specs.Refusals.{TellsLine};
 ghost use Rattle.ncl_check.specs.Text.{IsRefusedText};
 ghost use Rattle.ncl_check.specs.declared.reply.Outcome.TheVariants.{Accepted, NoPipeline, Refused};
 ghost use Rattle.ncl_check.specs.Reply.{verdict_on};
 ghost use Rattle.ncl_verdict.specs.declared.verdict.Verdict.TheVariants.{Accepted as AllSound};
-ghost use Rattle.ncl_reaching.specs.Answers.{Answers};
+ghost use Rattle.ncl_lines.specs.Line.{line, cell_name};
+ghost use Rattle.ncl_reaching.specs.Answers.{Answers, GoesWrongBy};
 ghost use Rattle.ncl_reaching.specs.declared.reaching.Reached.TheVariants.{Limit as PastLimit, Never as NoFault, Shown as FaultShown};
-ghost use Rattle.ncl_reach_top.specs.Reply.{IsPipelineReply, IsReachReply, IsWrongForInput, line_on, with_input};
+ghost use Rattle.ncl_reach_top.specs.Reply.{IsPipelineReply, IsReachReply, IsWrongForInput, NamesItemsOf, end_line, line_on, run_lines, with_input};
 
 use ncl_base::{Memory, Word};
 use ncl_check::{Outcome, Refusal, Reply, netlist_in, pipeline_in};
-use ncl_lines::{line_of, push_word, verdict_text};
-use ncl_reaching::{Reached, reach};
+use ncl_lines::{line_of, push_number, push_steps, push_word, verdict_text};
+use ncl_netlist::CellId;
+use ncl_reaching::{Reached, WrongRun, reach};
 use ncl_shape::Pipeline;
 use ncl_verdict::{Verdict, judge};
 use std::alloc::Global;
@@ -62,7 +65,11 @@ fn answered(alloc: Global, pipeline: &Pipeline, limit: u32) -> Result<Reply, Mem
 {
     match reach(alloc, pipeline, limit)? {
         Reached::Never => never(alloc, pipeline, limit),
-        Reached::Shown { input, verdict } => shown(alloc, pipeline, &input, &verdict, limit),
+        Reached::Shown {
+            input,
+            verdict,
+            run,
+        } => shown(alloc, pipeline, &input, &verdict, &run, limit),
         Reached::Limit { stage } => past_limit(alloc, pipeline, stage, limit),
     }
 }
@@ -109,25 +116,80 @@ fn is_sound(alloc: Global, pipeline: &Pipeline, limit: u32) -> Result<bool, Memo
     }
 }
 
-/// The reply to a pipeline of which an input brings to a stage a word that shows a fault: the line of that verdict, and the input
-/// at its end.
+/// The reply to a pipeline of which an input brings to a stage a word that shows a fault: the line of that verdict, the input at
+/// its end, and the run, if one is told. Linear in the lines.
 fn shown(
     alloc: Global,
     pipeline: &Pipeline,
     input: &Word,
     verdict: &Verdict,
+    run: &Option<WrongRun>,
     limit: u32,
 ) -> Result<Reply, Memory>
-    requires { Answers pipeline.now limit (FaultShown input.now verdict.now) }
+    requires answers { Answers pipeline.now limit (FaultShown input.now verdict.now run.now) }
+    requires wrong { GoesWrongBy pipeline.now input.now verdict.now run.now }
     ensures { IfOk result (λ reply. IsPipelineReply limit pipeline.now reply.outcome reply.text.items) }
 {
     pipeline.facts();
     let line = verdict_text(alloc, pipeline, verdict, limit)?;
-    let text = behind(line, input)?;
+    let mut text = behind(line, input)?;
+    if let Some(run) = run {
+        push_run(&mut text, pipeline, verdict, run)?;
+    }
     Ok(Reply {
         outcome: Outcome::Refused,
         text,
     })
+}
+
+/// Appends the lines of a run that goes wrong. Linear in them.
+fn push_run(
+    text: &mut Vec<u8>,
+    pipeline: &Pipeline,
+    verdict: &Verdict,
+    run: &WrongRun,
+) -> Result<(), Memory>
+    requires { NamesItemsOf pipeline.now run.now }
+    ensures { OnOk result (text.new.items ≡ text.old.items ++ run_lines pipeline.now.netlist verdict.now (Some run.now)) }
+{
+    push_steps(text, pipeline, run.steps.items())?;
+    match run.lost {
+        Some(cell) => push_lost(text, pipeline, cell),
+        None => push_end(text, verdict),
+    }
+}
+
+/// Appends the line of a cell that loses its excitation.
+fn push_lost(text: &mut Vec<u8>, pipeline: &Pipeline, cell: CellId) -> Result<(), Memory>
+    requires { cell.0 < length pipeline.now.netlist.cells }
+    ensures { OnOk result (text.new.items ≡ text.old.items ++ line (codes "lost: cell " ++ cell_name pipeline.now.netlist cell.0)) }
+{
+    let cell = &pipeline.netlist().cells()[cell.0 as usize];
+    text.extend_from_slice(b"lost: cell ")?;
+    text.extend_from_slice(cell.name.bytes())?;
+    text.extend_from_slice(b"\n")?;
+    Ok(())
+}
+
+/// Appends the line of an output that is illegal, or of a bank that stays full.
+fn push_end(text: &mut Vec<u8>, verdict: &Verdict) -> Result<(), Memory>
+    ensures { (n : NetlistData) → OnOk result (text.new.items ≡ text.old.items ++ end_line n verdict.now None) }
+{
+    match verdict {
+        Verdict::BothRails { output, .. } => push_numbered(text, b"illegal: output ", *output),
+        Verdict::NoRail { stage, .. } => push_numbered(text, b"stops: bank ", *stage),
+        _ => Ok(()),
+    }
+}
+
+/// Appends a line that ends with a number.
+fn push_numbered(text: &mut Vec<u8>, front: &[u8], number: u32) -> Result<(), Memory>
+    ensures { OnOk result (text.new.items ≡ text.old.items ++ line (front.now ++ decimal number)) }
+{
+    text.extend_from_slice(front)?;
+    push_number(text, number as u64)?;
+    text.extend_from_slice(b"\n")?;
+    Ok(())
 }
 
 /// A line with an input at its end, before the line feed. Linear in the input.

@@ -1,14 +1,30 @@
-use Rattle.std.proofs.Common.{◌∙◌, ap, sym, subst}
+use Rattle.std.proofs.Common.{◌++◌, Some, ◌∙◌, ap, sym, subst}
+use Rattle.std.proofs.lemmas.List.{append-nil}
+use Rattle.ncl_base.proofs.Places.{no_entry}
 use Rattle.ncl_check.specs.declared.reply.Outcome.TheVariants.{Refused}
-use Rattle.ncl_reach_top.specs.Reply.{IsPipelineReply, shown, with_input}
-use Rattle.ncl_reach_top.proofs.Named.{names_shown}
+use Rattle.ncl_reaching.specs.Answers.{GoesWrongBy}
+use Rattle.ncl_reach_top.specs.Reply.{IsPipelineReply, shown, line_on, run_lines, with_input}
+use Rattle.ncl_reach_top.proofs.Named.{names_run, names_shown}
+use Rattle.ncl_reach_top.proofs.replying.shown.Goals.{in-Some+in_ok-push_run, in_default}
 use Rattle.ncl_reach_top.proofs.replying.shown.Goals as goal
 
 pub verdict_text-requires : goal.verdict_text-requires
-verdict_text-requires c = names_shown c.args.pipeline.now c.facts.ensures c.args.input.now c.args.verdict.now c.requires
+verdict_text-requires c = names_shown c.args.pipeline.now c.facts.ensures c.args.input.now c.args.verdict.now c.requires.answers
+
+pub push_run-requires : goal.push_run-requires
+push_run-requires c =
+    names_run c.args.pipeline.now c.args.input.now c.args.verdict.now c.in-Some.run' (subst (GoesWrongBy c.args.pipeline.now c.args.input.now c.args.verdict.now) c.in-Some.is c.requires.wrong)
 
 pub returns : goal.returns
 returns c =
-    subst (IsPipelineReply c.args.limit c.args.pipeline.now Refused)
-    (sym (c.in_ok-text.ensures ∙ ap (λ line. with_input line c.args.input.now) c.in_ok-line.ensures))
-    (shown c.args.input.now c.args.verdict.now c.requires)
+    let p = c.args.pipeline.now in
+    let input = c.args.input.now in
+    let v = c.args.verdict.now in
+    let first = c.in_ok-text.ensures ∙ ap (λ line. with_input line input) c.in_ok-line.ensures in
+    subst (IsPipelineReply c.args.limit p Refused) (sym (elim c.match-run.branch [
+      | in-Some+in_ok-push_run w ↦ ap (λ text. text.items) w.text-is ∙ w.in_ok-push_run.ensures ∙ ap (λ xs. xs ++ run_lines p.netlist v (Some w.in-Some.run')) first
+          ∙ ap (λ o. with_input (line_on c.args.limit p v) input ++ run_lines p.netlist v o) (sym w.in-Some.is)
+      | in_default w ↦ ap (λ text. text.items) w.text-is ∙ first ∙ sym (append-nil (with_input (line_on c.args.limit p v) input))
+          ∙ ap (λ o. with_input (line_on c.args.limit p v) input ++ run_lines p.netlist v o) (sym (no_entry c.args.run.now w.in_default.not-Some))
+    ]))
+    (shown input v c.args.run.now c.requires.answers c.requires.wrong)

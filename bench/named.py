@@ -63,7 +63,8 @@ def named_in(crate):
     used, modules = handed_out(crate)
     for file in sorted((crate / "src").rglob("*.rt")):
         text = file.read_text()
-        words = set(re.findall(r"(?<![\w.])\w+", clauses(text, file.stem, used, modules)))
+        module = file.relative_to(crate / "src").parts[0].removesuffix(".rt")
+        words = set(re.findall(r"(?<![\w.])\w+", clauses(text, module, used, modules)))
         yield from (found for found in imports(text) if found[0] in words)
 
 

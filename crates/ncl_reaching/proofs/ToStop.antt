@@ -25,9 +25,6 @@ pub record GoesOn (p : PipelineData) (start s : State) (before run : List Item) 
   pub is_run : IsRunFrom p start more
   pub leads : after p start more ≡ s
 
-pub goes-at_once : (p : PipelineData) (start : State) (before : List Item) → GoesOn p start start before before
-goes-at_once p start before = record { more = []; parts = sym (append-nil before); is_run = tt; leads = refl }
-
 empty : (xs : List Item) → length xs ≡ 0 → xs ≡ []
 empty [] e = refl
 empty (x ∷ xs) e = absurd (omega (arith, e))

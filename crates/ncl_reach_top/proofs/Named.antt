@@ -15,7 +15,6 @@ use Rattle.ncl_faults.specs.Faults.{StageFault}
 use Rattle.ncl_machine.specs.State.{reset}
 use Rattle.ncl_machine.specs.Run.{after}
 use Rattle.ncl_machine.proofs.EnabledItems.{item_in_range}
-use Rattle.ncl_hazard.specs.Trying.{Loses}
 use Rattle.ncl_lines.proofs.WrittenSteps.{run-in_range}
 use Rattle.ncl_refusal.specs.Breaks.{BreaksBy, illegal_output, stop_while_full, register_loses, gate_loses}
 use Rattle.ncl_reaching.specs.declared.breaking.WrongRun.{WrongRun}

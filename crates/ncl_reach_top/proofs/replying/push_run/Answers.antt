@@ -1,4 +1,4 @@
-use Rattle.std.proofs.Common.{◌≡◌, ◌++◌, Result, Ok, Err, OnOk, None, append_assoc, sym, ap, ◌∙◌}
+use Rattle.std.proofs.Common.{◌++◌, Result, Ok, Err, OnOk, None, append_assoc, sym, ap, ◌∙◌}
 use Rattle.ncl_lines.specs.WhyText.{step_lines}
 use Rattle.ncl_reach_top.specs.Reply.{end_line}
 use Rattle.ncl_reach_top.proofs.replying.push_run.Goals as goal

@@ -1,8 +1,5 @@
-use Rattle.std.proofs.Common.{◌≡◌, ◌≢◌, ◌<◌, [], ◌∷◌, ◌++◌, Some, length, sym, ap, ◌∙◌, subst, rules}
-use Rattle.std.specs.Prelude.{All, slice_get}
-use Rattle.ncl_base.proofs.Members.{slice_get-some}
-use Rattle.ncl_netlist.specs.declared.ids.CellId.{CellId}
-use Rattle.ncl_shape.specs.declared.bank.Bit.{Bit}
+use Rattle.std.proofs.Common.{◌≡◌, ◌≢◌, ◌<◌, [], ◌∷◌, ◌++◌, length, sym, ap, ◌∙◌, subst, rules}
+use Rattle.std.specs.Prelude.{All}
 use Rattle.ncl_shape.specs.declared.item.Item.{Item}
 use Rattle.ncl_shape.specs.declared.item.Item.TheVariants.{Cell as Fire}
 use Rattle.ncl_faults.specs.Faults.{Incomplete}

@@ -3,7 +3,6 @@ use Rattle.std.specs.Prelude.{All}
 use Rattle.ncl_faults.specs.Faults.{NoRail}
 use Rattle.ncl_machine.specs.Held.{InRange, meaning}
 use Rattle.ncl_machine.specs.State.{State, reset}
-use Rattle.ncl_hazard.specs.Schedule.{no_cell, reaching}
 use Rattle.ncl_hazard.specs.Trying.{tried}
 use Rattle.ncl_hazard.proofs.ShownLaws.{order-of}
 use Rattle.ncl_reaching.specs.Breaking.{GoesToStop}

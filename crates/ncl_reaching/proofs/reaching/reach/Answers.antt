@@ -5,12 +5,9 @@ use Rattle.std.proofs.lemmas.Result.{IfOk-weaker}
 use Rattle.ncl_base.proofs.Places.{place_read}
 use Rattle.ncl_shape.specs.Stage.{StageData}
 use Rattle.ncl_shape.specs.Pipeline.{PipelineData}
-use Rattle.ncl_verdict.specs.declared.verdict.Verdict.{Verdict}
-use Rattle.ncl_verdict.specs.Judgement.{verdict_of}
 use Rattle.ncl_refusal.proofs.Exact.{reached-insensitive}
-use Rattle.ncl_reaching.specs.Answers.{Answers, IsPastLimit, IsShown, Means}
+use Rattle.ncl_reaching.specs.Answers.{Answers, IsPastLimit, Means}
 use Rattle.ncl_reaching.specs.Asking.{fault_of, shown_of}
-use Rattle.ncl_reaching.specs.Evaluating.{word_on}
 use Rattle.ncl_reaching.specs.Reaching.{first_reached}
 use Rattle.ncl_reaching.proofs.ReachingLaws.{all-sound}
 use Rattle.ncl_reaching.proofs.StageTurn.{answer-here, can-go_on, counted-here, ends-here, fault-brought, fault-here, first-found, means-here, next-is, past-limit, sound-accepted, sound-asked, wide-here, within-here, word-told}

@@ -65,7 +65,11 @@ fn answered(alloc: Global, pipeline: &Pipeline, limit: u32) -> Result<String, Me
 {
     match reach(alloc, pipeline, limit)? {
         Reached::Never => Ok(String::from_str(alloc, "never")?),
-        Reached::Shown { input, verdict, .. } => {
+        Reached::Shown {
+            input,
+            verdict,
+            run: _run,
+        } => {
             let input = bits(alloc, &input)?;
             let verdict = told(alloc, &verdict)?;
             Ok(format!(in alloc; "{verdict} by {input}")?)

@@ -1,10 +1,9 @@
 -- What the first five rules of shape leave known of a netlist, and what breaks one of them.
-use Rattle.std.specs.Prelude.{◌≡◌, ℕ, List}
+use Rattle.std.specs.Prelude.{◌≡◌, ℕ, Bool, List, Option}
 use Rattle.ncl_netlist.specs.declared.cell.Cell.{Cell}
 use Rattle.ncl_netlist.specs.Netlist.{NetlistData}
 use Rattle.ncl_cell_rules.specs.declared.fault.CellFault.{CellFault}
 use Rattle.ncl_cell_rules.specs.declared.fault.CellFault.TheVariants.{UnusedPort, Cycle, Unpaired, Mixed, Loose, Memory}
-use Rattle.ncl_cell_rules.specs.declared.origins.Origins.{Origins}
 use Rattle.ncl_cell_rules.specs.declared.source.Source.{Source}
 use Rattle.ncl_cell_rules.specs.Origin.{OnPin, A, B}
 use Rattle.ncl_cell_rules.specs.Sources.{source_at}
@@ -14,13 +13,22 @@ use Rattle.ncl_cell_rules.specs.GateGraph.{AreDrivers}
 use Rattle.ncl_cell_rules.specs.CellOrder.{IsCellOrder, AreSources}
 use Rattle.ncl_cell_rules.specs.Tables.{AreFirsts, AreDataBanks}
 
+-- a netlist with tables that have an entry for each of its nets, and an order of its cells
+pub record OriginsData : Type 0 where
+  pub netlist : NetlistData
+  pub drivers : List (Option ℕ)
+  pub firsts : List (Option ℕ)
+  pub data_banks : List Bool
+  pub order : List ℕ
+  pub sources : List Source
+
 -- the tables are those of the netlist
-pub record AreOrigins (n : NetlistData) (o : Origins) : Type 0 where
-  pub drivers : AreDrivers n o.drivers.items
-  pub firsts : AreFirsts n o.firsts.items
-  pub data_banks : AreDataBanks n o.data_banks.items
-  pub order : IsCellOrder n o.order.items
-  pub sources : AreSources n o.sources.items
+pub record AreOrigins (n : NetlistData) (o : OriginsData) : Type 0 where
+  pub drivers : AreDrivers n o.drivers
+  pub firsts : AreFirsts n o.firsts
+  pub data_banks : AreDataBanks n o.data_banks
+  pub order : IsCellOrder n o.order
+  pub sources : AreSources n o.sources
 
 -- by the table, the rail on A of a register cell comes from where that of the first register cell of its bank does
 pub record IsAsFirst (n : NetlistData) (sources : List Source) (c : Cell) : Type 0 where

@@ -25,61 +25,97 @@ use crate::tying::first_loose;
 use ncl_base::Memory;
 use ncl_netlist::{CellId, NetId, Netlist};
 use std::alloc::Global;
+use std::marker::Model;
 
-/// What is known of a netlist that keeps the first five rules of shape. Tables have an entry for each net.
-#[derive(Drop)]
-pub struct Origins {
-    /// The place of the cell that drives the net; `None` at an input port.
-    pub drivers: Vec<Option<u32>>,
-    /// The place of the first register cell that has the net on B; `None` where the net is no request.
-    pub firsts: Vec<Option<u32>>,
-    /// Whether the net is the request of a bank that is reset to DATA.
-    pub data_banks: Vec<bool>,
-    /// All cells, each gate cell after those that drive its pins.
-    pub order: Vec<u32>,
-    /// Where the net comes from.
-    pub sources: Vec<Source>,
+/// What is known of a netlist that keeps the first three rules of shape, in tables with an entry for each net.
+///
+/// Only `find_origins` makes one.
+#[derive(Debug, Drop)]
+pub struct Origins<'a> {
+    netlist: &'a Netlist,
+    drivers: Vec<Option<u32>>,
+    firsts: Vec<Option<u32>>,
+    data_banks: Vec<bool>,
+    order: Vec<u32>,
+    sources: Vec<Source>,
 }
 
-impl Origins {
+impl<'a> Model for Origins<'a> {
+    ghost use Rattle.ncl_cell_rules.specs.Origins.{OriginsData, AreOrigins};
+
+    ghost Value = { OriginsData };
+
+    ghost view = { λ a. record { netlist = a.netlist.now; drivers = a.drivers.items; firsts = a.firsts.items; data_banks = a.data_banks.items; order = a.order.items; sources = a.sources.items } };
+
+    ghost invariant = { λ a. AreOrigins a.netlist.now (record { netlist = a.netlist.now; drivers = a.drivers.items; firsts = a.firsts.items; data_banks = a.data_banks.items; order = a.order.items; sources = a.sources.items }) };
+}
+
+impl<'a> Origins<'a> {
+    /// The netlist.
+    pub fn netlist(&self) -> &'a Netlist
+        ensures netlist { result.now ≡ self.now.netlist }
+        ensures origins { AreOrigins self.now.netlist self.now }
+    {
+        self.netlist
+    }
+
     /// Where a net comes from.
     pub fn source(&self, net: NetId) -> Source
-        requires { net.0 < length self.now.sources.items }
-        ensures { result ≡ source_at self.now.sources.items net.0 }
+        requires { net.0 < length self.now.netlist.nets }
+        ensures source { result ≡ source_at self.now.sources net.0 }
+        ensures origins { AreOrigins self.now.netlist self.now }
     {
         self.sources[net.0 as usize]
     }
 
     /// The place of the cell that drives a net; `None` at an input port.
     pub fn driver(&self, net: NetId) -> Option<u32>
-        requires { net.0 < length self.now.drivers.items }
-        ensures { result ≡ driver_at self.now.drivers.items net.0 }
+        requires { net.0 < length self.now.netlist.nets }
+        ensures driver { result ≡ driver_at self.now.drivers net.0 }
+        ensures origins { AreOrigins self.now.netlist self.now }
     {
         self.drivers[net.0 as usize]
     }
 
+    /// For each net the place of the cell that drives it; `None` at an input port.
+    pub fn drivers(&self) -> &[Option<u32>]
+        ensures drivers { result.now ≡ self.now.drivers }
+        ensures origins { AreOrigins self.now.netlist self.now }
+    {
+        &self.drivers
+    }
+
     /// The place of the first register cell of the bank of a request; `None` where the net is no request.
     pub fn first(&self, request: NetId) -> Option<u32>
-        requires { request.0 < length self.now.firsts.items }
-        ensures { result ≡ first_at self.now.firsts.items request.0 }
+        requires { request.0 < length self.now.netlist.nets }
+        ensures first { result ≡ first_at self.now.firsts request.0 }
+        ensures origins { AreOrigins self.now.netlist self.now }
     {
         self.firsts[request.0 as usize]
     }
 
-    /// All cells by their places, each gate cell after those that drive its pins: of `find_origins` it is an order as
-    /// `IsCellOrder` of the netlist says, with each cell once.
+    /// All cells by their places, each gate cell after those that drive its pins, and each cell once.
     pub fn order(&self) -> &[u32]
-        ensures { result.now ≡ self.now.order.items }
+        ensures order { result.now ≡ self.now.order }
+        ensures origins { AreOrigins self.now.netlist self.now }
     {
         &self.order
     }
 
     /// Whether a net is the request of a bank that is reset to DATA.
     pub fn is_data_bank(&self, request: NetId) -> bool
-        requires { request.0 < length self.now.data_banks.items }
-        ensures { result ≡ slice_index_or self.now.data_banks.items request.0 false }
+        requires { request.0 < length self.now.netlist.nets }
+        ensures data { result ≡ slice_index_or self.now.data_banks request.0 false }
+        ensures origins { AreOrigins self.now.netlist self.now }
     {
         self.data_banks[request.0 as usize]
+    }
+
+    /// That the tables are those of the netlist. Costs nothing.
+    pub fn facts(&self)
+        ensures { AreOrigins self.now.netlist self.now }
+    {
+        let _ = &self.netlist;
     }
 }
 
@@ -110,21 +146,22 @@ fn cell_order(
 }
 
 /// The tables of a netlist whose cells pair up, from their order.
-fn tables(
+fn tables<'a>(
     alloc: Global,
-    netlist: &Netlist,
+    netlist: &'a Netlist,
     drivers: Vec<Option<u32>>,
     order: Vec<u32>,
-) -> Result<Origins, Memory>
+) -> Result<Origins<'a>, Memory>
     requires drivers { AreDrivers netlist.now drivers.items }
     requires paired { ArePaired netlist.now }
     requires order { IsCellOrder netlist.now order.items }
-    ensures { IfOk result (AreOrigins netlist.now) }
+    ensures { IfOk result (λ origins. origins.netlist ≡ netlist.now) }
 {
     let firsts = first_registers(alloc, netlist)?;
     let data_banks = data_banks(alloc, netlist)?;
     let sources = net_sources(alloc, netlist, &drivers, &order)?;
     Ok(Origins {
+        netlist,
         drivers,
         firsts,
         data_banks,
@@ -137,7 +174,8 @@ fn tables(
 /// it breaks, at its first port or cell.
 ///
 /// Linear in nets and pins, without recursion. The one other error is want of memory.
-pub fn find_origins(alloc: Global, netlist: &Netlist) -> Result<Origins, CellFault>
+pub fn find_origins(alloc: Global, netlist: &Netlist) -> Result<Origins<'_>, CellFault>
+    ensures netlist { IfOk result (λ origins. origins.netlist ≡ netlist.now) }
     ensures origins { IfOk result (AreOrigins netlist.now) }
     ensures free { OnOk result (IsFree netlist.now) }
     ensures fault { IfErr result (IsCellFault netlist.now) }
@@ -151,10 +189,10 @@ pub fn find_origins(alloc: Global, netlist: &Netlist) -> Result<Origins, CellFau
         return Err(CellFault::Unpaired(cell));
     }
     let origins = tables(alloc, netlist, drivers, order)?;
-    if let Some(cell) = first_mixed(netlist, &origins) {
+    if let Some(cell) = first_mixed(&origins) {
         return Err(CellFault::Mixed(cell));
     }
-    if let Some(cell) = first_loose(netlist, &origins, &gate_reads(alloc, netlist)?) {
+    if let Some(cell) = first_loose(&origins, &gate_reads(alloc, netlist)?) {
         return Err(CellFault::Loose(cell));
     }
     Ok(origins)

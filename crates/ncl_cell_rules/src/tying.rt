@@ -4,7 +4,7 @@ ghost use Rattle.ncl_cell_rules.specs.Origin.{IsCell, IsOutputPort};
 ghost use Rattle.ncl_cell_rules.specs.Rules.{IsTied};
 ghost use Rattle.ncl_cell_rules.specs.Free.{AtCell, FailsFirst};
 ghost use Rattle.ncl_cell_rules.specs.Tables.{AreGateReads};
-ghost use Rattle.ncl_cell_rules.specs.Origins.{AreOrigins, AreUnmixed};
+ghost use Rattle.ncl_cell_rules.specs.Origins.{AreUnmixed};
 
 use crate::origins::Origins;
 use crate::source::Source;
@@ -22,13 +22,13 @@ pub fn is_output_port(netlist: &Netlist, net: NetId) -> bool
 
 /// Whether the output of an acknowledge or completion cell is read by a gate cell, or is a request, or is an output
 /// port. Other cells have nothing to keep.
-fn is_tied(netlist: &Netlist, origins: &Origins, gate_reads: &[bool], cell: &Cell) -> bool
-    requires in_netlist { IsCell netlist.now cell.now }
-    requires origins { AreOrigins netlist.now origins.now }
-    requires unmixed { AreUnmixed netlist.now }
-    requires gate_reads { AreGateReads netlist.now gate_reads.now }
-    ensures { IsTrue result ↔ IsTied netlist.now cell.now }
+fn is_tied(origins: &Origins, gate_reads: &[bool], cell: &Cell) -> bool
+    requires in_netlist { IsCell origins.now.netlist cell.now }
+    requires unmixed { AreUnmixed origins.now.netlist }
+    requires gate_reads { AreGateReads origins.now.netlist gate_reads.now }
+    ensures { IsTrue result ↔ IsTied origins.now.netlist cell.now }
 {
+    let netlist = origins.netlist();
     if cell.kind.is_register() {
         return true;
     }
@@ -46,18 +46,13 @@ fn is_tied(netlist: &Netlist, origins: &Origins, gate_reads: &[bool], cell: &Cel
 
 /// The first acknowledge or completion cell that is left unread. Linear in the cells.
 #[tactic(auto, using(crate::proofs::TableSteps::after_last))]
-pub(crate) fn first_loose(
-    netlist: &Netlist,
-    origins: &Origins,
-    gate_reads: &[bool],
-) -> Option<CellId>
-    requires origins { AreOrigins netlist.now origins.now }
-    requires unmixed { AreUnmixed netlist.now }
-    requires gate_reads { AreGateReads netlist.now gate_reads.now }
-    ensures { MatchOption result ((k : ℕ) → AtCell IsTied netlist.now k) (λ c. FailsFirst (AtCell IsTied netlist.now) c.0) }
+pub(crate) fn first_loose(origins: &Origins, gate_reads: &[bool]) -> Option<CellId>
+    requires unmixed { AreUnmixed origins.now.netlist }
+    requires gate_reads { AreGateReads origins.now.netlist gate_reads.now }
+    ensures { MatchOption result ((k : ℕ) → AtCell IsTied origins.now.netlist k) (λ c. FailsFirst (AtCell IsTied origins.now.netlist) c.0) }
 {
-    for (place, cell) in netlist.cells().iter().enumerate() {
-        if !is_tied(netlist, origins, gate_reads, cell) {
+    for (place, cell) in origins.netlist().cells().iter().enumerate() {
+        if !is_tied(origins, gate_reads, cell) {
             return Some(CellId(place as u32));
         }
     }

@@ -7,10 +7,10 @@ use Rattle.ncl_cell_rules.proofs.mixing.is_register_of_one.Goals as goal
 
 pub returns : goal.returns
 returns c =
-    let n = c.args.netlist.now in
+    let n = c.args.origins.now.netlist in
     let cell = c.args.cell.now in
-    let is = c.requires.origins.drivers.netlist in
-    let are = c.requires.origins.sources in
+    let is = c.facts.ensures.drivers.netlist in
+    let are = c.facts.ensures.sources in
     let on_rst : OnPin cell RST (get_or c.deref.result.now 2 no_net).0 = register_on n is cell c.requires.in_netlist 2 c.deref.result.now c.deref.ensures.0 c.requires.register (omega arith) in
     let on_b : OnPin cell B (get_or c.deref-2.result.now 1 no_net).0 = register_on n is cell c.requires.in_netlist 1 c.deref-2.result.now c.deref-2.ensures.0 c.requires.register (omega arith) in
     let on_a : OnPin cell A (get_or c.deref-3.result.now 0 no_net).0 = register_on n is cell c.requires.in_netlist 0 c.deref-3.result.now c.deref-3.ensures.0 c.requires.register (omega arith) in (

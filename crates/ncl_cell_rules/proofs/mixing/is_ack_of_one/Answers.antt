@@ -1,4 +1,4 @@
-use Rattle.std.proofs.Common.{◌≡◌, false, get_or, refl, sym, ap, ◌∙◌, arith}
+use Rattle.std.proofs.Common.{◌≡◌, false, get_or, refl, sym, ap, ◌∙◌}
 use Rattle.std.proofs.lemmas.Bool.{both_ways}
 use Rattle.ncl_cell_rules.proofs.BitTests.{acks_behind, acks_by_behind, same_behind, behind_within}
 use Rattle.ncl_cell_rules.proofs.DataBanks.{mark_of_bank, bank_of_mark}
@@ -13,10 +13,7 @@ returns-in_default c = (
 )
 
 pub is_data_bank-requires : goal.is_data_bank-requires
-is_data_bank-requires c =
-    let within = behind_within c.args.origins.now.netlist c.netlist.ensures.origins.drivers.netlist _ _ _ (rw c.netlist.ensures.netlist at c.in-Some.ensures.some) in
-    let sized = c.netlist.ensures.origins.data_banks.sized in
-    omega (arith, within, sized)
+is_data_bank-requires c = behind_within c.args.origins.now.netlist c.netlist.ensures.origins.drivers.netlist _ _ _ (rw c.netlist.ensures.netlist at c.in-Some.ensures.some)
 
 pub returns-then-not-is_data_bank : goal.returns-then-not-is_data_bank
 returns-then-not-is_data_bank c = (

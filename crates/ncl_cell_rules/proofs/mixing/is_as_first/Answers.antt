@@ -30,9 +30,7 @@ bounds-deref-0-2 c =
 pub source-first_source-requires : goal.source-first_source-requires
 source-first_source-requires c =
     let of_bank = (first (goal.at.source-first_source-requires c).After-deref-2).of_bank in
-    let inside = register_inside c.args.origins.now.netlist c.netlist.ensures.origins.drivers.netlist c.index-cells-place.result of_bank.0 0 c.deref-3.result.now c.deref-3.ensures.0 of_bank.1 (omega arith) in
-    let sized = c.netlist.ensures.origins.sources.sized in
-    omega (arith, inside, sized)
+    register_inside c.args.origins.now.netlist c.netlist.ensures.origins.drivers.netlist c.index-cells-place.result of_bank.0 0 c.deref-3.result.now c.deref-3.ensures.0 of_bank.1 (omega arith)
 
 pub returns : goal.returns
 returns c =

@@ -4,7 +4,6 @@ ghost use Rattle.std.specs.List.{AllZip};
 ghost use Rattle.ncl_cell_rules.specs.Origin.{CellAt, IsAck};
 ghost use Rattle.ncl_cell_rules.specs.Free.{IsFree};
 ghost use Rattle.ncl_cell_rules.specs.GateGraph.{AreDrivers};
-ghost use Rattle.ncl_cell_rules.specs.Origins.{AreOrigins};
 ghost use Rattle.ncl_shape.specs.FoundChain.{IsChainOf, requests_of};
 ghost use Rattle.ncl_shape.specs.FoundParts.{IsStart};
 ghost use Rattle.ncl_shape.specs.Shape.{AreBitsOf, IsBitOf};
@@ -61,19 +60,18 @@ fn bit_of(netlist: &Netlist, drivers: &[Option<u32>], place: u32, cell: &Cell) -
 /// The bits of each bank of a chain, in file order. Linear in the cells and banks.
 pub(crate) fn bits_of_banks(
     alloc: Global,
-    netlist: &Netlist,
     origins: &Origins,
     chain: &Chain,
 ) -> Result<Vec<Vec<Bit>>, Memory>
-    requires free { IsFree netlist.now }
-    requires origins { AreOrigins netlist.now origins.now }
-    requires chain { IsChainOf netlist.now chain.now }
-    ensures { IfOk result (λ lists. AllZip (AreBitsOf netlist.now) (requests_of chain.now) (map (λ l. l.items) lists.items)) }
+    requires free { IsFree origins.now.netlist }
+    requires chain { IsChainOf origins.now.netlist chain.now }
+    ensures { IfOk result (λ lists. AllZip (AreBitsOf origins.now.netlist) (requests_of chain.now) (map (λ l. l.items) lists.items)) }
 {
+    let netlist = origins.netlist();
     let mut lists = empty_lists(alloc, chain.banks.len())?;
     for (place, cell) in netlist.cells().iter().enumerate() {
         if let CellKind::Ack = cell.kind {
-            let (bank, bit) = bit_of(netlist, &origins.drivers, place as u32, cell);
+            let (bank, bit) = bit_of(netlist, origins.drivers(), place as u32, cell);
             put(&mut lists, number_of(chain, bank), bit)?;
         }
     }

@@ -1,32 +1,30 @@
 //! The second inner rule: one bank reads input ports, and the request of one bank is an input port.
 ghost use Rattle.std.specs.Prelude.{◌≡◌, ◌<◌, ◌↔◌, cond, IsFalse, IsSome, IsTrue, MatchOption, None, Some, length};
 ghost use Rattle.ncl_cell_rules.specs.Free.{IsFree};
-ghost use Rattle.ncl_cell_rules.specs.Origins.{AreOrigins};
 ghost use Rattle.ncl_shape.specs.Chain.{HasEnds, IsFirstBank, IsLastBank};
 ghost use Rattle.ncl_shape.specs.ChainSteps.{IsOnly};
 
 use crate::banks::feed;
 use ncl_cell_rules::{Origins, Source, same_source};
-use ncl_netlist::{NetId, Netlist};
+use ncl_netlist::NetId;
 
 /// Whether the bank of a request reads input ports.
-fn is_first_bank(netlist: &Netlist, origins: &Origins, bank: NetId) -> bool
-    requires inside { bank.0 < length netlist.now.nets }
-    requires free { IsFree netlist.now }
-    requires origins { AreOrigins netlist.now origins.now }
-    ensures { IsTrue result ↔ IsFirstBank netlist.now bank.0 }
+fn is_first_bank(origins: &Origins, bank: NetId) -> bool
+    requires inside { bank.0 < length origins.now.netlist.nets }
+    requires free { IsFree origins.now.netlist }
+    ensures { IsTrue result ↔ IsFirstBank origins.now.netlist bank.0 }
 {
-    let Some(source) = feed(netlist, origins, bank) else {
+    origins.facts();
+    let Some(source) = feed(origins, bank) else {
         return false;
     };
     same_source(source, Source::Port)
 }
 
 /// Whether a net is a request and an input port.
-fn is_last_bank(netlist: &Netlist, origins: &Origins, bank: NetId) -> bool
-    requires inside { bank.0 < length netlist.now.nets }
-    requires origins { AreOrigins netlist.now origins.now }
-    ensures { IsTrue result ↔ IsLastBank netlist.now bank.0 }
+fn is_last_bank(origins: &Origins, bank: NetId) -> bool
+    requires inside { bank.0 < length origins.now.netlist.nets }
+    ensures { IsTrue result ↔ IsLastBank origins.now.netlist bank.0 }
 {
     origins.first(bank).is_some() && origins.driver(bank).is_none()
 }
@@ -49,19 +47,18 @@ fn keep_one(found: &mut Option<NetId>, holds: bool, net: NetId) -> bool
 
 /// The bank that reads input ports, where there is one such bank and one whose request is an input port. Linear in
 /// the nets.
-pub(crate) fn first_of_ends(netlist: &Netlist, origins: &Origins) -> Option<NetId>
-    requires free { IsFree netlist.now }
-    requires origins { AreOrigins netlist.now origins.now }
-    ensures { MatchOption result (HasEnds netlist.now → ⊥) (λ first. HasEnds netlist.now × IsOnly (IsFirstBank netlist.now) first.0) }
+pub(crate) fn first_of_ends(origins: &Origins) -> Option<NetId>
+    requires free { IsFree origins.now.netlist }
+    ensures { MatchOption result (HasEnds origins.now.netlist → ⊥) (λ first. HasEnds origins.now.netlist × IsOnly (IsFirstBank origins.now.netlist) first.0) }
 {
     let mut first = None;
     let mut last = None;
-    for net in 0..netlist.nets().len() {
+    for net in 0..origins.netlist().nets().len() {
         let bank = NetId(net as u32);
-        if !keep_one(&mut first, is_first_bank(netlist, origins, bank), bank) {
+        if !keep_one(&mut first, is_first_bank(origins, bank), bank) {
             return None;
         }
-        if !keep_one(&mut last, is_last_bank(netlist, origins, bank), bank) {
+        if !keep_one(&mut last, is_last_bank(origins, bank), bank) {
             return None;
         }
     }

@@ -2,7 +2,6 @@
 ghost use Rattle.std.specs.Prelude.{◌≡◌, ◌≤◌, IfErr, IfOk, length, map};
 ghost use Rattle.std.specs.List.{AllZip};
 ghost use Rattle.ncl_cell_rules.specs.Free.{IsFree};
-ghost use Rattle.ncl_cell_rules.specs.Origins.{AreOrigins};
 ghost use Rattle.ncl_shape.specs.declared.bank.TheConstants.{MOST_BANKS};
 ghost use Rattle.ncl_shape.specs.Chain.{IsChained};
 ghost use Rattle.ncl_shape.specs.FoundChain.{IsChainOf, requests_of};
@@ -49,21 +48,20 @@ fn banks_of(
 /// The parts of the pipeline of a netlist whose banks are a chain. Linear in cells, banks and bits.
 fn assemble(
     alloc: Global,
-    netlist: &Netlist,
     origins: &Origins,
     chain: &Chain,
     bits: Vec<Vec<Bit>>,
 ) -> Result<Parts, Memory>
-    requires free { IsFree netlist.now }
-    requires origins { AreOrigins netlist.now origins.now }
-    requires chained { IsChained netlist.now }
-    requires chain { IsChainOf netlist.now chain.now }
-    requires bits { AllZip (AreFewBitsOf netlist.now) (requests_of chain.now) (map (λ l. l.items) bits.items) }
+    requires free { IsFree origins.now.netlist }
+    requires chained { IsChained origins.now.netlist }
+    requires chain { IsChainOf origins.now.netlist chain.now }
+    requires bits { AllZip (AreFewBitsOf origins.now.netlist) (requests_of chain.now) (map (λ l. l.items) bits.items) }
     requires few_banks { length chain.now.banks.items ≤ MOST_BANKS }
-    ensures { IfOk result (λ parts. Shape netlist.now (record { netlist = netlist.now; banks = parts.banks; stages = parts.stages; inputs = parts.inputs; outputs = parts.outputs; ki = parts.ki.0; ko = parts.ko.0 })) }
+    ensures { IfOk result (λ parts. Shape origins.now.netlist (record { netlist = origins.now.netlist; banks = parts.banks; stages = parts.stages; inputs = parts.inputs; outputs = parts.outputs; ki = parts.ki.0; ko = parts.ko.0 })) }
 {
+    let netlist = origins.netlist();
     let banks = banks_of(alloc, netlist, chain, bits)?;
-    let gates = gates_of_banks(alloc, netlist, origins, chain)?;
+    let gates = gates_of_banks(alloc, origins, chain)?;
     let stages = stages_between(alloc, netlist, &banks, gates)?;
     let first = &banks[0];
     let last = &banks[banks.len() - 1];
@@ -85,20 +83,18 @@ fn assemble(
 /// banks. Linear in cells, banks and bits.
 fn pipeline_of<'a>(
     alloc: Global,
-    netlist: &'a Netlist,
-    origins: &Origins,
+    origins: Origins<'a>,
     chain: &Chain,
 ) -> Result<Pipeline<'a>, ShapeFault>
-    requires free { IsFree netlist.now }
-    requires origins { AreOrigins netlist.now origins.now }
-    requires chained { IsChained netlist.now }
-    requires chain { IsChainOf netlist.now chain.now }
-    ensures shape { IfOk result (λ p. Shape netlist.now p) }
-    ensures fault { IfErr result (IsShapeFault netlist.now) }
+    requires free { IsFree origins.netlist }
+    requires chained { IsChained origins.netlist }
+    requires chain { IsChainOf origins.netlist chain.now }
+    ensures shape { IfOk result (λ p. Shape origins.entry.netlist p) }
+    ensures fault { IfErr result (IsShapeFault origins.entry.netlist) }
 {
-    let bits = find_bits(alloc, netlist, origins, chain)?;
-    let parts = assemble(alloc, netlist, origins, chain, bits)?;
-    Ok(Pipeline::of(netlist, parts))
+    let bits = find_bits(alloc, &origins, chain)?;
+    let parts = assemble(alloc, &origins, chain, bits)?;
+    Ok(Pipeline::of(origins, parts))
 }
 
 /// The pipeline of a netlist, or the first rule of shape that it breaks, at its first port, cell or bank.
@@ -109,6 +105,6 @@ pub fn shape(alloc: Global, netlist: &Netlist) -> Result<Pipeline<'_>, ShapeFaul
     ensures fault { IfErr result (IsShapeFault netlist.now) }
 {
     let origins = find_origins(alloc, netlist)?;
-    let chain = find_chain(alloc, netlist, &origins)?;
-    pipeline_of(alloc, netlist, &origins, &chain)
+    let chain = find_chain(alloc, &origins)?;
+    pipeline_of(alloc, origins, &chain)
 }

@@ -1,5 +1,6 @@
 //! Linear pipelines.
 ghost use Rattle.std.specs.Prelude.{◌≡◌};
+ghost use Rattle.ncl_cell_rules.specs.Origins.{AreOrigins};
 ghost use Rattle.ncl_shape.specs.Shape.{Shape};
 ghost use Rattle.ncl_shape.specs.Held.{data_banks, is_data_bank};
 
@@ -7,6 +8,7 @@ use crate::bank::Bank;
 use crate::rails::Rails;
 use crate::stage::Stage;
 use ncl_base::Items;
+use ncl_cell_rules::Origins;
 use ncl_netlist::{NetId, Netlist};
 use std::marker::Model;
 
@@ -15,7 +17,7 @@ use std::marker::Model;
 /// Only `shape` makes one, of a netlist that has this shape.
 #[derive(Debug, Drop)]
 pub struct Pipeline<'a> {
-    netlist: &'a Netlist,
+    origins: Origins<'a>,
     banks: Items<Bank>,
     stages: Items<Stage>,
     inputs: Items<Rails>,
@@ -30,9 +32,9 @@ impl<'a> Model for Pipeline<'a> {
 
     ghost Value = { PipelineData };
 
-    ghost view = { λ a. record { netlist = a.netlist.now; banks = a.banks; stages = a.stages; inputs = a.inputs; outputs = a.outputs; ki = a.ki.0; ko = a.ko.0 } };
+    ghost view = { λ a. record { netlist = a.origins.netlist; banks = a.banks; stages = a.stages; inputs = a.inputs; outputs = a.outputs; ki = a.ki.0; ko = a.ko.0 } };
 
-    ghost invariant = { λ a. Shape a.netlist.now (record { netlist = a.netlist.now; banks = a.banks; stages = a.stages; inputs = a.inputs; outputs = a.outputs; ki = a.ki.0; ko = a.ko.0 }) };
+    ghost invariant = { λ a. Shape a.origins.netlist (record { netlist = a.origins.netlist; banks = a.banks; stages = a.stages; inputs = a.inputs; outputs = a.outputs; ki = a.ki.0; ko = a.ko.0 }) };
 }
 
 /// The parts of a pipeline but its netlist.
@@ -54,11 +56,11 @@ fn is_data_bank(bank: &Bank) -> bool
 }
 
 impl<'a> Pipeline<'a> {
-    /// The pipeline of a netlist and parts that are its shape. Takes no memory.
-    pub(crate) fn of(netlist: &'a Netlist, parts: Parts) -> Pipeline<'a>
-        requires { Shape netlist.now (record { netlist = netlist.now; banks = parts.banks; stages = parts.stages; inputs = parts.inputs; outputs = parts.outputs; ki = parts.ki.0; ko = parts.ko.0 }) }
-        ensures parts { result ≡ record { netlist = netlist.now; banks = parts.banks; stages = parts.stages; inputs = parts.inputs; outputs = parts.outputs; ki = parts.ki.0; ko = parts.ko.0 } }
-        ensures shape { Shape netlist.now result }
+    /// The pipeline of what is known of a netlist, and of parts that are its shape. Takes no memory.
+    pub(crate) fn of(origins: Origins<'a>, parts: Parts) -> Pipeline<'a>
+        requires { Shape origins.netlist (record { netlist = origins.netlist; banks = parts.banks; stages = parts.stages; inputs = parts.inputs; outputs = parts.outputs; ki = parts.ki.0; ko = parts.ko.0 }) }
+        ensures parts { result ≡ record { netlist = origins.entry.netlist; banks = parts.banks; stages = parts.stages; inputs = parts.inputs; outputs = parts.outputs; ki = parts.ki.0; ko = parts.ko.0 } }
+        ensures shape { Shape origins.entry.netlist result }
     {
         let Parts {
             banks,
@@ -69,7 +71,7 @@ impl<'a> Pipeline<'a> {
             ko,
         } = parts;
         Pipeline {
-            netlist,
+            origins,
             banks,
             stages,
             inputs,
@@ -84,7 +86,17 @@ impl<'a> Pipeline<'a> {
         ensures netlist { result.now ≡ self.now.netlist }
         ensures shape { Shape self.now.netlist self.now }
     {
-        self.netlist
+        self.origins.netlist()
+    }
+
+    /// Where the nets of the netlist come from.
+    pub fn origins(&self) -> &Origins<'a>
+        ensures netlist { result.now.netlist ≡ self.now.netlist }
+        ensures origins { AreOrigins self.now.netlist result.now }
+        ensures shape { Shape self.now.netlist self.now }
+    {
+        self.origins.facts();
+        &self.origins
     }
 
     /// The banks in the order of the pipeline, of which there are at least one and at most 256.
@@ -152,6 +164,6 @@ impl<'a> Pipeline<'a> {
     pub fn facts(&self)
         ensures { Shape self.now.netlist self.now }
     {
-        let _ = &self.netlist;
+        let _ = &self.origins;
     }
 }

@@ -2,7 +2,6 @@
 ghost use Rattle.std.specs.Prelude.{◌<◌, ◌↔◌, ◌⊎◌, ℕ, IfOk, IsTrue, MatchOption, length};
 ghost use Rattle.ncl_cell_rules.specs.Free.{IsFree};
 ghost use Rattle.ncl_cell_rules.specs.Origin.{IsOutputPort};
-ghost use Rattle.ncl_cell_rules.specs.Origins.{AreOrigins};
 ghost use Rattle.ncl_cell_rules.specs.Rules.{IsRequest};
 ghost use Rattle.ncl_shape.specs.Chain.{HasRoots, IsAcknowledged, IsChain, IsRoot};
 ghost use Rattle.ncl_shape.specs.ChainSteps.{AreRootsOf, numbers_of};
@@ -11,33 +10,31 @@ use crate::chain::Relation;
 use crate::only_nets::only_nets;
 use ncl_base::Memory;
 use ncl_cell_rules::{Origins, Source, is_output_port};
-use ncl_netlist::{NetId, Netlist};
+use ncl_netlist::NetId;
 use std::alloc::Global;
 
 /// Whether a net is a request or an output port.
-fn is_used(netlist: &Netlist, origins: &Origins, net: NetId) -> bool
-    requires inside { net.0 < length netlist.now.nets }
-    requires origins { AreOrigins netlist.now origins.now }
-    ensures { IsTrue result ↔ (IsRequest netlist.now net.0 ⊎ IsOutputPort netlist.now net.0) }
+fn is_used(origins: &Origins, net: NetId) -> bool
+    requires inside { net.0 < length origins.now.netlist.nets }
+    ensures { IsTrue result ↔ (IsRequest origins.now.netlist net.0 ⊎ IsOutputPort origins.now.netlist net.0) }
 {
     if origins.first(net).is_some() {
         return true;
     }
-    is_output_port(netlist, net)
+    is_output_port(origins.netlist(), net)
 }
 
 /// The bank of whose tree a net is a root: it comes from the acknowledge cells of that bank alone, and is a request or
 /// an output port.
-pub(crate) fn bank_of_root(netlist: &Netlist, origins: &Origins, net: NetId) -> Option<NetId>
-    requires inside { net.0 < length netlist.now.nets }
-    requires free { IsFree netlist.now }
-    requires origins { AreOrigins netlist.now origins.now }
-    ensures { MatchOption result ((bank : ℕ) → IsRoot netlist.now bank net.0 → ⊥) (λ bank. IsRoot netlist.now bank.0 net.0) }
+pub(crate) fn bank_of_root(origins: &Origins, net: NetId) -> Option<NetId>
+    requires inside { net.0 < length origins.now.netlist.nets }
+    requires free { IsFree origins.now.netlist }
+    ensures { MatchOption result ((bank : ℕ) → IsRoot origins.now.netlist bank net.0 → ⊥) (λ bank. IsRoot origins.now.netlist bank.0 net.0) }
 {
     let Source::Ack(bank) = origins.source(net) else {
         return None;
     };
-    if !is_used(netlist, origins, net) {
+    if !is_used(origins, net) {
         return None;
     }
     Some(bank)
@@ -47,17 +44,16 @@ pub(crate) fn bank_of_root(netlist: &Netlist, origins: &Origins, net: NetId) -> 
 /// output port, since no bank stands before that asks for it. Linear in nets and banks.
 pub(crate) fn find_roots(
     alloc: Global,
-    netlist: &Netlist,
     origins: &Origins,
     banks: &[NetId],
 ) -> Result<Option<Vec<NetId>>, Memory>
-    requires free { IsFree netlist.now }
-    requires origins { AreOrigins netlist.now origins.now }
-    requires chain { IsChain netlist.now (numbers_of banks.now) }
-    requires acknowledged { IsAcknowledged netlist.now (numbers_of banks.now) }
-    ensures { IfOk result (λ found. MatchOption found (HasRoots netlist.now (numbers_of banks.now) → ⊥) (λ roots. HasRoots netlist.now (numbers_of banks.now) × AreRootsOf netlist.now banks.now roots.items)) }
+    requires free { IsFree origins.now.netlist }
+    requires chain { IsChain origins.now.netlist (numbers_of banks.now) }
+    requires acknowledged { IsAcknowledged origins.now.netlist (numbers_of banks.now) }
+    ensures { IfOk result (λ found. MatchOption found (HasRoots origins.now.netlist (numbers_of banks.now) → ⊥) (λ roots. HasRoots origins.now.netlist (numbers_of banks.now) × AreRootsOf origins.now.netlist banks.now roots.items)) }
 {
-    let Some(found) = only_nets(alloc, netlist, origins, Relation::Root)? else {
+    origins.facts();
+    let Some(found) = only_nets(alloc, origins, Relation::Root)? else {
         return Ok(None);
     };
     let mut roots = Vec::new(alloc);

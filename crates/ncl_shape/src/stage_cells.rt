@@ -5,7 +5,6 @@ ghost use Rattle.ncl_gates.specs.declared.kind.Kind.{Kind};
 ghost use Rattle.ncl_gates.specs.declared.cell_kind.CellKind.TheVariants.{Gate};
 ghost use Rattle.ncl_cell_rules.specs.Origin.{CellAt, ComesFrom, IsCell, RailOf};
 ghost use Rattle.ncl_cell_rules.specs.Free.{IsFree};
-ghost use Rattle.ncl_cell_rules.specs.Origins.{AreOrigins};
 ghost use Rattle.ncl_shape.specs.FoundChain.{IsChainOf, requests_of};
 ghost use Rattle.ncl_shape.specs.FoundParts.{AreGatesOf};
 ghost use Rattle.ncl_shape.specs.Shape.{IsGateOf};
@@ -16,7 +15,7 @@ use crate::stage::StageCell;
 use ncl_base::Memory;
 use ncl_cell_rules::{Origins, Source};
 use ncl_gates::{CellKind, Kind};
-use ncl_netlist::{Cell, CellId, NetId, Netlist};
+use ncl_netlist::{Cell, CellId, NetId};
 use std::alloc::Global;
 
 /// A gate cell as a cell of a stage.
@@ -36,14 +35,14 @@ fn stage_cell(place: u32, kind: Kind, cell: &Cell) -> Result<StageCell, Memory>
 }
 
 /// The bank whose rails a gate cell reads, and its gate; `None` for every other cell.
-fn gate_of_bank(netlist: &Netlist, origins: &Origins, cell: &Cell) -> Option<(NetId, Kind)>
-    requires in_netlist { IsCell netlist.now cell.now }
-    requires free { IsFree netlist.now }
-    requires origins { AreOrigins netlist.now origins.now }
+fn gate_of_bank(origins: &Origins, cell: &Cell) -> Option<(NetId, Kind)>
+    requires in_netlist { IsCell origins.now.netlist cell.now }
+    requires free { IsFree origins.now.netlist }
     ensures gate { IfSome result (λ found. cell.now.kind ≡ Gate found.1) }
-    ensures reads { IfSome result (λ found. ComesFrom netlist.now cell.now.out.0 (RailOf found.0.0)) }
-    ensures none { IfNone result ((bank : ℕ) (kind : Kind) → cell.now.kind ≡ Gate kind → ComesFrom netlist.now cell.now.out.0 (RailOf bank) → ⊥) }
+    ensures reads { IfSome result (λ found. ComesFrom origins.now.netlist cell.now.out.0 (RailOf found.0.0)) }
+    ensures none { IfNone result ((bank : ℕ) (kind : Kind) → cell.now.kind ≡ Gate kind → ComesFrom origins.now.netlist cell.now.out.0 (RailOf bank) → ⊥) }
 {
+    origins.facts();
     let CellKind::Gate(kind) = cell.kind else {
         return None;
     };
@@ -57,20 +56,18 @@ fn gate_of_bank(netlist: &Netlist, origins: &Origins, cell: &Cell) -> Option<(Ne
 /// Linear in the cells and banks.
 pub(crate) fn gates_of_banks(
     alloc: Global,
-    netlist: &Netlist,
     origins: &Origins,
     chain: &Chain,
 ) -> Result<Vec<Vec<StageCell>>, Memory>
-    requires free { IsFree netlist.now }
-    requires origins { AreOrigins netlist.now origins.now }
-    requires chain { IsChainOf netlist.now chain.now }
-    ensures { IfOk result (λ lists. AllZip (AreGatesOf netlist.now) (requests_of chain.now) (map (λ l. l.items) lists.items)) }
+    requires free { IsFree origins.now.netlist }
+    requires chain { IsChainOf origins.now.netlist chain.now }
+    ensures { IfOk result (λ lists. AllZip (AreGatesOf origins.now.netlist) (requests_of chain.now) (map (λ l. l.items) lists.items)) }
 {
-    let cells = netlist.cells();
+    let cells = origins.netlist().cells();
     let mut lists = empty_lists(alloc, chain.banks.len())?;
-    for place in &origins.order {
+    for place in origins.order() {
         let cell = &cells[*place as usize];
-        if let Some((bank, kind)) = gate_of_bank(netlist, origins, cell) {
+        if let Some((bank, kind)) = gate_of_bank(origins, cell) {
             let gate = stage_cell(*place, kind, cell)?;
             put(&mut lists, number_of(chain, bank), gate)?;
         }

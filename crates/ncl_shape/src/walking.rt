@@ -2,7 +2,6 @@
 ghost use Rattle.std.specs.Prelude.{◌≡◌, ◌<◌, ◌≤◌, ◌+◌, ◌↔◌, All, IfOk, IsTrue, MatchOption, length};
 ghost use Rattle.ncl_netlist.specs.declared.ids.NetId.{NetId};
 ghost use Rattle.ncl_cell_rules.specs.Free.{IsFree};
-ghost use Rattle.ncl_cell_rules.specs.Origins.{AreOrigins};
 ghost use Rattle.ncl_shape.specs.Chain.{Follows, HasChain, IsChain, IsFirstBank, IsUnforked};
 ghost use Rattle.ncl_shape.specs.ChainSteps.{AreAllNumbered, AreNumbersOf, AreOnly, IsOnly, IsWalk, numbers_of};
 
@@ -52,12 +51,11 @@ fn numbers(alloc: Global, netlist: &Netlist, banks: &[NetId]) -> Result<Vec<Opti
 }
 
 /// Whether each bank has a number. Linear in the nets.
-fn are_all_numbered(netlist: &Netlist, origins: &Origins, numbers: &[Option<u32>]) -> bool
-    requires origins { AreOrigins netlist.now origins.now }
-    requires sized { length numbers.now ≡ length netlist.now.nets }
-    ensures { IsTrue result ↔ AreAllNumbered netlist.now numbers.now }
+fn are_all_numbered(origins: &Origins, numbers: &[Option<u32>]) -> bool
+    requires sized { length numbers.now ≡ length origins.now.netlist.nets }
+    ensures { IsTrue result ↔ AreAllNumbered origins.now.netlist numbers.now }
 {
-    for net in 0..netlist.nets().len() {
+    for net in 0..origins.netlist().nets().len() {
         if origins.first(NetId(net as u32)).is_some() && numbers[net].is_none() {
             return false;
         }
@@ -69,21 +67,20 @@ fn are_all_numbered(netlist: &Netlist, origins: &Origins, numbers: &[Option<u32>
 /// from the first bank doesn't meet each bank. Linear in the nets.
 pub(crate) fn banks_in_order(
     alloc: Global,
-    netlist: &Netlist,
     origins: &Origins,
     followers: &[Option<NetId>],
     first: NetId,
 ) -> Result<Option<(Vec<NetId>, Vec<Option<u32>>)>, Memory>
-    requires free { IsFree netlist.now }
-    requires origins { AreOrigins netlist.now origins.now }
-    requires unforked { IsUnforked netlist.now }
-    requires followers { AreOnly netlist.now (Follows netlist.now) followers.now }
-    requires first { IsOnly (IsFirstBank netlist.now) first.0 }
-    ensures { IfOk result (λ found. MatchOption found (HasChain netlist.now → ⊥) (λ order. IsChain netlist.now (numbers_of order.0.items) × AreNumbersOf netlist.now (numbers_of order.0.items) order.1.items)) }
+    requires free { IsFree origins.now.netlist }
+    requires unforked { IsUnforked origins.now.netlist }
+    requires followers { AreOnly origins.now.netlist (Follows origins.now.netlist) followers.now }
+    requires first { IsOnly (IsFirstBank origins.now.netlist) first.0 }
+    ensures { IfOk result (λ found. MatchOption found (HasChain origins.now.netlist → ⊥) (λ order. IsChain origins.now.netlist (numbers_of order.0.items) × AreNumbersOf origins.now.netlist (numbers_of order.0.items) order.1.items)) }
 {
+    let netlist = origins.netlist();
     let banks = walk(alloc, netlist, followers, first)?;
     let numbers = numbers(alloc, netlist, &banks)?;
-    if !are_all_numbered(netlist, origins, &numbers) {
+    if !are_all_numbered(origins, &numbers) {
         return Ok(None);
     }
     Ok(Some((banks, numbers)))

@@ -2,7 +2,6 @@
 ghost use Rattle.std.specs.Prelude.{◌≡◌, ℕ, ◌<◌, ◌≤◌, [], All, IfErr, IfOk, MatchOption, OnOk, length, map};
 ghost use Rattle.std.specs.List.{AllZip, slice_index_or};
 ghost use Rattle.ncl_cell_rules.specs.Free.{FailsFirst, IsFree};
-ghost use Rattle.ncl_cell_rules.specs.Origins.{AreOrigins};
 ghost use Rattle.ncl_shape.specs.Chain.{IsChained};
 ghost use Rattle.ncl_shape.specs.FoundChain.{IsChainOf, requests_of};
 ghost use Rattle.ncl_shape.specs.FoundParts.{AreFewBitsOf};
@@ -14,7 +13,6 @@ use crate::chain::Chain;
 use crate::fault::ShapeFault;
 use ncl_base::MOST_BITS;
 use ncl_cell_rules::Origins;
-use ncl_netlist::Netlist;
 use std::alloc::Global;
 
 /// The place of the first list of more bits than a word has. Linear in the lists.
@@ -35,19 +33,18 @@ fn first_wide(lists: &[Vec<Bit>]) -> Option<usize>
 /// Linear in the cells and banks.
 pub(crate) fn find_bits(
     alloc: Global,
-    netlist: &Netlist,
     origins: &Origins,
     chain: &Chain,
 ) -> Result<Vec<Vec<Bit>>, ShapeFault>
-    requires free { IsFree netlist.now }
-    requires origins { AreOrigins netlist.now origins.now }
-    requires chained { IsChained netlist.now }
-    requires chain { IsChainOf netlist.now chain.now }
-    ensures bits { IfOk result (λ lists. AllZip (AreFewBitsOf netlist.now) (requests_of chain.now) (map (λ l. l.items) lists.items)) }
+    requires free { IsFree origins.now.netlist }
+    requires chained { IsChained origins.now.netlist }
+    requires chain { IsChainOf origins.now.netlist chain.now }
+    ensures bits { IfOk result (λ lists. AllZip (AreFewBitsOf origins.now.netlist) (requests_of chain.now) (map (λ l. l.items) lists.items)) }
     ensures few_banks { OnOk result (length chain.now.banks.items ≤ MOST_BANKS) }
-    ensures fault { IfErr result (IsShapeFault netlist.now) }
+    ensures fault { IfErr result (IsShapeFault origins.now.netlist) }
 {
-    let bits = bits_of_banks(alloc, netlist, origins, chain)?;
+    origins.facts();
+    let bits = bits_of_banks(alloc, origins, chain)?;
     if let Some(k) = first_wide(&bits) {
         return Err(ShapeFault::TooWide(k as u32 + 1));
     }

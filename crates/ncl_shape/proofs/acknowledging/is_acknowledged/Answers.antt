@@ -19,41 +19,39 @@ use Rattle.ncl_shape.proofs.acknowledging.is_acknowledged.Goals.{After-source}
 pub source-requires : goal.source-requires
 source-requires c =
     let some = c.loop-next.auto.next in
-    let inside = chain_within c.args.netlist.now c.requires.origins.drivers.netlist c.args.banks.now c.requires.chain (c.loop-next.next - 1) no_net (omega (arith, some, c.loop-next-test.true)) in
-    let sized = c.requires.origins.sources.sized in
-    omega (arith, inside, sized)
+    chain_within c.args.origins.now.netlist c.facts.ensures.drivers.netlist c.args.banks.now c.requires.chain (c.loop-next.next - 1) no_net (omega (arith, some, c.loop-next-test.true))
 
 -- the source that is read is that of the request
-is_source : (c : After-source) → IsSourceOf c.args.netlist.now (get_or c.args.banks.now (c.loop-next.next - 1) no_net).0 c.source.result
+is_source : (c : After-source) → IsSourceOf c.args.origins.now.netlist (get_or c.args.banks.now (c.loop-next.next - 1) no_net).0 c.source.result
 is_source c =
     let some = c.loop-next.auto.next in
-    let inside = chain_within c.args.netlist.now c.requires.origins.drivers.netlist c.args.banks.now c.requires.chain (c.loop-next.next - 1) no_net (omega (arith, some, c.loop-next-test.true)) in
-    subst (IsSourceOf c.args.netlist.now _) (sym c.source.ensures) (c.requires.origins.sources.each _ inside)
+    let inside = chain_within c.args.origins.now.netlist c.facts.ensures.drivers.netlist c.args.banks.now c.requires.chain (c.loop-next.next - 1) no_net (omega (arith, some, c.loop-next-test.true)) in
+    subst (IsSourceOf c.args.origins.now.netlist _) (sym c.source.ensures.source) (c.facts.ensures.sources.each _ inside)
 
 pub returns-then-not-same_source : goal.returns-then-not-same_source
 returns-then-not-same_source c = (
   (λ never. absurd cc),
   λ acks.
-      let n = c.args.netlist.now in
+      let n = c.args.origins.now.netlist in
       let banks = c.args.banks.now in
       let i = c.loop-next.next in
       let only = acknowledged_at n banks i no_net acks c.loop-next.auto.next c.loop-next-test.true in
       absurd (both_ways c.same_source.result c.if-not-same_source.true
-      (c.same_source.ensures.1 (source_of_origin n c.requires.origins.drivers.netlist c.requires.free (get_or banks (i - 1) no_net).0 c.source.result (Ack (get_or banks i no_net)) (AckOf (get_or banks i no_net).0) (is_source (goal.at.returns-then-not-same_source c).After-source) only.comes refl))),
+      (c.same_source.ensures.1 (source_of_origin n c.facts.ensures.drivers.netlist c.requires.free (get_or banks (i - 1) no_net).0 c.source.result (Ack (get_or banks i no_net)) (AckOf (get_or banks i no_net).0) (is_source (goal.at.returns-then-not-same_source c).After-source) only.comes refl))),
 )
 
 pub loop-next-preserved : goal.loop-next-preserved
 loop-next-preserved c =
-    let n = c.args.netlist.now in
+    let n = c.args.origins.now.netlist in
     let banks = c.args.banks.now in
     let i = c.loop-next.next in
     let is_s = is_source (goal.at.loop-next-preserved c).After-source in
-    let only = only_from_source n c.requires.origins.drivers.netlist (get_or banks (i - 1) no_net).0 c.source.result (AckOf (get_or banks i no_net).0) is_s (ap named (c.same_source.ensures.0 c.if-not-same_source.false)) in
+    let only = only_from_source n c.facts.ensures.drivers.netlist (get_or banks (i - 1) no_net).0 c.source.result (AckOf (get_or banks i no_net).0) is_s (ap named (c.same_source.ensures.0 c.if-not-same_source.false)) in
     acknowledged_more n banks i no_net c.loop-next.invariant c.loop-next.auto.next c.loop-next-test.true only
 
 pub returns : goal.returns
 returns c = (
-  (λ holds. acknowledged c.args.netlist.now c.requires.origins.drivers.netlist c.requires.free (numbers_of c.args.banks.now) c.requires.chain c.requires.ends
+  (λ holds. acknowledged c.args.origins.now.netlist c.facts.ensures.drivers.netlist c.requires.free (numbers_of c.args.banks.now) c.requires.chain c.requires.ends
       (λ k bank next at at_next.
       let within = slice_get_within (numbers_of c.args.banks.now) (k + 1) next at_next in
       let as_many = length-map c.args.banks.now (λ (net : NetId). net.0) in

@@ -6,4 +6,4 @@ use Rattle.ncl_shape.proofs.bits.bits_of_banks.Given as goal
 
 -- each list has the bits of its bank among the cells so far
 abbrev pub invariant-loop-place : goal.invariant-loop-place
-invariant-loop-place l = AllZip (AreBitsBelow l.netlist l.place) (requests_of l.chain) (map (λ v. v.items) l.lists.items)
+invariant-loop-place l = AllZip (AreBitsBelow l.origins.netlist l.place) (requests_of l.chain) (map (λ v. v.items) l.lists.items)

@@ -7,14 +7,14 @@ use Rattle.ncl_shape.proofs.ends.is_last_bank.Goals as goal
 pub returns-then-is_some : goal.returns-then-is_some
 returns-then-is_some c = (
   (λ holds. record {
-    is_bank = request_by_first c.args.netlist.now c.requires.origins.drivers.netlist c.args.bank.0 c.requires.inside c.args.origins.now.firsts.items c.requires.origins.firsts (ap is_some (sym c.first.ensures) ∙ sym c.is_some.ensures ∙ c.if-is_some.true);
-    request = port_of_none c.args.netlist.now c.args.origins.now.drivers.items c.requires.origins.drivers c.args.bank.0 c.requires.inside (sym c.driver.ensures ∙ none_from c.driver.result c.is_none.result c.is_none.ensures holds);
+    is_bank = request_by_first c.args.origins.now.netlist c.first.ensures.origins.drivers.netlist c.args.bank.0 c.requires.inside c.args.origins.now.firsts c.first.ensures.origins.firsts (ap is_some (sym c.first.ensures.first) ∙ sym c.is_some.ensures ∙ c.if-is_some.true);
+    request = port_of_none c.args.origins.now.netlist c.args.origins.now.drivers c.first.ensures.origins.drivers c.args.bank.0 c.requires.inside (sym c.driver.ensures.driver ∙ none_from c.driver.result c.is_none.result c.is_none.ensures holds);
   }),
   λ last.
-      let none = none_of_port c.args.netlist.now c.args.origins.now.drivers.items c.requires.origins.drivers c.args.bank.0 last.request in
+      let none = none_of_port c.args.origins.now.netlist c.args.origins.now.drivers c.first.ensures.origins.drivers c.args.bank.0 last.request in
       elim (cases_Bool c.is_none.result) [
         | inl holds ↦ holds
-        | inr fails ↦ absurd (some_from c.driver.result c.is_none.result c.is_none.ensures fails (c.driver.ensures ∙ none))
+        | inr fails ↦ absurd (some_from c.driver.result c.is_none.result c.is_none.ensures fails (c.driver.ensures.driver ∙ none))
       ],
 )
 
@@ -22,6 +22,6 @@ pub returns-else-is_some : goal.returns-else-is_some
 returns-else-is_some c = (
   (λ holds. absurd (both_ways c.is_some.result c.if-is_some.false holds)),
   λ last.
-      let some = first_by_request c.args.netlist.now c.requires.origins.drivers.netlist c.args.bank.0 c.requires.inside c.args.origins.now.firsts.items c.requires.origins.firsts last.is_bank in
-      absurd (both_ways c.is_some.result c.if-is_some.false (c.is_some.ensures ∙ ap is_some c.first.ensures ∙ some)),
+      let some = first_by_request c.args.origins.now.netlist c.first.ensures.origins.drivers.netlist c.args.bank.0 c.requires.inside c.args.origins.now.firsts c.first.ensures.origins.firsts last.is_bank in
+      absurd (both_ways c.is_some.result c.if-is_some.false (c.is_some.ensures ∙ ap is_some c.first.ensures.first ∙ some)),
 )

@@ -18,4 +18,4 @@ returns-in_err-origins-clause-fault c =
 
 pub returns-in_err-chain-clause-fault : goal.returns-in_err-chain-clause-fault
 returns-in_err-chain-clause-fault c =
-    handed (IsShapeFault c.args.netlist.now) c.from_residual-in_err-chain.result c.in_err-chain.field-0.0 c.from_residual-in_err-chain.ensures.1 (of_chain c.args.netlist.now c.in_ok-origins.ensures.free c.in_err-chain.field-0.0 c.in_err-chain.ensures.fault)
+    handed (IsShapeFault c.args.netlist.now) c.from_residual-in_err-chain.result c.in_err-chain.field-0.0 c.from_residual-in_err-chain.ensures.1 (of_chain c.args.netlist.now c.in_ok-origins.ensures.free c.in_err-chain.field-0.0 (rw c.in_ok-origins.ensures.netlist at c.in_err-chain.ensures.fault))

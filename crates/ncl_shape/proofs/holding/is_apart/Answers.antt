@@ -7,26 +7,26 @@ use Rattle.ncl_shape.proofs.holding.is_apart.Goals as goal
 
 pub returns-in_default : goal.returns-in_default
 returns-in_default c = (
-  (λ holds next follows from to. none_follows c.args.netlist.now c.args.followers.now c.requires.followers c.args.bank.0 c.requires.inside c.in_default.is next follows),
+  (λ holds next follows from to. none_follows c.args.origins.now.netlist c.args.followers.now c.requires.followers c.args.bank.0 c.requires.inside c.in_default.is next follows),
   λ all. refl,
 )
 
 pub returns : goal.returns
 returns c =
-    let n = c.args.netlist.now in
-    let flags = c.args.origins.now.data_banks.items in
-    let are = c.requires.origins.data_banks in
-    let is = c.requires.origins.drivers.netlist in
+    let n = c.args.origins.now.netlist in
+    let flags = c.args.origins.now.data_banks in
+    let are = c.is_data_bank.ensures.origins.data_banks in
+    let is = c.is_data_bank.ensures.origins.drivers.netlist in
     let follows = one_follows n c.args.followers.now c.requires.followers c.args.bank.0 c.requires.inside c.in-Some.next c.in-Some.is in
     let within : c.in-Some.next.0 < length n.nets = follower_within n is c.args.bank.0 c.in-Some.next.0 follows in (
       (λ holds next goes from to.
           let same : next ≡ c.in-Some.next.0 = only_follows n c.args.followers.now c.requires.followers c.args.bank.0 c.requires.inside c.in-Some.next c.in-Some.is next goes in
           let marked : c.is_data_bank-2.result ≡ true
-          = c.is_data_bank-2.ensures ∙ ap (λ x. get_or flags x false) (sym same) ∙ mark_of_bank n flags are next (follower_within n is c.args.bank.0 next goes) to in
+          = c.is_data_bank-2.ensures.data ∙ ap (λ x. get_or flags x false) (sym same) ∙ mark_of_bank n flags are next (follower_within n is c.args.bank.0 next goes) to in
           both_ways true (sym holds ∙ ap not marked) refl),
       λ all.
           ap not (false_from_ne_true c.is_data_bank-2.result (λ marked.
           all c.in-Some.next.0 follows
-          (bank_of_mark n flags are c.args.bank.0 c.requires.inside (sym c.is_data_bank.ensures ∙ c.if-not-is_data_bank.false))
-          (bank_of_mark n flags are c.in-Some.next.0 within (sym c.is_data_bank-2.ensures ∙ marked)))),
+          (bank_of_mark n flags are c.args.bank.0 c.requires.inside (sym c.is_data_bank.ensures.data ∙ c.if-not-is_data_bank.false))
+          (bank_of_mark n flags are c.in-Some.next.0 within (sym c.is_data_bank-2.ensures.data ∙ marked)))),
     )

@@ -4,7 +4,7 @@ use Rattle.std.proofs.lemmas.Bool.Decides.{nat_tests}
 use Rattle.std.proofs.lemmas.List.{length-take-le, take-take}
 use Rattle.std.proofs.Math.Seq.{take-length}
 use Rattle.ncl_space.specs.Beads.{Beads}
-use Rattle.ncl_space.specs.Space.{SpaceData, MarksNow, Releases}
+use Rattle.ncl_space.specs.Space.{SpaceData, IsSpace, MarksNow, Releases}
 use Rattle.ncl_space.specs.declared.space.Ref.{Ref}
 use Rattle.ncl_space.specs.declared.space.Mark.{Mark}
 
@@ -42,8 +42,8 @@ marks_now s beads items counts m is = record {
 
 -- the first items alone are the space at a mark
 pub releases_to : {X : Type 0} (old new : SpaceData) (beads : List X → Beads) (items : List X) (m : Mark) → CountsMarks old beads items → CountsMarks new beads (take m.count items) → m.count ≤ length items
-    → new.width ≡ old.width → new.limit ≡ old.limit → ((r : Ref) → r.place < m.count + 2 → new.table r ≡ old.table r) → Releases old new m
-releases_to old new beads items m before after le width limit tables = record {
+    → new.width ≡ old.width → new.limit ≡ old.limit → ((r : Ref) → r.place < m.count + 2 → new.table r ≡ old.table r) → IsSpace new → Releases old new m
+releases_to old new beads items m before after le width limit tables space = record {
   width = width;
   limit = limit;
   live = λ r. after.live r ∙ ap (λ (k : ℕ). nat_lt r.place (k + 2)) long ∙ sym (before.live_at m r);
@@ -54,6 +54,7 @@ releases_to old new beads items m before after le width limit tables = record {
     live_at = λ r. after.live_at n r ∙ sym (before.live_at n r);
     held_at = after.held_at n ∙ ap beads (take-take n.count m.count items earlier) ∙ sym (before.held_at n);
   };
+  space = space;
 }
   where
     long : length (take m.count items) ≡ m.count

@@ -2,7 +2,6 @@
 -- and the end.
 use Rattle.std.proofs.Common.{◌≡◌, ℕ, ◌+◌, ◌<◌, List, [], ◌∷◌, ◌++◌, Bool, false, length, map, take, drop, get_or, sym, ◌∙◌, ap, subst, refl, arith, Result, Ok, Err}
 use Rattle.std.specs.Prelude.{All, IsErrAnd}
-use Rattle.std.specs.FinSet as set
 use Rattle.std.proofs.lemmas.List.{map-append, length-map, take-append-drop, take_more, get_or-map, map_more}
 use Rattle.std.proofs.lemmas.List.Elements.{All-append, All-cons, All-nil, All-head, All-tail}
 use Rattle.ncl_space.specs.Space.{SpaceData, IsSpace, IsLive, Keeps, Makes, with_tables, fits, Within}
@@ -16,7 +15,6 @@ use Rattle.ncl_space.proofs.SpaceLaws.{keeps_along, keeps_all, with_more, with_n
 -- what a caller has made so far
 pub record Making (old now : SpaceData) (refs : List Ref) (made : List (List Bool)) : Type 0 where
   pub kept : Keeps old now
-  pub space : IsSpace now
   pub all : MakesAll old now refs made
 
 -- Refs that are live keep their tables
@@ -51,16 +49,14 @@ makes-live s r t space live is = record {
 -- at first nothing has been made
 pub making-none : (s : SpaceData) → IsSpace s → Making s s [] []
 making-none s space = record {
-  kept = keeps_all s;
-  space = space;
+  kept = keeps_all s space;
   all = record { refs_of = record { live = All-nil (IsLive s); tables = refl }; held = sym (with_none s) };
 }
 
 -- one more
-pub making-one : (a b d : SpaceData) (refs : List Ref) (ts : List (List Bool)) (r : Ref) (t : List Bool) → Making a b refs ts → Keeps b d → IsSpace d → Makes b d r t → Making a d (refs ++ r ∷ []) (ts ++ t ∷ [])
-making-one a b d refs ts r t m k space one = record {
+pub making-one : (a b d : SpaceData) (refs : List Ref) (ts : List (List Bool)) (r : Ref) (t : List Bool) → Making a b refs ts → Keeps b d → Makes b d r t → Making a d (refs ++ r ∷ []) (ts ++ t ∷ [])
+making-one a b d refs ts r t m k one = record {
   kept = keeps_along a b d m.kept k;
-  space = space;
   all = record {
     refs_of = record {
       live = All-append (IsLive d) refs (r ∷ []) (λ place e within. k.live (get_or refs place e) (m.all.refs_of.live place e within)) (All-cons (IsLive d) r [] one.live (All-nil (IsLive d)));
@@ -82,10 +78,10 @@ pub too_much-after : (a b : SpaceData) (ts us : List (List Bool)) → Keeps a b 
 too_much-after a b ts us k first full = sym (fits-along a b ts us k first) ∙ full
 
 -- the turn of a loop that makes the tables of a list one after another: the next is made
-pub making-next : (a b d : SpaceData) (all : List (List Bool)) (place : ℕ) (refs : List Ref) (r : Ref) (t : List Bool) → place < length all → get_or all place [] ≡ t → Making a b refs (take place all) → Keeps b d → IsSpace d → Makes b d r t → Making a d (refs ++ r ∷ []) (take (place + 1) all)
-making-next a b d all place refs r t within is m k space one =
+pub making-next : (a b d : SpaceData) (all : List (List Bool)) (place : ℕ) (refs : List Ref) (r : Ref) (t : List Bool) → place < length all → get_or all place [] ≡ t → Making a b refs (take place all) → Keeps b d → Makes b d r t → Making a d (refs ++ r ∷ []) (take (place + 1) all)
+making-next a b d all place refs r t within is m k one =
     subst (Making a d (refs ++ r ∷ [])) (ap (λ u. take place all ++ u ∷ []) (sym is) ∙ sym (take_more all place [] within))
-    (making-one a b d refs (take place all) r t m k space one)
+    (making-one a b d refs (take place all) r t m k one)
 
 -- or it is refused
 pub too_much-next : (a b : SpaceData) (all : List (List Bool)) (place : ℕ) (refs : List Ref) (t : List Bool) → place < length all → get_or all place [] ≡ t → Making a b refs (take place all) → fits b (t ∷ []) ≡ false → fits a all ≡ false

@@ -120,8 +120,18 @@ Makes-pushed p t r at = record {
     place : r.place ≡ suc (suc (length p.tables))
     place = omega (arith, at)
 
-pub Keeps-pushed : (p : PlainData) (t : List Bool) → Keeps (plain_space p) (plain_space (pushed p t))
-Keeps-pushed p t = record {
+pub IsPlain-pushed : (p : PlainData) (t : List Bool) → IsPlain p → length t ≡ 2 ^ p.width → IsPlain (pushed p t)
+IsPlain-pushed p t is long = record {
+  some_bit = is.some_bit;
+  few_bits = is.few_bits;
+  long = λ k lt. elim (cases_lt k (length p.tables)) [
+    | inl old ↦ ap (λ (u : List Bool). length u) (get_or_append_left p.tables (t ∷ []) [] k old) ∙ is.long k old
+    | inr new ↦ ap (λ (u : List Bool). length u) (get_or_push p.tables t [] k (let at : length p.tables ≡ k = omega (arith, length_push p.tables t) in at)) ∙ long
+  ];
+}
+
+pub Keeps-pushed : (p : PlainData) (t : List Bool) → IsPlain p → length t ≡ 2 ^ p.width → Keeps (plain_space p) (plain_space (pushed p t))
+Keeps-pushed p t is long = record {
   width = refl;
   limit = refl;
   live = λ r live. let lt : r.place < length p.tables + 2 = from_nat_lt r.place (length p.tables + 2) live in nat_lt-from r.place (length (p.tables ++ t ∷ []) + 2) (omega (arith, length_push p.tables t));
@@ -134,16 +144,7 @@ Keeps-pushed p t = record {
         held_at = ap (distinct_beads p.width) (take-append-le m.count p.tables (t ∷ []) count);
       };
   held = Within-append p.width p.tables (t ∷ []);
-}
-
-pub IsPlain-pushed : (p : PlainData) (t : List Bool) → IsPlain p → length t ≡ 2 ^ p.width → IsPlain (pushed p t)
-IsPlain-pushed p t is long = record {
-  some_bit = is.some_bit;
-  few_bits = is.few_bits;
-  long = λ k lt. elim (cases_lt k (length p.tables)) [
-    | inl old ↦ ap (λ (u : List Bool). length u) (get_or_append_left p.tables (t ∷ []) [] k old) ∙ is.long k old
-    | inr new ↦ ap (λ (u : List Bool). length u) (get_or_push p.tables t [] k (let at : length p.tables ≡ k = omega (arith, length_push p.tables t) in at)) ∙ long
-  ];
+  space = IsSpace-plain (pushed p t) (IsPlain-pushed p t is long);
 }
 
 -- the number of tables is a mark of now
@@ -153,13 +154,6 @@ plain-counts p = record { live = λ r. refl; held = refl; stands = λ m. refl; l
 pub MarksNow-plain : (p : PlainData) (m : Mark) → m.count ≡ length p.tables → MarksNow (plain_space p) m
 MarksNow-plain p = marks_now (plain_space p) (distinct_beads p.width) p.tables (plain-counts p)
 
--- the first tables alone are the space at a mark
-pub Releases-plain : (p : PlainData) (m : Mark) → m.count ≤ length p.tables → Releases (plain_space p) (plain_space (record { width = p.width; tables = take m.count p.tables })) m
-Releases-plain p m le =
-    let first : PlainData = record { width = p.width; tables = take m.count p.tables } in
-    releases_to (plain_space p) (plain_space first) (distinct_beads p.width) p.tables m (plain-counts p) (plain-counts first) le refl refl
-    (λ r place. table_at-take p.width m.count p.tables r.place place)
-
 pub IsPlain-take : (p : PlainData) (c : ℕ) → IsPlain p → c ≤ length p.tables → IsPlain (record { width = p.width; tables = take c p.tables })
 IsPlain-take p c is le = record {
   some_bit = is.some_bit;
@@ -168,6 +162,14 @@ IsPlain-take p c is le = record {
       let below : k < c = omega (arith, length-take-le c p.tables le) in
       ap (λ (u : List Bool). length u) (get_or-take c p.tables k [] below) ∙ is.long k (omega arith);
 }
+
+-- the first tables alone are the space at a mark
+pub Releases-plain : (p : PlainData) (m : Mark) → IsPlain p → m.count ≤ length p.tables → Releases (plain_space p) (plain_space (record { width = p.width; tables = take m.count p.tables })) m
+Releases-plain p m is le =
+    let first : PlainData = record { width = p.width; tables = take m.count p.tables } in
+    releases_to (plain_space p) (plain_space first) (distinct_beads p.width) p.tables m (plain-counts p) (plain-counts first) le refl refl
+    (λ r place. table_at-take p.width m.count p.tables r.place place)
+    (IsSpace-plain first (IsPlain-take p m.count is le))
 
 -- the first tables are as many as the words say, where a space is seen as they are
 pub IsPlain-view : (n stride count : ℕ) (words : List ℕ) (p : PlainData) → AreTables n stride count words → (let seen : PlainData = record { width = n; tables = tables_in n count words } in seen ≡ p) → IsPlain p
@@ -215,20 +217,16 @@ pub made_by_push : (p q : PlainData) (row : List ℕ) (t : List Bool) (o : Resul
 made_by_push p q row t (Ok r) is at put = subst (λ (d : PlainData). Makes (plain_space p) (plain_space d) r t) (sym (put ∙ ap (pushed p) is)) (Makes-pushed p t r at)
 made_by_push p q row t (Err e) is at put = tt
 
-pub kept_by_push : (p q : PlainData) (t : List Bool) (o : Result Ref SpaceFault) → OnOk o (q ≡ pushed p t) → OnErr o (q ≡ p) → Keeps (plain_space p) (plain_space q)
-kept_by_push p q t (Ok r) put same = subst (λ (d : PlainData). Keeps (plain_space p) (plain_space d)) (sym put) (Keeps-pushed p t)
-kept_by_push p q t (Err e) put same = subst (λ (d : PlainData). Keeps (plain_space p) (plain_space d)) (sym same) (keeps_all (plain_space p))
-
 pub adds_by_push : (p q : PlainData) (row : List ℕ) (t : List Bool) (o : Result Ref SpaceFault) → row_table p.width row 0 ≡ t → OnOk o (q ≡ pushed p (row_table p.width row 0)) → OnErr o (q ≡ p) → Adds (plain_space p) (plain_space q) (t ∷ [])
 adds_by_push p q row t (Ok r) is put same = subst (λ (d : PlainData). Adds (plain_space p) (plain_space d) (t ∷ [])) (sym (put ∙ ap (pushed p) is)) (λ bead has. ap (λ (s : Beads). set.contains s bead) (sym (distinct_beads-append p.width p.tables (t ∷ []))) ∙ has)
 adds_by_push p q row t (Err e) is put same = subst (λ (d : PlainData). Adds (plain_space p) (plain_space d) (t ∷ [])) (sym same) (Within-left (distinct_beads p.width p.tables) (distinct_beads p.width (t ∷ [])))
 
--- whether it is seen as it was or with one table more, it is a space
-pub IsSpace-kept : (p q : PlainData) → IsPlain p → q ≡ p → IsSpace (plain_space q)
-IsSpace-kept p q is same = subst (λ (d : PlainData). IsSpace (plain_space d)) (sym same) (IsSpace-plain p is)
+-- whether it is seen as it was or with one table more, it keeps what it had
+pub Keeps-same : (p q : PlainData) → IsPlain p → q ≡ p → Keeps (plain_space p) (plain_space q)
+Keeps-same p q is same = subst (λ (d : PlainData). Keeps (plain_space p) (plain_space d)) (sym same) (keeps_all (plain_space p) (IsSpace-plain p is))
 
-pub IsSpace-pushed : (p q : PlainData) (t : List Bool) → IsPlain p → length t ≡ 2 ^ p.width → q ≡ pushed p t → IsSpace (plain_space q)
-IsSpace-pushed p q t is long put = subst (λ (d : PlainData). IsSpace (plain_space d)) (sym put) (IsSpace-plain (pushed p t) (IsPlain-pushed p t is long))
+pub Keeps-put : (p q : PlainData) (t : List Bool) → IsPlain p → length t ≡ 2 ^ p.width → q ≡ pushed p t → Keeps (plain_space p) (plain_space q)
+Keeps-put p q t is long put = subst (λ (d : PlainData). Keeps (plain_space p) (plain_space d)) (sym put) (Keeps-pushed p t is long)
 
 -- the table at a pin of a gate on Refs, where a pin that isn't there reads 0
 pub index-pins : (p : PlainData) (ins : List Ref) (k : ℕ) → slice_index_or (map (plain_space p).table ins) k (constant_table p.width false) ≡ (plain_space p).table (slice_index_or ins k (record { place = 0 }))

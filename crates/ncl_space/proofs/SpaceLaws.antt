@@ -8,7 +8,7 @@ use Rattle.std.proofs.lemmas.Bool.{or_cases, or_left, or_right}
 use Rattle.std.proofs.lemmas.Bool.Decides.{nat_tests}
 use Rattle.ncl_base.proofs.Tests.{or-assoc}
 use Rattle.ncl_space.specs.Beads.{Beads, beads_of, is_bead, distinct_beads, bead_count}
-use Rattle.ncl_space.specs.Space.{SpaceData, Keeps, Within, with_tables, fits, is_within}
+use Rattle.ncl_space.specs.Space.{SpaceData, IsSpace, Keeps, Within, with_tables, fits, is_within}
 use Rattle.ncl_space.proofs.BeadLaws.{table_order, one_set, distinct_beads-append}
 
 -- what two calls keep, both keep
@@ -21,17 +21,19 @@ keeps_along a b d x y = record {
   marks = λ m s. let p = x.marks m s in let q = y.marks m p.stands in
       record { stands = q.stands; live_at = λ r. q.live_at r ∙ p.live_at r; held_at = q.held_at ∙ p.held_at };
   held = λ b h. y.held b (x.held b h);
+  space = y.space;
 }
 
 -- no call keeps everything
-pub keeps_all : (a : SpaceData) → Keeps a a
-keeps_all a = record {
+pub keeps_all : (a : SpaceData) → IsSpace a → Keeps a a
+keeps_all a space = record {
   width = refl;
   limit = refl;
   live = λ r l. l;
   tables = λ r l. refl;
   marks = λ m s. record { stands = s; live_at = λ r. refl; held_at = refl };
   held = λ b h. h;
+  space = space;
 }
 
 or_within : (a b : Bool) → (b ≡ true → a ≡ true) → (a || b) ≡ a

@@ -68,7 +68,7 @@ pub record KeepsMark (old new : SpaceData) (m : Mark) : Type 0 where
   pub held_at : new.held_at m ≡ old.held_at m
 
 -- what every call but `release` keeps: the width and the limit, the live Refs with their tables, the marks
--- that stand, and the beads held
+-- that stand, the beads held, and that it is a space
 pub record Keeps (old new : SpaceData) : Type 0 where
   pub width : new.width ≡ old.width
   pub limit : new.limit ≡ old.limit
@@ -76,6 +76,7 @@ pub record Keeps (old new : SpaceData) : Type 0 where
   pub tables : (r : Ref) → IsLive old r → new.table r ≡ old.table r
   pub marks : (m : Mark) → IsTrue (old.stands m) → KeepsMark old new m
   pub held : Within old.held new.held
+  pub space : IsSpace new
 
 -- no beads but those of these tables came
 abbrev pub Adds : SpaceData → SpaceData → List (List Bool) → Type 0
@@ -103,6 +104,7 @@ pub record Releases (old new : SpaceData) (m : Mark) : Type 0 where
   pub tables : (r : Ref) → IsTrue (old.live_at m r) → new.table r ≡ old.table r
   pub held : new.held ≡ old.held_at m
   pub marks : (n : Mark) → IsTrue (old.stands n) → IsNoLater n m → KeepsMark old new n
+  pub space : IsSpace new
 
 -- what a caller leaves that has gone back to a mark of its own: the same Refs are live, the same beads held
 pub record Restores (old new : SpaceData) : Type 0 where

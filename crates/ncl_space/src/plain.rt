@@ -4,7 +4,7 @@ ghost use Rattle.ncl_gates.specs.Gate.{arity_of};
 ghost use Rattle.ncl_gates.specs.Bits.{is_set};
 ghost use Rattle.ncl_space.specs.Bits.{word_of};
 ghost use Rattle.ncl_space.specs.Functions.{gate_table, is_value, least, rail_table};
-ghost use Rattle.ncl_space.specs.Space.{IsLive, IsNew, IsSpace};
+ghost use Rattle.ncl_space.specs.Space.{IsLive, IsNew, IsSpace, Keeps};
 ghost use Rattle.ncl_space.specs.Plain.{
   Holds,
   IsFirst,
@@ -128,9 +128,9 @@ impl Plain {
         ensures place { IfOk result (λ r. r.place ≡ length self.old.tables + 2) }
         ensures pushed { let t = row_table self.old.width row.now 0 in
             OnOk result (self.new ≡ record self.old { tables = self.old.tables ++ t ∷ [] }) }
-        ensures kept { OnErr result (self.new ≡ self.old) }
+        ensures unchanged { OnErr result (self.new ≡ self.old) }
         ensures never_full { result ≢ Err SpaceFault.Full }
-        ensures space { IsSpace (plain_space self.new) }
+        ensures kept { Keeps (plain_space self.old) (plain_space self.new) }
     {
         if self.count >= u32::MAX - 2 {
             return Err(SpaceFault::Memory);

@@ -110,7 +110,6 @@ pub trait Space {
         ensures kept { Keeps (meaning self.old) (meaning self.new) }
         ensures adds { let s = meaning self.old in let t = rail_table s.width bit value in
             Adds s (meaning self.new) (t ∷ []) }
-        ensures space { IsSpace (meaning self.new) }
         ensures full { let s = meaning self.old in let t = rail_table s.width bit value in
             IsErrOf result SpaceFault.Full → fits s (t ∷ []) ≡ false }
         ensures fits { let s = meaning self.old in let t = rail_table s.width bit value in
@@ -130,7 +129,6 @@ pub trait Space {
         ensures adds { let s = meaning self.old in
             let t = gate_table s.width kind (map s.table ins.now) in
             Adds s (meaning self.new) (t ∷ []) }
-        ensures space { IsSpace (meaning self.new) }
         ensures full { let s = meaning self.old in
             let t = gate_table s.width kind (map s.table ins.now) in
             IsErrOf result SpaceFault.Full → fits s (t ∷ []) ≡ false }
@@ -169,6 +167,12 @@ pub trait Space {
     /// are no longer held. Takes no memory.
     fn release(&mut self, mark: Mark)
         requires { IsTrue ((meaning self.old).stands mark) }
-        ensures released { Releases (meaning self.old) (meaning self.new) mark }
-        ensures space { IsSpace (meaning self.new) };
+        ensures { Releases (meaning self.old) (meaning self.new) mark };
+
+    /// What holds of every space at every moment. Costs nothing.
+    final fn facts(&self)
+        ensures { IsSpace (meaning self.now) }
+    {
+        let _ = self.width();
+    }
 }

@@ -1,7 +1,7 @@
-use Rattle.std.proofs.Common.{◌≤◌, ◌+◌, ◌^◌, ◌∙◌, ℕ, List, sym, subst, arith}
+use Rattle.std.proofs.Common.{◌≤◌, ◌+◌, ◌^◌, ◌∙◌, ℕ, List, refl, sym, subst, arith}
 use Rattle.ncl_space.specs.Plain.{AreTables, IsRow, PlainData, row_table, tables_in}
 use Rattle.ncl_space.proofs.RowLaws.{AreTables-push, length-row_table}
-use Rattle.ncl_space.proofs.PlainLaws.{IsPlain-view, IsSpace-kept, IsSpace-plain, IsSpace-pushed, length-view, pushed-view}
+use Rattle.ncl_space.proofs.PlainLaws.{IsPlain-view, Keeps-put, Keeps-same, length-view, pushed-view}
 use Rattle.ncl_space.proofs.plain.Plain.push_row.Goals as goal
 
 pub invariant_of-self-2 : goal.invariant_of-self-2
@@ -20,15 +20,15 @@ returns-clause-pushed c =
     (λ t. record { width = c.self.inside.width; tables = tables_in c.self.inside.width (c.self.inside.count + 1) (c.in_ok-extend_from_slice.ensures.items t) })
     ∙ pushed-view c.self.inside.width c.self.inside.stride c.self.inside.count c.self.inside.words.items c.args.row.now c.args.self.now c.self.invariant c.self.view_is
 
-pub returns-then-self-clause-space : goal.returns-then-self-clause-space
-returns-then-self-clause-space c = IsSpace-plain c.args.self.now (IsPlain-view _ _ _ _ c.args.self.now c.self.invariant c.self.view_is)
+pub returns-then-self-clause-kept : goal.returns-then-self-clause-kept
+returns-then-self-clause-kept c = Keeps-same c.args.self.now c.args.self.now (IsPlain-view _ _ _ _ c.args.self.now c.self.invariant c.self.view_is) refl
 
-pub returns-in_err-extend_from_slice-clause-space : goal.returns-in_err-extend_from_slice-clause-space
-returns-in_err-extend_from_slice-clause-space c =
-    IsSpace-kept c.args.self.now _ (IsPlain-view _ _ _ _ c.args.self.now c.self.invariant c.self.view_is)
+pub returns-in_err-extend_from_slice-clause-kept : goal.returns-in_err-extend_from_slice-clause-kept
+returns-in_err-extend_from_slice-clause-kept c =
+    Keeps-same c.args.self.now _ (IsPlain-view _ _ _ _ c.args.self.now c.self.invariant c.self.view_is)
     ((λ t. record { width = c.self.inside.width; tables = tables_in c.self.inside.width c.self.inside.count (c.in_err-extend_from_slice.ensures.items t) }) ∙ c.self.view_is)
 
-pub returns-clause-space : goal.returns-clause-space
-returns-clause-space c =
+pub returns-clause-kept : goal.returns-clause-kept
+returns-clause-kept c =
     let p : PlainData = c.args.self.now in
-    IsSpace-pushed p _ (row_table p.width c.args.row.now 0) (IsPlain-view _ _ _ _ p c.self.invariant c.self.view_is) (length-row_table p.width c.args.row.now 0) (returns-clause-pushed c)
+    Keeps-put p _ (row_table p.width c.args.row.now 0) (IsPlain-view _ _ _ _ p c.self.invariant c.self.view_is) (length-row_table p.width c.args.row.now 0) (returns-clause-pushed c)

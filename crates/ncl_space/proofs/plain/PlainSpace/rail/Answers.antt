@@ -3,7 +3,7 @@ use Rattle.ncl_space.specs.Functions.{is_value, rail_table}
 use Rattle.ncl_space.specs.Plain.{IsRow, row_table}
 use Rattle.ncl_space.proofs.TableLaws.{length-table_of}
 use Rattle.ncl_space.proofs.RowLaws.{IsRow-holds, row_table-holds}
-use Rattle.ncl_space.proofs.PlainLaws.{adds_by_push, kept_by_push, made_by_push}
+use Rattle.ncl_space.proofs.PlainLaws.{adds_by_push, made_by_push}
 use Rattle.ncl_space.proofs.plain.PlainSpace.rail.Goals as goal
 
 pub push_row-requires : goal.push_row-requires
@@ -17,11 +17,8 @@ returns-clause-made c =
     (ap (λ (row : List ℕ). row_table c.args.self.now.width row 0) c.as_slice.ensures.value ∙ row_table-holds c.args.self.now.width c.rail_row-row.result.items (rail_table c.args.self.now.width c.args.bit c.args.value) (length-table_of c.args.self.now.width (λ word. is_value c.args.value (slice_index_or word c.args.bit false))) c.rail_row-row.ensures)
     c.push_row.ensures.place c.push_row.ensures.pushed
 
-pub returns-clause-kept : goal.returns-clause-kept
-returns-clause-kept c = kept_by_push c.args.self.now c.push_row.new.self (row_table c.args.self.now.width c.as_slice.result.now 0) c.push_row.result c.push_row.ensures.pushed c.push_row.ensures.kept
-
 pub returns-clause-adds : goal.returns-clause-adds
 returns-clause-adds c =
     adds_by_push c.args.self.now c.push_row.new.self c.as_slice.result.now (rail_table c.args.self.now.width c.args.bit c.args.value) c.push_row.result
     (ap (λ (row : List ℕ). row_table c.args.self.now.width row 0) c.as_slice.ensures.value ∙ row_table-holds c.args.self.now.width c.rail_row-row.result.items (rail_table c.args.self.now.width c.args.bit c.args.value) (length-table_of c.args.self.now.width (λ word. is_value c.args.value (slice_index_or word c.args.bit false))) c.rail_row-row.ensures)
-    c.push_row.ensures.pushed c.push_row.ensures.kept
+    c.push_row.ensures.pushed c.push_row.ensures.unchanged

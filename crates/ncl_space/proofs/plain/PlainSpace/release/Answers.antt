@@ -1,11 +1,11 @@
 use Rattle.std.proofs.Common.{◌≡◌, ◌≤◌, ◌*◌, ◌∙◌, ℕ, List, take, length, sym, ap, subst, arith}
 use Rattle.std.proofs.Math.Nat.{mul_comm}
 use Rattle.ncl_space.specs.Plain.{AreTables, PlainData, stride_of, tables_in, plain_space}
-use Rattle.ncl_space.specs.Space.{Releases, IsSpace}
+use Rattle.ncl_space.specs.Space.{Releases}
 use Rattle.ncl_space.specs.declared.space.Mark.{Mark}
 use Rattle.ncl_space.proofs.RowLaws.{AreTables-take}
 use Rattle.ncl_space.proofs.CountedMarks.{from_nat_le}
-use Rattle.ncl_space.proofs.PlainLaws.{IsPlain-take, IsPlain-view, IsSpace-plain, Releases-plain, length-view, released-view}
+use Rattle.ncl_space.proofs.PlainLaws.{IsPlain-view, Releases-plain, length-view, released-view}
 use Rattle.ncl_space.proofs.plain.PlainSpace.release.Goals as goal
 
 pub invariant_of-self : goal.invariant_of-self
@@ -26,18 +26,10 @@ module _ (n stride count : ℕ) (words : List ℕ) (p : PlainData) (are : AreTab
       (λ t. record { width = n; tables = tables_in n m.count ((first ∙ ap (λ (k : ℕ). take k words) turned) t) })
       ∙ released-view n stride count m.count words p (omega arith) seen
 
-pub returns-clause-released : goal.returns-clause-released
-returns-clause-released c =
+pub returns : goal.returns
+returns c =
     let p : PlainData = c.args.self.now in
     let stands : c.args.mark.count ≤ length p.tables = from_nat_le c.args.mark.count (length p.tables) c.requires in
     subst (λ (q : PlainData). Releases (plain_space p) (plain_space q) c.args.mark)
     (sym (first_tables c.self.inside.width c.self.inside.stride c.self.inside.count c.self.inside.words.items p c.self.invariant c.self.view_is c.args.mark c.truncate.new.self.items c.truncate.ensures.items stands))
-    (Releases-plain p c.args.mark stands)
-
-pub returns-clause-space : goal.returns-clause-space
-returns-clause-space c =
-    let p : PlainData = c.args.self.now in
-    let stands : c.args.mark.count ≤ length p.tables = from_nat_le c.args.mark.count (length p.tables) c.requires in
-    subst (λ (q : PlainData). IsSpace (plain_space q))
-    (sym (first_tables c.self.inside.width c.self.inside.stride c.self.inside.count c.self.inside.words.items p c.self.invariant c.self.view_is c.args.mark c.truncate.new.self.items c.truncate.ensures.items stands))
-    (IsSpace-plain _ (IsPlain-take p c.args.mark.count (IsPlain-view _ _ _ _ p c.self.invariant c.self.view_is) stands))
+    (Releases-plain p c.args.mark (IsPlain-view _ _ _ _ p c.self.invariant c.self.view_is) stands)

@@ -59,8 +59,8 @@ IsSpace-diagram d is = record {
 abbrev pub with_nodes : DiagramData → List Node → DiagramData
 with_nodes d nodes = record { width = d.width; limit = d.limit; nodes = nodes }
 
-pub Keeps-grown : (d : DiagramData) (new : List Node) → IsCanonical d.width d.nodes → Grown d.nodes new → Keeps (diagram_space d) (diagram_space (with_nodes d new))
-Keeps-grown d new can grown = record {
+pub Keeps-grown : (d : DiagramData) (new : List Node) → IsCanonical d.width d.nodes → Grown d.nodes new → IsDiagram d.width d.limit new → Keeps (diagram_space d) (diagram_space (with_nodes d new))
+Keeps-grown d new can grown is = record {
   width = refl;
   limit = refl;
   live = λ r live.
@@ -75,6 +75,7 @@ Keeps-grown d new can grown = record {
         held_at = ap (held_of d.width) (take_grown d.nodes new m.count grown count);
       };
   held = Within-grown d.width d.nodes new can grown;
+  space = IsSpace-diagram (with_nodes d new) is;
 }
 
 -- what the calls of a space say, from what is left of the nodes
@@ -110,13 +111,6 @@ fits_by d new made (Err e) leaves = tt
 diagram-counts : (d : DiagramData) → CountsMarks (diagram_space d) (held_of d.width) d.nodes
 diagram-counts d = record { live = λ r. refl; held = refl; stands = λ m. refl; live_at = λ m r. refl; held_at = λ m. refl }
 
--- the first nodes alone are the space at a mark
-pub Releases-diagram : (d : DiagramData) (m : Mark) → IsCanonical d.width d.nodes → m.count ≤ length d.nodes → Releases (diagram_space d) (diagram_space (with_nodes d (take m.count d.nodes))) m
-Releases-diagram d m can le =
-    let first : DiagramData = with_nodes d (take m.count d.nodes) in
-    releases_to (diagram_space d) (diagram_space first) (held_of d.width) d.nodes m (diagram-counts d) (diagram-counts first) le refl refl
-    (λ r place. sym (table_grown d.width first.nodes d.nodes (canonical_take d.width d.nodes m.count le can) (grown_take d.nodes m.count le) d.width 0 r.place (omega (arith, length-take-le m.count d.nodes le))))
-
 pub IsDiagram-take : (n limit : ℕ) (nodes : List Node) (c : ℕ) → IsDiagram n limit nodes → c ≤ length nodes → IsDiagram n limit (take c nodes)
 IsDiagram-take n limit nodes c is le = record {
   some_bit = is.some_bit;
@@ -125,6 +119,14 @@ IsDiagram-take n limit nodes c is le = record {
   few = omega (arith, length-take-le c nodes le, is.few);
   small = is.small;
 }
+
+-- the first nodes alone are the space at a mark
+pub Releases-diagram : (d : DiagramData) (m : Mark) → IsDiagram d.width d.limit d.nodes → m.count ≤ length d.nodes → Releases (diagram_space d) (diagram_space (with_nodes d (take m.count d.nodes))) m
+Releases-diagram d m is le =
+    let first : DiagramData = with_nodes d (take m.count d.nodes) in
+    releases_to (diagram_space d) (diagram_space first) (held_of d.width) d.nodes m (diagram-counts d) (diagram-counts first) le refl refl
+    (λ r place. sym (table_grown d.width first.nodes d.nodes (canonical_take d.width d.nodes m.count le is.canonical) (grown_take d.nodes m.count le) d.width 0 r.place (omega (arith, length-take-le m.count d.nodes le))))
+    (IsSpace-diagram first (IsDiagram-take d.width d.limit d.nodes m.count is le))
 
 -- equal tables have equal Refs
 pub one_ref : (d : DiagramData) → IsCanonical d.width d.nodes → (x y : Ref) → IsLive (diagram_space d) x → IsLive (diagram_space d) y → (diagram_space d).table x ≡ (diagram_space d).table y → x ≡ y

@@ -3,7 +3,7 @@ use Rattle.std.specs.Prelude.{◌≡◌, ℕ, ◌+◌, ◌^◌, ◌<◌, ◌≤�
 use Rattle.ncl_space.specs.declared.space.Ref.{Ref}
 use Rattle.ncl_space.specs.declared.space.SpaceFault.{SpaceFault}
 use Rattle.ncl_space.specs.declared.space.SpaceFault.TheVariants.{Full}
-use Rattle.ncl_space.specs.Space.{Adds, IsSpace, Keeps, Makes, SpaceData, fits}
+use Rattle.ncl_space.specs.Space.{Adds, Keeps, Makes, SpaceData, fits}
 use Rattle.ncl_diagram.specs.declared.nodes.Node.{Node}
 use Rattle.ncl_diagram.specs.Nodes.{IsCanonical, table_from}
 use Rattle.ncl_diagram.specs.Holding.{held_of}
@@ -42,6 +42,5 @@ pub record Applies (old new : SpaceData) (made : List Bool) (result : Result Ref
   pub answer : IfOk result (λ r. Makes old new r made)
   pub kept : Keeps old new
   pub adds : Adds old new (made ∷ [])
-  pub space : IsSpace new
   pub full : IsErrOf result Full → fits old (made ∷ []) ≡ false
   pub fit : OnOk result (fits old (made ∷ []) ≡ true)

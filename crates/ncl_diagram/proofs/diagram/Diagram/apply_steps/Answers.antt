@@ -13,7 +13,7 @@ use Rattle.ncl_diagram.specs.Operands.{There}
 use Rattle.ncl_diagram.specs.Steps.{operand_bound, product}
 use Rattle.ncl_diagram.proofs.Counting.{product_filled}
 use Rattle.ncl_diagram.proofs.HeldSets.{len-held}
-use Rattle.ncl_diagram.proofs.DiagramLaws.{IsSpace-diagram, Keeps-grown, There-live, adds_by, bound_of-places, fits_by, full_by, made_by, tables_of-places, with_nodes}
+use Rattle.ncl_diagram.proofs.DiagramLaws.{Keeps-grown, There-live, adds_by, bound_of-places, fits_by, full_by, made_by, tables_of-places, with_nodes}
 use Rattle.ncl_diagram.proofs.Padding.{gate_filled, there_filled}
 use Rattle.ncl_diagram.proofs.diagram.Diagram.apply_steps.Goals as goal
 
@@ -37,9 +37,8 @@ returns-clause-applies g c =
     subst (λ (d : DiagramData). Applies (diagram_space d) (diagram_space (with_nodes old new)) (gate_table d.width c.args.kind (map (diagram_space d).table c.args.ins.now)) c.apply.result) c.self.view_is
     (record {
       answer = made_by old new made c.apply.result leaves;
-      kept = Keeps-grown old new c.self.invariant.0.canonical leaves.grown;
+      kept = Keeps-grown old new c.self.invariant.0.canonical leaves.grown (record { some_bit = c.self.invariant.0.some_bit; few_bits = c.self.invariant.0.few_bits; canonical = leaves.canonical; few = leaves.few; small = c.self.invariant.0.small });
       adds = adds_by old new made c.apply.result leaves;
-      space = IsSpace-diagram (with_nodes old new) (record { some_bit = c.self.invariant.0.some_bit; few_bits = c.self.invariant.0.few_bits; canonical = leaves.canonical; few = leaves.few; small = c.self.invariant.0.small });
       full = full_by old new made c.apply.result leaves;
       fit = fits_by old new made c.apply.result leaves;
     })

@@ -4,7 +4,7 @@ use Rattle.ncl_space.specs.declared.space.SpaceFault.TheVariants.{Full}
 use Rattle.ncl_space.specs.Functions.{rail_table}
 use Rattle.ncl_space.specs.Space.{Adds, Keeps, Makes, fits}
 use Rattle.ncl_diagram.specs.Diagram.{DiagramData, diagram_space}
-use Rattle.ncl_diagram.proofs.DiagramLaws.{IsSpace-diagram, Keeps-grown, adds_by, fits_by, full_by, made_by, with_nodes}
+use Rattle.ncl_diagram.proofs.DiagramLaws.{Keeps-grown, adds_by, fits_by, full_by, made_by, with_nodes}
 use Rattle.ncl_diagram.proofs.KeptLaws.{kept_grown}
 use Rattle.ncl_diagram.proofs.diagram.DiagramSpace.rail.Goals as goal
 
@@ -18,18 +18,13 @@ pub returns-clause-kept : goal.returns-clause-kept
 returns-clause-kept c =
     let old : DiagramData = record { width = c.self.inside.width; limit = c.self.inside.limit; nodes = c.self.inside.engine.nodes } in
     subst (λ (d : DiagramData). Keeps (diagram_space d) (diagram_space (with_nodes old c.rail_node.new.nodes))) c.self.view_is
-    (Keeps-grown old c.rail_node.new.nodes c.self.invariant.0.canonical c.rail_node.ensures.grown)
+    (Keeps-grown old c.rail_node.new.nodes c.self.invariant.0.canonical c.rail_node.ensures.grown (record { some_bit = c.self.invariant.0.some_bit; few_bits = c.self.invariant.0.few_bits; canonical = c.rail_node.ensures.canonical; few = c.rail_node.ensures.few; small = c.self.invariant.0.small }))
 
 pub returns-clause-adds : goal.returns-clause-adds
 returns-clause-adds c =
     let old : DiagramData = record { width = c.self.inside.width; limit = c.self.inside.limit; nodes = c.self.inside.engine.nodes } in
     subst (λ (d : DiagramData). Adds (diagram_space d) (diagram_space (with_nodes old c.rail_node.new.nodes)) ((rail_table d.width c.args.bit c.args.value) ∷ [])) c.self.view_is
     (adds_by old c.rail_node.new.nodes (rail_table old.width c.args.bit c.args.value) c.rail_node.result (c.rail_node.ensures))
-
-pub returns-clause-space : goal.returns-clause-space
-returns-clause-space c =
-    let old : DiagramData = record { width = c.self.inside.width; limit = c.self.inside.limit; nodes = c.self.inside.engine.nodes } in
-    IsSpace-diagram (with_nodes old c.rail_node.new.nodes) (record { some_bit = c.self.invariant.0.some_bit; few_bits = c.self.invariant.0.few_bits; canonical = c.rail_node.ensures.canonical; few = c.rail_node.ensures.few; small = c.self.invariant.0.small })
 
 pub returns-clause-full : goal.returns-clause-full
 returns-clause-full c =

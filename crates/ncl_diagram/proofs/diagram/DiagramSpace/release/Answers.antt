@@ -1,26 +1,19 @@
-use Rattle.std.proofs.Common.{◌≤◌, List, length, take, sym, subst}
-use Rattle.ncl_space.specs.Space.{IsSpace, Releases}
+use Rattle.std.proofs.Common.{◌≤◌, List, length, sym, subst}
+use Rattle.ncl_space.specs.Space.{Releases}
 use Rattle.ncl_diagram.specs.declared.nodes.Node.{Node}
 use Rattle.ncl_diagram.specs.Diagram.{DiagramData, IsDiagram, diagram_space}
 use Rattle.ncl_space.proofs.CountedMarks.{from_nat_le}
-use Rattle.ncl_diagram.proofs.DiagramLaws.{IsDiagram-take, IsSpace-diagram, Releases-diagram, with_nodes}
+use Rattle.ncl_diagram.proofs.DiagramLaws.{IsDiagram-take, Releases-diagram, with_nodes}
 use Rattle.ncl_diagram.specs.Kept.{AreKept}
 use Rattle.ncl_diagram.proofs.KeptLaws.{kept_taken}
 use Rattle.ncl_diagram.proofs.diagram.DiagramSpace.release.Goals as goal
 
-pub returns-clause-released : goal.returns-clause-released
-returns-clause-released c =
+pub returns : goal.returns
+returns c =
     let old : DiagramData = record { width = c.self.inside.width; limit = c.self.inside.limit; nodes = c.self.inside.engine.nodes } in
     let stands : c.args.mark.count ≤ length old.nodes = subst (λ (d : DiagramData). c.args.mark.count ≤ length d.nodes) (sym c.self.view_is) (from_nat_le c.args.mark.count (length c.args.self.now.nodes) c.requires) in
     subst (λ (d : DiagramData). Releases (diagram_space d) (diagram_space (with_nodes old c.truncate.new.self)) c.args.mark) c.self.view_is
-    (subst (λ (nodes : List Node). Releases (diagram_space old) (diagram_space (with_nodes old nodes)) c.args.mark) (sym c.truncate.ensures) (Releases-diagram old c.args.mark c.self.invariant.0.canonical stands))
-
-pub returns-clause-space : goal.returns-clause-space
-returns-clause-space c =
-    let old : DiagramData = record { width = c.self.inside.width; limit = c.self.inside.limit; nodes = c.self.inside.engine.nodes } in
-    let stands : c.args.mark.count ≤ length old.nodes = subst (λ (d : DiagramData). c.args.mark.count ≤ length d.nodes) (sym c.self.view_is) (from_nat_le c.args.mark.count (length c.args.self.now.nodes) c.requires) in
-    subst (λ (nodes : List Node). IsSpace (diagram_space (with_nodes old nodes))) (sym c.truncate.ensures)
-    (IsSpace-diagram (with_nodes old (take c.args.mark.count old.nodes)) (IsDiagram-take old.width old.limit old.nodes c.args.mark.count c.self.invariant.0 stands))
+    (subst (λ (nodes : List Node). Releases (diagram_space old) (diagram_space (with_nodes old nodes)) c.args.mark) (sym c.truncate.ensures) (Releases-diagram old c.args.mark c.self.invariant.0 stands))
 
 pub invariant_of-self : goal.invariant_of-self
 invariant_of-self c =

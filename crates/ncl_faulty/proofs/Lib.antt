@@ -1,3 +1,4 @@
 pub mod Shapes
 pub mod FirstStages
 pub mod Twins
+mod WiresShape

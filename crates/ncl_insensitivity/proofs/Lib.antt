@@ -3,7 +3,6 @@ pub mod ResetLaws
 pub mod RisingLaws
 pub mod DeliveryLaws
 mod SoundAnd
-mod WiresShape
 pub mod WrittenNetlists
 mod IllShapedLaws
 pub mod Phases

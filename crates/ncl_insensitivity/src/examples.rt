@@ -1,20 +1,18 @@
-//! Worked examples: two banks joined by wires have a shape, a word goes through them, and on its way two
-//! items may happen in either order. The AND of two bits is a sound stage. A word that goes through a chain of
-//! gates takes nearly as many steps as the bound on runs allows. A word that a bank holds at reset is delivered
-//! before the one that is offered.
-ghost use Rattle.std.specs.Prelude.{◌≡◌, ◌≢◌, ◌+◌, ◌*◌, All, true, false, [], ◌∷◌, length};
+//! Worked examples: a word goes through two banks joined by wires, and on its way two items may happen in either
+//! order. The AND of two bits is a sound stage. A word that goes through a chain of gates takes nearly as many steps
+//! as the bound on runs allows. A word that a bank holds at reset is delivered before the one that is offered.
+ghost use Rattle.std.specs.Prelude.{◌≡◌, ◌≢◌, ◌+◌, ◌*◌, true, false, [], ◌∷◌, length};
 ghost use Rattle.ncl_shape.specs.declared.item.Item.TheVariants.{Lower};
 ghost use Rattle.ncl_netlist.specs.Netlist.{IsNetlist};
 ghost use Rattle.ncl_shape.specs.Examples.{wires, wires_pipeline};
 ghost use Rattle.ncl_shape.specs.Stage.{IsStage};
-ghost use Rattle.ncl_shape.specs.Shape.{Shape};
 ghost use Rattle.ncl_shape.specs.Closure.{function_of};
 ghost use Rattle.ncl_shape.specs.Held.{data_banks};
 ghost use Rattle.ncl_faults.specs.Examples.{and_stage};
 ghost use Rattle.ncl_faults.specs.Faults.{IsSound};
 ghost use Rattle.ncl_machine.specs.Run.{IsRun, IsQuiet, IsPersistent};
 ghost use Rattle.ncl_machine.specs.Steps.{enabled};
-ghost use Rattle.ncl_machine.specs.DelayInsensitive.{IsDelayInsensitive, due};
+ghost use Rattle.ncl_machine.specs.DelayInsensitive.{due};
 ghost use Rattle.ncl_insensitivity.specs.Examples.{fire, one_word, through_wires, where_two_may_move, at_the_end, chain, chain_stage, chain_pipeline, through_chain, where_the_chain_rests, holding, holding_pipeline, zero_word, through_holding, where_holding_rests};
 
 /// A word goes through two banks joined by wires in twelve steps: it is delivered unchanged in
@@ -36,21 +34,6 @@ pub fn two_that_may_move()
     ensures differ { Lower 0 ≢ fire 4 }
     ensures persistent { IsPersistent wires_pipeline where_two_may_move }
 {}
-
-/// Two banks joined by wires are a netlist, and they have the shape of a linear pipeline of two banks of
-/// one bit, whose one stage has no gates.
-pub fn wires_have_a_shape()
-    ensures netlist { IsNetlist wires }
-    ensures shape { Shape wires wires_pipeline }
-{}
-
-/// Two banks joined by wires are delay-insensitive: the stage of wires between them is sound.
-pub fn wires_are_delay_insensitive()
-    ensures sound { All IsSound wires_pipeline.stages }
-    ensures insensitive { IsDelayInsensitive wires_pipeline }
-{
-    wires_have_a_shape();
-}
 
 /// The AND of two bits, with a TH22 for rail 1 and a THand0 for rail 0, is a sound stage, as the laws of
 /// rising and falling ask.

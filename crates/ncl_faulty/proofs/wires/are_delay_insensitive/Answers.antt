@@ -7,9 +7,9 @@ use Rattle.ncl_faults.specs.Examples.{stage}
 use Rattle.ncl_faults.specs.Faults.{IsSound}
 use Rattle.ncl_faults.proofs.StageTest.{IsStage-from_test}
 use Rattle.ncl_insensitivity.proofs.WiresSound.{wires_sound}
-use Rattle.ncl_insensitivity.proofs.WiresShape.{wires_shape}
+use Rattle.ncl_faulty.proofs.WiresShape.{wires_shape}
 use Rattle.ncl_insensitivity.proofs.Headline.{delay_insensitive}
-use Rattle.ncl_insensitivity.proofs.examples.wires_are_delay_insensitive.Goals as goal
+use Rattle.ncl_faulty.proofs.wires.are_delay_insensitive.Goals as goal
 
 abbrev wires_stage : StageData
 wires_stage = stage (rails 8 9 ∷ []) [] (rails 8 9 ∷ [])

@@ -1,5 +1,5 @@
-use Rattle.ncl_insensitivity.proofs.WiresShape.{wires_netlist, wires_shape}
-use Rattle.ncl_insensitivity.proofs.examples.wires_have_a_shape.Goals as goal
+use Rattle.ncl_faulty.proofs.WiresShape.{wires_netlist, wires_shape}
+use Rattle.ncl_faulty.proofs.wires.have_a_shape.Goals as goal
 
 pub returns-clause-netlist : goal.returns-clause-netlist
 returns-clause-netlist c = wires_netlist

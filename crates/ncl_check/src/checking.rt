@@ -7,10 +7,11 @@ ghost use Rattle.ncl_check.specs.Headline.{IsDelayInsensitiveText};
 ghost use Rattle.ncl_check.specs.Refusal.{IsWrongText};
 ghost use Rattle.ncl_check.specs.declared.reply.Outcome.TheVariants.{Accepted, Refused, NoPipeline};
 
+use crate::explaining::why_text;
 use crate::reply::{Outcome, Reply};
 use crate::text::{Refusal, netlist_in, pipeline_in};
 use ncl_base::Memory;
-use ncl_lines::{verdict_text, why_text};
+use ncl_lines::verdict_text;
 use ncl_shape::Pipeline;
 use ncl_verdict::{Judge, judge_par};
 use std::alloc::Global;

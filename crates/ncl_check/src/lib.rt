@@ -18,10 +18,12 @@
 #![tactic(auto)]
 
 mod checking;
+mod explaining;
 pub mod laws;
 mod reply;
 mod text;
 
 pub use checking::{PARTS, check};
+pub use explaining::why_text;
 pub use reply::{Outcome, Reply};
 pub use text::{Refusal, netlist_in, pipeline_in};

@@ -1,52 +1,27 @@
 //! The lines that tell why a cell is an orphan.
-ghost use Rattle.std.specs.Prelude.{◌≡◌, ◌≤◌, ◌<◌, ◌++◌, All, IfOk, OnOk, codes, decimal, length};
-ghost use Rattle.ncl_verdict.specs.Judgement.{judgement};
+ghost use Rattle.std.specs.Prelude.{◌≡◌, ◌<◌, ◌++◌, All, IfOk, OnOk, codes, decimal, length};
 ghost use Rattle.ncl_machine.specs.Held.{InRange};
 ghost use Rattle.ncl_lines.specs.Line.{line};
-ghost use Rattle.ncl_lines.specs.WhyText.{IsWhyText, NamesItemsOf, explained_lines, item_words, shown_lines, step_line, step_lines};
+ghost use Rattle.ncl_lines.specs.WhyText.{NamesItemsOf, explained_lines, item_words, shown_lines, step_line, step_lines};
 
 use crate::line::{line_of, push_number, push_word};
 use itoa::Buffer;
 use ncl_base::{Memory, Word};
-use ncl_hazard::{Explained, explain};
+use ncl_hazard::Explained;
 use ncl_machine::Item;
 use ncl_netlist::CellId;
 use ncl_shape::Pipeline;
-use ncl_space::SpaceFault;
-use ncl_verdict::Verdict;
 use std::alloc::Global;
 
-/// The lines that tell why a verdict on a pipeline names an orphan, of which each stage was judged with at most `limit`
-/// nodes: an input that brings a word that shows it and a run over this input, step by step, in whose last the cell loses its
-/// excitation; or why there is none. For every other verdict there are none. Fails where memory is refused.
-///
-/// Costs as explaining does, and is linear in the lines.
-pub fn why_text(
-    alloc: Global,
-    pipeline: &Pipeline<'_>,
-    verdict: &Verdict,
-    limit: u32,
-) -> Result<Vec<u8>, Memory>
-    requires limit { 1 ≤ limit }
-    requires verdict { verdict.now ≡ judgement limit pipeline.now.stages }
-    ensures { IfOk result (λ text. IsWhyText limit pipeline.now verdict.now text.items) }
+/// The line for a pipeline of which no run is told, since banks hold words at reset.
+pub fn untold_text(alloc: Global) -> Result<Vec<u8>, Memory>
+    ensures { IfOk result (λ text. text.items ≡ line (codes "why: not told for data banks")) }
 {
-    pipeline.facts();
-    let Verdict::Orphan { stage, cell, .. } = verdict else {
-        return Ok(Vec::new(alloc));
-    };
-    if pipeline.data_banks() != 0 {
-        return line_of(alloc, b"why: not told for data banks", b"");
-    }
-    match explain(alloc, pipeline, *stage, *cell, limit) {
-        Ok(told) => explained_text(alloc, pipeline, *cell, &told),
-        Err(SpaceFault::Full) => past_limit(alloc, limit),
-        Err(SpaceFault::Memory) => Err(Memory),
-    }
+    line_of(alloc, b"why: not told for data banks", b"")
 }
 
 /// The line for an explanation that has more nodes than the limit.
-fn past_limit(alloc: Global, limit: u32) -> Result<Vec<u8>, Memory>
+pub fn past_limit_text(alloc: Global, limit: u32) -> Result<Vec<u8>, Memory>
     ensures { IfOk result (λ text. text.items ≡ line (codes "why: more than " ++ decimal limit ++ codes " nodes")) }
 {
     let mut digits = Buffer::new();
@@ -57,8 +32,9 @@ fn past_limit(alloc: Global, limit: u32) -> Result<Vec<u8>, Memory>
     Ok(text)
 }
 
-/// The lines of an explanation. Linear in them.
-fn explained_text(
+/// The lines of an explanation: an input and a run over it, step by step, in whose last the cell loses its excitation; or
+/// that there is none. Fails where memory is refused. Linear in the lines.
+pub fn explained_text(
     alloc: Global,
     pipeline: &Pipeline<'_>,
     cell: CellId,

@@ -11,7 +11,7 @@ mod net_faults;
 mod shape_faults;
 mod verdicts;
 
-pub use explanations::{push_steps, why_text};
+pub use explanations::{explained_text, past_limit_text, push_steps, untold_text};
 pub use line::{limit_text, line_of, numbered_line, push_number, push_word};
 pub use net_faults::net_text;
 pub use shape_faults::shape_text;

@@ -8,3 +8,4 @@ pub mod Rows
 pub mod Calendar
 pub mod Running
 pub mod Times
+pub mod Course

@@ -2,7 +2,7 @@
 //!
 //! An `Agenda` keeps what is due in a calendar queue, a wheel of 64 lists for what is due soon and a heap, `looking` looks
 //! again at a number, `rows` has of each cell what a look needs, `touched` says which numbers a change of a net can touch,
-//! and `run` makes one step after another. The proofs show that a row tells what its cell does (`RowLaws`), that nothing but
+//! `course` is the pipeline with these two, and `run` makes one step after another. The proofs show that a row tells what its cell does (`RowLaws`), that nothing but
 //! what is looked at can change (`Locality`), and that there is one run (`Oneness`, `Existence`).
 //!
 //! A run of a pipeline at the delays of a file, and the lines that tell it:
@@ -22,6 +22,7 @@
 
 mod agenda;
 mod calendar;
+mod course;
 pub mod laws;
 mod looking;
 mod rows;

@@ -5,12 +5,11 @@ ghost use Rattle.ncl_machine.specs.Held.{IsFor, InRange, meaning};
 ghost use Rattle.ncl_sim.specs.Numbers.{rises};
 ghost use Rattle.ncl_sim.specs.Candidates.{candidate, number_count};
 ghost use Rattle.ncl_sim.specs.Queue.{IsTracked, least_of, look_at, looks, loses, lower};
-ghost use Rattle.ncl_sim.specs.Rows.{AreRowsOf, IsDelayAt};
+ghost use Rattle.ncl_sim.specs.Rows.{IsDelayAt};
 
 use crate::agenda::Agenda;
-use crate::rows::Row;
+use crate::course::Course;
 use ncl_base::Memory;
-use ncl_delay::Delays;
 use ncl_machine::State;
 use ncl_netlist::CellId;
 use ncl_shape::{Item, Pipeline};
@@ -64,104 +63,64 @@ fn rises(pipeline: &Pipeline, state: &State, item: Item) -> bool
     }
 }
 
-/// The delay of the item of a number, where that is enabled, found by asking the netlist.
-fn delay_asked(pipeline: &Pipeline, delays: &Delays, state: &State, number: u32) -> Option<u32>
-    requires made { IsFor pipeline.now state.now }
-    requires within { number < number_count pipeline.now }
-    ensures { IsDelayAt pipeline.now delays.now (meaning state.now) number result }
+/// The delay of the item of a number, where that is enabled, found by asking the netlist: that of a bit or of the sink, which
+/// have no row. Stays out of line, since most looks are at cells.
+#[inline(never)]
+fn delay_asked(course: &Course, state: &State, number: u32) -> Option<u32>
+    requires made { IsFor course.now.pipeline state.now }
+    requires within { number < number_count course.now.pipeline }
+    ensures { IsDelayAt course.now.pipeline course.now.delays (meaning state.now) number result }
 {
+    let pipeline = course.pipeline();
     let item = candidate(pipeline, state, number);
     if !state.enabled(pipeline, item) {
         return None;
     }
-    Some(delays.of(pipeline, item, rises(pipeline, state, item)))
+    Some(course.delays().of(pipeline, item, rises(pipeline, state, item)))
 }
 
-/// Looks at a number whose item has this delay where it is enabled. Takes the time to let the number wait.
+/// The delay of the item of a number, where that is enabled: by its row, where it is of a cell.
 #[inline(always)]
-fn look_with(
+fn delay_of(course: &Course, state: &State, number: u32) -> Option<u32>
+    requires made { IsFor course.now.pipeline state.now }
+    requires within { number < number_count course.now.pipeline }
+    ensures { IsDelayAt course.now.pipeline course.now.delays (meaning state.now) number result }
+{
+    course.facts();
+    let rows = course.rows();
+    let place = number as usize;
+    if place < rows.len() {
+        let row = &rows[place];
+        return row.delay(state);
+    }
+    delay_asked(course, state, number)
+}
+
+/// Looks at a number, after a step or at the start: it begins to wait where its item is enabled and doesn't wait.
+/// Answers whether it was lost, which is where it waits and its item isn't enabled. Takes the time to let the number wait.
+#[inline(always)]
+pub(crate) fn look(
     agenda: &mut Agenda,
-    pipeline: &Pipeline,
-    delays: &Delays,
+    course: &Course,
     state: &State,
     time: u64,
     number: u32,
-    delay: Option<u32>,
 ) -> Result<bool, Memory>
-    requires count { length agenda.old ≡ number_count pipeline.now }
-    requires within { number < number_count pipeline.now }
+    requires made { IsFor course.now.pipeline state.now }
+    requires count { length agenda.old ≡ number_count course.now.pipeline }
+    requires within { number < number_count course.now.pipeline }
     requires time { time ≤ 2 ^ 63 }
-    requires delay { IsDelayAt pipeline.now delays.now (meaning state.now) number delay }
-    ensures waits { OnOk result (agenda.new ≡ look_at pipeline.now delays.now (meaning state.now) time agenda.old number) }
-    ensures lost { IfOk result (λ lost. lost ≡ loses pipeline.now (meaning state.now) agenda.old number) }
+    ensures waits { OnOk result (agenda.new ≡ look_at course.now.pipeline course.now.delays (meaning state.now) time agenda.old number) }
+    ensures lost { IfOk result (λ lost. lost ≡ loses course.now.pipeline (meaning state.now) agenda.old number) }
 {
     let waits = agenda.is_waiting(number);
-    let Some(delay) = delay else {
+    let Some(delay) = delay_of(course, state, number) else {
         return Ok(waits);
     };
     if !waits {
         agenda.wait(number, time + u64::from(delay))?;
     }
     Ok(false)
-}
-
-/// Looks at a number, asking the netlist for its item's delay: that of a bit or of the sink, which have no row. Stays out of
-/// line, since most looks are at cells.
-#[inline(never)]
-fn look_asked(
-    agenda: &mut Agenda,
-    pipeline: &Pipeline,
-    delays: &Delays,
-    state: &State,
-    time: u64,
-    number: u32,
-) -> Result<bool, Memory>
-    requires made { IsFor pipeline.now state.now }
-    requires count { length agenda.old ≡ number_count pipeline.now }
-    requires within { number < number_count pipeline.now }
-    requires time { time ≤ 2 ^ 63 }
-    ensures waits { OnOk result (agenda.new ≡ look_at pipeline.now delays.now (meaning state.now) time agenda.old number) }
-    ensures lost { IfOk result (λ lost. lost ≡ loses pipeline.now (meaning state.now) agenda.old number) }
-{
-    let delay = delay_asked(pipeline, delays, state, number);
-    look_with(agenda, pipeline, delays, state, time, number, delay)
-}
-
-/// Looks at a number, after a step or at the start: it begins to wait where its item is enabled and doesn't wait.
-/// Answers whether it was lost, which is where it waits and its item isn't enabled.
-#[inline(always)]
-pub(crate) fn look(
-    agenda: &mut Agenda,
-    pipeline: &Pipeline,
-    delays: &Delays,
-    rows: &[Row],
-    state: &State,
-    time: u64,
-    number: u32,
-) -> Result<bool, Memory>
-    requires made { IsFor pipeline.now state.now }
-    requires rows { AreRowsOf pipeline.now delays.now rows.now }
-    requires count { length agenda.old ≡ number_count pipeline.now }
-    requires within { number < number_count pipeline.now }
-    requires time { time ≤ 2 ^ 63 }
-    ensures waits { OnOk result (agenda.new ≡ look_at pipeline.now delays.now (meaning state.now) time agenda.old number) }
-    ensures lost { IfOk result (λ lost. lost ≡ loses pipeline.now (meaning state.now) agenda.old number) }
-{
-    pipeline.facts();
-    let place = number as usize;
-    if place < rows.len() {
-        let row = &rows[place];
-        return look_with(
-            agenda,
-            pipeline,
-            delays,
-            state,
-            time,
-            number,
-            row.delay(state),
-        );
-    }
-    look_asked(agenda, pipeline, delays, state, time, number)
 }
 
 /// The lesser of a number and one that may be there.
@@ -177,24 +136,21 @@ fn lower(least: Option<u32>, number: u32) -> Option<u32>
 /// Looks at some numbers, and answers the least that was lost.
 pub(crate) fn look_all(
     agenda: &mut Agenda,
-    pipeline: &Pipeline,
-    delays: &Delays,
-    rows: &[Row],
+    course: &Course,
     state: &State,
     time: u64,
     numbers: &[u32],
 ) -> Result<Option<u32>, Memory>
-    requires made { IsFor pipeline.now state.now }
-    requires rows { AreRowsOf pipeline.now delays.now rows.now }
-    requires count { length agenda.old ≡ number_count pipeline.now }
-    requires within { All (λ number. number < number_count pipeline.now) numbers.now }
+    requires made { IsFor course.now.pipeline state.now }
+    requires count { length agenda.old ≡ number_count course.now.pipeline }
+    requires within { All (λ number. number < number_count course.now.pipeline) numbers.now }
     requires time { time ≤ 2 ^ 63 }
-    ensures waits { OnOk result (agenda.new ≡ looks pipeline.now delays.now (meaning state.now) time agenda.old numbers.now) }
-    ensures lost { IfOk result (λ lost. lost ≡ least_of (loses pipeline.now (meaning state.now) agenda.old) None numbers.now) }
+    ensures waits { OnOk result (agenda.new ≡ looks course.now.pipeline course.now.delays (meaning state.now) time agenda.old numbers.now) }
+    ensures lost { IfOk result (λ lost. lost ≡ least_of (loses course.now.pipeline (meaning state.now) agenda.old) None numbers.now) }
 {
     let mut lost = None;
     for number in numbers {
-        if look(agenda, pipeline, delays, rows, state, time, *number)? {
+        if look(agenda, course, state, time, *number)? {
             lost = lower(lost, *number);
         }
     }
@@ -202,22 +158,15 @@ pub(crate) fn look_all(
 }
 
 /// What waits at reset: the items that are enabled then. Linear in cells and bits.
-pub(crate) fn started(
-    alloc: Global,
-    pipeline: &Pipeline,
-    delays: &Delays,
-    rows: &[Row],
-    state: &State,
-) -> Result<Agenda, Memory>
-    requires made { IsFor pipeline.now state.now }
-    requires rows { AreRowsOf pipeline.now delays.now rows.now }
-    requires reset { meaning state.now ≡ reset pipeline.now state.now.offered }
-    ensures { IfOk result (IsTracked pipeline.now delays.now state.now.offered []) }
+pub(crate) fn started(alloc: Global, course: &Course, state: &State) -> Result<Agenda, Memory>
+    requires made { IsFor course.now.pipeline state.now }
+    requires reset { meaning state.now ≡ reset course.now.pipeline state.now.offered }
+    ensures { IfOk result (IsTracked course.now.pipeline course.now.delays state.now.offered []) }
 {
-    let count = number_count(pipeline);
+    let count = number_count(course.pipeline());
     let mut agenda = Agenda::new(alloc, count as usize)?;
     for number in 0..count {
-        look(&mut agenda, pipeline, delays, rows, state, 0, number)?;
+        look(&mut agenda, course, state, 0, number)?;
     }
     Ok(agenda)
 }

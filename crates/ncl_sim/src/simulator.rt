@@ -8,9 +8,8 @@ ghost use Rattle.ncl_delay.specs.declared.fired.Fired.{Fired as FiredStep};
 ghost use Rattle.ncl_sim.specs.declared.trace.Taken.{Taken as TakenPair};
 ghost use Rattle.ncl_sim.specs.declared.trace.End.TheVariants.{Quiet};
 
-use crate::rows::rows_of;
+use crate::course::Course;
 use crate::run::Run;
-use crate::touched::touched_of;
 use crate::trace::{Taken, Trace};
 use ncl_base::{Items, Memory, Word};
 use ncl_delay::{Delays, Fired, MOST_WORDS};
@@ -70,14 +69,12 @@ pub fn simulate(
     ensures delivered { All IsSound pipeline.now.stages → IfOk result (DeliversAll pipeline.now words.now) }
 {
     pipeline.facts();
-    let touched = touched_of(alloc, pipeline)?;
-    let rows = rows_of(alloc, pipeline, delays)?;
-    let rows = rows.as_slice();
-    let mut run = Run::begin(alloc, pipeline, delays, rows, words)?;
+    let course = Course::of(alloc, pipeline, delays)?;
+    let mut run = Run::begin(alloc, &course, words)?;
     let nets = pipeline.netlist().nets().len();
     let due = pipeline.data_banks() + words.len();
     let most = 2 * due as u64 * nets as u64;
-    let end = run.finish(pipeline, delays, rows, &touched, most)?;
+    let end = run.finish(&course, most)?;
     let taken = delivered(alloc, &run.steps, run.state.delivered())?;
     let Run {
         state: _,

@@ -7,12 +7,12 @@ use Rattle.ncl_sim.proofs.looking.look_all.Goals.{then-branch, else-branch}
 
 pub look-requires-clause-count : goal.look-requires-clause-count
 look-requires-clause-count c =
-    ap length c.loop-number.invariant.0 ∙ length-looks c.args.pipeline.now c.args.delays.now (meaning c.args.state.now) c.args.time c.args.agenda.now (take c.loop-number.number-index c.args.numbers.now) ∙ c.requires.count
+    ap length c.loop-number.invariant.0 ∙ length-looks c.args.course.now.pipeline c.args.course.now.delays (meaning c.args.state.now) c.args.time c.args.agenda.now (take c.loop-number.number-index c.args.numbers.now) ∙ c.requires.count
 
 pub loop-number-preserved : goal.loop-number-preserved
 loop-number-preserved c =
-    let p = c.args.pipeline.now in
-    let d = c.args.delays.now in
+    let p = c.args.course.now.pipeline in
+    let d = c.args.course.now.delays in
     let s = meaning c.args.state.now in
     let ks = c.args.numbers.now in
     let i = c.loop-number.number-index in

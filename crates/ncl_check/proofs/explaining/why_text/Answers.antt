@@ -7,7 +7,7 @@ use Rattle.ncl_lines.specs.VerdictText.{NamesCellOf}
 use Rattle.ncl_lines.specs.WhyText.{IsOrphanText, IsWhyText, data_banks, explained, past_limit}
 use Rattle.ncl_lines.proofs.NamedPlaces.{names_cell_of}
 use Rattle.ncl_lines.proofs.WrittenSteps.{names_items}
-use Rattle.ncl_lines.proofs.explanations.why_text.Goals as goal
+use Rattle.ncl_check.proofs.explaining.why_text.Goals as goal
 
 pub explain-requires-clause-stage : goal.explain-requires-clause-stage
 explain-requires-clause-stage c = (judged-orphan c.args.pipeline.now c.facts.ensures c.args.limit c.in-Orphan.stage c.in-Orphan.cell c.in-Orphan.word (sym c.requires.verdict ∙ c.in-Orphan.is)).0
@@ -26,10 +26,10 @@ explained_text-requires-clause-items c = names_items c.args.pipeline.now (c.in-O
 pub returns-then-data_banks-ne0 : goal.returns-then-data_banks-ne0
 returns-then-data_banks-ne0 c =
     let p = c.args.pipeline.now in
-    subst (λ (v : Verdict). IfOk c.line_of.result (λ text. IsWhyText c.args.limit p v text.items)) (sym c.in-Orphan.is)
-    (IfOk-weaker c.line_of.result _ (λ text. IsOrphanText c.args.limit p (c.in-Orphan.stage - 1) c.in-Orphan.cell text.items)
+    subst (λ (v : Verdict). IfOk c.untold_text.result (λ text. IsWhyText c.args.limit p v text.items)) (sym c.in-Orphan.is)
+    (IfOk-weaker c.untold_text.result _ (λ text. IsOrphanText c.args.limit p (c.in-Orphan.stage - 1) c.in-Orphan.cell text.items)
     (λ text said. subst (IsOrphanText c.args.limit p (c.in-Orphan.stage - 1) c.in-Orphan.cell) (sym said) (data_banks (λ none. c.if-data_banks-ne0.true (c.data_banks.ensures ∙ none))))
-    c.line_of.ensures)
+    c.untold_text.ensures)
 
 pub returns-in-Ok : goal.returns-in-Ok
 returns-in-Ok c =
@@ -42,7 +42,7 @@ returns-in-Ok c =
 pub returns-in-Err-Full : goal.returns-in-Err-Full
 returns-in-Err-Full c =
     let p = c.args.pipeline.now in
-    subst (λ (v : Verdict). IfOk c.past_limit.result (λ text. IsWhyText c.args.limit p v text.items)) (sym c.in-Orphan.is)
-    (IfOk-weaker c.past_limit.result _ (λ text. IsOrphanText c.args.limit p (c.in-Orphan.stage - 1) c.in-Orphan.cell text.items)
+    subst (λ (v : Verdict). IfOk c.past_limit_text.result (λ text. IsWhyText c.args.limit p v text.items)) (sym c.in-Orphan.is)
+    (IfOk-weaker c.past_limit_text.result _ (λ text. IsOrphanText c.args.limit p (c.in-Orphan.stage - 1) c.in-Orphan.cell text.items)
     (λ text said. subst (IsOrphanText c.args.limit p (c.in-Orphan.stage - 1) c.in-Orphan.cell) (sym said) (past_limit (sym c.data_banks.ensures ∙ c.if-data_banks-ne0.false) (c.in-Err-Full.ensures.full (ap Err c.in-Err-Full.field-0-is))))
-    c.past_limit.ensures)
+    c.past_limit_text.ensures)

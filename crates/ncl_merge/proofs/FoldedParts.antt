@@ -1,7 +1,7 @@
 -- The tables from which the netlist of a pipeline is rebuilt whose stages were folded, and the parts that say a netlist.
 use Rattle.ncl_merge.proofs.Kit.{◌≡◌, ◌<◌, ℕ, Bool, false, List, length, get_or, Option, None, Some, sym, ap, ◌∙◌, subst, All, slice_get, slice_get_within, get_or_from_slice_get}
-use Rattle.ncl_merge.proofs.Terms.{NetId, AllDiffer, NetlistData, IsNetlist, HasAllPins, part_of, parts_said, port_names, RailOf, IsTable, cell_fits, origin_within, StageCell, PipelineData, Shape, member_of_map, All-from_members, Contains-from_Member, Member-from_Contains, AreFewer, kept, DriveOnce, HaveGates, all_of, becomes, choice_by, choice_of, cell_driving, is_stage_net}
-use Rattle.ncl_merge.proofs.Faultless.{AllDiffer-take, pins-count}
+use Rattle.ncl_merge.proofs.Terms.{NetId, NetlistData, RailOf, IsTable, cell_fits, origin_within, StageCell, PipelineData, Shape, All-from_members, Contains-from_Member, Member-from_Contains, AreFewer, kept, DriveOnce, HaveGates, all_of, becomes, choice_by, choice_of, cell_driving, is_stage_net}
+use Rattle.ncl_merge.proofs.Faultless.{}
 use Rattle.ncl_merge.proofs.NetTables.{driving-some, kept-same}
 use Rattle.ncl_merge.proofs.Choices.{comes-from, out-known, pin-known, place-in, one-driving}
 
@@ -34,12 +34,3 @@ module _ (p : PipelineData) (shape : Shape p.netlist p) (lists : List (List Stag
       let within = (cell_fits n shape.is_netlist c (Contains-from_Member c m)).output in
       ap (λ o. becomes o (get_or staged c.out.0 false) c) (have c.out.0 (subst (λ size. c.out.0 < size) (sym sized) within))
       ∙ ap (λ b. becomes (cell_driving c.out.0 (all_of lists)) b c) (table.each c.out.0 within))
-
--- the parts that say a netlist meet what `build` asks
-pub said-ports : (n : NetlistData) → IsNetlist n → AllDiffer (port_names (parts_said n))
-said-ports n is = subst AllDiffer is.ports_first (AllDiffer-take n.nets (length n.ports) is.net_names)
-
-pub said-pins : (n : NetlistData) → IsNetlist n → All HasAllPins (parts_said n).cells
-said-pins n is = All-from_members HasAllPins (parts_said n).cells (λ part m.
-    let (c, m-c, same) = member_of_map (part_of n.nets) n.cells part m in
-    subst HasAllPins same (pins-count n.nets c ∙ (cell_fits n is c (Contains-from_Member c m-c)).pins))

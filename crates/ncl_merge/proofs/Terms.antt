@@ -65,11 +65,10 @@ pub use Rattle.ncl_merge.specs.Thinned.{IsOld, IsRailGate, IsStood, IsThinGate, 
 pub use Rattle.ncl_merge.specs.declared.needed.TheConstants.{WORDS}
 pub use Rattle.ncl_netlist.proofs.FaultLaws.{IsFaultOf-excludes}
 pub use Rattle.ncl_netlist.proofs.NameLists.{AllDiffer-once_each, equal_names, get_or-name_number, list_any-once_each, name_number-get_or, name_number-lt-length, same_itself, take-once_each}
-pub use Rattle.ncl_netlist.proofs.Said.{faultless-parts_said, netlist_of-parts_said}
 pub use Rattle.ncl_netlist.specs.Faults.{IsFaultless, drivers_at}
 pub use Rattle.ncl_netlist.specs.Names.{AllDiffer, name_number, once_each, same_name}
 pub use Rattle.ncl_netlist.specs.Netlist.{IsNetlist, NetlistData, drives, most_cells, pin_names}
-pub use Rattle.ncl_netlist.specs.Parts.{HasAllPins, cell_names, cell_of, net_of, netlist_of, part_of, parts_said, port_names}
+pub use Rattle.ncl_netlist.specs.Parts.{HasAllPins, cell_names, cell_of, net_of, netlist_of, part_of, port_names}
 pub use Rattle.ncl_netlist.specs.declared.cell.Cell.{Cell, Cell as NetlistCell}
 pub use Rattle.ncl_netlist.specs.declared.ids.CellId.{CellId}
 pub use Rattle.ncl_netlist.specs.declared.ids.NetId.{NetId}

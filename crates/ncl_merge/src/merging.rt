@@ -4,7 +4,7 @@ ghost use Rattle.ncl_shape.specs.Shape.{Shape};
 ghost use Rattle.ncl_merge.specs.Merged.{IsSmaller, IsSoundNetlist, Merged, NothingFoldable};
 
 use crate::folding::fold_pipeline;
-use crate::rebuilding::{copied_netlist, rebuild};
+use crate::rebuilding::rebuild;
 use ncl_base::Memory;
 use ncl_netlist::Netlist;
 use ncl_shape::{Pipeline, ShapeFault, shape};
@@ -46,13 +46,13 @@ fn round(alloc: Global, netlist: &Netlist) -> Result<Option<Netlist>, Memory>
 /// Merges the gates of a netlist: folds each gate that one cell alone reads into that cell, where a gate is the fold, until
 /// no two cells can be folded.
 ///
-/// Each round but the last folds a cell, and makes the netlist anew; a round is near linear in the bytes of the names.
-/// The only error is want of memory.
-pub fn merge(alloc: Global, netlist: &Netlist) -> Result<Netlist, Memory>
-    requires { IsSoundNetlist netlist.now }
-    ensures { IfOk result (Merged netlist.now) }
+/// Each round but the last folds a cell, and makes the netlist anew, so that one in which nothing folds is given back as it
+/// is; a round is near linear in the bytes of the names. The only error is want of memory.
+pub fn merge(alloc: Global, netlist: Netlist) -> Result<Netlist, Memory>
+    requires { IsSoundNetlist netlist }
+    ensures { IfOk result (Merged netlist) }
 {
-    let mut merged = copied_netlist(alloc, netlist)?;
+    let mut merged = netlist;
     while let Some(next) = round(alloc, &merged)? {
         merged = next;
     }

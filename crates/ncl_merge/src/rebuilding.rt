@@ -4,7 +4,7 @@ ghost use Rattle.std.specs.List.{slice_index_or};
 ghost use Rattle.ncl_netlist.specs.declared.ids.NetId.{NetId as NetNumber};
 ghost use Rattle.ncl_netlist.specs.Faults.{IsFaultless};
 ghost use Rattle.ncl_netlist.specs.Names.{AllDiffer};
-ghost use Rattle.ncl_netlist.specs.Parts.{HasAllPins, netlist_of, part_of, parts_said, port_names};
+ghost use Rattle.ncl_netlist.specs.Parts.{HasAllPins, netlist_of, part_of, port_names};
 ghost use Rattle.ncl_cell_rules.specs.Tables.{IsTable};
 ghost use Rattle.ncl_shape.specs.declared.stage.StageCell.{StageCell as Gate};
 ghost use Rattle.ncl_merge.specs.Folding.{AreFewer};
@@ -242,38 +242,4 @@ pub fn rebuild(
     pipeline.facts();
     let parts = folded_parts(alloc, pipeline, lists)?;
     built(alloc, parts)
-}
-
-/// All cells, told by the names of their nets. Linear in the bytes of these.
-fn said_cells(alloc: Global, netlist: &Netlist) -> Result<Vec<PartCell>, Memory>
-    ensures { IfOk result (λ parts. parts.items ≡ map (part_of netlist.now.nets) netlist.now.cells) }
-{
-    let mut parts = Vec::with_capacity(alloc, netlist.cells().len())?;
-    for cell in netlist.cells() {
-        add_kept(alloc, &mut parts, netlist.nets(), cell, &None, false)?;
-    }
-    Ok(parts)
-}
-
-/// The parts that say a netlist. Linear in the bytes of names.
-fn said_parts(alloc: Global, netlist: &Netlist) -> Result<Parts, Memory>
-    ensures { IfOk result (λ parts. parts ≡ parts_said netlist.now) }
-{
-    let cells = said_cells(alloc, netlist)?;
-    let ports = copied_ports(alloc, netlist.ports())?;
-    Ok(Parts {
-        module: copied_name(netlist.module())?,
-        ports: Items::from_vec(ports),
-        cells: Items::from_vec(cells),
-    })
-}
-
-/// The same netlist once more. Near linear in the bytes of the names.
-pub fn copied_netlist(alloc: Global, netlist: &Netlist) -> Result<Netlist, Memory>
-    ensures { IfOk result (λ copy. copy ≡ netlist.now) }
-{
-    let _ = netlist.ports();
-    let parts = said_parts(alloc, netlist)?;
-    let copy = built(alloc, parts)?;
-    Ok(copy)
 }

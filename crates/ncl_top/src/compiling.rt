@@ -26,7 +26,7 @@ pub fn compile_models(alloc: Global, models: &[Model], merged: bool) -> Result<R
     ensures { IfOk result (Gives (IsModelsReply models.now merged)) }
 {
     match compile(alloc, models) {
-        Ok(netlist) => Ok(Reply::Made(0, compiled_text(alloc, models, &netlist, merged)?)),
+        Ok(netlist) => Ok(Reply::Made(0, compiled_text(alloc, models, netlist, merged)?)),
         Err(fault) => Ok(Reply::Made(3, too_large_text(alloc, fault)?)),
     }
 }
@@ -35,11 +35,11 @@ pub fn compile_models(alloc: Global, models: &[Model], merged: bool) -> Result<R
 fn compiled_text(
     alloc: Global,
     models: &[Model],
-    netlist: &Netlist,
+    netlist: Netlist,
     merged: bool,
 ) -> Result<Vec<u8>, Memory>
-    requires { Compiled models.now netlist.now }
-    ensures { IfOk result (λ text. IsCompiledText models.now netlist.now merged text.items) }
+    requires { Compiled models.now netlist }
+    ensures { IfOk result (λ text. IsCompiledText models.now netlist merged text.items) }
 {
     if merged {
         merged_text(alloc, models, netlist)
@@ -49,19 +49,19 @@ fn compiled_text(
 }
 
 /// The text of a netlist that is compiled from models.
-fn plain_text(alloc: Global, models: &[Model], netlist: &Netlist) -> Result<Vec<u8>, Memory>
-    requires { Compiled models.now netlist.now }
-    ensures { IfOk result (λ text. IsCompiledText models.now netlist.now false text.items) }
+fn plain_text(alloc: Global, models: &[Model], netlist: Netlist) -> Result<Vec<u8>, Memory>
+    requires { Compiled models.now netlist }
+    ensures { IfOk result (λ text. IsCompiledText models.now netlist false text.items) }
 {
     let _ = models;
-    let text = write_netlist(alloc, netlist)?;
+    let text = write_netlist(alloc, &netlist)?;
     Ok(text)
 }
 
 /// The text of what such a netlist is merged to.
-fn merged_text(alloc: Global, models: &[Model], netlist: &Netlist) -> Result<Vec<u8>, Memory>
-    requires { Compiled models.now netlist.now }
-    ensures { IfOk result (λ text. IsCompiledText models.now netlist.now true text.items) }
+fn merged_text(alloc: Global, models: &[Model], netlist: Netlist) -> Result<Vec<u8>, Memory>
+    requires { Compiled models.now netlist }
+    ensures { IfOk result (λ text. IsCompiledText models.now netlist true text.items) }
 {
     let _ = models;
     let folded = merge(alloc, netlist)?;

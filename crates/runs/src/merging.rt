@@ -21,7 +21,7 @@ pub fn print_merged<R: AllocGlobal + Print>(rt: &R, text: &[u8]) -> anyhow::Resu
     let alloc = rt.alloc();
     let netlist = netlist_of(alloc, text)?;
     anyhow::ensure!(is_accepted(alloc, &netlist)?, "a stage that is refused");
-    let merged = merge(alloc, &netlist)?;
+    let merged = merge(alloc, netlist)?;
     anyhow::ensure!(is_writable(&merged), "a name that can't be written");
     rt.write_all(&write_netlist(alloc, &merged)?)?;
     Ok(())

@@ -59,7 +59,7 @@ fn merged_text(alloc: Global, models: &[Model]) -> anyhow::Result<Vec<u8>>
     ensures { IfOk result (λ text. length text.items ≤ MOST_BYTES) }
 {
     let netlist = compile(alloc, models)?;
-    let merged = merge(alloc, &netlist)?;
+    let merged = merge(alloc, netlist)?;
     anyhow::ensure!(is_writable(&merged), "a name that can't be written");
     let text = write_netlist(alloc, &merged)?;
     anyhow::ensure!(text.len() <= MOST_BYTES, "a netlist that is too long");

@@ -1,22 +1,22 @@
-use Rattle.ncl_merge.proofs.Kit.{inl, subst, MatchOption}
+use Rattle.ncl_merge.proofs.Kit.{inl, refl, subst, MatchOption}
 use Rattle.ncl_merge.proofs.Terms.{IsSmaller, NothingFoldable}
 use Rattle.ncl_merge.proofs.Rounds.{way-sound, way-on, way-ends}
 use Rattle.ncl_merge.proofs.merging.merge.Goals as goal
 
 pub loop-merged-init : goal.loop-merged-init
-loop-merged-init c = record { way = inl c.in_ok-merged.ensures }
+loop-merged-init c = record { way = inl refl }
 
 pub round-requires : goal.round-requires
-round-requires c = way-sound c.args.netlist.now c.loop-merged.merged c.requires c.loop-merged.invariant.way
+round-requires c = way-sound c.args.netlist c.loop-merged.merged c.requires c.loop-merged.invariant.way
 
 pub loop-merged-preserved : goal.loop-merged-preserved
 loop-merged-preserved c =
     let m = c.loop-merged.merged in
     let smaller = subst (λ found. MatchOption found (NothingFoldable m) (IsSmaller m)) c.in-Some.is c.in_ok-next.ensures in
-    record { way = way-on c.args.netlist.now m c.in-Some.next c.loop-merged.invariant.way smaller }
+    record { way = way-on c.args.netlist m c.in-Some.next c.loop-merged.invariant.way smaller }
 
 pub returns : goal.returns
 returns c =
     let m = c.loop-merged.merged in
-    way-ends c.args.netlist.now m c.requires c.loop-merged.invariant.way
+    way-ends c.args.netlist m c.requires c.loop-merged.invariant.way
     (subst (λ found. MatchOption found (NothingFoldable m) (IsSmaller m)) c.in_default.is c.in_ok-next.ensures)

@@ -9,11 +9,11 @@ merge-requires c = record { pipeline = c.requires.pipeline; shape = c.requires.s
 
 pub write_netlist-requires : goal.write_netlist-requires
 write_netlist-requires c =
-    writable c.args.models.now c.in_ok-folded.folded (compiled_merged c.args.models.now c.args.netlist.now c.in_ok-folded.folded c.requires c.in_ok-folded.ensures)
+    writable c.args.models.now c.in_ok-folded.folded (compiled_merged c.args.models.now c.args.netlist c.in_ok-folded.folded c.requires c.in_ok-folded.ensures)
 
 pub returns : goal.returns
 returns c =
     let m = c.in_ok-folded.folded in
     let from = c.in_ok-folded.ensures in
-    subst (IsCompiledText c.args.models.now c.args.netlist.now true) (sym c.in_ok-text.ensures.text)
-    (merged refl m from (compiled_merged c.args.models.now c.args.netlist.now m c.requires from))
+    subst (IsCompiledText c.args.models.now c.args.netlist true) (sym c.in_ok-text.ensures.text)
+    (merged refl m from (compiled_merged c.args.models.now c.args.netlist m c.requires from))

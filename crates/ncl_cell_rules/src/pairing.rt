@@ -1,5 +1,5 @@
 //! The third rule of shape: register cells pair up to bits, each with its acknowledge cell.
-ghost use Rattle.std.specs.Prelude.{◌≡◌, ℕ, ◌<◌, ◌↔◌, IsTrue, IfSome, IfNone, MatchOption, length};
+ghost use Rattle.std.specs.Prelude.{ℕ, ◌<◌, ◌↔◌, IsTrue, IfSome, IfNone, MatchOption, length};
 ghost use Rattle.ncl_cell_rules.specs.Origin.{IsAck, IsCell};
 ghost use Rattle.ncl_cell_rules.specs.Rules.{IsPaired, ReadsOneBit};
 ghost use Rattle.ncl_cell_rules.specs.Free.{AtCell, FailsFirst};

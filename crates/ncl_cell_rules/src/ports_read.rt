@@ -1,5 +1,5 @@
 //! The first rule of shape: each input port is read.
-ghost use Rattle.std.specs.Prelude.{◌≡◌, ℕ, ◌<◌, MatchOption};
+ghost use Rattle.std.specs.Prelude.{ℕ, ◌<◌, MatchOption};
 ghost use Rattle.ncl_cell_rules.specs.Rules.{IsReadPort};
 ghost use Rattle.ncl_cell_rules.specs.Free.{FailsFirst};
 ghost use Rattle.ncl_cell_rules.specs.Tables.{AreReads};

@@ -1,5 +1,5 @@
 //! The fifth rule of shape: nothing of a completion tree is left unread.
-ghost use Rattle.std.specs.Prelude.{◌≡◌, ℕ, ◌<◌, ◌↔◌, IsTrue, MatchOption};
+ghost use Rattle.std.specs.Prelude.{ℕ, ◌<◌, ◌↔◌, IsTrue, MatchOption};
 ghost use Rattle.ncl_cell_rules.specs.Origin.{IsCell, IsOutputPort};
 ghost use Rattle.ncl_cell_rules.specs.Rules.{IsTied};
 ghost use Rattle.ncl_cell_rules.specs.Free.{AtCell, FailsFirst};

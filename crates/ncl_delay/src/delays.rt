@@ -1,5 +1,5 @@
 //! Delays.
-ghost use Rattle.std.specs.Prelude.{◌≡◌, Bool, IfOk, None, length};
+ghost use Rattle.std.specs.Prelude.{◌≡◌, Bool};
 ghost use Rattle.ncl_shape.specs.declared.item.Item.{Item};
 ghost use Rattle.ncl_delay.specs.Delays.{IsDelay, AreDelays, HasDelays, edges_of, edges_of_cell, delay_of};
 

@@ -1,5 +1,5 @@
 //! The lines of a file.
-ghost use Rattle.std.specs.Prelude.{◌≡◌, ◌≤◌, length, reverse};
+ghost use Rattle.std.specs.Prelude.{◌≡◌, reverse};
 ghost use Rattle.ncl_delay.specs.Lines.{is_space, tells, from_first, trimmed};
 
 /// A line without blanks, tabs and carriage returns at its ends. Linear in the line.

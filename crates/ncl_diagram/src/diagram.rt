@@ -1,10 +1,10 @@
 //! The space of shared decision diagrams.
-ghost use Rattle.std.specs.Prelude.{◌≡◌, ◌<◌, ◌≤◌, ◌+◌, ◌*◌, [], ◌∷◌, true, false, IfOk, OnOk, IsErrOf, length, map, All, Some};
+ghost use Rattle.std.specs.Prelude.{◌≡◌, ◌<◌, ◌≤◌, ◌+◌, ◌*◌, true, false, length, map, All, Some};
 ghost use Rattle.std.specs.FinSet as set;
 ghost use Rattle.ncl_gates.specs.Gate.{arity_of};
 ghost use Rattle.ncl_space.specs.declared.space.Ref.{Ref};
 ghost use Rattle.ncl_space.specs.Functions.{gate_table};
-ghost use Rattle.ncl_space.specs.Space.{Adds, IsLive, IsNew, IsSpace, Keeps, Makes, fits};
+ghost use Rattle.ncl_space.specs.Space.{IsLive, IsNew, IsSpace};
 ghost use Rattle.ncl_diagram.specs.Diagram.{Applies, diagram_space};
 ghost use Rattle.ncl_diagram.specs.Steps.{operand_bound};
 

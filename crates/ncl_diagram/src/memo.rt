@@ -1,5 +1,5 @@
 //! What one operation has found so far.
-ghost use Rattle.std.specs.Prelude.{◌≡◌, ◌≢◌, Err, ◌+◌, ◌≤◌, ◌<◌, [], ◌∷◌, ◌++◌, true, false, IfOk, OnOk, OnErr, length, slice_get, Some, set, ◌*◌, ◌^◌};
+ghost use Rattle.std.specs.Prelude.{◌≡◌, ◌≢◌, Err, ◌+◌, ◌<◌, [], IfOk, length, Some, set, ◌*◌, ◌^◌};
 ghost use Rattle.std.specs.List.{IsDistinct};
 ghost use Rattle.ncl_diagram.specs.Memo.{IsKeyPut, MayAdd, is_key};
 ghost use Rattle.ncl_diagram.specs.Keys.{hash_of};

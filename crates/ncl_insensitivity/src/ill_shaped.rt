@@ -1,7 +1,7 @@
 //! Pipelines that lack one condition of shape each, and go wrong: none of these conditions can be left out. Each
 //! has two banks of two bits, wires between them, and the word 11 to pass on. That they keep the other conditions
 //! of shape is not stated here.
-ghost use Rattle.std.specs.Prelude.{◌≡◌, [], ◌∷◌};
+ghost use Rattle.std.specs.Prelude.{◌≡◌};
 ghost use Rattle.ncl_shape.specs.declared.item.Item.TheVariants.{Lower, Raise};
 ghost use Rattle.ncl_netlist.specs.Netlist.{IsNetlist, drivers_of};
 ghost use Rattle.ncl_cell_rules.specs.declared.fault.CellFault.TheVariants.{Loose};

@@ -1,7 +1,7 @@
 //! The laws of the firing machine. Each function states some, and does nothing.
-ghost use Rattle.std.specs.Prelude.{◌≡◌, ◌↔◌, ◌+◌, ◌≤◌, ◌*◌, ℕ, true, All, Contains, List, [], Bool, ◌++◌, length};
+ghost use Rattle.std.specs.Prelude.{◌≡◌, ◌↔◌, ◌+◌, ◌≤◌, ◌*◌, true, All, Contains, List, [], Bool, ◌++◌, length};
 ghost use Rattle.ncl_shape.specs.declared.item.Item.{Item};
-ghost use Rattle.ncl_netlist.specs.Netlist.{IsNetlist, NetlistData};
+ghost use Rattle.ncl_netlist.specs.Netlist.{NetlistData};
 ghost use Rattle.ncl_cell_rules.specs.Origin.{IsDataBank};
 ghost use Rattle.ncl_shape.specs.declared.bank.Bank.{Bank};
 ghost use Rattle.ncl_shape.specs.Nets.{Nets, IsBelow};

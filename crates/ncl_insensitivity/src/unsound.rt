@@ -1,7 +1,7 @@
 //! Pipelines whose one stage breaks one condition of soundness each, and keeps the others, and that go wrong. That
 //! their netlists keep the rules of shape is not stated here.
-ghost use Rattle.std.specs.Prelude.{◌≡◌, true, false, [], ◌∷◌, All};
-ghost use Rattle.ncl_faults.specs.Faults.{BothRails, NoRail, Incomplete, Orphan, IsSound};
+ghost use Rattle.std.specs.Prelude.{◌≡◌, true, false, [], ◌∷◌};
+ghost use Rattle.ncl_faults.specs.Faults.{BothRails, NoRail, Incomplete, Orphan};
 ghost use Rattle.ncl_machine.specs.Run.{IsQuiet};
 ghost use Rattle.ncl_machine.specs.DelayInsensitive.{DeliversInTime, DeliversWhatIsDue, IsDelayInsensitive, IsSafe};
 ghost use Rattle.ncl_insensitivity.specs.Examples.{fire, one_word};

@@ -1,6 +1,5 @@
 //! The drivers of the nets.
 ghost use Rattle.std.specs.Prelude.{◌≡◌, ℕ, ◌+◌, ◌<◌, ◌≤◌, ◌^◌, IfOk, IfErr, OnOk, MatchOption, length, vec_len, map, All, EachIndex, count_by, nat_eq, slice_index, slice_get, Some};
-ghost use Rattle.ncl_netlist.specs.Names.{IsFirstWhere};
 ghost use Rattle.ncl_netlist.specs.Netlist.{drives};
 ghost use Rattle.ncl_netlist.specs.Faults.{IsFaultOfCounts};
 

@@ -1,6 +1,5 @@
 //! What a declaration begins with.
 ghost use Rattle.std.specs.Prelude.{◌≡◌, ◌≢◌, ℕ, ◌<◌, List, MatchOption};
-ghost use Rattle.std.specs.Bool.{Decides};
 ghost use Rattle.ncl_reader.specs.Grammar.{Direction, Lead as LeadOf, Group, Head, Item};
 ghost use Rattle.ncl_reader.specs.Lexemes.{Name, Number as NumberLexeme, Mark};
 ghost use Rattle.ncl_reader.specs.Vectors.{IsTooLarge};

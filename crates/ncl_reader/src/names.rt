@@ -1,5 +1,5 @@
 //! Names and bits of vectors.
-ghost use Rattle.std.specs.Prelude.{◌≡◌, List};
+ghost use Rattle.std.specs.Prelude.{List};
 ghost use Rattle.std.specs.Bool.{Decides};
 ghost use Rattle.ncl_reader.specs.Lexemes.{Lexeme};
 ghost use Rattle.ncl_reader.specs.Vectors.{IsBit};

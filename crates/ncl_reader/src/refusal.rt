@@ -1,5 +1,5 @@
 //! Why a token is refused.
-ghost use Rattle.std.specs.Prelude.{◌≡◌, ◌≢◌, List, ℕ, Option};
+ghost use Rattle.std.specs.Prelude.{◌≡◌, List, ℕ, Option};
 ghost use Rattle.std.specs.Bool.{Decides};
 ghost use Rattle.std.specs.Option.{option_map};
 ghost use Rattle.ncl_reader.specs.Lexemes.{Lexeme as Token, Name as NameToken, Number as NumberToken, Mark as MarkToken, Word as WordToken};

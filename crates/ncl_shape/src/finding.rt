@@ -1,5 +1,5 @@
 //! The shape of a netlist.
-ghost use Rattle.std.specs.Prelude.{◌≡◌, ◌≤◌, IfErr, IfOk, length, map};
+ghost use Rattle.std.specs.Prelude.{◌≤◌, IfErr, IfOk, length, map};
 ghost use Rattle.std.specs.List.{AllZip};
 ghost use Rattle.ncl_cell_rules.specs.Free.{IsFree};
 ghost use Rattle.ncl_shape.specs.declared.bank.TheConstants.{MOST_BANKS};

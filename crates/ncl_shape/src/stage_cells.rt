@@ -3,11 +3,10 @@ ghost use Rattle.std.specs.Prelude.{◌≡◌, ℕ, IfOk, IfNone, IfSome, map};
 ghost use Rattle.std.specs.List.{AllZip};
 ghost use Rattle.ncl_gates.specs.declared.kind.Kind.{Kind};
 ghost use Rattle.ncl_gates.specs.declared.cell_kind.CellKind.TheVariants.{Gate};
-ghost use Rattle.ncl_cell_rules.specs.Origin.{CellAt, ComesFrom, IsCell, RailOf};
+ghost use Rattle.ncl_cell_rules.specs.Origin.{ComesFrom, IsCell, RailOf};
 ghost use Rattle.ncl_cell_rules.specs.Free.{IsFree};
 ghost use Rattle.ncl_shape.specs.FoundChain.{IsChainOf, requests_of};
 ghost use Rattle.ncl_shape.specs.FoundParts.{AreGatesOf};
-ghost use Rattle.ncl_shape.specs.Shape.{IsGateOf};
 
 use crate::bank_lists::{empty_lists, number_of, put};
 use crate::chain::Chain;

@@ -1,5 +1,5 @@
 //! The seventh and the eighth rule of shape: no bank is too wide, and there are not too many banks.
-ghost use Rattle.std.specs.Prelude.{◌≡◌, ℕ, ◌<◌, ◌≤◌, [], All, IfErr, IfOk, MatchOption, OnOk, length, map};
+ghost use Rattle.std.specs.Prelude.{ℕ, ◌<◌, ◌≤◌, [], IfErr, IfOk, MatchOption, OnOk, length, map};
 ghost use Rattle.std.specs.List.{AllZip, slice_index_or};
 ghost use Rattle.ncl_cell_rules.specs.Free.{FailsFirst, IsFree};
 ghost use Rattle.ncl_shape.specs.Chain.{IsChained};

@@ -1,5 +1,5 @@
 //! The space of truth tables.
-ghost use Rattle.std.specs.Prelude.{◌≡◌, ◌≢◌, ℕ, ◌+◌, ◌*◌, ◌^◌, ◌<◌, ◌≤◌, ◌++◌, ◌&&◌, [], ◌∷◌, false, Some, None, Err, length, map, nat_lt, take, IfOk, OnOk, OnErr, IfSome, IfNone, IsTrue, All, slice_index_or, if◌then◌else◌};
+ghost use Rattle.std.specs.Prelude.{◌≡◌, ◌≢◌, ℕ, ◌+◌, ◌*◌, ◌<◌, ◌≤◌, ◌++◌, ◌&&◌, [], ◌∷◌, false, Some, None, Err, length, map, nat_lt, IfOk, OnOk, OnErr, IfSome, IfNone, All, slice_index_or, if◌then◌else◌};
 ghost use Rattle.ncl_gates.specs.Gate.{arity_of};
 ghost use Rattle.ncl_gates.specs.Bits.{is_set};
 ghost use Rattle.ncl_space.specs.Bits.{word_of};

@@ -1,5 +1,5 @@
 //! What every space of functions offers.
-ghost use Rattle.std.specs.Prelude.{◌≡◌, ◌<◌, ◌↔◌, [], ◌∷◌, true, false, IsTrue, IfOk, OnOk, IsErrOf, length, map, All, Option, Some, None, if◌then◌else◌};
+ghost use Rattle.std.specs.Prelude.{◌≡◌, ◌<◌, ◌↔◌, [], ◌∷◌, true, false, IsTrue, IfOk, OnOk, IsErrOf, length, map, All, Some, None, if◌then◌else◌};
 ghost use Rattle.ncl_gates.specs.Gate.{arity_of};
 ghost use Rattle.ncl_space.specs.Functions.{constant_table, gate_table, least, rail_table};
 ghost use Rattle.ncl_space.specs.Space.{

@@ -1,5 +1,5 @@
 //! Words of 64 values of a table, value k at bit k.
-ghost use Rattle.std.specs.Prelude.{◌≡◌, ℕ, ◌+◌, ◌*◌, ◌^◌, ◌<◌, ◌≤◌, [], ◌∷◌, nat_lt};
+ghost use Rattle.std.specs.Prelude.{◌≡◌, ℕ, ◌+◌, ◌*◌, ◌^◌, ◌<◌, ◌≤◌, nat_lt};
 ghost use Rattle.ncl_gates.specs.Bits.{is_set};
 
 /// The values of the function that is 1 everywhere, over words of `width` bits: value k is 1 where

@@ -1,5 +1,5 @@
 //! What stands between parentheses: the ports of the module, and the pins of a cell.
-ghost use Rattle.std.specs.Prelude.{◌≡◌, ◌++◌, All, OnOk, length, map};
+ghost use Rattle.std.specs.Prelude.{◌≡◌, ◌++◌, OnOk, length, map};
 ghost use Rattle.ncl_netlist.specs.declared.port.Port.{Port};
 ghost use Rattle.ncl_netlist.specs.Netlist.{CellFits};
 ghost use Rattle.ncl_writer.specs.Names.{spelled_name};

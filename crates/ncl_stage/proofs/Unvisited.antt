@@ -101,13 +101,12 @@ mid-tables space s order variant refs k many to all have same = record {
 pub making-live : (old now : SpaceData) (refs more : List Ref) (made shown : List (List Bool)) → Making old now refs made → HaveTables now more shown → Making old now (refs ++ more) (made ++ shown)
 making-live old now refs more made shown m have = record {
   kept = m.kept;
-  space = m.space;
   all = record {
     refs_of = record {
       live = All-append (IsLive now) refs more m.all.refs_of.live have.live;
       tables = map-append now.table refs more ∙ (λ i. m.all.refs_of.tables i ++ have.tables i);
     };
-    held = held-along old now now made shown m.kept m.all.held (sym (with_tables-live now m.space more have.live) ∙ ap (with_tables now) have.tables);
+    held = held-along old now now made shown m.kept m.all.held (sym (with_tables-live now m.kept.space more have.live) ∙ ap (with_tables now) have.tables);
   };
 }
 

@@ -3,7 +3,7 @@ ghost use Rattle.std.specs.Prelude.{◌≡◌, ◌≢◌, ◌<◌, ◌≤◌, �
 ghost use Rattle.std.specs.List.{list_any};
 ghost use Rattle.ncl_shape.specs.Stage.{nets_of};
 ghost use Rattle.ncl_space.specs.Making.{HaveTables, MakesAll};
-ghost use Rattle.ncl_space.specs.Space.{IsSpace, Keeps, Makes, fits};
+ghost use Rattle.ncl_space.specs.Space.{Keeps, Makes, fits};
 ghost use Rattle.ncl_stage.specs.Changes.{IsUnreached, MarksChanges, net_at};
 ghost use Rattle.ncl_stage.specs.StageTables.{AreValues, net_table_by, net_tables_by};
 ghost use Rattle.ncl_faults.specs.Values.{kept_low};
@@ -34,14 +34,13 @@ pub fn net_refs_from<P: Space>(
     base: &Values,
     variant: Variant,
 ) -> Result<Vec<Ref>, SpaceFault>
-    requires base { AreValues (P.meaning space.old) stage.now Variant.Base base.now }
-    requires space { IsSpace (P.meaning space.old) }
+    requires { AreValues (P.meaning space.old) stage.now Variant.Base base.now }
     ensures made { IfOk result (λ refs. MakesAll (P.meaning space.old) (P.meaning space.new) refs.items (net_tables_by base.now.wiring.order stage.now variant)) }
     ensures kept { Keeps (P.meaning space.old) (P.meaning space.new) }
-    ensures space { IsSpace (P.meaning space.new) }
     ensures full { IsErrOf result SpaceFault.Full → fits (P.meaning space.old) (net_tables_by base.now.wiring.order stage.now variant) ≡ false }
 {
     stage.facts();
+    space.facts();
     let all = base.refs();
     let (first, second) = forced_places(stage, base.wiring(), variant);
     let mut waiting = two_marks(alloc, all.len(), first, second)?;
@@ -156,16 +155,15 @@ fn ref_from<P: Space>(
 ) -> Result<Ref, SpaceFault>
     requires base { AreValues (P.meaning space.old) stage.now Variant.Base base.now }
     requires place { place < length (nets_of stage.now.inputs stage.now.cells) }
-    requires space { IsSpace (P.meaning space.old) }
     requires refs { HaveTables (P.meaning space.old) refs.now (take place (net_tables_by base.now.wiring.order stage.now variant)) }
     requires many { length changed.now ≡ place }
     requires changed { MarksChanges base.now.wiring.order stage.now variant changed.now }
     ensures made { IfOk result (λ r. Makes (P.meaning space.old) (P.meaning space.new) r (net_table_by base.now.wiring.order stage.now variant (net_at stage.now place))) }
     ensures kept { Keeps (P.meaning space.old) (P.meaning space.new) }
-    ensures space { IsSpace (P.meaning space.new) }
     ensures full { IsErrOf result SpaceFault.Full → fits (P.meaning space.old) (net_table_by base.now.wiring.order stage.now variant (net_at stage.now place) ∷ []) ≡ false }
 {
     stage.facts();
+    space.facts();
     let wiring = base.wiring();
     if is_reached(stage, wiring, place, changed) {
         return net_ref(space, stage, wiring, variant, place, refs);

@@ -1,7 +1,7 @@
 //! The values of a stage in a space.
 ghost use Rattle.std.specs.Prelude.{◌≡◌, IfOk, IsErrOf, OnErr, OnOk, false, length, true, unwrap_or};
 ghost use Rattle.std.specs.Option.{ForSome};
-ghost use Rattle.ncl_space.specs.Space.{IsSpace, Keeps, Restores, fits, with_tables};
+ghost use Rattle.ncl_space.specs.Space.{Keeps, Restores, fits, with_tables};
 ghost use Rattle.ncl_stage.specs.BitOrder.{IsOrderOf, bit_order};
 ghost use Rattle.ncl_stage.specs.StageTables.{AreValues, net_tables, net_tables_by};
 
@@ -31,7 +31,6 @@ pub fn values<P: Space>(
     ensures held { OnOk result ((P.meaning space.new).held ≡ with_tables (P.meaning space.old) (net_tables stage.now variant)) }
     ensures kept { Keeps (P.meaning space.old) (P.meaning space.new) }
     ensures back { OnErr result (Restores (P.meaning space.old) (P.meaning space.new)) }
-    ensures space { IsSpace (P.meaning space.new) }
     ensures full { IsErrOf result SpaceFault.Full → fits (P.meaning space.old) (net_tables stage.now variant) ≡ false }
     ensures fits { OnOk result (fits (P.meaning space.old) (net_tables stage.now variant) ≡ true) }
 {
@@ -54,7 +53,6 @@ pub fn values_in<P: Space>(
     ensures held { OnOk result ((P.meaning space.new).held ≡ with_tables (P.meaning space.old) (net_tables_by order stage.now variant)) }
     ensures kept { Keeps (P.meaning space.old) (P.meaning space.new) }
     ensures back { OnErr result (Restores (P.meaning space.old) (P.meaning space.new)) }
-    ensures space { IsSpace (P.meaning space.new) }
     ensures full { IsErrOf result SpaceFault.Full → fits (P.meaning space.old) (net_tables_by order stage.now variant) ≡ false }
     ensures fits { OnOk result (fits (P.meaning space.old) (net_tables_by order stage.now variant) ≡ true) }
 {
@@ -76,7 +74,6 @@ fn values_by<P: Space>(
     ensures held { OnOk result ((P.meaning space.new).held ≡ with_tables (P.meaning space.old) (net_tables_by (unwrap_or order (bit_order stage.now)) stage.now variant)) }
     ensures kept { Keeps (P.meaning space.old) (P.meaning space.new) }
     ensures back { OnErr result (Restores (P.meaning space.old) (P.meaning space.new)) }
-    ensures space { IsSpace (P.meaning space.new) }
     ensures full { IsErrOf result SpaceFault.Full → fits (P.meaning space.old) (net_tables_by (unwrap_or order (bit_order stage.now)) stage.now variant) ≡ false }
     ensures fits { OnOk result (fits (P.meaning space.old) (net_tables_by (unwrap_or order (bit_order stage.now)) stage.now variant) ≡ true) }
 {
@@ -100,14 +97,13 @@ fn make_values<P: Space>(
 ) -> Result<Values, SpaceFault>
     requires width { (P.meaning space.old).width ≡ length stage.now.inputs }
     requires order { ForSome order (IsOrderOf (length stage.now.inputs)) }
-    requires space { IsSpace (P.meaning space.old) }
     ensures values { IfOk result (AreValues (P.meaning space.new) stage.now variant) }
     ensures order { IfOk result (λ values. values.wiring.order ≡ unwrap_or order (bit_order stage.now)) }
     ensures held { OnOk result ((P.meaning space.new).held ≡ with_tables (P.meaning space.old) (net_tables_by (unwrap_or order (bit_order stage.now)) stage.now variant)) }
     ensures kept { Keeps (P.meaning space.old) (P.meaning space.new) }
-    ensures space { IsSpace (P.meaning space.new) }
     ensures full { IsErrOf result SpaceFault.Full → fits (P.meaning space.old) (net_tables_by (unwrap_or order (bit_order stage.now)) stage.now variant) ≡ false }
 {
+    space.facts();
     let wiring = Wiring::in_order(alloc, stage, order)?;
     let refs = net_refs(alloc, space, stage, &wiring, variant)?;
     let values = Values::new(alloc, wiring, refs)?;
@@ -126,13 +122,12 @@ pub fn revalue<P: Space>(
     base: &Values,
     variant: Variant,
 ) -> Result<Values, SpaceFault>
-    requires base { AreValues (P.meaning space.old) stage.now Variant.Base base.now }
+    requires { AreValues (P.meaning space.old) stage.now Variant.Base base.now }
     ensures values { IfOk result (AreValues (P.meaning space.new) stage.now variant) }
     ensures order { IfOk result (λ values. values.wiring.order ≡ base.now.wiring.order) }
     ensures held { OnOk result ((P.meaning space.new).held ≡ with_tables (P.meaning space.old) (net_tables_by base.now.wiring.order stage.now variant)) }
     ensures kept { Keeps (P.meaning space.old) (P.meaning space.new) }
     ensures back { OnErr result (Restores (P.meaning space.old) (P.meaning space.new)) }
-    ensures space { IsSpace (P.meaning space.new) }
     ensures full { IsErrOf result SpaceFault.Full → fits (P.meaning space.old) (net_tables_by base.now.wiring.order stage.now variant) ≡ false }
     ensures fits { OnOk result (fits (P.meaning space.old) (net_tables_by base.now.wiring.order stage.now variant) ≡ true) }
 {
@@ -154,13 +149,11 @@ fn make_values_from<P: Space>(
     base: &Values,
     variant: Variant,
 ) -> Result<Values, SpaceFault>
-    requires base { AreValues (P.meaning space.old) stage.now Variant.Base base.now }
-    requires space { IsSpace (P.meaning space.old) }
+    requires { AreValues (P.meaning space.old) stage.now Variant.Base base.now }
     ensures values { IfOk result (AreValues (P.meaning space.new) stage.now variant) }
     ensures order { IfOk result (λ values. values.wiring.order ≡ base.now.wiring.order) }
     ensures held { OnOk result ((P.meaning space.new).held ≡ with_tables (P.meaning space.old) (net_tables_by base.now.wiring.order stage.now variant)) }
     ensures kept { Keeps (P.meaning space.old) (P.meaning space.new) }
-    ensures space { IsSpace (P.meaning space.new) }
     ensures full { IsErrOf result SpaceFault.Full → fits (P.meaning space.old) (net_tables_by base.now.wiring.order stage.now variant) ≡ false }
 {
     let refs = net_refs_from(alloc, space, stage, base, variant)?;

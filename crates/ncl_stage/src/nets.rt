@@ -2,7 +2,7 @@
 ghost use Rattle.std.specs.Prelude.{◌≡◌, ◌<◌, ◌≤◌, [], ◌∷◌, false, All, IfOk, IsErrOf, length, map, take};
 ghost use Rattle.ncl_shape.specs.Stage.{nets_of};
 ghost use Rattle.ncl_space.specs.Making.{HaveTables, MakesAll};
-ghost use Rattle.ncl_space.specs.Space.{IsSpace, Keeps, Makes, fits};
+ghost use Rattle.ncl_space.specs.Space.{Keeps, Makes, fits};
 ghost use Rattle.ncl_stage.specs.Changes.{net_at};
 ghost use Rattle.ncl_stage.specs.StageTables.{net_table_by, net_tables_by, ref_at};
 ghost use Rattle.ncl_stage.specs.Wiring.{IsWiring};
@@ -29,13 +29,12 @@ pub fn net_refs<P: Space>(
 ) -> Result<Vec<Ref>, SpaceFault>
     requires width { (P.meaning space.old).width ≡ length stage.now.inputs }
     requires wiring { IsWiring stage.now wiring.now }
-    requires space { IsSpace (P.meaning space.old) }
     ensures made { IfOk result (λ refs. MakesAll (P.meaning space.old) (P.meaning space.new) refs.items (net_tables_by wiring.now.order stage.now variant)) }
     ensures kept { Keeps (P.meaning space.old) (P.meaning space.new) }
-    ensures space { IsSpace (P.meaning space.new) }
     ensures full { IsErrOf result SpaceFault.Full → fits (P.meaning space.old) (net_tables_by wiring.now.order stage.now variant) ≡ false }
 {
     stage.facts();
+    space.facts();
     let mut refs = Vec::with_capacity(alloc, wiring.len())?;
     for place in 0..wiring.len() {
         let made = net_ref(space, stage, wiring, variant, place, refs.as_slice())?;
@@ -56,14 +55,13 @@ pub(crate) fn net_ref<P: Space>(
     requires width { (P.meaning space.old).width ≡ length stage.now.inputs }
     requires wiring { IsWiring stage.now wiring.now }
     requires place { place < length (nets_of stage.now.inputs stage.now.cells) }
-    requires space { IsSpace (P.meaning space.old) }
     requires refs { HaveTables (P.meaning space.old) refs.now (take place (net_tables_by wiring.now.order stage.now variant)) }
     ensures made { IfOk result (λ r. Makes (P.meaning space.old) (P.meaning space.new) r (net_table_by wiring.now.order stage.now variant (net_at stage.now place))) }
     ensures kept { Keeps (P.meaning space.old) (P.meaning space.new) }
-    ensures space { IsSpace (P.meaning space.new) }
     ensures full { IsErrOf result SpaceFault.Full → fits (P.meaning space.old) (net_table_by wiring.now.order stage.now variant (net_at stage.now place) ∷ []) ≡ false }
 {
     stage.facts();
+    space.facts();
     if is_kept_low(stage, variant, wiring.net(place)) {
         return Ok(space.constant(false));
     }

@@ -5,7 +5,7 @@ ghost use Rattle.ncl_gates.specs.Gate.{arity_of};
 ghost use Rattle.ncl_shape.specs.Stage.{nets_of};
 ghost use Rattle.ncl_space.specs.Functions.{constant_table};
 ghost use Rattle.ncl_space.specs.Making.{HaveTables};
-ghost use Rattle.ncl_space.specs.Space.{IsLive, IsSpace, Keeps, Restores};
+ghost use Rattle.ncl_space.specs.Space.{IsLive, Keeps, Restores};
 ghost use Rattle.ncl_stage.specs.Changes.{net_at};
 ghost use Rattle.ncl_stage.specs.Observed.{AreObserved};
 ghost use Rattle.ncl_stage.specs.Observing.{IsAlwaysObserved, IsLeft, IsShown, low_table_by, low_tables_by, table_without};
@@ -37,7 +37,6 @@ pub fn all_observed<P: Space>(
     requires { AreValues (P.meaning space.old) stage.now Variant.Base base.now }
     ensures observed { IfOk result (λ answer. answer ≡ true → AreObserved stage.now) }
     ensures back { Restores (P.meaning space.old) (P.meaning space.new) }
-    ensures space { IsSpace (P.meaning space.new) }
 {
     let start = space.mark();
     let answer = are_observed(alloc, space, stage, base);
@@ -52,11 +51,9 @@ fn are_observed<P: Space>(
     stage: &Stage,
     base: &Values,
 ) -> Result<bool, SpaceFault>
-    requires base { AreValues (P.meaning space.old) stage.now Variant.Base base.now }
-    requires space { IsSpace (P.meaning space.old) }
+    requires { AreValues (P.meaning space.old) stage.now Variant.Base base.now }
     ensures observed { IfOk result (λ answer. answer ≡ true → AreObserved stage.now) }
     ensures kept { Keeps (P.meaning space.old) (P.meaning space.new) }
-    ensures space { IsSpace (P.meaning space.new) }
 {
     stage.facts();
     let lows = low_refs(alloc, space, stage, base)?;
@@ -93,12 +90,11 @@ fn low_refs<P: Space>(
     stage: &Stage,
     base: &Values,
 ) -> Result<Vec<Ref>, SpaceFault>
-    requires base { AreValues (P.meaning space.old) stage.now Variant.Base base.now }
-    requires space { IsSpace (P.meaning space.old) }
+    requires { AreValues (P.meaning space.old) stage.now Variant.Base base.now }
     ensures made { IfOk result (λ lows. HaveTables (P.meaning space.new) lows.items (low_tables_by base.now.wiring.order stage.now)) }
     ensures kept { Keeps (P.meaning space.old) (P.meaning space.new) }
-    ensures space { IsSpace (P.meaning space.new) }
 {
+    space.facts();
     let count = base.refs().len();
     let mut lows = Vec::with_capacity(alloc, count)?;
     for place in 0..count {
@@ -118,15 +114,14 @@ fn low_ref<P: Space>(
     lows: &[Ref],
 ) -> Result<Ref, SpaceFault>
     requires base { AreValues (P.meaning space.old) stage.now Variant.Base base.now }
-    requires space { IsSpace (P.meaning space.old) }
     requires place { place < length (nets_of stage.now.inputs stage.now.cells) }
     requires lows { HaveTables (P.meaning space.old) lows.now (take place (low_tables_by base.now.wiring.order stage.now)) }
     ensures live { IfOk result (IsLive (P.meaning space.new)) }
     ensures table { IfOk result (λ low. (P.meaning space.new).table low ≡ low_table_by base.now.wiring.order stage.now (net_at stage.now place)) }
     ensures kept { Keeps (P.meaning space.old) (P.meaning space.new) }
-    ensures space { IsSpace (P.meaning space.new) }
 {
     stage.facts();
+    space.facts();
     let rails = 2 * stage.inputs.items().len();
     if place < rails {
         return Ok(base.refs()[other_rail(place)]);
@@ -166,14 +161,13 @@ fn is_observed<P: Space>(
     place: usize,
 ) -> Result<bool, SpaceFault>
     requires base { AreValues (P.meaning space.old) stage.now Variant.Base base.now }
-    requires space { IsSpace (P.meaning space.old) }
     requires lows { HaveTables (P.meaning space.old) lows.now (low_tables_by base.now.wiring.order stage.now) }
     requires place { place < length (nets_of stage.now.inputs stage.now.cells) }
     ensures observed { IfOk result (λ answer. answer ≡ true → IsAlwaysObserved stage.now (net_at stage.now place)) }
     ensures kept { Keeps (P.meaning space.old) (P.meaning space.new) }
-    ensures space { IsSpace (P.meaning space.new) }
 {
     stage.facts();
+    space.facts();
     let never = space.constant(false);
     let mut left = base.refs()[place];
     for reader in base.wiring().readers(place) {
@@ -197,7 +191,6 @@ fn left_by<P: Space>(
     left: Ref,
 ) -> Result<Ref, SpaceFault>
     requires base { AreValues (P.meaning space.old) stage.now Variant.Base base.now }
-    requires space { IsSpace (P.meaning space.old) }
     requires lows { HaveTables (P.meaning space.old) lows.now (low_tables_by base.now.wiring.order stage.now) }
     requires place { place < length (nets_of stage.now.inputs stage.now.cells) }
     requires reader { reader < length (nets_of stage.now.inputs stage.now.cells) }
@@ -206,9 +199,9 @@ fn left_by<P: Space>(
     ensures live { IfOk result (IsLive (P.meaning space.new)) }
     ensures left { IfOk result (λ next. IsLeft base.now.wiring.order stage.now (net_at stage.now place) ((P.meaning space.new).table next)) }
     ensures kept { Keeps (P.meaning space.old) (P.meaning space.new) }
-    ensures space { IsSpace (P.meaning space.new) }
 {
     stage.facts();
+    space.facts();
     let rails = 2 * stage.inputs.items().len();
     if reader < rails {
         return Ok(left);
@@ -226,15 +219,14 @@ fn without<P: Space>(
     place: usize,
 ) -> Result<Ref, SpaceFault>
     requires base { AreValues (P.meaning space.old) stage.now Variant.Base base.now }
-    requires space { IsSpace (P.meaning space.old) }
     requires place { place < length (nets_of stage.now.inputs stage.now.cells) }
     requires cell { cell < length stage.now.cells }
     ensures live { IfOk result (IsLive (P.meaning space.new)) }
     ensures table { (d : StageCell) → IfOk result (λ fallen. (P.meaning space.new).table fallen ≡ table_without base.now.wiring.order stage.now (net_at stage.now place) (slice_index_or stage.now.cells cell d)) }
     ensures kept { Keeps (P.meaning space.old) (P.meaning space.new) }
-    ensures space { IsSpace (P.meaning space.new) }
 {
     stage.facts();
+    space.facts();
     let never = space.constant(false);
     let ins = refs_without(base.refs(), base.wiring().pins(cell), place, never);
     space.apply(stage.cells.items()[cell].kind, ins.as_slice())

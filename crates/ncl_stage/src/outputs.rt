@@ -4,7 +4,7 @@ ghost use Rattle.std.specs.Option.{ForSome, option_map};
 ghost use Rattle.ncl_gates.specs.Gate.{arity_of};
 ghost use Rattle.ncl_space.specs.Functions.{least};
 ghost use Rattle.ncl_space.specs.Making.{MakesAll};
-ghost use Rattle.ncl_space.specs.Space.{IsLive, IsSpace, Keeps, Makes, fits, with_tables};
+ghost use Rattle.ncl_space.specs.Space.{IsLive, Keeps, Makes, fits, with_tables};
 ghost use Rattle.ncl_space.specs.Table.{table_of};
 ghost use Rattle.ncl_stage.specs.BitOrder.{placed, words_by};
 ghost use Rattle.ncl_stage.specs.StageTables.{AreValues, conjunction, front_tables, pair_table, shared_tables_by};
@@ -34,16 +34,15 @@ pub fn pair_refs<P: Space>(
     refs: &[Ref],
 ) -> Result<Vec<Ref>, SpaceFault>
     requires kind { arity_of kind ≡ 2 }
-    requires space { IsSpace (P.meaning space.old) }
     requires live { All (IsLive (P.meaning space.old)) refs.now }
     requires within { All (λ pair. (pair.0 < length refs.now) × (pair.1 < length refs.now)) pairs.now }
     ensures made { let s = P.meaning space.old in
         IfOk result (λ made. MakesAll s (P.meaning space.new) made.items (map (pair_table s.width kind (map s.table refs.now)) pairs.now)) }
     ensures kept { Keeps (P.meaning space.old) (P.meaning space.new) }
-    ensures space { IsSpace (P.meaning space.new) }
     ensures full { let s = P.meaning space.old in
         IsErrOf result SpaceFault.Full → fits s (map (pair_table s.width kind (map s.table refs.now)) pairs.now) ≡ false }
 {
+    space.facts();
     let mut made = Vec::with_capacity(alloc, pairs.len())?;
     for pair in pairs {
         let one = space.apply(kind, &[refs[pair.0], refs[pair.1]])?;
@@ -61,13 +60,11 @@ pub fn data_tables<P: Space>(
     wiring: &Wiring,
     refs: &[Ref],
 ) -> Result<Vec<Ref>, SpaceFault>
-    requires space { IsSpace (P.meaning space.old) }
     requires live { All (IsLive (P.meaning space.old)) refs.now }
     requires within { All (λ pair. (pair.0 < length refs.now) × (pair.1 < length refs.now)) wiring.now.outputs }
     ensures made { let s = P.meaning space.old in
         IfOk result (λ made. MakesAll s (P.meaning space.new) made.items (map (pair_table s.width Kind.Th12 (map s.table refs.now)) wiring.now.outputs)) }
     ensures kept { Keeps (P.meaning space.old) (P.meaning space.new) }
-    ensures space { IsSpace (P.meaning space.new) }
     ensures full { let s = P.meaning space.old in
         IsErrOf result SpaceFault.Full → fits s (map (pair_table s.width Kind.Th12 (map s.table refs.now)) wiring.now.outputs) ≡ false }
 {
@@ -84,15 +81,14 @@ pub fn data_fronts<P: Space>(
     space: &mut P,
     refs: &[Ref],
 ) -> Result<Vec<Ref>, SpaceFault>
-    requires space { IsSpace (P.meaning space.old) }
-    requires live { All (IsLive (P.meaning space.old)) refs.now }
+    requires { All (IsLive (P.meaning space.old)) refs.now }
     ensures made { let s = P.meaning space.old in
         IfOk result (λ made. MakesAll s (P.meaning space.new) made.items (front_tables s.width (map s.table refs.now))) }
     ensures kept { Keeps (P.meaning space.old) (P.meaning space.new) }
-    ensures space { IsSpace (P.meaning space.new) }
     ensures full { let s = P.meaning space.old in
         IsErrOf result SpaceFault.Full → fits s (front_tables s.width (map s.table refs.now)) ≡ false }
 {
+    space.facts();
     let mut made = Vec::with_capacity(alloc, refs.len())?;
     let mut last: Option<Ref> = None;
     for next in refs {
@@ -105,16 +101,15 @@ pub fn data_fronts<P: Space>(
 
 // The conjunction of a function, if there is one, with another.
 fn conjoin<P: Space>(space: &mut P, front: Option<Ref>, next: Ref) -> Result<Ref, SpaceFault>
-    requires space { IsSpace (P.meaning space.old) }
     requires front { ForSome front (IsLive (P.meaning space.old)) }
     requires next { IsLive (P.meaning space.old) next }
     ensures made { let s = P.meaning space.old in
         IfOk result (λ r. Makes s (P.meaning space.new) r (conjunction s.width (option_map s.table front) (s.table next))) }
     ensures kept { Keeps (P.meaning space.old) (P.meaning space.new) }
-    ensures space { IsSpace (P.meaning space.new) }
     ensures full { let s = P.meaning space.old in
         IsErrOf result SpaceFault.Full → fits s (conjunction s.width (option_map s.table front) (s.table next) ∷ []) ≡ false }
 {
+    space.facts();
     match front {
         Some(front) => space.apply(Kind::Th22, &[front, next]),
         None => Ok(next),
@@ -134,17 +129,16 @@ pub fn all_data<P: Space>(
     base: &Values,
     variant: Variant,
 ) -> Result<Ref, SpaceFault>
-    requires base { AreValues (P.meaning space.old) stage.now Variant.Base base.now }
-    requires space { IsSpace (P.meaning space.old) }
+    requires { AreValues (P.meaning space.old) stage.now Variant.Base base.now }
     ensures live { IfOk result (IsLive (P.meaning space.new)) }
     ensures table { let v : ValuesAt = λ word. val stage.now word variant in
         IfOk result (λ r. (P.meaning space.new).table r ≡ table_of (words_by base.now.wiring.order) (all_data_function stage.now v)) }
     ensures held { OnOk result ((P.meaning space.new).held ≡ with_tables (P.meaning space.old) (shared_tables_by base.now.wiring.order stage.now variant)) }
     ensures kept { Keeps (P.meaning space.old) (P.meaning space.new) }
-    ensures space { IsSpace (P.meaning space.new) }
     ensures full { IsErrOf result SpaceFault.Full → fits (P.meaning space.old) (shared_tables_by base.now.wiring.order stage.now variant) ≡ false }
 {
     stage.facts();
+    space.facts();
     let refs = net_refs_from(alloc, space, stage, base, variant)?;
     let data = data_tables(alloc, space, base.wiring(), refs.as_slice())?;
     let fronts = data_fronts(alloc, space, data.as_slice())?;

@@ -42,7 +42,7 @@ loop-place-init g c =
     let old : SpaceData = g.P.Space.meaning c.args.space.now in
     let empty = ap length c.in_ok-refs.ensures.items in
     record {
-      making = subst (λ items. Making old old items (take (length items) (net_tables_by order s c.args.variant))) (sym c.in_ok-refs.ensures.items) (making-none old c.requires.space);
+      making = subst (λ items. Making old old items (take (length items) (net_tables_by order s c.args.variant))) (sym c.in_ok-refs.ensures.items) (making-none old c.facts-2.ensures);
       many = ap length c.in_ok-changed.ensures.items ∙ sym empty;
       within = omega (arith, empty);
       marks = subst (MarksChanges order s c.args.variant) (sym c.in_ok-changed.ensures.items) (marks-none s order c.args.variant);
@@ -81,11 +81,10 @@ ref_from-requires g c =
     let now : SpaceData = g.P.Space.meaning c.loop-place.space in
     let inv = c.loop-place.invariant in
     let found = first c.loop-place.waiting.items c.as_slice.result.now c.len.result (length c.loop-place.refs.items) c.in-Some.place c.as_slice.ensures.value (omega (arith, c.len.ensures)) c.in-Some.ensures in
-    let up = made-up-to (g.P.Space.meaning c.args.space.now) now s c.args.base.now c.args.variant c.facts.ensures c.requires.base c.loop-place.refs.items c.refs-all.result.now c.extend_from_slice.new.self.items c.loop-place.waiting.items c.len-in-Some.result c.in-Some.place inv.making inv.waiting found c.refs-all.ensures.refs (omega (arith, c.len-in-Some.ensures)) c.in_ok-extend_from_slice.ensures.items in
+    let up = made-up-to (g.P.Space.meaning c.args.space.now) now s c.args.base.now c.args.variant c.facts.ensures c.requires c.loop-place.refs.items c.refs-all.result.now c.extend_from_slice.new.self.items c.loop-place.waiting.items c.len-in-Some.result c.in-Some.place inv.making inv.waiting found c.refs-all.ensures.refs (omega (arith, c.len-in-Some.ensures)) c.in_ok-extend_from_slice.ensures.items in
     record {
-      base = values-kept (g.P.Space.meaning c.args.space.now) (g.P.Space.meaning c.loop-place.space) c.args.stage.now Base c.args.base.now c.loop-place.invariant.making.kept c.requires.base;
+      base = values-kept (g.P.Space.meaning c.args.space.now) (g.P.Space.meaning c.loop-place.space) c.args.stage.now Base c.args.base.now c.loop-place.invariant.making.kept c.requires;
       place = search rules;
-      space = search rules;
       refs = subst (λ items. HaveTables now items (take c.in-Some.place (net_tables_by c.args.base.now.wiring.order s c.args.variant))) (sym c.as_slice-in-Some.ensures.value) up.0.all.refs_of;
       many = search rules;
       changed = subst (MarksChanges c.args.base.now.wiring.order s c.args.variant) (sym c.as_slice-in-Some-2.ensures.value)
@@ -100,8 +99,8 @@ returns-in_err-made-clause-full g c = λ e.
     let now : SpaceData = g.P.Space.meaning c.loop-place.space in
     let inv = c.loop-place.invariant in
     let found = first c.loop-place.waiting.items c.as_slice.result.now c.len.result (length c.loop-place.refs.items) c.in-Some.place c.as_slice.ensures.value (omega (arith, c.len.ensures)) c.in-Some.ensures in
-    let up = made-up-to (g.P.Space.meaning c.args.space.now) now s c.args.base.now c.args.variant c.facts.ensures c.requires.base c.loop-place.refs.items c.refs-all.result.now c.extend_from_slice.new.self.items c.loop-place.waiting.items c.len-in-Some.result c.in-Some.place inv.making inv.waiting found c.refs-all.ensures.refs (omega (arith, c.len-in-Some.ensures)) c.in_ok-extend_from_slice.ensures.items in
-    let nets = ap length c.requires.base.wired.nets in
+    let up = made-up-to (g.P.Space.meaning c.args.space.now) now s c.args.base.now c.args.variant c.facts.ensures c.requires c.loop-place.refs.items c.refs-all.result.now c.extend_from_slice.new.self.items c.loop-place.waiting.items c.len-in-Some.result c.in-Some.place inv.making inv.waiting found c.refs-all.ensures.refs (omega (arith, c.len-in-Some.ensures)) c.in_ok-extend_from_slice.ensures.items in
+    let nets = ap length c.requires.wired.nets in
     let within : place < length (nets_of s.inputs s.cells) = omega (arith, found.1, inv.waiting.many, nets) in
     too_much-next (g.P.Space.meaning c.args.space.now) now (net_tables_by order s c.args.variant) place c.extend_from_slice.new.self.items (net_table_by order s c.args.variant (net_at s place))
     (subst (λ n. place < n) (sym (length-map (nets_of s.inputs s.cells) (net_table_by order s c.args.variant))) within)
@@ -120,14 +119,14 @@ marked-next s order variant marks more same place marked many iff is =
     (marks-more s order variant marks (not same) marked (subst (λ n. (not same ≡ false) ↔ IsUnchanged order s variant (net_at s n)) (sym many) (tells same iff)))
 
 -- the functions, and one more
-made-next : (old now new : SpaceData) (s : StageData) (order : List ℕ) (variant : Variant) (place : ℕ) (refs more : List Ref) (r : Ref) → place < length (nets_of s.inputs s.cells) → length refs ≡ place → Making old now refs (take place (net_tables_by order s variant)) → Keeps now new → IsSpace new → Makes now new r (net_table_by order s variant (net_at s place)) → more ≡ refs ++ r ∷ [] → Making old new more (take (length more) (net_tables_by order s variant))
-made-next old now new s order variant place refs more r within many made kept space makes is =
+made-next : (old now new : SpaceData) (s : StageData) (order : List ℕ) (variant : Variant) (place : ℕ) (refs more : List Ref) (r : Ref) → place < length (nets_of s.inputs s.cells) → length refs ≡ place → Making old now refs (take place (net_tables_by order s variant)) → Keeps now new → Makes now new r (net_table_by order s variant (net_at s place)) → more ≡ refs ++ r ∷ [] → Making old new more (take (length more) (net_tables_by order s variant))
+made-next old now new s order variant place refs more r within many made kept makes is =
     let size : length more ≡ place + 1 = ap length is ∙ length-append refs (r ∷ []) ∙ ap (λ n. n + 1) many in
     subst (λ n. Making old new more (take n (net_tables_by order s variant))) (sym size)
     (subst (λ items. Making old new items (take (place + 1) (net_tables_by order s variant))) (sym is)
     (making-next old now new (net_tables_by order s variant) place refs r (net_table_by order s variant (net_at s place))
     (subst (λ n. place < n) (sym (length-map (nets_of s.inputs s.cells) (net_table_by order s variant))) within)
-    (table-at s order variant place within) made kept space makes))
+    (table-at s order variant place within) made kept makes))
 
 pub loop-place-preserved : goal.loop-place-preserved
 loop-place-preserved g c =
@@ -141,16 +140,16 @@ loop-place-preserved g c =
     let new : SpaceData = g.P.Space.meaning c.ref_from.new.space in
     let inv = c.loop-place.invariant in
     let found = first c.loop-place.waiting.items c.as_slice.result.now c.len.result (length c.loop-place.refs.items) c.in-Some.place c.as_slice.ensures.value (omega (arith, c.len.ensures)) c.in-Some.ensures in
-    let up = made-up-to old now s c.args.base.now variant c.facts.ensures c.requires.base c.loop-place.refs.items c.refs-all.result.now c.extend_from_slice.new.self.items c.loop-place.waiting.items c.len-in-Some.result place inv.making inv.waiting found c.refs-all.ensures.refs (omega (arith, c.len-in-Some.ensures)) c.in_ok-extend_from_slice.ensures.items in
+    let up = made-up-to old now s c.args.base.now variant c.facts.ensures c.requires c.loop-place.refs.items c.refs-all.result.now c.extend_from_slice.new.self.items c.loop-place.waiting.items c.len-in-Some.result place inv.making inv.waiting found c.refs-all.ensures.refs (omega (arith, c.len-in-Some.ensures)) c.in_ok-extend_from_slice.ensures.items in
     let marks : List Bool = c.resize.new.self.items in
     let marked =
     unmarked s w.order variant c.loop-place.changed.items marks place _ inv.marks (omega (arith, inv.many, found.0)) (λ p behind before. up.1 p (omega (arith, behind, inv.many)) before) c.in_ok-resize.ensures.items (omega (arith, c.in_ok-resize.ensures.len)) in
     let made = c.in_ok-made.ensures.made in
     let is_same = c.same-is_same.result in
-    let nets = ap length c.requires.base.wired.nets in
+    let nets = ap length c.requires.wired.nets in
     let within : place < length (nets_of s.inputs s.cells) = omega (arith, found.1, inv.waiting.many, nets) in
     let up_to = c.in_ok-made.ensures.kept in
-    let kept = values-kept old new s Base c.args.base.now (keeps_along old now new inv.making.kept up_to) c.requires.base in
+    let kept = values-kept old new s Base c.args.base.now (keeps_along old now new inv.making.kept up_to) c.requires in
     let value = value-at new s Base c.args.base.now kept place none within in
     let own = ap (λ (rs : List Ref). new.table (get_or rs place none)) c.refs-all.ensures.refs in
     let iff : IsTrue is_same ↔ IsUnchanged w.order s variant (net_at s place) =
@@ -162,12 +161,12 @@ loop-place-preserved g c =
     let size = length-append c.extend_from_slice.new.self.items (c.in_ok-made.made ∷ []) in
     let long : length c.extend_from_slice.new.self.items + 1 ≡ place + 1 = ap (λ n. n + 1) up.2 in
     let rails = nets-length s in
-    let pins : length w.pins ≡ length s.cells = ap length c.requires.base.wired.pins ∙ length-map s.cells (pin_places w.nets) in
+    let pins : length w.pins ≡ length s.cells = ap length c.requires.wired.pins ∙ length-map s.cells (pin_places w.nets) in
     let all : (cell : ℕ) → cell < length w.pins → Contains (get_or w.pins cell []) place → Contains c.readers.result.now (length w.nets - length w.pins + cell) =
     subst (λ (x : WiringData). (cell : ℕ) → cell < length x.pins → Contains (get_or x.pins cell []) place → Contains c.readers.result.now (length x.nets - length x.pins + cell)) c.wiring-in-Some.ensures c.readers.ensures.all in
     let whole = take_at c.wait_unless.new.marks (drop (length c.wait_unless.new.marks) c.loop-place.waiting.items) c.loop-place.waiting.len (omega (arith, c.wait_unless.ensures.many, c.deref_mut.ensures.len)) in
     record {
-      making = made-next old now new s w.order variant place c.extend_from_slice.new.self.items _ c.in_ok-made.made within up.2 up.0 up_to c.in_ok-made.ensures.space made c.in_ok-push-2.ensures.items;
+      making = made-next old now new s w.order variant place c.extend_from_slice.new.self.items _ c.in_ok-made.made within up.2 up.0 up_to made c.in_ok-push-2.ensures.items;
       many = omega (arith, ap length c.in_ok-push.ensures.items, grown, many, refs_many, size, long);
       within = omega (arith, refs_many, size, long, within, nets);
       marks = marked-next s w.order variant marks _ is_same place marked many iff c.in_ok-push.ensures.items;
@@ -188,12 +187,12 @@ returns-clause-made g c =
     let old : SpaceData = g.P.Space.meaning c.args.space.now in
     let now : SpaceData = g.P.Space.meaning c.loop-place.space in
     let inv = c.loop-place.invariant in
-    let nets = ap length c.requires.base.wired.nets in
+    let nets = ap length c.requires.wired.nets in
     let from = length c.loop-place.refs.items in
     let all : length (net_tables_by w.order s variant) ≡ length w.nets = length-map (nets_of s.inputs s.cells) (net_table_by w.order s variant) ∙ sym nets in
     let none : (other : ℕ) → from ≤ other → other < length w.nets → get_or c.loop-place.waiting.items other true ≡ false =
     λ other behind before. subst (λ l. get_or l other true ≡ false) c.as_slice.ensures.value (c.in_default.ensures other (omega (arith, behind, c.len.ensures)) (omega (arith, before, ap length c.as_slice.ensures.value, inv.waiting.many))) in
-    let rest = left old now s c.args.base.now variant c.facts.ensures (values-kept old now s Base c.args.base.now inv.making.kept c.requires.base) c.loop-place.refs.items c.loop-place.waiting.items (length w.nets) inv.making inv.waiting inv.within (omega arith) none in
+    let rest = left old now s c.args.base.now variant c.facts.ensures (values-kept old now s Base c.args.base.now inv.making.kept c.requires) c.loop-place.refs.items c.loop-place.waiting.items (length w.nets) inv.making inv.waiting inv.within (omega arith) none in
     let long : length c.refs-all.result.now ≡ length w.nets = ap length c.refs-all.ensures.refs ∙ c.refs-all.ensures.many in
     let at : c.len-2.result ≡ from = omega (arith, c.len-2.ensures) in
     let whole : c.extend_from_slice-2.new.self.items ≡ c.loop-place.refs.items ++ take (length w.nets - from) (drop from c.args.base.now.refs) =

@@ -34,8 +34,8 @@ returns-then-is_kept_low-clause-made g c =
     let s : StageData = c.args.stage.now in
     let net : c.net.result.0 ≡ net_at s c.args.place = c.net.ensures ∙ ap (λ nets. get_or nets c.args.place 0) (ap (λ (w : WiringData). w.nets) c.wiring-wiring.ensures ∙ c.requires.base.wired.nets) in
     let low : kept_low s c.args.variant (net_at s c.args.place) ≡ true = ap (kept_low s c.args.variant) (sym net) ∙ sym c.is_kept_low.ensures ∙ c.if-is_kept_low.true in
-    makes-live (g.P.Space.meaning c.args.space.now) c.constant.result (net_table_by c.args.base.now.wiring.order s c.args.variant (net_at s c.args.place)) c.requires.space c.constant.ensures.live
-    (c.constant.ensures.table ∙ ap (λ n. constant_table n false) (values-width (g.P.Space.meaning c.args.space.now) c.args.stage.now Base c.args.base.now c.requires.space c.facts.ensures c.requires.base)
+    makes-live (g.P.Space.meaning c.args.space.now) c.constant.result (net_table_by c.args.base.now.wiring.order s c.args.variant (net_at s c.args.place)) c.facts-2.ensures c.constant.ensures.live
+    (c.constant.ensures.table ∙ ap (λ n. constant_table n false) (values-width (g.P.Space.meaning c.args.space.now) c.args.stage.now Base c.args.base.now c.facts-2.ensures c.facts.ensures c.requires.base)
     ∙ sym (low-net s c.args.base.now.wiring.order c.requires.base.wired.order c.facts.ensures c.args.variant (net_at s c.args.place) (Member-get_or (nets_of s.inputs s.cells) c.args.place 0 c.requires.place) low))
 
 pub returns-clause-made : goal.returns-clause-made
@@ -48,8 +48,8 @@ returns-clause-made g c =
     let value = value-at old s Base c.args.base.now c.requires.base c.args.place none c.requires.place in
     let r : get_or c.refs.result.now c.args.place none ≡ get_or c.args.base.now.refs c.args.place none = ap (λ refs. get_or refs c.args.place none) c.refs.ensures.refs in
     let unreached = subst (λ (w : WiringData). MarksChanges w.order s c.args.variant c.args.changed.now → IsUnreached w.order s c.args.variant (net_at s c.args.place)) c.wiring-wiring.ensures (c.is_reached.ensures c.if-is_reached.false c.args.variant) in
-    makes-live old (get_or c.refs.result.now c.args.place none) (net_table_by c.args.base.now.wiring.order s c.args.variant (net_at s c.args.place)) c.requires.space (subst (IsLive old) (sym r) value.0)
+    makes-live old (get_or c.refs.result.now c.args.place none) (net_table_by c.args.base.now.wiring.order s c.args.variant (net_at s c.args.place)) c.facts-2.ensures (subst (IsLive old) (sym r) value.0)
     (ap old.table r ∙ value.1 ∙ sym (unreached c.requires.changed free))
 
 pub net_ref-requires-clause-width : goal.net_ref-requires-clause-width
-net_ref-requires-clause-width g c = (values-width (g.P.Space.meaning c.args.space.now) c.args.stage.now Base c.args.base.now c.requires.space c.facts.ensures c.requires.base)
+net_ref-requires-clause-width g c = (values-width (g.P.Space.meaning c.args.space.now) c.args.stage.now Base c.args.base.now c.facts-2.ensures c.facts.ensures c.requires.base)

@@ -74,7 +74,7 @@ pub returns-then-is_kept_low-clause-made : goal.returns-then-is_kept_low-clause-
 returns-then-is_kept_low-clause-made g c =
     let s : StageData = c.args.stage.now in
     let net : c.net.result.0 ≡ net_at s c.args.place = c.net.ensures ∙ ap (λ nets. get_or nets c.args.place 0) c.requires.wiring.nets in
-    makes-live (g.P.Space.meaning c.args.space.now) c.constant.result (net_table_by c.args.wiring.now.order s c.args.variant (net_at s c.args.place)) c.requires.space c.constant.ensures.live
+    makes-live (g.P.Space.meaning c.args.space.now) c.constant.result (net_table_by c.args.wiring.now.order s c.args.variant (net_at s c.args.place)) c.facts-2.ensures c.constant.ensures.live
     (c.constant.ensures.table ∙ ap (λ n. constant_table n false) c.requires.width
     ∙ sym (low-net s c.args.wiring.now.order c.requires.wiring.order c.facts.ensures c.args.variant (net_at s c.args.place) (Member-get_or (nets_of s.inputs s.cells) c.args.place 0 c.requires.place) (ap (kept_low s c.args.variant) (sym net) ∙ sym c.is_kept_low.ensures ∙ c.if-is_kept_low.true)))
 
@@ -98,7 +98,6 @@ returns-then-place-rails g c =
     record {
       made = subst (λ t. IfOk c.rail.result (λ r. Makes old (g.P.Space.meaning c.rail.new.self) r t)) made c.rail.ensures.made;
       kept = search rules;
-      space = search rules;
       full = λ e. subst (λ t. fits old (t ∷ []) ≡ false) made (c.rail.ensures.full e);
     }
 
@@ -132,6 +131,5 @@ returns g c =
     record {
       made = subst (λ t. IfOk c.apply.result (λ r. Makes old (g.P.Space.meaning c.apply.new.self) r t)) made c.apply.ensures.made;
       kept = search rules;
-      space = search rules;
       full = λ e. subst (λ t. fits old (t ∷ []) ≡ false) made (c.apply.ensures.full e);
     }

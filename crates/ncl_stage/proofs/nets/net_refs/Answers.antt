@@ -17,7 +17,7 @@ as_many s order variant nets are = ap length are ∙ sym (length-map (nets_of s.
 pub loop-place-init : goal.loop-place-init
 loop-place-init g c =
     let old : SpaceData = g.P.Space.meaning c.args.space.now in
-    subst (λ items. Making old old items []) (sym c.in_ok-refs.ensures.items) (making-none old c.requires.space)
+    subst (λ items. Making old old items []) (sym c.in_ok-refs.ensures.items) (making-none old c.facts-2.ensures)
 
 pub net_ref-requires-clause-place : goal.net_ref-requires-clause-place
 net_ref-requires-clause-place g c = subst (λ n. c.loop-place.place < n) (c.len-place-end.ensures ∙ ap length c.requires.wiring.nets) c.loop-place-test.true
@@ -46,7 +46,7 @@ loop-place-preserved g c =
     (making-next old (g.P.Space.meaning c.loop-place.space) new tables place c.loop-place.refs.items c.in_ok-made.made (net_table_by order s c.args.variant (net_at s place))
     (subst (λ n. place < n) (as_many s order c.args.variant c.args.wiring.now.nets c.requires.wiring.nets) within)
     (table-at s order c.args.variant place (subst (λ nets. place < length nets) c.requires.wiring.nets within))
-    c.loop-place.invariant c.in_ok-made.ensures.kept c.in_ok-made.ensures.space c.in_ok-made.ensures.made)
+    c.loop-place.invariant c.in_ok-made.ensures.kept c.in_ok-made.ensures.made)
 
 pub returns-clause-made : goal.returns-clause-made
 returns-clause-made g c =

@@ -29,10 +29,10 @@ output_marks-requires g c =
     let lows = have-length (g.P.Space.meaning c.low_refs.new.space) c.in_ok-lows.lows.items (low_tables_by order s) c.in_ok-lows.ensures.made in
     let nets = length-map (nets_of s.inputs s.cells) (low_table_by order s) in
     let many : c.len.result ≡ length (nets_of s.inputs s.cells) = omega (arith, c.len.ensures, lows, nets) in
-    subst (λ (w : WiringData). All (λ pair. (pair.0 < c.len.result) × (pair.1 < c.len.result)) w.outputs) (sym c.wiring.ensures) (outputs-within s c.facts.ensures c.args.base.now.wiring c.requires.base.wired c.len.result many)
+    subst (λ (w : WiringData). All (λ pair. (pair.0 < c.len.result) × (pair.1 < c.len.result)) w.outputs) (sym c.wiring.ensures) (outputs-within s c.facts.ensures c.args.base.now.wiring c.requires.wired c.len.result many)
 
 pub is_observed-requires-clause-base : goal.is_observed-requires-clause-base
-is_observed-requires-clause-base g c = values-kept (g.P.Space.meaning c.args.space.now) (g.P.Space.meaning c.loop-place.space) c.args.stage.now Base c.args.base.now c.loop-place.invariant.kept c.requires.base
+is_observed-requires-clause-base g c = values-kept (g.P.Space.meaning c.args.space.now) (g.P.Space.meaning c.loop-place.space) c.args.stage.now Base c.args.base.now c.loop-place.invariant.kept c.requires
 
 pub loop-place-preserved-then-index : goal.loop-place-preserved-then-index
 loop-place-preserved-then-index g c =
@@ -42,10 +42,9 @@ loop-place-preserved-then-index g c =
     let within : place < length c.in_ok-shown.shown.items = omega (arith, c.loop-place-test.true, c.len-place-end.ensures, c.len.ensures, c.in_ok-shown.ensures.many) in
     let marked : get_or c.in_ok-shown.shown.items place false ≡ true = get_or_default c.in_ok-shown.shown.items place false c.index.result.now within ∙ sym c.index.ensures ∙ c.if-index.true in
     let own : IsShown w.outputs place = subst (λ (x : WiringData). IsShown x.outputs place) c.wiring.ensures (c.in_ok-shown.ensures.shown place marked) in
-    let seen : IsAlwaysObserved s (net_at s place) = λ word same high. inl (shown-net s c.facts.ensures w c.requires.base.wired place own) in
+    let seen : IsAlwaysObserved s (net_at s place) = λ word same high. inl (shown-net s c.facts.ensures w c.requires.wired place own) in
     record {
       kept = c.loop-place.invariant.kept;
-      space = c.loop-place.invariant.space;
       lows = c.loop-place.invariant.lows;
       seen = below_more (λ k. IsAlwaysObserved s (net_at s k)) place c.loop-place.invariant.seen seen;
     }
@@ -58,7 +57,6 @@ loop-place-preserved g c =
     let seen : IsAlwaysObserved s (net_at s c.loop-place.place) = c.in_ok-is_observed.ensures.observed c.if-not-branch.false in
     record {
       kept = keeps_along (g.P.Space.meaning c.args.space.now) now new c.loop-place.invariant.kept c.in_ok-is_observed.ensures.kept;
-      space = c.in_ok-is_observed.ensures.space;
       lows = have-kept now new c.in_ok-lows.lows.items (low_tables_by c.args.base.now.wiring.order s) c.in_ok-is_observed.ensures.kept c.loop-place.invariant.lows;
       seen = below_more (λ k. IsAlwaysObserved s (net_at s k)) c.loop-place.place c.loop-place.invariant.seen seen;
     }

@@ -1,6 +1,6 @@
 use Rattle.std.proofs.Common.{ℕ, ◌<◌}
 use Rattle.ncl_space.specs.Making.{HaveTables}
-use Rattle.ncl_space.specs.Space.{IsSpace, Keeps}
+use Rattle.ncl_space.specs.Space.{Keeps}
 use Rattle.ncl_stage.specs.Changes.{net_at}
 use Rattle.ncl_stage.specs.Observing.{IsAlwaysObserved, low_tables_by}
 use Rattle.ncl_stage.proofs.observing.are_observed.Given as goal
@@ -9,7 +9,6 @@ use Rattle.ncl_stage.proofs.observing.are_observed.Given as goal
 abbrev pub invariant-loop-place : goal.invariant-loop-place
 invariant-loop-place g l = record {
   kept : Keeps (g.P.Space.meaning l.fn.space) (g.P.Space.meaning l.space);
-  space : IsSpace (g.P.Space.meaning l.space);
   lows : HaveTables (g.P.Space.meaning l.space) l.lows.items (low_tables_by l.base.wiring.order l.stage);
   seen : (place : ℕ) → place < l.place → IsAlwaysObserved l.stage (net_at l.stage place);
 }

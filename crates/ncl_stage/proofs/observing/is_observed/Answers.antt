@@ -23,8 +23,7 @@ loop-reader-init g c =
     let own = value-at old s Base c.args.base.now c.requires.base c.args.place none c.requires.place in
     let same = ap (λ (refs : List Ref). get_or refs c.args.place none) c.refs.ensures.refs in
     record {
-      kept = keeps_all old;
-      space = c.requires.space;
+      kept = keeps_all old c.facts-2.ensures;
       live = subst (IsLive old) (sym same) own.0;
       left = subst (IsLeft order s (net_at s c.args.place)) (sym (ap old.table same ∙ own.1)) (left-first s order c.requires.base.wired.order (net_at s c.args.place));
     }
@@ -36,7 +35,7 @@ observed old now space k s is base are net never left live zero left_is same =
 
 pub returns-then-same-clause-observed : goal.returns-then-same-clause-observed
 returns-then-same-clause-observed g c = λ e.
-    observed (g.P.Space.meaning c.args.space.now) (g.P.Space.meaning c.loop-reader.space) c.requires.space c.loop-reader.invariant.kept c.args.stage.now c.facts.ensures c.args.base.now c.requires.base (net_at c.args.stage.now c.args.place) c.constant-never.result c.loop-reader.left c.constant-never.ensures.live c.constant-never.ensures.table
+    observed (g.P.Space.meaning c.args.space.now) (g.P.Space.meaning c.loop-reader.space) c.facts-2.ensures c.loop-reader.invariant.kept c.args.stage.now c.facts.ensures c.args.base.now c.requires.base (net_at c.args.stage.now c.args.place) c.constant-never.result c.loop-reader.left c.constant-never.ensures.live c.constant-never.ensures.table
     c.loop-reader.invariant.left (from_test c.same.result c.same.ensures c.if-same.true)
 
 pub left_by-requires-clause-base : goal.left_by-requires-clause-base
@@ -47,5 +46,5 @@ left_by-requires-clause-lows g c = have-kept (g.P.Space.meaning c.args.space.now
 
 pub returns-clause-observed : goal.returns-clause-observed
 returns-clause-observed g c = λ e.
-    observed (g.P.Space.meaning c.args.space.now) (g.P.Space.meaning c.loop-reader.space) c.requires.space c.loop-reader.invariant.kept c.args.stage.now c.facts.ensures c.args.base.now c.requires.base (net_at c.args.stage.now c.args.place) c.constant-never.result c.loop-reader.left c.constant-never.ensures.live c.constant-never.ensures.table
+    observed (g.P.Space.meaning c.args.space.now) (g.P.Space.meaning c.loop-reader.space) c.facts-2.ensures c.loop-reader.invariant.kept c.args.stage.now c.facts.ensures c.args.base.now c.requires.base (net_at c.args.stage.now c.args.place) c.constant-never.result c.loop-reader.left c.constant-never.ensures.live c.constant-never.ensures.table
     c.loop-reader.invariant.left (from_test c.same-2.result c.same-2.ensures e)

@@ -1,4 +1,4 @@
-use Rattle.ncl_space.specs.Space.{IsLive, IsSpace, Keeps}
+use Rattle.ncl_space.specs.Space.{IsLive, Keeps}
 use Rattle.ncl_stage.specs.Changes.{net_at}
 use Rattle.ncl_stage.specs.Observing.{IsLeft}
 use Rattle.ncl_stage.proofs.observing.is_observed.Given as goal
@@ -7,7 +7,6 @@ use Rattle.ncl_stage.proofs.observing.is_observed.Given as goal
 abbrev pub invariant-loop-reader : goal.invariant-loop-reader
 invariant-loop-reader g l = record {
   kept : Keeps (g.P.Space.meaning l.fn.space) (g.P.Space.meaning l.space);
-  space : IsSpace (g.P.Space.meaning l.space);
   live : IsLive (g.P.Space.meaning l.space) l.left;
   left : IsLeft l.base.wiring.order l.stage (net_at l.stage l.place) ((g.P.Space.meaning l.space).table l.left);
 }

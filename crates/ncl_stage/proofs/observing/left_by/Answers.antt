@@ -38,6 +38,6 @@ returns-clause-left g c =
     let d : StageCell = gate 0 Th12 [] 0 in
     IfOk-weaker c.apply.result _ (λ next. IsLeft order s (net_at s c.args.place) (new.table next))
     (λ next made. subst (IsLeft order s (net_at s c.args.place)) (sym made.table)
-    (left-by s order c.requires.base.wired.order old mid c.in_ok-fallen.ensures.kept (c.in_ok-fallen.ensures.kept.width ∙ values-width old s Base c.args.base.now c.requires.space c.facts.ensures c.requires.base)
+    (left-by s order c.requires.base.wired.order old mid c.in_ok-fallen.ensures.kept (c.in_ok-fallen.ensures.kept.width ∙ values-width old s Base c.args.base.now c.facts-2.ensures c.facts.ensures c.requires.base)
     c.args.place cell c.args.reader within place c.requires.reader c.args.lows.now c.requires.lows named d (record { place = 0 }) c.args.left c.in_ok-fallen.fallen c.requires.live c.requires.left (c.in_ok-fallen.ensures.table d)))
     c.apply.ensures.made

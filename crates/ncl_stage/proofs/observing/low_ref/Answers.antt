@@ -109,26 +109,26 @@ pins-requires g c =
     omega (arith, within, many)
 
 pub dual_ins-ins-requires-clause-arity : goal.dual_ins-ins-requires-clause-arity
-dual_ins-ins-requires-clause-arity g c = (pins-at c.args.stage.now c.facts.ensures c.args.base.now.wiring c.requires.base.wired c.args.place (c.args.place - 2 * length c.items.result.now) (behind-inputs c.args.stage.now c.args.place c.items.result.now (c.items.ensures ∙ ap (λ (t : StageData). t.inputs) c.stage.view_is) c.requires.place c.if-place-rails.false) c.items-2.result.now (c.items-2.ensures ∙ ap (λ (t : StageData). t.cells) c.stage.view_is) c.index-items-cell.result (g.P.Space.meaning c.args.space.now) (values-width (g.P.Space.meaning c.args.space.now) c.args.stage.now Base c.args.base.now c.requires.space c.facts.ensures c.requires.base) c.args.lows.now c.requires.lows c.wiring.result.now c.wiring.ensures c.pins.result.now c.pins.ensures.pins).arity
+dual_ins-ins-requires-clause-arity g c = (pins-at c.args.stage.now c.facts.ensures c.args.base.now.wiring c.requires.base.wired c.args.place (c.args.place - 2 * length c.items.result.now) (behind-inputs c.args.stage.now c.args.place c.items.result.now (c.items.ensures ∙ ap (λ (t : StageData). t.inputs) c.stage.view_is) c.requires.place c.if-place-rails.false) c.items-2.result.now (c.items-2.ensures ∙ ap (λ (t : StageData). t.cells) c.stage.view_is) c.index-items-cell.result (g.P.Space.meaning c.args.space.now) (values-width (g.P.Space.meaning c.args.space.now) c.args.stage.now Base c.args.base.now c.facts-2.ensures c.facts.ensures c.requires.base) c.args.lows.now c.requires.lows c.wiring.result.now c.wiring.ensures c.pins.result.now c.pins.ensures.pins).arity
 
 pub dual_ins-ins-requires-clause-within : goal.dual_ins-ins-requires-clause-within
-dual_ins-ins-requires-clause-within g c = (pins-at c.args.stage.now c.facts.ensures c.args.base.now.wiring c.requires.base.wired c.args.place (c.args.place - 2 * length c.items.result.now) (behind-inputs c.args.stage.now c.args.place c.items.result.now (c.items.ensures ∙ ap (λ (t : StageData). t.inputs) c.stage.view_is) c.requires.place c.if-place-rails.false) c.items-2.result.now (c.items-2.ensures ∙ ap (λ (t : StageData). t.cells) c.stage.view_is) c.index-items-cell.result (g.P.Space.meaning c.args.space.now) (values-width (g.P.Space.meaning c.args.space.now) c.args.stage.now Base c.args.base.now c.requires.space c.facts.ensures c.requires.base) c.args.lows.now c.requires.lows c.wiring.result.now c.wiring.ensures c.pins.result.now c.pins.ensures.pins).within
+dual_ins-ins-requires-clause-within g c = (pins-at c.args.stage.now c.facts.ensures c.args.base.now.wiring c.requires.base.wired c.args.place (c.args.place - 2 * length c.items.result.now) (behind-inputs c.args.stage.now c.args.place c.items.result.now (c.items.ensures ∙ ap (λ (t : StageData). t.inputs) c.stage.view_is) c.requires.place c.if-place-rails.false) c.items-2.result.now (c.items-2.ensures ∙ ap (λ (t : StageData). t.cells) c.stage.view_is) c.index-items-cell.result (g.P.Space.meaning c.args.space.now) (values-width (g.P.Space.meaning c.args.space.now) c.args.stage.now Base c.args.base.now c.facts-2.ensures c.facts.ensures c.requires.base) c.args.lows.now c.requires.lows c.wiring.result.now c.wiring.ensures c.pins.result.now c.pins.ensures.pins).within
 
 pub apply-requires-clause-arity : goal.apply-requires-clause-arity
 apply-requires-clause-arity g c =
     let kind : Kind = (get_or c.items-2.result.now (c.args.place - 2 * length c.items.result.now) c.index-items-cell.result).kind in
-    let pins = pins-at c.args.stage.now c.facts.ensures c.args.base.now.wiring c.requires.base.wired c.args.place (c.args.place - 2 * length c.items.result.now) (behind-inputs c.args.stage.now c.args.place c.items.result.now (c.items.ensures ∙ ap (λ (t : StageData). t.inputs) c.stage.view_is) c.requires.place c.if-place-rails.false) c.items-2.result.now (c.items-2.ensures ∙ ap (λ (t : StageData). t.cells) c.stage.view_is) c.index-items-cell.result (g.P.Space.meaning c.args.space.now) (values-width (g.P.Space.meaning c.args.space.now) c.args.stage.now Base c.args.base.now c.requires.space c.facts.ensures c.requires.base) c.args.lows.now c.requires.lows c.wiring.result.now c.wiring.ensures c.pins.result.now c.pins.ensures.pins in
+    let pins = pins-at c.args.stage.now c.facts.ensures c.args.base.now.wiring c.requires.base.wired c.args.place (c.args.place - 2 * length c.items.result.now) (behind-inputs c.args.stage.now c.args.place c.items.result.now (c.items.ensures ∙ ap (λ (t : StageData). t.inputs) c.stage.view_is) c.requires.place c.if-place-rails.false) c.items-2.result.now (c.items-2.ensures ∙ ap (λ (t : StageData). t.cells) c.stage.view_is) c.index-items-cell.result (g.P.Space.meaning c.args.space.now) (values-width (g.P.Space.meaning c.args.space.now) c.args.stage.now Base c.args.base.now c.facts-2.ensures c.facts.ensures c.requires.base) c.args.lows.now c.requires.lows c.wiring.result.now c.wiring.ensures c.pins.result.now c.pins.ensures.pins in
     ap length (c.as_slice.ensures.value ∙ c.dual_ins-ins.ensures) ∙ dual_pins-length kind (map (ref_at c.args.lows.now) c.pins.result.now) ∙ length-map c.pins.result.now (ref_at c.args.lows.now)
     ∙ pins.arity ∙ sym (dual-arity kind) ∙ ap arity_of (sym c.dual.ensures)
 
 pub apply-requires-clause-live : goal.apply-requires-clause-live
-apply-requires-clause-live g c = subst (All (IsLive (g.P.Space.meaning c.args.space.now))) (sym (c.as_slice.ensures.value ∙ c.dual_ins-ins.ensures)) (pins-at c.args.stage.now c.facts.ensures c.args.base.now.wiring c.requires.base.wired c.args.place (c.args.place - 2 * length c.items.result.now) (behind-inputs c.args.stage.now c.args.place c.items.result.now (c.items.ensures ∙ ap (λ (t : StageData). t.inputs) c.stage.view_is) c.requires.place c.if-place-rails.false) c.items-2.result.now (c.items-2.ensures ∙ ap (λ (t : StageData). t.cells) c.stage.view_is) c.index-items-cell.result (g.P.Space.meaning c.args.space.now) (values-width (g.P.Space.meaning c.args.space.now) c.args.stage.now Base c.args.base.now c.requires.space c.facts.ensures c.requires.base) c.args.lows.now c.requires.lows c.wiring.result.now c.wiring.ensures c.pins.result.now c.pins.ensures.pins).live
+apply-requires-clause-live g c = subst (All (IsLive (g.P.Space.meaning c.args.space.now))) (sym (c.as_slice.ensures.value ∙ c.dual_ins-ins.ensures)) (pins-at c.args.stage.now c.facts.ensures c.args.base.now.wiring c.requires.base.wired c.args.place (c.args.place - 2 * length c.items.result.now) (behind-inputs c.args.stage.now c.args.place c.items.result.now (c.items.ensures ∙ ap (λ (t : StageData). t.inputs) c.stage.view_is) c.requires.place c.if-place-rails.false) c.items-2.result.now (c.items-2.ensures ∙ ap (λ (t : StageData). t.cells) c.stage.view_is) c.index-items-cell.result (g.P.Space.meaning c.args.space.now) (values-width (g.P.Space.meaning c.args.space.now) c.args.stage.now Base c.args.base.now c.facts-2.ensures c.facts.ensures c.requires.base) c.args.lows.now c.requires.lows c.wiring.result.now c.wiring.ensures c.pins.result.now c.pins.ensures.pins).live
 
 pub returns-clause-table : goal.returns-clause-table
 returns-clause-table g c =
     let s : StageData = c.args.stage.now in
     let old : SpaceData = g.P.Space.meaning c.args.space.now in
     let new : SpaceData = g.P.Space.meaning c.apply.new.self in
-    let pins = pins-at c.args.stage.now c.facts.ensures c.args.base.now.wiring c.requires.base.wired c.args.place (c.args.place - 2 * length c.items.result.now) (behind-inputs c.args.stage.now c.args.place c.items.result.now (c.items.ensures ∙ ap (λ (t : StageData). t.inputs) c.stage.view_is) c.requires.place c.if-place-rails.false) c.items-2.result.now (c.items-2.ensures ∙ ap (λ (t : StageData). t.cells) c.stage.view_is) c.index-items-cell.result (g.P.Space.meaning c.args.space.now) (values-width (g.P.Space.meaning c.args.space.now) c.args.stage.now Base c.args.base.now c.requires.space c.facts.ensures c.requires.base) c.args.lows.now c.requires.lows c.wiring.result.now c.wiring.ensures c.pins.result.now c.pins.ensures.pins in
+    let pins = pins-at c.args.stage.now c.facts.ensures c.args.base.now.wiring c.requires.base.wired c.args.place (c.args.place - 2 * length c.items.result.now) (behind-inputs c.args.stage.now c.args.place c.items.result.now (c.items.ensures ∙ ap (λ (t : StageData). t.inputs) c.stage.view_is) c.requires.place c.if-place-rails.false) c.items-2.result.now (c.items-2.ensures ∙ ap (λ (t : StageData). t.cells) c.stage.view_is) c.index-items-cell.result (g.P.Space.meaning c.args.space.now) (values-width (g.P.Space.meaning c.args.space.now) c.args.stage.now Base c.args.base.now c.facts-2.ensures c.facts.ensures c.requires.base) c.args.lows.now c.requires.lows c.wiring.result.now c.wiring.ensures c.pins.result.now c.pins.ensures.pins in
     let made = (λ k. gate_table old.width (c.dual.ensures k) (map old.table ((c.as_slice.ensures.value ∙ c.dual_ins-ins.ensures) k))) ∙ pins.made in
     IfOk-weaker c.apply.result _ (λ low. new.table low ≡ low_table_by c.args.base.now.wiring.order s (net_at s c.args.place)) (λ low is. is.table ∙ made) c.apply.ensures.made

@@ -1,6 +1,6 @@
 use Rattle.std.proofs.Common.{take}
 use Rattle.ncl_space.specs.Making.{HaveTables}
-use Rattle.ncl_space.specs.Space.{IsSpace, Keeps}
+use Rattle.ncl_space.specs.Space.{Keeps}
 use Rattle.ncl_stage.specs.Observing.{low_tables_by}
 use Rattle.ncl_stage.proofs.observing.low_refs.Given as goal
 
@@ -8,6 +8,5 @@ use Rattle.ncl_stage.proofs.observing.low_refs.Given as goal
 abbrev pub invariant-loop-place : goal.invariant-loop-place
 invariant-loop-place g l = record {
   kept : Keeps (g.P.Space.meaning l.fn.space) (g.P.Space.meaning l.space);
-  space : IsSpace (g.P.Space.meaning l.space);
   have : HaveTables (g.P.Space.meaning l.space) l.lows.items (take l.place (low_tables_by l.base.wiring.order l.stage));
 }

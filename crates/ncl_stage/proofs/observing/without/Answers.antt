@@ -36,7 +36,7 @@ refs_without-ins-requires-clause-within g c =
     let d : StageCell = gate 0 Th12 [] 0 in
     let old : SpaceData = g.P.Space.meaning c.args.space.now in
     let pins = pin-places c.args.stage.now c.wiring.result.now c.args.base.now.wiring c.wiring.ensures c.requires.base.wired c.args.cell c.requires.cell d c.pins.result.now c.pins.ensures.pins in
-    let are = told old c.requires.space c.args.stage.now c.facts.ensures c.args.base.now c.requires.base c.args.place c.requires.place c.constant-never.result c.constant-never.ensures.live c.constant-never.ensures.table c.args.cell c.requires.cell d in
+    let are = told old c.facts-2.ensures c.args.stage.now c.facts.ensures c.args.base.now c.requires.base c.args.place c.requires.place c.constant-never.result c.constant-never.ensures.live c.constant-never.ensures.table c.args.cell c.requires.cell d in
     subst (All (λ p. p < length c.refs.result.now)) (sym pins)
     (subst (λ (refs : List Ref). All (λ p. p < length refs) (map (λ (net : NetId). place_in (nets_of c.args.stage.now.inputs c.args.stage.now.cells) net.0) (get_or c.args.stage.now.cells c.args.cell d).ins.items)) (sym c.refs.ensures.refs) are.within)
 
@@ -45,7 +45,7 @@ apply-requires-clause-live g c =
     let d : StageCell = gate 0 Th12 [] 0 in
     let old : SpaceData = g.P.Space.meaning c.args.space.now in
     let pins = pin-places c.args.stage.now c.wiring.result.now c.args.base.now.wiring c.wiring.ensures c.requires.base.wired c.args.cell c.requires.cell d c.pins.result.now c.pins.ensures.pins in
-    let are = told old c.requires.space c.args.stage.now c.facts.ensures c.args.base.now c.requires.base c.args.place c.requires.place c.constant-never.result c.constant-never.ensures.live c.constant-never.ensures.table c.args.cell c.requires.cell d in
+    let are = told old c.facts-2.ensures c.args.stage.now c.facts.ensures c.args.base.now c.requires.base c.args.place c.requires.place c.constant-never.result c.constant-never.ensures.live c.constant-never.ensures.table c.args.cell c.requires.cell d in
     subst (All (IsLive old)) (sym (c.as_slice.ensures.value ∙ c.refs_without-ins.ensures ∙ (λ k. map (λ p. if nat_eq p c.args.place then c.constant-never.result else ref_at (c.refs.ensures.refs k) p) (pins k)))) are.live
 
 pub returns-clause-table : goal.returns-clause-table
@@ -55,10 +55,10 @@ returns-clause-table g c = λ d.
     let new : SpaceData = g.P.Space.meaning c.apply.new.self in
     let order : List ℕ = c.args.base.now.wiring.order in
     let pins = pin-places s c.wiring.result.now c.args.base.now.wiring c.wiring.ensures c.requires.base.wired c.args.cell c.requires.cell d c.pins.result.now c.pins.ensures.pins in
-    let are = told old c.requires.space s c.facts.ensures c.args.base.now c.requires.base c.args.place c.requires.place c.constant-never.result c.constant-never.ensures.live c.constant-never.ensures.table c.args.cell c.requires.cell d in
+    let are = told old c.facts-2.ensures s c.facts.ensures c.args.base.now c.requires.base c.args.place c.requires.place c.constant-never.result c.constant-never.ensures.live c.constant-never.ensures.table c.args.cell c.requires.cell d in
     let own : get_or c.items.result.now c.args.cell c.index-items-cell.result ≡ get_or s.cells c.args.cell d =
     ap (λ (xs : List StageCell). get_or xs c.args.cell c.index-items-cell.result) (c.items.ensures ∙ ap (λ (t : StageData). t.cells) c.stage.view_is) ∙ get_or_default s.cells c.args.cell c.index-items-cell.result d c.requires.cell in
     let ins = c.as_slice.ensures.value ∙ c.refs_without-ins.ensures ∙ (λ k. map (λ p. if nat_eq p c.args.place then c.constant-never.result else ref_at (c.refs.ensures.refs k) p) (pins k)) in
     let table = ap (λ (x : StageCell). gate_table old.width x.kind (map old.table c.as_slice.result.now)) own
-    ∙ without-table s order c.requires.base.wired.order old (values-width old s Base c.args.base.now c.requires.space c.facts.ensures c.requires.base) c.args.base.now.refs c.args.place c.constant-never.result (get_or s.cells c.args.cell d) are c.as_slice.result.now ins in
+    ∙ without-table s order c.requires.base.wired.order old (values-width old s Base c.args.base.now c.facts-2.ensures c.facts.ensures c.requires.base) c.args.base.now.refs c.args.place c.constant-never.result (get_or s.cells c.args.cell d) are c.as_slice.result.now ins in
     IfOk-weaker c.apply.result _ (λ fallen. new.table fallen ≡ table_without order s (net_at s c.args.place) (get_or s.cells c.args.cell d)) (λ fallen made. made.table ∙ table) c.apply.ensures.made

@@ -64,7 +64,7 @@ data_tables-requires-clause-within g c =
     let s : StageData = c.args.stage.now in
     let refs = c.in_ok-refs.refs.items in
     let many : length refs ≡ length (nets_of s.inputs s.cells) = have-length (g.P.Space.meaning c.net_refs_from.new.space) refs (net_tables_by c.args.base.now.wiring.order s c.args.variant) c.in_ok-refs.ensures.made.refs_of ∙ length-map (nets_of s.inputs s.cells) (net_table_by c.args.base.now.wiring.order s c.args.variant) in
-    outputs-within s c.facts.ensures c.wiring.result.now (subst (IsWiring s) (sym c.wiring.ensures) c.requires.base.wired) (length c.as_slice.result.now) (ap length c.as_slice.ensures.value ∙ many)
+    outputs-within s c.facts.ensures c.wiring.result.now (subst (IsWiring s) (sym c.wiring.ensures) c.requires.wired) (length c.as_slice.result.now) (ap length c.as_slice.ensures.value ∙ many)
 
 pub returns-in_err-data-clause-full : goal.returns-in_err-data-clause-full
 returns-in_err-data-clause-full g c = λ e.
@@ -74,7 +74,7 @@ returns-in_err-data-clause-full g c = λ e.
     let mid : SpaceData = g.P.Space.meaning c.net_refs_from.new.space in
     let own : List (List Bool) = function_tables_by c.args.base.now.wiring.order (data_functions s (values_at s variant)) in
     let fronts : List (List Bool) = function_tables_by c.args.base.now.wiring.order (data_fronts s (values_at s variant)) in
-    let is = of_data s c.args.base.now.wiring.order c.requires.base.wired.order c.facts.ensures c.wiring.result.now (subst (IsWiring s) (sym c.wiring.ensures) c.requires.base.wired) variant mid (c.in_ok-refs.ensures.kept.width ∙ (values-width (g.P.Space.meaning c.args.space.now) c.args.stage.now Base c.args.base.now c.requires.space c.facts.ensures c.requires.base)) c.as_slice.result.now (ap (map mid.table) c.as_slice.ensures.value ∙ c.in_ok-refs.ensures.made.refs_of.tables) in
+    let is = of_data s c.args.base.now.wiring.order c.requires.wired.order c.facts.ensures c.wiring.result.now (subst (IsWiring s) (sym c.wiring.ensures) c.requires.wired) variant mid (c.in_ok-refs.ensures.kept.width ∙ (values-width (g.P.Space.meaning c.args.space.now) c.args.stage.now Base c.args.base.now c.facts-2.ensures c.facts.ensures c.requires)) c.as_slice.result.now (ap (map mid.table) c.as_slice.ensures.value ∙ c.in_ok-refs.ensures.made.refs_of.tables) in
     subst (λ tables. fits old tables ≡ false) (sym (shared-tables s c.args.base.now.wiring.order variant))
     (too_much_by_front old (net_tables_by c.args.base.now.wiring.order s variant ++ own) fronts
     (too_much-after old mid (net_tables_by c.args.base.now.wiring.order s variant) own c.in_ok-refs.ensures.kept c.in_ok-refs.ensures.made.held
@@ -85,7 +85,7 @@ pub returns-in_err-fronts-clause-full : goal.returns-in_err-fronts-clause-full
 returns-in_err-fronts-clause-full g c = λ e.
     let old : SpaceData = g.P.Space.meaning c.args.space.now in
     let now : SpaceData = g.P.Space.meaning c.data_tables.new.space in
-    let made = data-made c.args.stage.now c.args.base.now.wiring.order c.requires.base.wired.order c.facts.ensures c.wiring.result.now (subst (IsWiring c.args.stage.now) (sym c.wiring.ensures) c.requires.base.wired) c.args.variant (g.P.Space.meaning c.args.space.now) (g.P.Space.meaning c.net_refs_from.new.space) (g.P.Space.meaning c.data_tables.new.space) (values-width (g.P.Space.meaning c.args.space.now) c.args.stage.now Base c.args.base.now c.requires.space c.facts.ensures c.requires.base) c.in_ok-refs.refs.items c.as_slice.result.now c.in_ok-data.data.items c.as_slice-2.result.now c.in_ok-refs.ensures.kept c.in_ok-refs.ensures.made c.as_slice.ensures.value c.in_ok-data.ensures.kept c.in_ok-data.ensures.made c.as_slice-2.ensures.value in
+    let made = data-made c.args.stage.now c.args.base.now.wiring.order c.requires.wired.order c.facts.ensures c.wiring.result.now (subst (IsWiring c.args.stage.now) (sym c.wiring.ensures) c.requires.wired) c.args.variant (g.P.Space.meaning c.args.space.now) (g.P.Space.meaning c.net_refs_from.new.space) (g.P.Space.meaning c.data_tables.new.space) (values-width (g.P.Space.meaning c.args.space.now) c.args.stage.now Base c.args.base.now c.facts-2.ensures c.facts.ensures c.requires) c.in_ok-refs.refs.items c.as_slice.result.now c.in_ok-data.data.items c.as_slice-2.result.now c.in_ok-refs.ensures.kept c.in_ok-refs.ensures.made c.as_slice.ensures.value c.in_ok-data.ensures.kept c.in_ok-data.ensures.made c.as_slice-2.ensures.value in
     subst (λ tables. fits old tables ≡ false) (sym (shared-tables c.args.stage.now c.args.base.now.wiring.order c.args.variant))
     (too_much-after old now _ _ made.kept made.held
     (subst (λ tables. fits now tables ≡ false) made.next
@@ -102,7 +102,7 @@ many-fronts s order variant new refs have =
 pub unwrap-requires : goal.unwrap-requires
 unwrap-requires g c =
     let new : SpaceData = g.P.Space.meaning c.data_fronts.new.space in
-    let made = data-made c.args.stage.now c.args.base.now.wiring.order c.requires.base.wired.order c.facts.ensures c.wiring.result.now (subst (IsWiring c.args.stage.now) (sym c.wiring.ensures) c.requires.base.wired) c.args.variant (g.P.Space.meaning c.args.space.now) (g.P.Space.meaning c.net_refs_from.new.space) (g.P.Space.meaning c.data_tables.new.space) (values-width (g.P.Space.meaning c.args.space.now) c.args.stage.now Base c.args.base.now c.requires.space c.facts.ensures c.requires.base) c.in_ok-refs.refs.items c.as_slice.result.now c.in_ok-data.data.items c.as_slice-2.result.now c.in_ok-refs.ensures.kept c.in_ok-refs.ensures.made c.as_slice.ensures.value c.in_ok-data.ensures.kept c.in_ok-data.ensures.made c.as_slice-2.ensures.value in
+    let made = data-made c.args.stage.now c.args.base.now.wiring.order c.requires.wired.order c.facts.ensures c.wiring.result.now (subst (IsWiring c.args.stage.now) (sym c.wiring.ensures) c.requires.wired) c.args.variant (g.P.Space.meaning c.args.space.now) (g.P.Space.meaning c.net_refs_from.new.space) (g.P.Space.meaning c.data_tables.new.space) (values-width (g.P.Space.meaning c.args.space.now) c.args.stage.now Base c.args.base.now c.facts-2.ensures c.facts.ensures c.requires) c.in_ok-refs.refs.items c.as_slice.result.now c.in_ok-data.data.items c.as_slice-2.result.now c.in_ok-refs.ensures.kept c.in_ok-refs.ensures.made c.as_slice.ensures.value c.in_ok-data.ensures.kept c.in_ok-data.ensures.made c.as_slice-2.ensures.value in
     let many = many-fronts c.args.stage.now c.args.base.now.wiring.order c.args.variant new c.in_ok-fronts.fronts.items (subst (HaveTables new c.in_ok-fronts.fronts.items) made.next c.in_ok-fronts.ensures.made.refs_of) in
     let some = c.facts.ensures.some_outputs in
     let size : length c.as_slice-3.result.now ≡ length c.args.stage.now.outputs = ap length c.as_slice-3.ensures.value ∙ many in
@@ -116,7 +116,7 @@ returns g c =
     let now : SpaceData = g.P.Space.meaning c.data_tables.new.space in
     let new : SpaceData = g.P.Space.meaning c.data_fronts.new.space in
     let tables : List (List Bool) = function_tables_by order (data_fronts s (values_at s c.args.variant)) in
-    let made = data-made c.args.stage.now c.args.base.now.wiring.order c.requires.base.wired.order c.facts.ensures c.wiring.result.now (subst (IsWiring c.args.stage.now) (sym c.wiring.ensures) c.requires.base.wired) c.args.variant (g.P.Space.meaning c.args.space.now) (g.P.Space.meaning c.net_refs_from.new.space) (g.P.Space.meaning c.data_tables.new.space) (values-width (g.P.Space.meaning c.args.space.now) c.args.stage.now Base c.args.base.now c.requires.space c.facts.ensures c.requires.base) c.in_ok-refs.refs.items c.as_slice.result.now c.in_ok-data.data.items c.as_slice-2.result.now c.in_ok-refs.ensures.kept c.in_ok-refs.ensures.made c.as_slice.ensures.value c.in_ok-data.ensures.kept c.in_ok-data.ensures.made c.as_slice-2.ensures.value in
+    let made = data-made c.args.stage.now c.args.base.now.wiring.order c.requires.wired.order c.facts.ensures c.wiring.result.now (subst (IsWiring c.args.stage.now) (sym c.wiring.ensures) c.requires.wired) c.args.variant (g.P.Space.meaning c.args.space.now) (g.P.Space.meaning c.net_refs_from.new.space) (g.P.Space.meaning c.data_tables.new.space) (values-width (g.P.Space.meaning c.args.space.now) c.args.stage.now Base c.args.base.now c.facts-2.ensures c.facts.ensures c.requires) c.in_ok-refs.refs.items c.as_slice.result.now c.in_ok-data.data.items c.as_slice-2.result.now c.in_ok-refs.ensures.kept c.in_ok-refs.ensures.made c.as_slice.ensures.value c.in_ok-data.ensures.kept c.in_ok-data.ensures.made c.as_slice-2.ensures.value in
     let refs : List Ref = c.in_ok-fronts.fronts.items in
     let have : HaveTables new refs tables = subst (HaveTables new refs) made.next c.in_ok-fronts.ensures.made.refs_of in
     let many : length refs ≡ length s.outputs = many-fronts s order c.args.variant new refs have in
@@ -129,10 +129,9 @@ returns g c =
     ap (λ o. unwrap_or (option_map (λ (x : Bor Ref). x.now) o) r) (sym c.unwrap.ensures) ∙ item ∙ (λ j. get_or (items j) (length (items j) - 1) r) ∙ ap (λ n. get_or refs (n - 1) r) many in
     record {
       live = search rules;
-      table = ap new.table at ∙ have-at new refs tables have k r [] (omega arith) ∙ last-front s order c.requires.base.wired.order (values_at s c.args.variant) some;
+      table = ap new.table at ∙ have-at new refs tables have k r [] (omega arith) ∙ last-front s order c.requires.wired.order (values_at s c.args.variant) some;
       held = held-along old now new _ tables made.kept made.held (c.in_ok-fronts.ensures.made.held ∙ ap (with_tables now) made.next)
           ∙ ap (with_tables old) (sym (shared-tables s order c.args.variant));
       kept = search rules;
-      space = search rules;
       full = search rules;
     }

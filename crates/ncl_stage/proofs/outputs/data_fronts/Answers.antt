@@ -31,7 +31,7 @@ pub loop-next-init : goal.loop-next-init
 loop-next-init g c =
     let old : SpaceData = g.P.Space.meaning c.args.space.now in
     record {
-      making = subst (λ items. Making old old items []) (sym c.in_ok-made.ensures.items) (making-none old c.requires.space);
+      making = subst (λ items. Making old old items []) (sym c.in_ok-made.ensures.items) (making-none old c.facts.ensures);
       last = c.in_ok-made.ensures.items;
     }
 
@@ -44,7 +44,7 @@ pub returns-in_err-front-clause-full : goal.returns-in_err-front-clause-full
 returns-in_err-front-clause-full g c = λ e.
     let old : SpaceData = g.P.Space.meaning c.args.space.now in
     let now : SpaceData = g.P.Space.meaning c.loop-next.space in
-    let (lt, is) = next old now c.requires.space c.args.refs.now c.requires.live c.loop-next.next-index c.loop-next-test.true c.loop-next.made.items c.loop-next.invariant.making c.loop-next.last c.loop-next.invariant.last (record { place = 0 }) in
+    let (lt, is) = next old now c.facts.ensures c.args.refs.now c.requires c.loop-next.next-index c.loop-next-test.true c.loop-next.made.items c.loop-next.invariant.making c.loop-next.last c.loop-next.invariant.last (record { place = 0 }) in
     too_much-next old now (front_tables old.width (map old.table c.args.refs.now)) c.loop-next.next-index c.loop-next.made.items _ lt is c.loop-next.invariant.making
     (c.in_err-front.ensures.full (ap Err (handed_on c.from_residual-in_err-front.result c.in_err-front.field-0.0 c.from_residual-in_err-front.ensures.1 e)))
 
@@ -54,10 +54,10 @@ loop-next-preserved g c =
     let now : SpaceData = g.P.Space.meaning c.loop-next.space in
     let new : SpaceData = g.P.Space.meaning c.conjoin.new.space in
     let fronts : List (List Bool) = front_tables old.width (map old.table c.args.refs.now) in
-    let (lt, is) = next old now c.requires.space c.args.refs.now c.requires.live c.loop-next.next-index c.loop-next-test.true c.loop-next.made.items c.loop-next.invariant.making c.loop-next.last c.loop-next.invariant.last (record { place = 0 }) in
+    let (lt, is) = next old now c.facts.ensures c.args.refs.now c.requires c.loop-next.next-index c.loop-next-test.true c.loop-next.made.items c.loop-next.invariant.making c.loop-next.last c.loop-next.invariant.last (record { place = 0 }) in
     record {
       making = subst (λ items. Making old new items (take (c.loop-next.next-index + 1) fronts)) (sym c.in_ok-push.ensures.items)
-          (making-next old now new fronts c.loop-next.next-index c.loop-next.made.items c.in_ok-front.front _ lt is c.loop-next.invariant.making c.in_ok-front.ensures.kept c.in_ok-front.ensures.space c.in_ok-front.ensures.made);
+          (making-next old now new fronts c.loop-next.next-index c.loop-next.made.items c.in_ok-front.front _ lt is c.loop-next.invariant.making c.in_ok-front.ensures.kept c.in_ok-front.ensures.made);
       last = (c.loop-next.made.items, c.in_ok-push.ensures.items);
     }
 

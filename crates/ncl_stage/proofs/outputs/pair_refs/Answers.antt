@@ -22,7 +22,7 @@ turn old now k refs live kind pairs each i lt d =
 pub loop-pair-init : goal.loop-pair-init
 loop-pair-init g c =
     let old : SpaceData = g.P.Space.meaning c.args.space.now in
-    subst (λ items. Making old old items []) (sym c.in_ok-made.ensures.items) (making-none old c.requires.space)
+    subst (λ items. Making old old items []) (sym c.in_ok-made.ensures.items) (making-none old c.facts.ensures)
 
 pub returns-in_err-one-clause-full : goal.returns-in_err-one-clause-full
 returns-in_err-one-clause-full g c = λ e.
@@ -52,4 +52,4 @@ loop-pair-preserved g c =
     subst (Makes now new c.in_ok-one.one) (turn old now c.loop-pair.invariant.kept refs c.requires.live c.args.kind pairs c.requires.within i c.loop-pair-test.true (record { place = 0 })) c.in_ok-one.ensures.made in
     subst (λ items. Making old new items (map f (take (i + 1) pairs))) (sym c.in_ok-push.ensures.items)
     (subst (Making old new (c.loop-pair.made.items ++ c.in_ok-one.one ∷ [])) (sym (map_more f pairs i (0, 0) c.loop-pair-test.true))
-    (making-one old now new c.loop-pair.made.items (map f (take i pairs)) c.in_ok-one.one (f pair) c.loop-pair.invariant c.in_ok-one.ensures.kept c.in_ok-one.ensures.space made))
+    (making-one old now new c.loop-pair.made.items (map f (take i pairs)) c.in_ok-one.one (f pair) c.loop-pair.invariant c.in_ok-one.ensures.kept made))

@@ -6,8 +6,7 @@ use Rattle.std.proofs.lemmas.List.{get_or-set_other, get_or-set_same, take_more}
 use Rattle.ncl_base.proofs.Growing.{from_push}
 use Rattle.ncl_shape.specs.Stage.{StageData, IsStage}
 use Rattle.ncl_faults.specs.declared.variant.Variant.{Variant}
-use Rattle.ncl_stage.specs.Changes.{IsUnchanged, net_at}
-use Rattle.ncl_faults.specs.Values.{kept_low}
+use Rattle.ncl_stage.specs.Changes.{AreWaiting, IsUnchanged, net_at}
 use Rattle.ncl_stage.specs.Wiring.{WiringData, IsWiring}
 use Rattle.ncl_stage.proofs.Unvisited.{unvisited}
 
@@ -34,13 +33,6 @@ marked-next marks readers i d lt within before reader has =
           ]
       | inr same ↦ ap (λ n. get_or (mark_at marks (get_or readers i d)) n true) (sym same) ∙ get_or-set_same marks (get_or readers i d) true true within
     ]
-
--- of the places from one on, those wait that the variant keeps low, and those of the cells that read a net before it that has
--- changed
-pub record AreWaiting (w : WiringData) (s : StageData) (variant : Variant) (from : ℕ) (marks : List Bool) : Type 0 where
-  pub many : length marks ≡ length w.nets
-  pub low : (place : ℕ) → from ≤ place → place < length w.nets → get_or marks place true ≡ false → kept_low s variant (net_at s place) ≡ false
-  pub read : (cell place : ℕ) → from ≤ 2 * length s.inputs + cell → 2 * length s.inputs + cell < length w.nets → get_or marks (2 * length s.inputs + cell) true ≡ false → Contains (get_or w.pins cell []) place → place < from → IsUnchanged w.order s variant (net_at s place)
 
 -- what doesn't wait before the first that does is unchanged
 pub between : (s : StageData) → IsStage s → (w : WiringData) → IsWiring s w → (variant : Variant) (marks : List Bool) (from to : ℕ) → AreWaiting w s variant from marks → to ≤ length w.nets → ((other : ℕ) → from ≤ other → other < to → get_or marks other true ≡ false) → (place : ℕ) → from ≤ place → place < to → IsUnchanged w.order s variant (net_at s place)

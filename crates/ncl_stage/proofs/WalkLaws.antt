@@ -11,7 +11,6 @@ use Rattle.ncl_base.proofs.Members.{Member, here, there, member_cases, Member-ap
 use Rattle.ncl_base.proofs.Tests.{stands_or_not}
 use Rattle.ncl_base.proofs.Ranges.{range_with_len-more}
 use Rattle.ncl_stage.specs.BitOrder.{with_bit, with_bits}
-use Rattle.ncl_stage.proofs.OrderLaws.{ascending-is}
 use Rattle.ncl_stage.specs.Walk.{AreMet, ReadEarlier, was_entered, IsAhead, IsWalk, IsDone}
 
 pub with_bits-append : (a xs ys : List ℕ) → with_bits a (xs ++ ys) ≡ with_bits (with_bits a xs) ys
@@ -247,11 +246,7 @@ with_bits-pair met outputs i d lt =
     ∙ ap (with_bits []) (ap (λ l. front ++ l) (sym (append-nil (both o))) ∙ sym (flat_map-append both (take i outputs) (o ∷ [])) ∙ ap (flat_map both) (sym (take_more outputs i d lt)))
 
 -- one bit more
-pub with_bits-more : (xs : List ℕ) (bit : ℕ) → with_bit (with_bits [] (xs ++ range_with_len 0 bit)) bit ≡ with_bits [] (xs ++ range_with_len 0 (bit + 1))
-with_bits-more xs bit =
-    sym (with_bits-append [] (xs ++ range_with_len 0 bit) (bit ∷ []))
-    ∙ ap (with_bits []) (append_assoc xs (range_with_len 0 bit) (bit ∷ []) ∙ ap (λ l. xs ++ l) (ap (λ n. range_with_len 0 bit ++ n ∷ []) (let e : bit ≡ 0 + bit = omega arith in e) ∙ sym (range_with_len-more 0 bit)))
-
--- the bits in ascending order with one more
-pub ascending-more : (bit : ℕ) → with_bit (range_with_len 0 bit) bit ≡ range_with_len 0 (bit + 1)
-ascending-more bit = ap (λ bits. with_bit bits bit) (sym (ascending-is bit)) ∙ with_bits-more [] bit ∙ ascending-is (bit + 1)
+pub with_bits-more : (found : List ℕ) (bit : ℕ) → with_bit (with_bits found (range_with_len 0 bit)) bit ≡ with_bits found (range_with_len 0 (bit + 1))
+with_bits-more found bit =
+    sym (with_bits-append found (range_with_len 0 bit) (bit ∷ []))
+    ∙ ap (with_bits found) (ap (λ n. range_with_len 0 bit ++ n ∷ []) (let e : bit ≡ 0 + bit = omega arith in e) ∙ sym (range_with_len-more 0 bit))

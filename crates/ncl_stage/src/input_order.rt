@@ -5,7 +5,7 @@ ghost use Rattle.ncl_shape.specs.Stage.{nets_of};
 ghost use Rattle.ncl_stage.specs.BitOrder.{IsOrderOf, bit_order, place_in, placed};
 ghost use Rattle.ncl_stage.specs.Wiring.{pin_places, rail_places};
 
-use crate::walk::walked;
+use crate::walk::{add_bits, walked};
 use crate::wiring::Wiring;
 use arrayvec::ArrayVec;
 use indexmap::IndexSet;
@@ -51,9 +51,7 @@ impl BitOrder {
         ensures each { IfOk result (IsOrderOf bits) }
     {
         let mut places: IndexSet<usize> = IndexSet::new(alloc);
-        for bit in 0..bits {
-            places.insert(bit)?;
-        }
+        add_bits(&mut places, bits)?;
         Ok(BitOrder { places })
     }
 

@@ -1,6 +1,6 @@
 //! A walk over the places of a stage: the rails of bit b stand at 2b and 2b + 1, and the cells after all rails.
 
-ghost use Rattle.std.specs.Prelude.{◌≡◌, ℕ, ◌+◌, ◌*◌, ◌^◌, ◌<◌, ◌≤◌, ◌++◌, [], List, All, IfOk, OnOk, length, map, reverse, slice_index_or, false};
+ghost use Rattle.std.specs.Prelude.{◌≡◌, ℕ, ◌+◌, ◌*◌, ◌^◌, ◌<◌, ◌≤◌, ◌++◌, [], List, All, IfOk, OnOk, length, map, replicate, reverse, slice_index_or, false};
 ghost use Rattle.std.specs.List.{flat_map, range_with_len};
 ghost use Rattle.ncl_stage.specs.BitOrder.{with_bits};
 ghost use Rattle.ncl_stage.specs.Walk.{AreMet, IsDone, ReadEarlier};
@@ -43,6 +43,17 @@ fn pins_of(pins: &[ArrayVec<usize, 4>], cell: usize) -> &[usize]
 }
 
 impl Walk {
+    /// No bits yet, and none of so many cells entered. Linear in the cells.
+    fn new(alloc: Global, cells: usize) -> Result<Walk, Memory>
+        ensures { IfOk result (λ walk. (walk.found.keys ≡ []) × (walk.entered.items ≡ replicate cells false) × (walk.waiting.items ≡ [])) }
+    {
+        let entered = vec![in alloc; false; cells]?;
+        Ok(Walk {
+            found: IndexSet::new(alloc),
+            entered,
+            waiting: Vec::new(alloc),
+        })
+    }
     /// Goes on from a place until nothing waits. A cell is entered when it comes off the stack, and not again.
     ///
     /// Linear in the cells that are entered and what they read.
@@ -68,6 +79,40 @@ impl Walk {
         }
         Ok(())
     }
+
+    /// Goes on from the two places of each pair in turn.
+    ///
+    /// Linear in the pairs, the cells and what they read: no cell is entered twice.
+    fn from_pairs(
+        &mut self,
+        bits: usize,
+        pins: &[ArrayVec<usize, 4>],
+        pairs: &[(usize, usize)],
+    ) -> Result<(), Memory>
+        requires room { 2 * bits + length pins.now < 2 ^ 64 }
+        requires earlier { ReadEarlier bits (map (λ p. p.items) pins.now) }
+        requires within { All (λ pair. (pair.0 < 2 * bits + length pins.now) × (pair.1 < 2 * bits + length pins.now)) pairs.now }
+        requires new { self.old.found.keys ≡ [] }
+        requires idle { self.old.waiting.items ≡ [] }
+        requires done { IsDone bits (map (λ p. p.items) pins.now) self.old.entered.items self.old.found.keys }
+        ensures { OnOk result ((met : ℕ → List ℕ) → AreMet bits (map (λ p. p.items) pins.now) met → self.new.found.keys ≡ with_bits [] (flat_map (λ pair. met pair.0 ++ met pair.1) pairs.now)) }
+    {
+        for pair in pairs {
+            self.from(bits, pins, pair.0)?;
+            self.from(bits, pins, pair.1)?;
+        }
+        Ok(())
+    }
+}
+
+/// Puts so many bits after those that are there, ascending, where they aren't there yet. Linear in them.
+pub(crate) fn add_bits(found: &mut IndexSet<usize>, bits: usize) -> Result<(), Memory>
+    ensures { OnOk result (found.new.keys ≡ with_bits found.old.keys (range_with_len 0 bits)) }
+{
+    for bit in 0..bits {
+        found.insert(bit)?;
+    }
+    Ok(())
 }
 
 /// The bits in the order in which a walk from the outputs meets them, and then those that it doesn't meet, ascending.
@@ -84,17 +129,8 @@ pub(crate) fn walked(
     requires within { All (λ pair. (pair.0 < 2 * bits + length pins.now) × (pair.1 < 2 * bits + length pins.now)) outputs.now }
     ensures { IfOk result (λ order. (met : ℕ → List ℕ) → AreMet bits (map (λ p. p.items) pins.now) met → order.keys ≡ with_bits [] (flat_map (λ pair. met pair.0 ++ met pair.1) outputs.now ++ range_with_len 0 bits)) }
 {
-    let mut walk = Walk {
-        found: IndexSet::new(alloc),
-        entered: vec![in alloc; false; pins.len()]?,
-        waiting: Vec::new(alloc),
-    };
-    for pair in outputs {
-        walk.from(bits, pins, pair.0)?;
-        walk.from(bits, pins, pair.1)?;
-    }
-    for bit in 0..bits {
-        walk.found.insert(bit)?;
-    }
+    let mut walk = Walk::new(alloc, pins.len())?;
+    walk.from_pairs(bits, pins, outputs)?;
+    add_bits(&mut walk.found, bits)?;
     Ok(walk.found)
 }

@@ -17,7 +17,9 @@ use Rattle.ncl_stage.proofs.NetLaws.{low-net}
 use Rattle.ncl_stage.proofs.changes.ref_from.Goals as goal
 
 pub net_ref-requires-clause-refs : goal.net_ref-requires-clause-refs
-net_ref-requires-clause-refs g c = subst (λ (w : WiringData). HaveTables (g.P.Space.meaning c.args.space.now) c.args.refs.now (take c.args.place (net_tables_by w.order c.args.stage.now c.args.variant))) (sym c.wiring-wiring.ensures) c.requires.refs
+net_ref-requires-clause-refs g c =
+    subst (λ (w : WiringData). HaveTables (g.P.Space.meaning c.args.space.now) c.as_slice-refs.result.now (take c.args.place (net_tables_by w.order c.args.stage.now c.args.variant))) (sym c.wiring-wiring.ensures)
+    (subst (λ refs. HaveTables (g.P.Space.meaning c.args.space.now) refs (take c.args.place (net_tables_by c.args.base.now.wiring.order c.args.stage.now c.args.variant))) (sym c.as_slice-refs.ensures.value) c.requires.refs)
 
 pub returns-then-is_reached-clause-made : goal.returns-then-is_reached-clause-made
 returns-then-is_reached-clause-made g c =
@@ -47,9 +49,9 @@ returns-clause-made g c =
     let free : kept_low s c.args.variant (net_at s c.args.place) ≡ false = ap (kept_low s c.args.variant) (sym net) ∙ sym c.is_kept_low.ensures ∙ c.if-is_kept_low.false in
     let value = value-at old s Base c.args.base.now c.requires.base c.args.place none c.requires.place in
     let r : get_or c.refs.result.now c.args.place none ≡ get_or c.args.base.now.refs c.args.place none = ap (λ refs. get_or refs c.args.place none) c.refs.ensures.refs in
-    let unreached = subst (λ (w : WiringData). MarksChanges w.order s c.args.variant c.args.changed.now → IsUnreached w.order s c.args.variant (net_at s c.args.place)) c.wiring-wiring.ensures (c.is_reached.ensures c.if-is_reached.false c.args.variant) in
+    let unreached = subst (λ (w : WiringData). MarksChanges w.order s c.args.variant c.as_slice-changed.result.now → IsUnreached w.order s c.args.variant (net_at s c.args.place)) c.wiring-wiring.ensures (c.is_reached.ensures c.if-is_reached.false c.args.variant) in
     makes-live old (get_or c.refs.result.now c.args.place none) (net_table_by c.args.base.now.wiring.order s c.args.variant (net_at s c.args.place)) c.facts-2.ensures (subst (IsLive old) (sym r) value.0)
-    (ap old.table r ∙ value.1 ∙ sym (unreached c.requires.changed free))
+    (ap old.table r ∙ value.1 ∙ sym (unreached (subst (MarksChanges c.args.base.now.wiring.order s c.args.variant) (sym c.as_slice-changed.ensures.value) c.requires.changed) free))
 
 pub net_ref-requires-clause-width : goal.net_ref-requires-clause-width
 net_ref-requires-clause-width g c = (values-width (g.P.Space.meaning c.args.space.now) c.args.stage.now Base c.args.base.now c.facts-2.ensures c.facts.ensures c.requires.base)

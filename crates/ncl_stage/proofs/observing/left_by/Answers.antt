@@ -1,12 +1,10 @@
-use Rattle.std.proofs.Common.{◌≡◌, ℕ, ◌+◌, ◌-◌, ◌*◌, ◌<◌, List, [], length, map, get_or, sym, ◌∙◌, ap, subst, arith}
+use Rattle.std.proofs.Common.{◌≡◌, ℕ, ◌+◌, ◌-◌, ◌*◌, ◌<◌, List, [], length, sym, ◌∙◌, ap, subst, arith}
 use Rattle.std.proofs.lemmas.List.{length-map}
 use Rattle.std.proofs.lemmas.Result.{IfOk-weaker}
 use Rattle.ncl_gates.specs.declared.kind.Kind.TheVariants.{Th12}
-use Rattle.ncl_shape.specs.declared.rails.Rails.{Rails}
 use Rattle.ncl_shape.specs.declared.stage.StageCell.{StageCell}
 use Rattle.ncl_shape.specs.Stage.{StageData, nets_of}
 use Rattle.ncl_space.specs.Space.{SpaceData}
-use Rattle.ncl_space.specs.declared.space.Ref.{Ref}
 use Rattle.ncl_space.proofs.MakingLaws.{have-length}
 use Rattle.ncl_stage.specs.Changes.{net_at}
 use Rattle.ncl_faults.specs.Examples.{gate}

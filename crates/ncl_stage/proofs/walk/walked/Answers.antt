@@ -1,19 +1,10 @@
-use Rattle.std.proofs.Common.{ℕ, ◌++◌, get_or, ap, ◌∙◌}
-use Rattle.std.specs.List.{flat_map}
-use Rattle.ncl_stage.specs.BitOrder.{with_bit, with_bits}
-use Rattle.ncl_stage.proofs.WalkLaws.{with_bits-pair, with_bits-more}
+use Rattle.std.proofs.Common.{ℕ, ◌++◌, [], sym, ap, ◌∙◌}
+use Rattle.std.specs.List.{flat_map, range_with_len}
+use Rattle.ncl_stage.specs.BitOrder.{with_bits}
+use Rattle.ncl_stage.proofs.WalkLaws.{with_bits-append}
 use Rattle.ncl_stage.proofs.walk.walked.Goals as goal
 
-pub loop-pair-preserved : goal.loop-pair-preserved
-loop-pair-preserved c = record {
-  idle = c.in_ok-from-2.ensures.idle;
-  done = c.in_ok-from-2.ensures.done;
-  found = λ met are.
-      let o : ℕ × ℕ = get_or c.args.outputs.now c.loop-pair.pair-index (0, 0) in
-      c.in_ok-from-2.ensures.found met are
-      ∙ ap (λ l. with_bits l (met o.1)) (c.in_ok-from.ensures.found met are ∙ ap (λ l. with_bits l (met o.0)) (c.loop-pair.invariant.found met are))
-      ∙ with_bits-pair met c.args.outputs.now c.loop-pair.pair-index (0, 0) c.loop-pair-test.true;
-}
-
-pub loop-bit-preserved : goal.loop-bit-preserved
-loop-bit-preserved c = λ met are. c.in_ok-insert.ensures.keys ∙ ap (λ l. with_bit l c.loop-bit.bit) (c.loop-bit.invariant met are) ∙ with_bits-more (flat_map (λ (pair : ℕ × ℕ). met pair.0 ++ met pair.1) c.args.outputs.now) c.loop-bit.bit
+pub returns : goal.returns
+returns c = λ met are.
+    let front = flat_map (λ (pair : ℕ × ℕ). met pair.0 ++ met pair.1) c.args.outputs.now in
+    c.in_ok-add_bits.ensures ∙ ap (λ l. with_bits l (range_with_len 0 c.args.bits)) (c.in_ok-from_pairs.ensures met are) ∙ sym (with_bits-append [] front (range_with_len 0 c.args.bits))

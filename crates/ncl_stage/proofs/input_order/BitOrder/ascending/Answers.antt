@@ -1,13 +1,13 @@
-use Rattle.std.proofs.Common.{◌≡◌, ℕ, ◌≤◌, List, length, sym, ◌∙◌, ap, subst, arith}
+use Rattle.std.proofs.Common.{◌≡◌, ℕ, ◌≤◌, [], List, length, sym, ◌∙◌, ap, subst, arith}
 use Rattle.std.specs.List.{range_with_len}
 use Rattle.std.proofs.lemmas.List.FromFn.{length-range_with_len}
-use Rattle.ncl_stage.specs.BitOrder.{IsOrderOf, with_bit}
-use Rattle.ncl_stage.proofs.OrderLaws.{ascending-order}
-use Rattle.ncl_stage.proofs.WalkLaws.{ascending-more}
+use Rattle.ncl_stage.specs.BitOrder.{IsOrderOf, with_bits}
+use Rattle.ncl_stage.proofs.OrderLaws.{ascending-is, ascending-order}
 use Rattle.ncl_stage.proofs.input_order.BitOrder.ascending.Goals as goal
 
-pub loop-bit-preserved : goal.loop-bit-preserved
-loop-bit-preserved c = c.in_ok-insert.ensures.keys ∙ ap (λ bits. with_bit bits c.loop-bit.bit) c.loop-bit.invariant ∙ ascending-more c.loop-bit.bit
+-- bits that were added to none stand in ascending order
+added : (none found : List ℕ) (bits : ℕ) → none ≡ [] → found ≡ with_bits none (range_with_len 0 bits) → found ≡ range_with_len 0 bits
+added none found bits empty is = is ∙ ap (λ l. with_bits l (range_with_len 0 bits)) empty ∙ ascending-is bits
 
 -- bits in ascending order are an order of as many as there are
 ascending-invariant : (n : ℕ) (keys : List ℕ) → keys ≡ range_with_len 0 n → n ≤ 128 → IsOrderOf (length keys) keys × (length keys ≤ 128)
@@ -17,9 +17,10 @@ ascending-invariant n keys is few =
     (subst (λ many. IsOrderOf many (range_with_len 0 n)) (sym size) (ascending-order n), omega arith)
 
 pub invariant_of-result : goal.invariant_of-result
-invariant_of-result c = ascending-invariant c.loop-bit.bit c.loop-bit.places.keys c.loop-bit.invariant (omega arith)
+invariant_of-result c = ascending-invariant c.args.bits _ (added _ _ c.args.bits c.new-places.ensures.empty c.in_ok-add_bits.ensures) c.requires
+
+pub returns-clause-bits : goal.returns-clause-bits
+returns-clause-bits c = added _ _ c.args.bits c.new-places.ensures.empty c.in_ok-add_bits.ensures
 
 pub returns-clause-each : goal.returns-clause-each
-returns-clause-each c =
-    let end : c.loop-bit.bit ≡ c.args.bits = omega arith in
-    subst (IsOrderOf c.args.bits) (sym (c.loop-bit.invariant ∙ ap (range_with_len 0) end)) (ascending-order c.args.bits)
+returns-clause-each c = subst (IsOrderOf c.args.bits) (sym (added _ _ c.args.bits c.new-places.ensures.empty c.in_ok-add_bits.ensures)) (ascending-order c.args.bits)

@@ -1,0 +1,8 @@
+use Rattle.std.proofs.Common.{◌≡◌}
+use Rattle.std.specs.List.{range_with_len}
+use Rattle.ncl_stage.specs.BitOrder.{with_bits}
+use Rattle.ncl_stage.proofs.walk.add_bits.Given as goal
+
+-- so many bits were added
+abbrev pub invariant-loop-bit : goal.invariant-loop-bit
+invariant-loop-bit l = l.found.keys ≡ with_bits l.fn.found.keys (range_with_len 0 l.bit)

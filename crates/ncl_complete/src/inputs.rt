@@ -1,6 +1,6 @@
 //! Input-completeness.
 ghost use Rattle.std.specs.Prelude.{◌≡◌, ◌<◌, IfOk, IsErrOf, OnOk, false, length, true};
-ghost use Rattle.ncl_space.specs.Space.{IsSpace, Keeps, Restores, fits};
+ghost use Rattle.ncl_space.specs.Space.{Keeps, Restores, fits};
 ghost use Rattle.ncl_faults.specs.Faults.{Incomplete};
 ghost use Rattle.ncl_stage.specs.LeastWords.{least_word_by};
 ghost use Rattle.ncl_stage.specs.StageTables.{AreValues};
@@ -31,7 +31,6 @@ pub fn input_complete<P: Space>(
     requires bit { bit < length stage.now.inputs }
     ensures word { IfOk result (λ word. word ≡ least_word_by base.now.wiring.order stage.now (Incomplete bit)) }
     ensures back { Restores (P.meaning space.old) (P.meaning space.new) }
-    ensures space { IsSpace (P.meaning space.new) }
     ensures full { IsErrOf result SpaceFault.Full → fits (P.meaning space.old) (tables_by base.now.wiring.order stage.now (Variant.Bit bit)) ≡ false }
     ensures fits { OnOk result (fits (P.meaning space.old) (tables_by base.now.wiring.order stage.now (Variant.Bit bit)) ≡ true) }
 {
@@ -51,14 +50,13 @@ pub fn incomplete_word<P: Space>(
 ) -> Result<Option<Word>, SpaceFault>
     requires base { AreValues (P.meaning space.old) stage.now Variant.Base base.now }
     requires bit { bit < length stage.now.inputs }
-    requires space { IsSpace (P.meaning space.old) }
     ensures word { IfOk result (λ word. word ≡ least_word_by base.now.wiring.order stage.now (Incomplete bit)) }
     ensures kept { Keeps (P.meaning space.old) (P.meaning space.new) }
-    ensures space { IsSpace (P.meaning space.new) }
     ensures full { IsErrOf result SpaceFault.Full → fits (P.meaning space.old) (tables_by base.now.wiring.order stage.now (Variant.Bit bit)) ≡ false }
     ensures fits { OnOk result (fits (P.meaning space.old) (tables_by base.now.wiring.order stage.now (Variant.Bit bit)) ≡ true) }
 {
     stage.facts();
+    space.facts();
     let all = all_data(alloc, space, stage, base, Variant::Bit(bit))?;
     Ok(least_one(space, base.order(), all))
 }

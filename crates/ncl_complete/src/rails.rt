@@ -2,7 +2,7 @@
 ghost use Rattle.std.specs.Prelude.{◌≡◌, All, IfOk, IsErrOf, OnErr, OnOk, false, length, true};
 ghost use Rattle.ncl_complete.specs.RailFaults.{first_rail_fault_by};
 ghost use Rattle.ncl_space.specs.Making.{HaveTables, IsNamed};
-ghost use Rattle.ncl_space.specs.Space.{IsSpace, Keeps, Restores, fits, with_tables};
+ghost use Rattle.ncl_space.specs.Space.{Keeps, Restores, fits, with_tables};
 ghost use Rattle.ncl_stage.specs.BitOrder.{IsOrderOf};
 ghost use Rattle.ncl_stage.specs.StageTables.{AreValues};
 ghost use Rattle.ncl_stage.specs.Tables.{ValuesAt, data_functions, function_tables_by, illegal_functions, tables_by};
@@ -38,13 +38,12 @@ pub fn valid_rails<P: Space>(
     stage: &Stage,
     base: &Values,
 ) -> Result<Option<RailFault>, SpaceFault>
-    requires base { AreValues (P.meaning space.old) stage.now Variant.Base base.now }
+    requires { AreValues (P.meaning space.old) stage.now Variant.Base base.now }
     ensures found { IfOk result (λ found. found ≡ first_rail_fault_by base.now.wiring.order stage.now) }
     ensures live { OnOk result (All (IsNamed (P.meaning space.new)) (tables_by base.now.wiring.order stage.now Variant.Base)) }
     ensures held { OnOk result ((P.meaning space.new).held ≡ with_tables (P.meaning space.old) (tables_by base.now.wiring.order stage.now Variant.Base)) }
     ensures kept { Keeps (P.meaning space.old) (P.meaning space.new) }
     ensures back { OnErr result (Restores (P.meaning space.old) (P.meaning space.new)) }
-    ensures space { IsSpace (P.meaning space.new) }
     ensures full { IsErrOf result SpaceFault.Full → fits (P.meaning space.old) (tables_by base.now.wiring.order stage.now Variant.Base) ≡ false }
     ensures fits { OnOk result (fits (P.meaning space.old) (tables_by base.now.wiring.order stage.now Variant.Base) ≡ true) }
 {
@@ -66,8 +65,7 @@ fn output_refs<P: Space>(
     stage: &Stage,
     base: &Values,
 ) -> Result<OutputRefs, SpaceFault>
-    requires base { AreValues (P.meaning space.old) stage.now Variant.Base base.now }
-    requires space { IsSpace (P.meaning space.old) }
+    requires { AreValues (P.meaning space.old) stage.now Variant.Base base.now }
     ensures some { let v : ValuesAt = λ word. val stage.now word Variant.Base in
         IfOk result (λ refs. HaveTables (P.meaning space.new) refs.some.items (function_tables_by base.now.wiring.order (data_functions stage.now v))) }
     ensures both { let v : ValuesAt = λ word. val stage.now word Variant.Base in
@@ -75,10 +73,10 @@ fn output_refs<P: Space>(
     ensures live { OnOk result (All (IsNamed (P.meaning space.new)) (tables_by base.now.wiring.order stage.now Variant.Base)) }
     ensures held { OnOk result ((P.meaning space.new).held ≡ with_tables (P.meaning space.old) (tables_by base.now.wiring.order stage.now Variant.Base)) }
     ensures kept { Keeps (P.meaning space.old) (P.meaning space.new) }
-    ensures space { IsSpace (P.meaning space.new) }
     ensures full { IsErrOf result SpaceFault.Full → fits (P.meaning space.old) (tables_by base.now.wiring.order stage.now Variant.Base) ≡ false }
 {
     stage.facts();
+    space.facts();
     let some = data_tables(alloc, space, base.wiring(), base.refs())?;
     let _ = data_fronts(alloc, space, some.as_slice())?;
     let both = pair_refs(

@@ -2,7 +2,7 @@
 ghost use Rattle.std.specs.Prelude.{◌≡◌, ◌<◌, IfOk, IsErrOf, OnOk, false, length, true};
 ghost use Rattle.std.specs.Option.{option_map};
 ghost use Rattle.ncl_space.specs.Functions.{least};
-ghost use Rattle.ncl_space.specs.Space.{IsLive, IsSpace, Keeps, Restores, fits};
+ghost use Rattle.ncl_space.specs.Space.{IsLive, Keeps, Restores, fits};
 ghost use Rattle.ncl_stage.specs.BitOrder.{placed};
 ghost use Rattle.ncl_faults.specs.Faults.{Orphan};
 ghost use Rattle.ncl_stage.specs.LeastWords.{least_word_by};
@@ -36,7 +36,6 @@ pub fn orphan<P: Space>(
     requires cell { cell < length stage.now.cells }
     ensures word { IfOk result (λ word. word ≡ least_word_by base.now.wiring.order stage.now (Orphan cell)) }
     ensures back { Restores (P.meaning space.old) (P.meaning space.new) }
-    ensures space { IsSpace (P.meaning space.new) }
     ensures full { IsErrOf result SpaceFault.Full → fits (P.meaning space.old) (tables_by base.now.wiring.order stage.now (Variant.Cell cell)) ≡ false }
     ensures fits { OnOk result (fits (P.meaning space.old) (tables_by base.now.wiring.order stage.now (Variant.Cell cell)) ≡ true) }
 {
@@ -56,14 +55,13 @@ pub fn orphan_word<P: Space>(
 ) -> Result<Option<Word>, SpaceFault>
     requires base { AreValues (P.meaning space.old) stage.now Variant.Base base.now }
     requires cell { cell < length stage.now.cells }
-    requires space { IsSpace (P.meaning space.old) }
     ensures word { IfOk result (λ word. word ≡ least_word_by base.now.wiring.order stage.now (Orphan cell)) }
     ensures kept { Keeps (P.meaning space.old) (P.meaning space.new) }
-    ensures space { IsSpace (P.meaning space.new) }
     ensures full { IsErrOf result SpaceFault.Full → fits (P.meaning space.old) (tables_by base.now.wiring.order stage.now (Variant.Cell cell)) ≡ false }
     ensures fits { OnOk result (fits (P.meaning space.old) (tables_by base.now.wiring.order stage.now (Variant.Cell cell)) ≡ true) }
 {
     stage.facts();
+    space.facts();
     let high = unobserved(alloc, space, stage, base, cell)?;
     Ok(least_one(space, base.order(), high))
 }
@@ -78,15 +76,14 @@ fn unobserved<P: Space>(
 ) -> Result<Ref, SpaceFault>
     requires base { AreValues (P.meaning space.old) stage.now Variant.Base base.now }
     requires cell { cell < length stage.now.cells }
-    requires space { IsSpace (P.meaning space.old) }
     ensures live { IfOk result (IsLive (P.meaning space.new)) }
     ensures least { IfOk result (λ r. option_map (placed base.now.wiring.order) (least true (length stage.now.inputs) ((P.meaning space.new).table r)) ≡ least_word_by base.now.wiring.order stage.now (Orphan cell)) }
     ensures kept { Keeps (P.meaning space.old) (P.meaning space.new) }
-    ensures space { IsSpace (P.meaning space.new) }
     ensures full { IsErrOf result SpaceFault.Full → fits (P.meaning space.old) (tables_by base.now.wiring.order stage.now (Variant.Cell cell)) ≡ false }
     ensures fits { OnOk result (fits (P.meaning space.old) (tables_by base.now.wiring.order stage.now (Variant.Cell cell)) ≡ true) }
 {
     stage.facts();
+    space.facts();
     let all = all_data(alloc, space, stage, base, Variant::Cell(cell))?;
     let high = base.of(stage.cells.items()[cell].out);
     space.apply(Kind::Th22, &[high, all])

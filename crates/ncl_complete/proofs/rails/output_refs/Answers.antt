@@ -73,11 +73,11 @@ module _ (s : StageData) (is : IsStage s) (old : SpaceData) (space : IsSpace old
   whole-over full = ap (fits old) (base-parts v.wiring.order s) ∙ too_much_by_front old ((nets ++ some) ++ fronts) both full
 
   some-over : fits old some ≡ false → fits old (tables_by v.wiring.order s Base) ≡ false
-  some-over full = whole-over (too_much_by_front old (nets ++ some) fronts (too_much-after old old nets some (keeps_all old) (nets-held old space s v are) full))
+  some-over full = whole-over (too_much_by_front old (nets ++ some) fronts (too_much-after old old nets some (keeps_all old space) (nets-held old space s v are) full))
 
   module _ (mid : SpaceData) (kept : Keeps old mid) (firsts : List Ref) (first : MakesAll old mid firsts some) where
     first-held : mid.held ≡ with_tables old (nets ++ some)
-    first-held = held-along old old mid nets some (keeps_all old) (nets-held old space s v are) first.held
+    first-held = held-along old old mid nets some (keeps_all old space) (nets-held old space s v are) first.held
 
     fronts-over : fits mid fronts ≡ false → fits old (tables_by v.wiring.order s Base) ≡ false
     fronts-over full = whole-over (too_much-after old mid (nets ++ some) fronts kept first-held full)
@@ -114,22 +114,22 @@ data_tables-requires-clause-within g c =
     let s : StageData = c.args.stage.now in
     let v : ValuesData = c.args.base.now in
     subst (λ refs. All (λ pair. (pair.0 < length refs) × (pair.1 < length refs)) c.wiring.result.now.outputs) (sym c.refs.ensures.refs)
-    (subst (λ (w : WiringData). All (λ pair. (pair.0 < length v.refs) × (pair.1 < length v.refs)) w.outputs) (sym c.wiring.ensures) (within s c.facts.ensures (g.P.Space.meaning c.args.space.now) v c.requires.base))
+    (subst (λ (w : WiringData). All (λ pair. (pair.0 < length v.refs) × (pair.1 < length v.refs)) w.outputs) (sym c.wiring.ensures) (within s c.facts.ensures (g.P.Space.meaning c.args.space.now) v c.requires))
 
 pub returns-in_err-some-clause-full : goal.returns-in_err-some-clause-full
 returns-in_err-some-clause-full g c = λ e.
     let old : SpaceData = g.P.Space.meaning c.args.space.now in
-    some-over c.args.stage.now c.facts.ensures old c.requires.space (values-width (g.P.Space.meaning c.args.space.now) c.args.stage.now Base c.args.base.now c.requires.space c.facts.ensures c.requires.base) c.args.base.now c.requires.base
-    (subst (λ tables. fits old tables ≡ false) (made-some c.args.stage.now c.facts.ensures old (values-width (g.P.Space.meaning c.args.space.now) c.args.stage.now Base c.args.base.now c.requires.space c.facts.ensures c.requires.base) c.args.base.now c.requires.base c.refs.result.now c.refs.ensures.refs c.wiring.result.now c.wiring.ensures)
+    some-over c.args.stage.now c.facts.ensures old c.facts-2.ensures (values-width (g.P.Space.meaning c.args.space.now) c.args.stage.now Base c.args.base.now c.facts-2.ensures c.facts.ensures c.requires) c.args.base.now c.requires
+    (subst (λ tables. fits old tables ≡ false) (made-some c.args.stage.now c.facts.ensures old (values-width (g.P.Space.meaning c.args.space.now) c.args.stage.now Base c.args.base.now c.facts-2.ensures c.facts.ensures c.requires) c.args.base.now c.requires c.refs.result.now c.refs.ensures.refs c.wiring.result.now c.wiring.ensures)
     (c.in_err-some.ensures.full (ap Err (handed_on c.from_residual.result c.in_err-some.field-0.0 c.from_residual.ensures.1 e))))
 
 pub returns-in_err-data_fronts-clause-full : goal.returns-in_err-data_fronts-clause-full
 returns-in_err-data_fronts-clause-full g c = λ e.
     let old : SpaceData = g.P.Space.meaning c.args.space.now in
     let mid : SpaceData = g.P.Space.meaning c.data_tables.new.space in
-    let first = subst (MakesAll old mid c.in_ok-some.some.items) (made-some c.args.stage.now c.facts.ensures old (values-width (g.P.Space.meaning c.args.space.now) c.args.stage.now Base c.args.base.now c.requires.space c.facts.ensures c.requires.base) c.args.base.now c.requires.base c.refs.result.now c.refs.ensures.refs c.wiring.result.now c.wiring.ensures) c.in_ok-some.ensures.made in
-    fronts-over c.args.stage.now c.facts.ensures old c.requires.space (values-width (g.P.Space.meaning c.args.space.now) c.args.stage.now Base c.args.base.now c.requires.space c.facts.ensures c.requires.base) c.args.base.now c.requires.base mid c.in_ok-some.ensures.kept c.in_ok-some.some.items first
-    (subst (λ tables. fits mid tables ≡ false) (made-fronts c.args.base.now.wiring.order c.args.stage.now c.requires.base.wired.order mid (c.in_ok-some.ensures.kept.width ∙ (values-width (g.P.Space.meaning c.args.space.now) c.args.stage.now Base c.args.base.now c.requires.space c.facts.ensures c.requires.base)) c.as_slice.result.now (ap (map mid.table) c.as_slice.ensures.value ∙ first.refs_of.tables))
+    let first = subst (MakesAll old mid c.in_ok-some.some.items) (made-some c.args.stage.now c.facts.ensures old (values-width (g.P.Space.meaning c.args.space.now) c.args.stage.now Base c.args.base.now c.facts-2.ensures c.facts.ensures c.requires) c.args.base.now c.requires c.refs.result.now c.refs.ensures.refs c.wiring.result.now c.wiring.ensures) c.in_ok-some.ensures.made in
+    fronts-over c.args.stage.now c.facts.ensures old c.facts-2.ensures (values-width (g.P.Space.meaning c.args.space.now) c.args.stage.now Base c.args.base.now c.facts-2.ensures c.facts.ensures c.requires) c.args.base.now c.requires mid c.in_ok-some.ensures.kept c.in_ok-some.some.items first
+    (subst (λ tables. fits mid tables ≡ false) (made-fronts c.args.base.now.wiring.order c.args.stage.now c.requires.wired.order mid (c.in_ok-some.ensures.kept.width ∙ (values-width (g.P.Space.meaning c.args.space.now) c.args.stage.now Base c.args.base.now c.facts-2.ensures c.facts.ensures c.requires)) c.as_slice.result.now (ap (map mid.table) c.as_slice.ensures.value ∙ first.refs_of.tables))
     (c.in_err-data_fronts.ensures.full (ap Err (handed_on c.from_residual-in_err-data_fronts.result c.in_err-data_fronts.field-0.0 c.from_residual-in_err-data_fronts.ensures.1 e))))
 
 pub pair_refs-requires-clause-within : goal.pair_refs-requires-clause-within
@@ -137,17 +137,17 @@ pair_refs-requires-clause-within g c =
     let s : StageData = c.args.stage.now in
     let v : ValuesData = c.args.base.now in
     subst (λ refs. All (λ pair. (pair.0 < length refs) × (pair.1 < length refs)) c.outputs.result.now) (sym c.refs-2.ensures.refs)
-    (subst (All (λ pair. (pair.0 < length v.refs) × (pair.1 < length v.refs))) (sym (c.outputs.ensures ∙ ap (λ (w : WiringData). w.outputs) c.wiring-2.ensures)) (within s c.facts.ensures (g.P.Space.meaning c.args.space.now) v c.requires.base))
+    (subst (All (λ pair. (pair.0 < length v.refs) × (pair.1 < length v.refs))) (sym (c.outputs.ensures ∙ ap (λ (w : WiringData). w.outputs) c.wiring-2.ensures)) (within s c.facts.ensures (g.P.Space.meaning c.args.space.now) v c.requires))
 
 pub returns-in_err-both-clause-full : goal.returns-in_err-both-clause-full
 returns-in_err-both-clause-full g c = λ e.
     let old : SpaceData = g.P.Space.meaning c.args.space.now in
     let mid : SpaceData = g.P.Space.meaning c.data_tables.new.space in
     let now : SpaceData = g.P.Space.meaning c.data_fronts.new.space in
-    let first = subst (MakesAll old mid c.in_ok-some.some.items) (made-some c.args.stage.now c.facts.ensures old (values-width (g.P.Space.meaning c.args.space.now) c.args.stage.now Base c.args.base.now c.requires.space c.facts.ensures c.requires.base) c.args.base.now c.requires.base c.refs.result.now c.refs.ensures.refs c.wiring.result.now c.wiring.ensures) c.in_ok-some.ensures.made in
-    let second = subst (MakesAll mid now c.in_ok-data_fronts.field-0.items) (made-fronts c.args.base.now.wiring.order c.args.stage.now c.requires.base.wired.order mid (c.in_ok-some.ensures.kept.width ∙ (values-width (g.P.Space.meaning c.args.space.now) c.args.stage.now Base c.args.base.now c.requires.space c.facts.ensures c.requires.base)) c.as_slice.result.now (ap (map mid.table) c.as_slice.ensures.value ∙ first.refs_of.tables)) c.in_ok-data_fronts.ensures.made in
-    both-over c.args.stage.now c.facts.ensures old c.requires.space (values-width (g.P.Space.meaning c.args.space.now) c.args.stage.now Base c.args.base.now c.requires.space c.facts.ensures c.requires.base) c.args.base.now c.requires.base mid c.in_ok-some.ensures.kept c.in_ok-some.some.items first now c.in_ok-data_fronts.ensures.kept c.in_ok-data_fronts.field-0.items second
-    (subst (λ tables. fits now tables ≡ false) (made-both c.args.stage.now c.facts.ensures old now (keeps_along old mid now c.in_ok-some.ensures.kept c.in_ok-data_fronts.ensures.kept) (values-width (g.P.Space.meaning c.args.space.now) c.args.stage.now Base c.args.base.now c.requires.space c.facts.ensures c.requires.base) c.args.base.now c.requires.base c.refs-2.result.now c.refs-2.ensures.refs c.outputs.result.now (c.outputs.ensures ∙ ap (λ (w : WiringData). w.outputs) c.wiring-2.ensures))
+    let first = subst (MakesAll old mid c.in_ok-some.some.items) (made-some c.args.stage.now c.facts.ensures old (values-width (g.P.Space.meaning c.args.space.now) c.args.stage.now Base c.args.base.now c.facts-2.ensures c.facts.ensures c.requires) c.args.base.now c.requires c.refs.result.now c.refs.ensures.refs c.wiring.result.now c.wiring.ensures) c.in_ok-some.ensures.made in
+    let second = subst (MakesAll mid now c.in_ok-data_fronts.field-0.items) (made-fronts c.args.base.now.wiring.order c.args.stage.now c.requires.wired.order mid (c.in_ok-some.ensures.kept.width ∙ (values-width (g.P.Space.meaning c.args.space.now) c.args.stage.now Base c.args.base.now c.facts-2.ensures c.facts.ensures c.requires)) c.as_slice.result.now (ap (map mid.table) c.as_slice.ensures.value ∙ first.refs_of.tables)) c.in_ok-data_fronts.ensures.made in
+    both-over c.args.stage.now c.facts.ensures old c.facts-2.ensures (values-width (g.P.Space.meaning c.args.space.now) c.args.stage.now Base c.args.base.now c.facts-2.ensures c.facts.ensures c.requires) c.args.base.now c.requires mid c.in_ok-some.ensures.kept c.in_ok-some.some.items first now c.in_ok-data_fronts.ensures.kept c.in_ok-data_fronts.field-0.items second
+    (subst (λ tables. fits now tables ≡ false) (made-both c.args.stage.now c.facts.ensures old now (keeps_along old mid now c.in_ok-some.ensures.kept c.in_ok-data_fronts.ensures.kept) (values-width (g.P.Space.meaning c.args.space.now) c.args.stage.now Base c.args.base.now c.facts-2.ensures c.facts.ensures c.requires) c.args.base.now c.requires c.refs-2.result.now c.refs-2.ensures.refs c.outputs.result.now (c.outputs.ensures ∙ ap (λ (w : WiringData). w.outputs) c.wiring-2.ensures))
     (c.in_err-both.ensures.full (ap Err (handed_on c.from_residual-in_err-both.result c.in_err-both.field-0.0 c.from_residual-in_err-both.ensures.1 e))))
 
 pub returns : goal.returns
@@ -156,15 +156,14 @@ returns g c =
     let mid : SpaceData = g.P.Space.meaning c.data_tables.new.space in
     let now : SpaceData = g.P.Space.meaning c.data_fronts.new.space in
     let new : SpaceData = g.P.Space.meaning c.pair_refs.new.space in
-    let first = subst (MakesAll old mid c.in_ok-some.some.items) (made-some c.args.stage.now c.facts.ensures old (values-width (g.P.Space.meaning c.args.space.now) c.args.stage.now Base c.args.base.now c.requires.space c.facts.ensures c.requires.base) c.args.base.now c.requires.base c.refs.result.now c.refs.ensures.refs c.wiring.result.now c.wiring.ensures) c.in_ok-some.ensures.made in
-    let second = subst (MakesAll mid now c.in_ok-data_fronts.field-0.items) (made-fronts c.args.base.now.wiring.order c.args.stage.now c.requires.base.wired.order mid (c.in_ok-some.ensures.kept.width ∙ (values-width (g.P.Space.meaning c.args.space.now) c.args.stage.now Base c.args.base.now c.requires.space c.facts.ensures c.requires.base)) c.as_slice.result.now (ap (map mid.table) c.as_slice.ensures.value ∙ first.refs_of.tables)) c.in_ok-data_fronts.ensures.made in
-    let third = subst (MakesAll now new c.in_ok-both.both.items) (made-both c.args.stage.now c.facts.ensures old now (keeps_along old mid now c.in_ok-some.ensures.kept c.in_ok-data_fronts.ensures.kept) (values-width (g.P.Space.meaning c.args.space.now) c.args.stage.now Base c.args.base.now c.requires.space c.facts.ensures c.requires.base) c.args.base.now c.requires.base c.refs-2.result.now c.refs-2.ensures.refs c.outputs.result.now (c.outputs.ensures ∙ ap (λ (w : WiringData). w.outputs) c.wiring-2.ensures)) c.in_ok-both.ensures.made in
+    let first = subst (MakesAll old mid c.in_ok-some.some.items) (made-some c.args.stage.now c.facts.ensures old (values-width (g.P.Space.meaning c.args.space.now) c.args.stage.now Base c.args.base.now c.facts-2.ensures c.facts.ensures c.requires) c.args.base.now c.requires c.refs.result.now c.refs.ensures.refs c.wiring.result.now c.wiring.ensures) c.in_ok-some.ensures.made in
+    let second = subst (MakesAll mid now c.in_ok-data_fronts.field-0.items) (made-fronts c.args.base.now.wiring.order c.args.stage.now c.requires.wired.order mid (c.in_ok-some.ensures.kept.width ∙ (values-width (g.P.Space.meaning c.args.space.now) c.args.stage.now Base c.args.base.now c.facts-2.ensures c.facts.ensures c.requires)) c.as_slice.result.now (ap (map mid.table) c.as_slice.ensures.value ∙ first.refs_of.tables)) c.in_ok-data_fronts.ensures.made in
+    let third = subst (MakesAll now new c.in_ok-both.both.items) (made-both c.args.stage.now c.facts.ensures old now (keeps_along old mid now c.in_ok-some.ensures.kept c.in_ok-data_fronts.ensures.kept) (values-width (g.P.Space.meaning c.args.space.now) c.args.stage.now Base c.args.base.now c.facts-2.ensures c.facts.ensures c.requires) c.args.base.now c.requires c.refs-2.result.now c.refs-2.ensures.refs c.outputs.result.now (c.outputs.ensures ∙ ap (λ (w : WiringData). w.outputs) c.wiring-2.ensures)) c.in_ok-both.ensures.made in
     record {
-      some = some-there c.args.stage.now c.facts.ensures old c.requires.space (values-width (g.P.Space.meaning c.args.space.now) c.args.stage.now Base c.args.base.now c.requires.space c.facts.ensures c.requires.base) c.args.base.now c.requires.base mid c.in_ok-some.ensures.kept c.in_ok-some.some.items first now c.in_ok-data_fronts.ensures.kept c.in_ok-data_fronts.field-0.items second new c.in_ok-both.ensures.kept c.in_ok-both.both.items third;
+      some = some-there c.args.stage.now c.facts.ensures old c.facts-2.ensures (values-width (g.P.Space.meaning c.args.space.now) c.args.stage.now Base c.args.base.now c.facts-2.ensures c.facts.ensures c.requires) c.args.base.now c.requires mid c.in_ok-some.ensures.kept c.in_ok-some.some.items first now c.in_ok-data_fronts.ensures.kept c.in_ok-data_fronts.field-0.items second new c.in_ok-both.ensures.kept c.in_ok-both.both.items third;
       both = third.refs_of;
-      live = all-named c.args.stage.now c.facts.ensures old c.requires.space (values-width (g.P.Space.meaning c.args.space.now) c.args.stage.now Base c.args.base.now c.requires.space c.facts.ensures c.requires.base) c.args.base.now c.requires.base mid c.in_ok-some.ensures.kept c.in_ok-some.some.items first now c.in_ok-data_fronts.ensures.kept c.in_ok-data_fronts.field-0.items second new c.in_ok-both.ensures.kept c.in_ok-both.both.items third;
-      held = all-held c.args.stage.now c.facts.ensures old c.requires.space (values-width (g.P.Space.meaning c.args.space.now) c.args.stage.now Base c.args.base.now c.requires.space c.facts.ensures c.requires.base) c.args.base.now c.requires.base mid c.in_ok-some.ensures.kept c.in_ok-some.some.items first now c.in_ok-data_fronts.ensures.kept c.in_ok-data_fronts.field-0.items second new c.in_ok-both.ensures.kept c.in_ok-both.both.items third;
+      live = all-named c.args.stage.now c.facts.ensures old c.facts-2.ensures (values-width (g.P.Space.meaning c.args.space.now) c.args.stage.now Base c.args.base.now c.facts-2.ensures c.facts.ensures c.requires) c.args.base.now c.requires mid c.in_ok-some.ensures.kept c.in_ok-some.some.items first now c.in_ok-data_fronts.ensures.kept c.in_ok-data_fronts.field-0.items second new c.in_ok-both.ensures.kept c.in_ok-both.both.items third;
+      held = all-held c.args.stage.now c.facts.ensures old c.facts-2.ensures (values-width (g.P.Space.meaning c.args.space.now) c.args.stage.now Base c.args.base.now c.facts-2.ensures c.facts.ensures c.requires) c.args.base.now c.requires mid c.in_ok-some.ensures.kept c.in_ok-some.some.items first now c.in_ok-data_fronts.ensures.kept c.in_ok-data_fronts.field-0.items second new c.in_ok-both.ensures.kept c.in_ok-both.both.items third;
       kept = search rules;
-      space = search rules;
       full = search rules;
     }

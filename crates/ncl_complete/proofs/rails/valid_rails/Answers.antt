@@ -21,4 +21,4 @@ first_fault-requires-clause-both g c =
     subst (λ (order : List ℕ). HaveTables new c.in-Ok.refs.both.items (function_tables_by order (illegal_functions s (values_at s Base)))) (sym c.order.ensures) c.in-Ok.ensures.both
 
 pub first_fault-requires-clause-width : goal.first_fault-requires-clause-width
-first_fault-requires-clause-width g c = c.in-Ok.ensures.kept.width ∙ values-width (g.P.Space.meaning c.args.space.now) c.args.stage.now Base c.args.base.now c.mark-start.ensures.space c.facts.ensures c.requires.base
+first_fault-requires-clause-width g c = c.in-Ok.ensures.kept.width ∙ values-width (g.P.Space.meaning c.args.space.now) c.args.stage.now Base c.args.base.now c.mark-start.ensures.space c.facts.ensures c.requires

@@ -58,7 +58,7 @@ returns g c =
     let one : mid.table high ≡ net_table_by c.args.base.now.wiring.order s Base (get_or s.cells cell d).out.0 = c.in_ok-all.ensures.kept.tables high shown.0 ∙ shown.1 ∙ ap (λ xs. net_table_by c.args.base.now.wiring.order s Base (get_or xs cell d).out.0) cells in
     let last : List Bool = unobserved_table c.args.base.now.wiring.order s cell (get_or s.cells cell d) in
     let is : gate_table mid.width Th22 (mid.table high ∷ mid.table c.in_ok-all.all ∷ []) ≡ last =
-    (λ k. gate_table ((c.in_ok-all.ensures.kept.width ∙ (values-width (g.P.Space.meaning c.args.space.now) c.args.stage.now Base c.args.base.now c.requires.space c.facts.ensures c.requires.base)) k) Th22 (one k ∷ c.in_ok-all.ensures.table k ∷ [])) ∙ unobserved-made s c.args.base.now.wiring.order c.requires.base.wired.order cell (get_or s.cells cell d) in
+    (λ k. gate_table ((c.in_ok-all.ensures.kept.width ∙ (values-width (g.P.Space.meaning c.args.space.now) c.args.stage.now Base c.args.base.now c.facts-2.ensures c.facts.ensures c.requires.base)) k) Th22 (one k ∷ c.in_ok-all.ensures.table k ∷ [])) ∙ unobserved-made s c.args.base.now.wiring.order c.requires.base.wired.order cell (get_or s.cells cell d) in
     let along : fits mid (last ∷ []) ≡ fits old (tables_by c.args.base.now.wiring.order s (Cell cell)) =
     fits-along old mid (shared_tables_by c.args.base.now.wiring.order s (Cell cell)) (last ∷ []) c.in_ok-all.ensures.kept c.in_ok-all.ensures.held ∙ ap (fits old) (sym (cell-tables s c.args.base.now.wiring.order cell d c.requires.cell)) in
     record {
@@ -66,7 +66,6 @@ returns g c =
       least = IfOk-weaker c.apply.result _ (λ r. option_map (placed c.args.base.now.wiring.order) (least true (length s.inputs) ((g.P.Space.meaning c.apply.new.self).table r)) ≡ least_word_by c.args.base.now.wiring.order s (Orphan cell))
           (λ r made. ap (λ t. option_map (placed c.args.base.now.wiring.order) (least true (length s.inputs) t)) (made.table ∙ is) ∙ unobserved-least s c.args.base.now.wiring.order c.requires.base.wired.order cell d c.requires.cell) c.apply.ensures.made;
       kept = search rules;
-      space = search rules;
       full = λ e. sym along ∙ ap (λ t. fits mid (t ∷ [])) (sym is) ∙ c.apply.ensures.full e;
       fits = on_ok_weaker c.apply.result (λ e. sym along ∙ ap (λ t. fits mid (t ∷ [])) (sym is) ∙ e) c.apply.ensures.fits;
     }

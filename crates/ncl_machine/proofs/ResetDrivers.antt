@@ -12,13 +12,12 @@ use Rattle.ncl_gates.proofs.RegisterLaws.{by_register}
 use Rattle.ncl_netlist.specs.declared.ids.NetId.{NetId}
 use Rattle.ncl_netlist.specs.declared.cell.Cell.{Cell}
 use Rattle.ncl_netlist.specs.Netlist.{NetlistData, IsNetlist}
-use Rattle.ncl_cell_rules.specs.declared.origins.Origins.{Origins}
 use Rattle.ncl_cell_rules.specs.declared.source.Source.{Source}
 use Rattle.ncl_cell_rules.specs.declared.source.Source.TheVariants.{Port, Rail, Ack as FromAck, Many}
 use Rattle.ncl_cell_rules.specs.Origin.{CellAt, IsCell, B, AckOf, ComesFrom}
 use Rattle.ncl_cell_rules.specs.Free.{IsFree}
 use Rattle.ncl_cell_rules.specs.Sources.{IsSourceOf, source_at}
-use Rattle.ncl_cell_rules.specs.Origins.{AreOrigins}
+use Rattle.ncl_cell_rules.specs.Origins.{OriginsData, AreOrigins}
 use Rattle.ncl_cell_rules.proofs.DataBanks.{bank_of_mark, mark_of_bank}
 use Rattle.ncl_cell_rules.proofs.Drivers.{cell_fits, same_driver}
 use Rattle.ncl_cell_rules.proofs.OriginLaws.{ack_of_bank}
@@ -43,7 +42,7 @@ bank_within n is net bank is_source =
     let (r, of_r, on) = acks_it.2 in
     on_pin_within n is r of_r.0 B bank.0 of_r.2
 
-module _ {p : PipelineData} {l : Layout} (is : IsLayoutOf p l) (netlist : IsNetlist p.netlist) (free : IsFree p.netlist) (o : Origins) (are : AreOrigins p.netlist o) where
+module _ {p : PipelineData} {l : Layout} (is : IsLayoutOf p l) (netlist : IsNetlist p.netlist) (free : IsFree p.netlist) (o : OriginsData) (are : AreOrigins p.netlist o) where
   abbrev n : NetlistData
   n = p.netlist
 
@@ -60,28 +59,28 @@ module _ {p : PipelineData} {l : Layout} (is : IsLayoutOf p l) (netlist : IsNetl
       (and_from (is_data_register c.kind) _ resets (eq-eqb c.out.0 c.out.0 refl)))
 
   -- a bank is marked where it holds a word
-  marked : (k : ℕ) → (lt : k < l.last) → get_or o.data_banks.items (l.root (suc k)) false ≡ holds_word l k
+  marked : (k : ℕ) → (lt : k < l.last) → get_or o.data_banks (l.root (suc k)) false ≡ holds_word l k
   marked k lt =
       same_from_both _ _
-      (λ high. data-holds is k lt (bank_of_mark n o.data_banks.items are.data_banks (l.root (suc k)) inside high))
-      (λ some. mark_of_bank n o.data_banks.items are.data_banks (l.root (suc k)) inside (holds-data is k lt some))
+      (λ high. data-holds is k lt (bank_of_mark n o.data_banks are.data_banks (l.root (suc k)) inside high))
+      (λ some. mark_of_bank n o.data_banks are.data_banks (l.root (suc k)) inside (holds-data is k lt some))
     where
       inside : l.root (suc k) < length n.nets
       inside = is.tree_within (suc k) (l.root (suc k)) lt (root-listed is (suc k) lt)
 
   -- what an acknowledge or completion cell has at reset
-  tree-asks : (k : ℕ) (c : Cell) → k < l.last → Member c (l.tree k) → asks_for_data o.data_banks.items (source_at o.sources.items c.out.0) ≡ not (holds_word l k)
+  tree-asks : (k : ℕ) (c : Cell) → k < l.last → Member c (l.tree k) → asks_for_data o.data_banks (source_at o.sources c.out.0) ≡ not (holds_word l k)
   tree-asks k c lt m =
-      by (source_at o.sources.items c.out.0) (are.sources.each c.out.0 (cell_fits n netlist c (is.tree_cell k c lt m).0).output)
+      by (source_at o.sources c.out.0) (are.sources.each c.out.0 (cell_fits n netlist c (is.tree_cell k c lt m).0).output)
     where
       origin : ComesFrom n c.out.0 (AckOf (l.root (suc k)))
       origin = is.tree_origin k c lt m
 
-      by : (s : Source) → IsSourceOf n c.out.0 s → asks_for_data o.data_banks.items s ≡ not (holds_word l k)
+      by : (s : Source) → IsSourceOf n c.out.0 s → asks_for_data o.data_banks s ≡ not (holds_word l k)
       by (FromAck bank) only =
           let clash : AckOf (l.root (suc k)) ≡ AckOf bank.0 = only.only (AckOf (l.root (suc k))) origin in
           let same : l.root (suc k) ≡ bank.0 = cc in
-          ap (λ x. not (get_or o.data_banks.items x false)) (sym same) ∙ ap not (marked k lt)
+          ap (λ x. not (get_or o.data_banks x false)) (sym same) ∙ ap not (marked k lt)
       by (Rail bank) only = let clash = only.only (AckOf (l.root (suc k))) origin in absurd cc
       by Port only = let clash = only.only (AckOf (l.root (suc k))) origin in absurd cc
       by Many two = absurd (two.differ (one_origin n netlist free c.out.0 two.one two.two two.is_one two.is_two))
@@ -118,24 +117,24 @@ module _ {p : PipelineData} {l : Layout} (is : IsLayoutOf p l) (netlist : IsNetl
 
       by_part : Part l c → cell_starts_high o c ≡ (data_nets n c.out.0 || tree_nets n c.out.0)
       by_part (of_stage k g le m same) =
-          ap (starts_high o.data_banks.items (source_at o.sources.items c.out.0)) same.kind
-          ∙ by_source (source_at o.sources.items c.out.0) (are.sources.each c.out.0 (cell_fits n netlist c in_c).output)
+          ap (starts_high o.data_banks (source_at o.sources c.out.0)) same.kind
+          ∙ by_source (source_at o.sources c.out.0) (are.sources.each c.out.0 (cell_fits n netlist c in_c).output)
           ∙ sym (either _ _ false false (own-data c in_c ∙ ap is_data_register same.kind) (no-tree k c.out.0 le (subst (λ x. Member x (stage_nets l k)) (sym same.out) (gate-listed (l.stage k) g m))))
         where
-          by_source : (s : Source) → IsSourceOf n c.out.0 s → asks_for_data o.data_banks.items s ≡ false
+          by_source : (s : Source) → IsSourceOf n c.out.0 s → asks_for_data o.data_banks s ≡ false
           by_source (FromAck bank) only = absurd (is.gate_origin k bank.0 g le m (subst (λ x. ComesFrom n x (AckOf bank.0)) same.out only.comes))
           by_source (Rail bank) only = refl
           by_source Port only = refl
           by_source Many two = refl
       by_part (of_bank k j r lt within on) =
-          by_register (λ q. starts_high o.data_banks.items (source_at o.sources.items c.out.0) q ≡ is_data_register q) refl refl c.kind on.register
+          by_register (λ q. starts_high o.data_banks (source_at o.sources c.out.0) q ≡ is_data_register q) refl refl c.kind on.register
           ∙ sym (either _ _ (is_data_register c.kind) false (own-data c in_c) (no-tree (suc k) c.out.0 lt (subst (λ x. Member x (stage_nets l (suc k))) (sym on.out) (rail-listed (l.stage (suc k)) j r within))) ∙ or_none (is_data_register c.kind))
       by_part (of_tree k lt m) = by_sort (is.tree_cell k c lt m).1
         where
-          as_asked : (q : CellKind) → c.kind ≡ q → is_data_register q ≡ false → starts_high o.data_banks.items (source_at o.sources.items c.out.0) q ≡ asks_for_data o.data_banks.items (source_at o.sources.items c.out.0)
+          as_asked : (q : CellKind) → c.kind ≡ q → is_data_register q ≡ false → starts_high o.data_banks (source_at o.sources c.out.0) q ≡ asks_for_data o.data_banks (source_at o.sources c.out.0)
               → cell_starts_high o c ≡ (data_nets n c.out.0 || tree_nets n c.out.0)
           as_asked q kind plain starts =
-              ap (starts_high o.data_banks.items (source_at o.sources.items c.out.0)) kind ∙ starts ∙ tree-asks k c lt m
+              ap (starts_high o.data_banks (source_at o.sources c.out.0)) kind ∙ starts ∙ tree-asks k c lt m
               ∙ sym (either _ _ false (not (holds_word l k)) (own-data c in_c ∙ ap is_data_register kind ∙ plain) (tree-net k c lt m))
 
           by_sort : TreePart l k c → cell_starts_high o c ≡ (data_nets n c.out.0 || tree_nets n c.out.0)
@@ -181,6 +180,6 @@ module _ {p : PipelineData} {l : Layout} (is : IsLayoutOf p l) (netlist : IsNetl
       turned : nat_eq p.ki net ≡ nat_eq net p.ki
       turned = same_from_both _ _ (λ e. eq-eqb net p.ki (sym (eqb-true p.ki net e))) (λ e. eq-eqb p.ki net (sym (eqb-true net p.ki e)))
 
-pub reset_by_drivers : (p : PipelineData) → Shape p.netlist p → (o : Origins) → AreOrigins p.netlist o → (net : ℕ)
+pub reset_by_drivers : (p : PipelineData) → Shape p.netlist p → (o : OriginsData) → AreOrigins p.netlist o → (net : ℕ)
     → cond (nat_eq p.ki net) true (driven_high o p.netlist.cells net) ≡ reset_nets p net
 reset_by_drivers p shape o are net = let (l, is) = laid_out_of p.netlist p shape in reset_at is shape.is_netlist shape.free o are net

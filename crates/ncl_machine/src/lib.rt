@@ -15,6 +15,5 @@ mod step_fault;
 
 pub use ncl_shape::Item;
 pub use pair::Pair;
-pub use reset::origins_of;
 pub use state::State;
 pub use step_fault::StepFault;

@@ -7,7 +7,7 @@ use crate::timing::Timing;
 use ncl_base::Memory;
 use ncl_cells::{Leaves, Offer, table_over};
 use ncl_network::{Network, Node, Signal, SignalSource};
-use ncl_template::{Waits, least_waits, levels, offered};
+use ncl_template::{Waits, is_offered, least_waits, levels};
 use std::alloc::Global;
 
 /// What has become of a node.
@@ -196,7 +196,7 @@ impl Joiner {
     fn gates(&self, alloc: Global, sources: &Sources, table: u16) -> Result<Option<Pair>, Memory> {
         let signals = sources.signals();
         let needed = self.needed(&signals[..sources.count.min(4)]);
-        if offered(sources.count, table, needed).is_none() {
+        if !is_offered(sources.count, table, needed) {
             return Ok(None);
         }
         let node = node_of(alloc, sources, table)?;

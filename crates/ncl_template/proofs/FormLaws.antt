@@ -16,7 +16,7 @@ use Rattle.ncl_template.specs.declared.form.FormPin.TheVariants.{Zero, One, Inne
 use Rattle.ncl_template.specs.declared.form.FormGate.{FormGate}
 use Rattle.ncl_template.specs.declared.form.Form.{Form}
 use Rattle.ncl_template.specs.Template.{Shows, IsNull, ShowWord}
-use Rattle.ncl_template.specs.Forms.{pin_bit, gate_bit, IsFormPin, IsFormGate, IsForm, FitsWord, Fits, no_pair, pin_net, IsGateOf}
+use Rattle.ncl_template.specs.Forms.{pin_bit, gate_bit, IsFormPin, IsFormGate, IsForm, FitsWord, Fits, no_net, no_pair, pin_net, IsGateOf}
 use Rattle.ncl_template.proofs.Groups.{ShowWord-length}
 use Rattle.ncl_template.proofs.InputLeaves.{shown_nets}
 
@@ -29,15 +29,15 @@ shown_place v (r ∷ ins) [] shown k lt = absurd shown
 shown_place v (r ∷ ins) (b ∷ word) shown zero lt = shown.0
 shown_place v (r ∷ ins) (b ∷ word) shown (suc k) lt = shown_place v ins word shown.1 k (omega (arith, lt))
 
-not_same : (k n : ℕ) → k < n → nat_eq k n ≡ false
+pub not_same : (k n : ℕ) → k < n → nat_eq k n ≡ false
 not_same k n lt = false_from_ne_true (nat_eq k n) (λ same. let is : k ≡ n = eqb-true k n same in absurd (omega (arith, lt, is)))
 
 -- a bit that is asked where the pin is not on the NULL input
-asked : (null x y : Bool) → null ≡ false → x ≡ y → x ≡ (not null && y)
+pub asked : (null x y : Bool) → null ≡ false → x ≡ y → x ≡ (not null && y)
 asked true x y off same = absurd cc
 asked false x y off same = same
 
-asked_up : (null y : Bool) → null ≡ false → y ≡ true → (not null && y) ≡ true
+pub asked_up : (null y : Bool) → null ≡ false → y ≡ true → (not null && y) ≡ true
 asked_up true y off up = absurd cc
 asked_up false y off up = up
 
@@ -59,23 +59,23 @@ module _ (v : Nets) (net : FormPin → NetId) (bit : FormPin → Bool) where
       both_ways (set_of gate.kind (map bit gate.pins.items)) unset
       (set_of-monotone gate.kind (pin_values v (map net gate.pins.items)) (map bit gate.pins.items) (record { same_length = as_many gate.pins.items; rises = rises gate.pins.items each }) up))
 
-module _ (ins : List Rails) (word : List Bool) (inner : NetId) where
-  -- where the inputs show a word and the inner gate has a bit
-  module _ (base : Nets) (shown : ShowWord base ins word) (b : Bool) (has : Bool) (inner_is : has ≡ true → base inner.0 ≡ b) where
-    pin_shown : (p : FormPin) → IsFormPin (length ins) has p → base (pin_net ins inner p).0 ≡ pin_bit word (length word) b p
+module _ (ins : List Rails) (word : List Bool) (inner : List NetId) where
+  -- where the inputs show a word and the inner gates have these bits
+  module _ (base : Nets) (shown : ShowWord base ins word) (bits : List Bool) (count : ℕ) (inner_is : (k : ℕ) → k < count → base (get_or inner k no_net).0 ≡ get_or bits k false) where
+    pin_shown : (p : FormPin) → IsFormPin (length ins) count p → base (pin_net ins inner p).0 ≡ pin_bit word (length word) bits p
     pin_shown (Zero k) lt = asked (nat_eq k (length word)) _ _ (not_same k (length word) (omega (arith, lt, ShowWord-length base ins word shown))) (shown_nets base (get_or ins k no_pair) (get_or word k false) (shown_place base ins word shown k lt)).0
     pin_shown (One k) lt = asked (nat_eq k (length word)) _ _ (not_same k (length word) (omega (arith, lt, ShowWord-length base ins word shown))) (shown_nets base (get_or ins k no_pair) (get_or word k false) (shown_place base ins word shown k lt)).1
-    pin_shown Inner is = inner_is is
+    pin_shown (Inner k) lt = inner_is k lt
 
-    pub pins_shown : (pins : List FormPin) → ((p : FormPin) → Member p pins → IsFormPin (length ins) has p) → pin_values base (map (pin_net ins inner) pins) ≡ map (pin_bit word (length word) b) pins
+    pub pins_shown : (pins : List FormPin) → ((p : FormPin) → Member p pins → IsFormPin (length ins) count p) → pin_values base (map (pin_net ins inner) pins) ≡ map (pin_bit word (length word) bits) pins
     pins_shown [] are = refl
     pins_shown (p ∷ pins) are =
         let first = pin_shown p (are p here) in
         let rest = pins_shown pins (λ q m. are q (there m)) in
         λ i. first i ∷ rest i
 
-  -- below such values, where the input at a place is NULL if there is one, and the inner gate is no higher than a bit
-  module _ (base v : Nets) (below : IsBelow v base) (shown : ShowWord base ins word) (null : ℕ) (is : null < length ins → IsNull v (get_or ins null no_pair)) (b : Bool) (has : Bool) (inner_is : has ≡ true → v inner.0 ≡ true → b ≡ true) where
+  -- below such values, where the input at a place is NULL if there is one, and the inner gates are no higher than these bits
+  module _ (base v : Nets) (below : IsBelow v base) (shown : ShowWord base ins word) (null : ℕ) (is : null < length ins → IsNull v (get_or ins null no_pair)) (bits : List Bool) (count : ℕ) (inner_is : (k : ℕ) → k < count → v (get_or inner k no_net).0 ≡ true → get_or bits k false ≡ true) where
     -- a pin that is high is not on the NULL input
     other : (k : ℕ) (net : ℕ) → k < length ins → (IsNull v (get_or ins k no_pair) → v net ≡ false) → v net ≡ true → nat_eq k null ≡ false
     other k net lt low up =
@@ -84,18 +84,18 @@ module _ (ins : List Rails) (word : List Bool) (inner : NetId) where
         let within : null < length ins = omega (arith, lt, at) in
         absurd (both_ways (v net) (low (subst (λ n. IsNull v (get_or ins n no_pair)) (sym at) (is within))) up))
 
-    pub pin_rises : (p : FormPin) → IsFormPin (length ins) has p → v (pin_net ins inner p).0 ≡ true → pin_bit word null b p ≡ true
+    pub pin_rises : (p : FormPin) → IsFormPin (length ins) count p → v (pin_net ins inner p).0 ≡ true → pin_bit word null bits p ≡ true
     pin_rises (Zero k) lt up = asked_up (nat_eq k null) _ (other k (get_or ins k no_pair).zero.0 lt (λ low. low.zero) up) (sym (shown_nets base (get_or ins k no_pair) (get_or word k false) (shown_place base ins word shown k lt)).0 ∙ below (get_or ins k no_pair).zero.0 up)
     pin_rises (One k) lt up = asked_up (nat_eq k null) _ (other k (get_or ins k no_pair).one.0 lt (λ low. low.one) up) (sym (shown_nets base (get_or ins k no_pair) (get_or word k false) (shown_place base ins word shown k lt)).1 ∙ below (get_or ins k no_pair).one.0 up)
-    pin_rises Inner there_is up = inner_is there_is up
+    pin_rises (Inner k) lt up = inner_is k lt up
 
     -- a gate that is not set at the bits is not set
-    pub pins_unset : (gate : FormGate) (c : StageCell) → IsGateOf ins inner gate c → ((p : FormPin) → Member p gate.pins.items → IsFormPin (length ins) has p) → gate_bit word null b gate ≡ false → holds v c ≡ false
-    pins_unset gate c gate_is are unset = gate_unset v (pin_net ins inner) (pin_bit word null b) gate c gate_is.kind gate_is.ins_are (λ p m. pin_rises p (are p m)) unset
+    pub pins_unset : (gate : FormGate) (c : StageCell) → IsGateOf ins inner gate c → ((p : FormPin) → Member p gate.pins.items → IsFormPin (length ins) count p) → gate_bit word null bits gate ≡ false → holds v c ≡ false
+    pins_unset gate c gate_is are unset = gate_unset v (pin_net ins inner) (pin_bit word null bits) gate c gate_is.kind gate_is.ins_are (λ p m. pin_rises p (are p m)) unset
 
 -- each pin is one that a gate may have
-pub all_pins : (inputs : ℕ) (has : Bool) (gate : FormGate) → IsFormGate inputs has gate → (p : FormPin) → Member p gate.pins.items → IsFormPin inputs has p
-all_pins inputs has gate of p m = All-contains (IsFormPin inputs has) gate.pins.items p of.pins (Contains-from_Member p m)
+pub all_pins : (inputs inner : ℕ) (gate : FormGate) → IsFormGate inputs inner gate → (p : FormPin) → Member p gate.pins.items → IsFormPin inputs inner p
+all_pins inputs inner gate of p m = All-contains (IsFormPin inputs inner) gate.pins.items p of.pins (Contains-from_Member p m)
 
 -- ---- words
 

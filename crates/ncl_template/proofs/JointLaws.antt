@@ -1,7 +1,7 @@
 -- Gates that fit jointly are a template among the cells beside which they fit.
 use Rattle.std.proofs.Common.{◌≡◌, ℕ, zero, suc, ◌<◌, Bool, true, false, List, [], ◌∷◌, length, take, get_or, inl, inr, refl, sym, ap, subst, ◌∙◌, arith}
 use Rattle.std.specs.Prelude.{Contains}
-use Rattle.std.proofs.lemmas.Bool.{both_ways, cases_lt}
+use Rattle.std.proofs.lemmas.Bool.{both_ways, true_from_ne_false, cases_lt}
 use Rattle.ncl_base.proofs.Members.{Member, here, Member-append_left, Member-append_right, Contains-from_Member, Member-from_Contains}
 use Rattle.ncl_netlist.specs.declared.ids.NetId.{NetId}
 use Rattle.ncl_shape.specs.declared.rails.Rails.{Rails}
@@ -19,18 +19,13 @@ use Rattle.ncl_template.specs.Template.{IsNull, ShowWord, IsCase}
 use Rattle.ncl_template.specs.Among.{AddsAmong}
 use Rattle.ncl_template.specs.Formed.{AddsTemplate}
 use Rattle.ncl_template.specs.Waits.{waits_at, waits_once, no_inputs}
-use Rattle.ncl_template.specs.Forms.{pin_bit, gate_bit, IsFormPin, IsFormGate, has_inner, no_net, no_pair, pin_net, IsGateOf, AddsForm}
+use Rattle.ncl_template.specs.Forms.{pin_bit, gate_bit, IsFormPin, IsFormGate, IsBehind, no_pair, pin_net, IsGateOf, AddsForm}
 use Rattle.ncl_template.specs.Joint.{IsGateAmong, IsPairAmong, joint_pin, joint_bit, FitsJointly}
 use Rattle.ncl_template.proofs.Trees.{low_from_unset}
 use Rattle.ncl_template.proofs.WaitsLaws.{once_at}
 use Rattle.ncl_template.proofs.FormLaws.{gate_unset, pin_rises, pins_unset, all_pins}
 use Rattle.ncl_template.proofs.FormGates.{AddsTemplate-form}
 use Rattle.ncl_template.proofs.AmongLaws.{AddsAmong-from}
-
--- what is not false is true
-raised : (b : Bool) → (b ≡ false → ⊥) → b ≡ true
-raised true rises = refl
-raised false rises = absurd (rises refl)
 
 -- ---- over four inputs
 
@@ -40,35 +35,35 @@ module _ (cells : List StageCell) (a b c k : Rails) (x y z t : Bool) (base v : N
   first_shown = (case.shown.0, (case.shown.1.0, (case.shown.1.1.0, tt)))
 
   -- a gate of the last is high only where its bit is
-  last_rises : (net : NetId) (gate : FormGate) → IsGateAmong cells (a ∷ b ∷ c ∷ []) net gate → v net.0 ≡ true → gate_bit (x ∷ y ∷ z ∷ []) null false gate ≡ true
+  last_rises : (net : NetId) (gate : FormGate) → IsGateAmong cells (a ∷ b ∷ c ∷ []) net gate → v net.0 ≡ true → gate_bit (x ∷ y ∷ z ∷ []) null [] gate ≡ true
   last_rises net gate of up =
-      raised (gate_bit (x ∷ y ∷ z ∷ []) null false gate)
+      true_from_ne_false (gate_bit (x ∷ y ∷ z ∷ []) null [] gate)
       (λ unset.
       both_ways (holds v of.cell)
-      (pins_unset (a ∷ b ∷ c ∷ []) (x ∷ y ∷ z ∷ []) no_net base v case.below first_shown null is false false (λ has. absurd cc) gate of.cell of.is (all_pins 3 false gate of.fit) unset)
+      (pins_unset (a ∷ b ∷ c ∷ []) (x ∷ y ∷ z ∷ []) [] base v case.below first_shown null is [] 0 (λ k lt. absurd (omega (arith, lt))) gate of.cell of.is (all_pins 3 0 gate of.fit) unset)
       (case.supported.each of.cell of.among (ap (λ (n : NetId). v n.0) of.drives ∙ up)))
 
-  first_rises : (p : FormPin) → IsFormPin 3 false p → v (pin_net (a ∷ b ∷ c ∷ []) no_net p).0 ≡ true → pin_bit (x ∷ y ∷ z ∷ []) null false p ≡ true
-  first_rises = pin_rises (a ∷ b ∷ c ∷ []) (x ∷ y ∷ z ∷ []) no_net base v case.below first_shown null is false false (λ has. absurd cc)
+  first_rises : (p : FormPin) → IsFormPin 3 0 p → v (pin_net (a ∷ b ∷ c ∷ []) [] p).0 ≡ true → pin_bit (x ∷ y ∷ z ∷ []) null [] p ≡ true
+  first_rises = pin_rises (a ∷ b ∷ c ∷ []) (x ∷ y ∷ z ∷ []) [] base v case.below first_shown null is [] 0 (λ k lt. absurd (omega (arith, lt)))
 
-  pin : (net : NetId) (p : FormPin) → IsFormPin 4 false p → v (pin_net (a ∷ b ∷ c ∷ k ∷ []) net p).0 ≡ true → joint_pin low high (x ∷ y ∷ z ∷ []) null p ≡ true
-  pin net (Zero zero) lt up = first_rises (Zero 0) (omega arith) up
-  pin net (Zero (suc zero)) lt up = first_rises (Zero 1) (omega arith) up
-  pin net (Zero (suc (suc zero))) lt up = first_rises (Zero 2) (omega arith) up
-  pin net (Zero (suc (suc (suc zero)))) lt up = last_rises k.zero low last.of_zero up
-  pin net (Zero (suc (suc (suc (suc n))))) lt up = absurd (omega (arith, lt))
-  pin net (One zero) lt up = first_rises (One 0) (omega arith) up
-  pin net (One (suc zero)) lt up = first_rises (One 1) (omega arith) up
-  pin net (One (suc (suc zero))) lt up = first_rises (One 2) (omega arith) up
-  pin net (One (suc (suc (suc zero)))) lt up = last_rises k.one high last.of_one up
-  pin net (One (suc (suc (suc (suc n))))) lt up = absurd (omega (arith, lt))
-  pin net Inner is up = absurd cc
+  pin : (nets : List NetId) (p : FormPin) → IsFormPin 4 0 p → v (pin_net (a ∷ b ∷ c ∷ k ∷ []) nets p).0 ≡ true → joint_pin low high (x ∷ y ∷ z ∷ []) null p ≡ true
+  pin nets (Zero zero) lt up = first_rises (Zero 0) (omega arith) up
+  pin nets (Zero (suc zero)) lt up = first_rises (Zero 1) (omega arith) up
+  pin nets (Zero (suc (suc zero))) lt up = first_rises (Zero 2) (omega arith) up
+  pin nets (Zero (suc (suc (suc zero)))) lt up = last_rises k.zero low last.of_zero up
+  pin nets (Zero (suc (suc (suc (suc n))))) lt up = absurd (omega (arith, lt))
+  pin nets (One zero) lt up = first_rises (One 0) (omega arith) up
+  pin nets (One (suc zero)) lt up = first_rises (One 1) (omega arith) up
+  pin nets (One (suc (suc zero))) lt up = first_rises (One 2) (omega arith) up
+  pin nets (One (suc (suc (suc zero)))) lt up = last_rises k.one high last.of_one up
+  pin nets (One (suc (suc (suc (suc n))))) lt up = absurd (omega (arith, lt))
+  pin nets (Inner n) lt up = absurd (omega (arith, lt))
 
   -- a gate that is not set at the bits is low
-  rail_low : (net : NetId) (gate : FormGate) (g : StageCell) → IsGateOf (a ∷ b ∷ c ∷ k ∷ []) net gate g → IsFormGate 4 false gate → Contains cells g → joint_bit low high (x ∷ y ∷ z ∷ []) null gate ≡ false → v (out_of g) ≡ false
-  rail_low net gate g of fit among unset =
+  rail_low : (nets : List NetId) (gate : FormGate) (g : StageCell) → IsGateOf (a ∷ b ∷ c ∷ k ∷ []) nets gate g → IsFormGate 4 0 gate → Contains cells g → joint_bit low high (x ∷ y ∷ z ∷ []) null gate ≡ false → v (out_of g) ≡ false
+  rail_low nets gate g of fit among unset =
       low_from_unset v g (case.supported.each g among)
-      (gate_unset v (pin_net (a ∷ b ∷ c ∷ k ∷ []) net) (joint_pin low high (x ∷ y ∷ z ∷ []) null) gate g of.kind of.ins_are (λ p m. pin net p (all_pins 4 false gate fit p m)) unset)
+      (gate_unset v (pin_net (a ∷ b ∷ c ∷ k ∷ []) nets) (joint_pin low high (x ∷ y ∷ z ∷ []) null) gate g of.kind of.ins_are (λ p m. pin nets p (all_pins 4 0 gate fit p m)) unset)
 
 -- ---- over the inputs as a list
 
@@ -79,19 +74,19 @@ first_null v a b c k (suc zero) is lt = is
 first_null v a b c k (suc (suc zero)) is lt = is
 first_null v a b c k (suc (suc (suc n))) is lt = absurd (omega (arith, lt))
 
-rail_of_four : (ins : List Rails) (word : List Bool) (cells : List StageCell) (base v : Nets) → length ins ≡ 4 → IsCase base v ins cells word → (low high : FormGate) → IsPairAmong cells (take 3 ins) (get_or ins 3 no_pair) low high → (null : ℕ) → IsNull v (get_or ins null no_pair) → (net : NetId) (gate : FormGate) (g : StageCell) → IsGateOf ins net gate g → IsFormGate (length ins) false gate → Contains cells g → ((first : List Bool) → length first ≡ 3 → joint_bit low high first null gate ≡ false) → v (out_of g) ≡ false
-rail_of_four [] word cells base v four case low high last null is net gate g of fit among unset = absurd (omega (arith, four))
-rail_of_four (a ∷ []) word cells base v four case low high last null is net gate g of fit among unset = absurd (omega (arith, four))
-rail_of_four (a ∷ b ∷ []) word cells base v four case low high last null is net gate g of fit among unset = absurd (omega (arith, four))
-rail_of_four (a ∷ b ∷ c ∷ []) word cells base v four case low high last null is net gate g of fit among unset = absurd (omega (arith, four))
-rail_of_four (a ∷ b ∷ c ∷ k ∷ e ∷ ins) word cells base v four case low high last null is net gate g of fit among unset = absurd (omega (arith, four))
-rail_of_four (a ∷ b ∷ c ∷ k ∷ []) [] cells base v four case low high last null is net gate g of fit among unset = absurd case.shown
-rail_of_four (a ∷ b ∷ c ∷ k ∷ []) (x ∷ []) cells base v four case low high last null is net gate g of fit among unset = absurd case.shown.1
-rail_of_four (a ∷ b ∷ c ∷ k ∷ []) (x ∷ y ∷ []) cells base v four case low high last null is net gate g of fit among unset = absurd case.shown.1.1
-rail_of_four (a ∷ b ∷ c ∷ k ∷ []) (x ∷ y ∷ z ∷ []) cells base v four case low high last null is net gate g of fit among unset = absurd case.shown.1.1.1
-rail_of_four (a ∷ b ∷ c ∷ k ∷ []) (x ∷ y ∷ z ∷ t ∷ u ∷ word) cells base v four case low high last null is net gate g of fit among unset = absurd case.shown.1.1.1.1
-rail_of_four (a ∷ b ∷ c ∷ k ∷ []) (x ∷ y ∷ z ∷ t ∷ []) cells base v four case low high last null is net gate g of fit among unset =
-    rail_low cells a b c k x y z t base v case low high last null (first_null v a b c k null is) net gate g of fit among (unset (x ∷ y ∷ z ∷ []) refl)
+rail_of_four : (ins : List Rails) (word : List Bool) (cells : List StageCell) (base v : Nets) → length ins ≡ 4 → IsCase base v ins cells word → (low high : FormGate) → IsPairAmong cells (take 3 ins) (get_or ins 3 no_pair) low high → (null : ℕ) → IsNull v (get_or ins null no_pair) → (nets : List NetId) (gate : FormGate) (g : StageCell) → IsGateOf ins nets gate g → IsFormGate (length ins) 0 gate → Contains cells g → ((first : List Bool) → length first ≡ 3 → joint_bit low high first null gate ≡ false) → v (out_of g) ≡ false
+rail_of_four [] word cells base v four case low high last null is nets gate g of fit among unset = absurd (omega (arith, four))
+rail_of_four (a ∷ []) word cells base v four case low high last null is nets gate g of fit among unset = absurd (omega (arith, four))
+rail_of_four (a ∷ b ∷ []) word cells base v four case low high last null is nets gate g of fit among unset = absurd (omega (arith, four))
+rail_of_four (a ∷ b ∷ c ∷ []) word cells base v four case low high last null is nets gate g of fit among unset = absurd (omega (arith, four))
+rail_of_four (a ∷ b ∷ c ∷ k ∷ e ∷ ins) word cells base v four case low high last null is nets gate g of fit among unset = absurd (omega (arith, four))
+rail_of_four (a ∷ b ∷ c ∷ k ∷ []) [] cells base v four case low high last null is nets gate g of fit among unset = absurd case.shown
+rail_of_four (a ∷ b ∷ c ∷ k ∷ []) (x ∷ []) cells base v four case low high last null is nets gate g of fit among unset = absurd case.shown.1
+rail_of_four (a ∷ b ∷ c ∷ k ∷ []) (x ∷ y ∷ []) cells base v four case low high last null is nets gate g of fit among unset = absurd case.shown.1.1
+rail_of_four (a ∷ b ∷ c ∷ k ∷ []) (x ∷ y ∷ z ∷ []) cells base v four case low high last null is nets gate g of fit among unset = absurd case.shown.1.1.1
+rail_of_four (a ∷ b ∷ c ∷ k ∷ []) (x ∷ y ∷ z ∷ t ∷ u ∷ word) cells base v four case low high last null is nets gate g of fit among unset = absurd case.shown.1.1.1.1
+rail_of_four (a ∷ b ∷ c ∷ k ∷ []) (x ∷ y ∷ z ∷ t ∷ []) cells base v four case low high last null is nets gate g of fit among unset =
+    rail_low cells a b c k x y z t base v case low high last null (first_null v a b c k null is) nets gate g of fit among (unset (x ∷ y ∷ z ∷ []) refl)
 
 pair_more : (cells all : List StageCell) (ins : List Rails) (pair : Rails) (low high : FormGate) → ((c : StageCell) → Contains cells c → Contains all c) → IsPairAmong cells ins pair low high → IsPairAmong all ins pair low high
 pair_more cells all ins pair low high within last = record { of_zero = more pair.zero low last.of_zero; of_one = more pair.one high last.of_one }
@@ -118,8 +113,8 @@ module _ (f : List Bool → Bool) (ins : List Rails) (w : Waits) (form : Form) (
       let m : Member adds.one.cell (adds.one.cell ∷ []) = here in
       Contains-from_Member adds.one.cell (subst (Member adds.one.cell) (sym adds.one.added) (Member-append_right adds.then adds.one.cell m))
 
-  flat : (gate : FormGate) → IsFormGate (length ins) (has_inner form.inner) gate → IsFormGate (length ins) false gate
-  flat gate of = subst (λ has. IsFormGate (length ins) has gate) joint.flat of
+  flat : (gate : FormGate) → IsBehind (length ins) form.inner.items gate → IsFormGate (length ins) 0 gate
+  flat gate of = subst (λ n. IsFormGate (length ins) n gate) joint.flat of.fit
 
   needs : (base v : Nets) (word : List Bool) → IsCase base v ins after word → (k : ℕ) → k < length ins → waits_at w word k ≡ true → IsNull v (get_or ins k no_pair) → IsNull v out
   needs base v word case k lt passes is =
@@ -134,10 +129,10 @@ module _ (f : List Bool → Bool) (ins : List Rails) (w : Waits) (form : Form) (
       record {
         zero =
             sym (ap (λ (n : NetId). v n.0) adds.zero.drives)
-            ∙ rail_of_four ins word after base v joint.four case joint.zero joint.one last k is adds.net form.zero adds.zero.cell adds.zero.is (flat form.zero joint.fits.is.zero) zero_in (λ bits three. joint.of_zero bits three k (omega (arith, early, three)) once);
+            ∙ rail_of_four ins word after base v joint.four case joint.zero joint.one last k is adds.nets form.zero adds.zero.cell adds.zero.is (flat form.zero joint.fits.is.zero) zero_in (λ bits three. joint.of_zero bits three k (omega (arith, early, three)) once);
         one =
             sym (ap (λ (n : NetId). v n.0) adds.one.drives)
-            ∙ rail_of_four ins word after base v joint.four case joint.zero joint.one last k is adds.net form.one adds.one.cell adds.one.is (flat form.one joint.fits.is.one) one_in (λ bits three. joint.of_one bits three k (omega (arith, early, three)) once);
+            ∙ rail_of_four ins word after base v joint.four case joint.zero joint.one last k is adds.nets form.one adds.one.cell adds.one.is (flat form.one joint.fits.is.one) one_in (λ bits three. joint.of_one bits three k (omega (arith, early, three)) once);
       }
 
   -- the gates of a form that fits jointly are a template among the cells

@@ -1,6 +1,6 @@
 -- Joint waiting: gates over four inputs, the last of which is shown by two gates over the others, so that together they
 -- wait for these.
-use Rattle.std.specs.Prelude.{◌≡◌, ℕ, ◌<◌, ◌==◌, List, Bool, true, false, if◌then◌else◌, length, map, take, Contains}
+use Rattle.std.specs.Prelude.{◌≡◌, ℕ, ◌<◌, ◌==◌, List, [], Bool, true, false, if◌then◌else◌, length, map, take, Contains}
 use Rattle.std.specs.List.{slice_index_or}
 use Rattle.ncl_gates.specs.Gate.{set_of}
 use Rattle.ncl_netlist.specs.declared.ids.NetId.{NetId}
@@ -11,15 +11,15 @@ use Rattle.ncl_template.specs.declared.form.FormPin.TheVariants.{Zero, One, Inne
 use Rattle.ncl_template.specs.declared.form.FormGate.{FormGate}
 use Rattle.ncl_template.specs.declared.form.Form.{Form}
 use Rattle.ncl_template.specs.Waits.{waits_at, no_inputs}
-use Rattle.ncl_template.specs.Forms.{pin_bit, gate_bit, has_inner, IsFormGate, Fits, no_net, no_pair, IsGateOf}
+use Rattle.ncl_template.specs.Forms.{pin_bit, gate_bit, IsFormGate, Fits, no_pair, IsGateOf}
 
 -- one of some cells drives a net, and is this gate over some pairs
 pub record IsGateAmong (cells : List StageCell) (ins : List Rails) (net : NetId) (gate : FormGate) : Type 0 where
   pub cell : StageCell
   pub among : Contains cells cell
   pub drives : cell.out ≡ net
-  pub is : IsGateOf ins no_net gate cell
-  pub fit : IsFormGate (length ins) false gate
+  pub is : IsGateOf ins [] gate cell
+  pub fit : IsFormGate (length ins) 0 gate
 
 -- the two gates of a pair
 pub record IsPairAmong (cells : List StageCell) (ins : List Rails) (pair : Rails) (zero one : FormGate) : Type 0 where
@@ -29,9 +29,9 @@ pub record IsPairAmong (cells : List StageCell) (ins : List Rails) (pair : Rails
 -- the bit on a pin where the first inputs show a word, but the one at a place is NULL, and the last input is shown by
 -- two gates over these
 abbrev pub joint_pin : FormGate → FormGate → List Bool → ℕ → FormPin → Bool
-joint_pin zero one word null (Zero place) = if place == length word then gate_bit word null false zero else pin_bit word null false (Zero place)
-joint_pin zero one word null (One place) = if place == length word then gate_bit word null false one else pin_bit word null false (One place)
-joint_pin zero one word null Inner = false
+joint_pin zero one word null (Zero place) = if place == length word then gate_bit word null [] zero else pin_bit word null [] (Zero place)
+joint_pin zero one word null (One place) = if place == length word then gate_bit word null [] one else pin_bit word null [] (One place)
+joint_pin zero one word null (Inner place) = false
 
 -- whether a gate is set there
 abbrev pub joint_bit : FormGate → FormGate → List Bool → ℕ → FormGate → Bool
@@ -39,9 +39,9 @@ joint_bit zero one word null gate = set_of gate.kind (map (joint_pin zero one wo
 
 -- two gates over three inputs, and one over these and the last
 pub record AreJoined (zero one gate : FormGate) : Type 0 where
-  pub zero_fits : IsFormGate 3 false zero
-  pub one_fits : IsFormGate 3 false one
-  pub gate_fits : IsFormGate 4 false gate
+  pub zero_fits : IsFormGate 3 0 zero
+  pub one_fits : IsFormGate 3 0 one
+  pub gate_fits : IsFormGate 4 0 gate
 
 -- at a word of the first inputs a gate is not set where one of these is NULL that is waited for at any word
 abbrev pub WaitsJointly : FormGate → FormGate → (ℕ → Bool) → FormGate → List Bool → Type 0
@@ -52,7 +52,7 @@ WaitsJointly zero one waits gate word = (null : ℕ) → null < length word → 
 pub record FitsJointly (cells : List StageCell) (function : List Bool → Bool) (ins : List Rails) (waits : ℕ → Bool) (form : Form) : Type 0 where
   pub fits : Fits function (length ins) (waits_at no_inputs) form
   pub four : length ins ≡ 4
-  pub flat : has_inner form.inner ≡ false
+  pub flat : length form.inner.items ≡ 0
   pub not_last : waits 3 ≡ false
   pub zero : FormGate
   pub one : FormGate

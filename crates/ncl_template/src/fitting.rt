@@ -1,29 +1,29 @@
 //! Whether a form is of a node.
-ghost use Rattle.std.specs.Prelude.{◌≡◌, ◌<◌, ◌∷◌, [], true, Bool, All, IfSome, length};
+ghost use Rattle.std.specs.Prelude.{◌≡◌, ◌<◌, ◌≤◌, ◌∷◌, [], true, Bool, All, IfSome, length};
 ghost use Rattle.ncl_template.specs.Template.{node_function};
 ghost use Rattle.ncl_template.specs.Waits.{waits_at};
-ghost use Rattle.ncl_template.specs.Forms.{has_inner, IsFormPin, IsFormGate, IsInner, IsForm, FitsWord, Fits};
+ghost use Rattle.ncl_template.specs.Forms.{IsFormPin, IsFormGate, AreInner, IsBehind, IsForm, FitsWord, Fits};
 
-use crate::form::{Form, FormGate, FormPin, fits_at};
+use crate::form::{Form, FormGate, FormPin, MOST_INNER, fits_at};
 use crate::patterns::patterns;
 use crate::table::node_bit;
 use crate::turning::{turn_for, turns_of};
 use crate::waits::Waits;
 use ncl_network::Node;
 
-/// Whether a pin is on a rail of one of so many inputs, or on the inner gate, where there is one.
-fn is_pin(pin: FormPin, inputs: usize, inner: bool) -> bool
+/// Whether a pin is on a rail of one of so many inputs, or on one of so many inner gates.
+fn is_pin(pin: FormPin, inputs: usize, inner: usize) -> bool
     ensures { result ≡ true → IsFormPin inputs inner pin }
 {
     match pin {
         FormPin::Zero(place) => place < inputs,
         FormPin::One(place) => place < inputs,
-        FormPin::Inner => inner,
+        FormPin::Inner(place) => place < inner,
     }
 }
 
 /// Whether all pins are.
-fn are_pins(pins: &[FormPin], inputs: usize, inner: bool) -> bool
+fn are_pins(pins: &[FormPin], inputs: usize, inner: usize) -> bool
     ensures { result ≡ true → All (IsFormPin inputs inner) pins.now }
 {
     for pin in pins {
@@ -35,34 +35,43 @@ fn are_pins(pins: &[FormPin], inputs: usize, inner: bool) -> bool
 }
 
 /// Whether a gate has such a pin for each of its inputs, which are at most four.
-pub(crate) fn is_gate(gate: &FormGate, inputs: usize, inner: bool) -> bool
+pub(crate) fn is_gate(gate: &FormGate, inputs: usize, inner: usize) -> bool
     ensures { result ≡ true → IsFormGate inputs inner gate.now }
 {
     let pins = gate.pins.as_slice();
     pins.len() == gate.kind.arity() && are_pins(pins, inputs, inner)
 }
 
-/// Whether the inner gate is one over the inputs alone, if there is one.
-fn is_inner(gate: &Option<FormGate>, inputs: usize) -> bool
-    ensures { result ≡ true → IsInner inputs gate.now }
+/// Whether each inner gate is one over the inputs and those before it.
+fn are_inner(inner: &[FormGate], inputs: usize) -> bool
+    ensures { result ≡ true → AreInner inputs 0 inner.now }
 {
-    match gate {
-        Some(gate) => is_gate(gate, inputs, false),
-        None => true,
+    for place in 0..inner.len() {
+        if !is_gate(&inner[place], inputs, place) {
+            return false;
+        }
     }
+    true
+}
+
+/// Whether a gate is one over the inputs and inner gates.
+fn is_behind(inner: &[FormGate], gate: &FormGate, inputs: usize) -> bool
+    requires { length inner.now ≤ MOST_INNER }
+    ensures { result ≡ true → IsBehind inputs inner.now gate.now }
+{
+    are_inner(inner, inputs) && is_gate(gate, inputs, inner.len())
 }
 
 /// Whether the gates of a form are gates over so many inputs: two to four, and no inner gate over two.
 fn is_form(form: &Form, inputs: usize) -> bool
     ensures { result ≡ true → IsForm inputs form.now }
 {
-    let inner = form.inner.is_some();
+    let inner = form.inner.as_slice();
     inputs >= 2
         && inputs <= 4
-        && (inputs > 2 || !inner)
-        && is_inner(&form.inner, inputs)
-        && is_gate(&form.zero, inputs, inner)
-        && is_gate(&form.one, inputs, inner)
+        && (inputs > 2 || inner.is_empty())
+        && is_behind(inner, &form.zero, inputs)
+        && is_behind(inner, &form.one, inputs)
 }
 
 /// A form that is tried for a node.
@@ -80,8 +89,9 @@ impl<'a> Tried<'a> {
         ensures { result ≡ true → FitsWord (node_function self.now.node.now) (waits_at self.now.waits) self.now.form.now word.now }
     {
         let bit = node_bit(self.node, word);
-        fits_at(!bit, self.waits, &self.form.inner, &self.form.zero, word)
-            && fits_at(bit, self.waits, &self.form.inner, &self.form.one, word)
+        let inner = self.form.inner.as_slice();
+        fits_at(!bit, self.waits, inner, &self.form.zero, word)
+            && fits_at(bit, self.waits, inner, &self.form.one, word)
     }
 
     /// Whether they do at each word of two bits that begins with this one.
@@ -158,7 +168,7 @@ impl<'a> Tried<'a> {
 }
 
 /// Whether the gates of a form show the function of a node of two to four inputs, and wait for these: they are tried
-/// at each word, with each input NULL that is to be waited for, and with the inner gate low.
+/// at each word, with each input NULL that is to be waited for, and with each inner gate low.
 pub(crate) fn fits(form: &Form, node: &Node, waits: Waits) -> bool
     ensures { result ≡ true → Fits (node_function node.now) (length node.now.ins) (waits_at waits) form.now }
 {
@@ -189,14 +199,15 @@ fn node_table(node: &Node) -> u16 {
     table
 }
 
-/// The first gates of the table that are of a node and wait for these of its inputs. None is asked where they are all.
+/// The first gates of the table that are of a node and wait for these of its inputs. Only of three inputs has it gates that
+/// wait for all.
 pub(crate) fn fitting(node: &Node, waits: Waits) -> Option<Form>
     ensures { IfSome result (Fits (node_function node.now) (length node.now.ins) (waits_at waits)) }
 {
-    if waits == Waits::ALL {
+    let inputs = node.ins.items().len();
+    if inputs != 3 && waits == Waits::ALL {
         return None;
     }
-    let inputs = node.ins.items().len();
     let turns = turns_of(inputs, node_table(node));
     for pattern in patterns(inputs) {
         if let Some(turn) = turn_for(pattern, turns.as_slice(), waits) {
@@ -218,37 +229,24 @@ pub fn least_waits(node: &Node, waits: Waits) -> Waits {
     }
 }
 
-/// How many gates stand one after another at most in those of a node that waits for these: one, and one more where there
-/// is an inner gate. Where the table has none for it, what its own template has. Linear in the rows of the node.
+/// How many gates stand one after another at most in those of a node that waits for these. Where the table has none for
+/// it, what its own template has. Linear in the rows of the node.
 pub fn levels(node: &Node, waits: Waits) -> u32 {
     match fitting(node, waits) {
-        Some(form) if form.inner.is_some() => 2,
-        Some(_) => 1,
+        Some(form) => form.levels(),
         None if node.ins.items().len() <= 2 => 1,
         None => 3,
     }
 }
 
-/// Gates that the table has for a function: for which inputs they wait, and how many transistors they take.
-#[derive(Clone, Copy, Debug, PartialEq, Eq)]
-pub struct Offer {
-    /// For which inputs they wait.
-    pub waits: Waits,
-    /// How many transistors they take.
-    pub transistors: u32,
-}
-
-/// The first gates that the table has for a function of so many inputs, given by its table, that wait for these: bit w
-/// of a table is the value at the word w, and bit k of w is input k. Takes a fixed time.
-pub fn offered(inputs: usize, table: u16, waits: Waits) -> Option<Offer> {
+/// Whether the table has gates for a function of so many inputs, given by its table, that wait for these: bit w of a table
+/// is the value at the word w, and bit k of w is input k. Takes a fixed time.
+pub fn is_offered(inputs: usize, table: u16, waits: Waits) -> bool {
     let turns = turns_of(inputs, table);
     for pattern in patterns(inputs) {
-        if let Some(turn) = turn_for(pattern, turns.as_slice(), waits) {
-            return Some(Offer {
-                waits: turn.waits(pattern),
-                transistors: pattern.transistors,
-            });
+        if turn_for(pattern, turns.as_slice(), waits).is_some() {
+            return true;
         }
     }
-    None
+    false
 }

@@ -3,7 +3,7 @@ ghost use Rattle.std.specs.Prelude.{◌≡◌, ◌<◌, ◌≤◌, ◌∷◌, []
 ghost use Rattle.ncl_gates.specs.Gate.{arity_of};
 ghost use Rattle.ncl_template.specs.Template.{node_function};
 ghost use Rattle.ncl_template.specs.Waits.{waits_once};
-ghost use Rattle.ncl_template.specs.Forms.{IsFormPin, IsFormGate, no_net, pin_net, IsGateOf};
+ghost use Rattle.ncl_template.specs.Forms.{IsFormPin, IsFormGate, pin_net, IsGateOf};
 ghost use Rattle.ncl_template.specs.Joint.{IsGateAmong, AreJoined, joint_pin, joint_bit, WaitsJointly, FitsJointly};
 
 use crate::fitting::{fitting, is_gate};
@@ -16,7 +16,7 @@ use ncl_shape::{Rails, StageCell};
 
 /// The pin on which a net of some pairs is, if it is one.
 fn pin_seen(ins: &[Rails], net: NetId) -> Option<FormPin>
-    ensures { IfSome result (λ pin. (pin_net ins.now no_net pin ≡ net) × IsFormPin (length ins.now) false pin) }
+    ensures { IfSome result (λ pin. (pin_net ins.now [] pin ≡ net) × IsFormPin (length ins.now) 0 pin) }
 {
     for place in 0..ins.len() {
         if ins[place].zero == net {
@@ -32,8 +32,8 @@ fn pin_seen(ins: &[Rails], net: NetId) -> Option<FormPin>
 /// The pins on which nets of some pairs are, if all are.
 fn pins_seen(ins: &[Rails], nets: &[NetId]) -> Option<ArrayVec<FormPin, 4>>
     requires { length nets.now ≤ 4 }
-    ensures nets { IfSome result (λ pins. map (pin_net ins.now no_net) pins.items ≡ nets.now) }
-    ensures pins { IfSome result (λ pins. All (IsFormPin (length ins.now) false) pins.items) }
+    ensures nets { IfSome result (λ pins. map (pin_net ins.now []) pins.items ≡ nets.now) }
+    ensures pins { IfSome result (λ pins. All (IsFormPin (length ins.now) 0) pins.items) }
 {
     let mut pins: ArrayVec<FormPin, 4> = ArrayVec::new();
     for net in nets {
@@ -45,8 +45,8 @@ fn pins_seen(ins: &[Rails], nets: &[NetId]) -> Option<ArrayVec<FormPin, 4>>
 
 /// A cell as a gate over some pairs, if it is one.
 fn gate_seen(cell: &StageCell, ins: &[Rails]) -> Option<FormGate>
-    ensures is { IfSome result (λ gate. IsGateOf ins.now no_net gate cell.now) }
-    ensures fit { IfSome result (IsFormGate (length ins.now) false) }
+    ensures is { IfSome result (λ gate. IsGateOf ins.now [] gate cell.now) }
+    ensures fit { IfSome result (IsFormGate (length ins.now) 0) }
 {
     let nets = cell.ins.as_slice();
     if nets.len() != cell.kind.arity() {
@@ -98,19 +98,19 @@ impl<'a> Beside<'a> {
         match pin {
             FormPin::Zero(place) => {
                 if place == word.len() {
-                    is_set(word, null, false, &self.last.zero)
+                    is_set(word, null, &[], &self.last.zero)
                 } else {
-                    pin_bit(word, null, false, pin)
+                    pin_bit(word, null, &[], pin)
                 }
             }
             FormPin::One(place) => {
                 if place == word.len() {
-                    is_set(word, null, false, &self.last.one)
+                    is_set(word, null, &[], &self.last.one)
                 } else {
-                    pin_bit(word, null, false, pin)
+                    pin_bit(word, null, &[], pin)
                 }
             }
-            FormPin::Inner => false,
+            FormPin::Inner(_) => false,
         }
     }
 
@@ -207,7 +207,7 @@ pub(crate) fn joint_form(
         return None;
     }
     let form = fitting(node, Waits::NONE)?;
-    if form.inner.is_some() {
+    if !form.inner.is_empty() {
         return None;
     }
     let first = &ins[..3];
@@ -232,7 +232,7 @@ fn pin_over(pin: FormPin, from: &[Signal], to: &[Signal]) -> Option<FormPin> {
     let (place, rail) = match pin {
         FormPin::Zero(place) => (place, false),
         FormPin::One(place) => (place, true),
-        FormPin::Inner => return None,
+        FormPin::Inner(_) => return None,
     };
     let signal = from.get(place)?;
     for (other, input) in to.iter().enumerate() {
@@ -269,7 +269,7 @@ fn last_gates(node: &Node, last: &Node, of_last: Waits) -> Option<Last> {
         return None;
     }
     let form = fitting(last, of_last)?;
-    if form.inner.is_some() {
+    if !form.inner.is_empty() {
         return None;
     }
     let zero = gate_over(&form.zero, last.ins.items(), &ins[..3])?;
@@ -294,10 +294,10 @@ pub fn waits_with_last(node: &Node, last: &Node, of_last: Waits) -> bool {
     let Some(form) = fitting(node, Waits::NONE) else {
         return false;
     };
-    let fit = form.inner.is_none()
-        && is_gate(&gates.zero, 3, false)
-        && is_gate(&gates.one, 3, false)
-        && is_gate(&form.zero, 4, false)
-        && is_gate(&form.one, 4, false);
+    let fit = form.inner.is_empty()
+        && is_gate(&gates.zero, 3, 0)
+        && is_gate(&gates.one, 3, 0)
+        && is_gate(&form.zero, 4, 0)
+        && is_gate(&form.one, 4, 0);
     fit && wait_beside(&form, &gates, FIRST_THREE)
 }

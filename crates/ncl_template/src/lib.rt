@@ -18,7 +18,6 @@ mod leaves;
 mod order;
 mod pattern;
 mod patterns;
-mod patterns_of_four;
 mod rail;
 mod table;
 mod template;
@@ -26,6 +25,6 @@ mod turning;
 mod waits;
 
 pub use eager::add_waiting;
-pub use fitting::{Offer, least_waits, levels, offered};
+pub use fitting::{is_offered, least_waits, levels};
 pub use joint::waits_with_last;
 pub use waits::Waits;

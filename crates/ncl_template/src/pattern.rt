@@ -11,15 +11,14 @@ pub(crate) struct PatternGate {
     pub pins: &'static [FormPin],
 }
 
-/// Gates for a function: its table, how many transistors they take and for which inputs they wait at which words, an inner gate, if
-/// there is one, and those of the two rails. Bit w of the table is the value at the word w, and bit k of w is input k.
-/// The function falls with no input with which it doesn't rise too.
+/// Gates for a function: its table, for which inputs they wait at which words, inner gates, and those of the two rails.
+/// Bit w of the table is the value at the word w, and bit k of w is input k. The function falls with no input with which
+/// it doesn't rise too.
 #[derive(Clone, Copy, Debug)]
 pub(crate) struct Pattern {
     pub table: u16,
-    pub transistors: u32,
     pub waits: Waits,
-    pub inner: Option<PatternGate>,
+    pub inner: &'static [PatternGate],
     pub zero: PatternGate,
     pub one: PatternGate,
 }

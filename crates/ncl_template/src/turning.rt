@@ -2,7 +2,7 @@
 //! them isn't trusted: each form is tried at each word before it is taken.
 
 use crate::form::FormPin::{Inner, One, Zero};
-use crate::form::{Form, FormGate, FormPin};
+use crate::form::{Form, FormGate, FormPin, MOST_INNER};
 use crate::pattern::{Pattern, PatternGate};
 use crate::waits::Waits;
 use arrayvec::ArrayVec;
@@ -58,7 +58,7 @@ fn inverse(pin: FormPin) -> FormPin {
     match pin {
         Zero(place) => One(place),
         One(place) => Zero(place),
-        Inner => Inner,
+        Inner(place) => Inner(place),
     }
 }
 
@@ -94,7 +94,7 @@ impl Turn {
         match pin {
             Zero(place) => inverse(self.ones[place % 4]),
             One(place) => self.ones[place % 4],
-            Inner => Inner,
+            Inner(place) => Inner(place),
         }
     }
 
@@ -117,7 +117,7 @@ impl Turn {
             let one = match *pin {
                 Zero(input) => word & BITS[input % 4] == 0,
                 One(input) => word & BITS[input % 4] != 0,
-                Inner => false,
+                Inner(_) => false,
             };
             if one {
                 own |= BITS[place % 4];
@@ -154,7 +154,7 @@ impl Turn {
             let own = pattern.waits.mask(place);
             let wanted = match *pin {
                 Zero(input) | One(input) => waits.mask(input),
-                Inner => 0,
+                Inner(_) => 0,
             };
             if wanted != 0 && own != u16::MAX && wanted & !self.mask(own) != 0 {
                 return false;
@@ -165,10 +165,10 @@ impl Turn {
 
     /// The gates of a pattern over the inputs.
     pub(crate) fn form(&self, pattern: &Pattern) -> Form {
-        let inner = match &pattern.inner {
-            Some(gate) => Some(self.gate(gate)),
-            None => None,
-        };
+        let mut inner: ArrayVec<FormGate, MOST_INNER> = ArrayVec::new();
+        for gate in pattern.inner {
+            let _ = inner.try_push(self.gate(gate));
+        }
         let (of_zero, of_one) = if self.exchanged {
             (&pattern.one, &pattern.zero)
         } else {

@@ -141,8 +141,8 @@ fn gates_are_counted(rt: HostRuntime) -> Result<(), Fail> {
         (&["1-"], true, "01", 2),
         (&["10"], true, "1a", 2),
         // Three inputs: a majority, a multiplexer, a parity, a constant, the last input alone, and a disjunction.
-        (&["11-", "1-1", "-11"], true, "012", 5),
-        (&["11-", "0-1"], true, "012", 5),
+        (&["11-", "1-1", "-11"], true, "012", 4),
+        (&["11-", "0-1"], true, "012", 4),
         (&["100", "010", "001", "111"], true, "012", 4),
         (&["---"], false, "012", 3),
         (&["--1"], true, "012", 3),
@@ -184,12 +184,7 @@ fn eager_gates_are_of_these_kinds(rt: HostRuntime) -> Result<(), Fail> {
         (&["1-", "-0"], true, "01", [Kind::Th22, Kind::Th12]),
         // One input or the product of the others, and a multiplexer by its last input.
         (&["1--", "-11"], true, "012", [Kind::Th33w2, Kind::Th23w2]),
-        (
-            &["1-0", "-11"],
-            true,
-            "012",
-            [Kind::Th24comp, Kind::Th24comp],
-        ),
+        (&["1-0", "-11"], true, "012", [Kind::ThAnd0, Kind::ThAnd0]),
         // A product or another, also of other inputs, inverses and by the OFF-set.
         (
             &["11--", "--11"],

@@ -1,12 +1,12 @@
-use Rattle.std.proofs.Common.{◌≡◌, false, length, map, take}
+use Rattle.std.proofs.Common.{◌≡◌, [], length, map, take}
 use Rattle.std.specs.Prelude.{All}
-use Rattle.ncl_template.specs.Forms.{IsFormPin, no_net, pin_net}
+use Rattle.ncl_template.specs.Forms.{IsFormPin, pin_net}
 use Rattle.ncl_template.proofs.joint.pins_seen.Given as goal
 
 -- the pins of the nets so far
 abbrev pub invariant-loop-net : goal.invariant-loop-net
 invariant-loop-net l = record {
-  nets : map (pin_net l.ins no_net) l.pins.items ≡ take l.net-index l.nets;
-  pins : All (IsFormPin (length l.ins) false) l.pins.items;
+  nets : map (pin_net l.ins []) l.pins.items ≡ take l.net-index l.nets;
+  pins : All (IsFormPin (length l.ins) 0) l.pins.items;
   count : length l.pins.items ≡ l.net-index;
 }

@@ -1,0 +1,13 @@
+use Rattle.std.proofs.Common.{◌≡◌, true, false, length, inl, inr, subst, arith}
+use Rattle.std.proofs.lemmas.Bool.{cases_lt}
+use Rattle.ncl_template.specs.Waits.{waits_at}
+use Rattle.ncl_template.specs.Forms.{behind_bit}
+use Rattle.ncl_template.proofs.form.Behind.waits.Goals as goal
+
+pub loop-null-preserved : goal.loop-null-preserved
+loop-null-preserved c = λ j lt waits.
+    elim (cases_lt j c.loop-null.null) [
+      | inl before ↦ c.loop-null.invariant j before waits
+      | inr past ↦
+          subst (λ n. waits_at c.args.waits c.args.self.now.word.now n ≡ true → behind_bit c.args.self.now.word.now n (length c.args.self.now.inner.now) c.args.self.now.inner.now c.args.self.now.gate.now ≡ false) (let same : c.loop-null.null ≡ j = omega (arith, lt, past) in same) (c.waits_for.ensures c.if-not-waits_for.false) waits
+    ]

@@ -1,0 +1,11 @@
+use Rattle.std.proofs.Common.{◌≡◌, [], length, drop}
+use Rattle.ncl_template.specs.Forms.{inner_bits, AreInner}
+use Rattle.ncl_template.proofs.form.inner_bits.Given as goal
+
+-- what is left gives the bits
+abbrev pub invariant-loop-gate : goal.invariant-loop-gate
+invariant-loop-gate l = record {
+  bits : inner_bits l.word l.null l.low l.bits.items (drop l.gate-index l.inner) ≡ inner_bits l.word l.null l.low [] l.inner;
+  left : AreInner (length l.word) l.gate-index (drop l.gate-index l.inner);
+  count : length l.bits.items ≡ l.gate-index;
+}

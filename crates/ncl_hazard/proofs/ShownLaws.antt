@@ -5,9 +5,8 @@ use Rattle.std.proofs.lemmas.Option.{slice_get_within}
 use Rattle.ncl_base.proofs.Members.{All-from_members, Member-from_Contains, Contains-from_slice_get}
 use Rattle.ncl_netlist.specs.declared.ids.CellId.{CellId}
 use Rattle.ncl_netlist.specs.Netlist.{NetlistData}
-use Rattle.ncl_cell_rules.specs.declared.origins.Origins.{Origins}
 use Rattle.ncl_cell_rules.specs.CellOrder.{IsCellOrder}
-use Rattle.ncl_cell_rules.specs.Origins.{AreOrigins}
+use Rattle.ncl_cell_rules.specs.Origins.{OriginsData, AreOrigins}
 use Rattle.ncl_shape.specs.declared.stage.StageCell.{StageCell}
 use Rattle.ncl_shape.specs.declared.item.Item.TheVariants.{Cell as Fire}
 use Rattle.ncl_shape.specs.Stage.{StageData}
@@ -77,5 +76,5 @@ module _ (p : PipelineData) (shape : Shape p.netlist p) (before : ℕ) (cell : C
         }))
 
 -- the order of the cells, as origins have it
-pub order-of : (n m : NetlistData) (o : Origins) (order : List ℕ) → AreOrigins n o → n ≡ m → order ≡ o.order.items → IsCellOrder m order
-order-of n m o order are same is = subst (IsCellOrder m) (sym is) (subst (λ x. IsCellOrder x o.order.items) same are.order)
+pub order-of : (n : NetlistData) (o : OriginsData) (order : List ℕ) → AreOrigins n o → order ≡ o.order → IsCellOrder n order
+order-of n o order are is = subst (IsCellOrder n) (sym is) are.order

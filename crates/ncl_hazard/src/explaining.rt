@@ -9,7 +9,7 @@ use crate::schedule::{coming_items, going_items};
 use crate::search::least_bringing;
 use crate::trying::losing_run;
 use ncl_base::{Items, Memory, Word};
-use ncl_machine::{State, origins_of};
+use ncl_machine::State;
 use ncl_netlist::CellId;
 use ncl_shape::{Item, Pipeline, Stage};
 use ncl_space::SpaceFault;
@@ -68,10 +68,10 @@ fn shown_run(
     ensures { IfOk result (λ run. Loses pipeline.now (reset pipeline.now (input.now ∷ [])) cell run.items) }
 {
     pipeline.facts();
-    let origins = origins_of(alloc, pipeline.netlist())?;
+    let order = pipeline.origins().order();
     let mut state = start(alloc, pipeline, input)?;
     let coming = coming_items(alloc, pipeline, before + 1, cell)?;
-    let going = going_items(alloc, pipeline, &state, before + 1, cell, origins.order())?;
+    let going = going_items(alloc, pipeline, &state, before + 1, cell, order)?;
     losing_run(alloc, pipeline, &mut state, cell, &coming, &going)
 }
 

@@ -13,8 +13,8 @@ use Rattle.ncl_hazard.proofs.explaining.shown_run.Goals as goal
 pub losing_run-requires : goal.losing_run-requires
 losing_run-requires c =
     let p = c.args.pipeline.now in
-    let order = c.order.result.now in
-    let ord = order-of c.netlist.result.now p.netlist c.in_ok-origins.origins order c.in_ok-origins.ensures c.netlist.ensures.netlist c.order.ensures in
+    let order = c.order-order.result.now in
+    let ord = order-of p.netlist c.origins.result.now order c.origins.ensures.origins c.order-order.ensures.order in
     let first : c.deref.result.now ≡ coming p (c.args.before + 1) c.args.cell = c.deref.ensures.value ∙ c.in_ok-coming.ensures in
     let then_on : c.deref-2.result.now ≡ going p (c.args.before + 1) c.args.cell order = c.deref-2.ensures.value ∙ c.in_ok-going.ensures in
     let started : meaning c.in_ok-state.state ≡ reset p (c.args.input.now ∷ []) = c.in_ok-state.ensures.reset in

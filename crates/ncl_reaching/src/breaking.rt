@@ -16,7 +16,7 @@ use ncl_hazard::{
     Steps, acknowledging_items, coming_items, going_items, lacking_items, losing_run,
     reaching_items, try_items,
 };
-use ncl_machine::{State, origins_of};
+use ncl_machine::State;
 use ncl_netlist::CellId;
 use ncl_shape::Pipeline;
 use std::alloc::Global;
@@ -97,12 +97,12 @@ fn stopping_run(
     ensures { (output : ℕ) → BringsFault pipeline.now before input.now (IsNoRail output) → IfOk result (λ run. BreaksIn pipeline.now before input.now (IsNoRail output) run) }
 {
     pipeline.facts();
-    let origins = origins_of(alloc, pipeline.netlist())?;
+    let order = pipeline.origins().order();
     let mut state = start(alloc, pipeline, input)?;
     let coming = reaching_items(alloc, pipeline, before + 1)?;
     let mut run = Vec::new(alloc);
     try_items(pipeline, &mut state, &mut run, &coming)?;
-    push_stop(alloc, pipeline, &mut state, &mut run, origins.order())?;
+    push_stop(alloc, pipeline, &mut state, &mut run, order)?;
     Ok(WrongRun {
         steps: Items::from_vec(run),
         lost: None,
@@ -123,10 +123,10 @@ fn bit_run(
     ensures { IfOk result (λ run. BreaksIn pipeline.now before input.now (IsIncomplete bit) run) }
 {
     pipeline.facts();
-    let origins = origins_of(alloc, pipeline.netlist())?;
+    let order = pipeline.origins().order();
     let mut state = start(alloc, pipeline, input)?;
     let coming = lacking_items(alloc, pipeline, before, bit)?;
-    let going = acknowledging_items(alloc, pipeline, &state, origins.order())?;
+    let going = acknowledging_items(alloc, pipeline, &state, order)?;
     let cell = register_of(pipeline, before, bit, word.bits()[bit]);
     let run = losing_run(alloc, pipeline, &mut state, cell, &coming, &going)?;
     Ok(WrongRun {
@@ -156,12 +156,12 @@ fn gate_run(
     ensures { IfOk result (λ run. BreaksIn pipeline.now before input.now (IsOrphan place) run) }
 {
     pipeline.facts();
-    let origins = origins_of(alloc, pipeline.netlist())?;
+    let order = pipeline.origins().order();
     let mut state = start(alloc, pipeline, input)?;
     let own = &pipeline.stages()[before];
     let cell = own.cells.items()[place].cell;
     let coming = coming_items(alloc, pipeline, before + 1, cell)?;
-    let going = going_items(alloc, pipeline, &state, before + 1, cell, origins.order())?;
+    let going = going_items(alloc, pipeline, &state, before + 1, cell, order)?;
     let run = losing_run(alloc, pipeline, &mut state, cell, &coming, &going)?;
     Ok(WrongRun {
         steps: Items::from_vec(run),

@@ -32,8 +32,8 @@ pub losing_run-requires : goal.losing_run-requires
 losing_run-requires c =
     let p = c.args.pipeline.now in
     let cell = c.register_of-cell.result in
-    let order = c.order.result.now in
-    let ord = order-of c.netlist.result.now p.netlist c.in_ok-origins.origins order c.in_ok-origins.ensures c.netlist.ensures.netlist c.order.ensures in
+    let order = c.order-order.result.now in
+    let ord = order-of p.netlist c.origins.result.now order c.origins.ensures.origins c.order-order.ensures.order in
     let taken : Takes p c.facts.ensures c.args.before c.args.input.now (Incomplete c.args.bit) cell (lacking p c.args.before c.args.bit) (acknowledging p order) =
     cell-takes p c.facts.ensures c.args.before c.args.input.now order ord c.args.bit c.requires.brought c.args.word.now c.requires.word cell
     (λ bank x at at_x. c.register_of-cell.ensures bank x at at_x ∙ ap (λ w. register_cell x (bit_at w c.args.bit)) c.bits.ensures.bits) in
@@ -54,8 +54,8 @@ pub returns : goal.returns
 returns c =
     let p = c.args.pipeline.now in
     let cell = c.register_of-cell.result in
-    let order = c.order.result.now in
-    let ord = order-of c.netlist.result.now p.netlist c.in_ok-origins.origins order c.in_ok-origins.ensures c.netlist.ensures.netlist c.order.ensures in
+    let order = c.order-order.result.now in
+    let ord = order-of p.netlist c.origins.result.now order c.origins.ensures.origins c.order-order.ensures.order in
     let taken : Takes p c.facts.ensures c.args.before c.args.input.now (Incomplete c.args.bit) cell (lacking p c.args.before c.args.bit) (acknowledging p order) =
     cell-takes p c.facts.ensures c.args.before c.args.input.now order ord c.args.bit c.requires.brought c.args.word.now c.requires.word cell
     (λ bank x at at_x. c.register_of-cell.ensures bank x at at_x ∙ ap (λ w. register_cell x (bit_at w c.args.bit)) c.bits.ensures.bits) in

@@ -20,8 +20,8 @@ losing_run-requires c =
     let p = c.args.pipeline.now in
     let gates = c.items.result.now in
     let cell : CellId = (get_or gates c.args.place c.index-items-place.result).cell in
-    let order = c.order.result.now in
-    let ord = order-of c.netlist.result.now p.netlist c.in_ok-origins.origins order c.in_ok-origins.ensures c.netlist.ensures.netlist c.order.ensures in
+    let order = c.order-order.result.now in
+    let ord = order-of p.netlist c.origins.result.now order c.origins.ensures.origins c.order-order.ensures.order in
     let at : slice_get p.stages c.args.before ≡ Some c.index-stages-before.result =
     place_read p.stages c.stages.result.now c.args.before c.index-stages-before.result c.stages.ensures.stages c.index-stages-before.is (before-within p c.facts.ensures c.args.before c.args.input.now (Orphan c.args.place) c.requires) in
     let taken : Takes p c.facts.ensures c.args.before c.args.input.now (Orphan c.args.place) cell (coming p (c.args.before + 1) cell) (going p (c.args.before + 1) cell order) =
@@ -44,8 +44,8 @@ returns c =
     let p = c.args.pipeline.now in
     let gates = c.items.result.now in
     let cell : CellId = (get_or gates c.args.place c.index-items-place.result).cell in
-    let order = c.order.result.now in
-    let ord = order-of c.netlist.result.now p.netlist c.in_ok-origins.origins order c.in_ok-origins.ensures c.netlist.ensures.netlist c.order.ensures in
+    let order = c.order-order.result.now in
+    let ord = order-of p.netlist c.origins.result.now order c.origins.ensures.origins c.order-order.ensures.order in
     let at : slice_get p.stages c.args.before ≡ Some c.index-stages-before.result =
     place_read p.stages c.stages.result.now c.args.before c.index-stages-before.result c.stages.ensures.stages c.index-stages-before.is (before-within p c.facts.ensures c.args.before c.args.input.now (Orphan c.args.place) c.requires) in
     let taken : Takes p c.facts.ensures c.args.before c.args.input.now (Orphan c.args.place) cell (coming p (c.args.before + 1) cell) (going p (c.args.before + 1) cell order) =

@@ -16,7 +16,7 @@ try_items-requires-clause-items c =
     subst (All (InRange p)) (sym (c.deref.ensures.value ∙ c.in_ok-coming.ensures)) (way-tried p c.facts.ensures c.args.before c.args.input.now (NoRail output) b)
 
 pub push_stop-requires-clause-order : goal.push_stop-requires-clause-order
-push_stop-requires-clause-order c = order-of c.netlist.result.now c.args.pipeline.now.netlist c.in_ok-origins.origins c.order.result.now c.in_ok-origins.ensures c.netlist.ensures.netlist c.order.ensures
+push_stop-requires-clause-order c = order-of c.args.pipeline.now.netlist c.origins.result.now c.order-order.result.now c.origins.ensures.origins c.order-order.ensures.order
 
 pub returns : goal.returns
 returns c = λ output b.

@@ -2,6 +2,7 @@
 ghost use Rattle.std.specs.Prelude.{◌≡◌, ◌<◌, IfOk, length};
 ghost use Rattle.ncl_shape.specs.Shape.{Shape};
 ghost use Rattle.ncl_sim.specs.Course.{IsCourse};
+ghost use Rattle.ncl_sim.specs.Rows.{AreRowsOf};
 ghost use Rattle.ncl_sim.specs.Running.{touched_at};
 
 use crate::rows::{Row, rows_of};
@@ -71,7 +72,7 @@ impl<'a> Course<'a> {
     /// The rows of the cells, in the order of their numbers.
     #[inline(always)]
     pub(crate) fn rows(&self) -> &[Row]
-        ensures { result.now ≡ self.now.rows }
+        ensures { AreRowsOf self.now.pipeline self.now.delays result.now }
     {
         &self.rows
     }

@@ -60,8 +60,9 @@ impl Run {
         ensures net { IfOk result (λ net. IfSome (net_of_step course.now.pipeline (meaning self.old.state) (candidate course.now.pipeline (meaning self.old.state) number)) (λ changed. net.0 ≡ changed)) }
         ensures within { IfOk result (λ net. net.0 < length course.now.pipeline.netlist.nets) }
     {
-        let item = candidate(course.pipeline(), &self.state, number);
-        let net = self.state.fire(course.pipeline(), item)?;
+        let pipeline = course.pipeline();
+        let item = candidate(pipeline, &self.state, number);
+        let net = self.state.fire(pipeline, item)?;
         self.steps.push(Fired { time, item })?;
         course.facts();
         Ok(net_by_row(course.rows(), number, net))

@@ -1,4 +1,10 @@
-use Rattle.std.proofs.Common.{◌∙◌, ◌+◌, ap, map, length, arith}
+use Rattle.std.proofs.Common.{◌≡◌, ◌∙◌, ◌+◌, ap, map, length, arith, subst}
+use Rattle.ncl_shape.specs.Pipeline.{PipelineData}
+use Rattle.ncl_delay.specs.Delays.{DelaysData}
+use Rattle.ncl_sim.specs.Course.{CourseData}
+use Rattle.ncl_sim.specs.Running.{IsStopped}
+use Rattle.ncl_sim.specs.declared.run.Run.{Run}
+use Rattle.ncl_sim.specs.declared.trace.End.{End}
 use Rattle.ncl_sim.specs.declared.trace.Taken.{Taken}
 use Rattle.ncl_sim.proofs.Quiet.{sound-ends_quiet, sound-delivers}
 use Rattle.ncl_sim.proofs.WordsDue.{few_due, few_steps}
@@ -20,13 +26,19 @@ overflow_mul-most-2 c =
           (omega (arith, c.nets-nets.ensures.netlist.few_nets, ap length c.nets-nets.ensures.nets)),
     )
 
+-- a run that has stopped by the course has stopped by what the course is of
+stopped_by : (p : PipelineData) (d : DelaysData) (course : CourseData) (r : Run) (end : End) → course.pipeline ≡ p → course.delays ≡ d → IsStopped course.pipeline course.delays r end → IsStopped p d r end
+stopped_by p d course r end of_pipeline of_delays stopped =
+    subst (λ q. IsStopped q d r end) of_pipeline (subst (λ e. IsStopped course.pipeline e r end) of_delays stopped)
+
 pub delivered-requires-2 : goal.delivered-requires-2
 delivered-requires-2 c =
-    stopped-takes c.args.pipeline.now c.args.delays.now c.finish.new.self c.in_ok-end.end c.in_ok-end.ensures.stopped _ _ c.deref.ensures.value c.delivered.ensures
+    stopped-takes c.args.pipeline.now c.args.delays.now c.finish.new.self c.in_ok-end.end (stopped_by c.args.pipeline.now c.args.delays.now c.in_ok-course.course c.finish.new.self c.in_ok-end.end c.in_ok-course.ensures.pipeline c.in_ok-course.ensures.delays c.in_ok-end.ensures.stopped) _ _ c.deref.ensures.value c.delivered.ensures
 
 pub returns-clause-run : goal.returns-clause-run
 returns-clause-run c =
-    stopped-run c.args.pipeline.now c.args.delays.now c.finish.new.self c.in_ok-end.end c.args.words.now _ _ _ _ c.in_ok-end.ensures.stopped
+    stopped-run c.args.pipeline.now c.args.delays.now c.finish.new.self c.in_ok-end.end c.args.words.now _ _ _ _
+    (stopped_by c.args.pipeline.now c.args.delays.now c.in_ok-course.course c.finish.new.self c.in_ok-end.end c.in_ok-course.ensures.pipeline c.in_ok-course.ensures.delays c.in_ok-end.ensures.stopped)
     (c.in_ok-end.ensures.offered ∙ c.in_ok-run.ensures.offered) c.from_vec.ensures c.deref.ensures.value c.delivered.ensures
     (ap (map (λ (x : Taken). x.time)) c.from_vec-2.ensures ∙ c.in_ok-taken.ensures.times) (ap (map (λ (x : Taken). x.pair)) c.from_vec-2.ensures ∙ c.in_ok-taken.ensures.pairs)
 

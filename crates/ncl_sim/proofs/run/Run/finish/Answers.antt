@@ -1,4 +1,5 @@
-use Rattle.std.proofs.Common.{◌≡◌, ◌∙◌, ap, arith, length, sym}
+use Rattle.std.proofs.Common.{◌≡◌, ◌∙◌, ap, arith, length, subst, sym}
+use Rattle.ncl_delay.specs.Delays.{HasDelays}
 use Rattle.ncl_sim.specs.TimedRun.{most_steps}
 use Rattle.ncl_sim.proofs.Turning.{popped-time, popped-within, stopped-over, stopped-quiet}
 use Rattle.ncl_sim.proofs.run.Run.finish.Goals as goal
@@ -18,7 +19,7 @@ turn-requires-clause-within c =
 pub turn-requires-clause-time : goal.turn-requires-clause-time
 turn-requires-clause-time c =
     let time =
-    popped-time c.args.course.now.pipeline c.args.course.now.delays (record { state = c.loop-time.self.state; agenda = c.take_first.new.self; steps = c.loop-time.self.steps }) c.in-Some.time c.in-Some.number c.facts.ensures
+    popped-time c.args.course.now.pipeline c.args.course.now.delays (record { state = c.loop-time.self.state; agenda = c.take_first.new.self; steps = c.loop-time.self.steps }) c.in-Some.time c.in-Some.number (subst HasDelays c.delays.ensures c.facts.ensures)
     (record { waits = c.loop-time.self.agenda; under_way = c.loop-time.invariant.0; first = c.in-Some.ensures.first; agenda = c.in-Some.ensures.taken }) in
     omega (arith, time, c.loop-time.invariant.2, c.requires.few)
 

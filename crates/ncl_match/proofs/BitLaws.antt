@@ -11,7 +11,7 @@ use Rattle.ncl_blif.specs.Model.{IsModel}
 use Rattle.ncl_blif.proofs.Composing.{computes_one}
 use Rattle.ncl_shape.specs.declared.rails.Rails.{Rails}
 use Rattle.ncl_space.specs.Beads.{bead_count}
-use Rattle.ncl_space.specs.Space.{SpaceData, IsSpace, IsNew, Keeps}
+use Rattle.ncl_space.specs.Space.{SpaceData, IsNew, Keeps}
 use Rattle.ncl_match.specs.Answer.{IsOver, DiffersAt, bit_of}
 use Rattle.ncl_match.specs.Circuit.{Circuit, closed, computed}
 use Rattle.ncl_match.specs.Difference.{apart_function}
@@ -32,12 +32,12 @@ module _ (c : Circuit) (models : List Model) (limit output : ℕ) where
   }
 
   -- where the beads of all tables of the output are held, they have not
-  pub told-within : (old now : SpaceData) → IsNew old → old.limit ≡ Some limit → old.width ≡ length c.inputs → Keeps old now → IsSpace now → Gathers (IsListed c models (output - 1)) old now
+  pub told-within : (old now : SpaceData) → IsNew old → old.limit ≡ Some limit → old.width ≡ length c.inputs → Keeps old now → Gathers (IsListed c models (output - 1)) old now
       → ((table : List Bool) → IsListed c models (output - 1) table → IsHeld now table) → IsOver c models limit output → ⊥
-  told-within old now new is wide k space g held over =
+  told-within old now new is wide k g held over =
       let each : All (IsHeld now) over.tables = λ i d lt. held (get_or over.tables i d) (over.listed i d lt) in
       let few = held-count old now g.tables over.tables new k.width g.held each in
-      let most = within-count now limit space (k.limit ∙ is) in
+      let most = within-count now limit k.space (k.limit ∙ is) in
       let more = subst (λ n. limit < bead_count n over.tables) (sym wide) over.more in
       omega (arith, few, most, more)
 

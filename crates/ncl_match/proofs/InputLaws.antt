@@ -45,7 +45,7 @@ module _ (old now : SpaceData) (inputs : List Rails) (marks : List Bool) (first 
   turn = input_tables old.width inputs marks
 
   turned : Turned old now (gathered turn place)
-  turned = record { kept = loop.kept; space = loop.space; held = loop.done.held }
+  turned = record { kept = loop.kept; held = loop.done.held }
 
   -- a bit that isn't needed
   pub input-passed : is_needed marks rails ≡ false → InputLoop old now inputs marks first pairs (place + 1)
@@ -78,15 +78,14 @@ module _ (old now : SpaceData) (inputs : List Rails) (marks : List Bool) (first 
     pub input-refused : fits now (both_tables now.width (bit_function place)) ≡ false → fits old (gathered turn (length inputs)) ≡ false
     input-refused full = too_much-turn old now turn place (length inputs) lt turned (subst (λ ts. fits now ts ≡ false) now_tables full)
 
-    pub input-more : (new : SpaceData) (p q : Pair) → AllPairs (λ x y. x ≢ y) (rail_nets inputs) → rails.zero.0 < length first → rails.one.0 < length first → Keeps now new → IsSpace new → q.one ≡ p.zero → q.zero ≡ p.one
+    pub input-more : (new : SpaceData) (p q : Pair) → AllPairs (λ x y. x ≢ y) (rail_nets inputs) → rails.zero.0 < length first → rails.one.0 < length first → Keeps now new → q.one ≡ p.zero → q.zero ≡ p.one
         → MakesPair now new p (bit_function place) (both_tables now.width (bit_function place)) → InputLoop old new inputs marks first (set (set pairs rails.zero.0 q) rails.one.0 p) (place + 1)
-    input-more new p q differ zero_in one_in k space one_is zero_is made = record {
+    input-more new p q differ zero_in one_in k one_is zero_is made = record {
       kept = keeps_along old now new loop.kept k;
-      space = space;
-      pairs_too = All-set (IsPair new) (set pairs rails.zero.0 q) rails.one.0 p made.has.pair (All-set (IsPair new) pairs rails.zero.0 q has_not.pair (pairs-kept now new pairs loop.space k loop.pairs_too));
+      pairs_too = All-set (IsPair new) (set pairs rails.zero.0 q) rails.one.0 p made.has.pair (All-set (IsPair new) pairs rails.zero.0 q has_not.pair (pairs-kept now new pairs loop.kept.space k loop.pairs_too));
       many = length-set (set pairs rails.zero.0 q) rails.one.0 p ∙ length-set pairs rails.zero.0 q ∙ loop.many;
       within = omega (arith, lt);
-      done = record { held = (turned-next old now new turn place turned k space (made.held ∙ ap (with_tables now) now_tables)).held; have = have };
+      done = record { held = (turned-next old now new turn place turned k (made.held ∙ ap (with_tables now) now_tables)).held; have = have };
     }
       where
         has_not : HasFunction new q (inverse (bit_function place))

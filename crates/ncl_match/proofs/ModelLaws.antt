@@ -340,7 +340,7 @@ module _ (models : List Model) (steps : List Step) (outs : List ℕ) (row : AreI
     steps-overflow full =
         overflows-after Listed old mid (gathered (step_tables mid.width steps marks) (length steps)) bits-gather kept step-tables-listed full
 
-    module _ (new : SpaceData) (pairs : List Pair) (later : Keeps mid new) (space : IsSpace new) (s : HaveSteps mid new steps marks pairs (length steps)) where
+    module _ (new : SpaceData) (pairs : List Pair) (later : Keeps mid new) (s : HaveSteps mid new steps marks pairs (length steps)) where
       pub steps-gather : Gathers Listed old new
       steps-gather = gathers-more Listed old mid new (gathered (step_tables mid.width steps marks) (length steps)) bits-gather kept step-tables-listed s.held
 
@@ -351,7 +351,7 @@ module _ (models : List Model) (steps : List Step) (outs : List ℕ) (row : AreI
       own_have = subst (λ k. HaveSignals new steps marks pairs (k + length steps)) mid_is s.have
 
       pub all-held : HoldsSignals new c models output
-      all-held = signals-held c models are wide steps outs own_numbered own_ordered output inside marks own_needed mid new pairs mid_is later.width space own_held own_have
+      all-held = signals-held c models are wide steps outs own_numbered own_ordered output inside marks own_needed mid new pairs mid_is later.width later.space own_held own_have
 
       pub output-had : HasSignal new (pair_at pairs (get_or outs output 0)) c models output
-      output-had = signal-had c models are wide steps outs own_numbered own_ordered output inside marks own_needed mid new pairs mid_is later.width space own_held own_have
+      output-had = signal-had c models are wide steps outs own_numbered own_ordered output inside marks own_needed mid new pairs mid_is later.width later.space own_held own_have

@@ -178,7 +178,7 @@ fits-same old f g same full = subst (λ ts. fits old ts ≡ false) (same-tables 
 -- a pair that is there costs nothing
 pub live-costs : (s : SpaceData) (p : Pair) (f : WordFunction) → IsSpace s → HasFunction s p f → s.held ≡ with_tables s (both_tables s.width f)
 live-costs s p f space has =
-    held-along s s s (table_of (words s.width) f ∷ []) (table_of (words s.width) (inverse f) ∷ []) (keeps_all s)
+    held-along s s s (table_of (words s.width) f ∷ []) (table_of (words s.width) (inverse f) ∷ []) (keeps_all s space)
     (makes-live s p.one (table_of (words s.width) f) space has.pair.one has.table).held
     (makes-live s p.zero (table_of (words s.width) (inverse f)) space has.pair.zero (complement-is s p f has)).held
 

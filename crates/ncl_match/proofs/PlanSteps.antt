@@ -37,7 +37,7 @@ reads-own ins i d lt = list_any_at (λ (x : NetId). nat_eq x.0 (get_or ins i d).
 abbrev no_pair : Pair
 no_pair = record { one = record { place = 0 }; zero = record { place = 0 } }
 
-module _ (old now : SpaceData) (plan : List DataCell) (marks : List Bool) (first pairs : List Pair) (inputs : List ℕ) (v : List Bool → Nets) (place : ℕ) (cell : DataCell) (at : slice_get plan place ≡ Some cell) (case : IsCase old plan marks first inputs v) (k : Keeps old now) (space : IsSpace now) (done : AreDone old now plan marks pairs inputs v place) where
+module _ (old now : SpaceData) (plan : List DataCell) (marks : List Bool) (first pairs : List Pair) (inputs : List ℕ) (v : List Bool → Nets) (place : ℕ) (cell : DataCell) (at : slice_get plan place ≡ Some cell) (case : IsCase old plan marks first inputs v) (k : Keeps old now) (done : AreDone old now plan marks pairs inputs v place) where
   abbrev turn : ℕ → List (List Bool)
   turn = plan_tables old.width v marks plan
 
@@ -95,11 +95,11 @@ module _ (old now : SpaceData) (plan : List DataCell) (marks : List Bool) (first
         ∙ (λ i. cell_tables old.width v marks (sym at i))
 
     pub refused : place < length plan → fits now (both_tables now.width made_function) ≡ false → fits old (gathered turn (length plan)) ≡ false
-    refused lt full = too_much-turn old now turn place (length plan) lt (record { kept = k; space = space; held = done.held }) (subst (λ ts. fits now ts ≡ false) tables full)
+    refused lt full = too_much-turn old now turn place (length plan) lt (record { kept = k; held = done.held }) (subst (λ ts. fits now ts ≡ false) tables full)
 
-    pub done-more : (new : SpaceData) (p : Pair) → Keeps now new → IsSpace new → cell.out.0 < length pairs → MakesPair now new p made_function (both_tables now.width made_function) → AreDone old new plan marks (set pairs cell.out.0 p) inputs v (place + 1)
-    done-more new p l new_space within made = record {
-      held = (turned-next old now new turn place (record { kept = k; space = space; held = done.held }) l new_space (made.held ∙ ap (with_tables now) tables)).held;
+    pub done-more : (new : SpaceData) (p : Pair) → Keeps now new → cell.out.0 < length pairs → MakesPair now new p made_function (both_tables now.width made_function) → AreDone old new plan marks (set pairs cell.out.0 p) inputs v (place + 1)
+    done-more new p l within made = record {
+      held = (turned-next old now new turn place (record { kept = k; held = done.held }) l (made.held ∙ ap (with_tables now) tables)).held;
       have = λ net known mark.
           elim (known-before net known) [
             | inl before ↦
@@ -133,17 +133,16 @@ loop-begins old plan marks pairs space are =
 pub loop-passed : (old now : SpaceData) (plan : List DataCell) (marks : List Bool) (first pairs : List Pair) (place : ℕ) (cell : DataCell) → slice_get plan place ≡ Some cell → place < length plan → is_marked marks cell.out.0 ≡ false → PlanLoop old now plan marks first pairs place → PlanLoop old now plan marks first pairs (place + 1)
 loop-passed old now plan marks first pairs place cell at lt unmarked l =
     filling-passed old now first pairs place (length plan) (AllDone old now plan marks first pairs place) (AllDone old now plan marks first pairs (place + 1)) lt
-    (λ inputs v case. done-passed old now plan marks first pairs inputs v place cell at case l.kept l.space (l.done inputs v case) unmarked)
+    (λ inputs v case. done-passed old now plan marks first pairs inputs v place cell at case l.kept (l.done inputs v case) unmarked)
     l
 
-pub loop-more : (old now new : SpaceData) (plan : List DataCell) (marks : List Bool) (first pairs : List Pair) (place : ℕ) (cell : DataCell) (p : Pair) → slice_get plan place ≡ Some cell → place < length plan → is_marked marks cell.out.0 ≡ true → cell.out.0 < length pairs → Keeps now new → IsSpace new
+pub loop-more : (old now new : SpaceData) (plan : List DataCell) (marks : List Bool) (first pairs : List Pair) (place : ℕ) (cell : DataCell) (p : Pair) → slice_get plan place ≡ Some cell → place < length plan → is_marked marks cell.out.0 ≡ true → cell.out.0 < length pairs → Keeps now new
     → MakesPair now new p (λ word. made_of cell.kind (map (λ (x : NetId). function_at now (pair_at pairs x.0) word) cell.ins.items)) (both_tables now.width (λ word. made_of cell.kind (map (λ (x : NetId). function_at now (pair_at pairs x.0) word) cell.ins.items)))
     → PlanLoop old now plan marks first pairs place → PlanLoop old new plan marks first (set pairs cell.out.0 p) (place + 1)
-loop-more old now new plan marks first pairs place cell p at lt marked within k space made l = record {
+loop-more old now new plan marks first pairs place cell p at lt marked within k made l = record {
   kept = keeps_along old now new l.kept k;
-  space = space;
-  pairs_too = All-set (IsPair new) pairs cell.out.0 p made.has.pair (pairs-kept now new pairs l.space k l.pairs_too);
+  pairs_too = All-set (IsPair new) pairs cell.out.0 p made.has.pair (pairs-kept now new pairs l.kept.space k l.pairs_too);
   many = length-set pairs cell.out.0 p ∙ l.many;
   within = omega (arith, lt);
-  done = λ inputs v case. done-more old now plan marks first pairs inputs v place cell at case l.kept l.space (l.done inputs v case) marked new p k space within made;
+  done = λ inputs v case. done-more old now plan marks first pairs inputs v place cell at case l.kept (l.done inputs v case) marked new p k within made;
 }

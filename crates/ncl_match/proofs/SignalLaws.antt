@@ -101,11 +101,11 @@ pub record PairsLoop (old now : SpaceData) (turn : ℕ → List (List Bool)) (f 
 abbrev no_pair : Pair
 no_pair = record { one = record { place = 0 }; zero = record { place = 0 } }
 
-pub pairs-more : (old now new : SpaceData) (turn : ℕ → List (List Bool)) (f : ℕ → WordFunction) (marks : List Bool) (pairs : List Pair) (place : ℕ) (p : Pair) → PairsLoop old now turn f marks pairs place → Keeps now new → IsSpace new → IsPair new p → (bit_at marks (length pairs) ≡ true → HasFunction new p (f (length pairs))) → new.held ≡ with_tables now (turn place) → (longer : List Pair) → longer ≡ pairs ++ p ∷ [] → PairsLoop old new turn f marks longer (place + 1)
-pairs-more old now new turn f marks pairs place p l kept space is has held longer more =
+pub pairs-more : (old now new : SpaceData) (turn : ℕ → List (List Bool)) (f : ℕ → WordFunction) (marks : List Bool) (pairs : List Pair) (place : ℕ) (p : Pair) → PairsLoop old now turn f marks pairs place → Keeps now new → IsPair new p → (bit_at marks (length pairs) ≡ true → HasFunction new p (f (length pairs))) → new.held ≡ with_tables now (turn place) → (longer : List Pair) → longer ≡ pairs ++ p ∷ [] → PairsLoop old new turn f marks longer (place + 1)
+pairs-more old now new turn f marks pairs place p l kept is has held longer more =
     subst (λ ps. PairsLoop old new turn f marks ps (place + 1)) (sym more) (record {
-      turned = turned-next old now new turn place l.turned kept space held;
-      pairs_too = All-push (IsPair new) pairs p (pairs-kept now new pairs l.turned.space kept l.pairs_too) is;
+      turned = turned-next old now new turn place l.turned kept held;
+      pairs_too = All-push (IsPair new) pairs p (pairs-kept now new pairs l.turned.kept.space kept l.pairs_too) is;
       have = λ x lt mark.
           ⊎_elim
           (λ same.

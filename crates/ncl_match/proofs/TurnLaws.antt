@@ -10,23 +10,21 @@ use Rattle.ncl_match.specs.Turns.{gathered}
 -- what has come so far
 pub record Turned (old now : SpaceData) (tables : List (List Bool)) : Type 0 where
   pub kept : Keeps old now
-  pub space : IsSpace now
   pub held : now.held ≡ with_tables old tables
 
 pub turned-none : (s : SpaceData) → IsSpace s → Turned s s []
-turned-none s space = record { kept = keeps_all s; space = space; held = sym (with_none s) }
+turned-none s space = record { kept = keeps_all s space; held = sym (with_none s) }
 
-pub turned-more : (a b d : SpaceData) (ts us : List (List Bool)) → Turned a b ts → Keeps b d → IsSpace d → d.held ≡ with_tables b us → Turned a d (ts ++ us)
-turned-more a b d ts us t k space held = record {
+pub turned-more : (a b d : SpaceData) (ts us : List (List Bool)) → Turned a b ts → Keeps b d → d.held ≡ with_tables b us → Turned a d (ts ++ us)
+turned-more a b d ts us t k held = record {
   kept = keeps_along a b d t.kept k;
-  space = space;
   held = held-along a b d ts us t.kept t.held held;
 }
 
-pub turned-next : (a b d : SpaceData) (turn : ℕ → List (List Bool)) (k : ℕ) → Turned a b (gathered turn k) → Keeps b d → IsSpace d → d.held ≡ with_tables b (turn k) → Turned a d (gathered turn (k + 1))
-turned-next a b d turn k t kept space held =
+pub turned-next : (a b d : SpaceData) (turn : ℕ → List (List Bool)) (k : ℕ) → Turned a b (gathered turn k) → Keeps b d → d.held ≡ with_tables b (turn k) → Turned a d (gathered turn (k + 1))
+turned-next a b d turn k t kept held =
     let e : suc k ≡ k + 1 = omega arith in
-    subst (λ j. Turned a d (gathered turn j)) e (turned-more a b d (gathered turn k) (turn k) t kept space held)
+    subst (λ j. Turned a d (gathered turn j)) e (turned-more a b d (gathered turn k) (turn k) t kept held)
 
 -- what all turns give begins with what some of the first do
 pub gathered-cut : {X : Type 0} (turn : ℕ → List X) (k m : ℕ) → k < m → (rest : List X) × (gathered turn m ≡ gathered turn (suc k) ++ rest)

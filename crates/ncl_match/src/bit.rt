@@ -7,7 +7,7 @@ ghost use Rattle.ncl_space.specs.Table.{table_of, words};
 ghost use Rattle.ncl_match.specs.Answer.{IsBitAnswer, IsOver};
 ghost use Rattle.ncl_match.specs.Circuit.{Circuit};
 ghost use Rattle.ncl_match.specs.Listed.{AreCompared};
-ghost use Rattle.ncl_space.specs.Space.{IsLive, IsSpace, Keeps, fits};
+ghost use Rattle.ncl_space.specs.Space.{IsLive, Keeps, fits};
 ghost use Rattle.ncl_match.specs.Difference.{apart_function, apart_tables, without};
 ghost use Rattle.ncl_match.specs.Pairs.{IsPair, MakesPair, WordFunction, both_tables, function_at};
 
@@ -19,16 +19,15 @@ use ncl_space::{Ref, Space, SpaceFault};
 
 // The words at which the first of two functions is 1 and the second isn't.
 fn without_pair<P: Space>(space: &mut P, f: Pair, g: Pair) -> Result<Pair, SpaceFault>
-    requires space { IsSpace (P.meaning space.old) }
     requires f { IsPair (P.meaning space.old) f }
     requires g { IsPair (P.meaning space.old) g }
     ensures made { let s = P.meaning space.old in let h = without (function_at s f) (function_at s g) in
         IfOk result (λ p. MakesPair s (P.meaning space.new) p h (both_tables s.width h)) }
     ensures kept { Keeps (P.meaning space.old) (P.meaning space.new) }
-    ensures space { IsSpace (P.meaning space.new) }
     ensures full { let s = P.meaning space.old in let h = without (function_at s f) (function_at s g) in
         IsErrOf result SpaceFault.Full → fits s (both_tables s.width h) ≡ false }
 {
+    space.facts();
     gate_pair(space, Kind::Th22, &[f, g.swapped()])
 }
 
@@ -37,13 +36,11 @@ fn without_pair<P: Space>(space: &mut P, f: Pair, g: Pair) -> Result<Pair, Space
 /// `Full` comes exactly where the beads held with those of the six tables are more than the limit. What is made
 /// before a refusal stays.
 pub fn apart<P: Space>(space: &mut P, f: Pair, g: Pair) -> Result<Pair, SpaceFault>
-    requires space { IsSpace (P.meaning space.old) }
     requires f { IsPair (P.meaning space.old) f }
     requires g { IsPair (P.meaning space.old) g }
     ensures made { let s = P.meaning space.old in
         IfOk result (λ p. MakesPair s (P.meaning space.new) p (apart_function (function_at s f) (function_at s g)) (apart_tables s.width (function_at s f) (function_at s g))) }
     ensures kept { Keeps (P.meaning space.old) (P.meaning space.new) }
-    ensures space { IsSpace (P.meaning space.new) }
     ensures full { let s = P.meaning space.old in
         IsErrOf result SpaceFault.Full → fits s (apart_tables s.width (function_at s f) (function_at s g)) ≡ false }
 {

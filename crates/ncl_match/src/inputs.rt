@@ -2,7 +2,7 @@
 ghost use Rattle.std.specs.Prelude.{◌≡◌, ◌≢◌, ◌<◌, ◌≤◌, ◌||◌, All, AllPairs, IfOk, OnOk, IsErrOf, false, length};
 ghost use Rattle.ncl_shape.specs.declared.rails.Rails.{Rails};
 ghost use Rattle.ncl_shape.specs.Stage.{rail_nets};
-ghost use Rattle.ncl_space.specs.Space.{IsSpace, Keeps, fits};
+ghost use Rattle.ncl_space.specs.Space.{Keeps, fits};
 ghost use Rattle.ncl_match.specs.Inputs.{HaveInputs, input_tables, is_needed};
 ghost use Rattle.ncl_match.specs.Pairs.{IsPair};
 ghost use Rattle.ncl_match.specs.Turns.{gathered};
@@ -21,7 +21,6 @@ pub fn input_pairs<P: Space>(
     marks: &[bool],
     pairs: &mut [Pair],
 ) -> Result<(), SpaceFault>
-    requires space { IsSpace (P.meaning space.old) }
     requires width { (P.meaning space.old).width ≡ length inputs.now }
     requires differ { AllPairs (λ x y. x ≢ y) (rail_nets inputs.now) }
     requires zeros { All (λ (r : Rails). r.zero.0 < length pairs.old) inputs.now }
@@ -31,9 +30,9 @@ pub fn input_pairs<P: Space>(
     ensures have { OnOk result (HaveInputs (P.meaning space.old) (P.meaning space.new) inputs.now marks.now pairs.new (length inputs.now)) }
     ensures pairs { OnOk result (All (IsPair (P.meaning space.new)) pairs.new) }
     ensures kept { Keeps (P.meaning space.old) (P.meaning space.new) }
-    ensures space { IsSpace (P.meaning space.new) }
     ensures full { let s = P.meaning space.old in IsErrOf result SpaceFault.Full → fits s (gathered (input_tables s.width inputs.now marks.now) (length inputs.now)) ≡ false }
 {
+    space.facts();
     for bit in 0..inputs.len() {
         let rails = inputs[bit];
         if is_needed(marks, rails) {

@@ -1,6 +1,6 @@
 //! The function of rail 1 of an output of a pipeline.
 ghost use Rattle.std.specs.Prelude.{◌≡◌, ◌<◌, All, length};
-ghost use Rattle.ncl_space.specs.Space.{IsSpace, Keeps};
+ghost use Rattle.ncl_space.specs.Space.{Keeps};
 ghost use Rattle.ncl_match.specs.Circuit.{circuit_of};
 ghost use Rattle.ncl_match.specs.Making.{MakesRail};
 ghost use Rattle.ncl_match.specs.Pairs.{IsPair};
@@ -25,13 +25,12 @@ pub fn netlist_pair<P: Space>(
     planned: &PlannedPipeline,
     output: usize,
 ) -> Result<Pair, SpaceFault>
-    requires space { IsSpace (P.meaning space.old) }
     requires width { (P.meaning space.old).width ≡ length planned.now.inputs }
     requires output { output < length planned.now.outputs }
     ensures made { MakesRail (P.meaning space.old) (P.meaning space.new) (circuit_of planned.now) output result }
     ensures kept { Keeps (P.meaning space.old) (P.meaning space.new) }
-    ensures space { IsSpace (P.meaning space.new) }
 {
+    space.facts();
     let pipeline = planned.pipeline();
     let root = pipeline.outputs()[output].one;
     let nets = pipeline.netlist().nets().len();
@@ -49,7 +48,6 @@ fn filled_pair<P: Space>(
     marks: &[bool],
     pairs: &mut [Pair],
 ) -> Result<Pair, SpaceFault>
-    requires space { IsSpace (P.meaning space.old) }
     requires width { (P.meaning space.old).width ≡ length planned.now.inputs }
     requires output { output < length planned.now.outputs }
     requires marks { AreMarksFor planned.now output marks.now }
@@ -57,7 +55,6 @@ fn filled_pair<P: Space>(
     requires pairs { All (IsPair (P.meaning space.old)) pairs.old }
     ensures made { MakesRail (P.meaning space.old) (P.meaning space.new) (circuit_of planned.now) output result }
     ensures kept { Keeps (P.meaning space.old) (P.meaning space.new) }
-    ensures space { IsSpace (P.meaning space.new) }
 {
     let pipeline = planned.pipeline();
     pipeline.facts();

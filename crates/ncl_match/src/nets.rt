@@ -2,7 +2,7 @@
 ghost use Rattle.std.specs.Prelude.{◌≡◌, ℕ, ◌<◌, ◌≤◌, true, false, List, Bool, All, IfOk, OnOk, IsErrOf, length, map};
 ghost use Rattle.ncl_netlist.specs.declared.ids.NetId.{NetId};
 ghost use Rattle.ncl_shape.specs.Nets.{Nets};
-ghost use Rattle.ncl_space.specs.Space.{IsSpace, Keeps, fits};
+ghost use Rattle.ncl_space.specs.Space.{Keeps, fits};
 ghost use Rattle.ncl_match.specs.Pairs.{IsPair, MakesPair, both_tables, function_at};
 ghost use Rattle.ncl_match.specs.Plan.{FitPins, IsOrdered, made_of, pair_at, pins_of, plan_tables};
 ghost use Rattle.ncl_match.specs.PlanCase.{AreDone, IsCase};
@@ -37,7 +37,6 @@ pub fn cell_pair<P: Space>(
     cell: &DataCell,
     pairs: &[Pair],
 ) -> Result<Pair, SpaceFault>
-    requires space { IsSpace (P.meaning space.old) }
     requires pairs { All (IsPair (P.meaning space.old)) pairs.now }
     requires within { All (λ (x : NetId). x.0 < length pairs.now) cell.now.ins.items }
     requires pins { length cell.now.ins.items ≡ pins_of cell.now.kind }
@@ -45,11 +44,11 @@ pub fn cell_pair<P: Space>(
         let f = λ (word : List Bool). made_of cell.now.kind (map (λ (x : NetId). function_at s (pair_at pairs.now x.0) word) cell.now.ins.items) in
         IfOk result (λ p. MakesPair s (P.meaning space.new) p f (both_tables s.width f)) }
     ensures kept { Keeps (P.meaning space.old) (P.meaning space.new) }
-    ensures space { IsSpace (P.meaning space.new) }
     ensures full { let s = P.meaning space.old in
         let f = λ (word : List Bool). made_of cell.now.kind (map (λ (x : NetId). function_at s (pair_at pairs.now x.0) word) cell.now.ins.items) in
         IsErrOf result SpaceFault.Full → fits s (both_tables s.width f) ≡ false }
 {
+    space.facts();
     let ins = pins(pairs, cell.ins.as_slice());
     match cell.kind {
         Some(kind) => gate_pair(space, kind, ins.as_slice()),
@@ -67,7 +66,6 @@ pub fn plan_pairs<P: Space>(
     marks: &[bool],
     pairs: &mut [Pair],
 ) -> Result<(), SpaceFault>
-    requires space { IsSpace (P.meaning space.old) }
     requires ordered { IsOrdered plan.now (length pairs.old) }
     requires pins { FitPins plan.now }
     requires marks { length marks.now ≡ length pairs.old }
@@ -76,10 +74,10 @@ pub fn plan_pairs<P: Space>(
         → OnOk result (AreDone s (P.meaning space.new) plan.now marks.now pairs.new inputs v (length plan.now)) }
     ensures pairs { OnOk result (All (IsPair (P.meaning space.new)) pairs.new) }
     ensures kept { Keeps (P.meaning space.old) (P.meaning space.new) }
-    ensures space { IsSpace (P.meaning space.new) }
     ensures full { let s = P.meaning space.old in (inputs : List ℕ) (v : List Bool → Nets) → IsCase s plan.now marks.now pairs.old inputs v
         → IsErrOf result SpaceFault.Full → fits s (gathered (plan_tables s.width v marks.now plan.now) (length plan.now)) ≡ false }
 {
+    space.facts();
     for cell in plan {
         if marks[cell.out.0 as usize] {
             let made = cell_pair(space, cell, pairs)?;

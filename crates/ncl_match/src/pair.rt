@@ -2,7 +2,7 @@
 ghost use Rattle.std.specs.Prelude.{◌≡◌, ◌≤◌, [], ◌∷◌, true, false, All, IfOk, OnOk, IsErrOf, length, map};
 ghost use Rattle.ncl_gates.specs.Dual.{dual_pins};
 ghost use Rattle.ncl_gates.specs.Gate.{arity_of};
-ghost use Rattle.ncl_space.specs.Space.{IsLive, IsSpace, Keeps, fits};
+ghost use Rattle.ncl_space.specs.Space.{IsLive, Keeps, fits};
 ghost use Rattle.ncl_match.specs.Pairs.{HasFunction, IsPair, MakesPair, both_tables, function_at, functions_at, gate_function, inverse, side_of};
 ghost use Rattle.ncl_space.specs.Functions.{is_value};
 ghost use Rattle.std.specs.Prelude.{slice_index_or, ◌<◌, List, Bool};
@@ -65,7 +65,6 @@ fn dual_zeros(kind: Kind, pairs: &[Pair]) -> ArrayVec<Ref, 4>
 
 /// The pair of a constant. Takes no memory.
 pub fn constant_pair<P: Space>(space: &P, value: bool) -> Pair
-    requires { IsSpace (P.meaning space.now) }
     ensures { HasFunction (P.meaning space.now) result (λ word. value) }
 {
     let one = space.constant(value);
@@ -78,12 +77,10 @@ pub fn constant_pair<P: Space>(space: &P, value: bool) -> Pair
 /// `Full` comes exactly where the beads held with those of both are more than the limit. What is made
 /// before a refusal stays.
 pub fn rail_pair<P: Space>(space: &mut P, bit: usize) -> Result<Pair, SpaceFault>
-    requires space { IsSpace (P.meaning space.old) }
-    requires bit { bit < (P.meaning space.old).width }
+    requires { bit < (P.meaning space.old).width }
     ensures made { let s = P.meaning space.old in
         IfOk result (λ p. MakesPair s (P.meaning space.new) p (λ word. slice_index_or word bit false) (both_tables s.width (λ word. slice_index_or word bit false))) }
     ensures kept { Keeps (P.meaning space.old) (P.meaning space.new) }
-    ensures space { IsSpace (P.meaning space.new) }
     ensures full { let s = P.meaning space.old in
         IsErrOf result SpaceFault.Full → fits s (both_tables s.width (λ word. slice_index_or word bit false)) ≡ false }
 {
@@ -98,16 +95,15 @@ pub fn rail_pair<P: Space>(space: &mut P, bit: usize) -> Result<Pair, SpaceFault
 /// `Full` comes exactly where the beads held with those of both are more than the limit. What is made
 /// before a refusal stays.
 pub fn gate_pair<P: Space>(space: &mut P, kind: Kind, ins: &[Pair]) -> Result<Pair, SpaceFault>
-    requires space { IsSpace (P.meaning space.old) }
     requires arity { length ins.now ≡ arity_of kind }
     requires pairs { All (IsPair (P.meaning space.old)) ins.now }
     ensures made { let s = P.meaning space.old in let f = gate_function kind (functions_at s ins.now) in
         IfOk result (λ p. MakesPair s (P.meaning space.new) p f (both_tables s.width f)) }
     ensures kept { Keeps (P.meaning space.old) (P.meaning space.new) }
-    ensures space { IsSpace (P.meaning space.new) }
     ensures full { let s = P.meaning space.old in
         IsErrOf result SpaceFault.Full → fits s (both_tables s.width (gate_function kind (functions_at s ins.now))) ≡ false }
 {
+    space.facts();
     let one = space.apply(kind, sides(ins, true).as_slice())?;
     let zero = space.apply(kind.dual(), dual_zeros(kind, ins).as_slice())?;
     Ok(Pair { one, zero })

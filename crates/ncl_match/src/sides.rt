@@ -1,7 +1,7 @@
 //! The two sides of an output, and where they differ.
 ghost use Rattle.std.specs.Prelude.{◌≡◌, ◌-◌, ◌<◌, ◌≤◌, List, Bool, IfOk, OnOk, IsErrOf, length};
 ghost use Rattle.ncl_blif.specs.Model.{AreModels};
-ghost use Rattle.ncl_space.specs.Space.{IsSpace, Keeps};
+ghost use Rattle.ncl_space.specs.Space.{Keeps};
 ghost use Rattle.ncl_match.specs.Answer.{HaveWidths};
 ghost use Rattle.ncl_match.specs.Circuit.{circuit_of};
 ghost use Rattle.ncl_match.specs.Gathering.{Gathers, IsHeld, Overflows};
@@ -27,7 +27,6 @@ pub fn difference<P: Space>(
     sides: &Sides,
     output: u32,
 ) -> Result<Pair, SpaceFault>
-    requires space { IsSpace (P.meaning space.old) }
     requires width { (P.meaning space.old).width ≡ length sides.now.pipeline.inputs }
     requires models { AreModels sides.now.models }
     requires widths { HaveWidths (circuit_of sides.now.pipeline) sides.now.models }
@@ -36,7 +35,6 @@ pub fn difference<P: Space>(
     ensures whole { OnOk result ((table : List Bool) → IsListed (circuit_of sides.now.pipeline) sides.now.models (output - 1) table → IsHeld (P.meaning space.new) table) }
     ensures gathers { OnOk result (Gathers (IsListed (circuit_of sides.now.pipeline) sides.now.models (output - 1)) (P.meaning space.old) (P.meaning space.new)) }
     ensures kept { Keeps (P.meaning space.old) (P.meaning space.new) }
-    ensures space { IsSpace (P.meaning space.new) }
     ensures full { IsErrOf result SpaceFault.Full → Overflows (IsListed (circuit_of sides.now.pipeline) sides.now.models (output - 1)) (P.meaning space.old) }
 {
     let place = output as usize - 1;

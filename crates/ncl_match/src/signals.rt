@@ -1,7 +1,7 @@
 //! The functions of the signals of models in a space.
 ghost use Rattle.std.specs.Prelude.{◌≡◌, ℕ, ◌+◌, ◌<◌, ◌≤◌, List, [], true, false, if◌then◌else◌, All, IfOk, OnOk, IsErrOf, length, map};
 ghost use Rattle.ncl_blif.specs.Meaning.{width_of};
-ghost use Rattle.ncl_space.specs.Space.{IsSpace, Keeps, fits, with_tables};
+ghost use Rattle.ncl_space.specs.Space.{Keeps, fits, with_tables};
 ghost use Rattle.ncl_match.specs.Answer.{outputs_of};
 ghost use Rattle.ncl_match.specs.Circuit.{Circuit};
 ghost use Rattle.ncl_match.specs.Covers.{cover_function, cover_tables};
@@ -45,7 +45,6 @@ fn step_pair<P: Space>(
     pairs: &[Pair],
     is_marked: bool,
 ) -> Result<Pair, SpaceFault>
-    requires space { IsSpace (P.meaning space.old) }
     requires pairs { All (IsPair (P.meaning space.old)) pairs.now }
     requires within { All (λ (x : ℕ). x < length pairs.now) step.now.ins }
     requires widths { All (λ row. length row ≡ length step.now.ins) step.now.cover.now.rows }
@@ -55,10 +54,10 @@ fn step_pair<P: Space>(
     ensures held { let s = P.meaning space.old in let fs = functions_at s (map (pair_at pairs.now) step.now.ins) in
         OnOk result ((P.meaning space.new).held ≡ with_tables s (if is_marked then cover_tables s.width fs step.now.cover.now.rows else [])) }
     ensures kept { Keeps (P.meaning space.old) (P.meaning space.new) }
-    ensures space { IsSpace (P.meaning space.new) }
     ensures full { let s = P.meaning space.old in let fs = functions_at s (map (pair_at pairs.now) step.now.ins) in
         IsErrOf result SpaceFault.Full → fits s (if is_marked then cover_tables s.width fs step.now.cover.now.rows else []) ≡ false }
 {
+    space.facts();
     if !is_marked {
         return Ok(constant_pair(space, false));
     }
@@ -68,15 +67,14 @@ fn step_pair<P: Space>(
 
 // The pair of an input, or that of the constant 0 where it isn't marked.
 fn bit_pair<P: Space>(space: &mut P, bit: usize, is_marked: bool) -> Result<Pair, SpaceFault>
-    requires space { IsSpace (P.meaning space.old) }
-    requires bit { bit < (P.meaning space.old).width }
+    requires { bit < (P.meaning space.old).width }
     ensures pair { IfOk result (IsPair (P.meaning space.new)) }
     ensures has { IfOk result (λ p. is_marked ≡ true → HasFunction (P.meaning space.new) p (bit_function bit)) }
     ensures held { let s = P.meaning space.old in OnOk result ((P.meaning space.new).held ≡ with_tables s (if is_marked then both_tables s.width (bit_function bit) else [])) }
     ensures kept { Keeps (P.meaning space.old) (P.meaning space.new) }
-    ensures space { IsSpace (P.meaning space.new) }
     ensures full { let s = P.meaning space.old in IsErrOf result SpaceFault.Full → fits s (if is_marked then both_tables s.width (bit_function bit) else []) ≡ false }
 {
+    space.facts();
     if !is_marked {
         return Ok(constant_pair(space, false));
     }
@@ -93,14 +91,13 @@ fn bit_pairs<P: Space>(
     inputs: usize,
     marks: &[bool],
 ) -> Result<Vec<Pair>, SpaceFault>
-    requires space { IsSpace (P.meaning space.old) }
     requires width { (P.meaning space.old).width ≡ inputs }
     requires marks { inputs ≤ length marks.now }
     ensures have { IfOk result (λ pairs. HaveBits (P.meaning space.old) (P.meaning space.new) marks.now pairs.items inputs) }
     ensures kept { Keeps (P.meaning space.old) (P.meaning space.new) }
-    ensures space { IsSpace (P.meaning space.new) }
     ensures full { let s = P.meaning space.old in IsErrOf result SpaceFault.Full → fits s (gathered (first_tables s.width marks.now) inputs) ≡ false }
 {
+    space.facts();
     let mut pairs = Vec::new(alloc);
     for bit in 0..inputs {
         let pair = bit_pair(space, bit, marks[bit])?;
@@ -121,7 +118,6 @@ fn step_pairs<P: Space>(
     marks: &[bool],
     pairs: &mut Vec<Pair>,
 ) -> Result<(), SpaceFault>
-    requires space { IsSpace (P.meaning space.old) }
     requires ordered { AreOrdered (P.meaning space.old).width steps.now }
     requires many { length pairs.old.items ≡ (P.meaning space.old).width }
     requires pairs { All (IsPair (P.meaning space.old)) pairs.old.items }
@@ -129,9 +125,9 @@ fn step_pairs<P: Space>(
     requires have { HaveSignals (P.meaning space.old) steps.now marks.now pairs.old.items (P.meaning space.old).width }
     ensures have { OnOk result (HaveSteps (P.meaning space.old) (P.meaning space.new) steps.now marks.now pairs.new.items (length steps.now)) }
     ensures kept { Keeps (P.meaning space.old) (P.meaning space.new) }
-    ensures space { IsSpace (P.meaning space.new) }
     ensures full { let s = P.meaning space.old in IsErrOf result SpaceFault.Full → fits s (gathered (step_tables s.width steps.now marks.now) (length steps.now)) ≡ false }
 {
+    space.facts();
     for step in steps {
         let before = pairs.as_slice();
         let is_marked = marks[before.len()];
@@ -152,16 +148,15 @@ pub fn models_pair<P: Space>(
     ordered: &OrderedModels,
     output: usize,
 ) -> Result<Pair, SpaceFault>
-    requires space { IsSpace (P.meaning space.old) }
     requires width { (P.meaning space.old).width ≡ width_of ordered.now }
     requires output { output < outputs_of ordered.now }
     ensures signal { (c : Circuit) → length c.inputs ≡ width_of ordered.now → IfOk result (λ p. HasSignal (P.meaning space.new) p c ordered.now output) }
     ensures signals { (c : Circuit) → length c.inputs ≡ width_of ordered.now → OnOk result (HoldsSignals (P.meaning space.new) c ordered.now output) }
     ensures gathers { (c : Circuit) → length c.inputs ≡ width_of ordered.now → OnOk result (Gathers (IsListed c ordered.now output) (P.meaning space.old) (P.meaning space.new)) }
     ensures kept { Keeps (P.meaning space.old) (P.meaning space.new) }
-    ensures space { IsSpace (P.meaning space.new) }
     ensures full { (c : Circuit) → length c.inputs ≡ width_of ordered.now → IsErrOf result SpaceFault.Full → Overflows (IsListed c ordered.now output) (P.meaning space.old) }
 {
+    space.facts();
     let inputs = first_width(ordered.models());
     let outputs = ordered.outputs.as_slice();
     let root = outputs[output];

@@ -12,7 +12,7 @@ pub gate_pair-requires-clause-pairs : goal.gate_pair-requires-clause-pairs
 gate_pair-requires-clause-pairs g c =
     let old : SpaceData = g.P.Space.meaning c.args.space.now in
     two-pairs old c.args.f c.swapped.result c.requires.f
-    (swapped-pair old c.args.g c.swapped.result c.requires.space c.requires.g c.swapped.ensures.one c.swapped.ensures.zero).pair
+    (swapped-pair old c.args.g c.swapped.result c.facts.ensures c.requires.g c.swapped.ensures.one c.swapped.ensures.zero).pair
 
 pub returns-clause-made : goal.returns-clause-made
 returns-clause-made g c =

@@ -3,7 +3,7 @@ use Rattle.std.specs.Prelude.{All}
 use Rattle.std.proofs.lemmas.List.{take_all, get_or_default}
 use Rattle.ncl_blif.specs.declared.model.Lit.{Lit}
 use Rattle.ncl_blif.specs.declared.model.Lit.TheVariants.{Zero}
-use Rattle.ncl_space.specs.Space.{SpaceData, IsSpace, Keeps, with_tables, fits}
+use Rattle.ncl_space.specs.Space.{SpaceData, Keeps, with_tables, fits}
 use Rattle.ncl_space.proofs.SpaceLaws.{keeps_along}
 use Rattle.ncl_space.proofs.MakingLaws.{handed_on}
 use Rattle.ncl_match.specs.declared.pair.Pair.{Pair}
@@ -39,10 +39,10 @@ module _ (old now : SpaceData) (ins : List Pair) (row : List Lit) (place : ℕ) 
     pub refused : fits now (both_tables now.width next) ≡ false → fits old (row_tables old.width fs row) ≡ false
     refused full = too_much-turn old now turn place (length row) lt turned (subst (λ ts. fits now ts ≡ false) tables full)
 
-    pub turned-on : (new : SpaceData) (p : Pair) → Keeps now new → IsSpace new → MakesPair now new p next (both_tables now.width next) → Turned old new (gathered turn (place + 1)) × HasFunction new p (row_function fs (take (place + 1) row))
-    turned-on new p k space made =
+    pub turned-on : (new : SpaceData) (p : Pair) → Keeps now new → MakesPair now new p next (both_tables now.width next) → Turned old new (gathered turn (place + 1)) × HasFunction new p (row_function fs (take (place + 1) row))
+    turned-on new p k made =
         let e : suc place ≡ place + 1 = omega arith in (
-          turned-next old now new turn place turned k space (made.held ∙ ap (with_tables now) tables),
+          turned-next old now new turn place turned k (made.held ∙ ap (with_tables now) tables),
           subst (λ j. HasFunction new p (row_function fs (take j row))) e (same-function new p next (row_function fs (take (suc place) row)) (λ w wide. same w (wide ∙ k.width)) made.has),
         )
 
@@ -52,12 +52,9 @@ loop-place-init g c =
     let ins : List Pair = c.args.ins.now in
     let lits : List Lit = c.items-lits.result.now in
     record {
-      turned = turned-none old c.requires.space;
+      turned = turned-none old c.facts.ensures;
       has = same-function old c.constant_pair-matched.result (λ word. true) (row_function (functions_at old ins) (take zero lits)) (λ w wide. sym (none-matches (values_of (functions_at old ins) w) lits)) c.constant_pair-matched.ensures;
     }
-
-pub with_literal-requires-clause-space : goal.with_literal-requires-clause-space
-with_literal-requires-clause-space g c = c.loop-place.invariant.turned.space
 
 pub with_literal-requires-clause-matched : goal.with_literal-requires-clause-matched
 with_literal-requires-clause-matched g c = c.loop-place.invariant.has.pair
@@ -67,7 +64,7 @@ with_literal-requires-clause-input g c =
     let old : SpaceData = g.P.Space.meaning c.args.space.now in
     let now : SpaceData = g.P.Space.meaning c.loop-place.space in
     let many : length c.items-lits.result.now ≡ length c.args.ins.now = ap length c.items-lits.ensures ∙ c.requires.width in
-    pairs-kept old now c.args.ins.now c.requires.space c.loop-place.invariant.turned.kept c.requires.pairs c.loop-place.place no_pair (subst (λ n. c.loop-place.place < n) many c.loop-place-test.true)
+    pairs-kept old now c.args.ins.now c.facts.ensures c.loop-place.invariant.turned.kept c.requires.pairs c.loop-place.place no_pair (subst (λ n. c.loop-place.place < n) many c.loop-place-test.true)
 
 pub returns-in_err-matched-clause-kept : goal.returns-in_err-matched-clause-kept
 returns-in_err-matched-clause-kept g c =
@@ -92,7 +89,7 @@ loop-place-preserved g c =
     let lits : List Lit = c.items-lits.result.now in
     let place = c.loop-place.place in
     let on = turned-on _ _ c.args.ins.now lits place c.loop-place.matched (get_or lits place Zero) no_pair c.loop-place.invariant.turned c.requires.pairs c.loop-place-test.true (ap length c.items-lits.ensures ∙ c.requires.width) (get_or_default lits place Zero (get_or lits place Zero) c.loop-place-test.true) c.loop-place.invariant.has
-    _ c.in_ok-matched.matched c.in_ok-matched.ensures.kept c.in_ok-matched.ensures.space c.in_ok-matched.ensures.made in
+    _ c.in_ok-matched.matched c.in_ok-matched.ensures.kept c.in_ok-matched.ensures.made in
     record { turned = on.0; has = on.1 }
 
 pub returns-clause-made : goal.returns-clause-made
@@ -112,6 +109,3 @@ returns-clause-made g c =
 
 pub returns-clause-kept : goal.returns-clause-kept
 returns-clause-kept g c = c.loop-place.invariant.turned.kept
-
-pub returns-clause-space : goal.returns-clause-space
-returns-clause-space g c = c.loop-place.invariant.turned.space

@@ -3,7 +3,7 @@ use Rattle.std.specs.Prelude.{All}
 use Rattle.std.proofs.lemmas.List.{get_or_default}
 use Rattle.ncl_blif.specs.declared.model.Lit.{Lit}
 use Rattle.ncl_gates.specs.declared.kind.Kind.TheVariants.{Th12}
-use Rattle.ncl_space.specs.Space.{SpaceData, IsSpace, Keeps, with_tables, fits}
+use Rattle.ncl_space.specs.Space.{SpaceData, Keeps, with_tables, fits}
 use Rattle.ncl_space.proofs.SpaceLaws.{keeps_along, too_much_by_front}
 use Rattle.ncl_space.proofs.MakingLaws.{handed_on, held-along, too_much-after}
 use Rattle.ncl_stage.proofs.OutputLaws.{or_gate}
@@ -63,10 +63,10 @@ module _ (old now mid : SpaceData) (ins : List Pair) (rows : List (List Lit)) (p
           (made.held ∙ ap (with_tables now) row_same)
           (subst (λ ts. fits mid ts ≡ false) tables full))
 
-      pub turned-on : (new : SpaceData) (p : Pair) → Keeps mid new → IsSpace new → MakesPair mid new p next (both_tables mid.width next) → Turned old new (gathered turn (place + 1)) × HasFunction new p (rows_function fs (take (place + 1) rows))
-      turned-on new p l space also =
+      pub turned-on : (new : SpaceData) (p : Pair) → Keeps mid new → MakesPair mid new p next (both_tables mid.width next) → Turned old new (gathered turn (place + 1)) × HasFunction new p (rows_function fs (take (place + 1) rows))
+      turned-on new p l also =
           let e : suc place ≡ place + 1 = omega arith in (
-            turned-next old now new turn place turned (keeps_along now mid new k l) space
+            turned-next old now new turn place turned (keeps_along now mid new k l)
                 (held-along now mid new (row_tables old.width fs (get_or rows place [])) (both_tables old.width (rows_function fs (take (suc place) rows))) k
                 (made.held ∙ ap (with_tables now) row_same) (also.held ∙ ap (with_tables mid) tables)),
             subst (λ j. HasFunction new p (rows_function fs (take j rows))) e (same-function new p next (rows_function fs (take (suc place) rows)) (λ w wide. same w (wide ∙ l.width)) also.has),
@@ -75,7 +75,7 @@ module _ (old now mid : SpaceData) (ins : List Pair) (rows : List (List Lit)) (p
 pub loop-row-init : goal.loop-row-init
 loop-row-init g c =
     let old : SpaceData = g.P.Space.meaning c.args.space.now in
-    record { turned = turned-none old c.requires.space; has = c.constant_pair-some.ensures; within = omega arith }
+    record { turned = turned-none old c.facts.ensures; has = c.constant_pair-some.ensures; within = omega arith }
 
 pub returns-in_err-matched-clause-full : goal.returns-in_err-matched-clause-full
 returns-in_err-matched-clause-full g c = λ e.
@@ -98,5 +98,5 @@ loop-row-preserved g c =
     let lt = c.loop-row-test.true in
     let on = turned-on _ _ _ c.args.ins.now c.args.rows.now c.loop-row.row-index c.loop-row.some c.in_ok-matched.matched c.row-item.result c.loop-row.invariant.turned c.requires.pairs c.loop-row-test.true c.row-item.is
     c.loop-row.invariant.has c.in_ok-matched.ensures.kept c.in_ok-matched.ensures.made
-    _ c.in_ok-some.some c.in_ok-some.ensures.kept c.in_ok-some.ensures.space c.in_ok-some.ensures.made in
+    _ c.in_ok-some.some c.in_ok-some.ensures.kept c.in_ok-some.ensures.made in
     record { turned = on.0; has = on.1; within = omega (arith, lt) }

@@ -27,7 +27,7 @@ pub gate_pair-requires-clause-pairs : goal.gate_pair-requires-clause-pairs
 gate_pair-requires-clause-pairs g c =
     let old : SpaceData = g.P.Space.meaning c.args.space.now in
     two-pairs old c.args.matched c.swapped.result c.requires.matched
-    (swapped-pair old c.args.input c.swapped.result c.requires.space c.requires.input c.swapped.ensures.one c.swapped.ensures.zero).pair
+    (swapped-pair old c.args.input c.swapped.result c.facts.ensures c.requires.input c.swapped.ensures.one c.swapped.ensures.zero).pair
 
 pub returns-in-Zero-clause-made : goal.returns-in-Zero-clause-made
 returns-in-Zero-clause-made g c =
@@ -70,5 +70,5 @@ returns-in-Dash-clause-made g c =
     let has = same-function old c.args.matched (function_at old c.args.matched) f
     (λ w wide. dash-literal old c.args.matched c.args.input w
     ∙ ap (λ lit. literal_function (function_at old c.args.matched) lit (function_at old c.args.input) w) (sym c.in-Dash.is))
-    (own-function old c.args.matched c.requires.space c.requires.matched) in
-    record { has = has; held = live-costs old c.args.matched f c.requires.space has }
+    (own-function old c.args.matched c.facts.ensures c.requires.matched) in
+    record { has = has; held = live-costs old c.args.matched f c.facts.ensures has }

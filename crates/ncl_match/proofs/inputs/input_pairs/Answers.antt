@@ -9,7 +9,7 @@ use Rattle.ncl_match.proofs.inputs.input_pairs.Goals as goal
 use Rattle.ncl_match.proofs.inputs.input_pairs.Goals.{then-is_needed+in_ok-made, else-is_needed}
 
 pub loop-bit-init : goal.loop-bit-init
-loop-bit-init g c = inputs-begin (g.P.Space.meaning c.args.space.now) c.args.inputs.now c.args.marks.now c.args.pairs.now c.requires.space c.requires.pairs
+loop-bit-init g c = inputs-begin (g.P.Space.meaning c.args.space.now) c.args.inputs.now c.args.marks.now c.args.pairs.now c.facts.ensures c.requires.pairs
 
 pub returns-in_err-made-clause-full : goal.returns-in_err-made-clause-full
 returns-in_err-made-clause-full g c = λ e.
@@ -31,7 +31,7 @@ loop-bit-preserved g c =
       | then-is_needed+in_ok-made w ↦
           let new : SpaceData = g.P.Space.meaning w.rail_pair.new.space in
           let more = input-more _ _ inputs marks first _ place lt c.loop-bit.invariant (sym c.is_needed.ensures ∙ w.if-is_needed.true) new w.in_ok-made.made w.swapped.result c.requires.differ
-          (c.requires.zeros place no_rails lt) (c.requires.ones place no_rails lt) w.in_ok-made.ensures.kept w.in_ok-made.ensures.space w.swapped.ensures.one w.swapped.ensures.zero w.in_ok-made.ensures.made in
+          (c.requires.zeros place no_rails lt) (c.requires.ones place no_rails lt) w.in_ok-made.ensures.kept w.swapped.ensures.one w.swapped.ensures.zero w.in_ok-made.ensures.made in
           subst (λ s. InputLoop old (g.P.Space.meaning s) inputs marks first c.if-is_needed.pairs (place + 1)) (sym w.space-is)
           (subst (λ ps. InputLoop old new inputs marks first ps (place + 1)) (sym w.pairs-is) more)
       | else-is_needed w ↦

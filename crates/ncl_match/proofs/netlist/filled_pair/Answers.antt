@@ -38,7 +38,6 @@ input_pairs-requires g c =
     let (l, is) = laid_out_of p.netlist p (subst (λ (q : PipelineData). Shape q.netlist q) c.pipeline-pipeline.ensures c.facts.ensures) in
     let many : length p.netlist.nets ≡ length c.args.pairs.now = sym c.requires.marks.are.many ∙ c.requires.many in
     record {
-      space = search rules;
       width = search rules;
       differ = subst (λ bits. AllPairs (λ (x y : ℕ). x ≢ y) (rail_nets bits)) (sym bits_are) (inputs-differ is);
       zeros = subst (All (λ (r : Rails). r.zero.0 < length c.args.pairs.now)) (sym bits_are) (subst (λ n. All (λ (r : Rails). r.zero.0 < n) p.inputs) many (zeros-within is));
@@ -99,11 +98,11 @@ returns-clause-made g c =
     let after : List Pair = c.plan_pairs.new.pairs in
     let case = inputs-case is c.args.output marks c.requires.marks old now pairs (c.in_ok-input_pairs.ensures.kept.width ∙ c.requires.width) (with_inputs old now c.inputs.result.now p.inputs marks pairs bits_are c.in_ok-input_pairs.ensures.have) in
     let over_plan = subst (λ (cells : List DataCell). IsCase now cells marks pairs (rail_nets p.inputs) (values p) → AreDone now new cells marks after (rail_nets p.inputs) (values p) (length cells)) c.cells.ensures (c.in_ok-plan_pairs.ensures.done (rail_nets p.inputs) (values p)) in
-    let had = rail-had is c.args.output marks c.requires.marks now new after c.in_ok-plan_pairs.ensures.space (over_plan case) in
+    let had = rail-had is c.args.output marks c.requires.marks now new after c.in_ok-plan_pairs.ensures.kept.space (over_plan case) in
     let own : c.requires.marks.rails ≡ get_or c.outputs.result.now c.args.output no_rails = sym (ap (λ xs. get_or xs c.args.output no_rails) outputs_are ∙ get_or_from_slice_get p.outputs c.args.output c.requires.marks.rails no_rails c.requires.marks.at) in
     record {
       rail = subst (λ (r : Rails). HasRail new (pair_at after r.one.0) (circuit_of p) c.args.output) own had;
-      nets = nets-held is c.args.output marks c.requires.marks now new after c.in_ok-plan_pairs.ensures.space (over_plan case);
+      nets = nets-held is c.args.output marks c.requires.marks now new after c.in_ok-plan_pairs.ensures.kept.space (over_plan case);
       gathers = λ models. cells-gather is c.args.output marks c.requires.marks models old c.inputs.result.now c.requires.width bits_are now pairs c.in_ok-input_pairs.ensures.kept c.in_ok-input_pairs.ensures.have new after (over_plan case);
       full = search rules;
     }

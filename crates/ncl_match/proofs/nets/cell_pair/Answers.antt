@@ -50,7 +50,6 @@ returns-in-Some g c =
           (λ p m. makes-same old new p gate f c.gate_pair.ensures.kept (λ w wide. same w) m)
           c.gate_pair.ensures.made;
       kept = search rules;
-      space = search rules;
       full = λ full. fits-same old gate f (λ w wide. same w) (c.gate_pair.ensures.full full);
     }
 
@@ -67,5 +66,5 @@ returns-in-None-clause-made g c =
     let many : length items ≡ 1 = ap length e ∙ length-map nets (λ (x : NetId). pair_at c.args.pairs.now x.0) ∙ one in
     let are : All (IsPair old) items = subst (All (IsPair old)) (sym e) (pins-pairs old c.args.pairs.now nets c.requires.pairs c.requires.within) in
     let pair : IsPair old (get_or items 0 d) = are 0 d (omega (arith, many)) in
-    let has = same-function old (get_or items 0 d) (function_at old (get_or items 0 d)) f (λ w wide. by_copy old c.args.pairs.now nets c.args.cell.now.kind c.in-None.is pins items e d w) (own-function old (get_or items 0 d) c.requires.space pair) in
-    record { has = has; held = live-costs old (get_or items 0 d) f c.requires.space has }
+    let has = same-function old (get_or items 0 d) (function_at old (get_or items 0 d)) f (λ w wide. by_copy old c.args.pairs.now nets c.args.cell.now.kind c.in-None.is pins items e d w) (own-function old (get_or items 0 d) c.facts.ensures pair) in
+    record { has = has; held = live-costs old (get_or items 0 d) f c.facts.ensures has }

@@ -13,7 +13,7 @@ at_place : (plan : List DataCell) (place : ℕ) (cell : DataCell) → place < le
 at_place plan place cell lt is = slice_get_read plan (length plan) place cell refl lt is
 
 pub loop-cell-init : goal.loop-cell-init
-loop-cell-init g c = loop-begins (g.P.Space.meaning c.args.space.now) c.args.plan.now c.args.marks.now c.args.pairs.now c.requires.space c.requires.pairs
+loop-cell-init g c = loop-begins (g.P.Space.meaning c.args.space.now) c.args.plan.now c.args.marks.now c.args.pairs.now c.facts.ensures c.requires.pairs
 
 pub bounds-marks-cell : goal.bounds-marks-cell
 bounds-marks-cell g c =
@@ -36,7 +36,7 @@ returns-in_err-made-clause-full g c = λ inputs v case e.
     let plan : List DataCell = c.args.plan.now in
     let place = c.loop-cell.cell-index in
     let cell : DataCell = c.cell-item.result in
-    refused old now plan c.args.marks.now c.args.pairs.now c.loop-cell.pairs inputs v place cell (at_place plan place cell c.loop-cell-test.true c.cell-item.is) case c.loop-cell.invariant.kept c.loop-cell.invariant.space (c.loop-cell.invariant.done inputs v case)
+    refused old now plan c.args.marks.now c.args.pairs.now c.loop-cell.pairs inputs v place cell (at_place plan place cell c.loop-cell-test.true c.cell-item.is) case c.loop-cell.invariant.kept (c.loop-cell.invariant.done inputs v case)
     c.if-marks-cell.true c.loop-cell-test.true
     (c.in_err-made.ensures.full (ap Err (handed_on c.from_residual.result c.in_err-made.field-0.0 c.from_residual.ensures.1 e)))
 
@@ -55,7 +55,7 @@ loop-cell-preserved g c =
     elim c.if-marks-cell.branch [
       | then-marks-cell+in_ok-made w ↦
           let within : cell.out.0 < length pairs = subst (λ n. cell.out.0 < n) (sym c.loop-cell.invariant.many) (c.requires.ordered.outs place cell at) in
-          let more = loop-more old now (g.P.Space.meaning w.cell_pair.new.space) plan marks first pairs place cell w.in_ok-made.made at lt w.if-marks-cell.true within w.in_ok-made.ensures.kept w.in_ok-made.ensures.space w.in_ok-made.ensures.made c.loop-cell.invariant in
+          let more = loop-more old now (g.P.Space.meaning w.cell_pair.new.space) plan marks first pairs place cell w.in_ok-made.made at lt w.if-marks-cell.true within w.in_ok-made.ensures.kept w.in_ok-made.ensures.made c.loop-cell.invariant in
           subst (λ s. PlanLoop old (g.P.Space.meaning s) plan marks first c.if-marks-cell.pairs (place + 1)) (sym w.space-is)
           (subst (λ ps. PlanLoop old (g.P.Space.meaning w.cell_pair.new.space) plan marks first ps (place + 1)) (sym w.pairs-is) more)
       | else-marks-cell w ↦

@@ -38,7 +38,7 @@ apply-requires-2-clause-live g c =
     let old : SpaceData = g.P.Space.meaning c.args.space.now in
     let mid : SpaceData = g.P.Space.meaning c.apply.new.self in
     subst (All (IsLive mid)) (sym (c.as_slice-2.ensures.value ∙ c.dual_zeros.ensures))
-    (dual_zeros-live mid c.args.kind c.args.ins.now (pairs-kept old mid c.args.ins.now c.requires.space c.in_ok-one.ensures.kept c.requires.pairs))
+    (dual_zeros-live mid c.args.kind c.args.ins.now (pairs-kept old mid c.args.ins.now c.facts.ensures c.in_ok-one.ensures.kept c.requires.pairs))
 
 -- the tables of the gate and of its dual on the Refs that were passed
 module _ (old mid : SpaceData) (kind dual : Kind) (pairs : List Pair) where
@@ -68,7 +68,7 @@ returns-in_err-zero-clause-full g c = λ e.
     second-too_much old mid (gate_function kind (functions_at old pairs)) c.in_ok-one.one c.in_ok-one.ensures.kept
     (subst (Makes old mid c.in_ok-one.one) (one-table old mid kind kind pairs c.as_slice.result.now (c.as_slice.ensures.value ∙ c.sides.ensures)) c.in_ok-one.ensures.made)
     (subst (λ t. fits mid (t ∷ []) ≡ false)
-    (zero-table old mid kind c.dual.result pairs c.requires.space c.in_ok-one.ensures.kept c.requires.pairs c.requires.arity c.dual.ensures c.as_slice-2.result.now (c.as_slice-2.ensures.value ∙ c.dual_zeros.ensures))
+    (zero-table old mid kind c.dual.result pairs c.facts.ensures c.in_ok-one.ensures.kept c.requires.pairs c.requires.arity c.dual.ensures c.as_slice-2.result.now (c.as_slice-2.ensures.value ∙ c.dual_zeros.ensures))
     (c.in_err-zero.ensures.full (ap Err (handed_on c.from_residual-in_err-zero.result c.in_err-zero.field-0.0 c.from_residual-in_err-zero.ensures.1 e))))
 
 pub returns-clause-made : goal.returns-clause-made
@@ -82,5 +82,5 @@ returns-clause-made g c =
     (subst (Makes old mid c.in_ok-one.one) (one-table old mid kind kind pairs c.as_slice.result.now (c.as_slice.ensures.value ∙ c.sides.ensures)) c.in_ok-one.ensures.made)
     c.in_ok-zero.ensures.kept
     (subst (Makes mid new c.in_ok-zero.zero)
-    (zero-table old mid kind c.dual.result pairs c.requires.space c.in_ok-one.ensures.kept c.requires.pairs c.requires.arity c.dual.ensures c.as_slice-2.result.now (c.as_slice-2.ensures.value ∙ c.dual_zeros.ensures))
+    (zero-table old mid kind c.dual.result pairs c.facts.ensures c.in_ok-one.ensures.kept c.requires.pairs c.requires.arity c.dual.ensures c.as_slice-2.result.now (c.as_slice-2.ensures.value ∙ c.dual_zeros.ensures))
     c.in_ok-zero.ensures.made)

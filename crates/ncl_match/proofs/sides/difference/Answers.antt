@@ -105,7 +105,6 @@ returns g c =
       whole = whole c.requires.models.each c.in_ok-f.ensures.made.nets (c.in_ok-g.ensures.signals circuit c.requires.widths.inputs);
       gathers = gathers;
       kept = keeps_along old b new (keeps_along old a b c.in_ok-f.ensures.kept c.in_ok-g.ensures.kept) c.in_ok-either.ensures.kept;
-      space = search rules;
       full = search rules;
     }
 

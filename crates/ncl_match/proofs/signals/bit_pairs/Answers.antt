@@ -21,7 +21,7 @@ loop-bit-init g c =
     let many : length c.new-pairs.result.items ≡ 0 = ap length none in
     record {
       many = many;
-      done = pairs-begin s (first_tables s.width c.args.marks.now) bit_function c.args.marks.now c.new-pairs.result.items c.requires.space (subst (All (IsPair s)) (sym none) (All-nil (IsPair s))) (λ x lt mark. absurd (omega (arith, lt, many)));
+      done = pairs-begin s (first_tables s.width c.args.marks.now) bit_function c.args.marks.now c.new-pairs.result.items c.facts.ensures (subst (All (IsPair s)) (sym none) (All-nil (IsPair s))) (λ x lt mark. absurd (omega (arith, lt, many)));
     }
 
 pub returns-in_err-pair-clause-full : goal.returns-in_err-pair-clause-full
@@ -45,7 +45,7 @@ loop-bit-preserved g c =
     let more : c.push.new.self.items ≡ pairs ++ p ∷ [] = grind (arith, common_steps) in
     record {
       many = ap length more ∙ length_push pairs p ∙ ap (λ k. k + 1) many;
-      done = pairs-more old now _ (first_tables old.width marks) bit_function marks pairs c.loop-bit.bit p l c.in_ok-pair.ensures.kept c.in_ok-pair.ensures.space c.in_ok-pair.ensures.pair
+      done = pairs-more old now _ (first_tables old.width marks) bit_function marks pairs c.loop-bit.bit p l c.in_ok-pair.ensures.kept c.in_ok-pair.ensures.pair
           (subst (λ k. bit_at marks k ≡ true → HasFunction (g.P.Space.meaning c.bit_pair.new.space) p (bit_function k)) (sym many) c.in_ok-pair.ensures.has)
           (c.in_ok-pair.ensures.held ∙ ap (with_tables now) (bit-turn old now marks c.loop-bit.bit l.turned.kept.width)) c.push.new.self.items more;
     }

@@ -96,10 +96,9 @@ returns g c =
     record {
       signal = λ circuit wide.
           subst₂ (λ ps outs. HasSignal new (pair_at ps (get_or outs c.args.output 0)) circuit models c.args.output) (sym c.as_slice-made.ensures.value) (sym c.as_slice-outputs.ensures.value)
-          (output-had models steps outs row c.args.output c.requires.output marks needed circuit wide old c.requires.width mid _ c.in_ok-pairs.ensures.kept bits new pairs c.in_ok-step_pairs.ensures.kept c.in_ok-step_pairs.ensures.space done);
-      signals = λ circuit wide. all-held models steps outs row c.args.output c.requires.output marks needed circuit wide old c.requires.width mid _ c.in_ok-pairs.ensures.kept bits new pairs c.in_ok-step_pairs.ensures.kept c.in_ok-step_pairs.ensures.space done;
-      gathers = λ circuit wide. steps-gather models steps outs row c.args.output c.requires.output marks needed circuit wide old c.requires.width mid _ c.in_ok-pairs.ensures.kept bits new pairs c.in_ok-step_pairs.ensures.kept c.in_ok-step_pairs.ensures.space done;
+          (output-had models steps outs row c.args.output c.requires.output marks needed circuit wide old c.requires.width mid _ c.in_ok-pairs.ensures.kept bits new pairs c.in_ok-step_pairs.ensures.kept done);
+      signals = λ circuit wide. all-held models steps outs row c.args.output c.requires.output marks needed circuit wide old c.requires.width mid _ c.in_ok-pairs.ensures.kept bits new pairs c.in_ok-step_pairs.ensures.kept done;
+      gathers = λ circuit wide. steps-gather models steps outs row c.args.output c.requires.output marks needed circuit wide old c.requires.width mid _ c.in_ok-pairs.ensures.kept bits new pairs c.in_ok-step_pairs.ensures.kept done;
       kept = search rules;
-      space = search rules;
       full = search rules;
     }

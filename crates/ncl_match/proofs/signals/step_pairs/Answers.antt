@@ -21,7 +21,7 @@ loop-step-init g c =
     let many : length c.args.pairs.now.items ≡ s.width = c.requires.many in
     record {
       many = omega (arith, many);
-      done = pairs-begin s (step_tables s.width c.args.steps.now c.args.marks.now) (signal_function c.args.steps.now) c.args.marks.now c.args.pairs.now.items c.requires.space c.requires.pairs (λ x lt mark. c.requires.have x (omega (arith, lt, many)) mark);
+      done = pairs-begin s (step_tables s.width c.args.steps.now c.args.marks.now) (signal_function c.args.steps.now) c.args.marks.now c.args.pairs.now.items c.facts.ensures c.requires.pairs (λ x lt mark. c.requires.have x (omega (arith, lt, many)) mark);
     }
 
 pub step_pair-requires-clause-within : goal.step_pair-requires-clause-within
@@ -86,6 +86,6 @@ loop-step-preserved g c =
     ∙ ap (with_tables now) (step-turn old now steps marks pairs place root step at c.requires.ordered needed many l mark is) in
     record {
       many = ap length more ∙ length_push pairs p ∙ omega (arith, many);
-      done = pairs-more old now new (step_tables old.width steps marks) (signal_function steps) marks pairs place p l c.in_ok-pair.ensures.kept c.in_ok-pair.ensures.space c.in_ok-pair.ensures.pair
+      done = pairs-more old now new (step_tables old.width steps marks) (signal_function steps) marks pairs place p l c.in_ok-pair.ensures.kept c.in_ok-pair.ensures.pair
           (step-has old now steps marks pairs place root step at c.requires.ordered needed many l new p c.in_ok-pair.ensures.kept has) held c.push.new.self.items more;
     }

@@ -27,7 +27,7 @@ returns-in-Ok c =
     let now_wide : now.width ≡ length circuit.inputs = c.in-Ok.ensures.kept.width ∙ wide in
     c.told.ensures circuit models c.args.limit c.args.bit h.f h.g c.requires.models.each h.are now_wide
     (h.has.table ∙ ap (λ n. table_of (words n) (apart_function h.f h.g)) now_wide)
-    (told-within circuit models c.args.limit c.args.bit old now c.new-space.ensures.new c.new-space.ensures.limit wide c.in-Ok.ensures.kept c.in-Ok.ensures.space c.in-Ok.ensures.gathers c.in-Ok.ensures.whole)
+    (told-within circuit models c.args.limit c.args.bit old now c.new-space.ensures.new c.new-space.ensures.limit wide c.in-Ok.ensures.kept c.in-Ok.ensures.gathers c.in-Ok.ensures.whole)
 
 pub returns-in-Err-Full : goal.returns-in-Err-Full
 returns-in-Err-Full c =

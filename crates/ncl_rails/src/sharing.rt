@@ -14,16 +14,6 @@ const NONE: Signal = Signal {
     inverted: false,
 };
 
-/// Nodes hold sources together in networks with at most so many nodes for the inputs: the nodes times the inputs.
-const FEW_NODES: usize = 5_000;
-
-/// Whether nodes of a network may hold sources together. Where they do, more stays high without an input, and a judge needs
-/// more nodes of decision diagrams in large stages, and could pass its usual limit where it didn't.
-fn is_small(network: &Network) -> bool {
-    let inputs = network.inputs as usize;
-    inputs.saturating_mul(network.nodes.items().len()) <= FEW_NODES
-}
-
 /// What a node of at most four inputs reads, and for what it waits.
 #[derive(Clone, Copy, Debug, PartialEq, Eq)]
 struct Sharer {
@@ -95,12 +85,12 @@ fn word_of(ins: &[Signal], number: u32) -> u32 {
 }
 
 impl Sharers {
-    /// None, and places for them where nodes may wait for less and the network is small. Linear in the network.
+    /// None, and places for them where nodes may wait for less. Linear in the network.
     pub fn new(alloc: Global, network: &Network, relax: bool) -> Result<Sharers, Memory> {
         let none = Few {
             at: [None; MOST_HOLDERS],
         };
-        let (inputs, nodes) = if relax && is_small(network) {
+        let (inputs, nodes) = if relax {
             (network.inputs as usize, network.nodes.items().len())
         } else {
             (0, 0)

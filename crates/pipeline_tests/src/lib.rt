@@ -1,4 +1,5 @@
-//! Tests of the crates that build a netlist, find its pipeline, merge its gates and compare it with models, by their public calls.
+//! Tests of the crates that find the pipeline of a netlist, merge its gates and compare it with models, by their public calls, and
+//! of what faults are shown as.
 #![tactic(auto)]
 
 #[cfg(test)]

@@ -1,13 +1,16 @@
-//! Netlists are compared with models by several threads, with one answer for every number of parts.
+//! Netlists are compared with models by several threads.
+ghost use Rattle.std.specs.Prelude.{◌≤◌};
+
 use super::netlist_texts::netlist;
 use ncl_base::Memory;
 use ncl_blif::read_blif;
 use ncl_match::{BitAnswer, Bits, CompareBit, CompareFault, Compared, Sides, compare};
 use ncl_shape::shape;
 use std::alloc::Global;
+use std::process::Abort;
 use std::sync::atomic::{AtomicBool, AtomicUsize, Ordering};
 use std::test::Fail;
-use std::thread::sleep;
+use std::thread::{Threads, sleep};
 use std::time::{Clock, Duration};
 
 /// The AND of two bits, at three outputs.
@@ -39,26 +42,19 @@ fn differ_at_01(found: &Result<Compared, CompareFault>) -> bool {
     }
 }
 
-/// Whether the third output is the first that passes the limit.
-fn is_third_over(found: &Result<Compared, CompareFault>) -> bool {
-    match found {
-        Err(CompareFault::Full(output)) => *output == 3,
-        _ => false,
-    }
-}
-
-#[test]
-fn all_numbers_of_parts_answer_alike(rt: HostRuntime) -> Result<(), Fail> {
-    let netlist = netlist(&rt, rt.alloc(), THREE)?;
+/// Whether the AND and the models are found to differ so, by so many threads.
+fn is_compared<R: Threads + Sync + Abort + AllocGlobal, B: CompareBit + Sync>(
+    rt: &R,
+    bits: &B,
+    parts: u32,
+) -> Result<bool, Fail>
+    requires { (1 ≤ parts) × (parts ≤ 16) }
+{
+    let netlist = netlist(rt, rt.alloc(), THREE)?;
     let pipeline = shape(rt.alloc(), &netlist)?;
     let models = read_blif(rt.alloc(), THREE_MODEL)?;
-    for parts in 1..=16 {
-        let found = compare(&rt, rt.alloc(), &Bits, &pipeline, &models, 10, parts);
-        assert!(rt; differ_at_01(&found), "{parts}");
-        let found = compare(&rt, rt.alloc(), &Bits, &pipeline, &models, 9, parts);
-        assert!(rt; is_third_over(&found), "{parts}");
-    }
-    Ok(())
+    let found = compare(rt, rt.alloc(), bits, &pipeline, &models, 100_000, parts);
+    Ok(differ_at_01(&found))
 }
 
 /// Compares the first output and the others once it has seen that one of the others, or the first, is being compared.
@@ -108,17 +104,13 @@ impl<C: Clock> CompareBit for Meeting<'_, C> {
 
 #[test]
 fn two_outputs_are_compared_at_one_time(rt: HostRuntime) -> Result<(), Fail> {
-    let netlist = netlist(&rt, rt.alloc(), THREE)?;
-    let pipeline = shape(rt.alloc(), &netlist)?;
-    let models = read_blif(rt.alloc(), THREE_MODEL)?;
     let bits = Meeting {
         clock: &rt,
         first: AtomicBool::new(false),
         other: AtomicBool::new(false),
         met: AtomicUsize::new(0),
     };
-    let found = compare(&rt, rt.alloc(), &bits, &pipeline, &models, 100_000, 2);
-    assert!(rt; differ_at_01(&found));
+    assert!(rt; is_compared(&rt, &bits, 2)?);
     let met = bits.met.load(Ordering::SeqCst);
     assert_eq!(rt; met, 3);
     Ok(())
@@ -172,17 +164,13 @@ impl CompareBit for Counting {
 // Each output is compared once, and no more of them at one time than there are parts.
 #[test]
 fn outputs_are_compared_once_by_so_many_threads(rt: HostRuntime) -> Result<(), Fail> {
-    let netlist = netlist(&rt, rt.alloc(), THREE)?;
-    let pipeline = shape(rt.alloc(), &netlist)?;
-    let models = read_blif(rt.alloc(), THREE_MODEL)?;
-    for (parts, threads) in [(1, 1), (2, 2)] {
+    for parts in 1..=2 {
         let bits = Counting::new();
-        let found = compare(&rt, rt.alloc(), &bits, &pipeline, &models, 100_000, parts);
-        assert!(rt; differ_at_01(&found));
+        assert!(rt; is_compared(&rt, &bits, parts)?);
         let asked = bits.asked.load(Ordering::SeqCst);
         assert_eq!(rt; asked, 3);
         let most = bits.most.load(Ordering::SeqCst);
-        assert!(rt; most <= threads, "{parts}");
+        assert!(rt; most <= parts as usize, "{parts}");
     }
     Ok(())
 }

@@ -1,15 +1,14 @@
 //! Gates between two banks are folded until none can be: which stay, and what the others become.
-use super::netlist_texts::{LAST, between, netlist};
+use super::netlist_texts::{between, netlist};
 use ncl_gates::CellKind;
 use ncl_merge::{fold_pipeline, rebuild};
 use ncl_netlist::Netlist;
 use ncl_shape::shape;
 use std::alloc::Global;
-use std::process::Abort;
 use std::test::*;
 
-/// Gates that are folded, and the kinds and names of all gates after folds, in the order of the file.
-const FOLDED: [(&str, &str); 6] = [
+/// Gates, and the kinds and names of all gates after folds, in the order of the file.
+const ROWS: [(&str, &str); 10] = [
     // one minterm and two nets that two gates read
     (
         "TH22 g1(.A(p0),.B(q0),.Z(a));TH22 g2(.A(p0),.B(q1),.Z(b));TH22 g3(.A(p1),.B(q0),.Z(v));\
@@ -44,10 +43,6 @@ const FOLDED: [(&str, &str); 6] = [
         TH12 g3(.A(v),.B(a),.Z(o));TH22 h(.A(p1),.B(q1),.Z(n));",
         "TH22 m TH23w2 g3 TH22 h",
     ),
-];
-
-/// Gates that stay.
-const STAYING: [(&str, &str); 4] = [
     // no gate is a wire
     (
         "TH22 g(.A(p0),.B(q0),.Z(a));TH12 w(.A(a),.B(p0),.Z(o));TH22 h(.A(p1),.B(q1),.Z(n));",
@@ -105,23 +100,12 @@ fn has_gates(netlist: &Netlist, gates: &str) -> bool {
     words.next().is_none()
 }
 
-/// Stops unless the gates of each row become those that it tells.
-fn try_rows<R: Abort + AllocGlobal>(rt: &R, rows: &[(&str, &str)]) -> Result<(), Fail> {
-    for (gates, folded) in rows {
-        let text = between(rt.alloc(), gates, LAST)?;
-        let found = fold_all(rt.alloc(), netlist(rt, rt.alloc(), &text)?)?;
-        let as_told = has_gates(&found, folded);
-        assert!(rt; as_told, "{gates}");
+#[test]
+fn gates_are_folded_or_stay(rt: HostRuntime) -> Result<(), Fail> {
+    for (gates, wanted) in ROWS {
+        let text = between(rt.alloc(), gates)?;
+        let found = fold_all(rt.alloc(), netlist(&rt, rt.alloc(), &text)?)?;
+        assert!(rt; has_gates(&found, wanted), "{gates}");
     }
     Ok(())
-}
-
-#[test]
-fn gates_are_folded(rt: HostRuntime) -> Result<(), Fail> {
-    try_rows(&rt, &FOLDED)
-}
-
-#[test]
-fn gates_stay(rt: HostRuntime) -> Result<(), Fail> {
-    try_rows(&rt, &STAYING)
 }

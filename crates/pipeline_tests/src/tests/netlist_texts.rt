@@ -14,15 +14,8 @@ const FIRST: &str =
     TH12B k(.A(p0),.B(p1),.Z(e));TH12B l(.A(q0),.B(q1),.Z(f));TH22 m(.A(e),.B(f),.Z(ko));";
 
 /// A bank behind the nets o and n.
-pub(crate) const LAST: &str =
-    "TH22N t(.A(o),.B(ki),.RST(rst),.Z(z0));TH22N u(.A(n),.B(ki),.RST(rst),.Z(z1));\
+const LAST: &str = "TH22N t(.A(o),.B(ki),.RST(rst),.Z(z0));TH22N u(.A(n),.B(ki),.RST(rst),.Z(z1));\
     TH12B d(.A(z0),.B(z1),.Z(c));endmodule";
-
-/// A bank behind them that is reset to DATA, and wires to one more.
-pub(crate) const DATA: &str =
-    "TH22N t(.A(o),.B(b),.RST(rst),.Z(v0));TH22D u(.A(n),.B(b),.RST(rst),.Z(v1));\
-    TH12B d(.A(v0),.B(v1),.Z(c));TH22N t2(.A(v0),.B(ki),.RST(rst),.Z(z0));\
-    TH22N u2(.A(v1),.B(ki),.RST(rst),.Z(z1));TH12B d2(.A(z0),.B(z1),.Z(b));endmodule";
 
 /// The netlist of a text.
 pub(crate) fn netlist(rt: &impl Abort, alloc: Global, text: &str) -> Result<Netlist, NetFault> {
@@ -31,6 +24,6 @@ pub(crate) fn netlist(rt: &impl Abort, alloc: Global, text: &str) -> Result<Netl
 }
 
 /// The text of these gates between two banks.
-pub(crate) fn between(alloc: Global, gates: &str, last: &str) -> Result<String, Memory> {
-    Ok(format!(in alloc; "{FIRST}{gates}{last}")?)
+pub(crate) fn between(alloc: Global, gates: &str) -> Result<String, Memory> {
+    Ok(format!(in alloc; "{FIRST}{gates}{LAST}")?)
 }

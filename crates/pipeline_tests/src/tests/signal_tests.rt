@@ -7,9 +7,9 @@ use ncl_match::{OrderedModels, first_width, last_width, models_pair};
 use ncl_space::SpaceFault;
 use std::process::Abort;
 
-/// Covers of a model with the inputs a and b and the output y, and the nodes that their functions have, with the
-/// complements. They were counted by truth tables.
-const COVERS: [(&str, u32); 11] = [
+/// Models, and the nodes of the functions that their first output depends on, with those of the rows and all complements.
+/// They were counted by truth tables.
+const MODELS: [(&str, u32); 15] = [
     // a conjunction
     (".model m\n.inputs a b\n.outputs y\n.names a b y\n11 1\n", 6),
     // its off-set
@@ -41,10 +41,6 @@ const COVERS: [(&str, u32); 11] = [
         ".model m\n.inputs a b\n.outputs y\n.names a b y\n10 1\n01 1\n",
         10,
     ),
-];
-
-/// Whole texts, with the nodes of the functions that their first output depends on.
-const TEXTS: [(&str, u32); 4] = [
     // a cover before the one that it reads
     (
         ".model m\n.inputs a b c\n.outputs y\n.names x c y\n11 1\n.names a b x\n1- 1\n-1 1\n",
@@ -94,15 +90,8 @@ fn try_limits(rt: &(impl Abort + AllocGlobal), text: &str, nodes: u32) {
 }
 
 #[test]
-fn covers_have_so_many_nodes(rt: HostRuntime) {
-    for (text, nodes) in COVERS {
-        try_limits(&rt, text, nodes);
-    }
-}
-
-#[test]
-fn what_does_not_count_has_none(rt: HostRuntime) {
-    for (text, nodes) in TEXTS {
+fn models_have_so_many_nodes(rt: HostRuntime) {
+    for (text, nodes) in MODELS {
         try_limits(&rt, text, nodes);
     }
 }

@@ -1,4 +1,4 @@
-//! Tests of the lowest crates, by their public calls: files and sinks, graphs, tokens, gates. A crate whose tests stand
+//! Tests of the lowest crates, by their public calls: files, tokens, gates. A crate whose tests stand
 //! elsewhere is proved once and not twice.
 #![tactic(auto)]
 

@@ -1,5 +1,4 @@
 //! The tests, and what they share.
 mod base_tests;
 mod gates_tests;
-mod graph_tests;
 mod token_tests;

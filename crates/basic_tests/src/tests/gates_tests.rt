@@ -90,109 +90,44 @@ fn answers(kind: Kind, pins: &[bool; 4]) -> [bool; 3] {
     [kind.set(ins), kind.next(ins, false), kind.next(ins, true)]
 }
 
-// Whether some of the first inputs is 1.
-fn some_high(pins: &[bool; 4], arity: usize) -> bool {
-    pins.iter().take(arity).any(|high| *high)
-}
-
-#[test]
-fn gates_follow_their_sums_of_products(rt: HostRuntime) {
-    for &(kind, _, arity, values) in &GATES {
-        for (pins, value) in PINS.iter().zip(values) {
-            let set = *value == b'1';
-            let want = [set, set, set || some_high(pins, arity)];
-            assert!(rt; answers(kind, pins) == want, "{kind:?}");
+// Whether a gate has the values that a row tells, at each word of the pins.
+fn has_values(kind: Kind, arity: usize, values: &[u8]) -> bool {
+    for (pins, value) in PINS.iter().zip(values) {
+        let set = *value == b'1';
+        let some_high = pins.iter().take(arity).any(|high| *high);
+        if answers(kind, pins) != [set, set, set || some_high] {
+            return false;
         }
     }
-}
-
-// A register rises where its first two inputs are 1, and falls where both are 0, whatever the reset.
-#[test]
-fn registers_follow_two_inputs(rt: HostRuntime) {
-    for cell in [CellKind::Register, CellKind::RegisterData] {
-        for &[a, b, reset, _] in &PINS {
-            assert!(rt; cell.next(&[a, b, reset], false) == (a && b));
-            assert!(rt; cell.next(&[a, b, reset], true) == (a || b));
-        }
-    }
+    true
 }
 
 #[test]
-fn an_acknowledge_is_1_where_both_inputs_are_0(rt: HostRuntime) {
-    for &[a, b, _, _] in &PINS {
-        assert!(rt; CellKind::Ack.next(&[a, b], false) == (!a && !b));
-        assert!(rt; CellKind::Ack.next(&[a, b], true) == (!a && !b));
+fn gates_are_those_of_the_table(rt: HostRuntime) {
+    for &(kind, name, arity, values) in &GATES {
+        assert!(rt; kind.name() == name && kind.arity() == arity, "{kind:?}");
+        assert!(rt; has_values(kind, arity, values), "{kind:?}");
     }
 }
 
+// The next values from 0 and from 1 of the two register cells and of an acknowledge cell.
+fn others(a: bool, b: bool, reset: bool) -> [bool; 6] {
+    [
+        CellKind::Register.next(&[a, b, reset], false),
+        CellKind::Register.next(&[a, b, reset], true),
+        CellKind::RegisterData.next(&[a, b, reset], false),
+        CellKind::RegisterData.next(&[a, b, reset], true),
+        CellKind::Ack.next(&[a, b], false),
+        CellKind::Ack.next(&[a, b], true),
+    ]
+}
+
+// A register cell rises where its first two inputs are 1, and falls where both are 0, whatever the reset. An acknowledge
+// cell is 1 where both are 0.
 #[test]
-fn gates_have_names(rt: HostRuntime) {
-    for &(kind, name, _, _) in &GATES {
-        assert!(rt; kind.name() == name, "{kind:?}");
-        assert_eq!(rt; Kind::from_name(name), Some(kind));
-    }
-}
-
-#[test]
-fn cells_have_the_names_of_their_gates(rt: HostRuntime) {
-    for &(kind, name, _, _) in &GATES {
-        let cell = CellKind::Gate(kind);
-        assert!(rt; cell.name() == name, "{kind:?}");
-        assert_eq!(rt; CellKind::from_name(name), Some(cell));
-    }
-}
-
-/// The pins of a gate of so many inputs.
-fn pins_of(arity: usize) -> &'static [&'static [u8]] {
-    match arity {
-        2 => &[b"A", b"B", b"Z"],
-        3 => &[b"A", b"B", b"C", b"Z"],
-        _ => &[b"A", b"B", b"C", b"D", b"Z"],
-    }
-}
-
-#[test]
-fn gates_have_pins(rt: HostRuntime) {
-    for &(kind, _, arity, _) in &GATES {
-        assert_eq!(rt; kind.arity(), arity, "{kind:?}");
-        assert!(rt; CellKind::Gate(kind).pins() == pins_of(arity), "{kind:?}");
-    }
-}
-
-const REGISTER_PINS: &[&[u8]] = &[b"A", b"B", b"RST", b"Z"];
-
-static OTHERS: [(CellKind, &[u8], &[&[u8]]); 3] = [
-    (CellKind::Register, b"TH22N", REGISTER_PINS),
-    (CellKind::RegisterData, b"TH22D", REGISTER_PINS),
-    (CellKind::Ack, b"TH12B", &[b"A", b"B", b"Z"]),
-];
-
-#[test]
-fn other_cells_have_names_and_pins(rt: HostRuntime) {
-    for &(cell, name, pins) in &OTHERS {
-        assert!(rt; cell.name() == name, "{cell:?}");
-        assert_eq!(rt; CellKind::from_name(name), Some(cell));
-        assert!(rt; cell.pins() == pins, "{cell:?}");
-        assert_eq!(rt; Kind::from_name(name), None);
-    }
-}
-
-#[test]
-fn other_names_are_no_cells(rt: HostRuntime) {
-    static NONE: [&[u8]; 10] = [
-        b"TH11",
-        b"th22",
-        b"TH22 ",
-        b"",
-        b"TH54w322x",
-        b"TH",
-        b"THXOR0",
-        b"TH22n",
-        b"TH22d",
-        b"TH13B",
-    ];
-    for &name in &NONE {
-        assert_eq!(rt; Kind::from_name(name), None);
-        assert_eq!(rt; CellKind::from_name(name), None);
+fn other_cells_follow_two_inputs(rt: HostRuntime) {
+    for &[a, b, reset, _] in &PINS {
+        let (both, some) = (a && b, a || b);
+        assert!(rt; others(a, b, reset) == [both, some, both, some, !some, !some]);
     }
 }

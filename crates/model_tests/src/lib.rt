@@ -1,4 +1,4 @@
-//! Tests of the crates that read models and take their networks apart, by their public calls.
+//! Tests of the crates that read models and fold them, by their public calls.
 #![tactic(auto)]
 
 #[cfg(test)]

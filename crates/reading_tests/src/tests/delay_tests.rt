@@ -1,6 +1,6 @@
 //! Files of delays that are long, for netlists that are large.
 
-use super::numbered::beside;
+use super::long_texts::beside;
 use ncl_base::MOST_BYTES;
 use ncl_delay::read_delays;
 use ncl_reader::read_netlist;

@@ -1,7 +1,6 @@
 //! Netlists that are read and written: each text with the text that is written of what it is read as.
 
 use ncl_base::MOST_BYTES;
-use ncl_netlist::{Cell, NetId};
 use ncl_reader::read_netlist;
 use ncl_writer::{is_writable, write_netlist};
 use std::alloc::Global;
@@ -27,7 +26,7 @@ pub fn are_rewritten(rt: &impl Abort, alloc: Global, rows: &[(&str, &str)]) -> R
     Ok(())
 }
 
-const READ: [(&str, &str); 18] = [
+const READ: [(&str, &str); 19] = [
     ("module m;endmodule", "module m;\nendmodule\n"),
     ("module m();endmodule\n", "module m;\nendmodule\n"),
     // white space, comments and attributes
@@ -75,6 +74,11 @@ const READ: [(&str, &str); 18] = [
         "module m(a,k,r,z);input a,k,r;output z;TH22N s(.RST(r),.Z(z),.B(k),.A(a));endmodule",
         "module m(a,k,r,z);\ninput a;\ninput k;\ninput r;\noutput z;\n\
         TH22N s(.A(a),.B(k),.RST(r),.Z(z));\nendmodule\n",
+    ),
+    (
+        "module m(a,b,c,d,z);input a,b,c,d;output z;TH54w22 g(.D(d),.Z(z),.B(b),.A(a),.C(c));endmodule",
+        "module m(a,b,c,d,z);\ninput a;\ninput b;\ninput c;\ninput d;\noutput z;\n\
+        TH54w22 g(.A(a),.B(b),.C(c),.D(d),.Z(z));\nendmodule\n",
     ),
     // a cell may have the name of a net
     (
@@ -185,24 +189,4 @@ endmodule
 #[test]
 fn reads(rt: HostRuntime) -> Result<(), Fail> {
     are_rewritten(&rt, rt.alloc(), &READ)
-}
-
-/// A gate whose pins stand in another order.
-const PINS: &[u8] =
-    b"module m(a,b,c,d,z);input a,b,c,d;output z;TH54w22 g(.D(d),.Z(z),.B(b),.A(a),.C(c));endmodule";
-
-/// Whether a cell is that gate, with the ports on its pins in their order.
-fn joins_the_ports(cell: &Cell) -> bool {
-    cell.kind.name() == b"TH54w22".as_slice()
-        && cell.ins.as_slice() == [NetId(0), NetId(1), NetId(2), NetId(3)].as_slice()
-        && cell.out == NetId(4)
-}
-
-#[test]
-fn pins_have_the_order_of_their_cell(rt: HostRuntime) -> Result<(), Fail> {
-    assert!(rt; PINS.len() <= MOST_BYTES);
-    let netlist = read_netlist(rt.alloc(), PINS)?;
-    assert!(rt; netlist.cells().iter().all(joins_the_ports));
-    assert_eq!(rt; netlist.cells().len(), 1);
-    Ok(())
 }

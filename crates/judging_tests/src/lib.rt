@@ -1,4 +1,4 @@
-//! Tests of the crates that judge the stages of a pipeline and tell of them, by their public calls.
+//! Tests of the crates that judge the stages of a pipeline, by their public calls.
 #![tactic(auto)]
 
 #[cfg(test)]

@@ -2,6 +2,5 @@
 mod diagram_tests;
 mod gate_tests;
 mod plain_tests;
-mod report_tests;
 mod stage_tests;
 mod testing;

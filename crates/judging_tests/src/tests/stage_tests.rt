@@ -1,14 +1,14 @@
-//! By how many gates a variant is revalued; an order of bits; and that places are looked up.
+//! By how many gates a variant is revalued, and that places are looked up.
 ghost use Rattle.std.specs.Prelude.{◌≡◌, ◌≤◌, IfOk, length};
 ghost use Rattle.std.specs.List.{range_with_len};
 
-use super::testing::{Counting, full_adder, unmet_bits};
+use super::testing::{Counting, full_adder};
 use indexmap::IndexSet;
 use ncl_base::Memory;
 use ncl_netlist::NetId;
 use ncl_shape::Stage;
 use ncl_space::SpaceFault;
-use ncl_stage::{Variant, bit_order, place_of, revalue, values};
+use ncl_stage::{Variant, place_of, revalue, values};
 use std::alloc::Global;
 use std::test::*;
 
@@ -40,14 +40,6 @@ fn variants_of_a_full_adder(rt: HostRuntime) -> Result<(), Fail> {
         let gates = gates_for(rt.alloc(), &stage, variant)?;
         assert!(rt; gates <= most);
     }
-    Ok(())
-}
-
-#[test]
-fn bits_that_no_output_meets_come_last(rt: HostRuntime) -> Result<(), Fail> {
-    let stage = unmet_bits(rt.alloc())?;
-    let order = bit_order(rt.alloc(), &stage)?;
-    assert_eq!(rt; order.bits(), [1, 0, 2].as_slice());
     Ok(())
 }
 

@@ -1,7 +1,7 @@
-//! What the tests are run with: worked examples of stages, and a space that counts the gates that are asked of it.
+//! What the tests are run with: a worked example of a stage, and a space that counts the gates that are asked of it.
 ghost use Rattle.std.specs.Prelude.{◌≡◌, ◌≤◌, IfOk, length};
 ghost use Rattle.ncl_space.specs.Plain.{plain_space};
-ghost use Rattle.ncl_faults.specs.Examples.{adder_stage, gate, rails, unmet_stage};
+ghost use Rattle.ncl_faults.specs.Examples.{adder_stage, gate, rails};
 
 use arrayvec::ArrayVec;
 use ncl_base::{Items, Memory, Word};
@@ -23,21 +23,6 @@ pub fn full_adder(alloc: Global) -> Result<Stage, Memory>
     let sum_one = cell(12, Kind::Th34w2, &[6, 1, 3, 5], 9);
     let cells = vec![in alloc; carry_zero, carry_one, sum_zero, sum_one]?;
     let outputs = vec![in alloc; pair(6, 7), pair(8, 9)]?;
-    Ok(Stage::new(
-        1,
-        Items::from_vec(inputs),
-        Items::from_vec(cells),
-        Items::from_vec(outputs),
-    ))
-}
-
-/// Three bits, of which only the second goes to an output. An error is want of memory.
-pub fn unmet_bits(alloc: Global) -> Result<Stage, Memory>
-    ensures { IfOk result (λ stage. stage ≡ unmet_stage) }
-{
-    let inputs = vec![in alloc; pair(0, 1), pair(2, 3), pair(4, 5)]?;
-    let cells = Vec::new(alloc);
-    let outputs = vec![in alloc; pair(2, 3)]?;
     Ok(Stage::new(
         1,
         Items::from_vec(inputs),

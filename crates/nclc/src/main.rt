@@ -8,8 +8,6 @@
 
 mod answering;
 #[cfg(test)]
-mod argument_tests;
-#[cfg(test)]
 mod asking;
 #[cfg(test)]
 mod device_tests;

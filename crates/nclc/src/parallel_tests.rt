@@ -75,26 +75,6 @@ impl<C: Clock> Judge for Meeting<'_, C> {
     }
 }
 
-/// Judges stages, and counts them.
-#[derive(Drop)]
-struct Counting {
-    judged: AtomicUsize,
-}
-
-impl Judge for Counting {
-    fn judge_one<R: Threads + Sync>(
-        &self,
-        _rt: &R,
-        alloc: Global,
-        stage: &Stage,
-        limit: u32,
-        _parts: u32,
-    ) -> Result<Verdict, Memory> {
-        self.judged.fetch_add(1, Ordering::SeqCst);
-        judge_stage(alloc, stage, limit)
-    }
-}
-
 /// Judges stages, counts them, and sums the threads that it may take. A stage after the first waits for the first to be judged.
 #[derive(Drop)]
 struct Waiting<'a, C: Clock> {
@@ -187,19 +167,6 @@ fn two_stages_are_judged_at_one_time(rt: HostRuntime) -> Result<(), Fail> {
     Ok(())
 }
 
-// A stage that is accepted isn't noted as refused, so those behind it are judged too.
-#[test]
-fn accepted_stages_are_judged_once(rt: HostRuntime) {
-    let mut source = SteadySource::new(Vec::new(rt.alloc()));
-    let judge = Counting {
-        judged: AtomicUsize::new(0),
-    };
-    let status = steady_status(&rt, rt.alloc(), &["demo", "8"], &mut source, &judge);
-    assert_eq!(rt; status, 0);
-    let judged = judge.judged.load(Ordering::SeqCst);
-    assert_eq!(rt; judged, 8);
-}
-
 // Four threads have two stages each. What comes after a stage that is known to be refused isn't begun.
 #[test]
 fn stages_after_a_refused_one_are_not_begun(rt: HostRuntime) -> Result<(), Fail> {
@@ -212,15 +179,16 @@ fn stages_after_a_refused_one_are_not_begun(rt: HostRuntime) -> Result<(), Fail>
     Ok(())
 }
 
-// Two stages share four threads.
+// Two stages share four threads, and are judged once each.
 #[test]
 fn stages_share_the_threads(rt: HostRuntime) -> Result<(), Fail> {
     let mut source = source_of(rt.alloc(), THREE_BANKS)?;
     let judge = Waiting::new(&rt);
     let status = steady_status(&rt, rt.alloc(), &["check", "f"], &mut source, &judge);
     assert_eq!(rt; status, 0);
+    let judged = judge.judged.load(Ordering::SeqCst);
     let threads = judge.threads.load(Ordering::SeqCst);
-    assert_eq!(rt; threads, 4);
+    assert_eq!(rt; (judged, threads), (2, 4));
     Ok(())
 }
 

@@ -15,7 +15,7 @@ use std::{fs, io};
 #[derive(Drop)]
 struct Called<R> {
     host: R,
-    arguments: [&'static str; 3],
+    arguments: [&'static [u8]; 3],
 }
 
 impl<R: Threads> Threads for Called<R> {}
@@ -24,7 +24,7 @@ impl<R> Env for Called<R> {
     fn arg(&self, i: usize, buf: &mut [u8]) -> Result<usize, FillError> {
         match self.arguments.get(i) {
             Some(argument) if argument.len() <= buf.len() => {
-                buf[..argument.len()].copy_from_slice(argument.as_bytes());
+                buf[..argument.len()].copy_from_slice(argument);
                 Ok(argument.len())
             }
             Some(_) => Err(FillError::TooLong),
@@ -122,21 +122,24 @@ endmodule
 
 #[test]
 fn the_process_ends_with_the_status_of_its_answer(rt: HostRuntime) -> Result<(), Fail> {
+    static CASES: [(&[u8], &[u8], u8); 6] = [
+        (b"demo", b"1", 0),
+        (b"check", b"wrong.v", 1),
+        (b"check", b"absent", 4),
+        (b"check", b"/dev/null", 3),
+        (b"match", b"wrong.v", 2),
+        // an argument that is no text
+        (b"check", b"\xff", 2),
+    ];
     fs::write(&rt, "wrong.v", WRONG)?;
-    for (command, file, status) in [
-        ("demo", "1", 0),
-        ("check", "wrong.v", 1),
-        ("check", "absent", 4),
-        ("check", "/dev/null", 3),
-        ("match", "wrong.v", 2),
-    ] {
-        let arguments = ["nclc", command, file];
+    for &(command, file, status) in &CASES {
+        let arguments = [b"nclc".as_slice(), command, file];
         let called = Called {
             host: &rt,
             arguments,
         };
         let ended = process(&(called, rt.alloc()));
-        assert_eq!(rt; ended, ExitCode::from(status), "{command} {file}");
+        assert_eq!(rt; ended, ExitCode::from(status), "{command:?} {file:?}");
     }
     fs::remove_file(&rt, "wrong.v")?;
     Ok(())

@@ -1,74 +1,52 @@
-//! Long texts, and what a text is read as.
-use ncl_base::MOST_BYTES;
-use ncl_netlist::Netlist;
-use ncl_reader::{NetFault, read_netlist};
-use std::alloc::{AllocError, Global};
-use std::process::Abort;
+//! Long texts, told by their parts.
+use std::alloc::Global;
+use std::test::Fail;
 
-/// What a text is read as, which has to be short enough.
-pub fn read(rt: &impl Abort, alloc: Global, text: &[u8]) -> Result<Netlist, NetFault> {
-    assert!(rt; text.len() <= MOST_BYTES);
-    read_netlist(alloc, text)
+/// A part of a text.
+#[derive(Clone, Copy)]
+pub enum Part {
+    /// These characters.
+    Text(&'static str),
+    /// These, so many times.
+    Times(&'static str, usize),
+    /// Two pieces around each number from 0, so many times.
+    Numbers(&'static str, &'static str, u32),
+    /// So many cells side by side that read the net `a`.
+    Cells(u32),
 }
 
-/// What comes of a text.
-#[derive(Clone, Copy, Debug, PartialEq)]
-pub enum Answer {
-    /// It is read, and has so many nets.
-    Nets(usize),
-    /// A syntax error, at this place.
-    Syntax(usize),
-    /// Something that is not supported, at this place.
-    Unsupported(usize),
-    /// Parts that are no netlist.
-    NoNetlist,
-    /// Another fault.
-    Other,
-}
-
-/// What comes of a text, which has to be short enough.
-pub fn told(rt: &impl Abort, alloc: Global, text: &str) -> Answer {
-    match read(rt, alloc, text.as_bytes()) {
-        Ok(netlist) => Answer::Nets(netlist.nets().len()),
-        Err(NetFault::Syntax(place)) => Answer::Syntax(place),
-        Err(NetFault::Unsupported(place)) => Answer::Unsupported(place),
-        Err(NetFault::Build(_)) => Answer::NoNetlist,
-        Err(_) => Answer::Other,
-    }
-}
-
-/// A front, a piece so many times, or as often as it fits into `MOST_BYTES`, and a back.
-pub fn repeated(
-    alloc: Global,
-    front: &str,
-    piece: &str,
-    times: usize,
-    back: &str,
-) -> Result<String, AllocError> {
-    let room = MOST_BYTES
-        .saturating_sub(front.len())
-        .saturating_sub(back.len());
-    let pieces = piece.repeat(alloc, times.min(room / piece.len().max(1)))?;
-    format!(in alloc; "{front}{pieces}{back}")
-}
-
-/// A front and a back around each number from 0, so many times.
-pub fn numbered(alloc: Global, front: &str, back: &str, count: u32) -> Result<String, AllocError> {
-    let mut text = String::new(alloc);
+/// Adds two pieces around each number.
+fn push_numbers(text: &mut String, before: &str, after: &str, count: u32) -> Result<(), Fail> {
     for number in 0..count {
-        let piece = format!(in alloc; "{front}{number}{back}")?;
-        text.push_str(piece.as_str())?;
+        write!(text, "{before}{number}{after}")?;
     }
-    Ok(text)
+    Ok(())
 }
 
-/// A netlist of so many cells side by side.
-pub fn beside(alloc: Global, count: u32) -> Result<String, AllocError> {
-    let mut text = String::from_str(alloc, "module m(a);input a;\n")?;
+/// Adds cells.
+fn push_cells(text: &mut String, count: u32) -> Result<(), Fail> {
     for cell in 0..count {
-        let line = format!(in alloc; "TH12 g{cell}(.B(a),.Z(n{cell}),.A(a));\n")?;
-        text.push_str(line.as_str())?;
+        write!(text, "TH12 g{cell}(.B(a),.Z(n{cell}),.A(a));\n")?;
     }
-    text.push_str("endmodule\n")?;
+    Ok(())
+}
+
+/// Adds a part.
+fn push_part(alloc: Global, text: &mut String, part: Part) -> Result<(), Fail> {
+    match part {
+        Part::Text(piece) => text.push_str(piece)?,
+        Part::Times(piece, times) => text.push_str(&piece.repeat(alloc, times)?)?,
+        Part::Numbers(before, after, count) => push_numbers(text, before, after, count)?,
+        Part::Cells(count) => push_cells(text, count)?,
+    }
+    Ok(())
+}
+
+/// The text of its parts.
+pub fn text_of(alloc: Global, parts: &[Part]) -> Result<String, Fail> {
+    let mut text = String::new(alloc);
+    for part in parts {
+        push_part(alloc, &mut text, *part)?;
+    }
     Ok(text)
 }

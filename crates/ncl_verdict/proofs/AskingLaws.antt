@@ -1,5 +1,5 @@
 -- What variants are asked over: Base alone, or Base and what earlier variants made.
-use Rattle.std.proofs.Common.{◌≡◌, ℕ, Bool, true, false, List, [], ◌∷◌, length, get_or, Option, Some, Result, IfOk, sym, ap, ◌∙◌, subst, arith}
+use Rattle.std.proofs.Common.{◌≡◌, ℕ, Bool, true, false, List, [], ◌∷◌, length, get_or, Option, Some, Result, IfOk, refl, sym, ap, ◌∙◌, subst, arith}
 use Rattle.std.specs.Prelude.{All, IsTrue, option_and_then}
 use Rattle.std.specs.FinSet as set
 use Rattle.std.proofs.lemmas.Result.{IfOk-weaker}
@@ -16,25 +16,24 @@ use Rattle.ncl_space.proofs.BeadLaws.{distinct_beads-append}
 use Rattle.ncl_space.proofs.MakingLaws.{have-kept}
 use Rattle.ncl_space.proofs.SpaceLaws.{fits_fewer}
 use Rattle.ncl_faults.specs.declared.variant.Variant.{Variant}
-use Rattle.ncl_faults.specs.declared.variant.Variant.TheVariants.{Base}
-use Rattle.ncl_faults.specs.Faults.{StageFault}
+use Rattle.ncl_faults.specs.declared.variant.Variant.TheVariants.{Base, Bit, Cell}
+use Rattle.ncl_faults.specs.Faults.{Incomplete, Orphan, StageFault}
 use Rattle.ncl_stage.specs.LeastWords.{faults_of, least_word_by}
 use Rattle.ncl_stage.specs.StageTables.{ValuesData, net_tables_by}
 use Rattle.ncl_stage.specs.Tables.{count, tables_by, tables_of}
 use Rattle.ncl_verdict.specs.declared.verdict.Verdict.{Verdict}
 use Rattle.ncl_verdict.specs.declared.verdict.Verdict.TheVariants as verdict
 use Rattle.ncl_verdict.specs.Judgement.{at_variant, verdict_of}
-use Rattle.ncl_verdict.specs.InSpace.{IsAsked, IsReady, stopped_within}
+use Rattle.ncl_verdict.specs.InSpace.{IsAfterBase, IsAsked, IsReady, stopped_within}
 use Rattle.ncl_verdict.proofs.InSpaceLaws.{fits-ready, said-asked, said-full}
 
 -- what keeps what was there keeps it so
-pub asked-kept : {a b : SpaceData} {limit : Option ℕ} {s : StageData} {base : ValuesData} {start : Mark} → Keeps a b → IsSpace b → IsAsked a limit s base start → IsAsked b limit s base start
-asked-kept {a} {b} {s} {base} {start} keeps is asked =
+pub asked-kept : {a b : SpaceData} {limit : Option ℕ} {s : StageData} {base : ValuesData} {start : Mark} → Keeps a b → IsAsked a limit s base start → IsAsked b limit s base start
+asked-kept {a} {b} {s} {base} {start} keeps asked =
     let mark = keeps.marks start asked.stands in
     record {
       width = keeps.width ∙ asked.width;
       same_limit = keeps.limit ∙ asked.same_limit;
-      is_space = is;
       values = record { wired = asked.values.wired; shown = have-kept a b base.refs (net_tables_by base.wiring.order s Base) keeps asked.values.shown };
       order = asked.order;
       stands = mark.stands;
@@ -42,7 +41,7 @@ asked-kept {a} {b} {s} {base} {start} keeps is asked =
       held_at = mark.held_at ∙ asked.held_at;
     }
 
-module _ {a b : SpaceData} {limit : Option ℕ} {s : StageData} {base : ValuesData} {start : Mark} (back : Releases a b start) (is : IsSpace b) (asked : IsAsked a limit s base start) where
+module _ {a b : SpaceData} {limit : Option ℕ} {s : StageData} {base : ValuesData} {start : Mark} (back : Releases a b start) (asked : IsAsked a limit s base start) where
   live : All (IsLive b) base.refs
   live k d lt = subst IsTrue (sym (back.live (get_or base.refs k d))) (asked.live_at k d lt)
 
@@ -64,7 +63,6 @@ module _ {a b : SpaceData} {limit : Option ℕ} {s : StageData} {base : ValuesDa
       record {
         width = back.width ∙ asked.width;
         same_limit = back.limit ∙ asked.same_limit;
-        is_space = is;
         values = ready-back.values;
         order = asked.order;
         stands = mark.stands;
@@ -77,12 +75,12 @@ module _ {a b : SpaceData} {limit : Option ℕ} {s : StageData} {base : ValuesDa
   within-back variant = ap (λ l. is_within l (count s variant)) (sym (back.limit ∙ asked.same_limit)) ∙ sym (fits-ready b s base ready-back variant)
 
 -- the tables of a variant that fit over earlier variants are within the limit with those of Base
-pub fits-asked : {a : SpaceData} {limit : Option ℕ} {s : StageData} {base : ValuesData} {start : Mark} → IsAsked a limit s base start → (variant : Variant) → fits a (tables_by base.wiring.order s variant) ≡ true → is_within limit (count s variant) ≡ true
-fits-asked {a} {limit} {s} {base} {start} asked variant fit =
+pub fits-asked : {a : SpaceData} {limit : Option ℕ} {s : StageData} {base : ValuesData} {start : Mark} → IsSpace a → IsAsked a limit s base start → (variant : Variant) → fits a (tables_by base.wiring.order s variant) ≡ true → is_within limit (count s variant) ≡ true
+fits-asked {a} {limit} {s} {base} {start} space asked variant fit =
     ap (λ l. is_within l (count s variant)) (sym asked.same_limit)
     ∙ ap (λ (beads : Beads). is_within a.limit (set.len beads)) (distinct_beads-append (length s.inputs) (tables_of s Base) (tables_of s variant))
     ∙ ap (λ n. is_within a.limit (set.len (set.union held (distinct_beads n (tables_of s variant))))) (sym asked.width)
-    ∙ fits_fewer a held (tables_of s variant) (λ bead h. asked.is_space.held_at start asked.stands bead (subst (λ (beads : Beads). set.contains beads bead ≡ true) (sym asked.held_at) h))
+    ∙ fits_fewer a held (tables_of s variant) (λ bead h. space.held_at start asked.stands bead (subst (λ (beads : Beads). set.contains beads bead ≡ true) (sym asked.held_at) h))
     (ap (λ order. fits a (tables_by order s variant)) (sym asked.order) ∙ fit)
   where
     held : Beads
@@ -101,3 +99,13 @@ asked-full limit s variant fault r full said = IfOk-weaker r _ (λ answer. answe
 -- one limit for another that is the same
 pub asked-limit : (a : SpaceData) (was limit : Option ℕ) (s : StageData) (base : ValuesData) (start : Mark) → was ≡ limit → IsAsked a was s base start → IsAsked a limit s base start
 asked-limit a was limit s base start same asked = subst (λ l. IsAsked a l s base start) same asked
+
+-- of a list of one fault and itself, the faults are one
+pub one-fault : {one other : StageFault} → one ∷ [] ≡ other ∷ [] → one ≡ other
+one-fault {one} same = ap (λ faults. get_or faults 0 one) same
+
+-- a variant after Base has one fault
+pub fault-after : (s : StageData) (variant : Variant) → IsAfterBase s variant → (fault : StageFault) × (faults_of s variant ≡ fault ∷ [])
+fault-after s Base after = absurd after
+fault-after s (Bit bit) after = (Incomplete bit, refl)
+fault-after s (Cell cell) after = (Orphan cell, refl)

@@ -3,7 +3,7 @@
 use Rattle.std.specs.Prelude.{◌≡◌, ℕ, ◌+◌, ◌<◌, length, Option, Some, None, All, IsTrue}
 use Rattle.ncl_shape.specs.Stage.{StageData}
 use Rattle.ncl_space.specs.Beads.{distinct_beads}
-use Rattle.ncl_space.specs.Space.{SpaceData, IsSpace}
+use Rattle.ncl_space.specs.Space.{SpaceData}
 use Rattle.ncl_space.specs.declared.space.Mark.{Mark}
 use Rattle.ncl_stage.specs.BitOrder.{bit_order}
 use Rattle.ncl_faults.specs.declared.variant.Variant.{Variant}
@@ -39,7 +39,6 @@ pub record IsBegun (limit : ℕ) (s : StageData) (space : SpaceData) (base : Val
 pub record IsAsked (space : SpaceData) (limit : Option ℕ) (s : StageData) (base : ValuesData) (start : Mark) : Type 0 where
   pub width : space.width ≡ length s.inputs
   pub same_limit : space.limit ≡ limit
-  pub is_space : IsSpace space
   pub values : AreValues space s Base base
   pub order : base.wiring.order ≡ bit_order s
   pub stands : IsTrue (space.stands start)

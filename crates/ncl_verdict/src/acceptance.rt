@@ -34,6 +34,7 @@ pub(crate) fn is_accepted<P: Space>(
     ensures kept { Keeps (P.meaning space.old) (P.meaning space.new) }
 {
     stage.facts();
+    space.facts();
     let few = are_few(alloc, stage, base, nodes, limit)?;
     if !few {
         return Ok(false);

@@ -1,12 +1,12 @@
 //! What is asked of a variant, over what earlier variants made while that is little.
-ghost use Rattle.std.specs.Prelude.{◌≡◌, ◌<◌, ℕ, IfOk, IsErrOf, IsTrue, OnOk, Option, false, length, true};
+ghost use Rattle.std.specs.Prelude.{◌≡◌, ◌<◌, ℕ, [], ◌∷◌, IfOk, IsErrOf, IsTrue, OnOk, Option, false, length, true};
 ghost use Rattle.ncl_shape.specs.Stage.{StageData};
-ghost use Rattle.ncl_space.specs.Space.{is_within};
-ghost use Rattle.ncl_faults.specs.Faults.{Incomplete, Orphan};
-ghost use Rattle.ncl_stage.specs.LeastWords.{least_word_by};
-ghost use Rattle.ncl_stage.specs.StageTables.{ValuesData};
-ghost use Rattle.ncl_stage.specs.Tables.{count};
-ghost use Rattle.ncl_verdict.specs.InSpace.{IsAsked};
+ghost use Rattle.ncl_space.specs.Space.{Keeps, fits, is_within};
+ghost use Rattle.ncl_faults.specs.Faults.{StageFault};
+ghost use Rattle.ncl_stage.specs.LeastWords.{faults_of, least_word_by};
+ghost use Rattle.ncl_stage.specs.StageTables.{AreValues, ValuesData};
+ghost use Rattle.ncl_stage.specs.Tables.{count, tables_by};
+ghost use Rattle.ncl_verdict.specs.InSpace.{IsAfterBase, IsAsked};
 
 use ncl_base::Word;
 use ncl_complete::incomplete_word;
@@ -21,26 +21,28 @@ const NODES_THAT_STAY: u32 = 1 << 13;
 
 const SMALL_BASE: u32 = 1 << 12;
 
-/// The least word at which all outputs are DATA without an input bit, if there is one, in the order of `base`. The space has the
-/// functions of Base since `start`, and what it made for earlier variants may be there too. `Full` comes exactly where the
-/// nodes of Base and of this variant are more than the limit: what is too much over earlier variants is asked again over Base
-/// alone. It goes over the cells once, or twice.
-pub(crate) fn bit_word<P: Space>(
+/// The least word that shows the fault of a variant after Base, if there is one, in the order of `base`: that all outputs are
+/// DATA without an input bit, or that a cell is high though they are DATA without it. The space has the functions of Base since
+/// `start`, and what it made for earlier variants may be there too. `Full` comes exactly where the nodes of Base and of this
+/// variant are more than the limit: what is too much over earlier variants is asked again over Base alone. It goes over the
+/// cells once, or twice.
+pub(crate) fn asked_word<P: Space>(
     alloc: Global,
     space: &mut P,
     stage: &Stage,
     base: &Values,
     start: Mark,
-    bit: usize,
+    variant: Variant,
 ) -> Result<Option<Word>, SpaceFault>
     requires asked { let now = P.meaning space.old in IsAsked now now.limit stage.now base.now start }
-    requires bit { bit < length stage.now.inputs }
-    ensures word { IfOk result (λ word. word ≡ least_word_by base.now.wiring.order stage.now (Incomplete bit)) }
-    ensures full { IsErrOf result SpaceFault.Full → is_within (P.meaning space.old).limit (count stage.now (Variant.Bit bit)) ≡ false }
-    ensures fits { OnOk result (is_within (P.meaning space.old).limit (count stage.now (Variant.Bit bit)) ≡ true) }
+    requires after { IsAfterBase stage.now variant }
+    ensures word { (fault : StageFault) → faults_of stage.now variant ≡ fault ∷ [] → IfOk result (λ word. word ≡ least_word_by base.now.wiring.order stage.now fault) }
+    ensures full { IsErrOf result SpaceFault.Full → is_within (P.meaning space.old).limit (count stage.now variant) ≡ false }
+    ensures fits { OnOk result (is_within (P.meaning space.old).limit (count stage.now variant) ≡ true) }
     ensures asked { IsAsked (P.meaning space.new) (P.meaning space.old).limit stage.now base.now start }
 {
-    match incomplete_word(alloc, space, stage, base, bit) {
+    space.facts();
+    match word_over(alloc, space, stage, base, variant) {
         Ok(word) => {
             make_room(space, start);
             Ok(word)
@@ -48,37 +50,30 @@ pub(crate) fn bit_word<P: Space>(
         Err(SpaceFault::Memory) => Err(SpaceFault::Memory),
         Err(SpaceFault::Full) => {
             space.release(start);
-            incomplete_word(alloc, space, stage, base, bit)
+            word_over(alloc, space, stage, base, variant)
         }
     }
 }
 
-/// The least word at which a cell is high though all outputs are DATA without it, asked as `bit_word` does.
-pub(crate) fn cell_word<P: Space>(
+// The same over all that the space holds. What is made stays.
+fn word_over<P: Space>(
     alloc: Global,
     space: &mut P,
     stage: &Stage,
     base: &Values,
-    start: Mark,
-    cell: usize,
+    variant: Variant,
 ) -> Result<Option<Word>, SpaceFault>
-    requires asked { let now = P.meaning space.old in IsAsked now now.limit stage.now base.now start }
-    requires cell { cell < length stage.now.cells }
-    ensures word { IfOk result (λ word. word ≡ least_word_by base.now.wiring.order stage.now (Orphan cell)) }
-    ensures full { IsErrOf result SpaceFault.Full → is_within (P.meaning space.old).limit (count stage.now (Variant.Cell cell)) ≡ false }
-    ensures fits { OnOk result (is_within (P.meaning space.old).limit (count stage.now (Variant.Cell cell)) ≡ true) }
-    ensures asked { IsAsked (P.meaning space.new) (P.meaning space.old).limit stage.now base.now start }
+    requires base { AreValues (P.meaning space.old) stage.now Variant.Base base.now }
+    requires after { IsAfterBase stage.now variant }
+    ensures word { (fault : StageFault) → faults_of stage.now variant ≡ fault ∷ [] → IfOk result (λ word. word ≡ least_word_by base.now.wiring.order stage.now fault) }
+    ensures kept { Keeps (P.meaning space.old) (P.meaning space.new) }
+    ensures full { IsErrOf result SpaceFault.Full → fits (P.meaning space.old) (tables_by base.now.wiring.order stage.now variant) ≡ false }
+    ensures fits { OnOk result (fits (P.meaning space.old) (tables_by base.now.wiring.order stage.now variant) ≡ true) }
 {
-    match orphan_word(alloc, space, stage, base, cell) {
-        Ok(word) => {
-            make_room(space, start);
-            Ok(word)
-        }
-        Err(SpaceFault::Memory) => Err(SpaceFault::Memory),
-        Err(SpaceFault::Full) => {
-            space.release(start);
-            orphan_word(alloc, space, stage, base, cell)
-        }
+    match variant {
+        Variant::Base => Ok(None),
+        Variant::Bit(bit) => incomplete_word(alloc, space, stage, base, bit),
+        Variant::Cell(cell) => orphan_word(alloc, space, stage, base, cell),
     }
 }
 

@@ -1,13 +1,14 @@
 //! The variants of a stage, and what is said at one of them.
-ghost use Rattle.std.specs.Prelude.{◌≡◌, ◌<◌, ◌++◌, All, IfOk, OnOk, length, map, slice_get};
-ghost use Rattle.ncl_stage.specs.LeastWords.{below};
+ghost use Rattle.std.specs.Prelude.{◌≡◌, ◌<◌, ◌++◌, [], ◌∷◌, All, IfOk, OnOk, Some, length, map, slice_get};
+ghost use Rattle.ncl_faults.specs.Faults.{StageFault};
+ghost use Rattle.ncl_stage.specs.LeastWords.{below, faults_of};
 ghost use Rattle.ncl_verdict.specs.InSpace.{IsAfterBase, IsAsked, stopped_within};
-ghost use Rattle.ncl_verdict.specs.Judgement.{after_base, at_variant, cell_number, first_of};
+ghost use Rattle.ncl_verdict.specs.Judgement.{after_base, at_variant, cell_number, first_of, verdict_of};
 
-use crate::asking::{bit_word, cell_word};
+use crate::asking::asked_word;
 use crate::file_order::cells_in_file_order;
 use crate::verdict::Verdict;
-use ncl_base::Memory;
+use ncl_base::{Memory, Word};
 use ncl_netlist::CellId;
 use ncl_shape::Stage;
 use ncl_space::{Mark, Space, SpaceFault};
@@ -89,61 +90,31 @@ pub(crate) fn said_at<P: Space>(
     ensures answer { IfOk result (λ answer. answer ≡ at_variant (stopped_within (P.meaning space.old).limit) stage.now variant) }
     ensures asked { IsAsked (P.meaning space.new) (P.meaning space.old).limit stage.now base.now start }
 {
-    match variant {
-        Variant::Base => Ok(None),
-        Variant::Bit(bit) => said_at_bit(alloc, space, stage, base, start, bit),
-        Variant::Cell(cell) => said_at_cell(alloc, space, stage, base, start, cell),
+    match asked_word(alloc, space, stage, base, start, variant) {
+        Ok(Some(word)) => Ok(told(stage, variant, word)),
+        Ok(None) => Ok(None),
+        Err(fault) => stopped(stage, fault),
     }
 }
 
-// What is said without an input bit.
-fn said_at_bit<P: Space>(
-    alloc: Global,
-    space: &mut P,
-    stage: &Stage,
-    base: &Values,
-    start: Mark,
-    bit: usize,
-) -> Result<Option<Verdict>, Memory>
-    requires asked { let now = P.meaning space.old in IsAsked now now.limit stage.now base.now start }
-    requires bit { bit < length stage.now.inputs }
-    ensures answer { IfOk result (λ answer. answer ≡ at_variant (stopped_within (P.meaning space.old).limit) stage.now (Variant.Bit bit)) }
-    ensures asked { IsAsked (P.meaning space.new) (P.meaning space.old).limit stage.now base.now start }
+// What a word says that shows the fault of a variant after Base.
+fn told(stage: &Stage, variant: Variant, word: Word) -> Option<Verdict>
+    requires { IsAfterBase stage.now variant }
+    ensures { (fault : StageFault) → faults_of stage.now variant ≡ fault ∷ [] → result ≡ Some (verdict_of stage.now fault word) }
 {
     stage.facts();
-    match bit_word(alloc, space, stage, base, start, bit) {
-        Ok(Some(word)) => Ok(Some(Verdict::Incomplete {
+    match variant {
+        Variant::Base => None,
+        Variant::Bit(bit) => Some(Verdict::Incomplete {
             stage: stage.number,
             bit: bit as u32 + 1,
             word,
-        })),
-        Ok(None) => Ok(None),
-        Err(fault) => stopped(stage, fault),
-    }
-}
-
-// What is said without a cell.
-fn said_at_cell<P: Space>(
-    alloc: Global,
-    space: &mut P,
-    stage: &Stage,
-    base: &Values,
-    start: Mark,
-    cell: usize,
-) -> Result<Option<Verdict>, Memory>
-    requires asked { let now = P.meaning space.old in IsAsked now now.limit stage.now base.now start }
-    requires cell { cell < length stage.now.cells }
-    ensures answer { IfOk result (λ answer. answer ≡ at_variant (stopped_within (P.meaning space.old).limit) stage.now (Variant.Cell cell)) }
-    ensures asked { IsAsked (P.meaning space.new) (P.meaning space.old).limit stage.now base.now start }
-{
-    match cell_word(alloc, space, stage, base, start, cell) {
-        Ok(Some(word)) => Ok(Some(Verdict::Orphan {
+        }),
+        Variant::Cell(cell) => Some(Verdict::Orphan {
             stage: stage.number,
             cell: cell_at(stage, cell),
             word,
-        })),
-        Ok(None) => Ok(None),
-        Err(fault) => stopped(stage, fault),
+        }),
     }
 }
 

@@ -1,5 +1,5 @@
 -- The laws of codes: groups make a code, and two codes make one.
-use Rattle.std.proofs.Common.{◌≡◌, ℕ, zero, suc, ◌<◌, Bool, true, false, List, [], ◌∷◌, ◌++◌, length, map, Some, ◌⊎◌, inl, inr, refl, sym, ap, subst, ◌∙◌, arith}
+use Rattle.std.proofs.Common.{◌≡◌, ℕ, ◌<◌, Bool, true, false, List, [], ◌∷◌, ◌++◌, length, map, Some, ◌⊎◌, inl, inr, refl, sym, ap, subst, ◌∙◌, arith}
 use Rattle.std.specs.Prelude.{Contains, slice_get, nat_eq, ◌||◌}
 use Rattle.std.specs.List.{list_any, flat_map}
 use Rattle.std.proofs.lemmas.Bool.{both_ways, false_from_ne_true, eqb-true}
@@ -12,11 +12,10 @@ use Rattle.ncl_base.proofs.Members.{Member-append_cases, Member, here, there, Co
 use Rattle.ncl_base.proofs.Places.{at_of_map}
 use Rattle.ncl_base.proofs.Joined.{Member-flat_map, member_of_flat_map}
 use Rattle.ncl_faults.specs.Values.{holds}
-use Rattle.ncl_template.specs.Template.{IsNull, ShowWord, Obeys, IsCase}
+use Rattle.ncl_template.specs.Template.{ShowWord, Obeys, IsCase}
 use Rattle.ncl_tree.specs.declared.tree.Family.TheVariants.{Any}
 use Rattle.ncl_tree.specs.GateTree.{GateTree}
-use Rattle.ncl_template.specs.Tables.{pair_number}
-use Rattle.ncl_template.specs.Codes.{AreAt, AreLow, IsCode}
+use Rattle.ncl_template.specs.Codes.{AreLow, IsCode}
 use Rattle.ncl_template.specs.Rails.{PairLeaf, IsPairLeaf, ArePairsApart, AreLeaves, leaf_net as pair_net}
 use Rattle.ncl_template.proofs.Groups.{Leaf, IsLeaf, AreApart, leaf_cell, leaf_net, IsGroup, Obeys-some, IsSupported-some, group_value, group_up, group_waits, group_observes, group_observed}
 
@@ -101,41 +100,6 @@ module _ (class : List Bool → ℕ) (ins : List Rails) (under : List StageCell)
               own_low base v word case j other found c in_own high low k group at
         ]);
   }
-
--- ---- the two rails of a bit are a code
-
-pub code_of_rails : (r : Rails) → IsCode pair_number (r ∷ []) [] (r.zero ∷ r.one ∷ [])
-code_of_rails r = record {
-  bound = λ word len. bound word len;
-  value = λ base word obeys shown. value base word shown;
-  needs = λ base v word case x m null net n. low v (subst (IsNull v) (sym (only x (Member-from_Contains (r ∷ []) x m))) null) net (Member-from_Contains (r.zero ∷ r.one ∷ []) net n);
-  observed = λ base v word case c m high low. elim (Member-from_Contains [] c m) [ ];
-}
-  where
-    bound : (word : List Bool) → length word ≡ 1 → pair_number word < 2
-    bound [] len = omega arith
-    bound (true ∷ []) len = omega arith
-    bound (false ∷ []) len = omega arith
-    bound (x ∷ y ∷ word) len = absurd (omega (arith, len))
-
-    only : (x : Rails) → Member x (r ∷ []) → r ≡ x
-    only _ here = refl
-    only x (there m) = elim m [ ]
-
-    low : (v : Nets) → IsNull v r → (net : NetId) → Member net (r.zero ∷ r.one ∷ []) → v net.0 ≡ false
-    low v null _ here = null.zero
-    low v null _ (there here) = null.one
-    low v null net (there (there m)) = elim m [ ]
-
-    value : (base : Nets) (word : List Bool) → ShowWord base (r ∷ []) word → AreAt base (r.zero ∷ r.one ∷ []) (pair_number word)
-    value base [] shown k net at = absurd shown
-    value base (x ∷ y ∷ word) shown k net at = absurd shown.1
-    value base (true ∷ []) shown zero net at = let same : r.zero ≡ net = cc in subst (λ (n : NetId). base n.0 ≡ false) same shown.0.low
-    value base (true ∷ []) shown (suc zero) net at = let same : r.one ≡ net = cc in subst (λ (n : NetId). base n.0 ≡ true) same shown.0.high
-    value base (true ∷ []) shown (suc (suc k)) net at = absurd cc
-    value base (false ∷ []) shown zero net at = let same : r.zero ≡ net = cc in subst (λ (n : NetId). base n.0 ≡ true) same shown.0.high
-    value base (false ∷ []) shown (suc zero) net at = let same : r.one ≡ net = cc in subst (λ (n : NetId). base n.0 ≡ false) same shown.0.low
-    value base (false ∷ []) shown (suc (suc k)) net at = absurd cc
 
 -- ---- two codes
 

@@ -16,13 +16,13 @@ use Rattle.ncl_template.specs.declared.table.TableRow.{TableRow}
 use Rattle.ncl_template.specs.declared.table.Table.{Table}
 use Rattle.ncl_template.specs.Tables.{pair_number, bit_at, row_at, same_row, words_with, is_first_word}
 use Rattle.ncl_template.specs.PairGates.{IsTwoGate, AddsGate, IsOver}
-use Rattle.ncl_template.specs.Codes.{IsCode, class_net, rail_classes, IsCodeFor, pair_nets, AddsCode}
+use Rattle.ncl_template.specs.Codes.{IsCode, class_net, IsCodeFor, pair_nets, AddsCode}
 use Rattle.ncl_template.proofs.PassingBelow.{length-passing_below, count_below-least}
 use Rattle.ncl_template.proofs.FirstWords.{class_among, first_words, class_place, class_bound, class_right}
 use Rattle.ncl_template.proofs.TwoGates.{two_over}
 use Rattle.ncl_template.proofs.Groups.{Leaf, IsGroup}
 use Rattle.ncl_template.proofs.InputLeaves.{two_leaf, group_of_one}
-use Rattle.ncl_template.proofs.CodeLaws.{Group, own_gates, group_root, code_of_groups, code_of_rails}
+use Rattle.ncl_template.proofs.CodeLaws.{Group, own_gates, group_root, code_of_groups}
 
 -- the gate of a class, and the first word of the class
 pub record ClassGate : Type 0 where
@@ -173,19 +173,3 @@ AddsCode-whole table a b before after classes adds =
     nets_same : (gates : List ClassGate) → map class_net (map gate_class gates) ≡ map (λ (c : StageCell). c.out) (map gate_cell gates)
     nets_same [] = refl
     nets_same (gate ∷ gates) = ap (λ nets. gate.cell.out ∷ nets) (nets_same gates)
-
--- ---- the rails of an input
-
-rails_right : (r : Rails) (word : List Bool) (c : Class) → length word ≡ 1 → slice_get (rail_classes r) (pair_number word) ≡ Some c → c.word ≡ pair_number word
-rails_right r [] c len at = absurd (omega (arith, len))
-rails_right r (x ∷ y ∷ word) c len at = absurd (omega (arith, len))
-rails_right r (true ∷ []) c len at = let same : ◌≡◌ {A = Class} (record { net = r.one; word = 1 }) c = cc in ap (λ (c : Class). c.word) (sym same)
-rails_right r (false ∷ []) c len at = let same : ◌≡◌ {A = Class} (record { net = r.zero; word = 0 }) c = cc in ap (λ (c : Class). c.word) (sym same)
-
--- are a code for any table
-pub rails_code_for : (table : Table) (r : Rails) → IsCodeFor table (r ∷ []) [] (rail_classes r)
-rails_code_for table r = record {
-  class_of = pair_number;
-  is = code_of_rails r;
-  right = λ word c len at. ap (row_at table) (rails_right r word c len at);
-}

@@ -15,6 +15,7 @@ pub mod RailLaws
 pub mod InOrder
 pub mod Assembly
 pub mod Taken
+pub mod Changed
 pub mod Whole
 pub mod WaitsLaws
 pub mod FormLaws

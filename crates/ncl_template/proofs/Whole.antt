@@ -1,7 +1,6 @@
 -- The gates of a node.
 use Rattle.std.proofs.Common.{◌≡◌, ℕ, Bool, true, false, not, List, [], ◌∷◌, ◌++◌, length, map, Some, refl, sym, ap, subst, ◌∙◌, arith, append_assoc, length-append}
 use Rattle.std.specs.Prelude.{slice_get}
-use Rattle.std.proofs.lemmas.List.{append-nil}
 use Rattle.ncl_base.proofs.Members.{Member, here, there, Member-append_right, Member-from_Contains, Contains-from_Member}
 use Rattle.ncl_netlist.specs.declared.ids.NetId.{NetId}
 use Rattle.ncl_shape.specs.declared.rails.Rails.{Rails}
@@ -16,14 +15,13 @@ use Rattle.ncl_template.specs.Template.{IsTemplate}
 use Rattle.ncl_template.specs.Formed.{IsFormed, AddsTemplate}
 use Rattle.ncl_template.specs.Tables.{pair_number, bit_at, table_value, inverse_row, inverse_table, transposed, row_of, short_row, table_of}
 use Rattle.ncl_template.specs.PairGates.{IsTwoGate, AddsGate, IsOver}
-use Rattle.ncl_template.specs.Codes.{class_net, rail_classes, pair_nets, AddsCode}
+use Rattle.ncl_template.specs.Codes.{class_net, pair_nets, AddsCode}
 use Rattle.ncl_template.specs.Rails.{one_at, AddsRails}
 use Rattle.ncl_template.specs.Orders.{taken, placed}
 use Rattle.ncl_template.proofs.TableLaws.{bit_at-inverse_row}
 use Rattle.ncl_template.proofs.TwoGates.{two_over}
 use Rattle.ncl_template.proofs.Groups.{Leaf, template_of_groups}
 use Rattle.ncl_template.proofs.InputLeaves.{two_leaf, group_of_one}
-use Rattle.ncl_template.proofs.Coding.{rails_code_for}
 use Rattle.ncl_template.proofs.InOrder.{AreInOrder, in_order-over, arities-in_order, IsInOrder-from}
 use Rattle.ncl_template.proofs.Assembly.{outs_numbers, table_template, codes_formed}
 use Rattle.ncl_template.proofs.Taken.{AddsTemplate-taken, placed-taken, taken-fourth, taken-straight, length-taken}
@@ -84,28 +82,6 @@ code_order table a b known within before after classes code =
 code_known : (table : Table) (a b : Rails) (before after : List StageCell) (classes : List Class) (code : AddsCode table a b before after classes) (net : NetId) → Member net (map class_net classes) → Member net.0 (map out_of code.made)
 code_known table a b before after classes code net m =
     outs_numbers code.made net (Member-from_Contains (map (λ (c : StageCell). c.out) code.made) net (code.drives net (Contains-from_Member net m)))
-
-rails_known : (a b c : Rails) (net : NetId) → Member net (map class_net (rail_classes c)) → Member net.0 (rail_nets (a ∷ b ∷ c ∷ []) ++ [])
-rails_known a b c _ here = there (there (there (there here)))
-rails_known a b c _ (there here) = there (there (there (there (there here))))
-rails_known a b c net (there (there m)) = elim m [ ]
-
-pub AddsTemplate-three : (table : Table) (a b c : Rails) (before now after : List StageCell) (first second : List Class) (out : Rails) → second ≡ rail_classes c → AddsCode table a b before now first → AddsRails table first second a now after out → AddsTemplate (table_value table) (a ∷ b ∷ c ∷ []) (a ∷ b ∷ c ∷ []) 12 before after out
-AddsTemplate-three table a b c before now after first second out second_is code given =
-    let rails : AddsRails table first (rail_classes c) a now after out = subst (λ second. AddsRails table first second a now after out) second_is given in
-    let under : code.made ++ [] ≡ code.made = append-nil code.made in
-    let size = length-append code.made (rails.zeros ++ rails.ones) in
-    let few = rails.few_pairs refl in
-    record {
-      made = code.made ++ (rails.zeros ++ rails.ones);
-      added = rails.added ∙ (λ i. code.added i ++ (rails.zeros ++ rails.ones)) ∙ append_assoc before code.made (rails.zeros ++ rails.ones);
-      template = subst (λ under. IsTemplate (table_value table) (a ∷ b ∷ c ∷ []) (a ∷ b ∷ c ∷ []) (under ++ (rails.zeros ++ rails.ones)) out) under
-          (table_template table a b (c ∷ []) code.made [] first (rail_classes c) code.is (rails_code_for (transposed table) c) rails.zeros rails.ones out rails.is_zero rails.is_one);
-      formed = subst (λ under. IsFormed (a ∷ b ∷ c ∷ []) (under ++ (rails.zeros ++ rails.ones)) out) under
-          (codes_formed a (b ∷ c ∷ []) code.made [] rails.zeros rails.ones (map class_net first) (map class_net (rail_classes c)) (one_at (inverse_table table) first (rail_classes c)) (one_at table first (rail_classes c)) out
-          (code_order table a b (rail_nets (a ∷ b ∷ c ∷ [])) (pair_known a b (c ∷ [])) before now first code) tt (code_known table a b before now first code) (rails_known a b c) rails.is_zero rails.is_one);
-      few = omega (arith, size, few, code.few);
-    }
 
 last_known : (a b c d : Rails) (net : NetId) → Member net (pair_nets c d) → Member net.0 (rail_nets (a ∷ b ∷ c ∷ d ∷ []))
 last_known a b c d _ here = there (there (there (there here)))

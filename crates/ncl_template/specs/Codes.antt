@@ -31,10 +31,6 @@ pub record IsCode (class : List Bool → ℕ) (ins : List Rails) (gates : List S
 abbrev pub class_net : Class → NetId
 class_net class = class.net
 
--- the classes of the values of an input
-abbrev pub rail_classes : Rails → List Class
-rail_classes r = record { net = r.zero; word = 0 } ∷ record { net = r.one; word = 1 } ∷ []
-
 -- a code in which the word that a class names has the row of each word of the class
 pub record IsCodeFor (table : Table) (ins : List Rails) (gates : List StageCell) (classes : List Class) : Type 0 where
   pub class_of : List Bool → ℕ

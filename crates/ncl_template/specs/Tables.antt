@@ -43,6 +43,14 @@ table_value table (x ∷ y ∷ word) = bit_at (row_at table (pair_number (x ∷ 
 abbrev pub inverse_row : TableRow → TableRow
 inverse_row row = record { at_00 = not row.at_00; at_01 = not row.at_01; at_10 = not row.at_10; at_11 = not row.at_11 }
 
+-- the values of a function whose values at the words of its last bit are the first two of two rows; and whether two functions
+-- differ
+abbrev pub beside_row : TableRow → TableRow → TableRow
+beside_row a b = record { at_00 = a.at_00; at_01 = a.at_01; at_10 = b.at_00; at_11 = b.at_01 }
+
+abbrev pub difference_row : TableRow → TableRow → TableRow
+difference_row a b = record { at_00 = not (beq a.at_00 b.at_00); at_01 = not (beq a.at_01 b.at_01); at_10 = not (beq a.at_10 b.at_10); at_11 = not (beq a.at_11 b.at_11) }
+
 abbrev pub inverse_table : Table → Table
 inverse_table table = record { at_00 = inverse_row table.at_00; at_01 = inverse_row table.at_01; at_10 = inverse_row table.at_10; at_11 = inverse_row table.at_11 }
 

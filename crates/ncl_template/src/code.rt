@@ -2,7 +2,7 @@
 ghost use Rattle.std.specs.Prelude.{◌≡◌, ◌+◌, ◌<◌, ◌≤◌, ◌^◌, length, IfOk};
 ghost use Rattle.ncl_tree.specs.Gates.{nets_so_far};
 ghost use Rattle.ncl_template.specs.Tables.{is_first_word, passing_below, words_with};
-ghost use Rattle.ncl_template.specs.Codes.{rail_classes, AddsCode};
+ghost use Rattle.ncl_template.specs.Codes.{AddsCode};
 
 use crate::gate::add_two_gate;
 use crate::table::{Table, TableRow};
@@ -17,22 +17,6 @@ use std::alloc::Global;
 pub(crate) struct Class {
     pub net: NetId,
     pub word: usize,
-}
-
-/// The classes of the two values of an input, whose nets are its rails.
-pub(crate) fn code_of_rails(alloc: Global, r: Rails) -> Result<Vec<Class>, Memory>
-    ensures { IfOk result (λ code. code.items ≡ rail_classes r) }
-{
-    let mut code = Vec::new(alloc);
-    code.push(Class {
-        net: r.zero,
-        word: 0,
-    })?;
-    code.push(Class {
-        net: r.one,
-        word: 1,
-    })?;
-    Ok(code)
 }
 
 /// Whether no word before this one has its row.

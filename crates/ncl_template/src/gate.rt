@@ -58,6 +58,7 @@ pub(crate) fn add_two_gate(
 ) -> Result<NetId, Memory>
     requires { nets_so_far gates.old + 1 < 2 ^ 32 }
     ensures gate { IfOk result (AddsGate (IsTwoGate set a b) gates.old.cells gates.new.cells) }
+    ensures few { nets_so_far gates.new ≤ nets_so_far gates.old + 1 }
     ensures first { gates.new.first ≡ gates.old.first }
 {
     let (kind, ins) = two_gate(set, a, b);

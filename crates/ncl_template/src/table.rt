@@ -2,7 +2,7 @@
 ghost use Rattle.std.specs.Prelude.{◌≡◌, ◌<◌, ◌∷◌, [], length};
 ghost use Rattle.ncl_template.specs.Template.{node_function};
 ghost use Rattle.ncl_template.specs.Orders.{placed};
-ghost use Rattle.ncl_template.specs.Tables.{bit_at, row_at, column_at, inverse_row, inverse_table, transposed, row_of, short_row, table_of};
+ghost use Rattle.ncl_template.specs.Tables.{bit_at, row_at, column_at, inverse_row, beside_row, difference_row, inverse_table, transposed, row_of, short_row, table_of};
 
 use crate::order::Order;
 use ncl_network::{Node, cover_bit};
@@ -47,6 +47,32 @@ impl TableRow {
             at_01: !self.at_01,
             at_10: !self.at_10,
             at_11: !self.at_11,
+        }
+    }
+}
+
+impl TableRow {
+    /// The values of a function whose values at the words of its last bit are the first two of these rows.
+    pub(crate) fn beside(self, other: TableRow) -> TableRow
+        ensures { result ≡ beside_row self other }
+    {
+        TableRow {
+            at_00: self.at_00,
+            at_01: self.at_01,
+            at_10: other.at_00,
+            at_11: other.at_01,
+        }
+    }
+
+    /// Whether two functions differ.
+    pub(crate) fn difference(self, other: TableRow) -> TableRow
+        ensures { result ≡ difference_row self other }
+    {
+        TableRow {
+            at_00: self.at_00 != other.at_00,
+            at_01: self.at_01 != other.at_01,
+            at_10: self.at_10 != other.at_10,
+            at_11: self.at_11 != other.at_11,
         }
     }
 }

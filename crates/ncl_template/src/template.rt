@@ -6,7 +6,7 @@ ghost use Rattle.ncl_template.specs.Template.{node_function};
 ghost use Rattle.ncl_template.specs.Tables.{bit_at, pair_number, table_value};
 ghost use Rattle.ncl_template.specs.Formed.{AddsTemplate};
 
-use crate::code::{add_code, code_of_rails};
+use crate::code::add_code;
 use crate::gate::add_two_gate;
 use crate::order::Order;
 use crate::rail::add_rails;
@@ -17,11 +17,28 @@ use ncl_shape::Rails;
 use ncl_tree::Gates;
 use std::alloc::Global;
 
+/// Whether both inputs are 1.
+const BOTH: TableRow = TableRow {
+    at_00: false,
+    at_01: false,
+    at_10: false,
+    at_11: true,
+};
+
+/// Whether two inputs differ.
+const DIFFERENT: TableRow = TableRow {
+    at_00: false,
+    at_01: true,
+    at_10: true,
+    at_11: false,
+};
+
 /// Adds the gates of a function of two inputs: one for each rail.
 fn add_two(gates: &mut Gates, values: TableRow, a: Rails, b: Rails) -> Result<Rails, Memory>
     requires room { nets_so_far gates.old + 2 < 2 ^ 32 }
     ensures template { IfOk result (AddsTemplate (λ word. bit_at values (pair_number word)) (a ∷ b ∷ []) (a ∷ b ∷ []) 2
         gates.old.cells gates.new.cells) }
+    ensures few { nets_so_far gates.new ≤ nets_so_far gates.old + 2 }
     ensures first { gates.new.first ≡ gates.old.first }
 {
     let zero = add_two_gate(gates, values.inverse(), a, b)?;
@@ -29,21 +46,20 @@ fn add_two(gates: &mut Gates, values: TableRow, a: Rails, b: Rails) -> Result<Ra
     Ok(Rails { zero, one })
 }
 
-/// Adds the gates of a function of three inputs: a code over the first two, and the rails over it and the third input.
-fn add_three(
-    alloc: Global,
-    gates: &mut Gates,
-    table: Table,
-    pairs: (Rails, Rails, Rails),
-) -> Result<Rails, Memory>
+/// Adds the gates of a function of three inputs, as pairs: of what it is where the first input is 0, of whether it is
+/// another where that is 1, of both that and the first input, and of whether the first and the last of these differ.
+fn add_three(gates: &mut Gates, table: Table, pairs: (Rails, Rails, Rails)) -> Result<Rails, Memory>
     requires room { nets_so_far gates.old + 24 < 2 ^ 32 }
     ensures template { IfOk result (AddsTemplate (table_value table) (pairs.0 ∷ pairs.1 ∷ pairs.2 ∷ []) (pairs.0 ∷ pairs.1 ∷ pairs.2 ∷ []) 12
         gates.old.cells gates.new.cells) }
     ensures first { gates.new.first ≡ gates.old.first }
 {
-    let first = add_code(alloc, gates, table, pairs.0, pairs.1)?;
-    let second = code_of_rails(alloc, pairs.2)?;
-    let out = add_rails(alloc, gates, table, &first, &second, pairs.0)?;
+    let low = table.at_00.beside(table.at_01);
+    let high = table.at_10.beside(table.at_11);
+    let same = add_two(gates, low, pairs.1, pairs.2)?;
+    let change = add_two(gates, low.difference(high), pairs.1, pairs.2)?;
+    let changed = add_two(gates, BOTH, pairs.0, change)?;
+    let out = add_two(gates, DIFFERENT, same, changed)?;
     Ok(out)
 }
 
@@ -100,7 +116,7 @@ fn add_in_order(
     let pairs = order.taken(a, b, c);
     if ins.len() == 3 {
         let table = table_of_three(node, order);
-        let of_three = add_three(alloc, gates, table, pairs)?;
+        let of_three = add_three(gates, table, pairs)?;
         return Ok(of_three);
     }
     let d = pair(ins, 3);
@@ -120,12 +136,13 @@ fn gates_in_order(alloc: Global, node: &Node, ins: &[Rails], order: Order) -> Re
     Ok(gates.cells().len())
 }
 
-/// The order in which a node takes the fewest gates, the first of several: its gates are made in each, and counted.
+/// The order in which a node of four inputs takes the fewest gates, the first of several: its gates are made in each, and
+/// counted. Others take as many in each.
 fn best_order(alloc: Global, node: &Node, ins: &[Rails]) -> Result<Order, Memory>
     requires narrow { IsNarrow node.now }
     requires as_many { length ins.now ≡ length node.now.ins }
 {
-    if ins.len() == 2 {
+    if ins.len() < 4 {
         return Ok(Order::Straight);
     }
     let straight = gates_in_order(alloc, node, ins, Order::Straight)?;

@@ -76,7 +76,11 @@ fn delay_asked(course: &Course, state: &State, number: u32) -> Option<u32>
     if !state.enabled(pipeline, item) {
         return None;
     }
-    Some(course.delays().of(pipeline, item, rises(pipeline, state, item)))
+    Some(
+        course
+            .delays()
+            .of(pipeline, item, rises(pipeline, state, item)),
+    )
 }
 
 /// The delay of the item of a number, where that is enabled: by its row, where it is of a cell.

@@ -29,11 +29,7 @@ pub(crate) struct Run {
 
 impl Run {
     /// The run before its first step. Linear in nets, cells and the bits of the words.
-    pub(crate) fn begin(
-        alloc: Global,
-        course: &Course,
-        words: &[Word],
-    ) -> Result<Run, Memory>
+    pub(crate) fn begin(alloc: Global, course: &Course, words: &[Word]) -> Result<Run, Memory>
         requires words { AreWordsOf course.now.pipeline words.now }
         ensures under_way { IfOk result (IsUnderWay course.now.pipeline course.now.delays) }
         ensures offered { IfOk result (λ run. run.state.offered ≡ words.now) }

@@ -1,5 +1,4 @@
 use Rattle.std.proofs.Common.{Some, None, Err, sym, ◌∙◌, ap}
-use Rattle.ncl_shape.specs.Stage.{StageData}
 use Rattle.ncl_verdict.proofs.AskingLaws.{asked-full, asked-word, fault-after}
 use Rattle.ncl_verdict.proofs.variants.said_at.Goals as goal
 

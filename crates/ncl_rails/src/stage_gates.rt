@@ -61,8 +61,8 @@ fn most_depth(alloc: Global, network: &Network) -> Result<u32, Memory>
     Ok(depth.saturating_add(depth / 10))
 }
 
-/// The gates of a network, or those of another one with the same answers, where these are fewer and not too deep. What the nodes of
-/// the other one wait for is told or found.
+/// The gates of a network, or those of another one with the same answers, where these are fewer, and no deeper or not too deep. What
+/// the nodes of the other one wait for is told or found.
 fn better_gates(
     alloc: Global,
     network: &Network,
@@ -82,8 +82,9 @@ fn better_gates(
     if layout.gates.cells().len() >= usual.gates.cells().len() {
         return Ok(usual);
     }
+    let before = depth_of(alloc, &usual, network.inputs)?;
     let depth = depth_of(alloc, &layout, network.inputs)?;
-    if depth > most {
+    if depth > most.max(before) {
         return Ok(usual);
     }
     Ok(layout)

@@ -96,6 +96,7 @@ fn first_found(
     ensures found { IfOk result (λ found. option_map shown_of found ≡ first_of (map (first_at (inputs_of_chain base.now.wiring.order chain.now stage.now) stage.now) variants.now)) }
     ensures full { IsErrOf result SpaceFault.Full → IsPast (diagram_space space.old) base.now.wiring.order chain.now }
 {
+    space.facts();
     for variant in variants {
         if let Some(found) = found_at(alloc, space, chain, stage, base, *variant)? {
             return Ok(Some(found));

@@ -59,19 +59,23 @@ class Bench:
         return self.made[key]
 
     def merged(self, text):
-        """The netlist of a text as the library merges it: the program `runs` does so with a file of its folder."""
+        """The netlist of a text as the library merges it: the program `runs` does so with files of its folder, and with this one
+        first."""
         with tempfile.TemporaryDirectory() as folder:
             examples = pathlib.Path(folder, "examples")
             examples.mkdir()
             for name in ("full_adder.blif", "unit.delays", "three_bits.words"):
                 shutil.copy(TOP / "examples" / name, examples)
+            for file in (TOP / "crates/runs/data").glob("*.v"):
+                shutil.copy(file, folder)
             (examples / "and_of_minterms.v").write_text(text)
             for place in (examples, pathlib.Path(folder)):
                 (place / "commands").write_text("")
             done = subprocess.run([self.runs], cwd=folder, capture_output=True, text=True)
         if done.returncode:
             raise Refused(f"{self.runs}: {done.stderr.strip() or done.returncode}")
-        return done.stdout[done.stdout.rindex("module "):]
+        begin = done.stdout.index("module ")
+        return done.stdout[begin:done.stdout.index("endmodule\n", begin) + len("endmodule\n")]
 
     def of_form(self, design, form, *flags):
         """The netlist of a design in a form, or None where it has none."""

@@ -247,10 +247,10 @@ def report_is_what_the_program_says(folder):
     """Of eight bits, and of three stages: cells, areas of the page, the least limit from both sides, latency and cycle."""
     (folder / "add8.v").write_text(nclc("compile", EXAMPLES / "add8.blif"))
     told = tool("report", "--nclc", PROGRAM[0], folder / "add8.v")
-    assert told.startswith("top: 117 cells, area 1598, 2 banks\n"), told
+    assert told.startswith("top: 115 cells, area 1570, 2 banks\n"), told
     first, last = table_of(told)
-    same([first["bits"], last["bits"], first["depth"], first["tree"]], ["16", "9", "8", "5"])
-    same(sum(int(row[name]) for row in (first, last) for name in ("registers", "tree", "gates") if name in row), 117)
+    same([first["bits"], last["bits"], first["depth"], first["tree"]], ["16", "9", "9", "5"])
+    same(sum(int(row[name]) for row in (first, last) for name in ("registers", "tree", "gates") if name in row), 115)
     limit = int(first["least limit"])
     assert nclc("check", folder / "add8.v", "--limit", limit).startswith("accepted")
     assert nclc("check", folder / "add8.v", "--limit", limit - 1, status=6).startswith("limit")

@@ -51,6 +51,37 @@ fn depth_of(alloc: Global, layout: &Layout, inputs: u32) -> Result<u32, Memory> 
     depth(alloc, inputs.saturating_mul(2), layout.gates.cells())
 }
 
+/// How large a stage is.
+#[derive(Clone, Copy)]
+struct Size {
+    /// How many gates it has.
+    gates: usize,
+    /// How many stand one after another at most.
+    depth: u32,
+}
+
+impl Size {
+    /// The size of gates over so many inputs. Linear in the gates.
+    fn of(alloc: Global, layout: &Layout, inputs: u32) -> Result<Size, Memory>
+        ensures { IfOk result (λ size. size.gates ≡ length layout.now.gates.cells) }
+    {
+        Ok(Size {
+            gates: layout.gates.cells().len(),
+            depth: depth_of(alloc, layout, inputs)?,
+        })
+    }
+
+    /// Whether it is better than another: of fewer gates, and no deeper than that or than so many; or of as many, and less deep.
+    fn is_better(self, other: Size, most: u32) -> bool
+        ensures { result ≡ true → self.gates ≤ other.gates }
+    {
+        if self.gates == other.gates {
+            return self.depth < other.depth;
+        }
+        self.gates < other.gates && self.depth <= most.max(other.depth)
+    }
+}
+
 /// The most gates that may stand one after another: a tenth more than where each node waits for all that it reads.
 fn most_depth(alloc: Global, network: &Network) -> Result<u32, Memory>
     requires { CanHaveGates network.now }
@@ -79,15 +110,12 @@ fn better_gates(
     ensures fewer { IfOk result (λ layout. length layout.gates.cells ≤ length usual.gates.cells) }
 {
     let layout = gates_of(alloc, other, told)?;
-    if layout.gates.cells().len() >= usual.gates.cells().len() {
-        return Ok(usual);
+    let before = Size::of(alloc, &usual, network.inputs)?;
+    let after = Size::of(alloc, &layout, network.inputs)?;
+    if after.is_better(before, most) {
+        return Ok(layout);
     }
-    let before = depth_of(alloc, &usual, network.inputs)?;
-    let depth = depth_of(alloc, &layout, network.inputs)?;
-    if depth > most.max(before) {
-        return Ok(usual);
-    }
-    Ok(layout)
+    Ok(usual)
 }
 
 /// The gates of a network, or those of another one with the same answers and with some nodes joined, where these are better. Nodes
@@ -116,8 +144,8 @@ fn joined_within(
     }
 }
 
-/// The same, where nodes are joined as if any number of gates might stand one after another, or where fewer gates come of it as
-/// if no more might than may.
+/// The same, where nodes are joined as if any number of gates might stand one after another, or where better gates come of it as
+/// if no more might than may, or an eighth less, since what is raised afterwards may be deeper than was reckoned.
 fn joined_gates(
     alloc: Global,
     network: &Network,
@@ -133,7 +161,8 @@ fn joined_gates(
     ensures fewer { IfOk result (λ layout. length layout.gates.cells ≤ length usual.gates.cells) }
 {
     let joined = joined_within(alloc, network, usual, most, other, u32::MAX)?;
-    joined_within(alloc, network, joined, most, other, most)
+    let joined = joined_within(alloc, network, joined, most, other, most)?;
+    joined_within(alloc, network, joined, most, other, most - most / 8)
 }
 
 /// The gates of a network, or those of another one with the same answers, with its carries before its sums and with some nodes

@@ -1,11 +1,8 @@
 -- One token more in what a declaration begins with.
-use Rattle.ncl_reader.proofs.Kit.{[], ◌≡◌, ◌≢◌, ℕ, ◌<◌, List, Option, Some, None, Bool, true, false, inl, inr, ◌⊎◌, refl, sym, ap, ◌∙◌, subst, MatchOption, option_map, digits_value, false≢true, same_Some, none-some}
-use Rattle.ncl_reader.proofs.Terms.{LeadPlace, Led, Span, Wire, LBracket, RBracket, Colon, Lexeme, Word, Name, Number, Mark, Direction, Plain, Wired, direction_phrase, Lead, Gives, Wires, lead_phrase, Range, Spec, Group, Item, Head, width, IsTooLarge, MOST_VECTOR_BITS, Breaks, LeadPart, led, bracketed, firsted, coloned, lasted, ranged, leading, naming, lead_place, direction_place, word_place, Partial, heading, inside, declaring, spelled, LeadTakes, IsLed, IsSaid, IsSpanOf, IsValue, takes_name, direction_output, lead_output}
+use Rattle.ncl_reader.proofs.Terms.{[], ◌≡◌, ◌≢◌, ℕ, ◌<◌, List, Option, Some, None, Bool, true, false, inl, inr, ◌⊎◌, refl, sym, ap, ◌∙◌, subst, MatchOption, option_map, digits_value, false≢true, same_Some, none-some, LeadPlace, Led, Span, Wire, LBracket, RBracket, Colon, Lexeme, Word, Name, Number, Mark, Direction, Plain, Wired, direction_phrase, Lead, Gives, Wires, lead_phrase, Spec, Group, Item, Head, width, IsTooLarge, MOST_VECTOR_BITS, Breaks, LeadPart, led, bracketed, firsted, coloned, lasted, ranged, leading, naming, lead_place, direction_place, word_place, Partial, heading, inside, declaring, spelled, LeadTakes, IsLed, IsSaid, IsSpanOf, IsValue, takes_name, direction_output, lead_output}
 use Rattle.ncl_reader.specs.declared.place.LeadPlace.TheVariants as lead
-use Rattle.ncl_reader.proofs.Steps.{step, or_else, lead_step, direction_more, lead_more}
-use Rattle.ncl_reader.proofs.Grows.{grows}
-use Rattle.ncl_reader.proofs.Breaking.{breaks-taken, breaks-untaken}
-use Rattle.ncl_reader.proofs.Declares.{part_spec}
+use Rattle.ncl_reader.proofs.Steps.{step, or_else, lead_step, direction_more, lead_more, grows, breaks-taken, breaks-untaken}
+use Rattle.ncl_reader.proofs.Facts.{part_spec}
 use Rattle.ncl_reader.proofs.RulesAt.{TooLong, LongPart, BreaksAt, breaks-here, breaks-back}
 
 -- where a declaration is read: in the header, or as an item

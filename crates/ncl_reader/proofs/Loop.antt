@@ -1,8 +1,86 @@
--- The steps of the loop over tokens, and what is kept of what was read.
-use Rattle.ncl_reader.proofs.Kit.{◌≡◌, ℕ, ◌<◌, length, arith, List, [], ◌∷◌, ◌++◌, refl, ap, ◌∙◌}
-use Rattle.ncl_reader.proofs.Terms.{Parts, Place, Draft, End, Placed, ReadsTokens, Partial, listing, place_of, HoldsAt, Takes, SaysAt}
+-- The loop over tokens, and what is kept of what was read.
+use Rattle.ncl_reader.proofs.Terms.{[], ◌≡◌, ℕ, List, ◌∷◌, ◌++◌, None, inl, inr, ◌⊎◌, refl, sym, ap, ◌∙◌, subst, map-append, NetFault, Syntax, End, Bad, Placed, lexemes, Head, Item, text_phrase, Breaks, BreaksRule, NoneBreaks, IsFaultAt, IsRefusedAt, led, leading, Partial, start, heading, ended, done, inside, declaring, spelled, place_of, ◌<◌, length, arith, Parts, Place, Draft, ReadsTokens, listing, HoldsAt, Takes, SaysAt, ◌+◌, ◌≤◌, map, drop, append_assoc, Option, Some, Ok, Err, Result, slice_range, length-append, length-map, Token, IsSpace, AreTokens, TokensOf, IsNextToken, IsBadByte, Stop, at_end, at_bad, none_left, at_bad_byte, TokensData, IsAnswer, place_after, name_of, list_once, next_left, tokens_few, Memory, TokenFault, BadByte, Lexeme, lexeme_of, placed_of, stop_of, placed_in, IsLexed, Reads, IsRefused, IsReadFault}
 use Rattle.ncl_reader.specs.declared.place.Place.TheVariants as place
-use Rattle.ncl_reader.proofs.Standing.{Stands, stands-more, stands-whole}
+use Rattle.ncl_reader.proofs.Steps.{step, grows, breaks-untaken, breaks-taken, unbroken-more, no_token}
+
+-- the tokens before are those of a partial tree, and none of them breaks
+pub record Stands (before : List Placed) : Type 0 where
+  pub tree : Partial
+  pub is : spelled tree ≡ lexemes before
+  pub unbroken : NoneBreaks (lexemes before)
+
+-- nothing is read
+pub none_of_none : NoneBreaks []
+none_of_none before t after e = absurd (no_token before after t e)
+
+abbrev pub stands-first : Stands []
+stands-first = record { tree = start; is = refl; unbroken = none_of_none }
+
+pub lexemes-more : (before : List Placed) (t : Placed) → lexemes (before ++ t ∷ []) ≡ lexemes before ++ t.lexeme ∷ []
+lexemes-more before t = map-append (λ (p : Placed). p.lexeme) before (t ∷ [])
+
+module _ (before : List Placed) (stands : Stands before) where
+  -- a token is taken
+  pub unbroken_by : (t : Placed) → (Breaks (spelled stands.tree) t.lexeme → ⊥) → NoneBreaks (lexemes (before ++ t ∷ []))
+  unbroken_by t keeps = subst NoneBreaks (sym (lexemes-more before t)) (unbroken-more (lexemes before) t.lexeme stands.unbroken (λ breaks. keeps (subst (λ l. Breaks l t.lexeme) (sym stands.is) breaks)))
+
+  abbrev pub stands-more : (t : Placed) (q : Partial) → spelled q ≡ spelled stands.tree ++ t.lexeme ∷ [] → (Breaks (spelled stands.tree) t.lexeme → ⊥) → Stands (before ++ t ∷ [])
+  stands-more t q more keeps = record { tree = q; is = more ∙ ap (λ l. l ++ t.lexeme ∷ []) stands.is ∙ sym (lexemes-more before t); unbroken = unbroken_by t keeps }
+
+  -- a token breaks
+  pub stands-broken : (after : List Placed) (t : Placed) (fault : NetFault) → Breaks (spelled stands.tree) t.lexeme → IsFaultAt (spelled stands.tree) t fault → IsRefusedAt (before ++ t ∷ after) fault
+  stands-broken after t fault breaks is = record {
+    before = before;
+    token = t;
+    after = after;
+    parts = refl;
+    unbroken = stands.unbroken;
+    breaks = subst (λ l. Breaks l t.lexeme) stands.is breaks;
+    is = subst (λ l. IsFaultAt l t fault) stands.is is;
+  }
+
+-- the end of the text is taken behind `endmodule` alone, and a bad byte nowhere
+pub bad-untaken : (p : Partial) → step p Bad ≡ None
+bad-untaken (heading name before (leading (led l))) = refl
+bad-untaken (inside head items (declaring (leading (led l)))) = refl
+bad-untaken p = refl
+
+pub end-cases : (p : Partial) → (step p End ≡ None) ⊎ ((head : Head) × (items : List Item) × (p ≡ ended head items))
+end-cases (heading name before (leading (led l))) = inl refl
+end-cases (inside head items (declaring (leading (led l)))) = inl refl
+end-cases (ended head items) = inr (head, items, refl)
+end-cases p = inl refl
+
+end-untaken : (p : Partial) → (place_of p ≡ place.End → ⊥) → step p End ≡ None
+end-untaken p other = elim (end-cases p) [
+  | inl none ↦ none
+  | inr (head, items, is) ↦ absurd (other (ap place_of is))
+]
+
+-- either of them is a fault of syntax at its place
+pub cut-end : (p : Partial) (at : ℕ) → IsFaultAt (spelled p) (record { lexeme = End; place = at }) (Syntax at)
+cut-end p at = (refl, λ none. none, λ none. none, inr (λ none. none))
+
+pub cut-bad : (p : Partial) (at : ℕ) → IsFaultAt (spelled p) (record { lexeme = Bad; place = at }) (Syntax at)
+cut-bad p at = (refl, λ none. none, λ none. none, inr (λ none. none))
+
+module _ (before : List Placed) (stands : Stands before) (at : ℕ) where
+  pub stands-bad : IsRefusedAt (before ++ record { lexeme = Bad; place = at } ∷ []) (Syntax at)
+  stands-bad = stands-broken before stands [] (record { lexeme = Bad; place = at }) (Syntax at) (breaks-untaken stands.tree Bad (bad-untaken stands.tree)) (cut-bad stands.tree at)
+
+  pub stands-short : (place_of stands.tree ≡ place.End → ⊥) → IsRefusedAt (before ++ record { lexeme = End; place = at } ∷ []) (Syntax at)
+  stands-short other = stands-broken before stands [] (record { lexeme = End; place = at }) (Syntax at) (breaks-untaken stands.tree End (end-untaken stands.tree other)) (cut-end stands.tree at)
+
+  -- the end of the text behind `endmodule`
+  pub stands-whole : (head : Head) (items : List Item) → stands.tree ≡ ended head items → (lexemes (before ++ record { lexeme = End; place = at } ∷ []) ≡ text_phrase (record { head = head; items = items })) × NoneBreaks (lexemes (before ++ record { lexeme = End; place = at } ∷ []))
+  stands-whole head items is =
+      let t : Placed = record { lexeme = End; place = at } in
+      let all = done head items in
+      let here : lexemes before ≡ spelled (ended head items) = sym stands.is ∙ ap spelled is in
+      let derived : spelled all ≡ spelled (ended head items) ++ End ∷ [] = grows (ended head items) End all refl in (
+        lexemes-more before t ∙ ap (λ l. l ++ End ∷ []) here ∙ sym derived,
+        unbroken_by before stands t (λ breaks. let rule : BreaksRule (spelled (ended head items)) End = breaks-taken (ended head items) all End refl (subst (λ p. Breaks (spelled p) End) is breaks) in rule),
+      )
 
 -- the tokens before are read, and the draft has what they say
 pub record Holds (before : List Placed) (place : Place) (draft : Draft) : Type 0 where
@@ -31,12 +109,12 @@ holds-place place.ModuleName draft p (kept, (is, bare)) = ap place_of is
 holds-place place.AfterModuleName draft p (kept, (is, bare)) = ap place_of is
 holds-place place.FirstPort draft p (kept, (is, bare)) = ap place_of is
 holds-place place.AfterPort draft p (kept, (names, last, is, read)) = ap place_of is
-holds-place (place.HeaderLead at) draft p (kept, (groups, part, is, same, led, read)) = ap place_of is ∙ ap place.HeaderLead same
+holds-place (place.HeaderLead at) draft p (kept, (groups, part, is, same, leads, read)) = ap place_of is ∙ ap place.HeaderLead same
 holds-place place.HeaderName draft p (kept, (groups, spec, row, is, said, read)) = ap place_of is
 holds-place place.AfterHeaderName draft p (kept, (groups, spec, names, last, is, said, read)) = ap place_of is
 holds-place place.AfterPorts draft p (kept, (ports, is, body)) = ap place_of is
 holds-place place.Item draft p (kept, (head, items, is, body)) = ap place_of is
-holds-place (place.Lead at) draft p (kept, (head, items, part, is, same, led, early, body)) = ap place_of is ∙ ap place.Lead same
+holds-place (place.Lead at) draft p (kept, (head, items, part, is, same, leads, early, body)) = ap place_of is ∙ ap place.Lead same
 holds-place place.Declared draft p (kept, (head, items, spec, row, is, said, early, body)) = ap place_of is
 holds-place place.AfterDeclared draft p (kept, (head, items, spec, names, last, is, said, early, body)) = ap place_of is
 holds-place place.InstanceName draft p (kept, (head, items, is, body, joins)) = ap place_of is
@@ -52,3 +130,97 @@ holds-place place.NetEnd draft p (kept, (digits, (head, items, conns, is, body, 
 holds-place place.AfterConnection draft p (kept, (head, items, conns, conn, is, body, joins)) = ap place_of is
 holds-place place.AfterInstance draft p (kept, (head, items, conns, conn, is, body)) = ap place_of is
 holds-place place.End draft p (kept, (head, items, is, body)) = ap place_of is
+
+-- the tokens before are read, and these are left
+pub record LoopAt (bytes : List ℕ) (at : ℕ) (here : Place) (draft : Draft) : Type 0 where
+  pub before : List Placed
+  pub left : List Token
+  pub stop : Stop
+  pub are : AreTokens at (drop at bytes) left stop
+  pub lexed : IsLexed bytes (before ++ placed_in bytes left stop)
+  pub kept : Holds before here draft
+
+pub loop-first : (bytes : List ℕ) (draft : Draft) (tokens : List Token) (stop : Stop) → TokensOf bytes tokens stop → HoldsAt place.Module draft start → LoopAt bytes 0 place.Module draft
+loop-first bytes draft tokens stop are holds = record { before = []; left = tokens; stop = stop; are = are; lexed = (tokens, stop, are, refl); kept = record { stands = stands-first; holds = holds } }
+
+-- the next token stands in front of what is left
+front : (bytes : List ℕ) (before : List Placed) (left others : List Token) (stop : Stop) (token : Token) → left ≡ token ∷ others → IsLexed bytes (before ++ placed_in bytes left stop) → IsLexed bytes (before ++ placed_of bytes token ∷ placed_in bytes others stop)
+front bytes before left others stop token is lexed = subst (λ l. IsLexed bytes (before ++ placed_in bytes l stop)) is lexed
+
+module _ (bytes : List ℕ) (at : ℕ) (here : Place) (draft : Draft) (loop : LoopAt bytes at here draft) where
+  pub loop-more : (after : Place) (new : Draft) (token : Token) → IsNextToken at (drop at bytes) token (drop token.end bytes) → Takes loop.kept.stands.tree (placed_of bytes token).lexeme after new → LoopAt bytes token.end after new
+  loop-more after new token next takes =
+      let (others, is, are) = next_left at (drop at bytes) loop.left loop.stop token (drop token.end bytes) loop.are next in
+      record {
+        before = loop.before ++ placed_of bytes token ∷ [];
+        left = others;
+        stop = loop.stop;
+        are = are;
+        lexed = subst (IsLexed bytes) (sym (append_assoc loop.before (placed_of bytes token ∷ []) (placed_in bytes others loop.stop))) (front bytes loop.before loop.left others loop.stop token is loop.lexed);
+        kept = holds-more loop.before here after draft new loop.kept (placed_of bytes token) takes;
+      }
+
+  pub loop-broken : (token : Token) (fault : NetFault) → IsNextToken at (drop at bytes) token (drop token.end bytes) → Breaks (spelled loop.kept.stands.tree) (placed_of bytes token).lexeme → IsFaultAt (spelled loop.kept.stands.tree) (placed_of bytes token) fault → IsRefused bytes fault
+  loop-broken token fault next breaks is-fault =
+      let (others, is, are) = next_left at (drop at bytes) loop.left loop.stop token (drop token.end bytes) loop.are next in
+      (loop.before ++ placed_of bytes token ∷ placed_in bytes others loop.stop, front bytes loop.before loop.left others loop.stop token is loop.lexed, stands-broken loop.before loop.kept.stands (placed_in bytes others loop.stop) (placed_of bytes token) fault breaks is-fault)
+
+  -- nothing is left but the end, or a bad byte
+  stopped : (stop : Stop) → AreTokens at (drop at bytes) [] stop → IsLexed bytes (loop.before ++ stop_of bytes stop ∷ [])
+  stopped stop ends =
+      let same = list_once at (drop at bytes) loop.left [] loop.stop stop loop.are ends in
+      subst (λ s. IsLexed bytes (loop.before ++ placed_in bytes [] s)) same.1 (subst (λ l. IsLexed bytes (loop.before ++ placed_in bytes l loop.stop)) same.0 loop.lexed)
+
+  pub loop-bad : (bad : ℕ) → IsBadByte at (drop at bytes) bad → IsRefused bytes (Syntax bad)
+  loop-bad bad breaks = (_, stopped (at_bad bad) (at_bad_byte breaks), stands-bad loop.before loop.kept.stands bad)
+
+  pub loop-short : IsSpace (drop at bytes) [] → (place_of loop.kept.stands.tree ≡ place.End → ⊥) → IsRefused bytes (Syntax (length bytes))
+  loop-short space other = (_, stopped at_end (none_left space), stands-short loop.before loop.kept.stands (length bytes) other)
+
+pub loop-whole : (bytes : List ℕ) (at : ℕ) (draft : Draft) (loop : LoopAt bytes at place.End draft) (parts : Parts) → IsSpace (drop at bytes) [] → SaysAt loop.kept.stands.tree parts → Reads bytes parts
+loop-whole bytes at draft loop parts space says = (_, stopped bytes at place.End draft loop at_end (none_left space), holds-whole loop.before draft loop.kept (length bytes) parts says)
+
+-- what an answer says of the text itself
+module _ (bytes b : List ℕ) (at : ℕ) (result : Result (Option Token) TokenFault) (same : b ≡ bytes) (answer : IsAnswer b at result) where
+  pub next-token : (token : Token) → result ≡ Ok (Some token) → IsNextToken at (drop at bytes) token (drop token.end bytes)
+  next-token token is = subst (λ b. IsNextToken at (drop at b) token (drop token.end b)) same (subst (IsAnswer b at) is answer).0
+
+  pub next-space : result ≡ Ok None → IsSpace (drop at bytes) []
+  next-space is = subst (λ b. IsSpace (drop at b) []) same (subst (IsAnswer b at) is answer)
+
+  pub next-bad : (bad : ℕ) → result ≡ Err (BadByte bad) → IsBadByte at (drop at bytes) bad
+  next-bad bad is = subst (λ b. IsBadByte at (drop at b) bad) same (subst (IsAnswer b at) is answer)
+
+-- a token that was read is the next, and the reader stands behind it
+pub record IsReadAt (bytes : List ℕ) (at : ℕ) (token : Token) (new : TokensData) : Type 0 where
+  pub next : IsNextToken at (drop at bytes) token (drop token.end bytes)
+  pub text : new.bytes ≡ bytes
+  pub behind : new.place ≡ token.end
+
+pub read-token : (bytes : List ℕ) (old new : TokensData) (result : Result (Option Token) TokenFault) (token : Token) → old.bytes ≡ bytes → IsAnswer old.bytes old.place result → new ≡ record { bytes = old.bytes; place = place_after old result } → result ≡ Ok (Some token) → IsReadAt bytes old.place token new
+read-token bytes old new result token same answer after is = record {
+  next = next-token bytes old.bytes old.place result same answer token is;
+  text = ap (λ d. d.bytes) after ∙ same;
+  behind = ap (λ d. d.place) after ∙ ap (place_after old) is;
+}
+
+pub placed-token : (bytes b : List ℕ) (token : Token) (t : Lexeme) → b ≡ bytes → t ≡ lexeme_of token.kind (name_of token.kind (slice_range b token.start token.end)) → t ≡ (placed_of bytes token).lexeme
+placed-token bytes b token t same is = is ∙ ap (λ l. lexeme_of token.kind (name_of token.kind (slice_range l token.start token.end))) same
+
+pub refused-fault : (bytes : List ℕ) (fault : NetFault) → IsRefused bytes fault → IsReadFault bytes fault
+refused-fault bytes Memory is = tt
+refused-fault bytes fault is = is
+
+pub whole-at : (bytes : List ℕ) (at : ℕ) (here : Place) (draft : Draft) (parts : Parts) → here ≡ place.End → LoopAt bytes at here draft → IsSpace (drop at bytes) [] → ((p : Partial) → HoldsAt place.End draft p → SaysAt p parts) → Reads bytes parts
+whole-at bytes at here draft parts is loop space says = let ends = subst (λ h. LoopAt bytes at h draft) is loop in loop-whole bytes at draft ends parts space (says ends.kept.stands.tree ends.kept.holds)
+
+-- what is read are no more tokens than bytes
+pub few_before : (bytes : List ℕ) (at : ℕ) (here : Place) (draft : Draft) (loop : LoopAt bytes at here draft) → length (spelled loop.kept.stands.tree) ≤ length bytes
+few_before bytes at here draft loop =
+    let (tokens, stop, are, is) = loop.lexed in
+    let tree : length (spelled loop.kept.stands.tree) ≡ length loop.before = ap length loop.kept.stands.is ∙ length-map loop.before _ in
+    let whole : length (loop.before ++ placed_in bytes loop.left loop.stop) ≡ length loop.before + length (placed_in bytes loop.left loop.stop) = length-append loop.before (placed_in bytes loop.left loop.stop) in
+    let rest : length (placed_in bytes loop.left loop.stop) ≡ length (map (placed_of bytes) loop.left) + 1 = length-append (map (placed_of bytes) loop.left) (stop_of bytes loop.stop ∷ []) in
+    let placed : length (placed_in bytes tokens stop) ≡ length tokens + 1 = length-append (map (placed_of bytes) tokens) (stop_of bytes stop ∷ []) ∙ ap (λ n. n + 1) (length-map tokens (placed_of bytes)) in
+    let same : length (loop.before ++ placed_in bytes loop.left loop.stop) ≡ length (placed_in bytes tokens stop) = ap length is in
+    omega (arith, tree, whole, rest, placed, same, tokens_few 0 bytes tokens stop are)

@@ -1,8 +1,6 @@
 -- Nets on pins.
-use Rattle.ncl_reader.proofs.Kit.{◌≡◌, ℕ, suc, ◌+◌, ◌<◌, length, List, [], ◌∷◌, ◌++◌, Bool, true, false, map, take, get_or, Option, Some, None, refl, sym, ap, ◌∙◌, Contains, drop, drop-cons, subst, Bor, find, option_map, bytes_eq, take_more, map_push, take-append-drop, map-append, find-append, option_or, cond, MatchOption}
-use Rattle.ncl_reader.proofs.Terms.{Join, Conn, net_name, net_on, Joint, joint_of, joint_in, AreJoins, picked_name, pins_in}
-use Rattle.ncl_reader.proofs.Looked.{among-item}
-use Rattle.ncl_reader.proofs.Among.{found-name, none-among}
+use Rattle.ncl_reader.proofs.Terms.{◌≡◌, ℕ, suc, ◌+◌, ◌<◌, length, List, [], ◌∷◌, ◌++◌, Bool, true, false, map, take, get_or, Option, Some, None, refl, sym, ap, ◌∙◌, Contains, drop, drop-cons, subst, Bor, find, option_map, bytes_eq, take_more, map_push, take-append-drop, map-append, find-append, option_or, cond, MatchOption, Join, Conn, net_name, net_on, Joint, joint_of, joint_in, AreJoins, picked_name, pins_in}
+use Rattle.ncl_reader.proofs.Among.{among-item, found-name, none-among}
 
 -- the net on a pin, by what is kept
 abbrev pub joint_on : List Joint → List ℕ → Option (List ℕ)

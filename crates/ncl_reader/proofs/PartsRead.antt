@@ -1,6 +1,5 @@
 -- What holds of the cells that a text says.
-use Rattle.ncl_reader.proofs.Kit.{List, [], ◌∷◌, length, ap, ◌∙◌, All, length-map, All-nil, All-cons}
-use Rattle.ncl_reader.proofs.Terms.{pins_of, PartCell, HasAllPins, Joined, AreCellsOf}
+use Rattle.ncl_reader.proofs.Terms.{List, [], ◌∷◌, length, ap, ◌∙◌, All, length-map, All-nil, All-cons, pins_of, PartCell, HasAllPins, Joined, AreCellsOf}
 
 -- a cell has a net on each pin
 pub all_pins : (js : List Joined) (cs : List PartCell) → AreCellsOf js cs → All HasAllPins cs

@@ -1,9 +1,8 @@
 -- What may come next, by the form of what stands before it.
-use Rattle.ncl_reader.proofs.Kit.{◌≡◌, ◌≢◌, ℕ, List, [], Option, Some, None, false, inl, inr, ◌⊎◌, refl, sym, ap, ◌∙◌, subst, false≢true}
-use Rattle.ncl_reader.proofs.Terms.{Place, LeadPlace, Syntax, Unsupported, Lexeme, Name, Direction, Plain, Wired, Lead, Gives, Wires, Range, takes_name, LeadPart, led, ranged, lead_place, direction_place, word_place, leading, naming, going, Partial, listing, heading, at_item, inside, declaring, joining, dotted, opened, netted, indexing, joined, spelled, place_of, IsDeclaring, IsAtItem, IsAtConn, IsAtPin, IsAtNet, IsBehindNet, IsAtIndex, IsAtClose, Redeclares, Clashes, Crowds, IsLeftOut, IsFaultAt}
+use Rattle.ncl_reader.proofs.Terms.{◌≡◌, ◌≢◌, ℕ, List, [], Option, Some, None, false, inl, inr, ◌⊎◌, refl, sym, ap, ◌∙◌, subst, false≢true, Place, LeadPlace, Syntax, Unsupported, Lexeme, Name, Direction, Plain, Wired, Lead, Gives, Wires, Range, takes_name, LeadPart, led, ranged, lead_place, direction_place, word_place, leading, naming, going, Partial, listing, heading, at_item, inside, declaring, joining, dotted, opened, netted, indexing, joined, spelled, place_of, IsDeclaring, IsAtItem, IsAtConn, IsAtPin, IsAtNet, IsBehindNet, IsAtIndex, IsAtClose, Redeclares, Clashes, Crowds, IsLeftOut, IsFaultAt, Bool, Decides, option_map, same_Some, Span, Sign, RParen, LBracket, RBracket, Colon, Other, Keyword, EndModule, Mark, Word, span_of}
 use Rattle.ncl_reader.specs.declared.place.Place.TheVariants as place
-use Rattle.ncl_reader.proofs.Viable.{same_tree}
-use Rattle.ncl_reader.proofs.Declares.{part_range, range_here, declaring_tree, declaring-here}
+use Rattle.ncl_reader.proofs.Steps.{same_tree}
+use Rattle.ncl_reader.proofs.Facts.{part_range, range_here, declaring_tree, declaring-here}
 
 -- the form of what stands before a place, for those at which a fault asks for it, or something else
 abbrev pub FormOr : Type 0 → Place → List Lexeme → Type 0
@@ -103,3 +102,26 @@ module _ (xs : List Lexeme) (range : Option Range) (declares : IsDeclaring xs ra
 
   pub undeclarable : (x : List ℕ) (at : ℕ) → ¬ Redeclares xs x → Clashes xs x ⊎ Crowds xs x → IsFaultAt xs (record { lexeme = Name x; place = at }) (Unsupported at)
   undeclarable x at agrees why = (refl, declared_no_item, declared_no_pin, agrees, inr why)
+
+-- the range that has these numbers
+pub range_of : (range : Option Range) (span : Span) → option_map span_of range ≡ Some span → (r : Range) × (range ≡ Some r) × (span_of r ≡ span)
+range_of (Some r) span e = (r, refl, same_Some (span_of r) span e)
+range_of None span e = absurd cc
+
+-- a name is declared, and crowds or not, whatever the form of what stands before it
+pub declared_as : (xs ys : List Lexeme) (x : List ℕ) (range : Option Range) (span : Option Span) (crowds : Bool) → xs ≡ ys → IsDeclaring ys range → option_map span_of range ≡ span → Decides crowds (Crowds ys x) → (range : Option Range) × IsDeclaring xs range × (option_map span_of range ≡ span) × Decides crowds (Crowds xs x)
+declared_as xs ys x range span crowds form declares same decides =
+    (range, subst (λ zs. IsDeclaring zs range) (sym form) declares, same, subst (λ zs. Decides crowds (Crowds zs x)) (sym form) decides)
+
+-- signs and words that are left out or not
+pub plain_sign : (xs : List Lexeme) (sign : Sign) (at : ℕ) → sign ≢ RParen → sign ≢ Other → sign ≢ LBracket → sign ≢ RBracket → sign ≢ Colon → IsFaultAt xs (record { lexeme = Mark sign; place = at }) (Syntax at)
+plain_sign xs RParen at a b c d e = absurd (a refl)
+plain_sign xs Other at a b c d e = absurd (b refl)
+plain_sign xs LBracket at a b c d e = absurd (c refl)
+plain_sign xs RBracket at a b c d e = absurd (d refl)
+plain_sign xs Colon at a b c d e = absurd (e refl)
+plain_sign xs sign at a b c d e = (refl, λ none. none, λ none. none, inr (λ none. none))
+
+pub other_word : (xs : List Lexeme) (word : Keyword) (at : ℕ) → word ≢ EndModule → IsFaultAt xs (record { lexeme = Word word; place = at }) (Unsupported at)
+other_word xs EndModule at other = absurd (other refl)
+other_word xs word at other = (refl, λ none. none, λ none. none, λ none. none, tt)

@@ -1,10 +1,7 @@
 -- The rules by the partial tree in front of a token.
-use Rattle.ncl_reader.proofs.Kit.{[], ◌≡◌, ◌≢◌, ℕ, ◌+◌, ◌*◌, ◌<◌, length, List, ◌∷◌, ◌++◌, Some, map, sum, inl, inr, ◌⊎◌, refl, sym, ap, ◌∙◌, subst, Contains, append_assoc, false, flat_map, digits_value, same_Some}
-use Rattle.ncl_reader.proofs.Terms.{CellKind, cell_name_of, pins_of, EndModule, word_of, RParen, LBracket, Colon, Lexeme, Word, Name, Number, Mark, Row, Direction, direction_phrase, Lead, Gives, Wires, lead_phrase, Range, Spec, Group, group_phrase, group_names, with_commas, Item, Ansi, Head, header_of, body_phrase, in_ansi, at_declared, span_of, width, Covers, IsTooLarge, MOST_VECTOR_BITS, MOST_PORT_BITS, IsVector, directed_by, group_bits, item_bits, IsTooLong, IsOutside, Redeclares, Clashes, Crowds, BreaksRule, MayJoin, pins_in, LeadPart, led, coloned, GroupPart, leading, Partial, start, listing, heading, at_item, inside, declaring, dotted, netted, indexing, joined, header_spelled, spelled, Wire, Comma}
-use Rattle.ncl_reader.proofs.Steps.{run}
-use Rattle.ncl_reader.proofs.Runs.{run-append, run-spelled}
-use Rattle.ncl_reader.proofs.Viable.{same_tree, front_run}
-use Rattle.ncl_reader.proofs.Declares.{part_spec, part_names, part_at, at_part, told, untold, Of, some_of, heading_form, declaring_form}
+use Rattle.ncl_reader.proofs.Terms.{[], ◌≡◌, ◌≢◌, ℕ, ◌+◌, ◌*◌, ◌<◌, length, List, ◌∷◌, ◌++◌, Some, map, sum, inl, inr, ◌⊎◌, refl, sym, ap, ◌∙◌, subst, Contains, append_assoc, false, flat_map, digits_value, same_Some, CellKind, cell_name_of, pins_of, EndModule, word_of, RParen, LBracket, Colon, Lexeme, Word, Name, Number, Mark, Row, Direction, direction_phrase, Lead, Gives, Wires, lead_phrase, Range, Spec, Group, group_phrase, group_names, with_commas, Item, Ansi, Head, header_of, body_phrase, in_ansi, at_declared, span_of, width, Covers, IsTooLarge, MOST_VECTOR_BITS, MOST_PORT_BITS, IsVector, directed_by, group_bits, item_bits, IsTooLong, IsOutside, Redeclares, Clashes, Crowds, BreaksRule, MayJoin, pins_in, LeadPart, led, coloned, GroupPart, leading, Partial, start, listing, heading, at_item, inside, declaring, dotted, netted, indexing, joined, header_spelled, spelled, Wire, Comma, Bool, true, Option, None, false≢true, cell_name_of-distinct, Conn, IsDeclaring, IsAtNet, MayStand, opened}
+use Rattle.ncl_reader.proofs.Steps.{run, run-append, run-spelled, same_tree, front_run}
+use Rattle.ncl_reader.proofs.Facts.{part_spec, part_names, part_at, at_part, told, untold, Of, some_of, heading_form, declaring_form, range_here, declaring-here}
 
 -- a fact of what gives a direction
 abbrev pub Given : Lead → Type 0 → Type 0
@@ -245,3 +242,45 @@ crowds_declared head items spec names x c =
     let (part, is) = part_at lead_phrase spec names in
     let (direction, gives, of) = some_given spec.lead _ (untold lead_phrase (λ s ns. ItemCrowds head items s ns x) spec names part is (crowds-here (inside head items (declaring part)) x (subst (λ l. Crowds l x) (sym (declaring_form head items part spec names is)) c))) in
     (direction, gives, some_of spec.range _ of)
+
+-- a name isn't declared where the tree has no range for it
+pub not_declaring : (p : Partial) → range_here p ≡ None → (range : Option Range) → IsDeclaring (spelled p) range → ⊥
+not_declaring p none range declares = let e : None ≡ Some range = sym none ∙ declaring-here p range declares in absurd cc
+
+-- a name that crowds is declared
+pub crowds_declares : (xs : List Lexeme) (x : List ℕ) → Crowds xs x → (range : Range) × IsDeclaring xs (Some range)
+crowds_declares xs x (inl c) = (c.range, inl (c.title, c.groups, c.direction, c.names, c.is))
+crowds_declares xs x (inr c) = (c.range, inr (c.head, c.items, Gives c.direction, c.names, c.is))
+
+-- trees in front of which a net may stand
+abbrev pub opens : Partial → Bool
+opens (inside head items (opened cell name conns pin)) = true
+opens p = false
+
+pub not_net : (p : Partial) → opens p ≡ false → IsAtNet (spelled p) → ⊥
+not_net p none (head, items, cell, name, conns, pin, is) = false≢true (sym none ∙ ap opens (same_tree p (inside head items (opened cell name conns pin)) is))
+
+-- the rule of a name that clashes
+pub clash_rule : (xs : List Lexeme) (x : List ℕ) → Clashes xs x → BreaksRule xs (Name x)
+clash_rule xs x clashes = inr (inr (inr (inr (inr (inr (inl clashes))))))
+
+-- a name that isn't declared breaks what its tree says or clashes
+pub plain_rule : (p : Partial) (x : List ℕ) → range_here p ≡ None → (NameAt p x → ⊥) → (Clashes (spelled p) x → ⊥) → BreaksAt p (Name x) → ⊥
+plain_rule p x none name clashes (inl b) = name b
+plain_rule p x none name clashes (inr (inl (range, declares, why))) = not_declaring p none range declares
+plain_rule p x none name clashes (inr (inr (inl b))) = clashes b
+plain_rule p x none name clashes (inr (inr (inr c))) = let (range, declares) = crowds_declares (spelled p) x c in not_declaring p none (Some range) declares
+
+pub may_stand : (p : Partial) (x : List ℕ) → range_here p ≡ None → (NameAt p x → ⊥) → MayStand true (spelled p) x
+may_stand p x none name clear breaks = plain_rule p x none name clear (breaks-here p (Name x) breaks)
+
+-- a pin that may be joined, and an instance of which no pin is left
+module _ (head : Head) (items : List Item) (kind : CellKind) (name : List ℕ) (conns : List Conn) where
+  pub pin_free : (x : List ℕ) → MayJoin true kind conns x → NameAt (inside head items (dotted (cell_name_of kind) name conns)) x → ⊥
+  pin_free x may (other, same, breaks) = elim breaks [
+    | inl absent ↦ absent (subst (λ k. Contains (pins_of k) x) (cell_name_of-distinct kind other (sym same)) may.0)
+    | inr again ↦ may.1 again
+  ]
+
+  pub close_free : (conn : Conn) → ((x : List ℕ) → Contains (pins_of kind) x → Contains (pins_in (conns ++ conn ∷ [])) x) → ClosesAt (inside head items (joined (cell_name_of kind) name conns conn)) → ⊥
+  close_free conn all (other, same, (pin, stands, unjoined)) = unjoined (all pin (subst (λ k. Contains (pins_of k) pin) (cell_name_of-distinct other kind same) stands))

@@ -1,6 +1,5 @@
--- One token more in a partial tree.
-use Rattle.ncl_reader.proofs.Kit.{ℕ, List, [], ◌∷◌, ◌++◌, Option, Some, None, option_and_then, option_map}
-use Rattle.ncl_reader.proofs.Terms.{Module, EndModule, Wire, word_of, LParen, RParen, Comma, Semi, Dot, LBracket, RBracket, Colon, Lexeme, Word, Name, Number, Mark, End, Direction, Plain, Wired, Lead, Gives, Wires, Group, all_of, Empty, Names, Ansi, Item, Declares, Joins, Head, LeadPart, led, bracketed, firsted, coloned, lasted, ranged, GroupPart, leading, naming, going, Partial, start, begun, titled, listing, listed, heading, headed, at_item, inside, ended, done, ItemPart, declaring, celled, named, joining, dotted, pinned, opened, netted, indexing, indexed, picked, joined, closed}
+-- One token more in a partial tree: a tree is what its tokens lead to, a step adds its token, and what may come next is what a step takes.
+use Rattle.ncl_reader.proofs.Terms.{ℕ, List, [], ◌∷◌, ◌++◌, Option, Some, None, option_and_then, option_map, Module, EndModule, Wire, word_of, LParen, RParen, Comma, Semi, Dot, LBracket, RBracket, Colon, Lexeme, Word, Name, Number, Mark, End, Direction, Plain, Wired, Lead, Gives, Wires, Group, all_of, Empty, Names, Ansi, Item, Declares, Joins, Head, LeadPart, led, bracketed, firsted, coloned, lasted, ranged, GroupPart, leading, naming, going, Partial, start, begun, titled, listing, listed, heading, headed, at_item, inside, ended, done, ItemPart, declaring, celled, named, joining, dotted, pinned, opened, netted, indexing, indexed, picked, joined, closed, ◌≡◌, refl, sym, ap, ◌∙◌, append_assoc, append-nil, same_Some, flat_map, Way, Row, direction_phrase, lead_phrase, Range, maybe_phrase, Spec, spec_phrase, group_phrase, Conn, Listing, listing_phrase, with_commas, name_phrase, conn_phrase, row_phrase, item_phrase, head_phrase, body_phrase, group_spelled, spelled, part_spelled, flat_map-append, lead_spelled, header_spelled, conn_spelled, codes, none-some, Text, BeginsShaped, arith, length, inl, inr, subst, length-append, split_push, BreaksRule, Breaks, NoneBreaks}
 
 -- "wire" behind a direction
 abbrev pub direction_more : Direction → Option Direction
@@ -100,3 +99,448 @@ step p t = None
 abbrev pub run : Partial → List Lexeme → Option Partial
 run p [] = Some p
 run p (t ∷ ts) = option_and_then (λ q. run q ts) (step p t)
+
+pub run-append : (p q : Partial) (xs ys : List Lexeme) → run p xs ≡ Some q → run p (xs ++ ys) ≡ run q ys
+run-append p q [] ys e = ap (λ r. run r ys) (same_Some p q e)
+run-append p q (x ∷ xs) ys e = by (step p x) (λ r. run-append r q xs ys) e
+  where
+    by : (next : Option Partial) → ((r : Partial) → run r xs ≡ Some q → run r (xs ++ ys) ≡ run q ys) → option_and_then (λ r. run r xs) next ≡ Some q → option_and_then (λ r. run r (xs ++ ys)) next ≡ run q ys
+    by None rec e = absurd cc
+    by (Some r) rec e = rec r e
+
+-- one list, and then another
+pub run-both : (p q r : Partial) (xs ys : List Lexeme) → run p xs ≡ Some q → run q ys ≡ Some r → run p (xs ++ ys) ≡ Some r
+run-both p q r xs ys one two = run-append p q xs ys one ∙ two
+
+pub run-listing : (name : List ℕ) (some names : List (List ℕ)) → run (listing name some) (with_commas name_phrase names) ≡ Some (listing name (some ++ names))
+run-listing name some [] = ap (λ xs. Some (listing name xs)) (sym (append-nil some))
+run-listing name some (x ∷ names) = run-listing name (some ++ x ∷ []) names ∙ ap (λ xs. Some (listing name xs)) (append_assoc some (x ∷ []) names)
+
+pub run-listed : (name : List ℕ) (names : Row (List ℕ)) → run (listing name []) (row_phrase name_phrase names) ≡ Some (listed name names.before names.last)
+run-listed name names = run-append (listing name []) (listing name names.before) (with_commas name_phrase names.before) (Name names.last ∷ []) (run-listing name [] names.before)
+
+-- names more of a declaration of a header
+module _ (name : List ℕ) (groups : List (Group Direction)) where
+  run-going : (spec : Spec Direction) (row : Row (List ℕ)) (names : List (List ℕ)) (last : List ℕ) → run (heading name groups (going spec row)) (with_commas name_phrase names ++ Name last ∷ []) ≡ Some (heading name groups (naming spec (all_of row ++ names) last))
+  run-going spec row [] last = ap (λ xs. Some (heading name groups (naming spec xs last))) (sym (append-nil (all_of row)))
+  run-going spec row (x ∷ names) last = run-going spec (record { before = all_of row; last = x }) names last ∙ ap (λ xs. Some (heading name groups (naming spec xs last))) (append_assoc (all_of row) (x ∷ []) names)
+
+  run-named : (l : Direction) (range : Option Range) (names : List (List ℕ)) (last : List ℕ) → run (heading name groups (leading (led l))) (maybe_phrase range ++ (with_commas name_phrase names ++ Name last ∷ [])) ≡ Some (heading name groups (naming (record { lead = l; range = range }) names last))
+  run-named l None [] last = refl
+  run-named l (Some range) [] last = refl
+  run-named l None (x ∷ names) last = run-going (record { lead = l; range = None }) (record { before = []; last = x }) names last
+  run-named l (Some range) (x ∷ names) last = run-going (record { lead = l; range = Some range }) (record { before = []; last = x }) names last
+
+-- where a declaration of a header begins behind others
+abbrev pub ansi_more : List ℕ → List (Group Direction) → Group Direction → List (Group Direction) → Partial
+ansi_more name some group [] = heading name some (going group.spec group.names)
+ansi_more name some group (next ∷ groups) = ansi_more name (some ++ group ∷ []) next groups
+
+abbrev pub ansi_at : List ℕ → List (Group Direction) → Partial
+ansi_at name [] = listing name []
+ansi_at name (group ∷ groups) = ansi_more name [] group groups
+
+module _ (name : List ℕ) where
+  begins-more : (some : List (Group Direction)) (group : Group Direction) (groups : List (Group Direction)) (way : Way) → step (ansi_more name some group groups) (Word (word_of way)) ≡ Some (heading name (some ++ group ∷ groups) (leading (led (Plain way))))
+  begins-more some group [] way = refl
+  begins-more some group (next ∷ groups) way = begins-more (some ++ group ∷ []) next groups way ∙ ap (λ gs. Some (heading name gs (leading (led (Plain way))))) (append_assoc some (group ∷ []) (next ∷ groups))
+
+  begins-at : (groups : List (Group Direction)) (way : Way) → step (ansi_at name groups) (Word (word_of way)) ≡ Some (heading name groups (leading (led (Plain way))))
+  begins-at [] way = refl
+  begins-at (group ∷ groups) way = begins-more [] group groups way
+
+  run-direction : (groups : List (Group Direction)) (l : Direction) → run (ansi_at name groups) (direction_phrase l) ≡ Some (heading name groups (leading (led l)))
+  run-direction groups (Plain way) = ap (option_and_then (λ q. Some q)) (begins-at groups way)
+  run-direction groups (Wired way) = ap (option_and_then (λ q. run q (Word Wire ∷ []))) (begins-at groups way)
+
+  -- a part of a declaration
+  run-lead : (groups : List (Group Direction)) (l : Direction) (part : GroupPart Direction) (rest : List Lexeme) → run (heading name groups (leading (led l))) rest ≡ Some (heading name groups part) → run (ansi_at name groups) (direction_phrase l ++ rest) ≡ Some (heading name groups part)
+  run-lead groups l part rest e = run-both (ansi_at name groups) (heading name groups (leading (led l))) (heading name groups part) (direction_phrase l) rest (run-direction groups l) e
+
+  run-naming : (groups : List (Group Direction)) (spec : Spec Direction) (names : List (List ℕ)) (last : List ℕ) → run (ansi_at name groups) (spec_phrase direction_phrase spec ++ (with_commas name_phrase names ++ Name last ∷ [])) ≡ Some (heading name groups (naming spec names last))
+  run-naming groups spec names last =
+      ap (run (ansi_at name groups)) (append_assoc (direction_phrase spec.lead) (maybe_phrase spec.range) (with_commas name_phrase names ++ Name last ∷ []))
+      ∙ run-lead groups spec.lead (naming spec names last) (maybe_phrase spec.range ++ (with_commas name_phrase names ++ Name last ∷ [])) (run-named name groups spec.lead spec.range names last)
+
+  run-group_part : (groups : List (Group Direction)) (part : GroupPart Direction) → run (ansi_at name groups) (group_spelled direction_phrase part) ≡ Some (heading name groups part)
+  run-group_part groups (leading (led l)) = run-direction groups l
+  run-group_part groups (leading (bracketed l)) = run-lead groups l _ _ refl
+  run-group_part groups (leading (firsted l first)) = run-lead groups l _ _ refl
+  run-group_part groups (leading (coloned l first)) = run-lead groups l _ _ refl
+  run-group_part groups (leading (lasted l first last)) = run-lead groups l _ _ refl
+  run-group_part groups (leading (ranged l range)) = run-lead groups l _ _ refl
+  run-group_part groups (naming spec names last) = run-naming groups spec names last
+  run-group_part groups (going spec row) =
+      ap (run (ansi_at name groups)) (sym (append_assoc (spec_phrase direction_phrase spec) (row_phrase name_phrase row) (Mark Comma ∷ [])))
+      ∙ run-append (ansi_at name groups) (heading name groups (naming spec row.before row.last)) (spec_phrase direction_phrase spec ++ row_phrase name_phrase row) (Mark Comma ∷ []) (run-naming groups spec row.before row.last)
+
+  -- declarations, each with a comma
+  ansi-push-more : (some : List (Group Direction)) (group : Group Direction) (groups : List (Group Direction)) (last : Group Direction) → ansi_more name some group (groups ++ last ∷ []) ≡ heading name (some ++ group ∷ groups) (going last.spec last.names)
+  ansi-push-more some group [] last = refl
+  ansi-push-more some group (next ∷ groups) last = ansi-push-more (some ++ group ∷ []) next groups last ∙ ap (λ gs. heading name gs (going last.spec last.names)) (append_assoc some (group ∷ []) (next ∷ groups))
+
+  ansi-push : (groups : List (Group Direction)) (last : Group Direction) → ansi_at name (groups ++ last ∷ []) ≡ heading name groups (going last.spec last.names)
+  ansi-push [] last = refl
+  ansi-push (group ∷ groups) last = ansi-push-more [] group groups last
+
+  run-comma : (groups : List (Group Direction)) (group : Group Direction) → run (ansi_at name groups) (group_phrase direction_phrase group ++ Mark Comma ∷ []) ≡ Some (ansi_at name (groups ++ group ∷ []))
+  run-comma groups group =
+      ap (run (ansi_at name groups)) (append_assoc (spec_phrase direction_phrase group.spec) (row_phrase name_phrase group.names) (Mark Comma ∷ []))
+      ∙ run-group_part groups (going group.spec group.names)
+      ∙ ap (λ p. Some p) (sym (ansi-push groups group))
+
+  pub run-groups : (some groups : List (Group Direction)) → run (ansi_at name some) (with_commas (group_phrase direction_phrase) groups) ≡ Some (ansi_at name (some ++ groups))
+  run-groups some [] = ap (λ gs. Some (ansi_at name gs)) (sym (append-nil some))
+  run-groups some (group ∷ groups) =
+      run-append (ansi_at name some) (ansi_at name (some ++ group ∷ [])) (group_phrase direction_phrase group ++ Mark Comma ∷ []) (with_commas (group_phrase direction_phrase) groups) (run-comma some group)
+      ∙ run-groups (some ++ group ∷ []) groups ∙ ap (λ gs. Some (ansi_at name gs)) (append_assoc some (group ∷ []) groups)
+
+  pub run-heading : (groups : List (Group Direction)) (part : GroupPart Direction) → run (listing name []) (with_commas (group_phrase direction_phrase) groups ++ group_spelled direction_phrase part) ≡ Some (heading name groups part)
+  run-heading groups part = run-append (listing name []) (ansi_at name groups) (with_commas (group_phrase direction_phrase) groups) (group_spelled direction_phrase part) (run-groups [] groups) ∙ run-group_part groups part
+
+  pub run-headed : (ports : Listing) → run (listing name []) (listing_phrase ports ++ Mark RParen ∷ []) ≡ Some (headed name ports)
+  run-headed Empty = refl
+  run-headed (Names names) = run-append (listing name []) (listed name names.before names.last) (row_phrase name_phrase names) (Mark RParen ∷ []) (run-listed name names)
+  run-headed (Ansi groups) = run-append (listing name []) (heading name groups.before (naming groups.last.spec groups.last.names.before groups.last.names.last)) (row_phrase (group_phrase direction_phrase) groups) (Mark RParen ∷ []) (run-heading groups.before (naming groups.last.spec groups.last.names.before groups.last.names.last))
+
+-- a part of a declaration of an item
+module _ (head : Head) (items : List Item) where
+  run-going-on : (spec : Spec Lead) (row : Row (List ℕ)) (names : List (List ℕ)) (last : List ℕ) → run (inside head items (declaring (going spec row))) (with_commas name_phrase names ++ Name last ∷ []) ≡ Some (inside head items (declaring (naming spec (all_of row ++ names) last)))
+  run-going-on spec row [] last = ap (λ xs. Some (inside head items (declaring (naming spec xs last)))) (sym (append-nil (all_of row)))
+  run-going-on spec row (x ∷ names) last = run-going-on spec (record { before = all_of row; last = x }) names last ∙ ap (λ xs. Some (inside head items (declaring (naming spec xs last)))) (append_assoc (all_of row) (x ∷ []) names)
+
+  pub run-names : (l : Lead) (range : Option Range) (names : List (List ℕ)) (last : List ℕ) → run (inside head items (declaring (leading (led l)))) (maybe_phrase range ++ (with_commas name_phrase names ++ Name last ∷ [])) ≡ Some (inside head items (declaring (naming (record { lead = l; range = range }) names last)))
+  run-names l None [] last = refl
+  run-names l (Some range) [] last = refl
+  run-names l None (x ∷ names) last = run-going-on (record { lead = l; range = None }) (record { before = []; last = x }) names last
+  run-names l (Some range) (x ∷ names) last = run-going-on (record { lead = l; range = Some range }) (record { before = []; last = x }) names last
+
+  pub run-word : (l : Lead) → run (at_item head items) (lead_phrase l) ≡ Some (inside head items (declaring (leading (led l))))
+  run-word (Gives (Plain way)) = refl
+  run-word (Gives (Wired way)) = refl
+  run-word Wires = refl
+
+  run-behind : (l : Lead) (part : GroupPart Lead) (rest : List Lexeme) → run (inside head items (declaring (leading (led l)))) rest ≡ Some (inside head items (declaring part)) → run (at_item head items) (lead_phrase l ++ rest) ≡ Some (inside head items (declaring part))
+  run-behind l part rest e = run-both (at_item head items) (inside head items (declaring (leading (led l)))) (inside head items (declaring part)) (lead_phrase l) rest (run-word l) e
+
+  run-declared : (spec : Spec Lead) (names : List (List ℕ)) (last : List ℕ) → run (at_item head items) (spec_phrase lead_phrase spec ++ (with_commas name_phrase names ++ Name last ∷ [])) ≡ Some (inside head items (declaring (naming spec names last)))
+  run-declared spec names last =
+      ap (run (at_item head items)) (append_assoc (lead_phrase spec.lead) (maybe_phrase spec.range) (with_commas name_phrase names ++ Name last ∷ []))
+      ∙ run-behind spec.lead (naming spec names last) (maybe_phrase spec.range ++ (with_commas name_phrase names ++ Name last ∷ [])) (run-names spec.lead spec.range names last)
+
+  pub run-declaring : (part : GroupPart Lead) → run (at_item head items) (group_spelled lead_phrase part) ≡ Some (inside head items (declaring part))
+  run-declaring (leading (led l)) = run-word l
+  run-declaring (leading (bracketed l)) = run-behind l _ _ refl
+  run-declaring (leading (firsted l first)) = run-behind l _ _ refl
+  run-declaring (leading (coloned l first)) = run-behind l _ _ refl
+  run-declaring (leading (lasted l first last)) = run-behind l _ _ refl
+  run-declaring (leading (ranged l range)) = run-behind l _ _ refl
+  run-declaring (naming spec names last) = run-declared spec names last
+  run-declaring (going spec row) =
+      ap (run (at_item head items)) (sym (append_assoc (spec_phrase lead_phrase spec) (row_phrase name_phrase row) (Mark Comma ∷ [])))
+      ∙ run-append (at_item head items) (inside head items (declaring (naming spec row.before row.last))) (spec_phrase lead_phrase spec ++ row_phrase name_phrase row) (Mark Comma ∷ []) (run-declared spec row.before row.last)
+
+  -- connections
+  pub run-conn : (cell name : List ℕ) (conns : List Conn) (conn : Conn) → run (inside head items (joining cell name conns)) (conn_phrase conn) ≡ Some (inside head items (joined cell name conns conn))
+  run-conn cell name conns conn = by conn.pin conn.net.name conn.net.index
+    where
+      by : (pin net : List ℕ) (index : Option (List ℕ)) → run (inside head items (joining cell name conns)) (conn_phrase (record { pin = pin; net = record { name = net; index = index } })) ≡ Some (inside head items (joined cell name conns (record { pin = pin; net = record { name = net; index = index } })))
+      by pin net None = refl
+      by pin net (Some digits) = refl
+
+  pub run-joining : (cell name : List ℕ) (some conns : List Conn) → run (inside head items (joining cell name some)) (with_commas conn_phrase conns) ≡ Some (inside head items (joining cell name (some ++ conns)))
+  run-joining cell name some [] = ap (λ xs. Some (inside head items (joining cell name xs))) (sym (append-nil some))
+  run-joining cell name some (x ∷ conns) =
+      run-append (inside head items (joining cell name some)) (inside head items (joining cell name (some ++ x ∷ []))) (conn_phrase x ++ Mark Comma ∷ []) (with_commas conn_phrase conns)
+      (run-append (inside head items (joining cell name some)) (inside head items (joined cell name some x)) (conn_phrase x) (Mark Comma ∷ []) (run-conn cell name some x))
+      ∙ run-joining cell name (some ++ x ∷ []) conns ∙ ap (λ xs. Some (inside head items (joining cell name xs))) (append_assoc some (x ∷ []) conns)
+
+  pub run-joined : (cell name : List ℕ) (conns : Row Conn) → run (inside head items (joining cell name [])) (row_phrase conn_phrase conns) ≡ Some (inside head items (joined cell name conns.before conns.last))
+  run-joined cell name conns = run-append (inside head items (joining cell name [])) (inside head items (joining cell name conns.before)) (with_commas conn_phrase conns.before) (conn_phrase conns.last) (run-joining cell name [] conns.before) ∙ run-conn cell name conns.before conns.last
+
+  -- a part of an item is what its tokens lead to
+  pub run-part : (part : ItemPart) → run (at_item head items) (part_spelled part) ≡ Some (inside head items part)
+  run-part (declaring part) = run-declaring part
+  run-part (celled cell) = refl
+  run-part (named cell name) = refl
+  run-part (joining cell name conns) = run-joining cell name [] conns
+  run-part (dotted cell name conns) = run-append _ _ (with_commas conn_phrase conns) _ (run-joining cell name [] conns)
+  run-part (pinned cell name conns pin) = run-append _ _ (with_commas conn_phrase conns) _ (run-joining cell name [] conns)
+  run-part (opened cell name conns pin) = run-append _ _ (with_commas conn_phrase conns) _ (run-joining cell name [] conns)
+  run-part (netted cell name conns pin net) = run-append _ _ (with_commas conn_phrase conns) _ (run-joining cell name [] conns)
+  run-part (indexing cell name conns pin net) = run-append _ _ (with_commas conn_phrase conns) _ (run-joining cell name [] conns)
+  run-part (indexed cell name conns pin net digits) = run-append _ _ (with_commas conn_phrase conns) _ (run-joining cell name [] conns)
+  run-part (picked cell name conns pin net digits) = run-append _ _ (with_commas conn_phrase conns) _ (run-joining cell name [] conns)
+  run-part (joined cell name conns conn) = run-joined cell name (record { before = conns; last = conn })
+  run-part (closed cell name conns conn) = run-append _ _ (row_phrase conn_phrase (record { before = conns; last = conn })) _ (run-joined cell name (record { before = conns; last = conn }))
+
+  -- an item leads to the next
+  pub run-item : (item : Item) → run (at_item head items) (item_phrase item) ≡ Some (at_item head (items ++ item ∷ []))
+  run-item (Declares group) = run-append _ _ (group_phrase lead_phrase group) (Mark Semi ∷ []) (run-declared group.spec group.names.before group.names.last)
+  run-item (Joins cell name conns) = run-append _ _ (row_phrase conn_phrase conns) _ (run-joined cell name conns)
+
+pub run-items : (head : Head) (some items : List Item) → run (at_item head some) (flat_map item_phrase items) ≡ Some (at_item head (some ++ items))
+run-items head some [] = ap (λ xs. Some (at_item head xs)) (sym (append-nil some))
+run-items head some (item ∷ items) =
+    run-append _ _ (item_phrase item) _ (run-item head some item) ∙ run-items head (some ++ item ∷ []) items ∙ ap (λ xs. Some (at_item head xs)) (append_assoc some (item ∷ []) items)
+
+pub run-head : (head : Head) → run start (head_phrase head) ≡ Some (at_item head [])
+run-head head = by head.ports
+  where
+    by : (ports : Option Listing) → run start (head_phrase (record { name = head.name; ports = ports })) ≡ Some (at_item (record { name = head.name; ports = ports }) [])
+    by None = refl
+    by (Some ports) = run-append (listing head.name []) (headed head.name ports) (listing_phrase ports ++ Mark RParen ∷ []) (Mark Semi ∷ []) (run-headed head.name ports)
+
+pub run-body : (head : Head) (items : List Item) → run start (body_phrase head items) ≡ Some (at_item head items)
+run-body head items = run-append start (at_item head []) (head_phrase head) (flat_map item_phrase items) (run-head head) ∙ run-items head [] items
+
+-- a partial tree is what its tokens lead to
+pub run-spelled : (p : Partial) → run start (spelled p) ≡ Some p
+run-spelled start = refl
+run-spelled begun = refl
+run-spelled (titled name) = refl
+run-spelled (listing name names) = run-listing name [] names
+run-spelled (listed name names last) = run-listed name (record { before = names; last = last })
+run-spelled (heading name groups part) = run-heading name groups part
+run-spelled (headed name ports) = run-headed name ports
+run-spelled (at_item head items) = run-body head items
+run-spelled (inside head items part) = run-append start (at_item head items) (body_phrase head items) (part_spelled part) (run-body head items) ∙ run-part head items part
+run-spelled (ended head items) = run-append start (at_item head items) (body_phrase head items) (Word EndModule ∷ []) (run-body head items)
+run-spelled (done head items) = run-append start (at_item head items) (body_phrase head items) (Word EndModule ∷ End ∷ []) (run-body head items)
+
+pub more_commas : {X : Type 0} (phrase : X → List Lexeme) (xs : List X) (x : X) → with_commas phrase (xs ++ x ∷ []) ≡ (with_commas phrase xs ++ phrase x) ++ Mark Comma ∷ []
+more_commas phrase xs x = flat_map-append (λ x. phrase x ++ Mark Comma ∷ []) xs (x ∷ []) ∙ ap (λ l. with_commas phrase xs ++ l) (append-nil (phrase x ++ Mark Comma ∷ [])) ∙ sym (append_assoc (with_commas phrase xs) (phrase x) (Mark Comma ∷ []))
+
+more_items : (head : Head) (items : List Item) (item : Item) (part : List Lexeme) (t : Lexeme) → item_phrase item ≡ part ++ t ∷ [] → body_phrase head (items ++ item ∷ []) ≡ (body_phrase head items ++ part) ++ t ∷ []
+more_items head items item part t e =
+    ap (λ l. head_phrase head ++ l) (flat_map-append item_phrase items (item ∷ []) ∙ ap (λ l. flat_map item_phrase items ++ l) (append-nil (item_phrase item) ∙ e))
+    ∙ sym (append_assoc (head_phrase head) (flat_map item_phrase items) (part ++ t ∷ []))
+    ∙ sym (append_assoc (body_phrase head items) part (t ∷ []))
+
+-- one token more behind a part
+behind : (head : Head) (items : List Item) (part : List Lexeme) (t : Lexeme) (more : List Lexeme) → more ≡ part ++ t ∷ [] → body_phrase head items ++ more ≡ (body_phrase head items ++ part) ++ t ∷ []
+behind head items part t more e = ap (λ l. body_phrase head items ++ l) e ∙ sym (append_assoc (body_phrase head items) part (t ∷ []))
+
+-- one token more behind a part of a connection
+within : (cell name : List ℕ) (conns : List Conn) (part : List Lexeme) (t : Lexeme) → conn_spelled cell name conns (part ++ t ∷ []) ≡ conn_spelled cell name conns part ++ t ∷ []
+within cell name conns part t = ap (λ l. Name cell ∷ Name name ∷ Mark LParen ∷ l) (sym (append_assoc (with_commas conn_phrase conns) part (t ∷ [])))
+
+along : (r q : Partial) (xs : List Lexeme) → Some r ≡ Some q → spelled r ≡ xs → spelled q ≡ xs
+along r q xs e g = ap spelled (sym (same_Some r q e)) ∙ g
+
+-- one token more in a declaration, where "wire" behind what it begins with adds its token
+module _ {L : Type 0} (phrase : L → List Lexeme) (more : L → Option L) (wired : (l m : L) → more l ≡ Some m → phrase m ≡ phrase l ++ Word Wire ∷ []) where
+  part-along : (p q : GroupPart L) (xs : List Lexeme) → Some p ≡ Some q → group_spelled phrase p ≡ xs → group_spelled phrase q ≡ xs
+  part-along p q xs e g = ap (group_spelled phrase) (sym (same_Some p q e)) ∙ g
+
+  wire-added : (l : L) (m : Option L) (q : GroupPart L) → more l ≡ m → option_map (λ m. leading (led m)) m ≡ Some q → group_spelled phrase q ≡ phrase l ++ Word Wire ∷ []
+  wire-added l None q is e = absurd cc
+  wire-added l (Some m) q is e = part-along (leading (led m)) q _ e (wired l m is)
+
+  pub grows-lead : (part : LeadPart L) (t : Lexeme) (q : GroupPart L) → lead_step more part t ≡ Some q → group_spelled phrase q ≡ lead_spelled phrase part ++ t ∷ []
+  grows-lead (led l) (Word Wire) q e = wire-added l (more l) q refl e
+  grows-lead (led l) (Mark LBracket) q e = part-along _ q _ e refl
+  grows-lead (led l) (Name x) q e = part-along _ q _ e (ap (λ l. l ++ Name x ∷ []) (append-nil (phrase l)))
+  grows-lead (bracketed l) (Number first) q e = part-along _ q _ e (sym (append_assoc (phrase l) _ _))
+  grows-lead (firsted l first) (Mark Colon) q e = part-along _ q _ e (sym (append_assoc (phrase l) _ _))
+  grows-lead (coloned l first) (Number last) q e = part-along _ q _ e (sym (append_assoc (phrase l) _ _))
+  grows-lead (lasted l first last) (Mark RBracket) q e = part-along _ q _ e (sym (append_assoc (phrase l) _ _))
+  grows-lead (ranged l range) (Name x) q e = part-along _ q _ e refl
+  grows-lead part t q e = absurd cc
+
+  pub grows-group : (part : GroupPart L) (t : Lexeme) (q : GroupPart L) → group_step more part t ≡ Some q → group_spelled phrase q ≡ group_spelled phrase part ++ t ∷ []
+  grows-group (leading part) t q e = grows-lead part t q e
+  grows-group (naming spec names last) (Mark Comma) q e = part-along _ q _ e (sym (append_assoc (spec_phrase phrase spec) (with_commas name_phrase names ++ Name last ∷ []) (Mark Comma ∷ [])))
+  grows-group (going spec row) (Name x) q e = part-along _ q _ e (ap (λ l. spec_phrase phrase spec ++ (l ++ Name x ∷ [])) (more_commas name_phrase row.before row.last) ∙ sym (append_assoc (spec_phrase phrase spec) (row_phrase name_phrase row ++ Mark Comma ∷ []) (Name x ∷ [])))
+  grows-group part t q e = absurd cc
+
+direction-wired : (l m : Direction) → direction_more l ≡ Some m → direction_phrase m ≡ direction_phrase l ++ Word Wire ∷ []
+direction-wired (Plain way) m e = ap direction_phrase (sym (same_Some (Wired way) m e))
+direction-wired (Wired way) m e = absurd cc
+
+lead-wired : (l m : Lead) → lead_more l ≡ Some m → lead_phrase m ≡ lead_phrase l ++ Word Wire ∷ []
+lead-wired (Gives (Plain way)) m e = ap lead_phrase (sym (same_Some (Gives (Wired way)) m e))
+lead-wired (Gives (Wired way)) m e = absurd cc
+lead-wired Wires m e = absurd cc
+
+-- one token more in a declaration of a header
+module _ (name : List ℕ) (groups : List (Group Direction)) where
+  in_groups : (part more : List Lexeme) (t : Lexeme) → more ≡ part ++ t ∷ [] → header_spelled name (with_commas (group_phrase direction_phrase) groups ++ more) ≡ header_spelled name (with_commas (group_phrase direction_phrase) groups ++ part) ++ t ∷ []
+  in_groups part more t e = ap (λ l. header_spelled name (with_commas (group_phrase direction_phrase) groups ++ l)) e ∙ ap (header_spelled name) (sym (append_assoc (with_commas (group_phrase direction_phrase) groups) part (t ∷ [])))
+
+  grows-ends : (part : GroupPart Direction) (t : Lexeme) (q : Partial) → heading_ends name groups part t ≡ Some q → spelled q ≡ spelled (heading name groups part) ++ t ∷ []
+  grows-ends (naming spec names last) (Mark RParen) q e = along _ q _ e refl
+  grows-ends (going spec row) (Word (word_of way)) q e = along _ q _ e (
+      ap (λ l. header_spelled name (l ++ Word (word_of way) ∷ [])) (more_commas (group_phrase direction_phrase) groups (record { spec = spec; names = row }) ∙ append_assoc (with_commas (group_phrase direction_phrase) groups) (spec_phrase direction_phrase spec ++ row_phrase name_phrase row) (Mark Comma ∷ []) ∙ ap (λ l. with_commas (group_phrase direction_phrase) groups ++ l) (append_assoc (spec_phrase direction_phrase spec) (row_phrase name_phrase row) (Mark Comma ∷ [])))
+      )
+  grows-ends part t q e = absurd cc
+
+  grows-heading : (part : GroupPart Direction) (t : Lexeme) (q : Partial) (more : Option (GroupPart Direction)) → group_step direction_more part t ≡ more → or_else (option_map (heading name groups) more) (heading_ends name groups part t) ≡ Some q → spelled q ≡ spelled (heading name groups part) ++ t ∷ []
+  grows-heading part t q None is e = grows-ends part t q e
+  grows-heading part t q (Some more) is e = along (heading name groups more) q _ e (in_groups (group_spelled direction_phrase part) (group_spelled direction_phrase more) t (grows-group direction_phrase direction_more direction-wired part t more is))
+
+-- one token more in an item
+module _ (head : Head) (items : List Item) where
+  grows-declaring : (part : GroupPart Lead) (t : Lexeme) (q : Partial) → declaring_ends head items part t ≡ Some q → spelled q ≡ (body_phrase head items ++ group_spelled lead_phrase part) ++ t ∷ []
+  grows-declaring (naming spec names last) (Mark Semi) q e = along _ q _ e (more_items head items (Declares (record { spec = spec; names = record { before = names; last = last } })) (group_spelled lead_phrase (naming spec names last)) (Mark Semi) refl)
+  grows-declaring part t q e = absurd cc
+
+  grows-declares : (part : GroupPart Lead) (t : Lexeme) (q : Partial) (more : Option (GroupPart Lead)) → group_step lead_more part t ≡ more → or_else (option_map (λ more. inside head items (declaring more)) more) (declaring_ends head items part t) ≡ Some q → spelled q ≡ (body_phrase head items ++ group_spelled lead_phrase part) ++ t ∷ []
+  grows-declares part t q None is e = grows-declaring part t q e
+  grows-declares part t q (Some more) is e = along (inside head items (declaring more)) q _ e (behind head items (group_spelled lead_phrase part) t (group_spelled lead_phrase more) (grows-group lead_phrase lead_more lead-wired part t more is))
+
+  pub grows-item : (part : ItemPart) (t : Lexeme) (q : Partial) → item_step head items part t ≡ Some q → spelled q ≡ (body_phrase head items ++ part_spelled part) ++ t ∷ []
+  grows-item (declaring part) t q e = grows-declares part t q (group_step lead_more part t) refl e
+  grows-item (celled cell) (Name name) q e = along _ q _ e (behind head items (part_spelled (celled cell)) _ _ refl)
+  grows-item (named cell name) (Mark LParen) q e = along _ q _ e (behind head items (part_spelled (named cell name)) _ _ refl)
+  grows-item (joining cell name conns) (Mark Dot) q e = along _ q _ e (behind head items (part_spelled (joining cell name conns)) _ _ refl)
+  grows-item (dotted cell name conns) (Name pin) q e = along _ q _ e (behind head items (part_spelled (dotted cell name conns)) _ _ (within cell name conns _ (Name pin)))
+  grows-item (pinned cell name conns pin) (Mark LParen) q e = along _ q _ e (behind head items (part_spelled (pinned cell name conns pin)) _ _ (within cell name conns _ (Mark LParen)))
+  grows-item (opened cell name conns pin) (Name net) q e = along _ q _ e (behind head items (part_spelled (opened cell name conns pin)) _ _ (within cell name conns _ (Name net)))
+  grows-item (netted cell name conns pin net) (Mark RParen) q e = along _ q _ e (behind head items (part_spelled (netted cell name conns pin net)) _ _ (within cell name conns _ (Mark RParen)))
+  grows-item (netted cell name conns pin net) (Mark LBracket) q e = along _ q _ e (behind head items (part_spelled (netted cell name conns pin net)) _ _ (within cell name conns _ (Mark LBracket)))
+  grows-item (indexing cell name conns pin net) (Number digits) q e = along _ q _ e (behind head items (part_spelled (indexing cell name conns pin net)) _ _ (within cell name conns _ (Number digits)))
+  grows-item (indexed cell name conns pin net digits) (Mark RBracket) q e = along _ q _ e (behind head items (part_spelled (indexed cell name conns pin net digits)) _ _ (within cell name conns _ (Mark RBracket)))
+  grows-item (picked cell name conns pin net digits) (Mark RParen) q e = along _ q _ e (behind head items (part_spelled (picked cell name conns pin net digits)) _ _ (within cell name conns _ (Mark RParen)))
+  grows-item (joined cell name conns conn) (Mark Comma) q e = along _ q _ e (behind head items (part_spelled (joined cell name conns conn)) _ _ (ap (λ l. Name cell ∷ Name name ∷ Mark LParen ∷ l) (more_commas conn_phrase conns conn)))
+  grows-item (joined cell name conns conn) (Mark RParen) q e = along _ q _ e (behind head items (part_spelled (joined cell name conns conn)) _ _ refl)
+  grows-item (closed cell name conns conn) (Mark Semi) q e = along _ q _ e (more_items head items (Joins cell name (record { before = conns; last = conn })) (part_spelled (closed cell name conns conn)) (Mark Semi) (ap (λ l. Name cell ∷ Name name ∷ Mark LParen ∷ l) (sym (append_assoc (row_phrase conn_phrase (record { before = conns; last = conn })) (Mark RParen ∷ []) (Mark Semi ∷ [])))))
+  grows-item part t q e = absurd cc
+
+-- a step adds its token
+pub grows : (p : Partial) (t : Lexeme) (q : Partial) → step p t ≡ Some q → spelled q ≡ spelled p ++ t ∷ []
+grows start (Word Module) q e = along _ q _ e refl
+grows begun (Name name) q e = along _ q _ e refl
+grows (titled name) (Mark LParen) q e = along _ q _ e refl
+grows (titled name) (Mark Semi) q e = along _ q _ e refl
+grows (listing name []) (Mark RParen) q e = along _ q _ e refl
+grows (listing name (x ∷ names)) (Mark RParen) q e = absurd cc
+grows (listing name []) (Word (word_of way)) q e = along _ q _ e refl
+grows (listing name (x ∷ names)) (Word (word_of way)) q e = absurd cc
+grows (listing name names) (Name last) q e = along _ q _ e refl
+grows (listed name names last) (Mark Comma) q e = along _ q _ e (ap (header_spelled name) (more_commas name_phrase names last))
+grows (listed name names last) (Mark RParen) q e = along _ q _ e refl
+grows (heading name groups part) t q e = grows-heading name groups part t q (group_step direction_more part t) refl e
+grows (headed name ports) (Mark Semi) q e = along _ q _ e (append-nil (head_phrase (record { name = name; ports = Some ports })))
+grows (at_item head items) (Word EndModule) q e = along _ q _ e refl
+grows (at_item head items) (Word (word_of way)) q e = along _ q _ e refl
+grows (at_item head items) (Word Wire) q e = along _ q _ e refl
+grows (at_item head items) (Name cell) q e = along _ q _ e refl
+grows (inside head items part) t q e = grows-item head items part t q e
+grows (ended head items) End q e = along _ q _ e (sym (append_assoc (body_phrase head items) (Word EndModule ∷ []) (End ∷ [])))
+grows p t q e = absurd cc
+
+-- tokens that are taken are added
+pub grows-run : (p q : Partial) (ts : List Lexeme) → run p ts ≡ Some q → spelled q ≡ spelled p ++ ts
+grows-run p q [] e = ap spelled (sym (same_Some p q e)) ∙ sym (append-nil (spelled p))
+grows-run p q (t ∷ ts) e = by (step p t) refl (λ r. grows-run r q ts) e
+  where
+    by : (next : Option Partial) → step p t ≡ next → ((r : Partial) → run r ts ≡ Some q → spelled q ≡ spelled r ++ ts) → option_and_then (λ r. run r ts) next ≡ Some q → spelled q ≡ spelled p ++ t ∷ ts
+    by None s rec e = absurd cc
+    by (Some r) s rec e = rec r e ∙ ap (λ l. l ++ ts) (grows p t r s) ∙ append_assoc (spelled p) (t ∷ []) ts
+
+-- what leads to the end
+abbrev pub to_end : List Lexeme
+to_end = Word EndModule ∷ End ∷ []
+
+abbrev pub lead_rest : {L : Type 0} → LeadPart L → List Lexeme → List Lexeme
+lead_rest (led l) rest = Name (codes "a") ∷ rest
+lead_rest (bracketed l) rest = Number (codes "0") ∷ Mark Colon ∷ Number (codes "0") ∷ Mark RBracket ∷ Name (codes "a") ∷ rest
+lead_rest (firsted l first) rest = Mark Colon ∷ Number (codes "0") ∷ Mark RBracket ∷ Name (codes "a") ∷ rest
+lead_rest (coloned l first) rest = Number (codes "0") ∷ Mark RBracket ∷ Name (codes "a") ∷ rest
+lead_rest (lasted l first last) rest = Mark RBracket ∷ Name (codes "a") ∷ rest
+lead_rest (ranged l range) rest = Name (codes "a") ∷ rest
+
+abbrev pub group_rest : {L : Type 0} → GroupPart L → List Lexeme → List Lexeme
+group_rest (leading part) rest = lead_rest part rest
+group_rest (naming spec names last) rest = rest
+group_rest (going spec names) rest = Name (codes "a") ∷ rest
+
+abbrev pub item_rest : ItemPart → List Lexeme
+item_rest (declaring part) = group_rest part (Mark Semi ∷ to_end)
+item_rest (celled cell) = Name (codes "a") ∷ Mark LParen ∷ Mark Dot ∷ Name (codes "a") ∷ Mark LParen ∷ Name (codes "a") ∷ Mark RParen ∷ Mark RParen ∷ Mark Semi ∷ to_end
+item_rest (named cell name) = Mark LParen ∷ Mark Dot ∷ Name (codes "a") ∷ Mark LParen ∷ Name (codes "a") ∷ Mark RParen ∷ Mark RParen ∷ Mark Semi ∷ to_end
+item_rest (joining cell name conns) = Mark Dot ∷ Name (codes "a") ∷ Mark LParen ∷ Name (codes "a") ∷ Mark RParen ∷ Mark RParen ∷ Mark Semi ∷ to_end
+item_rest (dotted cell name conns) = Name (codes "a") ∷ Mark LParen ∷ Name (codes "a") ∷ Mark RParen ∷ Mark RParen ∷ Mark Semi ∷ to_end
+item_rest (pinned cell name conns pin) = Mark LParen ∷ Name (codes "a") ∷ Mark RParen ∷ Mark RParen ∷ Mark Semi ∷ to_end
+item_rest (opened cell name conns pin) = Name (codes "a") ∷ Mark RParen ∷ Mark RParen ∷ Mark Semi ∷ to_end
+item_rest (netted cell name conns pin net) = Mark RParen ∷ Mark RParen ∷ Mark Semi ∷ to_end
+item_rest (indexing cell name conns pin net) = Number (codes "0") ∷ Mark RBracket ∷ Mark RParen ∷ Mark RParen ∷ Mark Semi ∷ to_end
+item_rest (indexed cell name conns pin net digits) = Mark RBracket ∷ Mark RParen ∷ Mark RParen ∷ Mark Semi ∷ to_end
+item_rest (picked cell name conns pin net digits) = Mark RParen ∷ Mark RParen ∷ Mark Semi ∷ to_end
+item_rest (joined cell name conns conn) = Mark RParen ∷ Mark Semi ∷ to_end
+item_rest (closed cell name conns conn) = Mark Semi ∷ to_end
+
+abbrev pub rest_of : Partial → List Lexeme
+rest_of start = Word Module ∷ Name (codes "a") ∷ Mark Semi ∷ to_end
+rest_of begun = Name (codes "a") ∷ Mark Semi ∷ to_end
+rest_of (titled name) = Mark Semi ∷ to_end
+rest_of (listing name names) = Name (codes "a") ∷ Mark RParen ∷ Mark Semi ∷ to_end
+rest_of (listed name names last) = Mark RParen ∷ Mark Semi ∷ to_end
+rest_of (heading name groups part) = group_rest part (Mark RParen ∷ Mark Semi ∷ to_end)
+rest_of (headed name ports) = Mark Semi ∷ to_end
+rest_of (at_item head items) = to_end
+rest_of (inside head items part) = item_rest part
+rest_of (ended head items) = End ∷ []
+rest_of (done head items) = []
+
+-- what is done
+pub record EndsWell (p : Partial) : Type 0 where
+  pub text : Text
+  pub runs : run p (rest_of p) ≡ Some (done text.head text.items)
+
+-- every partial tree can be ended
+pub ends : (p : Partial) → EndsWell p
+ends (heading name groups (leading (led l))) = record { text = record { head = _; items = _ }; runs = refl }
+ends (inside head items (declaring (leading (led l)))) = record { text = record { head = _; items = _ }; runs = refl }
+ends p = record { text = record { head = _; items = _ }; runs = refl }
+
+-- the tokens of a partial tree begin a shaped list
+pub viable : (p : Partial) → BeginsShaped (spelled p)
+viable p = let end = ends p in (rest_of p, (end.text, sym (grows-run p (done end.text.head end.text.items) (rest_of p) end.runs)))
+
+-- tokens that are added, and then one that isn't taken
+pub not_taken : (p q : Partial) (t : Lexeme) (rest : List Lexeme) → step p t ≡ None → run p (t ∷ rest) ≡ Some q → ⊥
+not_taken p q t rest none e = none-some q (sym (ap (λ next. option_and_then (λ r. run r rest) next) none) ∙ e)
+
+-- a token that isn't taken begins no shaped list behind them
+pub stuck : (p : Partial) (t : Lexeme) → step p t ≡ None → BeginsShaped (spelled p ++ t ∷ []) → ⊥
+stuck p t none (rest, (text, is)) =
+    let whole : spelled p ++ t ∷ rest ≡ spelled (done text.head text.items) = sym (append_assoc (spelled p) (t ∷ []) rest) ∙ is in
+    not_taken p (done text.head text.items) t rest none (sym (run-append start p (spelled p) (t ∷ rest) (run-spelled p)) ∙ ap (run start) whole ∙ run-spelled (done text.head text.items))
+
+-- partial trees with the same tokens are one
+pub same_tree : (p q : Partial) → spelled p ≡ spelled q → p ≡ q
+same_tree p q e = same_Some p q (sym (run-spelled p) ∙ ap (run start) e ∙ run-spelled q)
+
+-- what is run has a partial tree in between
+pub front_run : (p q : Partial) (xs ys : List Lexeme) → run p (xs ++ ys) ≡ Some q → (r : Partial) × (run p xs ≡ Some r)
+front_run p q [] ys e = (p, refl)
+front_run p q (x ∷ xs) ys e = by (step p x) (λ r. front_run r q xs ys) e
+  where
+    by : (next : Option Partial) → ((r : Partial) → run r (xs ++ ys) ≡ Some q → (s : Partial) × (run r xs ≡ Some s)) → option_and_then (λ r. run r (xs ++ ys)) next ≡ Some q → (s : Partial) × (option_and_then (λ r. run r xs) next ≡ Some s)
+    by None rec e = absurd cc
+    by (Some r) rec e = rec r e
+
+-- a token that isn't taken breaks
+pub breaks-untaken : (p : Partial) (t : Lexeme) → step p t ≡ None → Breaks (spelled p) t
+breaks-untaken p t none = inl (viable p, stuck p t none)
+
+-- a token that is taken breaks where it breaks a rule
+pub breaks-taken : (p q : Partial) (t : Lexeme) → step p t ≡ Some q → Breaks (spelled p) t → BreaksRule (spelled p) t
+breaks-taken p q t some (inl breaks) = absurd (breaks.1 (subst BeginsShaped (grows p t q some) (viable q)))
+breaks-taken p q t some (inr breaks) = breaks
+
+-- what is empty has no token, and a name is one
+pub no_token : (front rest : List Lexeme) (t : Lexeme) → [] ≡ front ++ t ∷ rest → ⊥
+no_token front rest t e = omega (arith, ap length e, length-append front (t ∷ rest))
+
+pub name_in : {a b : List ℕ} → Name a ≡ Name b → a ≡ b
+name_in e = cc
+
+-- one token more that doesn't break
+pub unbroken-more : (xs : List Lexeme) (t : Lexeme) → NoneBreaks xs → ¬ Breaks xs t → NoneBreaks (xs ++ t ∷ [])
+unbroken-more xs t none here before u after e = elim (split_push xs t before u after e) [
+  | inl (same, last) ↦ λ breaks. here (subst (λ z. Breaks z t) same (subst (λ z. Breaks before z) last breaks))
+  | inr (left, front) ↦ none before u left front
+]

@@ -1,60 +1,144 @@
 -- A text without vectors that keeps the rules as a whole breaks none at any of its tokens.
-use Rattle.ncl_reader.proofs.Kit.{[], ◌≡◌, ◌≢◌, ℕ, zero, suc, List, ◌∷◌, ◌++◌, Contains, Option, Some, None, false, inl, inr, refl, sym, ap, ◌∙◌, append_assoc, subst, arith, flat_map, AllByRecursion, false≢true, append-nil, map-append, flat_map_more, Contains-append_left, Contains-append_right, IsDistinct-head, IsDistinct-tail, bytes_eq-Decides}
-use Rattle.ncl_reader.proofs.Terms.{CellKind, cell_name_of, pins_of, same_name, AllDiffer, Module, EndModule, Wire, word_of, LParen, RParen, Comma, Semi, Dot, Word, Name, Mark, End, Row, all_of, with_commas, row_phrase, name_phrase, Direction, Plain, Wired, Lead, Gives, Wires, lead_phrase, Spec, Group, group_names, Conn, conn_phrase, Item, Declares, Joins, item_phrase, Listing, Empty, Names, Ansi, Head, head_phrase, body_phrase, Text, text_phrase, groups_of, header_of, NoneBreaks, directed_in, directed_by, Joined, joined_in, IsInstanceOf, KeepsRules, AreWhole, IsScalar, AreScalar, IsPlain, led, GroupPart, leading, naming, going, Partial, start, begun, titled, listing, listed, headed, at_item, inside, ended, done, declaring, celled, named, joining, dotted, pinned, opened, netted, joined, closed, spelled, pins_in}
-use Rattle.ncl_reader.proofs.Steps.{step}
-use Rattle.ncl_reader.proofs.Runs.{run-append, run-both, run-listing, run-listed, run-headed, run-word, run-names, run-conn, run-joining, run-joined, run-head, run-item, run-body}
-use Rattle.ncl_reader.proofs.Declares.{part_names}
-use Rattle.ncl_reader.proofs.RulesAt.{Misgiven, some_given, NameAt}
-use Rattle.ncl_reader.proofs.NameRules.{pin_free, close_free}
-use Rattle.ncl_reader.proofs.PlainNames.{no_vector, plain_free}
-use Rattle.ncl_reader.proofs.Unbracketed.{no_bracket_in}
-use Rattle.ncl_reader.proofs.Clean.{Clean, clean-none, clean-one, clean-last, clean-append, unbroken-clean}
+use Rattle.ncl_reader.proofs.Terms.{◌≡◌, ℕ, List, ◌∷◌, ◌++◌, Option, Some, None, inl, inr, refl, sym, ap, ◌∙◌, subst, append_assoc, option_map, Module, LBracket, LParen, Lexeme, Word, Name, Mark, direction_phrase, Gives, lead_phrase, Range, spec_phrase, group_phrase, with_commas, name_phrase, body_phrase, IsDeclaring, span_of, IsDeclared, IsVector, Redeclares, Clashes, Crowds, Partial, spelled, [], option_and_then, same_Some, Text, text_phrase, Breaks, NoneBreaks, start, done, ◌≢◌, flat_map, Comma, RParen, Semi, Row, Direction, Plain, Wired, Lead, Wires, Group, Conn, conn_phrase, Item, Declares, Joins, item_phrase, Listing, Empty, Names, Ansi, header_phrase, head_phrase, row_phrase, AreWhole, IsScalar, AreScalar, IsPlain, zero, suc, Contains, false, arith, AllByRecursion, false≢true, append-nil, map-append, flat_map_more, Contains-append_left, Contains-append_right, IsDistinct-head, IsDistinct-tail, bytes_eq-Decides, CellKind, cell_name_of, pins_of, same_name, AllDiffer, EndModule, End, all_of, Spec, group_names, Head, groups_of, header_of, directed_in, directed_by, Joined, joined_in, IsInstanceOf, KeepsRules, led, GroupPart, leading, naming, going, begun, titled, listing, at_item, inside, declaring, celled, joining, dotted, opened, netted, pins_in}
+use Rattle.ncl_reader.proofs.RulesAt.{NameAt, BreaksAt, breaks-here, Misgiven, some_given, pin_free, close_free}
+use Rattle.ncl_reader.proofs.Steps.{step, run, run-append, run-spelled, grows-run, front_run, not_taken, breaks-taken, run-both, run-listing, run-listed, run-headed, run-word, run-names, run-conn, run-joining, run-joined, run-head, run-item, run-body}
+use Rattle.ncl_reader.proofs.Facts.{part_names, Of, some_of}
+
+-- no bracket stands
+abbrev NoBracket : List Lexeme → Type 0
+NoBracket xs = (front rest : List Lexeme) → xs ≡ front ++ Mark LBracket ∷ rest → ⊥
+
+-- a list with another in it
+in_middle : (a b c rest : List Lexeme) → a ++ ((b ++ (Mark LBracket ∷ rest)) ++ c) ≡ (a ++ b) ++ Mark LBracket ∷ (rest ++ c)
+in_middle a b c rest = ap (λ l. a ++ l) (append_assoc b (Mark LBracket ∷ rest) c) ∙ sym (append_assoc a b (Mark LBracket ∷ (rest ++ c)))
+
+bracket_in : {L : Type 0} (phrase : L → List Lexeme) (l : L) (range : Range) (front names : List Lexeme) → NoBracket (front ++ (spec_phrase phrase (record { lead = l; range = Some range }) ++ names)) → ⊥
+bracket_in phrase l range front names none = none (front ++ phrase l) _ (in_middle front (phrase l) names _)
+
+-- so a name isn't declared with a range
+no_range : (xs : List Lexeme) (range : Range) → NoBracket xs → IsDeclaring xs (Some range) → ⊥
+no_range xs range none (inl (title, groups, direction, names, is)) =
+    bracket_in direction_phrase direction range (Word Module ∷ Name title ∷ Mark LParen ∷ with_commas (group_phrase direction_phrase) groups) (with_commas name_phrase names) (subst NoBracket is none)
+no_range xs range none (inr (head, items, lead, names, is)) =
+    bracket_in lead_phrase lead range (body_phrase head items) (with_commas name_phrase names) (subst NoBracket is none)
+
+front_none : (xs front rest : List Lexeme) → xs ≡ front ++ rest → NoBracket xs → NoBracket front
+front_none xs front rest is none a b e = none a (b ++ rest) (is ∙ ap (λ l. l ++ rest) e ∙ append_assoc a (Mark LBracket ∷ b) rest)
+
+no_vector : (xs : List Lexeme) (x : List ℕ) (range : Range) → NoBracket xs → IsVector xs x range → ⊥
+no_vector xs x range none (front, rest, is, declares) = no_range front range (front_none xs front (Name x ∷ rest) is none) declares
+
+is_none : (xs : List Lexeme) (range : Option Range) → NoBracket xs → IsDeclaring xs range → range ≡ None
+is_none xs None none declares = refl
+is_none xs (Some range) none declares = absurd (no_range xs range none declares)
+
+was_none : (xs : List Lexeme) (x : List ℕ) (range : Option Range) → NoBracket xs → IsDeclared xs x range → range ≡ None
+was_none xs x range none (front, rest, is, declares) = is_none front range (front_none xs front (Name x ∷ rest) is none) declares
+
+no_redeclares : (xs : List Lexeme) (x : List ℕ) → NoBracket xs → Redeclares xs x → ⊥
+no_redeclares xs x none (range, declares, inl (other, declared, differ)) = differ (ap (option_map span_of) (was_none xs x other none declared ∙ sym (is_none xs range none declares)))
+no_redeclares xs x none (range, declares, inr (some, used)) = some (is_none xs range none declares)
+
+no_clashes : (xs : List Lexeme) (x : List ℕ) → NoBracket xs → Clashes xs x → ⊥
+no_clashes xs x none (inl (vector, range, k, same, is, covers)) = no_vector xs vector range none is
+no_clashes xs x none (inr (range, k, declares, covers, stands)) = no_range xs range none declares
+
+no_crowds : (xs : List Lexeme) (x : List ℕ) → NoBracket xs → Crowds xs x → ⊥
+no_crowds xs x none (inl c) = no_range xs c.range none (inl (c.title, c.groups, c.direction, c.names, c.is))
+no_crowds xs x none (inr c) = no_range xs c.range none (inr (c.head, c.items, Gives c.direction, c.names, c.is))
+
+-- so a name breaks what its tree says or nothing
+plain_free : (p : Partial) (x : List ℕ) → (NameAt p x → ⊥) → NoBracket (spelled p) → BreaksAt p (Name x) → ⊥
+plain_free p x name none (inl b) = name b
+plain_free p x name none (inr (inl b)) = no_redeclares (spelled p) x none b
+plain_free p x name none (inr (inr (inl b))) = no_clashes (spelled p) x none b
+plain_free p x name none (inr (inr (inr b))) = no_crowds (spelled p) x none b
+
+-- a token that is no bracket and breaks no rule where none stands
+abbrev Fine : Partial → Lexeme → Type 0
+Fine p (Mark LBracket) = ⊥
+Fine p t = NoBracket (spelled p) → BreaksAt p t → ⊥
+
+fine_free : (p : Partial) (t : Lexeme) → Fine p t → NoBracket (spelled p) → BreaksAt p t → ⊥
+fine_free p (Mark LBracket) fine = absurd fine
+fine_free p t fine = fine
+
+-- from a partial tree on, each token of the list is taken and is such
+abbrev Clean : Partial → List Lexeme → Type 0
+Clean p [] = Unit {0}
+Clean p (t ∷ ts) = Fine p t × Of (step p t) (λ q. Clean q ts)
+
+clean-one : (p q : Partial) (t : Lexeme) (xs : List Lexeme) → step p t ≡ Some q → Fine p t → Clean q xs → Clean p (t ∷ xs)
+clean-one p q t xs some fine clean = (fine, subst (λ next. Of next (λ r. Clean r xs)) (sym some) clean)
+
+-- behind the first token
+next_run : (p q r : Partial) (t : Lexeme) (xs : List Lexeme) → step p t ≡ Some r → run p (t ∷ xs) ≡ Some q → run r xs ≡ Some q
+next_run p q r t xs is e = sym (ap (option_and_then (λ z. run z xs)) is) ∙ e
+
+-- one list, and then another
+clean-append : (p q : Partial) (xs ys : List Lexeme) → run p xs ≡ Some q → Clean p xs → Clean q ys → Clean p (xs ++ ys)
+clean-append p q [] ys e front back = subst (λ r. Clean r ys) (sym (same_Some p q e)) back
+clean-append p q (x ∷ xs) ys e (fine, front) back =
+    let (r, is, clean) = some_of (step p x) _ front in
+    clean-one p r x (xs ++ ys) is fine (clean-append r q xs ys (next_run p q r x xs is e) clean back)
+
+-- in such a list no bracket stands, and no token breaks a rule
+clean-bracket : (p : Partial) (front rest : List Lexeme) → Clean p (front ++ Mark LBracket ∷ rest) → ⊥
+clean-bracket p [] rest clean = clean.0
+clean-bracket p (f ∷ front) rest (fine, more) = let (r, is, clean) = some_of (step p f) _ more in clean-bracket r front rest clean
+
+clean-at : (p q : Partial) (before : List Lexeme) (t : Lexeme) (after : List Lexeme) → Clean p (before ++ t ∷ after) → run p before ≡ Some q → NoBracket (spelled q) → BreaksAt q t → ⊥
+clean-at p q [] t after clean e = fine_free q t (subst (λ r. Clean r (t ∷ after)) (same_Some p q e) clean).0
+clean-at p q (b ∷ before) t after (fine, more) e =
+    let (r, is, clean) = some_of (step p b) _ more in
+    clean-at r q before t after clean (next_run p q r b before is e)
+
+-- so no token of a derived list breaks
+unbroken-clean : (text : Text) → Clean start (text_phrase text) → NoneBreaks (text_phrase text)
+unbroken-clean text clean before t after e breaks =
+    let all = done text.head text.items in
+    let whole : run start (before ++ t ∷ after) ≡ Some all = ap (run start) (sym e) ∙ run-spelled all in
+    let (q, at) = front_run start all before (t ∷ after) whole in
+    let here : spelled q ≡ before = grows-run start q before at in
+    let front : NoBracket (spelled q) = subst NoBracket (sym here) (front_none (text_phrase text) before (t ∷ after) e (λ f r is. clean-bracket start f r (subst (Clean start) is clean))) in
+    by q (step q t) refl (sym (run-append start q before (t ∷ after) at) ∙ whole) (subst (λ b. Breaks b t) (sym here) breaks) (clean-at start q before t after (subst (Clean start) e clean) at front)
+  where
+    by : (q : Partial) (next : Option Partial) → step q t ≡ next → run q (t ∷ after) ≡ Some (done text.head text.items) → Breaks (spelled q) t → (BreaksAt q t → ⊥) → ⊥
+    by q None s goes breaks no_rule = not_taken q (done text.head text.items) t after s goes
+    by q (Some r) s goes breaks no_rule = no_rule (breaks-here q t (breaks-taken q r t s breaks))
 
 -- a name of names that differ stands only once
 tested : (z : List ℕ) (xs : List (List ℕ)) (x : List ℕ) (ys : List (List ℕ)) → AllByRecursion (λ y. same_name z y ≡ false) (xs ++ x ∷ ys) → same_name z x ≡ false
 tested z [] x ys all = all.0
 tested z (w ∷ xs) x ys all = tested z xs x ys all.1
 
-pub not_again : (xs : List (List ℕ)) (x : List ℕ) (ys : List (List ℕ)) → AllDiffer (xs ++ x ∷ ys) → Contains xs x → ⊥
+not_again : (xs : List (List ℕ)) (x : List ℕ) (ys : List (List ℕ)) → AllDiffer (xs ++ x ∷ ys) → Contains xs x → ⊥
 not_again [] x ys differ found = absurd (omega (arith, found.1))
 not_again (z ∷ xs) x ys differ (zero, lt, e) = false≢true (sym (tested z xs x ys (IsDistinct-head same_name z (xs ++ x ∷ ys) differ)) ∙ (bytes_eq-Decides z x).1 e)
 not_again (z ∷ xs) x ys differ (suc k, lt, e) = not_again xs x ys (IsDistinct-tail same_name z (xs ++ x ∷ ys) differ) (k, omega (arith, lt), e)
 
 -- the names of a header
 clean-listing : (title : List ℕ) (some names rest : List (List ℕ)) → AllDiffer (some ++ (names ++ rest)) → Clean (listing title some) (with_commas name_phrase names)
-clean-listing title some [] rest differ = clean-none (listing title some)
+clean-listing title some [] rest differ = tt
 clean-listing title some (x ∷ names) rest differ =
-    clean-one (listing title some) (listed title some x) (Name x) (Mark Comma ∷ with_commas name_phrase names) refl (plain_free (listing title some) x (not_again some x (names ++ rest) differ))
-    (clean-one (listed title some x) (listing title (some ++ x ∷ [])) (Mark Comma) (with_commas name_phrase names) refl (λ b none. none)
-    (clean-listing title (some ++ x ∷ []) names rest (subst AllDiffer (sym (append_assoc some (x ∷ []) (names ++ rest))) differ)))
+    let more = subst AllDiffer (sym (append_assoc some (x ∷ []) (names ++ rest))) differ in
+    (plain_free (listing title some) x (not_again some x (names ++ rest) differ), (λ n b. b, clean-listing title (some ++ x ∷ []) names rest more))
 
 clean-listed : (title : List ℕ) (names : Row (List ℕ)) → AllDiffer (all_of names) → Clean (listing title []) (row_phrase name_phrase names)
 clean-listed title names differ =
-    clean-append (listing title []) (listing title names.before) (with_commas name_phrase names.before) (Name names.last ∷ []) (run-listing title [] names.before)
-    (clean-listing title [] names.before (names.last ∷ []) differ)
-    (clean-last (listing title names.before) (listed title names.before names.last) (Name names.last) refl (plain_free (listing title names.before) names.last (not_again names.before names.last [] differ)))
+    clean-append _ _ (with_commas name_phrase names.before) _ (run-listing title [] names.before) (clean-listing title [] names.before (names.last ∷ []) differ)
+    (plain_free (listing title names.before) names.last (not_again names.before names.last [] differ), tt)
 
 clean-head : (title : List ℕ) (ports : Option Listing) → ((groups : Row (Group Direction)) → ports ≢ Some (Ansi groups)) → AllDiffer (header_of (record { name = title; ports = ports })) → Clean start (head_phrase (record { name = title; ports = ports }))
-clean-head title None plain differ =
-    clean-one start begun (Word Module) _ refl (λ b none. none)
-    (clean-one begun (titled title) (Name title) _ refl (plain_free begun title (λ none. none))
-    (clean-last (titled title) (at_item (record { name = title; ports = None }) []) (Mark Semi) refl (λ b none. none)))
-clean-head title (Some Empty) plain differ =
-    clean-one start begun (Word Module) _ refl (λ b none. none)
-    (clean-one begun (titled title) (Name title) _ refl (plain_free begun title (λ none. none))
-    (clean-one (titled title) (listing title []) (Mark LParen) _ refl (λ b none. none)
-    (clean-one (listing title []) (headed title Empty) (Mark RParen) _ refl (λ b none. none)
-    (clean-last (headed title Empty) (at_item (record { name = title; ports = Some Empty }) []) (Mark Semi) refl (λ b none. none)))))
-clean-head title (Some (Names names)) plain differ =
-    clean-one start begun (Word Module) _ refl (λ b none. none)
-    (clean-one begun (titled title) (Name title) _ refl (plain_free begun title (λ none. none))
-    (clean-one (titled title) (listing title []) (Mark LParen) _ refl (λ b none. none)
-    (clean-append (listing title []) (headed title (Names names)) (row_phrase name_phrase names ++ Mark RParen ∷ []) (Mark Semi ∷ []) (run-headed title (Names names))
-    (clean-append (listing title []) (listed title names.before names.last) (row_phrase name_phrase names) (Mark RParen ∷ []) (run-listed title names)
-    (clean-listed title names differ)
-    (clean-last (listed title names.before names.last) (headed title (Names names)) (Mark RParen) refl (λ b none. none)))
-    (clean-last (headed title (Names names)) (at_item (record { name = title; ports = Some (Names names) }) []) (Mark Semi) refl (λ b none. none)))))
-clean-head title (Some (Ansi groups)) plain differ = absurd (plain groups refl)
+clean-head title ports plain differ = (λ n b. b, (plain_free begun title (λ none. none), behind ports plain differ))
+  where
+    behind : (ports : Option Listing) → ((groups : Row (Group Direction)) → ports ≢ Some (Ansi groups)) → AllDiffer (header_of (record { name = title; ports = ports })) → Clean (titled title) (header_phrase ports ++ Mark Semi ∷ [])
+    behind None plain differ = (λ n b. b, tt)
+    behind (Some Empty) plain differ = (λ n b. b, (λ n b. b, (λ n b. b, tt)))
+    behind (Some (Names names)) plain differ =
+        let listed = clean-append _ _ (row_phrase name_phrase names) (Mark RParen ∷ []) (run-listed title names) (clean-listed title names differ) (λ n b. b, tt) in
+        (λ n b. b, clean-append _ _ (row_phrase name_phrase names ++ Mark RParen ∷ []) (Mark Semi ∷ []) (run-headed title (Names names)) listed (λ n b. b, tt))
+    behind (Some (Ansi groups)) plain differ = absurd (plain groups refl)
 
 -- the names of a declaration
 module _ (head : Head) (items : List Item) (l : Lead) where
@@ -78,61 +162,54 @@ module _ (head : Head) (items : List Item) (l : Lead) where
 
   clean-going : (part : GroupPart Lead) → ((x : List ℕ) → step (here part) (Name x) ≡ Some (here (naming spec_here (part_names part) x))) → ((x : List ℕ) → NameAt (here part) x → Misgiven head items spec_here (part_names part) x) → (names : List (List ℕ)) (last : List ℕ) (rest : List (List ℕ)) → (IsGiving → AllDiffer ((directed_by head items ++ part_names part) ++ (names ++ last ∷ rest))) → (IsGiving → (x : List ℕ) → Contains (names ++ last ∷ []) x → Contains (header_of head) x) → Clean (here part) (with_commas name_phrase names ++ Name last ∷ [])
   clean-going part goes told [] last rest differ known =
-      clean-last (here part) (here (naming spec_here (part_names part) last)) (Name last) (goes last)
-      (plain_free (here part) last (λ b. clean-name (part_names part) last rest differ (λ gives. known gives last (0, omega arith, refl)) (told last b)))
+      clean-one (here part) (here (naming spec_here (part_names part) last)) (Name last) [] (goes last)
+      (plain_free (here part) last (λ b. clean-name (part_names part) last rest differ (λ gives. known gives last (0, omega arith, refl)) (told last b))) tt
   clean-going part goes told (x ∷ names) last rest differ known =
       let row : Row (List ℕ) = record { before = part_names part; last = x } in
       let more : (directed_by head items ++ part_names part) ++ x ∷ (names ++ last ∷ rest) ≡ (directed_by head items ++ all_of row) ++ (names ++ last ∷ rest) =
       sym (append_assoc (directed_by head items ++ part_names part) (x ∷ []) (names ++ last ∷ rest)) ∙ ap (λ k. k ++ (names ++ last ∷ rest)) (append_assoc (directed_by head items) (part_names part) (x ∷ [])) in
-      clean-one (here part) (here (naming spec_here (part_names part) x)) (Name x) _ (goes x)
+      clean-one (here part) (here (naming spec_here (part_names part) x)) (Name x) (Mark Comma ∷ (with_commas name_phrase names ++ Name last ∷ [])) (goes x)
       (plain_free (here part) x (λ b. clean-name (part_names part) x (names ++ last ∷ rest) differ (λ gives. known gives x (0, omega arith, refl)) (told x b)))
-      (clean-one (here (naming spec_here (part_names part) x)) (here (going spec_here row)) (Mark Comma) _ refl (λ b none. none)
-      (clean-going (going spec_here row) (λ y. refl) (λ y b. b) names last rest (λ gives. subst AllDiffer more (differ gives)) (λ gives y found. known gives y (Contains-append_right (x ∷ []) (names ++ last ∷ []) y found))))
+      (λ n b. b, clean-going (going spec_here row) (λ y. refl) (λ y b. b) names last rest (λ gives. subst AllDiffer more (differ gives)) (λ gives y found. known gives y (Contains-append_right (x ∷ []) (names ++ last ∷ []) y found)))
 
 module _ (head : Head) (items : List Item) (plain : (groups : Row (Group Direction)) → head.ports ≢ Some (Ansi groups)) where
   clean-word : (l : Lead) → Clean (at_item head items) (lead_phrase l)
-  clean-word (Gives (Plain way)) = clean-last (at_item head items) (inside head items (declaring (leading (led (Gives (Plain way)))))) (Word (word_of way)) refl (λ free (groups, ansi). plain groups ansi)
-  clean-word (Gives (Wired way)) =
-      clean-one (at_item head items) (inside head items (declaring (leading (led (Gives (Plain way)))))) (Word (word_of way)) _ refl (λ free (groups, ansi). plain groups ansi)
-      (clean-last (inside head items (declaring (leading (led (Gives (Plain way)))))) (inside head items (declaring (leading (led (Gives (Wired way)))))) (Word Wire) refl (λ b none. none))
-  clean-word Wires = clean-last (at_item head items) (inside head items (declaring (leading (led Wires)))) (Word Wire) refl (λ b none. none)
+  clean-word (Gives (Plain way)) = (λ n (groups, ansi). plain groups ansi, tt)
+  clean-word (Gives (Wired way)) = (λ n (groups, ansi). plain groups ansi, (λ n b. b, tt))
+  clean-word Wires = (λ n b. b, tt)
 
   clean-declares : (l : Lead) (names : Row (List ℕ)) (rest : List (List ℕ)) → (IsGiving head items l → AllDiffer (directed_by head items ++ (all_of names ++ rest))) → (IsGiving head items l → (x : List ℕ) → Contains (all_of names) x → Contains (header_of head) x) → Clean (at_item head items) (item_phrase (Declares (record { spec = record { lead = l; range = None }; names = names })))
   clean-declares l names rest differ known =
-      let group : Group Lead = record { spec = record { lead = l; range = None }; names = names } in
       let first : IsGiving head items l → AllDiffer ((directed_by head items ++ []) ++ (names.before ++ names.last ∷ rest)) = λ gives. subst (λ k. AllDiffer (k ++ (names.before ++ names.last ∷ rest))) (sym (append-nil (directed_by head items))) (subst (λ k. AllDiffer (directed_by head items ++ k)) (append_assoc names.before (names.last ∷ []) rest) (differ gives)) in
       let start_here = inside head items (declaring (leading (led l))) in
-      let all = inside head items (declaring (naming group.spec names.before names.last)) in
+      let all = inside head items (declaring (naming (record { lead = l; range = None }) names.before names.last)) in
+      let listed = clean-append (at_item head items) start_here (lead_phrase l) (row_phrase name_phrase names) (run-word head items l) (clean-word l) (clean-going head items l (leading (led l)) (λ x. refl) (λ x b. b) names.before names.last rest first known) in
+      let runs = run-both (at_item head items) start_here all (lead_phrase l) (row_phrase name_phrase names) (run-word head items l) (run-names head items l None names.before names.last) in
       subst (λ k. Clean (at_item head items) ((k ++ row_phrase name_phrase names) ++ Mark Semi ∷ [])) (sym (append-nil (lead_phrase l)))
-      (clean-append (at_item head items) all (lead_phrase l ++ row_phrase name_phrase names) (Mark Semi ∷ [])
-      (run-both (at_item head items) start_here all (lead_phrase l) (row_phrase name_phrase names) (run-word head items l) (run-names head items l None names.before names.last))
-      (clean-append (at_item head items) start_here (lead_phrase l) (row_phrase name_phrase names) (run-word head items l) (clean-word l) (clean-going head items l (leading (led l)) (λ x. refl) (λ x b. b) names.before names.last rest first known))
-      (clean-last all (at_item head (items ++ Declares group ∷ [])) (Mark Semi) refl (λ b none. none)))
+      (clean-append (at_item head items) all (lead_phrase l ++ row_phrase name_phrase names) (Mark Semi ∷ []) runs listed (λ n b. b, tt))
 
 -- the connections of an instance
 module _ (head : Head) (items : List Item) (kind : CellKind) (name : List ℕ) where
-  clean-conn : (some : List Conn) (c : Conn) → c.net.index ≡ None → Contains (pins_of kind) c.pin → (Contains (pins_in some) c.pin → ⊥) → Clean (inside head items (joining (cell_name_of kind) name some)) (conn_phrase c)
-  clean-conn some c whole has new =
-      let cell = cell_name_of kind in
-      let pin = c.pin in
-      let net = c.net.name in
-      subst (λ i. Clean (inside head items (joining cell name some)) (conn_phrase (record { pin = pin; net = record { name = net; index = i } }))) (sym whole)
-      (clean-one (inside head items (joining cell name some)) (inside head items (dotted cell name some)) (Mark Dot) _ refl (λ b none. none)
-      (clean-one (inside head items (dotted cell name some)) (inside head items (pinned cell name some pin)) (Name pin) _ refl (plain_free (inside head items (dotted cell name some)) pin (pin_free head items kind name some pin (has, new)))
-      (clean-one (inside head items (pinned cell name some pin)) (inside head items (opened cell name some pin)) (Mark LParen) _ refl (λ b none. none)
-      (clean-one (inside head items (opened cell name some pin)) (inside head items (netted cell name some pin net)) (Name net) _ refl (plain_free (inside head items (opened cell name some pin)) net (λ none. none))
-      (clean-last (inside head items (netted cell name some pin net)) (inside head items (joined cell name some (record { pin = pin; net = record { name = net; index = None } }))) (Mark RParen) refl (λ free (range, vector). no_vector (spelled (inside head items (netted cell name some pin net))) net range free vector))))))
+  abbrev with_conns : List Conn → Partial
+  with_conns conns = inside head items (joining (cell_name_of kind) name conns)
 
-  clean-joining : (some conns : List Conn) (rest : List (List ℕ)) → AreWhole conns → AllDiffer (pins_in some ++ (pins_in conns ++ rest)) → ((x : List ℕ) → Contains (pins_in conns) x → Contains (pins_of kind) x) → Clean (inside head items (joining (cell_name_of kind) name some)) (with_commas conn_phrase conns)
-  clean-joining some [] rest whole differ has = clean-none (inside head items (joining (cell_name_of kind) name some))
+  clean-conn : (some : List Conn) (c : Conn) → c.net.index ≡ None → Contains (pins_of kind) c.pin → (Contains (pins_in some) c.pin → ⊥) → Clean (with_conns some) (conn_phrase c)
+  clean-conn some c whole has new =
+      let tree = inside head items (netted (cell_name_of kind) name some c.pin c.net.name) in
+      let pin = plain_free (inside head items (dotted (cell_name_of kind) name some)) c.pin (pin_free head items kind name some c.pin (has, new)) in
+      let net = plain_free (inside head items (opened (cell_name_of kind) name some c.pin)) c.net.name (λ none. none) in
+      subst (λ i. Clean (with_conns some) (conn_phrase (record { pin = c.pin; net = record { name = c.net.name; index = i } }))) (sym whole)
+      (λ n b. b, (pin, (λ n b. b, (net, (λ free (range, vector). no_vector (spelled tree) c.net.name range free vector, tt)))))
+
+  clean-joining : (some conns : List Conn) (rest : List (List ℕ)) → AreWhole conns → AllDiffer (pins_in some ++ (pins_in conns ++ rest)) → ((x : List ℕ) → Contains (pins_in conns) x → Contains (pins_of kind) x) → Clean (with_conns some) (with_commas conn_phrase conns)
+  clean-joining some [] rest whole differ has = tt
   clean-joining some (c ∷ conns) rest whole differ has =
       let more : pins_in some ++ c.pin ∷ (pins_in conns ++ rest) ≡ pins_in (some ++ c ∷ []) ++ (pins_in conns ++ rest) =
       sym (append_assoc (pins_in some) (c.pin ∷ []) (pins_in conns ++ rest)) ∙ ap (λ l. l ++ (pins_in conns ++ rest)) (sym (map-append (λ (d : Conn). d.pin) some (c ∷ []))) in
-      clean-append (inside head items (joining (cell_name_of kind) name some)) (inside head items (joining (cell_name_of kind) name (some ++ c ∷ []))) (conn_phrase c ++ Mark Comma ∷ []) (with_commas conn_phrase conns)
-      (run-append (inside head items (joining (cell_name_of kind) name some)) (inside head items (joined (cell_name_of kind) name some c)) (conn_phrase c) (Mark Comma ∷ []) (run-conn head items (cell_name_of kind) name some c))
-      (clean-append (inside head items (joining (cell_name_of kind) name some)) (inside head items (joined (cell_name_of kind) name some c)) (conn_phrase c) (Mark Comma ∷ []) (run-conn head items (cell_name_of kind) name some c)
-      (clean-conn some c whole.0 (has c.pin (0, omega arith, refl)) (not_again (pins_in some) c.pin (pins_in conns ++ rest) differ))
-      (clean-last (inside head items (joined (cell_name_of kind) name some c)) (inside head items (joining (cell_name_of kind) name (some ++ c ∷ []))) (Mark Comma) refl (λ b none. none)))
+      let conn = clean-conn some c whole.0 (has c.pin (0, omega arith, refl)) (not_again (pins_in some) c.pin (pins_in conns ++ rest) differ) in
+      let one = clean-append (with_conns some) _ (conn_phrase c) (Mark Comma ∷ []) (run-conn head items (cell_name_of kind) name some c) conn (λ n b. b, tt) in
+      clean-append (with_conns some) (with_conns (some ++ c ∷ [])) (conn_phrase c ++ Mark Comma ∷ []) (with_commas conn_phrase conns)
+      (run-append (with_conns some) _ (conn_phrase c) (Mark Comma ∷ []) (run-conn head items (cell_name_of kind) name some c)) one
       (clean-joining (some ++ c ∷ []) conns rest whole.1 (subst AllDiffer more differ) (λ x found. has x (Contains-append_right (c.pin ∷ []) (pins_in conns) x found)))
 
   whole_before : (before : List Conn) (last : Conn) → AreWhole (before ++ last ∷ []) → AreWhole before × (last.net.index ≡ None)
@@ -145,15 +222,19 @@ module _ (head : Head) (items : List Item) (kind : CellKind) (name : List ℕ) w
       let pins : pins_in (all_of conns) ≡ pins_in conns.before ++ conns.last.pin ∷ [] = map-append (λ (d : Conn). d.pin) conns.before (conns.last ∷ []) in
       let differ : AllDiffer (pins_in conns.before ++ conns.last.pin ∷ []) = subst AllDiffer pins is.once in
       let has : (x : List ℕ) → Contains (pins_in conns.before ++ conns.last.pin ∷ []) x → Contains (pins_of kind) x = λ x found. (is.pins x).1 (subst (λ l. Contains l x) (sym pins) found) in
-      clean-one (at_item head items) (inside head items (celled (cell_name_of kind))) (Name (cell_name_of kind)) _ refl (plain_free (at_item head items) (cell_name_of kind) (λ none. none kind refl))
-      (clean-one (inside head items (celled (cell_name_of kind))) (inside head items (named (cell_name_of kind) name)) (Name name) _ refl (plain_free (inside head items (celled (cell_name_of kind))) name (λ none. none))
-      (clean-one (inside head items (named (cell_name_of kind) name)) (inside head items (joining (cell_name_of kind) name [])) (Mark LParen) _ refl (λ b none. none)
-      (clean-append (inside head items (joining (cell_name_of kind) name [])) (inside head items (joined (cell_name_of kind) name conns.before conns.last)) (row_phrase conn_phrase conns) (Mark RParen ∷ Mark Semi ∷ []) (run-joined head items (cell_name_of kind) name conns)
-      (clean-append (inside head items (joining (cell_name_of kind) name [])) (inside head items (joining (cell_name_of kind) name conns.before)) (with_commas conn_phrase conns.before) (conn_phrase conns.last) (run-joining head items (cell_name_of kind) name [] conns.before)
+      let joined = clean-append (with_conns []) (with_conns conns.before) (with_commas conn_phrase conns.before) (conn_phrase conns.last) (run-joining head items (cell_name_of kind) name [] conns.before)
       (clean-joining [] conns.before (conns.last.pin ∷ []) before differ (λ x found. has x (Contains-append_left (pins_in conns.before) (conns.last.pin ∷ []) x found)))
-      (clean-conn conns.before conns.last last (has conns.last.pin (Contains-append_right (pins_in conns.before) (conns.last.pin ∷ []) conns.last.pin (0, omega arith, refl))) (not_again (pins_in conns.before) conns.last.pin [] differ)))
-      (clean-one (inside head items (joined (cell_name_of kind) name conns.before conns.last)) (inside head items (closed (cell_name_of kind) name conns.before conns.last)) (Mark RParen) _ refl (λ free. close_free head items kind name conns.before conns.last (λ x stands. (is.pins x).0 stands))
-      (clean-last (inside head items (closed (cell_name_of kind) name conns.before conns.last)) (at_item head (items ++ Joins (cell_name_of kind) name conns ∷ [])) (Mark Semi) refl (λ b none. none))))))
+      (clean-conn conns.before conns.last last (has conns.last.pin (Contains-append_right (pins_in conns.before) (conns.last.pin ∷ []) conns.last.pin (0, omega arith, refl))) (not_again (pins_in conns.before) conns.last.pin [] differ)) in (
+        plain_free (at_item head items) (cell_name_of kind) (λ none. none kind refl),
+        (
+          plain_free (inside head items (celled (cell_name_of kind))) name (λ none. none),
+          (
+            λ n b. b,
+            clean-append (with_conns []) _ (row_phrase conn_phrase conns) (Mark RParen ∷ Mark Semi ∷ []) (run-joined head items (cell_name_of kind) name conns) joined
+                (λ n. close_free head items kind name conns.before conns.last (λ x stands. (is.pins x).0 stands), (λ n b. b, tt)),
+          ),
+        ),
+      )
 
 -- the instance is of some cell
 abbrev HasCell : Joined → Type 0
@@ -185,7 +266,7 @@ module _ (head : Head) (plain : (groups : Row (Group Direction)) → head.ports 
       ∙ ap (λ l. l ++ flat_map directed_in items) (append_assoc (flat_map group_names (groups_of head.ports)) (flat_map directed_in some) (directed_in item) ∙ ap (λ l. flat_map group_names (groups_of head.ports) ++ l) (flat_map_more directed_in [] some item))
 
   clean-items : (some items : List Item) → AreScalar items → AllDiffer (directed_by head some ++ flat_map directed_in items) → ((x : List ℕ) → Contains (flat_map directed_in items) x → Contains (header_of head) x) → ((j : Joined) → Contains (flat_map joined_in items) j → HasCell j) → Clean (at_item head some) (flat_map item_phrase items)
-  clean-items some [] scalar differ known cells = clean-none (at_item head some)
+  clean-items some [] scalar differ known cells = tt
   clean-items some (item ∷ items) scalar differ known cells =
       clean-append (at_item head some) (at_item head (some ++ item ∷ [])) (item_phrase item) (flat_map item_phrase items) (run-item head some item)
       (clean-item some item (flat_map directed_in items) scalar.0 differ (λ x found. known x (Contains-append_left (directed_in item) (flat_map directed_in items) x found)) (λ j found. cells j (Contains-append_left (joined_in item) (flat_map joined_in items) j found)))
@@ -199,8 +280,7 @@ whole_rules text plain keeps =
     let cells : (j : Joined) → Contains (flat_map joined_in items) j → HasCell j = λ j (k, lt, e). subst HasCell e (keeps.cells k j lt) in
     let named = flat_map group_names (groups_of head.ports) in
     let once : AllDiffer (directed_by head [] ++ flat_map directed_in items) = subst (λ l. AllDiffer (l ++ flat_map directed_in items)) (sym (append-nil named)) keeps.once in
-    unbroken-clean text (no_bracket_in text plain)
-    (clean-append start (at_item head items) (body_phrase head items) (Word EndModule ∷ End ∷ []) (run-body head items)
-    (clean-append start (at_item head []) (head_phrase head) (flat_map item_phrase items) (run-head head) (clean-head head.name head.ports plain.header keeps.header) (clean-items head plain.header [] items plain.items once (λ x found. (keeps.directed x).1 (Contains-append_right named (flat_map directed_in items) x found)) cells))
-    (clean-one (at_item head items) (ended head items) (Word EndModule) _ refl (λ free (port, stands, undirected). undirected ((keeps.directed port).0 stands))
-    (clean-last (ended head items) (done head items) End refl (λ b none. none))))
+    let body = clean-append start (at_item head []) (head_phrase head) (flat_map item_phrase items) (run-head head) (clean-head head.name head.ports plain.header keeps.header)
+    (clean-items head plain.header [] items plain.items once (λ x found. (keeps.directed x).1 (Contains-append_right named (flat_map directed_in items) x found)) cells) in
+    unbroken-clean text (clean-append start (at_item head items) (body_phrase head items) (Word EndModule ∷ End ∷ []) (run-body head items) body
+    (λ n (port, stands, undirected). undirected ((keeps.directed port).0 stands), (λ n b. b, tt)))

@@ -1,4 +1,4 @@
-use Rattle.ncl_reader.proofs.Kit.{take, AllDigits}
+use Rattle.ncl_reader.proofs.Terms.{take, AllDigits}
 use Rattle.ncl_reader.proofs.bit.are_digits.Given as goal
 
 -- the bytes so far are digits

@@ -1,6 +1,5 @@
-use Rattle.ncl_reader.proofs.Kit.{◌≡◌, ◌≢◌, ℕ, ◌<◌, ◌≤◌, ◌⊎◌, inl, inr, List, length, Option, Some, None, sym, ◌∙◌, subst, arith, MatchOption, decimal, slice_index, AllDigits, digits_value, false≢true, cases_lt}
-use Rattle.ncl_reader.proofs.Terms.{IsTooLarge}
-use Rattle.ncl_reader.proofs.BitTexts.{decimal-digits, no_leading, not_large, is_decimal}
+use Rattle.ncl_reader.proofs.Terms.{◌≡◌, ◌≢◌, ℕ, ◌<◌, ◌≤◌, ◌⊎◌, inl, inr, List, length, Option, Some, None, sym, ◌∙◌, subst, arith, MatchOption, decimal, slice_index, AllDigits, digits_value, false≢true, cases_lt, IsTooLarge}
+use Rattle.ncl_reader.proofs.Bits.{decimal-digits, no_leading, not_large, is_decimal}
 use Rattle.ncl_reader.proofs.bit.decimal_of.Goals as goal
 
 pub returns-then-not-are_digits : goal.returns-then-not-are_digits

@@ -1,5 +1,5 @@
-use Rattle.ncl_reader.proofs.Kit.{length, sym, ◌∙◌, arith, drop_all, ap, length-append, ◌∷◌}
-use Rattle.ncl_reader.proofs.BitTexts.{bracket-front}
+use Rattle.ncl_reader.proofs.Terms.{length, sym, ◌∙◌, arith, drop_all, ap, length-append, ◌∷◌}
+use Rattle.ncl_reader.proofs.Bits.{bracket-front}
 use Rattle.ncl_reader.proofs.bit.last_bracket.Goals as goal
 
 pub loop-place-init : goal.loop-place-init

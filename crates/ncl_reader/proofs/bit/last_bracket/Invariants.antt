@@ -1,4 +1,4 @@
-use Rattle.ncl_reader.proofs.Kit.{◌≢◌, ℕ, ◌≤◌, List, ◌∷◌, ◌++◌, length, drop}
+use Rattle.ncl_reader.proofs.Terms.{◌≢◌, ℕ, ◌≤◌, List, ◌∷◌, ◌++◌, length, drop}
 use Rattle.ncl_reader.proofs.bit.last_bracket.Given as goal
 
 -- none stands behind

@@ -1,5 +1,4 @@
-use Rattle.ncl_reader.proofs.Kit.{◌≡◌, ◌++◌, map, take}
-use Rattle.ncl_reader.proofs.Terms.{bit_port, numbers_of}
+use Rattle.ncl_reader.proofs.Terms.{◌≡◌, ◌++◌, map, take, bit_port, numbers_of}
 use Rattle.ncl_reader.proofs.header.push_bits.Given as goal
 
 -- so many bits stand behind the ports

@@ -1,4 +1,4 @@
-use Rattle.ncl_reader.proofs.Kit.{map, take, Contains}
+use Rattle.ncl_reader.proofs.Terms.{map, take, Contains}
 use Rattle.ncl_reader.proofs.instance.has_pin.Given as goal
 
 -- the pin is none so far

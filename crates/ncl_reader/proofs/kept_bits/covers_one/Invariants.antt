@@ -1,5 +1,4 @@
-use Rattle.ncl_reader.proofs.Kit.{ℕ, ◌<◌, slice_index}
-use Rattle.ncl_reader.proofs.Terms.{Covers}
+use Rattle.ncl_reader.proofs.Terms.{ℕ, ◌<◌, slice_index, Covers}
 use Rattle.ncl_reader.proofs.kept_bits.covers_one.Given as goal
 
 -- none so far is one

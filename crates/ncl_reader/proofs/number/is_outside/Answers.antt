@@ -1,4 +1,4 @@
-use Rattle.ncl_reader.proofs.Digits.{all_digits}
+use Rattle.ncl_reader.proofs.Bits.{all_digits}
 use Rattle.ncl_reader.proofs.number.is_outside.Goals as goal
 
 pub lies_outside-requires : goal.lies_outside-requires

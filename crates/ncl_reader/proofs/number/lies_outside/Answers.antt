@@ -1,6 +1,5 @@
-use Rattle.ncl_reader.proofs.Kit.{refl, sym, subst, arith}
-use Rattle.ncl_reader.proofs.Terms.{Covers}
-use Rattle.ncl_reader.proofs.Digits.{outside_large}
+use Rattle.ncl_reader.proofs.Terms.{refl, sym, subst, arith, Covers}
+use Rattle.ncl_reader.proofs.Bits.{outside_large}
 use Rattle.ncl_reader.proofs.number.lies_outside.Goals as goal
 
 pub returns-in-None : goal.returns-in-None

@@ -1,4 +1,4 @@
-use Rattle.ncl_reader.proofs.Digits.{all_digits}
+use Rattle.ncl_reader.proofs.Bits.{all_digits}
 use Rattle.ncl_reader.proofs.number.small.Goals as goal
 
 pub small_value-requires : goal.small_value-requires

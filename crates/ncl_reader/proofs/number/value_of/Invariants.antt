@@ -1,4 +1,4 @@
-use Rattle.ncl_reader.proofs.Kit.{◌≡◌, take, digits_value}
+use Rattle.ncl_reader.proofs.Terms.{◌≡◌, take, digits_value}
 use Rattle.ncl_reader.proofs.number.value_of.Given as goal
 
 -- the value is that of the digits so far

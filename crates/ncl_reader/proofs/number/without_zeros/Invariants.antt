@@ -1,4 +1,4 @@
-use Rattle.ncl_reader.proofs.Kit.{◌≡◌, ℕ, ◌-◌, ◌<◌, ◌≤◌, length, get_or}
+use Rattle.ncl_reader.proofs.Terms.{◌≡◌, ℕ, ◌-◌, ◌<◌, ◌≤◌, length, get_or}
 use Rattle.ncl_reader.proofs.number.without_zeros.Given as goal
 
 -- so many zeros stand at the front

@@ -1,5 +1,4 @@
-use Rattle.ncl_reader.proofs.Kit.{arith, subst, sym, flat_map}
-use Rattle.ncl_reader.proofs.Terms.{joined_in, HasGraphicNames}
+use Rattle.ncl_reader.proofs.Terms.{arith, subst, sym, flat_map, joined_in, HasGraphicNames}
 use Rattle.ncl_reader.proofs.GraphicNames.{graphic_names}
 use Rattle.ncl_reader.proofs.PartsRead as parts
 use Rattle.ncl_reader.proofs.reader.read_netlist.Goals as goal

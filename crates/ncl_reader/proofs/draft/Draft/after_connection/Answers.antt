@@ -1,9 +1,7 @@
-use Rattle.ncl_reader.proofs.Kit.{◌∷◌, [], ◌++◌, Some, None, inr, refl, sym, ◌∙◌, subst, flat_map, false≢true}
-use Rattle.ncl_reader.proofs.Terms.{cell_name_of, RParen, Comma, Mark, meant, joined_in, AreCellsOf, Closes, inside, joining, joined, closed}
+use Rattle.ncl_reader.proofs.Terms.{◌∷◌, [], ◌++◌, Some, None, refl, sym, ◌∙◌, subst, flat_map, false≢true, cell_name_of, RParen, Comma, Mark, meant, joined_in, AreCellsOf, Closes, inside, joining, joined, closed}
 use Rattle.ncl_reader.specs.declared.place.Place.TheVariants as place
 use Rattle.ncl_reader.proofs.DraftSteps as steps
-use Rattle.ncl_reader.proofs.NetSteps as nets
-use Rattle.ncl_reader.proofs.NameRules.{close_free}
+use Rattle.ncl_reader.proofs.RulesAt.{close_free}
 use Rattle.ncl_reader.proofs.draft.Draft.after_connection.Goals as goal
 
 pub returns-then-is_mark : goal.returns-then-is_mark
@@ -40,7 +38,7 @@ returns c = λ p (kept, (head, items, conns, conn, is, body, are)).
         record {
           ansi = read.ansi;
           header = read.header;
-          cells = subst (λ cs. AreCellsOf (flat_map joined_in items ++ record { cell = (cell_name_of c.args.self.now.instance.kind); name = c.args.self.now.instance.name.now; conns = conns ++ conn ∷ [] } ∷ []) cs) (sym c.in_ok-push.ensures.items) (nets.cells-more (flat_map joined_in items) c.args.self.now.cells.items _ c.in-Some.cell read.cells closes.1);
+          cells = subst (λ cs. AreCellsOf (flat_map joined_in items ++ record { cell = (cell_name_of c.args.self.now.instance.kind); name = c.args.self.now.instance.name.now; conns = conns ++ conn ∷ [] } ∷ []) cs) (sym c.in_ok-push.ensures.items) (steps.cells-more (flat_map joined_in items) c.args.self.now.cells.items _ c.in-Some.cell read.cells closes.1);
         },
       ),
     )

@@ -1,9 +1,7 @@
-use Rattle.ncl_reader.proofs.Kit.{map, inr, inl, refl, sym, ap, ◌∙◌, subst, false≢true}
-use Rattle.ncl_reader.proofs.Terms.{Name, joint_of, BreaksRule, Clashes, meant, at_item, inside, celled, spelled}
+use Rattle.ncl_reader.proofs.Terms.{map, inl, refl, sym, ap, ◌∙◌, subst, false≢true, Name, joint_of, Clashes, meant, at_item, inside, celled, spelled}
 use Rattle.ncl_reader.specs.declared.place.Place.TheVariants as place
-use Rattle.ncl_reader.proofs.Declares.{range_here}
-use Rattle.ncl_reader.proofs.NameRules.{opens, not_declaring, not_net, may_stand}
-use Rattle.ncl_reader.proofs.RulesAt.{NameAt}
+use Rattle.ncl_reader.proofs.Facts.{range_here}
+use Rattle.ncl_reader.proofs.RulesAt.{opens, not_declaring, not_net, may_stand, NameAt}
 use Rattle.ncl_reader.proofs.DraftSteps as steps
 use Rattle.ncl_reader.proofs.draft.Draft.at_cell.Goals as goal
 

@@ -1,8 +1,7 @@
-use Rattle.ncl_reader.proofs.Kit.{refl, sym, ◌∙◌, subst, false≢true}
-use Rattle.ncl_reader.proofs.Terms.{Name, all_of, lead_phrase, at_declared, BreaksRule, KeepsNames, meant, going, inside, declaring}
+use Rattle.ncl_reader.proofs.Terms.{refl, sym, ◌∙◌, subst, false≢true, Name, all_of, lead_phrase, at_declared, BreaksRule, KeepsNames, meant, going, inside, declaring}
 use Rattle.ncl_reader.specs.declared.place.Place.TheVariants as place
-use Rattle.ncl_reader.proofs.Declares.{at_part}
-use Rattle.ncl_reader.proofs.HeaderSteps.{declared_form, declared_taken, name_left}
+use Rattle.ncl_reader.proofs.Facts.{at_part}
+use Rattle.ncl_reader.proofs.DraftSteps.{declared_form, declared_taken, name_left}
 use Rattle.ncl_reader.proofs.DraftSteps as steps
 use Rattle.ncl_reader.proofs.draft.Draft.at_declared.Goals as goal
 

@@ -1,5 +1,4 @@
-use Rattle.ncl_reader.proofs.Kit.{◌≢◌, [], true, refl, sym, ◌∙◌, subst, IfOk, false≢true}
-use Rattle.ncl_reader.proofs.Terms.{word_of, RParen, Mark, Word, Plain, Empty, meant, listing, heading, headed, leading, led, TakesOrBreaks}
+use Rattle.ncl_reader.proofs.Terms.{◌≢◌, [], true, refl, sym, ◌∙◌, subst, IfOk, false≢true, word_of, RParen, Mark, Word, Plain, Empty, meant, listing, heading, headed, leading, led, TakesOrBreaks}
 use Rattle.ncl_reader.specs.declared.place.Place.TheVariants as place
 use Rattle.ncl_reader.specs.declared.place.LeadPlace.TheVariants as lead
 use Rattle.ncl_reader.proofs.DraftSteps as steps

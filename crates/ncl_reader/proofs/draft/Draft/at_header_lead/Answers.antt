@@ -1,11 +1,10 @@
-use Rattle.ncl_reader.proofs.Kit.{◌≡◌, [], refl, sym, ap, ◌∙◌, subst, false, None, option_map, false≢true}
-use Rattle.ncl_reader.proofs.Terms.{Name, direction_phrase, in_ansi, BreaksRule, KeepsNames, LeadTakes, direction_output, takes_name, meant, leading, heading, lead_place, direction_place}
+use Rattle.ncl_reader.proofs.Terms.{◌≡◌, [], refl, sym, ap, ◌∙◌, subst, false, None, option_map, false≢true, Name, direction_phrase, in_ansi, BreaksRule, KeepsNames, LeadTakes, direction_output, takes_name, meant, leading, heading, lead_place, direction_place}
 use Rattle.ncl_reader.specs.declared.place.Place.TheVariants as place
 use Rattle.ncl_reader.proofs.Steps.{or_else, step}
-use Rattle.ncl_reader.proofs.Declares.{at_part}
+use Rattle.ncl_reader.proofs.Facts.{at_part}
 use Rattle.ncl_reader.proofs.LeadSteps.{in_header, no_name, begins}
 use Rattle.ncl_reader.proofs.DraftBody.{grouped-begins}
-use Rattle.ncl_reader.proofs.HeaderSteps.{lead_taken, lead_left, headed_form, headed_taken, name_left}
+use Rattle.ncl_reader.proofs.DraftSteps.{lead_taken, lead_left, headed_form, headed_taken, name_left}
 use Rattle.ncl_reader.proofs.DraftSteps as steps
 use Rattle.ncl_reader.proofs.draft.Draft.at_header_lead.Goals as goal
 

@@ -1,10 +1,9 @@
-use Rattle.ncl_reader.proofs.Kit.{◌∷◌, [], ◌++◌, refl, sym, ◌∙◌, subst, false≢true}
-use Rattle.ncl_reader.proofs.Terms.{word_of, Name, Word, in_ansi, BreaksRule, KeepsNames, all_of, Plain, direction_phrase, meant, going, leading, led, heading}
+use Rattle.ncl_reader.proofs.Terms.{◌∷◌, [], ◌++◌, refl, sym, ◌∙◌, subst, false≢true, word_of, Name, Word, in_ansi, BreaksRule, KeepsNames, all_of, Plain, direction_phrase, meant, going, leading, led, heading}
 use Rattle.ncl_reader.specs.declared.place.Place.TheVariants as place
 use Rattle.ncl_reader.specs.declared.place.LeadPlace.TheVariants as lead
-use Rattle.ncl_reader.proofs.Declares.{at_part}
+use Rattle.ncl_reader.proofs.Facts.{at_part}
 use Rattle.ncl_reader.proofs.DraftBody.{grouped-ends}
-use Rattle.ncl_reader.proofs.HeaderSteps.{headed_form, headed_taken, name_left}
+use Rattle.ncl_reader.proofs.DraftSteps.{headed_form, headed_taken, name_left}
 use Rattle.ncl_reader.proofs.DraftSteps as steps
 use Rattle.ncl_reader.proofs.draft.Draft.at_header_name.Goals as goal
 

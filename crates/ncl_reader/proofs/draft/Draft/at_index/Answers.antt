@@ -1,8 +1,6 @@
-use Rattle.ncl_reader.proofs.Kit.{inl, inr, refl, sym, ◌∙◌, subst, digits_value, false≢true}
-use Rattle.ncl_reader.proofs.Terms.{cell_name_of, Number, KeepsNames, meant, IsVector, span_of, Covers, Partial, inside, indexing, indexed, spelled}
+use Rattle.ncl_reader.proofs.Terms.{inl, inr, refl, sym, ◌∙◌, subst, digits_value, false≢true, cell_name_of, Number, KeepsNames, meant, IsVector, span_of, Covers, Partial, inside, indexing, indexed, spelled}
 use Rattle.ncl_reader.specs.declared.place.Place.TheVariants as place
 use Rattle.ncl_reader.proofs.DraftSteps as steps
-use Rattle.ncl_reader.proofs.NetSteps as nets
 use Rattle.ncl_reader.proofs.draft.Draft.at_index.Goals as goal
 
 pub returns-in_default : goal.returns-in_default
@@ -35,4 +33,4 @@ returns c = λ p (kept, ((head, items, conns, is, body, are), vector)).
     let inner : (Covers (span_of range) (digits_value 10 digits) → ⊥) → ⊥ = λ fails. false≢true (sym c.if-is_outside.false ∙ c.is_outside.ensures.1 (λ covers. fails (subst (λ s. Covers s (digits_value 10 digits)) (sym span) covers))) in
     steps.taken_mark p tree (inside head items (indexed (cell_name_of c.args.self.now.instance.kind) c.args.self.now.instance.name.now conns c.args.self.now.instance.pin.now c.args.self.now.instance.net.now digits)) (meant c.args.lexeme.now) (Number digits) place.AfterIndex _ is c.in-Some.ensures refl
     (λ x e. absurd cc) kept (digits, (head, items, conns, refl, (body.0, record { ansi = body.1.ansi; header = body.1.header; cells = body.1.cells }), are), c.in-Some-small.ensures.0)
-    (nets.index_rule head items (cell_name_of c.args.self.now.instance.kind) c.args.self.now.instance.name.now conns c.args.self.now.instance.pin.now c.args.self.now.instance.net.now c.args.self.now.known digits range (subst (λ q. KeepsNames c.args.self.now.known (spelled q)) is kept) (subst (λ q. IsVector (spelled q) c.args.self.now.instance.net.now range) is stands) c.in-Some-small.ensures.1 inner)
+    (steps.index_rule head items (cell_name_of c.args.self.now.instance.kind) c.args.self.now.instance.name.now conns c.args.self.now.instance.pin.now c.args.self.now.instance.net.now c.args.self.now.known digits range (subst (λ q. KeepsNames c.args.self.now.known (spelled q)) is kept) (subst (λ q. IsVector (spelled q) c.args.self.now.instance.net.now range) is stands) c.in-Some-small.ensures.1 inner)

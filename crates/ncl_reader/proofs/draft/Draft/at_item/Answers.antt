@@ -1,8 +1,7 @@
-use Rattle.ncl_reader.proofs.Kit.{◌≢◌, Contains, None, true, false, refl, sym, ◌∙◌, subst, ap, false≢true, none-some}
-use Rattle.ncl_reader.proofs.Terms.{EndModule, Wire, word_of, Word, Plain, Gives, Wires, header_of, said_by, AllDirected, meant, at_item, inside, declaring, leading, led, ended, is_ansi}
+use Rattle.ncl_reader.proofs.Terms.{◌≢◌, Contains, None, true, false, refl, sym, ◌∙◌, subst, ap, false≢true, none-some, EndModule, Wire, word_of, Word, Plain, Gives, Wires, header_of, said_by, AllDirected, meant, at_item, inside, declaring, leading, led, ended, is_ansi}
 use Rattle.ncl_reader.specs.declared.place.Place.TheVariants as place
 use Rattle.ncl_reader.specs.declared.place.LeadPlace.TheVariants as lead
-use Rattle.ncl_reader.proofs.SaidNames.{names-said_by}
+use Rattle.ncl_reader.proofs.SaidDeclared.{names-said_by}
 use Rattle.ncl_reader.proofs.DraftBody.{ansi_groups}
 use Rattle.ncl_reader.proofs.DraftSteps as steps
 use Rattle.ncl_reader.proofs.draft.Draft.at_item.Goals as goal

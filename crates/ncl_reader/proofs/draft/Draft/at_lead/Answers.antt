@@ -1,11 +1,10 @@
-use Rattle.ncl_reader.proofs.Kit.{◌≡◌, [], refl, sym, ap, ◌∙◌, subst, false, None, option_map, false≢true}
-use Rattle.ncl_reader.proofs.Terms.{Name, lead_phrase, at_declared, BreaksRule, KeepsNames, LeadTakes, lead_output, takes_name, meant, leading, inside, declaring, lead_place, word_place}
+use Rattle.ncl_reader.proofs.Terms.{◌≡◌, [], refl, sym, ap, ◌∙◌, subst, false, None, option_map, false≢true, Name, lead_phrase, at_declared, BreaksRule, KeepsNames, LeadTakes, lead_output, takes_name, meant, leading, inside, declaring, lead_place, word_place}
 use Rattle.ncl_reader.specs.declared.place.Place.TheVariants as place
 use Rattle.ncl_reader.proofs.Steps.{or_else, step}
-use Rattle.ncl_reader.proofs.Declares.{at_part}
+use Rattle.ncl_reader.proofs.Facts.{at_part}
 use Rattle.ncl_reader.proofs.LeadSteps.{in_item, no_name, begins}
 use Rattle.ncl_reader.proofs.DraftBody.{body-begins}
-use Rattle.ncl_reader.proofs.HeaderSteps.{lead_taken, lead_left, declared_form, declared_taken, name_left}
+use Rattle.ncl_reader.proofs.DraftSteps.{lead_taken, lead_left, declared_form, declared_taken, name_left}
 use Rattle.ncl_reader.proofs.DraftSteps as steps
 use Rattle.ncl_reader.proofs.draft.Draft.at_lead.Goals as goal
 

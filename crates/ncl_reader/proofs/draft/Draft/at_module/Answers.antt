@@ -1,5 +1,4 @@
-use Rattle.ncl_reader.proofs.Kit.{◌≢◌, refl, sym, ◌∙◌, false≢true}
-use Rattle.ncl_reader.proofs.Terms.{Module, Word, meant, start, begun}
+use Rattle.ncl_reader.proofs.Terms.{◌≢◌, refl, sym, ◌∙◌, false≢true, Module, Word, meant, start, begun}
 use Rattle.ncl_reader.specs.declared.place.Place.TheVariants as place
 use Rattle.ncl_reader.proofs.DraftSteps as steps
 use Rattle.ncl_reader.proofs.draft.Draft.at_module.Goals as goal

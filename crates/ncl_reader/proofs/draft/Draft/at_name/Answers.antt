@@ -1,6 +1,5 @@
-use Rattle.ncl_reader.proofs.Kit.{sym, subst, IfOk}
-use Rattle.ncl_reader.proofs.Terms.{meant, TakesOrBreaks}
-use Rattle.ncl_reader.proofs.PlainSteps.{no_name}
+use Rattle.ncl_reader.proofs.Terms.{sym, subst, IfOk, meant, TakesOrBreaks}
+use Rattle.ncl_reader.proofs.DraftSteps.{no_name}
 use Rattle.ncl_reader.proofs.draft.Draft.at_name.Goals as goal
 
 pub returns-in_default : goal.returns-in_default

@@ -1,10 +1,8 @@
-use Rattle.ncl_reader.proofs.Kit.{refl, sym, ap, ◌∙◌, subst, inr, inl, false≢true}
-use Rattle.ncl_reader.proofs.Terms.{cell_name_of, Name, meant, Clashes, Partial, inside, opened, netted, spelled}
+use Rattle.ncl_reader.proofs.Terms.{refl, sym, ap, ◌∙◌, subst, inr, inl, false≢true, cell_name_of, Name, meant, Clashes, Partial, inside, opened, netted, spelled}
 use Rattle.ncl_reader.specs.declared.place.Place.TheVariants as place
 use Rattle.ncl_reader.proofs.DraftSteps as steps
-use Rattle.ncl_reader.proofs.NameRules.{not_declaring, plain_rule}
-use Rattle.ncl_reader.proofs.Declares.{range_here}
-use Rattle.ncl_reader.proofs.NetSteps as nets
+use Rattle.ncl_reader.proofs.RulesAt.{not_declaring, plain_rule}
+use Rattle.ncl_reader.proofs.Facts.{range_here}
 use Rattle.ncl_reader.proofs.draft.Draft.at_net.Goals as goal
 
 pub returns-in_default : goal.returns-in_default
@@ -25,5 +23,5 @@ returns c = λ p (kept, (head, items, conns, is, body, are)).
     let none = not_declaring p (ap range_here is) in
     let fine : Clashes (spelled p) x → ⊥ = λ clashes. false≢true (sym c.if-clashes.false ∙ (c.clashes.ensures (spelled p) kept none).1 clashes) in
     steps.taken p tree (inside head items (netted (cell_name_of c.args.self.now.instance.kind) c.args.self.now.instance.name.now conns c.args.self.now.instance.pin.now x)) (meant c.args.lexeme.now) (Name x) place.AfterNet _ is c.in-Some.ensures refl
-    (nets.kept_here _ (spelled p) x (meant c.args.lexeme.now) c.in-Some.ensures (c.in_ok-join.ensures (spelled p) kept (head, items, (cell_name_of c.args.self.now.instance.kind), c.args.self.now.instance.name.now, conns, c.args.self.now.instance.pin.now, ap spelled is) fine)) (head, items, conns, refl, (body.0, record { ansi = body.1.ansi; header = body.1.header; cells = body.1.cells }), are)
+    (steps.kept_here _ (spelled p) x (meant c.args.lexeme.now) c.in-Some.ensures (c.in_ok-join.ensures (spelled p) kept (head, items, (cell_name_of c.args.self.now.instance.kind), c.args.self.now.instance.name.now, conns, c.args.self.now.instance.pin.now, ap spelled is) fine)) (head, items, conns, refl, (body.0, record { ansi = body.1.ansi; header = body.1.header; cells = body.1.cells }), are)
     (plain_rule tree x refl (λ none. none) (λ clashes. fine (subst (λ q. Clashes (spelled q) x) (sym is) clashes)))

@@ -1,9 +1,7 @@
-use Rattle.ncl_reader.proofs.Kit.{refl, sym, ◌∙◌, subst, false≢true}
-use Rattle.ncl_reader.proofs.Terms.{Name, Clashes, spelled, MayStand}
-use Rattle.ncl_reader.proofs.NameRules.{not_declaring}
-use Rattle.ncl_reader.proofs.PlainSteps.{plain_free}
+use Rattle.ncl_reader.proofs.Terms.{refl, sym, ◌∙◌, subst, false≢true, Name, Clashes, spelled, MayStand}
+use Rattle.ncl_reader.proofs.RulesAt.{not_declaring, breaks-here}
+use Rattle.ncl_reader.proofs.DraftSteps.{plain_free}
 use Rattle.ncl_reader.proofs.DraftSteps as steps
-use Rattle.ncl_reader.proofs.RulesAt.{breaks-here}
 use Rattle.ncl_reader.proofs.draft.Draft.at_plain.Goals as goal
 
 pub returns-then-clashes : goal.returns-then-clashes

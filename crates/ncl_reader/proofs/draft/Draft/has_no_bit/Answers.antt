@@ -1,7 +1,6 @@
-use Rattle.ncl_reader.proofs.Kit.{◌≡◌, Some, sym, ap, ◌∙◌, subst, digits_value, false≢true}
-use Rattle.ncl_reader.proofs.Terms.{cell_name_of, IsVector, span_of, Covers, HoldsAt, spelled}
+use Rattle.ncl_reader.proofs.Terms.{sym, ap, ◌∙◌, subst, digits_value, false≢true, cell_name_of, IsVector, Covers, HoldsAt, spelled}
 use Rattle.ncl_reader.proofs.Loop.{holds-place}
-use Rattle.ncl_reader.proofs.NetSteps.{same_numbers}
+use Rattle.ncl_reader.proofs.DraftSteps.{same_numbers}
 use Rattle.ncl_reader.proofs.RulesAt.{OutsideAt, outside-here}
 use Rattle.ncl_reader.proofs.Places as places
 use Rattle.ncl_reader.specs.declared.place.Place.TheVariants as place

@@ -1,8 +1,6 @@
-use Rattle.ncl_reader.proofs.Kit.{◌≡◌, arith, map, length, ◌∙◌, sym, ap, subst, flat_map}
-use Rattle.ncl_reader.proofs.Terms.{Port, AllDiffer, KeepsNames, header_of, AreCellsOf, joined_in, said_by, ended, spelled}
+use Rattle.ncl_reader.proofs.Terms.{◌≡◌, arith, map, length, ◌∙◌, sym, ap, subst, flat_map, Port, AllDiffer, KeepsNames, header_of, AreCellsOf, joined_in, said_by, ended, spelled}
 use Rattle.ncl_reader.proofs.SaidDeclared.{said_declared, header_stands, header_few}
-use Rattle.ncl_reader.proofs.PortsDiffer.{ports_differ}
-use Rattle.ncl_reader.proofs.PortsFew.{ports_few}
+use Rattle.ncl_reader.proofs.Ports.{ports_differ, ports_few}
 use Rattle.ncl_reader.proofs.draft.Draft.into_parts.Goals as goal
 
 pub returns-clause-says : goal.returns-clause-says

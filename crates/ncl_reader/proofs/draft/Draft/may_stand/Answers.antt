@@ -1,6 +1,5 @@
-use Rattle.ncl_reader.proofs.Kit.{[], subst}
-use Rattle.ncl_reader.proofs.Terms.{HoldsBy}
-use Rattle.ncl_reader.proofs.PlainSteps.{free_may, port_may, pin_may}
+use Rattle.ncl_reader.proofs.Terms.{[], subst, HoldsBy}
+use Rattle.ncl_reader.proofs.DraftSteps.{free_may, port_may, pin_may}
 use Rattle.ncl_reader.proofs.draft.Draft.may_stand.Goals as goal
 
 pub returns-in-Port : goal.returns-in-Port

@@ -1,5 +1,4 @@
-use Rattle.ncl_reader.proofs.Kit.{inl, inr, sym, ◌∙◌, false≢true}
-use Rattle.ncl_reader.proofs.Terms.{Redeclares}
+use Rattle.ncl_reader.proofs.Terms.{inl, inr, sym, ◌∙◌, false≢true, Redeclares}
 use Rattle.ncl_reader.proofs.Places as places
 use Rattle.ncl_reader.proofs.draft.Draft.of_declared.Goals as goal
 

@@ -1,4 +1,4 @@
-use Rattle.ncl_reader.proofs.Kit.{sym, ◌∙◌}
+use Rattle.ncl_reader.proofs.Terms.{sym, ◌∙◌}
 use Rattle.ncl_reader.proofs.draft.Draft.of_led.Goals as goal
 
 pub returns-then-takes_name : goal.returns-then-takes_name

@@ -1,13 +1,11 @@
-use Rattle.ncl_reader.proofs.Kit.{◌≡◌, [], Option, true, inl, inr, refl, sym, ap, ◌∙◌, subst, Decides, option_map}
-use Rattle.ncl_reader.proofs.Terms.{Name, all_of, direction_phrase, lead_phrase, Range, in_ansi, at_declared, IsDeclaring, span_of, Crowds, takes_name, IsFaultAt, KeepsNames, HoldsAt, going, leading, spelled}
+use Rattle.ncl_reader.proofs.Terms.{◌≡◌, [], Option, true, inl, inr, refl, sym, ap, ◌∙◌, subst, Decides, option_map, Name, all_of, direction_phrase, lead_phrase, Range, in_ansi, at_declared, IsDeclaring, span_of, Crowds, takes_name, IsFaultAt, KeepsNames, HoldsAt, going, leading, spelled}
 use Rattle.ncl_reader.specs.declared.place.Place.TheVariants as place
-use Rattle.ncl_reader.proofs.Declares.{at_part, heading_form, declaring_form, range_here}
+use Rattle.ncl_reader.proofs.Facts.{at_part, heading_form, declaring_form, range_here}
 use Rattle.ncl_reader.proofs.DraftBody.{grouped-begins, body-begins}
 use Rattle.ncl_reader.proofs.LeadSteps.{in_header, in_item, begins}
-use Rattle.ncl_reader.proofs.NameRules.{not_declaring}
+use Rattle.ncl_reader.proofs.RulesAt.{not_declaring}
 use Rattle.ncl_reader.proofs.Loop.{holds-place}
 use Rattle.ncl_reader.proofs.Places as places
-use Rattle.ncl_reader.proofs.RefusalNames as refused
 use Rattle.ncl_reader.proofs.draft.Draft.of_name.Goals as goal
 
 pub returns-in-Item : goal.returns-in-Item
@@ -42,7 +40,7 @@ returns-in-HeaderLead c = λ p holds.
     let start = begins (in_header d.title.now groups) d.lead part c.args.name.now lead (takes_name lead) at refl may led in
     let form : spelled p ≡ in_ansi d.title.now groups start.spec [] = ap spelled is ∙ heading_form d.title.now groups (leading part) start.spec [] (at_part direction_phrase (leading part) start.spec start.says) in
     let decides = c.crowds_header.ensures groups start.spec [] start.keeps (grouped-begins d groups start.spec read) in
-    refused.declared_as (spelled p) _ c.args.name.now start.spec.range d.lead.span c.crowds_header.result form (inl (d.title.now, groups, start.spec.lead, [], refl)) start.keeps.1.same decides in
+    places.declared_as (spelled p) _ c.args.name.now start.spec.range d.lead.span c.crowds_header.result form (inl (d.title.now, groups, start.spec.lead, [], refl)) start.keeps.1.same decides in
     c.of_led.ensures (spelled p) kept (takes, λ may_not. not_declaring p (ap range_here is ∙ places.no_range_header part (ap takes_name at ∙ may_not))) item pin conn
 
 pub returns-in-HeaderName : goal.returns-in-HeaderName
@@ -63,7 +61,7 @@ returns-in-Lead c = λ p holds.
     let start = begins (in_item head items) d.lead part c.args.name.now lead (takes_name lead) at refl may led in
     let form : spelled p ≡ at_declared head items start.spec [] = ap spelled is ∙ declaring_form head items (leading part) start.spec [] (at_part lead_phrase (leading part) start.spec start.says) in
     let decides = c.crowds_items.ensures head items start.spec [] start.keeps early (body-begins d head items start.spec body) in
-    refused.declared_as (spelled p) _ c.args.name.now start.spec.range d.lead.span c.crowds_items.result form (inr (head, items, start.spec.lead, [], refl)) start.keeps.1.same decides in
+    places.declared_as (spelled p) _ c.args.name.now start.spec.range d.lead.span c.crowds_items.result form (inr (head, items, start.spec.lead, [], refl)) start.keeps.1.same decides in
     c.of_led-in-Lead.ensures (spelled p) kept (takes, λ may_not. not_declaring p (ap range_here is ∙ places.no_range_item part (ap takes_name at ∙ may_not))) item pin conn
 
 pub returns-in-Declared : goal.returns-in-Declared

@@ -1,4 +1,4 @@
-use Rattle.ncl_reader.proofs.Kit.{inl, refl, sym, ◌∙◌, false≢true}
+use Rattle.ncl_reader.proofs.Terms.{inl, refl, sym, ◌∙◌, false≢true}
 use Rattle.ncl_reader.proofs.draft.Draft.of_number.Goals as goal
 
 pub returns-then-has_no_bit : goal.returns-then-has_no_bit

@@ -1,5 +1,5 @@
-use Rattle.ncl_reader.proofs.Kit.{Some, inl, inr, refl, sym, ◌∙◌, false≢true}
-use Rattle.ncl_reader.proofs.NameRules.{crowds_declares}
+use Rattle.ncl_reader.proofs.Terms.{Some, inl, inr, refl, sym, ◌∙◌, false≢true}
+use Rattle.ncl_reader.proofs.RulesAt.{crowds_declares}
 use Rattle.ncl_reader.proofs.draft.Draft.of_plain.Goals as goal
 
 pub returns-then-clashes : goal.returns-then-clashes

@@ -1,5 +1,4 @@
-use Rattle.ncl_reader.proofs.Kit.{◌≡◌, None, subst}
-use Rattle.ncl_reader.proofs.Terms.{Draft, Place, Read, meant, HoldsAt, TakesOrBreaks, Partial, ended}
+use Rattle.ncl_reader.proofs.Terms.{◌≡◌, None, subst, Draft, Place, Read, meant, HoldsAt, TakesOrBreaks, Partial, ended}
 use Rattle.ncl_reader.specs.declared.place.Place.TheVariants as place
 use Rattle.ncl_reader.proofs.DraftSteps as steps
 use Rattle.ncl_reader.proofs.draft.Draft.step.Goals as goal

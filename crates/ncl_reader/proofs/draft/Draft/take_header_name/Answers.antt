@@ -1,6 +1,5 @@
-use Rattle.ncl_reader.proofs.Kit.{◌≡◌, ◌++◌, ◌∷◌, [], Contains, inl, inr, refl, sym, ap, ◌∙◌, subst, append_assoc, flat_map, none-some, same_Some}
-use Rattle.ncl_reader.proofs.Terms.{Contains-last, group_names, in_ansi, IsDeclaring, Redeclares, Clashes, is_output, said_in_header, said_of, IsHeader, names_said}
-use Rattle.ncl_reader.proofs.NameRules.{clash_rule}
+use Rattle.ncl_reader.proofs.Terms.{◌≡◌, ◌++◌, ◌∷◌, [], Contains, inl, inr, refl, sym, ap, ◌∙◌, subst, append_assoc, flat_map, none-some, same_Some, Contains-last, group_names, in_ansi, IsDeclaring, Redeclares, Clashes, is_output, said_in_header, said_of, IsHeader, names_said}
+use Rattle.ncl_reader.proofs.RulesAt.{clash_rule}
 use Rattle.ncl_reader.proofs.DraftBody.{names-grouped, few-grouped, said-grouped_more}
 use Rattle.ncl_reader.proofs.draft.Draft.take_header_name.Goals as goal
 

@@ -1,7 +1,6 @@
-use Rattle.ncl_reader.proofs.Kit.{[], Contains, refl, subst}
-use Rattle.ncl_reader.proofs.Terms.{Name, begun, titled, listing, listed, inside, celled, named, dotted, pinned, HoldsBy, cell_in, name_in}
+use Rattle.ncl_reader.proofs.Terms.{[], Contains, refl, subst, Name, begun, titled, listing, listed, inside, celled, named, dotted, pinned, HoldsBy, cell_in, name_in}
 use Rattle.ncl_reader.specs.declared.place.Place.TheVariants as place
-use Rattle.ncl_reader.proofs.PlainSteps.{plain_kept, listing_at, repeats}
+use Rattle.ncl_reader.proofs.DraftSteps.{plain_kept, listing_at, repeats}
 use Rattle.ncl_reader.proofs.DraftSteps as steps
 use Rattle.ncl_reader.proofs.draft.Draft.take_plain.Goals as goal
 

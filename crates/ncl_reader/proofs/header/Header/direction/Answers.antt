@@ -1,4 +1,4 @@
-use Rattle.ncl_reader.proofs.Kit.{◌≡◌, ◌≢◌, Bool, Option, Some, None, sym, ◌∙◌, MatchOption}
+use Rattle.ncl_reader.proofs.Terms.{◌≡◌, ◌≢◌, Bool, Option, Some, None, sym, ◌∙◌, MatchOption}
 use Rattle.ncl_reader.proofs.header.Header.direction.Goals as goal
 
 told : (kept : Option (Option Bool)) (way : Option Bool) → kept ≡ Some way → MatchOption way ((output : Bool) → kept ≢ Some (Some output)) (λ output. kept ≡ Some (Some output))

@@ -1,5 +1,4 @@
-use Rattle.ncl_reader.proofs.Kit.{◌≡◌, List, ℕ, [], map, take, unwrap_or, Contains}
-use Rattle.ncl_reader.proofs.Terms.{Conn, net_on, AreJoins, pins_in}
+use Rattle.ncl_reader.proofs.Terms.{◌≡◌, List, ℕ, [], map, take, unwrap_or, Contains, Conn, net_on, AreJoins, pins_in}
 use Rattle.ncl_reader.proofs.instance.Instance.close.Given as goal
 
 -- the nets on the pins so far, which are joined

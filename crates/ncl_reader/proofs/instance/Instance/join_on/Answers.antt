@@ -1,6 +1,5 @@
-use Rattle.ncl_reader.proofs.Kit.{sym, ap, ◌∙◌, map}
-use Rattle.ncl_reader.proofs.Terms.{joint_of}
-use Rattle.ncl_reader.proofs.Looked.{all-taken}
+use Rattle.ncl_reader.proofs.Terms.{sym, ap, ◌∙◌, map, joint_of}
+use Rattle.ncl_reader.proofs.Among.{all-taken}
 use Rattle.ncl_reader.proofs.Nets.{joint_on, kept-net, net-found, net-more}
 use Rattle.ncl_reader.proofs.instance.Instance.join_on.Goals as goal
 

@@ -1,6 +1,5 @@
-use Rattle.ncl_reader.proofs.Kit.{◌≡◌, ℕ, List, [], unwrap_or, ap, ◌∙◌, arith, option_map, false≢true}
-use Rattle.ncl_reader.proofs.Terms.{numbers_at}
-use Rattle.ncl_reader.proofs.KeptStanding.{covers_stands, stands_covers}
+use Rattle.ncl_reader.proofs.Terms.{◌≡◌, ℕ, List, [], unwrap_or, ap, ◌∙◌, arith, option_map, false≢true, numbers_at}
+use Rattle.ncl_reader.proofs.Kept.{covers_stands, stands_covers}
 use Rattle.ncl_reader.proofs.kept_bits.KeptBits.has_bit.Goals as goal
 
 pub returns-in-Some : goal.returns-in-Some

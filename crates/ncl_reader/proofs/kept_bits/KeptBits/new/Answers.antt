@@ -1,5 +1,5 @@
-use Rattle.ncl_reader.proofs.Kit.{rules}
-use Rattle.ncl_reader.proofs.KeptStanding.{standing-none}
+use Rattle.ncl_reader.proofs.Terms.{rules}
+use Rattle.ncl_reader.proofs.Kept.{standing-none}
 use Rattle.ncl_reader.proofs.kept_bits.KeptBits.new.Goals as goal
 
 pub returns : goal.returns

@@ -1,5 +1,5 @@
-use Rattle.ncl_reader.proofs.Kit.{inl}
-use Rattle.ncl_reader.proofs.KeptNames.{bit_of_clash}
+use Rattle.ncl_reader.proofs.Terms.{inl}
+use Rattle.ncl_reader.proofs.Kept.{bit_of_clash}
 use Rattle.ncl_reader.proofs.known.Known.clashes.Goals as goal
 
 pub returns : goal.returns

@@ -1,8 +1,5 @@
-use Rattle.ncl_reader.proofs.Kit.{◌++◌, ◌∷◌, []}
-use Rattle.ncl_reader.proofs.Terms.{Name}
-use Rattle.ncl_reader.proofs.KeptNames.{agrees_fine, declared_unused}
-use Rattle.ncl_reader.proofs.KeptUses.{uses-other, uses-same}
-use Rattle.ncl_reader.proofs.KeptClear.{clear-name}
+use Rattle.ncl_reader.proofs.Terms.{◌++◌, ◌∷◌, [], Name}
+use Rattle.ncl_reader.proofs.Kept.{agrees_fine, declared_unused, uses-other, uses-same, clear-name}
 use Rattle.ncl_reader.proofs.known.Known.declare.Goals as goal
 
 pub returns-in_ok-sort : goal.returns-in_ok-sort

@@ -1,8 +1,5 @@
 use Rattle.ncl_reader.proofs.Terms.{Name}
-use Rattle.ncl_reader.proofs.KeptNames.{declared_unused}
-use Rattle.ncl_reader.proofs.KeptRanges.{ranges-other}
-use Rattle.ncl_reader.proofs.KeptUses.{uses-more}
-use Rattle.ncl_reader.proofs.KeptClear.{clear-name}
+use Rattle.ncl_reader.proofs.Kept.{declared_unused, ranges-other, uses-more, clear-name}
 use Rattle.ncl_reader.proofs.known.Known.join.Goals as goal
 
 pub returns : goal.returns

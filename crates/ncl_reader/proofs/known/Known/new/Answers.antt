@@ -1,5 +1,4 @@
-use Rattle.ncl_reader.proofs.KeptClear.{clear-none}
-use Rattle.ncl_reader.proofs.KeptUses.{uses-none}
+use Rattle.ncl_reader.proofs.Kept.{clear-none, uses-none}
 use Rattle.ncl_reader.proofs.known.Known.new.Goals as goal
 
 pub returns : goal.returns

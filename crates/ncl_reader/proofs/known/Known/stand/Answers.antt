@@ -1,7 +1,5 @@
 use Rattle.ncl_reader.proofs.Terms.{Name}
-use Rattle.ncl_reader.proofs.KeptRanges.{ranges-other}
-use Rattle.ncl_reader.proofs.KeptUses.{uses-other}
-use Rattle.ncl_reader.proofs.KeptClear.{clear-name}
+use Rattle.ncl_reader.proofs.Kept.{ranges-other, uses-other, clear-name}
 use Rattle.ncl_reader.proofs.known.Known.stand.Goals as goal
 
 pub returns : goal.returns

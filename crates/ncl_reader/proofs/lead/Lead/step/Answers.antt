@@ -1,5 +1,4 @@
-use Rattle.ncl_reader.proofs.Kit.{◌<◌, refl, sym, ◌∙◌, subst, arith, Some, false≢true}
-use Rattle.ncl_reader.proofs.Terms.{LBracket, RBracket, Colon, Mark, meant}
+use Rattle.ncl_reader.proofs.Terms.{◌<◌, refl, sym, ◌∙◌, subst, arith, Some, false≢true, LBracket, RBracket, Colon, Mark, meant}
 use Rattle.ncl_reader.specs.declared.place.LeadPlace.TheVariants as lead
 use Rattle.ncl_reader.proofs.LeadSteps as steps
 use Rattle.ncl_reader.proofs.lead.Lead.step.Goals as goal

@@ -1,4 +1,4 @@
-use Rattle.ncl_reader.proofs.Kit.{◌||◌, map, sym, ap, ◌∙◌, list_any, bytes_eq}
+use Rattle.ncl_reader.proofs.Terms.{◌||◌, map, sym, ap, ◌∙◌, list_any, bytes_eq}
 use Rattle.ncl_reader.proofs.Among.{any-now}
 use Rattle.ncl_reader.proofs.name_set.NameSet.has.Goals as goal
 

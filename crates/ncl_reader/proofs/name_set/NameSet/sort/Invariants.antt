@@ -1,5 +1,4 @@
-use Rattle.ncl_reader.proofs.Kit.{◌≡◌, ℕ, List, vec_len}
-use Rattle.ncl_reader.proofs.Terms.{has_name}
+use Rattle.ncl_reader.proofs.Terms.{◌≡◌, ℕ, List, vec_len, has_name}
 use Rattle.ncl_reader.proofs.name_set.NameSet.sort.Given as goal
 
 -- the names are those of the beginning

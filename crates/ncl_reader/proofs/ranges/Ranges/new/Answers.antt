@@ -1,6 +1,5 @@
-use Rattle.ncl_reader.proofs.Kit.{◌≡◌, None, ap, ◌∙◌, rules}
-use Rattle.ncl_reader.proofs.Terms.{has_name, vector_at, kept_as}
-use Rattle.ncl_reader.proofs.KeptRanges.{ranges-none}
+use Rattle.ncl_reader.proofs.Terms.{◌≡◌, None, ap, ◌∙◌, rules, has_name, vector_at, kept_as}
+use Rattle.ncl_reader.proofs.Kept.{ranges-none}
 use Rattle.ncl_reader.proofs.ranges.Ranges.new.Goals as goal
 
 pub returns : goal.returns

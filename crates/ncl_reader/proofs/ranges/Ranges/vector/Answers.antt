@@ -1,5 +1,5 @@
-use Rattle.ncl_reader.proofs.Kit.{rules}
-use Rattle.ncl_reader.proofs.KeptRanges.{vector-found}
+use Rattle.ncl_reader.proofs.Terms.{rules}
+use Rattle.ncl_reader.proofs.Kept.{vector-found}
 use Rattle.ncl_reader.proofs.ranges.Ranges.vector.Goals as goal
 
 pub returns : goal.returns

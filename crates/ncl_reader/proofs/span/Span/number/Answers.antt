@@ -1,4 +1,4 @@
-use Rattle.ncl_reader.proofs.Kit.{arith}
+use Rattle.ncl_reader.proofs.Terms.{arith}
 use Rattle.ncl_reader.proofs.Bits.{number-rises, number-falls}
 use Rattle.ncl_reader.proofs.span.Span.number.Goals as goal
 

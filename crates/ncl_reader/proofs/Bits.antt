@@ -1,5 +1,5 @@
 -- Digits and their values, the names of bits, and the numbers of a vector.
-use Rattle.ncl_reader.proofs.Terms.{◌≡◌, ℕ, zero, suc, ◌+◌, ◌-◌, ◌^◌, ◌<◌, ◌≤◌, arith, List, [], ◌∷◌, ◌++◌, length, get_or, Bool, true, false, cond, refl, sym, ◌∙◌, subst, ◌≢◌, inl, inr, decimal, nat_le, AllDigits, false≢true, le-leb, leb-true, decimal_is_IsNumeral, decimal_injective, same_from_push, ap, length-append, Span, width, bit_name, up_from, down_from, numbers_of, split_push, take, drop, drop-cons, slice_index, digits_value, cases_lt, decimal_digit, first_decimal, length-decimal-le, decimal-digits_value, IsNumeralModel, append_assoc, IsTooLarge, HasBracketAt, ◌*◌, ◌&&◌, pow-le-pow_right, length-take-le, digit_value_digit, digit_from_value, digits_value-lt, digit_value, is_ascii_digit, list_all, digits_value_after, Covers, Option, Some, None, option_map, same_Some, Ranges, Lexeme, Range, span_of, IsDeclared, IsVector, IsBit, IsRanges, range_at}
+pub use Rattle.ncl_reader.proofs.Terms.{◌≡◌, ℕ, zero, suc, ◌+◌, ◌-◌, ◌^◌, ◌<◌, ◌≤◌, arith, List, [], ◌∷◌, ◌++◌, length, get_or, Bool, true, false, cond, refl, sym, ◌∙◌, subst, ◌≢◌, inl, inr, decimal, nat_le, AllDigits, false≢true, le-leb, leb-true, decimal_is_IsNumeral, decimal_injective, same_from_push, ap, length-append, Span, width, bit_name, up_from, down_from, numbers_of, split_push, take, drop, drop-cons, slice_index, digits_value, cases_lt, decimal_digit, first_decimal, length-decimal-le, decimal-digits_value, IsNumeralModel, append_assoc, IsTooLarge, HasBracketAt, ◌*◌, ◌&&◌, pow-le-pow_right, length-take-le, digit_value_digit, digit_from_value, digits_value-lt, digit_value, is_ascii_digit, list_all, digits_value_after, Covers, Option, Some, None, option_map, same_Some, Ranges, Lexeme, Range, span_of, IsDeclared, IsVector, IsBit, IsRanges, range_at, drop_all, ◌⊎◌, MatchOption, take_rest, digits_more, map, take_more, map_push, take_all, bit_port, length-drop, digits_value_more}
 
 -- no `[` stands
 abbrev pub NoOpen : List ℕ → Type 0

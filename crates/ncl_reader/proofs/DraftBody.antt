@@ -1,8 +1,8 @@
 -- What is kept of a header and of items, with a name or a declaration more.
-use Rattle.ncl_reader.proofs.Terms.{[], ◌≡◌, ℕ, ◌+◌, ◌*◌, ◌<◌, ◌≤◌, List, ◌∷◌, ◌++◌, length, map, sum, Bool, true, false, Option, Some, None, inl, inr, ◌⊎◌, refl, sym, ap, ◌∙◌, subst, append_assoc, arith, Contains, flat_map, option_map, mul-suc, is_some, false≢true, same_Some, none-some, append-nil, flat_map_more, Draft, Span, Header, Lexeme, Name, in_ansi, at_declared, Row, all_of, Direction, Lead, Gives, Wires, Range, Spec, Group, group_names, Listing, Ansi, Head, Item, Declares, groups_of, header_of, span_of, width, range_width, MOST_PORT_BITS, directed_by, group_bits, item_bits, BreaksRule, Said, is_output, said_of, said_in_header, said_in, said_by, joined_in, Joined, AreCellsOf, IsHeader, names_said, bits_said, span_width, said_with, is_ansi, IsRead, IsGrouped, IsGroupedWith, IsBody, IsBodyWith, IsEarly, IsDeclaredNext, Led, IsSaid, lead_output, KeepsNames}
+pub use Rattle.ncl_reader.proofs.Terms.{[], ◌≡◌, ℕ, ◌+◌, ◌*◌, ◌<◌, ◌≤◌, List, ◌∷◌, ◌++◌, length, map, sum, Bool, true, false, Option, Some, None, inl, inr, ◌⊎◌, refl, sym, ap, ◌∙◌, subst, append_assoc, arith, Contains, flat_map, option_map, mul-suc, is_some, false≢true, same_Some, none-some, append-nil, flat_map_more, Draft, Span, Header, Lexeme, Name, in_ansi, at_declared, Row, all_of, Direction, Lead, Gives, Wires, Range, Spec, Group, group_names, Listing, Ansi, Head, Item, Declares, groups_of, header_of, span_of, width, range_width, MOST_PORT_BITS, directed_by, group_bits, item_bits, BreaksRule, Said, is_output, said_of, said_in_header, said_in, said_by, joined_in, Joined, AreCellsOf, IsHeader, names_said, bits_said, span_width, said_with, is_ansi, IsRead, IsGrouped, IsGroupedWith, IsBody, IsBodyWith, IsEarly, IsDeclaredNext, Led, IsSaid, lead_output, KeepsNames, IsDeclaring, Redeclares, Clashes, Contains-last, not, LacksWay}
 use Rattle.ncl_reader.proofs.Among.{among_or_not}
 use Rattle.ncl_reader.proofs.SaidDeclared.{names-append, bits-append, names-said_of, bits-said_of, said_of-push, names-header, bits-header, names-said_by, bits-said_by}
-use Rattle.ncl_reader.proofs.RulesAt.{crowds-head, crowds-item}
+pub use Rattle.ncl_reader.proofs.RulesAt.{crowds-head, crowds-item, clash_rule, some_given, declared_rule, crowds_declared}
 
 -- what is read doesn't depend on how its lists are named
 pub read-along : (draft : Draft) (form other : Bool) (names ns : List (List ℕ)) (said ss : List Said) (cells cs : List Joined) → form ≡ other → names ≡ ns → said ≡ ss → cells ≡ cs → IsRead draft form names said cells → IsRead draft other ns ss cs

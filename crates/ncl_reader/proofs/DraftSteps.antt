@@ -1,12 +1,15 @@
 -- Tokens that are taken, and tokens that break, by the place.
-use Rattle.ncl_reader.proofs.Terms.{[], ◌≡◌, ◌≢◌, ℕ, List, ◌∷◌, ◌++◌, None, Some, inr, refl, sym, ◌∙◌, subst, inl, Read, meant, RParen, Comma, LBracket, Place, Draft, Way, Module, EndModule, Wire, word_of, Lexeme, Word, Name, Number, Mark, Head, Item, Conn, Row, Direction, Lead, Spec, Group, BreaksRule, Breaks, Clashes, KeepsNames, Partial, going, start, listing, heading, inside, at_item, ended, declaring, opened, netted, indexing, picked, joined, spelled, HoldsAt, HoldsBy, Takes, TakesOrBreaks, ap, direction_phrase, lead_phrase, in_ansi, at_declared, GroupPart, naming, IsHeadedNext, IsDeclaredNext, true, false, Option, MatchOption, flat_map, is_some, digits_value, false≢true, append-nil, flat_map_more, same_Some, PartCell, Span, Known, Range, Joins, groups_of, header_of, span_of, bit_name, Covers, IsTooLarge, IsVector, Joined, joined_in, said_by, said_in, said_in_header, AreCellsOf, IsCellOf, joint_in, picked_name, is_ansi, IsRead, IsBody, IsBodyAnd, Contains, Bool, not, arith, Decides, CellKind, cell_name_of, IsDeclaring, IsAtNet, MayJoin, begun, celled, dotted, IsListed, cell_in, name_in, takes_plain, takes_name_alone, MayStand, ◌<◌, length, length-append, Sign, LParen, Semi, Dot, RBracket, Names, Ansi, Declares, headed, joining, takes_sign, after_sign}
+pub use Rattle.ncl_reader.proofs.Terms.{[], ◌≡◌, ◌≢◌, ℕ, List, ◌∷◌, ◌++◌, None, Some, inr, refl, sym, ◌∙◌, subst, inl, Read, meant, RParen, Comma, LBracket, Place, Draft, Way, Module, EndModule, Wire, word_of, Lexeme, Word, Name, Number, Mark, Head, Item, Conn, Row, Direction, Lead, Spec, Group, BreaksRule, Breaks, Clashes, KeepsNames, Partial, going, start, listing, heading, inside, at_item, ended, declaring, opened, netted, indexing, picked, joined, spelled, HoldsAt, HoldsBy, Takes, TakesOrBreaks, ap, direction_phrase, lead_phrase, in_ansi, at_declared, GroupPart, naming, IsHeadedNext, IsDeclaredNext, true, false, Option, MatchOption, flat_map, is_some, digits_value, false≢true, append-nil, flat_map_more, same_Some, PartCell, Span, Known, Range, Joins, groups_of, header_of, span_of, bit_name, Covers, IsTooLarge, IsVector, Joined, joined_in, said_by, said_in, said_in_header, AreCellsOf, IsCellOf, joint_in, picked_name, is_ansi, IsRead, IsBody, IsBodyAnd, Contains, Bool, not, arith, Decides, CellKind, cell_name_of, IsDeclaring, IsAtNet, MayJoin, begun, celled, dotted, IsListed, cell_in, name_in, takes_plain, takes_name_alone, MayStand, ◌<◌, length, length-append, Sign, LParen, Semi, Dot, RBracket, Names, Ansi, Declares, headed, joining, takes_sign, after_sign, option_map, LeadTakes, lead_output, takes_name, leading, lead_place, word_place, titled, listed, named, pinned, IsDeclared, range_at, AreJoins, IfOk, indexed, none-some, Plain, Gives, Wires, AllDirected, led, all_of, Empty, Closes, closed, direction_output, direction_place, map, joint_of}
 use Rattle.ncl_reader.specs.declared.lexeme.Lexeme.TheVariants as read
-use Rattle.ncl_reader.proofs.Steps.{step, grows, breaks-taken, breaks-untaken}
+pub use Rattle.ncl_reader.proofs.Steps.{step, grows, breaks-taken, breaks-untaken, or_else}
 use Rattle.ncl_reader.proofs.Kept.{kept_mark}
-use Rattle.ncl_reader.proofs.RulesAt.{BreaksAt, breaks-here, breaks-back, NameAt, opens, not_declaring, not_net, clash_rule, may_stand, pin_free}
+pub use Rattle.ncl_reader.proofs.RulesAt.{BreaksAt, breaks-here, breaks-back, NameAt, opens, not_declaring, not_net, clash_rule, may_stand, pin_free, close_free, plain_rule}
 use Rattle.ncl_reader.specs.declared.place.Place.TheVariants as place
-use Rattle.ncl_reader.proofs.Facts.{IsPart, heading_form, declaring_form, declared-old, range_here}
-use Rattle.ncl_reader.proofs.DraftBody.{header-ends, body-declares}
+pub use Rattle.ncl_reader.proofs.Facts.{IsPart, heading_form, declaring_form, declared-old, range_here, at_part}
+pub use Rattle.ncl_reader.proofs.DraftBody.{header-ends, body-declares, body-begins, ansi_groups, grouped-ends, grouped-begins}
+pub use Rattle.ncl_reader.proofs.LeadSteps.{in_item, names_none, begins, in_header}
+pub use Rattle.ncl_reader.proofs.Among.{joins-more}
+pub use Rattle.ncl_reader.proofs.SaidDeclared.{names-said_by}
 
 -- what breaks doesn't depend on how what stands is named
 along : (p tree : Partial) (t u : Lexeme) → p ≡ tree → t ≡ u → Breaks (spelled p) t → Breaks (spelled tree) u

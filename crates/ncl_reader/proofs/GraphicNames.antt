@@ -1,5 +1,5 @@
--- Names of a text are made of printing characters.
-use Rattle.ncl_reader.proofs.Terms.{[], ◌≡◌, ℕ, zero, suc, ◌+◌, ◌-◌, ◌<◌, ◌≤◌, ◌/◌, ◌%◌, arith, List, ◌∷◌, ◌++◌, length, map, take, Bool, true, false, Option, Some, None, not, refl, sym, ap, ◌∙◌, subst, append_assoc, unwrap_or, slice_range, codes, decimal, nat_lt, ◌==◌, All, if◌then◌else◌, digits_onto, digit_glyph, list_all, flat_map, find, AllByRecursion, option_map, bytes_eq, digits_value, nat_tests, and_parts, and_from, take_at, length-append, All-nil, All-cons, All-head, All-tail, All-append, All-filter, Token, TokenKind, begins_word, continues_word, is_graphic, IsToken, is_word, is_escaped, Stop, at_end, at_bad, name_of, IsTokenOf, tokens_in_text, pins_of, Port, Cell, Parts, PartCell, same_name, once_each, netlist_of, nets_of, port_names, cell_of, Keyword, EndModule, Module, Lexeme, Word, Name, End, lexemes, lexeme_of, word_lexeme, keyword_of, all_of, Range, Net, Conn, Item, Declares, Joins, text_phrase, body_phrase, header_of, Head, bit_name, span_of, Stands, Said, Joined, joined_in, bits_of, said_by, net_name, net_on, AreCellsOf, Reads, placed_in, IsGraphicName, HasGraphicNames, Member, here, there, Contains-from_Member, All-from_members, member_of_flat_map, ports_at, said_at}
+-- Names of a text are made of printing characters, and its cells have a net on each pin.
+pub use Rattle.ncl_reader.proofs.Terms.{[], ◌≡◌, ℕ, zero, suc, ◌+◌, ◌-◌, ◌<◌, ◌≤◌, ◌/◌, ◌%◌, arith, List, ◌∷◌, ◌++◌, length, map, take, Bool, true, false, Option, Some, None, not, refl, sym, ap, ◌∙◌, subst, append_assoc, unwrap_or, slice_range, codes, decimal, nat_lt, ◌==◌, All, if◌then◌else◌, digits_onto, digit_glyph, list_all, flat_map, find, AllByRecursion, option_map, bytes_eq, digits_value, nat_tests, and_parts, and_from, take_at, length-append, All-nil, All-cons, All-head, All-tail, All-append, All-filter, Token, TokenKind, begins_word, continues_word, is_graphic, IsToken, is_word, is_escaped, Stop, at_end, at_bad, name_of, IsTokenOf, tokens_in_text, pins_of, Port, Cell, Parts, PartCell, same_name, once_each, netlist_of, nets_of, port_names, cell_of, Keyword, EndModule, Module, Lexeme, Word, Name, End, lexemes, lexeme_of, word_lexeme, keyword_of, all_of, Range, Net, Conn, Item, Declares, Joins, text_phrase, body_phrase, header_of, Head, bit_name, span_of, Stands, Said, Joined, joined_in, bits_of, said_by, net_name, net_on, AreCellsOf, Reads, placed_in, IsGraphicName, HasGraphicNames, Member, here, there, Contains-from_Member, All-from_members, member_of_flat_map, ports_at, said_at, length-map, HasAllPins}
 use Rattle.std.specs.Fmt.{digits}
 use Rattle.ncl_reader.proofs.Ports.{alone, bit_of_map, names-ports, names_of, some-said}
 use Rattle.ncl_reader.proofs.SaidDeclared.{whole, header_stands, instance_stands}
@@ -181,3 +181,10 @@ graphic_names bytes parts (ts, (tokens, stop, are, is), reads) =
       nets = fine_once (port_names parts ++ flat_map (λ (c : PartCell). c.pins) parts.cells) (All-append IsGraphicName (port_names parts) _ ports nets);
       cells = from_map (λ (c : Cell). c.name) (map (cell_of (nets_of parts)) parts.cells) (subst (All IsGraphicName) (sym (same_cell_names (nets_of parts) parts.cells)) (fine_cell_names (flat_map joined_in items) parts.cells reads.says.cells joins));
     }
+
+-- a cell has a net on each pin
+pub all_pins : (js : List Joined) (cs : List PartCell) → AreCellsOf js cs → All HasAllPins cs
+all_pins [] [] are = All-nil HasAllPins
+all_pins (j ∷ js) (c ∷ cs) are = All-cons HasAllPins c cs (ap length are.0.pins ∙ length-map (pins_of c.kind) _) (all_pins js cs are.1)
+all_pins [] (c ∷ cs) are = absurd are
+all_pins (j ∷ js) [] are = absurd are

@@ -1,5 +1,5 @@
 -- One token more in what a declaration begins with.
-use Rattle.ncl_reader.proofs.Terms.{[], ◌≡◌, ◌≢◌, ℕ, ◌<◌, List, Option, Some, None, Bool, true, false, inl, inr, ◌⊎◌, refl, sym, ap, ◌∙◌, subst, MatchOption, option_map, digits_value, false≢true, same_Some, none-some, LeadPlace, Led, Span, Wire, LBracket, RBracket, Colon, Lexeme, Word, Name, Number, Mark, Direction, Plain, Wired, direction_phrase, Lead, Gives, Wires, lead_phrase, Spec, Group, Item, Head, width, IsTooLarge, MOST_VECTOR_BITS, Breaks, LeadPart, led, bracketed, firsted, coloned, lasted, ranged, leading, naming, lead_place, direction_place, word_place, Partial, heading, inside, declaring, spelled, LeadTakes, IsLed, IsSaid, IsSpanOf, IsValue, takes_name, direction_output, lead_output}
+pub use Rattle.ncl_reader.proofs.Terms.{[], ◌≡◌, ◌≢◌, ℕ, ◌<◌, List, Option, Some, None, Bool, true, false, inl, inr, ◌⊎◌, refl, sym, ap, ◌∙◌, subst, MatchOption, option_map, digits_value, false≢true, same_Some, none-some, LeadPlace, Led, Span, Wire, LBracket, RBracket, Colon, Lexeme, Word, Name, Number, Mark, Direction, Plain, Wired, direction_phrase, Lead, Gives, Wires, lead_phrase, Spec, Group, Item, Head, width, IsTooLarge, MOST_VECTOR_BITS, Breaks, LeadPart, led, bracketed, firsted, coloned, lasted, ranged, leading, naming, lead_place, direction_place, word_place, Partial, heading, inside, declaring, spelled, LeadTakes, IsLed, IsSaid, IsSpanOf, IsValue, takes_name, direction_output, lead_output, arith, meant}
 use Rattle.ncl_reader.specs.declared.place.LeadPlace.TheVariants as lead
 use Rattle.ncl_reader.proofs.Steps.{step, or_else, lead_step, direction_more, lead_more, grows, breaks-taken, breaks-untaken}
 use Rattle.ncl_reader.proofs.Facts.{part_spec}
@@ -130,13 +130,13 @@ module _ {L : Type 0} (site : Site L) (kept : Led) where
   by_sign part t u after (Some at) e takes other = subst (λ a. Answer part t (Some a)) (sym e.0) (takes e.1)
 
   -- a name behind what a declaration begins with
-  pub no_name : (part : LeadPart L) (x : List ℕ) → takes_name (lead_place site.of part) ≡ false → step (site.tree part) (Name x) ≡ None
-  no_name (led l) x e = absurd (elim (site.forms l) [
+  pub names_none : (part : LeadPart L) (x : List ℕ) → takes_name (lead_place site.of part) ≡ false → step (site.tree part) (Name x) ≡ None
+  names_none (led l) x e = absurd (elim (site.forms l) [
     | inl direction ↦ false≢true (sym e ∙ ap takes_name direction)
     | inr wire ↦ false≢true (sym e ∙ ap takes_name wire)
   ])
-  no_name (ranged l range) x e = absurd (false≢true (sym e))
-  no_name part x e = site.leaves part (Name x) refl
+  names_none (ranged l range) x e = absurd (false≢true (sym e))
+  names_none part x e = site.leaves part (Name x) refl
 
   -- what it is declared with
   pub record Begins (part : LeadPart L) (x : List ℕ) : Type 0 where

@@ -5,7 +5,6 @@ pub mod Facts
 pub mod Kept
 pub mod Bits
 pub mod Among
-pub mod Nets
 pub mod DraftSteps
 pub mod Ports
 pub mod SaidDeclared
@@ -16,5 +15,4 @@ pub mod WholeRules
 pub mod LeadSteps
 pub mod DraftBody
 pub mod GraphicNames
-mod PartsRead
 pub mod Places

@@ -1,5 +1,5 @@
 -- The rules by the partial tree in front of a token.
-use Rattle.ncl_reader.proofs.Terms.{[], ◌≡◌, ◌≢◌, ℕ, ◌+◌, ◌*◌, ◌<◌, length, List, ◌∷◌, ◌++◌, Some, map, sum, inl, inr, ◌⊎◌, refl, sym, ap, ◌∙◌, subst, Contains, append_assoc, false, flat_map, digits_value, same_Some, CellKind, cell_name_of, pins_of, EndModule, word_of, RParen, LBracket, Colon, Lexeme, Word, Name, Number, Mark, Row, Direction, direction_phrase, Lead, Gives, Wires, lead_phrase, Range, Spec, Group, group_phrase, group_names, with_commas, Item, Ansi, Head, header_of, body_phrase, in_ansi, at_declared, span_of, width, Covers, IsTooLarge, MOST_VECTOR_BITS, MOST_PORT_BITS, IsVector, directed_by, group_bits, item_bits, IsTooLong, IsOutside, Redeclares, Clashes, Crowds, BreaksRule, MayJoin, pins_in, LeadPart, led, coloned, GroupPart, leading, Partial, start, listing, heading, at_item, inside, declaring, dotted, netted, indexing, joined, header_spelled, spelled, Wire, Comma, Bool, true, Option, None, false≢true, cell_name_of-distinct, Conn, IsDeclaring, IsAtNet, MayStand, opened}
+pub use Rattle.ncl_reader.proofs.Terms.{[], ◌≡◌, ◌≢◌, ℕ, ◌+◌, ◌*◌, ◌<◌, length, List, ◌∷◌, ◌++◌, Some, map, sum, inl, inr, ◌⊎◌, refl, sym, ap, ◌∙◌, subst, Contains, append_assoc, false, flat_map, digits_value, same_Some, CellKind, cell_name_of, pins_of, EndModule, word_of, RParen, LBracket, Colon, Lexeme, Word, Name, Number, Mark, Row, Direction, direction_phrase, Lead, Gives, Wires, lead_phrase, Range, Spec, Group, group_phrase, group_names, with_commas, Item, Ansi, Head, header_of, body_phrase, in_ansi, at_declared, span_of, width, Covers, IsTooLarge, MOST_VECTOR_BITS, MOST_PORT_BITS, IsVector, directed_by, group_bits, item_bits, IsTooLong, IsOutside, Redeclares, Clashes, Crowds, BreaksRule, MayJoin, pins_in, LeadPart, led, coloned, GroupPart, leading, Partial, start, listing, heading, at_item, inside, declaring, dotted, netted, indexing, joined, header_spelled, spelled, Wire, Comma, Bool, true, Option, None, false≢true, cell_name_of-distinct, Conn, IsDeclaring, IsAtNet, MayStand, opened, said_in_header, said_of}
 use Rattle.ncl_reader.proofs.Steps.{run, run-append, run-spelled, same_tree, front_run}
 use Rattle.ncl_reader.proofs.Facts.{part_spec, part_names, part_at, at_part, told, untold, Of, some_of, heading_form, declaring_form, range_here, declaring-here}
 

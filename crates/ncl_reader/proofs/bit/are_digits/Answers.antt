@@ -1,5 +1,4 @@
-use Rattle.ncl_reader.proofs.Terms.{arith, digits_more}
-use Rattle.ncl_reader.proofs.Bits.{digit_at}
+use Rattle.ncl_reader.proofs.Bits.{arith, digits_more, digit_at}
 use Rattle.ncl_reader.proofs.bit.are_digits.Goals as goal
 
 pub returns-then-not-is_ascii_digit : goal.returns-then-not-is_ascii_digit

@@ -1,5 +1,4 @@
-use Rattle.ncl_reader.proofs.Terms.{◌≡◌, ◌≢◌, ℕ, ◌<◌, ◌≤◌, ◌⊎◌, inl, inr, List, length, Option, Some, None, sym, ◌∙◌, subst, arith, MatchOption, decimal, slice_index, AllDigits, digits_value, false≢true, cases_lt, IsTooLarge}
-use Rattle.ncl_reader.proofs.Bits.{decimal-digits, no_leading, not_large, is_decimal}
+use Rattle.ncl_reader.proofs.Bits.{◌≡◌, ◌≢◌, ℕ, ◌<◌, ◌≤◌, ◌⊎◌, inl, inr, List, length, Option, Some, None, sym, ◌∙◌, subst, arith, MatchOption, decimal, slice_index, AllDigits, digits_value, false≢true, cases_lt, IsTooLarge, decimal-digits, no_leading, not_large, is_decimal}
 use Rattle.ncl_reader.proofs.bit.decimal_of.Goals as goal
 
 pub returns-then-not-are_digits : goal.returns-then-not-are_digits

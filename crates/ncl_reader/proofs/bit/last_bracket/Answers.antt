@@ -1,5 +1,4 @@
-use Rattle.ncl_reader.proofs.Terms.{length, sym, ◌∙◌, arith, drop_all, ap, length-append, ◌∷◌}
-use Rattle.ncl_reader.proofs.Bits.{bracket-front}
+use Rattle.ncl_reader.proofs.Bits.{length, sym, ◌∙◌, arith, drop_all, ap, length-append, ◌∷◌, bracket-front}
 use Rattle.ncl_reader.proofs.bit.last_bracket.Goals as goal
 
 pub loop-place-init : goal.loop-place-init

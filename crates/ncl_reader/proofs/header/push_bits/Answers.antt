@@ -1,5 +1,4 @@
-use Rattle.ncl_reader.proofs.Terms.{◌<◌, length, ◌∷◌, [], ◌++◌, map, take, get_or, sym, ap, ◌∙◌, arith, append_assoc, take_more, map_push, take_all, bit_port, numbers_of}
-use Rattle.ncl_reader.proofs.Bits.{length-numbers_of}
+use Rattle.ncl_reader.proofs.Bits.{◌<◌, length, ◌∷◌, [], ◌++◌, map, take, get_or, sym, ap, ◌∙◌, arith, append_assoc, take_more, map_push, take_all, bit_port, numbers_of, length-numbers_of}
 use Rattle.ncl_reader.proofs.header.push_bits.Goals as goal
 
 pub loop-place-preserved : goal.loop-place-preserved

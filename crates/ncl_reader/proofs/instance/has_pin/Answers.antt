@@ -1,5 +1,4 @@
-use Rattle.ncl_reader.proofs.Terms.{Contains, subst, inl, inr, refl, sym, ◌∙◌, map, arith, false≢true, bytes_eq-Decides}
-use Rattle.ncl_reader.proofs.Among.{among-all, among-cases, among-item}
+use Rattle.ncl_reader.proofs.Among.{Contains, subst, inl, inr, refl, sym, ◌∙◌, map, arith, false≢true, bytes_eq-Decides, among-all, among-cases, among-item}
 use Rattle.ncl_reader.proofs.instance.has_pin.Goals as goal
 
 pub loop-own-init : goal.loop-own-init

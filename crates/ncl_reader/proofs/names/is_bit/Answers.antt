@@ -1,5 +1,4 @@
-use Rattle.ncl_reader.proofs.Terms.{false≢true}
-use Rattle.ncl_reader.proofs.Bits.{no_bit, some_bit, bit_covers, no_vector_bit}
+use Rattle.ncl_reader.proofs.Bits.{false≢true, no_bit, some_bit, bit_covers, no_vector_bit}
 use Rattle.ncl_reader.proofs.names.is_bit.Goals as goal
 
 pub returns-in_default : goal.returns-in_default

@@ -1,5 +1,4 @@
-use Rattle.ncl_reader.proofs.Terms.{refl, sym, subst, arith, Covers}
-use Rattle.ncl_reader.proofs.Bits.{outside_large}
+use Rattle.ncl_reader.proofs.Bits.{refl, sym, subst, arith, Covers, outside_large}
 use Rattle.ncl_reader.proofs.number.lies_outside.Goals as goal
 
 pub returns-in-None : goal.returns-in-None

@@ -1,5 +1,4 @@
-use Rattle.ncl_reader.proofs.Terms.{arith, digits_value_more}
-use Rattle.ncl_reader.proofs.Bits.{digit_at, value_few}
+use Rattle.ncl_reader.proofs.Bits.{arith, digits_value_more, digit_at, value_few}
 use Rattle.ncl_reader.proofs.number.value_of.Goals as goal
 
 pub overflow_mul-value : goal.overflow_mul-value

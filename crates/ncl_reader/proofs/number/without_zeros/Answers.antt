@@ -1,5 +1,4 @@
-use Rattle.ncl_reader.proofs.Terms.{◌≡◌, ◌-◌, ◌<◌, length, take, drop, drop-cons, get_or, sym, ap, ◌∙◌, subst, arith, take_rest, length-drop, slice_index, AllDigits, digits_value}
-use Rattle.ncl_reader.proofs.Bits.{digit_at, digits-drop, value-zeros}
+use Rattle.ncl_reader.proofs.Bits.{◌≡◌, ◌-◌, ◌<◌, length, take, drop, drop-cons, get_or, sym, ap, ◌∙◌, subst, arith, take_rest, length-drop, slice_index, AllDigits, digits_value, digit_at, digits-drop, value-zeros}
 use Rattle.ncl_reader.proofs.number.without_zeros.Goals as goal
 use Rattle.ncl_reader.proofs.number.without_zeros.Goals.{then-loop-zeros-test+else-digits-zeros-eq48, else-loop-zeros-test}
 

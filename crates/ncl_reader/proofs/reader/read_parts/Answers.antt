@@ -1,6 +1,5 @@
-use Rattle.ncl_reader.proofs.Terms.{arith, Ok, Err, sym, ap, ◌∙◌, subst, some_list, meant, IsFaultAt, Breaks, spelled, HoldsAt, Takes, TakesOrBreaks}
+use Rattle.ncl_reader.proofs.Loop.{arith, Ok, Err, sym, ap, ◌∙◌, subst, some_list, meant, IsFaultAt, Breaks, spelled, HoldsAt, Takes, TakesOrBreaks, holds-place, LoopAt, loop-first, loop-more, loop-broken, loop-bad, loop-short, few_before, read-token, placed-token, next-space, next-bad, refused-fault, whole-at}
 use Rattle.ncl_reader.specs.declared.place.Place.TheVariants as place
-use Rattle.ncl_reader.proofs.Loop.{holds-place, LoopAt, loop-first, loop-more, loop-broken, loop-bad, loop-short, few_before, read-token, placed-token, next-space, next-bad, refused-fault, whole-at}
 use Rattle.ncl_reader.proofs.reader.read_parts.Goals as goal
 
 pub loop-token-init : goal.loop-token-init

@@ -1,5 +1,4 @@
-use Rattle.ncl_reader.proofs.Terms.{refl, spelled}
-use Rattle.ncl_reader.proofs.Places as places
+use Rattle.ncl_reader.proofs.Places.{refl, spelled, plain_sign}
 use Rattle.ncl_reader.proofs.refusal.of_mark.Goals as goal
 
 pub returns-in-RParen : goal.returns-in-RParen
@@ -18,4 +17,4 @@ pub returns-in-Colon : goal.returns-in-Colon
 returns-in-Colon c = λ p at. rw c.in-Colon.is (refl, λ none. none, λ none. none, λ none. none, tt)
 
 pub returns-in_default : goal.returns-in_default
-returns-in_default c = λ p at. places.plain_sign (spelled p) c.args.sign c.args.at c.in_default.not-RParen c.in_default.not-Other c.in_default.not-LBracket c.in_default.not-RBracket c.in_default.not-Colon
+returns-in_default c = λ p at. plain_sign (spelled p) c.args.sign c.args.at c.in_default.not-RParen c.in_default.not-Other c.in_default.not-LBracket c.in_default.not-RBracket c.in_default.not-Colon

@@ -1,13 +1,10 @@
-use Rattle.ncl_reader.proofs.Terms.{refl, sym, ◌∙◌, subst, false≢true, Name, all_of, lead_phrase, at_declared, BreaksRule, KeepsNames, meant, going, inside, declaring}
+use Rattle.ncl_reader.proofs.DraftSteps.{refl, sym, ◌∙◌, subst, false≢true, Name, all_of, lead_phrase, at_declared, BreaksRule, KeepsNames, meant, going, inside, declaring, at_part, declared_form, declared_taken, name_left, others-declaring, untaken}
 use Rattle.ncl_reader.specs.declared.place.Place.TheVariants as place
-use Rattle.ncl_reader.proofs.Facts.{at_part}
-use Rattle.ncl_reader.proofs.DraftSteps.{declared_form, declared_taken, name_left}
-use Rattle.ncl_reader.proofs.DraftSteps as steps
 use Rattle.ncl_reader.proofs.draft.Draft.at_declared.Goals as goal
 
 pub returns-in_default : goal.returns-in_default
 returns-in_default c = λ p (kept, (head, items, spec, row, is, said, early, body)).
-    steps.untaken place.Declared p (inside head items (declaring (going spec row))) (meant c.args.lexeme.now) c.args.self.now is (steps.others-declaring head items spec row (meant c.args.lexeme.now) c.in_default.ensures) (kept, (head, items, spec, row, is, said, early, body))
+    untaken place.Declared p (inside head items (declaring (going spec row))) (meant c.args.lexeme.now) c.args.self.now is (others-declaring head items spec row (meant c.args.lexeme.now) c.in_default.ensures) (kept, (head, items, spec, row, is, said, early, body))
 
 pub returns-then-breaks_declared : goal.returns-then-breaks_declared
 returns-then-breaks_declared c = λ p (kept, (head, items, spec, row, is, said, early, body)).

@@ -1,11 +1,5 @@
-use Rattle.ncl_reader.proofs.Terms.{◌≡◌, [], refl, sym, ap, ◌∙◌, subst, false, None, option_map, false≢true, Name, direction_phrase, in_ansi, BreaksRule, KeepsNames, LeadTakes, direction_output, takes_name, meant, leading, heading, lead_place, direction_place}
+use Rattle.ncl_reader.proofs.DraftSteps.{◌≡◌, [], refl, sym, ap, ◌∙◌, subst, false, None, option_map, false≢true, Name, direction_phrase, in_ansi, BreaksRule, KeepsNames, LeadTakes, direction_output, takes_name, meant, leading, heading, lead_place, direction_place, or_else, step, at_part, in_header, names_none, begins, grouped-begins, lead_taken, lead_left, headed_form, headed_taken, name_left, untaken}
 use Rattle.ncl_reader.specs.declared.place.Place.TheVariants as place
-use Rattle.ncl_reader.proofs.Steps.{or_else, step}
-use Rattle.ncl_reader.proofs.Facts.{at_part}
-use Rattle.ncl_reader.proofs.LeadSteps.{in_header, no_name, begins}
-use Rattle.ncl_reader.proofs.DraftBody.{grouped-begins}
-use Rattle.ncl_reader.proofs.DraftSteps.{lead_taken, lead_left, headed_form, headed_taken, name_left}
-use Rattle.ncl_reader.proofs.DraftSteps as steps
 use Rattle.ncl_reader.proofs.draft.Draft.at_header_lead.Goals as goal
 
 pub returns-in_default-step : goal.returns-in_default-step
@@ -29,7 +23,7 @@ returns-then-not-takes_name c = λ p (kept, (groups, part, is, at, led, read)).
     let d = c.args.self.now in
     let title = d.title.now in
     let none : takes_name (lead_place direction_place part) ≡ false = ap takes_name at ∙ sym c.takes_name.ensures ∙ c.if-not-takes_name.true in
-    steps.untaken (place.HeaderLead c.args.at) p (heading title groups (leading part)) (meant c.args.lexeme.now) d is (ap (step (heading title groups (leading part))) c.in-Some.ensures ∙ no_name (in_header title groups) d.lead part c.in-Some.name.now none) (kept, (groups, part, is, at, led, read))
+    untaken (place.HeaderLead c.args.at) p (heading title groups (leading part)) (meant c.args.lexeme.now) d is (ap (step (heading title groups (leading part))) c.in-Some.ensures ∙ names_none (in_header title groups) d.lead part c.in-Some.name.now none) (kept, (groups, part, is, at, led, read))
 
 pub returns-then-breaks_header : goal.returns-then-breaks_header
 returns-then-breaks_header c = λ p (kept, (groups, part, is, at, led, read)).

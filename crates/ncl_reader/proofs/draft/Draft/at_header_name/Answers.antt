@@ -1,10 +1,6 @@
-use Rattle.ncl_reader.proofs.Terms.{◌∷◌, [], ◌++◌, refl, sym, ◌∙◌, subst, false≢true, word_of, Name, Word, in_ansi, BreaksRule, KeepsNames, all_of, Plain, direction_phrase, meant, going, leading, led, heading}
+use Rattle.ncl_reader.proofs.DraftSteps.{◌∷◌, [], ◌++◌, refl, sym, ◌∙◌, subst, false≢true, word_of, Name, Word, in_ansi, BreaksRule, KeepsNames, all_of, Plain, direction_phrase, meant, going, leading, led, heading, at_part, grouped-ends, headed_form, headed_taken, name_left, others-going, taken_mark, untaken}
 use Rattle.ncl_reader.specs.declared.place.Place.TheVariants as place
 use Rattle.ncl_reader.specs.declared.place.LeadPlace.TheVariants as lead
-use Rattle.ncl_reader.proofs.Facts.{at_part}
-use Rattle.ncl_reader.proofs.DraftBody.{grouped-ends}
-use Rattle.ncl_reader.proofs.DraftSteps.{headed_form, headed_taken, name_left}
-use Rattle.ncl_reader.proofs.DraftSteps as steps
 use Rattle.ncl_reader.proofs.draft.Draft.at_header_name.Goals as goal
 
 pub returns-in-Some : goal.returns-in-Some
@@ -13,14 +9,14 @@ returns-in-Some c = λ p (kept, (groups, spec, row, is, said, read)).
     let way = c.in-Some.way in
     let more = groups ++ record { spec = spec; names = row } ∷ [] in
     let ends = grouped-ends c.args.self.now groups spec row read in
-    steps.taken_mark p (heading title groups (going spec row)) (heading title more (leading (led (Plain way)))) (meant c.args.lexeme.now) (Word (word_of way)) (place.HeaderLead lead.Direction) (record c.args.self.now { lead = c.begun-self.result }) is c.in-Some.ensures refl (λ x e. absurd cc) kept
+    taken_mark p (heading title groups (going spec row)) (heading title more (leading (led (Plain way)))) (meant c.args.lexeme.now) (Word (word_of way)) (place.HeaderLead lead.Direction) (record c.args.self.now { lead = c.begun-self.result }) is c.in-Some.ensures refl (λ x e. absurd cc) kept
     (more, led (Plain way), refl, refl, (c.begun-self.ensures.output, c.begun-self.ensures.span), record { ansi = ends.ansi; header = ends.header; cells = ends.cells })
     (λ none. none)
 
 pub returns-in_default-name : goal.returns-in_default-name
 returns-in_default-name c = λ p (kept, (groups, spec, row, is, said, read)).
     let title = c.args.self.now.title.now in
-    steps.untaken place.HeaderName p (heading title groups (going spec row)) (meant c.args.lexeme.now) c.args.self.now is (steps.others-going title groups spec row (meant c.args.lexeme.now) c.in_default.ensures c.in_default-name.ensures) (kept, (groups, spec, row, is, said, read))
+    untaken place.HeaderName p (heading title groups (going spec row)) (meant c.args.lexeme.now) c.args.self.now is (others-going title groups spec row (meant c.args.lexeme.now) c.in_default.ensures c.in_default-name.ensures) (kept, (groups, spec, row, is, said, read))
 
 pub returns-then-breaks_header : goal.returns-then-breaks_header
 returns-then-breaks_header c = λ p (kept, (groups, spec, row, is, said, read)).

@@ -1,11 +1,5 @@
-use Rattle.ncl_reader.proofs.Terms.{◌≡◌, [], refl, sym, ap, ◌∙◌, subst, false, None, option_map, false≢true, Name, lead_phrase, at_declared, BreaksRule, KeepsNames, LeadTakes, lead_output, takes_name, meant, leading, inside, declaring, lead_place, word_place}
+use Rattle.ncl_reader.proofs.DraftSteps.{◌≡◌, [], refl, sym, ap, ◌∙◌, subst, false, None, option_map, false≢true, Name, lead_phrase, at_declared, BreaksRule, KeepsNames, LeadTakes, lead_output, takes_name, meant, leading, inside, declaring, lead_place, word_place, or_else, step, at_part, in_item, names_none, begins, body-begins, lead_taken, lead_left, declared_form, declared_taken, name_left, untaken}
 use Rattle.ncl_reader.specs.declared.place.Place.TheVariants as place
-use Rattle.ncl_reader.proofs.Steps.{or_else, step}
-use Rattle.ncl_reader.proofs.Facts.{at_part}
-use Rattle.ncl_reader.proofs.LeadSteps.{in_item, no_name, begins}
-use Rattle.ncl_reader.proofs.DraftBody.{body-begins}
-use Rattle.ncl_reader.proofs.DraftSteps.{lead_taken, lead_left, declared_form, declared_taken, name_left}
-use Rattle.ncl_reader.proofs.DraftSteps as steps
 use Rattle.ncl_reader.proofs.draft.Draft.at_lead.Goals as goal
 
 pub returns-in_default-step : goal.returns-in_default-step
@@ -28,7 +22,7 @@ pub returns-then-not-takes_name : goal.returns-then-not-takes_name
 returns-then-not-takes_name c = λ p (kept, (head, items, part, is, at, led, early, body)).
     let d = c.args.self.now in
     let none : takes_name (lead_place word_place part) ≡ false = ap takes_name at ∙ sym c.takes_name.ensures ∙ c.if-not-takes_name.true in
-    steps.untaken (place.Lead c.args.at) p (inside head items (declaring (leading part))) (meant c.args.lexeme.now) d is (ap (step (inside head items (declaring (leading part)))) c.in-Some.ensures ∙ no_name (in_item head items) d.lead part c.in-Some.name.now none) (kept, (head, items, part, is, at, led, early, body))
+    untaken (place.Lead c.args.at) p (inside head items (declaring (leading part))) (meant c.args.lexeme.now) d is (ap (step (inside head items (declaring (leading part)))) c.in-Some.ensures ∙ names_none (in_item head items) d.lead part c.in-Some.name.now none) (kept, (head, items, part, is, at, led, early, body))
 
 pub returns-then-breaks_declared : goal.returns-then-breaks_declared
 returns-then-breaks_declared c = λ p (kept, (head, items, part, is, at, led, early, body)).

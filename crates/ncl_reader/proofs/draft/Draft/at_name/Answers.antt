@@ -1,5 +1,4 @@
-use Rattle.ncl_reader.proofs.Terms.{sym, subst, IfOk, meant, TakesOrBreaks}
-use Rattle.ncl_reader.proofs.DraftSteps.{no_name}
+use Rattle.ncl_reader.proofs.DraftSteps.{sym, subst, IfOk, meant, TakesOrBreaks, no_name}
 use Rattle.ncl_reader.proofs.draft.Draft.at_name.Goals as goal
 
 pub returns-in_default : goal.returns-in_default

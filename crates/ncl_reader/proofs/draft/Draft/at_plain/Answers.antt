@@ -1,20 +1,17 @@
-use Rattle.ncl_reader.proofs.Terms.{refl, sym, ◌∙◌, subst, false≢true, Name, Clashes, spelled, MayStand}
-use Rattle.ncl_reader.proofs.RulesAt.{not_declaring, breaks-here}
-use Rattle.ncl_reader.proofs.DraftSteps.{plain_free}
-use Rattle.ncl_reader.proofs.DraftSteps as steps
+use Rattle.ncl_reader.proofs.DraftSteps.{refl, sym, ◌∙◌, subst, false≢true, Name, Clashes, spelled, MayStand, not_declaring, breaks-here, plain_free, against, clashing}
 use Rattle.ncl_reader.proofs.draft.Draft.at_plain.Goals as goal
 
 pub returns-then-clashes : goal.returns-then-clashes
 returns-then-clashes c = λ p (kept, by).
     let x = c.args.name.now in
     let undeclared = not_declaring p (plain_free c.args.place c.args.self.now p c.requires by).0 in
-    steps.clashing c.args.place p (Name x) x c.args.self.now refl ((c.clashes.ensures (spelled p) kept undeclared).0 c.if-clashes.true) (kept, by)
+    clashing c.args.place p (Name x) x c.args.self.now refl ((c.clashes.ensures (spelled p) kept undeclared).0 c.if-clashes.true) (kept, by)
 
 pub returns-then-not-may_stand : goal.returns-then-not-may_stand
 returns-then-not-may_stand c = λ p (kept, by).
     let x = c.args.name.now in
     let breaks = subst (λ may. MayStand may (spelled p) x) c.if-not-may_stand.true (c.may_stand.ensures p by) in
-    steps.against c.args.place p p (Name x) c.args.self.now refl (Name x) refl (breaks-here p (Name x) breaks) (kept, by)
+    against c.args.place p p (Name x) c.args.self.now refl (Name x) refl (breaks-here p (Name x) breaks) (kept, by)
 
 pub returns : goal.returns
 returns c = λ p (kept, by).

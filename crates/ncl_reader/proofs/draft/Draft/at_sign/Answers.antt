@@ -1,6 +1,5 @@
-use Rattle.ncl_reader.proofs.Terms.{◌≡◌, ◌≢◌, None, refl, sym, ap, ◌∙◌, subst, Place, Sign, Read, meant, TakesOrBreaks}
+use Rattle.ncl_reader.proofs.DraftSteps.{◌≡◌, ◌≢◌, None, refl, sym, ap, ◌∙◌, subst, Place, Sign, Read, meant, TakesOrBreaks, after_token, sign_step}
 use Rattle.ncl_reader.specs.declared.lexeme.Lexeme.TheVariants as read
-use Rattle.ncl_reader.proofs.DraftSteps.{after_token, sign_step}
 use Rattle.ncl_reader.proofs.draft.Draft.at_sign.Goals as goal
 
 no_sign : (at : Place) (t : Read) → ((sign : Sign) → t ≢ read.Mark sign) → after_token at (meant t) ≡ None

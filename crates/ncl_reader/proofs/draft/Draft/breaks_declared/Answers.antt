@@ -1,6 +1,4 @@
-use Rattle.ncl_reader.proofs.Terms.{◌≡◌, ◌++◌, Contains, inl, inr, ◌⊎◌, true, false, not, refl, sym, ap, ◌∙◌, subst, false≢true, Gives, Direction, header_of, at_declared, IsDeclaring, directed_by, Redeclares, Clashes, said_by, LacksWay, said_with}
-use Rattle.ncl_reader.proofs.RulesAt.{clash_rule, some_given, declared_rule, crowds_declared}
-use Rattle.ncl_reader.proofs.DraftBody.{names-body, gives_of, wire_of}
+use Rattle.ncl_reader.proofs.DraftBody.{◌≡◌, ◌++◌, Contains, inl, inr, ◌⊎◌, true, false, not, refl, sym, ap, ◌∙◌, subst, false≢true, Gives, Direction, header_of, at_declared, IsDeclaring, directed_by, Redeclares, Clashes, said_by, LacksWay, said_with, clash_rule, some_given, declared_rule, crowds_declared, names-body, gives_of, wire_of}
 use Rattle.ncl_reader.proofs.draft.Draft.breaks_declared.Goals as goal
 
 pub returns-then-redeclares : goal.returns-then-redeclares

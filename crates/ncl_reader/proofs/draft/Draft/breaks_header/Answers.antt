@@ -1,5 +1,4 @@
-use Rattle.ncl_reader.proofs.Terms.{◌++◌, Contains, inl, inr, refl, sym, ◌∙◌, flat_map, false≢true, group_names, in_ansi, IsDeclaring, Redeclares, Clashes, said_in_header, said_of}
-use Rattle.ncl_reader.proofs.RulesAt.{clash_rule, headed_rule}
+use Rattle.ncl_reader.proofs.RulesAt.{◌++◌, Contains, inl, inr, refl, sym, ◌∙◌, flat_map, false≢true, group_names, in_ansi, IsDeclaring, Redeclares, Clashes, said_in_header, said_of, clash_rule, headed_rule}
 use Rattle.ncl_reader.proofs.draft.Draft.breaks_header.Goals as goal
 
 pub returns-then-has : goal.returns-then-has

@@ -1,7 +1,4 @@
-use Rattle.ncl_reader.proofs.Terms.{◌<◌, ◌++◌, Contains, sym, ap, ◌∙◌, subst, flat_map, option_map, false≢true, none-some, same_Some, group_names, span_of, MOST_PORT_BITS, said_in_header, said_of}
-use Rattle.ncl_reader.proofs.DraftBody.{bits-grouped_more}
-use Rattle.ncl_reader.proofs.Places as places
-use Rattle.ncl_reader.proofs.RulesAt.{crowds-head, crowds_headed}
+use Rattle.ncl_reader.proofs.Places.{◌<◌, ◌++◌, Contains, sym, ap, ◌∙◌, subst, flat_map, option_map, false≢true, none-some, same_Some, group_names, span_of, MOST_PORT_BITS, said_in_header, said_of, bits-grouped_more, range_of, crowds-head, crowds_headed}
 use Rattle.ncl_reader.proofs.draft.Draft.crowds_header.Goals as goal
 
 pub returns-in_default : goal.returns-in_default
@@ -27,7 +24,7 @@ returns c = λ groups spec names said read.
     let told = flat_map said_in_header groups ++ said_of spec.lead spec.range names in
     let span = c.in-Some.span in
     let new : Contains listed x → ⊥ = λ found. false≢true (sym c.if-has.false ∙ (c.has.ensures listed told read.header).1 found) in
-    let (range, is, numbers) = places.range_of spec.range span (said.1.same ∙ c.in-Some.is) in (
+    let (range, is, numbers) = range_of spec.range span (said.1.same ∙ c.in-Some.is) in (
       λ e. crowds-head c.args.self.now.title.now groups spec names x range is new (subst (λ n. MOST_PORT_BITS < n) (bits-grouped_more groups spec names range span is numbers) ((c.crowds.ensures listed told read.header).0 e)),
       λ crowds.
           let (other, also, (fresh, many)) = crowds_headed c.args.self.now.title.now groups spec names x crowds in

@@ -1,7 +1,4 @@
-use Rattle.ncl_reader.proofs.Terms.{not, ◌<◌, ◌++◌, true, false, Contains, inl, inr, sym, ap, ◌∙◌, subst, option_map, false≢true, none-some, same_Some, header_of, span_of, MOST_PORT_BITS, directed_by, lead_output, LacksWay, said_by, is_output, said_with}
-use Rattle.ncl_reader.proofs.DraftBody.{bits-body, names-body, no_groups, gives_of, wire_of}
-use Rattle.ncl_reader.proofs.Places as places
-use Rattle.ncl_reader.proofs.RulesAt.{crowds-item, crowds_declared}
+use Rattle.ncl_reader.proofs.Places.{not, ◌<◌, ◌++◌, true, false, Contains, inl, inr, sym, ap, ◌∙◌, subst, option_map, false≢true, none-some, same_Some, header_of, span_of, MOST_PORT_BITS, directed_by, lead_output, LacksWay, said_by, is_output, said_with, bits-body, names-body, no_groups, gives_of, wire_of, range_of, crowds-item, crowds_declared}
 use Rattle.ncl_reader.proofs.draft.Draft.crowds_items.Goals as goal
 
 pub returns-in_default : goal.returns-in_default
@@ -43,7 +40,7 @@ returns c = λ head items spec names said early body.
     let lacks : LacksWay true (header_of head) told x = subst (λ b. LacksWay b (header_of head) told x) c.if-not-lacks_way.false (c.lacks_way.ensures (header_of head) told body.1.header) in
     let new : Contains (directed_by head items ++ names) x → ⊥ = λ r. lacks.1 (subst (λ l. Contains l x) (sym (names-body head items spec names direction gives)) r) in
     let none = no_groups head.ports (sym body.1.ansi ∙ early (is_output direction) (said.0 ∙ ap lead_output gives)) in
-    let (range, is, numbers) = places.range_of spec.range span (said.1.same ∙ c.in-Some.is) in (
+    let (range, is, numbers) = range_of spec.range span (said.1.same ∙ c.in-Some.is) in (
       λ e. crowds-item head items spec names x direction range gives is lacks.0 new (subst (λ n. MOST_PORT_BITS < n) (bits-body head items spec names direction gives none range span is numbers) ((c.crowds.ensures (header_of head) told body.1.header).0 e)),
       λ crowds.
           let (o, g, (other, also, (stands, (fresh, many)))) = crowds_declared head items spec names x crowds in

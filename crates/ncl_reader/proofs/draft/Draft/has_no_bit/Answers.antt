@@ -1,8 +1,4 @@
-use Rattle.ncl_reader.proofs.Terms.{sym, ap, ◌∙◌, subst, digits_value, false≢true, cell_name_of, IsVector, Covers, HoldsAt, spelled}
-use Rattle.ncl_reader.proofs.Loop.{holds-place}
-use Rattle.ncl_reader.proofs.DraftSteps.{same_numbers}
-use Rattle.ncl_reader.proofs.RulesAt.{OutsideAt, outside-here}
-use Rattle.ncl_reader.proofs.Places as places
+use Rattle.ncl_reader.proofs.Places.{sym, ap, ◌∙◌, subst, digits_value, false≢true, cell_name_of, IsVector, Covers, HoldsAt, spelled, holds-place, same_numbers, OutsideAt, outside-here, place_at}
 use Rattle.ncl_reader.specs.declared.place.Place.TheVariants as place
 use Rattle.ncl_reader.proofs.draft.Draft.has_no_bit.Goals as goal
 
@@ -30,5 +26,5 @@ returns-in-Some c = λ p holds.
 pub returns-in_default : goal.returns-in_default
 returns-in_default c = λ p holds. (
   λ e. absurd (false≢true e),
-  λ (net, range, at, vector, outside). absurd (c.in_default.not-Index (sym (holds-place c.args.place c.args.self.now p holds) ∙ places.place_at p place.Index (net, at))),
+  λ (net, range, at, vector, outside). absurd (c.in_default.not-Index (sym (holds-place c.args.place c.args.self.now p holds) ∙ place_at p place.Index (net, at))),
 )

@@ -1,6 +1,4 @@
-use Rattle.ncl_reader.proofs.Terms.{◌≡◌, arith, map, length, ◌∙◌, sym, ap, subst, flat_map, Port, AllDiffer, KeepsNames, header_of, AreCellsOf, joined_in, said_by, ended, spelled}
-use Rattle.ncl_reader.proofs.SaidDeclared.{said_declared, header_stands, header_few}
-use Rattle.ncl_reader.proofs.Ports.{ports_differ, ports_few}
+use Rattle.ncl_reader.proofs.Ports.{◌≡◌, arith, map, length, ◌∙◌, sym, ap, subst, flat_map, Port, AllDiffer, KeepsNames, header_of, AreCellsOf, joined_in, said_by, ended, spelled, said_declared, header_stands, header_few, ports_differ, ports_few}
 use Rattle.ncl_reader.proofs.draft.Draft.into_parts.Goals as goal
 
 pub returns-clause-says : goal.returns-clause-says

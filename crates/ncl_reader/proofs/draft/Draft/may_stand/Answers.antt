@@ -1,5 +1,4 @@
-use Rattle.ncl_reader.proofs.Terms.{[], subst, HoldsBy}
-use Rattle.ncl_reader.proofs.DraftSteps.{free_may, port_may, pin_may}
+use Rattle.ncl_reader.proofs.DraftSteps.{[], subst, HoldsBy, free_may, port_may, pin_may}
 use Rattle.ncl_reader.proofs.draft.Draft.may_stand.Goals as goal
 
 pub returns-in-Port : goal.returns-in-Port

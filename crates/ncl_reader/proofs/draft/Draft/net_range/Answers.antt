@@ -1,5 +1,4 @@
-use Rattle.ncl_reader.proofs.Terms.{◌≡◌, ◌≢◌, ℕ, List, Option, Some, None, MatchOption, option_map, same_Some, Span, Known, Lexeme, Range, span_of, IsDeclared, range_at, KeepsNames}
-use Rattle.ncl_reader.proofs.DraftSteps.{IsFound}
+use Rattle.ncl_reader.proofs.DraftSteps.{◌≡◌, ◌≢◌, ℕ, List, Option, Some, None, MatchOption, option_map, same_Some, Span, Known, Lexeme, Range, span_of, IsDeclared, range_at, KeepsNames, IsFound}
 use Rattle.ncl_reader.proofs.draft.Draft.net_range.Goals as goal
 
 -- what is kept of a name tells whether it is a vector

@@ -1,32 +1,26 @@
-use Rattle.ncl_reader.proofs.Terms.{◌≡◌, [], Option, true, inl, inr, refl, sym, ap, ◌∙◌, subst, Decides, option_map, Name, all_of, direction_phrase, lead_phrase, Range, in_ansi, at_declared, IsDeclaring, span_of, Crowds, takes_name, IsFaultAt, KeepsNames, HoldsAt, going, leading, spelled}
+use Rattle.ncl_reader.proofs.Places.{◌≡◌, [], Option, true, inl, inr, refl, sym, ap, ◌∙◌, subst, Decides, option_map, Name, all_of, direction_phrase, lead_phrase, Range, in_ansi, at_declared, IsDeclaring, span_of, Crowds, takes_name, IsFaultAt, KeepsNames, HoldsAt, going, leading, spelled, at_part, heading_form, declaring_form, range_here, grouped-begins, body-begins, in_header, in_item, begins, not_declaring, holds-place, declared_as, declared_no_conn, declares_at, elsewhere, form_at, no_range_header, no_range_item, place_at}
 use Rattle.ncl_reader.specs.declared.place.Place.TheVariants as place
-use Rattle.ncl_reader.proofs.Facts.{at_part, heading_form, declaring_form, range_here}
-use Rattle.ncl_reader.proofs.DraftBody.{grouped-begins, body-begins}
-use Rattle.ncl_reader.proofs.LeadSteps.{in_header, in_item, begins}
-use Rattle.ncl_reader.proofs.RulesAt.{not_declaring}
-use Rattle.ncl_reader.proofs.Loop.{holds-place}
-use Rattle.ncl_reader.proofs.Places as places
 use Rattle.ncl_reader.proofs.draft.Draft.of_name.Goals as goal
 
 pub returns-in-Item : goal.returns-in-Item
-returns-in-Item c = λ p holds. (refl, places.form_at p place.Item (holds-place c.args.place c.args.self.now p holds ∙ c.in-Item.is))
+returns-in-Item c = λ p holds. (refl, form_at p place.Item (holds-place c.args.place c.args.self.now p holds ∙ c.in-Item.is))
 
 pub returns-in-Pin : goal.returns-in-Pin
 returns-in-Pin c = λ p holds.
     let at = holds-place c.args.place c.args.self.now p holds ∙ c.in-Pin.is in (
       refl,
-      λ item. let wrong : place.Item ≡ place.Pin = sym (places.place_at p place.Item item) ∙ at in absurd cc,
-      places.form_at p place.Pin at,
+      λ item. let wrong : place.Item ≡ place.Pin = sym (place_at p place.Item item) ∙ at in absurd cc,
+      form_at p place.Pin at,
     )
 
 pub returns-in-Connection : goal.returns-in-Connection
 returns-in-Connection c = λ p holds.
     let at = holds-place c.args.place c.args.self.now p holds ∙ c.in-Connection.is in
-    let conn = places.form_at p place.Connection at in (
+    let conn = form_at p place.Connection at in (
       refl,
-      λ item. let wrong : place.Item ≡ place.Connection = sym (places.place_at p place.Item item) ∙ at in absurd cc,
-      λ pin. let wrong : place.Pin ≡ place.Connection = sym (places.place_at p place.Pin pin) ∙ at in absurd cc,
-      λ (range, declares, why). places.declared_no_conn (spelled p) range declares conn,
+      λ item. let wrong : place.Item ≡ place.Connection = sym (place_at p place.Item item) ∙ at in absurd cc,
+      λ pin. let wrong : place.Pin ≡ place.Connection = sym (place_at p place.Pin pin) ∙ at in absurd cc,
+      λ (range, declares, why). declared_no_conn (spelled p) range declares conn,
       inl conn,
     )
 
@@ -34,14 +28,14 @@ pub returns-in-HeaderLead : goal.returns-in-HeaderLead
 returns-in-HeaderLead c = λ p holds.
     let d = c.args.self.now in
     let lead = c.in-HeaderLead.lead in
-    let (item, pin, conn) = places.elsewhere p (place.HeaderLead lead) (holds-place c.args.place d p holds ∙ c.in-HeaderLead.is) (λ e. absurd cc) (λ e. absurd cc) (λ e. absurd cc) in
+    let (item, pin, conn) = elsewhere p (place.HeaderLead lead) (holds-place c.args.place d p holds ∙ c.in-HeaderLead.is) (λ e. absurd cc) (λ e. absurd cc) (λ e. absurd cc) in
     let (kept, (groups, part, is, at, led, read)) = subst (λ at. HoldsAt at d p) c.in-HeaderLead.is holds in
     let takes : takes_name lead ≡ true → (range : Option Range) × IsDeclaring (spelled p) range × (option_map span_of range ≡ d.lead.span) × Decides c.crowds_header.result (Crowds (spelled p) c.args.name.now) = λ may.
     let start = begins (in_header d.title.now groups) d.lead part c.args.name.now lead (takes_name lead) at refl may led in
     let form : spelled p ≡ in_ansi d.title.now groups start.spec [] = ap spelled is ∙ heading_form d.title.now groups (leading part) start.spec [] (at_part direction_phrase (leading part) start.spec start.says) in
     let decides = c.crowds_header.ensures groups start.spec [] start.keeps (grouped-begins d groups start.spec read) in
-    places.declared_as (spelled p) _ c.args.name.now start.spec.range d.lead.span c.crowds_header.result form (inl (d.title.now, groups, start.spec.lead, [], refl)) start.keeps.1.same decides in
-    c.of_led.ensures (spelled p) kept (takes, λ may_not. not_declaring p (ap range_here is ∙ places.no_range_header part (ap takes_name at ∙ may_not))) item pin conn
+    declared_as (spelled p) _ c.args.name.now start.spec.range d.lead.span c.crowds_header.result form (inl (d.title.now, groups, start.spec.lead, [], refl)) start.keeps.1.same decides in
+    c.of_led.ensures (spelled p) kept (takes, λ may_not. not_declaring p (ap range_here is ∙ no_range_header part (ap takes_name at ∙ may_not))) item pin conn
 
 pub returns-in-HeaderName : goal.returns-in-HeaderName
 returns-in-HeaderName c = λ p holds.
@@ -55,14 +49,14 @@ pub returns-in-Lead : goal.returns-in-Lead
 returns-in-Lead c = λ p holds.
     let d = c.args.self.now in
     let lead = c.in-Lead.lead in
-    let (item, pin, conn) = places.elsewhere p (place.Lead lead) (holds-place c.args.place d p holds ∙ c.in-Lead.is) (λ e. absurd cc) (λ e. absurd cc) (λ e. absurd cc) in
+    let (item, pin, conn) = elsewhere p (place.Lead lead) (holds-place c.args.place d p holds ∙ c.in-Lead.is) (λ e. absurd cc) (λ e. absurd cc) (λ e. absurd cc) in
     let (kept, (head, items, part, is, at, led, early, body)) = subst (λ at. HoldsAt at d p) c.in-Lead.is holds in
     let takes : takes_name lead ≡ true → (range : Option Range) × IsDeclaring (spelled p) range × (option_map span_of range ≡ d.lead.span) × Decides c.crowds_items.result (Crowds (spelled p) c.args.name.now) = λ may.
     let start = begins (in_item head items) d.lead part c.args.name.now lead (takes_name lead) at refl may led in
     let form : spelled p ≡ at_declared head items start.spec [] = ap spelled is ∙ declaring_form head items (leading part) start.spec [] (at_part lead_phrase (leading part) start.spec start.says) in
     let decides = c.crowds_items.ensures head items start.spec [] start.keeps early (body-begins d head items start.spec body) in
-    places.declared_as (spelled p) _ c.args.name.now start.spec.range d.lead.span c.crowds_items.result form (inr (head, items, start.spec.lead, [], refl)) start.keeps.1.same decides in
-    c.of_led-in-Lead.ensures (spelled p) kept (takes, λ may_not. not_declaring p (ap range_here is ∙ places.no_range_item part (ap takes_name at ∙ may_not))) item pin conn
+    declared_as (spelled p) _ c.args.name.now start.spec.range d.lead.span c.crowds_items.result form (inr (head, items, start.spec.lead, [], refl)) start.keeps.1.same decides in
+    c.of_led-in-Lead.ensures (spelled p) kept (takes, λ may_not. not_declaring p (ap range_here is ∙ no_range_item part (ap takes_name at ∙ may_not))) item pin conn
 
 pub returns-in-Declared : goal.returns-in-Declared
 returns-in-Declared c = λ p holds.
@@ -76,8 +70,8 @@ pub returns-in_default : goal.returns-in_default
 returns-in_default c = λ p holds.
     let here = holds-place c.args.place c.args.self.now p holds in
     let at = sym here in
-    let (item, pin, conn) = places.elsewhere p c.args.place here c.in_default.not-Item c.in_default.not-Pin c.in_default.not-Connection in
-    let free : (range : Option Range) → ¬ IsDeclaring (spelled p) range = λ range declares. elim (places.declares_at p range declares) [
+    let (item, pin, conn) = elsewhere p c.args.place here c.in_default.not-Item c.in_default.not-Pin c.in_default.not-Connection in
+    let free : (range : Option Range) → ¬ IsDeclaring (spelled p) range = λ range declares. elim (declares_at p range declares) [
       | inl (lead, is) ↦ c.in_default.not-HeaderLead lead (at ∙ is)
       | inr more ↦ elim more [
         | inl is ↦ c.in_default.not-HeaderName (at ∙ is)

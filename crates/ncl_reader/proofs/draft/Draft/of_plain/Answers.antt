@@ -1,5 +1,4 @@
-use Rattle.ncl_reader.proofs.Terms.{Some, inl, inr, refl, sym, ◌∙◌, false≢true}
-use Rattle.ncl_reader.proofs.RulesAt.{crowds_declares}
+use Rattle.ncl_reader.proofs.RulesAt.{Some, inl, inr, refl, sym, ◌∙◌, false≢true, crowds_declares}
 use Rattle.ncl_reader.proofs.draft.Draft.of_plain.Goals as goal
 
 pub returns-then-clashes : goal.returns-then-clashes

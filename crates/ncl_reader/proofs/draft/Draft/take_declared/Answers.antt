@@ -1,6 +1,4 @@
-use Rattle.ncl_reader.proofs.Terms.{◌≡◌, ◌++◌, ◌∷◌, [], Contains, inl, inr, refl, sym, ap, ◌∙◌, subst, header_of, at_declared, IsDeclaring, Redeclares, Clashes, said_by, IsHeader, names_said, said_with}
-use Rattle.ncl_reader.proofs.RulesAt.{clash_rule}
-use Rattle.ncl_reader.proofs.DraftBody.{names-body, no_groups, few-body, told-more, said_with-wire, wires_of, gives_some, listed-fine, declared_next}
+use Rattle.ncl_reader.proofs.DraftBody.{◌≡◌, ◌++◌, ◌∷◌, [], Contains, inl, inr, refl, sym, ap, ◌∙◌, subst, header_of, at_declared, IsDeclaring, Redeclares, Clashes, said_by, IsHeader, names_said, said_with, clash_rule, names-body, no_groups, few-body, told-more, said_with-wire, wires_of, gives_some, listed-fine, declared_next}
 use Rattle.ncl_reader.proofs.draft.Draft.take_declared.Goals as goal
 
 pub returns-in_default : goal.returns-in_default

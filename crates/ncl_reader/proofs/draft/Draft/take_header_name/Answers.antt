@@ -1,6 +1,4 @@
-use Rattle.ncl_reader.proofs.Terms.{◌≡◌, ◌++◌, ◌∷◌, [], Contains, inl, inr, refl, sym, ap, ◌∙◌, subst, append_assoc, flat_map, none-some, same_Some, Contains-last, group_names, in_ansi, IsDeclaring, Redeclares, Clashes, is_output, said_in_header, said_of, IsHeader, names_said}
-use Rattle.ncl_reader.proofs.RulesAt.{clash_rule}
-use Rattle.ncl_reader.proofs.DraftBody.{names-grouped, few-grouped, said-grouped_more}
+use Rattle.ncl_reader.proofs.DraftBody.{◌≡◌, ◌++◌, ◌∷◌, [], Contains, inl, inr, refl, sym, ap, ◌∙◌, subst, append_assoc, flat_map, none-some, same_Some, Contains-last, group_names, in_ansi, IsDeclaring, Redeclares, Clashes, is_output, said_in_header, said_of, IsHeader, names_said, clash_rule, names-grouped, few-grouped, said-grouped_more}
 use Rattle.ncl_reader.proofs.draft.Draft.take_header_name.Goals as goal
 
 pub returns-in_default : goal.returns-in_default

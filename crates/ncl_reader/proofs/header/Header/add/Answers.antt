@@ -1,5 +1,4 @@
-use Rattle.ncl_reader.proofs.Terms.{◌∷◌, [], ◌++◌, cond, Some, None, ap, ◌∙◌, map, map_push, Contains-append_left, btree_map_updates_str, bytes_eq}
-use Rattle.ncl_reader.proofs.Ports.{differ_more, name_more}
+use Rattle.ncl_reader.proofs.Ports.{◌∷◌, [], ◌++◌, cond, Some, None, ap, ◌∙◌, map, map_push, Contains-append_left, btree_map_updates_str, bytes_eq, differ_more, name_more}
 use Rattle.ncl_reader.proofs.header.Header.add.Goals as goal
 
 pub returns : goal.returns

@@ -1,5 +1,4 @@
-use Rattle.ncl_reader.proofs.Terms.{sym, ap, ◌∙◌, is_some}
-use Rattle.ncl_reader.proofs.Ports.{kept_some, kept_known}
+use Rattle.ncl_reader.proofs.Ports.{sym, ap, ◌∙◌, is_some, kept_some, kept_known}
 use Rattle.ncl_reader.proofs.header.Header.has.Goals as goal
 
 pub returns : goal.returns

@@ -1,6 +1,4 @@
-use Rattle.ncl_reader.proofs.Terms.{sym, ap, ◌∙◌, map, joint_of}
-use Rattle.ncl_reader.proofs.Among.{all-taken}
-use Rattle.ncl_reader.proofs.Nets.{joint_on, kept-net, net-found, net-more}
+use Rattle.ncl_reader.proofs.Among.{sym, ap, ◌∙◌, map, joint_of, all-taken, joint_on, kept-net, net-found, net-more}
 use Rattle.ncl_reader.proofs.instance.Instance.join_on.Goals as goal
 
 pub returns-then-eq : goal.returns-then-eq

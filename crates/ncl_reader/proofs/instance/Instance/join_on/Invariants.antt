@@ -1,5 +1,4 @@
-use Rattle.ncl_reader.proofs.Terms.{◌≡◌, map, take, None, joint_of}
-use Rattle.ncl_reader.proofs.Nets.{joint_on}
+use Rattle.ncl_reader.proofs.Among.{◌≡◌, map, take, None, joint_of, joint_on}
 use Rattle.ncl_reader.proofs.instance.Instance.join_on.Given as goal
 
 -- no connection so far is on the pin

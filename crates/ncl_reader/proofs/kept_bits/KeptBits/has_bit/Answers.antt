@@ -1,5 +1,4 @@
-use Rattle.ncl_reader.proofs.Terms.{◌≡◌, ℕ, List, [], unwrap_or, ap, ◌∙◌, arith, option_map, false≢true, numbers_at}
-use Rattle.ncl_reader.proofs.Kept.{covers_stands, stands_covers}
+use Rattle.ncl_reader.proofs.Kept.{◌≡◌, ℕ, List, [], unwrap_or, ap, ◌∙◌, arith, option_map, false≢true, numbers_at, covers_stands, stands_covers}
 use Rattle.ncl_reader.proofs.kept_bits.KeptBits.has_bit.Goals as goal
 
 pub returns-in-Some : goal.returns-in-Some

@@ -1,5 +1,4 @@
-use Rattle.ncl_reader.proofs.Terms.{rules}
-use Rattle.ncl_reader.proofs.Kept.{standing-none}
+use Rattle.ncl_reader.proofs.Kept.{rules, standing-none}
 use Rattle.ncl_reader.proofs.kept_bits.KeptBits.new.Goals as goal
 
 pub returns : goal.returns

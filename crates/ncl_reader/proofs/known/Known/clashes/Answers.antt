@@ -1,5 +1,4 @@
-use Rattle.ncl_reader.proofs.Terms.{inl}
-use Rattle.ncl_reader.proofs.Kept.{bit_of_clash}
+use Rattle.ncl_reader.proofs.Kept.{inl, bit_of_clash}
 use Rattle.ncl_reader.proofs.known.Known.clashes.Goals as goal
 
 pub returns : goal.returns

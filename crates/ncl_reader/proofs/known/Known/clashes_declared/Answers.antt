@@ -1,5 +1,4 @@
-use Rattle.ncl_reader.proofs.Terms.{refl, sym, ◌∙◌, inl, false≢true}
-use Rattle.ncl_reader.proofs.Kept.{clashes_scalar, clashes_again, clashes_stands, stands_clashes, some_before}
+use Rattle.ncl_reader.proofs.Kept.{refl, sym, ◌∙◌, inl, false≢true, clashes_scalar, clashes_again, clashes_stands, stands_clashes, some_before}
 use Rattle.ncl_reader.proofs.known.Known.clashes_declared.Goals as goal
 
 pub returns-then-is_bit : goal.returns-then-is_bit

@@ -1,5 +1,4 @@
-use Rattle.ncl_reader.proofs.Terms.{◌++◌, ◌∷◌, [], Name}
-use Rattle.ncl_reader.proofs.Kept.{agrees_fine, declared_unused, uses-other, uses-same, clear-name}
+use Rattle.ncl_reader.proofs.Kept.{◌++◌, ◌∷◌, [], Name, agrees_fine, declared_unused, uses-other, uses-same, clear-name}
 use Rattle.ncl_reader.proofs.known.Known.declare.Goals as goal
 
 pub returns-in_ok-sort : goal.returns-in_ok-sort

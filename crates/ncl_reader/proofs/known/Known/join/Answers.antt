@@ -1,5 +1,4 @@
-use Rattle.ncl_reader.proofs.Terms.{Name}
-use Rattle.ncl_reader.proofs.Kept.{declared_unused, ranges-other, uses-more, clear-name}
+use Rattle.ncl_reader.proofs.Kept.{Name, declared_unused, ranges-other, uses-more, clear-name}
 use Rattle.ncl_reader.proofs.known.Known.join.Goals as goal
 
 pub returns : goal.returns

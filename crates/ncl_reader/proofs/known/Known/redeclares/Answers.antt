@@ -1,5 +1,4 @@
-use Rattle.ncl_reader.proofs.Terms.{refl, sym, ap, ◌∙◌, inr, false≢true, none-some, option_map, span_of}
-use Rattle.ncl_reader.proofs.Kept.{none_range, redeclares_other, redeclares_used}
+use Rattle.ncl_reader.proofs.Kept.{refl, sym, ap, ◌∙◌, inr, false≢true, none-some, option_map, span_of, none_range, redeclares_other, redeclares_used}
 use Rattle.ncl_reader.proofs.known.Known.redeclares.Goals as goal
 
 pub returns-then-not-agrees : goal.returns-then-not-agrees

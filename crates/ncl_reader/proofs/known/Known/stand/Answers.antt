@@ -1,5 +1,4 @@
-use Rattle.ncl_reader.proofs.Terms.{Name}
-use Rattle.ncl_reader.proofs.Kept.{ranges-other, uses-other, clear-name}
+use Rattle.ncl_reader.proofs.Kept.{Name, ranges-other, uses-other, clear-name}
 use Rattle.ncl_reader.proofs.known.Known.stand.Goals as goal
 
 pub returns : goal.returns

@@ -1,5 +1,4 @@
-use Rattle.ncl_reader.proofs.Terms.{◌||◌, map, ap, ◌∙◌, is_some, get_by, slice_cmp, nat_cmp, list_any, bytes_eq}
-use Rattle.ncl_reader.proofs.Among.{waits-more, one-waits}
+use Rattle.ncl_reader.proofs.Among.{◌||◌, map, ap, ◌∙◌, is_some, get_by, slice_cmp, nat_cmp, list_any, bytes_eq, waits-more, one-waits}
 use Rattle.ncl_reader.proofs.name_set.NameSet.add.Goals as goal
 
 pub returns : goal.returns

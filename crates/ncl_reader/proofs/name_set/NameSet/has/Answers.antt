@@ -1,5 +1,4 @@
-use Rattle.ncl_reader.proofs.Terms.{◌||◌, map, sym, ap, ◌∙◌, list_any, bytes_eq}
-use Rattle.ncl_reader.proofs.Among.{any-now}
+use Rattle.ncl_reader.proofs.Among.{◌||◌, map, sym, ap, ◌∙◌, list_any, bytes_eq, any-now}
 use Rattle.ncl_reader.proofs.name_set.NameSet.has.Goals as goal
 
 pub returns-else-contains_key : goal.returns-else-contains_key

@@ -1,5 +1,4 @@
-use Rattle.ncl_reader.proofs.Terms.{◌||◌, true, map, sym, ap, ◌∙◌, is_some, get_by, slice_cmp, nat_cmp, list_any, bytes_eq, btree_map_updates_str}
-use Rattle.ncl_reader.proofs.Among.{waits-more, one-sorted}
+use Rattle.ncl_reader.proofs.Among.{◌||◌, true, map, sym, ap, ◌∙◌, is_some, get_by, slice_cmp, nat_cmp, list_any, bytes_eq, btree_map_updates_str, waits-more, one-sorted}
 use Rattle.ncl_reader.proofs.name_set.NameSet.sort.Goals as goal
 
 pub loop-name-preserved : goal.loop-name-preserved

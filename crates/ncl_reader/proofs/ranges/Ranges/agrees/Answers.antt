@@ -1,5 +1,4 @@
-use Rattle.ncl_reader.proofs.Terms.{refl, sym, ◌∙◌}
-use Rattle.ncl_reader.proofs.Kept.{unvectored}
+use Rattle.ncl_reader.proofs.Kept.{refl, sym, ◌∙◌, unvectored}
 use Rattle.ncl_reader.proofs.ranges.Ranges.agrees.Goals as goal
 
 pub returns-in-None-vector : goal.returns-in-None-vector

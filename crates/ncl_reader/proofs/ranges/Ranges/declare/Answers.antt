@@ -1,5 +1,4 @@
-use Rattle.ncl_reader.proofs.Terms.{◌≡◌, Option, Some, None, refl, ap, ◌∙◌, option_map, bytes_eq, btree_map_updates_str, Range, span_of, IsDeclared, has_name, vector_at, kept_as}
-use Rattle.ncl_reader.proofs.Kept.{ranges-more, kept-vector, plain-more}
+use Rattle.ncl_reader.proofs.Kept.{◌≡◌, Option, Some, None, refl, ap, ◌∙◌, option_map, bytes_eq, btree_map_updates_str, Range, span_of, IsDeclared, has_name, vector_at, kept_as, ranges-more, kept-vector, plain-more}
 use Rattle.ncl_reader.proofs.ranges.Ranges.declare.Goals as goal
 
 pub returns-in_default : goal.returns-in_default

@@ -1,5 +1,4 @@
-use Rattle.ncl_reader.proofs.Terms.{◌≡◌, None, ap, ◌∙◌, rules, has_name, vector_at, kept_as}
-use Rattle.ncl_reader.proofs.Kept.{ranges-none}
+use Rattle.ncl_reader.proofs.Kept.{◌≡◌, None, ap, ◌∙◌, rules, has_name, vector_at, kept_as, ranges-none}
 use Rattle.ncl_reader.proofs.ranges.Ranges.new.Goals as goal
 
 pub returns : goal.returns

@@ -1,5 +1,4 @@
-use Rattle.ncl_reader.proofs.Terms.{rules}
-use Rattle.ncl_reader.proofs.Kept.{vector-found}
+use Rattle.ncl_reader.proofs.Kept.{rules, vector-found}
 use Rattle.ncl_reader.proofs.ranges.Ranges.vector.Goals as goal
 
 pub returns : goal.returns

@@ -1,5 +1,4 @@
-use Rattle.ncl_reader.proofs.Terms.{arith}
-use Rattle.ncl_reader.proofs.Bits.{number-rises, number-falls}
+use Rattle.ncl_reader.proofs.Bits.{arith, number-rises, number-falls}
 use Rattle.ncl_reader.proofs.span.Span.number.Goals as goal
 
 pub returns-then-self : goal.returns-then-self

@@ -272,30 +272,33 @@ close_or_not (inside head items (joined cell name conns conn)) = inl (head, item
 close_or_not p = inr (λ (h, is, c, n, cs, e). let same : p ≡ inside h is (joined c n cs.before cs.last) = same_tree p (inside h is (joined c n cs.before cs.last)) e in absurd cc)
 
 -- a name stands behind what is such
-module _ (P : List Lexeme → Type 0) (xs : List Lexeme) (y : List ℕ) where
+module _ (P : List Lexeme → Type 0) (y : List ℕ) where
   abbrev pub Found : List Lexeme → Type 0
   Found zs = (front : List Lexeme) × (rest : List Lexeme) × (zs ≡ front ++ Name y ∷ rest) × P front
 
-  found-more : (t : Lexeme) → Found (xs ++ t ∷ []) → Found xs ⊎ ((t ≡ Name y) × P xs)
-  found-more t (front, rest, e, holds) = elim (split_push xs t front (Name y) rest e) [
+  found-more : (xs : List Lexeme) (t : Lexeme) → Found (xs ++ t ∷ []) → Found xs ⊎ ((t ≡ Name y) × P xs)
+  found-more xs t (front, rest, e, holds) = elim (split_push xs t front (Name y) rest e) [
     | inl (same, last) ↦ inr (sym last, subst P same holds)
     | inr (left, within) ↦ inl (front, left, within, holds)
   ]
 
-  found-old : (ys : List Lexeme) → Found xs → Found (xs ++ ys)
-  found-old ys (front, rest, e, holds) = (front, rest ++ ys, ap (λ l. l ++ ys) e ∙ append_assoc front (Name y ∷ rest) ys, holds)
+  pub found-old : (xs ys : List Lexeme) → Found xs → Found (xs ++ ys)
+  found-old xs ys (front, rest, e, holds) = (front, rest ++ ys, ap (λ l. l ++ ys) e ∙ append_assoc front (Name y ∷ rest) ys, holds)
+
+pub found-behind : (P : List Lexeme → Type 0) (y : List ℕ) (xs ys : List Lexeme) → Found (λ f. P (xs ++ f)) y ys → Found P y (xs ++ ys)
+found-behind P y xs ys (front, rest, e, holds) = (xs ++ front, rest, ap (λ l. xs ++ l) e ∙ sym (append_assoc xs front (Name y ∷ rest)), holds)
 
 pub declared-more : (xs : List Lexeme) (t : Lexeme) (y : List ℕ) (range : Option Range) → IsDeclared (xs ++ t ∷ []) y range → IsDeclared xs y range ⊎ ((t ≡ Name y) × IsDeclaring xs range)
-declared-more xs t y range = found-more (λ l. IsDeclaring l range) xs y t
+declared-more xs t y range = found-more (λ l. IsDeclaring l range) y xs t
 
 pub declared-old : (xs ys : List Lexeme) (y : List ℕ) (range : Option Range) → IsDeclared xs y range → IsDeclared (xs ++ ys) y range
-declared-old xs ys y range = found-old (λ l. IsDeclaring l range) xs y ys
+declared-old xs ys y range = found-old (λ l. IsDeclaring l range) y xs ys
 
 pub used-more : (xs : List Lexeme) (t : Lexeme) (y : List ℕ) → IsUsed (xs ++ t ∷ []) y → IsUsed xs y ⊎ ((t ≡ Name y) × IsAtNet xs)
-used-more xs t y = found-more IsAtNet xs y t
+used-more xs t y = found-more IsAtNet y xs t
 
 pub used-old : (xs ys : List Lexeme) (y : List ℕ) → IsUsed xs y → IsUsed (xs ++ ys) y
-used-old xs ys y = found-old IsAtNet xs y ys
+used-old xs ys y = found-old IsAtNet y xs ys
 
 pub stands-more : (xs : List Lexeme) (t : Lexeme) (y : List ℕ) → Stands (xs ++ t ∷ []) y → Stands xs y ⊎ (t ≡ Name y)
 stands-more xs t y (front, rest, e) = elim (split_push xs t front (Name y) rest e) [
@@ -304,7 +307,7 @@ stands-more xs t y (front, rest, e) = elim (split_push xs t front (Name y) rest 
 ]
 
 pub stands-old : (xs ys : List Lexeme) (x : List ℕ) → Stands xs x → Stands (xs ++ ys) x
-stands-old xs ys x (front, rest, e) = let (f, r, is, u) = found-old (λ l. Unit {0}) xs x ys (front, rest, e, tt) in (f, r, is)
+stands-old xs ys x (front, rest, e) = let (f, r, is, u) = found-old (λ l. Unit {0}) x xs ys (front, rest, e, tt) in (f, r, is)
 
 -- a name is declared in one way at one place
 pub declaring-once : (xs : List Lexeme) (a b : Option Range) → IsDeclaring xs a → IsDeclaring xs b → a ≡ b

@@ -1,8 +1,8 @@
 -- Names of a text are made of printing characters, and its cells have a net on each pin.
-pub use Rattle.ncl_reader.proofs.Terms.{[], ◌≡◌, ℕ, zero, suc, ◌+◌, ◌-◌, ◌<◌, ◌≤◌, ◌/◌, ◌%◌, arith, List, ◌∷◌, ◌++◌, length, map, take, Bool, true, false, Option, Some, None, not, refl, sym, ap, ◌∙◌, subst, append_assoc, unwrap_or, slice_range, codes, decimal, nat_lt, ◌==◌, All, if◌then◌else◌, digits_onto, digit_glyph, list_all, flat_map, find, AllByRecursion, option_map, bytes_eq, digits_value, nat_tests, and_parts, and_from, take_at, length-append, All-nil, All-cons, All-head, All-tail, All-append, All-filter, Token, TokenKind, begins_word, continues_word, is_graphic, IsToken, is_word, is_escaped, Stop, at_end, at_bad, name_of, IsTokenOf, tokens_in_text, pins_of, Port, Cell, Parts, PartCell, same_name, once_each, netlist_of, nets_of, port_names, cell_of, Keyword, EndModule, Module, Lexeme, Word, Name, End, lexemes, lexeme_of, word_lexeme, keyword_of, all_of, Range, Net, Conn, Item, Declares, Joins, text_phrase, body_phrase, header_of, Head, bit_name, span_of, Stands, Said, Joined, joined_in, bits_of, said_by, net_name, net_on, AreCellsOf, Reads, placed_in, IsGraphicName, HasGraphicNames, Member, here, there, Contains-from_Member, All-from_members, member_of_flat_map, ports_at, said_at, length-map, HasAllPins}
+pub use Rattle.ncl_reader.proofs.Terms.{[], ◌≡◌, ℕ, zero, suc, ◌+◌, ◌-◌, ◌<◌, ◌≤◌, ◌/◌, ◌%◌, arith, List, ◌∷◌, ◌++◌, length, map, take, Bool, true, false, Option, Some, None, not, refl, sym, ap, ◌∙◌, subst, append_assoc, unwrap_or, slice_range, codes, decimal, nat_lt, ◌==◌, All, if◌then◌else◌, digits_onto, digit_glyph, list_all, flat_map, find, AllByRecursion, option_map, bytes_eq, digits_value, nat_tests, and_parts, and_from, take_at, length-append, All-nil, All-cons, All-head, All-tail, All-append, All-filter, Token, TokenKind, begins_word, continues_word, is_graphic, IsToken, is_word, is_escaped, Stop, at_end, at_bad, name_of, IsTokenOf, tokens_in_text, pins_of, Port, Cell, Parts, PartCell, same_name, once_each, netlist_of, nets_of, port_names, cell_of, Keyword, EndModule, Module, Lexeme, Word, Name, End, lexemes, lexeme_of, word_lexeme, keyword_of, all_of, Range, Net, Conn, Item, Declares, Joins, text_phrase, body_phrase, header_of, Head, bit_name, span_of, Stands, Said, Joined, joined_in, bits_of, said_by, net_name, net_on, AreCellsOf, Reads, placed_in, IsGraphicName, HasGraphicNames, Member, here, there, Contains-from_Member, All-from_members, member_of_flat_map, ports_at, said_at, length-map, HasAllPins, with_commas, conn_phrase, item_phrase, row_phrase, head_phrase, Mark, Comma, RParen, Semi}
 use Rattle.std.specs.Fmt.{digits}
 use Rattle.ncl_reader.proofs.Ports.{alone, bit_of_map, names-ports, names_of, some-said}
-use Rattle.ncl_reader.proofs.SaidDeclared.{whole, header_stands, instance_stands}
+use Rattle.ncl_reader.proofs.SaidDeclared.{whole, header_stands}
 use Rattle.ncl_reader.proofs.Facts.{stands-old}
 
 -- bytes of words and of numbers
@@ -59,12 +59,9 @@ IsFine t = Unit {0}
 abbrev Fine : List Lexeme → Type 0
 Fine ts = AllByRecursion IsFine ts
 
-fine-stands : (ts front rest : List Lexeme) (x : List ℕ) → ts ≡ front ++ Name x ∷ rest → Fine ts → IsGraphicName x
-fine-stands ts front rest x e fine = behind front (subst Fine e fine)
-  where
-    behind : (front : List Lexeme) → Fine (front ++ Name x ∷ rest) → IsGraphicName x
-    behind [] fine = fine.0
-    behind (f ∷ front) fine = behind front fine.1
+fine-parts : (xs ys : List Lexeme) → Fine (xs ++ ys) → Fine xs × Fine ys
+fine-parts [] ys fine = (tt, fine)
+fine-parts (x ∷ xs) ys fine = let (front, back) = fine-parts xs ys fine.1 in ((fine.0, front), back)
 
 -- what a token is
 fine_word : (found : Option Keyword) (span : List ℕ) → IsGraphicName span → IsFine (word_lexeme found span)
@@ -101,12 +98,19 @@ pub record IsFineJoined (joined : Joined) : Type 0 where
   pub name : IsGraphicName joined.name
   pub conns : All IsOnGraphic joined.conns
 
-fine_joined : (head : Head) (items : List Item) → ((x : List ℕ) → Stands (whole head items) x → IsGraphicName x) → (item : Item) (joined : Joined) → Member item items → Member joined (joined_in item) → IsFineJoined joined
-fine_joined head items graphic (Joins cell name conns) joined among here =
-    let (named, nets) = instance_stands head items cell name conns among in
-    record { name = graphic name named; conns = All-from_members IsOnGraphic (all_of conns) (λ c stands. fine_net c.net (graphic c.net.name (nets c stands))) }
-fine_joined head items graphic (Joins cell name conns) joined among (there none) = elim none [ ]
-fine_joined head items graphic (Declares group) joined among none = elim none [ ]
+fine_conns : (conns : List Conn) → Fine (with_commas conn_phrase conns) → All IsOnGraphic conns
+fine_conns [] fine = All-nil IsOnGraphic
+fine_conns (c ∷ conns) fine = All-cons IsOnGraphic c conns (fine_net c.net fine.1.1.1.0) (fine_conns conns (fine-parts (conn_phrase c ++ Mark Comma ∷ []) (with_commas conn_phrase conns) fine).1)
+
+fine_items : (items : List Item) → Fine (flat_map item_phrase items) → All IsFineJoined (flat_map joined_in items)
+fine_items [] fine = All-nil IsFineJoined
+fine_items (Declares group ∷ items) fine = fine_items items (fine-parts (item_phrase (Declares group)) (flat_map item_phrase items) fine).1
+fine_items (Joins cell name conns ∷ items) fine =
+    let (one, more) = fine-parts (item_phrase (Joins cell name conns)) (flat_map item_phrase items) fine in
+    let (row, ends) = fine-parts (row_phrase conn_phrase conns) (Mark RParen ∷ Mark Semi ∷ []) one.1.1.1 in
+    let (before, last) = fine-parts (with_commas conn_phrase conns.before) (conn_phrase conns.last) row in
+    let nets = All-append IsOnGraphic conns.before (conns.last ∷ []) (fine_conns conns.before before) (All-cons IsOnGraphic conns.last [] (fine_net conns.last.net last.1.1.1.0) (All-nil IsOnGraphic)) in
+    All-cons IsFineJoined _ (flat_map joined_in items) (record { name = one.1.0; conns = nets }) (fine_items items more)
 
 -- cells that are said
 fine_found : (conns : List Conn) (pin : List ℕ) → All IsOnGraphic conns → IsGraphicName (unwrap_or (net_on conns pin) [])
@@ -170,13 +174,14 @@ graphic_names bytes parts (ts, (tokens, stop, are, is), reads) =
     let items = text.items in
     let fine : Fine (text_phrase text) = subst Fine (ap lexemes (sym is) ∙ reads.derives) (fine-tokens bytes tokens stop (tokens_in_text bytes tokens stop are)) in
     let graphic : (x : List ℕ) → Stands (whole head items) x → IsGraphicName x = λ x stands.
-    let (front, rest, e) = stands-old (whole head items) (End ∷ []) x stands in fine-stands (text_phrase text) front rest x (sym (append_assoc (body_phrase head items) (Word EndModule ∷ []) (End ∷ [])) ∙ e) fine in
-    let joins : All IsFineJoined (flat_map joined_in items) = All-from_members IsFineJoined _ (λ j among. let (item, stands, joined) = member_of_flat_map joined_in items j among in fine_joined head items graphic item j stands joined) in
+    let (front, rest, e) = stands-old (whole head items) (End ∷ []) x stands in (fine-parts front (Name x ∷ rest) (subst Fine (sym (append_assoc (body_phrase head items) (Word EndModule ∷ []) (End ∷ [])) ∙ e) fine)).1.0 in
+    let body = (fine-parts (body_phrase head items) (Word EndModule ∷ End ∷ []) fine).0 in
+    let joins = fine_items items (fine-parts (head_phrase head) (flat_map item_phrase items) body).1 in
     let names : All IsGraphicName (header_of head) = All-from_members IsGraphicName _ (λ x among. graphic x (header_stands head items x (Contains-from_Member x among))) in
     let ports : All IsGraphicName (port_names parts) = subst (λ l. All IsGraphicName (map (λ (p : Port). p.name) l)) (sym reads.says.ports) (fine_ports (said_by text) (header_of head) names) in
     let nets : All IsGraphicName (flat_map (λ (c : PartCell). c.pins) parts.cells) = fine_cell_nets (flat_map joined_in items) parts.cells reads.says.cells joins in
     record {
-      title = subst IsGraphicName (sym reads.says.title) (graphic head.name (Word Module ∷ [], _, refl));
+      title = subst IsGraphicName (sym reads.says.title) fine.1.0;
       ports = from_map (λ (p : Port). p.name) parts.ports ports;
       nets = fine_once (port_names parts ++ flat_map (λ (c : PartCell). c.pins) parts.cells) (All-append IsGraphicName (port_names parts) _ ports nets);
       cells = from_map (λ (c : Cell). c.name) (map (cell_of (nets_of parts)) parts.cells) (subst (All IsGraphicName) (sym (same_cell_names (nets_of parts) parts.cells)) (fine_cell_names (flat_map joined_in items) parts.cells reads.says.cells joins));

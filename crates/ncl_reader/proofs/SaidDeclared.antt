@@ -1,5 +1,6 @@
 -- Names and bits of what declarations say, and what is said was declared.
-use Rattle.ncl_reader.proofs.Terms.{◌≡◌, ℕ, ◌+◌, ◌*◌, length, arith, List, [], ◌∷◌, ◌++◌, map, Option, refl, sym, ap, ◌∙◌, sum, Some, None, option_map, flat_map, sum_by, sum_by-append, sum_by-cons, sum-map, mul-suc, map-append, Span, Row, all_of, Direction, Lead, Gives, Wires, Range, Group, group_names, Conn, Item, Declares, Joins, Head, groups_of, span_of, range_width, directed_in, directed_by, group_bits, item_bits, Said, is_output, said_of, said_in_header, said_in, said_by, names_said, bits_said, span_width, ◌≤◌, inl, inr, subst, append_assoc, Contains, append-nil, length-append, flat_map-append, Member, here, there, Member-append_cases, member_of_map, Member-from_Contains, member_of_flat_map, Module, EndModule, LParen, RParen, Comma, Semi, Dot, Lexeme, Word, Name, Mark, with_commas, row_phrase, name_phrase, direction_phrase, lead_phrase, spec_phrase, group_phrase, item_phrase, Listing, Empty, Names, Ansi, head_phrase, body_phrase, names_in, header_of, conn_phrase, index_phrase, in_ansi, at_declared, Stands, IsDeclared, AreDeclared}
+use Rattle.ncl_reader.proofs.Terms.{◌≡◌, ℕ, ◌+◌, ◌*◌, length, arith, List, [], ◌∷◌, ◌++◌, map, Option, refl, sym, ap, ◌∙◌, sum, Some, None, option_map, flat_map, sum_by, sum_by-append, sum_by-cons, sum-map, mul-suc, map-append, Span, Row, all_of, Direction, Lead, Gives, Wires, Range, Group, group_names, Conn, Item, Declares, Joins, Head, groups_of, span_of, range_width, directed_in, directed_by, group_bits, item_bits, Said, is_output, said_of, said_in_header, said_in, said_by, names_said, bits_said, span_width, ◌≤◌, inl, inr, subst, append_assoc, Contains, append-nil, length-append, flat_map-append, Member, here, there, Member-append_cases, member_of_map, Member-from_Contains, member_of_flat_map, Module, EndModule, LParen, RParen, Comma, Semi, Dot, Lexeme, Word, Name, Mark, with_commas, row_phrase, name_phrase, direction_phrase, lead_phrase, spec_phrase, group_phrase, item_phrase, Listing, Empty, Names, Ansi, head_phrase, body_phrase, names_in, header_of, conn_phrase, index_phrase, in_ansi, at_declared, Stands, IsDeclared, AreDeclared, listing_phrase, IsDeclaring}
+use Rattle.ncl_reader.proofs.Facts.{Found, found-old, found-behind}
 
 -- of two lists
 pub names-append : (a b : List Said) → names_said (a ++ b) ≡ names_said a ++ names_said b
@@ -90,79 +91,53 @@ bits-push said s span same = let more = bits-append said (s ∷ []) in let last 
 abbrev pub whole : Head → List Item → List Lexeme
 whole head items = body_phrase head items ++ Word EndModule ∷ []
 
--- what stands in front of one of a row, and behind it
-split_first : (p wc last : List Lexeme) → ((p ++ Mark Comma ∷ []) ++ wc) ++ last ≡ p ++ Mark Comma ∷ (wc ++ last)
-split_first p wc last = simp append_assoc
+-- a name of one of a row, by what stands in front of it there
+found_row : {X : Type 0} (phrase : X → List Lexeme) (P : List Lexeme → Type 0) (y : List ℕ) (xs : List X) (last x : X) → Member x (xs ++ last ∷ []) → ((before : List X) → Found (λ f. P (with_commas phrase before ++ f)) y (phrase x)) → Found P y (with_commas phrase xs ++ phrase last)
+found_row phrase P y [] last x here found = found []
+found_row phrase P y [] last x (there none) found = elim none [ ]
+found_row phrase P y (z ∷ xs) last x here found =
+    let one = phrase x ++ Mark Comma ∷ [] in
+    found-old P y (one ++ with_commas phrase xs) (phrase last) (found-old P y one (with_commas phrase xs) (found-old P y (phrase x) (Mark Comma ∷ []) (found [])))
+found_row phrase P y (z ∷ xs) last x (there among) found =
+    let one = phrase z ++ Mark Comma ∷ [] in
+    subst (Found P y) (sym (append_assoc one (with_commas phrase xs) (phrase last)))
+    (found-behind P y one (with_commas phrase xs ++ phrase last) (found_row phrase (λ f. P (one ++ f)) y xs last x among (λ before.
+    let (f, r, e, holds) = found (z ∷ before) in (f, r, e, subst P (append_assoc one (with_commas phrase before) f) holds))))
 
-split_later : (p wc last some one : List Lexeme) → wc ++ last ≡ some ++ one → ((p ++ Mark Comma ∷ []) ++ wc) ++ last ≡ ((p ++ Mark Comma ∷ []) ++ some) ++ one
-split_later p wc last some one e = append_assoc (p ++ Mark Comma ∷ []) wc last ∙ ap (λ l. (p ++ Mark Comma ∷ []) ++ l) e ∙ sym (append_assoc (p ++ Mark Comma ∷ []) some one)
-
-module _ {X : Type 0} (phrase : X → List Lexeme) where
-  abbrev IsSplit : List Lexeme → X → Type 0
-  IsSplit xs x = (before : List X) × (rest : List Lexeme) × (xs ≡ with_commas phrase before ++ (phrase x ++ rest))
-
-  split_row : (xs : List X) (last x : X) → Member x (xs ++ last ∷ []) → IsSplit (with_commas phrase xs ++ phrase last) x
-  split_row [] last x here = ([], [], sym (append-nil (phrase last)))
-  split_row [] last x (there none) = elim none [ ]
-  split_row (y ∷ xs) last x here = ([], Mark Comma ∷ (with_commas phrase xs ++ phrase last), split_first (phrase y) (with_commas phrase xs) (phrase last))
-  split_row (y ∷ xs) last x (there among) =
-      let (before, rest, e) = split_row xs last x among in
-      (y ∷ before, rest, split_later (phrase y) (with_commas phrase xs) (phrase last) (with_commas phrase before) (phrase x ++ rest) e)
-
-  row_split : (row : Row X) (x : X) → Member x (all_of row) → IsSplit (row_phrase phrase row) x
-  row_split row x among = split_row row.before row.last x among
+found_name : (P : List Lexeme → Type 0) (row : Row (List ℕ)) (x : List ℕ) → Member x (all_of row) → ((names : List (List ℕ)) → P (with_commas name_phrase names)) → Found P x (row_phrase name_phrase row)
+found_name P row x among holds = found_row name_phrase P x row.before row.last x among (λ names. ([], [], refl, subst P (sym (append-nil (with_commas name_phrase names))) (holds names)))
 
 -- so of items
-item_split : (items : List Item) (item : Item) → Member item items → (before : List Item) × (rest : List Lexeme) × (flat_map item_phrase items ≡ flat_map item_phrase before ++ (item_phrase item ++ rest))
-item_split (other ∷ items) item here = ([], flat_map item_phrase items, refl)
-item_split (other ∷ items) item (there among) =
-    let (before, rest, e) = item_split items item among in
-    (other ∷ before, rest, ap (λ l. item_phrase other ++ l) e ∙ sym (append_assoc (item_phrase other) (flat_map item_phrase before) (item_phrase item ++ rest)))
-item_split [] item among = elim among [ ]
+found_item : (P : List Lexeme → Type 0) (y : List ℕ) (items : List Item) (item : Item) → Member item items → ((before : List Item) → Found (λ f. P (flat_map item_phrase before ++ f)) y (item_phrase item)) → Found P y (flat_map item_phrase items)
+found_item P y (z ∷ items) item here found = found-old P y (item_phrase item) (flat_map item_phrase items) (found [])
+found_item P y (z ∷ items) item (there among) found = found-behind P y (item_phrase z) (flat_map item_phrase items) (found_item (λ f. P (item_phrase z ++ f)) y items item among (λ before.
+    let (f, r, e, holds) = found (z ∷ before) in (f, r, e, subst P (append_assoc (item_phrase z) (flat_map item_phrase before) f) holds)))
+found_item P y [] item among found = elim among [ ]
 
--- a name of a declaration of the header
-headed : (w s n one r1 r2 a b c d : List Lexeme) → ((((w ++ ((s ++ (n ++ (one ++ r2))) ++ r1)) ++ a) ++ b) ++ c) ++ d ≡ (w ++ (s ++ n)) ++ (one ++ (r2 ++ (r1 ++ (a ++ (b ++ (c ++ d))))))
-headed w s n one r1 r2 a b c d = simp append_assoc
+-- a name between the parentheses of a header
+found_listed : (P : List Lexeme → Type 0) (y name : List ℕ) (ports : Listing) (items : List Item) → Found (λ f. P (Word Module ∷ Name name ∷ Mark LParen ∷ f)) y (listing_phrase ports) → Found P y (whole (record { name = name; ports = Some ports }) items)
+found_listed P y name ports items found =
+    let front : List Lexeme = Word Module ∷ Name name ∷ Mark LParen ∷ [] in
+    let closed = found-old _ y (listing_phrase ports ++ Mark RParen ∷ []) (Mark Semi ∷ []) (found-old (λ f. P (front ++ f)) y (listing_phrase ports) (Mark RParen ∷ []) found) in
+    found-old P y _ (Word EndModule ∷ []) (found-old P y _ (flat_map item_phrase items) (found-behind P y front _ closed))
 
+-- a name of a declaration of the header, and of one of an item
 header_declares : (name : List ℕ) (ports : Option Listing) (items : List Item) (group : Group Direction) (x : List ℕ) → Member group (groups_of ports) → Member x (group_names group) → IsDeclared (whole (record { name = name; ports = ports }) items) x group.spec.range
 header_declares name (Some (Ansi row)) items group x among stands =
-    let (before, r1, e1) = row_split (group_phrase direction_phrase) row group among in
-    let (names, r2, e2) = row_split name_phrase group.names x stands in
-    let a : List Lexeme = Mark RParen ∷ [] in
-    let b : List Lexeme = Mark Semi ∷ [] in
-    let c = flat_map item_phrase items in
-    let d : List Lexeme = Word EndModule ∷ [] in
-    let w = with_commas (group_phrase direction_phrase) before in
-    let s = spec_phrase direction_phrase group.spec in
-    let n = with_commas name_phrase names in (
-      in_ansi name before group.spec names,
-      r2 ++ (r1 ++ (a ++ (b ++ (c ++ d)))),
-      ap (λ l. Word Module ∷ Name name ∷ Mark LParen ∷ l) (ap (λ r. (((r ++ a) ++ b) ++ c) ++ d) (e1 ∙ ap (λ m. w ++ ((s ++ m) ++ r1)) e2) ∙ headed w s n (Name x ∷ []) r1 r2 a b c d),
-      inl (name, before, group.spec.lead, names, refl),
-    )
+    found_listed (λ l. IsDeclaring l group.spec.range) x name (Ansi row) items (found_row (group_phrase direction_phrase) _ x row.before row.last group among (λ before.
+    found-behind _ x (spec_phrase direction_phrase group.spec) _ (found_name _ group.names x stands (λ names. inl (name, before, group.spec.lead, names, refl)))))
 header_declares name (Some (Names row)) items group x among stands = elim among [ ]
 header_declares name (Some Empty) items group x among stands = elim among [ ]
 header_declares name None items group x among stands = elim among [ ]
 
--- a name of a declaration of an item
-declared : (h f s n r1 r2 semi d : List Lexeme) (t : Lexeme) → (h ++ (f ++ (((s ++ (n ++ t ∷ r2)) ++ semi) ++ r1))) ++ d ≡ ((h ++ f) ++ (s ++ n)) ++ t ∷ (r2 ++ (semi ++ (r1 ++ d)))
-declared h f s n r1 r2 semi d t = simp append_assoc
-
 item_declares : (head : Head) (items : List Item) (group : Group Lead) (x : List ℕ) → Member (Declares group) items → Member x (group_names group) → IsDeclared (whole head items) x group.spec.range
 item_declares head items group x among stands =
-    let (before, r1, e1) = item_split items (Declares group) among in
-    let (names, r2, e2) = row_split name_phrase group.names x stands in
-    let semi : List Lexeme = Mark Semi ∷ [] in
-    let d : List Lexeme = Word EndModule ∷ [] in
+    let P : List Lexeme → Type 0 = λ l. IsDeclaring l group.spec.range in
     let h = head_phrase head in
-    let f = flat_map item_phrase before in
     let s = spec_phrase lead_phrase group.spec in
-    let n = with_commas name_phrase names in (
-      at_declared head before group.spec names,
-      r2 ++ (semi ++ (r1 ++ d)),
-      ap (λ r. (h ++ r) ++ d) (e1 ∙ ap (λ m. f ++ (((s ++ m) ++ semi) ++ r1)) e2) ∙ declared h f s n r1 r2 semi d (Name x),
-      inr (head, before, group.spec.lead, names, refl),
-    )
+    found-old P x (body_phrase head items) (Word EndModule ∷ []) (found-behind P x h (flat_map item_phrase items) (found_item (λ f. P (h ++ f)) x items (Declares group) among (λ before.
+    found-old _ x (group_phrase lead_phrase group) (Mark Semi ∷ []) (found-behind (λ f. P (h ++ (flat_map item_phrase before ++ f))) x s _ (found_name _ group.names x stands (λ names.
+    subst P (append_assoc h (flat_map item_phrase before) (s ++ with_commas name_phrase names)) (inr (head, before, group.spec.lead, names, refl))))))))
 
 -- what a declaration says, it says of its names
 said_member : (direction : Direction) (range : Option Range) (names : List (List ℕ)) (s : Said) → Member s (said_of direction range names) → Member s.name names × (s.range ≡ range)
@@ -192,22 +167,11 @@ said_declared head items s found = elim (Member-append_cases s (flat_map said_in
       said_here head items item s among is
 ]
 
--- a name of a header of names
-listed : (n one r a b c d : List Lexeme) → ((((n ++ (one ++ r)) ++ a) ++ b) ++ c) ++ d ≡ n ++ (one ++ (r ++ (a ++ (b ++ (c ++ d)))))
-listed n one r a b c d = simp append_assoc
-
+-- the names of a header stand
 stand_in : (name : List ℕ) (ports : Option Listing) (items : List Item) (x : List ℕ) → Member x (names_in ports) → Stands (whole (record { name = name; ports = ports }) items) x
 stand_in name (Some (Names row)) items x among =
-    let (names, r, e) = row_split name_phrase row x among in
-    let a : List Lexeme = Mark RParen ∷ [] in
-    let b : List Lexeme = Mark Semi ∷ [] in
-    let c = flat_map item_phrase items in
-    let d : List Lexeme = Word EndModule ∷ [] in
-    let n = with_commas name_phrase names in (
-      Word Module ∷ Name name ∷ Mark LParen ∷ n,
-      r ++ (a ++ (b ++ (c ++ d))),
-      ap (λ l. Word Module ∷ Name name ∷ Mark LParen ∷ l) (ap (λ m. (((m ++ a) ++ b) ++ c) ++ d) e ∙ listed n (Name x ∷ []) r a b c d),
-    )
+    let (front, rest, e, u) = found_listed (λ l. Unit {0}) x name (Names row) items (found_name (λ l. Unit {0}) row x among (λ names. tt)) in
+    (front, rest, e)
 stand_in name (Some (Ansi row)) items x among =
     let (group, stands, is) = member_of_flat_map group_names (all_of row) x among in
     let (front, rest, e, declares) = header_declares name (Some (Ansi row)) items group x stands is in
@@ -215,34 +179,8 @@ stand_in name (Some (Ansi row)) items x among =
 stand_in name (Some Empty) items x among = elim among [ ]
 stand_in name None items x among = elim among [ ]
 
--- the names of a header stand
 pub header_stands : (head : Head) (items : List Item) (x : List ℕ) → Contains (header_of head) x → Stands (whole head items) x
 header_stands head items x found = stand_in head.name head.ports items x (Member-from_Contains (header_of head) x found)
-
--- so do the name of an instance and the names of its nets
-instance_name : (h f m r d : List Lexeme) (cell name : Lexeme) → (h ++ (f ++ ((cell ∷ name ∷ m) ++ r))) ++ d ≡ ((h ++ f) ++ cell ∷ []) ++ name ∷ (m ++ (r ++ d))
-instance_name h f m r d cell name = simp append_assoc
-
-instance_net : (h f k w o one n r2 s r1 d : List Lexeme) → (h ++ (f ++ ((k ++ ((w ++ ((o ++ (one ++ n)) ++ r2)) ++ s)) ++ r1))) ++ d ≡ (h ++ (f ++ (k ++ (w ++ o)))) ++ (one ++ (n ++ (r2 ++ (s ++ (r1 ++ d)))))
-instance_net h f k w o one n r2 s r1 d = simp append_assoc
-
-pub instance_stands : (head : Head) (items : List Item) (cell name : List ℕ) (conns : Row Conn) → Member (Joins cell name conns) items → Stands (whole head items) name × ((c : Conn) → Member c (all_of conns) → Stands (whole head items) c.net.name)
-instance_stands head items cell name conns among =
-    let (before, r1, e1) = item_split items (Joins cell name conns) among in
-    let d : List Lexeme = Word EndModule ∷ [] in
-    let k : List Lexeme = Name cell ∷ Name name ∷ Mark LParen ∷ [] in
-    let s : List Lexeme = Mark RParen ∷ Mark Semi ∷ [] in
-    let m : List Lexeme = Mark LParen ∷ (row_phrase conn_phrase conns ++ s) in
-    let h = head_phrase head in
-    let f = flat_map item_phrase before in (
-      ((h ++ f) ++ Name cell ∷ [], m ++ (r1 ++ d), ap (λ r. (h ++ r) ++ d) e1 ∙ instance_name h f m r1 d (Name cell) (Name name)),
-      λ c stands.
-          let (some, r2, e2) = row_split conn_phrase conns c stands in
-          let w = with_commas conn_phrase some in
-          let o : List Lexeme = Mark Dot ∷ Name c.pin ∷ Mark LParen ∷ [] in
-          let n = index_phrase c.net.index ++ Mark RParen ∷ [] in
-          (h ++ (f ++ (k ++ (w ++ o))), n ++ (r2 ++ (s ++ (r1 ++ d))), ap (λ r. (h ++ r) ++ d) (e1 ∙ ap (λ l. f ++ ((k ++ (l ++ s)) ++ r1)) e2) ∙ instance_net h f k w o (Name c.net.name ∷ []) n r2 s r1 d),
-    )
 
 -- the names of a header are no more than the lexemes
 few_names : (names : List (List ℕ)) → length names ≤ length (with_commas name_phrase names)

@@ -1,6 +1,6 @@
 -- What a name that stands next is declared with, and what is said of names by what stands.
-use Rattle.ncl_reader.proofs.Terms.{◌≡◌, ℕ, List, [], ◌∷◌, ◌++◌, Option, Some, None, inl, inr, ◌⊎◌, refl, sym, ap, ◌∙◌, subst, option_map, append-nil, same_Some, Lexeme, Row, all_of, Direction, direction_phrase, Lead, lead_phrase, Range, range_phrase, Spec, spec_phrase, Group, group_phrase, Item, Head, with_commas, name_phrase, body_phrase, in_ansi, at_declared, IsDeclaring, led, ranged, GroupPart, leading, going, group_spelled, Partial, heading, inside, declaring, spelled, header_spelled, zero, suc, ◌+◌, ◌<◌, ◌≤◌, arith, Bool, true, false, append_assoc, bytes_eq, false≢true, cases_eq, cases_lt, none-some, bytes_eq-Decides, Name, Span, span_of, Covers, start, IsAtItem, IsAtConn, IsAtPin, IsAtNet, IsBehindNet, IsAtIndex, IsAtClose, at_item, joining, dotted, opened, netted, indexing, joined, Stands, IsDeclared, IsUsed, split_push}
-use Rattle.ncl_reader.proofs.Steps.{more_commas, same_tree, run, run-spelled, grows-run, no_token, name_in}
+use Rattle.ncl_reader.proofs.Terms.{◌≡◌, ℕ, List, [], ◌∷◌, ◌++◌, Option, Some, None, inl, inr, ◌⊎◌, refl, sym, ap, ◌∙◌, subst, option_map, append-nil, same_Some, Lexeme, all_of, Direction, direction_phrase, Lead, lead_phrase, Range, range_phrase, Spec, spec_phrase, Group, group_phrase, Item, Head, with_commas, name_phrase, body_phrase, in_ansi, at_declared, IsDeclaring, led, ranged, GroupPart, leading, going, group_spelled, Partial, heading, inside, declaring, spelled, header_spelled, zero, suc, ◌+◌, ◌<◌, ◌≤◌, arith, Bool, true, false, append_assoc, bytes_eq, false≢true, cases_eq, cases_lt, none-some, bytes_eq-Decides, Name, Span, span_of, Covers, start, IsAtItem, IsAtConn, IsAtPin, IsAtNet, IsBehindNet, IsAtIndex, IsAtClose, at_item, joining, dotted, opened, netted, indexing, joined, Stands, IsDeclared, IsUsed, split_push}
+use Rattle.ncl_reader.proofs.Steps.{last_or_none, more_commas, same_tree, run, run-spelled, grows-run, no_token, name_in}
 
 -- what a part of a declaration says of the next name, where a name may be next, and the names that have commas
 abbrev pub part_spec : {L : Type 0} → GroupPart L → Option (Spec L)
@@ -29,14 +29,6 @@ Of (Some s) P = P s
 pub some_of : {S : Type 0} (found : Option S) (P : S → Type 0) → Of found P → (s : S) × (found ≡ Some s) × P s
 some_of None P none = absurd none
 some_of (Some s) P holds = (s, refl, holds)
-
--- a list has a last one, or none
-last_or_none : {X : Type 0} (xs : List X) → (xs ≡ []) ⊎ ((row : Row X) × (xs ≡ all_of row))
-last_or_none [] = inl refl
-last_or_none (x ∷ xs) = elim (last_or_none xs) [
-  | inl none ↦ inr (record { before = []; last = x }, ap (λ l. x ∷ l) none)
-  | inr (row, is) ↦ inr (record { before = x ∷ row.before; last = row.last }, ap (λ l. x ∷ l) is)
-]
 
 module _ {L : Type 0} (phrase : L → List Lexeme) where
   -- the part behind what a declaration begins with and names, each with a comma

@@ -1,5 +1,5 @@
 -- Names and bits of what declarations say, and what is said was declared.
-use Rattle.ncl_reader.proofs.Terms.{◌≡◌, ℕ, ◌+◌, ◌*◌, length, arith, List, [], ◌∷◌, ◌++◌, map, Option, refl, sym, ap, ◌∙◌, sum, Some, None, option_map, flat_map, sum_by, sum_by-append, sum_by-cons, sum-map, mul-suc, map-append, Span, Row, all_of, Direction, Lead, Gives, Wires, Range, Group, group_names, Conn, Item, Declares, Joins, Head, groups_of, span_of, range_width, directed_in, directed_by, group_bits, item_bits, Said, is_output, said_of, said_in_header, said_in, said_by, names_said, bits_said, span_width, ◌≤◌, inl, inr, subst, append_assoc, Contains, append-nil, length-append, flat_map-append, Member, here, there, Member-append_cases, member_of_map, Member-from_Contains, member_of_flat_map, Module, EndModule, LParen, RParen, Comma, Semi, Dot, Lexeme, Word, Name, Mark, with_commas, row_phrase, name_phrase, direction_phrase, lead_phrase, spec_phrase, group_phrase, item_phrase, Listing, Empty, Names, Ansi, head_phrase, body_phrase, names_in, header_of, conn_phrase, index_phrase, in_ansi, at_declared, Stands, IsDeclared, AreDeclared, listing_phrase, IsDeclaring}
+use Rattle.ncl_reader.proofs.Terms.{◌≡◌, ℕ, ◌+◌, ◌*◌, length, arith, List, [], ◌∷◌, ◌++◌, map, Option, refl, sym, ap, ◌∙◌, sum, Some, None, option_map, flat_map, sum_by, sum_by-append, sum_by-cons, sum-map, mul-suc, map-append, Span, Row, all_of, Direction, Lead, Gives, Wires, Range, Group, group_names, Conn, Item, Declares, Joins, Head, groups_of, span_of, range_width, directed_in, directed_by, group_bits, item_bits, Said, is_output, said_of, said_in_header, said_in, said_by, names_said, bits_said, span_width, ◌≤◌, inl, inr, subst, append_assoc, Contains, append-nil, length-append, flat_map-append, Member, here, there, Member-append_cases, member_of_map, Member-from_Contains, member_of_flat_map, Module, EndModule, LParen, RParen, Comma, Semi, Lexeme, Word, Name, Mark, with_commas, row_phrase, name_phrase, direction_phrase, lead_phrase, spec_phrase, group_phrase, item_phrase, Listing, Empty, Names, Ansi, head_phrase, body_phrase, names_in, header_of, Stands, IsDeclared, AreDeclared, listing_phrase, IsDeclaring}
 use Rattle.ncl_reader.proofs.Facts.{Found, found-old, found-behind}
 
 -- of two lists

@@ -1,5 +1,5 @@
 -- One token more in a partial tree: a tree is what its tokens lead to, a step adds its token, and what may come next is what a step takes.
-pub use Rattle.ncl_reader.proofs.Terms.{ℕ, List, [], ◌∷◌, ◌++◌, Option, Some, None, option_and_then, option_map, Module, EndModule, Wire, word_of, LParen, RParen, Comma, Semi, Dot, LBracket, RBracket, Colon, Lexeme, Word, Name, Number, Mark, End, Direction, Plain, Wired, Lead, Gives, Wires, Group, all_of, Empty, Names, Ansi, Item, Declares, Joins, Head, LeadPart, led, bracketed, firsted, coloned, lasted, ranged, GroupPart, leading, naming, going, Partial, start, begun, titled, listing, listed, heading, headed, at_item, inside, ended, done, ItemPart, declaring, celled, named, joining, dotted, pinned, opened, netted, indexing, indexed, picked, joined, closed, ◌≡◌, refl, sym, ap, ◌∙◌, append_assoc, append-nil, same_Some, flat_map, Way, Row, direction_phrase, lead_phrase, Range, maybe_phrase, Spec, spec_phrase, group_phrase, Conn, Listing, listing_phrase, with_commas, name_phrase, conn_phrase, row_phrase, item_phrase, head_phrase, body_phrase, group_spelled, spelled, part_spelled, flat_map-append, lead_spelled, header_spelled, conn_spelled, codes, none-some, Text, BeginsShaped, arith, length, inl, inr, subst, length-append, split_push, BreaksRule, Breaks, NoneBreaks}
+pub use Rattle.ncl_reader.proofs.Terms.{ℕ, List, [], ◌∷◌, ◌++◌, Option, Some, None, option_and_then, option_map, Module, EndModule, Wire, word_of, LParen, RParen, Comma, Semi, Dot, LBracket, RBracket, Colon, Lexeme, Word, Name, Number, Mark, End, Direction, Plain, Wired, Lead, Gives, Wires, Group, all_of, Empty, Names, Ansi, Item, Declares, Joins, Head, LeadPart, led, bracketed, firsted, coloned, lasted, ranged, GroupPart, leading, naming, going, Partial, start, begun, titled, listing, listed, heading, headed, at_item, inside, ended, done, ItemPart, declaring, celled, named, joining, dotted, pinned, opened, netted, indexing, indexed, picked, joined, closed, ◌≡◌, refl, sym, ap, ◌∙◌, append_assoc, append-nil, same_Some, flat_map, Way, Row, direction_phrase, lead_phrase, Range, maybe_phrase, Spec, spec_phrase, group_phrase, Conn, Listing, listing_phrase, with_commas, name_phrase, conn_phrase, row_phrase, item_phrase, head_phrase, body_phrase, group_spelled, spelled, part_spelled, flat_map-append, lead_spelled, header_spelled, conn_spelled, codes, none-some, Text, BeginsShaped, arith, length, inl, inr, subst, length-append, split_push, BreaksRule, Breaks, NoneBreaks, ◌⊎◌, ◌≤◌, ◌+◌, zero, suc}
 
 -- "wire" behind a direction
 abbrev pub direction_more : Direction → Option Direction
@@ -107,206 +107,6 @@ run-append p q (x ∷ xs) ys e = by (step p x) (λ r. run-append r q xs ys) e
     by : (next : Option Partial) → ((r : Partial) → run r xs ≡ Some q → run r (xs ++ ys) ≡ run q ys) → option_and_then (λ r. run r xs) next ≡ Some q → option_and_then (λ r. run r (xs ++ ys)) next ≡ run q ys
     by None rec e = absurd cc
     by (Some r) rec e = rec r e
-
--- one list, and then another
-pub run-both : (p q r : Partial) (xs ys : List Lexeme) → run p xs ≡ Some q → run q ys ≡ Some r → run p (xs ++ ys) ≡ Some r
-run-both p q r xs ys one two = run-append p q xs ys one ∙ two
-
-pub run-listing : (name : List ℕ) (some names : List (List ℕ)) → run (listing name some) (with_commas name_phrase names) ≡ Some (listing name (some ++ names))
-run-listing name some [] = ap (λ xs. Some (listing name xs)) (sym (append-nil some))
-run-listing name some (x ∷ names) = run-listing name (some ++ x ∷ []) names ∙ ap (λ xs. Some (listing name xs)) (append_assoc some (x ∷ []) names)
-
-pub run-listed : (name : List ℕ) (names : Row (List ℕ)) → run (listing name []) (row_phrase name_phrase names) ≡ Some (listed name names.before names.last)
-run-listed name names = run-append (listing name []) (listing name names.before) (with_commas name_phrase names.before) (Name names.last ∷ []) (run-listing name [] names.before)
-
--- names more of a declaration of a header
-module _ (name : List ℕ) (groups : List (Group Direction)) where
-  run-going : (spec : Spec Direction) (row : Row (List ℕ)) (names : List (List ℕ)) (last : List ℕ) → run (heading name groups (going spec row)) (with_commas name_phrase names ++ Name last ∷ []) ≡ Some (heading name groups (naming spec (all_of row ++ names) last))
-  run-going spec row [] last = ap (λ xs. Some (heading name groups (naming spec xs last))) (sym (append-nil (all_of row)))
-  run-going spec row (x ∷ names) last = run-going spec (record { before = all_of row; last = x }) names last ∙ ap (λ xs. Some (heading name groups (naming spec xs last))) (append_assoc (all_of row) (x ∷ []) names)
-
-  run-named : (l : Direction) (range : Option Range) (names : List (List ℕ)) (last : List ℕ) → run (heading name groups (leading (led l))) (maybe_phrase range ++ (with_commas name_phrase names ++ Name last ∷ [])) ≡ Some (heading name groups (naming (record { lead = l; range = range }) names last))
-  run-named l None [] last = refl
-  run-named l (Some range) [] last = refl
-  run-named l None (x ∷ names) last = run-going (record { lead = l; range = None }) (record { before = []; last = x }) names last
-  run-named l (Some range) (x ∷ names) last = run-going (record { lead = l; range = Some range }) (record { before = []; last = x }) names last
-
--- where a declaration of a header begins behind others
-abbrev pub ansi_more : List ℕ → List (Group Direction) → Group Direction → List (Group Direction) → Partial
-ansi_more name some group [] = heading name some (going group.spec group.names)
-ansi_more name some group (next ∷ groups) = ansi_more name (some ++ group ∷ []) next groups
-
-abbrev pub ansi_at : List ℕ → List (Group Direction) → Partial
-ansi_at name [] = listing name []
-ansi_at name (group ∷ groups) = ansi_more name [] group groups
-
-module _ (name : List ℕ) where
-  begins-more : (some : List (Group Direction)) (group : Group Direction) (groups : List (Group Direction)) (way : Way) → step (ansi_more name some group groups) (Word (word_of way)) ≡ Some (heading name (some ++ group ∷ groups) (leading (led (Plain way))))
-  begins-more some group [] way = refl
-  begins-more some group (next ∷ groups) way = begins-more (some ++ group ∷ []) next groups way ∙ ap (λ gs. Some (heading name gs (leading (led (Plain way))))) (append_assoc some (group ∷ []) (next ∷ groups))
-
-  begins-at : (groups : List (Group Direction)) (way : Way) → step (ansi_at name groups) (Word (word_of way)) ≡ Some (heading name groups (leading (led (Plain way))))
-  begins-at [] way = refl
-  begins-at (group ∷ groups) way = begins-more [] group groups way
-
-  run-direction : (groups : List (Group Direction)) (l : Direction) → run (ansi_at name groups) (direction_phrase l) ≡ Some (heading name groups (leading (led l)))
-  run-direction groups (Plain way) = ap (option_and_then (λ q. Some q)) (begins-at groups way)
-  run-direction groups (Wired way) = ap (option_and_then (λ q. run q (Word Wire ∷ []))) (begins-at groups way)
-
-  -- a part of a declaration
-  run-lead : (groups : List (Group Direction)) (l : Direction) (part : GroupPart Direction) (rest : List Lexeme) → run (heading name groups (leading (led l))) rest ≡ Some (heading name groups part) → run (ansi_at name groups) (direction_phrase l ++ rest) ≡ Some (heading name groups part)
-  run-lead groups l part rest e = run-both (ansi_at name groups) (heading name groups (leading (led l))) (heading name groups part) (direction_phrase l) rest (run-direction groups l) e
-
-  run-naming : (groups : List (Group Direction)) (spec : Spec Direction) (names : List (List ℕ)) (last : List ℕ) → run (ansi_at name groups) (spec_phrase direction_phrase spec ++ (with_commas name_phrase names ++ Name last ∷ [])) ≡ Some (heading name groups (naming spec names last))
-  run-naming groups spec names last =
-      ap (run (ansi_at name groups)) (append_assoc (direction_phrase spec.lead) (maybe_phrase spec.range) (with_commas name_phrase names ++ Name last ∷ []))
-      ∙ run-lead groups spec.lead (naming spec names last) (maybe_phrase spec.range ++ (with_commas name_phrase names ++ Name last ∷ [])) (run-named name groups spec.lead spec.range names last)
-
-  run-group_part : (groups : List (Group Direction)) (part : GroupPart Direction) → run (ansi_at name groups) (group_spelled direction_phrase part) ≡ Some (heading name groups part)
-  run-group_part groups (leading (led l)) = run-direction groups l
-  run-group_part groups (leading (bracketed l)) = run-lead groups l _ _ refl
-  run-group_part groups (leading (firsted l first)) = run-lead groups l _ _ refl
-  run-group_part groups (leading (coloned l first)) = run-lead groups l _ _ refl
-  run-group_part groups (leading (lasted l first last)) = run-lead groups l _ _ refl
-  run-group_part groups (leading (ranged l range)) = run-lead groups l _ _ refl
-  run-group_part groups (naming spec names last) = run-naming groups spec names last
-  run-group_part groups (going spec row) =
-      ap (run (ansi_at name groups)) (sym (append_assoc (spec_phrase direction_phrase spec) (row_phrase name_phrase row) (Mark Comma ∷ [])))
-      ∙ run-append (ansi_at name groups) (heading name groups (naming spec row.before row.last)) (spec_phrase direction_phrase spec ++ row_phrase name_phrase row) (Mark Comma ∷ []) (run-naming groups spec row.before row.last)
-
-  -- declarations, each with a comma
-  ansi-push-more : (some : List (Group Direction)) (group : Group Direction) (groups : List (Group Direction)) (last : Group Direction) → ansi_more name some group (groups ++ last ∷ []) ≡ heading name (some ++ group ∷ groups) (going last.spec last.names)
-  ansi-push-more some group [] last = refl
-  ansi-push-more some group (next ∷ groups) last = ansi-push-more (some ++ group ∷ []) next groups last ∙ ap (λ gs. heading name gs (going last.spec last.names)) (append_assoc some (group ∷ []) (next ∷ groups))
-
-  ansi-push : (groups : List (Group Direction)) (last : Group Direction) → ansi_at name (groups ++ last ∷ []) ≡ heading name groups (going last.spec last.names)
-  ansi-push [] last = refl
-  ansi-push (group ∷ groups) last = ansi-push-more [] group groups last
-
-  run-comma : (groups : List (Group Direction)) (group : Group Direction) → run (ansi_at name groups) (group_phrase direction_phrase group ++ Mark Comma ∷ []) ≡ Some (ansi_at name (groups ++ group ∷ []))
-  run-comma groups group =
-      ap (run (ansi_at name groups)) (append_assoc (spec_phrase direction_phrase group.spec) (row_phrase name_phrase group.names) (Mark Comma ∷ []))
-      ∙ run-group_part groups (going group.spec group.names)
-      ∙ ap (λ p. Some p) (sym (ansi-push groups group))
-
-  pub run-groups : (some groups : List (Group Direction)) → run (ansi_at name some) (with_commas (group_phrase direction_phrase) groups) ≡ Some (ansi_at name (some ++ groups))
-  run-groups some [] = ap (λ gs. Some (ansi_at name gs)) (sym (append-nil some))
-  run-groups some (group ∷ groups) =
-      run-append (ansi_at name some) (ansi_at name (some ++ group ∷ [])) (group_phrase direction_phrase group ++ Mark Comma ∷ []) (with_commas (group_phrase direction_phrase) groups) (run-comma some group)
-      ∙ run-groups (some ++ group ∷ []) groups ∙ ap (λ gs. Some (ansi_at name gs)) (append_assoc some (group ∷ []) groups)
-
-  pub run-heading : (groups : List (Group Direction)) (part : GroupPart Direction) → run (listing name []) (with_commas (group_phrase direction_phrase) groups ++ group_spelled direction_phrase part) ≡ Some (heading name groups part)
-  run-heading groups part = run-append (listing name []) (ansi_at name groups) (with_commas (group_phrase direction_phrase) groups) (group_spelled direction_phrase part) (run-groups [] groups) ∙ run-group_part groups part
-
-  pub run-headed : (ports : Listing) → run (listing name []) (listing_phrase ports ++ Mark RParen ∷ []) ≡ Some (headed name ports)
-  run-headed Empty = refl
-  run-headed (Names names) = run-append (listing name []) (listed name names.before names.last) (row_phrase name_phrase names) (Mark RParen ∷ []) (run-listed name names)
-  run-headed (Ansi groups) = run-append (listing name []) (heading name groups.before (naming groups.last.spec groups.last.names.before groups.last.names.last)) (row_phrase (group_phrase direction_phrase) groups) (Mark RParen ∷ []) (run-heading groups.before (naming groups.last.spec groups.last.names.before groups.last.names.last))
-
--- a part of a declaration of an item
-module _ (head : Head) (items : List Item) where
-  run-going-on : (spec : Spec Lead) (row : Row (List ℕ)) (names : List (List ℕ)) (last : List ℕ) → run (inside head items (declaring (going spec row))) (with_commas name_phrase names ++ Name last ∷ []) ≡ Some (inside head items (declaring (naming spec (all_of row ++ names) last)))
-  run-going-on spec row [] last = ap (λ xs. Some (inside head items (declaring (naming spec xs last)))) (sym (append-nil (all_of row)))
-  run-going-on spec row (x ∷ names) last = run-going-on spec (record { before = all_of row; last = x }) names last ∙ ap (λ xs. Some (inside head items (declaring (naming spec xs last)))) (append_assoc (all_of row) (x ∷ []) names)
-
-  pub run-names : (l : Lead) (range : Option Range) (names : List (List ℕ)) (last : List ℕ) → run (inside head items (declaring (leading (led l)))) (maybe_phrase range ++ (with_commas name_phrase names ++ Name last ∷ [])) ≡ Some (inside head items (declaring (naming (record { lead = l; range = range }) names last)))
-  run-names l None [] last = refl
-  run-names l (Some range) [] last = refl
-  run-names l None (x ∷ names) last = run-going-on (record { lead = l; range = None }) (record { before = []; last = x }) names last
-  run-names l (Some range) (x ∷ names) last = run-going-on (record { lead = l; range = Some range }) (record { before = []; last = x }) names last
-
-  pub run-word : (l : Lead) → run (at_item head items) (lead_phrase l) ≡ Some (inside head items (declaring (leading (led l))))
-  run-word (Gives (Plain way)) = refl
-  run-word (Gives (Wired way)) = refl
-  run-word Wires = refl
-
-  run-behind : (l : Lead) (part : GroupPart Lead) (rest : List Lexeme) → run (inside head items (declaring (leading (led l)))) rest ≡ Some (inside head items (declaring part)) → run (at_item head items) (lead_phrase l ++ rest) ≡ Some (inside head items (declaring part))
-  run-behind l part rest e = run-both (at_item head items) (inside head items (declaring (leading (led l)))) (inside head items (declaring part)) (lead_phrase l) rest (run-word l) e
-
-  run-declared : (spec : Spec Lead) (names : List (List ℕ)) (last : List ℕ) → run (at_item head items) (spec_phrase lead_phrase spec ++ (with_commas name_phrase names ++ Name last ∷ [])) ≡ Some (inside head items (declaring (naming spec names last)))
-  run-declared spec names last =
-      ap (run (at_item head items)) (append_assoc (lead_phrase spec.lead) (maybe_phrase spec.range) (with_commas name_phrase names ++ Name last ∷ []))
-      ∙ run-behind spec.lead (naming spec names last) (maybe_phrase spec.range ++ (with_commas name_phrase names ++ Name last ∷ [])) (run-names spec.lead spec.range names last)
-
-  pub run-declaring : (part : GroupPart Lead) → run (at_item head items) (group_spelled lead_phrase part) ≡ Some (inside head items (declaring part))
-  run-declaring (leading (led l)) = run-word l
-  run-declaring (leading (bracketed l)) = run-behind l _ _ refl
-  run-declaring (leading (firsted l first)) = run-behind l _ _ refl
-  run-declaring (leading (coloned l first)) = run-behind l _ _ refl
-  run-declaring (leading (lasted l first last)) = run-behind l _ _ refl
-  run-declaring (leading (ranged l range)) = run-behind l _ _ refl
-  run-declaring (naming spec names last) = run-declared spec names last
-  run-declaring (going spec row) =
-      ap (run (at_item head items)) (sym (append_assoc (spec_phrase lead_phrase spec) (row_phrase name_phrase row) (Mark Comma ∷ [])))
-      ∙ run-append (at_item head items) (inside head items (declaring (naming spec row.before row.last))) (spec_phrase lead_phrase spec ++ row_phrase name_phrase row) (Mark Comma ∷ []) (run-declared spec row.before row.last)
-
-  -- connections
-  pub run-conn : (cell name : List ℕ) (conns : List Conn) (conn : Conn) → run (inside head items (joining cell name conns)) (conn_phrase conn) ≡ Some (inside head items (joined cell name conns conn))
-  run-conn cell name conns conn = by conn.pin conn.net.name conn.net.index
-    where
-      by : (pin net : List ℕ) (index : Option (List ℕ)) → run (inside head items (joining cell name conns)) (conn_phrase (record { pin = pin; net = record { name = net; index = index } })) ≡ Some (inside head items (joined cell name conns (record { pin = pin; net = record { name = net; index = index } })))
-      by pin net None = refl
-      by pin net (Some digits) = refl
-
-  pub run-joining : (cell name : List ℕ) (some conns : List Conn) → run (inside head items (joining cell name some)) (with_commas conn_phrase conns) ≡ Some (inside head items (joining cell name (some ++ conns)))
-  run-joining cell name some [] = ap (λ xs. Some (inside head items (joining cell name xs))) (sym (append-nil some))
-  run-joining cell name some (x ∷ conns) =
-      run-append (inside head items (joining cell name some)) (inside head items (joining cell name (some ++ x ∷ []))) (conn_phrase x ++ Mark Comma ∷ []) (with_commas conn_phrase conns)
-      (run-append (inside head items (joining cell name some)) (inside head items (joined cell name some x)) (conn_phrase x) (Mark Comma ∷ []) (run-conn cell name some x))
-      ∙ run-joining cell name (some ++ x ∷ []) conns ∙ ap (λ xs. Some (inside head items (joining cell name xs))) (append_assoc some (x ∷ []) conns)
-
-  pub run-joined : (cell name : List ℕ) (conns : Row Conn) → run (inside head items (joining cell name [])) (row_phrase conn_phrase conns) ≡ Some (inside head items (joined cell name conns.before conns.last))
-  run-joined cell name conns = run-append (inside head items (joining cell name [])) (inside head items (joining cell name conns.before)) (with_commas conn_phrase conns.before) (conn_phrase conns.last) (run-joining cell name [] conns.before) ∙ run-conn cell name conns.before conns.last
-
-  -- a part of an item is what its tokens lead to
-  pub run-part : (part : ItemPart) → run (at_item head items) (part_spelled part) ≡ Some (inside head items part)
-  run-part (declaring part) = run-declaring part
-  run-part (celled cell) = refl
-  run-part (named cell name) = refl
-  run-part (joining cell name conns) = run-joining cell name [] conns
-  run-part (dotted cell name conns) = run-append _ _ (with_commas conn_phrase conns) _ (run-joining cell name [] conns)
-  run-part (pinned cell name conns pin) = run-append _ _ (with_commas conn_phrase conns) _ (run-joining cell name [] conns)
-  run-part (opened cell name conns pin) = run-append _ _ (with_commas conn_phrase conns) _ (run-joining cell name [] conns)
-  run-part (netted cell name conns pin net) = run-append _ _ (with_commas conn_phrase conns) _ (run-joining cell name [] conns)
-  run-part (indexing cell name conns pin net) = run-append _ _ (with_commas conn_phrase conns) _ (run-joining cell name [] conns)
-  run-part (indexed cell name conns pin net digits) = run-append _ _ (with_commas conn_phrase conns) _ (run-joining cell name [] conns)
-  run-part (picked cell name conns pin net digits) = run-append _ _ (with_commas conn_phrase conns) _ (run-joining cell name [] conns)
-  run-part (joined cell name conns conn) = run-joined cell name (record { before = conns; last = conn })
-  run-part (closed cell name conns conn) = run-append _ _ (row_phrase conn_phrase (record { before = conns; last = conn })) _ (run-joined cell name (record { before = conns; last = conn }))
-
-  -- an item leads to the next
-  pub run-item : (item : Item) → run (at_item head items) (item_phrase item) ≡ Some (at_item head (items ++ item ∷ []))
-  run-item (Declares group) = run-append _ _ (group_phrase lead_phrase group) (Mark Semi ∷ []) (run-declared group.spec group.names.before group.names.last)
-  run-item (Joins cell name conns) = run-append _ _ (row_phrase conn_phrase conns) _ (run-joined cell name conns)
-
-pub run-items : (head : Head) (some items : List Item) → run (at_item head some) (flat_map item_phrase items) ≡ Some (at_item head (some ++ items))
-run-items head some [] = ap (λ xs. Some (at_item head xs)) (sym (append-nil some))
-run-items head some (item ∷ items) =
-    run-append _ _ (item_phrase item) _ (run-item head some item) ∙ run-items head (some ++ item ∷ []) items ∙ ap (λ xs. Some (at_item head xs)) (append_assoc some (item ∷ []) items)
-
-pub run-head : (head : Head) → run start (head_phrase head) ≡ Some (at_item head [])
-run-head head = by head.ports
-  where
-    by : (ports : Option Listing) → run start (head_phrase (record { name = head.name; ports = ports })) ≡ Some (at_item (record { name = head.name; ports = ports }) [])
-    by None = refl
-    by (Some ports) = run-append (listing head.name []) (headed head.name ports) (listing_phrase ports ++ Mark RParen ∷ []) (Mark Semi ∷ []) (run-headed head.name ports)
-
-pub run-body : (head : Head) (items : List Item) → run start (body_phrase head items) ≡ Some (at_item head items)
-run-body head items = run-append start (at_item head []) (head_phrase head) (flat_map item_phrase items) (run-head head) ∙ run-items head [] items
-
--- a partial tree is what its tokens lead to
-pub run-spelled : (p : Partial) → run start (spelled p) ≡ Some p
-run-spelled start = refl
-run-spelled begun = refl
-run-spelled (titled name) = refl
-run-spelled (listing name names) = run-listing name [] names
-run-spelled (listed name names last) = run-listed name (record { before = names; last = last })
-run-spelled (heading name groups part) = run-heading name groups part
-run-spelled (headed name ports) = run-headed name ports
-run-spelled (at_item head items) = run-body head items
-run-spelled (inside head items part) = run-append start (at_item head items) (body_phrase head items) (part_spelled part) (run-body head items) ∙ run-part head items part
-run-spelled (ended head items) = run-append start (at_item head items) (body_phrase head items) (Word EndModule ∷ []) (run-body head items)
-run-spelled (done head items) = run-append start (at_item head items) (body_phrase head items) (Word EndModule ∷ End ∷ []) (run-body head items)
 
 pub more_commas : {X : Type 0} (phrase : X → List Lexeme) (xs : List X) (x : X) → with_commas phrase (xs ++ x ∷ []) ≡ (with_commas phrase xs ++ phrase x) ++ Mark Comma ∷ []
 more_commas phrase xs x = flat_map-append (λ x. phrase x ++ Mark Comma ∷ []) xs (x ∷ []) ∙ ap (λ l. with_commas phrase xs ++ l) (append-nil (phrase x ++ Mark Comma ∷ [])) ∙ sym (append_assoc (with_commas phrase xs) (phrase x) (Mark Comma ∷ []))
@@ -438,6 +238,129 @@ grows-run p q (t ∷ ts) e = by (step p t) refl (λ r. grows-run r q ts) e
     by : (next : Option Partial) → step p t ≡ next → ((r : Partial) → run r ts ≡ Some q → spelled q ≡ spelled r ++ ts) → option_and_then (λ r. run r ts) next ≡ Some q → spelled q ≡ spelled p ++ t ∷ ts
     by None s rec e = absurd cc
     by (Some r) s rec e = rec r e ∙ ap (λ l. l ++ ts) (grows p t r s) ∙ append_assoc (spelled p) (t ∷ []) ts
+
+-- what a partial tree comes from
+abbrev Comes : Partial → Type 0
+Comes p = (q : Partial) × (t : Lexeme) × (step q t ≡ Some p)
+
+-- a list has a last one, or none
+pub last_or_none : {X : Type 0} (xs : List X) → (xs ≡ []) ⊎ ((row : Row X) × (xs ≡ all_of row))
+last_or_none [] = inl refl
+last_or_none (x ∷ xs) = elim (last_or_none xs) [
+  | inl none ↦ inr (record { before = []; last = x }, ap (λ l. x ∷ l) none)
+  | inr (row, is) ↦ inr (record { before = x ∷ row.before; last = row.last }, ap (λ l. x ∷ l) is)
+]
+
+module _ {L : Type 0} (more : L → Option L) where
+  part_comes : (part : GroupPart L) → ((l : L) × (part ≡ leading (led l))) ⊎ ((q : GroupPart L) × (t : Lexeme) × (group_step more q t ≡ Some part))
+  part_comes (leading (led l)) = inl (l, refl)
+  part_comes (leading (bracketed l)) = inr (leading (led l), Mark LBracket, refl)
+  part_comes (leading (firsted l first)) = inr (leading (bracketed l), Number first, refl)
+  part_comes (leading (coloned l first)) = inr (leading (firsted l first), Mark Colon, refl)
+  part_comes (leading (lasted l first last)) = inr (leading (coloned l first), Number last, refl)
+  part_comes (leading (ranged l range)) = inr (leading (lasted l range.first range.last), Mark RBracket, refl)
+  part_comes (going spec row) = inr (naming spec row.before row.last, Mark Comma, refl)
+  part_comes (naming spec names last) = inr (elim (last_or_none names) [
+    | inl none ↦ subst (λ l. (q : GroupPart L) × (t : Lexeme) × (group_step more q t ≡ Some (naming spec l last))) (sym none) (by spec.range)
+    | inr (row, is) ↦ (going spec row, Name last, ap (λ l. Some (naming spec l last)) (sym is))
+  ])
+    where
+      by : (range : Option Range) → (q : GroupPart L) × (t : Lexeme) × (group_step more q t ≡ Some (naming (record { lead = spec.lead; range = range }) [] last))
+      by None = (leading (led spec.lead), Name last, refl)
+      by (Some range) = (leading (ranged spec.lead range), Name last, refl)
+
+heading_comes : (name : List ℕ) (groups : List (Group Direction)) (part : GroupPart Direction) → Comes (heading name groups part)
+heading_comes name groups part = elim (part_comes direction_more part) [
+  | inl (l, is) ↦ subst (λ g. Comes (heading name groups g)) (sym is) (by l)
+  | inr (q, t, e) ↦ (heading name groups q, t, ap (λ found. or_else (option_map (heading name groups) found) (heading_ends name groups q t)) e)
+]
+  where
+    by : (l : Direction) → Comes (heading name groups (leading (led l)))
+    by (Wired way) = (heading name groups (leading (led (Plain way))), Word Wire, refl)
+    by (Plain way) = elim (last_or_none groups) [
+      | inl none ↦ (listing name [], Word (word_of way), ap (λ gs. Some (heading name gs (leading (led (Plain way))))) (sym none))
+      | inr (row, is) ↦ (heading name row.before (going row.last.spec row.last.names), Word (word_of way), ap (λ gs. Some (heading name gs (leading (led (Plain way))))) (sym is))
+    ]
+
+module _ (head : Head) (items : List Item) where
+  item_comes : (part : ItemPart) → Comes (inside head items part)
+  item_comes (declaring part) = elim (part_comes lead_more part) [
+    | inl (l, is) ↦ subst (λ g. Comes (inside head items (declaring g))) (sym is) (by l)
+    | inr (q, t, e) ↦ (inside head items (declaring q), t, ap (λ found. or_else (option_map (λ more. inside head items (declaring more)) found) (declaring_ends head items q t)) e)
+  ]
+    where
+      by : (l : Lead) → Comes (inside head items (declaring (leading (led l))))
+      by (Gives (Plain way)) = (at_item head items, Word (word_of way), refl)
+      by (Gives (Wired way)) = (inside head items (declaring (leading (led (Gives (Plain way))))), Word Wire, refl)
+      by Wires = (at_item head items, Word Wire, refl)
+  item_comes (celled cell) = (at_item head items, Name cell, refl)
+  item_comes (named cell name) = (inside head items (celled cell), Name name, refl)
+  item_comes (joining cell name conns) = elim (last_or_none conns) [
+    | inl none ↦ (inside head items (named cell name), Mark LParen, ap (λ cs. Some (inside head items (joining cell name cs))) (sym none))
+    | inr (row, is) ↦ (inside head items (joined cell name row.before row.last), Mark Comma, ap (λ cs. Some (inside head items (joining cell name cs))) (sym is))
+  ]
+  item_comes (dotted cell name conns) = (inside head items (joining cell name conns), Mark Dot, refl)
+  item_comes (pinned cell name conns pin) = (inside head items (dotted cell name conns), Name pin, refl)
+  item_comes (opened cell name conns pin) = (inside head items (pinned cell name conns pin), Mark LParen, refl)
+  item_comes (netted cell name conns pin net) = (inside head items (opened cell name conns pin), Name net, refl)
+  item_comes (indexing cell name conns pin net) = (inside head items (netted cell name conns pin net), Mark LBracket, refl)
+  item_comes (indexed cell name conns pin net digits) = (inside head items (indexing cell name conns pin net), Number digits, refl)
+  item_comes (picked cell name conns pin net digits) = (inside head items (indexed cell name conns pin net digits), Mark RBracket, refl)
+  item_comes (joined cell name conns conn) = by conn.net.index
+    where
+      by : (index : Option (List ℕ)) → Comes (inside head items (joined cell name conns (record { pin = conn.pin; net = record { name = conn.net.name; index = index } })))
+      by None = (inside head items (netted cell name conns conn.pin conn.net.name), Mark RParen, refl)
+      by (Some digits) = (inside head items (picked cell name conns conn.pin conn.net.name digits), Mark RParen, refl)
+  item_comes (closed cell name conns conn) = (inside head items (joined cell name conns conn), Mark RParen, refl)
+
+comes : (p : Partial) → (p ≡ start) ⊎ Comes p
+comes start = inl refl
+comes begun = inr (start, Word Module, refl)
+comes (titled name) = inr (begun, Name name, refl)
+comes (listing name names) = inr (elim (last_or_none names) [
+  | inl none ↦ (titled name, Mark LParen, ap (λ l. Some (listing name l)) (sym none))
+  | inr (row, is) ↦ (listed name row.before row.last, Mark Comma, ap (λ l. Some (listing name l)) (sym is))
+])
+comes (listed name names last) = inr (listing name names, Name last, refl)
+comes (heading name groups part) = inr (heading_comes name groups part)
+comes (headed name Empty) = inr (listing name [], Mark RParen, refl)
+comes (headed name (Names row)) = inr (listed name row.before row.last, Mark RParen, refl)
+comes (headed name (Ansi row)) = inr (heading name row.before (naming row.last.spec row.last.names.before row.last.names.last), Mark RParen, refl)
+comes (at_item head items) = inr (elim (last_or_none items) [
+  | inl none ↦ subst (λ l. Comes (at_item head l)) (sym none) (first head.ports)
+  | inr (row, is) ↦ subst (λ l. Comes (at_item head l)) (sym is) (later row.before row.last)
+])
+  where
+    first : (ports : Option Listing) → Comes (at_item (record { name = head.name; ports = ports }) [])
+    first None = (titled head.name, Mark Semi, refl)
+    first (Some ports) = (headed head.name ports, Mark Semi, refl)
+
+    later : (some : List Item) (item : Item) → Comes (at_item head (some ++ item ∷ []))
+    later some (Declares group) = (inside head some (declaring (naming group.spec group.names.before group.names.last)), Mark Semi, refl)
+    later some (Joins cell name conns) = (inside head some (closed cell name conns.before conns.last), Mark Semi, refl)
+comes (inside head items part) = inr (item_comes head items part)
+comes (ended head items) = inr (at_item head items, Word EndModule, refl)
+comes (done head items) = inr (ended head items, End, refl)
+
+-- so a partial tree is what its tokens lead to
+run_up : (n : ℕ) (p : Partial) → length (spelled p) ≤ n → run start (spelled p) ≡ Some p
+run_up zero p few = elim (comes p) [
+  | inl is ↦ subst (λ q. run start (spelled q) ≡ Some q) (sym is) refl
+  | inr (q, t, e) ↦ absurd (omega (arith, few, ap length (grows q t p e), length-append (spelled q) (t ∷ [])))
+]
+run_up (suc n) p few = elim (comes p) [
+  | inl is ↦ subst (λ q. run start (spelled q) ≡ Some q) (sym is) refl
+  | inr (q, t, e) ↦
+      let fewer : length (spelled q) ≤ n = omega (arith, few, ap length (grows q t p e), length-append (spelled q) (t ∷ [])) in
+      ap (run start) (grows q t p e) ∙ run-append start q (spelled q) (t ∷ []) (run_up n q fewer) ∙ ap (option_and_then (λ r. Some r)) e
+]
+
+pub run-spelled : (p : Partial) → run start (spelled p) ≡ Some p
+run-spelled p = run_up (length (spelled p)) p (omega arith)
+
+-- and what is spelled with tokens more is what they lead to
+pub run-between : (p q : Partial) (ts : List Lexeme) → spelled q ≡ spelled p ++ ts → run p ts ≡ Some q
+run-between p q ts e = sym (run-append start p (spelled p) ts (run-spelled p)) ∙ ap (run start) (sym e) ∙ run-spelled q
 
 -- what leads to the end
 abbrev pub to_end : List Lexeme

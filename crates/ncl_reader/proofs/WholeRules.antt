@@ -1,7 +1,7 @@
 -- A text without vectors that keeps the rules as a whole breaks none at any of its tokens.
-use Rattle.ncl_reader.proofs.Terms.{◌≡◌, ℕ, List, ◌∷◌, ◌++◌, Option, Some, None, inl, inr, refl, sym, ap, ◌∙◌, subst, append_assoc, option_map, Module, LBracket, LParen, Lexeme, Word, Name, Mark, direction_phrase, Gives, lead_phrase, Range, spec_phrase, group_phrase, with_commas, name_phrase, body_phrase, IsDeclaring, span_of, IsDeclared, IsVector, Redeclares, Clashes, Crowds, Partial, spelled, [], option_and_then, same_Some, Text, text_phrase, Breaks, NoneBreaks, start, done, ◌≢◌, flat_map, Comma, RParen, Semi, Row, Direction, Plain, Wired, Lead, Wires, Group, Conn, conn_phrase, Item, Declares, Joins, item_phrase, Listing, Empty, Names, Ansi, header_phrase, head_phrase, row_phrase, AreWhole, IsScalar, AreScalar, IsPlain, zero, suc, Contains, false, arith, AllByRecursion, false≢true, append-nil, map-append, flat_map_more, Contains-append_left, Contains-append_right, IsDistinct-head, IsDistinct-tail, bytes_eq-Decides, CellKind, cell_name_of, pins_of, same_name, AllDiffer, EndModule, End, all_of, Spec, group_names, Head, groups_of, header_of, directed_in, directed_by, Joined, joined_in, IsInstanceOf, KeepsRules, led, GroupPart, leading, naming, going, begun, titled, listing, at_item, inside, declaring, celled, joining, dotted, opened, netted, pins_in}
+use Rattle.ncl_reader.proofs.Terms.{◌≡◌, ℕ, List, ◌∷◌, ◌++◌, Option, Some, None, inl, inr, refl, sym, ap, ◌∙◌, subst, append_assoc, option_map, Module, LBracket, LParen, Lexeme, Word, Name, Mark, direction_phrase, Gives, lead_phrase, Range, spec_phrase, group_phrase, with_commas, name_phrase, body_phrase, IsDeclaring, span_of, IsDeclared, IsVector, Redeclares, Clashes, Crowds, Partial, spelled, [], option_and_then, same_Some, Text, text_phrase, Breaks, NoneBreaks, start, done, ◌≢◌, flat_map, Comma, RParen, Semi, Row, Direction, Plain, Wired, Lead, Wires, Group, Conn, conn_phrase, Item, Declares, Joins, item_phrase, Listing, Empty, Names, Ansi, header_phrase, head_phrase, row_phrase, AreWhole, IsScalar, AreScalar, IsPlain, zero, suc, Contains, false, arith, AllByRecursion, false≢true, append-nil, map-append, flat_map_more, Contains-append_left, Contains-append_right, IsDistinct-head, IsDistinct-tail, bytes_eq-Decides, CellKind, cell_name_of, pins_of, same_name, AllDiffer, EndModule, End, all_of, Spec, group_names, Head, groups_of, header_of, directed_in, directed_by, Joined, joined_in, IsInstanceOf, KeepsRules, led, GroupPart, leading, naming, going, begun, titled, listing, at_item, inside, declaring, celled, joining, dotted, opened, netted, pins_in, part_spelled, listed, joined, headed}
 use Rattle.ncl_reader.proofs.RulesAt.{NameAt, BreaksAt, breaks-here, Misgiven, some_given, pin_free, close_free}
-use Rattle.ncl_reader.proofs.Steps.{step, run, run-append, run-spelled, grows-run, front_run, not_taken, breaks-taken, run-both, run-listing, run-listed, run-headed, run-word, run-names, run-conn, run-joining, run-joined, run-head, run-item, run-body}
+use Rattle.ncl_reader.proofs.Steps.{step, run, run-append, run-spelled, run-between, grows-run, front_run, not_taken, breaks-taken}
 use Rattle.ncl_reader.proofs.Facts.{part_names, Of, some_of}
 
 -- no bracket stands
@@ -126,7 +126,7 @@ clean-listing title some (x ∷ names) rest differ =
 
 clean-listed : (title : List ℕ) (names : Row (List ℕ)) → AllDiffer (all_of names) → Clean (listing title []) (row_phrase name_phrase names)
 clean-listed title names differ =
-    clean-append _ _ (with_commas name_phrase names.before) _ (run-listing title [] names.before) (clean-listing title [] names.before (names.last ∷ []) differ)
+    clean-append _ _ (with_commas name_phrase names.before) _ (run-between (listing title []) (listing title names.before) _ refl) (clean-listing title [] names.before (names.last ∷ []) differ)
     (plain_free (listing title names.before) names.last (not_again names.before names.last [] differ), tt)
 
 clean-head : (title : List ℕ) (ports : Option Listing) → ((groups : Row (Group Direction)) → ports ≢ Some (Ansi groups)) → AllDiffer (header_of (record { name = title; ports = ports })) → Clean start (head_phrase (record { name = title; ports = ports }))
@@ -136,8 +136,8 @@ clean-head title ports plain differ = (λ n b. b, (plain_free begun title (λ no
     behind None plain differ = (λ n b. b, tt)
     behind (Some Empty) plain differ = (λ n b. b, (λ n b. b, (λ n b. b, tt)))
     behind (Some (Names names)) plain differ =
-        let listed = clean-append _ _ (row_phrase name_phrase names) (Mark RParen ∷ []) (run-listed title names) (clean-listed title names differ) (λ n b. b, tt) in
-        (λ n b. b, clean-append _ _ (row_phrase name_phrase names ++ Mark RParen ∷ []) (Mark Semi ∷ []) (run-headed title (Names names)) listed (λ n b. b, tt))
+        let listed = clean-append _ _ (row_phrase name_phrase names) (Mark RParen ∷ []) (run-between (listing title []) (listed title names.before names.last) _ refl) (clean-listed title names differ) (λ n b. b, tt) in
+        (λ n b. b, clean-append _ _ (row_phrase name_phrase names ++ Mark RParen ∷ []) (Mark Semi ∷ []) (run-between (listing title []) (headed title (Names names)) _ refl) listed (λ n b. b, tt))
     behind (Some (Ansi groups)) plain differ = absurd (plain groups refl)
 
 -- the names of a declaration
@@ -183,8 +183,8 @@ module _ (head : Head) (items : List Item) (plain : (groups : Row (Group Directi
       let first : IsGiving head items l → AllDiffer ((directed_by head items ++ []) ++ (names.before ++ names.last ∷ rest)) = λ gives. subst (λ k. AllDiffer (k ++ (names.before ++ names.last ∷ rest))) (sym (append-nil (directed_by head items))) (subst (λ k. AllDiffer (directed_by head items ++ k)) (append_assoc names.before (names.last ∷ []) rest) (differ gives)) in
       let start_here = inside head items (declaring (leading (led l))) in
       let all = inside head items (declaring (naming (record { lead = l; range = None }) names.before names.last)) in
-      let listed = clean-append (at_item head items) start_here (lead_phrase l) (row_phrase name_phrase names) (run-word head items l) (clean-word l) (clean-going head items l (leading (led l)) (λ x. refl) (λ x b. b) names.before names.last rest first known) in
-      let runs = run-both (at_item head items) start_here all (lead_phrase l) (row_phrase name_phrase names) (run-word head items l) (run-names head items l None names.before names.last) in
+      let listed = clean-append (at_item head items) start_here (lead_phrase l) (row_phrase name_phrase names) (run-between (at_item head items) start_here _ refl) (clean-word l) (clean-going head items l (leading (led l)) (λ x. refl) (λ x b. b) names.before names.last rest first known) in
+      let runs = run-between (at_item head items) all _ (ap (λ k. body_phrase head items ++ (k ++ row_phrase name_phrase names)) (append-nil (lead_phrase l))) in
       subst (λ k. Clean (at_item head items) ((k ++ row_phrase name_phrase names) ++ Mark Semi ∷ [])) (sym (append-nil (lead_phrase l)))
       (clean-append (at_item head items) all (lead_phrase l ++ row_phrase name_phrase names) (Mark Semi ∷ []) runs listed (λ n b. b, tt))
 
@@ -192,6 +192,9 @@ module _ (head : Head) (items : List Item) (plain : (groups : Row (Group Directi
 module _ (head : Head) (items : List Item) (kind : CellKind) (name : List ℕ) where
   abbrev with_conns : List Conn → Partial
   with_conns conns = inside head items (joining (cell_name_of kind) name conns)
+
+  conn_goes : (some : List Conn) (c : Conn) → run (with_conns some) (conn_phrase c) ≡ Some (inside head items (joined (cell_name_of kind) name some c))
+  conn_goes some c = run-between (with_conns some) _ (conn_phrase c) (sym (append_assoc (body_phrase head items) (part_spelled (joining (cell_name_of kind) name some)) (conn_phrase c)))
 
   clean-conn : (some : List Conn) (c : Conn) → c.net.index ≡ None → Contains (pins_of kind) c.pin → (Contains (pins_in some) c.pin → ⊥) → Clean (with_conns some) (conn_phrase c)
   clean-conn some c whole has new =
@@ -207,9 +210,9 @@ module _ (head : Head) (items : List Item) (kind : CellKind) (name : List ℕ) w
       let more : pins_in some ++ c.pin ∷ (pins_in conns ++ rest) ≡ pins_in (some ++ c ∷ []) ++ (pins_in conns ++ rest) =
       sym (append_assoc (pins_in some) (c.pin ∷ []) (pins_in conns ++ rest)) ∙ ap (λ l. l ++ (pins_in conns ++ rest)) (sym (map-append (λ (d : Conn). d.pin) some (c ∷ []))) in
       let conn = clean-conn some c whole.0 (has c.pin (0, omega arith, refl)) (not_again (pins_in some) c.pin (pins_in conns ++ rest) differ) in
-      let one = clean-append (with_conns some) _ (conn_phrase c) (Mark Comma ∷ []) (run-conn head items (cell_name_of kind) name some c) conn (λ n b. b, tt) in
+      let one = clean-append (with_conns some) _ (conn_phrase c) (Mark Comma ∷ []) (conn_goes some c) conn (λ n b. b, tt) in
       clean-append (with_conns some) (with_conns (some ++ c ∷ [])) (conn_phrase c ++ Mark Comma ∷ []) (with_commas conn_phrase conns)
-      (run-append (with_conns some) _ (conn_phrase c) (Mark Comma ∷ []) (run-conn head items (cell_name_of kind) name some c)) one
+      (run-append (with_conns some) _ (conn_phrase c) (Mark Comma ∷ []) (conn_goes some c)) one
       (clean-joining (some ++ c ∷ []) conns rest whole.1 (subst AllDiffer more differ) (λ x found. has x (Contains-append_right (c.pin ∷ []) (pins_in conns) x found)))
 
   whole_before : (before : List Conn) (last : Conn) → AreWhole (before ++ last ∷ []) → AreWhole before × (last.net.index ≡ None)
@@ -222,7 +225,7 @@ module _ (head : Head) (items : List Item) (kind : CellKind) (name : List ℕ) w
       let pins : pins_in (all_of conns) ≡ pins_in conns.before ++ conns.last.pin ∷ [] = map-append (λ (d : Conn). d.pin) conns.before (conns.last ∷ []) in
       let differ : AllDiffer (pins_in conns.before ++ conns.last.pin ∷ []) = subst AllDiffer pins is.once in
       let has : (x : List ℕ) → Contains (pins_in conns.before ++ conns.last.pin ∷ []) x → Contains (pins_of kind) x = λ x found. (is.pins x).1 (subst (λ l. Contains l x) (sym pins) found) in
-      let joined = clean-append (with_conns []) (with_conns conns.before) (with_commas conn_phrase conns.before) (conn_phrase conns.last) (run-joining head items (cell_name_of kind) name [] conns.before)
+      let front = clean-append (with_conns []) (with_conns conns.before) (with_commas conn_phrase conns.before) (conn_phrase conns.last) (run-between (with_conns []) (with_conns conns.before) _ (sym (append_assoc (body_phrase head items) (part_spelled (joining (cell_name_of kind) name [])) _)))
       (clean-joining [] conns.before (conns.last.pin ∷ []) before differ (λ x found. has x (Contains-append_left (pins_in conns.before) (conns.last.pin ∷ []) x found)))
       (clean-conn conns.before conns.last last (has conns.last.pin (Contains-append_right (pins_in conns.before) (conns.last.pin ∷ []) conns.last.pin (0, omega arith, refl))) (not_again (pins_in conns.before) conns.last.pin [] differ)) in (
         plain_free (at_item head items) (cell_name_of kind) (λ none. none kind refl),
@@ -230,7 +233,7 @@ module _ (head : Head) (items : List Item) (kind : CellKind) (name : List ℕ) w
           plain_free (inside head items (celled (cell_name_of kind))) name (λ none. none),
           (
             λ n b. b,
-            clean-append (with_conns []) _ (row_phrase conn_phrase conns) (Mark RParen ∷ Mark Semi ∷ []) (run-joined head items (cell_name_of kind) name conns) joined
+            clean-append (with_conns []) _ (row_phrase conn_phrase conns) (Mark RParen ∷ Mark Semi ∷ []) (run-between (with_conns []) (inside head items (joined (cell_name_of kind) name conns.before conns.last)) _ (sym (append_assoc (body_phrase head items) (part_spelled (joining (cell_name_of kind) name [])) _))) front
                 (λ n. close_free head items kind name conns.before conns.last (λ x stands. (is.pins x).0 stands), (λ n b. b, tt)),
           ),
         ),
@@ -268,7 +271,7 @@ module _ (head : Head) (plain : (groups : Row (Group Direction)) → head.ports 
   clean-items : (some items : List Item) → AreScalar items → AllDiffer (directed_by head some ++ flat_map directed_in items) → ((x : List ℕ) → Contains (flat_map directed_in items) x → Contains (header_of head) x) → ((j : Joined) → Contains (flat_map joined_in items) j → HasCell j) → Clean (at_item head some) (flat_map item_phrase items)
   clean-items some [] scalar differ known cells = tt
   clean-items some (item ∷ items) scalar differ known cells =
-      clean-append (at_item head some) (at_item head (some ++ item ∷ [])) (item_phrase item) (flat_map item_phrase items) (run-item head some item)
+      clean-append (at_item head some) (at_item head (some ++ item ∷ [])) (item_phrase item) (flat_map item_phrase items) (run-between (at_item head some) (at_item head (some ++ item ∷ [])) _ (sym (flat_map_more item_phrase (head_phrase head) some item)))
       (clean-item some item (flat_map directed_in items) scalar.0 differ (λ x found. known x (Contains-append_left (directed_in item) (flat_map directed_in items) x found)) (λ j found. cells j (Contains-append_left (joined_in item) (flat_map joined_in items) j found)))
       (clean-items (some ++ item ∷ []) items scalar.1 (subst AllDiffer (more_directed some item items) differ) (λ x found. known x (Contains-append_right (directed_in item) (flat_map directed_in items) x found)) (λ j found. cells j (Contains-append_right (joined_in item) (flat_map joined_in items) j found)))
 
@@ -280,7 +283,7 @@ whole_rules text plain keeps =
     let cells : (j : Joined) → Contains (flat_map joined_in items) j → HasCell j = λ j (k, lt, e). subst HasCell e (keeps.cells k j lt) in
     let named = flat_map group_names (groups_of head.ports) in
     let once : AllDiffer (directed_by head [] ++ flat_map directed_in items) = subst (λ l. AllDiffer (l ++ flat_map directed_in items)) (sym (append-nil named)) keeps.once in
-    let body = clean-append start (at_item head []) (head_phrase head) (flat_map item_phrase items) (run-head head) (clean-head head.name head.ports plain.header keeps.header)
+    let body = clean-append start (at_item head []) (head_phrase head) (flat_map item_phrase items) (run-between start (at_item head []) _ (append-nil (head_phrase head))) (clean-head head.name head.ports plain.header keeps.header)
     (clean-items head plain.header [] items plain.items once (λ x found. (keeps.directed x).1 (Contains-append_right named (flat_map directed_in items) x found)) cells) in
-    unbroken-clean text (clean-append start (at_item head items) (body_phrase head items) (Word EndModule ∷ End ∷ []) (run-body head items) body
+    unbroken-clean text (clean-append start (at_item head items) (body_phrase head items) (Word EndModule ∷ End ∷ []) (run-spelled (at_item head items)) body
     (λ n (port, stands, undirected). undirected ((keeps.directed port).0 stands), (λ n b. b, tt)))

@@ -182,8 +182,7 @@ module _ (head : Head) (items : List Item) (cell name : List ℕ) (conns : List 
 pub cells-more : (js : List Joined) (cs : List PartCell) (j : Joined) (c : PartCell) → AreCellsOf js cs → IsCellOf j c → AreCellsOf (js ++ j ∷ []) (cs ++ c ∷ [])
 cells-more [] [] j c are is = (is, tt)
 cells-more (k ∷ js) (d ∷ cs) j c are is = (are.0, cells-more js cs j c are.1 is)
-cells-more [] (d ∷ cs) j c are is = absurd are
-cells-more (k ∷ js) [] j c are is = absurd are
+cells-more js cs j c are is = absurd are
 
 -- an instance that ends says nothing of ports
 said-joins : (head : Head) (items : List Item) (cell name : List ℕ) (row : Row Conn) → said_by (record { head = head; items = items }) ≡ said_by (record { head = head; items = items ++ Joins cell name row ∷ [] })

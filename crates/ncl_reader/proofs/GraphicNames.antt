@@ -128,14 +128,12 @@ fine_pins conns (pin ∷ pins) all = All-cons IsGraphicName (unwrap_or (net_on c
 fine_cell_names : (js : List Joined) (cs : List PartCell) → AreCellsOf js cs → All IsFineJoined js → All IsGraphicName (map (λ (c : PartCell). c.name) cs)
 fine_cell_names [] [] are all = All-nil IsGraphicName
 fine_cell_names (j ∷ js) (c ∷ cs) are all = All-cons IsGraphicName c.name (map (λ (c : PartCell). c.name) cs) (subst IsGraphicName (sym are.0.name) (All-head IsFineJoined j js all).name) (fine_cell_names js cs are.1 (All-tail IsFineJoined j js all))
-fine_cell_names [] (c ∷ cs) are all = absurd are
-fine_cell_names (j ∷ js) [] are all = absurd are
+fine_cell_names js cs are all = absurd are
 
 fine_cell_nets : (js : List Joined) (cs : List PartCell) → AreCellsOf js cs → All IsFineJoined js → All IsGraphicName (flat_map (λ (c : PartCell). c.pins) cs)
 fine_cell_nets [] [] are all = All-nil IsGraphicName
 fine_cell_nets (j ∷ js) (c ∷ cs) are all = All-append IsGraphicName c.pins (flat_map (λ (c : PartCell). c.pins) cs) (subst (All IsGraphicName) (sym are.0.pins) (fine_pins j.conns (pins_of c.kind) (All-head IsFineJoined j js all).conns)) (fine_cell_nets js cs are.1 (All-tail IsFineJoined j js all))
-fine_cell_nets [] (c ∷ cs) are all = absurd are
-fine_cell_nets (j ∷ js) [] are all = absurd are
+fine_cell_nets js cs are all = absurd are
 
 -- ports that are said
 fine_bits : (x : List ℕ) (range : Option Range) (z : List ℕ) → IsGraphicName x → Member z (bits_of x range) → IsGraphicName z
@@ -191,5 +189,4 @@ graphic_names bytes parts (ts, (tokens, stop, are, is), reads) =
 pub all_pins : (js : List Joined) (cs : List PartCell) → AreCellsOf js cs → All HasAllPins cs
 all_pins [] [] are = All-nil HasAllPins
 all_pins (j ∷ js) (c ∷ cs) are = All-cons HasAllPins c cs (ap length are.0.pins ∙ length-map (pins_of c.kind) _) (all_pins js cs are.1)
-all_pins [] (c ∷ cs) are = absurd are
-all_pins (j ∷ js) [] are = absurd are
+all_pins js cs are = absurd are

@@ -5,6 +5,12 @@ use Rattle.ncl_reader.proofs.Steps.{step, or_else, lead_step, direction_more, le
 use Rattle.ncl_reader.proofs.Facts.{part_spec}
 use Rattle.ncl_reader.proofs.RulesAt.{TooLong, LongPart, BreaksAt, breaks-here, breaks-back}
 
+-- what begins a declaration is in front of "wire", a bracket or a name, or only of the last two
+abbrev pub Form : {L : Type 0} → (L → LeadPlace) → (L → Option L) → (L → Option Bool) → L → Type 0
+Form {L} of more output l =
+    ((of l ≡ lead.Direction) × ((m : L) × (more l ≡ Some m) × (of m ≡ lead.Wire) × (output m ≡ output l)))
+    ⊎ ((of l ≡ lead.Wire) × (more l ≡ None))
+
 -- where a declaration is read: in the header, or as an item
 pub record Site (L : Type 0) : Type 0 where
   pub tree : LeadPart L → Partial
@@ -17,9 +23,7 @@ pub record Site (L : Type 0) : Type 0 where
   pub opens : (part : LeadPart L) → BreaksAt (tree part) (Mark LBracket) → ⊥
   pub numbers : (part : LeadPart L) (digits : List ℕ) → BreaksAt (tree part) (Number digits) → IsTooLarge digits ⊎ LongPart part digits
   pub long : (part : LeadPart L) (digits : List ℕ) → LongPart part digits → BreaksAt (tree part) (Number digits)
-  pub wires : (l : L) → of l ≡ lead.Direction → (m : L) × (more l ≡ Some m) × (of m ≡ lead.Wire) × (output m ≡ output l)
-  pub wired : (l : L) → of l ≡ lead.Wire → more l ≡ None
-  pub forms : (l : L) → (of l ≡ lead.Direction) ⊎ (of l ≡ lead.Wire)
+  pub forms : (l : L) → Form of more output l
 
 module _ {L : Type 0} (site : Site L) (kept : Led) where
   abbrev Answer : LeadPart L → Lexeme → Option LeadPlace → Type 0
@@ -42,27 +46,23 @@ module _ {L : Type 0} (site : Site L) (kept : Led) where
   -- what begins a declaration is in front of "wire", a bracket or a name
   no_place : (l : L) (at : LeadPlace) → (lead.Direction ≡ at → ⊥) → (lead.Wire ≡ at → ⊥) → site.of l ≡ at → ⊥
   no_place l at one two is = elim (site.forms l) [
-    | inl e ↦ one (sym e ∙ is)
-    | inr e ↦ two (sym e ∙ is)
+    | inl e ↦ one (sym e.0 ∙ is)
+    | inr e ↦ two (sym e.0 ∙ is)
   ]
 
   -- behind a direction
   pub at_wire : (part : LeadPart L) (t : Lexeme) → lead_place site.of part ≡ lead.Direction → IsLed site.output part kept → t ≡ Word Wire → Answer part t (Some lead.Wire)
   at_wire (led l) t at keeps is =
-      let (m, more, of, output) = site.wires l at in
-      subst (λ u. Answer (led l) u (Some lead.Wire)) (sym is) (took (led l) (led m) (Word Wire) lead.Wire (ap (option_map (λ n. leading (led n))) more) of (keeps.0 ∙ sym output, keeps.1) (λ none. none))
+      elim (site.forms l) [
+        | inl (direction, (m, more, of, output)) ↦ subst (λ u. Answer (led l) u (Some lead.Wire)) (sym is) (took (led l) (led m) (Word Wire) lead.Wire (ap (option_map (λ n. leading (led n))) more) of (keeps.0 ∙ sym output, keeps.1) (λ none. none))
+        | inr (wire, none) ↦ let wrong : lead.Direction ≡ lead.Wire = sym at ∙ wire in absurd cc
+      ]
   at_wire part t at keeps is = absurd cc
 
-  bracket_led : (l : L) (t : Lexeme) → IsLed site.output (led l) kept → t ≡ Mark LBracket → Answer (led l) t (Some lead.First)
-  bracket_led l t keeps is = subst (λ u. Answer (led l) u (Some lead.First)) (sym is) (took (led l) (bracketed l) (Mark LBracket) lead.First refl refl keeps.0 (site.opens (led l)))
-
-  pub at_bracket : (part : LeadPart L) (t : Lexeme) → lead_place site.of part ≡ lead.Direction → IsLed site.output part kept → t ≡ Mark LBracket → Answer part t (Some lead.First)
-  at_bracket (led l) t at keeps is = bracket_led l t keeps is
-  at_bracket part t at keeps is = absurd cc
-
-  pub wire_bracket : (part : LeadPart L) (t : Lexeme) → lead_place site.of part ≡ lead.Wire → IsLed site.output part kept → t ≡ Mark LBracket → Answer part t (Some lead.First)
-  wire_bracket (led l) t at keeps is = bracket_led l t keeps is
-  wire_bracket part t at keeps is = absurd cc
+  pub at_bracket : (part : LeadPart L) (t : Lexeme) → (lead_place site.of part ≡ lead.Direction) ⊎ (lead_place site.of part ≡ lead.Wire) → IsLed site.output part kept → t ≡ Mark LBracket → Answer part t (Some lead.First)
+  at_bracket (led l) t at keeps is = subst (λ u. Answer (led l) u (Some lead.First)) (sym is) (took (led l) (bracketed l) (Mark LBracket) lead.First refl refl keeps.0 (site.opens (led l)))
+  at_bracket part t (inl at) keeps is = absurd cc
+  at_bracket part t (inr at) keeps is = absurd cc
 
   -- tokens that aren't taken
   others-led : (l : L) (t : Lexeme) → (t ≡ Word Wire → site.more l ≡ None) → t ≢ Mark LBracket → ((x : List ℕ) → t ≢ Name x) → lead_step site.more (led l) t ≡ None
@@ -81,8 +81,8 @@ module _ {L : Type 0} (site : Site L) (kept : Led) where
 
   others : (part : LeadPart L) (t : Lexeme) → Others (lead_place site.of part) t → lead_step site.more part t ≡ None
   others (led l) t none = elim (site.forms l) [
-    | inl at ↦ let (wire, bracket, names) = subst (λ h. Others h t) at none in others-led l t (λ is. absurd (wire is)) bracket names
-    | inr at ↦ let (bracket, names) = subst (λ h. Others h t) at none in others-led l t (λ is. site.wired l at) bracket names
+    | inl form ↦ let (wire, bracket, names) = subst (λ h. Others h t) form.0 none in others-led l t (λ is. absurd (wire is)) bracket names
+    | inr form ↦ let (bracket, names) = subst (λ h. Others h t) form.0 none in others-led l t (λ is. form.1) bracket names
   ]
   others (bracketed l) (Number digits) none = absurd (none digits refl)
   others (firsted l first) (Mark Colon) none = absurd (none refl)
@@ -132,8 +132,8 @@ module _ {L : Type 0} (site : Site L) (kept : Led) where
   -- a name behind what a declaration begins with
   pub names_none : (part : LeadPart L) (x : List ℕ) → takes_name (lead_place site.of part) ≡ false → step (site.tree part) (Name x) ≡ None
   names_none (led l) x e = absurd (elim (site.forms l) [
-    | inl direction ↦ false≢true (sym e ∙ ap takes_name direction)
-    | inr wire ↦ false≢true (sym e ∙ ap takes_name wire)
+    | inl form ↦ false≢true (sym e ∙ ap takes_name form.0)
+    | inr form ↦ false≢true (sym e ∙ ap takes_name form.0)
   ])
   names_none (ranged l range) x e = absurd (false≢true (sym e))
   names_none part x e = site.leaves part (Name x) refl
@@ -189,32 +189,14 @@ module _ {L : Type 0} (site : Site L) (old new : Led) where
   last part t digits n at keeps is same spans value small short = absurd cc
 
 -- the two places
-pub direction_wires : (l : Direction) → direction_place l ≡ lead.Direction → (m : Direction) × (direction_more l ≡ Some m) × (direction_place m ≡ lead.Wire) × (direction_output m ≡ direction_output l)
-direction_wires (Plain way) at = (Wired way, refl, refl, refl)
-direction_wires (Wired way) at = absurd cc
+pub direction_forms : (l : Direction) → Form direction_place direction_more direction_output l
+direction_forms (Plain way) = inl (refl, (Wired way, refl, refl, refl))
+direction_forms (Wired way) = inr (refl, refl)
 
-pub direction_wired : (l : Direction) → direction_place l ≡ lead.Wire → direction_more l ≡ None
-direction_wired (Plain way) at = absurd cc
-direction_wired (Wired way) at = refl
-
-pub direction_forms : (l : Direction) → (direction_place l ≡ lead.Direction) ⊎ (direction_place l ≡ lead.Wire)
-direction_forms (Plain way) = inl refl
-direction_forms (Wired way) = inr refl
-
-pub word_wires : (l : Lead) → word_place l ≡ lead.Direction → (m : Lead) × (lead_more l ≡ Some m) × (word_place m ≡ lead.Wire) × (lead_output m ≡ lead_output l)
-word_wires (Gives (Plain way)) at = (Gives (Wired way), refl, refl, refl)
-word_wires (Gives (Wired way)) at = absurd cc
-word_wires Wires at = absurd cc
-
-pub word_wired : (l : Lead) → word_place l ≡ lead.Wire → lead_more l ≡ None
-word_wired (Gives (Plain way)) at = absurd cc
-word_wired (Gives (Wired way)) at = refl
-word_wired Wires at = refl
-
-pub word_forms : (l : Lead) → (word_place l ≡ lead.Direction) ⊎ (word_place l ≡ lead.Wire)
-word_forms (Gives (Plain way)) = inl refl
-word_forms (Gives (Wired way)) = inr refl
-word_forms Wires = inr refl
+pub word_forms : (l : Lead) → Form word_place lead_more lead_output l
+word_forms (Gives (Plain way)) = inl (refl, (Gives (Wired way), refl, refl, refl))
+word_forms (Gives (Wired way)) = inr (refl, refl)
+word_forms Wires = inr (refl, refl)
 
 pub number_part : {A B : Type 0} → A ⊎ (B ⊎ ⊥) → A ⊎ B
 number_part (inl a) = inl a
@@ -233,8 +215,6 @@ in_header title groups = record {
   opens = λ part none. none;
   numbers = λ part digits b. number_part b;
   long = λ part digits b. inr (inl b);
-  wires = direction_wires;
-  wired = direction_wired;
   forms = direction_forms;
 }
 
@@ -250,7 +230,5 @@ in_item head items = record {
   opens = λ part none. none;
   numbers = λ part digits b. number_part b;
   long = λ part digits b. inr (inl b);
-  wires = word_wires;
-  wired = word_wired;
   forms = word_forms;
 }

@@ -67,13 +67,12 @@ one_cell j c d one two =
 one_cells : (js : List Joined) (cs ds : List PartCell) → AreCellsOf js cs → AreCellsOf js ds → cs ≡ ds
 one_cells [] [] [] one two = refl
 one_cells [] [] (d ∷ ds) one two = absurd two
-one_cells [] (c ∷ cs) ds one two = absurd one
-one_cells (j ∷ js) [] ds one two = absurd one
 one_cells (j ∷ js) (c ∷ cs) [] one two = absurd two
 one_cells (j ∷ js) (c ∷ cs) (d ∷ ds) one two =
     let heads = one_cell j c d one.0 two.0 in
     let tails = one_cells js cs ds one.1 two.1 in
     λ i. heads i ∷ tails i
+one_cells js cs ds one two = absurd one
 
 one_says : (text : Text) (a b : Parts) → Says text a → Says text b → a ≡ b
 one_says text a b one two =

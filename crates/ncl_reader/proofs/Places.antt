@@ -61,10 +61,8 @@ DeclaresAt at = ((lead : LeadPlace) × (at ≡ place.HeaderLead lead)) ⊎ ((at 
 declares_by : (p : Partial) (range : Option Range) → range_here p ≡ Some range → DeclaresAt (place_of p)
 declares_by (heading name groups (leading part)) range e = inl (lead_place direction_place part, refl)
 declares_by (heading name groups (going spec row)) range e = inr (inl refl)
-declares_by (heading name groups (naming spec names last)) range e = absurd cc
 declares_by (inside head items (declaring (leading part))) range e = inr (inr (inl (lead_place word_place part, refl)))
 declares_by (inside head items (declaring (going spec row))) range e = inr (inr (inr refl))
-declares_by (inside head items (declaring (naming spec names last))) range e = absurd cc
 declares_by p range e = absurd cc
 
 pub declares_at : (p : Partial) (range : Option Range) → IsDeclaring (spelled p) range → DeclaresAt (place_of p)

@@ -57,15 +57,11 @@ none-test (Some v) true e = absurd (false≢true (sym e))
 lacks_by : (names : List (List ℕ)) (said : List Said) (x : List ℕ) (found : Option Said) (listed : Bool) (way : Option (Option Bool)) (b : Bool) → said_at said x ≡ found → list_any (bytes_eq x) names ≡ listed → way_by found listed ≡ way → LacksOf way b → LacksWay b names said x
 lacks_by names said x (Some s) listed (Some (Some w)) false f l e is = inr (found-said x said s f)
 lacks_by names said x (Some s) listed (Some (Some w)) true f l e is = absurd (false≢true (sym is))
-lacks_by names said x (Some s) listed (Some None) b f l e is = absurd cc
-lacks_by names said x (Some s) listed None b f l e is = absurd cc
 lacks_by names said x None true (Some None) true f l e is = (contains-from_any x names l, none-said x said f)
 lacks_by names said x None true (Some None) false f l e is = absurd (false≢true is)
-lacks_by names said x None true (Some (Some w)) b f l e is = absurd cc
-lacks_by names said x None true None b f l e is = absurd cc
 lacks_by names said x None false None false f l e is = inl (not_among x names l)
 lacks_by names said x None false None true f l e is = absurd (false≢true (sym is))
-lacks_by names said x None false (Some w) b f l e is = absurd cc
+lacks_by names said x found listed way b f l e is = absurd cc
 
 pub lacks : (names : List (List ℕ)) (said : List Said) (x : List ℕ) (way : Option (Option Bool)) (b : Bool) → way_of names said x ≡ way → LacksOf way b → LacksWay b names said x
 lacks names said x way b e is = lacks_by names said x (said_at said x) (list_any (bytes_eq x) names) way b refl refl e is

@@ -139,7 +139,6 @@ crowds-back p x none = absurd none
 long-run : (r p : Partial) (first digits : List ℕ) → run r (Mark LBracket ∷ Number first ∷ Mark Colon ∷ []) ≡ Some p → TooLong first digits → LongAt p digits
 long-run (heading title groups (leading (led l))) p first digits e long = subst (λ q. LongAt q digits) (same_Some _ p e) long
 long-run (inside head items (declaring (leading (led l)))) p first digits e long = subst (λ q. LongAt q digits) (same_Some _ p e) long
-long-run (inside head items (netted cell name conns pin net)) p first digits e long = absurd cc
 long-run r p first digits e long = absurd cc
 
 pub long-here : (p : Partial) (digits : List ℕ) → IsTooLong (spelled p) digits → LongAt p digits

@@ -126,9 +126,7 @@ header_declares : (name : List ℕ) (ports : Option Listing) (items : List Item)
 header_declares name (Some (Ansi row)) items group x among stands =
     found_listed (λ l. IsDeclaring l group.spec.range) x name (Ansi row) items (found_row (group_phrase direction_phrase) _ x row.before row.last group among (λ before.
     found-behind _ x (spec_phrase direction_phrase group.spec) _ (found_name _ group.names x stands (λ names. inl (name, before, group.spec.lead, names, refl)))))
-header_declares name (Some (Names row)) items group x among stands = elim among [ ]
-header_declares name (Some Empty) items group x among stands = elim among [ ]
-header_declares name None items group x among stands = elim among [ ]
+header_declares name ports items group x among stands = elim among [ ]
 
 item_declares : (head : Head) (items : List Item) (group : Group Lead) (x : List ℕ) → Member (Declares group) items → Member x (group_names group) → IsDeclared (whole head items) x group.spec.range
 item_declares head items group x among stands =
@@ -176,8 +174,7 @@ stand_in name (Some (Ansi row)) items x among =
     let (group, stands, is) = member_of_flat_map group_names (all_of row) x among in
     let (front, rest, e, declares) = header_declares name (Some (Ansi row)) items group x stands is in
     (front, rest, e)
-stand_in name (Some Empty) items x among = elim among [ ]
-stand_in name None items x among = elim among [ ]
+stand_in name ports items x among = elim among [ ]
 
 pub header_stands : (head : Head) (items : List Item) (x : List ℕ) → Contains (header_of head) x → Stands (whole head items) x
 header_stands head items x found = stand_in head.name head.ports items x (Member-from_Contains (header_of head) x found)

@@ -160,8 +160,7 @@ direction-wired (Wired way) m e = absurd cc
 
 lead-wired : (l m : Lead) → lead_more l ≡ Some m → lead_phrase m ≡ lead_phrase l ++ Word Wire ∷ []
 lead-wired (Gives (Plain way)) m e = ap lead_phrase (sym (same_Some (Gives (Wired way)) m e))
-lead-wired (Gives (Wired way)) m e = absurd cc
-lead-wired Wires m e = absurd cc
+lead-wired l m e = absurd cc
 
 -- one token more in a declaration of a header
 module _ (name : List ℕ) (groups : List (Group Direction)) where

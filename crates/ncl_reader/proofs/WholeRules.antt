@@ -1,6 +1,6 @@
 -- A text without vectors that keeps the rules as a whole breaks none at any of its tokens.
 use Rattle.ncl_reader.proofs.Terms.{◌≡◌, ℕ, List, ◌∷◌, ◌++◌, Option, Some, None, inl, inr, refl, sym, ap, ◌∙◌, subst, append_assoc, option_map, Module, LBracket, LParen, Lexeme, Word, Name, Mark, direction_phrase, Gives, lead_phrase, Range, spec_phrase, group_phrase, with_commas, name_phrase, body_phrase, IsDeclaring, span_of, IsDeclared, IsVector, Redeclares, Clashes, Crowds, Partial, spelled, [], option_and_then, same_Some, Text, text_phrase, Breaks, NoneBreaks, start, done, ◌≢◌, flat_map, Comma, RParen, Semi, Row, Direction, Plain, Wired, Lead, Wires, Group, Conn, conn_phrase, Item, Declares, Joins, item_phrase, Listing, Empty, Names, Ansi, header_phrase, head_phrase, row_phrase, AreWhole, IsScalar, AreScalar, IsPlain, zero, suc, Contains, false, arith, AllByRecursion, false≢true, append-nil, map-append, flat_map_more, Contains-append_left, Contains-append_right, IsDistinct-head, IsDistinct-tail, bytes_eq-Decides, CellKind, cell_name_of, pins_of, same_name, AllDiffer, EndModule, End, all_of, Spec, group_names, Head, groups_of, header_of, directed_in, directed_by, Joined, joined_in, IsInstanceOf, KeepsRules, led, GroupPart, leading, naming, going, begun, titled, listing, at_item, inside, declaring, celled, joining, dotted, opened, netted, pins_in, part_spelled, listed, joined, headed}
-use Rattle.ncl_reader.proofs.RulesAt.{NameAt, BreaksAt, breaks-here, Misgiven, some_given, pin_free, close_free}
+use Rattle.ncl_reader.proofs.RulesAt.{crowds_declares, NameAt, BreaksAt, breaks-here, Misgiven, some_given, pin_free, close_free}
 use Rattle.ncl_reader.proofs.Steps.{step, run, run-append, run-spelled, run-between, grows-run, front_run, not_taken, breaks-taken}
 use Rattle.ncl_reader.proofs.Facts.{part_names, Of, some_of}
 
@@ -35,24 +35,14 @@ is_none xs (Some range) none declares = absurd (no_range xs range none declares)
 was_none : (xs : List Lexeme) (x : List ℕ) (range : Option Range) → NoBracket xs → IsDeclared xs x range → range ≡ None
 was_none xs x range none (front, rest, is, declares) = is_none front range (front_none xs front (Name x ∷ rest) is none) declares
 
-no_redeclares : (xs : List Lexeme) (x : List ℕ) → NoBracket xs → Redeclares xs x → ⊥
-no_redeclares xs x none (range, declares, inl (other, declared, differ)) = differ (ap (option_map span_of) (was_none xs x other none declared ∙ sym (is_none xs range none declares)))
-no_redeclares xs x none (range, declares, inr (some, used)) = some (is_none xs range none declares)
-
-no_clashes : (xs : List Lexeme) (x : List ℕ) → NoBracket xs → Clashes xs x → ⊥
-no_clashes xs x none (inl (vector, range, k, same, is, covers)) = no_vector xs vector range none is
-no_clashes xs x none (inr (range, k, declares, covers, stands)) = no_range xs range none declares
-
-no_crowds : (xs : List Lexeme) (x : List ℕ) → NoBracket xs → Crowds xs x → ⊥
-no_crowds xs x none (inl c) = no_range xs c.range none (inl (c.title, c.groups, c.direction, c.names, c.is))
-no_crowds xs x none (inr c) = no_range xs c.range none (inr (c.head, c.items, Gives c.direction, c.names, c.is))
-
 -- so a name breaks what its tree says or nothing
 plain_free : (p : Partial) (x : List ℕ) → (NameAt p x → ⊥) → NoBracket (spelled p) → BreaksAt p (Name x) → ⊥
 plain_free p x name none (inl b) = name b
-plain_free p x name none (inr (inl b)) = no_redeclares (spelled p) x none b
-plain_free p x name none (inr (inr (inl b))) = no_clashes (spelled p) x none b
-plain_free p x name none (inr (inr (inr b))) = no_crowds (spelled p) x none b
+plain_free p x name none (inr (inl (range, declares, inl (other, declared, differ)))) = differ (ap (option_map span_of) (was_none (spelled p) x other none declared ∙ sym (is_none (spelled p) range none declares)))
+plain_free p x name none (inr (inl (range, declares, inr (some, used)))) = some (is_none (spelled p) range none declares)
+plain_free p x name none (inr (inr (inl (inl (vector, range, k, same, is, covers))))) = no_vector (spelled p) vector range none is
+plain_free p x name none (inr (inr (inl (inr (range, k, declares, covers, stands))))) = no_range (spelled p) range none declares
+plain_free p x name none (inr (inr (inr c))) = let (range, declares) = crowds_declares (spelled p) x c in no_range (spelled p) range none declares
 
 -- a token that is no bracket and breaks no rule where none stands
 abbrev Fine : Partial → Lexeme → Type 0

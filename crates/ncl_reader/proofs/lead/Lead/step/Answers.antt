@@ -1,4 +1,4 @@
-use Rattle.ncl_reader.proofs.LeadSteps.{◌<◌, refl, sym, ◌∙◌, subst, arith, Some, false≢true, LBracket, RBracket, Colon, Mark, meant, at_bracket, at_wire, by_sign, close, colon, first, in_header, in_item, large_at, last, last_long, left_at, wire_bracket}
+use Rattle.ncl_reader.proofs.LeadSteps.{◌<◌, refl, sym, ◌∙◌, subst, arith, Some, false≢true, LBracket, RBracket, Colon, Mark, meant, at_bracket, at_wire, by_sign, close, colon, first, in_header, in_item, large_at, last, last_long, left_at, inl, inr}
 use Rattle.ncl_reader.specs.declared.place.LeadPlace.TheVariants as lead
 use Rattle.ncl_reader.proofs.lead.Lead.step.Goals as goal
 
@@ -9,16 +9,16 @@ pub returns-then-is_word-clause-item : goal.returns-then-is_word-clause-item
 returns-then-is_word-clause-item c = λ head items part names at keeps. at_wire (in_item head items) c.args.self.now part (meant c.args.lexeme.now) (at ∙ c.in-Direction.is) keeps (c.is_word.ensures.0 c.if-is_word.true)
 
 pub returns-else-is_word-clause-header : goal.returns-else-is_word-clause-header
-returns-else-is_word-clause-header c = λ title groups part names at keeps. by_sign (in_header title groups) c.args.self.now part (meant c.args.lexeme.now) (Mark LBracket) lead.First c.behind.result c.behind.ensures (λ is. at_bracket (in_header title groups) c.args.self.now part (meant c.args.lexeme.now) (at ∙ c.in-Direction.is) keeps is) (λ other. left_at (in_header title groups) c.args.self.now part (meant c.args.lexeme.now) lead.Direction (at ∙ c.in-Direction.is) keeps ((λ is. false≢true (sym c.if-is_word.false ∙ c.is_word.ensures.1 is)), other, names))
+returns-else-is_word-clause-header c = λ title groups part names at keeps. by_sign (in_header title groups) c.args.self.now part (meant c.args.lexeme.now) (Mark LBracket) lead.First c.behind.result c.behind.ensures (λ is. at_bracket (in_header title groups) c.args.self.now part (meant c.args.lexeme.now) (inl (at ∙ c.in-Direction.is)) keeps is) (λ other. left_at (in_header title groups) c.args.self.now part (meant c.args.lexeme.now) lead.Direction (at ∙ c.in-Direction.is) keeps ((λ is. false≢true (sym c.if-is_word.false ∙ c.is_word.ensures.1 is)), other, names))
 
 pub returns-else-is_word-clause-item : goal.returns-else-is_word-clause-item
-returns-else-is_word-clause-item c = λ head items part names at keeps. by_sign (in_item head items) c.args.self.now part (meant c.args.lexeme.now) (Mark LBracket) lead.First c.behind.result c.behind.ensures (λ is. at_bracket (in_item head items) c.args.self.now part (meant c.args.lexeme.now) (at ∙ c.in-Direction.is) keeps is) (λ other. left_at (in_item head items) c.args.self.now part (meant c.args.lexeme.now) lead.Direction (at ∙ c.in-Direction.is) keeps ((λ is. false≢true (sym c.if-is_word.false ∙ c.is_word.ensures.1 is)), other, names))
+returns-else-is_word-clause-item c = λ head items part names at keeps. by_sign (in_item head items) c.args.self.now part (meant c.args.lexeme.now) (Mark LBracket) lead.First c.behind.result c.behind.ensures (λ is. at_bracket (in_item head items) c.args.self.now part (meant c.args.lexeme.now) (inl (at ∙ c.in-Direction.is)) keeps is) (λ other. left_at (in_item head items) c.args.self.now part (meant c.args.lexeme.now) lead.Direction (at ∙ c.in-Direction.is) keeps ((λ is. false≢true (sym c.if-is_word.false ∙ c.is_word.ensures.1 is)), other, names))
 
 pub returns-in-Wire-clause-header : goal.returns-in-Wire-clause-header
-returns-in-Wire-clause-header c = λ title groups part names at keeps. by_sign (in_header title groups) c.args.self.now part (meant c.args.lexeme.now) (Mark LBracket) lead.First c.behind-in-Wire.result c.behind-in-Wire.ensures (λ is. wire_bracket (in_header title groups) c.args.self.now part (meant c.args.lexeme.now) (at ∙ c.in-Wire.is) keeps is) (λ other. left_at (in_header title groups) c.args.self.now part (meant c.args.lexeme.now) lead.Wire (at ∙ c.in-Wire.is) keeps (other, names))
+returns-in-Wire-clause-header c = λ title groups part names at keeps. by_sign (in_header title groups) c.args.self.now part (meant c.args.lexeme.now) (Mark LBracket) lead.First c.behind-in-Wire.result c.behind-in-Wire.ensures (λ is. at_bracket (in_header title groups) c.args.self.now part (meant c.args.lexeme.now) (inr (at ∙ c.in-Wire.is)) keeps is) (λ other. left_at (in_header title groups) c.args.self.now part (meant c.args.lexeme.now) lead.Wire (at ∙ c.in-Wire.is) keeps (other, names))
 
 pub returns-in-Wire-clause-item : goal.returns-in-Wire-clause-item
-returns-in-Wire-clause-item c = λ head items part names at keeps. by_sign (in_item head items) c.args.self.now part (meant c.args.lexeme.now) (Mark LBracket) lead.First c.behind-in-Wire.result c.behind-in-Wire.ensures (λ is. wire_bracket (in_item head items) c.args.self.now part (meant c.args.lexeme.now) (at ∙ c.in-Wire.is) keeps is) (λ other. left_at (in_item head items) c.args.self.now part (meant c.args.lexeme.now) lead.Wire (at ∙ c.in-Wire.is) keeps (other, names))
+returns-in-Wire-clause-item c = λ head items part names at keeps. by_sign (in_item head items) c.args.self.now part (meant c.args.lexeme.now) (Mark LBracket) lead.First c.behind-in-Wire.result c.behind-in-Wire.ensures (λ is. at_bracket (in_item head items) c.args.self.now part (meant c.args.lexeme.now) (inr (at ∙ c.in-Wire.is)) keeps is) (λ other. left_at (in_item head items) c.args.self.now part (meant c.args.lexeme.now) lead.Wire (at ∙ c.in-Wire.is) keeps (other, names))
 
 pub returns-in-Colon-clause-header : goal.returns-in-Colon-clause-header
 returns-in-Colon-clause-header c = λ title groups part names at keeps. by_sign (in_header title groups) c.args.self.now part (meant c.args.lexeme.now) (Mark Colon) lead.Last c.behind-in-Colon.result c.behind-in-Colon.ensures (λ is. colon (in_header title groups) c.args.self.now part (meant c.args.lexeme.now) (at ∙ c.in-Colon.is) keeps is) (λ other. left_at (in_header title groups) c.args.self.now part (meant c.args.lexeme.now) lead.Colon (at ∙ c.in-Colon.is) keeps other)

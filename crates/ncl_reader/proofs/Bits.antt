@@ -64,6 +64,12 @@ get-down_from k zero i d less = absurd (omega (arith, less))
 get-down_from k (suc n) zero d less = omega arith
 get-down_from k (suc n) (suc i) d less = let rest = get-down_from (k - 1) n i d (omega (arith, less)) in rest ∙ omega arith
 
+-- an element doesn't depend on what stands for none
+pub at_default : (xs : List ℕ) (i a b : ℕ) → i < length xs → get_or xs i a ≡ get_or xs i b
+at_default [] i a b less = absurd (omega (arith, less))
+at_default (x ∷ xs) zero a b less = refl
+at_default (x ∷ xs) (suc i) a b less = at_default xs i a b (omega (arith, less))
+
 -- the number at a place
 pub number-rises : (span : Span) (place : ℕ) → span.first ≤ span.last → place < width span → span.first + place ≡ get_or (numbers_of span) place 0
 number-rises span place rises within = by (nat_le span.first span.last) (le-leb span.first span.last rises)

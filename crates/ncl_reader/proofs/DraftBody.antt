@@ -65,13 +65,10 @@ module _ (groups : List (Group Direction)) (spec : Spec Direction) (names : List
   pub names-grouped : names_said said ≡ flat_map group_names groups ++ names
   names-grouped = names-append (flat_map said_in_header groups) (said_of spec.lead spec.range names) ∙ (λ i. names-header groups i ++ names-said_of spec.lead spec.range names i)
 
-  pub bits-grouped : bits_said said ≡ sum (map group_bits groups) + range_width spec.range * length names
-  bits-grouped = bits-append (flat_map said_in_header groups) (said_of spec.lead spec.range names) ∙ (λ i. bits-header groups i + bits-said_of spec.lead spec.range names i)
-
   -- with a name more
   pub bits-grouped_more : (range : Range) (span : Span) → spec.range ≡ Some range → span_of range ≡ span → bits_said said + width span ≡ sum (map group_bits groups) + width (span_of range) * (length names + 1)
   bits-grouped_more range span is same =
-      let bits : bits_said said ≡ sum (map group_bits groups) + width (span_of range) * length names = bits-grouped ∙ ap (λ r. sum (map group_bits groups) + range_width r * length names) is in
+      let bits : bits_said said ≡ sum (map group_bits groups) + width (span_of range) * length names = bits-append (flat_map said_in_header groups) (said_of spec.lead spec.range names) ∙ (λ i. bits-header groups i + bits-said_of spec.lead spec.range names i) ∙ ap (λ r. sum (map group_bits groups) + range_width r * length names) is in
       let one : width (span_of range) ≡ width span = ap width same in
       let more : width (span_of range) * (length names + 1) ≡ width (span_of range) * length names + width (span_of range) = ap (λ n. width (span_of range) * n) (omega arith) ∙ mul-suc (width (span_of range)) (length names) in
       omega (arith, bits, one, more)
@@ -146,14 +143,11 @@ gives_of spec kept same some = by spec.lead (sym (ap is_some same) ∙ some)
 -- a name of a declaration that gives a direction breaks no rule: it is in the header, has no direction yet, and ports
 -- don't have too many bits
 module _ (head : Head) (items : List Item) (spec : Spec Lead) (names : List (List ℕ)) (direction : Direction) (gives : spec.lead ≡ Gives direction) (x : List ℕ) where
-  same_form : at_declared head items spec names ≡ at_declared head items (record { lead = Gives direction; range = spec.range }) names
-  same_form = ap (λ l. at_declared head items (record { lead = l; range = spec.range }) names) gives
-
   pub listed-fine : (BreaksRule (at_declared head items spec names) (Name x) → ⊥) → Contains (header_of head) x × (Contains (directed_by head items ++ names) x → ⊥)
   listed-fine fine = (by (among_or_not (header_of head) x), λ stands. against (inr stands))
     where
       against : ¬ Contains (header_of head) x ⊎ Contains (directed_by head items ++ names) x → ⊥
-      against why = fine (inr (inr (inl (record { head = head; items = items; direction = direction; range = spec.range; names = names; is = same_form; breaks = why }))))
+      against why = fine (inr (inr (inl (record { head = head; items = items; direction = direction; range = spec.range; names = names; is = ap (λ l. at_declared head items (record { lead = l; range = spec.range }) names) gives; breaks = why }))))
 
       by : Contains (header_of head) x ⊎ (Contains (header_of head) x → ⊥) → Contains (header_of head) x
       by (inl stands) = stands

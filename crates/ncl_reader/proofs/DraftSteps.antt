@@ -211,11 +211,11 @@ plain_free place.InstanceName d p here (head, items, is, body, are) = (ap range_
 plain_free place.Pin d p here (head, items, conns, is, body, are) = (ap range_here is, ap opens is)
 plain_free at d p here by = absurd (false≢true here)
 
--- so a name that breaks no rule is kept
-pub plain_kept : (at : Place) (d : Draft) (p : Partial) (x : List ℕ) (known : Known) → takes_plain at ≡ true → KeepsNames d.known (spelled p) → HoldsBy at d p → ¬ BreaksRule (spelled p) (Name x) → ((xs : List Lexeme) → KeepsNames d.known xs → ((range : Option Range) → IsDeclaring xs range → ⊥) → (IsAtNet xs → ⊥) → (Clashes xs x → ⊥) → KeepsNames known (xs ++ Name x ∷ [])) → KeepsNames known (spelled p ++ Name x ∷ [])
-plain_kept at d p x known here kept by fine keeps =
+-- so a name that breaks no rule is taken
+pub plain_taken : (at : Place) (d : Draft) (p tree q : Partial) (x : List ℕ) (after : Place) (new : Draft) → takes_plain at ≡ true → p ≡ tree → step tree (Name x) ≡ Some q → KeepsNames d.known (spelled p) → HoldsBy at d p → ¬ BreaksRule (spelled p) (Name x) → ((xs : List Lexeme) → KeepsNames d.known xs → ((range : Option Range) → IsDeclaring xs range → ⊥) → (IsAtNet xs → ⊥) → (Clashes xs x → ⊥) → KeepsNames new.known (xs ++ Name x ∷ [])) → HoldsBy after new q → Takes p (Name x) after new
+plain_taken at d p tree q x after new here is some kept by fine keeps holds =
     let plain = plain_free at d p here by in
-    keeps (spelled p) kept (not_declaring p plain.0) (not_net p plain.1) (λ clashes. fine (clash_rule (spelled p) x clashes))
+    taken_name p tree q (Name x) x after new is refl some (keeps (spelled p) kept (not_declaring p plain.0) (not_net p plain.1) (λ clashes. fine (clash_rule (spelled p) x clashes))) holds fine
 
 others-listing : (title name : List ℕ) (names : List (List ℕ)) (t : Lexeme) → ((x : List ℕ) → t ≢ Name x) → step (listing title (name ∷ names)) t ≡ None
 others-listing title name names (Name x) other = absurd (other x refl)

@@ -2,7 +2,7 @@
 pub use Rattle.ncl_reader.proofs.Terms.{◌≡◌, ◌≢◌, MatchOption, ◌<◌, ℕ, List, [], ◌∷◌, ◌++◌, Option, Some, None, Bool, true, false, cond, inl, inr, ◌⊎◌, refl, sym, ap, ◌∙◌, subst, option_map, bytes_eq, same_Some, none-some, bytes_eq-Decides, Span, Ranges, Lexeme, Name, Range, IsDeclaring, span_of, IsDeclared, has_name, IsRanges, range_at, vector_at, kept_as, false≢true, NameSet, IsAtNet, IsUsed, IsUses, ◌+◌, arith, length, codes, decimal, length-append, Covers, bit_name, Stands, IsVector, IsBit, IsClear, Clashes, zero, suc, get_or, Contains, slice_index, Contains-append_left, Contains-append_right, Contains-append_cases, KeptBits, IsStanding, numbers_at, is_some, Known, Redeclares, KeepsNames, inside, opened, unwrap_or, rules, IfOk, btree_map_updates_str}
 use Rattle.ncl_reader.proofs.Facts.{declared-more, declared-old, declaring-once, used-more, used-old, stands-more, stands-old, declaring-here, spans_or_not}
 use Rattle.ncl_reader.proofs.Steps.{no_token, name_in}
-use Rattle.ncl_reader.proofs.Bits.{bit_name-injective}
+use Rattle.ncl_reader.proofs.Bits.{bit_name-injective, at_default}
 use Rattle.ncl_reader.proofs.Among.{single}
 
 -- a declaration more
@@ -221,12 +221,6 @@ standing-none kept none = record {
   small = λ v k found. let (i, less, e) = subst (λ l. Contains l k) (none v) found in absurd (omega (arith, less));
   kept = λ v k small (front, rest, e). absurd (no_token front rest (Name (bit_name v k)) e);
 }
-
--- an element doesn't depend on what stands for none
-at_default : (xs : List ℕ) (i a b : ℕ) → i < length xs → get_or xs i a ≡ get_or xs i b
-at_default [] i a b less = absurd (omega (arith, less))
-at_default (x ∷ xs) zero a b less = refl
-at_default (x ∷ xs) (suc i) a b less = at_default xs i a b (omega (arith, less))
 
 -- a number that is kept is one of a vector, or none is
 module _ (kept : KeptBits) (xs : List Lexeme) (vector : List ℕ) (span : Span) (numbers : List ℕ) (same : numbers ≡ numbers_at kept vector) (is : IsStanding kept xs) where

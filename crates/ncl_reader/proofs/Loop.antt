@@ -9,12 +9,8 @@ pub record Stands (before : List Placed) : Type 0 where
   pub is : spelled tree ≡ lexemes before
   pub unbroken : NoneBreaks (lexemes before)
 
--- nothing is read
-pub none_of_none : NoneBreaks []
-none_of_none before t after e = absurd (no_token before after t e)
-
 abbrev pub stands-first : Stands []
-stands-first = record { tree = start; is = refl; unbroken = none_of_none }
+stands-first = record { tree = start; is = refl; unbroken = λ before t after e. absurd (no_token before after t e) }
 
 pub lexemes-more : (before : List Placed) (t : Placed) → lexemes (before ++ t ∷ []) ≡ lexemes before ++ t.lexeme ∷ []
 lexemes-more before t = map-append (λ (p : Placed). p.lexeme) before (t ∷ [])
@@ -61,12 +57,9 @@ end-untaken p other = elim (end-cases p) [
 pub cut-end : (p : Partial) (at : ℕ) → IsFaultAt (spelled p) (record { lexeme = End; place = at }) (Syntax at)
 cut-end p at = (refl, λ none. none, λ none. none, inr (λ none. none))
 
-pub cut-bad : (p : Partial) (at : ℕ) → IsFaultAt (spelled p) (record { lexeme = Bad; place = at }) (Syntax at)
-cut-bad p at = (refl, λ none. none, λ none. none, inr (λ none. none))
-
 module _ (before : List Placed) (stands : Stands before) (at : ℕ) where
   pub stands-bad : IsRefusedAt (before ++ record { lexeme = Bad; place = at } ∷ []) (Syntax at)
-  stands-bad = stands-broken before stands [] (record { lexeme = Bad; place = at }) (Syntax at) (breaks-untaken stands.tree Bad (bad-untaken stands.tree)) (cut-bad stands.tree at)
+  stands-bad = stands-broken before stands [] (record { lexeme = Bad; place = at }) (Syntax at) (breaks-untaken stands.tree Bad (bad-untaken stands.tree)) (refl, λ none. none, λ none. none, inr (λ none. none))
 
   pub stands-short : (place_of stands.tree ≡ place.End → ⊥) → IsRefusedAt (before ++ record { lexeme = End; place = at } ∷ []) (Syntax at)
   stands-short other = stands-broken before stands [] (record { lexeme = End; place = at }) (Syntax at) (breaks-untaken stands.tree End (end-untaken stands.tree other)) (cut-end stands.tree at)
@@ -86,16 +79,6 @@ module _ (before : List Placed) (stands : Stands before) (at : ℕ) where
 pub record Holds (before : List Placed) (place : Place) (draft : Draft) : Type 0 where
   pub stands : Stands before
   pub holds : HoldsAt place draft stands.tree
-
--- a token is taken
-pub holds-more : (before : List Placed) (at after : Place) (old new : Draft) (kept : Holds before at old) (t : Placed) → Takes kept.stands.tree t.lexeme after new → Holds (before ++ t ∷ []) after new
-holds-more before at after old new kept t takes = record { stands = stands-more before kept.stands t takes.tree takes.grows takes.unbroken; holds = takes.holds }
-
--- the end of the text behind `endmodule`
-pub holds-whole : (before : List Placed) (draft : Draft) (kept : Holds before place.End draft) (at : ℕ) (parts : Parts) → SaysAt kept.stands.tree parts → ReadsTokens (before ++ record { lexeme = End; place = at } ∷ []) parts
-holds-whole before draft kept at parts (head, items, is, says) =
-    let (derives, unbroken) = stands-whole before kept.stands at head items is in
-    record { text = record { head = head; items = items }; derives = derives; unbroken = unbroken; says = says }
 
 -- what is kept at a place is of a tree at that place
 listing-place : (title : List ℕ) (names : List (List ℕ)) → 0 < length names → place_of (listing title names) ≡ place.Port
@@ -143,10 +126,6 @@ pub record LoopAt (bytes : List ℕ) (at : ℕ) (here : Place) (draft : Draft) :
 pub loop-first : (bytes : List ℕ) (draft : Draft) (tokens : List Token) (stop : Stop) → TokensOf bytes tokens stop → HoldsAt place.Module draft start → LoopAt bytes 0 place.Module draft
 loop-first bytes draft tokens stop are holds = record { before = []; left = tokens; stop = stop; are = are; lexed = (tokens, stop, are, refl); kept = record { stands = stands-first; holds = holds } }
 
--- the next token stands in front of what is left
-front : (bytes : List ℕ) (before : List Placed) (left others : List Token) (stop : Stop) (token : Token) → left ≡ token ∷ others → IsLexed bytes (before ++ placed_in bytes left stop) → IsLexed bytes (before ++ placed_of bytes token ∷ placed_in bytes others stop)
-front bytes before left others stop token is lexed = subst (λ l. IsLexed bytes (before ++ placed_in bytes l stop)) is lexed
-
 module _ (bytes : List ℕ) (at : ℕ) (here : Place) (draft : Draft) (loop : LoopAt bytes at here draft) where
   pub loop-more : (after : Place) (new : Draft) (token : Token) → IsNextToken at (drop at bytes) token (drop token.end bytes) → Takes loop.kept.stands.tree (placed_of bytes token).lexeme after new → LoopAt bytes token.end after new
   loop-more after new token next takes =
@@ -156,14 +135,14 @@ module _ (bytes : List ℕ) (at : ℕ) (here : Place) (draft : Draft) (loop : Lo
         left = others;
         stop = loop.stop;
         are = are;
-        lexed = subst (IsLexed bytes) (sym (append_assoc loop.before (placed_of bytes token ∷ []) (placed_in bytes others loop.stop))) (front bytes loop.before loop.left others loop.stop token is loop.lexed);
-        kept = holds-more loop.before here after draft new loop.kept (placed_of bytes token) takes;
+        lexed = subst (IsLexed bytes) (sym (append_assoc loop.before (placed_of bytes token ∷ []) (placed_in bytes others loop.stop))) (subst (λ l. IsLexed bytes (loop.before ++ placed_in bytes l loop.stop)) is loop.lexed);
+        kept = record { stands = stands-more loop.before loop.kept.stands (placed_of bytes token) takes.tree takes.grows takes.unbroken; holds = takes.holds };
       }
 
   pub loop-broken : (token : Token) (fault : NetFault) → IsNextToken at (drop at bytes) token (drop token.end bytes) → Breaks (spelled loop.kept.stands.tree) (placed_of bytes token).lexeme → IsFaultAt (spelled loop.kept.stands.tree) (placed_of bytes token) fault → IsRefused bytes fault
   loop-broken token fault next breaks is-fault =
       let (others, is, are) = next_left at (drop at bytes) loop.left loop.stop token (drop token.end bytes) loop.are next in
-      (loop.before ++ placed_of bytes token ∷ placed_in bytes others loop.stop, front bytes loop.before loop.left others loop.stop token is loop.lexed, stands-broken loop.before loop.kept.stands (placed_in bytes others loop.stop) (placed_of bytes token) fault breaks is-fault)
+      (loop.before ++ placed_of bytes token ∷ placed_in bytes others loop.stop, subst (λ l. IsLexed bytes (loop.before ++ placed_in bytes l loop.stop)) is loop.lexed, stands-broken loop.before loop.kept.stands (placed_in bytes others loop.stop) (placed_of bytes token) fault breaks is-fault)
 
   -- nothing is left but the end, or a bad byte
   stopped : (stop : Stop) → AreTokens at (drop at bytes) [] stop → IsLexed bytes (loop.before ++ stop_of bytes stop ∷ [])
@@ -177,42 +156,39 @@ module _ (bytes : List ℕ) (at : ℕ) (here : Place) (draft : Draft) (loop : Lo
   pub loop-short : IsSpace (drop at bytes) [] → (place_of loop.kept.stands.tree ≡ place.End → ⊥) → IsRefused bytes (Syntax (length bytes))
   loop-short space other = (_, stopped at_end (none_left space), stands-short loop.before loop.kept.stands (length bytes) other)
 
-pub loop-whole : (bytes : List ℕ) (at : ℕ) (draft : Draft) (loop : LoopAt bytes at place.End draft) (parts : Parts) → IsSpace (drop at bytes) [] → SaysAt loop.kept.stands.tree parts → Reads bytes parts
-loop-whole bytes at draft loop parts space says = (_, stopped bytes at place.End draft loop at_end (none_left space), holds-whole loop.before draft loop.kept (length bytes) parts says)
-
 -- what an answer says of the text itself
 module _ (bytes b : List ℕ) (at : ℕ) (result : Result (Option Token) TokenFault) (same : b ≡ bytes) (answer : IsAnswer b at result) where
-  pub next-token : (token : Token) → result ≡ Ok (Some token) → IsNextToken at (drop at bytes) token (drop token.end bytes)
-  next-token token is = subst (λ b. IsNextToken at (drop at b) token (drop token.end b)) same (subst (IsAnswer b at) is answer).0
-
   pub next-space : result ≡ Ok None → IsSpace (drop at bytes) []
   next-space is = subst (λ b. IsSpace (drop at b) []) same (subst (IsAnswer b at) is answer)
 
   pub next-bad : (bad : ℕ) → result ≡ Err (BadByte bad) → IsBadByte at (drop at bytes) bad
   next-bad bad is = subst (λ b. IsBadByte at (drop at b) bad) same (subst (IsAnswer b at) is answer)
 
--- a token that was read is the next, and the reader stands behind it
-pub record IsReadAt (bytes : List ℕ) (at : ℕ) (token : Token) (new : TokensData) : Type 0 where
+-- a token that was read is the next, the reader stands behind it, and it is read so
+pub record IsReadAt (bytes : List ℕ) (at : ℕ) (token : Token) (t : Lexeme) (new : TokensData) : Type 0 where
   pub next : IsNextToken at (drop at bytes) token (drop token.end bytes)
   pub text : new.bytes ≡ bytes
   pub behind : new.place ≡ token.end
+  pub lexeme : t ≡ (placed_of bytes token).lexeme
 
-pub read-token : (bytes : List ℕ) (old new : TokensData) (result : Result (Option Token) TokenFault) (token : Token) → old.bytes ≡ bytes → IsAnswer old.bytes old.place result → new ≡ record { bytes = old.bytes; place = place_after old result } → result ≡ Ok (Some token) → IsReadAt bytes old.place token new
-read-token bytes old new result token same answer after is = record {
-  next = next-token bytes old.bytes old.place result same answer token is;
+pub read-token : (bytes : List ℕ) (old new : TokensData) (result : Result (Option Token) TokenFault) (token : Token) (t : Lexeme) → old.bytes ≡ bytes → IsAnswer old.bytes old.place result → new ≡ record { bytes = old.bytes; place = place_after old result } → result ≡ Ok (Some token) → t ≡ lexeme_of token.kind (name_of token.kind (slice_range new.bytes token.start token.end)) → IsReadAt bytes old.place token t new
+read-token bytes old new result token t same answer after is read = record {
+  next = subst (λ b. IsNextToken old.place (drop old.place b) token (drop token.end b)) same (subst (IsAnswer old.bytes old.place) is answer).0;
   text = ap (λ d. d.bytes) after ∙ same;
   behind = ap (λ d. d.place) after ∙ ap (place_after old) is;
+  lexeme = read ∙ ap (λ l. lexeme_of token.kind (name_of token.kind (slice_range l token.start token.end))) (ap (λ d. d.bytes) after ∙ same);
 }
-
-pub placed-token : (bytes b : List ℕ) (token : Token) (t : Lexeme) → b ≡ bytes → t ≡ lexeme_of token.kind (name_of token.kind (slice_range b token.start token.end)) → t ≡ (placed_of bytes token).lexeme
-placed-token bytes b token t same is = is ∙ ap (λ l. lexeme_of token.kind (name_of token.kind (slice_range l token.start token.end))) same
 
 pub refused-fault : (bytes : List ℕ) (fault : NetFault) → IsRefused bytes fault → IsReadFault bytes fault
 refused-fault bytes Memory is = tt
 refused-fault bytes fault is = is
 
 pub whole-at : (bytes : List ℕ) (at : ℕ) (here : Place) (draft : Draft) (parts : Parts) → here ≡ place.End → LoopAt bytes at here draft → IsSpace (drop at bytes) [] → ((p : Partial) → HoldsAt place.End draft p → SaysAt p parts) → Reads bytes parts
-whole-at bytes at here draft parts is loop space says = let ends = subst (λ h. LoopAt bytes at h draft) is loop in loop-whole bytes at draft ends parts space (says ends.kept.stands.tree ends.kept.holds)
+whole-at bytes at here draft parts is loop space says =
+    let ends = subst (λ h. LoopAt bytes at h draft) is loop in
+    let (head, items, same, told) = says ends.kept.stands.tree ends.kept.holds in
+    let (derives, unbroken) = stands-whole ends.before ends.kept.stands (length bytes) head items same in
+    (_, stopped bytes at place.End draft ends at_end (none_left space), record { text = record { head = head; items = items }; derives = derives; unbroken = unbroken; says = told })
 
 -- what is read are no more tokens than bytes
 pub few_before : (bytes : List ℕ) (at : ℕ) (here : Place) (draft : Draft) (loop : LoopAt bytes at here draft) → length (spelled loop.kept.stands.tree) ≤ length bytes

@@ -58,15 +58,12 @@ elsewhere p at is item pin conn = (
 abbrev pub DeclaresAt : Place → Type 0
 DeclaresAt at = ((lead : LeadPlace) × (at ≡ place.HeaderLead lead)) ⊎ ((at ≡ place.HeaderName) ⊎ (((lead : LeadPlace) × (at ≡ place.Lead lead)) ⊎ (at ≡ place.Declared)))
 
-declares_by : (p : Partial) (range : Option Range) → range_here p ≡ Some range → DeclaresAt (place_of p)
+pub declares_by : (p : Partial) (range : Option Range) → range_here p ≡ Some range → DeclaresAt (place_of p)
 declares_by (heading name groups (leading part)) range e = inl (lead_place direction_place part, refl)
 declares_by (heading name groups (going spec row)) range e = inr (inl refl)
 declares_by (inside head items (declaring (leading part))) range e = inr (inr (inl (lead_place word_place part, refl)))
 declares_by (inside head items (declaring (going spec row))) range e = inr (inr (inr refl))
 declares_by p range e = absurd cc
-
-pub declares_at : (p : Partial) (range : Option Range) → IsDeclaring (spelled p) range → DeclaresAt (place_of p)
-declares_at p range declares = declares_by p range (declaring-here p range declares)
 
 -- where no name may be next, none is declared
 pub no_range_header : (part : LeadPart Direction) → takes_name (lead_place direction_place part) ≡ false → part_range (leading part) ≡ None

@@ -1,7 +1,7 @@
 -- What a header keeps of a name, and its ports: those of a name, that they differ, and that they are few.
 pub use Rattle.ncl_reader.proofs.Terms.{◌≡◌, ℕ, arith, List, [], ◌∷◌, ◌++◌, Bool, true, false, not, cond, subst, Option, Some, None, inl, inr, refl, sym, ap, ◌∙◌, Contains, list_any, is_some, option_or, bytes_eq, false≢true, find-append, IsDistinct-push, IsDistinct-from_apart, nat_eq_equiv, lists_equiv, bytes_eq-Decides, ◌||◌, AllDiffer, Said, said_at, names_said, way_by, way_of, LacksWay, ◌≢◌, map, MatchOption, option_map, same_Some, Span, Lexeme, Range, span_of, numbers_of, bit_name, IsDeclared, Ranges, range_at, IsRanges, ports_of, AreDeclared, ports_at, ports_by, bit_port, zero, suc, ◌+◌, ◌-◌, ◌<◌, ◌≤◌, length, get_or, ◌⊎◌, flat_map, cases_lt, map-append, get_or-map, length-map, IsDistinct-tail, IsDistinct-cons, apart_from_distinct, member_of_flat_map, Member, here, there, Member-append_cases, member_of_map, Contains-from_Member, recursion_from_members, Port, width, Covers, Stands, IsVector, IsClear, bits_of, length-append, sum_by-cons, range_width, bits_said, Contains-append_cases, btree_map_updates_str, span_width, rules, map_push, Contains-append_left, take, Bor, append-nil, flat_map-append, KeepsNames, header_of, AreCellsOf, joined_in, said_by, ended, spelled}
 pub use Rattle.ncl_reader.proofs.Among.{contains-from_any, any-from_contains, any-push, bytes_eq-comm, found-among, found-name, none-among, single, taken}
-use Rattle.ncl_reader.proofs.Bits.{bit_name-injective, length-numbers_of, number-rises, number-falls, few_bit}
+use Rattle.ncl_reader.proofs.Bits.{bit_name-injective, at_default, length-numbers_of, number-rises, number-falls, few_bit}
 pub use Rattle.ncl_reader.proofs.SaidDeclared.{names-append, bits-push, said_declared, header_stands, header_few}
 
 -- what is told of the first that is said
@@ -10,10 +10,6 @@ said-here x s said e = rw e refl
 
 pub said-there : (x : List ℕ) (s : Said) (said : List Said) → bytes_eq s.name x ≡ false → said_at (s ∷ said) x ≡ said_at said x
 said-there x s said e = rw e refl
-
--- nothing was said of names that aren't among those that something was said of
-pub none-said : (x : List ℕ) (said : List Said) → said_at said x ≡ None → Contains (names_said said) x → ⊥
-none-said x said = none-among (λ (s : Said). s.name) x said
 
 -- what is found was said of the name
 pub some-said : (x : List ℕ) (said : List Said) (s : Said) → said_at said x ≡ Some s → Contains said s × (s.name ≡ x)
@@ -32,9 +28,6 @@ not-said x said absent = by (said_at said x) refl
 pub not_any : (b : Bool) → (b ≡ true → ⊥) → b ≡ false
 not_any true wrong = absurd (wrong refl)
 not_any false wrong = refl
-
-not_among : (x : List ℕ) (names : List (List ℕ)) → list_any (bytes_eq x) names ≡ false → Contains names x → ⊥
-not_among x names is stands = false≢true (sym is ∙ any-from_contains x names stands)
 
 -- no names differ, and so do names and a new one
 pub differ_none : AllDiffer []
@@ -57,9 +50,9 @@ none-test (Some v) true e = absurd (false≢true (sym e))
 lacks_by : (names : List (List ℕ)) (said : List Said) (x : List ℕ) (found : Option Said) (listed : Bool) (way : Option (Option Bool)) (b : Bool) → said_at said x ≡ found → list_any (bytes_eq x) names ≡ listed → way_by found listed ≡ way → LacksOf way b → LacksWay b names said x
 lacks_by names said x (Some s) listed (Some (Some w)) false f l e is = inr (found-said x said s f)
 lacks_by names said x (Some s) listed (Some (Some w)) true f l e is = absurd (false≢true (sym is))
-lacks_by names said x None true (Some None) true f l e is = (contains-from_any x names l, none-said x said f)
+lacks_by names said x None true (Some None) true f l e is = (contains-from_any x names l, none-among (λ (s : Said). s.name) x said f)
 lacks_by names said x None true (Some None) false f l e is = absurd (false≢true is)
-lacks_by names said x None false None false f l e is = inl (not_among x names l)
+lacks_by names said x None false None false f l e is = inl (λ stands. false≢true (sym l ∙ any-from_contains x names stands))
 lacks_by names said x None false None true f l e is = absurd (false≢true (sym is))
 lacks_by names said x found listed way b f l e is = absurd cc
 
@@ -223,12 +216,7 @@ bit_of_map x span z among =
     let (k, stands, is) = member_of_map (bit_name x) (numbers_of span) z among in
     let (i, within, at) = Contains-from_Member k stands in
     let less : i < width span = omega (arith, within, length-numbers_of span) in
-    (k, sym is, subst (Covers span) (same_number (numbers_of span) i k within ∙ at) (covers_at span i less))
-  where
-    same_number : (ks : List ℕ) (i k : ℕ) → i < length ks → get_or ks i 0 ≡ get_or ks i k
-    same_number [] i k within = absurd (omega (arith, within))
-    same_number (n ∷ ks) zero k within = refl
-    same_number (n ∷ ks) (suc i) k within = same_number ks i k (omega (arith, within))
+    (k, sym is, subst (Covers span) (at_default (numbers_of span) i 0 k within ∙ at) (covers_at span i less))
 
 -- the one name
 pub alone : (x z : List ℕ) → Member z (x ∷ []) → z ≡ x

@@ -209,11 +209,8 @@ few_ansi row =
 inner_few : (l : List Lexeme) (a b c d : List Lexeme) → length l ≤ length ((((l ++ a) ++ b) ++ c) ++ d)
 inner_few l a b c d = simp length-append (omega arith)
 
-few_in : (name : List ℕ) (ports : Option Listing) (items : List Item) → length (names_in ports) ≤ length (whole (record { name = name; ports = ports }) items)
-few_in name None items = omega arith
-few_in name (Some Empty) items = omega arith
-few_in name (Some (Names row)) items = omega (arith, few_row row, inner_few (row_phrase name_phrase row) (Mark RParen ∷ []) (Mark Semi ∷ []) (flat_map item_phrase items) (Word EndModule ∷ []))
-few_in name (Some (Ansi row)) items = omega (arith, few_ansi row, inner_few (row_phrase (group_phrase direction_phrase) row) (Mark RParen ∷ []) (Mark Semi ∷ []) (flat_map item_phrase items) (Word EndModule ∷ []))
-
-pub header_few : (head : Head) (items : List Item) → length (header_of head) ≤ length (whole head items)
-header_few head items = few_in head.name head.ports items
+pub header_few : (name : List ℕ) (ports : Option Listing) (items : List Item) → length (names_in ports) ≤ length (whole (record { name = name; ports = ports }) items)
+header_few name None items = omega arith
+header_few name (Some Empty) items = omega arith
+header_few name (Some (Names row)) items = omega (arith, few_row row, inner_few (row_phrase name_phrase row) (Mark RParen ∷ []) (Mark Semi ∷ []) (flat_map item_phrase items) (Word EndModule ∷ []))
+header_few name (Some (Ansi row)) items = omega (arith, few_ansi row, inner_few (row_phrase (group_phrase direction_phrase) row) (Mark RParen ∷ []) (Mark Semi ∷ []) (flat_map item_phrase items) (Word EndModule ∷ []))

@@ -1,5 +1,5 @@
 -- A text without vectors that keeps the rules as a whole breaks none at any of its tokens.
-use Rattle.ncl_reader.proofs.Terms.{◌≡◌, ℕ, List, ◌∷◌, ◌++◌, Option, Some, None, inl, inr, refl, sym, ap, ◌∙◌, subst, append_assoc, option_map, Module, LBracket, LParen, Lexeme, Word, Name, Mark, direction_phrase, Gives, lead_phrase, Range, spec_phrase, group_phrase, with_commas, name_phrase, body_phrase, IsDeclaring, span_of, IsDeclared, IsVector, Redeclares, Clashes, Crowds, Partial, spelled, [], option_and_then, same_Some, Text, text_phrase, Breaks, NoneBreaks, start, done, ◌≢◌, flat_map, Comma, RParen, Semi, Row, Direction, Plain, Wired, Lead, Wires, Group, Conn, conn_phrase, Item, Declares, Joins, item_phrase, Listing, Empty, Names, Ansi, header_phrase, head_phrase, row_phrase, AreWhole, IsScalar, AreScalar, IsPlain, zero, suc, Contains, false, arith, AllByRecursion, false≢true, append-nil, map-append, flat_map_more, Contains-append_left, Contains-append_right, IsDistinct-head, IsDistinct-tail, bytes_eq-Decides, CellKind, cell_name_of, pins_of, same_name, AllDiffer, EndModule, End, all_of, Spec, group_names, Head, groups_of, header_of, directed_in, directed_by, Joined, joined_in, IsInstanceOf, KeepsRules, led, GroupPart, leading, naming, going, begun, titled, listing, at_item, inside, declaring, celled, joining, dotted, opened, netted, pins_in, part_spelled, listed, joined, headed}
+use Rattle.ncl_reader.proofs.Terms.{◌≡◌, ℕ, List, ◌∷◌, ◌++◌, Option, Some, None, inl, inr, refl, sym, ap, ◌∙◌, subst, append_assoc, option_map, Module, LBracket, LParen, Lexeme, Word, Name, Mark, direction_phrase, Gives, lead_phrase, Range, spec_phrase, group_phrase, with_commas, name_phrase, body_phrase, IsDeclaring, span_of, IsDeclared, IsVector, Partial, spelled, [], option_and_then, same_Some, Text, text_phrase, Breaks, NoneBreaks, start, done, ◌≢◌, flat_map, Comma, RParen, Semi, Row, Direction, Plain, Wired, Lead, Wires, Group, Conn, conn_phrase, Item, Declares, Joins, item_phrase, Listing, Empty, Names, Ansi, header_phrase, head_phrase, row_phrase, AreWhole, IsScalar, AreScalar, IsPlain, zero, suc, Contains, false, arith, AllByRecursion, false≢true, append-nil, map-append, flat_map_more, Contains-append_left, Contains-append_right, IsDistinct-head, IsDistinct-tail, bytes_eq-Decides, CellKind, cell_name_of, pins_of, same_name, AllDiffer, EndModule, End, all_of, Spec, group_names, Head, groups_of, header_of, directed_in, directed_by, Joined, joined_in, IsInstanceOf, KeepsRules, led, GroupPart, leading, naming, going, begun, titled, listing, at_item, inside, declaring, celled, joining, dotted, opened, netted, pins_in, part_spelled, listed, joined, headed}
 use Rattle.ncl_reader.proofs.RulesAt.{crowds_declares, NameAt, BreaksAt, breaks-here, Misgiven, some_given, pin_free, close_free}
 use Rattle.ncl_reader.proofs.Steps.{step, run, run-append, run-spelled, run-between, grows-run, front_run, not_taken, breaks-taken}
 use Rattle.ncl_reader.proofs.Facts.{part_names, Of, some_of}

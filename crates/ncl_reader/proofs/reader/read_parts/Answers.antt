@@ -1,4 +1,4 @@
-use Rattle.ncl_reader.proofs.Loop.{arith, Ok, Err, sym, ap, ◌∙◌, subst, some_list, meant, IsFaultAt, Breaks, spelled, HoldsAt, Takes, TakesOrBreaks, holds-place, LoopAt, loop-first, loop-more, loop-broken, loop-bad, loop-short, few_before, read-token, placed-token, next-space, next-bad, refused-fault, whole-at}
+use Rattle.ncl_reader.proofs.Loop.{arith, Ok, Err, sym, ap, ◌∙◌, subst, some_list, meant, IsFaultAt, Breaks, spelled, HoldsAt, Takes, TakesOrBreaks, holds-place, LoopAt, loop-first, loop-more, loop-broken, loop-bad, loop-short, few_before, read-token, next-space, next-bad, refused-fault, whole-at}
 use Rattle.ncl_reader.specs.declared.place.Place.TheVariants as place
 use Rattle.ncl_reader.proofs.reader.read_parts.Goals as goal
 
@@ -12,21 +12,19 @@ loop-token-preserved c =
     let bytes = c.args.bytes.now in
     let token = c.in-Ok-Some.token in
     let loop = c.loop-token.invariant.1 in
-    let here = read-token bytes c.loop-token.tokens c.next.new.self c.next.result token c.loop-token.invariant.0 c.next.ensures.answer c.next.ensures.after (c.in-Ok-Some.is ∙ ap Ok c.in-Ok-Some.field-0-is) in
-    let t = placed-token bytes c.next.new.self.bytes token (meant c.lexeme_of-lexeme.result) here.text c.lexeme_of-lexeme.ensures in
+    let here = read-token bytes c.loop-token.tokens c.next.new.self c.next.result token (meant c.lexeme_of-lexeme.result) c.loop-token.invariant.0 c.next.ensures.answer c.next.ensures.after (c.in-Ok-Some.is ∙ ap Ok c.in-Ok-Some.field-0-is) c.lexeme_of-lexeme.ensures in
     let takes : Takes loop.kept.stands.tree (meant c.lexeme_of-lexeme.result) c.in-Some.after c.step.new.self = subst (λ o. TakesOrBreaks c.loop-token.place loop.kept.stands.tree (meant c.lexeme_of-lexeme.result) o c.step.new.self) c.in-Some.is (c.in_ok-after-in-Ok-Some.ensures loop.kept.stands.tree loop.kept.holds) in
-    (here.text, subst (λ p. LoopAt bytes p c.in-Some.after c.step.new.self) (sym here.behind) (loop-more bytes c.loop-token.tokens.place c.loop-token.place c.loop-token.draft loop c.in-Some.after c.step.new.self token here.next (subst (λ u. Takes loop.kept.stands.tree u c.in-Some.after c.step.new.self) t takes)))
+    (here.text, subst (λ p. LoopAt bytes p c.in-Some.after c.step.new.self) (sym here.behind) (loop-more bytes c.loop-token.tokens.place c.loop-token.place c.loop-token.draft loop c.in-Some.after c.step.new.self token here.next (subst (λ u. Takes loop.kept.stands.tree u c.in-Some.after c.step.new.self) here.lexeme takes)))
 
 pub returns-in-None-clause-fault : goal.returns-in-None-clause-fault
 returns-in-None-clause-fault c =
     let bytes = c.args.bytes.now in
     let token = c.in-Ok-Some.token in
     let loop = c.loop-token.invariant.1 in
-    let here = read-token bytes c.loop-token.tokens c.next.new.self c.next.result token c.loop-token.invariant.0 c.next.ensures.answer c.next.ensures.after (c.in-Ok-Some.is ∙ ap Ok c.in-Ok-Some.field-0-is) in
-    let t = placed-token bytes c.next.new.self.bytes token (meant c.lexeme_of-lexeme.result) here.text c.lexeme_of-lexeme.ensures in
+    let here = read-token bytes c.loop-token.tokens c.next.new.self c.next.result token (meant c.lexeme_of-lexeme.result) c.loop-token.invariant.0 c.next.ensures.answer c.next.ensures.after (c.in-Ok-Some.is ∙ ap Ok c.in-Ok-Some.field-0-is) c.lexeme_of-lexeme.ensures in
     let (breaks, holds) = subst (λ o. TakesOrBreaks c.loop-token.place loop.kept.stands.tree (meant c.lexeme_of-lexeme.result) o c.step.new.self) c.in-None.is (c.in_ok-after-in-Ok-Some.ensures loop.kept.stands.tree loop.kept.holds) in
-    refused-fault bytes c.refusal.result (loop-broken bytes c.loop-token.tokens.place c.loop-token.place c.loop-token.draft loop token c.refusal.result here.next (subst (Breaks (spelled loop.kept.stands.tree)) t breaks)
-    (subst (λ u. IsFaultAt (spelled loop.kept.stands.tree) (record { lexeme = u; place = token.start }) c.refusal.result) t (c.refusal.ensures loop.kept.stands.tree holds breaks)))
+    refused-fault bytes c.refusal.result (loop-broken bytes c.loop-token.tokens.place c.loop-token.place c.loop-token.draft loop token c.refusal.result here.next (subst (Breaks (spelled loop.kept.stands.tree)) here.lexeme breaks)
+    (subst (λ u. IsFaultAt (spelled loop.kept.stands.tree) (record { lexeme = u; place = token.start }) c.refusal.result) here.lexeme (c.refusal.ensures loop.kept.stands.tree holds breaks)))
 
 pub returns-in-End-clause-parts : goal.returns-in-End-clause-parts
 returns-in-End-clause-parts c =

@@ -29,4 +29,4 @@ returns-clause-few c = λ p (kept, (head, items, is, body)).
     let ports = c.from_vec.ensures ∙ c.in_ok-ports.ensures (header_of head) said (spelled (ended head items)) body.1.header here.ranges (said_declared head items) in
     let count = ap length ports in
     let same : length (spelled p) ≡ length (spelled (ended head items)) = ap (λ q. length (spelled q)) is in
-    omega (arith, count, same, ports_few said (header_of head) body.1.header.differ, body.1.header.few, header_few head items)
+    omega (arith, count, same, ports_few said (header_of head) body.1.header.differ, body.1.header.few, header_few head.name head.ports items)

@@ -1,4 +1,4 @@
-use Rattle.ncl_reader.proofs.Places.{◌≡◌, [], Option, true, inl, inr, refl, sym, ap, ◌∙◌, subst, Decides, option_map, Name, all_of, direction_phrase, lead_phrase, Range, in_ansi, at_declared, IsDeclaring, span_of, Crowds, takes_name, IsFaultAt, KeepsNames, HoldsAt, going, leading, spelled, at_part, heading_form, declaring_form, range_here, grouped-begins, body-begins, in_header, in_item, begins, not_declaring, holds-place, declared_as, declared_no_conn, declares_at, elsewhere, form_at, no_range_header, no_range_item, place_at}
+use Rattle.ncl_reader.proofs.Places.{◌≡◌, [], Option, true, inl, inr, refl, sym, ap, ◌∙◌, subst, Decides, option_map, Name, all_of, direction_phrase, lead_phrase, Range, in_ansi, at_declared, IsDeclaring, span_of, Crowds, takes_name, IsFaultAt, KeepsNames, HoldsAt, going, leading, spelled, at_part, heading_form, declaring_form, range_here, grouped-begins, body-begins, in_header, in_item, begins, not_declaring, holds-place, declared_as, declared_no_conn, declares_by, declaring-here, elsewhere, form_at, no_range_header, no_range_item, place_at}
 use Rattle.ncl_reader.specs.declared.place.Place.TheVariants as place
 use Rattle.ncl_reader.proofs.draft.Draft.of_name.Goals as goal
 
@@ -71,7 +71,7 @@ returns-in_default c = λ p holds.
     let here = holds-place c.args.place c.args.self.now p holds in
     let at = sym here in
     let (item, pin, conn) = elsewhere p c.args.place here c.in_default.not-Item c.in_default.not-Pin c.in_default.not-Connection in
-    let free : (range : Option Range) → ¬ IsDeclaring (spelled p) range = λ range declares. elim (declares_at p range declares) [
+    let free : (range : Option Range) → ¬ IsDeclaring (spelled p) range = λ range declares. elim (declares_by p range (declaring-here p range declares)) [
       | inl (lead, is) ↦ c.in_default.not-HeaderLead lead (at ∙ is)
       | inr more ↦ elim more [
         | inl is ↦ c.in_default.not-HeaderName (at ∙ is)

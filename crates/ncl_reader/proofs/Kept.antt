@@ -1,7 +1,7 @@
 -- What is kept of names, with a token more.
 pub use Rattle.ncl_reader.proofs.Terms.{◌≡◌, ◌≢◌, MatchOption, ◌<◌, ℕ, List, [], ◌∷◌, ◌++◌, Option, Some, None, Bool, true, false, cond, inl, inr, ◌⊎◌, refl, sym, ap, ◌∙◌, subst, option_map, bytes_eq, same_Some, none-some, bytes_eq-Decides, Span, Ranges, Lexeme, Name, Range, IsDeclaring, span_of, IsDeclared, has_name, IsRanges, range_at, vector_at, kept_as, false≢true, NameSet, IsAtNet, IsUsed, IsUses, ◌+◌, arith, length, codes, decimal, length-append, Covers, bit_name, Stands, IsVector, IsBit, IsClear, Clashes, zero, suc, get_or, Contains, slice_index, Contains-append_left, Contains-append_right, Contains-append_cases, KeptBits, IsStanding, numbers_at, is_some, Known, Redeclares, KeepsNames, inside, opened, unwrap_or, rules, IfOk, btree_map_updates_str}
 use Rattle.ncl_reader.proofs.Facts.{declared-more, declared-old, declaring-once, used-more, used-old, stands-more, stands-old, declaring-here, spans_or_not}
-use Rattle.ncl_reader.proofs.Steps.{no_token, name_in}
+pub use Rattle.ncl_reader.proofs.Steps.{no_token, name_in}
 use Rattle.ncl_reader.proofs.Bits.{bit_name-injective, at_default}
 use Rattle.ncl_reader.proofs.Among.{single}
 
@@ -137,24 +137,18 @@ not_own x k e =
     let one : length (codes "[") ≡ 1 = refl in
     omega (arith, lengths, some, one)
 
--- a name that clashes with nothing
-pub clear-name : (xs : List Lexeme) (x : List ℕ) → IsClear xs → (Clashes xs x → ⊥) → IsClear (xs ++ Name x ∷ [])
-clear-name xs x clear fine vector range k declared covers stands = by (declared-more xs (Name x) vector (Some range) declared) (stands-more xs (Name x) (bit_name vector k) stands)
-  where
-    by : IsDeclared xs vector (Some range) ⊎ ((Name x ≡ Name vector) × IsDeclaring xs (Some range)) → Stands xs (bit_name vector k) ⊎ (Name x ≡ Name (bit_name vector k)) → ⊥
-    by (inl before) (inl stood) = clear vector range k before covers stood
-    by (inl before) (inr here) = fine (inl (vector, range, k, name_in here, before, covers))
-    by (inr (e, declares)) (inl stood) = fine (inr (range, k, declares, covers, subst (λ v. Stands xs (bit_name v k)) (sym (name_in e)) stood))
-    by (inr (e, declares)) (inr here) = not_own x k (name_in here ∙ ap (λ v. bit_name v k) (sym (name_in e)))
-
--- a token that is no name
-pub clear-other : (xs : List Lexeme) (t : Lexeme) → ((x : List ℕ) → t ≢ Name x) → IsClear xs → IsClear (xs ++ t ∷ [])
-clear-other xs t other clear vector range k declared covers stands = by (declared-more xs t vector (Some range) declared) (stands-more xs t (bit_name vector k) stands)
+-- a token that is no name, or a name that clashes with nothing
+pub clear-more : (xs : List Lexeme) (t : Lexeme) → IsClear xs → ((x : List ℕ) → t ≡ Name x → Clashes xs x → ⊥) → IsClear (xs ++ t ∷ [])
+clear-more xs t clear fine vector range k declared covers stands = by (declared-more xs t vector (Some range) declared) (stands-more xs t (bit_name vector k) stands)
   where
     by : IsDeclared xs vector (Some range) ⊎ ((t ≡ Name vector) × IsDeclaring xs (Some range)) → Stands xs (bit_name vector k) ⊎ (t ≡ Name (bit_name vector k)) → ⊥
     by (inl before) (inl stood) = clear vector range k before covers stood
-    by (inl before) (inr here) = other (bit_name vector k) here
-    by (inr (e, declares)) stood = other vector e
+    by (inl before) (inr here) = fine (bit_name vector k) here (inl (vector, range, k, refl, before, covers))
+    by (inr (e, declares)) (inl stood) = fine vector e (inr (range, k, declares, covers, stood))
+    by (inr (e, declares)) (inr here) = not_own vector k (name_in (sym e ∙ here))
+
+pub clear-name : (xs : List Lexeme) (x : List ℕ) → IsClear xs → (Clashes xs x → ⊥) → IsClear (xs ++ Name x ∷ [])
+clear-name xs x clear fine = clear-more xs (Name x) clear (λ y e clashes. fine (subst (Clashes xs) (sym (name_in e)) clashes))
 
 pub clear-none : IsClear []
 clear-none vector range k (front, rest, e, declares) covers stands = no_token front rest (Name vector) e
@@ -203,14 +197,14 @@ module _ (old new : KeptBits) (xs : List Lexeme) (vector : List ℕ) (number : �
           let there : numbers_at new v ≡ numbers_at old vector ++ number ∷ [] = more v ∙ ap (λ b. cond b (numbers_at old vector ++ number ∷ []) (numbers_at old v)) test in
           subst (λ l. Contains l k) (sym there) (Contains-append_right (numbers_at old vector) (number ∷ []) k (subst (λ n. Contains (number ∷ []) n) ks (0, omega arith, refl)))
 
--- a name that is no bit's
-pub standing-other : (kept : KeptBits) (xs : List Lexeme) (name : List ℕ) → ((v : List ℕ) (k : ℕ) → k < 65536 → name ≢ bit_name v k) → IsStanding kept xs → IsStanding kept (xs ++ Name name ∷ [])
-standing-other kept xs name other is = record {
-  stands = λ v k found. stands-old xs (Name name ∷ []) (bit_name v k) (is.stands v k found);
+-- a token that is no name of a bit
+pub standing-other : (kept : KeptBits) (xs : List Lexeme) (t : Lexeme) → ((v : List ℕ) (k : ℕ) → k < 65536 → t ≢ Name (bit_name v k)) → IsStanding kept xs → IsStanding kept (xs ++ t ∷ [])
+standing-other kept xs t other is = record {
+  stands = λ v k found. stands-old xs (t ∷ []) (bit_name v k) (is.stands v k found);
   small = is.small;
-  kept = λ v k small stands. elim (stands-more xs (Name name) (bit_name v k) stands) [
+  kept = λ v k small stands. elim (stands-more xs t (bit_name v k) stands) [
     | inl before ↦ is.kept v k small before
-    | inr last ↦ absurd (other v k small (name_in last))
+    | inr last ↦ absurd (other v k small last)
   ];
 }
 
@@ -239,22 +233,12 @@ module _ (kept : KeptBits) (xs : List Lexeme) (vector : List ℕ) (span : Span) 
       (i, less, subst (Covers span) (sym (at_default numbers i 0 k less ∙ e)) covers)
 
 -- a token that is no name
-pub standing_mark : (kept : KeptBits) (xs : List Lexeme) (t : Lexeme) → ((x : List ℕ) → t ≢ Name x) → IsStanding kept xs → IsStanding kept (xs ++ t ∷ [])
-standing_mark kept xs t other is = record {
-  stands = λ v k found. stands-old xs (t ∷ []) (bit_name v k) (is.stands v k found);
-  small = is.small;
-  kept = λ v k small stands. elim (stands-more xs t (bit_name v k) stands) [
-    | inl before ↦ is.kept v k small before
-    | inr last ↦ absurd (other (bit_name v k) last)
-  ];
-}
-
 pub kept_mark : (known : Known) (xs : List Lexeme) (t : Lexeme) → ((x : List ℕ) → t ≢ Name x) → KeepsNames known xs → KeepsNames known (xs ++ t ∷ [])
 kept_mark known xs t other kept = record {
   ranges = ranges-other known.ranges xs t (λ y range is declares. other y is) kept.ranges;
-  standing = standing_mark known.bits xs t other kept.standing;
+  standing = standing-other known.bits xs t (λ v k small. other (bit_name v k)) kept.standing;
   uses = uses-other known.uses xs t (λ y is net. other y is) kept.uses;
-  clear = clear-other xs t other kept.clear;
+  clear = clear-more xs t kept.clear (λ x e. absurd (other x e));
 }
 
 -- a name that was declared with another range, by what is kept

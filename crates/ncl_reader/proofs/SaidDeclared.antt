@@ -1,5 +1,5 @@
 -- Names and bits of what declarations say, and what is said was declared.
-use Rattle.ncl_reader.proofs.Terms.{◌≡◌, ℕ, ◌+◌, ◌*◌, length, arith, List, [], ◌∷◌, ◌++◌, map, Option, refl, sym, ap, ◌∙◌, sum, Some, None, option_map, flat_map, sum_by, sum_by-append, sum_by-cons, sum-map, mul-suc, map-append, Span, Row, all_of, Direction, Lead, Gives, Wires, Range, Group, group_names, Conn, Item, Declares, Joins, Head, groups_of, span_of, range_width, directed_in, directed_by, group_bits, item_bits, Said, is_output, said_of, said_in_header, said_in, said_by, names_said, bits_said, span_width, ◌≤◌, inl, inr, subst, append_assoc, Contains, append-nil, length-append, flat_map-append, Member, here, there, Member-append_cases, member_of_map, Member-from_Contains, member_of_flat_map, Module, EndModule, LParen, RParen, Comma, Semi, Lexeme, Word, Name, Mark, with_commas, row_phrase, name_phrase, direction_phrase, lead_phrase, spec_phrase, group_phrase, item_phrase, Listing, Empty, Names, Ansi, head_phrase, body_phrase, names_in, header_of, Stands, IsDeclared, AreDeclared, listing_phrase, IsDeclaring}
+use Rattle.ncl_reader.proofs.Terms.{◌≡◌, ℕ, ◌+◌, ◌*◌, length, arith, List, [], ◌∷◌, ◌++◌, map, Option, refl, sym, ap, ◌∙◌, sum, Some, None, option_map, flat_map, sum_by, sum_by-append, sum_by-cons, sum-map, mul-suc, map-append, Span, Row, all_of, Direction, Lead, Gives, Wires, Range, Group, group_names, Conn, Item, Declares, Joins, Head, groups_of, span_of, range_width, directed_in, directed_by, group_bits, item_bits, Said, is_output, said_of, said_in_header, said_in, said_by, names_said, bits_said, span_width, ◌≤◌, inl, inr, subst, append_assoc, Contains, append-nil, length-append, Member, here, there, Member-append_cases, member_of_map, Member-from_Contains, member_of_flat_map, Module, EndModule, LParen, RParen, Comma, Semi, Lexeme, Word, Name, Mark, with_commas, row_phrase, name_phrase, direction_phrase, lead_phrase, spec_phrase, group_phrase, item_phrase, Listing, Empty, Names, Ansi, head_phrase, body_phrase, names_in, header_of, Stands, IsDeclared, AreDeclared, listing_phrase, IsDeclaring, flat_map_more}
 use Rattle.ncl_reader.proofs.Facts.{Found, found-old, found-behind}
 
 -- of two lists
@@ -30,15 +30,12 @@ pub names-header : (groups : List (Group Direction)) → names_said (flat_map sa
 names-header [] = refl
 names-header (group ∷ groups) = names-append (said_in_header group) (flat_map said_in_header groups) ∙ (λ i. names-said_of group.spec.lead group.spec.range (group_names group) i ++ names-header groups i)
 
-bits_header : (groups : List (Group Direction)) → bits_said (flat_map said_in_header groups) ≡ sum_by group_bits groups
-bits_header [] = refl
-bits_header (group ∷ groups) =
-    bits-append (said_in_header group) (flat_map said_in_header groups)
-    ∙ (λ i. bits-said_of group.spec.lead group.spec.range (group_names group) i + bits_header groups i)
-    ∙ sym (sum_by-cons group_bits group groups)
+bits_flat : {X : Type 0} (f : X → List Said) (bits : X → ℕ) → ((x : X) → bits_said (f x) ≡ bits x) → (xs : List X) → bits_said (flat_map f xs) ≡ sum_by bits xs
+bits_flat f bits one [] = refl
+bits_flat f bits one (x ∷ xs) = bits-append (f x) (flat_map f xs) ∙ (λ i. one x i + bits_flat f bits one xs i) ∙ sym (sum_by-cons bits x xs)
 
 pub bits-header : (groups : List (Group Direction)) → bits_said (flat_map said_in_header groups) ≡ sum (map group_bits groups)
-bits-header groups = bits_header groups ∙ sym (sum-map group_bits groups)
+bits-header groups = bits_flat said_in_header group_bits (λ group. bits-said_of group.spec.lead group.spec.range (group_names group)) groups ∙ sym (sum-map group_bits groups)
 
 -- of items
 abbrev declared_by : Lead → Option Range → Row (List ℕ) → Item
@@ -62,15 +59,8 @@ pub names-items : (items : List Item) → names_said (flat_map said_in items) �
 names-items [] = refl
 names-items (item ∷ items) = names-append (said_in item) (flat_map said_in items) ∙ (λ i. names-item item i ++ names-items items i)
 
-bits_items : (items : List Item) → bits_said (flat_map said_in items) ≡ sum_by item_bits items
-bits_items [] = refl
-bits_items (item ∷ items) =
-    bits-append (said_in item) (flat_map said_in items)
-    ∙ (λ i. bits-item item i + bits_items items i)
-    ∙ sym (sum_by-cons item_bits item items)
-
 pub bits-items : (items : List Item) → bits_said (flat_map said_in items) ≡ sum (map item_bits items)
-bits-items items = bits_items items ∙ sym (sum-map item_bits items)
+bits-items items = bits_flat said_in item_bits bits-item items ∙ sym (sum-map item_bits items)
 
 -- of a head and items
 pub names-said_by : (head : Head) (items : List Item) → names_said (said_by (record { head = head; items = items })) ≡ directed_by head items
@@ -184,8 +174,11 @@ few_names : (names : List (List ℕ)) → length names ≤ length (with_commas n
 few_names [] = omega arith
 few_names (x ∷ names) = omega (arith, few_names names)
 
+few_append : {X Y : Type 0} (a c : List X) (b d : List Y) → length a ≤ length b → length c ≤ length d → length (a ++ c) ≤ length (b ++ d)
+few_append a c b d front back = omega (arith, length-append a c, length-append b d, front, back)
+
 few_row : (row : Row (List ℕ)) → length (all_of row) ≤ length (row_phrase name_phrase row)
-few_row row = omega (arith, few_names row.before, length-append row.before (row.last ∷ []), length-append (with_commas name_phrase row.before) (Name row.last ∷ []))
+few_row row = few_append row.before (row.last ∷ []) (with_commas name_phrase row.before) (Name row.last ∷ []) (few_names row.before) (omega arith)
 
 few_group : (group : Group Direction) → length (group_names group) ≤ length (group_phrase direction_phrase group)
 few_group group = omega (arith, few_row group.names, length-append (spec_phrase direction_phrase group.spec) (row_phrase name_phrase group.names))
@@ -193,18 +186,12 @@ few_group group = omega (arith, few_row group.names, length-append (spec_phrase 
 few_groups : (groups : List (Group Direction)) → length (flat_map group_names groups) ≤ length (with_commas (group_phrase direction_phrase) groups)
 few_groups [] = omega arith
 few_groups (group ∷ groups) =
-    let names : length (flat_map group_names (group ∷ groups)) ≡ length (group_names group) + length (flat_map group_names groups) = length-append (group_names group) (flat_map group_names groups) in
-    let comma : length (group_phrase direction_phrase group ++ Mark Comma ∷ []) ≡ length (group_phrase direction_phrase group) + 1 = length-append (group_phrase direction_phrase group) (Mark Comma ∷ []) in
-    let all : length (with_commas (group_phrase direction_phrase) (group ∷ groups)) ≡ length (group_phrase direction_phrase group ++ Mark Comma ∷ []) + length (with_commas (group_phrase direction_phrase) groups) = length-append (group_phrase direction_phrase group ++ Mark Comma ∷ []) (with_commas (group_phrase direction_phrase) groups) in
-    omega (arith, names, comma, all, few_group group, few_groups groups)
+    let one = group_phrase direction_phrase group in
+    few_append (group_names group) (flat_map group_names groups) (one ++ Mark Comma ∷ []) _ (omega (arith, few_group group, length-append one (Mark Comma ∷ []))) (few_groups groups)
 
 few_ansi : (row : Row (Group Direction)) → length (flat_map group_names (all_of row)) ≤ length (row_phrase (group_phrase direction_phrase) row)
-few_ansi row =
-    let names : flat_map group_names (row.before ++ row.last ∷ []) ≡ flat_map group_names row.before ++ flat_map group_names (row.last ∷ []) = flat_map-append group_names row.before (row.last ∷ []) in
-    let count : length (flat_map group_names (row.before ++ row.last ∷ [])) ≡ length (flat_map group_names row.before) + length (flat_map group_names (row.last ∷ [])) = ap length names ∙ length-append (flat_map group_names row.before) (flat_map group_names (row.last ∷ [])) in
-    let last : length (flat_map group_names (row.last ∷ [])) ≡ length (group_names row.last) = ap length (append-nil (group_names row.last)) in
-    let all : length (row_phrase (group_phrase direction_phrase) row) ≡ length (with_commas (group_phrase direction_phrase) row.before) + length (group_phrase direction_phrase row.last) = length-append (with_commas (group_phrase direction_phrase) row.before) (group_phrase direction_phrase row.last) in
-    omega (arith, count, last, all, few_groups row.before, few_group row.last)
+few_ansi row = subst (λ l. length l ≤ length (row_phrase (group_phrase direction_phrase) row)) (flat_map_more group_names [] row.before row.last)
+    (few_append (flat_map group_names row.before) (group_names row.last) (with_commas (group_phrase direction_phrase) row.before) (group_phrase direction_phrase row.last) (few_groups row.before) (few_group row.last))
 
 inner_few : (l : List Lexeme) (a b c d : List Lexeme) → length l ≤ length ((((l ++ a) ++ b) ++ c) ++ d)
 inner_few l a b c d = simp length-append (omega arith)

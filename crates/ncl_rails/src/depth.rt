@@ -1,5 +1,4 @@
 //! How many gates stand one after another.
-ghost use Rattle.std.specs.Prelude.{◌≡◌};
 
 use ncl_base::Memory;
 use ncl_netlist::NetId;

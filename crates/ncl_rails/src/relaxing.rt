@@ -1,5 +1,5 @@
 //! What nodes wait for: a node need not wait for what another waits for.
-ghost use Rattle.std.specs.Prelude.{◌≡◌, ◌<◌, ◌^◌, true, length, IfOk};
+ghost use Rattle.std.specs.Prelude.{◌<◌, ◌^◌, true, length, IfOk};
 ghost use Rattle.ncl_rails.specs.Complete.{IsComplete};
 ghost use Rattle.ncl_rails.specs.Waiting.{IsCovered, waits_of};
 

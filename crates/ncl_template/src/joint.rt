@@ -1,6 +1,5 @@
 //! Joint waiting: a node that waits for its first inputs together with the gates of its last.
-ghost use Rattle.std.specs.Prelude.{◌≡◌, ◌<◌, ◌≤◌, ◌∷◌, [], ℕ, Bool, true, false, All, IfSome, length, map};
-ghost use Rattle.ncl_gates.specs.Gate.{arity_of};
+ghost use Rattle.std.specs.Prelude.{◌≡◌, ◌<◌, ◌≤◌, ◌∷◌, [], Bool, true, false, All, IfSome, length, map};
 ghost use Rattle.ncl_template.specs.Template.{node_function};
 ghost use Rattle.ncl_template.specs.Waits.{waits_once};
 ghost use Rattle.ncl_template.specs.Forms.{IsFormPin, IsFormGate, pin_net, IsGateOf};

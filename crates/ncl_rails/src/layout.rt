@@ -41,7 +41,7 @@ fn add_nodes(
     for node in network.nodes.items() {
         let ins = signal_pairs(alloc, inputs, &pairs, node.ins.items())?;
         let waited = waits_at(waits, pairs.len());
-        let pair = add_waiting(alloc, gates, node, &ins, waited)?;
+        let pair = add_waiting(gates, node, &ins, waited)?;
         pairs.push(pair)?;
     }
     Ok(pairs)

@@ -1,11 +1,9 @@
--- A function that is one of the other inputs, changed by the first together with another one: four templates, of the two functions
--- and of two pairs, are one of it.
-use Rattle.std.proofs.Common.{◌≡◌, ℕ, zero, suc, ◌+◌, ◌*◌, Bool, true, false, not, List, [], ◌∷◌, ◌++◌, length, map, inl, inr, refl, sym, ap, subst, ◌∙◌, arith, append_assoc, length-append}
-use Rattle.std.specs.Prelude.{Contains}
+-- A function that is one of the other inputs where the first is 0, and another one where it is 1: four templates, of the first, of
+-- whether the two differ, and of two pairs, are one of it.
+use Rattle.std.proofs.Common.{◌≡◌, ℕ, ◌+◌, ◌*◌, Bool, true, false, not, List, [], ◌∷◌, ◌++◌, length, map, inl, inr, refl, sym, ap, subst, ◌∙◌, arith, append_assoc, length-append}
+use Rattle.std.specs.Prelude.{Contains, if◌then◌else◌}
 use Rattle.std.specs.Bool.{beq}
-use Rattle.ncl_template.specs.declared.table.TableRow.{TableRow}
-use Rattle.ncl_template.specs.declared.table.Table.{Table}
-use Rattle.ncl_template.specs.Tables.{pair_number, bit_at, table_value, beside_row, difference_row}
+use Rattle.ncl_template.specs.Tables.{row_value, choice, differs}
 use Rattle.std.proofs.lemmas.List.{append-nil, map-append}
 use Rattle.std.proofs.lemmas.List.Elements.{All-contains}
 use Rattle.ncl_base.proofs.Members.{Member, here, there, Member-append_left, Member-append_right, Member-append_cases, Contains-from_Member, Member-from_Contains}
@@ -17,7 +15,6 @@ use Rattle.ncl_shape.specs.Nets.{Nets}
 use Rattle.ncl_shape.specs.Stage.{out_of, rail_nets, nets_of}
 use Rattle.ncl_template.specs.Template.{Shows, IsNull, ShowWord, Obeys, IsCase, IsTemplate}
 use Rattle.ncl_template.specs.Formed.{IsFormed, AddsTemplate}
-use Rattle.ncl_template.proofs.Groups.{ShowWord-length}
 use Rattle.ncl_template.proofs.InOrder.{AreInOrder, in_order-wider, in_order-append, arities-in_order, IsInOrder-from}
 use Rattle.ncl_template.proofs.AmongLaws.{obeys_part}
 
@@ -48,11 +45,29 @@ pair_nets_known known r rest low high others n (there (there m)) = others n m
 no_nets : (known : List ℕ) (n : ℕ) → Member n (rail_nets []) → Member n known
 no_nets known n m = elim m [ ]
 
-module _ (x : Rails) (rest : List Rails) (f same change : List Bool → Bool) (both differ : List Bool → Bool) (is : (b : Bool) (word : List Bool) → length word ≡ length rest → differ (same word ∷ both (b ∷ change word ∷ []) ∷ []) ≡ f (b ∷ word)) (p q r out : Rails) (gp gq gr go : List StageCell) where
+-- whether two bits are 1, and whether they differ
+abbrev both : List Bool → Bool
+both = row_value (record { at_00 = false; at_01 = false; at_10 = false; at_11 = true })
+
+abbrev differ : List Bool → Bool
+differ = row_value (record { at_00 = false; at_01 = true; at_10 = true; at_11 = false })
+
+-- a value that is changed where a bit is 1 and another value differs
+changed_value : (b p q : Bool) → differ (p ∷ both (b ∷ not (beq p q) ∷ []) ∷ []) ≡ (if b then q else p)
+changed_value true true true = refl
+changed_value true true false = refl
+changed_value true false true = refl
+changed_value true false false = refl
+changed_value false true true = refl
+changed_value false true false = refl
+changed_value false false true = refl
+changed_value false false false = refl
+
+module _ (x : Rails) (rest : List Rails) (f g : List Bool → Bool) (p q r out : Rails) (gp gq gr go : List StageCell) where
   abbrev all : List StageCell
   all = (gp ++ gq) ++ (gr ++ go)
 
-  module _ (tp : IsTemplate same rest rest gp p) (tq : IsTemplate change rest rest gq q) (tr : IsTemplate both (x ∷ q ∷ []) (x ∷ q ∷ []) gr r) (to : IsTemplate differ (p ∷ r ∷ []) (p ∷ r ∷ []) go out) where
+  module _ (tp : IsTemplate f rest rest gp p) (tq : IsTemplate (differs f g) rest rest gq q) (tr : IsTemplate both (x ∷ q ∷ []) (x ∷ q ∷ []) gr r) (to : IsTemplate differ (p ∷ r ∷ []) (p ∷ r ∷ []) go out) where
     in_p : (c : StageCell) → Contains gp c → Contains all c
     in_p c m = Contains-from_Member c (Member-append_left c (gr ++ go) (Member-append_left c gq (Member-from_Contains gp c m)))
 
@@ -68,12 +83,12 @@ module _ (x : Rails) (rest : List Rails) (f same change : List Bool → Bool) (b
     -- what the inner pairs show
     module _ (base : Nets) (obeys : Obeys base all) (b : Bool) (word : List Bool) (shown : ShowWord base (x ∷ rest) (b ∷ word)) where
       abbrev changed : List Bool
-      changed = b ∷ change word ∷ []
+      changed = b ∷ differs f g word ∷ []
 
       shows_pair : ShowWord base (x ∷ q ∷ []) changed
       shows_pair = (shown.0, (tq.value base word (obeys_part all gq in_q base obeys) shown.1, tt))
 
-      shows_last : ShowWord base (p ∷ r ∷ []) (same word ∷ both changed ∷ [])
+      shows_last : ShowWord base (p ∷ r ∷ []) (f word ∷ both changed ∷ [])
       shows_last = (tp.value base word (obeys_part all gp in_p base obeys) shown.1, (tr.value base changed (obeys_part all gr in_r base obeys) shows_pair, tt))
 
     -- what follows for lower values
@@ -81,11 +96,11 @@ module _ (x : Rails) (rest : List Rails) (f same change : List Bool → Bool) (b
       part : (cells : List StageCell) → ((c : StageCell) → Contains cells c → Contains all c) → (ins : List Rails) (bits : List Bool) → ShowWord base ins bits → IsCase base v ins cells bits
       part cells within ins bits shown = record { obeys = obeys_part all cells within base case.obeys; shown = shown; below = case.below; supported = record { each = λ c m. case.supported.each c (within c m) } }
 
-      case_o : IsCase base v (p ∷ r ∷ []) go (same word ∷ both (b ∷ change word ∷ []) ∷ [])
-      case_o = part go in_o (p ∷ r ∷ []) (same word ∷ both (b ∷ change word ∷ []) ∷ []) (shows_last base case.obeys b word case.shown)
+      case_o : IsCase base v (p ∷ r ∷ []) go (f word ∷ both (b ∷ differs f g word ∷ []) ∷ [])
+      case_o = part go in_o (p ∷ r ∷ []) (f word ∷ both (b ∷ differs f g word ∷ []) ∷ []) (shows_last base case.obeys b word case.shown)
 
-      case_r : IsCase base v (x ∷ q ∷ []) gr (b ∷ change word ∷ [])
-      case_r = part gr in_r (x ∷ q ∷ []) (b ∷ change word ∷ []) (shows_pair base case.obeys b word case.shown)
+      case_r : IsCase base v (x ∷ q ∷ []) gr (b ∷ differs f g word ∷ [])
+      case_r = part gr in_r (x ∷ q ∷ []) (b ∷ differs f g word ∷ []) (shows_pair base case.obeys b word case.shown)
 
       first_of : (y z : Rails) → Contains (y ∷ z ∷ []) y
       first_of y z = let m : Member y (y ∷ z ∷ []) = here in Contains-from_Member y m
@@ -94,16 +109,16 @@ module _ (x : Rails) (rest : List Rails) (f same change : List Bool → Bool) (b
       second_of y z = let m : Member z (y ∷ z ∷ []) = there here in Contains-from_Member z m
 
       from_p : IsNull v p → IsNull v out
-      from_p null = to.needs base v (same word ∷ both (b ∷ change word ∷ []) ∷ []) case_o p (first_of p r) null
+      from_p null = to.needs base v (f word ∷ both (b ∷ differs f g word ∷ []) ∷ []) case_o p (first_of p r) null
 
       from_r : IsNull v r → IsNull v out
-      from_r null = to.needs base v (same word ∷ both (b ∷ change word ∷ []) ∷ []) case_o r (second_of p r) null
+      from_r null = to.needs base v (f word ∷ both (b ∷ differs f g word ∷ []) ∷ []) case_o r (second_of p r) null
 
       from_q : IsNull v q → IsNull v out
-      from_q null = from_r (tr.needs base v (b ∷ change word ∷ []) case_r q (second_of x q) null)
+      from_q null = from_r (tr.needs base v (b ∷ differs f g word ∷ []) case_r q (second_of x q) null)
 
       needs_of : (y : Rails) → Member y (x ∷ rest) → IsNull v y → IsNull v out
-      needs_of _ here null = from_r (tr.needs base v (b ∷ change word ∷ []) case_r x (first_of x q) null)
+      needs_of _ here null = from_r (tr.needs base v (b ∷ differs f g word ∷ []) case_r x (first_of x q) null)
       needs_of y (there m) null = from_p (tp.needs base v word (part gp in_p rest word case.shown.1) y (Contains-from_Member y m) null)
 
       observed_of : (c : StageCell) → Contains all c → base (out_of c) ≡ true → v (out_of c) ≡ false → IsNull v out
@@ -116,17 +131,17 @@ module _ (x : Rails) (rest : List Rails) (f same change : List Bool → Bool) (b
                 ]
             | inr late ↦
                 elim (Member-append_cases c gr go late) [
-                  | inl m ↦ from_r (tr.observed base v (b ∷ change word ∷ []) case_r c (Contains-from_Member c m) high low)
-                  | inr m ↦ to.observed base v (same word ∷ both (b ∷ change word ∷ []) ∷ []) case_o c (Contains-from_Member c m) high low
+                  | inl m ↦ from_r (tr.observed base v (b ∷ differs f g word ∷ []) case_r c (Contains-from_Member c m) high low)
+                  | inr m ↦ to.observed base v (f word ∷ both (b ∷ differs f g word ∷ []) ∷ []) case_o c (Contains-from_Member c m) high low
                 ]
           ]
 
-    changed_template : IsTemplate f (x ∷ rest) (x ∷ rest) all out
+    changed_template : IsTemplate (choice f g) (x ∷ rest) (x ∷ rest) all out
     changed_template = record { value = value; needs = needs; observed = observed }
       where
-        value : (base : Nets) (word : List Bool) → Obeys base all → ShowWord base (x ∷ rest) word → Shows base out (f word)
+        value : (base : Nets) (word : List Bool) → Obeys base all → ShowWord base (x ∷ rest) word → Shows base out (choice f g word)
         value base [] obeys shown = absurd shown
-        value base (b ∷ word) obeys shown = subst (Shows base out) (is b word (ShowWord-length base rest word shown.1)) (to.value base (same word ∷ both (b ∷ change word ∷ []) ∷ []) (obeys_part all go in_o base obeys) (shows_last base obeys b word shown))
+        value base (b ∷ word) obeys shown = subst (Shows base out) (changed_value b (f word) (g word)) (to.value base (f word ∷ both (b ∷ differs f g word ∷ []) ∷ []) (obeys_part all go in_o base obeys) (shows_last base obeys b word shown))
 
         needs : (base v : Nets) (word : List Bool) → IsCase base v (x ∷ rest) all word → (y : Rails) → Contains (x ∷ rest) y → IsNull v y → IsNull v out
         needs base v [] case y m null = absurd case.shown
@@ -167,66 +182,19 @@ module _ (x : Rails) (rest : List Rails) (f same change : List Bool → Bool) (b
         one_driven = last out.one.0 (driven go out.one fo.one_driven);
       }
 
-pub AddsTemplate-changed : (x : Rails) (rest : List Rails) (f same change both differ : List Bool → Bool) → ((b : Bool) (word : List Bool) → length word ≡ length rest → differ (same word ∷ both (b ∷ change word ∷ []) ∷ []) ≡ f (b ∷ word)) → (most : ℕ) (before now then late after : List StageCell) (p q r out : Rails) → AddsTemplate same rest rest most before now p → AddsTemplate change rest rest most now then q → AddsTemplate both (x ∷ q ∷ []) (x ∷ q ∷ []) 2 then late r → AddsTemplate differ (p ∷ r ∷ []) (p ∷ r ∷ []) 2 late after out → AddsTemplate f (x ∷ rest) (x ∷ rest) (2 * most + 4) before after out
-AddsTemplate-changed x rest f same change both differ is most before now then late after p q r out ap aq ar ao = record {
+-- what is the first function, and shows where that differs from the second, makes the choice of both
+pub AddsTemplate-changed : (x : Rails) (rest : List Rails) (f g : List Bool → Bool) (most : ℕ) (before now next late after : List StageCell) (p q r out : Rails) → AddsTemplate f rest rest most before now p → AddsTemplate (differs f g) rest rest most now next q → AddsTemplate both (x ∷ q ∷ []) (x ∷ q ∷ []) 2 next late r → AddsTemplate differ (p ∷ r ∷ []) (p ∷ r ∷ []) 2 late after out → AddsTemplate (choice f g) (x ∷ rest) (x ∷ rest) (2 * most + 4) before after out
+AddsTemplate-changed x rest f g most before now next late after p q r out ap aq ar ao = record {
   made = (ap.made ++ aq.made) ++ (ar.made ++ ao.made);
   added =
       ao.added
       ∙ (λ i. ar.added i ++ ao.made)
-      ∙ append_assoc then ar.made ao.made
+      ∙ append_assoc next ar.made ao.made
       ∙ (λ i. aq.added i ++ (ar.made ++ ao.made))
       ∙ (λ i. (ap.added i ++ aq.made) ++ (ar.made ++ ao.made))
       ∙ (λ i. append_assoc before ap.made aq.made i ++ (ar.made ++ ao.made))
       ∙ append_assoc before (ap.made ++ aq.made) (ar.made ++ ao.made);
-  template = changed_template x rest f same change both differ is p q r out ap.made aq.made ar.made ao.made ap.template aq.template ar.template ao.template;
-  formed = changed_formed x rest f same change both differ is p q r out ap.made aq.made ar.made ao.made ap.formed aq.formed ar.formed ao.formed;
+  template = changed_template x rest f g p q r out ap.made aq.made ar.made ao.made ap.template aq.template ar.template ao.template;
+  formed = changed_formed x rest f g p q r out ap.made aq.made ar.made ao.made ap.formed aq.formed ar.formed ao.formed;
   few = omega (arith, length-append (ap.made ++ aq.made) (ar.made ++ ao.made), length-append ap.made aq.made, length-append ar.made ao.made, ap.few, aq.few, ar.few, ao.few);
 }
-
--- ---- three inputs
-
-abbrev taken_of : Bool → Bool → Bool → Bool
-taken_of true p q = q
-taken_of false p q = p
-
--- a value that is changed where a bit is 1 and another value differs
-changed_value : (b p q : Bool) → bit_at (record { at_00 = false; at_01 = true; at_10 = true; at_11 = false }) (pair_number (p ∷ bit_at (record { at_00 = false; at_01 = false; at_10 = false; at_11 = true }) (pair_number (b ∷ not (beq p q) ∷ [])) ∷ [])) ≡ taken_of b p q
-changed_value true true true = refl
-changed_value true true false = refl
-changed_value true false true = refl
-changed_value true false false = refl
-changed_value false true true = refl
-changed_value false true false = refl
-changed_value false false true = refl
-changed_value false false false = refl
-
-difference_at : (a b : TableRow) (n : ℕ) → bit_at (difference_row a b) n ≡ not (beq (bit_at a n) (bit_at b n))
-difference_at a b zero = refl
-difference_at a b (suc zero) = refl
-difference_at a b (suc (suc zero)) = refl
-difference_at a b (suc (suc (suc n))) = refl
-
-halves : (table : Table) (b : Bool) (word : List Bool) → length word ≡ 2 → taken_of b (bit_at (beside_row table.at_00 table.at_01) (pair_number word)) (bit_at (beside_row table.at_10 table.at_11) (pair_number word)) ≡ table_value table (b ∷ word)
-halves table b [] len = absurd (omega (arith, len))
-halves table b (y ∷ []) len = absurd (omega (arith, len))
-halves table b (y ∷ z ∷ t ∷ word) len = absurd (omega (arith, len))
-halves table true (true ∷ true ∷ []) len = refl
-halves table true (true ∷ false ∷ []) len = refl
-halves table true (false ∷ true ∷ []) len = refl
-halves table true (false ∷ false ∷ []) len = refl
-halves table false (true ∷ true ∷ []) len = refl
-halves table false (true ∷ false ∷ []) len = refl
-halves table false (false ∷ true ∷ []) len = refl
-halves table false (false ∷ false ∷ []) len = refl
-
-pub AddsTemplate-three : (table : Table) (a b c : Rails) (low high change : TableRow) → low ≡ beside_row table.at_00 table.at_01 → high ≡ beside_row table.at_10 table.at_11 → change ≡ difference_row low high → (before now then late after : List StageCell) (p q r out : Rails) → AddsTemplate (λ word. bit_at low (pair_number word)) (b ∷ c ∷ []) (b ∷ c ∷ []) 2 before now p → AddsTemplate (λ word. bit_at change (pair_number word)) (b ∷ c ∷ []) (b ∷ c ∷ []) 2 now then q → AddsTemplate (λ word. bit_at (record { at_00 = false; at_01 = false; at_10 = false; at_11 = true }) (pair_number word)) (a ∷ q ∷ []) (a ∷ q ∷ []) 2 then late r → AddsTemplate (λ word. bit_at (record { at_00 = false; at_01 = true; at_10 = true; at_11 = false }) (pair_number word)) (p ∷ r ∷ []) (p ∷ r ∷ []) 2 late after out → AddsTemplate (table_value table) (a ∷ b ∷ c ∷ []) (a ∷ b ∷ c ∷ []) 12 before after out
-AddsTemplate-three table a b c low high change low_is high_is change_is before now then late after p q r out first second third last =
-    let whole = AddsTemplate-changed a (b ∷ c ∷ []) (table_value table) (λ word. bit_at low (pair_number word)) (λ word. bit_at change (pair_number word)) (λ word. bit_at (record { at_00 = false; at_01 = false; at_10 = false; at_11 = true }) (pair_number word)) (λ word. bit_at (record { at_00 = false; at_01 = true; at_10 = true; at_11 = false }) (pair_number word)) value 2 before now then late after p q r out first second third last in
-    record { made = whole.made; added = whole.added; template = whole.template; formed = whole.formed; few = omega (arith, whole.few) }
-  where
-    value : (x : Bool) (word : List Bool) → length word ≡ 2 → bit_at (record { at_00 = false; at_01 = true; at_10 = true; at_11 = false }) (pair_number (bit_at low (pair_number word) ∷ bit_at (record { at_00 = false; at_01 = false; at_10 = false; at_11 = true }) (pair_number (x ∷ bit_at change (pair_number word) ∷ [])) ∷ [])) ≡ table_value table (x ∷ word)
-    value x word len =
-        ap (λ bit. bit_at (record { at_00 = false; at_01 = true; at_10 = true; at_11 = false }) (pair_number (bit_at low (pair_number word) ∷ bit_at (record { at_00 = false; at_01 = false; at_10 = false; at_11 = true }) (pair_number (x ∷ bit ∷ [])) ∷ []))) (ap (λ (row : TableRow). bit_at row (pair_number word)) change_is ∙ difference_at low high (pair_number word))
-        ∙ changed_value x (bit_at low (pair_number word)) (bit_at high (pair_number word))
-        ∙ (λ i. taken_of x (bit_at (low_is i) (pair_number word)) (bit_at (high_is i) (pair_number word)))
-        ∙ halves table x word len

@@ -1,6 +1,6 @@
 -- The gates of a form as a template.
 use Rattle.std.proofs.Common.{◌≡◌, ℕ, zero, suc, ◌+◌, ◌<◌, ◌≤◌, Bool, true, false, not, ◌&&◌, nat_eq, List, [], ◌∷◌, ◌++◌, length, map, get_or, inl, inr, refl, sym, ap, subst, ◌∙◌, arith, append_assoc, length-append}
-use Rattle.std.proofs.lemmas.List.{append-nil, get_or_append_left, get_or_push, length_push}
+use Rattle.std.proofs.lemmas.List.{append-nil, get_or_append_left, get_or_push, length_push, length-map}
 use Rattle.std.specs.Prelude.{Contains}
 use Rattle.std.proofs.lemmas.Bool.{both_ways, false_from_ne_true, true_from_ne_false, cases_lt, eqb-true}
 use Rattle.ncl_base.proofs.Members.{Member, here, there, Member-append_left, Member-append_right, Member-append_cases, Member-map, member_of_map, Contains-from_Member, Member-from_Contains}
@@ -21,9 +21,7 @@ use Rattle.ncl_template.specs.Template.{IsNull, ShowWord, Obeys, IsCase, IsTempl
 use Rattle.ncl_template.specs.Formed.{IsFormed, AddsTemplate}
 use Rattle.ncl_template.specs.Among.{AddsAmong}
 use Rattle.ncl_template.specs.Forms.{gate_bit, inner_bits, IsFormPin, IsFormGate, AreInner, FitsAt, Fits, no_pair, no_net, pin_net, IsGateOf, AddsInner, none, more, AddsForm}
-use Rattle.ncl_template.proofs.Groups.{Leaf, IsLeaf, ShowWord-length, template_of_groups}
-use Rattle.ncl_template.proofs.InputLeaves.{group_of_one}
-use Rattle.ncl_template.proofs.Trees.{low_from_unset}
+use Rattle.ncl_template.proofs.Leaves.{IsLeaf, ShowWord-length, low_from_unset, template_of_leaves}
 use Rattle.ncl_template.proofs.InOrder.{AreInOrder, in_order-append, arities-in_order, IsInOrder-from}
 use Rattle.ncl_template.proofs.AmongLaws.{obeys_part, case_part, made_in, AddsAmong-from}
 use Rattle.ncl_template.proofs.FormLaws.{not_same, asked, asked_up, pins_shown, pins_unset, all_pins}
@@ -45,13 +43,9 @@ rail_known [] k lt = absurd (omega (arith, lt))
 rail_known (r ∷ ins) zero lt = (here, there here)
 rail_known (r ∷ ins) (suc k) lt = let (first, second) = rail_known ins k (omega (arith, lt)) in (there (there first), there (there second))
 
-map_count : {X Y : Type 0} (f : X → Y) (xs : List X) → length (map f xs) ≡ length xs
-map_count f [] = refl
-map_count f (x ∷ xs) = ap suc (map_count f xs)
-
 module _ (ins : List Rails) (nets : List NetId) (gate : FormGate) (c : StageCell) (is : IsGateOf ins nets gate c) (count : ℕ) (of : IsFormGate (length ins) count gate) where
   gate_arity : length c.ins.items ≡ arity_of c.kind
-  gate_arity = ap length is.ins_are ∙ map_count (pin_net ins nets) gate.pins.items ∙ of.arity ∙ ap arity_of (sym is.kind)
+  gate_arity = ap length is.ins_are ∙ length-map gate.pins.items (pin_net ins nets) ∙ of.arity ∙ ap arity_of (sym is.kind)
 
   gate_reads : (known : List ℕ) → ((n : ℕ) → Member n (rail_nets ins) → Member n known) → ((k : ℕ) → k < count → Member (get_or nets k no_net).0 known) → (n : NetId) → Member n c.ins.items → Member n.0 known
   gate_reads known rails inner n m =
@@ -203,7 +197,7 @@ made_of ins bits under _ _ _ _ _ is are (more some gate gates before now after n
 -- ---- the rails
 
 module _ (ins : List Rails) (waits : List Bool → ℕ → Bool) (inner : List FormGate) (under : List StageCell) (nets : List NetId) (is_under : IsUnder ins (λ word null low. inner_bits word null low [] inner) under nets) (many : length nets ≡ length inner) where
-  leaf_fits : (set : List Bool → Bool) (gate : FormGate) (c : StageCell) → ((word : List Bool) → length word ≡ length ins → FitsAt (set word) waits inner gate word) → IsFormGate (length ins) (length nets) gate → IsGateOf ins nets gate c → IsLeaf ins [] under (record { cell = c; at = set })
+  leaf_fits : (set : List Bool → Bool) (gate : FormGate) (c : StageCell) → ((word : List Bool) → length word ≡ length ins → FitsAt (set word) waits inner gate word) → IsFormGate (length ins) (length nets) gate → IsGateOf ins nets gate c → IsLeaf ins [] under set c
   leaf_fits set gate c fits of is = record {
     exact = λ base word obeys shown.
         (λ i. set_of (is.kind i) (pin_values base (is.ins_are i)))
@@ -235,11 +229,9 @@ module _ (f : List Bool → Bool) (ins : List Rails) (waits : List Bool → ℕ 
 
   form_template : IsTemplate f ins [] (under ++ c ∷ d ∷ []) (record { zero = c.out; one = d.out })
   form_template =
-      let zero : Leaf = record { cell = c; at = λ word. not (f word) } in
-      let one : Leaf = record { cell = d; at = f } in
-      template_of_groups f ins [] under (zero ∷ []) (one ∷ []) [] [] c.out d.out
-      (group_of_one (λ word. not (f word)) ins [] under zero (leaf_fits ins waits form.inner.items under nets is_under many (λ word. not (f word)) form.zero c (λ word wide. (fits.at word wide).0) zero_fit is_zero) (λ word wide. refl))
-      (group_of_one f ins [] under one (leaf_fits ins waits form.inner.items under nets is_under many f form.one d (λ word wide. (fits.at word wide).1) one_fit is_one) (λ word wide. refl))
+      template_of_leaves f ins [] under c d
+      (leaf_fits ins waits form.inner.items under nets is_under many (λ word. not (f word)) form.zero c (λ word wide. (fits.at word wide).0) zero_fit is_zero)
+      (leaf_fits ins waits form.inner.items under nets is_under many f form.one d (λ word wide. (fits.at word wide).1) one_fit is_one)
 
   form_waits : (cells : List StageCell) → ((g : StageCell) → Contains (under ++ c ∷ d ∷ []) g → Contains cells g) → (base v : Nets) (word : List Bool) → IsCase base v ins cells word → (k : ℕ) → k < length ins → waits word k ≡ true → IsNull v (get_or ins k no_pair) → IsNull v (record { zero = c.out; one = d.out })
   form_waits cells within base v word case k lt passes null =

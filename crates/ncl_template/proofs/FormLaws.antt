@@ -17,8 +17,7 @@ use Rattle.ncl_template.specs.declared.form.FormGate.{FormGate}
 use Rattle.ncl_template.specs.declared.form.Form.{Form}
 use Rattle.ncl_template.specs.Template.{Shows, IsNull, ShowWord}
 use Rattle.ncl_template.specs.Forms.{pin_bit, gate_bit, IsFormPin, IsFormGate, IsForm, FitsWord, Fits, no_net, no_pair, pin_net, IsGateOf}
-use Rattle.ncl_template.proofs.Groups.{ShowWord-length}
-use Rattle.ncl_template.proofs.InputLeaves.{shown_nets}
+use Rattle.ncl_template.proofs.Leaves.{ShowWord-length, shown_nets}
 
 -- ---- the values on the pins
 

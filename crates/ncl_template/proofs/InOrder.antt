@@ -2,15 +2,12 @@
 use Rattle.std.proofs.Common.{◌≡◌, ℕ, List, [], ◌∷◌, ◌++◌, length, map, inl, inr, sym, subst, append_assoc}
 use Rattle.std.specs.Prelude.{All, Contains}
 use Rattle.std.proofs.lemmas.List.{append-nil}
-use Rattle.ncl_base.proofs.Members.{Member, here, there, Member-append_left, Member-append_right, Member-append_cases, Member-map, Member-from_Contains, Contains-from_Member, All-from_members}
+use Rattle.ncl_base.proofs.Members.{Member, here, there, Member-append_left, Member-append_right, Member-append_cases, Contains-from_Member, All-from_members}
 use Rattle.ncl_gates.specs.Gate.{arity_of}
 use Rattle.ncl_netlist.specs.declared.ids.NetId.{NetId}
 use Rattle.ncl_shape.specs.declared.rails.Rails.{Rails}
 use Rattle.ncl_shape.specs.declared.stage.StageCell.{StageCell}
 use Rattle.ncl_shape.specs.Stage.{out_of, rail_nets, nets_of, IsInOrder}
-use Rattle.ncl_tree.specs.declared.tree.Family.TheVariants.{Any}
-use Rattle.ncl_tree.specs.GateTree.{GateTree, one, more}
-use Rattle.ncl_template.specs.PairGates.{IsOver}
 
 -- each gate has a net on each pin, which is known or driven by an earlier gate
 abbrev pub AreInOrder : List ℕ → List StageCell → Type 0
@@ -40,31 +37,6 @@ in_order-append known (x ∷ xs) ys first second = (
   first.1,
   in_order-append (known ++ out_of x ∷ []) xs ys first.2 (subst (λ known. AreInOrder known ys) (sym (append_assoc known (out_of x ∷ []) (map out_of xs))) second),
 )
-
--- gates that read known nets alone
-pub in_order-over : (known : List ℕ) (nets : List NetId) → ((net : NetId) → Member net nets → Member net.0 known) → (gates : List StageCell) → ((c : StageCell) → Member c gates → IsOver nets c) → AreInOrder known gates
-in_order-over known nets within [] over = tt
-in_order-over known nets within (c ∷ gates) over = (
-  (over c here).arity,
-  λ net m. within net (Member-from_Contains nets net ((over c here).reads net (Contains-from_Member net m))),
-  in_order-over (known ++ out_of c ∷ []) nets (λ net m. Member-append_left net.0 (out_of c ∷ []) (within net m)) gates (λ g m. over g (there m)),
-)
-
--- a tree over known nets
-pub in_order-tree : (known : List ℕ) (leaves : List NetId) (made : List StageCell) (root : NetId) → GateTree Any leaves made root → ((net : NetId) → Member net leaves → Member net.0 known) → AreInOrder known made
-in_order-tree known _ _ _ (one net) within = tt
-in_order-tree known _ _ _ (more c rest gates root is tree) within = (
-  is.arity,
-  λ net m. within net (Member-append_left net rest m),
-  in_order-tree (known ++ out_of c ∷ []) (rest ++ c.out ∷ []) gates root tree within_more,
-)
-  where
-    within_more : (net : NetId) → Member net (rest ++ c.out ∷ []) → Member net.0 (known ++ out_of c ∷ [])
-    within_more net m =
-        elim (Member-append_cases net rest (c.out ∷ []) m) [
-          | inl old ↦ Member-append_left net.0 (out_of c ∷ []) (within net (Member-append_right c.ins.items net old))
-          | inr new ↦ Member-append_right known net.0 (Member-map (λ (n : NetId). n.0) net new)
-        ]
 
 -- what follows for the gates of a stage
 pub arities-in_order : (known : List ℕ) (gates : List StageCell) → AreInOrder known gates → All (λ (c : StageCell). length c.ins.items ≡ arity_of c.kind) gates

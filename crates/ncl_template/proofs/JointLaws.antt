@@ -21,7 +21,7 @@ use Rattle.ncl_template.specs.Formed.{AddsTemplate}
 use Rattle.ncl_template.specs.Waits.{waits_at, waits_once, no_inputs}
 use Rattle.ncl_template.specs.Forms.{pin_bit, gate_bit, IsFormPin, IsFormGate, IsBehind, no_pair, pin_net, IsGateOf, AddsForm}
 use Rattle.ncl_template.specs.Joint.{IsGateAmong, IsPairAmong, joint_pin, joint_bit, FitsJointly}
-use Rattle.ncl_template.proofs.Trees.{low_from_unset}
+use Rattle.ncl_template.proofs.Leaves.{low_from_unset}
 use Rattle.ncl_template.proofs.WaitsLaws.{once_at}
 use Rattle.ncl_template.proofs.FormLaws.{gate_unset, pin_rises, pins_unset, all_pins}
 use Rattle.ncl_template.proofs.FormGates.{AddsTemplate-form}

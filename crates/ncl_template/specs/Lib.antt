@@ -2,9 +2,6 @@ pub mod Template
 pub mod Formed
 pub mod Tables
 pub mod PairGates
-pub mod Codes
-pub mod Rails
-pub mod Orders
 pub mod Waits
 pub mod Forms
 pub mod Among

@@ -1,8 +1,7 @@
--- Gates over two groups of nets, in each of which at most one net is high.
-use Rattle.std.specs.Prelude.{◌≡◌, List, [], ◌∷◌, ◌++◌, Bool, true, false, length, map, Contains}
+-- Gates over two pairs.
+use Rattle.std.specs.Prelude.{◌≡◌, List, [], ◌∷◌, ◌++◌, Bool, true, false, map}
 use Rattle.ncl_gates.specs.declared.kind.Kind.{Kind}
-use Rattle.ncl_gates.specs.declared.kind.Kind.TheVariants.{Th22, Th33w2, Th44w3, ThAnd0, Th24comp}
-use Rattle.ncl_gates.specs.Gate.{arity_of}
+use Rattle.ncl_gates.specs.declared.kind.Kind.TheVariants.{Th22, Th33w2, ThAnd0, Th24comp}
 use Rattle.ncl_netlist.specs.declared.ids.NetId.{NetId}
 use Rattle.ncl_shape.specs.declared.rails.Rails.{Rails}
 use Rattle.ncl_shape.specs.declared.stage.StageCell.{StageCell}
@@ -65,30 +64,9 @@ pub record IsTwoGate (set : TableRow) (a b : Rails) (c : StageCell) : Type 0 whe
   pub kind : c.kind ≡ two_kind set.at_00 set.at_01 set.at_10 set.at_11
   pub ins : c.ins.items ≡ map (wire_net a b) (two_pins set.at_00 set.at_01 set.at_10 set.at_11)
 
--- the gates that are set where their first net and one of the others are high
-pub data IsFanKind : Kind → Type 0 where
-  one : IsFanKind Th22
-  two : IsFanKind Th33w2
-  three : IsFanKind Th44w3
-
-pub record IsFanGate (net : NetId) (nets : List NetId) (c : StageCell) : Type 0 where
-  pub kind : IsFanKind c.kind
-  pub ins : c.ins.items ≡ net ∷ nets
-  pub arity : length (net ∷ nets) ≡ arity_of c.kind
-
--- the gate that is not set where at most one net of a pair is high
-pub record IsNever (r : Rails) (c : StageCell) : Type 0 where
-  pub kind : c.kind ≡ Th22
-  pub ins : c.ins.items ≡ r.zero ∷ r.one ∷ []
-
 -- one such gate is added, which drives this net
 pub record AddsGate (IsSuch : StageCell → Type 0) (before after : List StageCell) (out : NetId) : Type 0 where
   pub cell : StageCell
   pub added : after ≡ before ++ cell ∷ []
   pub is : IsSuch cell
   pub drives : cell.out ≡ out
-
--- a gate has a net on each input pin, and these are some of the nets
-pub record IsOver (nets : List NetId) (c : StageCell) : Type 0 where
-  pub arity : length c.ins.items ≡ arity_of c.kind
-  pub reads : (net : NetId) → Contains c.ins.items net → Contains nets net

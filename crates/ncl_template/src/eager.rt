@@ -20,7 +20,6 @@ use ncl_netlist::NetId;
 use ncl_network::Node;
 use ncl_shape::Rails;
 use ncl_tree::Gates;
-use std::alloc::Global;
 
 /// The net at a place, and net 0 past the end.
 fn net_at(nets: &[NetId], place: usize) -> NetId
@@ -109,7 +108,6 @@ fn add_form(gates: &mut Gates, form: &Form, ins: &[Rails]) -> Result<Rails, Memo
 ///
 /// Linear in the rows of the node. The only error is want of memory.
 pub fn add_waiting(
-    alloc: Global,
     gates: &mut Gates,
     node: &Node,
     ins: &[Rails],
@@ -129,6 +127,6 @@ pub fn add_waiting(
         let beside = add_form(gates, &form, ins)?;
         return Ok(beside);
     }
-    let all = add_template(alloc, gates, node, ins)?;
+    let all = add_template(gates, node, ins)?;
     Ok(all)
 }

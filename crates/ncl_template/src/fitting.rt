@@ -234,8 +234,11 @@ pub fn least_waits(node: &Node, waits: Waits) -> Waits {
 pub fn levels(node: &Node, waits: Waits) -> u32 {
     match fitting(node, waits) {
         Some(form) => form.levels(),
-        None if node.ins.items().len() <= 2 => 1,
-        None => 3,
+        None => match node.ins.items().len() {
+            0..=2 => 1,
+            3 => 3,
+            _ => 5,
+        },
     }
 }
 

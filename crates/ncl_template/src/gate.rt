@@ -1,8 +1,7 @@
-//! Single gates over nets of which at most one is high in each of two groups.
+//! Single gates over two pairs.
 ghost use Rattle.std.specs.Prelude.{◌≡◌, ◌+◌, ◌<◌, ◌≤◌, ◌^◌, length, map, IfOk};
-ghost use Rattle.ncl_gates.specs.Gate.{arity_of};
 ghost use Rattle.ncl_tree.specs.Gates.{nets_so_far};
-ghost use Rattle.ncl_template.specs.PairGates.{wire_net, two_kind, two_pins, IsTwoGate, IsFanKind, IsFanGate, IsNever, AddsGate};
+ghost use Rattle.ncl_template.specs.PairGates.{wire_net, two_kind, two_pins, IsTwoGate, AddsGate};
 
 use crate::table::TableRow;
 use arrayvec::ArrayVec;
@@ -62,44 +61,5 @@ pub(crate) fn add_two_gate(
     ensures first { gates.new.first ≡ gates.old.first }
 {
     let (kind, ins) = two_gate(set, a, b);
-    gates.add(kind, ins)
-}
-
-/// Adds a gate that is never set where at most one net of the pair is high, and gives its net.
-pub(crate) fn add_never(gates: &mut Gates, r: Rails) -> Result<NetId, Memory>
-    requires { nets_so_far gates.old + 1 < 2 ^ 32 }
-    ensures gate { IfOk result (AddsGate (IsNever r) gates.old.cells gates.new.cells) }
-    ensures first { gates.new.first ≡ gates.old.first }
-{
-    gates.add(Kind::Th22, pins(&[r.zero, r.one]))
-}
-
-/// The gate that is set where its first input and one of so many others are high.
-fn fan_kind(others: usize) -> Kind
-    requires some { 1 ≤ others }
-    requires few { others ≤ 3 }
-    ensures kind { IsFanKind result }
-    ensures arity { arity_of result ≡ others + 1 }
-{
-    match others {
-        1 => Kind::Th22,
-        2 => Kind::Th33w2,
-        _ => Kind::Th44w3,
-    }
-}
-
-/// Adds the gate that is set where a net and one to three others are high, and gives its net.
-pub(crate) fn add_fan(gates: &mut Gates, net: NetId, others: &[NetId]) -> Result<NetId, Memory>
-    requires some { 1 ≤ length others.now }
-    requires few { length others.now ≤ 3 }
-    requires room { nets_so_far gates.old + 1 < 2 ^ 32 }
-    ensures gate { IfOk result (AddsGate (IsFanGate net others.now) gates.old.cells gates.new.cells) }
-    ensures first { gates.new.first ≡ gates.old.first }
-{
-    let mut ins = pins(&[net]);
-    for other in others {
-        ins.push(*other);
-    }
-    let kind = fan_kind(others.len());
     gates.add(kind, ins)
 }

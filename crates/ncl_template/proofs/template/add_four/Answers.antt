@@ -1,10 +1,12 @@
-use Rattle.std.proofs.Common.{subst}
-use Rattle.ncl_template.specs.Rails.{AddsRails}
-use Rattle.ncl_template.proofs.Whole.{AddsTemplate-four}
+use Rattle.std.proofs.Common.{[], ◌∷◌}
+use Rattle.ncl_template.specs.Tables.{table_value}
+use Rattle.ncl_template.proofs.Whole.{AddsTemplate-tables_differ}
 use Rattle.ncl_template.proofs.template.add_four.Goals as goal
 
 pub returns-clause-template : goal.returns-clause-template
 returns-clause-template c =
-    AddsTemplate-four c.args.table c.transposed.result c.args.pairs.0 c.args.pairs.1 c.args.pairs.2 c.args.last c.args.gates.now.cells c.add_code.new.gates.cells c.add_code-2.new.gates.cells c.add_rails.new.gates.cells c.in_ok-first.first.items c.in_ok-second.second.items c.in_ok-out.out c.transposed.ensures c.in_ok-first.ensures.code c.in_ok-second.ensures.code
-    (subst (λ first. AddsRails c.args.table first c.in_ok-second.second.items c.args.pairs.0 c.add_code-2.new.gates.cells c.add_rails.new.gates.cells c.in_ok-out.out) c.deref.ensures.value
-    (subst (λ second. AddsRails c.args.table c.deref.result.now second c.args.pairs.0 c.add_code-2.new.gates.cells c.add_rails.new.gates.cells c.in_ok-out.out) c.deref-2.ensures.value c.in_ok-out.ensures.rails))
+    let low = c.args.low in
+    let high = c.args.high in
+    let others = c.args.others.0 ∷ c.args.others.1 ∷ c.args.others.2 ∷ [] in
+    c.in_ok-out.ensures.template others (table_value low) (table_value high) 8 c.args.gates.now.cells c.add_three.new.gates.cells c.in_ok-same.ensures.template
+    (AddsTemplate-tables_differ low high c.difference.result others c.add_three.new.gates.cells c.add_three-2.new.gates.cells c.in_ok-change.change c.difference.ensures c.in_ok-change.ensures.template)

@@ -13,6 +13,7 @@ use crate::layout::{Layout, lay_out};
 use crate::pairing::joins_of;
 use crate::relaxing::{relaxed, told_or_all};
 use crate::summing::sums_of;
+use crate::timing::reckoned_depth;
 use ncl_base::Memory;
 use ncl_cells::{carries_first, recast, reordered};
 use ncl_network::Network;
@@ -46,11 +47,6 @@ fn gates_of(alloc: Global, network: &Network, told: Option<Vec<Waits>>) -> Resul
     Ok(layout)
 }
 
-/// How many gates stand one after another at most.
-fn depth_of(alloc: Global, layout: &Layout, inputs: u32) -> Result<u32, Memory> {
-    depth(alloc, inputs.saturating_mul(2), layout.gates.cells())
-}
-
 /// How large a stage is.
 #[derive(Clone, Copy)]
 struct Size {
@@ -67,7 +63,7 @@ impl Size {
     {
         Ok(Size {
             gates: layout.gates.cells().len(),
-            depth: depth_of(alloc, layout, inputs)?,
+            depth: depth(alloc, inputs.saturating_mul(2), layout.gates.cells())?,
         })
     }
 
@@ -82,18 +78,18 @@ impl Size {
     }
 }
 
-/// The most gates that may stand one after another: a tenth more than where each node waits for all that it reads.
+/// The most gates that may stand one after another: a tenth more than where each node waits for all that it reads, as is reckoned.
+/// Linear in the network.
 fn most_depth(alloc: Global, network: &Network) -> Result<u32, Memory>
     requires { CanHaveGates network.now }
 {
-    let none = Vec::new(alloc);
-    let waiting = gates_of(alloc, network, Some(none))?;
-    let depth = depth_of(alloc, &waiting, network.inputs)?;
+    let complete = complete(alloc, network)?;
+    let depth = reckoned_depth(alloc, &complete)?;
     Ok(depth.saturating_add(depth / 10))
 }
 
-/// The gates of a network, or those of another one with the same answers, where these are fewer, and no deeper or not too deep. What
-/// the nodes of the other one wait for is told or found.
+/// The gates of a network, or those of another one with the same answers, where these are better: fewer, and no deeper than the
+/// others or than so many; or as many, and less deep. What the nodes of the other one wait for is told or found.
 fn better_gates(
     alloc: Global,
     network: &Network,
@@ -210,8 +206,9 @@ fn best_gates(
     summed_gates(alloc, network, joined, most, other)
 }
 
-/// Gates that compute a network: its own, or those of another one with the same answers, where these are fewer and at most a
-/// tenth deeper than where all nodes of the first wait for all. Near linear in both. The only error is want of memory.
+/// Gates that compute a network: its own, or those of another one with the same answers, where these are better: fewer, and no
+/// deeper than the others or than a tenth more than where all nodes of the first wait for all, as is reckoned; or as many, and less
+/// deep. Near linear in both. The only error is want of memory.
 pub(crate) fn stage_gates(
     alloc: Global,
     network: &Network,

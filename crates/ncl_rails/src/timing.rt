@@ -2,6 +2,7 @@
 
 use ncl_base::Memory;
 use ncl_network::{Network, Signal, SignalSource};
+use ncl_template::{Waits, levels};
 use std::alloc::Global;
 
 /// For each node of a network how many gates stand one after another up to its rails, and behind them.
@@ -58,6 +59,15 @@ impl Timing {
         Ok(timing)
     }
 
+    /// How many gates stand one after another at most. Linear in the nodes.
+    fn depth(&self) -> u32 {
+        let mut depth = 0u32;
+        for level in self.levels.as_slice() {
+            depth = depth.max(*level);
+        }
+        depth
+    }
+
     /// How many gates stand one after another up to the rails of a node that reads these and has so many itself.
     fn level(&self, signals: &[Signal], own: u32) -> u32 {
         let mut highest = 0u32;
@@ -82,4 +92,15 @@ impl Timing {
         let level = self.level(signals, own);
         level.saturating_add(at(&self.behind, place)) <= self.most
     }
+}
+
+/// How many gates stand one after another at most, where each node waits for all that it reads, and none has more than three
+/// itself. Linear in the network.
+pub(crate) fn reckoned_depth(alloc: Global, network: &Network) -> Result<u32, Memory> {
+    let mut own = Vec::new(alloc);
+    for node in network.nodes.items() {
+        own.push(levels(node, Waits::ALL).min(3))?;
+    }
+    let timing = Timing::of(alloc, network, &own, u32::MAX)?;
+    Ok(timing.depth())
 }

@@ -3,3 +3,4 @@ pub mod InSpace
 pub mod Sharing
 pub mod Within
 pub mod Masks
+pub mod Runs

@@ -14,6 +14,7 @@ mod in_space;
 mod judging;
 pub mod laws;
 mod parallel;
+mod run;
 mod sharing;
 mod supports;
 mod variants;

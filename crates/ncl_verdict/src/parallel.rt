@@ -5,11 +5,12 @@ ghost use Rattle.ncl_shape.specs.Stage.{StageData};
 ghost use Rattle.ncl_verdict.specs.Judgement.{judgement, Answers};
 
 use crate::judging::judge_stage_par;
+use crate::run::Run;
 use crate::verdict::Verdict;
 use ncl_base::Memory;
 use ncl_shape::{Pipeline, Stage};
 use std::alloc::Global;
-use std::sync::atomic::{AtomicUsize, Ordering};
+use std::sync::atomic::AtomicUsize;
 use std::thread::{Threads, join};
 
 /// What judges one stage.
@@ -67,34 +68,33 @@ pub fn judge_par<R: Threads + Sync, J: Judge + Sync>(
 {
     let stages = pipeline.stages();
     let refused = AtomicUsize::new(usize::MAX);
-    match judge_halves(rt, alloc, judge, stages, 0, &refused, limit, parts)? {
+    let run = Run::of(stages, 0, limit, &refused);
+    match judge_halves(rt, alloc, judge, &run, parts)? {
         Some(verdict) => Ok(verdict),
         None => judge_each(rt, alloc, judge, stages, limit),
     }
 }
 
-/// The judgement of some stages, the first of which stands at a place of the pipeline, by at most so many threads; none
-/// where a stage before some of them is known to be refused.
+/// The judgement of a run of stages, by at most so many threads; none where a stage before some of them is known to be refused.
 #[cycle(calls)]
 fn judge_halves<R: Threads + Sync, J: Judge + Sync>(
     rt: &R,
     alloc: Global,
     judge: &J,
-    stages: &[Stage],
-    place: usize,
-    refused: &AtomicUsize,
-    limit: u32,
+    run: &Run,
     parts: u32,
 ) -> Result<Option<Verdict>, Memory>
-    requires limit { 1 ≤ limit }
-    requires room { place + length stages.now < 2 ^ 64 }
-    ensures { IfOk result (Answers limit stages.now) }
+    ensures { IfOk result (Answers run.now.limit run.now.stages) }
 {
+    let stages = run.stages();
     if parts < 2 || stages.len() < 2 {
-        return judge_run(rt, alloc, judge, stages, place, refused, limit, parts);
+        return judge_run(rt, alloc, judge, run, parts);
     }
     let (front, back) = stages.split_at(stages.len() / 2);
+    let place = run.place();
     let middle = place + front.len();
+    let limit = run.limit();
+    let refused = run.refused();
     let few = parts / 2;
     let many = parts - few;
     let (first, second) = join(
@@ -102,11 +102,27 @@ fn judge_halves<R: Threads + Sync, J: Judge + Sync>(
         || -> Result<Option<Verdict>, Memory>
             requires { IsSync R.row × IsSync J.row × (1 ≤ limit) × (place + length front.now < 2 ^ 64) }
             ensures { IfOk result (Answers limit front.entry.now) }
-        { judge_halves(rt, alloc, judge, front, place, refused, limit, few) },
+        {
+            judge_halves(
+                rt,
+                alloc,
+                judge,
+                &Run::of(front, place, limit, refused),
+                few,
+            )
+        },
         || -> Result<Option<Verdict>, Memory>
             requires { IsSync R.row × IsSync J.row × (1 ≤ limit) × (middle + length back.now < 2 ^ 64) }
             ensures { IfOk result (Answers limit back.entry.now) }
-        { judge_halves(rt, alloc, judge, back, middle, refused, limit, many) },
+        {
+            judge_halves(
+                rt,
+                alloc,
+                judge,
+                &Run::of(back, middle, limit, refused),
+                many,
+            )
+        },
     );
     match first? {
         Some(verdict) => with_later(verdict, second),
@@ -128,31 +144,27 @@ fn with_later(
     }
 }
 
-/// The judgement of some stages one after another, the first of which stands at a place of the pipeline; none where a
-/// stage before one of them is known to be refused. It notes the place of the first that it finds refused. Asks the
-/// judge once for each stage, up to that one.
+/// The judgement of a run of stages, one after another; none where a stage before one of them is known to be refused. It notes
+/// the first that it finds refused. Asks the judge once for each stage, up to that one.
 pub(crate) fn judge_run<R: Threads + Sync, J: Judge>(
     rt: &R,
     alloc: Global,
     judge: &J,
-    stages: &[Stage],
-    place: usize,
-    refused: &AtomicUsize,
-    limit: u32,
+    run: &Run,
     parts: u32,
 ) -> Result<Option<Verdict>, Memory>
-    requires limit { 1 ≤ limit }
-    requires room { place + length stages.now < 2 ^ 64 }
-    ensures { IfOk result (Answers limit stages.now) }
+    ensures { IfOk result (Answers run.now.limit run.now.stages) }
 {
+    let stages = run.stages();
+    let limit = run.limit();
     for (number, stage) in stages.iter().enumerate() {
-        if refused.load(Ordering::SeqCst) < place + number {
+        if run.is_refused_before(number) {
             return Ok(None);
         }
         match judge.judge_one(rt, alloc, stage, limit, parts)? {
             Verdict::Accepted => {}
             verdict => {
-                refused.fetch_min(place + number, Ordering::SeqCst);
+                run.refuse(number);
                 return Ok(Some(verdict));
             }
         }

@@ -1,6 +1,6 @@
 -- The judgement of a stage in a space: what stops it there, when the variants after Base can be asked, and
 -- what the faults of its outputs say.
-use Rattle.std.specs.Prelude.{◌≡◌, ℕ, ◌+◌, ◌<◌, length, Option, Some, None, All, IsTrue}
+use Rattle.std.specs.Prelude.{◌≡◌, ℕ, ◌+◌, ◌<◌, ◌≤◌, length, Option, Some, None, All, IsTrue}
 use Rattle.ncl_shape.specs.Stage.{StageData}
 use Rattle.ncl_space.specs.Beads.{distinct_beads}
 use Rattle.ncl_space.specs.Space.{SpaceData}
@@ -28,22 +28,34 @@ pub record IsReady (space : SpaceData) (s : StageData) (base : ValuesData) : Typ
   pub order : base.wiring.order ≡ bit_order s
   pub held : space.held ≡ distinct_beads (length s.inputs) (tables_of s Base)
 
--- the space is ready, with this limit, and nothing is said under Base
+-- some node may be, the space is ready, with this limit, and nothing is said under Base
 pub record IsBegun (limit : ℕ) (s : StageData) (space : SpaceData) (base : ValuesData) : Type 0 where
+  pub some : 1 ≤ limit
   pub same_limit : space.limit ≡ Some limit
   pub ready : IsReady space s base
   pub nothing : at_variant (stopped_at limit) s Base ≡ None
 
+-- a stage that may have so many nodes, of which nothing is said under Base
+pub record ReadyData : Type 0 where
+  pub stage : StageData
+  pub limit : ℕ
+
+-- a stage, values of its nets, and a mark of the space that has them
+pub record AskedData : Type 0 where
+  pub stage : StageData
+  pub base : ValuesData
+  pub start : Mark
+
 -- the space has the values of the stage under Base, in its bit order, and a limit; and at a mark that stands they were live,
 -- and exactly the beads of all tables of Base were held. What was made for variants since may be there too
-pub record IsAsked (space : SpaceData) (limit : Option ℕ) (s : StageData) (base : ValuesData) (start : Mark) : Type 0 where
-  pub width : space.width ≡ length s.inputs
+pub record IsAsked (space : SpaceData) (limit : Option ℕ) (a : AskedData) : Type 0 where
+  pub width : space.width ≡ length a.stage.inputs
   pub same_limit : space.limit ≡ limit
-  pub values : AreValues space s Base base
-  pub order : base.wiring.order ≡ bit_order s
-  pub stands : IsTrue (space.stands start)
-  pub live_at : All (λ r. IsTrue (space.live_at start r)) base.refs
-  pub held_at : space.held_at start ≡ distinct_beads (length s.inputs) (tables_of s Base)
+  pub values : AreValues space a.stage Base a.base
+  pub order : a.base.wiring.order ≡ bit_order a.stage
+  pub stands : IsTrue (space.stands a.start)
+  pub live_at : All (λ r. IsTrue (space.live_at a.start r)) a.base.refs
+  pub held_at : space.held_at a.start ≡ distinct_beads (length a.stage.inputs) (tables_of a.stage Base)
 
 -- a variant of the stage other than Base
 abbrev pub IsAfterBase : StageData → Variant → Type 0

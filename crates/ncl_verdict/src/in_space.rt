@@ -1,12 +1,13 @@
 //! The judgement of a stage in a space.
 ghost use Rattle.std.specs.Prelude.{◌≡◌, ◌<◌, IfOk, IfNone, MatchResult, length, map};
 ghost use Rattle.ncl_space.specs.Beads.{distinct_beads};
-ghost use Rattle.ncl_space.specs.Space.{IsNew, Keeps, Restores};
+ghost use Rattle.ncl_space.specs.Space.{IsNew, Keeps};
 ghost use Rattle.ncl_stage.specs.BitOrder.{bit_order};
 ghost use Rattle.ncl_stage.specs.StageTables.{AreValues, net_tables};
 ghost use Rattle.ncl_verdict.specs.InSpace.{IsReady, output_of, rail_verdict, stopped_within};
 ghost use Rattle.ncl_verdict.specs.Judgement.{after_base, at_variant, first_of, of_stage};
 
+use crate::asked::Asked;
 use crate::variants::{first_said, stopped, variants_after_base};
 use crate::verdict::Verdict;
 use ncl_base::Memory;
@@ -77,9 +78,9 @@ pub(crate) fn after_base<P: Space>(
     requires { IsReady (P.meaning space.old) stage.now base.now }
     ensures { IfOk result (λ answer. answer ≡ first_of (map (at_variant (stopped_within (P.meaning space.old).limit) stage.now) (after_base stage.now))) }
 {
-    let start = space.mark();
+    let asked = Asked::of(space, stage, base);
     let variants = variants_after_base(alloc, stage)?;
-    first_said(alloc, space, stage, base, start, variants.as_slice())
+    first_said(alloc, space, &asked, variants.as_slice())
 }
 
 // What is said under Base, once the functions of the nets are made.

@@ -1,17 +1,13 @@
 //! The judgement of a pipeline's stages.
-ghost use Rattle.std.specs.Prelude.{◌≡◌, ◌≤◌, ℕ, [], ◌∷◌, IfOk, MatchResult};
-ghost use Rattle.ncl_diagram.specs.Diagram.{diagram_space};
-ghost use Rattle.ncl_verdict.specs.InSpace.{IsBegun};
+ghost use Rattle.std.specs.Prelude.{◌≡◌, ◌≤◌, [], ◌∷◌, IfOk, MatchResult};
 ghost use Rattle.ncl_verdict.specs.Judgement.{judgement, of_stage, stopped_at};
 
 use crate::acceptance::is_accepted;
-use crate::in_space::{after_base, under_base};
+use crate::ready::Ready;
 use crate::sharing::{Heard, hear};
 use crate::verdict::Verdict;
 use ncl_base::Memory;
-use ncl_diagram::Diagram;
 use ncl_shape::{Pipeline, Stage};
-use ncl_stage::Values;
 use std::alloc::Global;
 use std::thread::Threads;
 
@@ -73,7 +69,7 @@ fn refusal(alloc: Global, stage: &Stage, limit: u32) -> Result<Option<Verdict>, 
     ensures { IfOk result (λ answer. answer ≡ of_stage (stopped_at limit) stage.now) }
 {
     match begun(alloc, stage, limit)? {
-        Ok(mut ready) => after_base(alloc, &mut ready.space, stage, &ready.base),
+        Ok(ready) => ready.said(alloc),
         Err(answer) => Ok(answer),
     }
 }
@@ -89,41 +85,35 @@ fn refusal_par<R: Threads + Sync>(
     requires { 1 ≤ limit }
     ensures { IfOk result (λ answer. answer ≡ of_stage (stopped_at limit) stage.now) }
 {
-    let mut ready = match begun(alloc, stage, limit)? {
+    let ready = match begun(alloc, stage, limit)? {
         Ok(ready) => ready,
         Err(answer) => return Ok(answer),
     };
-    match hear(rt, alloc, stage, limit, ready.space.nodes(), parts)? {
+    ready.facts();
+    match hear(rt, alloc, &ready, parts)? {
         Heard::Nothing => Ok(None),
         Heard::Said(verdict) => Ok(Some(verdict)),
-        Heard::Open => after_base(alloc, &mut ready.space, stage, &ready.base),
+        Heard::Open => ready.said(alloc),
     }
 }
 
-// A space with the functions of Base, of which nothing is said.
-#[derive(Drop)]
-struct Ready {
-    space: Diagram,
-    base: Values,
-}
-
-// What is said of a stage where no variant after Base has to be asked for it; else the functions of Base. The one place that
-// knows which space is taken.
-fn begun(alloc: Global, stage: &Stage, limit: u32) -> Result<Result<Ready, Option<Verdict>>, Memory>
+// What is said of a stage where no variant after Base has to be asked for it; else the stage that is ready for that.
+fn begun<'a>(
+    alloc: Global,
+    stage: &'a Stage,
+    limit: u32,
+) -> Result<Result<Ready<'a>, Option<Verdict>>, Memory>
     requires { 1 ≤ limit }
     ensures { IfOk result (λ answer. MatchResult answer
-        (λ ready. IsBegun limit stage.now (diagram_space ready.space) ready.base)
+        (λ ready. (ready.stage ≡ stage.now) × (ready.limit ≡ limit))
         (λ said. said ≡ of_stage (stopped_at limit) stage.now)) }
 {
-    stage.facts();
-    let mut space = Diagram::new(alloc, stage.inputs.items().len(), limit);
-    let base = match under_base(alloc, &mut space, stage)? {
-        Ok(base) => base,
+    let mut ready = match Ready::of(alloc, stage, limit)? {
+        Ok(ready) => ready,
         Err(verdict) => return Ok(Err(Some(verdict))),
     };
-    let nodes = space.nodes();
-    if is_accepted(alloc, &mut space, stage, &base, nodes, limit)? {
+    if is_accepted(alloc, &mut ready)? {
         return Ok(Err(None));
     }
-    Ok(Ok(Ready { space, base }))
+    Ok(Ok(ready))
 }

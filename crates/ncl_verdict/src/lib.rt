@@ -1,20 +1,24 @@
 //! The judgement of a pipeline: its definition, and its answer.
 //!
 //! A yes that needs no variant is looked for first (`acceptance`, `few`, `supports`). Any other stage is judged variant by
-//! variant (`in_space`, `variants`, `judging`), and a pipeline stage by stage, or in halves by several threads (`parallel`),
-//! as are the variants of one large stage (`sharing`).
+//! variant (`ready`, `in_space`, `variants`, `judging`), and a pipeline stage by stage, or in halves by several threads (`parallel`),
+//! as are the variants of one large stage (`sharing`, `hearing`).
 #![tactic(auto)]
 
 mod acceptance;
+mod asked;
 mod asking;
 pub mod examples;
 mod few;
 mod file_order;
+mod hearing;
 mod in_space;
 mod judging;
 pub mod laws;
 mod parallel;
+mod ready;
 mod run;
+mod shared;
 mod sharing;
 mod supports;
 mod variants;

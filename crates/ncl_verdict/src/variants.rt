@@ -5,14 +5,15 @@ ghost use Rattle.ncl_stage.specs.LeastWords.{below, faults_of};
 ghost use Rattle.ncl_verdict.specs.InSpace.{IsAfterBase, IsAsked, stopped_within};
 ghost use Rattle.ncl_verdict.specs.Judgement.{after_base, at_variant, cell_number, first_of, verdict_of};
 
+use crate::asked::Asked;
 use crate::asking::asked_word;
 use crate::file_order::cells_in_file_order;
 use crate::verdict::Verdict;
 use ncl_base::{Memory, Word};
 use ncl_netlist::CellId;
 use ncl_shape::Stage;
-use ncl_space::{Mark, Space, SpaceFault};
-use ncl_stage::{Values, Variant};
+use ncl_space::{Space, SpaceFault};
+use ncl_stage::Variant;
 use std::alloc::Global;
 
 /// The variants of a stage after Base in their order: without each input bit, then without each cell in the order of the file.
@@ -49,48 +50,44 @@ fn push_cells(variants: &mut Vec<Variant>, cells: &[(u32, usize)]) -> Result<(),
     Ok(())
 }
 
-/// What is said at some variants after Base, in their order: the first that is said. The space has the functions of Base since
-/// `start`. An error is want of memory.
+/// What is said at some variants after Base, in their order: the first that is said. An error is want of memory.
 ///
 /// For each of them it goes over the cells once, or twice.
 pub(crate) fn first_said<P: Space>(
     alloc: Global,
     space: &mut P,
-    stage: &Stage,
-    base: &Values,
-    start: Mark,
+    asked: &Asked,
     variants: &[Variant],
 ) -> Result<Option<Verdict>, Memory>
-    requires asked { let now = P.meaning space.old in IsAsked now now.limit stage.now base.now start }
-    requires after { All (IsAfterBase stage.now) variants.now }
-    ensures { IfOk result (λ answer. answer ≡ first_of (map (at_variant (stopped_within (P.meaning space.old).limit) stage.now) variants.now)) }
+    requires asked { let now = P.meaning space.old in IsAsked now now.limit asked.now }
+    requires after { All (IsAfterBase asked.now.stage) variants.now }
+    ensures { IfOk result (λ answer. answer ≡ first_of (map (at_variant (stopped_within (P.meaning space.old).limit) asked.now.stage) variants.now)) }
 {
     for variant in variants {
-        if let Some(verdict) = said_at(alloc, space, stage, base, start, *variant)? {
+        if let Some(verdict) = said_at(alloc, space, asked, *variant)? {
             return Ok(Some(verdict));
         }
     }
     Ok(None)
 }
 
-/// What is said at a variant after Base, if anything is. The space has the functions of Base since `start`, and what it made for
-/// earlier variants may be there too. An error is want of memory.
+/// What is said at a variant after Base, if anything is. What the space made for earlier variants may be there too. An error is
+/// want of memory.
 ///
 /// It goes over the cells once, or twice.
 pub(crate) fn said_at<P: Space>(
     alloc: Global,
     space: &mut P,
-    stage: &Stage,
-    base: &Values,
-    start: Mark,
+    asked: &Asked,
     variant: Variant,
 ) -> Result<Option<Verdict>, Memory>
-    requires asked { let now = P.meaning space.old in IsAsked now now.limit stage.now base.now start }
-    requires after { IsAfterBase stage.now variant }
-    ensures answer { IfOk result (λ answer. answer ≡ at_variant (stopped_within (P.meaning space.old).limit) stage.now variant) }
-    ensures asked { IsAsked (P.meaning space.new) (P.meaning space.old).limit stage.now base.now start }
+    requires asked { let now = P.meaning space.old in IsAsked now now.limit asked.now }
+    requires after { IsAfterBase asked.now.stage variant }
+    ensures answer { IfOk result (λ answer. answer ≡ at_variant (stopped_within (P.meaning space.old).limit) asked.now.stage variant) }
+    ensures asked { IsAsked (P.meaning space.new) (P.meaning space.old).limit asked.now }
 {
-    match asked_word(alloc, space, stage, base, start, variant) {
+    let stage = asked.stage();
+    match asked_word(alloc, space, asked, variant) {
         Ok(Some(word)) => Ok(told(stage, variant, word)),
         Ok(None) => Ok(None),
         Err(fault) => stopped(stage, fault),

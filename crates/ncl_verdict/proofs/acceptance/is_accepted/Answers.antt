@@ -1,16 +1,33 @@
+use Rattle.std.proofs.Common.{◌≡◌, true, None, IfOk, sym, ◌∙◌, subst}
+use Rattle.ncl_shape.specs.Stage.{StageData}
+use Rattle.ncl_stage.proofs.ObservedLaws.{sound_from_observed}
+use Rattle.ncl_verdict.specs.InSpace.{ReadyData}
+use Rattle.ncl_verdict.specs.Judgement.{of_stage, stopped_at}
 use Rattle.ncl_verdict.proofs.Accepting.{sound-none}
 use Rattle.ncl_verdict.proofs.InSpaceLaws.{ready-restored}
-use Rattle.ncl_stage.proofs.ObservedLaws.{sound_from_observed}
+use Rattle.ncl_verdict.proofs.Sound.{base-valid}
+use Rattle.ncl_verdict.proofs.acceptance.is_accepted.Goals.{in-Ok, in-Err-Full, in-Err-Memory}
 use Rattle.ncl_verdict.proofs.acceptance.is_accepted.Goals as goal
 
-pub returns-in-Ok-clause-accepted : goal.returns-in-Ok-clause-accepted
-returns-in-Ok-clause-accepted g c = λ e. sound-none c.args.limit c.args.stage.now (sound_from_observed c.args.stage.now c.facts.ensures c.requires.rails (c.in-Ok.ensures.observed e)) (c.in_ok-few.ensures c.if-not-few.false)
+pub are_few-requires-clause-rails : goal.are_few-requires-clause-rails
+are_few-requires-clause-rails c = base-valid (stopped_at c.ready.inside.limit) c.ready.inside.stage.now c.ready.invariant.nothing
 
-pub returns-in-Ok-clause-ready : goal.returns-in-Ok-clause-ready
-returns-in-Ok-clause-ready g c = ready-restored (g.P.Space.meaning c.args.space.now) (g.P.Space.meaning c.all_observed.new.space) c.args.stage.now c.args.base.now c.all_observed.ensures.back c.requires.ready
+pub invariant_of-ready : goal.invariant_of-ready
+invariant_of-ready c = record {
+  some = c.ready.invariant.some;
+  same_limit = c.all_observed.ensures.back.keeps.limit ∙ c.ready.invariant.same_limit;
+  ready = ready-restored _ _ c.ready.inside.stage.now c.ready.inside.base c.all_observed.ensures.back c.ready.invariant.ready;
+  nothing = c.ready.invariant.nothing;
+}
 
-pub returns-in-Err-Full-clause-ready : goal.returns-in-Err-Full-clause-ready
-returns-in-Err-Full-clause-ready g c = ready-restored (g.P.Space.meaning c.args.space.now) (g.P.Space.meaning c.all_observed.new.space) c.args.stage.now c.args.base.now c.all_observed.ensures.back c.requires.ready
-
-pub returns-in-Err-Memory-clause-ready : goal.returns-in-Err-Memory-clause-ready
-returns-in-Err-Memory-clause-ready g c = ready-restored (g.P.Space.meaning c.args.space.now) (g.P.Space.meaning c.all_observed.new.space) c.args.stage.now c.args.base.now c.all_observed.ensures.back c.requires.ready
+pub returns-clause-accepted : goal.returns-clause-accepted
+returns-clause-accepted c =
+    let s : StageData = c.ready.inside.stage.now in
+    let limit = c.ready.inside.limit in
+    subst (λ (r : ReadyData). IfOk c.match-all_observed.result (λ answer. answer ≡ true → of_stage (stopped_at r.limit) r.stage ≡ None)) c.ready.view_is
+    (elim c.match-all_observed.branch [
+      | in-Ok w ↦ subst (λ r. IfOk r (λ answer. answer ≡ true → of_stage (stopped_at limit) s ≡ None)) (sym w.result-is)
+          (λ e. sound-none limit s (sound_from_observed s c.facts.ensures (base-valid (stopped_at limit) s c.ready.invariant.nothing) (w.in-Ok.ensures.observed e)) (c.in_ok-few.ensures c.if-not-few.false))
+      | in-Err-Full w ↦ subst (λ r. IfOk r (λ answer. answer ≡ true → of_stage (stopped_at limit) s ≡ None)) (sym w.result-is) (λ e. absurd cc)
+      | in-Err-Memory w ↦ subst (λ r. IfOk r (λ answer. answer ≡ true → of_stage (stopped_at limit) s ≡ None)) (sym w.result-is) tt
+    ])

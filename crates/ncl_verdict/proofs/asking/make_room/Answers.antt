@@ -1,5 +1,7 @@
+use Rattle.std.proofs.Common.{subst, sym}
+use Rattle.ncl_space.specs.Space.{Releases}
 use Rattle.ncl_verdict.proofs.AskingLaws.{asked-back}
 use Rattle.ncl_verdict.proofs.asking.make_room.Goals as goal
 
 pub returns-then-start-gt-SMALL_BASE : goal.returns-then-start-gt-SMALL_BASE
-returns-then-start-gt-SMALL_BASE g c = λ limit s base asked. asked-back c.release.ensures asked
+returns-then-start-gt-SMALL_BASE g c = λ limit asked same is. asked-back (subst (Releases _ _) (sym same) c.release.ensures) is

@@ -2,41 +2,34 @@ use Rattle.std.proofs.Common.{◌≡◌, Some, ◌∙◌, subst, refl, sym}
 use Rattle.std.specs.Prelude.{MatchResult}
 use Rattle.std.proofs.lemmas.Result.{IfOk-weaker}
 use Rattle.ncl_shape.specs.Stage.{StageData}
-use Rattle.ncl_diagram.specs.Diagram.{diagram_space}
-use Rattle.ncl_verdict.specs.Judgement.{after_base, of_stage, stopped_at}
-use Rattle.ncl_verdict.specs.InSpace.{IsBegun}
-use Rattle.ncl_verdict.specs.Sharing.{IsHeard}
+use Rattle.ncl_verdict.specs.Judgement.{of_stage, stopped_at}
+use Rattle.ncl_verdict.specs.InSpace.{ReadyData}
+use Rattle.ncl_verdict.specs.Sharing.{IsHeard, shared_of}
 use Rattle.ncl_verdict.proofs.InSpaceLaws.{of_stage-said}
 use Rattle.ncl_verdict.proofs.judging.refusal_par.Goals as goal
-
-pub after_base-requires : goal.after_base-requires
-after_base-requires g c =
-    let s : StageData = c.args.stage.now in
-    let begun : IsBegun c.args.limit s (diagram_space c.in-Ok.ready.space) c.in-Ok.ready.base =
-    subst (λ r. MatchResult r (λ ready. IsBegun c.args.limit s (diagram_space ready.space) ready.base) (λ said. said ≡ of_stage (stopped_at c.args.limit) s)) c.in-Ok.is c.in_ok-ready.ensures in
-    begun.ready
 
 pub returns-in-Nothing : goal.returns-in-Nothing
 returns-in-Nothing g c =
     let s : StageData = c.args.stage.now in
-    let begun : IsBegun c.args.limit s (diagram_space c.in-Ok.ready.space) c.in-Ok.ready.base =
-    subst (λ r. MatchResult r (λ ready. IsBegun c.args.limit s (diagram_space ready.space) ready.base) (λ said. said ≡ of_stage (stopped_at c.args.limit) s)) c.in-Ok.is c.in_ok-ready.ensures in
-    sym (subst (IsHeard (stopped_at c.args.limit) s (after_base s)) c.in-Nothing.is c.in_ok-hear.ensures)
-    ∙ of_stage-said s (Some c.args.limit) (Some c.args.limit) refl begun.nothing
+    let ready : ReadyData = c.in-Ok.ready in
+    let same = subst (λ r. MatchResult r (λ (ready : ReadyData). (ready.stage ≡ s) × (ready.limit ≡ c.args.limit)) (λ said. said ≡ of_stage (stopped_at c.args.limit) s)) c.in-Ok.is c.in_ok-ready.ensures in
+    sym (subst (IsHeard (shared_of ready.limit ready.stage)) c.in-Nothing.is c.in_ok-hear.ensures)
+    ∙ of_stage-said ready.stage (Some ready.limit) (Some ready.limit) refl c.facts.ensures
+    ∙ (λ i. of_stage (stopped_at (same.1 i)) (same.0 i))
 
 pub returns-in-Said : goal.returns-in-Said
 returns-in-Said g c =
     let s : StageData = c.args.stage.now in
-    let begun : IsBegun c.args.limit s (diagram_space c.in-Ok.ready.space) c.in-Ok.ready.base =
-    subst (λ r. MatchResult r (λ ready. IsBegun c.args.limit s (diagram_space ready.space) ready.base) (λ said. said ≡ of_stage (stopped_at c.args.limit) s)) c.in-Ok.is c.in_ok-ready.ensures in
-    sym (subst (IsHeard (stopped_at c.args.limit) s (after_base s)) c.in-Said.is c.in_ok-hear.ensures)
-    ∙ of_stage-said s (Some c.args.limit) (Some c.args.limit) refl begun.nothing
+    let ready : ReadyData = c.in-Ok.ready in
+    let same = subst (λ r. MatchResult r (λ (ready : ReadyData). (ready.stage ≡ s) × (ready.limit ≡ c.args.limit)) (λ said. said ≡ of_stage (stopped_at c.args.limit) s)) c.in-Ok.is c.in_ok-ready.ensures in
+    sym (subst (IsHeard (shared_of ready.limit ready.stage)) c.in-Said.is c.in_ok-hear.ensures)
+    ∙ of_stage-said ready.stage (Some ready.limit) (Some ready.limit) refl c.facts.ensures
+    ∙ (λ i. of_stage (stopped_at (same.1 i)) (same.0 i))
 
-pub returns : goal.returns
-returns g c =
+pub returns-in-Open : goal.returns-in-Open
+returns-in-Open g c =
     let s : StageData = c.args.stage.now in
-    let begun : IsBegun c.args.limit s (diagram_space c.in-Ok.ready.space) c.in-Ok.ready.base =
-    subst (λ r. MatchResult r (λ ready. IsBegun c.args.limit s (diagram_space ready.space) ready.base) (λ said. said ≡ of_stage (stopped_at c.args.limit) s)) c.in-Ok.is c.in_ok-ready.ensures in
-    IfOk-weaker c.after_base.result _ (λ answer. answer ≡ of_stage (stopped_at c.args.limit) s)
-    (λ answer is. is ∙ of_stage-said s _ (Some c.args.limit) begun.same_limit begun.nothing)
-    c.after_base.ensures
+    let same = subst (λ r. MatchResult r (λ (ready : ReadyData). (ready.stage ≡ s) × (ready.limit ≡ c.args.limit)) (λ said. said ≡ of_stage (stopped_at c.args.limit) s)) c.in-Ok.is c.in_ok-ready.ensures in
+    IfOk-weaker c.said.result _ (λ answer. answer ≡ of_stage (stopped_at c.args.limit) s)
+    (λ answer is. is ∙ (λ i. of_stage (stopped_at (same.1 i)) (same.0 i)))
+    c.said.ensures

@@ -1,24 +1,23 @@
 use Rattle.std.proofs.Common.{◌≡◌, ℕ, ◌<◌, true, false, Some, IfSome, get_or, sym, ◌∙◌, subst, arith}
 use Rattle.ncl_faults.specs.declared.variant.Variant.TheVariants.{Base}
-use Rattle.ncl_verdict.specs.Judgement.{at_variant}
-use Rattle.ncl_verdict.specs.Sharing.{at_place}
+use Rattle.ncl_verdict.specs.Sharing.{at_place, said_at}
 use Rattle.ncl_verdict.proofs.InSpaceLaws.{first-none_at, first-some_at}
 use Rattle.ncl_verdict.proofs.Parts.{place-variant, place-within, silent-first}
 use Rattle.ncl_verdict.proofs.sharing.settled.Goals as goal
 
 pub returns-then-place-asked : goal.returns-then-place-asked
-returns-then-place-asked c = λ stop s variants long part.
+returns-then-place-asked c = λ shared long part.
     let place = c.in-Some.place in
     let verdict = c.in-Some.verdict in
-    let said : at_place stop s variants place ≡ Some verdict = subst (λ said. IfSome said (λ told. at_place stop s variants told.0 ≡ Some told.1)) c.in-Some.is part.said in
-    let lt = place-within stop s variants place verdict said in
+    let said : at_place shared place ≡ Some verdict = subst (λ said. IfSome said (λ told. at_place shared told.0 ≡ Some told.1)) c.in-Some.is part.said in
+    let lt = place-within shared place verdict said in
     let marked = subst (λ marks. (k : ℕ) → k < c.marked_first-asked.result → get_or marks k false ≡ true) c.as_slice.ensures.value c.marked_first-asked.ensures in
-    first-some_at (at_variant stop s) variants place Base verdict lt
-    (λ k d before. silent-first stop s variants c.args.part.silent.items c.marked_first-asked.result k d part.silent marked (omega (arith, before, c.if-place-asked.true)) (omega (arith, before, lt)))
-    (sym (place-variant stop s variants place Base lt) ∙ said)
+    first-some_at (said_at shared) shared.variants place Base verdict lt
+    (λ k d before. silent-first shared c.args.part.silent.items c.marked_first-asked.result k d part.silent marked (omega (arith, before, c.if-place-asked.true)) (omega (arith, before, lt)))
+    (sym (place-variant shared place Base lt) ∙ said)
 
 pub returns-then-count-asked : goal.returns-then-count-asked
-returns-then-count-asked c = λ stop s variants long part.
+returns-then-count-asked c = λ shared long part.
     let marked = subst (λ marks. (k : ℕ) → k < c.marked_first-asked.result → get_or marks k false ≡ true) c.as_slice.ensures.value c.marked_first-asked.ensures in
-    first-none_at (at_variant stop s) variants
-    (λ k d lt. silent-first stop s variants c.args.part.silent.items c.marked_first-asked.result k d part.silent marked (omega (arith, lt, long, c.if-count-asked.true)) lt)
+    first-none_at (said_at shared) shared.variants
+    (λ k d lt. silent-first shared c.args.part.silent.items c.marked_first-asked.result k d part.silent marked (omega (arith, lt, long, c.if-count-asked.true)) lt)

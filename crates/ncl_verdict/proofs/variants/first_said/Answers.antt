@@ -10,7 +10,7 @@ use Rattle.ncl_verdict.proofs.variants.first_said.Goals as goal
 
 pub returns-in-Some : goal.returns-in-Some
 returns-in-Some g c =
-    let s : StageData = c.args.stage.now in
+    let s : StageData = c.args.asked.now.stage in
     let limit = (g.P.Space.meaning c.args.space.now).limit in
     let stop : Stop = stopped_within limit in
     let variants = c.args.variants.now in
@@ -23,12 +23,12 @@ returns-in-Some g c =
 
 pub loop-variant-preserved : goal.loop-variant-preserved
 loop-variant-preserved g c =
-    let s : StageData = c.args.stage.now in
+    let s : StageData = c.args.asked.now.stage in
     let limit = (g.P.Space.meaning c.args.space.now).limit in
     let same = c.loop-variant.invariant.asked.same_limit in
     let variant : Variant = get_or c.args.variants.now c.loop-variant.variant-index Base in
     record {
-      asked = asked-limit _ _ limit s c.args.base.now c.args.start same c.said_at.ensures.asked;
+      asked = asked-limit _ _ limit c.args.asked.now same c.said_at.ensures.asked;
       none = first-none_more (at_variant (stopped_within limit) s) c.args.variants.now c.loop-variant.variant-index Base c.loop-variant-test.true c.loop-variant.invariant.none
           (ap (λ l. at_variant (stopped_within l) s variant) (sym same) ∙ sym c.in_ok-verdict.ensures.answer ∙ c.in_default.is);
     }
@@ -37,4 +37,4 @@ pub returns : goal.returns
 returns g c =
     let variants = c.args.variants.now in
     let past : length variants ≤ c.loop-variant.variant-index = c.loop-variant-test.false in
-    sym (first-none_at (at_variant (stopped_within (g.P.Space.meaning c.args.space.now).limit) c.args.stage.now) variants (λ k d lt. c.loop-variant.invariant.none k (omega (arith, past, lt)) d))
+    sym (first-none_at (at_variant (stopped_within (g.P.Space.meaning c.args.space.now).limit) c.args.asked.now.stage) variants (λ k d lt. c.loop-variant.invariant.none k (omega (arith, past, lt)) d))

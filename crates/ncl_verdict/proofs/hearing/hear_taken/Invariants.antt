@@ -1,0 +1,12 @@
+use Rattle.std.proofs.Common.{◌≡◌, Some, length}
+use Rattle.ncl_verdict.specs.InSpace.{IsAsked}
+use Rattle.ncl_verdict.specs.Sharing.{AreSilent}
+use Rattle.ncl_verdict.proofs.hearing.hear_taken.Given as goal
+
+-- the space can be asked, and nothing is said at the variants that are marked
+abbrev pub invariant-asking : goal.invariant-asking
+invariant-asking g l = record {
+  asked : IsAsked (g.P.Space.meaning l.space) (Some l.shared.limit) l.asked;
+  long : length l.silent.items ≡ length l.shared.variants;
+  silent : AreSilent l.shared l.silent.items;
+}

@@ -24,6 +24,14 @@ use ncl_stage::{BitOrder, Values, Variant, values_in};
 use ncl_verdict::variants_after_base;
 use std::alloc::Global;
 
+/// A stage at the end of a chain, and the functions of the chain's nets under Base.
+#[derive(Drop)]
+struct Ending<'a> {
+    chain: &'a Stage,
+    stage: &'a Stage,
+    base: &'a Values,
+}
+
 /// The first fault of the stage at the end of a chain that some input shows, in the order of the judgement, with the least such
 /// input as a binary number.
 ///
@@ -49,7 +57,12 @@ pub(crate) fn ask(
         return Ok(Some(found));
     }
     let variants = variants_after_base(alloc, stage)?;
-    first_found(alloc, &mut space, chain, stage, &base, variants.as_slice())
+    let ending = Ending {
+        chain,
+        stage,
+        base: &base,
+    };
+    first_found(alloc, &mut space, &ending, variants.as_slice())
 }
 
 /// The first fault of an output that some input shows, with the least such input.
@@ -85,20 +98,18 @@ fn found_in_outputs(
 fn first_found(
     alloc: Global,
     space: &mut Diagram,
-    chain: &Stage,
-    stage: &Stage,
-    base: &Values,
+    ending: &Ending,
     variants: &[Variant],
 ) -> Result<Option<Found>, SpaceFault>
-    requires base { AreValues (diagram_space space.old) chain.now Variant.Base base.now }
-    requires ends { EndsWith chain.now stage.now }
-    requires after { All (IsAfterBase stage.now) variants.now }
-    ensures found { IfOk result (λ found. option_map shown_of found ≡ first_of (map (first_at (inputs_of_chain base.now.wiring.order chain.now stage.now) stage.now) variants.now)) }
-    ensures full { IsErrOf result SpaceFault.Full → IsPast (diagram_space space.old) base.now.wiring.order chain.now }
+    requires base { AreValues (diagram_space space.old) ending.now.chain.now Variant.Base ending.now.base.now }
+    requires ends { EndsWith ending.now.chain.now ending.now.stage.now }
+    requires after { All (IsAfterBase ending.now.stage.now) variants.now }
+    ensures found { IfOk result (λ found. option_map shown_of found ≡ first_of (map (first_at (inputs_of_chain ending.now.base.now.wiring.order ending.now.chain.now ending.now.stage.now) ending.now.stage.now) variants.now)) }
+    ensures full { IsErrOf result SpaceFault.Full → IsPast (diagram_space space.old) ending.now.base.now.wiring.order ending.now.chain.now }
 {
     space.facts();
     for variant in variants {
-        if let Some(found) = found_at(alloc, space, chain, stage, base, *variant)? {
+        if let Some(found) = found_at(alloc, space, ending, *variant)? {
             return Ok(Some(found));
         }
     }
@@ -109,25 +120,26 @@ fn first_found(
 fn found_at(
     alloc: Global,
     space: &mut Diagram,
-    chain: &Stage,
-    stage: &Stage,
-    base: &Values,
+    ending: &Ending,
     variant: Variant,
 ) -> Result<Option<Found>, SpaceFault>
-    requires base { AreValues (diagram_space space.old) chain.now Variant.Base base.now }
-    requires ends { EndsWith chain.now stage.now }
-    requires after { IsAfterBase stage.now variant }
-    ensures found { IfOk result (λ found. option_map shown_of found ≡ first_at (inputs_of_chain base.now.wiring.order chain.now stage.now) stage.now variant) }
+    requires base { AreValues (diagram_space space.old) ending.now.chain.now Variant.Base ending.now.base.now }
+    requires ends { EndsWith ending.now.chain.now ending.now.stage.now }
+    requires after { IsAfterBase ending.now.stage.now variant }
+    ensures found { IfOk result (λ found. option_map shown_of found ≡ first_at (inputs_of_chain ending.now.base.now.wiring.order ending.now.chain.now ending.now.stage.now) ending.now.stage.now variant) }
     ensures back { Restores (diagram_space space.old) (diagram_space space.new) }
-    ensures full { IsErrOf result SpaceFault.Full → IsPast (diagram_space space.old) base.now.wiring.order chain.now }
+    ensures full { IsErrOf result SpaceFault.Full → IsPast (diagram_space space.old) ending.now.base.now.wiring.order ending.now.chain.now }
 {
+    let chain = ending.chain;
+    let stage = ending.stage;
+    let base = ending.base;
     stage.facts();
     let gates = chain.cells.items().len() - stage.cells.items().len();
     match variant {
         Variant::Base => Ok(None),
         Variant::Bit(bit) => {
             let zero = gates - 2 * stage.inputs.items().len() + 2 * bit;
-            let word = bit_word(alloc, space, chain, base, zero, zero + 1)?;
+            let word = bit_word(alloc, space, chain, base, (zero, zero + 1))?;
             Ok(word.map(|input| Found {
                 fault: Fault::Incomplete(bit),
                 input,
@@ -149,18 +161,17 @@ fn bit_word(
     space: &mut Diagram,
     chain: &Stage,
     base: &Values,
-    zero: usize,
-    one: usize,
+    places: (usize, usize),
 ) -> Result<Option<Word>, SpaceFault>
     requires base { AreValues (diagram_space space.old) chain.now Variant.Base base.now }
-    requires zero { zero < length chain.now.cells }
-    requires one { one < length chain.now.cells }
-    ensures word { IfOk result (λ word. word ≡ lesser (least_word_by base.now.wiring.order chain.now (IsOrphan zero)) (least_word_by base.now.wiring.order chain.now (IsOrphan one))) }
+    requires zero { places.0 < length chain.now.cells }
+    requires one { places.1 < length chain.now.cells }
+    ensures word { IfOk result (λ word. word ≡ lesser (least_word_by base.now.wiring.order chain.now (IsOrphan places.0)) (least_word_by base.now.wiring.order chain.now (IsOrphan places.1))) }
     ensures back { Restores (diagram_space space.old) (diagram_space space.new) }
     ensures full { IsErrOf result SpaceFault.Full → IsPast (diagram_space space.old) base.now.wiring.order chain.now }
 {
     chain.facts();
-    let word = orphan(alloc, space, chain, base, zero)?;
-    let other = orphan(alloc, space, chain, base, one)?;
+    let word = orphan(alloc, space, chain, base, places.0)?;
+    let other = orphan(alloc, space, chain, base, places.1)?;
     Ok(lesser(word, other, chain.inputs.items().len()))
 }

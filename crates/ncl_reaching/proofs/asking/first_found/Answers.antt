@@ -11,12 +11,12 @@ use Rattle.ncl_reaching.specs.Reaching.{Shown, first_at}
 use Rattle.ncl_reaching.proofs.asking.first_found.Goals as goal
 
 pub found_at-requires-clause-base : goal.found_at-requires-clause-base
-found_at-requires-clause-base c = values-kept (diagram_space c.args.space.now) (diagram_space c.loop-variant.space) c.args.chain.now Base c.args.base.now c.loop-variant.invariant.back.keeps c.requires.base
+found_at-requires-clause-base c = values-kept (diagram_space c.args.space.now) (diagram_space c.loop-variant.space) c.args.ending.now.chain.now Base c.args.ending.now.base.now c.loop-variant.invariant.back.keeps c.requires.base
 
 pub returns-in-Some-clause-found : goal.returns-in-Some-clause-found
 returns-in-Some-clause-found c =
-    let s : StageData = c.args.stage.now in
-    let f : Variant → Option Shown = first_at (inputs_of_chain c.args.base.now.wiring.order c.args.chain.now s) s in
+    let s : StageData = c.args.ending.now.stage.now in
+    let f : Variant → Option Shown = first_at (inputs_of_chain c.args.ending.now.base.now.wiring.order c.args.ending.now.chain.now s) s in
     let variants : List Variant = c.args.variants.now in
     let i = c.loop-variant.variant-index in
     let said : f (get_or variants i Base) ≡ Some (shown_of c.in-Some.found) = sym c.in_ok-found.ensures.found ∙ ap (option_map shown_of) c.in-Some.is in
@@ -24,7 +24,7 @@ returns-in-Some-clause-found c =
 
 pub returns-clause-found : goal.returns-clause-found
 returns-clause-found c =
-    let s : StageData = c.args.stage.now in
+    let s : StageData = c.args.ending.now.stage.now in
     let variants : List Variant = c.args.variants.now in
     let past : length variants ≤ c.loop-variant.variant-index = c.loop-variant-test.false in
-    sym (first-none_at (first_at (inputs_of_chain c.args.base.now.wiring.order c.args.chain.now s) s) variants (λ k d lt. c.loop-variant.invariant.none k (omega (arith, past, lt)) d))
+    sym (first-none_at (first_at (inputs_of_chain c.args.ending.now.base.now.wiring.order c.args.ending.now.chain.now s) s) variants (λ k d lt. c.loop-variant.invariant.none k (omega (arith, past, lt)) d))

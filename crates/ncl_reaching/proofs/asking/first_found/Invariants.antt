@@ -10,5 +10,5 @@ use Rattle.ncl_reaching.proofs.asking.first_found.Given as goal
 abbrev pub invariant-loop-variant : goal.invariant-loop-variant
 invariant-loop-variant l = record {
   back : Restores (diagram_space l.fn.space) (diagram_space l.space);
-  none : (k : ℕ) → k < l.variant-index → (d : Variant) → first_at (inputs_of_chain l.base.wiring.order l.chain l.stage) l.stage (get_or l.variants k d) ≡ None;
+  none : (k : ℕ) → k < l.variant-index → (d : Variant) → first_at (inputs_of_chain l.ending.base.now.wiring.order l.ending.chain.now l.ending.stage.now) l.ending.stage.now (get_or l.variants k d) ≡ None;
 }

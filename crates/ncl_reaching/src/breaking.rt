@@ -30,6 +30,14 @@ pub struct WrongRun {
     pub lost: Option<CellId>,
 }
 
+/// An input on its way to the stage after so many others of a pipeline.
+#[derive(Drop)]
+pub(crate) struct Way<'a> {
+    pub(crate) pipeline: &'a Pipeline<'a>,
+    pub(crate) before: usize,
+    pub(crate) input: &'a Word,
+}
+
 /// A run over an input that breaks what a fault names which the input brings to the stage after so many others, in a pipeline in
 /// which no bank holds a word at reset. The word is the one that comes to that stage.
 ///
@@ -37,22 +45,20 @@ pub struct WrongRun {
 /// move.
 pub(crate) fn breaking_run(
     alloc: Global,
-    pipeline: &Pipeline,
-    before: usize,
+    way: &Way,
     fault: Fault,
-    input: &Word,
     word: &Word,
 ) -> Result<WrongRun, Memory>
-    requires brought { BringsFault pipeline.now before input.now (fault_of fault) }
-    requires word { word.now ≡ brings pipeline.now.stages before input.now }
-    ensures { IfOk result (λ run. BreaksIn pipeline.now before input.now (fault_of fault) run) }
+    requires brought { BringsFault way.now.pipeline.now way.now.before way.now.input.now (fault_of fault) }
+    requires word { word.now ≡ brings way.now.pipeline.now.stages way.now.before way.now.input.now }
+    ensures { IfOk result (λ run. BreaksIn way.now.pipeline.now way.now.before way.now.input.now (fault_of fault) run) }
 {
-    pipeline.facts();
+    way.pipeline.facts();
     match fault {
-        Fault::BothRails(_) => illegal_run(alloc, pipeline, before, input),
-        Fault::NoRail(_) => stopping_run(alloc, pipeline, before, input),
-        Fault::Incomplete(bit) => bit_run(alloc, pipeline, before, bit, input, word),
-        Fault::Orphan(place) => gate_run(alloc, pipeline, before, place, input),
+        Fault::BothRails(_) => illegal_run(alloc, way),
+        Fault::NoRail(_) => stopping_run(alloc, way),
+        Fault::Incomplete(bit) => bit_run(alloc, way, bit, word),
+        Fault::Orphan(place) => gate_run(alloc, way, place),
     }
 }
 
@@ -66,18 +72,14 @@ fn start(alloc: Global, pipeline: &Pipeline, input: &Word) -> Result<State, Memo
 }
 
 /// Both rails of an output: the word comes through the stage.
-fn illegal_run(
-    alloc: Global,
-    pipeline: &Pipeline,
-    before: usize,
-    input: &Word,
-) -> Result<WrongRun, Memory>
-    requires { (output : ℕ) × BringsFault pipeline.now before input.now (IsBothRails output) }
-    ensures { (output : ℕ) → BringsFault pipeline.now before input.now (IsBothRails output) → IfOk result (λ run. BreaksIn pipeline.now before input.now (IsBothRails output) run) }
+fn illegal_run(alloc: Global, way: &Way) -> Result<WrongRun, Memory>
+    requires { (output : ℕ) × BringsFault way.now.pipeline.now way.now.before way.now.input.now (IsBothRails output) }
+    ensures { (output : ℕ) → BringsFault way.now.pipeline.now way.now.before way.now.input.now (IsBothRails output) → IfOk result (λ run. BreaksIn way.now.pipeline.now way.now.before way.now.input.now (IsBothRails output) run) }
 {
+    let pipeline = way.pipeline;
     pipeline.facts();
-    let mut state = start(alloc, pipeline, input)?;
-    let coming = reaching_items(alloc, pipeline, before + 1)?;
+    let mut state = start(alloc, pipeline, way.input)?;
+    let coming = reaching_items(alloc, pipeline, way.before + 1)?;
     let mut run = Vec::new(alloc);
     try_items(pipeline, &mut state, &mut run, &coming)?;
     Ok(WrongRun {
@@ -87,19 +89,15 @@ fn illegal_run(
 }
 
 /// No rail of an output: the word comes through the stage, and then all goes on until nothing can move.
-fn stopping_run(
-    alloc: Global,
-    pipeline: &Pipeline,
-    before: usize,
-    input: &Word,
-) -> Result<WrongRun, Memory>
-    requires { (output : ℕ) × BringsFault pipeline.now before input.now (IsNoRail output) }
-    ensures { (output : ℕ) → BringsFault pipeline.now before input.now (IsNoRail output) → IfOk result (λ run. BreaksIn pipeline.now before input.now (IsNoRail output) run) }
+fn stopping_run(alloc: Global, way: &Way) -> Result<WrongRun, Memory>
+    requires { (output : ℕ) × BringsFault way.now.pipeline.now way.now.before way.now.input.now (IsNoRail output) }
+    ensures { (output : ℕ) → BringsFault way.now.pipeline.now way.now.before way.now.input.now (IsNoRail output) → IfOk result (λ run. BreaksIn way.now.pipeline.now way.now.before way.now.input.now (IsNoRail output) run) }
 {
+    let pipeline = way.pipeline;
     pipeline.facts();
     let order = pipeline.origins().order();
-    let mut state = start(alloc, pipeline, input)?;
-    let coming = reaching_items(alloc, pipeline, before + 1)?;
+    let mut state = start(alloc, pipeline, way.input)?;
+    let coming = reaching_items(alloc, pipeline, way.before + 1)?;
     let mut run = Vec::new(alloc);
     try_items(pipeline, &mut state, &mut run, &coming)?;
     push_stop(alloc, pipeline, &mut state, &mut run, order)?;
@@ -110,24 +108,18 @@ fn stopping_run(
 }
 
 /// A bit that isn't waited for: all but its register cells comes through the stage into the bank after it, which acknowledges.
-fn bit_run(
-    alloc: Global,
-    pipeline: &Pipeline,
-    before: usize,
-    bit: usize,
-    input: &Word,
-    word: &Word,
-) -> Result<WrongRun, Memory>
-    requires brought { BringsFault pipeline.now before input.now (IsIncomplete bit) }
-    requires word { word.now ≡ brings pipeline.now.stages before input.now }
-    ensures { IfOk result (λ run. BreaksIn pipeline.now before input.now (IsIncomplete bit) run) }
+fn bit_run(alloc: Global, way: &Way, bit: usize, word: &Word) -> Result<WrongRun, Memory>
+    requires brought { BringsFault way.now.pipeline.now way.now.before way.now.input.now (IsIncomplete bit) }
+    requires word { word.now ≡ brings way.now.pipeline.now.stages way.now.before way.now.input.now }
+    ensures { IfOk result (λ run. BreaksIn way.now.pipeline.now way.now.before way.now.input.now (IsIncomplete bit) run) }
 {
+    let pipeline = way.pipeline;
     pipeline.facts();
     let order = pipeline.origins().order();
-    let mut state = start(alloc, pipeline, input)?;
-    let coming = lacking_items(alloc, pipeline, before, bit)?;
+    let mut state = start(alloc, pipeline, way.input)?;
+    let coming = lacking_items(alloc, pipeline, way.before, bit)?;
     let going = acknowledging_items(alloc, pipeline, &state, order)?;
-    let cell = register_of(pipeline, before, bit, word.bits()[bit]);
+    let cell = register_of(pipeline, way.before, bit, word.bits()[bit]);
     let run = losing_run(alloc, pipeline, &mut state, cell, &coming, &going)?;
     Ok(WrongRun {
         steps: Items::from_vec(run),
@@ -145,23 +137,18 @@ fn register_of(pipeline: &Pipeline, bank: usize, bit: usize, high: bool) -> Cell
 }
 
 /// An orphan: the word comes and goes through all cells but the gate.
-fn gate_run(
-    alloc: Global,
-    pipeline: &Pipeline,
-    before: usize,
-    place: usize,
-    input: &Word,
-) -> Result<WrongRun, Memory>
-    requires { BringsFault pipeline.now before input.now (IsOrphan place) }
-    ensures { IfOk result (λ run. BreaksIn pipeline.now before input.now (IsOrphan place) run) }
+fn gate_run(alloc: Global, way: &Way, place: usize) -> Result<WrongRun, Memory>
+    requires { BringsFault way.now.pipeline.now way.now.before way.now.input.now (IsOrphan place) }
+    ensures { IfOk result (λ run. BreaksIn way.now.pipeline.now way.now.before way.now.input.now (IsOrphan place) run) }
 {
+    let pipeline = way.pipeline;
     pipeline.facts();
     let order = pipeline.origins().order();
-    let mut state = start(alloc, pipeline, input)?;
-    let own = &pipeline.stages()[before];
+    let mut state = start(alloc, pipeline, way.input)?;
+    let own = &pipeline.stages()[way.before];
     let cell = own.cells.items()[place].cell;
-    let coming = coming_items(alloc, pipeline, before + 1, cell)?;
-    let going = going_items(alloc, pipeline, &state, before + 1, cell, order)?;
+    let coming = coming_items(alloc, pipeline, way.before + 1, cell)?;
+    let going = going_items(alloc, pipeline, &state, way.before + 1, cell, order)?;
     let run = losing_run(alloc, pipeline, &mut state, cell, &coming, &going)?;
     Ok(WrongRun {
         steps: Items::from_vec(run),

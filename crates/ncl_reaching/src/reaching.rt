@@ -11,7 +11,7 @@ ghost use Rattle.ncl_reaching.specs.Breaking.{BringsFault};
 ghost use Rattle.ncl_reaching.specs.Evaluating.{word_on};
 
 use crate::asking::ask;
-use crate::breaking::{WrongRun, breaking_run};
+use crate::breaking::{Way, WrongRun, breaking_run};
 use crate::chain::{follow, source};
 use crate::evaluating::word_on;
 use crate::fault::{Fault, Found};
@@ -104,8 +104,12 @@ fn shown(
     stage.facts();
     let nets = pipeline.netlist().nets().len();
     let word = word_on(alloc, chain, nets, &found.input, stage.inputs.items())?;
-    let before = stage.number as usize - 1;
-    let run = run_told(alloc, pipeline, before, found.fault, &found.input, &word)?;
+    let way = Way {
+        pipeline,
+        before: stage.number as usize - 1,
+        input: &found.input,
+    };
+    let run = run_told(alloc, &way, found.fault, &word)?;
     let verdict = verdict_of(stage, found.fault, word);
     Ok(Reached::Shown {
         input: found.input,
@@ -115,21 +119,14 @@ fn shown(
 }
 
 /// The run that is told of a fault that an input brings to the stage after so many others, where no bank is reset to DATA.
-fn run_told(
-    alloc: Global,
-    pipeline: &Pipeline,
-    before: usize,
-    fault: Fault,
-    input: &Word,
-    word: &Word,
-) -> Result<Option<WrongRun>, Memory>
-    requires brought { HasNoDataBank pipeline.now → BringsFault pipeline.now before input.now (fault_of fault) }
-    requires word { word.now ≡ brings pipeline.now.stages before input.now }
-    ensures { IfOk result (IsRunTold pipeline.now before input.now (fault_of fault)) }
+fn run_told(alloc: Global, way: &Way, fault: Fault, word: &Word) -> Result<Option<WrongRun>, Memory>
+    requires brought { HasNoDataBank way.now.pipeline.now → BringsFault way.now.pipeline.now way.now.before way.now.input.now (fault_of fault) }
+    requires word { word.now ≡ brings way.now.pipeline.now.stages way.now.before way.now.input.now }
+    ensures { IfOk result (IsRunTold way.now.pipeline.now way.now.before way.now.input.now (fault_of fault)) }
 {
-    if pipeline.data_banks() != 0 {
+    if way.pipeline.data_banks() != 0 {
         return Ok(None);
     }
-    let run = breaking_run(alloc, pipeline, before, fault, input, word)?;
+    let run = breaking_run(alloc, way, fault, word)?;
     Ok(Some(run))
 }

@@ -7,14 +7,14 @@ use Rattle.ncl_reaching.proofs.breaking.illegal_run.Goals as goal
 
 pub try_items-requires-clause-items : goal.try_items-requires-clause-items
 try_items-requires-clause-items c =
-    let p = c.args.pipeline.now in
+    let p = c.args.way.now.pipeline.now in
     let (output, b) = c.requires in
-    subst (All (InRange p)) (sym (c.deref.ensures.value ∙ c.in_ok-coming.ensures)) (way-tried p c.facts.ensures c.args.before c.args.input.now (BothRails output) b)
+    subst (All (InRange p)) (sym (c.deref.ensures.value ∙ c.in_ok-coming.ensures)) (way-tried p c.facts.ensures c.args.way.now.before c.args.way.now.input.now (BothRails output) b)
 
 pub returns : goal.returns
 returns c = λ output b.
-    let p = c.args.pipeline.now in
-    illegal-breaks p c.facts.ensures c.args.before c.args.input.now output b c.from_vec.result
+    let p = c.args.way.now.pipeline.now in
+    illegal-breaks p c.facts.ensures c.args.way.now.before c.args.way.now.input.now output b c.from_vec.result
     (c.from_vec.ensures
-    ∙ happened-so p c.facts.ensures c.args.before c.args.input.now c.try_items.new.run.items c.new-run.result.items c.deref.result.now (meaning c.in_ok-state.state)
+    ∙ happened-so p c.facts.ensures c.args.way.now.before c.args.way.now.input.now c.try_items.new.run.items c.new-run.result.items c.deref.result.now (meaning c.in_ok-state.state)
     c.in_ok-try_items.ensures.run c.new-run.ensures.items c.in_ok-state.ensures.reset (c.deref.ensures.value ∙ c.in_ok-coming.ensures))

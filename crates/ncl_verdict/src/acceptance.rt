@@ -18,12 +18,12 @@ pub(crate) fn is_accepted(alloc: Global, ready: &mut Ready) -> Result<bool, Memo
     ensures stage { ready.new.stage ≡ ready.old.stage }
     ensures limit { ready.new.limit ≡ ready.old.limit }
 {
-    let stage = ready.stage;
-    stage.facts();
-    let few = are_few(alloc, stage, &ready.base, ready.space.nodes(), ready.limit)?;
+    let few = are_few(alloc, ready)?;
     if !few {
         return Ok(false);
     }
+    let stage = ready.stage;
+    stage.facts();
     match all_observed(alloc, &mut ready.space, stage, &ready.base) {
         Ok(answer) => Ok(answer),
         Err(SpaceFault::Full) => Ok(false),

@@ -1,43 +1,27 @@
 //! Stages of which no variant can pass the limit, as far as tell the bits on which their nets depend.
-ghost use Rattle.std.specs.Prelude.{◌≡◌, ◌<◌, ◌≤◌, ◌*◌, ℕ, All, IfOk, length, sum_by, true};
-ghost use Rattle.ncl_space.specs.Beads.{bead_count};
-ghost use Rattle.ncl_stage.specs.BitOrder.{bit_order};
-ghost use Rattle.ncl_stage.specs.Observed.{HasValidRails};
-ghost use Rattle.ncl_stage.specs.Tables.{tables_of};
-ghost use Rattle.ncl_stage.specs.Wiring.{IsWiring};
-ghost use Rattle.ncl_faults.specs.declared.variant.Variant.TheVariants.{Base};
+ghost use Rattle.std.specs.Prelude.{◌≡◌, ◌<◌, ◌≤◌, ◌+◌, ◌-◌, ◌*◌, ◌^◌, ℕ, All, IfOk, length, sum_by, true};
 ghost use Rattle.ncl_verdict.specs.Masks.{Covers, lost_mask, weight_lost, weight_of};
 ghost use Rattle.ncl_verdict.specs.Within.{IsWithin};
 
+use crate::ready::Ready;
 use crate::supports::{reaches, supports};
 use ncl_base::Memory;
-use ncl_shape::Stage;
-use ncl_stage::Values;
 use std::alloc::Global;
 
 // How many functions of three bits and less there are that have a node of their own, at most.
 const SMALL_FUNCTIONS: u64 = 276;
 
-/// Whether no variant of a stage has more nodes than the limit, as far as tell the bits on which its nets depend, where Base has
-/// so many and each output has one high rail. A function that depends on k of the first n - 3 of the n bits of a word has at most
-/// 2 to the k, less 1, nodes that decide at least four bits, and all functions together have at most 276 of the others. A net
-/// depends on the same bits under every variant. An output that isn't reached from a net that the variant keeps low is DATA as
-/// under Base, so always, and takes no node. An error is want of memory.
+/// Whether no variant of a stage has more nodes than the limit, as far as tell the bits on which its nets depend. A function that
+/// depends on k of the first n - 3 of the n bits of a word has at most 2 to the k, less 1, nodes that decide at least four bits, and
+/// all functions together have at most 276 of the others. A net depends on the same bits under every variant. An output that isn't
+/// reached from a net that the variant keeps low is DATA as under Base, so always, and takes no node. An error is want of memory.
 ///
 /// Linear in the pins, and for each net in the outputs, of which there are at most 128.
-pub(crate) fn are_few(
-    alloc: Global,
-    stage: &Stage,
-    base: &Values,
-    nodes: u32,
-    limit: u32,
-) -> Result<bool, Memory>
-    requires wiring { IsWiring stage.now base.now.wiring }
-    requires order { base.now.wiring.order ≡ bit_order stage.now }
-    requires rails { HasValidRails stage.now }
-    requires nodes { nodes ≡ bead_count (length stage.now.inputs) (tables_of stage.now Base) }
-    ensures { IfOk result (λ answer. answer ≡ true → IsWithin limit stage.now) }
+pub(crate) fn are_few(alloc: Global, ready: &Ready) -> Result<bool, Memory>
+    ensures { IfOk result (λ answer. answer ≡ true → IsWithin ready.now.limit ready.now.stage) }
 {
+    let stage = ready.stage;
+    let base = &ready.base;
     stage.facts();
     let masks = supports(alloc, stage, base)?;
     let reaches = reaches(alloc, stage, base, masks.as_slice())?;
@@ -49,8 +33,15 @@ pub(crate) fn are_few(
         reaches.as_slice(),
         bits,
     );
+    Ok(are_within(ready.space.nodes(), nets, most, ready.limit))
+}
+
+// Whether so many nodes, those of the small functions and two weights together are within a limit, where both weights are known.
+fn are_within(nodes: u32, nets: u64, most: u64, limit: u32) -> bool
+    ensures { result ≡ true → (nets < 2 ^ 64 - 1) × (most < 2 ^ 64 - 1) × (nodes + 276 + nets + most ≤ limit) }
+{
     let small = nodes as u64 + SMALL_FUNCTIONS;
-    Ok(small.saturating_add(nets).saturating_add(most) <= limit as u64)
+    small.saturating_add(nets).saturating_add(most) <= limit as u64
 }
 
 // How many nodes that decide at least four bits a function has at most that depends on the bits of a mask. Takes no memory.

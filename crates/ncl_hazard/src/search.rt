@@ -1,5 +1,5 @@
 //! The least word that shows an orphan of a stage.
-ghost use Rattle.std.specs.Prelude.{◌≡◌, ◌<◌, ◌≤◌, ℕ, IfOk, IsErrOf, OnOk, Some, length, slice_get};
+ghost use Rattle.std.specs.Prelude.{◌≡◌, ◌<◌, ◌≤◌, IfOk, IsErrOf, OnOk, Some, length, slice_get};
 ghost use Rattle.ncl_shape.specs.Stage.{StageData};
 ghost use Rattle.ncl_hazard.specs.Explained.{AreSoundBefore};
 ghost use Rattle.ncl_hazard.specs.Why.{least_input, why_count};

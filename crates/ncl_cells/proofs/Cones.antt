@@ -1,15 +1,17 @@
 -- What follows of the bits of sources.
-use Rattle.std.proofs.Common.{◌≡◌, ℕ, Bool, true, false, List, [], ◌∷◌, ◌++◌, refl, sym, subst}
+use Rattle.std.proofs.Common.{◌≡◌, ℕ, Bool, true, false, List, [], ◌∷◌, ◌++◌, ◌<◌, get_or, refl, sym, ap, subst}
 use Rattle.std.specs.Bool.{beq}
 use Rattle.std.proofs.lemmas.List.Elements.{All-nil, All-cons, All-push}
 use Rattle.ncl_network.specs.declared.network.SignalSource.{SignalSource}
 use Rattle.ncl_network.specs.declared.network.Node.{Node}
 use Rattle.ncl_network.specs.declared.network.Network.{Network}
 use Rattle.ncl_network.specs.Network.{source_value, node_values, ReadBefore}
+use Rattle.ncl_decomp.specs.Words.{word_of}
+use Rattle.ncl_decomp.proofs.EachWord.{at_each_word}
 use Rattle.ncl_cells.specs.declared.cone.Known.{Known}
 use Rattle.ncl_cells.specs.declared.cone.Leaves.{Leaves}
 use Rattle.ncl_cells.specs.declared.plan.Plan.{Plan}
-use Rattle.ncl_cells.specs.Cones.{Respects, IsKnown, fact, leaf_facts, Computes, ComputesAt}
+use Rattle.ncl_cells.specs.Cones.{Respects, IsKnown, fact, leaf_bits, Computes, ComputesAt}
 use Rattle.ncl_cells.proofs.Smalls.{bit_of_node}
 
 -- the bits of a network at a word respect its nodes
@@ -21,17 +23,20 @@ pub IsKnown-push : (value : SignalSource → Bool) (known new : List Known) (fac
 IsKnown-push value known new fact is here pushed =
     subst (IsKnown value) (sym pushed) (All-push (λ (one : Known). value one.from ≡ one.bit) known fact is here)
 
-pub leaves_known : (value : SignalSource → Bool) (leaves : Leaves) (a b c d : Bool) → value leaves.first ≡ a → value leaves.second ≡ b → value leaves.third ≡ c → value leaves.fourth ≡ d → IsKnown value (leaf_facts leaves a b c d)
-leaves_known value leaves a b c d first second third fourth =
+-- leaves have the bits of a word
+pub leaves_known : (value : SignalSource → Bool) (leaves : Leaves) (word : List Bool) (known : List Known) → leaf_bits value leaves ≡ word → known ≡ fact leaves.first (get_or word 0 false) ∷ fact leaves.second (get_or word 1 false) ∷ fact leaves.third (get_or word 2 false) ∷ fact leaves.fourth (get_or word 3 false) ∷ [] → IsKnown value known
+leaves_known value leaves word known is facts =
     let F = λ (fact : Known). value fact.from ≡ fact.bit in
-    let second_on = fact leaves.second b ∷ fact leaves.third c ∷ fact leaves.fourth d ∷ [] in
-    let third_on = fact leaves.third c ∷ fact leaves.fourth d ∷ [] in
-    All-cons F (fact leaves.first a) second_on first (All-cons F (fact leaves.second b) third_on second (All-cons F (fact leaves.third c) (fact leaves.fourth d ∷ []) third (All-cons F (fact leaves.fourth d) [] fourth (All-nil F))))
+    let bit = λ (k : ℕ). ap (λ (bits : List Bool). get_or bits k false) is in
+    let last = fact leaves.fourth (get_or word 3 false) ∷ [] in
+    let third_on = fact leaves.third (get_or word 2 false) ∷ last in
+    let second_on = fact leaves.second (get_or word 1 false) ∷ third_on in
+    subst (IsKnown value) (sym facts) (All-cons F (fact leaves.first (get_or word 0 false)) second_on (bit 0) (All-cons F (fact leaves.second (get_or word 1 false)) third_on (bit 1) (All-cons F (fact leaves.third (get_or word 2 false)) last (bit 2) (All-cons F (fact leaves.fourth (get_or word 3 false)) [] (bit 3) (All-nil F)))))
 
--- what holds of both bits of each leaf holds
-pub Computes-all : (nodes : List Node) (k : ℕ) (leaves : Leaves) (plan : Plan) → ((a b c d : Bool) → ComputesAt nodes k leaves plan a b c d) → Computes nodes k leaves plan
+-- what holds at the word of each number holds
+pub Computes-all : (nodes : List Node) (k : ℕ) (leaves : Leaves) (plan : Plan) → ((number : ℕ) → number < 16 → ComputesAt nodes k leaves plan (word_of 4 number)) → Computes nodes k leaves plan
 Computes-all nodes k leaves plan at value respects =
-    at (value leaves.first) (value leaves.second) (value leaves.third) (value leaves.fourth) value respects refl refl refl refl
+    at_each_word 4 (ComputesAt nodes k leaves plan) at (leaf_bits value leaves) refl value respects refl
 
 pub same_bits : (a b : Bool) → beq a b ≡ true → a ≡ b
 same_bits true true e = refl

@@ -15,19 +15,22 @@ use Rattle.ncl_network.specs.Prune.{IsInOrder}
 use Rattle.ncl_network.proofs.Walking.{ReadBefore-push}
 use Rattle.ncl_network.proofs.Marking.{node_reads}
 use Rattle.ncl_decomp.specs.Split.{IsNarrow, IsSplit}
+use Rattle.ncl_decomp.specs.Words.{word_of}
+use Rattle.ncl_decomp.proofs.EachWord.{at_each_word}
 use Rattle.ncl_base.proofs.Tests.{All-at}
 use Rattle.ncl_base.proofs.Places.{push_cases}
 use Rattle.ncl_cells.specs.declared.cone.Leaves.{Leaves}
+use Rattle.ncl_cells.specs.Cones.{leaf_bits}
 use Rattle.ncl_cells.specs.Recasts.{Agrees, AgreesAt, MayStand, AreRecast}
 use Rattle.ncl_cells.specs.Remade.{IsRebuiltOf}
 use Rattle.ncl_cells.proofs.Smalls.{bit_of_node}
 use Rattle.ncl_cells.proofs.Cones.{respected}
 use Rattle.ncl_cells.proofs.Remade.{IsInOrder-narrow}
 
--- what holds at both bits of each leaf holds
-pub Agrees-all : (nodes : List Node) (k : ℕ) (leaves : Leaves) (node : Node) → ((a b c d : Bool) → AgreesAt nodes k leaves node a b c d) → Agrees nodes k node
+-- what holds at the word of each number holds
+pub Agrees-all : (nodes : List Node) (k : ℕ) (leaves : Leaves) (node : Node) → ((number : ℕ) → number < 16 → AgreesAt nodes k leaves node (word_of 4 number)) → Agrees nodes k node
 Agrees-all nodes k leaves node at value respects =
-    at (value leaves.first) (value leaves.second) (value leaves.third) (value leaves.fourth) value respects refl refl refl refl
+    at_each_word 4 (AgreesAt nodes k leaves node) at (leaf_bits value leaves) refl value respects refl
 
 -- a node may stay where it stands
 pub MayStand-itself : (network : Network) (k : ℕ) (node : Node) → IsSplit network → slice_get network.nodes k ≡ Some node → MayStand network k node

@@ -23,13 +23,9 @@ Respects nodes value =
 abbrev pub IsKnown : (SignalSource → Bool) → List Known → Type 0
 IsKnown value known = All (λ fact. value fact.from ≡ fact.bit) known
 
--- that a source has this bit, and that four leaves have these
+-- that a source has this bit
 abbrev pub fact : SignalSource → Bool → Known
 fact from bit = record { from = from; bit = bit }
-
-abbrev pub leaf_facts : Leaves → Bool → Bool → Bool → Bool → List Known
-leaf_facts leaves a b c d =
-    fact leaves.first a ∷ fact leaves.second b ∷ fact leaves.third c ∷ fact leaves.fourth d ∷ []
 
 -- the bits of four leaves
 abbrev pub leaf_bits : (SignalSource → Bool) → Leaves → List Bool
@@ -40,7 +36,7 @@ abbrev pub Computes : List Node → ℕ → Leaves → Plan → Type 0
 Computes nodes k leaves plan =
     (value : SignalSource → Bool) → Respects nodes value → value (FromNode k) ≡ plan_value plan (leaf_bits value leaves)
 
--- it does where the leaves have these bits
-abbrev pub ComputesAt : List Node → ℕ → Leaves → Plan → Bool → Bool → Bool → Bool → Type 0
-ComputesAt nodes k leaves plan a b c d =
-    (value : SignalSource → Bool) → Respects nodes value → value leaves.first ≡ a → value leaves.second ≡ b → value leaves.third ≡ c → value leaves.fourth ≡ d → value (FromNode k) ≡ plan_value plan (a ∷ b ∷ c ∷ d ∷ [])
+-- it does where the leaves have the bits of a word
+abbrev pub ComputesAt : List Node → ℕ → Leaves → Plan → List Bool → Type 0
+ComputesAt nodes k leaves plan word =
+    (value : SignalSource → Bool) → Respects nodes value → leaf_bits value leaves ≡ word → value (FromNode k) ≡ plan_value plan word

@@ -9,7 +9,7 @@ use Rattle.ncl_network.specs.declared.network.Network.{Network}
 use Rattle.ncl_network.specs.Network.{IsSource, ReadBefore, is_constant}
 use Rattle.ncl_decomp.specs.Split.{IsNarrow}
 use Rattle.ncl_cells.specs.declared.cone.Leaves.{Leaves}
-use Rattle.ncl_cells.specs.Cones.{signal_in, Respects}
+use Rattle.ncl_cells.specs.Cones.{signal_in, Respects, leaf_bits}
 
 -- a signal is of an input or of a node before a place
 pub record VariesBefore (inputs place : ℕ) (signal : Signal) : Type 0 where
@@ -26,10 +26,10 @@ abbrev pub Agrees : List Node → ℕ → Node → Type 0
 Agrees nodes k node =
     (value : SignalSource → Bool) → Respects nodes value → value (FromNode k) ≡ cover_value node.on node.rows (map (signal_in value) node.ins)
 
--- it does where four leaves have these bits
-abbrev pub AgreesAt : List Node → ℕ → Leaves → Node → Bool → Bool → Bool → Bool → Type 0
-AgreesAt nodes k leaves node a b c d =
-    (value : SignalSource → Bool) → Respects nodes value → value leaves.first ≡ a → value leaves.second ≡ b → value leaves.third ≡ c → value leaves.fourth ≡ d → value (FromNode k) ≡ cover_value node.on node.rows (map (signal_in value) node.ins)
+-- it does where four leaves have the bits of a word
+abbrev pub AgreesAt : List Node → ℕ → Leaves → Node → List Bool → Type 0
+AgreesAt nodes k leaves node word =
+    (value : SignalSource → Bool) → Respects nodes value → leaf_bits value leaves ≡ word → value (FromNode k) ≡ cover_value node.on node.rows (map (signal_in value) node.ins)
 
 -- a node may take the place of the one that stands there: it reads what it may, and gives its bit
 pub record MayStand (network : Network) (k : ℕ) (node : Node) : Type 0 where

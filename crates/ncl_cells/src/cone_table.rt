@@ -2,8 +2,8 @@
 use crate::cone::Leaves;
 use crate::freeing::cone_of;
 use crate::stop::Stop;
-use crate::table::{cover_table, input};
 use ncl_base::Memory;
+use ncl_decomp::table::{cover_table, input};
 use ncl_network::{Network, Node, SignalSource};
 use std::alloc::Global;
 

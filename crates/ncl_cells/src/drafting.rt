@@ -2,8 +2,8 @@
 use crate::plan::{Arg, Step};
 use crate::rules::{Planner, Rule, join, others};
 use crate::small::Op;
-use crate::table::{cofactor, depends, input};
 use ncl_base::Memory;
+use ncl_decomp::table::{cofactor, depends, input};
 
 /// An argument that is always 0.
 const NOTHING: Arg = Arg {

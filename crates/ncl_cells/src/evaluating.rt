@@ -1,10 +1,12 @@
 //! Whether a plan computes a node.
 ghost use Rattle.std.specs.Prelude.{◌≡◌, OnOk, IfOk, Bool};
-ghost use Rattle.ncl_cells.specs.Cones.{Computes, ComputesAt, fact, leaf_facts};
+ghost use Rattle.ncl_network.specs.declared.network.SignalSource.{SignalSource};
+ghost use Rattle.ncl_cells.specs.Cones.{Respects, IsKnown, Computes, ComputesAt, fact, leaf_bits};
 
 use crate::cone::{Known, Leaves, known_bit, learn_all};
 use crate::plan::{Plan, plan_bit};
 use crate::stop::Stop;
+use ncl_decomp::table::word_of;
 use ncl_network::{Node, SignalSource};
 use std::alloc::Global;
 
@@ -23,71 +25,42 @@ fn fact(from: SignalSource, bit: bool) -> Known
     Known { from, bit }
 }
 
-/// What is known where the leaves have these bits.
-pub(crate) fn known_leaves(
+/// What is known where the leaves have the bits of a word, once the nodes at these places have theirs, one after another.
+pub(crate) fn known_at(
     alloc: Global,
+    nodes: &[Node],
     leaves: Leaves,
-    a: bool,
-    b: bool,
-    c: bool,
-    d: bool,
+    cone: &[u32],
+    word: [bool; 4],
 ) -> Result<Vec<Known>, Stop>
-    ensures { IfOk result (λ known. known.items ≡ leaf_facts leaves a b c d) }
+    ensures { IfOk result (λ known. (value : SignalSource → Bool) → Respects nodes.now value → leaf_bits value leaves ≡ word → IsKnown value known.items) }
 {
-    let first = fact(leaves.first, a);
-    let second = fact(leaves.second, b);
-    let third = fact(leaves.third, c);
-    let fourth = fact(leaves.fourth, d);
-    let known = vec![in alloc; first, second, third, fourth]?;
+    let first = fact(leaves.first, word[0]);
+    let second = fact(leaves.second, word[1]);
+    let third = fact(leaves.third, word[2]);
+    let fourth = fact(leaves.fourth, word[3]);
+    let mut known = vec![in alloc; first, second, third, fourth]?;
+    learn_all(alloc, nodes, cone, &mut known)?;
     Ok(known)
 }
 
-/// A choice that is tried for a node.
-#[derive(Clone, Copy)]
-struct Tried<'a> {
-    nodes: &'a [Node],
+/// Refuses a choice if its plan doesn't give the bit of a node where the leaves have the bits of a word.
+fn test_word(
+    alloc: Global,
+    nodes: &[Node],
     place: u32,
-    choice: &'a Choice,
-}
-
-impl<'a> Tried<'a> {
-    /// Refuses the choice if its plan doesn't give the bit of the node where the leaves have these bits.
-    fn test_word(&self, alloc: Global, a: bool, b: bool, c: bool, d: bool) -> Result<(), Stop>
-        ensures { let choice = self.now.choice.now in OnOk result (ComputesAt self.now.nodes.now self.now.place choice.leaves choice.plan a b c d) }
-    {
-        let mut known = known_leaves(alloc, self.choice.leaves, a, b, c, d)?;
-        learn_all(alloc, self.nodes, &self.choice.cone, &mut known)?;
-        let bit = known_bit(&known, SignalSource::Node(self.place))?;
-        let planned = plan_bit(&self.choice.plan, vec![in alloc; a, b, c, d]?)?;
-        if bit == planned {
-            Ok(())
-        } else {
-            Err(Stop::GivenUp)
-        }
-    }
-
-    /// The same for both bits of the last leaf.
-    fn test_two(&self, alloc: Global, a: bool, b: bool, c: bool) -> Result<(), Stop>
-        ensures { let choice = self.now.choice.now in OnOk result ((d : Bool) → ComputesAt self.now.nodes.now self.now.place choice.leaves choice.plan a b c d) }
-    {
-        self.test_word(alloc, a, b, c, false)?;
-        self.test_word(alloc, a, b, c, true)
-    }
-
-    /// The same for all bits of the last two leaves.
-    fn test_four(&self, alloc: Global, a: bool, b: bool) -> Result<(), Stop>
-        ensures { let choice = self.now.choice.now in OnOk result ((c d : Bool) → ComputesAt self.now.nodes.now self.now.place choice.leaves choice.plan a b c d) }
-    {
-        self.test_two(alloc, a, b, false)?;
-        self.test_two(alloc, a, b, true)
-    }
-
-    /// The same for all bits of the last three leaves.
-    fn test_eight(&self, alloc: Global, a: bool) -> Result<(), Stop>
-        ensures { let choice = self.now.choice.now in OnOk result ((b c d : Bool) → ComputesAt self.now.nodes.now self.now.place choice.leaves choice.plan a b c d) }
-    {
-        self.test_four(alloc, a, false)?;
-        self.test_four(alloc, a, true)
+    choice: &Choice,
+    word: [bool; 4],
+) -> Result<(), Stop>
+    ensures { OnOk result (ComputesAt nodes.now place choice.now.leaves choice.now.plan word) }
+{
+    let known = known_at(alloc, nodes, choice.leaves, &choice.cone, word)?;
+    let bit = known_bit(&known, SignalSource::Node(place))?;
+    let planned = plan_bit(&choice.plan, Vec::from_array(alloc, word)?)?;
+    if bit == planned {
+        Ok(())
+    } else {
+        Err(Stop::GivenUp)
     }
 }
 
@@ -96,11 +69,8 @@ impl<'a> Tried<'a> {
 pub(crate) fn test(alloc: Global, nodes: &[Node], place: u32, choice: &Choice) -> Result<(), Stop>
     ensures { OnOk result (Computes nodes.now place choice.now.leaves choice.now.plan) }
 {
-    let tried = Tried {
-        nodes,
-        place,
-        choice,
-    };
-    tried.test_eight(alloc, false)?;
-    tried.test_eight(alloc, true)
+    for number in 0..16 {
+        test_word(alloc, nodes, place, choice, word_of(number))?;
+    }
+    Ok(())
 }

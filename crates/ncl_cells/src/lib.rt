@@ -5,7 +5,7 @@
 //! and finds equal ones again; `adding` and `plan` add operations one after another. For each node a choice is made: at most
 //! four leaves, the nodes through which it is computed of them, and a plan. The choice is not trusted: `evaluating` tries
 //! the plan at the sixteen words of the leaves, through the nodes between (`cone`, `cover`), and where it fails the network
-//! stays as it was. So the functions that search have no contract: `table`, `rules` and `drafting` make plans, `cut`,
+//! stays as it was. So the functions that search have no contract: `rules` and `drafting` make plans, `cut`,
 //! `cone_table`, `freeing` and `trying` weigh leaves, `levels` and `leaves` say how late they come and in which order they
 //! are joined, and `choice` takes the best. `remaking` makes a round, and `improving` some rounds, each kept only if it
 //! costs no more than it may (`costs`) and has fewer cells, reckoned by the inputs of the nodes. `recasting` puts other
@@ -38,7 +38,6 @@ mod reordering;
 mod rules;
 mod small;
 mod stop;
-mod table;
 mod trying;
 
 pub use carries::carries_first;

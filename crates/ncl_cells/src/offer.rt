@@ -1,13 +1,14 @@
 //! Nodes that are offered in place of others, and whether they compute the same.
-ghost use Rattle.std.specs.Prelude.{◌≡◌, true, OnOk, IfOk, Bool, All, length};
+ghost use Rattle.std.specs.Prelude.{◌≡◌, true, OnOk, IfOk, All, length};
 ghost use Rattle.ncl_cells.specs.Recasts.{VariesBefore, MayRead, Agrees, AgreesAt, MayStand};
 
-use crate::cone::{Leaves, known_bit, learn_all, node_bit};
-use crate::evaluating::known_leaves;
+use crate::cone::{Leaves, known_bit, node_bit};
+use crate::evaluating::known_at;
 use crate::freeing::{add_inner, cone_from};
 use crate::stop::Stop;
 use ncl_base::Memory;
 use ncl_blif::Row;
+use ncl_decomp::table::word_of;
 use ncl_network::{Network, Node, Signal, SignalSource};
 use std::alloc::Global;
 
@@ -77,12 +78,11 @@ struct Trying<'a> {
 }
 
 impl<'a> Trying<'a> {
-    /// Refuses the offer if it doesn't give the bit of the node where the leaves have these bits.
-    fn test_word(&self, alloc: Global, a: bool, b: bool, c: bool, d: bool) -> Result<(), Stop>
-        ensures { let offer = self.now.offer.now in OnOk result (AgreesAt self.now.nodes.now self.now.place offer.leaves offer.node a b c d) }
+    /// Refuses the offer if it doesn't give the bit of the node where the leaves have the bits of a word.
+    fn test_word(&self, alloc: Global, word: [bool; 4]) -> Result<(), Stop>
+        ensures { let offer = self.now.offer.now in OnOk result (AgreesAt self.now.nodes.now self.now.place offer.leaves offer.node word) }
     {
-        let mut known = known_leaves(alloc, self.offer.leaves, a, b, c, d)?;
-        learn_all(alloc, self.nodes, self.cone, &mut known)?;
+        let known = known_at(alloc, self.nodes, self.offer.leaves, self.cone, word)?;
         let bit = known_bit(&known, SignalSource::Node(self.place))?;
         let offered = node_bit(alloc, &known, &self.offer.node)?;
         if bit == offered {
@@ -92,36 +92,14 @@ impl<'a> Trying<'a> {
         }
     }
 
-    /// The same for both bits of the last leaf.
-    fn test_two(&self, alloc: Global, a: bool, b: bool, c: bool) -> Result<(), Stop>
-        ensures { let offer = self.now.offer.now in OnOk result ((d : Bool) → AgreesAt self.now.nodes.now self.now.place offer.leaves offer.node a b c d) }
-    {
-        self.test_word(alloc, a, b, c, false)?;
-        self.test_word(alloc, a, b, c, true)
-    }
-
-    /// The same for all bits of the last two leaves.
-    fn test_four(&self, alloc: Global, a: bool, b: bool) -> Result<(), Stop>
-        ensures { let offer = self.now.offer.now in OnOk result ((c d : Bool) → AgreesAt self.now.nodes.now self.now.place offer.leaves offer.node a b c d) }
-    {
-        self.test_two(alloc, a, b, false)?;
-        self.test_two(alloc, a, b, true)
-    }
-
-    /// The same for all bits of the last three leaves.
-    fn test_eight(&self, alloc: Global, a: bool) -> Result<(), Stop>
-        ensures { let offer = self.now.offer.now in OnOk result ((b c d : Bool) → AgreesAt self.now.nodes.now self.now.place offer.leaves offer.node a b c d) }
-    {
-        self.test_four(alloc, a, false)?;
-        self.test_four(alloc, a, true)
-    }
-
-    /// The same for all bits of the leaves.
+    /// The same at the sixteen words of the leaves.
     fn test_all(&self, alloc: Global) -> Result<(), Stop>
         ensures { OnOk result (Agrees self.now.nodes.now self.now.place self.now.offer.now.node) }
     {
-        self.test_eight(alloc, false)?;
-        self.test_eight(alloc, true)
+        for number in 0..16 {
+            self.test_word(alloc, word_of(number))?;
+        }
+        Ok(())
     }
 }
 

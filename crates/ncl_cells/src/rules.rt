@@ -1,7 +1,7 @@
 //! How a function of up to four bits is made of small nodes.
 use crate::prices::Prices;
-use crate::table::{cofactor, depends, input, joined, support};
 use ncl_base::Memory;
+use ncl_decomp::table::{cofactor, depends, input, joined, support};
 use std::alloc::Global;
 
 /// How a function is made of small nodes, of which the inputs go by their numbers.

@@ -10,3 +10,4 @@ pub mod Frames
 pub mod Parts
 pub mod Walking
 pub mod Whole
+pub mod EachWord

@@ -4,3 +4,4 @@ pub mod Rows
 pub mod Images
 pub mod Products
 pub mod Splitting
+pub mod Words

@@ -14,9 +14,8 @@ use Rattle.ncl_faults.specs.Values.{holds}
 use Rattle.ncl_template.specs.declared.form.FormPin.{FormPin}
 use Rattle.ncl_template.specs.declared.form.FormPin.TheVariants.{Zero, One, Inner}
 use Rattle.ncl_template.specs.declared.form.FormGate.{FormGate}
-use Rattle.ncl_template.specs.declared.form.Form.{Form}
 use Rattle.ncl_template.specs.Template.{Shows, IsNull, ShowWord}
-use Rattle.ncl_template.specs.Forms.{pin_bit, gate_bit, IsFormPin, IsFormGate, IsForm, FitsWord, Fits, no_net, no_pair, pin_net, IsGateOf}
+use Rattle.ncl_template.specs.Forms.{pin_bit, gate_bit, IsFormPin, IsFormGate, no_net, no_pair, pin_net, IsGateOf}
 use Rattle.ncl_template.proofs.Leaves.{ShowWord-length, shown_nets}
 
 -- ---- the values on the pins
@@ -95,36 +94,3 @@ module _ (ins : List Rails) (word : List Bool) (inner : List NetId) where
 -- each pin is one that a gate may have
 pub all_pins : (inputs inner : ℕ) (gate : FormGate) → IsFormGate inputs inner gate → (p : FormPin) → Member p gate.pins.items → IsFormPin inputs inner p
 all_pins inputs inner gate of p m = All-contains (IsFormPin inputs inner) gate.pins.items p of.pins (Contains-from_Member p m)
-
--- ---- words
-
-module _ (f : List Bool → Bool) (waits : List Bool → ℕ → Bool) (form : Form) (n : ℕ) (is : IsForm n form) where
-  pub fits_of_two : n ≡ 2 → ((a b : Bool) → FitsWord f waits form (a ∷ b ∷ [])) → Fits f n waits form
-  fits_of_two two each = record { is = is; at = λ word wide. at word (wide ∙ two) }
-    where
-      at : (word : List Bool) → length word ≡ 2 → FitsWord f waits form word
-      at [] wide = absurd (omega (arith, wide))
-      at (a ∷ []) wide = absurd (omega (arith, wide))
-      at (a ∷ b ∷ []) wide = each a b
-      at (a ∷ b ∷ c ∷ word) wide = absurd (omega (arith, wide))
-
-  pub fits_of_three : n ≡ 3 → ((a b c : Bool) → FitsWord f waits form (a ∷ b ∷ c ∷ [])) → Fits f n waits form
-  fits_of_three three each = record { is = is; at = λ word wide. at word (wide ∙ three) }
-    where
-      at : (word : List Bool) → length word ≡ 3 → FitsWord f waits form word
-      at [] wide = absurd (omega (arith, wide))
-      at (a ∷ []) wide = absurd (omega (arith, wide))
-      at (a ∷ b ∷ []) wide = absurd (omega (arith, wide))
-      at (a ∷ b ∷ c ∷ []) wide = each a b c
-      at (a ∷ b ∷ c ∷ d ∷ word) wide = absurd (omega (arith, wide))
-
-  pub fits_of_four : n ≡ 4 → ((a b c d : Bool) → FitsWord f waits form (a ∷ b ∷ c ∷ d ∷ [])) → Fits f n waits form
-  fits_of_four four each = record { is = is; at = λ word wide. at word (wide ∙ four) }
-    where
-      at : (word : List Bool) → length word ≡ 4 → FitsWord f waits form word
-      at [] wide = absurd (omega (arith, wide))
-      at (a ∷ []) wide = absurd (omega (arith, wide))
-      at (a ∷ b ∷ []) wide = absurd (omega (arith, wide))
-      at (a ∷ b ∷ c ∷ []) wide = absurd (omega (arith, wide))
-      at (a ∷ b ∷ c ∷ d ∷ []) wide = each a b c d
-      at (a ∷ b ∷ c ∷ d ∷ e ∷ word) wide = absurd (omega (arith, wide))

@@ -1,5 +1,5 @@
 //! Whether a form is of a node.
-ghost use Rattle.std.specs.Prelude.{◌≡◌, ◌<◌, ◌≤◌, ◌∷◌, [], true, Bool, All, IfSome, length};
+ghost use Rattle.std.specs.Prelude.{◌≡◌, ◌<◌, ◌≤◌, true, All, IfSome, length};
 ghost use Rattle.ncl_template.specs.Template.{node_function};
 ghost use Rattle.ncl_template.specs.Waits.{waits_at};
 ghost use Rattle.ncl_template.specs.Forms.{IsFormPin, IsFormGate, AreInner, IsBehind, IsForm, FitsWord, Fits};
@@ -9,6 +9,7 @@ use crate::patterns::patterns;
 use crate::table::node_bit;
 use crate::turning::{turn_for, turns_of};
 use crate::waits::Waits;
+use ncl_decomp::table::{INPUTS, cover_table, word_of};
 use ncl_network::Node;
 
 /// Whether a pin is on a rail of one of so many inputs, or on one of so many inner gates.
@@ -74,97 +75,14 @@ fn is_form(form: &Form, inputs: usize) -> bool
         && is_behind(inner, &form.one, inputs)
 }
 
-/// A form that is tried for a node.
-#[derive(Clone, Copy)]
-struct Tried<'a> {
-    form: &'a Form,
-    node: &'a Node,
-    waits: Waits,
-}
-
-impl<'a> Tried<'a> {
-    /// Whether the rails show the bit of the node at a word, and wait.
-    fn fits_word(&self, word: &[bool]) -> bool
-        requires { IsForm (length word.now) self.now.form.now }
-        ensures { result ≡ true → FitsWord (node_function self.now.node.now) (waits_at self.now.waits) self.now.form.now word.now }
-    {
-        let bit = node_bit(self.node, word);
-        let inner = self.form.inner.as_slice();
-        fits_at(!bit, self.waits, inner, &self.form.zero, word)
-            && fits_at(bit, self.waits, inner, &self.form.one, word)
-    }
-
-    /// Whether they do at each word of two bits that begins with this one.
-    fn fits_second(&self, a: bool) -> bool
-        requires { IsForm 2 self.now.form.now }
-        ensures { result ≡ true → (b : Bool) → FitsWord (node_function self.now.node.now) (waits_at self.now.waits) self.now.form.now (a ∷ b ∷ []) }
-    {
-        self.fits_word(&[a, false]) && self.fits_word(&[a, true])
-    }
-
-    /// Whether they do at each word of two bits.
-    fn fits_two(&self) -> bool
-        requires { IsForm 2 self.now.form.now }
-        ensures { result ≡ true → (a b : Bool) → FitsWord (node_function self.now.node.now) (waits_at self.now.waits) self.now.form.now (a ∷ b ∷ []) }
-    {
-        self.fits_second(false) && self.fits_second(true)
-    }
-
-    /// Whether they do at each word of three bits that begins with these.
-    fn fits_last(&self, a: bool, b: bool) -> bool
-        requires { IsForm 3 self.now.form.now }
-        ensures { result ≡ true → (c : Bool) → FitsWord (node_function self.now.node.now) (waits_at self.now.waits) self.now.form.now (a ∷ b ∷ c ∷ []) }
-    {
-        self.fits_word(&[a, b, false]) && self.fits_word(&[a, b, true])
-    }
-
-    /// Whether they do at each word of three bits that begins with this one.
-    fn fits_middle(&self, a: bool) -> bool
-        requires { IsForm 3 self.now.form.now }
-        ensures { result ≡ true → (b c : Bool) → FitsWord (node_function self.now.node.now) (waits_at self.now.waits) self.now.form.now (a ∷ b ∷ c ∷ []) }
-    {
-        self.fits_last(a, false) && self.fits_last(a, true)
-    }
-
-    /// Whether they do at each word of three bits.
-    fn fits_three(&self) -> bool
-        requires { IsForm 3 self.now.form.now }
-        ensures { result ≡ true → (a b c : Bool) → FitsWord (node_function self.now.node.now) (waits_at self.now.waits) self.now.form.now (a ∷ b ∷ c ∷ []) }
-    {
-        self.fits_middle(false) && self.fits_middle(true)
-    }
-
-    /// Whether they do at each word of four bits that begins with these.
-    fn fits_fourth(&self, a: bool, b: bool, c: bool) -> bool
-        requires { IsForm 4 self.now.form.now }
-        ensures { result ≡ true → (d : Bool) → FitsWord (node_function self.now.node.now) (waits_at self.now.waits) self.now.form.now (a ∷ b ∷ c ∷ d ∷ []) }
-    {
-        self.fits_word(&[a, b, c, false]) && self.fits_word(&[a, b, c, true])
-    }
-
-    /// Whether they do at each word of four bits that begins with these.
-    fn fits_half(&self, a: bool, b: bool) -> bool
-        requires { IsForm 4 self.now.form.now }
-        ensures { result ≡ true → (c d : Bool) → FitsWord (node_function self.now.node.now) (waits_at self.now.waits) self.now.form.now (a ∷ b ∷ c ∷ d ∷ []) }
-    {
-        self.fits_fourth(a, b, false) && self.fits_fourth(a, b, true)
-    }
-
-    /// Whether they do at each word of four bits that begins with this one.
-    fn fits_rest(&self, a: bool) -> bool
-        requires { IsForm 4 self.now.form.now }
-        ensures { result ≡ true → (b c d : Bool) → FitsWord (node_function self.now.node.now) (waits_at self.now.waits) self.now.form.now (a ∷ b ∷ c ∷ d ∷ []) }
-    {
-        self.fits_half(a, false) && self.fits_half(a, true)
-    }
-
-    /// Whether they do at each word of four bits.
-    fn fits_four(&self) -> bool
-        requires { IsForm 4 self.now.form.now }
-        ensures { result ≡ true → (a b c d : Bool) → FitsWord (node_function self.now.node.now) (waits_at self.now.waits) self.now.form.now (a ∷ b ∷ c ∷ d ∷ []) }
-    {
-        self.fits_rest(false) && self.fits_rest(true)
-    }
+/// Whether at a word the rails of a form show the bit of a node, and wait.
+fn fits_word(form: &Form, node: &Node, waits: Waits, word: &[bool]) -> bool
+    requires { IsForm (length word.now) form.now }
+    ensures { result ≡ true → FitsWord (node_function node.now) (waits_at waits) form.now word.now }
+{
+    let bit = node_bit(node, word);
+    let inner = form.inner.as_slice();
+    fits_at(!bit, waits, inner, &form.zero, word) && fits_at(bit, waits, inner, &form.one, word)
 }
 
 /// Whether the gates of a form show the function of a node of two to four inputs, and wait for these: they are tried
@@ -176,27 +94,17 @@ pub(crate) fn fits(form: &Form, node: &Node, waits: Waits) -> bool
     if !is_form(form, inputs) {
         return false;
     }
-    let tried = Tried { form, node, waits };
-    if inputs == 2 {
-        return tried.fits_two();
-    }
-    if inputs == 3 {
-        return tried.fits_three();
-    }
-    tried.fits_four()
-}
-
-/// The table of a node of at most four inputs: bit w of it is the value at the word w, and bit k of w is input k.
-fn node_table(node: &Node) -> u16 {
-    let inputs = node.ins.items().len().min(4);
-    let mut table = 0u16;
-    for word in 0..16u32 {
-        let bits = [word & 1 == 1, word & 2 == 2, word & 4 == 4, word & 8 == 8];
-        if node_bit(node, &bits[..inputs]) {
-            table |= 1u16 << word;
+    for number in 0..1u32 << inputs {
+        if !fits_word(form, node, waits, &word_of(number)[..inputs]) {
+            return false;
         }
     }
-    table
+    true
+}
+
+/// The table of a node of at most four inputs.
+fn node_table(node: &Node) -> u16 {
+    cover_table(node.on, node.rows.items(), &INPUTS)
 }
 
 /// The first gates of the table that are of a node and wait for these of its inputs. Only of three inputs has it gates that

@@ -1,5 +1,5 @@
 //! Joint waiting: a node that waits for its first inputs together with the gates of its last.
-ghost use Rattle.std.specs.Prelude.{◌≡◌, ◌<◌, ◌≤◌, ◌∷◌, [], Bool, true, false, All, IfSome, length, map};
+ghost use Rattle.std.specs.Prelude.{◌≡◌, ◌<◌, ◌≤◌, List, [], Bool, true, false, All, IfSome, length, map};
 ghost use Rattle.ncl_template.specs.Template.{node_function};
 ghost use Rattle.ncl_template.specs.Waits.{waits_once};
 ghost use Rattle.ncl_template.specs.Forms.{IsFormPin, IsFormGate, pin_net, IsGateOf};
@@ -9,6 +9,7 @@ use crate::fitting::{fitting, is_gate};
 use crate::form::{Form, FormGate, FormPin, is_set, pin_bit};
 use crate::waits::Waits;
 use arrayvec::ArrayVec;
+use ncl_decomp::table::word_of;
 use ncl_netlist::NetId;
 use ncl_network::{Node, Signal};
 use ncl_shape::{Rails, StageCell};
@@ -146,28 +147,17 @@ impl<'a> Beside<'a> {
         true
     }
 
-    /// Whether it does at each word that begins with these bits.
-    fn waits_last(&self, a: bool, b: bool) -> bool
-        requires { AreJoined self.now.last.now.zero self.now.last.now.one self.now.gate.now }
-        ensures { result ≡ true → (c : Bool) → WaitsJointly self.now.last.now.zero self.now.last.now.one (waits_once self.now.waits) self.now.gate.now (a ∷ b ∷ c ∷ []) }
-    {
-        self.waits_at(&[a, b, false]) && self.waits_at(&[a, b, true])
-    }
-
-    /// Whether it does at each word that begins with this bit.
-    fn waits_middle(&self, a: bool) -> bool
-        requires { AreJoined self.now.last.now.zero self.now.last.now.one self.now.gate.now }
-        ensures { result ≡ true → (b c : Bool) → WaitsJointly self.now.last.now.zero self.now.last.now.one (waits_once self.now.waits) self.now.gate.now (a ∷ b ∷ c ∷ []) }
-    {
-        self.waits_last(a, false) && self.waits_last(a, true)
-    }
-
     /// Whether it does at each word.
     fn waits_always(&self) -> bool
         requires { AreJoined self.now.last.now.zero self.now.last.now.one self.now.gate.now }
-        ensures { result ≡ true → (a b c : Bool) → WaitsJointly self.now.last.now.zero self.now.last.now.one (waits_once self.now.waits) self.now.gate.now (a ∷ b ∷ c ∷ []) }
+        ensures { result ≡ true → (word : List Bool) → length word ≡ 3 → WaitsJointly self.now.last.now.zero self.now.last.now.one (waits_once self.now.waits) self.now.gate.now word }
     {
-        self.waits_middle(false) && self.waits_middle(true)
+        for number in 0..8 {
+            if !self.waits_at(&word_of(number)[..3]) {
+                return false;
+            }
+        }
+        true
     }
 }
 
@@ -175,8 +165,8 @@ impl<'a> Beside<'a> {
 fn wait_beside(form: &Form, last: &Last, waits: Waits) -> bool
     requires zero { AreJoined last.now.zero last.now.one form.now.zero }
     requires one { AreJoined last.now.zero last.now.one form.now.one }
-    ensures zero { result ≡ true → (a b c : Bool) → WaitsJointly last.now.zero last.now.one (waits_once waits) form.now.zero (a ∷ b ∷ c ∷ []) }
-    ensures one { result ≡ true → (a b c : Bool) → WaitsJointly last.now.zero last.now.one (waits_once waits) form.now.one (a ∷ b ∷ c ∷ []) }
+    ensures zero { result ≡ true → (word : List Bool) → length word ≡ 3 → WaitsJointly last.now.zero last.now.one (waits_once waits) form.now.zero word }
+    ensures one { result ≡ true → (word : List Bool) → length word ≡ 3 → WaitsJointly last.now.zero last.now.one (waits_once waits) form.now.one word }
 {
     let zero = Beside {
         last,

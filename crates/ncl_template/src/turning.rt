@@ -6,9 +6,7 @@ use crate::form::{Form, FormGate, FormPin, MOST_INNER};
 use crate::pattern::{Pattern, PatternGate};
 use crate::waits::Waits;
 use arrayvec::ArrayVec;
-
-/// The tables of the four inputs.
-const INPUTS: [u16; 4] = [0xAAAA, 0xCCCC, 0xF0F0, 0xFF00];
+use ncl_decomp::table::{cofactor, inverted};
 
 /// The bit of each input in the number of a word.
 const BITS: [u32; 4] = [1, 2, 4, 8];
@@ -22,18 +20,10 @@ pub(crate) struct Turn {
     exchanged: bool,
 }
 
-/// A table with an input inverted.
-fn inverted(table: u16, k: usize) -> u16 {
-    let high = INPUTS[k % 4];
-    let step = [1u32, 2, 4, 8][k % 4];
-    ((table & high) >> step) | ((table & !high) << step)
-}
-
 /// Whether a table falls where an input rises, at some words, and rises at none.
 fn falls(table: u16, k: usize) -> bool {
-    let high = INPUTS[k % 4];
-    let before = table & !high;
-    let after = inverted(table, k) & !high;
+    let before = cofactor(table, k, false);
+    let after = cofactor(table, k, true);
     before & !after != 0 && after & !before == 0
 }
 

@@ -1,12 +1,14 @@
-use Rattle.std.proofs.Common.{Bool}
-use Rattle.std.proofs.lemmas.Result.{on_ok_weaker}
-use Rattle.ncl_base.proofs.Tests.{of_both}
+use borrow.Author.Count.{below_more}
+use Rattle.std.proofs.Common.{subst, arith}
+use Rattle.ncl_decomp.specs.Words.{word_of}
 use Rattle.ncl_cells.specs.Cones.{ComputesAt}
 use Rattle.ncl_cells.proofs.Cones.{Computes-all}
 use Rattle.ncl_cells.proofs.evaluating.test.Goals as goal
 
+pub loop-number-preserved : goal.loop-number-preserved
+loop-number-preserved c =
+    let P = ComputesAt c.args.nodes.now c.args.place c.args.choice.now.leaves c.args.choice.now.plan in
+    below_more (λ n. P (word_of 4 n)) c.loop-number.number c.loop-number.invariant (subst P c.word_of.ensures c.in_ok-test_word.ensures)
+
 pub returns : goal.returns
-returns c =
-    on_ok_weaker c.test_eight-2.result
-    (λ high. Computes-all c.args.nodes.now c.args.place c.args.choice.now.leaves c.args.choice.now.plan (of_both (λ first. (second third d : Bool) → ComputesAt c.args.nodes.now c.args.place c.args.choice.now.leaves c.args.choice.now.plan first second third d) c.in_ok-test_eight.ensures high))
-    c.test_eight-2.ensures
+returns c = Computes-all c.args.nodes.now c.args.place c.args.choice.now.leaves c.args.choice.now.plan (λ n below. c.loop-number.invariant n (omega (arith, below)))

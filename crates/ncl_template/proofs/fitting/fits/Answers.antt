@@ -1,28 +1,28 @@
-use Rattle.std.proofs.Common.{◌≡◌, ℕ, length, ap, subst, arith}
-use Rattle.ncl_template.specs.declared.form.Form.{Form}
+use borrow.Author.Count.{below_more}
+use Rattle.std.proofs.Common.{◌≡◌, length, take, sym, ap, subst, arith}
+use Rattle.std.proofs.lemmas.Nat.{one_shl}
+use Rattle.ncl_decomp.specs.Words.{word_of}
+use Rattle.ncl_decomp.proofs.EachWord.{at_each_first}
 use Rattle.ncl_template.specs.Template.{node_function}
 use Rattle.ncl_template.specs.Waits.{waits_at}
-use Rattle.ncl_template.specs.Forms.{IsForm}
-use Rattle.ncl_template.proofs.FormLaws.{fits_of_two, fits_of_three, fits_of_four}
+use Rattle.ncl_template.specs.Forms.{IsForm, FitsWord, Fits}
 use Rattle.ncl_template.proofs.fitting.fits.Goals as goal
 
-four : (n : ℕ) (form : Form) → IsForm n form → (n ≡ 2 → ⊥) → (n ≡ 3 → ⊥) → IsForm 4 form
-four n form is not_two not_three = subst (λ n. IsForm n form) (omega (arith, is.some, is.few, not_two, not_three)) is
-
-pub fits_four-requires : goal.fits_four-requires
-fits_four-requires c = four _ c.args.form.now (c.is_form.ensures c.if-not-is_form.false) c.if-inputs-eq2.false c.if-inputs-eq3.false
-
-pub returns-then-inputs-eq2 : goal.returns-then-inputs-eq2
-returns-then-inputs-eq2 c =
-    let is : IsForm (length c.args.node.now.ins) c.args.form.now = subst (λ n. IsForm n c.args.form.now) (ap length c.items-inputs.ensures) (c.is_form.ensures c.if-not-is_form.false) in
-    λ yes. fits_of_two (node_function c.args.node.now) (waits_at c.args.waits) c.args.form.now (length c.args.node.now.ins) is (omega (arith, c.if-inputs-eq2.true, ap length c.items-inputs.ensures)) (c.fits_two.ensures yes)
-
-pub returns-then-inputs-eq3 : goal.returns-then-inputs-eq3
-returns-then-inputs-eq3 c =
-    let is : IsForm (length c.args.node.now.ins) c.args.form.now = subst (λ n. IsForm n c.args.form.now) (ap length c.items-inputs.ensures) (c.is_form.ensures c.if-not-is_form.false) in
-    λ yes. fits_of_three (node_function c.args.node.now) (waits_at c.args.waits) c.args.form.now (length c.args.node.now.ins) is (omega (arith, c.if-inputs-eq3.true, ap length c.items-inputs.ensures)) (c.fits_three.ensures yes)
+pub loop-number-preserved : goal.loop-number-preserved
+loop-number-preserved c =
+    let P = FitsWord (node_function c.args.node.now) (waits_at c.args.waits) c.args.form.now in
+    below_more (λ n. P (take (length c.args.node.now.ins) (word_of 4 n))) c.loop-number.number c.loop-number.invariant
+    (subst (λ ins. P (take (length ins) (word_of 4 c.loop-number.number))) c.items-inputs.ensures
+    (subst (λ word. P (take (length c.items-inputs.result.now) word)) c.word_of.ensures (c.fits_word.ensures c.if-not-fits_word.false)))
 
 pub returns : goal.returns
-returns c =
-    let is : IsForm (length c.args.node.now.ins) c.args.form.now = subst (λ n. IsForm n c.args.form.now) (ap length c.items-inputs.ensures) (c.is_form.ensures c.if-not-is_form.false) in
-    λ yes. fits_of_four (node_function c.args.node.now) (waits_at c.args.waits) c.args.form.now (length c.args.node.now.ins) is (omega (arith, is.some, is.few, c.if-inputs-eq2.false, c.if-inputs-eq3.false, ap length c.items-inputs.ensures)) (c.fits_four.ensures yes)
+returns c = λ yes.
+    let inputs = length c.items-inputs.result.now in
+    let same : inputs ≡ length c.args.node.now.ins = ap length c.items-inputs.ensures in
+    let is : IsForm inputs c.args.form.now = c.is_form.ensures c.if-not-is_form.false in
+    let function = node_function c.args.node.now in
+    let waits = waits_at c.args.waits in
+    subst (λ n. Fits function n waits c.args.form.now) same (record {
+      is = is;
+      at = at_each_first inputs 4 (FitsWord function waits c.args.form.now) is.few (λ k below. subst (λ n. FitsWord function waits c.args.form.now (take n (word_of 4 k))) (sym same) (c.loop-number.invariant k (omega (arith, below, one_shl inputs 32 (omega (arith, is.few))))));
+    })

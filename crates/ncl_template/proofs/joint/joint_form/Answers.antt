@@ -2,12 +2,10 @@ use Rattle.std.proofs.Common.{◌≡◌, ℕ, List, take, length, sym, subst, �
 use Rattle.std.proofs.lemmas.Bool.{eqb-true}
 use Rattle.std.proofs.lemmas.List.{length-take-le}
 use Rattle.ncl_shape.specs.declared.rails.Rails.{Rails}
-use Rattle.ncl_gates.proofs.GateLaws.{of_three}
 use Rattle.ncl_template.specs.declared.form.FormGate.{FormGate}
 use Rattle.ncl_template.specs.Forms.{IsFormGate, IsBehind, Fits}
-use Rattle.ncl_template.specs.Joint.{WaitsJointly}
 use Rattle.ncl_template.specs.Template.{node_function}
-use Rattle.ncl_template.specs.Waits.{waits_at, waits_once, no_inputs}
+use Rattle.ncl_template.specs.Waits.{waits_at, no_inputs}
 use Rattle.ncl_template.proofs.joint.joint_form.Goals as goal
 
 -- the first three of four
@@ -48,6 +46,6 @@ returns-then-wait_beside c =
       zero = low;
       one = high;
       last = record { of_zero = c.in_ok-zero.ensures; of_one = c.in_ok-one.ensures };
-      of_zero = of_three (WaitsJointly low high (waits_once c.args.waits) form.zero) (c.wait_beside.ensures.zero c.if-wait_beside.true);
-      of_one = of_three (WaitsJointly low high (waits_once c.args.waits) form.one) (c.wait_beside.ensures.one c.if-wait_beside.true);
+      of_zero = c.wait_beside.ensures.zero c.if-wait_beside.true;
+      of_one = c.wait_beside.ensures.one c.if-wait_beside.true;
     }

@@ -1,8 +1,16 @@
-use Rattle.std.proofs.Common.{Bool, [], ◌∷◌}
-use Rattle.ncl_base.proofs.Tests.{of_both}
+use borrow.Author.Count.{below_more}
+use Rattle.std.proofs.Common.{take, subst, arith}
+use Rattle.ncl_decomp.specs.Words.{word_of}
+use Rattle.ncl_decomp.proofs.EachWord.{at_each_first}
 use Rattle.ncl_template.specs.Waits.{waits_once}
 use Rattle.ncl_template.specs.Joint.{WaitsJointly}
 use Rattle.ncl_template.proofs.joint.Beside.waits_always.Goals as goal
 
-pub returns-then-waits_middle : goal.returns-then-waits_middle
-returns-then-waits_middle c = λ yes. of_both (λ a. (b last : Bool) → WaitsJointly c.args.self.now.last.now.zero c.args.self.now.last.now.one (waits_once c.args.self.now.waits) c.args.self.now.gate.now (a ∷ b ∷ last ∷ [])) (c.waits_middle.ensures c.if-waits_middle.true) (c.waits_middle-then-waits_middle.ensures yes)
+pub loop-number-preserved : goal.loop-number-preserved
+loop-number-preserved c =
+    let P = WaitsJointly c.args.self.now.last.now.zero c.args.self.now.last.now.one (waits_once c.args.self.now.waits) c.args.self.now.gate.now in
+    below_more (λ n. P (take 3 (word_of 4 n))) c.loop-number.number c.loop-number.invariant (subst (λ word. P (take 3 word)) c.word_of.ensures (c.waits_at.ensures c.if-not-waits_at.false))
+
+pub returns : goal.returns
+returns c = λ yes.
+    at_each_first 3 4 (WaitsJointly c.args.self.now.last.now.zero c.args.self.now.last.now.one (waits_once c.args.self.now.waits) c.args.self.now.gate.now) (omega arith) (λ n below. c.loop-number.invariant n (omega (arith, below)))

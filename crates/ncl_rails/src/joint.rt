@@ -3,11 +3,9 @@
 use ncl_base::{Items, Memory};
 use ncl_blif::{Lit, Row};
 use ncl_cells::Leaves;
+use ncl_decomp::table::{cofactor, depends, inverted};
 use ncl_network::{Node, Signal, SignalSource};
 use std::alloc::Global;
-
-/// The tables of the four inputs of a function: bit w of a table is the value at the word w, and bit k of w is input k.
-const INPUTS: [u16; 4] = [0xAAAA, 0xCCCC, 0xF0F0, 0xFF00];
 
 /// What stands where there is no source.
 const NONE: SignalSource = SignalSource::Const(false);
@@ -81,9 +79,8 @@ enum Way {
 
 /// How the function of a table changes where an input rises.
 fn way_of(table: u16, k: usize) -> Way {
-    let step = [1u32, 2, 4, 8][k % 4];
-    let before = table & !INPUTS[k % 4];
-    let after = (table & INPUTS[k % 4]) >> step;
+    let before = cofactor(table, k, false);
+    let after = cofactor(table, k, true);
     if before == after {
         Way::Stays
     } else if before & !after == 0 {
@@ -95,18 +92,10 @@ fn way_of(table: u16, k: usize) -> Way {
     }
 }
 
-/// A table with an input inverted.
-pub(crate) fn inverted(table: u16, k: usize) -> u16 {
-    let step = [1u32, 2, 4, 8][k % 4];
-    let before = table & !INPUTS[k % 4];
-    let after = table & INPUTS[k % 4];
-    (before << step) | (after >> step)
-}
-
 /// Whether the function of a table depends on as many of its first inputs.
 pub(crate) fn depends_on(table: u16, count: usize) -> bool {
     for k in 0..count.min(4) {
-        if way_of(table, k) == Way::Stays {
+        if !depends(table, k) {
             return false;
         }
     }

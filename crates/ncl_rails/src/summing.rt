@@ -1,11 +1,12 @@
 //! Sums beside the carries of their bits: the two nodes of a full adder.
 
 use crate::joiner::{Joiner, Pair, State};
-use crate::joint::{Sources, inverted, node_of};
+use crate::joint::{Sources, node_of};
 use crate::relaxing::Holders;
 use crate::timing::Timing;
 use ncl_base::Memory;
 use ncl_cells::{Leaves, table_over};
+use ncl_decomp::table::inverted;
 use ncl_network::{Network, Node, Signal, SignalSource};
 use ncl_template::{Waits, least_waits, waits_with_last};
 use std::alloc::Global;

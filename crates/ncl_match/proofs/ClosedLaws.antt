@@ -1,33 +1,7 @@
 -- The closure of a pipeline, cell by cell: what a gate of a stage and a register cell drive is what they make of
 -- what they read, and the rails of the inputs are as the word names them. Stages need not be sound.
-use Rattle.std.proofs.Common.{◌≡◌, ◌≢◌, ℕ, zero, suc, ◌<◌, ◌≤◌, Bool, true, false, List, [], ◌∷◌, length, map, get_or, inl, inr, refl, sym, ap, ◌∙◌, subst, arith}
-use Rattle.std.specs.Prelude.{AllPairs}
-use Rattle.ncl_base.proofs.Members.{Member, here, there, Contains-from_slice_get, Contains-from_Member, Member-from_Contains, slice_get-from_Contains, Member-append_left, Member-append_right, Member-map}
-use Rattle.ncl_base.proofs.Lists.{pairs-head, pairs-tail}
-use Rattle.ncl_base.proofs.Tests.{same_from_both}
-use Rattle.ncl_gates.specs.Gate.{set_of}
-use Rattle.ncl_gates.proofs.RegisterLaws.{at_register}
-use Rattle.ncl_netlist.specs.declared.cell.Cell.{Cell}
-use Rattle.ncl_cell_rules.specs.Origin.{CellAt}
-use Rattle.ncl_shape.specs.declared.rails.Rails.{Rails}
-use Rattle.ncl_shape.specs.declared.stage.StageCell.{StageCell}
-use Rattle.ncl_shape.specs.Nets.{Nets, among}
-use Rattle.ncl_shape.specs.Stage.{named_rails, rail_nets, rail_of, out_of}
-use Rattle.ncl_shape.specs.Closure.{net_of, passes, passes_on, pin_values, first_pin}
-use Rattle.ncl_shape.specs.Pipeline.{PipelineData}
-use Rattle.ncl_shape.proofs.Rounds.{rounds-keep, rounds-settled, rounds-support}
-use Rattle.ncl_shape.proofs.ClosureLaws.{passes-monotone}
-use Rattle.ncl_shape.proofs.PinLaws.{first_pin-is}
-use Rattle.ncl_cell_roles.specs.Layout.{Layout, IsLayoutOf, Part, of_stage, of_bank, of_tree, in_rail, out_rail, width, stage_nets, rail_at, no_rails}
-use Rattle.ncl_cell_roles.proofs.RailNets.{rail-within}
-use Rattle.ncl_space.specs.Functions.{is_value}
-use Rattle.ncl_faults.proofs.Apart.{named-within}
-use Rattle.ncl_stage.proofs.NetLaws.{left-differ, named-at}
-use Rattle.ncl_faults.proofs.ValueLaws.{rail-no_output, same_output}
-use Rattle.ncl_match.specs.Circuit.{closed, circuit_of}
-
-abbrev AllDiffer : List ℕ → Type 0
-AllDiffer nets = AllPairs (λ x y. x ≢ y) nets
+pub use Rattle.ncl_match.proofs.Terms.{AllPairs, Bool, Cell, CellAt, Contains-from_Member, Contains-from_slice_get, IsLayoutOf, Layout, List, Member, Member-append_left, Member-append_right, Member-from_Contains, Member-get_or, Member-map, Nets, Part, PipelineData, Rails, StageCell, [], among, ap, arith, at_register, circuit_of, closed, false, first_pin, first_pin-is, get_or, here, in_rail, inl, inr, is_value, left-differ, length, map, named-at, named-within, named_rails, net_of, no_rails, of_bank, of_stage, of_tree, out_of, out_rail, pairs-head, pairs-tail, passes, passes-monotone, passes_on, pin_values, rail-no_output, rail-within, rail_at, rail_nets, rail_of, refl, rounds-keep, rounds-settled, rounds-support, same_from_both, same_output, set_of, slice_get-from_Contains, stage_nets, subst, suc, sym, there, true, width, zero, ℕ, ◌<◌, ◌∙◌, ◌∷◌, ◌≡◌, ◌≢◌, ◌≤◌}
+use Rattle.ncl_match.proofs.PlannedLaws.{AllDiffer}
 
 -- a rail tells its bit and its value
 pub rails-once : (bits : List Rails) → AllDiffer (rail_nets bits) → (i j : ℕ) (r q : Bool) → i < length bits → j < length bits → rail_at bits i r ≡ rail_at bits j q → (i ≡ j) × (r ≡ q)

@@ -1,27 +1,13 @@
+mod Terms
 pub mod PairLaws
-pub mod TurnLaws
-pub mod CoverLaws
-pub mod OrderLaws
-pub mod RunLaws
 pub mod AnswerLaws
 pub mod ClosedLaws
-pub mod GatherLaws
-pub mod FindLaws
-pub mod MarkLaws
-pub mod NetLaws
-pub mod Filling
-pub mod PlanSteps
-mod Before
 pub mod BitLaws
-pub mod SideLaws
-pub mod WiredLaws
+pub mod MarkLaws
+pub mod PlanSteps
 pub mod PlannedLaws
 pub mod PlanLaws
-pub mod ReachLaws
-pub mod InputLaws
 pub mod NetlistLaws
-pub mod NeededLaws
-pub mod StepLaws
 pub mod SignalLaws
-pub mod NumberLaws
+pub mod StepLaws
 pub mod ModelLaws

@@ -1,14 +1,19 @@
--- Which nets are marked, one cell further; and in the end exactly those from which the root is reached.
-use Rattle.std.proofs.Common.{◌≡◌, ℕ, zero, suc, ◌+◌, Bool, true, false, ◌||◌, List, [], ◌∷◌, length, replicate, Some, refl, sym, ap, ◌∙◌, subst, arith, ⊎_elim, nat_eq}
-use Rattle.std.specs.Prelude.{slice_get}
-use Rattle.std.proofs.lemmas.Bool.{eqb-true, or_left, or_right, or_cases, false≢true, cases_eq}
-use Rattle.std.proofs.lemmas.Bool.Decides.{nat_tests}
-use Rattle.std.proofs.lemmas.Option.{same_Some, slice_get_within}
-use Rattle.ncl_netlist.specs.declared.ids.NetId.{NetId}
-use Rattle.ncl_match.specs.declared.planning.DataCell.{DataCell}
-use Rattle.ncl_match.specs.Plan.{is_on, is_marked, Reaches, itself, reads, IsOrdered, AreMarks}
+-- Which nets are marked, one place further and in the end.
+pub use Rattle.ncl_match.proofs.Terms.{AreMarks, Bool, DataCell, IsOrdered, List, NetId, Reaches, Some, [], ap, arith, cases_eq, eqb-true, false, false≢true, get_or, is_marked, is_on, itself, length, nat_eq, nat_tests, or_cases, or_left, or_right, reads, refl, replicate, same_Some, slice_get, slice_get_read, slice_get_within, subst, suc, sym, true, zero, ℕ, ⊎_elim, ◌+◌, ◌-◌, ◌<◌, ◌||◌, ◌∙◌, ◌∷◌, ◌≡◌, ◌≤◌}
 
-none_marked : (n net : ℕ) → is_marked (replicate n false) net ≡ false
+-- ---- the member before a place of a list that is walked from its end
+
+-- it is there, and what holds at the place holds after it
+pub member-before : {X : Type 0} (xs : List X) (place : ℕ) (x : X) (Holds : ℕ → Type 0) → place ≤ length xs → 0 < place → x ≡ get_or xs (place - 1) x → Holds place → (slice_get xs (place - 1) ≡ Some x) × Holds (place - 1 + 1)
+member-before xs place x Holds most some is holds =
+    (slice_get_read xs (length xs) (place - 1) x refl (omega (arith, most, some)) is, subst Holds (omega (arith, some)) holds)
+
+-- ---- which nets are marked, one cell further; and in the end exactly those from which the root is reached
+
+pub own-number : (n : ℕ) → nat_eq n n ≡ true
+own-number n = grind (arith, nat_tests)
+
+pub none_marked : (n net : ℕ) → is_marked (replicate n false) net ≡ false
 none_marked zero net = refl
 none_marked (suc n) zero = refl
 none_marked (suc n) (suc net) = none_marked n net
@@ -20,14 +25,11 @@ marks-root plan nets root old marks fresh many marked =
     λ net. marked net ∙ ap (λ b. b || is_on (root ∷ []) net) (ap (λ l. is_marked l net) fresh ∙ none_marked nets net) in
     record {
       many = many;
-      root_too = exact root.0 ∙ or_left (nat_eq root.0 root.0) false (own root.0);
+      root_too = exact root.0 ∙ or_left (nat_eq root.0 root.0) false (own-number root.0);
       reads = λ k e net late at mark on. let within = slice_get_within plan k e at in absurd (omega (arith, within, late));
       reach = λ net mark. subst (Reaches plan root.0) (one net (sym (exact net) ∙ mark)) itself;
     }
   where
-    own : (n : ℕ) → nat_eq n n ≡ true
-    own n = grind (arith, nat_tests)
-
     one : (net : ℕ) → is_on (root ∷ []) net ≡ true → root.0 ≡ net
     one net e = ⊎_elim (λ h. eqb-true root.0 net h) (λ h. absurd (false≢true h)) (or_cases (nat_eq root.0 net) false e)
 

@@ -1,48 +1,11 @@
 -- The functions of the signals that count for an output: they are listed, and their tables are held once all are made.
-use Rattle.std.proofs.Common.{◌≡◌, ℕ, zero, suc, ◌+◌, ◌<◌, ◌≤◌, Bool, true, false, List, [], ◌∷◌, length, map, get_or, take, drop, Option, Some, None, if◌then◌else◌, refl, sym, ap, ◌∙◌, subst, arith, ⊎_elim}
-use Rattle.std.specs.Prelude.{All, Contains, slice_get}
-use Rattle.std.specs.List.{list_any, range_with_len}
-use Rattle.std.proofs.lemmas.Bool.{cases_lt, false≢true}
-use Rattle.std.proofs.lemmas.List.{get_or_past, get_or_default, get_or-take, length-take}
-use Rattle.std.proofs.lemmas.List.Elements.{All-append, All-contains, All-head, All-nil, All-tail, recursion_from_All}
-use Rattle.std.proofs.lemmas.Option.{same_Some, slice_get_within}
-use Rattle.ncl_base.proofs.Growing.{cut_at}
-use Rattle.ncl_base.proofs.Members.{Contains-from_slice_get, slice_get-some}
-use Rattle.ncl_base.proofs.Tests.{All-left, All-right}
-use Rattle.ncl_blif.specs.declared.model.Cover.{Cover}
-use Rattle.ncl_blif.specs.declared.model.Lit.{Lit}
-use Rattle.ncl_blif.specs.declared.model.Model.{Model}
-use Rattle.ncl_blif.specs.Meaning.{Fits, row_matches, width_of}
-use Rattle.ncl_blif.specs.Model.{IsModel, AreModels, signals_of}
-use Rattle.ncl_blif.proofs.Composing.{computes_one}
-use Rattle.ncl_blif.proofs.Fitting.{fits_agree, map-agree_on}
-use Rattle.ncl_space.specs.Space.{SpaceData, IsSpace, Keeps, with_tables, fits}
-use Rattle.ncl_space.specs.Table.{words, table_of}
-use Rattle.ncl_space.proofs.TableLaws.{table_of-same}
-use Rattle.ncl_match.specs.Circuit.{Circuit}
-use Rattle.ncl_match.specs.Counting.{SignalCounts, is_output, by_cover, by_position}
-use Rattle.ncl_match.specs.Covers.{row_function, rows_function, row_tables, turn_tables, cover_tables}
-use Rattle.ncl_match.specs.declared.pair.Pair.{Pair}
-use Rattle.ncl_match.specs.declared.steps.Step.{Step}
-use Rattle.ncl_match.specs.Gathering.{AreHeld, IsHeld, Gathers, Overflows}
-use Rattle.ncl_match.specs.Inputs.{bit_function}
-use Rattle.ncl_match.specs.Listed.{Assigns, IsListed, IsSignal}
-use Rattle.ncl_match.specs.Listed as listed
-use Rattle.ncl_match.specs.Needed.{AreNeeded}
-use Rattle.ncl_match.specs.Pairs.{WordFunction, HasFunction, both_tables, inverse, values_of}
-use Rattle.ncl_match.specs.Plan.{pair_at}
-use Rattle.ncl_match.specs.Sides.{HasSignal, HoldsSignals}
-use Rattle.ncl_match.specs.Signals.{first_tables, functions_read, tables_of_step, step_tables, HaveBits, HaveSignals, HaveSteps}
-use Rattle.ncl_match.specs.Answer.{outputs_of}
-use Rattle.ncl_match.specs.Steps.{bit_at, signal_function, AreInRow, AreOrdered, HasStep, AreNumbered}
-use Rattle.ncl_match.specs.Turns.{gathered}
-use Rattle.ncl_match.proofs.StepLaws.{outs_many}
-use Rattle.ncl_match.proofs.GatherLaws.{gathers-more, overflows-after}
+pub use Rattle.ncl_match.proofs.Terms.{All, All-append, All-contains, All-head, All-left, All-nil, All-right, All-tail, AreHeld, AreInRow, AreModels, AreNeeded, AreNumbered, AreOrdered, Assigns, Bool, Circuit, Contains, Contains-from_slice_get, Cover, Err, Fits, Gathers, HasFunction, HasSignal, HasStep, HaveBits, HaveSignals, HaveSteps, HoldsSignals, IsHeld, IsListed, IsModel, IsSignal, IsSpace, Keeps, List, Lit, Model, None, Option, Overflows, Pair, SignalCounts, Some, SpaceData, Step, WordFunction, [], ap, arith, bit_at, bit_function, both_tables, by_cover, by_position, cases_lt, computes_one, cover_tables, cut_at, drop, false, false≢true, first_tables, fits, fits_agree, functions_read, gathered, get_or, get_or-take, get_or_default, get_or_past, handed_on, if◌then◌else◌, inverse, is_output, length, length-take, list_any, map, map-agree_on, outputs_of, pair_at, range_with_len, recursion_from_All, refl, row_function, row_matches, row_tables, rows_function, rules, same_Some, signal_function, signals_of, slice_get, slice_get-some, slice_get_within, step_tables, subst, subst₂, suc, sym, table_of, table_of-same, tables_of_step, take, true, turn_tables, values_of, width_of, with_tables, words, zero, ℕ, ⊎_elim, ◌+◌, ◌<◌, ◌∙◌, ◌∷◌, ◌≡◌, ◌≤◌}
+pub use Rattle.ncl_match.proofs.StepLaws.{outputs_size, outs_many}
+use Rattle.ncl_match.proofs.BitLaws.{both-listed, gathers-more, made-held, overflows-after, same-held}
 use Rattle.ncl_match.proofs.NetlistLaws.{gathered-all, has-held}
-use Rattle.ncl_match.proofs.NumberLaws.{bits_of, bits-map, value_of, number, at_place, model_at, assigns_at, IsCounted, input, driven, HasRoot, has_root, needed-counted, counted-marked}
+use Rattle.ncl_match.proofs.SignalLaws.{HasRoot, IsCounted, assigns_at, at_place, bit-function, bits-front, bits-map, bits_of, counted-marked, driven, has_root, input, model_at, needed-counted, number, value_of, values-map}
 use Rattle.ncl_match.proofs.PairLaws.{same-function}
-use Rattle.ncl_match.proofs.SideLaws.{both-listed, made-held, same-held}
-use Rattle.ncl_match.proofs.SignalLaws.{bit-function, bits-front, values-map}
+use Rattle.ncl_match.specs.Listed as listed
 
 -- ---- tables that were made are held
 

@@ -1,46 +1,12 @@
 -- The functions of the nets that count for an output: they are listed, and their tables are held once all are made.
-use Rattle.std.proofs.Common.{◌≡◌, ℕ, zero, suc, ◌<◌, Bool, true, false, not, List, [], ◌∷◌, length, map, get_or, Option, Some, None, if◌then◌else◌, inl, inr, refl, sym, ◌∙◌, subst, arith, rules}
-use Rattle.std.specs.Prelude.{All, AllPairs, Contains, Result, Ok, Err, IsErrAnd, slice_get, ◌≢◌}
-use Rattle.std.proofs.lemmas.Bool.{or_cases, or_left, or_right}
-use Rattle.std.proofs.lemmas.List.Elements.{All-append, All-cons, All-nil}
-use Rattle.ncl_base.proofs.Members.{Member, here, there, All-from_members, Member-append_left, Member-from_Contains}
-use Rattle.ncl_blif.specs.declared.model.Model.{Model}
-use Rattle.ncl_shape.specs.declared.rails.Rails.{Rails}
-use Rattle.ncl_shape.specs.Nets.{Nets}
-use Rattle.ncl_shape.specs.Stage.{out_of, rail_nets, rail_of}
-use Rattle.ncl_shape.specs.Pipeline.{PipelineData}
-use Rattle.ncl_cell_roles.specs.Layout.{Layout, IsLayoutOf, no_rails, rail_at}
-use Rattle.ncl_cell_roles.proofs.RailNets.{rail-place}
-use Rattle.ncl_space.specs.Functions.{is_value}
-use Rattle.ncl_space.specs.Space.{SpaceData, IsSpace, Keeps, fits, with_tables}
-use Rattle.ncl_space.specs.Table.{words, table_of}
-use Rattle.ncl_space.specs.declared.space.SpaceFault.{SpaceFault}
+pub use Rattle.ncl_match.proofs.Terms.{All, All-append, All-cons, All-from_members, All-nil, AllPairs, AreDone, AreHeld, AreMarksFor, Bool, Circuit, Contains, DataCell, Err, FitPins, Gathers, HasFunction, HasRail, HaveInputs, HoldsNets, IsCase, IsErrAnd, IsEvaluated, IsHeld, IsLayoutOf, IsListed, IsOrdered, IsSpace, Keeps, Layout, List, MakesRail, Member, Member-append_left, Member-from_Contains, Model, NetCounts, Nets, None, Ok, Option, Overflows, Pair, PipelineData, Rails, Result, Shape, Some, SpaceData, SpaceFault, WordFunction, [], ap, arith, bit_function, both_tables, cell_tables, circuit_of, closed, complement, false, fits, gathered, get_or, get_or_from_slice_get, handed_on, here, if◌then◌else◌, inl, input_tables, inr, inverse, is_marked, is_needed, is_rail, is_value, laid_out_of, left-differ, length, map, no_rails, not, or_cases, or_left, or_right, out_of, pair_at, plan_of, plan_tables, rail-place, rail_at, rail_nets, rail_of, refl, rules, slice_get, slice_get-get_or, subst, suc, sym, table_of, table_of-same, there, true, with_tables, words, zero, ℕ, ◌<◌, ◌∙◌, ◌∷◌, ◌≡◌, ◌≢◌}
 use Rattle.ncl_space.specs.declared.space.SpaceFault.TheVariants.{Full}
-use Rattle.ncl_space.proofs.MakingLaws.{handed_on}
-use Rattle.ncl_space.proofs.TableLaws.{table_of-same}
-use Rattle.ncl_stage.proofs.NetLaws.{left-differ}
-use Rattle.ncl_match.specs.Circuit.{Circuit, circuit_of, closed}
-use Rattle.ncl_match.specs.Counting.{NetCounts, is_rail}
-use Rattle.ncl_match.specs.declared.pair.Pair.{Pair}
-use Rattle.ncl_match.specs.declared.planning.DataCell.{DataCell}
-use Rattle.ncl_match.specs.Gathering.{AreHeld, Gathers, IsHeld, Overflows}
-use Rattle.ncl_match.specs.Inputs.{HaveInputs, bit_function, input_tables, is_needed}
-use Rattle.ncl_match.specs.Listed.{IsListed, complement}
-use Rattle.ncl_match.specs.Listed as listed
-use Rattle.ncl_match.specs.Making.{MakesRail}
-use Rattle.ncl_match.specs.Pairs.{WordFunction, HasFunction, both_tables, inverse}
-use Rattle.ncl_match.specs.Plan.{IsEvaluated, cell_tables, is_marked, pair_at, plan_tables}
-use Rattle.ncl_match.specs.PlanCase.{AreDone, IsCase}
-use Rattle.ncl_match.specs.Planned.{AreMarksFor, plan_of}
-use Rattle.ncl_match.specs.Sides.{HasRail, HoldsNets}
-use Rattle.ncl_match.specs.Turns.{gathered}
 use Rattle.ncl_match.proofs.ClosedLaws.{at-input}
-use Rattle.ncl_match.proofs.GatherLaws.{gathers-more, overflows-after}
+use Rattle.ncl_match.proofs.BitLaws.{both-listed, gathers-more, not-table, overflows-after}
 use Rattle.ncl_match.proofs.MarkLaws.{reached-marked}
 use Rattle.ncl_match.proofs.PairLaws.{complement-is, same-function}
-use Rattle.ncl_match.proofs.PlanLaws.{plan-evaluated}
-use Rattle.ncl_match.proofs.ReachLaws.{plan-known, plan-reach}
-use Rattle.ncl_match.proofs.SideLaws.{both-listed, not-table}
+pub use Rattle.ncl_match.proofs.PlanLaws.{output-within, plan-evaluated, plan-fits, plan-known, plan-ordered, plan-reach}
+use Rattle.ncl_match.specs.Listed as listed
 
 -- what holds of the tables of each turn holds of all
 pub gathered-all : {X : Type 0} (P : X → Type 0) (turn : ℕ → List X) (n : ℕ) → ((k : ℕ) → k < n → All P (turn k)) → All P (gathered turn n)

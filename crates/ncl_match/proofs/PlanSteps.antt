@@ -1,25 +1,111 @@
--- The functions of the nets of a plan, one cell further.
-use Rattle.std.proofs.Common.{◌≡◌, ◌≢◌, ℕ, suc, ◌+◌, ◌<◌, Bool, true, false, List, [], ◌∷◌, ◌++◌, length, map, get_or, set, Some, if◌then◌else◌, ◌⊎◌, inl, inr, refl, sym, ap, ◌∙◌, subst, arith, nat_eq, get_or-set_other, get_or-set_same}
-use Rattle.std.specs.Prelude.{All, slice_get}
-use Rattle.std.proofs.lemmas.Bool.{cases_eq, false≢true}
-use Rattle.std.proofs.lemmas.Bool.Decides.{nat_tests}
-use Rattle.std.proofs.lemmas.List.Elements.{All-head, All-tail, All-set}
-use Rattle.std.proofs.lemmas.List.{append-nil, length-set}
-use Rattle.ncl_space.proofs.SpaceLaws.{keeps_along, with_none}
-use Rattle.std.proofs.lemmas.List.Folds.{list_any_at}
-use Rattle.std.proofs.lemmas.Option.{same_Some}
-use Rattle.ncl_netlist.specs.declared.ids.NetId.{NetId}
-use Rattle.ncl_shape.specs.Nets.{Nets}
-use Rattle.ncl_space.specs.Space.{SpaceData, IsSpace, Keeps, with_tables, fits}
-use Rattle.ncl_match.specs.declared.pair.Pair.{Pair}
-use Rattle.ncl_match.specs.declared.planning.DataCell.{DataCell}
-use Rattle.ncl_match.specs.Pairs.{WordFunction, IsPair, HasFunction, MakesPair, both_tables, function_at}
-use Rattle.ncl_match.specs.Plan.{is_on, is_marked, made_of, IsKnown, cell_tables, plan_tables, pair_at}
-use Rattle.ncl_match.specs.PlanCase.{IsCase, AreDone}
-use Rattle.ncl_match.specs.Turns.{gathered}
-use Rattle.ncl_match.proofs.Filling.{Filling, filling-begins, filling-passed}
-use Rattle.ncl_match.proofs.PairLaws.{function-is, has-kept, same-function, same-tables, pairs-kept}
-use Rattle.ncl_match.proofs.TurnLaws.{turned-next, too_much-turn}
+-- How the pairs of inputs, and then those of a plan, are made.
+pub use Rattle.ncl_match.proofs.Terms.{All, All-head, All-set, All-tail, AllPairs, AreDone, Bool, DataCell, Err, HasFunction, HaveInputs, IsCase, IsKnown, IsPair, IsSpace, Keeps, List, MakesPair, NetId, Nets, Pair, Rails, Some, SpaceData, WordFunction, [], ap, append-nil, arith, bit_function, both_tables, cases_eq, cell_tables, false, false≢true, fits, function_at, gathered, get_or, get_or-set_other, get_or-set_same, handed_on, if◌then◌else◌, inl, input_tables, inr, inverse, is_marked, is_needed, is_on, is_value, keeps_along, length, length-set, list_any_at, made_of, map, nat_eq, nat_tests, no_rails, pair_at, plan_tables, rail_at, rail_nets, refl, same_Some, set, slice_get, slice_get_read, subst, suc, sym, true, with_none, with_tables, ℕ, ◌++◌, ◌+◌, ◌<◌, ◌∙◌, ◌∷◌, ◌≡◌, ◌≢◌, ◌⊎◌}
+use Rattle.ncl_match.proofs.ClosedLaws.{rails-once}
+use Rattle.ncl_match.proofs.PairLaws.{Filling, Turned, filling-begins, filling-passed, function-is, has-kept, has-swapped, pairs-kept, same-function, same-tables, too_much-turn, turned-next}
+use Rattle.ncl_match.proofs.MarkLaws.{own-number}
+
+-- ---- the functions of the rails of the inputs, one bit further
+
+abbrev no_pair : Pair
+no_pair = record { one = record { place = 0 }; zero = record { place = 0 } }
+
+-- what holds where some bits are done
+abbrev pub InputLoop : SpaceData → SpaceData → List Rails → List Bool → List Pair → List Pair → ℕ → Type 0
+InputLoop old now inputs marks first pairs place =
+    Filling old now first pairs place (length inputs) (HaveInputs old now inputs marks pairs place)
+
+pub inputs-begin : (old : SpaceData) (inputs : List Rails) (marks : List Bool) (pairs : List Pair) → IsSpace old → All (IsPair old) pairs → InputLoop old old inputs marks pairs pairs 0
+inputs-begin old inputs marks pairs space are =
+    filling-begins old pairs (length inputs) (HaveInputs old old inputs marks pairs 0) space are
+    (record { held = sym (with_none old); have = λ b r lt needed. absurd (omega (arith, lt)) })
+
+-- the bits done before are those before the next
+before-next : (place b : ℕ) → b < place + 1 → b ≢ place → b < place
+before-next place b lt differs = omega (arith, lt, differs)
+
+module _ (old now : SpaceData) (inputs : List Rails) (marks : List Bool) (first pairs : List Pair) (place : ℕ) (lt : place < length inputs) (loop : InputLoop old now inputs marks first pairs place) where
+  abbrev rails : Rails
+  rails = get_or inputs place no_rails
+
+  abbrev input_turn : ℕ → List (List Bool)
+  input_turn = input_tables old.width inputs marks
+
+  turned : Turned old now (gathered input_turn place)
+  turned = record { kept = loop.kept; held = loop.done.held }
+
+  -- a bit that isn't needed
+  pub input-passed : is_needed marks rails ≡ false → InputLoop old now inputs marks first pairs (place + 1)
+  input-passed unneeded =
+      filling-passed old now first pairs place (length inputs) (HaveInputs old now inputs marks pairs place) (HaveInputs old now inputs marks pairs (place + 1)) lt
+      (record { held = loop.done.held ∙ ap (with_tables old) (sym (ap (λ l. gathered input_turn place ++ l) none ∙ append-nil (gathered input_turn place)) ∙ ap (gathered input_turn) more); have = have })
+      loop
+    where
+      none : input_turn place ≡ []
+      none = λ i. if unneeded i then both_tables old.width (bit_function place) else []
+
+      more : suc place ≡ place + 1
+      more = omega arith
+
+      have : (b : ℕ) (r : Bool) → b < place + 1 → is_needed marks (get_or inputs b no_rails) ≡ true → HasFunction now (pair_at pairs (rail_at inputs b r)) (λ word. is_value r (bit_function b word))
+      have b r below needed =
+          elim (cases_eq b place) [
+            | inl same ↦ absurd (false≢true (sym unneeded ∙ ap (λ k. is_needed marks (get_or inputs k no_rails)) (sym same) ∙ needed))
+            | inr differs ↦ loop.done.have b r (before-next place b below differs) needed
+          ]
+
+  -- a bit that is needed
+  module _ (needed : is_needed marks rails ≡ true) where
+    own_tables : both_tables old.width (bit_function place) ≡ input_turn place
+    own_tables = λ i. if sym needed i then both_tables old.width (bit_function place) else []
+
+    now_tables : both_tables now.width (bit_function place) ≡ input_turn place
+    now_tables = ap (λ n. both_tables n (bit_function place)) loop.kept.width ∙ own_tables
+
+    pub input-refused : fits now (both_tables now.width (bit_function place)) ≡ false → fits old (gathered input_turn (length inputs)) ≡ false
+    input-refused full = too_much-turn old now input_turn place (length inputs) lt turned (subst (λ ts. fits now ts ≡ false) now_tables full)
+
+    pub input-more : (new : SpaceData) (p q : Pair) → AllPairs (λ x y. x ≢ y) (rail_nets inputs) → rails.zero.0 < length first → rails.one.0 < length first → Keeps now new → q.one ≡ p.zero → q.zero ≡ p.one
+        → MakesPair now new p (bit_function place) (both_tables now.width (bit_function place)) → InputLoop old new inputs marks first (set (set pairs rails.zero.0 q) rails.one.0 p) (place + 1)
+    input-more new p q differ zero_in one_in k one_is zero_is made = record {
+      kept = keeps_along old now new loop.kept k;
+      pairs_too = All-set (IsPair new) (set pairs rails.zero.0 q) rails.one.0 p made.has.pair (All-set (IsPair new) pairs rails.zero.0 q has_not.pair (pairs-kept now new pairs loop.kept.space k loop.pairs_too));
+      many = length-set (set pairs rails.zero.0 q) rails.one.0 p ∙ length-set pairs rails.zero.0 q ∙ loop.many;
+      within = omega (arith, lt);
+      done = record { held = (turned-next old now new input_turn place turned k (made.held ∙ ap (with_tables now) now_tables)).held; have = have };
+    }
+      where
+        has_not : HasFunction new q (inverse (bit_function place))
+        has_not = has-swapped new p q (bit_function place) one_is zero_is made.has
+
+        other_rail : (b : ℕ) (r s : Bool) → b < length inputs → b ≢ place → rail_at inputs b r ≢ rail_at inputs place s
+        other_rail b r s inside differs e = differs (rails-once inputs differ b place r s inside lt e).0
+
+        sides : rails.zero.0 ≢ rails.one.0
+        sides e = false≢true (rails-once inputs differ place place false true lt lt e).1
+
+        own : (r : Bool) → HasFunction new (pair_at (set (set pairs rails.zero.0 q) rails.one.0 p) (rail_at inputs place r)) (λ word. is_value r (bit_function place word))
+        own true =
+            subst (λ x. HasFunction new x (bit_function place)) (sym (get_or-set_same (set pairs rails.zero.0 q) rails.one.0 p no_pair (let many = length-set pairs rails.zero.0 q in let all = loop.many in omega (arith, many, all, one_in)))) made.has
+        own false =
+            subst (λ x. HasFunction new x (inverse (bit_function place)))
+            (sym (get_or-set_other (set pairs rails.zero.0 q) rails.one.0 rails.zero.0 p no_pair sides ∙ get_or-set_same pairs rails.zero.0 q no_pair (let all = loop.many in omega (arith, all, zero_in)))) has_not
+
+        have : (b : ℕ) (r : Bool) → b < place + 1 → is_needed marks (get_or inputs b no_rails) ≡ true → HasFunction new (pair_at (set (set pairs rails.zero.0 q) rails.one.0 p) (rail_at inputs b r)) (λ word. is_value r (bit_function b word))
+        have b r below some =
+            elim (cases_eq b place) [
+              | inl same ↦
+                  subst (λ k. HasFunction new (pair_at (set (set pairs rails.zero.0 q) rails.one.0 p) (rail_at inputs k r)) (λ word. is_value r (bit_function k word))) (sym same) (own r)
+              | inr differs ↦
+                  let before : b < place = before-next place b below differs in
+                  let inside : b < length inputs = omega (arith, before, lt) in
+                  let kept : get_or (set (set pairs rails.zero.0 q) rails.one.0 p) (rail_at inputs b r) no_pair ≡ get_or pairs (rail_at inputs b r) no_pair =
+                  get_or-set_other (set pairs rails.zero.0 q) rails.one.0 (rail_at inputs b r) p no_pair (other_rail b r true inside differs)
+                  ∙ get_or-set_other pairs rails.zero.0 (rail_at inputs b r) q no_pair (other_rail b r false inside differs) in
+                  subst (λ x. HasFunction new x (λ word. is_value r (bit_function b word))) (sym kept)
+                  (has-kept now new (pair_at pairs (rail_at inputs b r)) (λ word. is_value r (bit_function b word)) k (loop.done.have b r before some))
+            ]
+
+-- ---- the functions of the nets of a plan, one cell further
 
 map-same : {X Y : Type 0} (f g : X → Y) (xs : List X) → All (λ x. f x ≡ g x) xs → map f xs ≡ map g xs
 map-same f g [] same = refl
@@ -29,13 +115,7 @@ map-same f g (x ∷ xs) same =
     λ i. first i ∷ rest i
 
 reads-own : (ins : List NetId) (i : ℕ) (d : NetId) → i < length ins → is_on ins (get_or ins i d).0 ≡ true
-reads-own ins i d lt = list_any_at (λ (x : NetId). nat_eq x.0 (get_or ins i d).0) ins i d lt (own (get_or ins i d).0)
-  where
-    own : (n : ℕ) → nat_eq n n ≡ true
-    own n = grind (arith, nat_tests)
-
-abbrev no_pair : Pair
-no_pair = record { one = record { place = 0 }; zero = record { place = 0 } }
+reads-own ins i d lt = list_any_at (λ (x : NetId). nat_eq x.0 (get_or ins i d).0) ins i d lt (own-number (get_or ins i d).0)
 
 module _ (old now : SpaceData) (plan : List DataCell) (marks : List Bool) (first pairs : List Pair) (inputs : List ℕ) (v : List Bool → Nets) (place : ℕ) (cell : DataCell) (at : slice_get plan place ≡ Some cell) (case : IsCase old plan marks first inputs v) (k : Keeps old now) (done : AreDone old now plan marks pairs inputs v place) where
   abbrev turn : ℕ → List (List Bool)

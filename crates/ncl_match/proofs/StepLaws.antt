@@ -1,25 +1,5 @@
 -- The steps of covers, one cover and one model further.
-use Rattle.std.proofs.Common.{◌≡◌, ℕ, zero, suc, ◌+◌, ◌^◌, ◌<◌, ◌≤◌, ◌⊎◌, inl, inr, true, false, cond, ◌==◌, nat_eq, List, [], ◌∷◌, ◌++◌, length, map, get_or, take, Option, Some, refl, sym, ap, ◌∙◌, subst, arith, ⊎_elim, zero-add}
-use Rattle.std.specs.Prelude.{All, Contains, IsSome, slice_get, sum_by}
-use Rattle.std.specs.List.{filter_map, range_with_len}
-use Rattle.std.proofs.lemmas.Bool.{eqb-true, eq-eqb, false≢true, cases_eq}
-use Rattle.std.proofs.lemmas.List.{length-append, length-map, length_push, get_or-map, get_or_push, get_or_append_left, get_or-append-add, get_or-take, get_or_default, length-take, map_push, map_more, take_all, take_more}
-use Rattle.std.proofs.lemmas.List.FromFn.{get_or-range_with_len, length-range_with_len}
-use Rattle.std.proofs.lemmas.List.Elements.{All-cons, All-nil, Contains-push_cases}
-use Rattle.std.proofs.lemmas.List.Sums.{sum_by-cons, sum_by_push}
-use Rattle.std.proofs.lemmas.Map.Keys.{apart_from_distinct}
-use Rattle.std.proofs.lemmas.Option.{same_Some, slice_get-get_or, slice_get_within, get_or_from_slice_get}
-use Rattle.ncl_graph.specs.Graph.{IsOrder}
-use Rattle.ncl_blif.specs.declared.model.Cover.{Cover}
-use Rattle.ncl_blif.specs.declared.model.Model.{Model}
-use Rattle.ncl_blif.specs.Dependence.{driver_place, dependency_graph}
-use Rattle.ncl_blif.specs.Meaning.{width_of}
-use Rattle.ncl_blif.specs.Model.{signals_of, size_of_model, IsModel, AreJoined, AreModels}
-use Rattle.ncl_blif.proofs.Fitting.{outs_differ}
-use Rattle.ncl_network.proofs.CoverOrder.{HoldsOf, covers_few, holds_of_all, length-order, turn_done, turn_holds, turn_within}
-use Rattle.ncl_match.specs.Answer.{outputs_of}
-use Rattle.ncl_match.specs.declared.steps.Step.{Step}
-use Rattle.ncl_match.specs.Steps.{AreInRow, AreOrdered, HasStep, IsNumbered, AreNumbered, Stay, AddsStep, IsOutOf, AreAdded, AddsModel}
+pub use Rattle.ncl_match.proofs.Terms.{AddsModel, AddsStep, All, All-cons, All-nil, AreAdded, AreInRow, AreJoined, AreModels, AreNumbered, AreOrdered, Contains, Contains-push_cases, Cover, HasStep, HoldsOf, IsModel, IsNumbered, IsOrder, IsOutOf, IsSome, List, Model, Option, Some, Stay, Step, [], ap, apart_from_distinct, arith, cases_eq, common_steps, cond, covers_few, dependency_graph, driver_place, eq-eqb, eqb-true, false, false≢true, filter_map, get, get_or, get_or-append-add, get_or-map, get_or-range_with_len, get_or-take, get_or_append_left, get_or_default, get_or_from_slice_get, get_or_push, holds_of_all, inl, inr, length, length-append, length-map, length-order, length-range_with_len, length-take, length_push, map, map_more, map_push, nat_cmp, nat_eq, outputs_of, outs_differ, range_with_len, refl, same_Some, signals_of, size_of_model, slice_get, slice_get-get_or, slice_get_read, slice_get_within, subst, suc, sum_by, sum_by-cons, sum_by_push, sym, take, take_all, take_more, true, turn_done, turn_holds, turn_within, width_of, zero, zero-add, ℕ, ⊎_elim, ◌++◌, ◌+◌, ◌<◌, ◌==◌, ◌^◌, ◌∙◌, ◌∷◌, ◌≡◌, ◌≤◌, ◌⊎◌}
 
 -- ---- a list with one more at its end
 

@@ -1,14 +1,4 @@
-use Rattle.std.proofs.Common.{◌≡◌, Bool, List, [], ◌∷◌, ◌++◌, ◌||◌, Err, false, length, ◌∙◌, ap, subst}
-use Rattle.ncl_gates.specs.declared.kind.Kind.TheVariants.{Th12}
-use Rattle.ncl_space.specs.Functions.{at}
-use Rattle.ncl_space.specs.Space.{SpaceData, Keeps, with_tables, fits}
-use Rattle.ncl_space.proofs.SpaceLaws.{keeps_along, too_much_by_front}
-use Rattle.ncl_space.proofs.MakingLaws.{handed_on, held-along, too_much-after}
-use Rattle.ncl_stage.proofs.OutputLaws.{or_gate}
-use Rattle.ncl_match.specs.declared.pair.Pair.{Pair}
-use Rattle.ncl_match.specs.Difference.{without, apart_function}
-use Rattle.ncl_match.specs.Pairs.{WordFunction, IsPair, MakesPair, both_tables, function_at, functions_at, gate_function}
-use Rattle.ncl_match.proofs.PairLaws.{same-function, same-tables, has-kept, function-is}
+use Rattle.ncl_match.proofs.PairLaws.{Bool, Err, IsPair, Keeps, List, MakesPair, Pair, SpaceData, Th12, WordFunction, [], ap, apart_function, at, both_tables, false, fits, function-is, function_at, functions_at, gate_function, handed_on, has-kept, held-along, keeps_along, length, or_gate, same-function, same-tables, subst, too_much-after, too_much_by_front, with_tables, without, ◌++◌, ◌||◌, ◌∙◌, ◌∷◌, ◌≡◌}
 use Rattle.ncl_match.proofs.bit.apart.Goals as goal
 
 -- three chunks of tables: where the first, or the first two, are too much, all are

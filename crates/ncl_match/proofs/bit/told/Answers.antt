@@ -1,13 +1,5 @@
-use Rattle.std.proofs.Common.{◌≡◌, ℕ, Bool, true, List, length, Option, Some, None, sym, ◌∙◌, subst}
-use Rattle.std.proofs.lemmas.List.Elements.{recursion_from_All}
-use Rattle.ncl_blif.specs.Model.{IsModel}
-use Rattle.ncl_space.specs.Functions.{least}
-use Rattle.ncl_space.specs.Table.{table_of, words}
-use Rattle.ncl_space.proofs.TableLaws.{least-table_of}
-use Rattle.ncl_match.specs.Difference.{apart_function}
-use Rattle.ncl_match.specs.Pairs.{WordFunction}
-use Rattle.ncl_match.proofs.BitLaws.{told-differ, told-same}
-use Rattle.ncl_match.proofs.FindLaws.{Found, found}
+use Rattle.ncl_match.proofs.Terms.{least}
+use Rattle.ncl_match.proofs.BitLaws.{Bool, Found, IsModel, List, None, Option, Some, WordFunction, apart_function, found, least-table_of, length, recursion_from_All, subst, sym, table_of, told-differ, told-same, true, words, ℕ, ◌∙◌, ◌≡◌}
 use Rattle.ncl_match.proofs.bit.told.Goals as goal
 
 -- what the least word of a table says of the function that it is the table of

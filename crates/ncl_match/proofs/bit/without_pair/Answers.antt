@@ -1,11 +1,4 @@
-use Rattle.std.proofs.Common.{[], ◌∷◌}
-use Rattle.std.proofs.lemmas.Result.{IfOk-weaker}
-use Rattle.ncl_gates.specs.declared.kind.Kind.TheVariants.{Th22}
-use Rattle.ncl_space.specs.Space.{SpaceData}
-use Rattle.ncl_match.specs.Difference.{without}
-use Rattle.ncl_match.specs.Pairs.{WordFunction, MakesPair, both_tables, function_at, functions_at, gate_function}
-use Rattle.ncl_match.proofs.PairLaws.{makes-same, fits-same, swapped-pair, two-pairs}
-use Rattle.ncl_match.proofs.CoverLaws.{zero-literal}
+use Rattle.ncl_match.proofs.PairLaws.{IfOk-weaker, MakesPair, SpaceData, Th22, WordFunction, [], both_tables, fits-same, function_at, functions_at, gate_function, makes-same, swapped-pair, two-pairs, without, zero-literal, ◌∷◌}
 use Rattle.ncl_match.proofs.bit.without_pair.Goals as goal
 
 pub gate_pair-requires-clause-pairs : goal.gate_pair-requires-clause-pairs

@@ -1,14 +1,4 @@
-use Rattle.std.proofs.Common.{◌≡◌, ℕ, ◌≤◌, List, length, ap, subst, subst₂, arith}
-use Rattle.ncl_base.specs.declared.word.TheConstants.{MOST_BITS}
-use Rattle.ncl_blif.specs.declared.model.Model.{Model}
-use Rattle.ncl_shape.specs.declared.rails.Rails.{Rails}
-use Rattle.ncl_shape.specs.Pipeline.{PipelineData}
-use Rattle.ncl_shape.specs.Shape.{Shape}
-use Rattle.ncl_cell_roles.specs.Layout.{Layout, IsLayoutOf}
-use Rattle.ncl_cell_roles.proofs.LaidOut.{laid_out_of}
-use Rattle.ncl_match.specs.Answer.{IsRunAnswer}
-use Rattle.ncl_match.specs.Circuit.{circuit_of}
-use Rattle.ncl_match.specs.declared.answer.RunAnswer.{RunAnswer}
+use Rattle.ncl_match.proofs.Terms.{IsLayoutOf, IsRunAnswer, Layout, List, MOST_BITS, Model, PipelineData, Rails, RunAnswer, Shape, ap, arith, circuit_of, laid_out_of, length, subst, subst₂, ℕ, ◌≡◌, ◌≤◌}
 use Rattle.ncl_match.specs.declared.answer.RunAnswer.TheVariants as run
 use Rattle.ncl_match.proofs.comparing.compare.Goals as goal
 

@@ -1,14 +1,7 @@
-use Rattle.std.specs.Prelude.{◌==◌}
-use Rattle.std.proofs.Common.{◌≡◌, ◌<◌, Bool, List, [], ◌∷◌, false, length, sym, ap, ◌∙◌, subst, arith}
-use Rattle.ncl_blif.specs.declared.model.Lit.{Lit}
-use Rattle.ncl_space.specs.Space.{SpaceData}
-use Rattle.ncl_match.specs.declared.pair.Pair.{Pair}
-use Rattle.ncl_match.specs.Pairs.{WordFunction, MakesPair, inverse, functions_at}
-use Rattle.ncl_match.specs.Covers.{cover_function, rows_function, cover_tables}
-use Rattle.ncl_match.proofs.PairLaws.{has-swapped, same-function}
-use Rattle.ncl_match.proofs.CoverLaws.{cover-off}
+use Rattle.ncl_match.proofs.PairLaws.{Bool, List, Lit, MakesPair, Pair, SpaceData, WordFunction, [], ap, arith, cover-off, cover_function, cover_tables, false, functions_at, has-swapped, inverse, length, rows_function, same-function, subst, sym, ◌<◌, ◌==◌, ◌∙◌, ◌∷◌, ◌≡◌}
 use Rattle.ncl_match.proofs.cover.cover_pair.Goals as goal
-use Rattle.ncl_match.proofs.cover.cover_pair.Goals.{then-cover, else-cover}
+use Rattle.ncl_match.proofs.cover.cover_pair.Goals.{then-cover}
+use Rattle.ncl_match.proofs.cover.cover_pair.Goals.{else-cover}
 
 -- the complement of the rows is the value of an off-set that has rows
 swapped_cover : (old new : SpaceData) (ins : List Pair) (rows : List (List Lit)) (on : Bool) (some other : Pair) → on ≡ false → 0 < length rows → other.one ≡ some.zero → other.zero ≡ some.one

@@ -1,18 +1,4 @@
-use Rattle.std.proofs.Common.{◌≡◌, ℕ, zero, suc, ◌+◌, ◌<◌, Bool, List, Err, true, false, length, get_or, take, sym, ◌∙◌, ap, subst, arith}
-use Rattle.std.specs.Prelude.{All}
-use Rattle.std.proofs.lemmas.List.{take_all, get_or_default}
-use Rattle.ncl_blif.specs.declared.model.Lit.{Lit}
-use Rattle.ncl_blif.specs.declared.model.Lit.TheVariants.{Zero}
-use Rattle.ncl_space.specs.Space.{SpaceData, Keeps, with_tables, fits}
-use Rattle.ncl_space.proofs.SpaceLaws.{keeps_along}
-use Rattle.ncl_space.proofs.MakingLaws.{handed_on}
-use Rattle.ncl_match.specs.declared.pair.Pair.{Pair}
-use Rattle.ncl_match.specs.Pairs.{WordFunction, IsPair, HasFunction, MakesPair, both_tables, function_at, functions_at, values_of}
-use Rattle.ncl_match.specs.Covers.{literal_function, row_function, row_tables}
-use Rattle.ncl_match.specs.Turns.{gathered}
-use Rattle.ncl_match.proofs.PairLaws.{same-function, same-tables, pairs-kept}
-use Rattle.ncl_match.proofs.TurnLaws.{Turned, turned-none, turned-next, too_much-turn}
-use Rattle.ncl_match.proofs.CoverLaws.{none-matches, literal-turn}
+use Rattle.ncl_match.proofs.PairLaws.{All, Bool, Err, HasFunction, IsPair, Keeps, List, Lit, MakesPair, Pair, SpaceData, Turned, WordFunction, Zero, ap, arith, both_tables, false, fits, function_at, functions_at, gathered, get_or, get_or_default, handed_on, keeps_along, length, literal-turn, literal_function, none-matches, pairs-kept, row_function, row_tables, same-function, same-tables, subst, suc, sym, take, take_all, too_much-turn, true, turned-next, turned-none, values_of, with_tables, zero, ℕ, ◌+◌, ◌<◌, ◌∙◌, ◌≡◌}
 use Rattle.ncl_match.proofs.cover.row_pair.Goals as goal
 
 abbrev no_pair : Pair

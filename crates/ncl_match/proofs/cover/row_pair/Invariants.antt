@@ -1,8 +1,4 @@
-use Rattle.std.proofs.Common.{take, suc}
-use Rattle.ncl_match.specs.Pairs.{HasFunction, both_tables, functions_at}
-use Rattle.ncl_match.specs.Covers.{row_function}
-use Rattle.ncl_match.specs.Turns.{gathered}
-use Rattle.ncl_match.proofs.TurnLaws.{Turned}
+use Rattle.ncl_match.proofs.PairLaws.{HasFunction, Turned, both_tables, functions_at, gathered, row_function, suc, take}
 use Rattle.ncl_match.proofs.cover.row_pair.Given as goal
 
 -- the conjunctions so far have been made, and the last is at hand

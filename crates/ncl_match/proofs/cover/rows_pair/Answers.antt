@@ -1,19 +1,4 @@
-use Rattle.std.proofs.Common.{◌≡◌, ℕ, suc, ◌+◌, ◌<◌, Bool, List, [], ◌∷◌, ◌||◌, Err, false, length, get_or, take, sym, ◌∙◌, ap, subst, arith}
-use Rattle.std.specs.Prelude.{All}
-use Rattle.std.proofs.lemmas.List.{get_or_default}
-use Rattle.ncl_blif.specs.declared.model.Lit.{Lit}
-use Rattle.ncl_gates.specs.declared.kind.Kind.TheVariants.{Th12}
-use Rattle.ncl_space.specs.Space.{SpaceData, Keeps, with_tables, fits}
-use Rattle.ncl_space.proofs.SpaceLaws.{keeps_along, too_much_by_front}
-use Rattle.ncl_space.proofs.MakingLaws.{handed_on, held-along, too_much-after}
-use Rattle.ncl_stage.proofs.OutputLaws.{or_gate}
-use Rattle.ncl_match.specs.declared.pair.Pair.{Pair}
-use Rattle.ncl_match.specs.Pairs.{WordFunction, IsPair, HasFunction, MakesPair, both_tables, function_at, functions_at, gate_function}
-use Rattle.ncl_match.specs.Covers.{row_function, rows_function, row_tables, turn_tables, cover_tables}
-use Rattle.ncl_match.specs.Turns.{gathered}
-use Rattle.ncl_match.proofs.PairLaws.{same-function, same-tables, has-kept, function-is}
-use Rattle.ncl_match.proofs.TurnLaws.{Turned, turned-none, turned-next, too_much-turn}
-use Rattle.ncl_match.proofs.CoverLaws.{functions-kept, rows-more}
+use Rattle.ncl_match.proofs.PairLaws.{All, Bool, Err, HasFunction, IsPair, Keeps, List, Lit, MakesPair, Pair, SpaceData, Th12, Turned, WordFunction, [], ap, arith, both_tables, cover_tables, false, fits, function-is, function_at, functions-kept, functions_at, gate_function, gathered, get_or, get_or_default, handed_on, has-kept, held-along, keeps_along, length, or_gate, row_function, row_tables, rows-more, rows_function, same-function, same-tables, subst, suc, sym, take, too_much-after, too_much-turn, too_much_by_front, turn_tables, turned-next, turned-none, with_tables, ℕ, ◌+◌, ◌<◌, ◌||◌, ◌∙◌, ◌∷◌, ◌≡◌}
 use Rattle.ncl_match.proofs.cover.rows_pair.Goals as goal
 
 -- a turn: the next row is made, and taken

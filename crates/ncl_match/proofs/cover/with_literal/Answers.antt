@@ -1,15 +1,4 @@
-use Rattle.std.proofs.Common.{◌≡◌, Bool, List, [], ◌∷◌, length, sym, ap, ◌∙◌, Result}
-use Rattle.std.specs.Prelude.{IfOk}
-use Rattle.std.proofs.lemmas.Result.{IfOk-weaker}
-use Rattle.ncl_blif.specs.declared.model.Lit.{Lit}
-use Rattle.ncl_gates.specs.declared.kind.Kind.TheVariants.{Th22}
-use Rattle.ncl_space.specs.Space.{SpaceData, Keeps}
-use Rattle.ncl_space.specs.declared.space.SpaceFault.{SpaceFault}
-use Rattle.ncl_match.specs.declared.pair.Pair.{Pair}
-use Rattle.ncl_match.specs.Pairs.{WordFunction, function_at, functions_at, gate_function, MakesPair, both_tables}
-use Rattle.ncl_match.specs.Covers.{literal_function}
-use Rattle.ncl_match.proofs.PairLaws.{makes-same, fits-same, live-costs, swapped-pair, two-pairs, own-function, same-function}
-use Rattle.ncl_match.proofs.CoverLaws.{one-literal, zero-literal, dash-literal}
+use Rattle.ncl_match.proofs.PairLaws.{Bool, IfOk, IfOk-weaker, Keeps, List, Lit, MakesPair, Pair, Result, SpaceData, SpaceFault, Th22, WordFunction, [], ap, both_tables, dash-literal, fits-same, function_at, functions_at, gate_function, length, literal_function, live-costs, makes-same, one-literal, own-function, same-function, swapped-pair, sym, two-pairs, zero-literal, ◌∙◌, ◌∷◌, ◌≡◌}
 use Rattle.ncl_match.proofs.cover.with_literal.Goals as goal
 
 -- a gate on the function and another, where it agrees with the function and the literal

@@ -1,6 +1,4 @@
-use Rattle.std.proofs.Common.{ℕ, ◌+◌, ◌-◌, ◌/◌, ◌≤◌, arith}
-use Rattle.std.proofs.lemmas.Result.{IfOk-at_ok}
-use Rattle.ncl_match.specs.Question.{QuestionData, RunAnswers}
+use Rattle.ncl_match.proofs.Terms.{IfOk-at_ok, QuestionData, RunAnswers, arith, ℕ, ◌+◌, ◌-◌, ◌/◌, ◌≤◌}
 use Rattle.ncl_match.proofs.halves.+calls.Goals as goal
 
 pub returns : goal.returns

@@ -1,5 +1,4 @@
-use Rattle.std.proofs.Common.{◌≡◌, ◌+◌, refl, subst, arith}
-use Rattle.ncl_match.specs.Question.{QuestionData, RunAnswers}
+use Rattle.ncl_match.proofs.Terms.{QuestionData, RunAnswers, arith, refl, subst, ◌+◌, ◌≡◌}
 use Rattle.ncl_match.proofs.halves.compare_run.Goals as goal
 
 pub loop-output-preserved : goal.loop-output-preserved

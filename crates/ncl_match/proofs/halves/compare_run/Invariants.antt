@@ -1,4 +1,4 @@
-use Rattle.ncl_match.specs.Question.{RunAnswers}
+use Rattle.ncl_match.proofs.Terms.{RunAnswers}
 use Rattle.ncl_match.proofs.halves.compare_run.Given as goal
 
 -- the answer to the outputs so far

@@ -1,12 +1,7 @@
-use Rattle.std.proofs.Common.{ℕ, ◌+◌, Bool, List, Err, sym, ap, ◌∙◌, subst}
-use Rattle.ncl_shape.specs.declared.rails.Rails.{Rails}
-use Rattle.ncl_cell_roles.specs.Layout.{no_rails}
-use Rattle.ncl_space.specs.Space.{SpaceData}
-use Rattle.ncl_space.proofs.MakingLaws.{handed_on}
-use Rattle.ncl_match.specs.declared.pair.Pair.{Pair}
-use Rattle.ncl_match.proofs.InputLaws.{InputLoop, inputs-begin, input-more, input-passed, input-refused}
+use Rattle.ncl_match.proofs.PlanSteps.{Bool, Err, InputLoop, List, Pair, Rails, SpaceData, ap, handed_on, input-more, input-passed, input-refused, inputs-begin, no_rails, subst, sym, ℕ, ◌+◌, ◌∙◌}
 use Rattle.ncl_match.proofs.inputs.input_pairs.Goals as goal
-use Rattle.ncl_match.proofs.inputs.input_pairs.Goals.{then-is_needed+in_ok-made, else-is_needed}
+use Rattle.ncl_match.proofs.inputs.input_pairs.Goals.{then-is_needed+in_ok-made}
+use Rattle.ncl_match.proofs.inputs.input_pairs.Goals.{else-is_needed}
 
 pub loop-bit-init : goal.loop-bit-init
 loop-bit-init g c = inputs-begin (g.P.Space.meaning c.args.space.now) c.args.inputs.now c.args.marks.now c.args.pairs.now c.facts.ensures c.requires.pairs

@@ -1,4 +1,4 @@
-use Rattle.ncl_match.proofs.InputLaws.{InputLoop}
+use Rattle.ncl_match.proofs.PlanSteps.{InputLoop}
 use Rattle.ncl_match.proofs.inputs.input_pairs.Given as goal
 
 -- the bits so far are done

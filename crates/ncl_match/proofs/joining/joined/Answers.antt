@@ -1,6 +1,4 @@
-use Rattle.std.proofs.Common.{subst}
-use Rattle.ncl_match.specs.Answer.{IsOver, DiffersAt, IsRunAnswer}
-use Rattle.ncl_match.proofs.RunLaws.{joined-same}
+use Rattle.ncl_match.proofs.AnswerLaws.{DiffersAt, IsOver, IsRunAnswer, joined-same, subst}
 use Rattle.ncl_match.proofs.joining.joined.Goals as goal
 
 pub returns-in-Same : goal.returns-in-Same

@@ -1,8 +1,6 @@
-use Rattle.std.proofs.Common.{sym, subst}
-use Rattle.ncl_match.specs.Answer.{IsBitAnswer, IsRunAnswer}
+use Rattle.ncl_match.proofs.AnswerLaws.{IsBitAnswer, IsRunAnswer, run-of-same, subst, sym}
 use Rattle.ncl_match.specs.declared.answer.BitAnswer.TheVariants as bit
 use Rattle.ncl_match.specs.declared.answer.RunAnswer.TheVariants as run
-use Rattle.ncl_match.proofs.AnswerLaws.{run-of-same}
 use Rattle.ncl_match.proofs.joining.run_of.Goals as goal
 
 pub returns-in-Same : goal.returns-in-Same

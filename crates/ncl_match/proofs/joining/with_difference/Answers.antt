@@ -1,7 +1,4 @@
-use Rattle.std.proofs.Common.{◌≡◌, length, sym, ◌∙◌, subst}
-use Rattle.ncl_match.specs.Answer.{IsOver, DiffersAt, IsRunAnswer}
-use Rattle.ncl_match.proofs.AnswerLaws.{one_width}
-use Rattle.ncl_match.proofs.RunLaws.{joined-differ-same, joined-differ-full, joined-first, joined-second}
+use Rattle.ncl_match.proofs.AnswerLaws.{DiffersAt, IsOver, IsRunAnswer, joined-differ-full, joined-differ-same, joined-first, joined-second, length, one_width, subst, sym, ◌∙◌, ◌≡◌}
 use Rattle.ncl_match.proofs.joining.with_difference.Goals as goal
 
 pub returns-in-Same : goal.returns-in-Same

@@ -1,5 +1,4 @@
-use Rattle.ncl_match.proofs.PlanLaws.{plan-evaluated, plan-fits, plan-ordered}
-use Rattle.ncl_match.proofs.ReachLaws.{plan-reach}
+use Rattle.ncl_match.proofs.PlanLaws.{plan-evaluated, plan-fits, plan-ordered, plan-reach}
 use Rattle.ncl_match.proofs.laws.plan_of_a_pipeline.Goals as goal
 
 pub returns-clause-ordered : goal.returns-clause-ordered

@@ -1,5 +1,4 @@
-use Rattle.std.proofs.Common.{◌≡◌, ℕ, ◌||◌, take}
-use Rattle.ncl_match.specs.Plan.{is_marked, is_on}
+use Rattle.ncl_match.proofs.Terms.{is_marked, is_on, take, ℕ, ◌||◌, ◌≡◌}
 use Rattle.ncl_match.proofs.marks.mark.Given as goal
 
 -- the nets so far are marked

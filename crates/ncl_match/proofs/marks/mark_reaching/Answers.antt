@@ -1,8 +1,4 @@
-use Rattle.std.proofs.Common.{◌-◌, List, length, ap, ◌∙◌, ◌||◌}
-use Rattle.ncl_match.specs.declared.planning.DataCell.{DataCell}
-use Rattle.ncl_match.specs.Plan.{AreMarks, is_marked, is_on}
-use Rattle.ncl_match.proofs.Before.{member-before}
-use Rattle.ncl_match.proofs.MarkLaws.{marks-root, marks-passed, marks-more}
+use Rattle.ncl_match.proofs.MarkLaws.{AreMarks, DataCell, List, ap, is_marked, is_on, length, marks-more, marks-passed, marks-root, member-before, ◌-◌, ◌||◌, ◌∙◌}
 use Rattle.ncl_match.proofs.marks.mark_reaching.Goals as goal
 
 pub loop-place-init : goal.loop-place-init

@@ -1,5 +1,4 @@
-use Rattle.std.proofs.Common.{length}
-use Rattle.ncl_match.specs.Plan.{AreMarks}
+use Rattle.ncl_match.proofs.Terms.{AreMarks, length}
 use Rattle.ncl_match.proofs.marks.mark_reaching.Given as goal
 
 -- the cells from the place on are looked at

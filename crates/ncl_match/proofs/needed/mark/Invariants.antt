@@ -1,6 +1,4 @@
-use Rattle.std.proofs.Common.{◌≡◌, ℕ, ◌||◌, take}
-use Rattle.ncl_match.specs.Needed.{is_among}
-use Rattle.ncl_match.specs.Steps.{bit_at}
+use Rattle.ncl_match.proofs.Terms.{bit_at, is_among, take, ℕ, ◌||◌, ◌≡◌}
 use Rattle.ncl_match.proofs.needed.mark.Given as goal
 
 -- the signals so far are marked

@@ -1,9 +1,4 @@
-use Rattle.std.proofs.Common.{◌-◌, List, ap, ◌∙◌, ◌||◌}
-use Rattle.ncl_match.specs.declared.steps.Step.{Step}
-use Rattle.ncl_match.specs.Needed.{AreNeeded, is_among}
-use Rattle.ncl_match.specs.Steps.{bit_at}
-use Rattle.ncl_match.proofs.Before.{member-before}
-use Rattle.ncl_match.proofs.NeededLaws.{needed-root, needed-passed, needed-more}
+use Rattle.ncl_match.proofs.SignalLaws.{AreNeeded, List, Step, ap, bit_at, is_among, member-before, needed-more, needed-passed, needed-root, ◌-◌, ◌||◌, ◌∙◌}
 use Rattle.ncl_match.proofs.needed.mark_needed.Goals as goal
 
 pub loop-place-init : goal.loop-place-init

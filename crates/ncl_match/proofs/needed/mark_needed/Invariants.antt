@@ -1,4 +1,4 @@
-use Rattle.ncl_match.specs.Needed.{AreNeeded}
+use Rattle.ncl_match.proofs.Terms.{AreNeeded}
 use Rattle.ncl_match.proofs.needed.mark_needed.Given as goal
 
 -- the steps from the place on are looked at

@@ -1,26 +1,4 @@
-use Rattle.std.proofs.Common.{◌≡◌, ◌≢◌, ℕ, ◌<◌, Bool, false, List, Err, length, get_or, sym, ap, ◌∙◌, subst, rules}
-use Rattle.std.specs.Prelude.{All, AllPairs}
-use Rattle.std.proofs.lemmas.Option.{get_or_from_slice_get, slice_get-get_or}
-use Rattle.ncl_shape.specs.declared.rails.Rails.{Rails}
-use Rattle.ncl_shape.specs.Nets.{Nets}
-use Rattle.ncl_shape.specs.Pipeline.{PipelineData}
-use Rattle.ncl_shape.specs.Shape.{Shape}
-use Rattle.ncl_shape.specs.Stage.{rail_nets}
-use Rattle.ncl_cell_roles.specs.Layout.{no_rails}
-use Rattle.ncl_cell_roles.proofs.LaidOut.{laid_out_of}
-use Rattle.ncl_space.specs.Space.{SpaceData, fits}
-use Rattle.ncl_match.specs.Circuit.{circuit_of, closed}
-use Rattle.ncl_match.specs.declared.pair.Pair.{Pair}
-use Rattle.ncl_match.specs.declared.planning.DataCell.{DataCell}
-use Rattle.ncl_match.specs.Inputs.{HaveInputs}
-use Rattle.ncl_match.specs.Plan.{FitPins, IsOrdered, pair_at, plan_tables}
-use Rattle.ncl_match.specs.PlanCase.{AreDone, IsCase}
-use Rattle.ncl_match.specs.Planned.{plan_of}
-use Rattle.ncl_match.specs.Sides.{HasRail}
-use Rattle.ncl_match.specs.Turns.{gathered}
-use Rattle.ncl_match.proofs.NetlistLaws.{cells-gather, cells-over, inputs-case, inputs-differ, inputs-over, nets-held, ones-within, rail-had, refused-rail, zeros-within}
-use Rattle.ncl_match.proofs.PlanLaws.{plan-fits, plan-ordered}
-use Rattle.ncl_match.proofs.ReachLaws.{output-within}
+use Rattle.ncl_match.proofs.NetlistLaws.{All, AllPairs, AreDone, Bool, DataCell, Err, FitPins, HasRail, HaveInputs, IsCase, IsOrdered, List, Nets, Pair, PipelineData, Rails, Shape, SpaceData, ap, cells-gather, cells-over, circuit_of, closed, false, fits, gathered, get_or, get_or_from_slice_get, inputs-case, inputs-differ, inputs-over, laid_out_of, length, nets-held, no_rails, ones-within, output-within, pair_at, plan-fits, plan-ordered, plan_of, plan_tables, rail-had, rail_nets, refused-rail, rules, slice_get-get_or, subst, sym, zeros-within, ℕ, ◌<◌, ◌∙◌, ◌≡◌, ◌≢◌}
 use Rattle.ncl_match.proofs.netlist.filled_pair.Goals as goal
 
 -- the values of the nets

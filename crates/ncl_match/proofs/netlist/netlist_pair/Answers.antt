@@ -1,15 +1,4 @@
-use Rattle.std.proofs.Common.{◌≡◌, ℕ, ◌<◌, Bool, List, length, get_or, sym, ap, ◌∙◌, subst}
-use Rattle.std.proofs.lemmas.Option.{slice_get-get_or}
-use Rattle.ncl_netlist.specs.Netlist.{NetlistData}
-use Rattle.ncl_shape.specs.declared.rails.Rails.{Rails}
-use Rattle.ncl_shape.specs.Pipeline.{PipelineData}
-use Rattle.ncl_cell_roles.specs.Layout.{no_rails}
-use Rattle.ncl_cell_roles.proofs.LaidOut.{laid_out_of}
-use Rattle.ncl_match.specs.declared.planning.DataCell.{DataCell}
-use Rattle.ncl_match.specs.Plan.{AreMarks, IsOrdered}
-use Rattle.ncl_match.specs.Planned.{AreMarksFor, plan_of}
-use Rattle.ncl_match.proofs.PlanLaws.{plan-ordered}
-use Rattle.ncl_match.proofs.ReachLaws.{output-within}
+use Rattle.ncl_match.proofs.PlanLaws.{AreMarks, AreMarksFor, Bool, DataCell, IsOrdered, List, NetlistData, PipelineData, Rails, ap, get_or, laid_out_of, length, no_rails, output-within, plan-ordered, plan_of, slice_get-get_or, subst, sym, ℕ, ◌<◌, ◌∙◌, ◌≡◌}
 use Rattle.ncl_match.proofs.netlist.netlist_pair.Goals as goal
 
 -- marks of what is made are those of the plan

@@ -1,16 +1,4 @@
-use Rattle.std.proofs.Common.{◌≡◌, Bool, List, length, map, get_or, Option, Some, None, sym, ap, ◌∙◌, subst, arith, rules}
-use Rattle.std.specs.Prelude.{All}
-use Rattle.std.proofs.lemmas.Result.{IfOk-weaker}
-use Rattle.std.proofs.lemmas.List.{length-map}
-use Rattle.ncl_gates.specs.declared.kind.Kind.{Kind}
-use Rattle.ncl_gates.specs.Gate.{set_of}
-use Rattle.ncl_netlist.specs.declared.ids.NetId.{NetId}
-use Rattle.ncl_space.specs.Space.{SpaceData}
-use Rattle.ncl_match.specs.declared.pair.Pair.{Pair}
-use Rattle.ncl_match.specs.Pairs.{WordFunction, IsPair, MakesPair, both_tables, function_at, functions_at, gate_function}
-use Rattle.ncl_match.specs.Plan.{made_of, pair_at, pins_of}
-use Rattle.ncl_match.proofs.PairLaws.{makes-same, fits-same, own-function, same-function, live-costs}
-use Rattle.ncl_match.proofs.NetLaws.{pins-pairs, pins-values, first-pin}
+use Rattle.ncl_match.proofs.PairLaws.{All, Bool, IfOk-weaker, IsPair, Kind, List, MakesPair, NetId, None, Option, Pair, Some, SpaceData, WordFunction, ap, arith, both_tables, first-pin, fits-same, function_at, functions_at, gate_function, get_or, length, length-map, live-costs, made_of, makes-same, map, own-function, pair_at, pins-pairs, pins-values, pins_of, rules, same-function, set_of, subst, sym, ◌∙◌, ◌≡◌}
 use Rattle.ncl_match.proofs.nets.cell_pair.Goals as goal
 
 module _ (s : SpaceData) (pairs : List Pair) (nets : List NetId) (kind : Option Kind) where

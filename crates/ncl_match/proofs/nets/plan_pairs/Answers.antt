@@ -1,13 +1,7 @@
-use Rattle.std.proofs.Common.{◌≡◌, ℕ, ◌+◌, ◌<◌, Bool, List, Err, length, get_or, Some, refl, sym, ap, subst}
-use Rattle.std.specs.Prelude.{slice_get}
-use Rattle.std.proofs.lemmas.Option.{slice_get_read}
-use Rattle.ncl_space.specs.Space.{SpaceData}
-use Rattle.ncl_space.proofs.MakingLaws.{handed_on}
-use Rattle.ncl_match.specs.declared.pair.Pair.{Pair}
-use Rattle.ncl_match.specs.declared.planning.DataCell.{DataCell}
-use Rattle.ncl_match.proofs.PlanSteps.{PlanLoop, loop-begins, loop-passed, loop-more, refused}
+use Rattle.ncl_match.proofs.PlanSteps.{Bool, DataCell, Err, List, Pair, PlanLoop, Some, SpaceData, ap, get_or, handed_on, length, loop-begins, loop-more, loop-passed, refl, refused, slice_get, slice_get_read, subst, sym, ℕ, ◌+◌, ◌<◌, ◌≡◌}
 use Rattle.ncl_match.proofs.nets.plan_pairs.Goals as goal
-use Rattle.ncl_match.proofs.nets.plan_pairs.Goals.{then-marks-cell+in_ok-made, else-marks-cell}
+use Rattle.ncl_match.proofs.nets.plan_pairs.Goals.{then-marks-cell+in_ok-made}
+use Rattle.ncl_match.proofs.nets.plan_pairs.Goals.{else-marks-cell}
 
 at_place : (plan : List DataCell) (place : ℕ) (cell : DataCell) → place < length plan → cell ≡ get_or plan place cell → slice_get plan place ≡ Some cell
 at_place plan place cell lt is = slice_get_read plan (length plan) place cell refl lt is

@@ -1,18 +1,4 @@
-use Rattle.std.proofs.Common.{◌≡◌, List, [], ◌∷◌, Err, false, length, map, sym, ap, ◌∙◌, subst}
-use Rattle.std.specs.Prelude.{All}
-use Rattle.std.proofs.lemmas.List.{length-map}
-use Rattle.ncl_gates.specs.declared.kind.Kind.{Kind}
-use Rattle.ncl_gates.specs.Gate.{arity_of}
-use Rattle.ncl_space.specs.Table.{words, table_of}
-use Rattle.ncl_space.specs.Functions.{gate_table}
-use Rattle.ncl_space.specs.Space.{SpaceData, IsLive, IsSpace, Keeps, Makes, fits}
-use Rattle.ncl_space.specs.declared.space.Ref.{Ref}
-use Rattle.ncl_space.proofs.MakingLaws.{handed_on}
-use Rattle.ncl_match.specs.declared.pair.Pair.{Pair}
-use Rattle.ncl_gates.specs.Dual.{dual_of, dual_pins}
-use Rattle.ncl_match.specs.Pairs.{WordFunction, IsPair, inverse, gate_function, functions_at}
-use Rattle.ncl_gates.proofs.DualLaws.{dual-arity, dual_pins-length}
-use Rattle.ncl_match.proofs.PairLaws.{made-pair, first-too_much, second-too_much, gate-one, gate-zero, ones-live, dual_zeros-live, pairs-kept}
+use Rattle.ncl_match.proofs.PairLaws.{All, Err, IsLive, IsPair, IsSpace, Keeps, Kind, List, Makes, Pair, Ref, SpaceData, WordFunction, [], ap, arity_of, dual-arity, dual_of, dual_pins, dual_pins-length, dual_zeros-live, false, first-too_much, fits, functions_at, gate-one, gate-zero, gate_function, gate_table, handed_on, inverse, length, length-map, made-pair, map, ones-live, pairs-kept, second-too_much, subst, sym, table_of, words, ◌∙◌, ◌∷◌, ◌≡◌}
 use Rattle.ncl_match.proofs.pair.gate_pair.Goals as goal
 
 abbrev ones_of : List Pair → List Ref

@@ -1,9 +1,4 @@
-use Rattle.std.proofs.Common.{◌≡◌, ℕ, [], ◌∷◌, Err, false, get_or, ap, subst}
-use Rattle.ncl_space.specs.Functions.{rail_table}
-use Rattle.ncl_space.specs.Space.{SpaceData, Makes, fits}
-use Rattle.ncl_space.proofs.MakingLaws.{handed_on}
-use Rattle.ncl_match.specs.Pairs.{WordFunction}
-use Rattle.ncl_match.proofs.PairLaws.{made-pair, first-too_much, second-too_much}
+use Rattle.ncl_match.proofs.PairLaws.{Err, Makes, SpaceData, WordFunction, [], ap, false, first-too_much, fits, get_or, handed_on, made-pair, rail_table, second-too_much, subst, ℕ, ◌∷◌, ◌≡◌}
 use Rattle.ncl_match.proofs.pair.rail_pair.Goals as goal
 
 abbrev bit_function : ℕ → WordFunction

@@ -1,5 +1,4 @@
-use Rattle.std.proofs.Common.{◌≡◌, map, take}
-use Rattle.ncl_match.specs.Pairs.{side_of}
+use Rattle.ncl_match.proofs.Terms.{map, side_of, take, ◌≡◌}
 use Rattle.ncl_match.proofs.pair.sides.Given as goal
 
 -- the functions of the pairs so far, or their complements

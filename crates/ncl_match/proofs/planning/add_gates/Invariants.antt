@@ -1,5 +1,4 @@
-use Rattle.std.proofs.Common.{◌≡◌, ◌++◌, map, take}
-use Rattle.ncl_match.specs.Planned.{gate_cell}
+use Rattle.ncl_match.proofs.Terms.{gate_cell, map, take, ◌++◌, ◌≡◌}
 use Rattle.ncl_match.proofs.planning.add_gates.Given as goal
 
 -- the cells so far

@@ -1,8 +1,4 @@
-use Rattle.std.proofs.Common.{◌≡◌, ℕ, zero, suc, ◌+◌, ◌<◌, List, [], ◌∷◌, ◌++◌, length, take, get_or, refl, sym, ap, ◌∙◌, arith, append_assoc}
-use Rattle.ncl_shape.specs.declared.rails.Rails.{Rails}
-use Rattle.ncl_cell_roles.specs.Layout.{no_rails}
-use Rattle.ncl_match.specs.declared.planning.DataCell.{DataCell}
-use Rattle.ncl_match.specs.Planned.{register_cell, register_cells}
+use Rattle.ncl_match.proofs.Terms.{DataCell, List, Rails, [], ap, append_assoc, arith, get_or, length, no_rails, refl, register_cell, register_cells, suc, sym, take, zero, ℕ, ◌++◌, ◌+◌, ◌<◌, ◌∙◌, ◌∷◌, ◌≡◌}
 use Rattle.ncl_match.proofs.planning.add_registers.Goals as goal
 
 -- one bit more

@@ -1,5 +1,4 @@
-use Rattle.std.proofs.Common.{◌≡◌, ◌++◌, take}
-use Rattle.ncl_match.specs.Planned.{register_cells}
+use Rattle.ncl_match.proofs.Terms.{register_cells, take, ◌++◌, ◌≡◌}
 use Rattle.ncl_match.proofs.planning.add_registers.Given as goal
 
 -- the cells of the bits so far

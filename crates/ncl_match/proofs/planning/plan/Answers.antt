@@ -1,15 +1,4 @@
-use Rattle.std.proofs.Common.{◌≡◌, ℕ, suc, ◌+◌, ◌<◌, List, ◌++◌, length, map, get_or, Some, refl, sym, ap, ◌∙◌, subst, arith, append_assoc}
-use Rattle.std.specs.Prelude.{slice_get}
-use Rattle.std.proofs.lemmas.Option.{slice_get_read}
-use Rattle.ncl_shape.specs.declared.rails.Rails.{Rails}
-use Rattle.ncl_shape.specs.declared.stage.StageCell.{StageCell}
-use Rattle.ncl_shape.specs.Pipeline.{PipelineData}
-use Rattle.ncl_shape.specs.Stage.{StageData}
-use Rattle.ncl_cell_roles.proofs.LaidOut.{laid_out_of}
-use Rattle.ncl_match.specs.declared.planning.DataCell.{DataCell}
-use Rattle.ncl_match.specs.Planned.{bank_cells, before_at, gate_cell, plan_turn, register_cells}
-use Rattle.ncl_match.specs.Turns.{gathered}
-use Rattle.ncl_match.proofs.PlannedLaws.{before-wide, last-wide}
+use Rattle.ncl_match.proofs.PlannedLaws.{DataCell, List, PipelineData, Rails, Some, StageCell, StageData, ap, append_assoc, arith, bank_cells, before-wide, before_at, gate_cell, gathered, get_or, laid_out_of, last-wide, length, map, plan_turn, refl, register_cells, slice_get, slice_get_read, subst, suc, sym, ℕ, ◌++◌, ◌+◌, ◌<◌, ◌∙◌, ◌≡◌}
 use Rattle.ncl_match.proofs.planning.plan.Goals as goal
 
 -- the stage at a place

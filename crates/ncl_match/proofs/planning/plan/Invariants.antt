@@ -1,6 +1,4 @@
-use Rattle.std.proofs.Common.{◌≡◌}
-use Rattle.ncl_match.specs.Planned.{plan_turn}
-use Rattle.ncl_match.specs.Turns.{gathered}
+use Rattle.ncl_match.proofs.Terms.{gathered, plan_turn, ◌≡◌}
 use Rattle.ncl_match.proofs.planning.plan.Given as goal
 
 -- the cells of the banks so far

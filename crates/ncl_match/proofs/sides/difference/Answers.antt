@@ -1,21 +1,4 @@
-use Rattle.std.proofs.Common.{◌≡◌, ℕ, ◌-◌, ◌&&◌, ◌||◌, not, Bool, List, Err, ◌++◌, false, length, sym, ap, ◌∙◌, subst, rules}
-use Rattle.std.specs.Prelude.{All}
-use Rattle.std.proofs.lemmas.List.Elements.{recursion_from_All}
-use Rattle.ncl_blif.specs.Model.{IsModel}
-use Rattle.ncl_blif.specs.declared.model.Model.{Model}
-use Rattle.ncl_space.specs.Space.{SpaceData, Keeps, fits, with_tables}
-use Rattle.ncl_space.proofs.SpaceLaws.{keeps_along}
-use Rattle.ncl_space.proofs.MakingLaws.{handed_on}
-use Rattle.ncl_match.specs.declared.pair.Pair.{Pair}
-use Rattle.ncl_match.specs.Circuit.{Circuit, circuit_of}
-use Rattle.ncl_match.specs.Difference.{without, apart_function, apart_tables}
-use Rattle.ncl_match.specs.Gathering.{Gathers, Overflows, IsHeld}
-use Rattle.ncl_match.specs.Listed.{AreCompared, IsListed}
-use Rattle.ncl_match.specs.Pairs.{HasFunction, MakesPair, function_at}
-use Rattle.ncl_match.specs.Sides.{HasApart, HasRail, HasSignal, HoldsNets, HoldsSignals}
-use Rattle.ncl_match.proofs.GatherLaws.{gathers-along, gathers-more, overflows-along, overflows-after}
-use Rattle.ncl_match.proofs.PairLaws.{function-is, has-kept, same-function, same-tables}
-use Rattle.ncl_match.proofs.SideLaws.{nets-kept, signals-kept, each-held, apart-listed, apart-held}
+use Rattle.ncl_match.proofs.PairLaws.{All, AreCompared, Bool, Circuit, Err, Gathers, HasApart, HasFunction, HasRail, HasSignal, HoldsNets, HoldsSignals, IsHeld, IsListed, IsModel, Keeps, List, MakesPair, Model, Overflows, Pair, SpaceData, ap, apart-held, apart-listed, apart_function, apart_tables, circuit_of, each-held, false, fits, function-is, function_at, gathers-along, gathers-more, handed_on, has-kept, keeps_along, length, nets-kept, not, overflows-after, overflows-along, recursion_from_All, rules, same-function, same-tables, signals-kept, subst, sym, with_tables, without, ℕ, ◌&&◌, ◌++◌, ◌-◌, ◌||◌, ◌∙◌, ◌≡◌}
 use Rattle.ncl_match.proofs.sides.difference.Goals as goal
 
 -- the two sides, and then their difference

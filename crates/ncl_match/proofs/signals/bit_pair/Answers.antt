@@ -1,6 +1,4 @@
-use Rattle.ncl_match.specs.Inputs.{bit_function}
-use Rattle.ncl_match.specs.Pairs.{both_tables}
-use Rattle.ncl_match.proofs.SignalLaws.{none-made}
+use Rattle.ncl_match.proofs.SignalLaws.{bit_function, both_tables, none-made}
 use Rattle.ncl_match.proofs.signals.bit_pair.Goals as goal
 
 pub returns-then-not-is_marked-clause-held : goal.returns-then-not-is_marked-clause-held

@@ -1,17 +1,4 @@
-use Rattle.std.proofs.Common.{◌≡◌, ◌+◌, Bool, true, false, List, [], ◌∷◌, ◌++◌, Err, length, sym, ap, ◌∙◌, subst, arith}
-use Rattle.std.specs.Prelude.{All}
-use Rattle.std.proofs.lemmas.Grind.{common_steps}
-use Rattle.std.proofs.lemmas.List.{length_push}
-use Rattle.std.proofs.lemmas.List.Elements.{All-nil}
-use Rattle.ncl_space.specs.Space.{SpaceData, with_tables, fits}
-use Rattle.ncl_space.proofs.MakingLaws.{handed_on}
-use Rattle.ncl_match.specs.declared.pair.Pair.{Pair}
-use Rattle.ncl_match.specs.Inputs.{bit_function}
-use Rattle.ncl_match.specs.Pairs.{HasFunction, IsPair}
-use Rattle.ncl_match.specs.Signals.{first_tables}
-use Rattle.ncl_match.specs.Steps.{bit_at}
-use Rattle.ncl_match.proofs.SignalLaws.{bit-turn, pairs-begin, pairs-more}
-use Rattle.ncl_match.proofs.TurnLaws.{too_much-turn}
+use Rattle.ncl_match.proofs.SignalLaws.{All, All-nil, Bool, Err, HasFunction, IsPair, List, Pair, SpaceData, [], ap, arith, bit-turn, bit_at, bit_function, common_steps, false, first_tables, fits, handed_on, length, length_push, pairs-begin, pairs-more, subst, sym, too_much-turn, true, with_tables, ◌++◌, ◌+◌, ◌∙◌, ◌∷◌, ◌≡◌}
 use Rattle.ncl_match.proofs.signals.bit_pairs.Goals as goal
 
 pub loop-bit-init : goal.loop-bit-init

@@ -1,7 +1,4 @@
-use Rattle.std.proofs.Common.{◌≡◌, length}
-use Rattle.ncl_match.specs.Inputs.{bit_function}
-use Rattle.ncl_match.specs.Signals.{first_tables}
-use Rattle.ncl_match.proofs.SignalLaws.{PairsLoop}
+use Rattle.ncl_match.proofs.SignalLaws.{PairsLoop, bit_function, first_tables, length, ◌≡◌}
 use Rattle.ncl_match.proofs.signals.bit_pairs.Given as goal
 
 -- the inputs so far have their pairs

@@ -1,18 +1,4 @@
-use Rattle.std.proofs.Common.{◌≡◌, ℕ, Bool, false, List, Err, length, get_or, sym, ap, ◌∙◌, subst, subst₂, arith, rules}
-use Rattle.ncl_blif.specs.declared.model.Model.{Model}
-use Rattle.ncl_blif.specs.Meaning.{width_of}
-use Rattle.ncl_space.specs.Space.{SpaceData, fits}
-use Rattle.ncl_space.proofs.MakingLaws.{handed_on}
-use Rattle.ncl_match.specs.declared.pair.Pair.{Pair}
-use Rattle.ncl_match.specs.declared.steps.Step.{Step}
-use Rattle.ncl_match.specs.Needed.{AreNeeded}
-use Rattle.ncl_match.specs.Plan.{pair_at}
-use Rattle.ncl_match.specs.Sides.{HasSignal}
-use Rattle.ncl_match.specs.Steps.{AreInRow}
-use Rattle.ncl_match.specs.Signals.{HaveBits, HaveSteps, first_tables, step_tables}
-use Rattle.ncl_match.specs.Turns.{gathered}
-use Rattle.ncl_match.proofs.ModelLaws.{bits-signals, bits-overflow, steps-overflow, steps-gather, all-held, output-had, output-inside}
-use Rattle.ncl_match.proofs.StepLaws.{outputs_size}
+use Rattle.ncl_match.proofs.ModelLaws.{AreInRow, AreNeeded, Bool, Err, HasSignal, HaveBits, HaveSteps, List, Model, Pair, SpaceData, Step, all-held, ap, arith, bits-overflow, bits-signals, false, first_tables, fits, gathered, get_or, handed_on, length, output-had, output-inside, outputs_size, pair_at, rules, step_tables, steps-gather, steps-overflow, subst, subst₂, sym, width_of, ℕ, ◌∙◌, ◌≡◌}
 use Rattle.ncl_match.proofs.signals.models_pair.Goals as goal
 
 -- the row by the models that it is of

@@ -1,5 +1,4 @@
-use Rattle.std.proofs.Common.{◌≡◌, map, take}
-use Rattle.ncl_match.specs.Plan.{pair_at}
+use Rattle.ncl_match.proofs.Terms.{map, pair_at, take, ◌≡◌}
 use Rattle.ncl_match.proofs.signals.pairs_of.Given as goal
 
 -- the pairs of the signals so far

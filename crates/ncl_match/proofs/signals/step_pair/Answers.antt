@@ -1,11 +1,4 @@
-use Rattle.std.proofs.Common.{◌≡◌, Bool, true, map, sym, ap, ◌∙◌, subst}
-use Rattle.std.specs.Prelude.{All}
-use Rattle.std.proofs.lemmas.Result.{IfOk-weaker}
-use Rattle.ncl_space.specs.Space.{SpaceData}
-use Rattle.ncl_match.specs.Covers.{cover_function, cover_tables}
-use Rattle.ncl_match.specs.Pairs.{HasFunction, IsPair, MakesPair, functions_at}
-use Rattle.ncl_match.specs.Plan.{pair_at}
-use Rattle.ncl_match.proofs.SignalLaws.{none-made, pairs-at}
+use Rattle.ncl_match.proofs.SignalLaws.{All, Bool, HasFunction, IfOk-weaker, IsPair, MakesPair, SpaceData, ap, cover_function, cover_tables, functions_at, map, none-made, pair_at, pairs-at, subst, sym, true, ◌∙◌, ◌≡◌}
 use Rattle.ncl_match.proofs.signals.step_pair.Goals as goal
 
 pub returns-then-not-is_marked-clause-held : goal.returns-then-not-is_marked-clause-held

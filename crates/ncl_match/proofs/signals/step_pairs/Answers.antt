@@ -1,18 +1,4 @@
-use Rattle.std.proofs.Common.{◌≡◌, ℕ, ◌+◌, ◌<◌, Bool, true, false, List, [], ◌∷◌, ◌++◌, Err, Some, length, map, if◌then◌else◌, sym, ap, ◌∙◌, subst, arith, refl}
-use Rattle.std.specs.Prelude.{All, slice_get}
-use Rattle.std.proofs.lemmas.Grind.{common_steps}
-use Rattle.std.proofs.lemmas.List.{length_push}
-use Rattle.std.proofs.lemmas.Option.{slice_get_read}
-use Rattle.ncl_space.specs.Space.{SpaceData, with_tables, fits}
-use Rattle.ncl_space.proofs.MakingLaws.{handed_on}
-use Rattle.ncl_match.specs.declared.pair.Pair.{Pair}
-use Rattle.ncl_match.specs.declared.steps.Step.{Step}
-use Rattle.ncl_match.specs.Covers.{cover_function, cover_tables}
-use Rattle.ncl_match.specs.Pairs.{HasFunction, functions_at}
-use Rattle.ncl_match.specs.Plan.{pair_at}
-use Rattle.ncl_match.specs.Signals.{step_tables}
-use Rattle.ncl_match.specs.Steps.{bit_at, signal_function}
-use Rattle.ncl_match.proofs.SignalLaws.{pairs-begin, pairs-more, step-has, step-refused, step-turn, step-within}
+use Rattle.ncl_match.proofs.SignalLaws.{All, Bool, Err, HasFunction, List, Pair, Some, SpaceData, Step, [], ap, arith, bit_at, common_steps, cover_function, cover_tables, false, fits, functions_at, handed_on, if◌then◌else◌, length, length_push, map, pair_at, pairs-begin, pairs-more, refl, signal_function, slice_get, slice_get_read, step-has, step-refused, step-turn, step-within, step_tables, subst, sym, true, with_tables, ℕ, ◌++◌, ◌+◌, ◌<◌, ◌∙◌, ◌∷◌, ◌≡◌}
 use Rattle.ncl_match.proofs.signals.step_pairs.Goals as goal
 
 pub loop-step-init : goal.loop-step-init

@@ -1,7 +1,4 @@
-use Rattle.std.proofs.Common.{◌≡◌, ◌+◌, length}
-use Rattle.ncl_match.specs.Signals.{step_tables}
-use Rattle.ncl_match.specs.Steps.{signal_function}
-use Rattle.ncl_match.proofs.SignalLaws.{PairsLoop}
+use Rattle.ncl_match.proofs.SignalLaws.{PairsLoop, length, signal_function, step_tables, ◌+◌, ◌≡◌}
 use Rattle.ncl_match.proofs.signals.step_pairs.Given as goal
 
 -- the signals so far have their pairs

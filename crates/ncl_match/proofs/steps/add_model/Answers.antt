@@ -1,16 +1,4 @@
-use Rattle.std.proofs.Common.{◌≡◌, ℕ, ◌≤◌, List, Option, length, map, get_or, take, sym, ap, ◌∙◌, subst}
-use Rattle.std.specs.Prelude.{All, IsSome}
-use Rattle.std.specs.Ordering.{nat_cmp}
-use Rattle.std.specs.BTreeMap.{get}
-use Rattle.std.proofs.lemmas.List.{take_all, take_more}
-use Rattle.ncl_graph.specs.Graph.{IsOrder}
-use Rattle.ncl_blif.specs.declared.model.Cover.{Cover}
-use Rattle.ncl_blif.specs.declared.model.Model.{Model}
-use Rattle.ncl_blif.specs.Dependence.{dependency_graph}
-use Rattle.ncl_network.proofs.CoverOrder.{turn_done}
-use Rattle.ncl_match.specs.declared.steps.Step.{Step}
-use Rattle.ncl_match.specs.Steps.{AreAdded}
-use Rattle.ncl_match.proofs.StepLaws.{added-more, added-whole, outputs_known, turn_fresh, turn_known, turn_widths}
+use Rattle.ncl_match.proofs.StepLaws.{All, AreAdded, Cover, IsOrder, IsSome, List, Model, Option, Step, added-more, added-whole, ap, dependency_graph, get, get_or, length, map, nat_cmp, outputs_known, subst, sym, take, take_all, take_more, turn_done, turn_fresh, turn_known, turn_widths, ℕ, ◌∙◌, ◌≡◌, ◌≤◌}
 use Rattle.ncl_match.proofs.steps.add_model.Goals as goal
 
 -- the order as it is read, and the cover at a place of it

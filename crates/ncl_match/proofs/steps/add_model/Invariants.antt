@@ -1,7 +1,4 @@
-use Rattle.std.proofs.Common.{take}
-use Rattle.std.specs.Ordering.{nat_cmp}
-use Rattle.std.specs.BTreeMap.{get}
-use Rattle.ncl_match.specs.Steps.{AreAdded}
+use Rattle.ncl_match.proofs.Terms.{AreAdded, get, nat_cmp, take}
 use Rattle.ncl_match.proofs.steps.add_model.Given as goal
 
 -- the covers so far have their steps

@@ -1,7 +1,4 @@
-use Rattle.std.proofs.Common.{◌≡◌, ℕ, if◌then◌else◌, nat_lt, None, Some}
-use Rattle.std.specs.Ordering.{nat_cmp}
-use Rattle.std.specs.BTreeMap.{get}
-use Rattle.std.specs.List.{slice_index_or}
+use Rattle.ncl_match.proofs.Terms.{None, Some, get, if◌then◌else◌, nat_cmp, nat_lt, slice_index_or, ℕ, ◌≡◌}
 use Rattle.ncl_match.proofs.steps.begin.Given as goal
 
 -- the signals so far have their numbers

@@ -1,7 +1,4 @@
-use Rattle.std.proofs.Common.{◌≡◌, ℕ, suc, ◌+◌, [], ◌∷◌, ◌++◌, sym, ap, ◌∙◌, arith}
-use Rattle.std.specs.List.{range_with_len}
-use Rattle.std.proofs.lemmas.Grind.{common_steps}
-use Rattle.ncl_match.proofs.StepLaws.{range_push}
+use Rattle.ncl_match.proofs.StepLaws.{[], ap, arith, common_steps, range_push, range_with_len, suc, sym, ℕ, ◌++◌, ◌+◌, ◌∙◌, ◌∷◌, ◌≡◌}
 use Rattle.ncl_match.proofs.steps.first_numbers.Goals as goal
 
 pub loop-number-preserved : goal.loop-number-preserved

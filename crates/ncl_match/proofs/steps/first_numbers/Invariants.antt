@@ -1,5 +1,4 @@
-use Rattle.std.proofs.Common.{◌≡◌}
-use Rattle.std.specs.List.{range_with_len}
+use Rattle.ncl_match.proofs.Terms.{range_with_len, ◌≡◌}
 use Rattle.ncl_match.proofs.steps.first_numbers.Given as goal
 
 -- the numbers so far

@@ -1,9 +1,4 @@
-use Rattle.std.proofs.Common.{◌≡◌, ◌++◌, [], ◌∷◌, sym, ◌∙◌, subst, arith}
-use Rattle.std.specs.Prelude.{IsSome}
-use Rattle.std.specs.Ordering.{nat_cmp}
-use Rattle.std.specs.BTreeMap.{get}
-use Rattle.std.proofs.lemmas.Grind.{common_steps}
-use Rattle.ncl_match.proofs.StepLaws.{found_more}
+use Rattle.ncl_match.proofs.StepLaws.{IsSome, [], arith, common_steps, found_more, get, nat_cmp, subst, sym, ◌++◌, ◌∙◌, ◌∷◌, ◌≡◌}
 use Rattle.ncl_match.proofs.steps.look_up.Goals as goal
 
 pub unwrap-number-requires : goal.unwrap-number-requires

@@ -1,6 +1,4 @@
-use Rattle.std.proofs.Common.{◌≡◌, map, take, Some}
-use Rattle.std.specs.Ordering.{nat_cmp}
-use Rattle.std.specs.BTreeMap.{get}
+use Rattle.ncl_match.proofs.Terms.{Some, get, map, nat_cmp, take, ◌≡◌}
 use Rattle.ncl_match.proofs.steps.look_up.Given as goal
 
 -- the signals so far are looked up

@@ -1,8 +1,4 @@
-use Rattle.std.proofs.Common.{◌≡◌, suc, ◌-◌, false, List, [], ◌∷◌, length, get_or, refl, sym, ap, ◌∙◌, arith}
-use Rattle.std.specs.Prelude.{◌==◌}
-use Rattle.std.proofs.lemmas.Bool.Decides.{nat_tests}
-use Rattle.ncl_blif.specs.declared.model.Model.{Model}
-use Rattle.ncl_match.specs.Answer.{outputs_of}
+use Rattle.ncl_match.proofs.Terms.{List, Model, [], ap, arith, false, get_or, length, nat_tests, outputs_of, refl, suc, sym, ◌-◌, ◌==◌, ◌∙◌, ◌∷◌, ◌≡◌}
 use Rattle.ncl_match.proofs.widths.last_width.Goals as goal
 
 -- a list that has an element isn't empty

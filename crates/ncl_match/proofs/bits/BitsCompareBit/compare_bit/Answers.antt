@@ -1,13 +1,4 @@
-use Rattle.std.proofs.Common.{◌≡◌, List, Err, length, ap, ◌∙◌, arith}
-use Rattle.ncl_blif.specs.declared.model.Model.{Model}
-use Rattle.ncl_diagram.specs.Diagram.{diagram_space}
-use Rattle.ncl_cell_roles.proofs.LaidOut.{few_inputs}
-use Rattle.ncl_shape.specs.Pipeline.{PipelineData}
-use Rattle.ncl_space.specs.Space.{SpaceData}
-use Rattle.ncl_space.specs.Table.{words, table_of}
-use Rattle.ncl_match.specs.Circuit.{Circuit, circuit_of}
-use Rattle.ncl_match.specs.Difference.{apart_function}
-use Rattle.ncl_match.proofs.BitLaws.{told-over, told-within}
+use Rattle.ncl_match.proofs.BitLaws.{Circuit, Err, List, Model, PipelineData, SpaceData, ap, apart_function, arith, circuit_of, diagram_space, few_inputs, length, table_of, told-over, told-within, words, ◌∙◌, ◌≡◌}
 use Rattle.ncl_match.proofs.bits.BitsCompareBit.compare_bit.Goals as goal
 
 pub new-space-requires-clause-few : goal.new-space-requires-clause-few

@@ -1,9 +1,4 @@
-use Rattle.std.proofs.Common.{◌≡◌, ℕ, List, Some, length, refl, sym, ap, ◌∙◌, subst}
-use Rattle.std.specs.Prelude.{slice_get}
-use Rattle.std.proofs.lemmas.Option.{slice_get_read}
-use Rattle.ncl_blif.specs.declared.model.Model.{Model}
-use Rattle.ncl_match.specs.Steps.{AddsModel}
-use Rattle.ncl_match.proofs.StepLaws.{ModelsLoop, models-end, models-none, models-more, models-few}
+use Rattle.ncl_match.proofs.StepLaws.{AddsModel, List, Model, ModelsLoop, Some, ap, length, models-end, models-few, models-more, models-none, refl, slice_get, slice_get_read, subst, sym, ℕ, ◌∙◌, ◌≡◌}
 use Rattle.ncl_match.proofs.steps.OrderedModels.of.Goals as goal
 
 pub loop-model-init : goal.loop-model-init

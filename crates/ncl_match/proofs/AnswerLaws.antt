@@ -1,5 +1,5 @@
 -- The order of words, and the answers to runs of outputs and to all outputs of a pipeline and models.
-pub use Rattle.ncl_match.proofs.Terms.{Agree, AreWithin, Bool, Circuit, CompareFault, Compared, Differ, DiffersAt, Err, Full, HaveWidths, IsAnswer, IsAnswerToRun, IsBefore, IsBitAnswer, IsFirstDifference, IsFirstOver, IsIn, IsNoLater, IsOver, IsRunAnswer, IsTrue, List, Model, Ok, Result, RunAnswer, Same, [], ap, arith, beq, cases_lt, false, get_or, inl, inr, length, not, refl, subst, suc, sym, take, true, word_number, word_number-less, zero, ℕ, ◌+◌, ◌<◌, ◌^◌, ◌↔◌, ◌∙◌, ◌∷◌, ◌≡◌, ◌≢◌, ◌≤◌, ◌⊎◌}
+pub use Rattle.ncl_match.proofs.Terms.{[], Agree, AreWithin, Bool, Circuit, CompareFault, Compared, Differ, DiffersAt, Err, Full, HaveWidths, IsAnswer, IsAnswerToRun, IsBefore, IsBitAnswer, IsFirstDifference, IsFirstOver, IsIn, IsNoLater, IsOver, IsRunAnswer, IsTrue, List, Model, Ok, Result, RunAnswer, Same, ap, arith, beq, cases_lt, false, get_or, inl, inr, length, not, refl, subst, suc, sym, take, true, word_number, word_number-less, zero, ℕ, ◌+◌, ◌<◌, ◌^◌, ◌↔◌, ◌∙◌, ◌∷◌, ◌≡◌, ◌≢◌, ◌≤◌, ◌⊎◌}
 use Rattle.ncl_match.specs.declared.answer.BitAnswer.TheVariants as bit
 use Rattle.ncl_match.specs.declared.answer.RunAnswer.TheVariants as run
 use Rattle.ncl_match.specs.declared.answer.Compared.TheVariants as compared

@@ -1,5 +1,5 @@
 -- The answer to one output: what is found, and which tables are held for it.
-pub use Rattle.ncl_match.proofs.Terms.{All, All-append, All-cons, All-head, All-nil, All-tail, AllByRecursion, AreCompared, AreHeld, Beads, Bool, Circuit, Computes, DiffersAt, Err, Gathers, Gives, HoldsNets, HoldsSignals, IsHeld, IsListed, IsModel, IsNew, IsNoLater, IsOver, IsSpace, Keeps, List, Model, None, Option, Overflows, PipelineData, Rails, Some, SpaceData, Within, WordFunction, [], ap, apart_function, apart_tables, append_assoc, arith, bead_count, bit_of, both_tables, both_ways, circuit_of, closed, complement, computed, computes_one, cond, diagram_space, distinct_beads, distinct_beads-append, either_alone, false, few_inputs, find, find-words, fits, get_or, get_or-map, get_or_from_slice_get, held-along, inl, inr, inverse, is_within, least-table_of, len_grows, length, list_any, map, models_alone, nat_tests, net, netlist_alone, not, one_set, option_map, option_or, or_cases, or_left, or_right, recursion_from_All, refl, row, row_matches, rows, signal, slice_get, slice_get_within, subst, suc, sym, table_of, table_of-same, table_order, take, take_all, take_more, too_much-after, true, with_none, with_tables, without, word_number, word_number-less, words, zero, ℕ, ◌&&◌, ◌++◌, ◌+◌, ◌-◌, ◌<◌, ◌^◌, ◌||◌, ◌∙◌, ◌∷◌, ◌≡◌, ◌≢◌, ◌≤◌}
+pub use Rattle.ncl_match.proofs.Terms.{[], All, All-append, All-cons, All-head, All-nil, All-tail, AllByRecursion, AreCompared, AreHeld, Beads, Bool, Circuit, Computes, DiffersAt, Err, Gathers, Gives, HoldsNets, HoldsSignals, IsHeld, IsListed, IsModel, IsNew, IsNoLater, IsOver, IsSpace, Keeps, List, Model, None, Option, Overflows, PipelineData, Rails, Some, SpaceData, Within, WordFunction, ap, apart_function, apart_tables, append_assoc, arith, bead_count, bit_of, both_tables, both_ways, circuit_of, closed, complement, computed, computes_one, cond, diagram_space, distinct_beads, distinct_beads-append, either_alone, false, few_inputs, find, find-words, fits, get_or, get_or-map, get_or_from_slice_get, held-along, inl, inr, inverse, is_within, least-table_of, len_grows, length, list_any, map, models_alone, nat_tests, net, netlist_alone, not, one_set, option_map, option_or, or_cases, or_left, or_right, recursion_from_All, refl, row, row_matches, rows, signal, slice_get, slice_get_within, subst, suc, sym, table_of, table_of-same, table_order, take, take_all, take_more, too_much-after, true, with_none, with_tables, without, word_number, word_number-less, words, zero, ℕ, ◌&&◌, ◌++◌, ◌+◌, ◌-◌, ◌<◌, ◌^◌, ◌||◌, ◌∙◌, ◌∷◌, ◌≡◌, ◌≢◌, ◌≤◌}
 use Rattle.std.specs.FinSet as set
 
 -- ---- the first word of a width that passes a test is the least that does

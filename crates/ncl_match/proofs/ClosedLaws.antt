@@ -1,6 +1,6 @@
 -- The closure of a pipeline, cell by cell: what a gate of a stage and a register cell drive is what they make of
 -- what they read, and the rails of the inputs are as the word names them. Stages need not be sound.
-pub use Rattle.ncl_match.proofs.Terms.{AllPairs, Bool, Cell, CellAt, Contains-from_Member, Contains-from_slice_get, IsLayoutOf, Layout, List, Member, Member-append_left, Member-append_right, Member-from_Contains, Member-get_or, Member-map, Nets, Part, PipelineData, Rails, StageCell, [], among, ap, arith, at_register, circuit_of, closed, false, first_pin, first_pin-is, get_or, here, in_rail, inl, inr, is_value, left-differ, length, map, named-at, named-within, named_rails, net_of, no_rails, of_bank, of_stage, of_tree, out_of, out_rail, pairs-head, pairs-tail, passes, passes-monotone, passes_on, pin_values, rail-no_output, rail-within, rail_at, rail_nets, rail_of, refl, rounds-keep, rounds-settled, rounds-support, same_from_both, same_output, set_of, slice_get-from_Contains, stage_nets, subst, suc, sym, there, true, width, zero, ℕ, ◌<◌, ◌∙◌, ◌∷◌, ◌≡◌, ◌≢◌, ◌≤◌}
+pub use Rattle.ncl_match.proofs.Terms.{[], Bool, Cell, CellAt, Contains-from_Member, Contains-from_slice_get, IsLayoutOf, Layout, List, Member, Member-append_left, Member-append_right, Member-from_Contains, Member-get_or, Member-map, Nets, Part, PipelineData, Rails, StageCell, among, ap, arith, at_register, circuit_of, closed, false, first_pin, first_pin-is, get_or, here, in_rail, inl, inr, is_value, left-differ, length, map, named-at, named-within, named_rails, net_of, no_rails, of_bank, of_stage, of_tree, out_of, out_rail, pairs-head, pairs-tail, passes, passes-monotone, passes_on, pin_values, rail-no_output, rail-within, rail_at, rail_nets, rail_of, refl, rounds-keep, rounds-settled, rounds-support, same_from_both, same_output, set_of, slice_get-from_Contains, stage_nets, subst, suc, sym, there, true, width, zero, ℕ, ◌<◌, ◌∙◌, ◌∷◌, ◌≡◌, ◌≢◌, ◌≤◌}
 use Rattle.ncl_match.proofs.PlannedLaws.{AllDiffer}
 
 -- a rail tells its bit and its value

@@ -1,5 +1,5 @@
 -- Which nets are marked, one place further and in the end.
-pub use Rattle.ncl_match.proofs.Terms.{AreMarks, Bool, DataCell, IsOrdered, List, NetId, Reaches, Some, [], ap, arith, cases_eq, eqb-true, false, false≢true, get_or, is_marked, is_on, itself, length, nat_eq, nat_tests, or_cases, or_left, or_right, reads, refl, replicate, same_Some, slice_get, slice_get_read, slice_get_within, subst, suc, sym, true, zero, ℕ, ⊎_elim, ◌+◌, ◌-◌, ◌<◌, ◌||◌, ◌∙◌, ◌∷◌, ◌≡◌, ◌≤◌}
+pub use Rattle.ncl_match.proofs.Terms.{[], AreMarks, Bool, DataCell, IsOrdered, List, NetId, Reaches, Some, ap, arith, cases_eq, eqb-true, false, false≢true, get_or, is_marked, is_on, itself, length, nat_eq, nat_tests, or_cases, or_left, or_right, reads, refl, replicate, same_Some, slice_get, slice_get_read, slice_get_within, subst, suc, sym, true, zero, ℕ, ⊎_elim, ◌+◌, ◌-◌, ◌<◌, ◌||◌, ◌∙◌, ◌∷◌, ◌≡◌, ◌≤◌}
 
 -- ---- the member before a place of a list that is walked from its end
 

@@ -1,24 +1,18 @@
 -- The functions of the signals that count for an output: they are listed, and their tables are held once all are made.
-pub use Rattle.ncl_match.proofs.Terms.{All, All-append, All-contains, All-head, All-left, All-nil, All-right, All-tail, AreHeld, AreInRow, AreModels, AreNeeded, AreNumbered, AreOrdered, Assigns, Bool, Circuit, Contains, Contains-from_slice_get, Cover, Err, Fits, Gathers, HasFunction, HasSignal, HasStep, HaveBits, HaveSignals, HaveSteps, HoldsSignals, IsHeld, IsListed, IsModel, IsSignal, IsSpace, Keeps, List, Lit, Model, None, Option, Overflows, Pair, SignalCounts, Some, SpaceData, Step, WordFunction, [], ap, arith, bit_at, bit_function, both_tables, by_cover, by_position, cases_lt, computes_one, cover_tables, cut_at, drop, false, false≢true, first_tables, fits, fits_agree, functions_read, gathered, get_or, get_or-take, get_or_default, get_or_past, handed_on, if◌then◌else◌, inverse, is_output, length, length-take, list_any, map, map-agree_on, outputs_of, pair_at, range_with_len, recursion_from_All, refl, row_function, row_matches, row_tables, rows_function, rules, same_Some, signal_function, signals_of, slice_get, slice_get-some, slice_get_within, step_tables, subst, subst₂, suc, sym, table_of, table_of-same, tables_of_step, take, true, turn_tables, values_of, width_of, with_tables, words, zero, ℕ, ⊎_elim, ◌+◌, ◌<◌, ◌∙◌, ◌∷◌, ◌≡◌, ◌≤◌}
+pub use Rattle.ncl_match.proofs.Terms.{[], All, All-append, All-contains, All-from_members, All-head, All-left, All-member, All-nil, All-right, All-tail, AreHeld, AreInRow, AreModels, AreNeeded, AreNumbered, AreOrdered, Assigns, Bool, Circuit, Contains, Contains-from_slice_get, Cover, Err, Fits, Gathers, HasFunction, HasSignal, HasStep, HaveBits, HaveSignals, HaveSteps, HoldsSignals, IsHeld, IsListed, IsModel, IsSpace, Keeps, List, Lit, Model, None, Option, Overflows, Pair, SignalCounts, Some, SpaceData, Step, WordFunction, ap, arith, bit_at, bit_function, both_tables, by_cover, by_position, cases_lt, computes_one, cover_tables, cut_at, drop, false, false≢true, first_tables, fits, fits_agree, functions_read, gathered, get_or, get_or-take, get_or_default, get_or_past, handed_on, if◌then◌else◌, inverse, is_output, length, length-take, list_any, map, map-agree_on, outputs_of, pair_at, range_with_len, recursion_from_All, refl, row_function, row_matches, row_tables, rows_function, rules, same_Some, signal_function, signals_of, slice_get, slice_get-some, slice_get_within, step_tables, subst, subst₂, suc, sym, table_of, table_of-same, tables_of_step, take, true, turn_tables, values_of, width_of, with_tables, words, zero, ℕ, ⊎_elim, ◌+◌, ◌<◌, ◌∙◌, ◌∷◌, ◌≡◌, ◌≤◌}
 pub use Rattle.ncl_match.proofs.StepLaws.{outputs_size, outs_many}
 use Rattle.ncl_match.proofs.BitLaws.{both-listed, gathers-more, made-held, overflows-after, same-held}
 use Rattle.ncl_match.proofs.NetlistLaws.{gathered-all, has-held}
 use Rattle.ncl_match.proofs.SignalLaws.{HasRoot, IsCounted, assigns_at, at_place, bit-function, bits-front, bits-map, bits_of, counted-marked, driven, has_root, input, model_at, needed-counted, number, value_of, values-map}
 use Rattle.ncl_match.proofs.PairLaws.{same-function}
 use Rattle.ncl_match.specs.Listed as listed
+use Rattle.ncl_match.proofs.PlannedLaws.{member-gathered}
 
 -- ---- tables that were made are held
 
 -- what holds of all that turns give holds of what each gives
 gathered-each : {X : Type 0} (P : X → Type 0) (turn : ℕ → List X) (m j : ℕ) → j < m → All P (gathered turn m) → All P (turn j)
-gathered-each P turn zero j lt all = absurd (omega (arith, lt))
-gathered-each P turn (suc m) j lt all =
-    ⊎_elim
-    (λ before. gathered-each P turn m j before (All-left P (gathered turn m) (turn m) all))
-    (λ not_before.
-    let same : m ≡ j = omega (arith, lt, not_before) in
-    subst (λ k. All P (turn k)) same (All-right P (gathered turn m) (turn m) all))
-    (cases_lt j m)
+gathered-each P turn m j lt all = All-from_members P (turn j) (λ x has. All-member P (gathered turn m) all x (member-gathered turn m j x lt has))
 
 tables-held : (old now : SpaceData) (ts : List (List Bool)) → now.width ≡ old.width → now.held ≡ with_tables old ts → All (IsHeld now) ts
 tables-held old now ts wide held k d lt =

@@ -1,10 +1,10 @@
 -- The functions of the nets that count for an output: they are listed, and their tables are held once all are made.
-pub use Rattle.ncl_match.proofs.Terms.{All, All-append, All-cons, All-from_members, All-nil, AllPairs, AreDone, AreHeld, AreMarksFor, Bool, Circuit, Contains, DataCell, Err, FitPins, Gathers, HasFunction, HasRail, HaveInputs, HoldsNets, IsCase, IsErrAnd, IsEvaluated, IsHeld, IsLayoutOf, IsListed, IsOrdered, IsSpace, Keeps, Layout, List, MakesRail, Member, Member-append_left, Member-from_Contains, Model, NetCounts, Nets, None, Ok, Option, Overflows, Pair, PipelineData, Rails, Result, Shape, Some, SpaceData, SpaceFault, WordFunction, [], ap, arith, bit_function, both_tables, cell_tables, circuit_of, closed, complement, false, fits, gathered, get_or, get_or_from_slice_get, handed_on, here, if◌then◌else◌, inl, input_tables, inr, inverse, is_marked, is_needed, is_rail, is_value, laid_out_of, left-differ, length, map, no_rails, not, or_cases, or_left, or_right, out_of, pair_at, plan_of, plan_tables, rail-place, rail_at, rail_nets, rail_of, refl, rules, slice_get, slice_get-get_or, subst, suc, sym, table_of, table_of-same, there, true, with_tables, words, zero, ℕ, ◌<◌, ◌∙◌, ◌∷◌, ◌≡◌, ◌≢◌}
+pub use Rattle.ncl_match.proofs.Terms.{[], All, All-append, All-cons, All-from_members, All-nil, AllPairs, AreDone, AreHeld, AreMarksFor, Bool, Circuit, Contains, DataCell, Err, FitPins, Gathers, HasFunction, HasRail, HaveInputs, HoldsNets, IsCase, IsErrAnd, IsEvaluated, IsHeld, IsLayoutOf, IsListed, IsOrdered, IsSpace, Keeps, Layout, List, MakesRail, Member, Member-append_left, Member-from_Contains, Model, NetCounts, Nets, None, Ok, Option, Overflows, Pair, PipelineData, Rails, Result, Shape, Some, SpaceData, SpaceFault, WordFunction, ap, arith, bit_function, both_tables, cell_tables, circuit_of, closed, complement, false, fits, gathered, get_or, get_or_from_slice_get, handed_on, here, if◌then◌else◌, inl, input_tables, inr, inverse, is_marked, is_needed, is_rail, is_value, laid_out_of, left-differ, length, map, no_rails, or_cases, or_left, or_right, out_of, pair_at, plan_of, plan_tables, rail-place, rail_at, rail_nets, rail_of, refl, rules, slice_get, slice_get-get_or, subst, suc, sym, table_of, table_of-same, there, true, with_tables, words, zero, ℕ, ◌<◌, ◌∙◌, ◌∷◌, ◌≡◌, ◌≢◌}
 use Rattle.ncl_space.specs.declared.space.SpaceFault.TheVariants.{Full}
 use Rattle.ncl_match.proofs.ClosedLaws.{at-input}
 use Rattle.ncl_match.proofs.BitLaws.{both-listed, gathers-more, not-table, overflows-after}
 use Rattle.ncl_match.proofs.MarkLaws.{reached-marked}
-use Rattle.ncl_match.proofs.PairLaws.{complement-is, same-function}
+use Rattle.ncl_match.proofs.PairLaws.{complement-is, not-not, same-function}
 pub use Rattle.ncl_match.proofs.PlanLaws.{output-within, plan-evaluated, plan-fits, plan-known, plan-ordered, plan-reach}
 use Rattle.ncl_match.specs.Listed as listed
 
@@ -19,10 +19,6 @@ has-held s p f space has = record {
   one = subst (IsHeld s) has.table (space.beads p.one has.pair.one);
   zero = subst (IsHeld s) (complement-is s p f has) (space.beads p.zero has.pair.zero);
 }
-
-twice : (b : Bool) → not (not b) ≡ b
-twice true = refl
-twice false = refl
 
 rail-marked : (marks : List Bool) (rails : Rails) (r : Bool) → is_marked marks (rail_of rails r) ≡ true → is_needed marks rails ≡ true
 rail-marked marks rails true mark = or_right (is_marked marks rails.zero.0) (is_marked marks rails.one.0) mark
@@ -91,7 +87,7 @@ module _ {p : PipelineData} {l : Layout} (is : IsLayoutOf p l) where
                 let zero_is : Is (table_of (words n) (inverse (bit_function b))) =
                 subst Is (table_of-same n (λ w. closed c w (rail_at p.inputs b false)) (inverse (bit_function b)) (rail-value b false lt)) (listed.net (rail_at p.inputs b false) (counted (rail_at p.inputs b false) zero_marked)) in
                 let one_is : Is (table_of (words n) (bit_function b)) =
-                subst Is (not-table (words n) (inverse (bit_function b)) ∙ table_of-same n (inverse (inverse (bit_function b))) (bit_function b) (λ w wide. twice (bit_function b w))) (complement (table_of (words n) (inverse (bit_function b))) zero_is) in
+                subst Is (not-table (words n) (inverse (bit_function b)) ∙ table_of-same n (inverse (inverse (bit_function b))) (bit_function b) (λ w wide. not-not (bit_function b w))) (complement (table_of (words n) (inverse (bit_function b))) zero_is) in
                 All-cons Is (table_of (words n) (bit_function b)) (table_of (words n) (inverse (bit_function b)) ∷ []) one_is
                 (All-cons Is (table_of (words n) (inverse (bit_function b))) [] zero_is (All-nil Is))
             | inr one_marked ↦

@@ -1,5 +1,5 @@
 -- How the pairs of inputs, and then those of a plan, are made.
-pub use Rattle.ncl_match.proofs.Terms.{All, All-head, All-set, All-tail, AllPairs, AreDone, Bool, DataCell, Err, HasFunction, HaveInputs, IsCase, IsKnown, IsPair, IsSpace, Keeps, List, MakesPair, NetId, Nets, Pair, Rails, Some, SpaceData, WordFunction, [], ap, append-nil, arith, bit_function, both_tables, cases_eq, cell_tables, false, false≢true, fits, function_at, gathered, get_or, get_or-set_other, get_or-set_same, handed_on, if◌then◌else◌, inl, input_tables, inr, inverse, is_marked, is_needed, is_on, is_value, keeps_along, length, length-set, list_any_at, made_of, map, nat_eq, nat_tests, no_rails, pair_at, plan_tables, rail_at, rail_nets, refl, same_Some, set, slice_get, slice_get_read, subst, suc, sym, true, with_none, with_tables, ℕ, ◌++◌, ◌+◌, ◌<◌, ◌∙◌, ◌∷◌, ◌≡◌, ◌≢◌, ◌⊎◌}
+pub use Rattle.ncl_match.proofs.Terms.{[], All, All-member, All-set, AllPairs, AreDone, Bool, DataCell, Err, HasFunction, HaveInputs, IsCase, IsKnown, IsPair, IsSpace, Keeps, List, MakesPair, NetId, Nets, Pair, Rails, Some, SpaceData, WordFunction, ap, append-nil, arith, bit_function, both_tables, cases_eq, cell_tables, false, false≢true, fits, function_at, gathered, get_or, get_or-set_other, get_or-set_same, handed_on, if◌then◌else◌, inl, input_tables, inr, inverse, is_marked, is_needed, is_on, is_value, keeps_along, length, length-set, list_any_at, made_of, map, map-same, nat_eq, no_rails, pair_at, plan_tables, rail_at, rail_nets, refl, same_Some, set, slice_get, slice_get_read, subst, suc, sym, true, with_none, with_tables, ℕ, ◌++◌, ◌+◌, ◌<◌, ◌∙◌, ◌≡◌, ◌≢◌, ◌⊎◌}
 use Rattle.ncl_match.proofs.ClosedLaws.{rails-once}
 use Rattle.ncl_match.proofs.PairLaws.{Filling, Turned, filling-begins, filling-passed, function-is, has-kept, has-swapped, pairs-kept, same-function, same-tables, too_much-turn, turned-next}
 use Rattle.ncl_match.proofs.MarkLaws.{own-number}
@@ -107,13 +107,6 @@ module _ (old now : SpaceData) (inputs : List Rails) (marks : List Bool) (first 
 
 -- ---- the functions of the nets of a plan, one cell further
 
-map-same : {X Y : Type 0} (f g : X → Y) (xs : List X) → All (λ x. f x ≡ g x) xs → map f xs ≡ map g xs
-map-same f g [] same = refl
-map-same f g (x ∷ xs) same =
-    let first = All-head (λ y. f y ≡ g y) x xs same in
-    let rest = map-same f g xs (All-tail (λ y. f y ≡ g y) x xs same) in
-    λ i. first i ∷ rest i
-
 reads-own : (ins : List NetId) (i : ℕ) (d : NetId) → i < length ins → is_on ins (get_or ins i d).0 ≡ true
 reads-own ins i d lt = list_any_at (λ (x : NetId). nat_eq x.0 (get_or ins i d).0) ins i d lt (own-number (get_or ins i d).0)
 
@@ -164,7 +157,7 @@ module _ (old now : SpaceData) (plan : List DataCell) (marks : List Bool) (first
         let known = case.evaluated.in_order place cell at i d lt in
         let mark = case.closed place cell x.0 at marked (reads-own cell.ins.items i d lt) in
         function-is now (pair_at pairs x.0) (λ word. v word x.0) (done.have x.0 known mark).table w wide in
-        ap (made_of cell.kind) (map-same (λ (x : NetId). function_at now (pair_at pairs x.0) w) (λ (x : NetId). v w x.0) cell.ins.items pins)
+        ap (made_of cell.kind) (map-same (λ (x : NetId). function_at now (pair_at pairs x.0) w) (λ (x : NetId). v w x.0) cell.ins.items (All-member _ cell.ins.items pins))
         ∙ sym (case.evaluated.gives place cell w at (wide ∙ k.width))
 
     tables : both_tables now.width made_function ≡ turn place

@@ -1,5 +1,5 @@
 -- What a plan is, cell by cell, and how it is wired.
-pub use Rattle.ncl_match.proofs.Terms.{All-contains, AllPairs, Bool, Contains, Contains-from_Member, Contains-from_slice_get, DataCell, Drives, IsKnown, IsLayoutOf, IsStage, Layout, List, Member, Member-append_cases, Member-append_left, Member-append_right, Member-from_Contains, Member-map, NetId, PipelineData, Rails, Some, StageCell, StageData, [], ap, append-nil, append_assoc, arith, bank_cells, before_at, cases_eq, false, gate_cell, gathered, get_or, here, in_rail, inl, inr, laid_out_of, left-differ, length, map, map-append, member_cases, member_of_map, nets_of, out_of, out_rail, outputs_at, pairs-head, pairs-tail, parts-differ, plan_of, plan_turn, rail_at, rail_nets, refl, register_cell, register_cells, right-differ, same_Some, slice_get, slice_get-from_Contains, slice_get-some, slice_get_read, slice_get_within, stage_nets, subst, suc, sym, there, true, width, zero, ℕ, ◌++◌, ◌+◌, ◌<◌, ◌∙◌, ◌∷◌, ◌≡◌, ◌≢◌, ◌≤◌, ◌⊎◌}
+pub use Rattle.ncl_match.proofs.Terms.{[], All-contains, AllPairs, Bool, Contains, Contains-from_Member, Contains-from_slice_get, DataCell, Drives, IsKnown, IsLayoutOf, IsStage, Layout, List, Member, Member-append_cases, Member-append_left, Member-append_right, Member-from_Contains, Member-map, NetId, PipelineData, Rails, Some, StageCell, StageData, ap, append-nil, append_assoc, arith, bank_cells, before_at, cases_eq, false, gate_cell, gathered, get_or, here, in_rail, inl, inr, laid_out_of, left-differ, length, map, map-append, member_cases, member_of_map, nets_of, out_of, out_rail, outputs_at, pairs-head, pairs-tail, parts-differ, plan_of, plan_turn, rail_at, rail_nets, refl, register_cell, register_cells, right-differ, same_Some, slice_get, slice_get-from_Contains, slice_get-some, slice_get_read, slice_get_within, stage_nets, subst, suc, sym, there, true, width, zero, ℕ, ◌++◌, ◌+◌, ◌<◌, ◌∙◌, ◌∷◌, ◌≡◌, ◌≢◌, ◌≤◌, ◌⊎◌}
 
 -- ---- lists of cells each of which reads only nets that are known before it, and drives a net that isn't
 
@@ -170,7 +170,7 @@ pub data PlanPart (l : Layout) (e : DataCell) : Type 0 where
   of_bank : (k b : ℕ) (r : Bool) → k < l.last → b < width l (suc k) → e ≡ register_cell (out_rail l k b r) (in_rail l (suc k) b r) → PlanPart l e
   of_stage : (k : ℕ) (g : StageCell) → k ≤ l.last → Member g (l.stage k).cells → e ≡ gate_cell g → PlanPart l e
 
-gathered-same : {X : Type 0} (f g : ℕ → List X) (n : ℕ) → ((k : ℕ) → k < n → f k ≡ g k) → gathered f n ≡ gathered g n
+pub gathered-same : {X : Type 0} (f g : ℕ → List X) (n : ℕ) → ((k : ℕ) → k < n → f k ≡ g k) → gathered f n ≡ gathered g n
 gathered-same f g zero same = refl
 gathered-same f g (suc n) same =
     let front = gathered-same f g n (λ k lt. same k (omega arith)) in
@@ -185,7 +185,7 @@ gathered-member turn (suc n) x m =
       | inr last ↦ (n, omega arith, last)
     ]
 
-member-gathered : {X : Type 0} (turn : ℕ → List X) (n k : ℕ) (x : X) → k < n → Member x (turn k) → Member x (gathered turn n)
+pub member-gathered : {X : Type 0} (turn : ℕ → List X) (n k : ℕ) (x : X) → k < n → Member x (turn k) → Member x (gathered turn n)
 member-gathered turn zero k x lt m = absurd (omega arith)
 member-gathered turn (suc n) k x lt m =
     elim (cases_eq k n) [

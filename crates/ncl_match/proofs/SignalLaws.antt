@@ -1,8 +1,9 @@
 -- The pairs of signals, those that count, and their numbers.
-pub use Rattle.ncl_match.proofs.Terms.{All, All-cons, All-contains, All-head, All-nil, All-push, All-tail, AreModels, AreNeeded, AreNumbered, AreOrdered, Assigns, Bool, Computes, Contains, Contains-append_cases, Contains-from_slice_get, Cover, Err, Fits, Gives, HasFunction, HasStep, IfOk-weaker, IsModel, IsNeeded, IsNumbered, IsPair, IsSpace, Keeps, List, Lit, MakesPair, Model, None, Option, Pair, SignalCounts, Some, SpaceData, Step, WordFunction, [], ap, arith, bit_at, bit_function, bits_after, both_tables, by_cover, by_position, cases_eq, common_steps, cover_function, cover_tables, cover_value, eqb-true, false, false≢true, first_tables, fits, function_at, functions_at, functions_read, gathered, get_or, get_or-map, get_or-range_with_len, get_or_append_left, get_or_from_slice_get, get_or_push, handed_on, if◌then◌else◌, is_among, is_output, length, length-map, length_push, list_any, list_any_at, map, map-agree_on, map-range, nat_eq, nat_tests, or_cases, or_left, or_right, pair_at, range_with_len, refl, replicate, row_function, row_matches, row_tables, rows_function, same_Some, signal_function, signals_of, slice_get, slice_get-get_or, slice_get-some, slice_get_read, slice_get_within, step_tables, step_value, subst, suc, sym, tables_of_step, take, true, turn_tables, values_of, width_of, with_none, with_tables, zero, ℕ, ⊎_elim, ◌++◌, ◌+◌, ◌-◌, ◌<◌, ◌||◌, ◌∙◌, ◌∷◌, ◌≡◌}
+pub use Rattle.ncl_match.proofs.Terms.{[], All, All-cons, All-contains, All-head, All-nil, All-push, All-tail, AreModels, AreNeeded, AreNumbered, AreOrdered, Assigns, Bool, Computes, Contains, Contains-append_cases, Contains-from_slice_get, Cover, Err, Fits, Gives, HasFunction, HasStep, IfOk-weaker, IsModel, IsNeeded, IsNumbered, IsPair, IsSpace, Keeps, List, Lit, MakesPair, Model, None, Option, Pair, SignalCounts, Some, SpaceData, Step, WordFunction, ap, arith, bit_at, bit_function, bits_after, both_tables, by_cover, by_position, cases_eq, common_steps, cover_function, cover_tables, cover_value, eqb-true, false, false≢true, first_tables, fits, function_at, functions_at, functions_read, gathered, get_or, get_or-map, get_or-range_with_len, get_or_append_left, get_or_from_slice_get, get_or_push, handed_on, if◌then◌else◌, is_among, is_output, length, length-map, length_push, list_any, list_any_at, map, map-agree_on, map-range, nat_eq, or_cases, or_left, or_right, pair_at, range_with_len, refl, replicate, row_function, row_matches, row_tables, rows_function, same_Some, signal_function, signals_of, slice_get, slice_get-get_or, slice_get-some, slice_get_read, slice_get_within, step_tables, step_value, subst, suc, sym, tables_of_step, take, true, turn_tables, values_of, width_of, with_none, with_tables, zero, ℕ, ⊎_elim, ◌++◌, ◌+◌, ◌-◌, ◌<◌, ◌||◌, ◌∙◌, ◌∷◌, ◌≡◌}
 pub use Rattle.ncl_match.proofs.MarkLaws.{member-before, none_marked, own-number}
 pub use Rattle.ncl_match.proofs.PairLaws.{Turned, function-is, has-kept, pairs-kept, same-function, same-tables, too_much-turn, turned-next, turned-none}
 use Rattle.ncl_match.specs.Needed.{itself, reads}
+use Rattle.ncl_match.proofs.PlannedLaws.{gathered-same}
 
 -- ---- the functions of the signals of models, one signal further
 
@@ -53,18 +54,13 @@ bit-function n steps x lt w wide = sym (bits-front w steps x (omega (arith, lt, 
 
 -- ---- tables of functions that agree
 
-gathered-same : {X : Type 0} (f g : ℕ → List X) → ((k : ℕ) → f k ≡ g k) → (m : ℕ) → gathered f m ≡ gathered g m
-gathered-same f g same zero = refl
-gathered-same f g same (suc m) = λ i. gathered-same f g same m i ++ same m i
-
 pub cover_tables-same : (n : ℕ) (fs gs : List WordFunction) → ((w : List Bool) → length w ≡ n → values_of fs w ≡ values_of gs w) → (rows : List (List Lit)) → cover_tables n fs rows ≡ cover_tables n gs rows
-cover_tables-same n fs gs same rows = gathered-same (turn_tables n fs rows) (turn_tables n gs rows) turn (length rows)
+cover_tables-same n fs gs same rows = gathered-same (turn_tables n fs rows) (turn_tables n gs rows) (length rows) (λ k lt. turn k)
   where
     row : (lits : List Lit) → row_tables n fs lits ≡ row_tables n gs lits
     row lits =
-        gathered-same (λ i. both_tables n (row_function fs (take (suc i) lits))) (λ i. both_tables n (row_function gs (take (suc i) lits)))
-        (λ i. same-tables n (row_function fs (take (suc i) lits)) (row_function gs (take (suc i) lits)) (λ w wide. ap (λ vs. row_matches vs (take (suc i) lits)) (same w wide)))
-        (length lits)
+        gathered-same (λ i. both_tables n (row_function fs (take (suc i) lits))) (λ i. both_tables n (row_function gs (take (suc i) lits))) (length lits)
+        (λ i lt. same-tables n (row_function fs (take (suc i) lits)) (row_function gs (take (suc i) lits)) (λ w wide. ap (λ vs. row_matches vs (take (suc i) lits)) (same w wide)))
 
     turn : (k : ℕ) → turn_tables n fs rows k ≡ turn_tables n gs rows k
     turn k =

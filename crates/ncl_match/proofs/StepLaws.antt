@@ -1,28 +1,5 @@
 -- The steps of covers, one cover and one model further.
-pub use Rattle.ncl_match.proofs.Terms.{AddsModel, AddsStep, All, All-cons, All-nil, AreAdded, AreInRow, AreJoined, AreModels, AreNumbered, AreOrdered, Contains, Contains-push_cases, Cover, HasStep, HoldsOf, IsModel, IsNumbered, IsOrder, IsOutOf, IsSome, List, Model, Option, Some, Stay, Step, [], ap, apart_from_distinct, arith, cases_eq, common_steps, cond, covers_few, dependency_graph, driver_place, eq-eqb, eqb-true, false, false≢true, filter_map, get, get_or, get_or-append-add, get_or-map, get_or-range_with_len, get_or-take, get_or_append_left, get_or_default, get_or_from_slice_get, get_or_push, holds_of_all, inl, inr, length, length-append, length-map, length-order, length-range_with_len, length-take, length_push, map, map_more, map_push, nat_cmp, nat_eq, outputs_of, outs_differ, range_with_len, refl, same_Some, signals_of, size_of_model, slice_get, slice_get-get_or, slice_get_read, slice_get_within, subst, suc, sum_by, sum_by-cons, sum_by_push, sym, take, take_all, take_more, true, turn_done, turn_holds, turn_within, width_of, zero, zero-add, ℕ, ⊎_elim, ◌++◌, ◌+◌, ◌<◌, ◌==◌, ◌^◌, ◌∙◌, ◌∷◌, ◌≡◌, ◌≤◌, ◌⊎◌}
-
--- ---- a list with one more at its end
-
-module _ {X : Type 0} where
-  pub stays : (xs : List X) (y : X) (j : ℕ) (x : X) → slice_get xs j ≡ Some x → slice_get (xs ++ y ∷ []) j ≡ Some x
-  stays xs y j x at =
-      let within = slice_get_within xs j x at in
-      slice_get-get_or (xs ++ y ∷ []) j x (omega (arith, within, length_push xs y))
-      ∙ ap Some (get_or_append_left xs (y ∷ []) x j within ∙ get_or_from_slice_get xs j x x at)
-
-  pub at_last : (xs : List X) (y : X) → slice_get (xs ++ y ∷ []) (length xs) ≡ Some y
-  at_last xs y =
-      slice_get-get_or (xs ++ y ∷ []) (length xs) y (omega (arith, length_push xs y)) ∙ ap Some (get_or_push xs y y (length xs) refl)
-
-  pub last_cases : (xs : List X) (y : X) (j : ℕ) (x : X) → slice_get (xs ++ y ∷ []) j ≡ Some x → (slice_get xs j ≡ Some x) ⊎ ((j ≡ length xs) × (y ≡ x))
-  last_cases xs y j x at =
-      let within = slice_get_within (xs ++ y ∷ []) j x at in
-      ⊎_elim
-      (λ same. inr (same, same_Some y x (sym (at_last xs y) ∙ ap (slice_get (xs ++ y ∷ [])) (sym same) ∙ at)))
-      (λ differs.
-      let before : j < length xs = omega (arith, within, length_push xs y, differs) in
-      inl (slice_get-get_or xs j x before ∙ ap Some (sym (get_or_append_left xs (y ∷ []) x j before) ∙ get_or_from_slice_get (xs ++ y ∷ []) j x x at)))
-      (cases_eq j (length xs))
+pub use Rattle.ncl_match.proofs.Terms.{[], AddsModel, AddsStep, All, All-cons, All-nil, AreAdded, AreInRow, AreJoined, AreModels, AreNumbered, AreOrdered, Contains, Contains-push_cases, Cover, HasStep, HoldsOf, IsModel, IsNumbered, IsOrder, IsOutOf, IsSome, List, Model, Option, Some, Stay, Step, ap, apart_from_distinct, arith, common_steps, cond, covers_few, dependency_graph, driver_place, eq-eqb, eqb-true, false, false≢true, filter_map, get, get_or, get_or-append-add, get_or-map, get_or-range_with_len, get_or-take, get_or_append_left, get_or_default, get_or_from_slice_get, get_or_push, holds_of_all, inl, inr, length, length-append, length-map, length-order, length-range_with_len, length-take, length_push, map, map_more, map_push, nat_cmp, nat_eq, outputs_of, outs_differ, push_cases, range_with_len, range_with_len-more, refl, same_Some, signals_of, size_of_model, slice_get, slice_get-end, slice_get-get_or, slice_get-kept, slice_get_read, slice_get_within, subst, suc, sum_by, sum_by-cons, sum_by_push, sym, take, take_all, take_more, true, turn_done, turn_holds, turn_within, width_of, zero, zero-add, ℕ, ⊎_elim, ◌++◌, ◌+◌, ◌<◌, ◌==◌, ◌^◌, ◌∙◌, ◌∷◌, ◌≡◌, ◌≤◌, ◌⊎◌}
 
 -- ---- what is looked up
 
@@ -82,7 +59,7 @@ module _ (m : Model) (is : IsModel m) (place : ℕ) (cover : Cover) (at : slice_
 
 module _ (n : ℕ) (old steps new : List Step) (m : Model) (ins : List ℕ) (number next : ℕ → Option ℕ) (done : List ℕ) (place : ℕ) (cover : Cover) (at : slice_get m.covers place ≡ Some cover) (adds : AddsStep steps new number cover) (update : (q : ℕ) → next q ≡ cond (cover.out == q) (Some (n + length steps)) (number q)) (fresh : (x : ℕ) → number cover.out ≡ Some x → ⊥) (widths : All (λ row. length row ≡ length cover.ins) cover.rows) (a : AreAdded n old steps m ins number done) where
   grows : (j : ℕ) (step : Step) → slice_get steps j ≡ Some step → slice_get new j ≡ Some step
-  grows j step e = ap (λ l. slice_get l j) adds.steps ∙ stays steps adds.step j step e
+  grows j step e = ap (λ l. slice_get l j) adds.steps ∙ slice_get-kept steps adds.step j step e
 
   kept : (signal x : ℕ) → number signal ≡ Some x → next signal ≡ Some x
   kept signal x e =
@@ -109,7 +86,7 @@ module _ (n : ℕ) (old steps new : List Step) (m : Model) (ins : List ℕ) (num
   own-step = record {
     place = length steps;
     step = adds.step;
-    at = ap (λ l. slice_get l (length steps)) adds.steps ∙ at_last steps adds.step;
+    at = ap (λ l. slice_get l (length steps)) adds.steps ∙ slice_get-end steps adds.step (length steps) refl;
     is = adds.is;
     out = now_known;
     ins = numbers_kept number next kept cover.ins adds.step.ins adds.ins;
@@ -136,7 +113,7 @@ module _ (n : ℕ) (old steps new : List Step) (m : Model) (ins : List ℕ) (num
           (λ (j_is, same).
           subst (λ k. All (λ x. x < n + k) step.ins) (sym j_is)
           (subst (λ (s : Step). All (λ x. x < n + length steps) s.ins) same (numbers_all number (λ x. x < n + length steps) a.below cover.ins adds.step.ins adds.ins)))
-          (last_cases steps adds.step j step (ap (λ l. slice_get l j) (sym adds.steps) ∙ e));
+          (push_cases steps adds.step j step (ap (λ l. slice_get l j) (sym adds.steps) ∙ e));
       widths = λ j step e.
           ⊎_elim
           (λ before. a.ordered.widths j step before)
@@ -144,7 +121,7 @@ module _ (n : ℕ) (old steps new : List Step) (m : Model) (ins : List ℕ) (num
           subst (λ (s : Step). All (λ row. length row ≡ length s.ins) s.cover.now.rows) same
           (subst (λ (c : Cover). All (λ row. length row ≡ length adds.step.ins) c.rows) (sym adds.is)
           (subst (λ k. All (λ row. length row ≡ k) cover.rows) (sym (numbers_many number cover.ins adds.step.ins adds.ins)) widths)))
-          (last_cases steps adds.step j step (ap (λ l. slice_get l j) (sym adds.steps) ∙ e));
+          (push_cases steps adds.step j step (ap (λ l. slice_get l j) (sym adds.steps) ∙ e));
     };
     inputs = λ i lt. kept i (get_or ins i 0) (a.inputs i lt);
     covers = λ other c there c_at.
@@ -356,9 +333,3 @@ pub outs_many : (n : ℕ) (steps : List Step) (models : List Model) (ins outs : 
 outs_many n steps [] ins outs is some = absurd (omega (arith, some))
 outs_many n steps (m ∷ []) ins outs (number, between, here, rest) some = ap length rest ∙ numbers_many number m.outputs between here.outputs
 outs_many n steps (m ∷ next ∷ models) ins outs (number, between, here, rest) some = outs_many n steps (next ∷ models) between outs rest (omega arith)
-
-pub range_push : (a k : ℕ) → range_with_len a (suc k) ≡ range_with_len a k ++ (a + k) ∷ []
-range_push a zero = let e : a + 0 ≡ a = omega arith in ap (λ x. x ∷ []) (sym e)
-range_push a (suc k) =
-    let e : a + 1 + k ≡ a + suc k = omega arith in
-    ap (λ l. a ∷ l) (range_push (a + 1) k) ∙ ap (λ x. a ∷ range_with_len (a + 1) k ++ x ∷ []) e

@@ -1,5 +1,5 @@
 -- What the proofs of this crate take from the library and the terms that they speak of, passed on.
-pub use Rattle.std.proofs.Common.{Bool, Err, IsTrue, List, None, Ok, Option, Result, Some, [], ap, append_assoc, arith, cond, drop, false, get_or, get_or-set_other, get_or-set_same, if◌then◌else◌, inl, inr, length, map, nat_eq, nat_lt, not, refl, replicate, rules, set, subst, subst₂, suc, sym, take, true, zero, zero-add, ℕ, ⊎_elim, ◌&&◌, ◌*◌, ◌++◌, ◌+◌, ◌-◌, ◌/◌, ◌<◌, ◌^◌, ◌||◌, ◌∙◌, ◌∷◌, ◌≡◌, ◌≢◌, ◌≤◌, ◌⊎◌}
+pub use Rattle.std.proofs.Common.{[], Bool, Err, IsTrue, List, None, Ok, Option, Result, Some, ap, append_assoc, arith, cond, drop, false, get_or, get_or-set_other, get_or-set_same, if◌then◌else◌, inl, inr, length, map, nat_eq, nat_lt, not, refl, replicate, rules, set, subst, subst₂, suc, sym, take, true, zero, zero-add, ℕ, ⊎_elim, ◌&&◌, ◌*◌, ◌++◌, ◌+◌, ◌-◌, ◌/◌, ◌<◌, ◌^◌, ◌||◌, ◌∙◌, ◌∷◌, ◌≡◌, ◌≢◌, ◌≤◌, ◌⊎◌}
 pub use Rattle.std.proofs.lemmas.Bool.{both_ways, cases_eq, cases_lt, eq-eqb, eqb-true, false_from_ne_true, false≢true, or_cases, or_left, or_right}
 pub use Rattle.std.proofs.lemmas.Bool.Decides.{nat_tests}
 pub use Rattle.std.proofs.lemmas.Grind.{common_steps}
@@ -19,7 +19,9 @@ pub use Rattle.std.specs.Prelude.{All, AllPairs, Contains, IfOk, IsErrAnd, IsSom
 pub use Rattle.ncl_base.proofs.Growing.{cut_at}
 pub use Rattle.ncl_base.proofs.Lists.{pairs-head, pairs-tail}
 pub use Rattle.ncl_base.proofs.Members.{All-from_members, Contains-from_Member, Contains-from_slice_get, Member, Member-append_cases, Member-append_left, Member-append_right, Member-from_Contains, Member-get_or, Member-map, here, list_any-from_member, member_cases, member_from_list_any, member_of_map, slice_get-from_Contains, slice_get-some, there}
-pub use Rattle.ncl_base.proofs.Tests.{All-left, All-right, same_from_both}
+pub use Rattle.ncl_base.proofs.Ranges.{range_with_len-more}
+pub use Rattle.ncl_base.proofs.Tests.{All-left, All-member, All-right, map-same, same_from_both}
+pub use Rattle.ncl_base.proofs.Places.{slice_get-kept, slice_get-end, push_cases}
 pub use Rattle.ncl_base.specs.declared.word.TheConstants.{MOST_BITS}
 pub use Rattle.ncl_blif.proofs.Composing.{computes_one}
 pub use Rattle.ncl_blif.proofs.Fitting.{fits_agree, map-agree_on, map-range, outs_differ}
@@ -79,7 +81,7 @@ pub use Rattle.ncl_match.specs.Covers.{cover_function, cover_tables, literal_fun
 pub use Rattle.ncl_match.specs.Difference.{apart_function, apart_tables, without}
 pub use Rattle.ncl_match.specs.Gathering.{AreHeld, Gathers, IsHeld, Overflows}
 pub use Rattle.ncl_match.specs.Inputs.{HaveInputs, bit_function, input_tables, is_needed}
-pub use Rattle.ncl_match.specs.Listed.{AreCompared, Assigns, IsListed, IsSignal, complement, either_alone, models_alone, net, netlist_alone, row, rows, signal}
+pub use Rattle.ncl_match.specs.Listed.{AreCompared, Assigns, IsListed, complement, either_alone, models_alone, net, netlist_alone, row, rows, signal}
 pub use Rattle.ncl_match.specs.Making.{MakesRail}
 pub use Rattle.ncl_match.specs.Needed.{AreNeeded, IsNeeded, is_among}
 pub use Rattle.ncl_match.specs.Order.{IsBefore, IsNoLater}

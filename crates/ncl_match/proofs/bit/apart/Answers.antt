@@ -1,4 +1,4 @@
-use Rattle.ncl_match.proofs.PairLaws.{Bool, Err, IsPair, Keeps, List, MakesPair, Pair, SpaceData, Th12, WordFunction, [], ap, apart_function, at, both_tables, false, fits, function-is, function_at, functions_at, gate_function, handed_on, has-kept, held-along, keeps_along, length, or_gate, same-function, same-tables, subst, too_much-after, too_much_by_front, with_tables, without, ◌++◌, ◌||◌, ◌∙◌, ◌∷◌, ◌≡◌}
+use Rattle.ncl_match.proofs.PairLaws.{[], Bool, Err, IsPair, Keeps, List, MakesPair, Pair, SpaceData, Th12, WordFunction, ap, apart_function, at, both_tables, false, fits, function-is, function_at, functions_at, gate_function, handed_on, has-kept, held-along, keeps_along, length, or_gate, same-function, same-tables, subst, too_much-after, too_much_by_front, with_tables, without, ◌++◌, ◌||◌, ◌∙◌, ◌∷◌, ◌≡◌}
 use Rattle.ncl_match.proofs.bit.apart.Goals as goal
 
 -- three chunks of tables: where the first, or the first two, are too much, all are

@@ -1,4 +1,4 @@
-use Rattle.ncl_match.proofs.PairLaws.{IfOk-weaker, MakesPair, SpaceData, Th22, WordFunction, [], both_tables, fits-same, function_at, functions_at, gate_function, makes-same, swapped-pair, two-pairs, without, zero-literal, ◌∷◌}
+use Rattle.ncl_match.proofs.PairLaws.{[], IfOk-weaker, MakesPair, SpaceData, Th22, WordFunction, both_tables, fits-same, function_at, functions_at, gate_function, makes-same, swapped-pair, two-pairs, without, zero-literal, ◌∷◌}
 use Rattle.ncl_match.proofs.bit.without_pair.Goals as goal
 
 pub gate_pair-requires-clause-pairs : goal.gate_pair-requires-clause-pairs

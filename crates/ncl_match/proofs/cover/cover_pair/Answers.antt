@@ -1,4 +1,4 @@
-use Rattle.ncl_match.proofs.PairLaws.{Bool, List, Lit, MakesPair, Pair, SpaceData, WordFunction, [], ap, arith, cover-off, cover_function, cover_tables, false, functions_at, has-swapped, inverse, length, rows_function, same-function, subst, sym, ◌<◌, ◌==◌, ◌∙◌, ◌∷◌, ◌≡◌}
+use Rattle.ncl_match.proofs.PairLaws.{[], Bool, List, Lit, MakesPair, Pair, SpaceData, WordFunction, ap, arith, cover-off, cover_function, cover_tables, false, functions_at, has-swapped, inverse, length, rows_function, same-function, subst, sym, ◌<◌, ◌==◌, ◌∙◌, ◌∷◌, ◌≡◌}
 use Rattle.ncl_match.proofs.cover.cover_pair.Goals as goal
 use Rattle.ncl_match.proofs.cover.cover_pair.Goals.{then-cover}
 use Rattle.ncl_match.proofs.cover.cover_pair.Goals.{else-cover}

@@ -1,4 +1,4 @@
-use Rattle.ncl_match.proofs.PairLaws.{All, Bool, Err, HasFunction, IsPair, Keeps, List, Lit, MakesPair, Pair, SpaceData, Th12, Turned, WordFunction, [], ap, arith, both_tables, cover_tables, false, fits, function-is, function_at, functions-kept, functions_at, gate_function, gathered, get_or, get_or_default, handed_on, has-kept, held-along, keeps_along, length, or_gate, row_function, row_tables, rows-more, rows_function, same-function, same-tables, subst, suc, sym, take, too_much-after, too_much-turn, too_much_by_front, turn_tables, turned-next, turned-none, with_tables, ℕ, ◌+◌, ◌<◌, ◌||◌, ◌∙◌, ◌∷◌, ◌≡◌}
+use Rattle.ncl_match.proofs.PairLaws.{[], All, Bool, Err, HasFunction, IsPair, Keeps, List, Lit, MakesPair, Pair, SpaceData, Th12, Turned, WordFunction, ap, arith, both_tables, cover_tables, false, fits, function-is, function_at, functions-kept, functions_at, gate_function, gathered, get_or, get_or_default, handed_on, has-kept, held-along, keeps_along, length, or_gate, row_function, row_tables, rows-more, rows_function, same-function, same-tables, subst, suc, sym, take, too_much-after, too_much-turn, too_much_by_front, turn_tables, turned-next, turned-none, with_tables, ℕ, ◌+◌, ◌<◌, ◌||◌, ◌∙◌, ◌∷◌, ◌≡◌}
 use Rattle.ncl_match.proofs.cover.rows_pair.Goals as goal
 
 -- a turn: the next row is made, and taken

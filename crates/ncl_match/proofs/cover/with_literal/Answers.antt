@@ -1,4 +1,4 @@
-use Rattle.ncl_match.proofs.PairLaws.{Bool, IfOk, IfOk-weaker, Keeps, List, Lit, MakesPair, Pair, Result, SpaceData, SpaceFault, Th22, WordFunction, [], ap, both_tables, dash-literal, fits-same, function_at, functions_at, gate_function, length, literal_function, live-costs, makes-same, one-literal, own-function, same-function, swapped-pair, sym, two-pairs, zero-literal, ◌∙◌, ◌∷◌, ◌≡◌}
+use Rattle.ncl_match.proofs.PairLaws.{[], Bool, IfOk, IfOk-weaker, Keeps, List, Lit, MakesPair, Pair, Result, SpaceData, SpaceFault, Th22, WordFunction, ap, both_tables, dash-literal, fits-same, function_at, functions_at, gate_function, length, literal_function, live-costs, makes-same, one-literal, own-function, same-function, swapped-pair, sym, two-pairs, zero-literal, ◌∙◌, ◌∷◌, ◌≡◌}
 use Rattle.ncl_match.proofs.cover.with_literal.Goals as goal
 
 -- a gate on the function and another, where it agrees with the function and the literal

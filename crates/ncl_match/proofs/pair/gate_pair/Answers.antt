@@ -1,4 +1,4 @@
-use Rattle.ncl_match.proofs.PairLaws.{All, Err, IsLive, IsPair, IsSpace, Keeps, Kind, List, Makes, Pair, Ref, SpaceData, WordFunction, [], ap, arity_of, dual-arity, dual_of, dual_pins, dual_pins-length, dual_zeros-live, false, first-too_much, fits, functions_at, gate-one, gate-zero, gate_function, gate_table, handed_on, inverse, length, length-map, made-pair, map, ones-live, pairs-kept, second-too_much, subst, sym, table_of, words, ◌∙◌, ◌∷◌, ◌≡◌}
+use Rattle.ncl_match.proofs.PairLaws.{[], All, Err, IsLive, IsPair, IsSpace, Keeps, Kind, List, Makes, Pair, Ref, SpaceData, WordFunction, ap, arity_of, dual-arity, dual_of, dual_pins, dual_pins-length, dual_zeros-live, false, first-too_much, fits, functions_at, gate-one, gate-zero, gate_function, gate_table, handed_on, inverse, length, length-map, made-pair, map, ones-live, pairs-kept, second-too_much, subst, sym, table_of, words, ◌∙◌, ◌∷◌, ◌≡◌}
 use Rattle.ncl_match.proofs.pair.gate_pair.Goals as goal
 
 abbrev ones_of : List Pair → List Ref

@@ -1,4 +1,4 @@
-use Rattle.ncl_match.proofs.PairLaws.{Err, Makes, SpaceData, WordFunction, [], ap, false, first-too_much, fits, get_or, handed_on, made-pair, rail_table, second-too_much, subst, ℕ, ◌∷◌, ◌≡◌}
+use Rattle.ncl_match.proofs.PairLaws.{[], Err, Makes, SpaceData, WordFunction, ap, false, first-too_much, fits, get_or, handed_on, made-pair, rail_table, second-too_much, subst, ℕ, ◌∷◌, ◌≡◌}
 use Rattle.ncl_match.proofs.pair.rail_pair.Goals as goal
 
 abbrev bit_function : ℕ → WordFunction

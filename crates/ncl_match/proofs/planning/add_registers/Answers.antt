@@ -1,4 +1,4 @@
-use Rattle.ncl_match.proofs.Terms.{DataCell, List, Rails, [], ap, append_assoc, arith, get_or, length, no_rails, refl, register_cell, register_cells, suc, sym, take, zero, ℕ, ◌++◌, ◌+◌, ◌<◌, ◌∙◌, ◌∷◌, ◌≡◌}
+use Rattle.ncl_match.proofs.Terms.{[], DataCell, List, Rails, ap, append_assoc, arith, get_or, length, no_rails, refl, register_cell, register_cells, suc, sym, take, zero, ℕ, ◌++◌, ◌+◌, ◌<◌, ◌∙◌, ◌∷◌, ◌≡◌}
 use Rattle.ncl_match.proofs.planning.add_registers.Goals as goal
 
 -- one bit more

@@ -1,4 +1,4 @@
-use Rattle.ncl_match.proofs.SignalLaws.{All, All-nil, Bool, Err, HasFunction, IsPair, List, Pair, SpaceData, [], ap, arith, bit-turn, bit_at, bit_function, common_steps, false, first_tables, fits, handed_on, length, length_push, pairs-begin, pairs-more, subst, sym, too_much-turn, true, with_tables, ◌++◌, ◌+◌, ◌∙◌, ◌∷◌, ◌≡◌}
+use Rattle.ncl_match.proofs.SignalLaws.{[], All, All-nil, Bool, Err, HasFunction, IsPair, List, Pair, SpaceData, ap, arith, bit-turn, bit_at, bit_function, common_steps, false, first_tables, fits, handed_on, length, length_push, pairs-begin, pairs-more, subst, sym, too_much-turn, true, with_tables, ◌++◌, ◌+◌, ◌∙◌, ◌∷◌, ◌≡◌}
 use Rattle.ncl_match.proofs.signals.bit_pairs.Goals as goal
 
 pub loop-bit-init : goal.loop-bit-init

@@ -1,4 +1,4 @@
-use Rattle.ncl_match.proofs.SignalLaws.{All, Bool, Err, HasFunction, List, Pair, Some, SpaceData, Step, [], ap, arith, bit_at, common_steps, cover_function, cover_tables, false, fits, functions_at, handed_on, if◌then◌else◌, length, length_push, map, pair_at, pairs-begin, pairs-more, refl, signal_function, slice_get, slice_get_read, step-has, step-refused, step-turn, step-within, step_tables, subst, sym, true, with_tables, ℕ, ◌++◌, ◌+◌, ◌<◌, ◌∙◌, ◌∷◌, ◌≡◌}
+use Rattle.ncl_match.proofs.SignalLaws.{[], All, Bool, Err, HasFunction, List, Pair, Some, SpaceData, Step, ap, arith, bit_at, common_steps, cover_function, cover_tables, false, fits, functions_at, handed_on, if◌then◌else◌, length, length_push, map, pair_at, pairs-begin, pairs-more, refl, signal_function, slice_get, slice_get_read, step-has, step-refused, step-turn, step-within, step_tables, subst, sym, true, with_tables, ℕ, ◌++◌, ◌+◌, ◌<◌, ◌∙◌, ◌∷◌, ◌≡◌}
 use Rattle.ncl_match.proofs.signals.step_pairs.Goals as goal
 
 pub loop-step-init : goal.loop-step-init

@@ -1,4 +1,4 @@
-use Rattle.ncl_match.proofs.StepLaws.{IsSome, [], arith, common_steps, found_more, get, nat_cmp, subst, sym, ◌++◌, ◌∙◌, ◌∷◌, ◌≡◌}
+use Rattle.ncl_match.proofs.StepLaws.{[], IsSome, arith, common_steps, found_more, get, nat_cmp, subst, sym, ◌++◌, ◌∙◌, ◌∷◌, ◌≡◌}
 use Rattle.ncl_match.proofs.steps.look_up.Goals as goal
 
 pub unwrap-number-requires : goal.unwrap-number-requires

@@ -1,4 +1,4 @@
-use Rattle.ncl_match.proofs.Terms.{List, Model, [], ap, arith, false, get_or, length, nat_tests, outputs_of, refl, suc, sym, ◌-◌, ◌==◌, ◌∙◌, ◌∷◌, ◌≡◌}
+use Rattle.ncl_match.proofs.Terms.{[], List, Model, ap, arith, false, get_or, length, nat_tests, outputs_of, refl, suc, sym, ◌-◌, ◌==◌, ◌∙◌, ◌∷◌, ◌≡◌}
 use Rattle.ncl_match.proofs.widths.last_width.Goals as goal
 
 -- a list that has an element isn't empty

@@ -1,31 +1,61 @@
--- That there is a timed run.
-use Rattle.std.proofs.Common.{◌≡◌, ◌⊎◌, ℕ, zero, suc, ◌+◌, ◌<◌, ◌≤◌, Bool, true, false, not, ◌&&◌, eqb, cond, List, [], ◌∷◌, ◌++◌, map, length, length-append, Option, Some, None, refl, sym, ap, subst, ◌∙◌, arith, inl, inr}
-use Rattle.std.specs.Prelude.{if◌then◌else◌, slice_get}
-use Rattle.std.proofs.lemmas.List.{length-map}
-use Rattle.std.specs.List.{list_all}
-use Rattle.ncl_shape.specs.Nets.{Nets}
-use Rattle.std.proofs.lemmas.Bool.{and_from, and_parts, both_ways, eqb-false, false_from_ne_true, ne_eqb, not-true, not_from_false}
-use Rattle.std.proofs.lemmas.Option.{none-some}
-use Rattle.ncl_shape.specs.declared.item.Item.{Item}
-use Rattle.ncl_shape.specs.declared.item.Item.TheVariants.{Cell as Fire, Raise, Lower, Take, Ready}
-use Rattle.ncl_shape.specs.Pipeline.{PipelineData}
-use Rattle.ncl_machine.specs.declared.pair.Pair.{Pair}
-use Rattle.ncl_machine.specs.State.{State, reset}
-use Rattle.ncl_machine.specs.Steps.{after_lower, current_rails, enabled, put_at, step}
-use Rattle.ncl_machine.specs.Run.{IsQuiet, IsRunFrom, after}
-use Rattle.ncl_delay.specs.Delays.{DelaysData}
-use Rattle.ncl_sim.specs.Running.{GoesOn}
-use Rattle.ncl_sim.specs.Numbers.{item_number}
-use Rattle.ncl_sim.specs.TimedRun.{Ends, IsLost, IsNext, IsTimedRun, LosesNone, TraceData, due_after, is_take, items_in, last_time, lost, most_steps, over, quiet, state_after, takes_in}
-use Rattle.ncl_sim.specs.declared.trace.Taken.{Taken}
-use Rattle.ncl_sim.specs.declared.trace.End.{End}
-use Rattle.ncl_sim.specs.declared.trace.End.TheVariants.{Quiet, Hazard, Over}
-use Rattle.ncl_delay.specs.declared.fired.Fired.{Fired}
-use Rattle.ncl_sim.specs.Candidates.{candidate, due_at, number_count}
-use Rattle.ncl_sim.proofs.Candidates.{candidate-number, candidate_of, number_within}
-use Rattle.ncl_sim.proofs.Dues.{some_after}
-use Rattle.ncl_sim.proofs.Oneness.{enabled_from_due, nothing_apart, same_last}
-use Rattle.ncl_sim.proofs.Search.{IsLeast, HasNone, least_due}
+-- A timed run is there, and where it is stopped.
+use Rattle.ncl_sim.proofs.Terms.{Bool, DelaysData, End, Ends, Fire, Fired, GoesOn, Hazard, IsLost, IsNext, IsQuiet, IsRunFrom, IsStopped, IsTimedRun, Item, List, LosesNone, Lower, Nets, None, Option, Over, Pair, PipelineData, Quiet, Raise, Ready, Run, Some, State, Take, Taken, TraceData, [], after, after_lower, and_from, and_parts, ap, arith, both_ways, candidate, cases_eq, cases_lt, cond, current_rails, due_after, due_at, enabled, eqb, eqb-false, false, false_from_ne_true, if◌then◌else◌, inl, inr, is_take, item_number, items_in, last_time, length, length-append, length-map, list_all, lost, map, most_steps, ne_eqb, none-some, not, not-true, not_from_false, number_count, over, put_at, quiet, refl, reset, same_Some, slice_get, state_after, step, subst, suc, sym, takes_in, true, zero, ℕ, ◌&&◌, ◌++◌, ◌+◌, ◌<◌, ◌∙◌, ◌∷◌, ◌≡◌, ◌≤◌, ◌⊎◌}
+pub use Rattle.ncl_sim.proofs.Oneness.{candidate-number, candidate_of, enabled_from_due, nothing_apart, number_within, one_run, same_last, some_after}
+
+-- ---- the least of finitely many dues: by the due, and of one due by the number
+
+-- of the numbers below n, the number k comes first, with a due
+pub record IsLeast (due : ℕ → Option ℕ) (n k time : ℕ) : Type 0 where
+  pub within : k < n
+  pub at : due k ≡ Some time
+  pub first : (j other : ℕ) → j < n → due j ≡ Some other → (time < other) ⊎ ((time ≡ other) × (k ≤ j))
+
+abbrev pub HasLeast : (ℕ → Option ℕ) → ℕ → Type 0
+HasLeast due n = (k : ℕ) × ((time : ℕ) × IsLeast due n k time)
+
+abbrev pub HasNone : (ℕ → Option ℕ) → ℕ → Type 0
+HasNone due n = (j : ℕ) → j < n → due j ≡ None
+
+-- one number more comes first, or the one that came first still does
+least-last : (due : ℕ → Option ℕ) (n now : ℕ) → due n ≡ Some now → ((j other : ℕ) → j < n → due j ≡ Some other → now < other) → IsLeast due (suc n) n now
+least-last due n now e later = record {
+  within = omega arith;
+  at = e;
+  first = λ j other lt due_j. elim (cases_eq j n) [
+    | inl same ↦ inr (same_Some now other (sym e ∙ ap due (sym same) ∙ due_j), omega arith)
+    | inr apart ↦ inl (later j other (omega arith) due_j)
+  ];
+}
+
+least-kept : (due : ℕ → Option ℕ) (n k time : ℕ) → IsLeast due n k time → ((other : ℕ) → due n ≡ Some other → time ≤ other) → IsLeast due (suc n) k time
+least-kept due n k time is behind =
+    let before : k < n = is.within in
+    record {
+      within = omega arith;
+      at = is.at;
+      first = λ j other lt due_j. elim (cases_eq j n) [
+        | inl same ↦
+            let late = behind other (ap due (sym same) ∙ due_j) in
+            elim (cases_eq time other) [ inl one ↦ inr (one, omega arith) | inr two ↦ inl (omega (arith, late)) ]
+        | inr apart ↦ is.first j other (omega arith) due_j
+      ];
+    }
+
+least-more : (due : ℕ → Option ℕ) (n : ℕ) (here : Option ℕ) → due n ≡ here → HasLeast due n ⊎ HasNone due n → HasLeast due (suc n) ⊎ HasNone due (suc n)
+least-more due n None e (inr none) = inr (λ j lt. elim (cases_eq j n) [ inl same ↦ ap due same ∙ e | inr apart ↦ none j (omega arith) ])
+least-more due n None e (inl (k, (time, is))) = inl (k, (time, least-kept due n k time is (λ other at. absurd (none-some other (sym e ∙ at)))))
+least-more due n (Some now) e (inr none) = inl (n, (now, least-last due n now e (λ j other lt at. absurd (none-some other (sym (none j lt) ∙ at)))))
+least-more due n (Some now) e (inl (k, (time, is))) =
+    elim (cases_lt now time) [
+      | inl less ↦ inl (n, (now, least-last due n now e (λ j other lt at. elim (is.first j other lt at) [ inl later ↦ omega arith | inr (same, above) ↦ omega arith ])))
+      | inr not_less ↦ inl (k, (time, least-kept due n k time is (λ other at. let one : now ≡ other = same_Some now other (sym e ∙ at) in omega arith)))
+    ]
+
+pub least_due : (due : ℕ → Option ℕ) (n : ℕ) → HasLeast due n ⊎ HasNone due n
+least_due due zero = inr (λ j lt. absurd (omega arith))
+least_due due (suc n) = least-more due n (due n) refl (least_due due n)
+
+-- ---- that there is a timed run
 
 -- ---- lists with a last element
 
@@ -265,3 +295,26 @@ pub some_run : (p : PipelineData) (d : DelaysData) (offered : List (List Bool)) 
 some_run p d offered =
     run_from p d offered (most_steps p offered) [] (omega arith)
     (record { run = tt; next = λ before rest f e. absurd (nothing_apart before rest f e); goes_on = λ before rest f end e ends. nothing_apart before rest f e })
+
+-- ---- what a run that has stopped says of its steps and of what was delivered
+
+-- as many pairs were delivered as words were taken
+pub stopped-takes : (p : PipelineData) (d : DelaysData) (r : Run) (end : End) → IsStopped p d r end → (steps : List Fired) (pairs : List Pair) → steps ≡ r.steps.items → pairs ≡ r.state.delivered → length (takes_in steps) ≡ length pairs
+stopped-takes p d r end is steps pairs same lent =
+    let here : length r.state.delivered ≡ length (state_after p r.state.offered r.steps.items).delivered = ap (λ (s : State). length s.delivered) is.state in
+    let counted = delivered_by_steps p (reset p r.state.offered) r.steps.items in
+    ap (λ l. length (takes_in l)) same ∙ sym (here ∙ counted ∙ omega arith) ∙ ap length (sym lent)
+
+-- the steps, with the pairs and the times at which they were taken, are the timed run
+pub stopped-run : (p : PipelineData) (d : DelaysData) (r : Run) (end : End) (words : List (List Bool)) (steps lent : List Fired) (pairs : List Pair) (taken : List Taken) → IsStopped p d r end → r.state.offered ≡ words → steps ≡ r.steps.items → lent ≡ r.steps.items → pairs ≡ r.state.delivered → map (λ (x : Taken). x.time) taken ≡ map (λ (f : Fired). f.time) (takes_in lent) → map (λ (x : Taken). x.pair) taken ≡ pairs → IsTimedRun p d words (record { steps = steps; delivered = taken; end = end })
+stopped-run p d r end words steps lent pairs taken is offered same same' given times told =
+    subst (λ (ws : List (List Bool)). IsTimedRun p d ws (record { steps = steps; delivered = taken; end = end })) offered
+    (subst (λ (l : List Fired). IsTimedRun p d r.state.offered (record { steps = l; delivered = taken; end = end })) (sym same)
+    (record {
+      run = is.goes_on.run;
+      next = is.goes_on.next;
+      goes_on = is.goes_on.goes_on;
+      ends = is.ends;
+      times = times ∙ ap (λ l. map (λ (f : Fired). f.time) (takes_in l)) same';
+      pairs = told ∙ given ∙ ap (λ (s : State). s.delivered) is.state;
+    }))

@@ -1,13 +1,5 @@
 -- An item that is enabled is one of the pipeline, so the item of a hazard is.
-use Rattle.std.proofs.Common.{◌≡◌, ℕ, Bool, List, subst}
-use Rattle.ncl_shape.specs.declared.item.Item.{Item}
-use Rattle.ncl_shape.specs.Pipeline.{PipelineData}
-use Rattle.ncl_machine.specs.Held.{InRange}
-use Rattle.ncl_delay.specs.Delays.{DelaysData}
-use Rattle.ncl_sim.specs.TimedRun.{Ends, IsTimedRun, TraceData, lost, over, quiet, state_after}
-use Rattle.ncl_sim.specs.declared.trace.End.{End}
-use Rattle.ncl_sim.specs.declared.trace.End.TheVariants.{Hazard}
-use Rattle.ncl_machine.proofs.EnabledItems.{item_in_range}
+use Rattle.ncl_sim.proofs.Terms.{Bool, DelaysData, End, Ends, Hazard, InRange, IsTimedRun, Item, List, PipelineData, TraceData, item_in_range, lost, over, quiet, state_after, subst, ℕ, ◌≡◌}
 
 -- it was enabled before the last step
 pub hazard_in_range : (p : PipelineData) (d : DelaysData) (offered : List (List Bool)) (t : TraceData) (item : Item) (time : ℕ) → IsTimedRun p d offered t → t.end ≡ Hazard item time → InRange p item

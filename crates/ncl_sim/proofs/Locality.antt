@@ -1,27 +1,37 @@
--- A step leaves what it doesn't touch, and its own number rests where it isn't touched.
-use Rattle.std.proofs.Common.{◌≡◌, ◌≢◌, ℕ, zero, suc, ◌+◌, ◌<◌, Bool, true, false, not, ◌&&◌, ◌||◌, if◌then◌else◌, List, [], ◌∷◌, length, Option, Some, None, refl, sym, ap, subst, ◌∙◌, arith, inl, inr}
-use Rattle.std.specs.Prelude.{slice_get}
-use Rattle.std.specs.List.{list_all}
-use Rattle.std.proofs.lemmas.Bool.{and_left, and_parts, and_right, both_ways, cases_Bool, cond-false, cond-true, false_from_ne_true, not-true, not_from_true}
-use Rattle.std.proofs.lemmas.Option.{none-some, same_Some}
-use Rattle.ncl_netlist.specs.declared.cell.Cell.{Cell}
-use Rattle.ncl_shape.specs.declared.item.Item.{Item}
-use Rattle.ncl_shape.specs.declared.item.Item.TheVariants.{Cell as Fire, Raise, Lower, Take, Ready}
-use Rattle.ncl_shape.specs.declared.rails.Rails.{Rails}
-use Rattle.ncl_shape.specs.Nets.{Nets, with_net}
-use Rattle.ncl_cell_rules.specs.Origin.{CellAt}
-use Rattle.ncl_shape.specs.Pipeline.{PipelineData}
-use Rattle.ncl_shape.specs.Stage.{named_rails, rail_nets}
-use Rattle.ncl_machine.specs.State.{State}
-use Rattle.ncl_machine.specs.Steps.{after_lower, after_raise, current_rails, differ, enabled, fired, has_value, is_data, is_excited, is_null, next_value, put_at, rails_of_word, step}
-use Rattle.ncl_sim.specs.Numbers.{item_number}
-use Rattle.ncl_sim.specs.Touch.{AreApart, AreDrivenOnce, AreEnds, Avoids, IsApart, IsUntouched}
-use Rattle.ncl_machine.specs.OneChange.{net_of_step, out_at}
-use Rattle.ncl_sim.specs.Candidates.{bit_candidate, candidate, sink_candidate}
-use Rattle.ncl_machine.proofs.EnabledItems.{and3, bit_within, excited_within}
-use Rattle.ncl_machine.proofs.LocalNets.{with_net-here}
-use Rattle.ncl_sim.proofs.Candidates.{and2, bit_number, candidate_at_sink, cell_candidate}
-use Rattle.ncl_sim.proofs.Untouched.{with_net-other, rests, untouched}
+-- What a step can change.
+use Rattle.ncl_sim.proofs.Terms.{AreApart, AreDrivenOnce, AreEnds, Avoids, Bool, Cell, CellAt, Fire, IsApart, IsUntouched, Item, List, Lower, NetId, Nets, None, Option, PipelineData, Rails, Raise, Ready, Some, State, Take, [], after_lower, after_raise, and3, and_left, and_parts, and_right, ap, arith, bit_candidate, bit_within, both_ways, candidate, cases_Bool, cond, cond-false, cond-true, current_rails, differ, enabled, excited_within, false, false_from_ne_true, fired, has_value, if◌then◌else◌, inl, inr, is_data, is_excited, is_null, item_number, length, list_all, named_rails, ne_eqb, net_of_step, next_of_cell, next_of_cell-again, next_value, none-some, not, not-true, not_from_true, out_at, pin_values, put_at, rail_nets, rails_of_word, refl, same_Some, sink_candidate, slice_get, step, subst, suc, sym, true, with_net, with_net-here, zero, ℕ, ◌&&◌, ◌+◌, ◌<◌, ◌||◌, ◌∙◌, ◌∷◌, ◌≡◌, ◌≢◌}
+use Rattle.ncl_sim.proofs.Oneness.{and2, bit_number, candidate_at_sink, cell_candidate}
+
+-- ---- what a step can touch: a cell that reads another net, and doesn't drive it, is excited as before; a cell that has stepped and doesn't read its own output isn't
+
+pub with_net-other : (v : Nets) (net other : ℕ) (value : Bool) → (net ≡ other → ⊥) → with_net v net value other ≡ v other
+with_net-other v net other value apart = ap (λ t. cond t value (v other)) (ne_eqb net other apart)
+
+pub pins_unread : (v : Nets) (net : ℕ) (value : Bool) (ins : List NetId) → Avoids net ins → pin_values (with_net v net value) ins ≡ pin_values v ins
+pins_unread v net value [] avoids = refl
+pins_unread v net value (x ∷ xs) avoids = ap (λ b. b ∷ pin_values (with_net v net value) xs) (with_net-other v net x.0 value avoids.0) ∙ ap (λ bs. v x.0 ∷ bs) (pins_unread v net value xs avoids.1)
+
+abbrev pub excited : Nets → Cell → Bool
+excited v c = differ (next_value v c) (v c.out.0)
+
+pub untouched : (v : Nets) (net : ℕ) (value : Bool) (c : Cell) → Avoids net c.ins.items → (net ≡ c.out.0 → ⊥) → excited (with_net v net value) c ≡ excited v c
+untouched v net value c avoids apart =
+    rw (pins_unread v net value c.ins.items avoids, with_net-other v net c.out.0 value apart) refl
+
+differ-self : (b : Bool) → differ b b ≡ false
+differ-self true = refl
+differ-self false = refl
+
+-- the next value of the cell is its next value once more
+again : (v : Nets) (c : Cell) → Avoids c.out.0 c.ins.items → next_value (with_net v c.out.0 (next_value v c)) c ≡ next_of_cell c.kind (pin_values v c.ins.items) (next_value v c)
+again v c avoids = rw (pins_unread v c.out.0 (next_value v c) c.ins.items avoids, with_net-here v c.out.0 (next_value v c)) refl
+
+-- a cell that has stepped and doesn't read its own output isn't excited
+pub rests : (v : Nets) (c : Cell) → Avoids c.out.0 c.ins.items → excited (with_net v c.out.0 (next_value v c)) c ≡ false
+rests v c avoids =
+    rw (again v c avoids, with_net-here v c.out.0 (next_value v c), next_of_cell-again c.kind (pin_values v c.ins.items) (v c.out.0)) (differ-self (next_value v c))
+
+-- ---- a step leaves what it doesn't touch, and its own number rests where it isn't touched
 
 -- ---- the rails of the current word
 

@@ -1,23 +1,146 @@
--- What is due after one more step, number by number, and what was lost.
-use Rattle.std.proofs.Common.{◌≡◌, ◌≢◌, ℕ, ◌<◌, Bool, true, false, eqb, if◌then◌else◌, List, [], ◌∷◌, ◌++◌, Option, Some, None, refl, sym, ap, subst, ◌∙◌, inl, inr}
-use Rattle.std.proofs.lemmas.Bool.{both_ways, cases_Bool, cond-false, cond-true, eqb-false, false_from_ne_true, ne_eqb}
-use Rattle.ncl_shape.specs.declared.item.Item.{Item}
-use Rattle.ncl_shape.specs.Pipeline.{PipelineData}
-use Rattle.ncl_machine.specs.State.{State, reset}
-use Rattle.ncl_machine.specs.Steps.{enabled, step}
-use Rattle.ncl_machine.specs.Run.{after}
-use Rattle.ncl_delay.specs.Delays.{DelaysData}
-use Rattle.ncl_sim.specs.Numbers.{item_number}
-use Rattle.ncl_sim.specs.TimedRun.{IsLost, due_after, due_next, items_in, state_after}
-use Rattle.ncl_sim.specs.Touch.{AreDrivenOnce, AreEnds, IsUntouched}
-use Rattle.ncl_machine.specs.OneChange.{net_of_step}
-use Rattle.ncl_sim.specs.Candidates.{IsFree, candidate, due_at, look, number_count, popped}
-use Rattle.ncl_delay.specs.declared.fired.Fired.{Fired}
-use Rattle.ncl_sim.proofs.Candidates.{candidate-number, candidate_of}
-use Rattle.ncl_sim.proofs.Dues.{due_along-more, none_after, some_after}
+-- Where the simulator looks after a step, and at the start.
+pub use Rattle.ncl_sim.proofs.Terms.{AreDrivenOnce, AreEnds, Avoids, Bool, Cell, CellAt, DelaysData, Fired, IsApart, IsFree, IsLost, IsTracked, IsUntouched, Item, List, Member, None, Option, PipelineData, Some, State, [], after, and_from, and_parts, ap, arith, begins, bit_candidate, both_ways, candidate, cases_Bool, cases_eq, cond-false, cond-true, due_after, due_at, due_next, due_now, enabled, eqb, eqb-false, false, false_from_ne_true, get_or, here, if◌then◌else◌, inl, inr, is_waiting, item_number, items_in, least_of, length, length-replicate, length-set, look, look_at, looks, loses, lower, meaning, member_cases, min, ne_eqb, net_of_step, not, note, number_count, popped, rail_nets, refl, replicate, reset, set, sink_candidate, slice_get, state_after, step, subst, suc, sym, take, take_more, there, true, zero, ℕ, ◌&&◌, ◌++◌, ◌+◌, ◌-◌, ◌<◌, ◌∙◌, ◌∷◌, ◌≡◌, ◌≢◌, ◌≤◌, ◌⊎◌}
+use Rattle.ncl_sim.proofs.QueueLaws.{set-elsewhere, set-there}
+use Rattle.ncl_sim.proofs.Oneness.{candidate-number, candidate_at_bit, candidate_at_sink, candidate_of, cell_candidate, due_along-more, enabled_from_due, none_after, same_last, some_after}
 use Rattle.ncl_sim.proofs.Existence.{due_shows}
 use Rattle.ncl_sim.proofs.Locality.{candidate_stays, own_rests, untouched_item}
-use Rattle.ncl_sim.proofs.Oneness.{enabled_from_due, same_last}
+
+-- ---- looks at many numbers: what they leave in the table, and the least number that was lost
+
+pub begins-both : (p : PipelineData) (s : State) (waits : List (Option ℕ)) (k : ℕ) → enabled p s (candidate p s k) ≡ true → is_waiting (slice_get waits k) ≡ false → begins p s waits k ≡ true
+begins-both p s waits k on none = and_from (enabled p s (candidate p s k)) (not (is_waiting (slice_get waits k))) on (ap not none)
+
+pub begins-off : (p : PipelineData) (s : State) (waits : List (Option ℕ)) (k : ℕ) → enabled p s (candidate p s k) ≡ false → begins p s waits k ≡ false
+begins-off p s waits k off = ap (λ b. b && not (is_waiting (slice_get waits k))) off
+
+pub begins-waiting : (p : PipelineData) (s : State) (waits : List (Option ℕ)) (k : ℕ) → is_waiting (slice_get waits k) ≡ true → begins p s waits k ≡ false
+begins-waiting p s waits k on = ap (λ b. enabled p s (candidate p s k) && not b) on ∙ no (enabled p s (candidate p s k))
+  where
+    no : (b : Bool) → (b && false) ≡ false
+    no true = refl
+    no false = refl
+
+-- a look loses nothing and finds nothing again: only a number that is enabled changes
+pub loses-look_at : (p : PipelineData) (d : DelaysData) (s : State) (time : ℕ) (waits : List (Option ℕ)) (j k : ℕ) → loses p s (look_at p d s time waits j) k ≡ loses p s waits k
+loses-look_at p d s time waits j k =
+    elim (cases_Bool (begins p s waits j)) [
+      | inl on ↦ elim (cases_eq j k) [
+        | inl same ↦
+            let is_on : enabled p s (candidate p s k) ≡ true = ap (λ n. enabled p s (candidate p s n)) (sym same) ∙ (and_parts (enabled p s (candidate p s j)) (not (is_waiting (slice_get waits j))) on).0 in
+            ap (λ b. not b && is_waiting (slice_get (look_at p d s time waits j) k)) is_on ∙ sym (ap (λ b. not b && is_waiting (slice_get waits k)) is_on)
+        | inr other ↦
+            ap (λ ws. loses p s ws k) (cond-true (begins p s waits j) (set waits j (Some (due_now p d s time j))) waits on)
+            ∙ ap (λ w. not (enabled p s (candidate p s k)) && is_waiting w) (set-elsewhere waits j k (Some (due_now p d s time j)) other)
+      ]
+      | inr off ↦ ap (λ ws. loses p s ws k) (cond-false (begins p s waits j) (set waits j (Some (due_now p d s time j))) waits off)
+    ]
+
+pub loses-looks : (p : PipelineData) (d : DelaysData) (s : State) (time : ℕ) (waits : List (Option ℕ)) (ks : List ℕ) (k : ℕ) → loses p s (looks p d s time waits ks) k ≡ loses p s waits k
+loses-looks p d s time waits [] k = refl
+loses-looks p d s time waits (j ∷ ks) k = loses-looks p d s time (look_at p d s time waits j) ks k ∙ loses-look_at p d s time waits j k
+
+pub length-look_at : (p : PipelineData) (d : DelaysData) (s : State) (time : ℕ) (waits : List (Option ℕ)) (k : ℕ) → length (look_at p d s time waits k) ≡ length waits
+length-look_at p d s time waits k = elim (cases_Bool (begins p s waits k)) [
+  | inl on ↦ ap length (cond-true (begins p s waits k) (set waits k (Some (due_now p d s time k))) waits on) ∙ length-set waits k (Some (due_now p d s time k))
+  | inr off ↦ ap length (cond-false (begins p s waits k) (set waits k (Some (due_now p d s time k))) waits off)
+]
+
+pub length-looks : (p : PipelineData) (d : DelaysData) (s : State) (time : ℕ) (waits : List (Option ℕ)) (ks : List ℕ) → length (looks p d s time waits ks) ≡ length waits
+length-looks p d s time waits [] = refl
+length-looks p d s time waits (k ∷ ks) = length-looks p d s time (look_at p d s time waits k) ks ∙ length-look_at p d s time waits k
+
+-- one number more
+pub looks-more : (p : PipelineData) (d : DelaysData) (s : State) (time : ℕ) (waits : List (Option ℕ)) (ks : List ℕ) (k : ℕ) → looks p d s time waits (ks ++ k ∷ []) ≡ look_at p d s time (looks p d s time waits ks) k
+looks-more p d s time waits [] k = refl
+looks-more p d s time waits (j ∷ ks) k = looks-more p d s time (look_at p d s time waits j) ks k
+
+pub least_of-more : (test : ℕ → Bool) (least : Option ℕ) (ks : List ℕ) (k : ℕ) → least_of test least (ks ++ k ∷ []) ≡ note (test k) (least_of test least ks) k
+least_of-more test least [] k = refl
+least_of-more test least (j ∷ ks) k = least_of-more test (note (test j) least j) ks k
+
+-- ---- the least of those that pass
+
+-- where there is none, none passes
+pub none-of_least : (test : ℕ → Bool) (least : Option ℕ) (ks : List ℕ) → least_of test least ks ≡ None → (least ≡ None) × ((k : ℕ) → Member k ks → test k ≡ false)
+none-of_least test least [] none = (none, λ k m. elim m [ ])
+none-of_least test least (j ∷ ks) none =
+    let (noted, rest) = none-of_least test (note (test j) least j) ks none in
+    let (before, off) = unnoted (test j) least j noted in
+    (before, λ k m. elim (member_cases k j ks m) [ inl same ↦ subst (λ n. test n ≡ false) same off | inr later ↦ rest k later ])
+  where
+    lowered : (least : Option ℕ) (j : ℕ) → lower least j ≡ None → ⊥
+    lowered None j e = absurd cc
+    lowered (Some least) j e = absurd cc
+
+    unnoted : (on : Bool) (least : Option ℕ) (j : ℕ) → note on least j ≡ None → (least ≡ None) × (on ≡ false)
+    unnoted true least j e = absurd (lowered least j e)
+    unnoted false least j e = (e, refl)
+
+-- what is least is the earlier one or passes, and is no greater than the earlier one and those that pass
+abbrev pub IsNoGreater : ℕ → Option ℕ → Type 0
+IsNoGreater least None = Unit {0}
+IsNoGreater least (Some other) = least ≤ other
+
+pub record IsLeastOf (test : ℕ → Bool) (earlier : Option ℕ) (ks : List ℕ) (least : ℕ) : Type 0 where
+  pub is : (earlier ≡ Some least) ⊎ (Member least ks × (test least ≡ true))
+  pub below : IsNoGreater least earlier
+  pub first : (k : ℕ) → Member k ks → test k ≡ true → least ≤ k
+
+pub some-of_least : (test : ℕ → Bool) (earlier : Option ℕ) (ks : List ℕ) (least : ℕ) → least_of test earlier ks ≡ Some least → IsLeastOf test earlier ks least
+some-of_least test earlier [] least e = record { is = inl e; below = subst (IsNoGreater least) (sym e) (omega arith); first = λ k m on. elim m [ ] }
+some-of_least test earlier (j ∷ ks) least e = from (test j) refl (some-of_least test (note (test j) earlier j) ks least e)
+  where
+    lower_is : (earlier : Option ℕ) → lower earlier j ≡ Some least → (earlier ≡ Some least) ⊎ (j ≡ least)
+    lower_is None e = let same : j ≡ least = cc in inr same
+    lower_is (Some other) e =
+        let same : min other j ≡ least = cc in
+        elim (cases_eq j least) [ inl is_j ↦ inr is_j | inr not_j ↦ let o : other ≡ least = omega arith in inl (ap (λ n. Some n) o) ]
+
+    lower_below : (earlier : Option ℕ) → IsNoGreater least (lower earlier j) → IsNoGreater least earlier × (least ≤ j)
+    lower_below None le = (tt, le)
+    lower_below (Some other) le = (omega arith, omega arith)
+
+    from : (on : Bool) → test j ≡ on → IsLeastOf test (note on earlier j) ks least → IsLeastOf test earlier (j ∷ ks) least
+    from true passes rest =
+        let (below, le) = lower_below earlier rest.below in
+        record {
+          is = elim rest.is [
+            | inl was ↦ elim (lower_is earlier was) [ inl before ↦ inl before | inr same ↦ inr (subst (λ n. Member n (j ∷ ks)) same here, subst (λ n. test n ≡ true) same passes) ]
+            | inr later ↦ inr (there later.0, later.1)
+          ];
+          below = below;
+          first = λ k m on. elim (member_cases k j ks m) [ inl same ↦ subst (λ n. least ≤ n) same le | inr later ↦ rest.first k later on ];
+        }
+    from false fails rest = record {
+      is = elim rest.is [ inl was ↦ inl was | inr later ↦ inr (there later.0, later.1) ];
+      below = rest.below;
+      first = λ k m on. elim (member_cases k j ks m) [
+        | inl same ↦ absurd (both_ways (test k) (subst (λ n. test n ≡ false) same fails) on)
+        | inr later ↦ rest.first k later on
+      ];
+    }
+
+-- ---- a loop over numbers
+
+pub looks-next : (p : PipelineData) (d : DelaysData) (s : State) (time : ℕ) (waits now : List (Option ℕ)) (ks : List ℕ) (i : ℕ) → now ≡ looks p d s time waits (take i ks) → i < length ks → look_at p d s time now (get_or ks i 0) ≡ looks p d s time waits (take (i + 1) ks)
+looks-next p d s time waits now ks i is lt =
+    ap (λ ws. look_at p d s time ws (get_or ks i 0)) is ∙ sym (looks-more p d s time waits (take i ks) (get_or ks i 0)) ∙ ap (looks p d s time waits) (sym (take_more ks i 0 lt))
+
+pub least_of-next : (p : PipelineData) (d : DelaysData) (s : State) (time : ℕ) (waits now : List (Option ℕ)) (least next : Option ℕ) (ks : List ℕ) (i : ℕ) → now ≡ looks p d s time waits (take i ks) → i < length ks → least ≡ least_of (loses p s waits) None (take i ks) → next ≡ note (loses p s now (get_or ks i 0)) least (get_or ks i 0) → next ≡ least_of (loses p s waits) None (take (i + 1) ks)
+least_of-next p d s time waits now least next ks i is lt least_is noted =
+    noted
+    ∙ ap (λ b. note b least (get_or ks i 0)) (ap (λ ws. loses p s ws (get_or ks i 0)) is ∙ loses-looks p d s time waits (take i ks) (get_or ks i 0))
+    ∙ ap (λ l. note (loses p s waits (get_or ks i 0)) l (get_or ks i 0)) least_is
+    ∙ sym (least_of-more (loses p s waits) None (take i ks) (get_or ks i 0))
+    ∙ ap (least_of (loses p s waits) None) (sym (take_more ks i 0 lt))
+
+pub note-then : (on : Bool) (least next : Option ℕ) (k : ℕ) → on ≡ true → next ≡ lower least k → next ≡ note on least k
+note-then on least next k is e = e ∙ ap (λ b. note b least k) (sym is)
+
+pub note-else : (on : Bool) (least next : Option ℕ) (k : ℕ) → on ≡ false → next ≡ least → next ≡ note on least k
+note-else on least next k is e = e ∙ ap (λ b. note b least k) (sym is)
+
+-- ---- what is due after one more step, number by number, and what was lost
 
 -- after the step a number waited, and its candidate isn't enabled
 pub record IsSeenLost (p : PipelineData) (d : DelaysData) (offered : List (List Bool)) (steps : List Fired) (f : Fired) (k : ℕ) : Type 0 where
@@ -178,3 +301,87 @@ module _ (p : PipelineData) (d : DelaysData) (offered : List (List Bool)) (steps
       let (other, was_on) = lost_was item is in
       both_ways (enabled p (state_after p offered (steps ++ f ∷ [])) item) is.gone
       (ap (λ s. enabled p s item) (state-more p offered steps f) ∙ untouched_item p (state_after p offered steps) f.item net item ends once on at free other ∙ was_on)
+
+-- ---- the look at all numbers at time 0, and the numbers that need no look, by their kinds
+
+-- ---- the numbers that need no look
+
+pub free-cell : (p : PipelineData) (net k : ℕ) → k < length p.netlist.cells → ((c : Cell) → CellAt p.netlist k c → Avoids net c.ins.items) → IsFree p net k
+free-cell p net k lt avoids = λ s. subst (IsUntouched p net) (sym (cell_candidate p s k lt)) avoids
+
+free_bit_item : (p : PipelineData) (net : ℕ) (falling : Bool) (bit : ℕ) → net ≢ p.ko → IsUntouched p net (bit_candidate falling bit)
+free_bit_item p net true bit apart = apart
+free_bit_item p net false bit apart = apart
+
+pub free-bit : (p : PipelineData) (net k : ℕ) → length p.netlist.cells ≤ k → k < length p.netlist.cells + length p.inputs → net ≢ p.ko → IsFree p net k
+free-bit p net k ge lt apart = λ s. subst (IsUntouched p net) (sym (candidate_at_bit p s k ge lt)) (free_bit_item p net s.falling (k - length p.netlist.cells) apart)
+
+free_sink_item : (p : PipelineData) (net : ℕ) (asks : Bool) → IsApart net (rail_nets p.outputs) → IsUntouched p net (sink_candidate asks)
+free_sink_item p net true apart = apart
+free_sink_item p net false apart = apart
+
+pub free-sink : (p : PipelineData) (net k : ℕ) → length p.netlist.cells + length p.inputs ≤ k → IsApart net (rail_nets p.outputs) → IsFree p net k
+free-sink p net k ge apart = λ s. subst (IsUntouched p net) (sym (candidate_at_sink p s k ge)) (free_sink_item p net (s.value p.ki) apart)
+
+-- ---- the start
+
+none-at : (n k : ℕ) → k < n → slice_get (replicate {A = Option ℕ} n None) k ≡ Some None
+none-at zero k lt = absurd (omega arith)
+none-at (suc n) zero lt = refl
+none-at (suc n) (suc k) lt = none-at n k (omega arith)
+
+-- the numbers below i were looked at, at time 0
+pub record IsStarting (p : PipelineData) (d : DelaysData) (offered : List (List Bool)) (i : ℕ) (waits : List (Option ℕ)) : Type 0 where
+  pub count : length waits ≡ number_count p
+  pub before : (k : ℕ) → k < i → slice_get waits k ≡ Some (due_at p d offered [] k)
+  pub from : (k : ℕ) → i ≤ k → k < number_count p → slice_get waits k ≡ Some None
+
+pub starting : (p : PipelineData) (d : DelaysData) (offered : List (List Bool)) → IsStarting p d offered 0 (replicate (number_count p) None)
+starting p d offered = record {
+  count = length-replicate (number_count p) None;
+  before = λ k lt. absurd (omega arith);
+  from = λ k ge lt. none-at (number_count p) k lt;
+}
+
+module _ (p : PipelineData) (d : DelaysData) (offered : List (List Bool)) (i : ℕ) (waits : List (Option ℕ)) (is : IsStarting p d offered i waits) (lt : i < number_count p) where
+  -- enabled: it waits from time 0 on
+  starts_to_wait : enabled p (reset p offered) (candidate p (reset p offered) i) ≡ true → IsStarting p d offered (i + 1) (set waits i (Some (due_now p d (reset p offered) 0 i)))
+  starts_to_wait on =
+      let none : slice_get waits i ≡ Some None = is.from i (omega arith) lt in
+      let now : due_at p d offered [] i ≡ Some (due_now p d (reset p offered) 0 i) =
+      cond-true (enabled p (reset p offered) (candidate p (reset p offered) i)) (Some (due_now p d (reset p offered) 0 i)) None on in
+      record {
+        count = length-set waits i (Some (due_now p d (reset p offered) 0 i)) ∙ is.count;
+        before = λ k below. elim (cases_eq i k) [
+          | inl same ↦ subst (λ n. slice_get (set waits i (Some (due_now p d (reset p offered) 0 i))) n ≡ Some (due_at p d offered [] n)) same (set-there waits i (Some (due_now p d (reset p offered) 0 i)) None none ∙ ap (λ w. Some w) (sym now))
+          | inr other ↦ set-elsewhere waits i k (Some (due_now p d (reset p offered) 0 i)) other ∙ is.before k (omega arith)
+        ];
+        from = λ k above within. set-elsewhere waits i k (Some (due_now p d (reset p offered) 0 i)) (λ e. omega (arith, e, above)) ∙ is.from k (omega arith) within;
+      }
+
+  -- not enabled: nothing changes
+  starts_to_rest : enabled p (reset p offered) (candidate p (reset p offered) i) ≡ false → IsStarting p d offered (i + 1) waits
+  starts_to_rest off =
+      let now : due_at p d offered [] i ≡ None = look-off p d (reset p offered) (candidate p (reset p offered) i) 0 None off in
+      record {
+        count = is.count;
+        before = λ k below. elim (cases_eq i k) [
+          | inl same ↦ subst (λ n. slice_get waits n ≡ Some (due_at p d offered [] n)) same (is.from i (omega arith) lt ∙ ap (λ w. Some w) (sym now))
+          | inr other ↦ is.before k (omega arith)
+        ];
+        from = λ k above within. is.from k (omega arith) within;
+      }
+
+  -- so a look leads on
+  pub starts_at : IsStarting p d offered (i + 1) (look_at p d (reset p offered) 0 waits i)
+  starts_at =
+      let none : is_waiting (slice_get waits i) ≡ false = ap is_waiting (is.from i (omega arith) lt) in
+      elim (cases_Bool (enabled p (reset p offered) (candidate p (reset p offered) i))) [
+        | inl on ↦
+            subst (IsStarting p d offered (i + 1)) (sym (cond-true (begins p (reset p offered) waits i) (set waits i (Some (due_now p d (reset p offered) 0 i))) waits (begins-both p (reset p offered) waits i on none))) (starts_to_wait on)
+        | inr off ↦
+            subst (IsStarting p d offered (i + 1)) (sym (cond-false (begins p (reset p offered) waits i) (set waits i (Some (due_now p d (reset p offered) 0 i))) waits (begins-off p (reset p offered) waits i off))) (starts_to_rest off)
+      ]
+
+pub started : (p : PipelineData) (d : DelaysData) (offered : List (List Bool)) (waits : List (Option ℕ)) → IsStarting p d offered (number_count p) waits → IsTracked p d offered [] waits
+started p d offered waits is = record { count = is.count; at = is.before }

@@ -1,35 +1,6 @@
 -- What the row of a cell tells: whether the cell is excited, and its delay.
-use Rattle.std.proofs.Common.{◌≡◌, ℕ, ◌+◌, ◌-◌, ◌<◌, ◌≤◌, true, false, not, List, [], ◌∷◌, ◌++◌, length, take, get_or, Option, Some, None, refl, sym, ap, subst, ◌∙◌, arith, inl, inr}
-use Rattle.std.specs.Prelude.{IfSome, slice_get}
-use Rattle.std.proofs.lemmas.Bool.{cases_lt}
-use Rattle.std.proofs.lemmas.List.{get_or_past, length_push}
-use Rattle.std.proofs.lemmas.List.Elements.{All-contains}
-use Rattle.std.proofs.lemmas.Option.{same_Some, slice_get_within}
-use Rattle.ncl_base.proofs.Members.{Contains-from_slice_get, slice_get-some}
-use Rattle.ncl_base.proofs.Places.{push_cases}
-use Rattle.ncl_gates.specs.Cell.{next_of_cell, pins_of}
-use Rattle.ncl_gates.specs.NextWord.{own_pins}
-use Rattle.ncl_gates.proofs.PinLaws.{pins_of-few}
-use Rattle.ncl_netlist.specs.declared.cell.Cell.{Cell}
-use Rattle.ncl_netlist.specs.declared.ids.NetId.{NetId}
-use Rattle.ncl_netlist.specs.Netlist.{CellFits}
-use Rattle.ncl_cell_rules.specs.Origin.{CellAt}
-use Rattle.ncl_shape.specs.declared.item.Item.{Item}
-use Rattle.ncl_shape.specs.declared.item.Item.TheVariants.{Cell as Fire}
-use Rattle.ncl_shape.specs.Closure.{pin_values}
-use Rattle.ncl_shape.specs.Nets.{Nets}
-use Rattle.ncl_shape.specs.Pipeline.{PipelineData}
-use Rattle.ncl_shape.specs.Shape.{Shape}
-use Rattle.ncl_machine.specs.OneChange.{net_of_step, out_at}
-use Rattle.ncl_machine.specs.State.{State}
-use Rattle.ncl_machine.specs.Steps.{differ, enabled, is_excited, next_value}
-use Rattle.ncl_delay.specs.Delays.{DelaysData, delay_of, edge, edges_of_cell}
-use Rattle.ncl_delay.specs.declared.delays.Edges.{Edges}
-use Rattle.ncl_sim.specs.Numbers.{output_is_low, rises}
-use Rattle.ncl_sim.specs.Candidates.{candidate}
-use Rattle.ncl_sim.specs.Rows.{AreRowsOf, HasNetsBelow, IsDelayAt, IsDelayOfRow, IsRowOf, is_excited_by_row, next_by_row, pin_or_output}
-use Rattle.ncl_sim.specs.declared.rows.Row.{Row}
-use Rattle.ncl_sim.proofs.Candidates.{cell_candidate}
+pub use Rattle.ncl_sim.proofs.Terms.{All-contains, AreRowsOf, Cell, CellAt, CellFits, Contains-from_slice_get, DelaysData, Edges, Fire, HasNetsBelow, IfSome, IsDelayAt, IsDelayOfRow, IsRowOf, Item, List, NetId, NetlistData, Nets, None, Option, PipelineData, Row, Shape, Some, State, [], ap, arith, candidate, cases_lt, delay_of, differ, edge, edges_of_cell, enabled, false, get_or, get_or_past, inl, inr, is_excited, is_excited_by_row, length, length_push, meaning, net_of_step, next_by_row, next_of_cell, next_value, not, out_at, output_is_low, own_pins, pin_or_output, pin_values, pins_of, pins_of-few, push_cases, refl, rises, same_Some, slice_get, slice_get-get_or, slice_get-some, slice_get_read, slice_get_within, subst, sym, take, true, ℕ, ◌++◌, ◌+◌, ◌-◌, ◌<◌, ◌∙◌, ◌∷◌, ◌≡◌, ◌≤◌}
+use Rattle.ncl_sim.proofs.Oneness.{cell_candidate}
 
 -- ---- a row and its cell
 

@@ -1,22 +1,5 @@
 -- A timed run asks nothing of a pipeline's stages, so the pipelines of one netlist have the same timed runs.
-use Rattle.std.proofs.Common.{◌≡◌, ℕ, ◌+◌, ◌==◌, Bool, true, false, if◌then◌else◌, List, [], ◌∷◌, Option, Some, None, refl, sym, ap, ◌∙◌, subst, inl, inr, arith}
-use Rattle.ncl_netlist.specs.Netlist.{NetlistData}
-use Rattle.ncl_shape.specs.declared.item.Item.{Item}
-use Rattle.ncl_shape.specs.declared.item.Item.TheVariants.{Cell as Fire, Raise, Lower, Take, Ready}
-use Rattle.ncl_shape.specs.Nets.{Nets}
-use Rattle.ncl_shape.specs.Stage.{StageData}
-use Rattle.ncl_shape.specs.Pipeline.{PipelineData}
-use Rattle.ncl_shape.specs.SamePipeline.{IsSamePipeline}
-use Rattle.ncl_shape.specs.Shape.{Shape}
-use Rattle.ncl_shape.proofs.ShapeLaws.{shape_is_one}
-use Rattle.ncl_machine.specs.State.{State, reset}
-use Rattle.ncl_machine.specs.Steps.{enabled, step}
-use Rattle.ncl_insensitivity.proofs.SamePipelineLaws.{with_stages, enabled-same, step-same, after-same, run-same, other-is}
-use Rattle.ncl_delay.specs.Delays.{DelaysData, delay_of}
-use Rattle.ncl_delay.specs.declared.fired.Fired.{Fired}
-use Rattle.ncl_sim.specs.Numbers.{item_number, rises}
-use Rattle.ncl_sim.specs.TimedRun.{ComesFirst, Ends, IsLost, IsNext, IsTimedRun, LosesNone, TraceData, due_after, due_along, due_from, due_next, due_step, items_in, lost, over, quiet, state_after}
-use Rattle.ncl_sim.specs.declared.trace.End.{End}
+use Rattle.ncl_sim.proofs.Terms.{Bool, ComesFirst, DelaysData, End, Ends, Fire, Fired, IsLost, IsNext, IsSamePipeline, IsTimedRun, Item, List, LosesNone, Lower, NetlistData, Nets, None, Option, PipelineData, Raise, Ready, Shape, Some, StageData, State, Take, TraceData, [], after-same, ap, arith, delay_of, due_after, due_along, due_from, due_next, due_step, enabled, enabled-same, false, if◌then◌else◌, inl, inr, item_number, items_in, lost, other-is, over, quiet, refl, reset, rises, run-same, shape_is_one, state_after, step, step-same, subst, sym, true, with_stages, ℕ, ◌+◌, ◌==◌, ◌∙◌, ◌∷◌, ◌≡◌}
 
 module _ (p : PipelineData) (stages : List StageData) where
   abbrev q : PipelineData

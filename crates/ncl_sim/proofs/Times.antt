@@ -1,17 +1,5 @@
 -- Times never fall, and what waits is due within the greatest delay.
-use Rattle.std.proofs.Common.{◌≡◌, ◌⊎◌, ℕ, ◌+◌, ◌*◌, ◌≤◌, Bool, true, false, eqb, List, [], ◌∷◌, ◌++◌, length, length-append, append-nil, append_assoc, Option, Some, None, refl, sym, ap, subst, ◌∙◌, arith, inl, inr}
-use Rattle.std.proofs.lemmas.Bool.{cases_Bool, cond-false, cond-true}
-use Rattle.std.proofs.lemmas.Option.{none-some, same_Some}
-use Rattle.ncl_shape.specs.declared.item.Item.{Item}
-use Rattle.ncl_shape.specs.Pipeline.{PipelineData}
-use Rattle.ncl_machine.specs.State.{State, reset}
-use Rattle.ncl_machine.specs.Steps.{enabled, step}
-use Rattle.ncl_delay.specs.Delays.{DelaysData, delay_of}
-use Rattle.ncl_sim.specs.Numbers.{item_number, rises}
-use Rattle.ncl_sim.specs.TimedRun.{ComesFirst, IsNext, due_after, due_from, due_next, last_time, state_after}
-use Rattle.ncl_sim.specs.Times.{AreWithin, IsTimely}
-use Rattle.ncl_sim.specs.Candidates.{look, popped}
-use Rattle.ncl_delay.specs.declared.fired.Fired.{Fired}
+use Rattle.ncl_sim.proofs.Terms.{AreWithin, Bool, ComesFirst, DelaysData, Fired, IsNext, IsTimely, Item, List, None, Option, PipelineData, Some, State, [], ap, append-nil, append_assoc, arith, cases_Bool, cond-false, cond-true, delay_of, due_after, due_from, due_next, enabled, eqb, false, inl, inr, item_number, last_time, length, length-append, look, none-some, popped, refl, reset, rises, same_Some, state_after, step, subst, sym, true, ℕ, ◌*◌, ◌++◌, ◌+◌, ◌∙◌, ◌∷◌, ◌≡◌, ◌≤◌, ◌⊎◌}
 use Rattle.ncl_sim.proofs.Looks.{due-looked, look-off}
 
 pub last_time-more : (time : ℕ) (steps : List Fired) (f : Fired) → last_time time (steps ++ f ∷ []) ≡ f.time

@@ -1,25 +1,181 @@
--- A table of what steps can touch, as numbers come to it.
-use Rattle.std.proofs.Common.{◌≡◌, ◌⊎◌, ℕ, zero, suc, ◌+◌, ◌<◌, ◌≤◌, List, [], ◌∷◌, ◌++◌, length, take, get_or, replicate, refl, sym, ap, subst, ◌∙◌, arith, inl, inr}
-use Rattle.std.specs.Prelude.{All, Contains, slice_get, Some}
-use Rattle.std.proofs.lemmas.Bool.{cases_eq}
-use Rattle.std.proofs.lemmas.List.{length-replicate, take_more}
-use Rattle.std.proofs.lemmas.List.Elements.{All-contains}
-use Rattle.std.proofs.lemmas.Option.{get_or_from_slice_get}
-use Rattle.ncl_base.proofs.Growing.{from_push}
-use Rattle.ncl_base.proofs.NumberLists.{grows-along, nothing-at}
-use Rattle.ncl_base.proofs.Members.{Member, All-from_members, Contains-from_Member, Member-from_Contains, here, there}
-use Rattle.ncl_netlist.specs.declared.ids.NetId.{NetId}
-use Rattle.ncl_shape.specs.declared.rails.Rails.{Rails}
-use Rattle.ncl_shape.specs.Stage.{rail_nets}
-use Rattle.ncl_netlist.specs.declared.cell.Cell.{Cell}
-use Rattle.ncl_netlist.specs.Netlist.{NetlistData}
-use Rattle.ncl_cell_rules.specs.Origin.{CellAt}
-use Rattle.ncl_shape.specs.Pipeline.{PipelineData}
-use Rattle.ncl_shape.specs.Shape.{Shape}
-use Rattle.ncl_sim.specs.Candidates.{number_count}
-use Rattle.ncl_base.specs.NumberLists.{Grows}
-use Rattle.ncl_sim.specs.Running.{HasTouched, touched_at}
-use Rattle.ncl_sim.proofs.ShapeEnds.{outputs-within}
+-- What a net touches: the pins of cells and the ends of a pipeline.
+pub use Rattle.ncl_sim.proofs.Terms.{All, All-contains, All-from_members, AllPairs, AreApart, AreDrivenOnce, AreEnds, AreInTurn, AreStarts, Cell, CellAt, Contains, Contains-from_Member, Grows, HasTouched, IsApart, IsLayoutOf, Layout, List, MOST_BITS, Member, Member-append_left, Member-append_right, Member-from_Contains, Member-map, NetId, NetlistData, Part, PipelineData, Rails, Shape, Some, StageCell, [], add-one, ap, append-nil, arith, cases_eq, cut_at, cuts, drop, drop-append-le, drop_at, few_inputs, from_push, get_or, get_or-map, get_or_from_slice_get, grows-along, here, in_rail, inl, inputs_differ, inr, laid_out_of, length, length-append, length-drop, length-map, length-replicate, map, most_cells, net_of, no_rails, nothing-at, number_count, of_bank, of_stage, of_tree, out_of, pairs-head, pairs-tail, rail-within, rail_nets, recursion_from_members, refl, replicate, same_place, slice_get, slice_get_within, slice_range, stage_nets, subst, suc, sym, take, take-append-le, take_at, take_more, there, touched_at, zero, ℕ, ◌++◌, ◌+◌, ◌-◌, ◌<◌, ◌∙◌, ◌∷◌, ◌≡◌, ◌≢◌, ◌≤◌, ◌⊎◌}
+
+-- ---- numbers cut into lists, one list after another
+
+pub ends-within : (from : ℕ) (ends : List ℕ) (count : ℕ) → AreInTurn from ends count → from ≤ count
+ends-within from [] count are = omega (arith, are)
+ends-within from (end ∷ ends) count are = let (first, others) = are in omega (arith, first, ends-within end ends count others)
+
+-- as many lists as ends
+pub length-cuts : (from : ℕ) (ends numbers : List ℕ) → length (cuts from ends numbers) ≡ length ends
+length-cuts from [] numbers = refl
+length-cuts from (end ∷ ends) numbers = ap suc (length-cuts end ends numbers)
+
+-- a range among the first numbers
+range-append : (numbers more : List ℕ) (from end : ℕ) → from ≤ end → end ≤ length numbers → slice_range (numbers ++ more) from end ≡ slice_range numbers from end
+range-append numbers more from end le within =
+    ap (take (end - from)) (drop-append-le from numbers more (omega arith)) ∙ take-append-le (end - from) (drop from numbers) more (omega (arith, length-drop from numbers))
+
+-- the last numbers
+range-last : (numbers more : List ℕ) → slice_range (numbers ++ more) (length numbers) (length numbers + length more) ≡ more
+range-last numbers more =
+    ap (take (length numbers + length more - length numbers)) (drop_at numbers more (length numbers) refl)
+    ∙ (let whole : length more ≡ length numbers + length more - length numbers = omega arith in ap (take (length numbers + length more - length numbers)) (sym (append-nil more)) ∙ take_at more [] (length numbers + length more - length numbers) whole)
+
+-- one more list
+pub cuts-push : (from : ℕ) (ends numbers more : List ℕ) → AreInTurn from ends (length numbers) → cuts from (ends ++ (length numbers + length more) ∷ []) (numbers ++ more) ≡ cuts from ends numbers ++ more ∷ []
+cuts-push from [] numbers more are = ap (λ list. list ∷ []) (subst (λ n. slice_range (numbers ++ more) n (length numbers + length more) ≡ more) (sym are) (range-last numbers more))
+cuts-push from (end ∷ ends) numbers more are =
+    let (first, others) = are in
+    let head = range-append numbers more from end first (ends-within end ends (length numbers) others) in
+    λ i. head i ∷ cuts-push end ends numbers more others i
+
+pub ends-push : (from : ℕ) (ends : List ℕ) (count more : ℕ) → AreInTurn from ends count → AreInTurn from (ends ++ (count + more) ∷ []) (count + more)
+ends-push from [] count more are = (omega (arith, are), refl)
+ends-push from (end ∷ ends) count more are = let (first, others) = are in (first, ends-push end ends count more others)
+
+-- the list at a place, and where it begins and ends
+pub record IsCut (starts numbers : List ℕ) (place from end : ℕ) : Type 0 where
+  pub inside : place + 1 < length starts
+  pub list : get_or (cut_at starts numbers) place [] ≡ slice_range numbers from end
+  pub order : from ≤ end
+  pub fits : end ≤ length numbers
+
+from_first : (from : ℕ) (ends numbers : List ℕ) (place d e : ℕ) → place < length ends → AreInTurn from ends (length numbers) → IsCut (from ∷ ends) numbers place (get_or (from ∷ ends) place d) (get_or ends place e)
+from_first from [] numbers place d e lt are = absurd (omega arith)
+from_first from (end ∷ ends) numbers zero d e lt are = let (first, others) = are in record { inside = omega arith; list = refl; order = first; fits = ends-within end ends (length numbers) others }
+from_first from (end ∷ ends) numbers (suc place) d e lt are =
+    let (first, others) = are in
+    let next = from_first end ends numbers place d e (omega arith) others in
+    record { inside = omega (arith, next.inside); list = next.list; order = next.order; fits = next.fits }
+
+pub cut-is : (starts numbers : List ℕ) (place d e from end : ℕ) → place < length (cut_at starts numbers) → AreStarts starts (length numbers) → from ≡ get_or starts place d → end ≡ get_or starts (place + 1) e → IsCut starts numbers place from end
+cut-is [] numbers place d e from end lt are is_from is_end = absurd are
+cut-is (first ∷ ends) numbers place d e from end lt are is_from is_end =
+    let ends_at : end ≡ get_or ends place e = is_end ∙ ap (λ n. get_or (first ∷ ends) n e) (add-one place) in
+    subst (λ f. IsCut (first ∷ ends) numbers place f end) (sym is_from) (subst (λ t. IsCut (first ∷ ends) numbers place (get_or (first ∷ ends) place d) t) (sym ends_at)
+    (from_first first ends numbers place d e (omega (arith, length-cuts first ends numbers, lt)) are))
+
+pub inside-is : (starts numbers : List ℕ) (place : ℕ) → place < length (cut_at starts numbers) → place + 1 < length starts
+inside-is [] numbers place lt = absurd (omega arith)
+inside-is (first ∷ ends) numbers place lt = omega (arith, length-cuts first ends numbers, lt)
+
+-- one more list
+pub starts-push : (starts numbers more : List ℕ) → AreStarts starts (length numbers) → AreStarts (starts ++ (length numbers + length more) ∷ []) (length (numbers ++ more)) × (cut_at (starts ++ (length numbers + length more) ∷ []) (numbers ++ more) ≡ cut_at starts numbers ++ more ∷ [])
+starts-push [] numbers more are = absurd are
+starts-push (from ∷ ends) numbers more are = (
+  subst (AreInTurn from (ends ++ (length numbers + length more) ∷ [])) (sym (length-append numbers more)) (ends-push from ends (length numbers) (length more) are),
+  cuts-push from ends numbers more are,
+)
+
+-- ---- the ends and the drivers of a pipeline that its netlist has the shape of
+
+-- a list of nets that all differ
+are_apart : (nets : List ℕ) → AllPairs (λ x y. x ≢ y) nets → AreApart nets
+are_apart [] differ = tt
+are_apart (net ∷ nets) differ =
+    (recursion_from_members (λ other. net ≢ other) nets (λ other m. pairs-head (λ x y. x ≢ y) net nets differ other m), are_apart nets (pairs-tail (λ x y. x ≢ y) net nets differ))
+
+apart_from : (net : ℕ) (others : List ℕ) → (Member net others → ⊥) → IsApart net others
+apart_from net others not_in = recursion_from_members (λ other. net ≢ other) others (λ other m e. not_in (subst (λ n. Member n others) (sym e) m))
+
+module _ (p : PipelineData) (l : Layout) (is : IsLayoutOf p l) where
+  input_listed : (net : ℕ) → Member net (rail_nets p.inputs) → Member net (stage_nets l 0)
+  input_listed net m = Member-append_left net (map out_of (l.stage 0).cells) (subst (λ bits. Member net (rail_nets bits)) (sym is.source) m)
+
+  output_listed : (net : ℕ) → Member net (rail_nets p.outputs) → Member net (stage_nets l l.last)
+  output_listed net m = Member-append_left net (map out_of (l.stage l.last).cells) (subst (λ bits. Member net (rail_nets bits)) (sym is.sink ∙ is.last_wires.1) m)
+
+  ki_listed : Member p.ki (l.tree_nets l.last)
+  ki_listed = subst (Member p.ki) (sym is.ki_nets) here
+
+  driven_listed : (k : ℕ) (c : Cell) → k < l.last → Member c (l.tree k) → Member c.out.0 (l.tree_nets k)
+  driven_listed k c lt m = subst (Member c.out.0) (sym (is.tree_outputs k lt)) (Member-map net_of c m)
+
+  ko_listed : Member p.ko (l.tree_nets 0)
+  ko_listed =
+      let (c, m, root) = is.root_in 0 is.some in
+      subst (λ net. Member net (l.tree_nets 0)) (root ∙ is.ko) (driven_listed 0 c is.some m)
+
+  -- what a cell drives is no net of the sink's tree, and no rail of the inputs
+  not_of_sink : (c : Cell) → Part l c → Member c.out.0 (l.tree_nets l.last) → ⊥
+  not_of_sink c (of_stage k g le m of) in_sink =
+      is.apart k l.last c.out.0 le (omega arith) (subst (λ net. Member net (stage_nets l k)) (sym of.out) (Member-append_right (rail_nets (l.stage k).inputs) (out_of g) (Member-map out_of g m))) in_sink
+  not_of_sink c (of_bank k j r lt within of) in_sink =
+      is.apart (suc k) l.last c.out.0 (omega arith) (omega arith)
+      (subst (λ net. Member net (stage_nets l (suc k))) (sym of.out) (Member-append_left (in_rail l (suc k) j r) (map out_of (l.stage (suc k)).cells) (rail-within (l.stage (suc k)).inputs j r within))) in_sink
+  not_of_sink c (of_tree k lt m) in_sink =
+      let same : k ≡ l.last = is.trees_apart k l.last c.out.0 (omega arith) (omega arith) (driven_listed k c lt m) in_sink in
+      omega (arith, same, lt)
+
+  not_of_source : (c : Cell) → Part l c → Member c.out.0 (rail_nets p.inputs) → ⊥
+  not_of_source c (of_stage k g le m of) input =
+      let same : k ≡ 0 = is.stages_apart k 0 c.out.0 le (omega arith) (subst (λ net. Member net (stage_nets l k)) (sym of.out) (Member-append_right (rail_nets (l.stage k).inputs) (out_of g) (Member-map out_of g m))) (input_listed c.out.0 input) in
+      none (l.stage 0).cells is.first_wires.0 (subst (λ n. Member g (l.stage n).cells) same m)
+    where
+      none : (cells : List StageCell) → cells ≡ [] → Member g cells → ⊥
+      none cells empty in_cells = elim (subst (Member g) empty in_cells) [ ]
+  not_of_source c (of_bank k j r lt within of) input =
+      let same : suc k ≡ 0 = is.stages_apart (suc k) 0 c.out.0 (omega arith) (omega arith)
+      (subst (λ net. Member net (stage_nets l (suc k))) (sym of.out) (Member-append_left (in_rail l (suc k) j r) (map out_of (l.stage (suc k)).cells) (rail-within (l.stage (suc k)).inputs j r within))) (input_listed c.out.0 input) in
+      omega (arith, same)
+  not_of_source c (of_tree k lt m) input = is.apart 0 k c.out.0 (omega arith) (omega arith) (input_listed c.out.0 input) (driven_listed k c lt m)
+
+-- the ends are as they are to be
+pub shape-ends : (p : PipelineData) → Shape p.netlist p → AreEnds p
+shape-ends p shape =
+    let (l, is) = laid_out_of p.netlist p shape in
+    record {
+      acknowledges = λ e.
+          let same : 0 ≡ l.last = is.trees_apart 0 l.last p.ki (omega arith) (omega arith) (subst (λ net. Member net (l.tree_nets 0)) (sym e) (ko_listed p l is)) (ki_listed p l is) in
+          omega (arith, same, is.some);
+      ki_inputs = apart_from p.ki (rail_nets p.inputs) (λ m. is.apart 0 l.last p.ki (omega arith) (omega arith) (input_listed p l is p.ki m) (ki_listed p l is));
+      ki_outputs = apart_from p.ki (rail_nets p.outputs) (λ m. is.apart l.last l.last p.ki (omega arith) (omega arith) (output_listed p l is p.ki m) (ki_listed p l is));
+      ko_inputs = apart_from p.ko (rail_nets p.inputs) (λ m. is.apart 0 0 p.ko (omega arith) (omega arith) (input_listed p l is p.ko m) (ko_listed p l is));
+      inputs = are_apart (rail_nets p.inputs) (inputs_differ p shape);
+      some_output = subst (λ bits. 0 < length bits) is.sink (some_of l is);
+    }
+  where
+    some_of : (l : Layout) → IsLayoutOf p l → 0 < length (l.stage l.last).outputs
+    some_of l is = let stage = is.is_stage l.last (omega arith) in omega (arith, stage.some_outputs)
+
+-- and each net is driven once, those of the source and of the sink by no cell
+pub shape-driven : (p : PipelineData) → Shape p.netlist p → AreDrivenOnce p
+shape-driven p shape =
+    let (l, is) = laid_out_of p.netlist p shape in
+    record {
+      not_ki = λ k c at e. not_of_sink p l is c (is.part_of k c at) (subst (λ net. Member net (l.tree_nets l.last)) (sym e) (ki_listed p l is));
+      not_inputs = λ k c at. apart_from c.out.0 (rail_nets p.inputs) (not_of_source p l is c (is.part_of k c at));
+      one_driver = λ j k b c at_b at_c other e. other (same_place p.netlist shape.is_netlist j k b c at_b at_c e);
+    }
+
+-- the ends are nets of the netlist
+pub ki-within : (p : PipelineData) → Shape p.netlist p → p.ki < length p.netlist.nets
+ki-within p shape =
+    let (l, is) = laid_out_of p.netlist p shape in
+    is.tree_within l.last p.ki (omega arith) (ki_listed p l is)
+
+pub ko-within : (p : PipelineData) → Shape p.netlist p → p.ko < length p.netlist.nets
+ko-within p shape =
+    let (l, is) = laid_out_of p.netlist p shape in
+    is.tree_within 0 p.ko (omega arith) (ko_listed p l is)
+
+pub outputs-within : (p : PipelineData) → Shape p.netlist p → (net : ℕ) → Member net (rail_nets p.outputs) → net < length p.netlist.nets
+outputs-within p shape net m =
+    let (l, is) = laid_out_of p.netlist p shape in
+    is.stage_within l.last net (omega arith) (output_listed p l is net m)
+
+pub cells-few : (p : PipelineData) → Shape p.netlist p → length p.netlist.cells ≤ most_cells
+cells-few p shape = shape.is_netlist.few_cells
+
+-- so the items of a pipeline are few, where they are counted
+pub items-few : (p : PipelineData) {n : NetlistData} {inputs : List Rails} {cells : List Cell} → Shape p.netlist p → inputs ≡ p.inputs → cells ≡ n.cells → n ≡ p.netlist → (length inputs ≤ MOST_BITS) × (length cells ≤ most_cells)
+items-few p shape bits cells netlist =
+    let own = ap length cells ∙ ap (λ (n : NetlistData). length n.cells) netlist in
+    (omega (arith, few_inputs p shape, ap length bits), omega (arith, cells-few p shape, own))
+
+-- ---- a table of what steps can touch, as numbers come to it
 
 -- pins up to a place have the number, and so one more
 pub pins-next : (table new : List (List ℕ)) (pins : List NetId) (i k : ℕ) (d : NetId) (count : ℕ) → i < length pins → Grows count table new → Contains (touched_at new (get_or pins i d).0) k → ((pin : NetId) → Contains (take i pins) pin → Contains (touched_at table pin.0) k) → (pin : NetId) → Contains (take (i + 1) pins) pin → Contains (touched_at new pin.0) k

@@ -1,44 +1,194 @@
--- A turn: the step of what was due first, and the looks at what it touches.
-use Rattle.std.proofs.Common.{◌≡◌, ◌≢◌, ◌⊎◌, ℕ, ◌+◌, ◌-◌, ◌*◌, ◌<◌, ◌≤◌, Bool, true, false, not, if◌then◌else◌, List, [], ◌∷◌, ◌++◌, length, set, Option, Some, None, refl, sym, ap, subst, ◌∙◌, arith, inl, inr}
-use Rattle.std.specs.Prelude.{All, Contains, IfSome, slice_get}
-use Rattle.std.specs.List.{list_all}
-use Rattle.std.proofs.lemmas.List.Elements.{All-contains}
-use Rattle.std.proofs.lemmas.Bool.{and_from, and_parts, both_ways, cases_Bool, cond-false, cond-true, not-true}
-use Rattle.std.proofs.lemmas.Option.{none-some, slice_get_within}
-use Rattle.ncl_base.proofs.Growing.{cases_contains}
-use Rattle.ncl_base.proofs.Members.{Member, All-from_members, Contains-from_Member, Contains-from_slice_get, Member-from_Contains, here, member_cases, recursion_from_members, slice_get-some, there}
-use Rattle.ncl_netlist.specs.declared.ids.NetId.{NetId}
-use Rattle.ncl_shape.specs.declared.item.Item.{Item}
-use Rattle.ncl_shape.specs.declared.item.Item.TheVariants.{Cell as Fire, Raise, Lower, Take, Ready}
-use Rattle.ncl_shape.specs.Pipeline.{PipelineData}
-use Rattle.ncl_shape.specs.Shape.{Shape}
-use Rattle.ncl_shape.specs.Stage.{rail_nets}
-use Rattle.ncl_machine.specs.State.{State}
-use Rattle.ncl_machine.specs.Steps.{current_rails, enabled, put_at, step}
-use Rattle.ncl_machine.specs.Held.{IsFor, meaning}
-use Rattle.ncl_machine.specs.OneChange.{net_of_step}
-use Rattle.ncl_delay.specs.Delays.{AreDelays, DelaysData, HasDelays, edges_of, stated_or}
-use Rattle.ncl_delay.specs.declared.delays.Edges.{Edges}
-use Rattle.ncl_delay.specs.declared.delays.TheConstants.{MOST_DELAY}
-use Rattle.ncl_delay.specs.declared.fired.Fired.{Fired}
-use Rattle.ncl_sim.specs.Numbers.{item_number}
-use Rattle.ncl_sim.specs.TimedRun.{Ends, IsNext, LosesNone, lost, most_steps, over, quiet, state_after}
-use Rattle.ncl_sim.specs.Candidates.{IsFree, candidate, number_count}
-use Rattle.ncl_sim.specs.Queue.{IsTracked, NoneWaits, begins, due_now, is_waiting, least_of, look_at, looks, loses}
-use Rattle.ncl_sim.specs.Running.{GoesOn, HasTouched, IsPopped, IsStopped, IsUnderWay, Turned, touched_at}
-use Rattle.ncl_sim.specs.declared.run.Run.{Run}
-use Rattle.ncl_sim.specs.declared.trace.End.TheVariants.{Hazard, Over, Quiet}
-use Rattle.ncl_sim.proofs.Candidates.{candidate-number, number_within}
-use Rattle.ncl_sim.proofs.Existence.{first_due, goes_on-more}
+-- The queue of a run, and how it turns by one event.
+pub use Rattle.ncl_sim.proofs.Terms.{All, All-contains, All-from_members, AreDelays, AreDrivenOnce, AreEnds, AreWithin, Bool, Contains, Contains-from_Member, Contains-from_slice_get, DelaysData, Edges, Ends, Fire, Fired, GoesOn, HasDelays, HasTouched, Hazard, IfSome, IsFirst, IsFor, IsFree, IsNext, IsPopped, IsQuiet, IsStopped, IsTimely, IsTracked, IsUnderWay, Item, List, LosesNone, Lower, MOST_DELAY, Member, Member-from_Contains, NetId, None, NoneWaits, Option, Over, PipelineData, Quiet, Raise, Ready, Run, Shape, Some, State, Take, Turned, [], and_from, and_parts, ap, arith, begins, both_ways, candidate, cases_Bool, cases_contains, cases_eq, cond-false, cond-true, current_rails, delay_of, due_at, due_next, due_now, edges_of, enabled, eq-eqb, eqb, false, here, if◌then◌else◌, inl, inr, is_waiting, item_number, least_of, length, length-set, list_all, look, look_at, looks, loses, lost, meaning, member_cases, most_steps, ne_eqb, net_of_step, none-some, not, not-true, number_count, over, popped, put_at, quiet, rail_nets, recursion_from_members, refl, rises, same_Some, set, slice_get, slice_get-some, slice_get_within, state_after, stated_or, step, subst, sym, there, touched_at, true, ℕ, ◌*◌, ◌++◌, ◌+◌, ◌-◌, ◌<◌, ◌∙◌, ◌∷◌, ◌≡◌, ◌≢◌, ◌≤◌, ◌⊎◌}
+use Rattle.ncl_sim.proofs.Oneness.{candidate-number, enabled_from_due, number_within}
+use Rattle.ncl_sim.proofs.QueueLaws.{set-elsewhere, set-there}
+use Rattle.ncl_sim.proofs.Existence.{first_due, first_is_next, goes_on-more, none_is_quiet}
+use Rattle.ncl_sim.proofs.Looks.{IsLeastOf, IsSeenLost, begins-both, begins-off, begins-waiting, due_at-free, due_at-looked, due_at-rests, free-bit, free-cell, free-sink, free_not_lost, look-off, lost_is_seen, none-of_least, seen_is_lost, some-of_least, state-more}
 use Rattle.ncl_sim.proofs.Locality.{enabled-net}
-use Rattle.ncl_sim.proofs.LookLaws.{IsLeastOf, begins-both, begins-off, begins-waiting, none-of_least, some-of_least}
-use Rattle.ncl_sim.proofs.Looks.{IsSeenLost, lost_is_seen, seen_is_lost, state-more}
-use Rattle.ncl_sim.proofs.Oneness.{enabled_from_due}
-use Rattle.ncl_sim.proofs.Queue.{IsLooking, begins_to_wait, first_event, free_not_seen, goes_on_resting, goes_on_waiting, looked_is_tracked, none_seen, none_waits_quiet, popped_is_looking, was_lost}
-use Rattle.ncl_sim.proofs.ShapeEnds.{shape-driven, shape-ends}
-use Rattle.ncl_sim.proofs.Start.{free-bit, free-cell, free-sink}
+use Rattle.ncl_sim.proofs.TouchedLaws.{shape-driven, shape-ends}
 use Rattle.ncl_sim.proofs.Times.{last_time-more, timely}
-use Rattle.ncl_sim.specs.Times.{AreWithin, IsTimely}
+
+-- ---- the looks after a step lead from what waited to what waits
+
+-- between the step and the last look at what it touches: each number waits as before or as after the step; one
+-- that was seen, or need not be, as after it, or it was lost; and what was lost waits as before
+pub record IsLooking (p : PipelineData) (d : DelaysData) (offered : List (List Bool)) (steps : List Fired) (f : Fired) (Seen : ℕ → Type 0) (waits : List (Option ℕ)) : Type 0 where
+  pub count : length waits ≡ number_count p
+  pub each : (k : ℕ) → k < number_count p → (slice_get waits k ≡ Some (popped (eqb (item_number p f.item) k) (due_at p d offered steps k))) ⊎ (slice_get waits k ≡ Some (due_at p d offered (steps ++ f ∷ []) k))
+  pub seen : (k : ℕ) → k < number_count p → Seen k → (slice_get waits k ≡ Some (due_at p d offered (steps ++ f ∷ []) k)) ⊎ IsSeenLost p d offered steps f k
+  pub lost : (k : ℕ) → k < number_count p → IsSeenLost p d offered steps f k → slice_get waits k ≡ Some (due_at p d offered steps k)
+
+-- ---- the first that waits
+
+module _ (p : PipelineData) (d : DelaysData) (offered : List (List Bool)) (steps : List Fired) (waits : List (Option ℕ)) (is : IsTracked p d offered steps waits) where
+  -- what waits first is the next entry
+  pub first_event : (e : ℕ × ℕ) → e.1 < number_count p → IsFirst waits e → IsNext p d offered steps (first_due p offered steps e.1 e.0)
+  first_event e within first =
+      first_is_next p d offered steps e.1 e.0 (record {
+        within = within;
+        at = same_Some (due_at p d offered steps e.1) (Some e.0) (sym (is.at e.1 within) ∙ first.here);
+        first = λ j other lt due. first.first j other (is.at j lt ∙ ap (λ w. Some w) due);
+      })
+
+  -- where nothing waits nothing can move
+  pub none_waits_quiet : NoneWaits waits → IsQuiet p (state_after p offered steps)
+  none_waits_quiet none =
+      none_is_quiet p d offered steps (λ k lt. nothing k (due_at p d offered steps k) (is.at k lt))
+    where
+      nothing : (k : ℕ) (due : Option ℕ) → slice_get waits k ≡ Some due → due ≡ None
+      nothing k None at = refl
+      nothing k (Some due) at = absurd (none k due at)
+
+-- ---- the looks after a step
+
+look-again : (p : PipelineData) (d : DelaysData) (s : State) (item : Item) (time : ℕ) (waits : Option ℕ) → look p d s item time (look p d s item time waits) ≡ look p d s item time waits
+look-again p d s item time waits = elim (cases_Bool (enabled p s item)) [
+  | inl on ↦
+      let (due, is) = some waits in
+      let looked_here : look p d s item time waits ≡ Some due = cond-true (enabled p s item) (due_next p d s item false time waits) None on ∙ is in
+      ap (look p d s item time) looked_here ∙ cond-true (enabled p s item) (Some due) None on ∙ sym looked_here
+  | inr off ↦ look-off p d s item time (look p d s item time waits) off ∙ sym (look-off p d s item time waits off)
+]
+  where
+    some : (waits : Option ℕ) → (due : ℕ) × (due_next p d s item false time waits ≡ Some due)
+    some None = (time + delay_of d item (rises p s.value item), refl)
+    some (Some due) = (due, refl)
+
+popped-own : (k j : ℕ) (waits : Option ℕ) → k ≡ j → popped (eqb k j) waits ≡ None
+popped-own k j waits same = ap (λ b. popped b waits) (eq-eqb k j same)
+
+popped-other : (k j : ℕ) (waits : Option ℕ) → k ≢ j → popped (eqb k j) waits ≡ waits
+popped-other k j waits apart = ap (λ b. popped b waits) (ne_eqb k j apart)
+
+module _ (p : PipelineData) (d : DelaysData) (offered : List (List Bool)) (steps : List Fired) (f : Fired) (ends : AreEnds p) (once : AreDrivenOnce p) (on : enabled p (state_after p offered steps) f.item ≡ true) where
+  -- the event is taken out, and its number waits no more: so it stands before the first look
+  pub popped_is_looking : (waits : List (Option ℕ)) (net : ℕ) → net_of_step p (state_after p offered steps) f.item ≡ Some net → IsTracked p d offered steps waits → slice_get waits (item_number p f.item) ≡ Some (Some f.time) → IsLooking p d offered steps f (IsFree p net) (set waits (item_number p f.item) None)
+  popped_is_looking waits net at is own =
+      let set_there : slice_get (set waits (item_number p f.item) None) (item_number p f.item) ≡ Some None = set-there waits (item_number p f.item) None (Some f.time) own in
+      record {
+        count = length-set waits (item_number p f.item) None ∙ is.count;
+        each = λ k lt. elim (cases_eq (item_number p f.item) k) [
+          | inl same ↦ inl (ap (slice_get (set waits (item_number p f.item) None)) (sym same) ∙ set_there ∙ ap (λ w. Some w) (sym (popped-own (item_number p f.item) k (due_at p d offered steps k) same)))
+          | inr other ↦ inl (set-elsewhere waits (item_number p f.item) k None other ∙ is.at k lt ∙ ap (λ w. Some w) (sym (popped-other (item_number p f.item) k (due_at p d offered steps k) other)))
+        ];
+        seen = λ k lt free. elim (cases_eq (item_number p f.item) k) [
+          | inl same ↦
+              inl (ap (slice_get (set waits (item_number p f.item) None)) (sym same) ∙ set_there
+              ∙ ap (λ w. Some w) (sym (due_at-rests p d offered steps f ends once on net at (subst (IsFree p net) (sym same) free)))
+              ∙ ap (λ n. Some (due_at p d offered (steps ++ f ∷ []) n)) same)
+          | inr other ↦
+              inl (set-elsewhere waits (item_number p f.item) k None other ∙ is.at k lt
+              ∙ ap (λ w. Some w) (sym (due_at-free p d offered steps f ends once on net k at lt free other)))
+        ];
+        lost = λ k lt is_lost. set-elsewhere waits (item_number p f.item) k None is_lost.other ∙ is.at k lt;
+      }
+
+  abbrev pub next_state : State
+  next_state = step p (state_after p offered steps) f.item
+
+  module _ (Seen : ℕ → Type 0) (waits : List (Option ℕ)) (is : IsLooking p d offered steps f Seen waits) (k : ℕ) (lt : k < number_count p) where
+    -- what a number has after the step is what the look makes of what waits there now, however often it was looked at
+    pub looked : (w : Option ℕ) → slice_get waits k ≡ Some w → due_at p d offered (steps ++ f ∷ []) k ≡ look p d next_state (candidate p next_state k) f.time w
+    looked w at = elim (is.each k lt) [
+      | inl before ↦
+          let same : popped (eqb (item_number p f.item) k) (due_at p d offered steps k) ≡ w = same_Some (popped (eqb (item_number p f.item) k) (due_at p d offered steps k)) w (sym before ∙ at) in
+          due_at-looked p d offered steps f ends once on k lt ∙ ap (look p d next_state (candidate p next_state k) f.time) same
+      | inr after ↦
+          let same : due_at p d offered (steps ++ f ∷ []) k ≡ w = same_Some (due_at p d offered (steps ++ f ∷ []) k) w (sym after ∙ at) in
+          let due : due_at p d offered (steps ++ f ∷ []) k ≡ look p d next_state (candidate p next_state k) f.time (popped (eqb (item_number p f.item) k) (due_at p d offered steps k)) = due_at-looked p d offered steps f ends once on k lt in
+          due
+          ∙ sym (look-again p d next_state (candidate p next_state k) f.time (popped (eqb (item_number p f.item) k) (due_at p d offered steps k)))
+          ∙ ap (look p d next_state (candidate p next_state k) f.time) (sym due ∙ same)
+    ]
+
+    -- enabled, and nothing waits there: it waits from now on, and its event comes into the queue
+    pub begins_to_wait : (due : ℕ) → slice_get waits k ≡ Some None → enabled p next_state (candidate p next_state k) ≡ true → due ≡ f.time + delay_of d (candidate p next_state k) (rises p next_state.value (candidate p next_state k)) → IsLooking p d offered steps f (λ j. Seen j ⊎ (k ≡ j)) (set waits k (Some due))
+    begins_to_wait due at is_on is_due =
+        let now : due_at p d offered (steps ++ f ∷ []) k ≡ Some due =
+        looked None at
+        ∙ cond-true (enabled p next_state (candidate p next_state k)) (Some (f.time + delay_of d (candidate p next_state k) (rises p next_state.value (candidate p next_state k)))) None is_on
+        ∙ ap (λ n. Some n) (sym is_due) in
+        let looked_here : slice_get (set waits k (Some due)) k ≡ Some (due_at p d offered (steps ++ f ∷ []) k) = set-there waits k (Some due) None at ∙ ap (λ w. Some w) (sym now) in
+        record {
+          count = length-set waits k (Some due) ∙ is.count;
+          each = λ j within. elim (cases_eq k j) [
+            | inl same ↦ inr (subst (λ n. slice_get (set waits k (Some due)) n ≡ Some (due_at p d offered (steps ++ f ∷ []) n)) same looked_here)
+            | inr other ↦ elim (is.each j within) [
+              | inl before ↦ inl (set-elsewhere waits k j (Some due) other ∙ before)
+              | inr after ↦ inr (set-elsewhere waits k j (Some due) other ∙ after)
+            ]
+          ];
+          seen = λ j within seen. elim (cases_eq k j) [
+            | inl same ↦ inl (subst (λ n. slice_get (set waits k (Some due)) n ≡ Some (due_at p d offered (steps ++ f ∷ []) n)) same looked_here)
+            | inr other ↦ elim seen [
+              | inl earlier ↦ elim (is.seen j within earlier) [ inl after ↦ inl (set-elsewhere waits k j (Some due) other ∙ after) | inr is_lost ↦ inr is_lost ]
+              | inr same ↦ absurd (other same)
+            ]
+          ];
+          lost = λ j within is_lost. elim (cases_eq k j) [
+            | inl same ↦ absurd (both_ways (enabled p next_state (candidate p next_state j)) is_lost.off (subst (λ n. enabled p next_state (candidate p next_state n) ≡ true) same is_on))
+            | inr other ↦ set-elsewhere waits k j (Some due) other ∙ is.lost j within is_lost
+          ];
+        }
+
+    unchanged : (slice_get waits k ≡ Some (due_at p d offered (steps ++ f ∷ []) k)) ⊎ IsSeenLost p d offered steps f k → IsLooking p d offered steps f (λ j. Seen j ⊎ (k ≡ j)) waits
+    unchanged looked_here = record {
+      count = is.count;
+      each = is.each;
+      seen = λ j within seen. elim seen [
+        | inl earlier ↦ is.seen j within earlier
+        | inr same ↦ subst (λ n. (slice_get waits n ≡ Some (due_at p d offered (steps ++ f ∷ []) n)) ⊎ IsSeenLost p d offered steps f n) same looked_here
+      ];
+      lost = is.lost;
+    }
+
+    -- enabled, and it waits already: nothing changes
+    pub goes_on_waiting : (due : ℕ) → slice_get waits k ≡ Some (Some due) → enabled p next_state (candidate p next_state k) ≡ true → IsLooking p d offered steps f (λ j. Seen j ⊎ (k ≡ j)) waits
+    goes_on_waiting due at is_on =
+        unchanged (inl (at ∙ ap (λ w. Some w) (sym (looked (Some due) at ∙ cond-true (enabled p next_state (candidate p next_state k)) (Some due) None is_on))))
+
+    -- not enabled, and nothing waits there: nothing changes
+    pub goes_on_resting : slice_get waits k ≡ Some None → enabled p next_state (candidate p next_state k) ≡ false → IsLooking p d offered steps f (λ j. Seen j ⊎ (k ≡ j)) waits
+    goes_on_resting at off =
+        unchanged (inl (at ∙ ap (λ w. Some w) (sym (looked None at ∙ look-off p d next_state (candidate p next_state k) f.time None off))))
+
+    -- not enabled, and it waited: it was lost
+    pub was_lost : (due : ℕ) → slice_get waits k ≡ Some (Some due) → enabled p next_state (candidate p next_state k) ≡ false → IsSeenLost p d offered steps f k × IsLooking p d offered steps f (λ j. Seen j ⊎ (k ≡ j)) waits
+    was_lost due at off =
+        let none : due_at p d offered (steps ++ f ∷ []) k ≡ None = looked (Some due) at ∙ look-off p d next_state (candidate p next_state k) f.time (Some due) off in
+        let gone : IsSeenLost p d offered steps f k =
+        elim (is.each k lt) [
+          | inl before ↦
+              let waited : popped (eqb (item_number p f.item) k) (due_at p d offered steps k) ≡ Some due = same_Some (popped (eqb (item_number p f.item) k) (due_at p d offered steps k)) (Some due) (sym before ∙ at) in
+              elim (cases_eq (item_number p f.item) k) [
+                | inl same ↦ absurd (none-some due (sym (popped-own (item_number p f.item) k (due_at p d offered steps k) same) ∙ waited))
+                | inr other ↦ record { other = other; due = due; waited = sym (popped-other (item_number p f.item) k (due_at p d offered steps k) other) ∙ waited; off = off }
+              ]
+          | inr after ↦ absurd (none-some due (sym none ∙ same_Some (due_at p d offered (steps ++ f ∷ []) k) (Some due) (sym after ∙ at)))
+        ] in
+        (gone, unchanged (inr gone))
+
+  -- a number that isn't touched was not lost, and where no number was, nothing was
+  pub free_not_seen : (net k : ℕ) → net_of_step p (state_after p offered steps) f.item ≡ Some net → k < number_count p → IsFree p net k → IsSeenLost p d offered steps f k → ⊥
+  free_not_seen net k at lt free is_lost =
+      free_not_lost p d offered steps f ends once on net (candidate p next_state k) at (free next_state) (seen_is_lost p d offered steps f ends once on k lt is_lost)
+
+  pub none_seen : ((k : ℕ) → k < number_count p → IsSeenLost p d offered steps f k → ⊥) → LosesNone p offered (steps ++ f ∷ [])
+  none_seen none item is_lost =
+      let within : item_number p item < number_count p = number_within p (state_after p offered is_lost.before) item is_lost.was in
+      none (item_number p item) within (lost_is_seen p d offered steps f ends once on item is_lost)
+
+  -- after the last look, where nothing was lost, the table and the queue are those of the steps with one more
+  pub looked_is_tracked : (Seen : ℕ → Type 0) (waits : List (Option ℕ)) → IsLooking p d offered steps f Seen waits → ((k : ℕ) → k < number_count p → Seen k) → LosesNone p offered (steps ++ f ∷ []) → IsTracked p d offered (steps ++ f ∷ []) waits
+  looked_is_tracked Seen waits is all none = record {
+    count = is.count;
+    at = λ k lt. elim (is.seen k lt (all k lt)) [
+      | inl after ↦ after
+      | inr gone ↦ absurd (none (candidate p next_state k) (seen_is_lost p d offered steps f ends once on k lt gone))
+    ];
+  }
+
+-- ---- a turn: the step of what was due first, and the looks at what it touches
 
 -- ---- what isn't in the table needs no look
 

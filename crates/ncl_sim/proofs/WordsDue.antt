@@ -1,17 +1,5 @@
 -- How many words are due.
-use Rattle.std.proofs.Common.{◌≡◌, ℕ, ◌+◌, ◌*◌, ◌^◌, ◌<◌, ◌≤◌, Bool, List, length, map, ◌∙◌, arith}
-use Rattle.std.proofs.Math.Nat.{mul-le-mul_left}
-use Rattle.std.proofs.lemmas.List.{length-append, length-map}
-use Rattle.ncl_netlist.specs.Netlist.{NetlistData}
-use Rattle.ncl_shape.specs.declared.bank.TheConstants.{MOST_BANKS}
-use Rattle.ncl_shape.specs.Closure.{function_of}
-use Rattle.ncl_shape.specs.Pipeline.{PipelineData}
-use Rattle.ncl_shape.specs.Shape.{Shape}
-use Rattle.ncl_shape.proofs.BankCounts.{data_banks-le}
-use Rattle.ncl_delay.specs.declared.word_text.TheConstants.{MOST_WORDS}
-use Rattle.ncl_machine.specs.DelayInsensitive.{due, held_words}
-use Rattle.ncl_insensitivity.proofs.HeldDue.{held_words-length}
-use Rattle.ncl_sim.specs.TimedRun.{words_due}
+use Rattle.ncl_sim.proofs.Terms.{Bool, List, MOST_BANKS, MOST_WORDS, NetlistData, PipelineData, Shape, arith, data_banks-le, due, function_of, held_words, held_words-length, length, length-append, length-map, map, mul-le-mul_left, words_due, ℕ, ◌*◌, ◌+◌, ◌<◌, ◌^◌, ◌∙◌, ◌≡◌, ◌≤◌}
 
 -- as many as the list of those that are due has
 pub due-length : (p : PipelineData) (offered : List (List Bool)) → length (due p offered) ≡ words_due p offered

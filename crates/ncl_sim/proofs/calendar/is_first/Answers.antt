@@ -1,5 +1,4 @@
-use Rattle.ncl_sim.proofs.CalendarLaws.{opened-after}
-use Rattle.std.specs.BinaryHeap.{heap_items}
+use Rattle.ncl_sim.proofs.CalendarLaws.{heap_items, opened-after}
 use Rattle.ncl_sim.proofs.calendar.is_first.Goals as goal
 
 pub returns-clause-other : goal.returns-clause-other

@@ -1,8 +1,4 @@
-use Rattle.std.proofs.Common.{◌≡◌, []}
-use Rattle.std.proofs.lemmas.List.Sorted.{All-permutation}
-use Rattle.ncl_sim.specs.Calendar.{IsDueAt}
-use Rattle.ncl_sim.proofs.CalendarLaws.{refill-all, refill-same}
-use Rattle.ncl_sim.proofs.WheelLaws.{no-items}
+use Rattle.ncl_sim.proofs.CalendarLaws.{All-permutation, IsDueAt, [], no-items, refill-all, refill-same, ◌≡◌}
 use Rattle.ncl_sim.proofs.calendar.refill.Goals as goal
 
 pub open-requires : goal.open-requires

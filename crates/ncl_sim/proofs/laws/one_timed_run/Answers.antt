@@ -1,5 +1,4 @@
-use Rattle.ncl_sim.proofs.Existence.{some_run}
-use Rattle.ncl_sim.proofs.Oneness.{one_run}
+use Rattle.ncl_sim.proofs.Existence.{one_run, some_run}
 use Rattle.ncl_sim.proofs.laws.one_timed_run.Goals as goal
 
 pub returns-clause-some : goal.returns-clause-some

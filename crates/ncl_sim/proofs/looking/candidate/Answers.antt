@@ -1,5 +1,4 @@
-use Rattle.std.proofs.Common.{arith}
-use Rattle.ncl_sim.proofs.ShapeEnds.{ki-within}
+use Rattle.ncl_sim.proofs.TouchedLaws.{arith, ki-within}
 use Rattle.ncl_sim.proofs.looking.candidate.Goals as goal
 
 pub value-requires : goal.value-requires

@@ -1,8 +1,4 @@
-use Rattle.std.proofs.Common.{get_or, sym, subst}
-use Rattle.std.proofs.lemmas.Option.{slice_get-get_or}
-use Rattle.ncl_machine.specs.Held.{meaning}
-use Rattle.ncl_sim.specs.Rows.{HasNetsBelow}
-use Rattle.ncl_sim.proofs.RowLaws.{nets-there, no_row, told-there}
+use Rattle.ncl_sim.proofs.RowLaws.{HasNetsBelow, get_or, meaning, nets-there, no_row, slice_get-get_or, subst, sym, told-there}
 use Rattle.ncl_sim.proofs.looking.delay_of.Goals as goal
 
 pub delay-requires : goal.delay-requires

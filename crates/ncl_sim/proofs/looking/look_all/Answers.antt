@@ -1,9 +1,7 @@
-use Rattle.std.proofs.Common.{◌≡◌, ◌∙◌, length, ap, sym, take, get_or}
-use Rattle.ncl_machine.specs.Held.{meaning}
-use Rattle.ncl_sim.specs.Queue.{loses, note}
-use Rattle.ncl_sim.proofs.LookLaws.{length-looks, looks-next, least_of-next, note-then, note-else}
+use Rattle.ncl_sim.proofs.Looks.{ap, get_or, least_of-next, length, length-looks, looks-next, loses, meaning, note, note-else, note-then, sym, take, ◌∙◌, ◌≡◌}
 use Rattle.ncl_sim.proofs.looking.look_all.Goals as goal
-use Rattle.ncl_sim.proofs.looking.look_all.Goals.{then-branch, else-branch}
+use Rattle.ncl_sim.proofs.looking.look_all.Goals.{then-branch}
+use Rattle.ncl_sim.proofs.looking.look_all.Goals.{else-branch}
 
 pub look-requires-clause-count : goal.look-requires-clause-count
 look-requires-clause-count c =

@@ -1,6 +1,4 @@
-use Rattle.std.proofs.Common.{◌≡◌, None, take}
-use Rattle.ncl_machine.specs.Held.{meaning}
-use Rattle.ncl_sim.specs.Queue.{least_of, looks, loses}
+use Rattle.ncl_sim.proofs.Terms.{None, least_of, looks, loses, meaning, take, ◌≡◌}
 use Rattle.ncl_sim.proofs.looking.look_all.Given as goal
 
 abbrev pub invariant-loop-number : goal.invariant-loop-number

@@ -1,5 +1,4 @@
-use Rattle.std.proofs.Common.{arith}
-use Rattle.ncl_sim.proofs.ShapeEnds.{items-few}
+use Rattle.ncl_sim.proofs.TouchedLaws.{arith, items-few}
 use Rattle.ncl_sim.proofs.looking.number_count.Goals as goal
 
 pub overflow_cast-result : goal.overflow_cast-result

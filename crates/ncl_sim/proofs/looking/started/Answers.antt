@@ -1,7 +1,4 @@
-use Rattle.std.proofs.Common.{◌≡◌, ℕ, Option, None, replicate, arith, ap, sym, subst, ◌∙◌, ◌+◌, ◌<◌}
-use Rattle.ncl_sim.specs.Candidates.{number_count}
-use Rattle.ncl_sim.specs.Queue.{look_at}
-use Rattle.ncl_sim.proofs.Start.{IsStarting, starting, starts_at}
+use Rattle.ncl_sim.proofs.Looks.{IsStarting, None, Option, ap, arith, look_at, number_count, replicate, starting, starts_at, subst, sym, ℕ, ◌+◌, ◌<◌, ◌∙◌, ◌≡◌}
 use Rattle.ncl_sim.proofs.looking.started.Goals as goal
 
 pub loop-number-init : goal.loop-number-init

@@ -1,4 +1,4 @@
-use Rattle.ncl_sim.proofs.Start.{IsStarting}
+use Rattle.ncl_sim.proofs.Looks.{IsStarting}
 use Rattle.ncl_sim.proofs.looking.started.Given as goal
 
 abbrev pub invariant-loop-number : goal.invariant-loop-number

@@ -1,7 +1,4 @@
-use Rattle.std.proofs.Common.{◌+◌, length, refl, ap, sym, subst, ◌∙◌, arith}
-use Rattle.std.proofs.lemmas.Option.{slice_get_read}
-use Rattle.ncl_netlist.specs.Netlist.{NetlistData}
-use Rattle.ncl_sim.proofs.RowLaws.{AreFirstRows, rows-all, rows-next}
+use Rattle.ncl_sim.proofs.RowLaws.{AreFirstRows, NetlistData, ap, arith, length, refl, rows-all, rows-next, slice_get_read, subst, sym, ◌+◌, ◌∙◌}
 use Rattle.ncl_sim.proofs.rows.rows_of.Goals as goal
 
 pub loop-k-preserved : goal.loop-k-preserved

@@ -1,10 +1,7 @@
-use Rattle.std.proofs.Common.{◌≡◌, ◌<◌, ap, arith, length, sym, ◌∙◌, subst, map, take, get_or, refl}
-use Rattle.ncl_sim.specs.TimedRun.{is_take}
-use Rattle.ncl_sim.specs.declared.trace.Taken.{Taken}
-use Rattle.ncl_shape.specs.declared.item.Item.TheVariants.{Cell as Fire}
-use Rattle.ncl_sim.proofs.Deliveries.{no-take, taken-before, taken-pairs, taken-stays, taken-times}
+use Rattle.ncl_sim.proofs.Quiet.{Fire, Taken, ap, arith, get_or, is_take, length, map, no-take, refl, subst, sym, take, taken-before, taken-pairs, taken-stays, taken-times, ◌<◌, ◌∙◌, ◌≡◌}
 use Rattle.ncl_sim.proofs.simulator.delivered.Goals as goal
-use Rattle.ncl_sim.proofs.simulator.delivered.Goals.{in-Take+in_ok-pair+in_ok-push, in_default}
+use Rattle.ncl_sim.proofs.simulator.delivered.Goals.{in-Take+in_ok-pair+in_ok-push}
+use Rattle.ncl_sim.proofs.simulator.delivered.Goals.{in_default}
 
 pub bounds-pairs-len : goal.bounds-pairs-len
 bounds-pairs-len c =

@@ -1,7 +1,4 @@
-use Rattle.std.proofs.Common.{◌≡◌, length, map, take}
-use Rattle.ncl_delay.specs.declared.fired.Fired.{Fired}
-use Rattle.ncl_sim.specs.TimedRun.{takes_in}
-use Rattle.ncl_sim.specs.declared.trace.Taken.{Taken}
+use Rattle.ncl_sim.proofs.Terms.{Fired, Taken, length, map, take, takes_in, ◌≡◌}
 use Rattle.ncl_sim.proofs.simulator.delivered.Given as goal
 
 abbrev pub invariant-loop-fired : goal.invariant-loop-fired

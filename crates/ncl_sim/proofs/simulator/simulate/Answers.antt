@@ -1,14 +1,4 @@
-use Rattle.std.proofs.Common.{◌≡◌, ◌∙◌, ◌+◌, ap, map, length, arith, subst}
-use Rattle.ncl_shape.specs.Pipeline.{PipelineData}
-use Rattle.ncl_delay.specs.Delays.{DelaysData}
-use Rattle.ncl_sim.specs.Course.{CourseData}
-use Rattle.ncl_sim.specs.Running.{IsStopped}
-use Rattle.ncl_sim.specs.declared.run.Run.{Run}
-use Rattle.ncl_sim.specs.declared.trace.End.{End}
-use Rattle.ncl_sim.specs.declared.trace.Taken.{Taken}
-use Rattle.ncl_sim.proofs.Quiet.{sound-ends_quiet, sound-delivers}
-use Rattle.ncl_sim.proofs.WordsDue.{few_due, few_steps}
-use Rattle.ncl_sim.proofs.Stopped.{stopped-takes, stopped-run}
+use Rattle.ncl_sim.proofs.Quiet.{CourseData, DelaysData, End, IsStopped, PipelineData, Run, Taken, ap, arith, few_due, few_steps, length, map, sound-delivers, sound-ends_quiet, stopped-run, stopped-takes, subst, ◌+◌, ◌∙◌, ◌≡◌}
 use Rattle.ncl_sim.proofs.simulator.simulate.Goals as goal
 
 pub finish-requires-clause-few : goal.finish-requires-clause-few

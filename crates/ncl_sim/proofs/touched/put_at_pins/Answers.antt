@@ -1,6 +1,4 @@
-use Rattle.std.proofs.Common.{◌+◌, arith}
-use Rattle.ncl_base.proofs.NumberLists.{grows-along}
-use Rattle.ncl_sim.proofs.TouchedLaws.{pins-next}
+use Rattle.ncl_sim.proofs.TouchedLaws.{arith, grows-along, pins-next, ◌+◌}
 use Rattle.ncl_sim.proofs.touched.put_at_pins.Goals as goal
 
 pub loop-pin-preserved : goal.loop-pin-preserved

@@ -1,8 +1,4 @@
-use Rattle.std.proofs.Common.{ℕ, ◌<◌, take}
-use Rattle.std.specs.Prelude.{Contains}
-use Rattle.ncl_netlist.specs.declared.ids.NetId.{NetId}
-use Rattle.ncl_base.specs.NumberLists.{Grows}
-use Rattle.ncl_sim.specs.Running.{touched_at}
+use Rattle.ncl_sim.proofs.Terms.{Contains, Grows, NetId, take, touched_at, ℕ, ◌<◌}
 use Rattle.ncl_sim.proofs.touched.put_at_pins.Given as goal
 
 abbrev pub invariant-loop-pin : goal.invariant-loop-pin

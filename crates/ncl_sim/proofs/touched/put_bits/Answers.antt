@@ -1,6 +1,4 @@
-use Rattle.std.proofs.Common.{◌+◌, arith}
-use borrow.Author.Count.{below_more}
-use Rattle.ncl_base.proofs.NumberLists.{grows-along}
+use Rattle.ncl_sim.proofs.Terms.{arith, below_more, grows-along, ◌+◌}
 use Rattle.ncl_sim.proofs.touched.put_bits.Goals as goal
 
 pub loop-bit-preserved : goal.loop-bit-preserved

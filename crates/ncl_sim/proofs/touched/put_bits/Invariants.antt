@@ -1,7 +1,4 @@
-use Rattle.std.proofs.Common.{ℕ, ◌+◌, ◌<◌, ◌≤◌}
-use Rattle.std.specs.Prelude.{Contains}
-use Rattle.ncl_base.specs.NumberLists.{Grows}
-use Rattle.ncl_sim.specs.Running.{touched_at}
+use Rattle.ncl_sim.proofs.Terms.{Contains, Grows, touched_at, ℕ, ◌+◌, ◌<◌, ◌≤◌}
 use Rattle.ncl_sim.proofs.touched.put_bits.Given as goal
 
 abbrev pub invariant-loop-bit : goal.invariant-loop-bit

@@ -1,7 +1,4 @@
-use Rattle.std.proofs.Common.{◌+◌, ◌<◌, ◌≡◌, ◌∙◌, arith, ap, length, get_or}
-use Rattle.std.proofs.lemmas.Option.{slice_get_within}
-use Rattle.ncl_base.proofs.NumberLists.{grows-along}
-use Rattle.ncl_sim.proofs.TouchedLaws.{cells-next}
+use Rattle.ncl_sim.proofs.TouchedLaws.{ap, arith, cells-next, get_or, grows-along, length, slice_get_within, ◌+◌, ◌<◌, ◌∙◌, ◌≡◌}
 use Rattle.ncl_sim.proofs.touched.put_cells.Goals as goal
 
 pub loop-k-preserved : goal.loop-k-preserved

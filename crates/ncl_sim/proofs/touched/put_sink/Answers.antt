@@ -1,7 +1,4 @@
-use Rattle.std.proofs.Common.{◌+◌, ◌<◌, arith, length}
-use Rattle.ncl_cell_roles.specs.Layout.{no_rails}
-use Rattle.ncl_base.proofs.NumberLists.{grows-along}
-use Rattle.ncl_sim.proofs.TouchedLaws.{rails-at, rails-next}
+use Rattle.ncl_sim.proofs.TouchedLaws.{arith, grows-along, length, no_rails, rails-at, rails-next, ◌+◌, ◌<◌}
 use Rattle.ncl_sim.proofs.touched.put_sink.Goals as goal
 
 pub put-requires : goal.put-requires

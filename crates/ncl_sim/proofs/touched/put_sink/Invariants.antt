@@ -1,8 +1,4 @@
-use Rattle.std.proofs.Common.{ℕ, ◌<◌, take}
-use Rattle.std.specs.Prelude.{Contains}
-use Rattle.ncl_shape.specs.Stage.{rail_nets}
-use Rattle.ncl_base.specs.NumberLists.{Grows}
-use Rattle.ncl_sim.specs.Running.{touched_at}
+use Rattle.ncl_sim.proofs.Terms.{Contains, Grows, rail_nets, take, touched_at, ℕ, ◌<◌}
 use Rattle.ncl_sim.proofs.touched.put_sink.Given as goal
 
 abbrev pub invariant-loop-rails : goal.invariant-loop-rails

@@ -1,8 +1,4 @@
-use Rattle.std.proofs.Common.{◌≡◌, ◌+◌, ◌%◌, ◌<◌, [], length, sym, ◌∙◌, arith}
-use Rattle.std.proofs.lemmas.Bool.{eqb-true}
-use borrow.Author.Count.{below_more}
-use Rattle.ncl_sim.specs.Calendar.{list_at}
-use Rattle.ncl_sim.proofs.WheelLaws.{no-length, table-at, tables}
+use Rattle.ncl_sim.proofs.CalendarLaws.{[], arith, below_more, eqb-true, length, list_at, no-length, sym, table-at, tables, ◌%◌, ◌+◌, ◌<◌, ◌∙◌, ◌≡◌}
 use Rattle.ncl_sim.proofs.wheel.next_list.Goals as goal
 
 pub loop-ahead-preserved : goal.loop-ahead-preserved

@@ -1,5 +1,4 @@
-use Rattle.std.proofs.Common.{◌≡◌, ℕ, ◌+◌, ◌%◌, ◌<◌, [], map}
-use Rattle.ncl_sim.specs.Calendar.{list_at}
+use Rattle.ncl_sim.proofs.Terms.{[], list_at, map, ℕ, ◌%◌, ◌+◌, ◌<◌, ◌≡◌}
 use Rattle.ncl_sim.proofs.wheel.next_list.Given as goal
 
 -- the lists so far are empty

@@ -1,6 +1,4 @@
-use Rattle.std.proofs.Common.{◌≡◌, None, ap, replicate, rules}
-use Rattle.ncl_sim.specs.Calendar.{all_events}
-use Rattle.ncl_sim.proofs.QueueLaws.{empty-queue}
+use Rattle.ncl_sim.proofs.QueueLaws.{None, all_events, ap, empty-queue, replicate, rules, ◌≡◌}
 use Rattle.ncl_sim.proofs.agenda.Agenda.new.Goals as goal
 
 pub invariant_of-result : goal.invariant_of-result

@@ -1,9 +1,4 @@
-use Rattle.std.proofs.Common.{◌<◌, ◌∙◌, length, arith, subst, sym}
-use Rattle.std.proofs.lemmas.Option.{slice_get_within}
-use Rattle.ncl_sim.specs.Agenda.{IsQueueOf}
-use Rattle.ncl_sim.specs.Calendar.{all_events}
-use Rattle.ncl_sim.specs.Queue.{IsFirst, NoneWaits}
-use Rattle.ncl_sim.proofs.QueueLaws.{empty-none_waits, out-first, out-waits, queue-rest}
+use Rattle.ncl_sim.proofs.QueueLaws.{IsFirst, IsQueueOf, NoneWaits, all_events, arith, empty-none_waits, length, out-first, out-waits, queue-rest, slice_get_within, subst, sym, ◌<◌, ◌∙◌}
 use Rattle.ncl_sim.proofs.agenda.Agenda.take_first.Goals as goal
 
 pub returns-in_default-clause-none : goal.returns-in_default-clause-none

@@ -1,6 +1,4 @@
-use Rattle.std.proofs.Common.{ap, ◌∙◌}
-use Rattle.std.specs.Prelude.{slice_get}
-use Rattle.ncl_sim.proofs.QueueLaws.{queue-more}
+use Rattle.ncl_sim.proofs.QueueLaws.{ap, queue-more, slice_get, ◌∙◌}
 use Rattle.ncl_sim.proofs.agenda.Agenda.wait.Goals as goal
 
 pub invariant_of-self-2 : goal.invariant_of-self-2

@@ -1,10 +1,4 @@
-use Rattle.std.proofs.Common.{◌≡◌, ◌++◌, ◌∷◌, [], sym, ap, subst, ◌∙◌, arith}
-use Rattle.std.specs.BinaryHeap.{heap_items}
-use Rattle.std.specs.List.Sorted.{IsPermutation}
-use Rattle.std.proofs.lemmas.List.Sorted.{IsPermutation-trans}
-use Rattle.ncl_sim.specs.Calendar.{CalendarData, ComesBeforeAll, all_events}
-use Rattle.ncl_sim.proofs.CalendarLaws.{heap-first, less-heaped, none-old, none-whole, refilled, some-first, some-out, some-time}
-use Rattle.ncl_sim.proofs.WheelLaws.{Event, no-items, no-length}
+use Rattle.ncl_sim.proofs.CalendarLaws.{CalendarData, ComesBeforeAll, Event, IsPermutation, IsPermutation-trans, [], all_events, ap, arith, heap-first, heap_items, less-heaped, no-items, no-length, none-old, none-whole, refilled, some-first, some-out, some-time, subst, sym, ◌++◌, ◌∙◌, ◌∷◌, ◌≡◌}
 use Rattle.ncl_sim.proofs.calendar.Calendar.pop.Goals as goal
 
 pub returns-then-is_first-clause-rest : goal.returns-then-is_first-clause-rest

@@ -1,8 +1,4 @@
-use Rattle.std.proofs.Common.{◌++◌, ◌∷◌, subst}
-use Rattle.std.specs.BinaryHeap.{heap_items}
-use Rattle.std.specs.List.Sorted.{IsPermutation}
-use Rattle.ncl_sim.specs.Calendar.{CalendarData, all_events}
-use Rattle.ncl_sim.proofs.CalendarLaws.{calendar-more, more-heaped, more-waits}
+use Rattle.ncl_sim.proofs.CalendarLaws.{CalendarData, IsPermutation, all_events, calendar-more, heap_items, more-heaped, more-waits, subst, ◌++◌, ◌∷◌}
 use Rattle.ncl_sim.proofs.calendar.Calendar.push.Goals as goal
 
 pub invariant_of-self-then-has_list : goal.invariant_of-self-then-has_list

@@ -1,7 +1,4 @@
-use Rattle.std.proofs.Common.{◌≡◌, ◌∙◌, ap, arith, length, subst, sym}
-use Rattle.ncl_delay.specs.Delays.{HasDelays}
-use Rattle.ncl_sim.specs.TimedRun.{most_steps}
-use Rattle.ncl_sim.proofs.Turning.{popped-time, popped-within, stopped-over, stopped-quiet}
+use Rattle.ncl_sim.proofs.Turning.{HasDelays, ap, arith, length, most_steps, popped-time, popped-within, stopped-over, stopped-quiet, subst, sym, ◌∙◌, ◌≡◌}
 use Rattle.ncl_sim.proofs.run.Run.finish.Goals as goal
 
 pub returns-then-len-most-clause-stopped : goal.returns-then-len-most-clause-stopped

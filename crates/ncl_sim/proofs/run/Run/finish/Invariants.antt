@@ -1,5 +1,4 @@
-use Rattle.std.proofs.Common.{◌≡◌, ◌-◌, ◌≤◌, length}
-use Rattle.ncl_sim.specs.Running.{IsUnderWay}
+use Rattle.ncl_sim.proofs.Terms.{IsUnderWay, length, ◌-◌, ◌≡◌, ◌≤◌}
 use Rattle.ncl_sim.proofs.run.Run.finish.Given as goal
 
 abbrev pub invariant-loop-time : goal.invariant-loop-time

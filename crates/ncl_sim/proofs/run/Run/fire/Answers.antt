@@ -1,10 +1,4 @@
-use Rattle.std.proofs.Common.{◌≡◌, subst}
-use Rattle.std.specs.Prelude.{IfSome}
-use Rattle.ncl_shape.specs.Pipeline.{PipelineData}
-use Rattle.ncl_machine.specs.Held.{meaning}
-use Rattle.ncl_machine.specs.OneChange.{net_of_step}
-use Rattle.ncl_sim.specs.Candidates.{candidate}
-use Rattle.ncl_sim.proofs.RowLaws.{output-there}
+use Rattle.ncl_sim.proofs.RowLaws.{IfSome, PipelineData, candidate, meaning, net_of_step, output-there, subst, ◌≡◌}
 use Rattle.ncl_sim.proofs.run.Run.fire.Goals as goal
 
 pub net_by_row-requires : goal.net_by_row-requires

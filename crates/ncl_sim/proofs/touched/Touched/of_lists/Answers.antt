@@ -1,7 +1,4 @@
-use Rattle.std.proofs.Common.{◌≡◌, ◌+◌, ◌<◌, ◌++◌, ◌∷◌, [], length, take, get_or, sym, ap, subst, ◌∙◌, arith}
-use Rattle.std.proofs.lemmas.List.{length-append, length-map, get_or-map, take_more}
-use Rattle.ncl_sim.specs.Touch.{AreStarts, cut_at}
-use Rattle.ncl_sim.proofs.Cuts.{starts-push}
+use Rattle.ncl_sim.proofs.TouchedLaws.{AreStarts, [], ap, arith, cut_at, get_or, get_or-map, length, length-append, length-map, starts-push, subst, sym, take, take_more, ◌++◌, ◌+◌, ◌<◌, ◌∙◌, ◌∷◌, ◌≡◌}
 use Rattle.ncl_sim.proofs.touched.Touched.of_lists.Goals as goal
 
 pub loop-list-preserved : goal.loop-list-preserved

@@ -1,4 +1,4 @@
-use Rattle.std.proofs.Common.{◌≡◌, [], map, replicate}
+use Rattle.ncl_sim.proofs.Terms.{[], map, replicate, ◌≡◌}
 use Rattle.ncl_sim.proofs.wheel.Wheel.new.Given as goal
 
 abbrev pub invariant-loop : goal.invariant-loop

@@ -1,7 +1,4 @@
-use Rattle.std.proofs.Common.{◌≡◌, ℕ, ◌+◌, ◌%◌, ◌<◌, ◌++◌, [], set, Vec, Global, ap, subst, ◌∙◌}
-use Rattle.std.specs.List.Sorted.{IsPermutation}
-use Rattle.ncl_sim.specs.Calendar.{IsNextList, WheelData, joined, list_at}
-use Rattle.ncl_sim.proofs.WheelLaws.{Event, opened-is, tables, wheel-idle, wheel-later, wheel-none}
+use Rattle.ncl_sim.proofs.CalendarLaws.{Event, Global, IsNextList, IsPermutation, Vec, WheelData, [], ap, joined, list_at, opened-is, set, subst, tables, wheel-idle, wheel-later, wheel-none, ℕ, ◌%◌, ◌++◌, ◌+◌, ◌<◌, ◌∙◌, ◌≡◌}
 use Rattle.ncl_sim.proofs.wheel.Wheel.open.Goals as goal
 
 pub invariant_of-self : goal.invariant_of-self

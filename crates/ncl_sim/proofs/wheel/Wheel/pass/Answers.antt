@@ -1,6 +1,4 @@
-use Rattle.std.proofs.Common.{ap, ◌∙◌}
-use Rattle.ncl_sim.specs.Calendar.{WheelData}
-use Rattle.ncl_sim.proofs.WheelLaws.{tables, wheel-pass}
+use Rattle.ncl_sim.proofs.CalendarLaws.{WheelData, ap, tables, wheel-pass, ◌∙◌}
 use Rattle.ncl_sim.proofs.wheel.Wheel.pass.Goals as goal
 
 pub invariant_of-self : goal.invariant_of-self

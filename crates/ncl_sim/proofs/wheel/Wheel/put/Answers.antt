@@ -1,9 +1,4 @@
-use Rattle.std.proofs.Common.{◌%◌, ◌<◌, ◌++◌, ◌∷◌, [], length, set, ap, sym, subst, ◌∙◌, arith}
-use Rattle.std.specs.List.Sorted.{IsPermutation}
-use Rattle.std.proofs.lemmas.List.{set-get_or}
-use Rattle.std.proofs.lemmas.Result.{MatchResult-from_err}
-use Rattle.ncl_sim.specs.Calendar.{WheelData, joined}
-use Rattle.ncl_sim.proofs.WheelLaws.{joined-put, length-tables, table-at, tables, tables-set, wheel-put, wheel-same}
+use Rattle.ncl_sim.proofs.CalendarLaws.{IsPermutation, MatchResult-from_err, WheelData, [], ap, arith, joined, joined-put, length, length-tables, set, set-get_or, subst, sym, table-at, tables, tables-set, wheel-put, wheel-same, ◌%◌, ◌++◌, ◌<◌, ◌∙◌, ◌∷◌}
 use Rattle.ncl_sim.proofs.wheel.Wheel.put.Goals as goal
 
 pub invariant_of-self : goal.invariant_of-self

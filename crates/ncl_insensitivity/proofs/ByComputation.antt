@@ -1,14 +1,6 @@
 -- What is shown by computation: of some first numbers one by one, of the faults of a stage, and of the items of a state.
-use Rattle.std.proofs.Common.{◌≡◌, ◌≢◌, ℕ, zero, suc, Bool, true, false, List, [], ◌∷◌, length, arith}
-use Rattle.ncl_shape.specs.declared.item.Item.TheVariants.{Cell, Raise, Lower, Take, Ready}
-use Rattle.ncl_shape.specs.Stage.{StageData}
-use Rattle.ncl_shape.specs.Pipeline.{PipelineData}
-use Rattle.ncl_faults.specs.Faults.{StageFault, BothRails, NoRail, Incomplete, Orphan, shows}
-use Rattle.ncl_machine.specs.State.{State}
-use Rattle.ncl_machine.specs.Steps.{enabled}
-use Rattle.ncl_machine.specs.Run.{IsQuiet}
-use Rattle.ncl_insensitivity.specs.Examples.{fire}
-use Rattle.ncl_insensitivity.specs.Unsound.{condition_of}
+pub use Rattle.ncl_insensitivity.proofs.Terms.{Bool, BothRails, Incomplete, IsQuiet, List, Lower, NoRail, Orphan, PipelineData, Raise, Ready, StageData, StageFault, State, Take, [], arith, at_the_end, condition_of, enabled, false, fire, holding_pipeline, length, refl, shows, suc, true, where_holding_rests, wires_pipeline, zero, ℕ, ◌∷◌, ◌≡◌, ◌≢◌}
+use Rattle.ncl_shape.specs.declared.item.Item.TheVariants.{Cell}
 
 -- it holds of each of the first numbers, and of all numbers after them
 abbrev pub HoldsFrom : ℕ → (ℕ → Type 0) → Type 0

@@ -1,23 +1,5 @@
 -- The word that a bank holds at reset, in the layout of the pipeline.
-use Rattle.std.proofs.Common.{◌≡◌, ℕ, zero, suc, ◌+◌, ◌<◌, Bool, true, false, List, [], ◌∷◌, length, drop, get_or, Option, None, Some, is_some, inl, inr, refl, sym, ap, ◌∙◌, arith}
-use Rattle.std.specs.Prelude.{slice_get}
-use Rattle.std.proofs.lemmas.Bool.{both_ways}
-use Rattle.std.proofs.lemmas.Option.{slice_get_within, get_or_from_slice_get}
-use Rattle.std.proofs.lemmas.Slice.Zip.{AllZip-long}
-use Rattle.ncl_base.proofs.Lists.{same_from_lengths}
-use Rattle.ncl_base.proofs.Members.{Contains-from_slice_get, slice_get-some}
-use Rattle.ncl_gates.specs.Cell.{is_data_register}
-use Rattle.ncl_netlist.specs.declared.cell.Cell.{Cell}
-use Rattle.ncl_cell_rules.proofs.Drivers.{same_driver}
-use Rattle.ncl_shape.specs.declared.bank.Bank.{Bank}
-use Rattle.ncl_shape.specs.Stage.{StageData}
-use Rattle.ncl_shape.specs.Held.{word_held}
-use Rattle.ncl_shape.specs.Pipeline.{PipelineData}
-use Rattle.ncl_shape.specs.Shape.{Shape, AreRailsOf}
-use Rattle.ncl_cell_roles.specs.Layout.{Layout, IsLayoutOf, rail_at, holds_rail}
-use Rattle.ncl_cell_roles.proofs.BankBits.{drives_rail, register_of_rail}
-use Rattle.ncl_cell_roles.proofs.HeldWords.{register-held, held-wide, held-some}
-use Rattle.ncl_cell_roles.proofs.Numbering.{stage_at, inner_or_last, inner_stage, last_stage, bank_rails}
+use Rattle.ncl_insensitivity.proofs.Terms.{AllZip-long, AreRailsOf, Bank, Bool, Cell, Contains-from_slice_get, IsLayoutOf, Layout, List, None, Option, PipelineData, Shape, Some, StageData, [], ap, arith, bank_rails, both_ways, drives_rail, drop, false, get_or, get_or_from_slice_get, held-some, held-wide, holds_rail, inl, inner_or_last, inner_stage, inr, is_data_register, is_some, last_stage, length, rail_at, refl, register-held, register_of_rail, same_driver, same_from_lengths, slice_get, slice_get-some, slice_get_within, stage_at, suc, sym, true, word_held, zero, ℕ, ◌+◌, ◌<◌, ◌∙◌, ◌∷◌, ◌≡◌}
 
 -- the rest of a list
 pub slice_get-drop : {X : Type 0} (k : ℕ) (xs : List X) (i : ℕ) → slice_get (drop k xs) i ≡ slice_get xs (k + i)

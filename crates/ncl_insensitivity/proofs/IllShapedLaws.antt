@@ -1,24 +1,73 @@
--- What lacks a condition of shape, and why it is not safe.
-use Rattle.std.proofs.Common.{◌≢◌, ℕ, List, ap, inl, inr, refl, arith}
-use Rattle.std.proofs.lemmas.Bool.{both_ways}
-use Rattle.std.specs.Prelude.{Bool}
-use Rattle.ncl_gates.specs.declared.kind.Kind.TheVariants.{Th12, Th22}
-use Rattle.ncl_netlist.specs.Netlist.{IsNetlist}
-use Rattle.ncl_cell_rules.specs.Origin.{AckOf, ComesFrom, gate, ack}
-use Rattle.ncl_cell_rules.specs.Free.{AtCell}
-use Rattle.ncl_cell_rules.specs.Rules.{IsUnmixed}
-use Rattle.ncl_shape.specs.declared.item.Item.{Item}
-use Rattle.ncl_shape.specs.declared.item.Item.TheVariants.{Cell, Raise, Lower, Take, Ready}
-use Rattle.ncl_shape.specs.Chain.{HasOne, IsRoot}
-use Rattle.ncl_shape.specs.Pipeline.{PipelineData}
-use Rattle.ncl_shape.specs.Examples.{bit_left_out}
-use Rattle.ncl_shape.proofs.WrittenCells.{cell_of, is_cell, of_bank}
-use Rattle.ncl_machine.specs.State.{reset}
-use Rattle.ncl_machine.specs.Run.{IsRun, AreWordsOf, after}
-use Rattle.ncl_machine.specs.DelayInsensitive.{IsSafe}
-use Rattle.ncl_insensitivity.specs.Examples.{fire}
-use Rattle.ncl_insensitivity.specs.IllShaped.{TakesBack, with_th12, two_roots}
-use Rattle.ncl_insensitivity.proofs.WrittenNetlists.{netlist_from_tests}
+-- What breaks where a stage isn't sound or a pipeline is ill shaped.
+pub use Rattle.ncl_insensitivity.proofs.Terms.{AckOf, AreWordsOf, AtCell, Bool, BothRails, BreaksOnly, ComesFrom, DeliversWhatIsDue, HasOne, Incomplete, IsNetlist, IsQuiet, IsRoot, IsRun, IsSafe, IsSound, IsStage-from_test, IsUnmixed, Item, List, Lower, NoRail, Orphan, PipelineData, Raise, Ready, StageData, StageFault, Take, TakesBack, Th12, Th22, [], ack, acknowledges_one_bit, after, after_run, and_stage, ap, arith, asks_too_early, bit_left_out, both_ways, cell_of, condition_of, dead_stage, delivers_both_rails, delivers_too_early, eager_stage, excites_both, false, fire, gate, gets_stuck, illegal_stage, inl, inr, is_cell, leaves_a_gate_behind, length, map, not, of_two, one_bit_seen, one_offered, one_word, one_zero, orphan_stage, refl, reset, shows, suc, sym, true, two_offered, two_roots, two_zeros, with_both_rails, with_dead_rail, with_eager_and, with_orphan, with_th12, with_two_drivers, with_two_roots, without_a_bit, zero, ℕ, ◌∙◌, ◌∷◌, ◌≡◌, ◌≢◌}
+pub use Rattle.ncl_insensitivity.proofs.ByComputation.{IsHiddenAtOne, IsHiddenAtOne-word, other_faults, quiet_by_cells}
+use Rattle.ncl_shape.specs.declared.item.Item.TheVariants.{Cell}
+use Rattle.ncl_shape.proofs.WrittenCells.{of_bank}
+pub use Rattle.ncl_insensitivity.proofs.WrittenNetlists.{netlist_from_tests}
+
+-- ---- the AND of two bits is a sound stage: by computation, at each word and fault
+
+-- what holds of each pair of bits in turn
+pub of_each : (P : Bool → Bool → Type 0) → P false false → P false true → P true false → P true true → (a b : Bool) → P a b
+of_each P ff ft tf tt false false = ff
+of_each P ff ft tf tt false true = ft
+of_each P ff ft tf tt true false = tf
+of_each P ff ft tf tt true true = tt
+
+pub and_stage-sound : IsSound and_stage
+and_stage-sound fault = of_two (λ word. shows and_stage word fault ≡ false) (each fault)
+  where
+    each : (fault : StageFault) (a b : Bool) → shows and_stage (a ∷ b ∷ []) fault ≡ false
+    each (BothRails zero) = of_each (λ a b. shows and_stage (a ∷ b ∷ []) (BothRails 0) ≡ false) refl refl refl refl
+    each (BothRails (suc k)) = λ a b. refl
+    each (NoRail zero) = of_each (λ a b. shows and_stage (a ∷ b ∷ []) (NoRail 0) ≡ false) refl refl refl refl
+    each (NoRail (suc k)) = λ a b. refl
+    each (Incomplete zero) = of_each (λ a b. shows and_stage (a ∷ b ∷ []) (Incomplete 0) ≡ false) refl refl refl refl
+    each (Incomplete (suc zero)) = of_each (λ a b. shows and_stage (a ∷ b ∷ []) (Incomplete 1) ≡ false) refl refl refl refl
+    each (Incomplete (suc (suc k))) = λ a b. refl
+    each (Orphan zero) = of_each (λ a b. shows and_stage (a ∷ b ∷ []) (Orphan 0) ≡ false) refl refl refl refl
+    each (Orphan (suc zero)) = of_each (λ a b. shows and_stage (a ∷ b ∷ []) (Orphan 1) ≡ false) refl refl refl refl
+    each (Orphan (suc (suc k))) = λ a b. refl
+
+-- ---- the stages that break one condition of soundness break no other: by computation, at each word and fault
+
+-- a stage of one bit breaks one condition alone where a bit shows a fault of it and none shows one of another
+breaks_at_one : (s : StageData) (fault : StageFault) (bit : Bool) → length s.inputs ≡ 1 → shows s (bit ∷ []) fault ≡ true → ((other : StageFault) → condition_of other ≢ condition_of fault → IsHiddenAtOne s other) → BreaksOnly s fault
+breaks_at_one s fault bit one shown hidden = record {
+  word = bit ∷ [];
+  right = sym one;
+  shown = shown;
+  others = λ word other right differs. IsHiddenAtOne-word s other (hidden other differs) word (right ∙ one);
+}
+
+pub orphan_stage_breaks : BreaksOnly orphan_stage (Orphan 0)
+orphan_stage_breaks = breaks_at_one orphan_stage (Orphan 0) true refl refl (other_faults 3 (IsHiddenAtOne orphan_stage) 1 1 1 0 (λ differs. ((refl, refl), λ k. (refl, refl))) (λ differs. ((refl, refl), λ k. (refl, refl))) (λ differs. ((refl, refl), λ k. (refl, refl))) (λ differs. absurd (differs refl)))
+
+pub dead_stage_breaks : BreaksOnly dead_stage (NoRail 0)
+dead_stage_breaks = breaks_at_one dead_stage (NoRail 0) false refl refl (other_faults 1 (IsHiddenAtOne dead_stage) 1 0 1 1 (λ differs. ((refl, refl), λ k. (refl, refl))) (λ differs. absurd (differs refl)) (λ differs. ((refl, refl), λ k. (refl, refl))) (λ differs. ((refl, refl), λ k. (refl, refl))))
+
+pub illegal_stage_breaks : BreaksOnly illegal_stage (BothRails 0)
+illegal_stage_breaks = breaks_at_one illegal_stage (BothRails 0) true refl refl (other_faults 0 (IsHiddenAtOne illegal_stage) 0 2 1 1 (λ differs. absurd (differs refl)) (λ differs. ((refl, refl), ((refl, refl), λ k. (refl, refl)))) (λ differs. ((refl, refl), λ k. (refl, refl))) (λ differs. ((refl, refl), λ k. (refl, refl))))
+
+pub eager_stage_breaks : BreaksOnly eager_stage (Incomplete 0)
+eager_stage_breaks = record {
+  word = false ∷ false ∷ [];
+  right = refl;
+  shown = refl;
+  others = λ w other right differs. of_two (λ w. shows eager_stage w other ≡ false) (each other differs) w right;
+}
+  where
+    each : (other : StageFault) → condition_of other ≢ 2 → (a b : Bool) → shows eager_stage (a ∷ b ∷ []) other ≡ false
+    each (BothRails zero) differs = of_each (λ a b. shows eager_stage (a ∷ b ∷ []) (BothRails 0) ≡ false) refl refl refl refl
+    each (BothRails (suc k)) differs = λ a b. refl
+    each (NoRail zero) differs = of_each (λ a b. shows eager_stage (a ∷ b ∷ []) (NoRail 0) ≡ false) refl refl refl refl
+    each (NoRail (suc k)) differs = λ a b. refl
+    each (Incomplete k) differs = absurd (differs refl)
+    each (Orphan zero) differs = of_each (λ a b. shows eager_stage (a ∷ b ∷ []) (Orphan 0) ≡ false) refl refl refl refl
+    each (Orphan (suc zero)) differs = of_each (λ a b. shows eager_stage (a ∷ b ∷ []) (Orphan 1) ≡ false) refl refl refl refl
+    each (Orphan (suc (suc k))) differs = λ a b. refl
+
+-- ---- what lacks a condition of shape, and why it is not safe
 
 -- where a run leads to a state in which one item takes another back, the pipeline is not safe
 pub taken_back_is_unsafe : (p : PipelineData) (offered : List (List Bool)) (items : List Item) → AreWordsOf p offered → IsRun p offered items

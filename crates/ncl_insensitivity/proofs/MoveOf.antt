@@ -1,32 +1,173 @@
--- Where the invariant holds, each item that is enabled is a move.
-use Rattle.std.proofs.Common.{◌≡◌, ℕ, suc, ◌<◌, ◌≤◌, Bool, true, false, not, List, ◌+◌, ◌*◌, ◌&&◌, Option, None, Some, inl, inr, refl, sym, ap, ◌∙◌, subst, arith}
-use Rattle.std.specs.Prelude.{slice_get}
-use Rattle.std.specs.List.{list_all}
-use Rattle.std.proofs.Math.Bool.{not-not}
-use Rattle.std.proofs.lemmas.Bool.{and_parts, both_ways, cases_eq, cases_lt, not-true, cases_Bool, false_from_ne_true}
-use Rattle.ncl_netlist.specs.declared.ids.CellId.{CellId}
-use Rattle.ncl_netlist.specs.declared.cell.Cell.{Cell}
-use Rattle.ncl_cell_rules.specs.Origin.{CellAt}
-use Rattle.ncl_shape.specs.declared.rails.Rails.{Rails}
-use Rattle.ncl_shape.specs.declared.item.Item.{Item}
-use Rattle.ncl_shape.specs.declared.item.Item.TheVariants.{Cell as Fire, Raise, Lower, Take, Ready}
-use Rattle.ncl_shape.specs.Stage.{named_rails}
-use Rattle.ncl_shape.specs.Pipeline.{PipelineData}
-use Rattle.ncl_cell_roles.specs.Layout.{Layout, width, IsRegisterOf, in_rail, out_rail, stage_nets, Part, of_stage, of_bank, of_tree}
-use Rattle.ncl_faults.specs.Faults.{has_data}
-use Rattle.ncl_machine.specs.State.{State}
-use Rattle.ncl_machine.specs.Steps.{enabled, next_value, differ, is_excited, is_null, is_data, has_value, current_rails, rails_of_word}
-use Rattle.ncl_machine.proofs.TruthValues.{same-from_differ}
-use Rattle.ncl_machine.proofs.NamedRails.{bit_at, named-get, named-past, some-rail, rail-data}
-use Rattle.ncl_machine.proofs.StageNets.{in_bit}
-use Rattle.ncl_machine.proofs.LocalNets.{all-local, in_stage, in_tree}
+-- Which move each enabled item is.
+use Rattle.ncl_insensitivity.proofs.Terms.{Bool, Cell, CellAt, CellId, Fire, IsRegisterOf, IsSoundAt, Item, Layout, List, Lower, Member, Nets, None, Option, Part, PipelineData, Rails, Raise, Ready, Some, State, Take, [], ahead, all-from_places, all-local, all_data, and_from, and_parts, ap, arith, behind, bit_at, both_ways, cases_Bool, cases_eq, cases_lt, cond, current_rails, differ, double-half, enabled, equal, even, even-given, false, false_from_ne_true, half, half-given, has_data, has_value, here, in_bit, in_rail, in_stage, in_tree, inl, inr, is_data, is_excited, is_null, length, list_all, list_all-member, local-put_here, named-get, named-has, named-past, named-place, named_rails, near-same, next_value, not, not-not, not-true, not_from_false, not_from_true, not_itself, of_bank, of_stage, of_tree, one_if, or_from, others_are_new, out_rail, rail-data, rail-listed, rails_of_word, refl, same-from_differ, slice_get, slice_get_within, some-rail, stage_nets, subst, suc, sym, there, true, turning_is_old, width, ℕ, ◌&&◌, ◌*◌, ◌+◌, ◌<◌, ◌∙◌, ◌∷◌, ◌≡◌, ◌≤◌, ◌⊎◌}
+use Rattle.ncl_insensitivity.proofs.Phases.{IsPhase, rail_is, rail_moves, turns_down, turns_up}
+use Rattle.ncl_insensitivity.proofs.Invariant.{Acknowledges, AreAt, AreKept, HasInvariant, IsDrawn, IsRegisterMove, IsSetting, IsSourceMove, IsTreeMove, Move, Waves, gate, in-local, ki-value, ko-value, lower, lower_last, moved, out-local, output_named, rail_named, raise, raise_last, ready, register, rising, root, root-value, sink-same, take, tree, word_in}
 use Rattle.ncl_insensitivity.proofs.NextValues.{gate-excitation, register-turns}
-use Rattle.ncl_machine.proofs.Completion.{turning_is_old, others_are_new}
-use Rattle.ncl_machine.proofs.Numbers.{even, half, one_if, even-given, half-given, double-half, near-same}
-use Rattle.ncl_insensitivity.proofs.Invariant.{Waves, IsSetting, AreAt, HasInvariant, rising, word_in}
-use Rattle.ncl_insensitivity.proofs.KeptStates.{in-local, out-local, sink-same, root-value, ko-value, ki-value, rail_named, output_named}
-use Rattle.ncl_insensitivity.proofs.Drawing.{drawn_by_data, drawn_by_null, drawn_by_bank, source_is_ahead}
-use Rattle.ncl_insensitivity.proofs.Moves.{IsDrawn, Acknowledges, IsTreeMove, IsRegisterMove, IsSourceMove, moved, Move, gate, register, tree, root, raise, raise_last, lower, lower_last, take, ready}
+
+-- ---- tests and functions over lists
+
+pub member-fails : {X : Type 0} (test : X → Bool) (xs : List X) → list_all test xs ≡ false → (x : X) × Member x xs × (test x ≡ false)
+member-fails test [] some = absurd (both_ways true some refl)
+member-fails test (y ∷ ys) some = elim (cases_Bool (test y)) [
+  | inr fails ↦ (y, here, fails)
+  | inl passes ↦ let (x, m, fails) = member-fails test ys (sym (ap (λ b. b && list_all test ys) passes) ∙ some) in (x, there m, fails)
+]
+
+-- where each element passes a second test that passed a first, all do
+pub all-more : {X : Type 0} (test other : X → Bool) (xs : List X) → ((x : X) → Member x xs → test x ≡ true → other x ≡ true)
+    → list_all test xs ≡ true → list_all other xs ≡ true
+all-more test other [] each all = refl
+all-more test other (x ∷ xs) each all =
+    let (first, rest) = and_parts (test x) (list_all test xs) all in and_from (other x) (list_all other xs) (each x here first) (all-more test other xs (λ r m. each r (there m)) rest)
+
+-- ---- the rails of the source once one has moved
+
+module _ {p : PipelineData} {l : Layout} {w : Waves} {offered : List (List Bool)} (set : IsSetting p l w offered) {s : State} (k : HasInvariant l w offered s) {b : ℕ} (move : IsSourceMove l w s k.numbers b) where
+  -- the values after the move, and the rail of a bit that the current word names
+  abbrev after : Nets
+  after = moved l w s k.numbers b
+
+  abbrev own : ℕ → ℕ
+  own i = in_rail l 0 i (bit_at (word_in w k.numbers 0) i)
+
+  pub not_done : s.done < length offered
+  not_done = subst (λ xs. s.done < length xs) k.ends.offers (slice_get_within s.offered s.done (word_in w k.numbers 0) move.current)
+
+  is_wide : length (word_in w k.numbers 0) ≡ width l 0
+  is_wide = set.waves.wide _ 0 (omega arith)
+
+  pub current-are : current_rails p s ≡ named_rails (l.stage 0).inputs (word_in w k.numbers 0)
+  current-are = ap (rails_of_word p.inputs) move.current ∙ ap (λ bits. named_rails bits (word_in w k.numbers 0)) (sym set.layout.source)
+
+  pub own-current : (i : ℕ) → i < width l 0 → Member (own i) (current_rails p s)
+  own-current i lt = subst (Member (own i)) (sym current-are) (named-has (l.stage 0).inputs (word_in w k.numbers 0) is_wide i lt)
+
+  moved-phase : IsPhase (l.stage 0) (rising k.numbers 0) (word_in w k.numbers 0) (in_stage l (moved l w s k.numbers b) 0)
+  moved-phase =
+      subst (IsPhase (l.stage 0) (rising k.numbers 0) (word_in w k.numbers 0))
+      (sym (local-put_here (stage_nets l 0) s.value (own b) (rising k.numbers 0) (rail-listed (l.stage 0) b (bit_at (word_in w k.numbers 0) b) move.within)))
+      (rail_moves (set.layout.is_stage 0 (omega arith)) (rising k.numbers 0) is_wide (k.nets.phases 0 (omega arith)) b move.within)
+
+  -- a bit has the data that the rail named has
+  null_bit : (i : ℕ) → i < width l 0 → after (own i) ≡ false → has_data (in_stage l after 0) (in_bit l 0 i) ≡ false
+  null_bit i lt low = false_from_ne_true _ (λ some.
+      let (q, high) = some-rail (in_stage l after 0) (l.stage 0).inputs i some in
+      let is = rail_is (set.layout.is_stage 0 (omega arith)) is_wide moved-phase i q lt high in
+      both_ways _ (in-local set after 0 i _ lt ∙ low) (subst (λ x. in_stage l after 0 (in_rail l 0 i x) ≡ true) is high))
+
+  data_bit : (i : ℕ) → i < width l 0 → after (own i) ≡ true → has_data (in_stage l after 0) (in_bit l 0 i) ≡ true
+  data_bit i lt high = rail-data (in_stage l after 0) (l.stage 0).inputs i (bit_at (word_in w k.numbers 0) i) (in-local set after 0 i _ lt ∙ high)
+
+  -- at the end of a word, or of the NULL after it, every bit of the source is new
+  pub all_raised : rising k.numbers 0 ≡ true → list_all after (current_rails p s) ≡ true → AreAt l 0 (in_stage l after 0) (suc (k.numbers 0))
+  all_raised ev all i lt =
+      data_bit i lt (list_all-member after (current_rails p s) all (own i) (own-current i lt))
+      ∙ sym ev ∙ ap even (sym move.same) ∙ sym (not-not (even (k.numbers 0)))
+
+  pub all_lowered : rising k.numbers 0 ≡ false → list_all (λ net. not (after net)) (current_rails p s) ≡ true
+      → AreAt l 0 (in_stage l after 0) (suc (k.numbers 0))
+  all_lowered od all i lt =
+      null_bit i lt (not-true _ (list_all-member (λ net. not (after net)) (current_rails p s) all (own i) (own-current i lt)))
+      ∙ sym od ∙ ap even (sym move.same) ∙ sym (not-not (even (k.numbers 0)))
+
+  -- else some bit is old
+  pub some_low : rising k.numbers 0 ≡ true → list_all after (current_rails p s) ≡ false
+      → (i : ℕ) × (i < width l 0) × (has_data (in_stage l after 0) (in_bit l 0 i) ≡ not (even (k.numbers 0)))
+  some_low ev some =
+      let (x, m, low) = member-fails after (current_rails p s) some in
+      let (i, lt, e) = named-place (l.stage 0).inputs (word_in w k.numbers 0) x (subst (Member x) current-are m) in
+      (i, lt, null_bit i lt (subst (λ y. after y ≡ false) e low) ∙ sym (ap not (ap even move.same ∙ ev)))
+
+  pub some_high : rising k.numbers 0 ≡ false → list_all (λ net. not (after net)) (current_rails p s) ≡ false
+      → (i : ℕ) × (i < width l 0) × (has_data (in_stage l after 0) (in_bit l 0 i) ≡ not (even (k.numbers 0)))
+  some_high od some =
+      let (x, m, high) = member-fails (λ net. not (after net)) (current_rails p s) some in
+      let (i, lt, e) = named-place (l.stage 0).inputs (word_in w k.numbers 0) x (subst (Member x) current-are m) in
+      (i, lt, data_bit i lt (subst (λ y. after y ≡ true) e (sym (not-not _) ∙ ap not high)) ∙ sym (ap not (ap even move.same ∙ od)))
+
+  -- before the move its bit is old
+  pub source_is_old : has_data (in_stage l s.value 0) (in_bit l 0 b) ≡ not (even (k.numbers 0))
+  source_is_old = by_wave (rising k.numbers 0) refl
+    where
+      rail : in_stage l s.value 0 (own b) ≡ not (rising k.numbers 0)
+      rail = in-local set s.value 0 b _ move.within ∙ move.old
+
+      by_wave : (e : Bool) → rising k.numbers 0 ≡ e → has_data (in_stage l s.value 0) (in_bit l 0 b) ≡ not (even (k.numbers 0))
+      by_wave true ev =
+          false_from_ne_true _ (λ some.
+          let (q, high) = some-rail (in_stage l s.value 0) (l.stage 0).inputs b some in
+          both_ways _ (rail ∙ not_from_true _ ev) (subst (λ x. in_stage l s.value 0 (in_rail l 0 b x) ≡ true) (rail_named set k 0 b q (omega arith) move.within high) high))
+          ∙ sym (not_from_true _ (ap even move.same ∙ ev))
+      by_wave false od =
+          rail-data (in_stage l s.value 0) (l.stage 0).inputs b _ (rail ∙ not_from_false _ od) ∙ sym (not_from_false _ (ap even move.same ∙ od))
+
+-- ---- where the bank after a stage has taken all of its wave, the stage has settled, and the bank before it is new
+
+module _ {p : PipelineData} {l : Layout} {w : Waves} {offered : List (List Bool)} (set : IsSetting p l w offered) where
+  module _ {at tree : ℕ → Nets} {c : ℕ → ℕ} (kept : AreKept l w at tree c) where
+    -- a stage that rises has a word that shows no fault, or the bank before it holds the word and has all of it
+    pub comes_whole : (k : ℕ) → k ≤ l.last → rising c k ≡ true → IsSoundAt (l.stage k) (word_in w c k) ⊎ ((b : ℕ) → b < width l k → has_data (at k) (in_bit l k b) ≡ true)
+    comes_whole k le ev =
+        let twice = double-half (c (suc k)) ev in
+        elim (cases_lt (c (suc k)) (w.start k)) [
+          | inl own ↦ elim (kept.near k le) [
+            | equal e ↦ absurd (let least = kept.least k (omega (arith, le)) in omega (arith, least, own, e))
+            | ahead e was ↦ inr (λ b lt. was b lt ∙ ap (λ t. not (even t)) e ∙ not-not (even (c (suc k))) ∙ ev)
+            | behind e was ↦ absurd (let least = kept.least k (omega (arith, le)) in omega (arith, least, own, e))
+          ]
+          | inr come ↦ inl (set.complete (half (c (suc k))) k le (omega (arith, come, twice)))
+        ]
+
+    -- in an even wave, by outputs that all have data
+    pub drawn_by_data : (k : ℕ) → k ≤ l.last → rising c k ≡ true → all_data (l.stage k) (at k) ≡ true → IsDrawn l w at c k
+    drawn_by_data k le ev all =
+        let (down, same, full) =
+        turns_down (set.layout.is_stage k le) _ (set.sound _ k le) (set.waves.wide _ k le) (subst (λ e. IsPhase (l.stage k) e (word_in w c k) (at k)) ev (kept.phases k le)) (comes_whole k le ev) all in
+        record {
+          bank = λ b lt. full b lt ∙ sym (not-not true) ∙ ap (λ e. not (not e)) (sym ev);
+          turned = subst (λ e. IsPhase (l.stage k) (not e) (w.word (cond e (half (c (suc k))) (suc (half (c (suc k))))) k) (at k)) (sym ev) down;
+        }
+
+    -- in an odd one, by outputs that are all NULL
+    pub drawn_by_null : (k : ℕ) → k ≤ l.last → rising c k ≡ false → is_null (l.stage k).outputs (at k) ≡ true → IsDrawn l w at c k
+    drawn_by_null k le od null =
+        let (up, low) =
+        turns_up (set.layout.is_stage k le) _ (set.sound _ k le) (subst (λ e. IsPhase (l.stage k) e (word_in w c k) (at k)) od (kept.phases k le)) null in
+        record {
+          bank = λ b lt. or_from _ _ (low _) (low _) ∙ sym (not-not false) ∙ ap (λ e. not (not e)) (sym od);
+          turned = subst (λ e. IsPhase (l.stage k) (not e) (w.word (cond e (half (c (suc k))) (suc (half (c (suc k))))) k) (at k)) (sym od) (up _);
+        }
+
+    -- in either, by a bank that is new
+    pub drawn_by_bank : (k : ℕ) → k < l.last → AreAt l (suc k) (at (suc k)) (suc (c (suc k))) → IsDrawn l w at c k
+    drawn_by_bank k lt bank =
+        elim (cases_Bool (rising c k)) [
+          | inl ev ↦ drawn_by_data k le ev (all-from_places (has_data (at k)) (l.stage k).outputs (λ j lj.
+              let (r, high) = some-rail (at (suc k)) (l.stage (suc k)).inputs j (bank j (in_bank j lj) ∙ not-not _ ∙ ev) in
+              rail-data (at k) (l.stage k).outputs j r (kept.up k j r lt (in_bank j lj) ev high)))
+          | inr od ↦ drawn_by_null k le od (all-from_places (λ (r : Rails). not (has_data (at k) r)) (l.stage k).outputs (λ j lj.
+              not_from_false _ (false_from_ne_true _ (λ some.
+              let (r, high) = some-rail (at k) (l.stage k).outputs j some in
+              both_ways _ (bank j (in_bank j lj) ∙ not-not _ ∙ od) (rail-data (at (suc k)) (l.stage (suc k)).inputs j r (kept.down k j r lt (in_bank j lj) od high))))))
+        ]
+      where
+        le : k ≤ l.last
+        le = omega (arith, lt)
+
+        in_bank : (j : ℕ) → j < length (l.stage k).outputs → j < width l (suc k)
+        in_bank j lj = let same = set.layout.joined k lt in omega (arith, lj, same)
+
+  -- where the source is new to the first bank's wave, it is a step ahead of it
+  pub source_is_ahead : {s : State} (k : HasInvariant l w offered s) → AreAt l 0 (in_stage l s.value 0) (suc (k.numbers 1)) → k.numbers 0 ≡ suc (k.numbers 1)
+  source_is_ahead k new =
+      let (b, lt, old) = k.ends.some_old in
+      elim (k.nets.near 0 (omega arith)) [
+        | equal e ↦ absurd (not_itself (rising k.numbers 0) (sym (not-not _) ∙ sym (new b lt) ∙ old ∙ ap (λ t. not (even t)) e))
+        | ahead e was ↦ e
+        | behind e was ↦ absurd (let most = k.nets.order in omega (arith, most, e))
+      ]
+
+-- ---- where the invariant holds, each item that is enabled is a move
 
 module _ {p : PipelineData} {l : Layout} {w : Waves} {offered : List (List Bool)} (set : IsSetting p l w offered) {s : State} (k : HasInvariant l w offered s) where
   -- ---- a register cell that is excited

@@ -1,24 +1,5 @@
 -- Next values of the cells of a netlist: of a gate of a stage, and of a register cell.
-use Rattle.std.proofs.Common.{◌≡◌, ℕ, Bool, true, false, not, List, [], ◌∷◌, take, Some, refl, sym, ap, ◌∙◌}
-use Rattle.std.specs.Prelude.{slice_get}
-use Rattle.std.proofs.Math.Bool.{not-not}
-use Rattle.std.proofs.lemmas.Bool.{both_ways}
-use Rattle.ncl_base.proofs.Members.{Member}
-use Rattle.ncl_gates.specs.declared.kind.Kind.TheVariants.{Th22}
-use Rattle.ncl_gates.specs.Gate.{next_of}
-use Rattle.ncl_gates.specs.Cell.{next_of_cell}
-use Rattle.ncl_gates.proofs.RegisterLaws.{at_register}
-use Rattle.ncl_netlist.specs.declared.ids.NetId.{NetId}
-use Rattle.ncl_netlist.specs.declared.cell.Cell.{Cell}
-use Rattle.ncl_shape.specs.declared.stage.StageCell.{StageCell}
-use Rattle.ncl_shape.specs.Nets.{Nets}
-use Rattle.ncl_shape.specs.Stage.{StageData, IsStage, nets_of, out_of}
-use Rattle.ncl_shape.specs.Closure.{pin_values}
-use Rattle.ncl_cell_roles.specs.Layout.{IsCellOf, IsRegisterOn}
-use Rattle.ncl_machine.specs.Steps.{next_value, differ}
-use Rattle.ncl_machine.specs.AtWork.{next_of_gate}
-use Rattle.ncl_machine.proofs.TruthValues.{differ_from_not}
-use Rattle.ncl_machine.proofs.LocalNets.{local}
+use Rattle.ncl_insensitivity.proofs.Terms.{Bool, Cell, IsCellOf, IsRegisterOn, IsStage, List, Member, NetId, Nets, Some, StageCell, StageData, Th22, [], ap, at_register, both_ways, differ, differ_from_not, false, local, nets_of, next_of, next_of_cell, next_of_gate, next_value, not, not-not, out_of, pin_values, refl, slice_get, sym, take, true, ℕ, ◌∙◌, ◌∷◌, ◌≡◌}
 use Rattle.ncl_insensitivity.proofs.Phases.{gate_local}
 
 -- ---- a gate of a stage

@@ -1,20 +1,7 @@
 -- The words under way: those that banks hold at reset, the last bank's first, and then those offered. Each has its value
 -- at each bank from where it starts.
-use Rattle.std.proofs.Common.{◌≡◌, ℕ, zero, suc, ◌+◌, ◌-◌, ◌*◌, ◌≤◌, Bool, true, false, List, [], ◌∷◌, length, get_or, Option, None, Some, is_some, refl, sym, ap, ◌∙◌, arith}
-use Rattle.std.specs.Prelude.{nat_eq, if◌then◌else◌}
-use Rattle.std.proofs.lemmas.Bool.{ne_eqb, eq-eqb}
-use Rattle.std.proofs.lemmas.List.{length-map}
-use Rattle.std.proofs.lemmas.Option.{get_or_from_slice_get}
-use Rattle.ncl_shape.specs.declared.rails.Rails.{Rails}
-use Rattle.ncl_shape.specs.Pipeline.{PipelineData}
-use Rattle.ncl_cell_roles.specs.Layout.{Layout, IsLayoutOf, width}
-use Rattle.ncl_faults.specs.declared.variant.Variant.TheVariants.{Base}
-use Rattle.ncl_faults.specs.Values.{val}
-use Rattle.ncl_machine.specs.Run.{AreWordsOf}
-use Rattle.ncl_machine.specs.Composition.{stage_function}
-use Rattle.ncl_insensitivity.proofs.Invariant.{Waves, AreWavesOf}
-use Rattle.ncl_machine.proofs.HeldCounts.{holds_word, held_in_all, held_from, start_number, none_past, from-past}
-use Rattle.ncl_machine.proofs.Numbers.{one_if}
+use Rattle.ncl_insensitivity.proofs.Terms.{AreWordsOf, Base, Bool, IsLayoutOf, Layout, List, None, Option, PipelineData, Rails, Some, [], ap, arith, eq-eqb, false, from-past, get_or, get_or_from_slice_get, held_from, held_in_all, holds_word, if◌then◌else◌, is_some, length, length-map, nat_eq, ne_eqb, none_past, one_if, refl, stage_function, start_number, suc, sym, true, val, width, zero, ℕ, ◌*◌, ◌+◌, ◌-◌, ◌∙◌, ◌∷◌, ◌≡◌, ◌≤◌}
+use Rattle.ncl_insensitivity.proofs.Invariant.{AreWavesOf, Waves}
 
 -- some word of a width, for the waves past the last word
 abbrev pub zeros : ℕ → List Bool

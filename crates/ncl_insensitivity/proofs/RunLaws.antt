@@ -1,10 +1,5 @@
 -- The laws of runs.
-use Rattle.std.proofs.Common.{◌≡◌, List, [], ◌∷◌, ◌++◌, refl}
-use Rattle.ncl_shape.specs.declared.item.Item.{Item}
-use Rattle.ncl_shape.specs.Pipeline.{PipelineData}
-use Rattle.ncl_machine.specs.State.{State}
-use Rattle.ncl_machine.specs.Steps.{step}
-use Rattle.ncl_machine.specs.Run.{IsRunFrom, after}
+pub use Rattle.ncl_insensitivity.proofs.Terms.{IsRunFrom, Item, List, PipelineData, State, [], after, refl, reset, step, ◌++◌, ◌∷◌, ◌≡◌}
 
 -- the first items of a run are a run
 pub IsRunFrom-prefix : (p : PipelineData) (s : State) (xs ys : List Item) → IsRunFrom p s (xs ++ ys) → IsRunFrom p s xs

@@ -1,21 +1,6 @@
 -- The machine reads nothing of a pipeline's stages, and what is asked of them is asked of their outputs alone; so
 -- the order of their gates doesn't matter.
-use Rattle.std.proofs.Common.{◌≡◌, Bool, if◌then◌else◌, List, [], ◌∷◌, ◌++◌, length, map, refl, sym, ap, ◌∙◌, subst}
-use Rattle.std.specs.Prelude.{Contains, slice_get}
-use Rattle.std.specs.List.{AllZip}
-use Rattle.ncl_base.proofs.Members.{Member, here, there, Member-from_Contains, Contains-from_Member}
-use Rattle.ncl_shape.specs.declared.item.Item.{Item}
-use Rattle.ncl_shape.specs.declared.item.Item.TheVariants.{Cell as Fire, Raise, Lower, Take, Ready}
-use Rattle.ncl_shape.specs.Stage.{StageData}
-use Rattle.ncl_shape.specs.Pipeline.{PipelineData}
-use Rattle.ncl_shape.specs.declared.bank.Bank.{Bank}
-use Rattle.ncl_shape.specs.Closure.{function_of, function_at}
-use Rattle.ncl_shape.specs.Held.{is_data_bank}
-use Rattle.ncl_shape.specs.SamePipeline.{IsSameStage, IsSamePipeline}
-use Rattle.ncl_machine.specs.State.{State, reset}
-use Rattle.ncl_machine.specs.Steps.{enabled, step, is_null}
-use Rattle.ncl_machine.specs.Run.{IsRunFrom, after, IsPersistent}
-use Rattle.ncl_machine.specs.DelayInsensitive.{held_words, due, PassesNull, DeliversWhatIsDue, DeliversInTime, IsLegalState, RestsWhereQuiet, AfterEveryRun, AlternatesWithNull, IsDelayInsensitive}
+use Rattle.ncl_insensitivity.proofs.Terms.{AfterEveryRun, AllZip, AlternatesWithNull, Bank, Bool, Contains, Contains-from_Member, DeliversInTime, DeliversWhatIsDue, Fire, IsDelayInsensitive, IsLegalState, IsPersistent, IsRunFrom, IsSamePipeline, IsSameStage, Item, List, Lower, Member, Member-from_Contains, PassesNull, PipelineData, Raise, Ready, RestsWhereQuiet, StageData, State, Take, [], after, ap, due, enabled, function_at, function_of, held_words, here, if◌then◌else◌, is_data_bank, is_null, length, map, refl, reset, slice_get, step, subst, sym, there, ◌++◌, ◌∙◌, ◌∷◌, ◌≡◌}
 
 -- a pipeline with other stages
 abbrev pub with_stages : PipelineData → List StageData → PipelineData

@@ -1,19 +1,5 @@
 -- The step of an item that is enabled changes one net.
-use Rattle.std.proofs.Common.{◌≡◌, ℕ, Bool, true, false, not, ◌&&◌, Option, None, Some, refl, sym, ap, ◌∙◌, subst}
-use Rattle.std.specs.Prelude.{slice_get}
-use Rattle.std.specs.List.{list_all}
-use Rattle.std.proofs.lemmas.Bool.{and_parts, both_ways}
-use Rattle.ncl_netlist.specs.declared.cell.Cell.{Cell}
-use Rattle.ncl_shape.specs.declared.item.Item.{Item}
-use Rattle.ncl_shape.specs.declared.item.Item.TheVariants.{Cell as Fire, Raise, Lower, Take, Ready}
-use Rattle.ncl_shape.specs.Nets.{Nets, with_net}
-use Rattle.ncl_shape.specs.Pipeline.{PipelineData}
-use Rattle.ncl_machine.specs.State.{State}
-use Rattle.ncl_machine.specs.Steps.{enabled, step, fired, next_value, is_excited, has_value, put_at, current_rails}
-use Rattle.ncl_machine.specs.OneChange.{ChangesOneNet}
-use Rattle.ncl_machine.proofs.AtWorkLaws.{with_net-elsewhere}
-use Rattle.ncl_machine.proofs.TruthValues.{not-from_differ, same-from_differ}
-use Rattle.ncl_machine.proofs.LocalNets.{with_net-here}
+use Rattle.ncl_insensitivity.proofs.Terms.{Bool, Cell, ChangesOneNet, Fire, Item, Lower, Nets, None, Option, PipelineData, Raise, Ready, Some, State, Take, and_parts, ap, both_ways, current_rails, enabled, false, fired, has_value, is_excited, list_all, next_value, not, not-from_differ, put_at, refl, same-from_differ, slice_get, step, subst, sym, true, with_net, with_net-elsewhere, with_net-here, ℕ, ◌&&◌, ◌∙◌, ◌≡◌}
 use Rattle.ncl_insensitivity.proofs.StepValues.{lowered-value}
 
 -- a net that takes its other value

@@ -1,29 +1,12 @@
--- What each move makes of the values of the nets: one net goes to its other value.
-use Rattle.std.proofs.Common.{◌≡◌, ℕ, suc, ◌+◌, ◌≤◌, Bool, true, false, not, if◌then◌else◌, List, Some, refl, sym, ap, ◌∙◌, arith}
-use Rattle.std.specs.Prelude.{slice_get}
-use Rattle.std.specs.List.{list_all}
-use Rattle.ncl_base.proofs.Members.{Member}
-use Rattle.ncl_netlist.specs.declared.ids.CellId.{CellId}
-use Rattle.ncl_netlist.specs.declared.cell.Cell.{Cell}
-use Rattle.ncl_cell_rules.specs.Origin.{CellAt}
-use Rattle.ncl_shape.specs.declared.stage.StageCell.{StageCell}
-use Rattle.ncl_shape.specs.declared.item.Item.TheVariants.{Cell as Fire, Raise, Lower}
-use Rattle.ncl_shape.specs.Nets.{Nets, with_net}
-use Rattle.ncl_shape.specs.Stage.{out_of, named_rails}
-use Rattle.ncl_shape.specs.Pipeline.{PipelineData}
-use Rattle.ncl_cell_roles.specs.Layout.{Layout, IsCellOf, in_rail, out_rail}
-use Rattle.ncl_machine.specs.State.{State}
-use Rattle.ncl_machine.specs.Steps.{step, fired, next_value, put_at, current_rails, rails_of_word}
-use Rattle.ncl_machine.specs.AtWork.{IsExcited}
-use Rattle.ncl_machine.proofs.TruthValues.{not-from_differ}
-use Rattle.ncl_machine.proofs.NamedRails.{bit_at, named-get}
-use Rattle.ncl_machine.proofs.LocalNets.{in_stage}
+-- The values that a step leaves, and that each net's values alternate.
+use Rattle.ncl_insensitivity.proofs.Terms.{AlternatesWithNull, Bool, Cell, CellAt, CellId, Contains-from_slice_get, Fire, IsCellOf, IsExcited, IsInputPort, IsRunFrom, Item, Layout, List, Lower, Member, Member-from_Contains, Nets, None, Option, PassesNull, PipelineData, Raise, Ready, Shape, Some, StageCell, State, Take, [], after, among-from_member, and_parts, ap, arith, bit_at, both_ways, current_rails, false, fired, if◌then◌else◌, in_rail, in_stage, ki_is_no_input, ki_is_port, list_all, named-get, named-within, named_rails, next_value, no_cell_drives_port, not, not-from_differ, old_is_turning, out_of, out_rail, put_at, rail_nets, rails_of_word, refl, reset, slice_get, step, subst, suc, sym, true, with_net, with_net-elsewhere, with_net-here, ℕ, ◌++◌, ◌+◌, ◌∙◌, ◌∷◌, ◌≡◌, ◌≤◌}
 use Rattle.ncl_insensitivity.proofs.NextValues.{gate-next, register-takes}
-use Rattle.ncl_insensitivity.proofs.Phases.{gate_moves, gate_local}
-use Rattle.ncl_machine.proofs.Completion.{old_is_turning}
-use Rattle.ncl_insensitivity.proofs.Invariant.{Waves, IsSetting, HasInvariant, rising, word_in}
-use Rattle.ncl_insensitivity.proofs.KeptStates.{root-value}
-use Rattle.ncl_insensitivity.proofs.Moves.{IsRegisterMove, IsTreeMove, IsSourceMove, moved}
+use Rattle.ncl_insensitivity.proofs.Phases.{gate_local, gate_moves}
+use Rattle.ncl_insensitivity.proofs.Invariant.{HasInvariant, IsRegisterMove, IsSetting, IsSourceMove, IsTreeMove, Waves, moved, rising, root-value, word_in}
+use Rattle.ncl_insensitivity.proofs.RunLaws.{IsRunFrom-suffix}
+use Rattle.ncl_base.specs.Members.{Member}
+
+-- ---- what each move makes of the values of the nets: one net goes to its other value
 
 -- lowering a rail puts these values, whether it is the last or not
 pub lowered-value : (s : State) (v : Nets) (all : Bool)
@@ -84,3 +67,46 @@ module _ {p : PipelineData} {l : Layout} {w : Waves} {offered : List (List Bool)
       lowered-value s (put_at s.value (slice_get (current_rails p s) b) false)
       (list_all (λ net. not (put_at s.value (slice_get (current_rails p s) b) false net)) (current_rails p s))
       ∙ rail-put b false move od
+
+-- ---- between any two Takes of a run the outputs pass through NULL: the sink asks again only by Ready
+
+module _ (p : PipelineData) (shape : Shape p.netlist p) where
+  -- only Take and Ready move the sink's acknowledge
+  fire-keeps : (v : Nets) (o : Option Cell) (i : ℕ) → slice_get p.netlist.cells i ≡ o → fired v o p.ki ≡ v p.ki
+  fire-keeps v None i at = refl
+  fire-keeps v (Some c) i at =
+      with_net-elsewhere v c.out.0 p.ki (next_value v c)
+      (λ e. no_cell_drives_port p.netlist shape.is_netlist c (Contains-from_slice_get p.netlist.cells i c at) (subst (IsInputPort p.netlist) (sym e) (ki_is_port p shape)))
+
+  -- the rails of the current word are rails of the inputs, and the acknowledge is none
+  current-within : (o : Option (List Bool)) (b net : ℕ) → slice_get (rails_of_word p.inputs o) b ≡ Some net → Member net (rail_nets p.inputs)
+  current-within None b net at = absurd cc
+  current-within (Some word) b net at =
+      named-within p.inputs word net
+      (among-from_member net (Member-from_Contains (named_rails p.inputs word) net (Contains-from_slice_get (named_rails p.inputs word) b net at)))
+
+  rail-keeps : (s : State) (b : ℕ) (value : Bool) (o : Option ℕ) → slice_get (current_rails p s) b ≡ o → put_at s.value o value p.ki ≡ s.value p.ki
+  rail-keeps s b value None at = refl
+  rail-keeps s b value (Some net) at =
+      with_net-elsewhere s.value net p.ki value (λ e. ki_is_no_input p shape (subst (λ x. Member x (rail_nets p.inputs)) e (current-within (slice_get s.offered s.done) b net at)))
+
+  later : (item : Item) (ys : List Item) (s : State) → PassesNull p (step p s item) ys → PassesNull p s (item ∷ ys)
+  later item ys s passes = record { before = item ∷ passes.before; rest = passes.rest; split = ap (λ t. item ∷ t) passes.split; null = passes.null }
+
+  -- from where the sink's acknowledge is low a run has no Take before a Ready
+  waits-for_null : (ys zs : List Item) (s : State) → s.value p.ki ≡ false → IsRunFrom p s (ys ++ Take ∷ zs) → PassesNull p s ys
+  waits-for_null [] zs s low run = absurd (both_ways _ low (and_parts (s.value p.ki) _ run.0).0)
+  waits-for_null (Take ∷ ys) zs s low run = absurd (both_ways _ low (and_parts (s.value p.ki) _ run.0).0)
+  waits-for_null (Ready ∷ ys) zs s low run = record { before = []; rest = ys; split = refl; null = (and_parts (not (s.value p.ki)) _ run.0).1 }
+  waits-for_null (Fire i ∷ ys) zs s low run =
+      later (Fire i) ys s (waits-for_null ys zs (step p s (Fire i)) (fire-keeps s.value (slice_get p.netlist.cells i.0) i.0 refl ∙ low) run.1)
+  waits-for_null (Raise b ∷ ys) zs s low run =
+      later (Raise b) ys s (waits-for_null ys zs (step p s (Raise b)) (rail-keeps s b true (slice_get (current_rails p s) b) refl ∙ low) run.1)
+  waits-for_null (Lower b ∷ ys) zs s low run =
+      later (Lower b) ys s (waits-for_null ys zs (step p s (Lower b))
+      (ap (λ v. v p.ki) (lowered-value s (put_at s.value (slice_get (current_rails p s) b) false) (list_all (λ net. not (put_at s.value (slice_get (current_rails p s) b) false net)) (current_rails p s))) ∙ rail-keeps s b false (slice_get (current_rails p s) b) refl ∙ low) run.1)
+
+  pub alternates : AlternatesWithNull p
+  alternates offered xs ys zs words run =
+      waits-for_null ys zs (step p (after p (reset p offered) xs) Take) (with_net-here (after p (reset p offered) xs).value p.ki false)
+      (IsRunFrom-suffix p (reset p offered) xs (Take ∷ (ys ++ Take ∷ zs)) run).1

@@ -1,19 +1,5 @@
 -- Wires pass a word on as it is.
-use Rattle.std.proofs.Common.{◌≡◌, ℕ, ◌<◌, Bool, true, false, List, length, map, refl, sym, ap, ◌∙◌, subst, arith}
-use Rattle.std.proofs.lemmas.Bool.{both_ways, false_from_ne_true}
-use Rattle.std.proofs.lemmas.List.{length-map, get_or-map}
-use Rattle.std.proofs.lemmas.Option.{slice_get_within, get_or_from_slice_get}
-use Rattle.ncl_base.proofs.Lists.{same_from_lengths}
-use Rattle.ncl_base.proofs.Members.{Contains-from_Member}
-use Rattle.ncl_shape.specs.declared.rails.Rails.{Rails}
-use Rattle.ncl_shape.specs.Stage.{StageData, IsStage}
-use Rattle.ncl_cell_roles.specs.Layout.{no_rails, rail_at, IsWires}
-use Rattle.ncl_faults.specs.declared.variant.Variant.TheVariants.{Base}
-use Rattle.ncl_faults.specs.Values.{val}
-use Rattle.ncl_faults.specs.Faults.{IsWordOf}
-use Rattle.ncl_machine.specs.Composition.{stage_function}
-use Rattle.ncl_machine.proofs.AtWorkLaws.{named-within_values}
-use Rattle.ncl_machine.proofs.NamedRails.{bit_at, named-has}
+use Rattle.ncl_insensitivity.proofs.Terms.{Base, Bool, Contains-from_Member, IsStage, IsWires, IsWordOf, List, Rails, StageData, ap, arith, bit_at, both_ways, false, false_from_ne_true, get_or-map, get_or_from_slice_get, length, length-map, map, named-has, named-within_values, no_rails, rail_at, refl, same_from_lengths, slice_get_within, stage_function, subst, sym, true, val, ℕ, ◌<◌, ◌∙◌, ◌≡◌}
 use Rattle.ncl_insensitivity.proofs.Phases.{phase-values, rail_is}
 
 pub wires-pass : (s : StageData) → IsStage s → IsWires s → (word : List Bool) → IsWordOf s word → stage_function s word ≡ word

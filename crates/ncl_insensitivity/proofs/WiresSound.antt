@@ -1,25 +1,7 @@
 -- Wires are a sound stage.
-use Rattle.std.proofs.Common.{◌≡◌, ℕ, ◌<◌, Bool, true, false, not, ◌&&◌, List, [], length, map, get_or, refl, sym, ap, ◌∙◌, subst}
-use Rattle.std.specs.Prelude.{slice_get, Option, None, Some, nat_eq}
-use Rattle.std.proofs.lemmas.Bool.{and_parts, and_right, both_ways, eq-eqb, false_from_ne_true, not_from_true, or_from, or_left, or_right}
-use Rattle.std.proofs.lemmas.Option.{slice_get_within, get_or_from_slice_get}
-use Rattle.ncl_base.proofs.Members.{Contains-from_Member, Contains-from_slice_get, Member-from_Contains}
-use Rattle.ncl_shape.specs.declared.rails.Rails.{Rails}
-use Rattle.ncl_shape.specs.declared.stage.StageCell.{StageCell}
-use Rattle.ncl_shape.specs.Nets.{among}
-use Rattle.ncl_shape.specs.Stage.{StageData, IsStage, rail_of, named_rails, out_of}
-use Rattle.ncl_cell_roles.specs.Layout.{no_rails}
-use Rattle.ncl_faults.specs.declared.variant.Variant.TheVariants.{Base, Bit, Cell}
-use Rattle.ncl_faults.specs.Values.{both_rails, kept_low, val}
-use Rattle.ncl_faults.specs.Faults.{StageFault, BothRails, NoRail, Incomplete, Orphan, shows, holds_at, is_illegal, IsSound, all_data, has_data}
-use Rattle.ncl_faults.proofs.ValueLaws.{val-rail}
-use Rattle.ncl_machine.proofs.AtWorkLaws.{named-within_values}
-use Rattle.ncl_machine.proofs.InOrder.{one_named}
-use Rattle.ncl_machine.proofs.SoundLaws.{named-from_high}
-use Rattle.ncl_machine.proofs.NamedRails.{bit_at, named-has}
+use Rattle.ncl_insensitivity.proofs.Terms.{Base, Bit, Bool, BothRails, Contains-from_Member, Contains-from_slice_get, Incomplete, IsSound, IsStage, List, Member-from_Contains, NoRail, None, Option, Orphan, Rails, Some, StageCell, StageData, StageFault, [], all_data, among, and_parts, and_right, ap, bit_at, both_rails, both_ways, eq-eqb, false, false_from_ne_true, get_or, get_or_from_slice_get, has_data, holds_at, is_illegal, kept_low, length, list_all-member, map, named-from_high, named-has, named-within_values, named_rails, nat_eq, no_rails, not, not_from_true, one_named, or_from, or_left, or_right, out_of, rail_of, rails_within, refl, shows, slice_get, slice_get_within, subst, sym, true, val, val-rail, ℕ, ◌&&◌, ◌<◌, ◌∙◌, ◌≡◌}
+use Rattle.ncl_faults.specs.declared.variant.Variant.TheVariants.{Cell}
 use Rattle.ncl_base.specs.Members.{Member}
-use Rattle.ncl_base.proofs.Tests.{list_all-member}
-use Rattle.ncl_shape.proofs.RailLaws.{rails_within}
 
 pub wires_sound : (s : StageData) → IsStage s → s.cells ≡ [] → s.outputs ≡ s.inputs → IsSound s
 wires_sound s is none same fault word wide = shown fault

@@ -1,19 +1,6 @@
 -- When a list of ports, nets and cells that is written out is a netlist: tests that compute say so.
-use Rattle.std.proofs.Common.{◌≡◌, ℕ, ◌+◌, ◌<◌, ◌≤◌, ◌^◌, Bool, true, ◌&&◌, ◌++◌, map, take, length, get_or, arith}
-use Rattle.std.specs.Prelude.{Contains, nat_eq, nat_lt}
-use Rattle.std.specs.List.{list_all, flat_map, range_with_len}
-use Rattle.std.specs.Set.{distinct_count}
-use Rattle.std.proofs.lemmas.Bool.{and_parts, eqb-true, ltb-true}
-use Rattle.std.proofs.lemmas.List.Elements.{All-contains}
-use Rattle.std.proofs.lemmas.List.FromFn.{length-range_with_len, get_or-range_with_len}
-use Rattle.std.proofs.lemmas.List.Sums.{AllPass-from_list_all}
-use Rattle.std.proofs.lemmas.Map.Made.{IsDistinct-from_count}
-use Rattle.ncl_gates.specs.Cell.{pins_of}
-use Rattle.ncl_netlist.specs.declared.ids.NetId.{NetId}
-use Rattle.ncl_netlist.specs.declared.cell.Cell.{Cell}
-use Rattle.ncl_netlist.specs.Names.{same_name, once_each}
-use Rattle.ncl_netlist.specs.Netlist.{NetlistData, IsNetlist, CellFits, drivers_of, pin_names, most_cells}
-use Rattle.ncl_netlist.proofs.NameLists.{same_name-equiv}
+pub use Rattle.ncl_insensitivity.proofs.Terms.{All-contains, AllPass-from_list_all, Bool, Cell, CellFits, Contains, IsDistinct-from_count, IsNetlist, IsStage-from_test, NetId, NetlistData, and_parts, arith, chain, chain_pipeline, chain_stage, distinct_count, drivers_of, eqb-true, flat_map, get_or, get_or-range_with_len, length, length-range_with_len, list_all, ltb-true, map, most_cells, nat_eq, nat_lt, once_each, pin_names, pins_of, range_with_len, refl, same_name, same_name-equiv, take, true, where_the_chain_rests, ℕ, ◌&&◌, ◌++◌, ◌+◌, ◌<◌, ◌^◌, ◌≡◌, ◌≤◌}
+pub use Rattle.ncl_insensitivity.proofs.ByComputation.{IsHiddenAtOne, IsHiddenAtOne-word, condition_of-other, other_faults, quiet_by_cells}
 
 abbrev fits_test : ℕ → Cell → Bool
 fits_test nets c = nat_lt c.out.0 nets && (list_all (λ (net : NetId). nat_lt net.0 nets) c.ins.items && nat_eq (length c.ins.items + 1) (length (pins_of c.kind)))

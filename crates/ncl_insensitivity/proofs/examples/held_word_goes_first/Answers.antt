@@ -1,6 +1,4 @@
-use Rattle.std.proofs.Common.{refl}
-use Rattle.ncl_insensitivity.specs.Examples.{holding_pipeline, where_holding_rests}
-use Rattle.ncl_insensitivity.proofs.ByComputation.{quiet_by_cells}
+use Rattle.ncl_insensitivity.proofs.ByComputation.{holding_pipeline, quiet_by_cells, refl, where_holding_rests}
 use Rattle.ncl_insensitivity.proofs.examples.held_word_goes_first.Goals as goal
 
 pub returns-clause-quiet : goal.returns-clause-quiet

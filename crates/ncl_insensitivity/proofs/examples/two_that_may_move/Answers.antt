@@ -1,11 +1,5 @@
-use Rattle.std.proofs.Common.{◌≡◌, ℕ, zero, suc, true, false, ◌⊎◌, inl, inr, refl, sym, subst, ◌∙◌}
-use Rattle.std.proofs.lemmas.Bool.{both_ways}
-use Rattle.ncl_shape.specs.declared.item.Item.{Item}
-use Rattle.ncl_shape.specs.declared.item.Item.TheVariants.{Cell, Raise, Lower, Take, Ready}
-use Rattle.ncl_shape.specs.Examples.{wires_pipeline}
-use Rattle.ncl_machine.specs.Steps.{enabled, step}
-use Rattle.ncl_machine.specs.Run.{IsPersistent}
-use Rattle.ncl_insensitivity.specs.Examples.{fire, where_two_may_move}
+use Rattle.ncl_insensitivity.proofs.Terms.{IsPersistent, Item, Lower, Raise, Ready, Take, both_ways, enabled, false, fire, inl, inr, refl, step, subst, suc, sym, true, where_two_may_move, wires_pipeline, zero, ℕ, ◌∙◌, ◌≡◌, ◌⊎◌}
+use Rattle.ncl_shape.specs.declared.item.Item.TheVariants.{Cell}
 use Rattle.ncl_insensitivity.proofs.examples.two_that_may_move.Goals as goal
 
 -- the item is one of the two

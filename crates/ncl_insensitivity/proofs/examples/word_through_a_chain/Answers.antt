@@ -1,8 +1,4 @@
-use Rattle.std.proofs.Common.{refl, arith}
-use Rattle.ncl_faults.proofs.StageTest.{IsStage-from_test}
-use Rattle.ncl_insensitivity.specs.Examples.{chain, chain_stage, chain_pipeline, where_the_chain_rests}
-use Rattle.ncl_insensitivity.proofs.WrittenNetlists.{netlist_from_tests}
-use Rattle.ncl_insensitivity.proofs.ByComputation.{quiet_by_cells, IsHiddenAtOne, IsHiddenAtOne-word, condition_of-other, other_faults}
+use Rattle.ncl_insensitivity.proofs.WrittenNetlists.{IsHiddenAtOne, IsHiddenAtOne-word, IsStage-from_test, arith, chain, chain_pipeline, chain_stage, condition_of-other, netlist_from_tests, other_faults, quiet_by_cells, refl, where_the_chain_rests}
 use Rattle.ncl_insensitivity.proofs.examples.word_through_a_chain.Goals as goal
 
 pub returns-clause-netlist : goal.returns-clause-netlist

@@ -1,7 +1,4 @@
-use Rattle.std.proofs.Common.{refl}
-use Rattle.ncl_shape.specs.Examples.{wires_pipeline}
-use Rattle.ncl_insensitivity.specs.Examples.{at_the_end}
-use Rattle.ncl_insensitivity.proofs.ByComputation.{quiet_by_cells}
+use Rattle.ncl_insensitivity.proofs.ByComputation.{at_the_end, quiet_by_cells, refl, wires_pipeline}
 use Rattle.ncl_insensitivity.proofs.examples.word_through_wires.Goals as goal
 
 pub returns-clause-quiet : goal.returns-clause-quiet

@@ -1,8 +1,4 @@
-use Rattle.std.proofs.Common.{refl}
-use Rattle.ncl_shape.specs.declared.item.Item.TheVariants.{Raise}
-use Rattle.ncl_insensitivity.specs.Examples.{fire}
-use Rattle.ncl_insensitivity.specs.IllShaped.{two_offered, with_th12, asks_too_early}
-use Rattle.ncl_insensitivity.proofs.IllShapedLaws.{taken_back_is_unsafe}
+use Rattle.ncl_insensitivity.proofs.IllShapedLaws.{Raise, asks_too_early, fire, refl, taken_back_is_unsafe, two_offered, with_th12}
 use Rattle.ncl_insensitivity.proofs.ill_shaped.th12_in_a_tree.Goals as goal
 
 pub returns-clause-not_safe : goal.returns-clause-not_safe

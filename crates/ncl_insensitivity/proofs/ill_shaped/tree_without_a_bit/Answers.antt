@@ -1,8 +1,4 @@
-use Rattle.std.proofs.Common.{refl}
-use Rattle.ncl_shape.specs.declared.item.Item.TheVariants.{Lower}
-use Rattle.ncl_insensitivity.specs.Examples.{fire}
-use Rattle.ncl_insensitivity.specs.IllShaped.{one_offered, without_a_bit, acknowledges_one_bit}
-use Rattle.ncl_insensitivity.proofs.IllShapedLaws.{bit_left_out_netlist, taken_back_is_unsafe}
+use Rattle.ncl_insensitivity.proofs.IllShapedLaws.{Lower, acknowledges_one_bit, bit_left_out_netlist, fire, one_offered, refl, taken_back_is_unsafe, without_a_bit}
 use Rattle.ncl_insensitivity.proofs.ill_shaped.tree_without_a_bit.Goals as goal
 
 pub returns-clause-netlist : goal.returns-clause-netlist

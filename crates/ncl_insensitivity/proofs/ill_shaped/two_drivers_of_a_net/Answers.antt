@@ -1,7 +1,4 @@
-use Rattle.std.proofs.Common.{refl, arith}
-use Rattle.ncl_insensitivity.specs.Examples.{fire}
-use Rattle.ncl_insensitivity.specs.IllShaped.{one_offered, with_two_drivers, excites_both}
-use Rattle.ncl_insensitivity.proofs.IllShapedLaws.{cells_differ, taken_back_is_unsafe}
+use Rattle.ncl_insensitivity.proofs.IllShapedLaws.{arith, cells_differ, excites_both, fire, one_offered, refl, taken_back_is_unsafe, with_two_drivers}
 use Rattle.ncl_insensitivity.proofs.ill_shaped.two_drivers_of_a_net.Goals as goal
 
 pub returns-clause-not_safe : goal.returns-clause-not_safe

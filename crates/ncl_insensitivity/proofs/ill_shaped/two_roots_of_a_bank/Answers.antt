@@ -1,8 +1,4 @@
-use Rattle.std.proofs.Common.{refl}
-use Rattle.ncl_shape.specs.declared.item.Item.TheVariants.{Lower}
-use Rattle.ncl_insensitivity.specs.Examples.{fire}
-use Rattle.ncl_insensitivity.specs.IllShaped.{one_offered, with_two_roots, one_bit_seen}
-use Rattle.ncl_insensitivity.proofs.IllShapedLaws.{taken_back_is_unsafe}
+use Rattle.ncl_insensitivity.proofs.IllShapedLaws.{Lower, fire, one_bit_seen, one_offered, refl, taken_back_is_unsafe, with_two_roots}
 use Rattle.ncl_insensitivity.proofs.ill_shaped.two_roots_of_a_bank.Goals as goal
 
 pub returns-clause-not_safe : goal.returns-clause-not_safe

@@ -1,4 +1,4 @@
-use Rattle.ncl_machine.proofs.AtWorkLaws.{rising-within, falling-within}
+use Rattle.ncl_insensitivity.proofs.Terms.{falling-within, rising-within}
 use Rattle.ncl_insensitivity.proofs.laws.at_work_within_values.Goals as goal
 
 pub returns-clause-rising : goal.returns-clause-rising

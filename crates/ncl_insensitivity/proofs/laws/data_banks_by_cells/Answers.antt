@@ -1,4 +1,4 @@
-use Rattle.ncl_machine.proofs.ResetNets.{data_bank_by_cells}
+use Rattle.ncl_insensitivity.proofs.Terms.{data_bank_by_cells}
 use Rattle.ncl_insensitivity.proofs.laws.data_banks_by_cells.Goals as goal
 
 pub returns : goal.returns

@@ -1,4 +1,4 @@
-use Rattle.ncl_insensitivity.proofs.DeliveryLaws.{delivered-within}
+use Rattle.ncl_insensitivity.proofs.HeldDue.{delivered-within}
 use Rattle.ncl_insensitivity.proofs.laws.delivers_no_more.Goals as goal
 
 pub returns : goal.returns

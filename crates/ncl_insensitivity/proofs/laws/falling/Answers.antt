@@ -1,4 +1,4 @@
-use Rattle.ncl_machine.proofs.FallingLaws.{falling-safely}
+use Rattle.ncl_insensitivity.proofs.Terms.{falling-safely}
 use Rattle.ncl_insensitivity.proofs.laws.falling.Goals as goal
 
 pub returns : goal.returns

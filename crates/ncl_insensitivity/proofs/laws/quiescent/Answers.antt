@@ -1,4 +1,4 @@
-use Rattle.ncl_insensitivity.proofs.Headline.{rests_where_quiet, delay_insensitive}
+use Rattle.ncl_insensitivity.proofs.Headline.{delay_insensitive, rests_where_quiet}
 use Rattle.ncl_insensitivity.proofs.laws.quiescent.Goals as goal
 
 pub returns-clause-rests : goal.returns-clause-rests

@@ -1,5 +1,4 @@
-use Rattle.ncl_machine.specs.State.{reset}
-use Rattle.ncl_insensitivity.proofs.RunLaws.{IsRunFrom-prefix, IsRunFrom-suffix, after-append}
+use Rattle.ncl_insensitivity.proofs.RunLaws.{IsRunFrom-prefix, IsRunFrom-suffix, after-append, reset}
 use Rattle.ncl_insensitivity.proofs.laws.run_prefix.Goals as goal
 
 pub returns-clause-prefix : goal.returns-clause-prefix

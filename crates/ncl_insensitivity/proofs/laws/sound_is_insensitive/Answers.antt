@@ -1,4 +1,4 @@
-use Rattle.ncl_insensitivity.proofs.Headline.{safe, delay_insensitive, run_bound}
+use Rattle.ncl_insensitivity.proofs.Headline.{delay_insensitive, run_bound, safe}
 use Rattle.ncl_insensitivity.proofs.laws.sound_is_insensitive.Goals as goal
 
 pub returns : goal.returns

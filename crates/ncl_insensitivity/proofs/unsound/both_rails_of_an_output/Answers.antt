@@ -1,11 +1,4 @@
-use Rattle.std.proofs.Common.{◌≡◌, true, false, [], ◌∷◌, not, map, refl, sym, ap, ◌∙◌, arith}
-use Rattle.ncl_faults.proofs.StageTest.{IsStage-from_test}
-use Rattle.ncl_machine.specs.Run.{IsRun}
-use Rattle.ncl_machine.specs.DelayInsensitive.{DeliversWhatIsDue}
-use Rattle.ncl_insensitivity.specs.Examples.{one_word}
-use Rattle.ncl_insensitivity.specs.Unsound.{illegal_stage, with_both_rails, delivers_both_rails, after_run}
-use Rattle.ncl_insensitivity.proofs.UnsoundLaws.{illegal_stage_breaks}
-use Rattle.ncl_insensitivity.proofs.WrittenNetlists.{netlist_from_tests}
+use Rattle.ncl_insensitivity.proofs.IllShapedLaws.{DeliversWhatIsDue, IsRun, IsStage-from_test, [], after_run, ap, arith, delivers_both_rails, false, illegal_stage, illegal_stage_breaks, map, netlist_from_tests, not, one_word, refl, sym, true, with_both_rails, ◌∙◌, ◌∷◌, ◌≡◌}
 use Rattle.ncl_insensitivity.proofs.unsound.both_rails_of_an_output.Goals as goal
 
 run : IsRun with_both_rails one_word delivers_both_rails

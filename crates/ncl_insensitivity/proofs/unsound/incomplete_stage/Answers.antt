@@ -1,9 +1,4 @@
-use Rattle.std.proofs.Common.{refl, arith}
-use Rattle.ncl_faults.proofs.StageTest.{IsStage-from_test}
-use Rattle.ncl_machine.specs.Run.{IsRun}
-use Rattle.ncl_insensitivity.specs.Unsound.{eager_stage, two_zeros, delivers_too_early, with_eager_and}
-use Rattle.ncl_insensitivity.proofs.UnsoundLaws.{eager_stage_breaks}
-use Rattle.ncl_insensitivity.proofs.WrittenNetlists.{netlist_from_tests}
+use Rattle.ncl_insensitivity.proofs.IllShapedLaws.{IsRun, IsStage-from_test, arith, delivers_too_early, eager_stage, eager_stage_breaks, netlist_from_tests, refl, two_zeros, with_eager_and}
 use Rattle.ncl_insensitivity.proofs.unsound.incomplete_stage.Goals as goal
 
 run : IsRun with_eager_and two_zeros delivers_too_early

@@ -1,10 +1,4 @@
-use Rattle.std.proofs.Common.{refl, arith}
-use Rattle.ncl_faults.proofs.StageTest.{IsStage-from_test}
-use Rattle.ncl_machine.specs.Run.{IsQuiet, IsRun}
-use Rattle.ncl_insensitivity.specs.Unsound.{dead_stage, with_dead_rail, one_zero, gets_stuck, after_run}
-use Rattle.ncl_insensitivity.proofs.UnsoundLaws.{dead_stage_breaks}
-use Rattle.ncl_insensitivity.proofs.WrittenNetlists.{netlist_from_tests}
-use Rattle.ncl_insensitivity.proofs.ByComputation.{quiet_by_cells}
+use Rattle.ncl_insensitivity.proofs.IllShapedLaws.{IsQuiet, IsRun, IsStage-from_test, after_run, arith, dead_stage, dead_stage_breaks, gets_stuck, netlist_from_tests, one_zero, quiet_by_cells, refl, with_dead_rail}
 use Rattle.ncl_insensitivity.proofs.unsound.no_rail_of_an_output.Goals as goal
 
 run : IsRun with_dead_rail one_zero gets_stuck

@@ -1,11 +1,4 @@
-use Rattle.std.proofs.Common.{refl, arith}
-use Rattle.ncl_faults.proofs.StageTest.{IsStage-from_test}
-use Rattle.ncl_machine.specs.Run.{IsRun}
-use Rattle.ncl_insensitivity.specs.Examples.{fire, one_word}
-use Rattle.ncl_insensitivity.specs.Unsound.{orphan_stage, with_orphan, leaves_a_gate_behind}
-use Rattle.ncl_insensitivity.proofs.IllShapedLaws.{taken_back_is_unsafe, cells_differ}
-use Rattle.ncl_insensitivity.proofs.UnsoundLaws.{orphan_stage_breaks}
-use Rattle.ncl_insensitivity.proofs.WrittenNetlists.{netlist_from_tests}
+use Rattle.ncl_insensitivity.proofs.IllShapedLaws.{IsRun, IsStage-from_test, arith, cells_differ, fire, leaves_a_gate_behind, netlist_from_tests, one_word, orphan_stage, orphan_stage_breaks, refl, taken_back_is_unsafe, with_orphan}
 use Rattle.ncl_insensitivity.proofs.unsound.orphan_in_a_stage.Goals as goal
 
 run : IsRun with_orphan one_word leaves_a_gate_behind

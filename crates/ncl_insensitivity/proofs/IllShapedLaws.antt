@@ -1,9 +1,8 @@
 -- What breaks where a stage isn't sound or a pipeline is ill shaped.
 pub use Rattle.ncl_insensitivity.proofs.Terms.{AckOf, AreWordsOf, AtCell, Bool, BothRails, BreaksOnly, ComesFrom, DeliversWhatIsDue, HasOne, Incomplete, IsNetlist, IsQuiet, IsRoot, IsRun, IsSafe, IsSound, IsStage-from_test, IsUnmixed, Item, List, Lower, NoRail, Orphan, PipelineData, Raise, Ready, StageData, StageFault, Take, TakesBack, Th12, Th22, [], ack, acknowledges_one_bit, after, after_run, and_stage, ap, arith, asks_too_early, bit_left_out, both_ways, cell_of, condition_of, dead_stage, delivers_both_rails, delivers_too_early, eager_stage, excites_both, false, fire, gate, gets_stuck, illegal_stage, inl, inr, is_cell, leaves_a_gate_behind, length, map, not, of_two, one_bit_seen, one_offered, one_word, one_zero, orphan_stage, refl, reset, shows, suc, sym, true, two_offered, two_roots, two_zeros, with_both_rails, with_dead_rail, with_eager_and, with_orphan, with_th12, with_two_drivers, with_two_roots, without_a_bit, zero, ℕ, ◌∙◌, ◌∷◌, ◌≡◌, ◌≢◌}
-pub use Rattle.ncl_insensitivity.proofs.ByComputation.{IsHiddenAtOne, IsHiddenAtOne-word, other_faults, quiet_by_cells}
 use Rattle.ncl_shape.specs.declared.item.Item.TheVariants.{Cell}
 use Rattle.ncl_shape.proofs.WrittenCells.{of_bank}
-pub use Rattle.ncl_insensitivity.proofs.WrittenNetlists.{netlist_from_tests}
+pub use Rattle.ncl_insensitivity.proofs.WrittenNetlists.{IsHiddenAtOne, IsHiddenAtOne-word, netlist_from_tests, other_faults, quiet_by_cells}
 
 -- ---- the AND of two bits is a sound stage: by computation, at each word and fault
 

@@ -1,9 +1,8 @@
 -- Each step keeps the invariant, and no step is unsafe.
 use Rattle.ncl_insensitivity.proofs.Terms.{All-contains, AreNear, Base, Bool, Carries, Cell, CellAt, CellId, Contains-from_Member, Fire, Follows, IsExcited, IsLayoutOf, IsRunFrom, Item, Layout, List, Member, Nets, Pair, Part, PipelineData, Rails, ReadsNew, Some, StageCell, State, [], after, after_lower, after_raise, ahead, all-local, and_parts, ap, arith, behind, bit_at, both_ways, cases_eq, current_rails, data-same, data_in_values, equal, even, false, false_from_ne_true, fired, gate-listed, half, half-given, has_data, if◌then◌else◌, in_bit, in_rail, in_stage, in_tree, inl, inr, is_data, is_illegal, legal-below, length, length-append, list_all, local-at, map-map, map-same, near-map, near-numbers, next_value, not, not-false, not-from_one, not-not, not_from_false, not_from_true, not_itself, one_cell, one_if, one_if-most, out_of, out_rail, output-no_ki, output-no_source, pair_at, place-here, place-other, push_cases, rail-data, rail-is_one, rail-listed, reads-more, refl, root-listed, slice_get, some-rail, source-no_ki, stage_function, stage_nets, step, subst, suc, sym, tree-listed, true, val, width, with_net, with_net-elsewhere, with_net-here, with_net-keeps, with_net-lowered, with_net-raised, zero, ℕ, ◌&&◌, ◌*◌, ◌++◌, ◌+◌, ◌<◌, ◌∙◌, ◌∷◌, ◌≡◌, ◌≢◌, ◌≤◌}
-use Rattle.ncl_insensitivity.proofs.MoveOf.{all_lowered, all_raised, comes_whole, drawn_by_bank, move_of, not_done, some_high, some_low, source_is_ahead}
-use Rattle.ncl_insensitivity.proofs.Phases.{IsPhase, data-moved, data-other, gate-no_rail, gate_moves, output_is, rail_moves, turns_down}
-use Rattle.ncl_insensitivity.proofs.Invariant.{Acknowledges, AreAt, AreEnds, AreKept, Changes, HasInvariant, IsSetting, IsSourceMove, Move, Waves, gate, in-local, lower, lower_last, moved, next_at, numbers_after, out-local, outputs-local, rail_named, raise, raise_last, ready, register, rising, root, root-value, same-kept, sink-same, stage_changes, take, tree, tree_changes, word_in}
-use Rattle.ncl_insensitivity.proofs.StepValues.{gate-step, lower-step, rail-put, raise-step, register-step, tree-step}
+pub use Rattle.ncl_insensitivity.proofs.MoveOf.{all_lowered, all_raised, comes_whole, drawn_by_bank, move_of, not_done, some_high, some_low, source_is_ahead, source_is_old}
+pub use Rattle.ncl_insensitivity.proofs.Invariant.{Acknowledges, AreAt, AreEnds, AreKept, Changes, HasInvariant, IsPhase, IsSetting, IsSourceMove, Move, Waves, data-moved, data-other, gate, gate-no_rail, gate_moves, in-local, legal_output, lower, lower_last, moved, next_at, numbers_after, out-local, output_is, outputs-local, rail_moves, rail_named, raise, raise_last, ready, register, rising, root, root-value, same-kept, sink-same, stage_changes, take, tree, tree_changes, turns_down, up_empty, word_in}
+pub use Rattle.ncl_insensitivity.proofs.StepValues.{alternates, gate-step, lower-step, rail-put, raise-step, register-step, tree-step}
 
 -- ---- what the sink takes: the word of its wave, in dual-rail form
 

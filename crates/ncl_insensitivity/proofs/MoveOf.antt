@@ -1,7 +1,6 @@
 -- Which move each enabled item is.
 use Rattle.ncl_insensitivity.proofs.Terms.{Bool, Cell, CellAt, CellId, Fire, IsRegisterOf, IsSoundAt, Item, Layout, List, Lower, Member, Nets, None, Option, Part, PipelineData, Rails, Raise, Ready, Some, State, Take, [], ahead, all-from_places, all-local, all_data, and_from, and_parts, ap, arith, behind, bit_at, both_ways, cases_Bool, cases_eq, cases_lt, cond, current_rails, differ, double-half, enabled, equal, even, even-given, false, false_from_ne_true, half, half-given, has_data, has_value, here, in_bit, in_rail, in_stage, in_tree, inl, inr, is_data, is_excited, is_null, length, list_all, list_all-member, local-put_here, named-get, named-has, named-past, named-place, named_rails, near-same, next_value, not, not-not, not-true, not_from_false, not_from_true, not_itself, of_bank, of_stage, of_tree, one_if, or_from, others_are_new, out_rail, rail-data, rail-listed, rails_of_word, refl, same-from_differ, slice_get, slice_get_within, some-rail, stage_nets, subst, suc, sym, there, true, turning_is_old, width, ℕ, ◌&&◌, ◌*◌, ◌+◌, ◌<◌, ◌∙◌, ◌∷◌, ◌≡◌, ◌≤◌, ◌⊎◌}
-use Rattle.ncl_insensitivity.proofs.Phases.{IsPhase, rail_is, rail_moves, turns_down, turns_up}
-use Rattle.ncl_insensitivity.proofs.Invariant.{Acknowledges, AreAt, AreKept, HasInvariant, IsDrawn, IsRegisterMove, IsSetting, IsSourceMove, IsTreeMove, Move, Waves, gate, in-local, ki-value, ko-value, lower, lower_last, moved, out-local, output_named, rail_named, raise, raise_last, ready, register, rising, root, root-value, sink-same, take, tree, word_in}
+pub use Rattle.ncl_insensitivity.proofs.Invariant.{Acknowledges, AreAt, AreKept, HasInvariant, IsDrawn, IsPhase, IsRegisterMove, IsSetting, IsSourceMove, IsTreeMove, Move, Waves, data-other, gate, gate-no_rail, gate_stays, in-local, ki-value, ko-value, lower, lower_last, moved, out-local, output_named, rail_is, rail_moves, rail_named, raise, raise_last, ready, register, rising, root, root-value, sink-same, take, tree, turns_down, turns_up, word_in}
 use Rattle.ncl_insensitivity.proofs.NextValues.{gate-excitation, register-turns}
 
 -- ---- tests and functions over lists

@@ -1,6 +1,6 @@
 -- Next values of the cells of a netlist: of a gate of a stage, and of a register cell.
 use Rattle.ncl_insensitivity.proofs.Terms.{Bool, Cell, IsCellOf, IsRegisterOn, IsStage, List, Member, NetId, Nets, Some, StageCell, StageData, Th22, [], ap, at_register, both_ways, differ, differ_from_not, false, local, nets_of, next_of, next_of_cell, next_of_gate, next_value, not, not-not, out_of, pin_values, refl, slice_get, sym, take, true, ℕ, ◌∙◌, ◌∷◌, ◌≡◌}
-use Rattle.ncl_insensitivity.proofs.Phases.{gate_local}
+pub use Rattle.ncl_insensitivity.proofs.Phases.{gate_local, gate_moves}
 
 -- ---- a gate of a stage
 

@@ -1,10 +1,7 @@
 -- What is enabled stays so until it is done.
 use Rattle.ncl_insensitivity.proofs.Terms.{Bool, Cell, CellAt, CellId, Fire, IsCellOf, IsExcited, IsPersistent, Item, Layout, List, Lower, Member, Nets, PipelineData, Rails, Raise, ReadsNew, Ready, StageCell, State, Take, after_lower, and_from, ap, arith, bit_at, both_ways, cases_eq, current_rails, data-same, differ, differ-itself, enabled, even, false, fired, gate-listed, has_data, has_value, if◌then◌else◌, in_bit, in_rail, in_stage, in_tree, inl, inr, is_data, is_excited, is_null, ki-listed, list_all, list_all-member, local, local-put_here, local-put_other, next_value, not, not-not, not-true, not_from_false, not_from_true, not_itself, old_is_turning, or_cases, or_from, or_left, or_parts, or_right, out-listed, out_of, out_rail, output-no_ki, output-no_source, outputs-listed, rail-is_one, rail-listed, reads-more, refl, root-listed, same_place, slice_get, source-no_ki, stage_nets, step, subst, suc, sym, tree-listed, true, width, with_net, with_net-elsewhere, with_net-here, with_net-keeps, ℕ, ◌&&◌, ◌+◌, ◌<◌, ◌||◌, ◌∙◌, ◌≡◌, ◌≢◌, ◌≤◌, ◌⊎◌}
-use Rattle.ncl_insensitivity.proofs.Phases.{data-other, gate-no_rail, gate_stays}
-use Rattle.ncl_insensitivity.proofs.Invariant.{Acknowledges, HasInvariant, IsRegisterMove, IsSetting, IsSourceMove, IsTreeMove, Move, Waves, gate, ki-value, lower, lower_last, moved, raise, raise_last, ready, register, rising, root, root-value, take, tree, word_in}
-use Rattle.ncl_insensitivity.proofs.StepValues.{current-rail, gate-step, lower-step, rail-put, raise-step, register-step, tree-step}
-use Rattle.ncl_insensitivity.proofs.MoveOf.{all-more, move_of, own-current, source_is_old}
-use Rattle.ncl_insensitivity.proofs.NextValues.{gate-excitation, register-excited}
+use Rattle.ncl_insensitivity.proofs.StepValues.{current-rail, gate-excitation, gate-step, lower-step, rail-put, raise-step, register-excited, register-step, tree-step}
+use Rattle.ncl_insensitivity.proofs.MoveOf.{Acknowledges, HasInvariant, IsRegisterMove, IsSetting, IsSourceMove, IsTreeMove, Move, Waves, all-more, data-other, gate, gate-no_rail, gate_stays, ki-value, lower, lower_last, move_of, moved, own-current, raise, raise_last, ready, register, rising, root, root-value, source_is_old, take, tree, word_in}
 
 -- ---- the net that a move turns, and what stays as it is
 

@@ -1,10 +1,7 @@
 -- How often nets change, and so how long a run can be.
 use Rattle.ncl_insensitivity.proofs.Terms.{All-from_get_or, All-from_members, AllPairs, AllPairs-cons, Bool, Cell, Fire, IsLayoutOf, IsRunFrom, Item, Layout, List, Lower, Member, Member-append_cases, Member-get_or, Nets, PipelineData, Rails, Raise, Ready, StageCell, State, Take, [], ahead, all_are_old, ap, arith, behind, bit_at, both_ways, cases_eq, cases_lt, data-same, equal, even, even-double, false, false_from_ne_true, gate-listed, get_or, has_data, here, in_bit, in_rail, in_stage, in_tree, inl, inr, ki-listed, length, length-append, length-map, local-at, map, member_cases, member_of_map, mul-add, mul_assoc, mul_comm, net_of, no_more_than, no_rails, not, not-not, not_from_false, not_from_true, one_if, one_if-most, out_of, out_rail, pairs-head, pairs-tail, place-here, place-other, rail-data, rail-listed, rail-no_output, rail-place, rail-within, rail_nets, rails-length, refl, some-rail, stage_nets, step, subst, suc, sum_by, sum_by-cons, sum_by-le, sym, there, tree-listed, true, width, with_net, with_net-elsewhere, with_net-here, zero, ℕ, ◌*◌, ◌++◌, ◌+◌, ◌<◌, ◌∙◌, ◌∷◌, ◌≡◌, ◌≢◌, ◌≤◌, ◌⊎◌}
 use Rattle.ncl_insensitivity.proofs.Invariant.{HasInvariant, IsSetting, IsSourceMove, IsTreeMove, Move, Waves, gate, ki-value, lower, lower_last, moved, next_at, numbers_after, raise, raise_last, ready, register, rising, root, stage_changes as stage_views, take, tree, tree_changes as tree_views, word_in}
-use Rattle.ncl_insensitivity.proofs.Phases.{IsPhase, data-moved, data-other, gate-no_rail, up_empty}
-use Rattle.ncl_insensitivity.proofs.StepValues.{gate-step, lower-step, raise-step, register-step, tree-step}
-use Rattle.ncl_insensitivity.proofs.MoveOf.{move_of, source_is_old}
-use Rattle.ncl_insensitivity.proofs.Keeping.{step-kept, within_source}
+use Rattle.ncl_insensitivity.proofs.Keeping.{IsPhase, data-moved, data-other, gate-no_rail, gate-step, lower-step, move_of, raise-step, register-step, source_is_old, step-kept, tree-step, up_empty, within_source}
 
 -- ---- sums over a list, compared term by term
 

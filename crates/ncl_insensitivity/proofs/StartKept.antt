@@ -1,8 +1,7 @@
 -- The start: the invariant holds there, and all is quiet at reset.
 use Rattle.ncl_insensitivity.proofs.Terms.{AreNear, Bool, Cell, Fire, Follows, IsLayoutOf, IsQuiet, IsRegisterOf, Layout, List, Lower, Member, Member-get_or, NetId, NetlistData, Nets, None, Option, Part, PipelineData, Raise, Ready, Shape, Some, StageCell, Take, TreePart, [], acks, ahead, among, among-from_member, and_left, and_right, ap, arith, bit-new, bit_at, both_ways, completes, data_banks, differ, equal, even, even-double, false, false_from_ne_true, from-falls, from-past, from-step, get_or, half, has_data, held-count, held-net, held_from, held_in, held_in_all, holds_word, in_bit, in_rail, in_stage, in_tree, is_data, is_excited, is_some, ki-listed, laid_out_of, length, list_all-member, named-has, named_rails, net-new, next-from_unfed, next_of_gate, next_value, no_nets, no_rails, none-holds, none_past, not, not_from_true, of_bank, of_stage, of_tree, one_if, or_from, out-listed, out_of, out_rail, output-listed, rail-data, rail-listed, refl, reset, reset_nets, root-listed, slice_get, some_high-low, some_input, source-null, stage-held, stage-none, stage-value, stage_nets, start-even, start-half, start_number, subst, suc, sym, tree-at, tree-listed, tree-value, true, turning_is_old, width, zero, ℕ, ◌<◌, ◌∙◌, ◌≡◌, ◌≤◌}
-use Rattle.ncl_insensitivity.proofs.Phases.{IsPhase, phase-empty, phase-named, phase-none}
-use Rattle.ncl_insensitivity.proofs.Invariant.{AreAt, HasInvariant}
-use Rattle.ncl_insensitivity.proofs.OfferedWords.{under-own, waves_of, word_under}
+use Rattle.ncl_insensitivity.proofs.Invariant.{AreAt, HasInvariant, IsPhase, phase-empty, phase-named, phase-none}
+pub use Rattle.ncl_insensitivity.proofs.OfferedWords.{under-own, waves-are, waves_of, word_under}
 use Rattle.ncl_insensitivity.proofs.NextValues.{gate-excitation, register-turns}
 
 -- ---- at reset the invariant holds, with the numbers with which the banks start

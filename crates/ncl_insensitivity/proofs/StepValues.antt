@@ -1,7 +1,6 @@
 -- The values that a step leaves, and that each net's values alternate.
 use Rattle.ncl_insensitivity.proofs.Terms.{AlternatesWithNull, Bool, Cell, CellAt, CellId, Contains-from_slice_get, Fire, IsCellOf, IsExcited, IsInputPort, IsRunFrom, Item, Layout, List, Lower, Member, Member-from_Contains, Nets, None, Option, PassesNull, PipelineData, Raise, Ready, Shape, Some, StageCell, State, Take, [], after, among-from_member, and_parts, ap, arith, bit_at, both_ways, current_rails, false, fired, if◌then◌else◌, in_rail, in_stage, ki_is_no_input, ki_is_port, list_all, named-get, named-within, named_rails, next_value, no_cell_drives_port, not, not-from_differ, old_is_turning, out_of, out_rail, put_at, rail_nets, rails_of_word, refl, reset, slice_get, step, subst, suc, sym, true, with_net, with_net-elsewhere, with_net-here, ℕ, ◌++◌, ◌+◌, ◌∙◌, ◌∷◌, ◌≡◌, ◌≤◌}
-use Rattle.ncl_insensitivity.proofs.NextValues.{gate-next, register-takes}
-use Rattle.ncl_insensitivity.proofs.Phases.{gate_local, gate_moves}
+pub use Rattle.ncl_insensitivity.proofs.NextValues.{gate-excitation, gate-next, gate_local, gate_moves, register-excited, register-takes}
 use Rattle.ncl_insensitivity.proofs.Invariant.{HasInvariant, IsRegisterMove, IsSetting, IsSourceMove, IsTreeMove, Waves, moved, rising, root-value, word_in}
 use Rattle.ncl_insensitivity.proofs.RunLaws.{IsRunFrom-suffix}
 use Rattle.ncl_base.specs.Members.{Member}

@@ -1,6 +1,6 @@
 -- Wires pass a word on as it is.
 use Rattle.ncl_insensitivity.proofs.Terms.{Base, Bool, Contains-from_Member, IsStage, IsWires, IsWordOf, List, Rails, StageData, ap, arith, bit_at, both_ways, false, false_from_ne_true, get_or-map, get_or_from_slice_get, length, length-map, map, named-has, named-within_values, no_rails, rail_at, refl, same_from_lengths, slice_get_within, stage_function, subst, sym, true, val, ℕ, ◌<◌, ◌∙◌, ◌≡◌}
-use Rattle.ncl_insensitivity.proofs.Phases.{phase-values, rail_is}
+pub use Rattle.ncl_insensitivity.proofs.Phases.{output_high, output_is, phase-values, rail_is}
 
 pub wires-pass : (s : StageData) → IsStage s → IsWires s → (word : List Bool) → IsWordOf s word → stage_function s word ≡ word
 wires-pass s is (no_cells, passed) word wide =

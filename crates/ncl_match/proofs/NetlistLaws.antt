@@ -1,11 +1,9 @@
 -- The functions of the nets that count for an output: they are listed, and their tables are held once all are made.
 pub use Rattle.ncl_match.proofs.Terms.{[], All, All-append, All-cons, All-from_members, All-nil, AllPairs, AreDone, AreHeld, AreMarksFor, Bool, Circuit, Contains, DataCell, Err, FitPins, Gathers, HasFunction, HasRail, HaveInputs, HoldsNets, IsCase, IsErrAnd, IsEvaluated, IsHeld, IsLayoutOf, IsListed, IsOrdered, IsSpace, Keeps, Layout, List, MakesRail, Member, Member-append_left, Member-from_Contains, Model, NetCounts, Nets, None, Ok, Option, Overflows, Pair, PipelineData, Rails, Result, Shape, Some, SpaceData, SpaceFault, WordFunction, ap, arith, bit_function, both_tables, cell_tables, circuit_of, closed, complement, false, fits, gathered, get_or, get_or_from_slice_get, handed_on, here, if◌then◌else◌, inl, input_tables, inr, inverse, is_marked, is_needed, is_rail, is_value, laid_out_of, left-differ, length, map, no_rails, or_cases, or_left, or_right, out_of, pair_at, plan_of, plan_tables, rail-place, rail_at, rail_nets, rail_of, refl, rules, slice_get, slice_get-get_or, subst, suc, sym, table_of, table_of-same, there, true, with_tables, words, zero, ℕ, ◌<◌, ◌∙◌, ◌∷◌, ◌≡◌, ◌≢◌}
 use Rattle.ncl_space.specs.declared.space.SpaceFault.TheVariants.{Full}
-use Rattle.ncl_match.proofs.ClosedLaws.{at-input}
-use Rattle.ncl_match.proofs.BitLaws.{both-listed, gathers-more, not-table, overflows-after}
 use Rattle.ncl_match.proofs.MarkLaws.{reached-marked}
-use Rattle.ncl_match.proofs.PairLaws.{complement-is, not-not, same-function}
-pub use Rattle.ncl_match.proofs.PlanLaws.{output-within, plan-evaluated, plan-fits, plan-known, plan-ordered, plan-reach}
+pub use Rattle.ncl_match.proofs.PairLaws.{both-listed, complement-is, gathers-more, made-held, not-not, not-table, overflows-after, same-function, same-held}
+pub use Rattle.ncl_match.proofs.PlanLaws.{at-input, output-within, plan-evaluated, plan-fits, plan-known, plan-ordered, plan-reach}
 use Rattle.ncl_match.specs.Listed as listed
 
 -- what holds of the tables of each turn holds of all

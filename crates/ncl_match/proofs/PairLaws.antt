@@ -1,6 +1,6 @@
 -- Pairs of Refs: how they are kept, made and filled in, by gates, by covers and by turns of a loop.
 pub use Rattle.ncl_match.proofs.Terms.{[], All, All-cons, All-head, All-nil, All-tail, AreCompared, Bool, Circuit, Dash, Err, Gathers, HasApart, HasFunction, HasRail, HasSignal, HoldsNets, HoldsSignals, IfOk, IfOk-weaker, IsHeld, IsListed, IsLive, IsModel, IsPair, IsSpace, Keeps, Kind, List, Lit, Makes, MakesPair, Model, NetId, None, One, Option, Overflows, Pair, Ref, Result, Some, SpaceData, SpaceFault, Th12, Th22, WordFunction, Zero, and_gate, ap, apart_function, apart_tables, append-nil, append_assoc, arith, arity_of, at, at_table, both_tables, cases_eq, circuit_of, constant_table, cover_function, cover_tables, crossed, dual-arity, dual-set, dual_of, dual_pins, dual_pins-length, dual_pins-map, false, first_value, fits, function_at, functions_at, gate_function, gate_table, gathered, get_or, get_or_default, handed_on, held-along, if◌then◌else◌, inl, inr, inverse, is_crossed, keeps_all, keeps_along, length, length-map, list_any, list_any-append, lit_matches, literal_function, made_of, makes-live, map, not, or_gate, pair_at, pins_of, rail_table, recursion_from_All, refl, row_function, row_matches, row_tables, rows_function, rules, set_of, subst, suc, sym, table_of, table_of-at, table_of-same, take, take_all, take_more, too_much-after, too_much_by_front, true, turn_tables, values_of, with_none, with_tables, without, words, zero, ℕ, ◌&&◌, ◌++◌, ◌+◌, ◌-◌, ◌<◌, ◌==◌, ◌||◌, ◌∙◌, ◌∷◌, ◌≡◌, ◌≤◌}
-pub use Rattle.ncl_match.proofs.BitLaws.{apart-held, apart-listed, each-held, gathers-along, gathers-more, nets-kept, overflows-after, overflows-along, signals-kept}
+pub use Rattle.ncl_match.proofs.BitLaws.{apart-held, apart-listed, both-listed, each-held, gathers-along, gathers-more, made-held, nets-kept, not-table, overflows-after, overflows-along, same-held, signals-kept}
 
 -- ---- pairs of Refs: how they are kept, swapped and made by a gate and its dual
 

@@ -1,6 +1,6 @@
 -- The plan of a pipeline, and what it reaches.
 pub use Rattle.ncl_match.proofs.Terms.{[], A, All, All-contains, All-from_members, AreMarks, AreMarksFor, Bool, Cell, Contains-from_Member, Contains-from_slice_get, DataCell, Drives, FitPins, IsCell, IsEvaluated, IsGate, IsKnown, IsLayoutOf, IsOrdered, IsRegister, Layout, List, Member, Member-from_Contains, Member-map, NetCounts, NetId, NetlistData, Nets, OnPin, Part, PipelineData, Rails, Reaches, ReadsNet, Some, StageCell, ap, arith, arity_of, both_ways, by_gate, by_register, circuit_of, closed, eq-eqb, eqb-true, false, false_from_ne_true, gate_cell, get_or, here, in_rail, inl, inr, is_on, is_rail, is_register, itself, laid_out_of, length, list_any-from_member, made_of, map, member_cases, member_from_list_any, nat_eq, net_of, no_rails, of_bank, of_stage, of_tree, out_rail, pins_of, plan_of, rail_nets, reads, refl, register_cell, same_Some, slice_get, slice_get-from_Contains, slice_get-get_or, subst, suc, sym, there, true, ℕ, ◌<◌, ◌↔◌, ◌∙◌, ◌∷◌, ◌≡◌, ◌≤◌, ◌⊎◌}
-use Rattle.ncl_match.proofs.ClosedLaws.{at-gate, at-register}
+pub use Rattle.ncl_match.proofs.ClosedLaws.{at-gate, at-input, at-register}
 use Rattle.ncl_match.proofs.PlannedLaws.{Known, PlanPart, drives-known, gate-in, inputs-known, known-in, known-inputs, laid_plan, of_bank, of_stage, output-known, part-of, plan-laid, register-in, wired-apart, wired-in_order, wired-once, wired-plan}
 use Rattle.ncl_match.proofs.PlannedLaws as planned
 

@@ -3,9 +3,7 @@ pub use Rattle.ncl_match.proofs.Terms.{[], All, All-cons, All-contains, All-head
 pub use Rattle.ncl_match.proofs.MarkLaws.{member-before, none_marked, own-number}
 pub use Rattle.ncl_match.proofs.PairLaws.{Turned, function-is, has-kept, pairs-kept, same-function, same-tables, too_much-turn, turned-next, turned-none}
 use Rattle.ncl_match.specs.Needed.{itself, reads}
-use Rattle.ncl_match.proofs.PlannedLaws.{gathered-same}
-
--- ---- the functions of the signals of models, one signal further
+pub use Rattle.ncl_match.proofs.PlannedLaws.{gathered-same, member-gathered}
 
 -- ---- values
 
@@ -242,8 +240,6 @@ needed-more n steps root marks new place step ordered at mark count marked m = r
       (λ read. reads place step number at read (m.needed (n + place) mark))
       (or_cases _ _ (sym (marked number) ∙ new_mark));
 }
-
--- ---- the numbers of the signals of models in their row: the assignments that they give, and which of them count
 
 -- ---- equal maps, item by item
 

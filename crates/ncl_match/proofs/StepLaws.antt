@@ -53,8 +53,6 @@ module _ (m : Model) (is : IsModel m) (place : ℕ) (cover : Cover) (at : slice_
       outs_differ m is other place cover (slice_get_within m.covers other c c_at) (slice_get_within m.covers place cover at)
       (ap (λ (x : Cover). x.out) (get_or_from_slice_get m.covers other c cover c_at) ∙ same ∙ ap (λ (x : Cover). x.out) (sym (get_or_from_slice_get m.covers place cover cover at)))
 
--- ---- the inputs alone
-
 -- ---- one cover more
 
 module _ (n : ℕ) (old steps new : List Step) (m : Model) (ins : List ℕ) (number next : ℕ → Option ℕ) (done : List ℕ) (place : ℕ) (cover : Cover) (at : slice_get m.covers place ≡ Some cover) (adds : AddsStep steps new number cover) (update : (q : ℕ) → next q ≡ cond (cover.out == q) (Some (n + length steps)) (number q)) (fresh : (x : ℕ) → number cover.out ≡ Some x → ⊥) (widths : All (λ row. length row ≡ length cover.ins) cover.rows) (a : AreAdded n old steps m ins number done) where

@@ -1,8 +1,6 @@
 -- The wheel of times that come soon, and the calendar that it is a part of.
 pub use Rattle.ncl_sim.proofs.Terms.{All, All-append, All-cons, All-contains, All-from_members, All-from_recursion, All-head, All-nil, All-permutation, All-push, All-weaker, AllByRecursion, Bool, CalendarData, ComesBeforeAll, Contains-from_Member, Contains-last, Global, IfSome, IsBefore, IsCalendar, IsDueAfter, IsDueAt, IsDueIn, IsNextList, IsPermutation, IsPermutation-append_comm, IsPermutation-append_left, IsPermutation-append_right, IsPermutation-cons, IsPermutation-middle, IsPermutation-refl, IsPermutation-sym, IsPermutation-trans, IsSorted, IsStrictWeakOrder, IsUpperBound, IsWheel, List, MatchResult-from_err, Member, Member-get_or, None, Option, Reverse, Some, Vec, WheelData, [], all_events, ap, append_assoc, arith, below_more, cases_eq, cases_lt, eqb, eqb-true, event_cmp, false, flat_map, get_or, get_or-map, get_or-set_other, get_or-set_same, get_or_push, heap_items, here, inl, inr, is_lt, joined, last_of, length, length-append, length-map, length-set, length_permutation, list_at, map, map-set, nat_cmp, nat_tests, none-some, option_to_list, ordering_then, refl, same_Some, set, set-get_or, slice_get, slice_get-get_or, sorted_far, subst, suc, sym, true, zero, ℕ, ◌%◌, ◌++◌, ◌+◌, ◌-◌, ◌<◌, ◌∙◌, ◌∷◌, ◌≡◌, ◌≢◌, ◌≤◌}
 
--- ---- a wheel keeps each event in the list of its due
-
 -- ---- lists joined, one of which comes to the front
 
 module _ {X : Type 0} where
@@ -194,8 +192,6 @@ opened-is time idle lists is ahead next busy v opened empty read same none x fir
       subst (λ l. IsPermutation (joined (tables lists)) (l ++ joined (tables (set lists ((time % 64 + ahead) % 64) empty)))) (sym own)
           (subst (λ ls. IsPermutation (joined (tables lists)) (list_at (tables lists) ((time % 64 + ahead) % 64) ++ joined ls)) (sym rest) (joined-out (tables lists) ((time % 64 + ahead) % 64) within)),
     )
-
--- ---- the first event of a calendar queue is the last that was opened, or the first of the heap
 
 -- ---- the order of events
 

@@ -1,6 +1,6 @@
 -- A timed run is there, and where it is stopped.
-use Rattle.ncl_sim.proofs.Terms.{Bool, DelaysData, End, Ends, Fire, Fired, GoesOn, Hazard, IsLost, IsNext, IsQuiet, IsRunFrom, IsStopped, IsTimedRun, Item, List, LosesNone, Lower, Nets, None, Option, Over, Pair, PipelineData, Quiet, Raise, Ready, Run, Some, State, Take, Taken, TraceData, [], after, after_lower, and_from, and_parts, ap, arith, both_ways, candidate, cases_eq, cases_lt, cond, current_rails, due_after, due_at, enabled, eqb, eqb-false, false, false_from_ne_true, if◌then◌else◌, inl, inr, is_take, item_number, items_in, last_time, length, length-append, length-map, list_all, lost, map, most_steps, ne_eqb, none-some, not, not-true, not_from_false, number_count, over, put_at, quiet, refl, reset, same_Some, slice_get, state_after, step, subst, suc, sym, takes_in, true, zero, ℕ, ◌&&◌, ◌++◌, ◌+◌, ◌<◌, ◌∙◌, ◌∷◌, ◌≡◌, ◌≤◌, ◌⊎◌}
-pub use Rattle.ncl_sim.proofs.Oneness.{candidate-number, candidate_of, enabled_from_due, nothing_apart, number_within, one_run, same_last, some_after}
+use Rattle.ncl_sim.proofs.Terms.{Bool, DelaysData, End, Ends, Fire, Fired, GoesOn, Hazard, IsLost, IsNext, IsQuiet, IsRunFrom, IsStopped, IsTimedRun, Item, List, LosesNone, Lower, Nets, None, Option, Over, Pair, PipelineData, Quiet, Raise, Ready, Run, Some, State, Take, Taken, TraceData, [], after, after_lower, and_from, and_parts, ap, arith, both_ways, candidate, cases_eq, cases_lt, cond, current_rails, due_after, due_at, enabled, eqb, eqb-false, false, false_from_ne_true, if◌then◌else◌, inl, inr, is_take, item_number, items_in, last_time, length, length-append, length-map, list_all, lost, map, most_steps, ne_eqb, none-some, not, not-true, not_from_false, number_count, over, put_at, quiet, refl, reset, same_Some, same_from_push, slice_get, state_after, step, subst, suc, sym, takes_in, true, zero, ℕ, ◌&&◌, ◌++◌, ◌+◌, ◌<◌, ◌∙◌, ◌∷◌, ◌≡◌, ◌≤◌, ◌⊎◌}
+pub use Rattle.ncl_sim.proofs.Oneness.{candidate-number, candidate_of, enabled_from_due, nothing_apart, number_within, one_run, some_after}
 
 -- ---- the least of finitely many dues: by the due, and of one due by the number
 
@@ -55,8 +55,6 @@ pub least_due : (due : ℕ → Option ℕ) (n : ℕ) → HasLeast due n ⊎ HasN
 least_due due zero = inr (λ j lt. absurd (omega arith))
 least_due due (suc n) = least-more due n (due n) refl (least_due due n)
 
--- ---- that there is a timed run
-
 -- ---- lists with a last element
 
 abbrev pub HasLast : List Fired → Type 0
@@ -101,7 +99,7 @@ where_zero false n e = absurd cc
 -- what was lost shows at its number
 lost_shows : (p : PipelineData) (offered : List (List Bool)) (steps before : List Fired) (last : Fired) → steps ≡ before ++ last ∷ [] → (other : Item) → IsLost p offered steps other → is_lost_at p offered steps before last (item_number p other) ≡ true
 lost_shows p offered steps before last split other is =
-    let (front, end) = same_last is.before before is.last last (sym is.split ∙ split) in
+    let (front, end) = same_from_push is.before before is.last last (sym is.split ∙ split) in
     let was : enabled p (state_after p offered before) other ≡ true = subst (λ b. enabled p (state_after p offered b) other ≡ true) front is.was in
     let same : candidate p (state_after p offered before) (item_number p other) ≡ other = candidate_of p (state_after p offered before) other was in
     let apart : eqb (item_number p last.item) (item_number p other) ≡ false = ne_eqb (item_number p last.item) (item_number p other) (λ e. is.other (ap (λ (f : Fired). item_number p f.item) end ∙ e)) in

@@ -31,8 +31,6 @@ pub rests : (v : Nets) (c : Cell) → Avoids c.out.0 c.ins.items → excited (wi
 rests v c avoids =
     rw (again v c avoids, with_net-here v c.out.0 (next_value v c), next_of_cell-again c.kind (pin_values v c.ins.items) (v c.out.0)) (differ-self (next_value v c))
 
--- ---- a step leaves what it doesn't touch, and its own number rests where it isn't touched
-
 -- ---- the rails of the current word
 
 named-apart : (net : ℕ) (rs : List Rails) (word : List Bool) (k x : ℕ) → IsApart net (rail_nets rs) → slice_get (named_rails rs word) k ≡ Some x → net ≢ x

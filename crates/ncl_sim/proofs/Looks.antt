@@ -1,9 +1,9 @@
 -- Where the simulator looks after a step, and at the start.
-pub use Rattle.ncl_sim.proofs.Terms.{AreDrivenOnce, AreEnds, Avoids, Bool, Cell, CellAt, DelaysData, Fired, IsApart, IsFree, IsLost, IsTracked, IsUntouched, Item, List, Member, None, Option, PipelineData, Some, State, [], after, and_from, and_parts, ap, arith, begins, bit_candidate, both_ways, candidate, cases_Bool, cases_eq, cond-false, cond-true, due_after, due_at, due_next, due_now, enabled, eqb, eqb-false, false, false_from_ne_true, get_or, here, if◌then◌else◌, inl, inr, is_waiting, item_number, items_in, least_of, length, length-replicate, length-set, look, look_at, looks, loses, lower, meaning, member_cases, min, ne_eqb, net_of_step, not, note, number_count, popped, rail_nets, refl, replicate, reset, set, sink_candidate, slice_get, state_after, step, subst, suc, sym, take, take_more, there, true, zero, ℕ, ◌&&◌, ◌++◌, ◌+◌, ◌-◌, ◌<◌, ◌∙◌, ◌∷◌, ◌≡◌, ◌≢◌, ◌≤◌, ◌⊎◌}
-use Rattle.ncl_sim.proofs.QueueLaws.{set-elsewhere, set-there}
-use Rattle.ncl_sim.proofs.Oneness.{candidate-number, candidate_at_bit, candidate_at_sink, candidate_of, cell_candidate, due_along-more, enabled_from_due, none_after, same_last, some_after}
+pub use Rattle.ncl_sim.proofs.Terms.{AreDrivenOnce, AreEnds, Avoids, Bool, Cell, CellAt, DelaysData, Fired, IsApart, IsFree, IsLost, IsTracked, IsUntouched, Item, List, Member, None, Option, PipelineData, Some, State, [], after, and_from, and_parts, ap, arith, begins, bit_candidate, both_ways, candidate, cases_Bool, cases_eq, cond-false, cond-true, due_after, due_at, due_next, due_now, enabled, eqb, eqb-false, false, false_from_ne_true, get_or, here, if◌then◌else◌, inl, inr, is_waiting, item_number, items_in, least_of, length, length-replicate, length-set, look, look_at, looks, loses, lower, meaning, member_cases, min, ne_eqb, net_of_step, not, note, number_count, popped, rail_nets, refl, replicate, reset, same_from_push, set, sink_candidate, slice_get, state_after, step, subst, suc, sym, take, take_more, there, true, zero, ℕ, ◌&&◌, ◌++◌, ◌+◌, ◌-◌, ◌<◌, ◌∙◌, ◌∷◌, ◌≡◌, ◌≢◌, ◌≤◌, ◌⊎◌}
+pub use Rattle.ncl_sim.proofs.QueueLaws.{set-elsewhere, set-there}
+use Rattle.ncl_sim.proofs.Oneness.{candidate-number, candidate_at_bit, candidate_at_sink, candidate_of, cell_candidate, due_along-more, enabled_from_due, none_after, some_after}
 use Rattle.ncl_sim.proofs.Existence.{due_shows}
-use Rattle.ncl_sim.proofs.Locality.{candidate_stays, own_rests, untouched_item}
+pub use Rattle.ncl_sim.proofs.Locality.{candidate_stays, enabled-net, own_rests, untouched_item}
 
 -- ---- looks at many numbers: what they leave in the table, and the least number that was lost
 
@@ -263,7 +263,7 @@ module _ (p : PipelineData) (d : DelaysData) (offered : List (List Bool)) (steps
 
   lost_was : (item : Item) → IsLost p offered (steps ++ f ∷ []) item → (item_number p f.item ≢ item_number p item) × (enabled p (state_after p offered steps) item ≡ true)
   lost_was item is =
-      let (front, last) = same_last is.before steps is.last f (sym is.split) in
+      let (front, last) = same_from_push is.before steps is.last f (sym is.split) in
       ((λ e. is.other (ap (λ (g : Fired). item_number p g.item) last ∙ e)), subst (λ b. enabled p (state_after p offered b) item ≡ true) front is.was)
 
   pub lost_is_now : (item : Item) → IsLost p offered (steps ++ f ∷ []) item → now (item_number p item) ≡ item
@@ -301,8 +301,6 @@ module _ (p : PipelineData) (d : DelaysData) (offered : List (List Bool)) (steps
       let (other, was_on) = lost_was item is in
       both_ways (enabled p (state_after p offered (steps ++ f ∷ [])) item) is.gone
       (ap (λ s. enabled p s item) (state-more p offered steps f) ∙ untouched_item p (state_after p offered steps) f.item net item ends once on at free other ∙ was_on)
-
--- ---- the look at all numbers at time 0, and the numbers that need no look, by their kinds
 
 -- ---- the numbers that need no look
 

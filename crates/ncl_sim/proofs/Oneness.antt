@@ -1,7 +1,5 @@
 -- What may come next and when, and that a timed run is one.
-use Rattle.ncl_sim.proofs.Terms.{Bool, ComesFirst, DelaysData, End, Ends, Fire, Fired, Hazard, IsLost, IsNext, IsTimedRun, Item, List, Lower, None, Option, PipelineData, Raise, Ready, Some, State, Take, Taken, TraceData, [], after, and3, ap, append-nil, append_assoc, arith, bit_candidate, bit_within, both_ways, candidate, cases_lt, cond-false, cond-true, current_rails, due_after, due_along, due_next, due_step, enabled, eqb, excited_within, false, filter, has_value, if◌then◌else◌, inl, inr, is_take, item_number, items_in, last_time, le-ltb, length, lost, lt-ltb, ltb, map, none-some, not, not-true, number_count, over, quiet, refl, reset, sink_candidate, slice_get, state_after, step, subst, sym, true, true_from_ne_false, ℕ, ◌&&◌, ◌++◌, ◌+◌, ◌-◌, ◌<◌, ◌∙◌, ◌∷◌, ◌≡◌, ◌≤◌}
-
--- ---- an enabled item is the candidate of its number, so it is one
+use Rattle.ncl_sim.proofs.Terms.{Bool, ComesFirst, DelaysData, End, Ends, Fire, Fired, Hazard, IsLost, IsNext, IsTimedRun, Item, List, Lower, None, Option, PipelineData, Raise, Ready, Some, State, Take, Taken, TraceData, [], after, and3, ap, append-nil, append_assoc, arith, bit_candidate, bit_within, both_ways, candidate, cases_lt, cond-false, cond-true, current_rails, due_after, due_along, due_next, due_step, enabled, eqb, excited_within, false, filter, has_value, if◌then◌else◌, inl, inr, is_take, item_number, items_in, last_time, le-ltb, length, lost, lt-ltb, ltb, map, none-some, not, not-true, number_count, over, quiet, refl, reset, same_from_push, sink_candidate, slice_get, state_after, step, subst, sym, true, true_from_ne_false, ℕ, ◌&&◌, ◌++◌, ◌+◌, ◌-◌, ◌<◌, ◌∙◌, ◌∷◌, ◌≡◌, ◌≤◌}
 
 -- ---- where each kind of item stands
 
@@ -138,21 +136,11 @@ pub nothing_apart : {A : Type 0} (xs ys : List A) (y : A) → [] ≡ xs ++ y ∷
 nothing_apart [] ys y e = cc
 nothing_apart (x ∷ xs) ys y e = cc
 
-pub same_last : {A : Type 0} (xs ys : List A) (x y : A) → xs ++ x ∷ [] ≡ ys ++ y ∷ [] → (xs ≡ ys) × (x ≡ y)
-same_last [] [] x y e = (refl, cc)
-same_last [] (b ∷ ys) x y e = let rest : [] ≡ ys ++ y ∷ [] = cc in absurd (nothing_apart ys [] y rest)
-same_last (a ∷ xs) [] x y e = let rest : [] ≡ xs ++ x ∷ [] = cc in absurd (nothing_apart xs [] x rest)
-same_last (a ∷ xs) (b ∷ ys) x y e =
-    let rest : xs ++ x ∷ [] ≡ ys ++ y ∷ [] = cc in
-    let head : a ≡ b = cc in
-    let (front, last) = same_last xs ys x y rest in
-    ((λ i. head i ∷ front i), last)
-
 -- ---- one end
 
 one_lost : (p : PipelineData) (offered : List (List Bool)) (steps : List Fired) (x y : Item) → IsLost p offered steps x → IsLost p offered steps y → item_number p x ≡ item_number p y → x ≡ y
 one_lost p offered steps x y is_x is_y same =
-    let (before, last) = same_last is_y.before is_x.before is_y.last is_x.last (sym is_y.split ∙ is_x.split) in
+    let (before, last) = same_from_push is_y.before is_x.before is_y.last is_x.last (sym is_y.split ∙ is_x.split) in
     one_of_number p (state_after p offered is_x.before) x y is_x.was (subst (λ b. enabled p (state_after p offered b) y ≡ true) before is_y.was) same
 
 pub one_end : (p : PipelineData) (offered : List (List Bool)) (steps : List Fired) (x y : End) → Ends p offered steps x → Ends p offered steps y → x ≡ y

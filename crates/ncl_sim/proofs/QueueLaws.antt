@@ -1,8 +1,6 @@
 -- The events that wait, and the queue that holds them.
 pub use Rattle.ncl_sim.proofs.Terms.{All-from_recursion, All-head, All-map, All-permutation, AllByRecursion, ComesBeforeAll, IsBefore, IsFirst, IsPermutation, IsPermutation-cons, IsPermutation-map, IsPermutation-middle, IsPermutation-refl, IsPermutation-sym, IsPermutation-trans, IsQueueOf, List, None, NoneWaits, Option, Reverse, Some, [], all_events, and_from, and_parts, ap, arith, cases_Bool, cond, eq-eqb, eqb, eqb-true, events, inl, inr, length, length_permutation, map, none-some, refl, replicate, rules, set, slice_get, slice_get_within, subst, suc, sum_by, sum_by-IsPermutation, sum_by-append, sum_by-cons, sym, zero, ℕ, ◌&&◌, ◌++◌, ◌+◌, ◌<◌, ◌∙◌, ◌∷◌, ◌≡◌, ◌≢◌}
 
--- ---- what waits as events: one place of the table changed is one event more or less
-
 -- ---- one place of a list changed
 
 pub set-there : {A : Type 0} (xs : List A) (k : ℕ) (x old : A) → slice_get xs k ≡ Some old → slice_get (set xs k x) k ≡ Some x

@@ -1,10 +1,7 @@
 -- The queue of a run, and how it turns by one event.
 pub use Rattle.ncl_sim.proofs.Terms.{All, All-contains, All-from_members, AreDelays, AreDrivenOnce, AreEnds, AreWithin, Bool, Contains, Contains-from_Member, Contains-from_slice_get, DelaysData, Edges, Ends, Fire, Fired, GoesOn, HasDelays, HasTouched, Hazard, IfSome, IsFirst, IsFor, IsFree, IsNext, IsPopped, IsQuiet, IsStopped, IsTimely, IsTracked, IsUnderWay, Item, List, LosesNone, Lower, MOST_DELAY, Member, Member-from_Contains, NetId, None, NoneWaits, Option, Over, PipelineData, Quiet, Raise, Ready, Run, Shape, Some, State, Take, Turned, [], and_from, and_parts, ap, arith, begins, both_ways, candidate, cases_Bool, cases_contains, cases_eq, cond-false, cond-true, current_rails, delay_of, due_at, due_next, due_now, edges_of, enabled, eq-eqb, eqb, false, here, if◌then◌else◌, inl, inr, is_waiting, item_number, least_of, length, length-set, list_all, look, look_at, looks, loses, lost, meaning, member_cases, most_steps, ne_eqb, net_of_step, none-some, not, not-true, number_count, over, popped, put_at, quiet, rail_nets, recursion_from_members, refl, rises, same_Some, set, slice_get, slice_get-some, slice_get_within, state_after, stated_or, step, subst, sym, there, touched_at, true, ℕ, ◌*◌, ◌++◌, ◌+◌, ◌-◌, ◌<◌, ◌∙◌, ◌∷◌, ◌≡◌, ◌≢◌, ◌≤◌, ◌⊎◌}
-use Rattle.ncl_sim.proofs.Oneness.{candidate-number, enabled_from_due, number_within}
-use Rattle.ncl_sim.proofs.QueueLaws.{set-elsewhere, set-there}
-use Rattle.ncl_sim.proofs.Existence.{first_due, first_is_next, goes_on-more, none_is_quiet}
-use Rattle.ncl_sim.proofs.Looks.{IsLeastOf, IsSeenLost, begins-both, begins-off, begins-waiting, due_at-free, due_at-looked, due_at-rests, free-bit, free-cell, free-sink, free_not_lost, look-off, lost_is_seen, none-of_least, seen_is_lost, some-of_least, state-more}
-use Rattle.ncl_sim.proofs.Locality.{enabled-net}
+use Rattle.ncl_sim.proofs.Existence.{candidate-number, enabled_from_due, first_due, first_is_next, goes_on-more, none_is_quiet, number_within}
+use Rattle.ncl_sim.proofs.Looks.{IsLeastOf, IsSeenLost, begins-both, begins-off, begins-waiting, due_at-free, due_at-looked, due_at-rests, enabled-net, free-bit, free-cell, free-sink, free_not_lost, look-off, lost_is_seen, none-of_least, seen_is_lost, set-elsewhere, set-there, some-of_least, state-more}
 use Rattle.ncl_sim.proofs.TouchedLaws.{shape-driven, shape-ends}
 use Rattle.ncl_sim.proofs.Times.{last_time-more, timely}
 
@@ -187,8 +184,6 @@ module _ (p : PipelineData) (d : DelaysData) (offered : List (List Bool)) (steps
       | inr gone ↦ absurd (none (candidate p next_state k) (seen_is_lost p d offered steps f ends once on k lt gone))
     ];
   }
-
--- ---- a turn: the step of what was due first, and the looks at what it touches
 
 -- ---- what isn't in the table needs no look
 

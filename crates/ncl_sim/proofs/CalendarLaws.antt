@@ -309,71 +309,80 @@ refill-all opened sorted waiting all order empty =
 
 -- ---- the queue
 
-module _ (opened waiting heap : List Event) where
-  abbrev whole : List Event
-  whole = opened ++ (waiting ++ heap)
-
-  pub more-waits : (e : Event) (more : List Event) → IsPermutation (e ∷ waiting) more → IsPermutation (e ∷ whole) (opened ++ (more ++ heap))
-  more-waits e more into = push-later e opened (waiting ++ heap) (more ++ heap) (IsPermutation-append_left heap (e ∷ waiting) more into)
-
-  pub more-heaped : (e : Event) (more : List Event) → IsPermutation (e ∷ heap) more → IsPermutation (e ∷ whole) (opened ++ (waiting ++ more))
-  more-heaped e more into = push-later e opened (waiting ++ heap) (waiting ++ more) (push-later e waiting heap more into)
-
-  pub less-heaped : (e : Event) (rest : List Event) → IsPermutation heap (e ∷ rest) → IsPermutation whole (e ∷ (opened ++ (waiting ++ rest)))
-  less-heaped e rest out =
-      IsPermutation-sym (e ∷ (opened ++ (waiting ++ rest))) whole
-      (push-later e opened (waiting ++ rest) (waiting ++ heap) (push-later e waiting rest heap (IsPermutation-sym heap (e ∷ rest) out)))
-
-  pub less-opened : (front : List Event) (e : Event) → opened ≡ front ++ e ∷ [] → IsPermutation whole (e ∷ (front ++ (waiting ++ heap)))
-  less-opened front e is =
-      subst (λ l. IsPermutation l (e ∷ (front ++ (waiting ++ heap)))) (sym (ap (λ o. o ++ (waiting ++ heap)) is ∙ append_assoc front (e ∷ []) (waiting ++ heap)))
-      (IsPermutation-middle front e (waiting ++ heap))
-
-  pub refilled : (more less : List Event) → IsPermutation (opened ++ waiting) (more ++ less) → IsPermutation whole (more ++ (less ++ heap))
-  refilled more less same =
-      subst (λ l. IsPermutation l (more ++ (less ++ heap))) (append_assoc opened waiting heap)
-      (subst (IsPermutation ((opened ++ waiting) ++ heap)) (append_assoc more less heap) (IsPermutation-append_left heap (opened ++ waiting) (more ++ less) same))
-
-  pub before-whole : (e : Event) (old : List Event) → IsPermutation old whole → ComesBeforeAll e opened → ComesBeforeAll e waiting → ComesBeforeAll e heap → ComesBeforeAll e old
-  before-whole e old same first second third =
-      let P : Event → Type 0 = λ x. IsBefore e.0 x.0 in
-      All-permutation P whole old (IsPermutation-sym old whole same) (All-append P opened (waiting ++ heap) first (All-append P waiting heap second third))
-
--- the last that was opened comes out
-pub some-out : (r : Option Event) (opened front waiting heap old : List Event) → opened ≡ front ++ option_to_list r → IsPermutation old (opened ++ (waiting ++ heap)) → IfSome r (λ e. IsPermutation old (e ∷ (front ++ (waiting ++ heap))))
-some-out None opened front waiting heap old is same = tt
-some-out (Some e) opened front waiting heap old is same =
-    IsPermutation-trans old (opened ++ (waiting ++ heap)) (e ∷ (front ++ (waiting ++ heap))) same (less-opened opened waiting heap front e is)
-
-pub some-first : (r : Option Event) (time : ℕ) (opened front waiting heap old : List Event) → opened ≡ front ++ option_to_list r → IsPermutation old (opened ++ (waiting ++ heap)) → IsSorted event_cmp opened → All (IsDueAt time) opened → All (IsDueAfter time) waiting → ((e : Event) → ComesBeforeAll e opened → ComesBeforeAll e heap) → IfSome r (λ e. ComesBeforeAll e old)
-some-first None time opened front waiting heap old is same sorted due later after = tt
-some-first (Some e) time opened front waiting heap old is same sorted due later after =
-    let first : ComesBeforeAll e opened = subst (ComesBeforeAll e) (sym is) (last-first front e (subst (IsSorted event_cmp) is sorted)) in
-    let at : e.0.0 ≡ time = last-due time front e (subst (All (IsDueAt time)) is due) in
-    before-whole opened waiting heap e old same first (due-before time e waiting (omega arith) later) (after e first)
-
--- it is due at the time of the wheel
+-- the last that was opened is due at the time of the wheel
 pub some-time : (r : Option Event) (time : ℕ) (opened front : List Event) → opened ≡ front ++ option_to_list r → All (IsDueAt time) opened → IfSome r (λ e. front ≡ [] → time ≡ e.0.0)
 some-time None time opened front is due = tt
 some-time (Some e) time opened front is due = λ _. sym (last-due time front e (subst (All (IsDueAt time)) is due))
 
--- the first of the heap comes out
-pub heap-first : (time : ℕ) (x : Event) (opened waiting heap old : List Event) → IsPermutation old (opened ++ (waiting ++ heap)) → IsUpperBound event_cmp x heap → All (IsDueAt time) opened → All (IsDueAfter time) waiting → (opened ≡ [] → waiting ≡ []) → ((e : Event) → ComesBeforeAll e heap → ComesBeforeAll e opened) → ComesBeforeAll x old
-heap-first time x opened waiting heap old same bound due later all after =
-    let third : ComesBeforeAll x heap = before-from_bound x heap bound in
-    let first : ComesBeforeAll x opened = after x third in
-    before-whole opened waiting heap x old same first (others-before time x opened waiting first due later all) third
+module _ {view all : CalendarData} (is : view ≡ all) where
+  abbrev heap : List Event
+  heap = view.others
 
--- where nothing comes out, there is nothing
-pub none-whole : (opened waiting heap : List Event) → heap ≡ [] → (opened ≡ [] → waiting ≡ []) → ((e : Event) → ComesBeforeAll e heap → ComesBeforeAll e opened) → opened ++ (waiting ++ heap) ≡ []
-none-whole opened waiting heap none all after =
-    let empty : opened ≡ [] = none-opened opened (λ e. after e (subst (ComesBeforeAll e) (sym none) (All-nil (λ x. IsBefore e.0 x.0)))) in
-    λ i. empty i ++ (all empty i ++ none i)
+  pub more-waits : (e : Event) (more : List Event) → IsPermutation (e ∷ view.wheel.waiting) more → IsPermutation (e ∷ all_events all) (view.opened ++ (more ++ heap))
+  more-waits e more into =
+      subst (λ (a : CalendarData). IsPermutation (e ∷ all_events a) (view.opened ++ (more ++ heap))) is
+      (push-later e view.opened (view.wheel.waiting ++ heap) (more ++ heap) (IsPermutation-append_left heap (e ∷ view.wheel.waiting) more into))
 
-pub none-old : (old whole : List Event) → IsPermutation old whole → whole ≡ [] → old ≡ []
-none-old old whole same none =
-    let as_long : length whole ≡ length old = length_permutation old whole same in
-    no-length old (sym as_long ∙ ap length none)
+  pub more-heaped : (e : Event) (more : List Event) → IsPermutation (e ∷ heap) more → IsPermutation (e ∷ all_events all) (view.opened ++ (view.wheel.waiting ++ more))
+  more-heaped e more into =
+      subst (λ (a : CalendarData). IsPermutation (e ∷ all_events a) (view.opened ++ (view.wheel.waiting ++ more))) is
+      (push-later e view.opened (view.wheel.waiting ++ heap) (view.wheel.waiting ++ more) (push-later e view.wheel.waiting heap more into))
+
+  -- what was opened and what waits once the next list may have been opened
+  module _ (opened waiting : List Event) (same : IsPermutation (view.opened ++ view.wheel.waiting) (opened ++ waiting)) where
+    abbrev whole : List Event
+    whole = opened ++ (waiting ++ heap)
+
+    refilled : IsPermutation (all_events all) whole
+    refilled =
+        subst (λ (a : CalendarData). IsPermutation (all_events a) whole) is
+        (subst (λ l. IsPermutation l whole) (append_assoc view.opened view.wheel.waiting heap)
+        (subst (IsPermutation ((view.opened ++ view.wheel.waiting) ++ heap)) (append_assoc opened waiting heap) (IsPermutation-append_left heap (view.opened ++ view.wheel.waiting) (opened ++ waiting) same)))
+
+    before-whole : (e : Event) → ComesBeforeAll e opened → ComesBeforeAll e waiting → ComesBeforeAll e heap → ComesBeforeAll e (all_events all)
+    before-whole e first second third =
+        let P : Event → Type 0 = λ x. IsBefore e.0 x.0 in
+        All-permutation P whole (all_events all) (IsPermutation-sym (all_events all) whole refilled) (All-append P opened (waiting ++ heap) first (All-append P waiting heap second third))
+
+    -- the last that was opened comes out
+    pub some-out : (r : Option Event) (front : List Event) → opened ≡ front ++ option_to_list r → IfSome r (λ e. IsPermutation (all_events all) (e ∷ (front ++ (waiting ++ heap))))
+    some-out None front out = tt
+    some-out (Some e) front out =
+        IsPermutation-trans (all_events all) whole (e ∷ (front ++ (waiting ++ heap))) refilled
+        (subst (λ l. IsPermutation l (e ∷ (front ++ (waiting ++ heap)))) (sym (ap (λ o. o ++ (waiting ++ heap)) out ∙ append_assoc front (e ∷ []) (waiting ++ heap)))
+        (IsPermutation-middle front e (waiting ++ heap)))
+
+    pub some-first : (r : Option Event) (front : List Event) → opened ≡ front ++ option_to_list r → (time : ℕ) → IsSorted event_cmp opened → All (IsDueAt time) opened → All (IsDueAfter time) waiting → {slice : List Event} → slice ≡ opened → ((e : Event) → ComesBeforeAll e slice → ComesBeforeAll e heap) → IfSome r (λ e. ComesBeforeAll e (all_events all))
+    some-first None front out time sorted due later seen after = tt
+    some-first (Some e) front out time sorted due later seen after =
+        let first : ComesBeforeAll e opened = subst (ComesBeforeAll e) (sym out) (last-first front e (subst (IsSorted event_cmp) out sorted)) in
+        let at : e.0.0 ≡ time = last-due time front e (subst (All (IsDueAt time)) out due) in
+        before-whole e first (due-before time e waiting (omega arith) later) (after e (subst (ComesBeforeAll e) (sym seen) first))
+
+    -- the first of the heap comes out
+    pub less-heaped : (e : Event) (rest : List Event) → IsPermutation heap (e ∷ rest) → IsPermutation (all_events all) (e ∷ (opened ++ (waiting ++ rest)))
+    less-heaped e rest out =
+        IsPermutation-trans (all_events all) whole (e ∷ (opened ++ (waiting ++ rest))) refilled
+        (IsPermutation-sym (e ∷ (opened ++ (waiting ++ rest))) whole
+        (push-later e opened (waiting ++ rest) (waiting ++ heap) (push-later e waiting rest heap (IsPermutation-sym heap (e ∷ rest) out))))
+
+    module _ (all_waits : opened ≡ [] → waiting ≡ []) {slice : List Event} (seen : slice ≡ opened) (after : (e : Event) → ComesBeforeAll e heap → ComesBeforeAll e slice) where
+      pub heap-first : (time : ℕ) (x : Event) → IsUpperBound event_cmp x heap → All (IsDueAt time) opened → All (IsDueAfter time) waiting → ComesBeforeAll x (all_events all)
+      heap-first time x bound due later =
+          let third : ComesBeforeAll x heap = before-from_bound x heap bound in
+          let first : ComesBeforeAll x opened = subst (ComesBeforeAll x) seen (after x third) in
+          before-whole x first (others-before time x opened waiting first due later all_waits) third
+
+      -- where nothing comes out, there is nothing
+      pub none-whole : heap ≡ [] → whole ≡ []
+      none-whole none =
+          let empty : opened ≡ [] = none-opened opened (λ e. subst (ComesBeforeAll e) seen (after e (subst (ComesBeforeAll e) (sym none) (All-nil (λ x. IsBefore e.0 x.0))))) in
+          λ i. empty i ++ (all_waits empty i ++ none i)
+
+      pub none-old : heap ≡ [] → all_events all ≡ []
+      none-old none =
+          let as_long : length whole ≡ length (all_events all) = length_permutation (all_events all) whole refilled in
+          no-length (all_events all) (sym as_long ∙ ap length (none-whole none))
 
 module _ (opened : List Event) (wheel : WheelData) (heap : List Event) (is : IsCalendar opened wheel heap) where
   pub calendar-more : (e : Event) (more : WheelData) → more.time ≡ wheel.time → wheel.time < e.0.0 → IsPermutation (e ∷ wheel.waiting) more.waiting → IsCalendar opened more heap

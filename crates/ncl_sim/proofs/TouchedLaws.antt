@@ -50,16 +50,16 @@ from_first from (end ∷ ends) numbers (suc place) d e lt are =
     let next = from_first end ends numbers place d e (omega arith) others in
     record { inside = omega (arith, next.inside); list = next.list; order = next.order; fits = next.fits }
 
-pub cut-is : (starts numbers : List ℕ) (place d e from end : ℕ) → place < length (cut_at starts numbers) → AreStarts starts (length numbers) → from ≡ get_or starts place d → end ≡ get_or starts (place + 1) e → IsCut starts numbers place from end
-cut-is [] numbers place d e from end lt are is_from is_end = absurd are
-cut-is (first ∷ ends) numbers place d e from end lt are is_from is_end =
-    let ends_at : end ≡ get_or ends place e = is_end ∙ ap (λ n. get_or (first ∷ ends) n e) (add-one place) in
-    subst (λ f. IsCut (first ∷ ends) numbers place f end) (sym is_from) (subst (λ t. IsCut (first ∷ ends) numbers place (get_or (first ∷ ends) place d) t) (sym ends_at)
-    (from_first first ends numbers place d e (omega (arith, length-cuts first ends numbers, lt)) are))
+pub cut-is : (starts numbers : List ℕ) (place from end : ℕ) {table : List (List ℕ)} → cut_at starts numbers ≡ table → place < length table → AreStarts starts (length numbers) → from ≡ get_or starts place from → end ≡ get_or starts (place + 1) end → IsCut starts numbers place from end
+cut-is [] numbers place from end view lt are is_from is_end = absurd are
+cut-is (first ∷ ends) numbers place from end view lt are is_from is_end =
+    let ends_at : end ≡ get_or ends place end = is_end ∙ ap (λ n. get_or (first ∷ ends) n end) (add-one place) in
+    subst (λ f. IsCut (first ∷ ends) numbers place f end) (sym is_from) (subst (λ t. IsCut (first ∷ ends) numbers place (get_or (first ∷ ends) place from) t) (sym ends_at)
+    (from_first first ends numbers place from end (omega (arith, length-cuts first ends numbers, ap length view, lt)) are))
 
-pub inside-is : (starts numbers : List ℕ) (place : ℕ) → place < length (cut_at starts numbers) → place + 1 < length starts
-inside-is [] numbers place lt = absurd (omega arith)
-inside-is (first ∷ ends) numbers place lt = omega (arith, length-cuts first ends numbers, lt)
+pub inside-is : (starts numbers : List ℕ) (place : ℕ) {table : List (List ℕ)} → cut_at starts numbers ≡ table → place < length table → place + 1 < length starts
+inside-is [] numbers place view lt = absurd (omega (arith, ap length view, lt))
+inside-is (first ∷ ends) numbers place view lt = omega (arith, length-cuts first ends numbers, ap length view, lt)
 
 -- one more list
 pub starts-push : (starts numbers more : List ℕ) → AreStarts starts (length numbers) → AreStarts (starts ++ (length numbers + length more) ∷ []) (length (numbers ++ more)) × (cut_at (starts ++ (length numbers + length more) ∷ []) (numbers ++ more) ≡ cut_at starts numbers ++ more ∷ [])

@@ -40,19 +40,13 @@ both item other first second is_first is_second left =
     subst (λ x. IsLeft x other) (sym is_first) (subst (λ y. IsLeft first y) (sym is_second) left)
 
 each_is_left : IsPersistent wires_pipeline where_two_may_move
-each_is_left item other apart now then =
-    elim (one_of_them item now) [
-      | inl lowers ↦
-          elim (one_of_them other then) [
-            | inl same ↦ absurd (apart (lowers ∙ sym same))
-            | inr fires ↦ both item other (Lower 0) (fire 4) lowers fires refl
-          ]
-      | inr fires ↦
-          elim (one_of_them other then) [
-            | inl lowers ↦ both item other (fire 4) (Lower 0) fires lowers refl
-            | inr same ↦ absurd (apart (fires ∙ sym same))
-          ]
-    ]
+each_is_left item other apart now then = by (one_of_them item now) (one_of_them other then)
+  where
+    by : IsOneOfThem item → IsOneOfThem other → IsLeft item other
+    by (inl lowers) (inl same) = absurd (apart (lowers ∙ sym same))
+    by (inl lowers) (inr fires) = both item other (Lower 0) (fire 4) lowers fires refl
+    by (inr fires) (inl lowers) = both item other (fire 4) (Lower 0) fires lowers refl
+    by (inr fires) (inr same) = absurd (apart (fires ∙ sym same))
 
 pub returns-clause-differ : goal.returns-clause-differ
 returns-clause-differ c = λ same. absurd cc

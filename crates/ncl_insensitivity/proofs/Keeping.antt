@@ -225,15 +225,13 @@ module _ {p : PipelineData} {l : Layout} {w : Waves} {offered : List (List Bool)
     where
       count : k.numbers (suc l.last) ≡ 2 * length s.delivered
       count =
-          let before = k.ends.taken in
           let high : one_if (not (s.value (l.root l.last))) ≡ 0 = asked ∙ ap (λ x. one_if (not x)) ev in
-          omega (arith, before, high)
+          omega (arith, k.ends.taken, high)
   ends-kept item (ready od none acks) = sink-ends true s.delivered
       (let now = place-here k.numbers (suc l.last) (suc (k.numbers (suc l.last))) in
       let high : one_if (not (with_net s.value p.ki true (l.root l.last))) ≡ 0 = ap (λ x. one_if (not x)) (ki-now true) in
-      let before = k.ends.taken in
       let low : one_if (not (s.value (l.root l.last))) ≡ 1 = asked ∙ ap (λ x. one_if (not x)) od in
-      omega (arith, now, high, before, low))
+      omega (arith, now, high, k.ends.taken, low))
       k.ends.carried
 
 -- ---- a gate that fires, and a rail of a bank or of the source that moves, keep the invariant of the nets
@@ -671,11 +669,9 @@ module _ {p : PipelineData} {l : Layout} {w : Waves} {offered : List (List Bool)
   pub in_time : length s.delivered ≤ w.held + s.done + one_if s.falling
   in_time =
       let last = (within_source l.last (omega arith)).0 in
-      let given = k.ends.given in
-      let taken = k.ends.taken in
       let ki = one_if-most (not (s.value (l.root l.last))) in
       let falls = one_if-most s.falling in
-      omega (arith, last, given, taken, ki, falls)
+      omega (arith, last, k.ends.given, k.ends.taken, ki, falls)
 
   pub within_due : length s.delivered ≤ w.held + length offered
   within_due = let first = in_time in let few = k.ends.few in omega (arith, first, few)

@@ -412,9 +412,7 @@ module _ {p : PipelineData} {l : Layout} {w : Waves} {offered : List (List Bool)
     number-within zero le = let given = k.ends.given in let few = k.ends.few in omega (arith, given, few)
     number-within (suc j) le =
         let up_to = (within_source set k j (omega (arith, le))).0 in
-        let given = k.ends.given in
-        let few = k.ends.few in
-        omega (arith, up_to, given, few)
+        omega (arith, up_to, k.ends.given, k.ends.few)
 
     -- and it is even
     last_even : (j : ℕ) → k.numbers j ≡ last_wave → even (k.numbers j) ≡ true
@@ -441,9 +439,7 @@ module _ {p : PipelineData} {l : Layout} {w : Waves} {offered : List (List Bool)
     -- the bank, by the stage before it
     bank_at_end : (j : ℕ) → j ≤ l.last → k.numbers j ≡ last_wave → (b : ℕ) → b < width l j → has_data (in_stage l s.value j) (in_bit l j b) ≡ false
     bank_at_end zero le last b lt =
-        let given = k.ends.given in
-        let few = k.ends.few in
-        k.ends.finished (omega (arith, given, few, last)) b lt
+        k.ends.finished (omega (arith, k.ends.given, k.ends.few, last)) b lt
     bank_at_end (suc j) le last b lt = false_from_ne_true _ (λ some.
         let (r, high) = some-rail (in_stage l s.value (suc j)) (l.stage (suc j)).inputs b some in
         both_ways _ (stage_from_bank j (omega (arith, le)) (bank_at_end j (omega (arith, le))) last (out_rail l j b r)) (k.nets.up j b r le lt (last_even (suc j) last) high))

@@ -52,8 +52,7 @@ module _ (c : Circuit) (models : List Model) (are : AreModels models) (wide : le
 
   first-listed : (x : ℕ) → x < n → IsCounted n steps models at_number output x → All Is (both_tables n (bit_function x))
   first-listed x lt (input _ below counts own) =
-      let some = are.some in
-      let (m, at) = slice_get-some models 0 some in
+      let (m, at) = slice_get-some models 0 are.some in
       both-listed c models output (bit_function x)
       (subst Is (table_of-same n (λ w. bits_of steps (at_number 0) w x) (bit_function x) (λ w long. ap (value_of steps w) own ∙ bits-front w steps x (omega (arith, lt, long))))
       (listed.signal 0 m (bits_of steps (at_number 0)) x (assigns 0 m at) counts))

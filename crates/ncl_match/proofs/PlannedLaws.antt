@@ -236,8 +236,7 @@ module _ {p : PipelineData} {l : Layout} (is : IsLayoutOf p l) where
 
   pub last-wide : length (before_at p (length p.stages)) ≡ length p.outputs
   last-wide =
-      let many = is.as_many in
-      ap length (before-is (length p.stages) (omega arith)) ∙ is.joined (length p.stages) (omega (arith, many)) ∙ ap length (sym ends)
+      ap length (before-is (length p.stages) (omega arith)) ∙ is.joined (length p.stages) (omega (arith, is.as_many)) ∙ ap length (sym ends)
 
   pub plan-laid : plan_of p ≡ laid_plan l
   plan-laid =

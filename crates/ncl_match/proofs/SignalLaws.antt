@@ -503,8 +503,7 @@ module _ (models : List Model) (are : AreModels models) (n : ℕ) (wide : n ≡ 
 
     pub has_root : HasRoot models number output root
     has_root =
-        let some = are.some in
-        let (place, last) = before_end (length models) some in
+        let (place, last) = before_end (length models) are.some in
         let inside : place < length models = omega (arith, last) in
         let (model, at) = slice_get-some models place inside in
         let numbers = numbers-last n steps models (range_with_len 0 n) outs is place model last at in

@@ -304,11 +304,10 @@ module _ (n : ℕ) (models : List Model) (are : AreModels models) (steps : List 
 
   pub models-few : n ≡ width_of models → n + length steps + length m.covers < 2 ^ 32
   models-few wide =
-      let own = l.count in
       let so_far = covers_up_to models place m at in
       let sizes = covers_sizes models in
       let first = width_size models in
-      omega (arith, own, so_far, sizes, first, wide, are.small)
+      omega (arith, l.count, so_far, sizes, first, wide, are.small)
 
 pub models-end : (n : ℕ) (models : List Model) (steps : List Step) (outs : List ℕ) (place : ℕ) → AreModels models → n ≡ width_of models → length models ≤ place → ModelsLoop n models steps outs place → AreInRow models steps outs
 models-end n models steps outs place are wide past l =

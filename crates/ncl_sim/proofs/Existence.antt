@@ -137,8 +137,7 @@ lost_or_none p offered steps = elim (last_of steps) [
             shown_lost p offered steps before last split k least.within shows,
             λ other is.
                 let shown : is_lost_at p offered steps before last (item_number p other) ≡ true = lost_shows p offered steps before last split other is in
-                let was : enabled p (state_after p offered is.before) other ≡ true = is.was in
-                let within : item_number p other < number_count p = number_within p (state_after p offered is.before) other was in
+                let within : item_number p other < number_count p = number_within p (state_after p offered is.before) other is.was in
                 elim (least.first (item_number p other) 0 within (ap zero_where shown)) [
                   | inl less ↦ absurd (omega arith)
                   | inr (same, least_number) ↦ omega (arith, number, least_number)

@@ -76,8 +76,7 @@ events-wait j (Some due ∷ waits) =
 pub event-waits : (waits : List (Option ℕ)) (e : ℕ × ℕ) (rest : List (ℕ × ℕ)) → IsPermutation (events 0 waits) (e ∷ rest) → slice_get waits e.1 ≡ Some (Some e.0)
 event-waits waits e rest out =
     let waiting : IsWaiting waits 0 e = All-head (IsWaiting waits 0) e rest (All-permutation (IsWaiting waits 0) (events 0 waits) (e ∷ rest) out (All-from_recursion (IsWaiting waits 0) (events 0 waits) (events-wait 0 waits))) in
-    let number : e.1 ≡ 0 + waiting.place = waiting.number in
-    let place : waiting.place ≡ e.1 = omega (arith, number) in
+    let place : waiting.place ≡ e.1 = omega (arith, waiting.number) in
     subst (λ n. slice_get waits n ≡ Some (Some e.0)) place waiting.at
 
 -- ---- an event that stands in front of both of two lists may be left out

@@ -42,12 +42,11 @@ module _ (p : PipelineData) (d : DelaysData) (most : ℕ) (within : AreWithin d 
   timely-more steps f is next =
       let last : last_time 0 (steps ++ f ∷ []) ≡ f.time = last_time-more 0 steps f in
       let (later, soon) = is.dues f.item f.time next.due in
-      let before : last_time 0 steps ≤ length steps * most = is.last in
       let long : length (steps ++ f ∷ []) ≡ length steps + 1 = length-append steps (f ∷ []) in
       let more : (length steps + 1) * most ≡ length steps * most + most = omega arith in
       let all : length (steps ++ f ∷ []) * most ≡ length steps * most + most = ap (λ n. n * most) long ∙ more in
       record {
-        last = omega (arith, last, soon, before, all);
+        last = omega (arith, last, soon, is.last, all);
         dues = λ item due is_due.
             elim (fresh_or_old p d (step p (state_after p offered steps) f.item) item f.time due (eqb (item_number p f.item) (item_number p item)) (due_after p d offered steps item) (sym (due-looked p d offered steps f item) ∙ is_due)) [
               | inl fresh ↦

@@ -91,6 +91,5 @@ returns-clause-made g c =
     let old : SpaceData = g.P.Space.meaning c.args.space.now in
     let a : SpaceData = g.P.Space.meaning c.without_pair.new.space in
     let b : SpaceData = g.P.Space.meaning c.without_pair-2.new.space in
-    let new : SpaceData = g.P.Space.meaning c.gate_pair.new.space in
     made old a c.args.f c.args.g c.requires.f c.requires.g c.in_ok-less.ensures.kept b c.in_ok-less.less c.in_ok-more.more c.in_ok-more.ensures.kept c.in_ok-less.ensures.made c.in_ok-more.ensures.made
-    new c.in_ok-either.either c.in_ok-either.ensures.kept c.in_ok-either.ensures.made
+    (g.P.Space.meaning c.gate_pair.new.space) c.in_ok-either.either c.in_ok-either.ensures.kept c.in_ok-either.ensures.made

@@ -54,10 +54,9 @@ with_literal-requires-clause-input g c =
 
 pub returns-in_err-matched-clause-kept : goal.returns-in_err-matched-clause-kept
 returns-in_err-matched-clause-kept g c =
-    let old : SpaceData = g.P.Space.meaning c.args.space.now in
     let now : SpaceData = g.P.Space.meaning c.loop-place.space in
     let new : SpaceData = g.P.Space.meaning c.with_literal.new.space in
-    keeps_along old now new c.loop-place.invariant.turned.kept c.in_err-matched.ensures.kept
+    keeps_along (g.P.Space.meaning c.args.space.now) now new c.loop-place.invariant.turned.kept c.in_err-matched.ensures.kept
 
 pub returns-in_err-matched-clause-full : goal.returns-in_err-matched-clause-full
 returns-in_err-matched-clause-full g c = λ e.
@@ -82,8 +81,7 @@ pub returns-clause-made : goal.returns-clause-made
 returns-clause-made g c =
     let old : SpaceData = g.P.Space.meaning c.args.space.now in
     let now : SpaceData = g.P.Space.meaning c.loop-place.space in
-    let ins : List Pair = c.args.ins.now in
-    let fs : List WordFunction = functions_at old ins in
+    let fs : List WordFunction = functions_at old c.args.ins.now in
     let lits : List Lit = c.items-lits.result.now in
     let place = c.loop-place.place in
     let all : place ≡ length lits = let most = c.loop-place.auto.place-end in let end = c.loop-place-test.false in omega (arith, most, end) in

@@ -80,8 +80,7 @@ returns-in_err-some-clause-full g c = λ e.
 
 pub loop-row-preserved : goal.loop-row-preserved
 loop-row-preserved g c =
-    let lt = c.loop-row-test.true in
     let on = turned-on _ _ _ c.args.ins.now c.args.rows.now c.loop-row.row-index c.loop-row.some c.in_ok-matched.matched c.row-item.result c.loop-row.invariant.turned c.requires.pairs c.loop-row-test.true c.row-item.is
     c.loop-row.invariant.has c.in_ok-matched.ensures.kept c.in_ok-matched.ensures.made
     _ c.in_ok-some.some c.in_ok-some.ensures.kept c.in_ok-some.ensures.made in
-    record { turned = on.0; has = on.1; within = omega (arith, lt) }
+    record { turned = on.0; has = on.1; within = omega (arith, c.loop-row-test.true) }

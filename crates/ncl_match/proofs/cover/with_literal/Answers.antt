@@ -21,8 +21,7 @@ gate_pair-requires-clause-pairs g c =
 pub returns-in-Zero-clause-made : goal.returns-in-Zero-clause-made
 returns-in-Zero-clause-made g c =
     let old : SpaceData = g.P.Space.meaning c.args.space.now in
-    let new : SpaceData = g.P.Space.meaning c.gate_pair.new.space in
-    made old new c.args.matched c.swapped.result c.args.input c.args.lit
+    made old (g.P.Space.meaning c.gate_pair.new.space) c.args.matched c.swapped.result c.args.input c.args.lit
     (λ w wide. zero-literal old c.args.matched c.args.input c.swapped.result c.swapped.ensures.one c.requires.input w wide
     ∙ ap (λ lit. literal_function (function_at old c.args.matched) lit (function_at old c.args.input) w) (sym c.in-Zero.is))
     c.gate_pair.ensures.kept c.gate_pair.result c.gate_pair.ensures.made
@@ -38,8 +37,7 @@ returns-in-Zero-clause-full g c = λ e.
 pub returns-in-One-clause-made : goal.returns-in-One-clause-made
 returns-in-One-clause-made g c =
     let old : SpaceData = g.P.Space.meaning c.args.space.now in
-    let new : SpaceData = g.P.Space.meaning c.gate_pair-in-One.new.space in
-    made old new c.args.matched c.args.input c.args.input c.args.lit
+    made old (g.P.Space.meaning c.gate_pair-in-One.new.space) c.args.matched c.args.input c.args.input c.args.lit
     (λ w wide. one-literal old c.args.matched c.args.input w
     ∙ ap (λ lit. literal_function (function_at old c.args.matched) lit (function_at old c.args.input) w) (sym c.in-One.is))
     c.gate_pair-in-One.ensures.kept c.gate_pair-in-One.result c.gate_pair-in-One.ensures.made

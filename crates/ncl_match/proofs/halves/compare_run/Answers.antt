@@ -11,6 +11,5 @@ pub returns : goal.returns
 returns g c =
     let q : QuestionData = g.Q.Ask.question c.args.asked.now in
     let most = c.loop-output.auto.output-end c.requires.in_order in
-    let end = c.loop-output-test.false in
-    let all : c.loop-output.output ≡ c.args.high = omega (arith, most, end) in
+    let all : c.loop-output.output ≡ c.args.high = omega (arith, most, c.loop-output-test.false) in
     subst (λ n. RunAnswers q c.args.low n c.loop-output.told) all c.loop-output.invariant

@@ -23,10 +23,8 @@ loop-bit-preserved c =
     let first : List DataCell = c.args.made.now.items in
     let k : ℕ = c.loop-bit.bit in
     let so_far : List DataCell = register_cells (take k before) (take k bits) in
-    let zero_is : c.register_on.result ≡ register_cell (get_or before k no_rails).zero.0 (get_or bits k no_rails).zero.0 = c.register_on.ensures in
-    let one_is : c.register_on-in-loop-bit.result ≡ register_cell (get_or before k no_rails).one.0 (get_or bits k no_rails).one.0 = c.register_on-in-loop-bit.ensures in
     let more : suc k ≡ k + 1 = omega arith in
     pushed-two first so_far c.loop-bit.made.items c.push.new.self.items c.push-in-loop-bit.new.self.items c.register_on.result c.register_on-in-loop-bit.result c.loop-bit.invariant c.in_ok-push.ensures.items c.in_ok-push-2.ensures.items
-    ∙ (λ i. first ++ (so_far ++ zero_is i ∷ one_is i ∷ []))
+    ∙ (λ i. first ++ (so_far ++ c.register_on.ensures i ∷ c.register_on-in-loop-bit.ensures i ∷ []))
     ∙ ap (λ l. first ++ l) (sym (registers-more before bits k no_rails c.requires c.loop-bit-test.true))
     ∙ ap (λ n. first ++ register_cells (take n before) (take n bits)) more

@@ -16,8 +16,7 @@ returns-in_default-clause-later c = wheel-later c.self.inside.time c.self.inside
 pub returns-in_default-clause-all : goal.returns-in_default-clause-all
 returns-in_default-clause-all c = λ empty.
     let time = c.self.inside.time in
-    let lists = c.self.inside.lists.items in
-    wheel-none time c.self.inside.idle (tables lists) c.self.invariant
+    wheel-none time c.self.inside.idle (tables c.self.inside.lists.items) c.self.invariant
     (subst (λ ls. (k : ℕ) → 0 < k → k < 64 → list_at (tables ls) ((time % 64 + k) % 64) ≡ []) c.as_slice.ensures.value c.in_default.ensures.none)
 
 pub invariant_of-self-2 : goal.invariant_of-self-2

@@ -1,29 +1,129 @@
--- What becomes of each cell of a netlist whose stages were folded, and that what is kept can be built.
-use Rattle.ncl_merge.proofs.Kit.{◌≡◌, ◌≢◌, ◌≤◌, ◌+◌, ℕ, suc, true, false, List, [], ◌∷◌, length, map, take, drop, Option, None, Some, ◌⊎◌, inl, inr, sym, ap, ◌∙◌, subst, arith, AllPairs, Contains, slice_get, nat_eq, if◌then◌else◌, list_any, flat_map, cases_Bool, cases_eq, eq-eqb, ne_eqb, eqb-true, both_ways, take-append-drop, slice_get_within, AllZip-long}
-use Rattle.ncl_merge.proofs.Terms.{NetId, CellId, Cell, NetlistData, IsCell, CellAt, IsRegister, RailOf, ComesFrom, same_driver, place_of, Bank, StageCell, StageData, IsStage, rail_nets, nets_of, out_of, PipelineData, Shape, IsStageOf, AreRailsOf, Member, member_cases, Member-append_left, Member-append_right, Member-append_cases, Member-map, member_of_map, Contains-from_Member, Member-from_Contains, Contains-from_slice_get, slice_get-from_Contains, slice_get-some, list_any-from_member, member_from_list_any, pairs-head, pairs-tail, All-member, Member-flat_map, member_of_flat_map, rail-place, drives_rail, register_of_rail, stage_at, inner_or_last, inner_stage, last_stage, bank_rails, stage_origin, gate_of_stage, nets_at, stages_apart, with_cells, FoldsTo, AreFewer, IsRailGate, cell_driving, is_stage_cell, with_gate_of, becomes, choice_of}
-use Rattle.ncl_merge.proofs.Places.{outs-differ}
-use Rattle.ncl_merge.proofs.Folds.{stage-folded, cell-folded}
-use Rattle.ncl_merge.proofs.FoldingStage.{cut-place}
-use Rattle.ncl_merge.proofs.Rebuilt.{decide}
-use Rattle.ncl_merge.proofs.NetTables.{driving-some}
+-- What becomes of each cell of a netlist whose stages were folded, by tables too, and that what is kept can be built.
+pub use Rattle.ncl_merge.proofs.Terms.{A, AckOf, All, All-from_members, All-member, AllDiffer, AllPairs, AllZip-long, AreFewer, AreRailsOf, B, Bank, Bool, Cell, CellAt, CellId, ComesFrom, Contains, Contains-from_Member, Contains-from_slice_get, DriveOnce, FoldsTo, HasAllPins, HaveGates, IsCell, IsChoice, IsFaultless, IsGate, IsInputPort, IsOfBank, IsOutputPort, IsRailGate, IsRegister, IsStage, IsStageOf, IsTable, IsWhole, List, Member, Member-append_cases, Member-append_left, Member-append_right, Member-flat_map, Member-from_Contains, Member-get_or, Member-map, NetId, NetlistData, None, OnPin, Option, Origin, PartCell, Parts, PipelineData, RailOf, ReadsNet, Shape, ShownOutputs, Some, StageCell, StageData, [], all_of, ap, append-nil, append_assoc, arith, arity_of, bank_named, bank_of_register, bank_rails, becomes, both_ways, cases_Bool, cases_eq, cell_driving, cell_fits, cell_of_rail, choice_by, choice_of, cond, drives_rail, drop, eq-eqb, eqb-true, false, filter_map-more, find-append, first_bank, flat_map, flat_map-append, flat_map-cons, gate, gate_of_stage, get_or, get_or-set_other, get_or-set_same, get_or_from_slice_get, here, inl, inner_or_last, inner_stage, input_is_port, inr, is_gate, is_stage_cell, is_stage_net, kept, last_bank, last_stage, length, length-map, length-set, list_any, list_any-from_member, map, map-append, map_push, member_cases, member_from_list_any, member_of_flat_map, member_of_map, nat_eq, ne_eqb, nets_at, nets_of, no_cell_drives_port, only_origin, option_or, origin_within, out_of, pairs-head, pairs-tail, part_of, pins_of, pins_of-gate, place_of, port_names, rail-place, rail-within, rail_at, rail_nets, rail_of_register, refl, register_no_gate, register_of_rail, register_on, register_pins_of, request_at, requests, same_driver, set, slice_get, slice_get-from_Contains, slice_get-get_or, slice_get-some, slice_get_within, sort_of, stage_at, stage_origin, stages_apart, stages_join, subst, suc, sym, take, take-append-drop, take_all, take_more, there, true, with_cells, with_gate_of, with_kept, zero, ℕ, ◌++◌, ◌+◌, ◌<◌, ◌^◌, ◌∙◌, ◌∷◌, ◌≡◌, ◌≢◌, ◌≤◌, ◌⊎◌}
+use Rattle.ncl_merge.proofs.Weights.{outs-differ}
+use Rattle.ncl_merge.proofs.Folds.{cell-folded, rank-folded, stage-folded, stage-pin}
+pub use Rattle.ncl_merge.proofs.Rebuilt.{all-pins, decide, faultless-kept, ports-apart, rail_or_not, same-choice}
 
--- ---- the cell that drives a net
+-- ---- marks
 
+-- the table of the first stages
+pub record AreStageNets (n : NetlistData) (stages : List StageData) (k : ℕ) (marks : List Bool) : Type 0 where
+  pub sized : length marks ≡ length n.nets
+  pub each : (net : ℕ) → net < length n.nets → get_or marks net false ≡ is_stage_net net (take k stages)
+
+-- ---- the cells at their nets
+
+-- the cell that drives a net is one of the cells
+pub driving-some : (net : ℕ) (cells : List StageCell) (g : StageCell) → cell_driving net cells ≡ Some g → Member g cells × (g.out.0 ≡ net)
+driving-some net [] g e = absurd cc
+driving-some net (c ∷ cells) g e =
+    elim (nat_eq c.out.0 net) as (λ b. nat_eq c.out.0 net ≡ b → cond b (Some c) (cell_driving net cells) ≡ Some g → Member g (c ∷ cells) × (g.out.0 ≡ net)) [
+      | true ↦ λ same found. let is : c ≡ g = cc in (subst (λ x. Member x (c ∷ cells)) is here, ap (λ (x : StageCell). x.out.0) (sym is) ∙ eqb-true c.out.0 net same)
+      | false ↦ λ other found. let (m, out) = driving-some net cells g found in (there m, out)
+    ] refl e
+
+-- where none does, no cell drives it
 driving-none : (net : ℕ) (cells : List StageCell) → cell_driving net cells ≡ None → (g : StageCell) → Member g cells → g.out.0 ≡ net → ⊥
 driving-none net [] e g m out = elim m [ ]
 driving-none net (c ∷ cells) e g m out =
-    elim (cases_eq c.out.0 net) [
+    elim (nat_eq c.out.0 net) as (λ b. nat_eq c.out.0 net ≡ b → cond b (Some c) (cell_driving net cells) ≡ None → ⊥) [
+      | true ↦ λ same found. absurd cc
+      | false ↦ λ other found. elim (member_cases g c cells m) [
+        | inl first ↦ both_ways _ other (eq-eqb c.out.0 net (ap (λ (x : StageCell). x.out.0) first ∙ out))
+        | inr later ↦ driving-none net cells found g later out
+      ]
+    ] refl e
+
+or-none : (o : Option StageCell) → option_or o None ≡ o
+or-none None = refl
+or-none (Some h) = refl
+
+or-same : (o : Option StageCell) (g : StageCell) → ((h : StageCell) → o ≡ Some h → h ≡ g) → option_or o (Some g) ≡ Some g
+or-same None g same = refl
+or-same (Some h) g same = ap Some (same h refl)
+
+pub once-front : (xs ys : List StageCell) → DriveOnce (xs ++ ys) → DriveOnce xs
+once-front xs ys once g h m o =
+    once g h (Contains-from_Member g (Member-append_left g ys (Member-from_Contains xs g m))) (Contains-from_Member h (Member-append_left h ys (Member-from_Contains xs h o)))
+
+-- one cell more is put at its net
+pub gates-more : (gates : List (Option StageCell)) (before : List StageCell) (g : StageCell) → HaveGates gates before → g.out.0 < length gates → DriveOnce (before ++ g ∷ []) → HaveGates (set gates g.out.0 (Some g)) (before ++ g ∷ [])
+gates-more gates before g have inside once net lt =
+    let long = length-set gates g.out.0 (Some g) in
+    let within : net < length gates = omega (arith, lt, long) in
+    let behind : cell_driving net (before ++ g ∷ []) ≡ option_or (cell_driving net before) (cond (nat_eq g.out.0 net) (Some g) None) = find-append (λ (h : StageCell). nat_eq h.out.0 net) before (g ∷ []) in
+    elim (cases_eq g.out.0 net) [
       | inl same ↦
-          let first : cell_driving net (c ∷ cells) ≡ Some c = ap (λ b. if b then Some c else cell_driving net cells) (eq-eqb c.out.0 net same) in
-          let both : Some c ≡ None = sym first ∙ e in
-          absurd cc
+          subst (λ x. get_or (set gates g.out.0 (Some g)) x None ≡ Some g) same (get_or-set_same gates g.out.0 (Some g) None inside)
+          ∙ sym (behind ∙ ap (λ b. option_or (cell_driving net before) (cond b (Some g) None)) (eq-eqb g.out.0 net same) ∙ or-same (cell_driving net before) g (λ h some.
+          let (m, out) = driving-some net before h some in
+          once h g (Contains-from_Member h (Member-append_left h (g ∷ []) m)) (Contains-from_Member g (Member-append_right before g here)) (out ∙ sym same)))
       | inr other ↦
-          let rest : cell_driving net (c ∷ cells) ≡ cell_driving net cells = ap (λ b. if b then Some c else cell_driving net cells) (ne_eqb c.out.0 net other) in
-          elim (member_cases g c cells m) [
-            | inl same ↦ absurd (other (ap (λ (x : StageCell). x.out.0) same ∙ out))
-            | inr later ↦ driving-none net cells (sym rest ∙ e) g later out
-          ]
+          get_or-set_other gates g.out.0 net (Some g) None (λ e. other (sym e)) ∙ have net within
+          ∙ sym (behind ∙ ap (λ b. option_or (cell_driving net before) (cond b (Some g) None)) (ne_eqb g.out.0 net other) ∙ or-none (cell_driving net before))
     ]
+
+-- the cells of one list more
+pub all_of-more : (lists : List (List StageCell)) (k : ℕ) (d : List StageCell) → k < length lists → all_of (take (k + 1) lists) ≡ all_of (take k lists) ++ get_or lists k d
+all_of-more lists k d lt =
+    ap all_of (take_more lists k d lt) ∙ flat_map-append (λ (cells : List StageCell). cells) (take k lists) (get_or lists k d ∷ [])
+    ∙ ap (λ xs. all_of (take k lists) ++ xs) (flat_map-cons (λ (cells : List StageCell). cells) (get_or lists k d) [] ∙ append-nil (get_or lists k d))
+
+-- one cell of a list more is put at its net
+pub put-more : (gates : List (Option StageCell)) (before cells : List StageCell) (k : ℕ) (g copy : StageCell) → k < length cells → copy ≡ g → g ≡ get_or cells k g → g.out.0 < length gates → HaveGates gates (before ++ take k cells) → DriveOnce (before ++ cells)
+    → HaveGates (set gates g.out.0 (Some copy)) (before ++ take (k + 1) cells)
+put-more gates before cells k g copy lt same is inside have once =
+    let more : (before ++ take k cells) ++ g ∷ [] ≡ before ++ take (k + 1) cells = append_assoc before (take k cells) (g ∷ []) ∙ ap (λ (x : StageCell). before ++ (take k cells ++ x ∷ [])) is ∙ ap (λ xs. before ++ xs) (sym (take_more cells k g lt)) in
+    let whole : before ++ cells ≡ (before ++ take (k + 1) cells) ++ drop (k + 1) cells = ap (λ xs. before ++ xs) (sym (take-append-drop (k + 1) cells)) ∙ sym (append_assoc before (take (k + 1) cells) (drop (k + 1) cells)) in
+    let front : DriveOnce (before ++ take (k + 1) cells) = once-front (before ++ take (k + 1) cells) (drop (k + 1) cells) (subst DriveOnce whole once) in
+    subst (HaveGates (set gates g.out.0 (Some copy))) more
+    (subst (λ (x : StageCell). HaveGates (set gates g.out.0 (Some x)) ((before ++ take k cells) ++ g ∷ [])) (sym same) (gates-more gates (before ++ take k cells) g have inside (subst DriveOnce (sym more) front)))
+
+-- what holds of all cells of the lists holds of those of one
+pub all_of-at : (P : StageCell → Type 0) (lists : List (List StageCell)) (k : ℕ) (d : List StageCell) → k < length lists → All P (all_of lists) → All P (get_or lists k d)
+all_of-at P lists k d lt holds =
+    All-from_members P (get_or lists k d) (λ g m. All-member P (all_of lists) holds g (Member-flat_map (λ (cells : List StageCell). cells) (get_or lists k d) g (Member-get_or lists k d lt) m))
+
+-- the cells of the lists so far, and of one list more, drive nets once
+pub once-more : (lists : List (List StageCell)) (k : ℕ) (d : List StageCell) → k < length lists → DriveOnce (all_of lists) → DriveOnce (all_of (take k lists) ++ get_or lists k d)
+once-more lists k d lt once =
+    let cut : all_of lists ≡ all_of (take (k + 1) lists) ++ all_of (drop (k + 1) lists) = ap all_of (sym (take-append-drop (k + 1) lists)) ∙ flat_map-append (λ (cells : List StageCell). cells) (take (k + 1) lists) (drop (k + 1) lists) in
+    subst DriveOnce (all_of-more lists k d lt) (once-front (all_of (take (k + 1) lists)) (all_of (drop (k + 1) lists)) (subst DriveOnce cut once))
+
+-- ---- the kept cells
+
+-- one cell more is looked at
+pub kept-more : (nets : List (List ℕ)) (gates : List (Option StageCell)) (staged : List Bool) (cells : List Cell) (k : ℕ) (c : Cell) (found : Option StageCell) (was now : List PartCell) → k < length cells → c ≡ get_or cells k c → c.out.0 < length gates → found ≡ get_or gates c.out.0 found
+    → was ≡ map (part_of nets) (kept (choice_by gates staged) (take k cells))
+    → now ≡ was ++ map (part_of nets) (with_kept (becomes found (get_or staged c.out.0 false) c) [])
+    → now ≡ map (part_of nets) (kept (choice_by gates staged) (take (k + 1) cells))
+kept-more nets gates staged cells k c found was now lt is inside at before pushed =
+    let there : get_or gates c.out.0 None ≡ found = get_or_from_slice_get gates c.out.0 (get_or gates c.out.0 found) None (slice_get-get_or gates c.out.0 found inside) ∙ sym at in
+    let whole : kept (choice_by gates staged) (take (k + 1) cells) ≡ kept (choice_by gates staged) (take k cells) ++ with_kept (becomes found (get_or staged c.out.0 false) c) [] =
+    filter_map-more (choice_by gates staged) cells k c lt ∙ ap (λ x. kept (choice_by gates staged) (take k cells) ++ with_kept (choice_by gates staged x) []) (sym is)
+    ∙ ap (λ o. kept (choice_by gates staged) (take k cells) ++ with_kept (becomes o (get_or staged c.out.0 false) c) []) there in
+    pushed ∙ ap (λ xs. xs ++ map (part_of nets) (with_kept (becomes found (get_or staged c.out.0 false) c) [])) before
+    ∙ sym (map-append (part_of nets) (kept (choice_by gates staged) (take k cells)) (with_kept (becomes found (get_or staged c.out.0 false) c) []))
+    ∙ ap (map (part_of nets)) (sym whole)
+
+-- two choices that agree on the cells keep the same
+pub kept-same : (f g : Cell → Option Cell) (cells : List Cell) → ((c : Cell) → Member c cells → f c ≡ g c) → kept f cells ≡ kept g cells
+kept-same f g [] same = refl
+kept-same f g (c ∷ cells) same =
+    let rest = kept-same f g cells (λ d m. same d (there m)) in
+    let first = same c here in
+    λ i. with_kept (first i) (rest i)
+
+-- a list that a function is applied to, with one more behind the last
+pub map-last : {X Y : Type 0} (f : X → Y) (xs : List X) (k : ℕ) (x : X) (was now : List Y) (y : Y) → length xs ≤ k → was ≡ map f (take k xs) → now ≡ was ++ y ∷ [] → y ≡ f x → now ≡ map f (xs ++ x ∷ [])
+map-last f xs k x was now y past before pushed is =
+    pushed ∙ (λ i. (before ∙ ap (map f) (take_all k xs past)) i ++ is i ∷ []) ∙ sym (map-append f xs (x ∷ []))
+
+-- a member that is read of a list, as one of what the list is
+pub member-read : {X : Type 0} (read xs : List X) (k : ℕ) (x : X) → read ≡ xs → k < length read → x ≡ get_or read k x → (k < length xs) × (x ≡ get_or xs k x)
+member-read read xs k x same lt is = (subst (λ l. k < length l) same lt, is ∙ ap (λ l. get_or l k x) same)
+
+-- ---- what each cell becomes
 
 -- where outputs differ there is one cell for each
 one-member : (cells : List StageCell) → AllPairs (λ (x y : StageCell). x.out.0 ≢ y.out.0) cells → (g h : StageCell) → Member g cells → Member h cells → g.out.0 ≡ h.out.0 → g ≡ h
@@ -41,19 +141,6 @@ one-member (x ∷ cells) differ g h m o e =
       ]
     ]
 
--- the nets on the pins of a cell of a stage are nets of the stage
-pub stage-pin : (s : StageData) → IsStage s → (g : StageCell) → Member g s.cells → (x : NetId) → Member x g.ins.items → Member x.0 (nets_of s.inputs s.cells)
-stage-pin s is g m x o =
-    let (i, at_i) = slice_get-from_Contains s.cells g (Contains-from_Member g m) in
-    let known = All-member (λ (net : NetId). Contains (nets_of s.inputs (take i s.cells)) net.0) g.ins.items (is.in_order (take i s.cells) (drop (suc i) s.cells) g (cut-place s.cells i g at_i)) x o in
-    elim (Member-append_cases x.0 (rail_nets s.inputs) (map out_of (take i s.cells)) (Member-from_Contains (nets_of s.inputs (take i s.cells)) x.0 known)) [
-      | inl rail ↦ Member-append_left x.0 (map out_of s.cells) rail
-      | inr out ↦
-          let (h, m-h, e) = member_of_map out_of (take i s.cells) x.0 out in
-          let in_all : Member h s.cells = subst (Member h) (take-append-drop i s.cells) (Member-append_left h (drop i s.cells) m-h) in
-          Member-append_right (rail_nets s.inputs) x.0 (subst (λ y. Member y (map out_of s.cells)) e (Member-map out_of h in_all))
-    ]
-
 -- a stage between its banks, and its cells after folds
 pub record IsFoldedStageAt (p : PipelineData) (lists : List (List StageCell)) (k : ℕ) (s : StageData) (cells : List StageCell) : Type 0 where
   pub stage : slice_get p.stages k ≡ Some s
@@ -62,6 +149,16 @@ pub record IsFoldedStageAt (p : PipelineData) (lists : List (List StageCell)) (k
   pub next : Bank
   pub bank_at : slice_get p.banks k ≡ Some bank
   pub between : IsStageOf p.netlist bank next s
+
+kinds-apart : (bank other : ℕ) → RailOf bank ≡ AckOf other → ⊥
+kinds-apart bank other e = cc
+
+-- what stands at one place is one net
+one-net : (o : Option NetId) (x y : NetId) → o ≡ Some x → o ≡ Some y → x.0 ≡ y.0
+one-net o x y e f =
+    let both : Some x ≡ Some y = sym e ∙ f in
+    let same : x ≡ y = cc in
+    ap (λ (z : NetId). z.0) same
 
 module _ (p : PipelineData) (shape : Shape p.netlist p) (lists : List (List StageCell)) (fewer : AreFewer p.stages lists) where
   abbrev n : NetlistData
@@ -123,8 +220,8 @@ module _ (p : PipelineData) (shape : Shape p.netlist p) (lists : List (List Stag
     pub old-cell : (g : StageCell) → Member g s.cells → (c : Cell) × CellAt n g.cell.0 c × (c.out ≡ g.out) × IsRailGate n c
     old-cell g m =
         let (i, at_i) = slice_get-from_Contains s.cells g (Contains-from_Member g m) in
-        let gate = at.between.each i g at_i in
-        (gate.cell, gate.at, gate.out, ((g.kind, gate.kind), (at.bank.request.0, gate.reads)))
+        let of = at.between.each i g at_i in
+        (of.cell, of.at, of.out, ((g.kind, of.kind), (at.bank.request.0, of.reads)))
 
     -- and so what a cell after folds has become of
     pub gate-cell : (g : StageCell) → Member g cells → (c : Cell) × CellAt n g.cell.0 c × (c.out ≡ g.out) × IsRailGate n c
@@ -270,3 +367,208 @@ module _ (p : PipelineData) (shape : Shape p.netlist p) (lists : List (List Stag
         | inl found ↦ found
         | inr (other, same) ↦ absurd (both_ways (is_stage_cell p c) other (rail-staged c in_c rail))
       ]
+
+  only : (net : ℕ) (o : Origin) → ComesFrom n net o → (other : Origin) → ComesFrom n net other → other ≡ o
+  only net o comes = (only_origin n shape.is_netlist shape.free net o comes).only
+
+  -- ---- the choice
+
+  -- along each cell of a stage ranks rise
+  stage-rises : (rank : ℕ → ℕ) → ((c d : Cell) → IsCell n c → IsGate c → IsCell n d → ReadsNet c d.out.0 → rank d.out.0 < rank c.out.0)
+      → (k : ℕ) (s : StageData) (cells : List StageCell) → IsFoldedStageAt p lists k s cells → (g : StageCell) → Member g s.cells → (x : NetId) → Member x g.ins.items → rank x.0 < rank g.out.0
+  stage-rises rank rises k s cells at g m x o =
+      let (i, at_i) = slice_get-from_Contains s.cells g (Contains-from_Member g m) in
+      let is_gate = at.between.each i g at_i in
+      let c = is_gate.cell in
+      let in_c : IsCell n c = Contains-from_slice_get n.cells g.cell.0 c is_gate.at in
+      let gate_c : IsGate c = (g.kind, is_gate.kind) in
+      let read : Member x c.ins.items = subst (Member x) (sym is_gate.ins) o in
+      let comes = old-comes k s cells at x.0 (stage-pin s at.between.is_stage g m x o) in
+      let (d, in_d, out_d) = cell_of_rail n x.0 (RailOf at.bank.request.0) at.bank.request.0 refl comes in
+      let reads : ReadsNet c d.out.0 = subst (λ y. Contains c.ins.items (record { 0 = y })) (sym out_d) (Contains-from_Member x read) in
+      let less : rank d.out.0 < rank c.out.0 = rises c d in_c gate_c in_d reads in
+      subst (λ y. rank y < rank g.out.0) out_d (subst (λ (y : NetId). rank d.out.0 < rank y.0) is_gate.out less)
+
+  pub is-choice : IsChoice n choice
+  is-choice = record {
+    stands = choice-stands;
+    gate = λ c d in_c rail is.
+        let (g, m, out, e) = choice-rail c d in_c rail is in
+        ((g.kind, ap (λ (z : Cell). z.kind) e), ap (λ (z : Cell). z.out) e);
+    pins = λ c d in_c rail is x reads.
+        let (g, m, out, e) = choice-rail c d in_c rail is in
+        let u = place-in g m in
+        let read : Member x g.ins.items = Member-from_Contains g.ins.items x (subst (λ (z : Cell). Contains z.ins.items x) e reads) in
+        let comes = comes-from u.place u.stage u.cells u.at x.0 (pin-known u.place u.stage u.cells u.at g u.among x read) in
+        let own : ComesFrom n c.out.0 (RailOf u.at.bank.request.0) = subst (λ y. ComesFrom n y (RailOf u.at.bank.request.0)) out (comes-from u.place u.stage u.cells u.at g.out.0 (out-known u.place u.stage u.cells u.at g u.among)) in (
+          origin_within n shape.is_netlist x.0 (RailOf u.at.bank.request.0) comes,
+          λ bank from. subst (ComesFrom n x.0) (sym (only c.out.0 (RailOf u.at.bank.request.0) own (RailOf bank) from)) comes,
+        );
+    ranks = λ rank rises c d in_c rail is x reads.
+        let (g, m, out, e) = choice-rail c d in_c rail is in
+        let u = place-in g m in
+        let read : Member x g.ins.items = Member-from_Contains g.ins.items x (subst (λ (z : Cell). Contains z.ins.items x) e reads) in
+        subst (λ y. rank x.0 < rank y) out
+        (rank-folded u.stage u.at.between.is_stage rank (stage-rises rank rises u.place u.stage u.cells u.at) u.cells (folds u.place u.stage u.cells u.at) g u.among x read);
+  }
+
+  -- ---- what is read is driven
+
+  -- what drives a net of a stage after folds is kept
+  net-kept : (k : ℕ) (s : StageData) (cells : List StageCell) → IsFoldedStageAt p lists k s cells → (net : ℕ) → Member net (nets_of s.inputs cells) → (b : Cell) → IsCell n b → b.out.0 ≡ net → (e : Cell) × (choice b ≡ Some e)
+  net-kept k s cells at net m b in_b out =
+      elim (Member-append_cases net (rail_nets s.inputs) (map out_of cells) m) [
+        | inl rail ↦
+            let (r, in_r, register, out_r) = input-register k s cells at net rail in
+            let one : r ≡ b = same_driver n shape.is_netlist r b in_r in_b (out_r ∙ sym out) in
+            (b, choice-stands b in_b (λ (is_gate, from). register_no_gate r.kind register is_gate.0 (ap (λ (z : Cell). z.kind) one ∙ is_gate.1)))
+        | inr is_out ↦
+            let (g, m-g, e) = member_of_map out_of cells net is_out in
+            (with_gate_of b g, choice-found b g (in-all k s cells at g m-g) (e ∙ sym out))
+      ]
+
+  -- an A net of a register cell is an input port, or an output of the stage before its bank
+  rail-kept : (c : Cell) → IsCell n c → IsRegister c → (net : ℕ) → OnPin c A net → (b : Cell) → IsCell n b → b.out.0 ≡ net → (e : Cell) × (choice b ≡ Some e)
+  rail-kept c in_c register net on b in_b out =
+      let (request, of_request) = bank_of_register n shape.is_netlist c in_c register in
+      let (k, d, at_d, named) = bank_named p shape request (c, of_request) in
+      let of_bank : IsOfBank n d.request.0 c = subst (λ x. IsOfBank n x c) (sym named) of_request in
+      let (j, r, of_rail) = rail_of_register n shape.is_netlist shape.free d (shape.banks k d at_d).0 c of_bank in
+      let (within, between) = register_on p shape k d at_d j r c of_rail in
+      let joined = stages_join p shape k (slice_get_within p.banks k d at_d) in
+      let here-net : rail_at (stage_at p k).outputs j r ≡ net = one-net (slice_get c.ins.items A) (record { 0 = rail_at (stage_at p k).outputs j r }) (record { 0 = net }) between.on_a on in
+      let among : Member net (rail_nets (stage_at p k).outputs) = subst (λ x. Member x (rail_nets (stage_at p k).outputs)) here-net (rail-within (stage_at p k).outputs j r (omega (arith, within, joined))) in
+      by_number k (slice_get_within p.banks k d at_d) among
+    where
+      by_number : (k : ℕ) → k < length p.banks → Member net (rail_nets (stage_at p k).outputs) → (e : Cell) × (choice b ≡ Some e)
+      by_number zero lt among =
+          let (input, other) = input_is_port p shape net among in
+          absurd (no_cell_drives_port n shape.is_netlist b in_b (subst (IsInputPort n) (sym out) input))
+      by_number (suc k) lt among =
+          let count = shape.stages in
+          let sized = fewer.sized in
+          let inner : k < length p.stages = omega (arith, lt, count) in
+          let (cells, at_l) = slice_get-some lists k (omega (arith, inner, sized)) in
+          let at = folded-stage k (stage_at p (suc k)) cells (inner_stage p shape k inner) at_l in
+          net-kept k (stage_at p (suc k)) cells at net (output-known k (stage_at p (suc k)) cells at net among) b in_b out
+
+  -- a gate that comes from a rail is read by no cell but such gates and, on A, register cells
+  other-reader : (c : Cell) → IsCell n c → (IsRailGate n c → ⊥) → (b : Cell) → IsCell n b → IsRailGate n b → ReadsNet c b.out.0 → IsRegister c × OnPin c A b.out.0
+  other-reader c in_c no_rail b in_b (is_gate, (bank, from)) reads =
+      let (k, at_c) = place_of n c in_c in
+      elim (sort_of c) [
+        | inl gate_c ↦ absurd (no_rail (gate_c, (bank, gate c in_c gate_c reads from)))
+        | inr (inl register) ↦
+            let (pin, on) = slice_get-from_Contains c.ins.items (record { 0 = b.out.0 }) reads in
+            let fits : length c.ins.items + 1 ≡ length (pins_of c.kind) = (cell_fits n shape.is_netlist c in_c).pins in
+            let four : length (pins_of c.kind) ≡ 4 = ap length (register_pins_of c.kind register) in
+            let within = slice_get_within c.ins.items pin (record { 0 = b.out.0 }) on in
+            (register, by_pin k at_c register pin (omega (arith, fits, four, within)) on)
+        | inr (inr is_ack) ↦
+            let bit = (shape.free.paired k c at_c).ack is_ack in
+            let (pin, on) = slice_get-from_Contains c.ins.items (record { 0 = b.out.0 }) reads in
+            let fits : length c.ins.items + 1 ≡ length (pins_of c.kind) = (cell_fits n shape.is_netlist c in_c).pins in
+            let three : length (pins_of c.kind) ≡ 3 = ap (λ z. length (pins_of z)) is_ack in
+            let within = slice_get_within c.ins.items pin (record { 0 = b.out.0 }) on in
+            absurd (by_rail pin (omega (arith, fits, three, within)) on bit.zero bit.zero_of.0 bit.zero_of.1 bit.on_a bit.one bit.one_of.0 bit.one_of.1 bit.on_b)
+      ]
+    where
+      is-register : (r : Cell) → IsCell n r → IsRegister r → r.out.0 ≡ b.out.0 → ⊥
+      is-register r in_r register out =
+          let one : r ≡ b = same_driver n shape.is_netlist r b in_r in_b out in
+          register_no_gate r.kind register is_gate.0 (ap (λ (z : Cell). z.kind) one ∙ is_gate.1)
+
+      by_rail : (pin : ℕ) → pin < 2 → OnPin c pin b.out.0 → (zero-cell : Cell) → IsCell n zero-cell → IsRegister zero-cell → OnPin c A zero-cell.out.0 → (one-cell : Cell) → IsCell n one-cell → IsRegister one-cell → OnPin c B one-cell.out.0 → ⊥
+      by_rail zero lt on z in_z z-register on_a o in_o o-register on_b = is-register z in_z z-register (one-net (slice_get c.ins.items 0) (record { 0 = z.out.0 }) (record { 0 = b.out.0 }) on_a on)
+      by_rail (suc zero) lt on z in_z z-register on_a o in_o o-register on_b = is-register o in_o o-register (one-net (slice_get c.ins.items 1) (record { 0 = o.out.0 }) (record { 0 = b.out.0 }) on_b on)
+      by_rail (suc (suc pin)) lt on z in_z z-register on_a o in_o o-register on_b = absurd (omega (arith, lt))
+
+      by_pin : (k : ℕ) → CellAt n k c → IsRegister c → (pin : ℕ) → pin < 3 → OnPin c pin b.out.0 → OnPin c A b.out.0
+      by_pin k at_c register zero lt on = on
+      by_pin k at_c register (suc zero) lt on =
+          elim (((shape.free.unmixed k c at_c).register register).request b.out.0 on) [
+            | inl input ↦ absurd (no_cell_drives_port n shape.is_netlist b in_b input)
+            | inr (other, acks) ↦ absurd (kinds-apart bank other (acks.only (RailOf bank) from))
+          ]
+      by_pin k at_c register (suc (suc zero)) lt on = absurd (no_cell_drives_port n shape.is_netlist b in_b (((shape.free.unmixed k c at_c).register register).reset b.out.0 on))
+      by_pin k at_c register (suc (suc (suc pin))) lt on = absurd (omega (arith, lt))
+
+  -- a gate that comes from a rail drives no output port
+  not-shown : (b : Cell) → IsCell n b → IsRailGate n b → IsOutputPort n b.out.0 → ⊥
+  not-shown b in_b (is_gate, (bank, from)) output =
+      let (first, at_first) = first_bank p shape in
+      let (k, last, end, at_last) = last_bank n p shape in
+      let count = length-map p.banks (λ (b : Bank). b.request.0) in
+      let whole : k + 1 ≡ length (requests p.banks) = omega (arith, end, count) in
+      let closed = shape.chained ShownOutputs (requests p.banks) first.request.0 last.request.0 shape.chain (request_at p.banks 0 first at_first) (k, whole, request_at p.banks k last at_last) in
+      elim (closed.ports b.out.0 output) [
+        | inl (r, of_bank, out) ↦
+            let one : r ≡ b = same_driver n shape.is_netlist r b of_bank.0 in_b out in
+            register_no_gate r.kind of_bank.1 is_gate.0 (ap (λ (z : Cell). z.kind) one ∙ is_gate.1)
+        | inr root ↦ kinds-apart bank first.request.0 (only b.out.0 (AckOf first.request.0) root.acks (RailOf bank) from)
+      ]
+
+  -- ---- whole
+
+  driven-kept : (c d b : Cell) (x : NetId) → IsCell n c → choice c ≡ Some d → Contains d.ins.items x → IsCell n b → b.out.0 ≡ x.0 → (e : Cell) × (choice b ≡ Some e)
+  driven-kept c d b x in_c is reads in_b out =
+      elim (rail_or_not n shape.is_netlist shape.free choice is-choice c in_c) [
+        | inl rail ↦
+            let (g, m, out_g, e) = choice-rail c d in_c rail is in
+            let u = place-in g m in
+            let read : Member x g.ins.items = Member-from_Contains g.ins.items x (subst (λ (z : Cell). Contains z.ins.items x) e reads) in
+            net-kept u.place u.stage u.cells u.at x.0 (pin-known u.place u.stage u.cells u.at g u.among x read) b in_b out
+        | inr no_rail ↦
+            let same : c ≡ d = same-choice n shape.is_netlist shape.free choice is-choice c d (choice-stands c in_c no_rail) is in
+            elim (rail_or_not n shape.is_netlist shape.free choice is-choice b in_b) [
+              | inr stays ↦ (b, choice-stands b in_b stays)
+              | inl rail ↦
+                  let read : ReadsNet c b.out.0 = subst (λ y. Contains c.ins.items (record { 0 = y })) (sym out) (subst (λ (z : Cell). Contains z.ins.items x) (sym same) reads) in
+                  let (register, on) = other-reader c in_c no_rail b in_b rail read in
+                  rail-kept c in_c register b.out.0 on b in_b refl
+            ]
+      ]
+
+  pub is-whole : IsWhole n choice
+  is-whole = record {
+    name = λ c d in_c rail is. let (g, m, out, e) = choice-rail c d in_c rail is in ap (λ (z : Cell). z.name) e;
+    fits = λ c d in_c rail is.
+        let (g, m, out, e) = choice-rail c d in_c rail is in
+        let u = place-in g m in
+        let arity = All-member (λ (c : StageCell). length c.ins.items ≡ arity_of c.kind) u.cells (is-folded u.place u.stage u.cells u.at).arities g u.among in
+        subst (λ (z : Cell). length z.ins.items + 1 ≡ length (pins_of z.kind)) (sym e) (ap (λ k. k + 1) arity ∙ sym (pins_of-gate g.kind));
+    driven = driven-kept;
+    shown = λ b in_b output.
+        elim (rail_or_not n shape.is_netlist shape.free choice is-choice b in_b) [
+          | inr stays ↦ (b, choice-stands b in_b stays)
+          | inl rail ↦ absurd (not-shown b in_b rail output)
+        ];
+  }
+
+  -- ---- the tables from which the netlist is rebuilt
+
+  -- the cells of the lists drive nets of the netlist, each its own
+  pub all-inside : All (λ (g : StageCell). g.out.0 < length n.nets) (all_of lists)
+  all-inside = All-from_members (λ (g : StageCell). g.out.0 < length n.nets) (all_of lists) (λ g m.
+      let u = place-in g m in
+      origin_within n shape.is_netlist g.out.0 (RailOf u.at.bank.request.0) (comes-from u.place u.stage u.cells u.at g.out.0 (out-known u.place u.stage u.cells u.at g u.among)))
+
+  pub all-once : DriveOnce (all_of lists)
+  all-once = λ g h m o e. one-driving g h (Member-from_Contains (all_of lists) g m) (Member-from_Contains (all_of lists) h o) e
+
+  -- and have nets of it on their pins
+  pub gate-pins : (gates : List (Option StageCell)) → HaveGates gates (all_of lists) → (net : ℕ) (g : StageCell) → slice_get gates net ≡ Some (Some g) → All (λ (x : NetId). x.0 < length n.nets) g.ins.items
+  gate-pins gates have net g at =
+      let lt = slice_get_within gates net (Some g) at in
+      let (m, out) = driving-some net (all_of lists) g (sym (have net lt) ∙ get_or_from_slice_get gates net (Some g) None at) in
+      let u = place-in g m in
+      All-from_members (λ (x : NetId). x.0 < length n.nets) g.ins.items (λ x o.
+      origin_within n shape.is_netlist x.0 (RailOf u.at.bank.request.0) (comes-from u.place u.stage u.cells u.at x.0 (pin-known u.place u.stage u.cells u.at g u.among x o)))
+
+  -- the tables say what becomes of each cell
+  pub kept-by-tables : (gates : List (Option StageCell)) (staged : List Bool) → length gates ≡ length n.nets → HaveGates gates (all_of lists) → IsTable n false (λ net. is_stage_net net p.stages) staged → kept (choice_by gates staged) n.cells ≡ kept (choice_of p lists) n.cells
+  kept-by-tables gates staged sized have table =
+      kept-same (choice_by gates staged) (choice_of p lists) n.cells (λ c m.
+      let within = (cell_fits n shape.is_netlist c (Contains-from_Member c m)).output in
+      ap (λ o. becomes o (get_or staged c.out.0 false) c) (have c.out.0 (subst (λ size. c.out.0 < size) (sym sized) within))
+      ∙ ap (λ b. becomes (cell_driving c.out.0 (all_of lists)) b c) (table.each c.out.0 within))

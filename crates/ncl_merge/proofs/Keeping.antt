@@ -1,8 +1,7 @@
 -- What is kept doesn't depend on the order of the cells of stages, a pipeline keeps what it has itself, and what is kept
--- once and again is kept.
-use Rattle.ncl_merge.proofs.Kit.{◌≡◌, ◌&&◌, ℕ, Bool, true, false, not, List, [], ◌∷◌, length, map, Option, None, Some, is_some, refl, sym, ap, ◌∙◌, subst, arith, All, Contains, filter, slice_get, nat_eq, AllZip, list_any, IsPermutation, length-map, filter_agree, All-contains, list_any-IsPermutation, Contains-permutation, IsPermutation-sym}
-use Rattle.ncl_merge.proofs.Terms.{Contains-from_Member, Member-from_Contains, Member-map, member_of_map, All-from_members, Contains-from_slice_get, slice_get-from_Contains, All-member, NetlistCell, NetlistData, part_of, Bank, Rails, StageCell, Nets, among, StageData, named_rails, is_data_bank, word_held, close, function_at, held_nets, PipelineData, IsSameStage, IsSamePipeline, Variant, Base, Bit, val, BothRails, NoRail, Incomplete, Orphan, holds_at, is_illegal, has_data, all_data, IsWordOf, IsSound, IsSameVariant, base, bit, cell, same_values, held-some, stage_function, text_of, AllZip-found, with_cells, name_at, is_stage_cell, standing, cell_name, rail_names, IsMergedStage, IsMergedBank, Keeps}
-use Rattle.ncl_faults.specs.declared.variant.Variant.TheVariants.{Cell}
+-- once and again is kept; so rounds of folding may follow one another.
+pub use Rattle.ncl_merge.proofs.Terms.{All, All-contains, All-from_members, All-member, AllZip, AllZip-found, AreFewer, Bank, Base, Bit, Bool, BothRails, Broken, CellRule, Contains, Contains-from_Member, Contains-from_slice_get, Contains-permutation, HasNoFoldable, Incomplete, IsMergedBank, IsMergedStage, IsNetlist, IsOnTheWay, IsPermutation, IsPermutation-sym, IsSamePipeline, IsSameStage, IsSameVariant, IsShapeFault, IsSmaller, IsSound, IsSoundNetlist, IsWordOf, Keeps, List, LowCell, MatchOption, Member-from_Contains, Member-map, Memory, Merged, NetlistCell, NetlistData, Nets, NoChain, NoRail, None, NothingFoldable, Option, Orphan, PipelineData, Rails, Shape, ShapeFault, Some, StageCell, StageData, TooLong, TooWide, Variant, [], all_data, among, ap, arith, base, bit, cell, cell_name, close, false, filter, filter_agree, folded_netlist, function_at, has_data, held-some, held_nets, holds_at, inl, inr, is_data_bank, is_illegal, is_some, is_stage_cell, length, length-map, list_any, list_any-IsPermutation, map, member_of_map, name_at, named_rails, nat_eq, net_pins, not, part_of, rail_names, refl, same_values, shape_is_one, shape_is_unbroken, slice_get, slice_get-from_Contains, stage_function, standing, subst, sym, text_of, true, val, with_cells, word_held, ℕ, ◌&&◌, ◌∙◌, ◌∷◌, ◌≡◌, ◌≢◌}
+use Rattle.ncl_merge.proofs.FoldedKeeps.{folded-smaller}
 
 -- ---- the order of cells
 
@@ -25,13 +24,13 @@ module _ (s : StageData) (cells : List StageCell) (moved : IsPermutation s.cells
   back : (x y : Variant) → IsSameVariant s u x y → (word : List Bool) → val u word y ≡ val s word x
   back x y alike word = sym (same_values s cells moved x y alike word)
 
-  sound-cell : IsSound s → (j : ℕ) (word : List Bool) → IsWordOf s word → (o : Option StageCell) → slice_get cells j ≡ o → is_orphan s (val u word Base) (val u word (Cell j)) (slice_get cells j) ≡ false
-  sound-cell sound j word wide None at = ap (is_orphan s (val u word Base) (val u word (Cell j))) at
+  sound-cell : IsSound s → (j : ℕ) (word : List Bool) → IsWordOf s word → (o : Option StageCell) → slice_get cells j ≡ o → is_orphan s (val u word Base) (val u word (LowCell j)) (slice_get cells j) ≡ false
+  sound-cell sound j word wide None at = ap (is_orphan s (val u word Base) (val u word (LowCell j))) at
   sound-cell sound j word wide (Some c) at =
       let (i, at_i) = slice_get-from_Contains s.cells c (Contains-permutation cells s.cells c (IsPermutation-sym s.cells cells moved) (Contains-from_slice_get cells j c at)) in
       let places : slice_get s.cells i ≡ slice_get cells j = at_i ∙ sym at in
       let base_is = back Base Base base word in
-      let cell_is = back (Cell i) (Cell j) (cell i j places) word in
+      let cell_is = back (LowCell i) (LowCell j) (cell i j places) word in
       (λ k. is_orphan s (base_is k) (cell_is k) (sym places k)) ∙ sound (Orphan i) word wide
 
   sound-moved : IsSound s → IsSound u
@@ -182,3 +181,89 @@ module _ (p q u r : PipelineData) (one : Keeps p q) (same : IsSamePipeline u q) 
     sound = two.sound;
     short = let first = one.short in let next = two.short in let mid = ap (λ (n : NetlistData). length (text_of n)) same.netlist in omega (arith, first, next, mid);
   }
+
+-- ---- rounds
+
+-- a netlist with a shape has no fault of shape but want of memory
+broken : (n : NetlistData) (fault : ShapeFault) → fault ≢ Memory → IsShapeFault n fault → Broken n fault
+broken n (CellRule fault) named is = is
+broken n (NoChain rule) named is = is
+broken n (TooWide number) named is = is
+broken n TooLong named is = is
+broken n Memory named is = absurd (named refl)
+
+pub sound-unbroken : (n : NetlistData) → IsSoundNetlist n → (fault : ShapeFault) → fault ≢ Memory → IsShapeFault n fault → ⊥
+sound-unbroken n has fault named is = shape_is_unbroken n has.shape.is_netlist has.pipeline has.shape fault (broken n fault named is).breaks
+
+-- each pipeline that is its shape has sound stages
+pub stages-sound : (n : NetlistData) → IsSoundNetlist n → (p : PipelineData) → Shape n p → All IsSound p.stages
+stages-sound n has p shape = same-all_sound has.pipeline.stages p.stages (shape_is_one n shape.is_netlist has.pipeline p has.shape shape).stages has.sound
+
+-- what is foldable is so in any order of the cells
+pub nothing-foldable : (n : NetlistData) (p : PipelineData) → Shape n p → HasNoFoldable p → NothingFoldable n
+nothing-foldable n p shape none other shape_other is =
+    let same = shape_is_one n shape.is_netlist p other shape shape_other in
+    let (s, m-s, alike) = AllZip-found IsSameStage p.stages other.stages same.stages is.stage (Member-from_Contains other.stages is.stage is.in_stages) in
+    let back = IsPermutation-sym s.cells is.stage.cells alike.cells in
+    let f = is.foldable in
+    none s (Contains-from_Member s m-s) is.g is.h (record {
+      g_in = Contains-permutation is.stage.cells s.cells is.g back f.g_in;
+      h_in = Contains-permutation is.stage.cells s.cells is.h back f.h_in;
+      once = ap (λ (m : NetlistData). net_pins m is.g.out.0) same.netlist ∙ f.once;
+      reads = f.reads;
+      kind = f.kind;
+      nets = f.nets;
+      fold = f.fold;
+    })
+
+-- a round that folds something makes the netlist smaller
+pub round-smaller : (n m : NetlistData) → IsSoundNetlist n → (p : PipelineData) → Shape n p → (lists : List (List StageCell)) → AreFewer p.stages lists → IsNetlist m → m ≡ folded_netlist p lists → IsSmaller n m
+round-smaller n m has p shape lists fewer is_m same =
+    let own : p.netlist ≡ n = shape.netlist in
+    subst (λ k. IsSmaller k m) own
+    (subst (IsSmaller p.netlist) (sym same)
+    (folded-smaller p (subst (λ k. Shape k p) (sym own) shape) lists fewer (subst IsNetlist same is_m) (stages-sound n has p shape)))
+
+-- ---- rounds one after another
+
+pub way-sound : (n m : NetlistData) → IsSoundNetlist n → IsOnTheWay n m → IsSoundNetlist m
+way-sound n m has (inl same) = subst IsSoundNetlist (sym same) has
+way-sound n m has (inr smaller) = record { pipeline = smaller.after; shape = smaller.shape; sound = smaller.keeps.sound }
+
+smaller-along : (n m r : NetlistData) → IsSmaller n m → IsSmaller m r → IsSmaller n r
+smaller-along n m r one two = record {
+  before = one.before;
+  after = two.after;
+  shape_before = one.shape_before;
+  shape = two.shape;
+  keeps = keeps-along one.before one.after two.before two.after one.keeps (shape_is_one m one.shape.is_netlist two.before one.after two.shape_before one.shape) two.keeps;
+  fewer = let first = one.fewer in let next = two.fewer in omega (arith, first, next);
+}
+
+pub way-on : (n m r : NetlistData) → IsOnTheWay n m → IsSmaller m r → IsOnTheWay n r
+way-on n m r (inl same) next = inr (subst (λ k. IsSmaller k r) same next)
+way-on n m r (inr smaller) next = inr (smaller-along n m r smaller next)
+
+-- where nothing is foldable any more, the netlist is merged
+pub way-ends : (n m : NetlistData) → IsSoundNetlist n → IsOnTheWay n m → NothingFoldable m → Merged n m
+way-ends n m has (inl same) none =
+    subst (Merged n) (sym same) record {
+      before = has.pipeline;
+      after = has.pipeline;
+      shape_before = has.shape;
+      shape = has.shape;
+      keeps = keeps-itself has.pipeline has.sound;
+      none = subst NothingFoldable same none has.pipeline has.shape;
+      few = omega arith;
+      fewer = λ some. absurd (subst NothingFoldable same none has.pipeline has.shape some);
+    }
+way-ends n m has (inr smaller) none = record {
+  before = smaller.before;
+  after = smaller.after;
+  shape_before = smaller.shape_before;
+  shape = smaller.shape;
+  keeps = smaller.keeps;
+  none = none smaller.after smaller.shape;
+  few = let less = smaller.fewer in omega (arith, less);
+  fewer = λ some. smaller.fewer;
+}

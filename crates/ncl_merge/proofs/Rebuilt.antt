@@ -1,6 +1,7 @@
--- A netlist that is built of kept cells is thinned.
-use Rattle.ncl_merge.proofs.Kit.{◌≡◌, ◌<◌, ◌≤◌, ◌-◌, ℕ, zero, suc, Bool, true, false, not, cond, List, [], ◌∷◌, ◌++◌, length, map, take, get_or, Option, None, Some, ◌⊎◌, inl, inr, refl, sym, ap, ◌∙◌, subst, arith, Contains, slice_get, filter, flat_map, list_any, cases_Bool, length-map, get_or-take, length-take}
-use Rattle.ncl_merge.proofs.Terms.{CellKind, Gate, Register, RegisterData, Ack, NetId, Port, Cell, PartCell, same_name, name_number, NetlistData, IsNetlist, port_names, net_of, cell_of, netlist_of, part_of, same_itself, name_number-lt-length, get_or-name_number, name_number-get_or, list_any-once_each, IsCell, CellAt, IsGate, ReadsNet, RailOf, AckOf, is_gate, IsFree, Member, here, there, Member-append_left, Member-append_right, Member-map, member_of_map, Contains-from_Member, Member-from_Contains, Contains-from_slice_get, list_any-from_member, Member-flat_map, All-member, at_of_map, at_map, cell_fits, place_of, gate_ranks, only_origin, renamed_net, moved, IsRailGate, IsThinGate, IsStood, IsOld, IsThinned, with_kept, kept, kept_parts, IsChoice, name_at, number_in}
+-- A netlist that is built of kept cells is thinned, and their parts break no rule.
+pub use Rattle.ncl_merge.proofs.Terms.{Ack, AckOf, All, All-from_members, All-member, AllDiffer, AllDiffer-once_each, AllPairs, AllPairs-cons, AllPairs-from_IsDistinct, Bool, Cell, CellAt, CellKind, Contains, Contains-filter_map, Contains-filter_map_of, Contains-from_Member, Contains-from_slice_get, Decides-eqb, Gate, HasAllPins, IsCell, IsChoice, IsDistinct-from_AllPairs, IsFaultless, IsFree, IsGate, IsInputPort, IsNetlist, IsOld, IsOutputPort, IsRailGate, IsStood, IsThinGate, IsThinned, IsWhole, List, Member, Member-append_cases, Member-append_left, Member-append_right, Member-flat_map, Member-from_Contains, Member-get_or, Member-map, NetId, NetlistData, None, Option, PartCell, Parts, Port, RailOf, ReadsNet, Register, RegisterData, Some, [], ap, arith, at_map, at_of_map, cases_Bool, cases_eq, cases_lt, cell_fits, cell_names, cell_of, cond, count_by, count_from_member, drivers_at, drives, drop, eq-eqb, eqb-true, equal_names, false, filter, flat_map, gate_ranks, get_or, get_or-map, get_or-name_number, get_or-take, get_or_from_slice_get, get_or_past, here, inl, inr, is_gate, kept, kept_parts, length, length-map, length-take, length_push, list_any, list_any-from_member, list_any-once_each, map, map-append, map-map, map-same, member_cases, member_from_count, member_from_list_any, member_of_flat_map, member_of_map, most_cells, moved, name_at, name_number, name_number-get_or, name_number-lt-length, nat_eq, ne_eqb, net_of, netlist_of, no_cell_drives_port, not, number_in, once_each, only_origin, pairs-head, pairs-tail, part_of, pin_names, pins_of, place_of, port_names, refl, renamed_net, same_driver, same_itself, same_name, slice_eq-Decides, slice_get, slice_get-from_Contains, slice_get_within, subst, suc, sum_by-cons, sum_by-map, sym, take, take-append-drop, take-once_each, there, true, with_kept, zero, ℕ, ◌++◌, ◌+◌, ◌-◌, ◌<◌, ◌∙◌, ◌∷◌, ◌≡◌, ◌≢◌, ◌≤◌, ◌⊎◌}
+use Rattle.ncl_merge.proofs.Weights.{sum-same}
+use Rattle.ncl_merge.proofs.Thinned.{filter_gone}
 
 -- ---- which cells are kept, and where
 
@@ -24,10 +25,8 @@ kept_at choice (b ∷ cells) zero c d at is =
     let same : b ≡ c = cc in
     ap (λ xs. slice_get xs 0) (kept_some choice b d cells (ap choice same ∙ is))
 kept_at choice (b ∷ cells) (suc k) c d at is =
-    elim (decide (choice b)) [
-      | inl gone ↦ (λ i. slice_get (kept_none choice b cells gone i) (length (kept_none choice b (take k cells) gone i))) ∙ kept_at choice cells k c d at is
-      | inr (e, stays) ↦ (λ i. slice_get (kept_some choice b e cells stays i) (length (kept_some choice b e (take k cells) stays i))) ∙ kept_at choice cells k c d at is
-    ]
+    let rest = kept_at choice cells k c d at is in
+    elim (choice b) as (λ o. slice_get (with_kept o (kept choice cells)) (length (with_kept o (kept choice (take k cells)))) ≡ Some d) [ None ↦ rest | Some e ↦ rest ]
 
 pub kept_rises : (choice : Cell → Option Cell) (cells : List Cell) (j k : ℕ) (c d : Cell) → slice_get cells j ≡ Some c → choice c ≡ Some d → j < k → place_in choice cells j < place_in choice cells k
 kept_rises choice [] j k c d at is lt = absurd cc
@@ -38,16 +37,7 @@ kept_rises choice (b ∷ cells) zero (suc k) c d at is lt =
     omega (arith, count)
 kept_rises choice (b ∷ cells) (suc j) (suc k) c d at is lt =
     let rest = kept_rises choice cells j k c d at is (omega arith) in
-    elim (decide (choice b)) [
-      | inl gone ↦
-          let left : length (kept choice (b ∷ take j cells)) ≡ length (kept choice (take j cells)) = ap length (kept_none choice b (take j cells) gone) in
-          let right : length (kept choice (b ∷ take k cells)) ≡ length (kept choice (take k cells)) = ap length (kept_none choice b (take k cells) gone) in
-          omega (arith, rest, left, right)
-      | inr (e, stays) ↦
-          let left : length (kept choice (b ∷ take j cells)) ≡ suc (length (kept choice (take j cells))) = ap length (kept_some choice b e (take j cells) stays) in
-          let right : length (kept choice (b ∷ take k cells)) ≡ suc (length (kept choice (take k cells))) = ap length (kept_some choice b e (take k cells) stays) in
-          omega (arith, rest, left, right)
-    ]
+    elim (choice b) as (λ o. length (with_kept o (kept choice (take j cells))) < length (with_kept o (kept choice (take k cells)))) [ None ↦ rest | Some e ↦ omega (arith, rest) ]
 
 pub kept_from : (choice : Cell → Option Cell) (cells : List Cell) (i : ℕ) (d : Cell) → slice_get (kept choice cells) i ≡ Some d → (k : ℕ) × (c : Cell) × (slice_get cells k ≡ Some c) × (choice c ≡ Some d) × (place_in choice cells k ≡ i)
 kept_from choice [] i d at = absurd cc
@@ -67,32 +57,80 @@ kept_from choice (b ∷ cells) i d at =
 
 -- ---- parts and cells again
 
-pub inputs-of_pins : {Y : Type 0} (f : NetId → Y) (ins : List NetId) (out : NetId) → take (length (map f (ins ++ out ∷ [])) - 1) (map f (ins ++ out ∷ [])) ≡ map f ins
-inputs-of_pins f [] out = refl
-inputs-of_pins f (x ∷ ins) out =
-    let count : length (map f (x ∷ ins ++ out ∷ [])) - 1 ≡ suc (length (map f (ins ++ out ∷ [])) - 1) = (let some = some-pin f ins out in omega (arith, some)) in
-    ap (λ k. take k (map f (x ∷ ins ++ out ∷ []))) count ∙ ap (λ rest. f x ∷ rest) (inputs-of_pins f ins out)
-  where
-    some-pin : {Y : Type 0} (f : NetId → Y) (ins : List NetId) (out : NetId) → 1 ≤ length (map f (ins ++ out ∷ []))
-    some-pin f [] out = omega arith
-    some-pin f (x ∷ ins) out = omega arith
-
-pub output-of_pins : {Y : Type 0} (f : NetId → Y) (d : Y) (ins : List NetId) (out : NetId) → get_or (map f (ins ++ out ∷ [])) (length (map f (ins ++ out ∷ [])) - 1) d ≡ f out
-output-of_pins f d [] out = refl
-output-of_pins f d (x ∷ ins) out =
-    let count : length (map f (x ∷ ins ++ out ∷ [])) - 1 ≡ suc (length (map f (ins ++ out ∷ [])) - 1) = (let some = some-pin f ins out in omega (arith, some)) in
-    ap (λ k. get_or (map f (x ∷ ins ++ out ∷ [])) k d) count ∙ output-of_pins f d ins out
-  where
-    some-pin : {Y : Type 0} (f : NetId → Y) (ins : List NetId) (out : NetId) → 1 ≤ length (map f (ins ++ out ∷ []))
-    some-pin f [] out = omega arith
-    some-pin f (x ∷ ins) out = omega arith
-
-pub map-twice : {X Y Z : Type 0} (f : X → Y) (g : Y → Z) (xs : List X) → map g (map f xs) ≡ map (λ (x : X). g (f x)) xs
-map-twice f g [] = refl
-map-twice f g (x ∷ xs) = ap (λ rest. g (f x) ∷ rest) (map-twice f g xs)
+-- a list with one more at its end, without that, and what is at its end
+last-of : {Y : Type 0} (d : Y) (xs : List Y) (y : Y) → (take (length (xs ++ y ∷ []) - 1) (xs ++ y ∷ []) ≡ xs) × (get_or (xs ++ y ∷ []) (length (xs ++ y ∷ []) - 1) d ≡ y)
+last-of d [] y = (refl, refl)
+last-of d (x ∷ xs) y =
+    let count : length (x ∷ xs ++ y ∷ []) - 1 ≡ suc (length (xs ++ y ∷ []) - 1) = (let long = length_push xs y in omega (arith, long)) in
+    let (front, end) = last-of d xs y in
+    (ap (λ k. take k (x ∷ xs ++ y ∷ [])) count ∙ ap (λ rest. x ∷ rest) front, ap (λ k. get_or (x ∷ xs ++ y ∷ []) k d) count ∙ end)
 
 kind_apart : (bank other : ℕ) → AckOf other ≡ RailOf bank → ⊥
 kind_apart bank other e = cc
+
+-- ---- names and counts of what is kept
+
+-- names that differ, one way and the other
+names_differ : (names : List (List ℕ)) → AllDiffer names → AllPairs (λ a b. a ≢ b) names
+names_differ names = AllPairs-from_IsDistinct (λ a b. slice_eq-Decides Decides-eqb a b (same_name a b) refl) names
+
+differ_names : (names : List (List ℕ)) → AllPairs (λ a b. a ≢ b) names → AllDiffer names
+differ_names names = IsDistinct-from_AllPairs (λ a b. slice_eq-Decides Decides-eqb a b (same_name a b) refl) names
+
+pairs-left : {X : Type 0} (R : X → X → Type 0) (xs ys : List X) → AllPairs R (xs ++ ys) → AllPairs R xs
+pairs-left R [] ys all = λ i j d before lt. absurd (omega (arith, lt))
+pairs-left R (x ∷ xs) ys all = AllPairs-cons R x xs (All-from_members (R x) xs (λ y m. pairs-head R x (xs ++ ys) all y (Member-append_left y ys m))) (pairs-left R xs ys (pairs-tail R x (xs ++ ys) all))
+
+pub AllDiffer-take : (names : List (List ℕ)) (k : ℕ) → AllDiffer names → AllDiffer (take k names)
+AllDiffer-take names k differ = differ_names (take k names) (pairs-left (λ a b. a ≢ b) (take k names) (drop k names) (subst (AllPairs (λ a b. a ≢ b)) (sym (take-append-drop k names)) (names_differ names differ)))
+
+-- no more cells are kept than there were
+kept_few : (choice : Cell → Option Cell) (cells : List Cell) → length (kept choice cells) ≤ length cells
+kept_few choice [] = omega arith
+kept_few choice (c ∷ cells) =
+    let rest = kept_few choice cells in
+    elim (choice c) as (λ o. length (with_kept o (kept choice cells)) ≤ suc (length cells)) [ None ↦ omega (arith, rest) | Some d ↦ omega (arith, rest) ]
+
+-- values that are kept differ where the values differ
+kept_differ : {X : Type 0} (key : Cell → X) (choice : Cell → Option Cell) (cells : List Cell) → ((c d : Cell) → Member c cells → choice c ≡ Some d → key d ≡ key c) → AllPairs (λ a b. a ≢ b) (map key cells) → AllPairs (λ a b. a ≢ b) (map key (kept choice cells))
+kept_differ key choice [] same differ = differ
+kept_differ key choice (c ∷ cells) same differ =
+    let rest = kept_differ key choice cells (λ b d m. same b d (there m)) (pairs-tail (λ a b. a ≢ b) (key c) (map key cells) differ) in
+    elim (decide (choice c)) [
+      | inl gone ↦ subst (λ xs. AllPairs (λ a b. a ≢ b) (map key xs)) (sym (kept_none choice c cells gone)) rest
+      | inr (d, is) ↦
+          subst (λ xs. AllPairs (λ a b. a ≢ b) (map key xs)) (sym (kept_some choice c d cells is))
+          (AllPairs-cons (λ a b. a ≢ b) (key d) (map key (kept choice cells)) (All-from_members (λ b. key d ≢ b) (map key (kept choice cells)) (λ y m e.
+          let (g, m-g, at-g) = member_of_map key (kept choice cells) y m in
+          let (b, in_b, is-b) = Contains-filter_map choice cells g (Contains-from_Member g m-g) in
+          let m-b = Member-from_Contains cells b in_b in
+          pairs-head (λ a b. a ≢ b) (key c) (map key cells) differ (key b) (Member-map key b m-b) (sym (same c d here is) ∙ e ∙ sym at-g ∙ same b g (there m-b) is-b))) rest)
+    ]
+
+-- a cell has a name for each pin, and one for its output
+pub pins-count : (nets : List (List ℕ)) (d : Cell) → length (pin_names nets d) ≡ length d.ins.items + 1
+pins-count nets d = length-map (d.ins.items ++ d.out ∷ []) (λ (net : NetId). get_or nets net.0 []) ∙ length_push d.ins.items d.out
+
+-- a name that is among once-each names is among the names
+pub from_once : (xs : List (List ℕ)) (x : List ℕ) → Member x (once_each xs) → Member x xs
+from_once xs x m =
+    let some = sym (list_any-once_each xs x) ∙ list_any-from_member (same_name x) x m (same_itself x) in
+    let (y, n, same) = member_from_list_any (same_name x) xs some in
+    subst (λ z. Member z xs) (sym (equal_names x y same)) n
+
+-- where kept cells pass as the cells do, no more pass
+count_kept : (choice : Cell → Option Cell) (p : Cell → Bool) (cells : List Cell) → ((c d : Cell) → Member c cells → choice c ≡ Some d → p d ≡ p c) → count_by p (kept choice cells) ≤ count_by p cells
+count_kept choice p [] same = omega arith
+count_kept choice p (c ∷ cells) same =
+    let rest = count_kept choice p cells (λ b d m. same b d (there m)) in
+    let whole : count_by p (c ∷ cells) ≡ cond (p c) 1 0 + count_by p cells = sum_by-cons (λ x. cond (p x) 1 0) c cells in
+    elim (choice c) as (λ o. choice c ≡ o → count_by p (with_kept o (kept choice cells)) ≤ count_by p (c ∷ cells)) [
+      | None ↦ λ is. omega (arith, rest, whole)
+      | Some d ↦ λ is.
+          let left : count_by p (d ∷ kept choice cells) ≡ cond (p d) 1 0 + count_by p (kept choice cells) = sum_by-cons (λ x. cond (p x) 1 0) d (kept choice cells) in
+          let first : ◌≡◌ {A = ℕ} (cond (p d) 1 0) (cond (p c) 1 0) = ap (λ b. cond b 1 0) (same c d here is) in
+          omega (arith, rest, whole, left, first)
+    ] refl
 
 module _ (n : NetlistData) (is_n : IsNetlist n) (free : IsFree n) (choice : Cell → Option Cell) (chosen : IsChoice n choice) where
   abbrev pub m : NetlistData
@@ -109,22 +147,21 @@ module _ (n : NetlistData) (is_n : IsNetlist n) (free : IsFree n) (choice : Cell
 
   -- the cells of m
   cell-moved : (d : Cell) → cell_of m.nets (part_of n.nets d) ≡ moved to d
-  cell-moved d = λ i. record {
-    kind = d.kind;
-    name = d.name;
-    ins = record { items = (ap (map (net_of m.nets)) (inputs-of_pins (λ (net : NetId). get_or n.nets net.0 []) d.ins.items d.out) ∙ map-twice (λ (net : NetId). get_or n.nets net.0 []) (net_of m.nets) d.ins.items) i };
-    out = ap (net_of m.nets) (output-of_pins (λ (net : NetId). get_or n.nets net.0 []) [] d.ins.items d.out) i;
-  }
-
-  all-moved : (cells : List Cell) → map (cell_of m.nets) (map (part_of n.nets) cells) ≡ map (moved to) cells
-  all-moved [] = refl
-  all-moved (d ∷ cells) =
-      let first = cell-moved d in
-      let rest = all-moved cells in
-      λ i. first i ∷ rest i
+  cell-moved d =
+      let names : NetId → List ℕ = λ net. get_or n.nets net.0 [] in
+      let cut = map-append names d.ins.items (d.out ∷ []) in
+      let (front, end) = last-of [] (map names d.ins.items) (names d.out) in
+      λ i. record {
+        kind = d.kind;
+        name = d.name;
+        ins = record { items = (ap (λ pins. map (net_of m.nets) (take (length pins - 1) pins)) cut ∙ ap (map (net_of m.nets)) front ∙ map-map (net_of m.nets) names d.ins.items) i };
+        out = (ap (λ pins. net_of m.nets (get_or pins (length pins - 1) [])) cut ∙ ap (net_of m.nets) end) i;
+      }
 
   pub cells-moved : m.cells ≡ map (moved to) (kept choice n.cells)
-  cells-moved = all-moved (kept choice n.cells)
+  cells-moved =
+      map-map (cell_of m.nets) (part_of n.nets) (kept choice n.cells)
+      ∙ map-same (λ d. cell_of m.nets (part_of n.nets d)) (moved to) (kept choice n.cells) (λ d m-d. cell-moved d)
 
   -- ---- names that are there
 
@@ -157,27 +194,7 @@ module _ (n : NetlistData) (is_n : IsNetlist n) (free : IsFree n) (choice : Cell
       let most = length-take (length k.ports) k.nets in
       omega (arith, first, count, most, lt)
 
-  -- ---- cells that stand
-
-  pub in-kept : (k : ℕ) (c d : Cell) → CellAt n k c → choice c ≡ Some d → Member d (kept choice n.cells)
-  in-kept k c d at-c is = Member-from_Contains (kept choice n.cells) d (Contains-from_slice_get (kept choice n.cells) (at k) d (kept_at choice n.cells k c d at-c is))
-
-  pub out-in : (d : Cell) → Member d.out (d.ins.items ++ d.out ∷ [])
-  out-in d = Member-append_right d.ins.items d.out here
-
-  pub stood : (k : ℕ) (c : Cell) → CellAt n k c → (IsRailGate n c → ⊥) → IsStood m to from at k c
-  stood k c at-c no_rail =
-      let in_c : IsCell n c = Contains-from_slice_get n.cells k c at-c in
-      let is = chosen.stands c in_c no_rail in
-      let among = in-kept k c c at-c is in
-      let fits = cell_fits n is_n c in_c in
-      record {
-        stands = subst (λ cells. slice_get cells (at k) ≡ Some (moved to c)) (sym cells-moved) (at_map (moved to) (kept choice n.cells) (at k) c (kept_at choice n.cells k c c at-c is));
-        out = back c.out.0 fits.output (named c among c.out (out-in c));
-        pins = λ x reads.
-            let m-x = Member-from_Contains c.ins.items x reads in
-            back x.0 (All-member (λ (net : NetId). net.0 < length n.nets) c.ins.items fits.inputs x m-x) (named c among x (Member-append_left x (c.out ∷ []) m-x));
-      }
+  -- ---- kept cells
 
   -- a gate comes from a rail or from an acknowledge cell, never from both
   pub rail_or_not : (c : Cell) → IsCell n c → IsRailGate n c ⊎ (IsRailGate n c → ⊥)
@@ -194,6 +211,49 @@ module _ (n : NetlistData) (is_n : IsNetlist n) (free : IsFree n) (choice : Cell
       by_kind RegisterData e = inr (λ ((kind, f), comes). (let no : Gate kind ≡ RegisterData = sym f ∙ e in absurd cc))
       by_kind Ack e = inr (λ ((kind, f), comes). (let no : Gate kind ≡ Ack = sym f ∙ e in absurd cc))
 
+  pub same-choice : (c d : Cell) → choice c ≡ Some c → choice c ≡ Some d → c ≡ d
+  same-choice c d one two = let both : Some c ≡ Some d = sym one ∙ two in cc
+
+  pub out-source : (c e : Cell) → IsCell n c → choice c ≡ Some e → e.out ≡ c.out
+  out-source c e in_c is = elim (rail_or_not c in_c) [
+    | inr no_rail ↦ ap (λ (z : Cell). z.out) (sym (same-choice c e (chosen.stands c in_c no_rail) is))
+    | inl rail ↦ (chosen.gate c e in_c rail is).1
+  ]
+
+  pub in-kept : (c d : Cell) → IsCell n c → choice c ≡ Some d → Member d (kept choice n.cells)
+  in-kept c d in_c is = Member-from_Contains (kept choice n.cells) d (Contains-filter_map_of choice n.cells c d in_c is)
+
+  pub kept-from : (d : Cell) → Member d (kept choice n.cells) → (c : Cell) × IsCell n c × (choice c ≡ Some d)
+  kept-from d m-d = Contains-filter_map choice n.cells d (Contains-from_Member d m-d)
+
+  pub out-in : (d : Cell) → Member d.out (d.ins.items ++ d.out ∷ [])
+  out-in d = Member-append_right d.ins.items d.out here
+
+  -- a net on a pin of a kept cell is a net of n, and has a number there
+  pub pin-kept : (d : Cell) → Member d (kept choice n.cells) → (x : NetId) → Member x (d.ins.items ++ d.out ∷ []) → (x.0 < length n.nets) × (from (to x.0) ≡ x.0)
+  pin-kept d m-d x m-x =
+      let (c, in_c, is) = kept-from d m-d in
+      let fits = cell_fits n is_n c in_c in
+      let within : x.0 < length n.nets = elim (Member-append_cases x d.ins.items (d.out ∷ []) m-x) [
+        | inl pin ↦ elim (rail_or_not c in_c) [
+          | inl rail ↦ (chosen.pins c d in_c rail is x (Contains-from_Member x pin)).0
+          | inr no_rail ↦ All-member (λ (net : NetId). net.0 < length n.nets) c.ins.items fits.inputs x (subst (λ (z : Cell). Member x z.ins.items) (sym (same-choice c d (chosen.stands c in_c no_rail) is)) pin)
+        ]
+        | inr last ↦ elim (member_cases x d.out [] last) [ inl own ↦ subst (λ (z : NetId). z.0 < length n.nets) (sym (out-source c d in_c is) ∙ own) fits.output | inr none ↦ elim none [ ] ]
+      ] in
+      (within, back x.0 within (named d m-d x m-x))
+
+  pub stood : (k : ℕ) (c : Cell) → CellAt n k c → (IsRailGate n c → ⊥) → IsStood m to from at k c
+  stood k c at-c no_rail =
+      let in_c : IsCell n c = Contains-from_slice_get n.cells k c at-c in
+      let is = chosen.stands c in_c no_rail in
+      let among = in-kept c c in_c is in
+      record {
+        stands = subst (λ cells. slice_get cells (at k) ≡ Some (moved to c)) (sym cells-moved) (at_map (moved to) (kept choice n.cells) (at k) c (kept_at choice n.cells k c c at-c is));
+        out = (pin-kept c among c.out (out-in c)).1;
+        pins = λ x reads. (pin-kept c among x (Member-append_left x (c.out ∷ []) (Member-from_Contains c.ins.items x reads))).1;
+      }
+
   -- what a cell of m was
   pub source : (i : ℕ) (d : Cell) → CellAt m i d → (k : ℕ) × (c : Cell) × (e : Cell) × CellAt n k c × (choice c ≡ Some e) × (at k ≡ i) × (d ≡ moved to e)
   source i d at-d =
@@ -201,8 +261,12 @@ module _ (n : NetlistData) (is_n : IsNetlist n) (free : IsFree n) (choice : Cell
       let (k, c, at-c, from-c, place) = kept_from choice n.cells i e stands in
       (k, c, e, at-c, from-c, place, sym is)
 
-  pub same-choice : (c d : Cell) → choice c ≡ Some c → choice c ≡ Some d → c ≡ d
-  same-choice c d one two = let both : Some c ≡ Some d = sym one ∙ two in cc
+  -- and where its net leads back
+  pub cell-was : (d : Cell) → IsCell m d → (c : Cell) × (e : Cell) × IsCell n c × (choice c ≡ Some e) × Member e (kept choice n.cells) × (d ≡ moved to e) × (from d.out.0 ≡ c.out.0)
+  cell-was d in_d =
+      let (e, m-e, is) = member_of_map (moved to) (kept choice n.cells) d (subst (Member d) cells-moved (Member-from_Contains m.cells d in_d)) in
+      let (c, in_c, chose) = kept-from e m-e in
+      (c, e, in_c, chose, m-e, sym is, ap (λ (z : Cell). from z.out.0) (sym is) ∙ (pin-kept e m-e e.out (out-in e)).1 ∙ ap (λ (y : NetId). y.0) (out-source c e in_c chose))
 
   pub each-cell : (i : ℕ) (d : Cell) → CellAt m i d → IsOld n to at i d ⊎ IsThinGate n to from d
   each-cell i d at-d =
@@ -212,8 +276,7 @@ module _ (n : NetlistData) (is_n : IsNetlist n) (free : IsFree n) (choice : Cell
         | inr no_rail ↦ inl (record { place = k; cell = c; in_n = at-c; no_rail = no_rail; is_at = place; is = moved-e ∙ ap (moved to) (sym (same-choice c e (chosen.stands c in_c no_rail) is)) })
         | inl rail ↦
             let (is_gate_e, out) = chosen.gate c e in_c rail is in
-            let among = in-kept k c e at-c is in
-            let lt-out : e.out.0 < length n.nets = subst (λ (x : NetId). x.0 < length n.nets) (sym out) (cell_fits n is_n c in_c).output in
+            let among = in-kept c e in_c is in
             inr (record {
               old = c;
               bank = rail.1.0;
@@ -222,11 +285,10 @@ module _ (n : NetlistData) (is_n : IsNetlist n) (free : IsFree n) (choice : Cell
               comes = rail.1.1;
               gate = subst IsGate (sym moved-e) is_gate_e;
               out = ap (λ (z : Cell). z.out) moved-e ∙ ap (renamed_net to) out;
-              kept = subst (λ (x : NetId). from (to x.0) ≡ x.0) out (back e.out.0 lt-out (named e among e.out (out-in e)));
+              kept = subst (λ (x : NetId). from (to x.0) ≡ x.0) out (pin-kept e among e.out (out-in e)).1;
               pins = λ z reads.
                   let (x, m-x, same) = member_of_map (renamed_net to) e.ins.items z (Member-from_Contains (moved to e).ins.items z (subst (λ (w : Cell). Contains w.ins.items z) moved-e reads)) in
-                  let (lt, comes) = chosen.pins c e in_c rail is x (Contains-from_Member x m-x) in
-                  (x.0, ap (λ (w : NetId). w.0) (sym same), back x.0 lt (named e among x (Member-append_left x (e.out ∷ []) m-x)), comes rail.1.0 rail.1.1);
+                  (x.0, ap (λ (w : NetId). w.0) (sym same), (pin-kept e among x (Member-append_left x (e.out ∷ []) m-x)).1, (chosen.pins c e in_c rail is x (Contains-from_Member x m-x)).1 rail.1.0 rail.1.1);
             })
       ]
 
@@ -237,16 +299,12 @@ module _ (n : NetlistData) (is_n : IsNetlist n) (free : IsFree n) (choice : Cell
 
   pub filter-moved : (cells : List Cell) → filter no_gate (map (moved to) cells) ≡ map (moved to) (filter no_gate cells)
   filter-moved [] = refl
-  filter-moved (c ∷ cells) = elim (cases_Bool (no_gate c)) [
-    | inl passes ↦
-        ap (λ b. cond b (moved to c ∷ filter no_gate (map (moved to) cells)) (filter no_gate (map (moved to) cells))) passes
-        ∙ ap (λ rest. moved to c ∷ rest) (filter-moved cells)
-        ∙ sym (ap (map (moved to)) (ap (λ b. cond b (c ∷ filter no_gate cells) (filter no_gate cells)) passes))
-    | inr fails ↦
-        ap (λ b. cond b (moved to c ∷ filter no_gate (map (moved to) cells)) (filter no_gate (map (moved to) cells))) fails
-        ∙ filter-moved cells
-        ∙ sym (ap (map (moved to)) (ap (λ b. cond b (c ∷ filter no_gate cells) (filter no_gate cells)) fails))
-  ]
+  filter-moved (c ∷ cells) =
+      let rest = filter-moved cells in
+      elim (no_gate c) as (λ b. cond b (moved to c ∷ filter no_gate (map (moved to) cells)) (filter no_gate (map (moved to) cells)) ≡ map (moved to) (cond b (c ∷ filter no_gate cells) (filter no_gate cells))) [
+        | true ↦ ap (λ xs. moved to c ∷ xs) rest
+        | false ↦ rest
+      ]
 
   gate-fails : (c : Cell) → IsGate c → no_gate c ≡ false
   gate-fails c (kind, e) = ap (λ k. not (is_gate k)) e
@@ -262,13 +320,11 @@ module _ (n : NetlistData) (is_n : IsNetlist n) (free : IsFree n) (choice : Cell
             ap (filter no_gate) (kept_some choice c c cells is) ∙ ap (λ xs. cond (no_gate c) (c ∷ xs) xs) rest
         | inl rail ↦
             let fails = gate-fails c rail.0 in
-            let right : filter no_gate (c ∷ cells) ≡ filter no_gate cells = ap (λ b. cond b (c ∷ filter no_gate cells) (filter no_gate cells)) fails in
             elim (decide (choice c)) [
-              | inl gone ↦ ap (filter no_gate) (kept_none choice c cells gone) ∙ rest ∙ sym right
+              | inl gone ↦ ap (filter no_gate) (kept_none choice c cells gone) ∙ rest ∙ sym (filter_gone no_gate c cells fails)
               | inr (d, is) ↦
-                  let d-fails = gate-fails d (chosen.gate c d in_c rail is).0 in
                   ap (filter no_gate) (kept_some choice c d cells is)
-                  ∙ ap (λ b. cond b (d ∷ filter no_gate (kept choice cells)) (filter no_gate (kept choice cells))) d-fails ∙ rest ∙ sym right
+                  ∙ filter_gone no_gate d (kept choice cells) (gate-fails d (chosen.gate c d in_c rail is).0) ∙ rest ∙ sym (filter_gone no_gate c cells fails)
             ]
       ]
 
@@ -277,46 +333,19 @@ module _ (n : NetlistData) (is_n : IsNetlist n) (free : IsFree n) (choice : Cell
   abbrev rank : ℕ → ℕ
   rank y = (gate_ranks n is_n free).0 (from y)
 
-  pub out-source : (k : ℕ) (c e : Cell) → CellAt n k c → choice c ≡ Some e → e.out ≡ c.out
-  out-source k c e at-c is =
-      let in_c : IsCell n c = Contains-from_slice_get n.cells k c at-c in
-      elim (rail_or_not c in_c) [
-        | inr no_rail ↦ ap (λ (z : Cell). z.out) (sym (same-choice c e (chosen.stands c in_c no_rail) is))
-        | inl rail ↦ (chosen.gate c e in_c rail is).1
-      ]
-
   pub ranks : (c d : Cell) → IsCell m c → IsGate c → IsCell m d → ReadsNet c d.out.0 → rank d.out.0 < rank c.out.0
   ranks c d in_c is_gate_c in_d reads =
-      let (i, at-c) = place_of m c in_c in
-      let (k, a, e, at-a, is, place, moved-e) = source i c at-c in
-      let in_a : IsCell n a = Contains-from_slice_get n.cells k a at-a in
-      let among = in-kept k a e at-a is in
+      let (a, e, in_a, is, m-e, moved-e, c-back) = cell-was c in_c in
+      let (b, g, in_b, is-b, m-g, moved-g, d-back) = cell-was d in_d in
       let (x, m-x, same) = member_of_map (renamed_net to) e.ins.items (record { 0 = d.out.0 }) (Member-from_Contains (moved to e).ins.items (record { 0 = d.out.0 }) (subst (λ (w : Cell). Contains w.ins.items (record { 0 = d.out.0 })) moved-e reads)) in
-      let (j, at-d) = place_of m d in_d in
-      let (l, b, g, at-b, is-b, place-b, moved-g) = source j d at-d in
-      let in_b : IsCell n b = Contains-from_slice_get n.cells l b at-b in
-      let among-g = in-kept l b g at-b is-b in
-      let g-out : g.out ≡ b.out = out-source l b g at-b is-b in
-      let e-out : e.out ≡ a.out = out-source k a e at-a is in
-      let lt-g : g.out.0 < length n.nets = subst (λ (y : NetId). y.0 < length n.nets) (sym g-out) (cell_fits n is_n b in_b).output in
-      let lt-e : e.out.0 < length n.nets = subst (λ (y : NetId). y.0 < length n.nets) (sym e-out) (cell_fits n is_n a in_a).output in
-      let d-back : from d.out.0 ≡ b.out.0 = ap (λ (z : Cell). from z.out.0) moved-g ∙ back g.out.0 lt-g (named g among-g g.out (out-in g)) ∙ ap (λ (y : NetId). y.0) g-out in
-      let c-back : from c.out.0 ≡ a.out.0 = ap (λ (z : Cell). from z.out.0) moved-e ∙ back e.out.0 lt-e (named e among e.out (out-in e)) ∙ ap (λ (y : NetId). y.0) e-out in
-      let x-named = named e among x (Member-append_left x (e.out ∷ []) m-x) in
+      let x-back : from d.out.0 ≡ x.0 = ap (λ (y : NetId). from y.0) (sym same) ∙ (pin-kept e m-e x (Member-append_left x (e.out ∷ []) m-x)).1 in
       let (old_rank, top, below, rises) = gate_ranks n is_n free in
       let less : old_rank (from d.out.0) < old_rank (from c.out.0) = subst (λ y. old_rank (from d.out.0) < old_rank y) (sym c-back) (elim (rail_or_not a in_a) [
-        | inl rail ↦
-            let lt-x = (chosen.pins a e in_a rail is x (Contains-from_Member x m-x)).0 in
-            let x-back : from d.out.0 ≡ x.0 = ap (λ (y : NetId). from y.0) (sym same) ∙ back x.0 lt-x x-named in
-            subst (λ y. old_rank y < old_rank a.out.0) (sym x-back) (chosen.ranks old_rank rises a e in_a rail is x (Contains-from_Member x m-x))
+        | inl rail ↦ subst (λ y. old_rank y < old_rank a.out.0) (sym x-back) (chosen.ranks old_rank rises a e in_a rail is x (Contains-from_Member x m-x))
         | inr no_rail ↦
             let same-a : a ≡ e = same-choice a e (chosen.stands a in_a no_rail) is in
-            let x-in : Member x a.ins.items = subst (λ (z : Cell). Member x z.ins.items) (sym same-a) m-x in
-            let lt-x = All-member (λ (net : NetId). net.0 < length n.nets) a.ins.items (cell_fits n is_n a in_a).inputs x x-in in
-            let x-back : from d.out.0 ≡ x.0 = ap (λ (y : NetId). from y.0) (sym same) ∙ back x.0 lt-x x-named in
-            let x-is : b.out.0 ≡ x.0 = sym d-back ∙ x-back in
             let gate-a : IsGate a = (is_gate_c.0, ap (λ (z : Cell). z.kind) same-a ∙ ap (λ (z : Cell). z.kind) (sym moved-e) ∙ is_gate_c.1) in
-            let reads-a : ReadsNet a b.out.0 = subst (λ y. Contains a.ins.items (record { 0 = y })) (sym x-is) (Contains-from_Member x x-in) in
+            let reads-a : ReadsNet a b.out.0 = subst (λ y. Contains a.ins.items (record { 0 = y })) (sym x-back ∙ d-back) (subst (λ (z : Cell). Contains z.ins.items x) (sym same-a) (Contains-from_Member x m-x)) in
             subst (λ y. old_rank y < old_rank a.out.0) (sym d-back) (rises a b in_a gate-a in_b reads-a)
       ]) in
       less
@@ -345,3 +374,181 @@ module _ (n : NetlistData) (is_n : IsNetlist n) (free : IsFree n) (choice : Cell
       rank = rank;
       ranks = ranks;
     }
+
+  -- ---- the parts break no rule
+
+  module _ (whole : IsWhole n choice) where
+    abbrev parts : Parts
+    parts = kept_parts n choice
+
+    abbrev k : NetlistData
+    k = netlist_of parts
+
+    abbrev cells : List Cell
+    cells = kept choice n.cells
+
+    as_there : (c d : Cell) → Member c n.cells → choice c ≡ Some d → (d.name ≡ c.name) × (d.out ≡ c.out)
+    as_there c d m is =
+        let in_c : IsCell n c = Contains-from_Member c m in (
+          elim (rail_or_not c in_c) [ inl rail ↦ whole.name c d in_c rail is | inr no_rail ↦ ap (λ (z : Cell). z.name) (sym (same-choice c d (chosen.stands c in_c no_rail) is)) ],
+          out-source c d in_c is,
+        )
+
+    few : length parts.cells ≤ most_cells
+    few = let count = length-map cells (part_of n.nets) in let less = kept_few choice n.cells in let most = is_n.few_cells in omega (arith, count, less, most)
+
+    own-names : AllDiffer (cell_names parts)
+    own-names =
+        subst AllDiffer (sym (map-map (λ (cell : PartCell). cell.name) (part_of n.nets) cells))
+        (differ_names (map (λ (cell : Cell). cell.name) cells)
+        (kept_differ (λ (cell : Cell). cell.name) choice n.cells (λ c d m is. (as_there c d m is).0) (names_differ (map (λ (cell : Cell). cell.name) n.cells) is_n.cell_names)))
+
+    -- ---- the ports are the first nets
+
+    pub ports-apart : AllDiffer (port_names parts)
+    ports-apart = subst AllDiffer is_n.ports_first (AllDiffer-take n.nets (length n.ports) is_n.net_names)
+
+    first-nets : take (length n.ports) k.nets ≡ map (λ (p : Port). p.name) n.ports
+    first-nets = ap (λ count. take count k.nets) (sym (length-map n.ports (λ (p : Port). p.name))) ∙ take-once_each (port_names parts) (flat_map (λ (cell : PartCell). cell.pins) parts.cells) ports-apart
+
+    port-same : (net : ℕ) → net < length n.ports → name_at k net ≡ name_at n net
+    port-same net lt =
+        sym (get_or-take (length n.ports) k.nets net [] lt) ∙ ap (λ xs. get_or xs net []) (first-nets ∙ sym is_n.ports_first) ∙ get_or-take (length n.ports) n.nets net [] lt
+
+    nets-differ : AllDiffer k.nets
+    nets-differ = AllDiffer-once_each (port_names parts ++ flat_map (λ (cell : PartCell). cell.pins) parts.cells)
+
+    -- ---- each net of the parts was a net
+
+    -- of the parts a net that is this net of n, and what drives it is kept
+    WasNet : ℕ → Type 0
+    WasNet net = (was : ℕ) × (was < length n.nets) × (name_at n was ≡ name_at k net) × ((b : Cell) → IsCell n b → b.out.0 ≡ was → (e : Cell) × (choice b ≡ Some e))
+
+    port-driven : (i : ℕ) (p : Port) → slice_get n.ports i ≡ Some p → (b : Cell) → IsCell n b → b.out.0 ≡ i → (e : Cell) × (choice b ≡ Some e)
+    port-driven i p at b in_b out =
+        elim (cases_Bool p.output) [
+          | inl output ↦ whole.shown b in_b (subst (IsOutputPort n) (sym out) (p, at, output))
+          | inr input ↦ absurd (no_cell_drives_port n is_n b in_b (subst (IsInputPort n) (sym out) (p, at, input)))
+        ]
+
+    was-port : (net : ℕ) (name : List ℕ) → Member name (port_names parts) → name ≡ name_at k net → WasNet net
+    unfolding WasNet
+    was-port net name m e =
+        let (p, m-p, is-p) = member_of_map (λ (p : Port). p.name) n.ports name m in
+        let (i, at) = slice_get-from_Contains n.ports p (Contains-from_Member p m-p) in
+        let lt : i < length n.ports = slice_get_within n.ports i p at in
+        let named-i : name_at n i ≡ name = port-name n is_n refl i lt ∙ get_or-map (λ (p : Port). p.name) n.ports i p [] lt ∙ ap (λ (p : Port). p.name) (get_or_from_slice_get n.ports i p p at) ∙ is-p in
+        (i, port-within n is_n refl i lt, named-i ∙ e, port-driven i p at)
+
+    was-pin : (net : ℕ) (name : List ℕ) → Member name (flat_map (λ (cell : PartCell). cell.pins) parts.cells) → name ≡ name_at k net → WasNet net
+    unfolding WasNet
+    was-pin net name m e =
+        let (part, m-part, m-name) = member_of_flat_map (λ (cell : PartCell). cell.pins) parts.cells name m in
+        let (d, m-d, is-d) = member_of_map (part_of n.nets) cells part m-part in
+        let (c, in_c, is) = kept-from d m-d in
+        let (x, m-x, is-x) = member_of_map (λ (net : NetId). get_or n.nets net.0 []) (d.ins.items ++ d.out ∷ []) name (subst (λ (cell : PartCell). Member name cell.pins) (sym is-d) m-name) in (
+          x.0,
+          (pin-kept d m-d x m-x).0,
+          is-x ∙ e,
+          λ b in_b out-b. elim (Member-append_cases x d.ins.items (d.out ∷ []) m-x) [
+            | inl pin ↦ whole.driven c d b x in_c is (Contains-from_Member x pin) in_b out-b
+            | inr last ↦ elim (member_cases x d.out [] last) [
+              | inl same ↦ (d, ap choice (same_driver n is_n b c in_b in_c (out-b ∙ ap (λ (z : NetId). z.0) (sym same ∙ out-source c d in_c is))) ∙ is)
+              | inr none ↦ elim none [ ]
+            ]
+          ],
+        )
+
+    was-net : (net : ℕ) → net < length k.nets → WasNet net
+    was-net net lt =
+        elim (Member-append_cases (name_at k net) (port_names parts) (flat_map (λ (cell : PartCell). cell.pins) parts.cells) (from_once (port_names parts ++ flat_map (λ (cell : PartCell). cell.pins) parts.cells) (name_at k net) (Member-get_or k.nets net [] lt))) [
+          | inl port ↦ was-port net (name_at k net) port refl
+          | inr pin ↦ was-pin net (name_at k net) pin refl
+        ]
+
+    -- ---- drivers
+
+    module _ (net : ℕ) (lt : net < length k.nets) (was : ℕ) (was_in : was < length n.nets) (same-name : name_at n was ≡ name_at k net) (driven : (b : Cell) → IsCell n b → b.out.0 ≡ was → (e : Cell) × (choice b ≡ Some e)) where
+      to-was : to was ≡ net
+      to-was = ap (name_number k.nets) same-name ∙ name_number-get_or k.nets net [] nets-differ lt
+
+      from-net : from net ≡ was
+      from-net = ap (name_number n.nets) (sym same-name) ∙ name_number-get_or n.nets was [] is_n.net_names was_in
+
+      drives-same : get_or (map drives n.ports) net 0 ≡ get_or (map drives n.ports) was 0
+      drives-same =
+          let count : length (map drives n.ports) ≡ length n.ports = length-map n.ports drives in
+          elim (cases_lt net (length n.ports)) [
+            | inl port ↦
+                let names : name_at n was ≡ name_at n net = same-name ∙ port-same net port in
+                let in-n = port-within n is_n refl net port in
+                ap (λ x. get_or (map drives n.ports) x 0) (sym (name_number-get_or n.nets net [] is_n.net_names in-n) ∙ ap (name_number n.nets) (sym names) ∙ name_number-get_or n.nets was [] is_n.net_names was_in)
+            | inr inner ↦
+                elim (cases_lt was (length n.ports)) [
+                  | inl port ↦
+                      let names : name_at k was ≡ name_at k net = port-same was port ∙ same-name in
+                      let first : length (take (length n.ports) k.nets) ≡ length n.ports = ap length first-nets ∙ length-map n.ports (λ (p : Port). p.name) in
+                      let most = length-take (length n.ports) k.nets in
+                      let in-k : was < length k.nets = omega (arith, first, most, port) in
+                      let one : was ≡ net = sym (name_number-get_or k.nets was [] nets-differ in-k) ∙ ap (name_number k.nets) names ∙ name_number-get_or k.nets net [] nets-differ lt in
+                      absurd (omega (arith, one, inner, port))
+                  | inr also ↦ get_or_past (map drives n.ports) net 0 (omega (arith, count, inner)) ∙ sym (get_or_past (map drives n.ports) was 0 (omega (arith, count, also)))
+                ]
+          ]
+
+      out-same : (d : Cell) → Member d cells → nat_eq (to d.out.0) net ≡ nat_eq d.out.0 was
+      out-same d m-d =
+          elim (cases_eq d.out.0 was) [
+            | inl e ↦ eq-eqb _ net (ap to e ∙ to-was) ∙ sym (eq-eqb d.out.0 was e)
+            | inr ne ↦ ne_eqb _ net (λ e. ne (sym (pin-kept d m-d d.out (out-in d)).1 ∙ ap from e ∙ from-net)) ∙ sym (ne_eqb d.out.0 was ne)
+          ]
+
+      cells-count : count_by (λ (c : Cell). nat_eq c.out.0 net) k.cells ≡ count_by (λ (d : Cell). nat_eq d.out.0 was) cells
+      cells-count =
+          ap (count_by (λ (c : Cell). nat_eq c.out.0 net)) cells-moved ∙ sum_by-map (λ (c : Cell). cond (nat_eq c.out.0 net) 1 0) (moved to) cells
+          ∙ sum-same (λ (d : Cell). cond (nat_eq (to d.out.0) net) 1 0) (λ (d : Cell). cond (nat_eq d.out.0 was) 1 0) cells (λ d m-d. ap (λ b. cond b 1 0) (out-same d m-d))
+
+      no_two : drivers_at parts net ≤ 1
+      no_two =
+          let one : get_or (map drives n.ports) was 0 + count_by (λ (c : Cell). nat_eq c.out.0 was) n.cells ≡ 1 = is_n.driven was was_in in
+          let less : count_by (λ (d : Cell). nat_eq d.out.0 was) cells ≤ count_by (λ (c : Cell). nat_eq c.out.0 was) n.cells = count_kept choice (λ (d : Cell). nat_eq d.out.0 was) n.cells (λ c d m is. ap (λ (z : NetId). nat_eq z.0 was) (as_there c d m is).1) in
+          let ports = drives-same in
+          let count = cells-count in
+          omega (arith, one, less, ports, count)
+
+      some_driver : 1 ≤ drivers_at parts net
+      some_driver =
+          let one : get_or (map drives n.ports) was 0 + count_by (λ (c : Cell). nat_eq c.out.0 was) n.cells ≡ 1 = is_n.driven was was_in in
+          let ports = drives-same in
+          let count = cells-count in
+          elim (cases_lt 0 (get_or (map drives n.ports) was 0)) [
+            | inl by-port ↦ omega (arith, by-port, ports)
+            | inr none ↦
+                let (b, m-b, out) = member_from_count (λ (c : Cell). nat_eq c.out.0 was) n.cells (omega (arith, one, none)) in
+                let in_b : IsCell n b = Contains-from_Member b m-b in
+                let (e, is) = driven b in_b (eqb-true b.out.0 was out) in
+                let some = count_from_member (λ (d : Cell). nat_eq d.out.0 was) e (in-kept b e in_b is) (ap (λ (z : NetId). nat_eq z.0 was) (as_there b e m-b is).1 ∙ out) in
+                omega (arith, some, count)
+          ]
+
+    -- ---- all rules
+
+    pub faultless-kept : IsFaultless parts
+    unfolding WasNet
+    faultless-kept = (
+      few,
+      own-names,
+      (λ net lt. let (was, was_in, same, driven) = was-net net lt in no_two net lt was was_in same driven),
+      (λ net lt. let (was, was_in, same, driven) = was-net net lt in some_driver net lt was was_in same driven),
+    )
+
+    -- and what `build` asks
+    pub all-pins : All HasAllPins parts.cells
+    all-pins = All-from_members HasAllPins parts.cells (λ part m.
+        let (d, m-d, is-d) = member_of_map (part_of n.nets) cells part m in
+        let (c, in_c, is) = kept-from d m-d in
+        let fits : length d.ins.items + 1 ≡ length (pins_of d.kind) = elim (rail_or_not c in_c) [
+          | inl rail ↦ whole.fits c d in_c rail is
+          | inr no_rail ↦ subst (λ (z : Cell). length z.ins.items + 1 ≡ length (pins_of z.kind)) (same-choice c d (chosen.stands c in_c no_rail) is) (cell_fits n is_n c in_c).pins
+        ] in
+        subst HasAllPins is-d (pins-count n.nets d ∙ fits))

@@ -1,9 +1,9 @@
--- The terms that the proofs of this crate speak of, passed on.
-pub use Rattle.ncl_base.proofs.Growing.{sum_by-map}
+-- What the proofs of this crate take from the library and from other crates, and the terms that they speak of, passed on.
+pub use Rattle.ncl_base.proofs.Growing.{Contains-filter_map, Contains-filter_map_of, filter_map-more, map_push, split_at, sum_by-map}
 pub use Rattle.ncl_base.proofs.Joined.{Member-flat_map, length-join_with_byte, member_of_flat_map}
-pub use Rattle.ncl_base.proofs.Lists.{AllZip-from_places, Differ, differ_of_map, pairs-head, pairs-tail}
+pub use Rattle.ncl_base.proofs.Lists.{AllZip-from_places, Differ, pairs-head, pairs-tail}
 pub use Rattle.ncl_base.proofs.Members.{All-from_members, Contains-from_Member, Contains-from_slice_get, Member, Member-append_cases, Member-append_left, Member-append_right, Member-filter, Member-from_Contains, Member-get_or, Member-map, count_from_member, here, list_any-from_member, member-found, member_cases, member_from_count, member_from_list_any, member_of_filter, member_of_map, slice_get-from_Contains, slice_get-some, there}
-pub use Rattle.ncl_base.proofs.Places.{AllZip-back, at_map, at_of_map, pushed_last}
+pub use Rattle.ncl_base.proofs.Places.{AllZip-back, at_map, at_of_map, push_cases}
 pub use Rattle.ncl_base.proofs.Tests.{All-member, AllPairs-append, list_all-member, map-same, same_from_both}
 pub use Rattle.ncl_base.specs.declared.word.TheConstants.{MOST_BITS}
 pub use Rattle.ncl_cell_roles.proofs.BankBits.{drives_rail, rail_of_register, register_of_rail}
@@ -22,7 +22,7 @@ pub use Rattle.ncl_cell_rules.proofs.OriginLaws.{bank_of_ack, bank_of_register, 
 pub use Rattle.ncl_cell_rules.proofs.PinCounts.{AreCountsOf, few_counts, own_pins}
 pub use Rattle.ncl_cell_rules.specs.CellTests.{is_gate}
 pub use Rattle.ncl_cell_rules.specs.Free.{IsFree}
-pub use Rattle.ncl_cell_rules.specs.Origin.{A, AckOf, AcksBank, B, CellAt, ComesFrom, FromPort, HasOnlyOrigin, IsAck, IsCell, IsDataBank, IsGate, IsInputPort, IsOfBank, IsOutputPort, IsRegister, LeadsTo, OnPin, Origin, RST, RailOf, ReadsNet, ack, gate, one, port, rail}
+pub use Rattle.ncl_cell_rules.specs.Origin.{A, AckOf, AcksBank, B, CellAt, ComesFrom, FromPort, HasOnlyOrigin, IsAck, IsCell, IsDataBank, IsGate, IsInputPort, IsOfBank, IsOutputPort, IsRegister, LeadsTo, OnPin, Origin, RST, RailOf, ReadsNet, ack, gate, more, one, port, rail}
 pub use Rattle.ncl_cell_rules.specs.Rules.{IsAckOfOne, IsFirstOfBank, IsGateOfOne, IsOffCycles, IsPaired, IsReadPort, IsRegisterOfOne, IsRequest, IsTied, IsUnmixed, ack_pins, ack_pins_of, pins_with}
 pub use Rattle.ncl_cell_rules.specs.Tables.{IsTable}
 pub use Rattle.ncl_faults.proofs.Apart.{named-within, right-differ}
@@ -31,7 +31,7 @@ pub use Rattle.ncl_faults.proofs.ValueLaws.{rail-no_output, rises-monotone, star
 pub use Rattle.ncl_faults.specs.Faults.{BothRails, Incomplete, IsSound, IsWordOf, NoRail, Orphan, all_data, has_data, holds_at, is_illegal}
 pub use Rattle.ncl_faults.specs.Values.{both_rails, holds, kept_low, output_net, rises, start, val}
 pub use Rattle.ncl_faults.specs.declared.variant.Variant.{Variant}
-pub use Rattle.ncl_faults.specs.declared.variant.Variant.TheVariants.{Base, Bit}
+pub use Rattle.ncl_faults.specs.declared.variant.Variant.TheVariants.{Base, Bit, Cell as LowCell}
 pub use Rattle.ncl_gates.proofs.PinLaws.{arity_of-few, arity_of-some, name_of-long, name_of-short, pins_of-gate}
 pub use Rattle.ncl_gates.proofs.RegisterLaws.{data_is_register, register_no_gate, register_pins_of}
 pub use Rattle.ncl_gates.proofs.Table.{kind_named-name_of}
@@ -46,7 +46,7 @@ pub use Rattle.ncl_gates.specs.declared.kind.TheConstants.{KINDS}
 pub use Rattle.ncl_insensitivity.proofs.Composition.{closed-is}
 pub use Rattle.ncl_insensitivity.proofs.Headline.{is_composition}
 pub use Rattle.ncl_insensitivity.proofs.HeldDue.{word-passes}
-pub use Rattle.ncl_insensitivity.proofs.HeldLayout.{held-in}
+pub use Rattle.ncl_insensitivity.proofs.HeldLayout.{held-in, slice_get-drop}
 pub use Rattle.ncl_insensitivity.proofs.OfferedWords.{under-own, word_under}
 pub use Rattle.ncl_insensitivity.proofs.WiresPass.{wires-pass}
 pub use Rattle.ncl_insensitivity.proofs.WiresSound.{wires_sound}
@@ -56,13 +56,14 @@ pub use Rattle.ncl_machine.proofs.LocalNets.{with_net-here}
 pub use Rattle.ncl_machine.proofs.NamedRails.{member-from_among}
 pub use Rattle.ncl_machine.specs.Composition.{composed, stage_function}
 pub use Rattle.ncl_merge.specs.Choice.{DriveOnce, HaveGates, all_of, becomes, cell_driving, choice_by, choice_of, folded_netlist, folded_pipeline, is_driven, is_stage_cell, is_stage_net, moved_gate, moved_stage, moved_stages, net_there, place_there, with_gate_of}
-pub use Rattle.ncl_merge.specs.Fold.{AreNeeded, AreThrough, Depends, FoldsTo, IsFold, IsFoldOf, IsFoldable, IsIndependent, IsOnOnePin, agrees, assigned, line_length, more, none, one_at, pins_sum, same_value, value_through, with_cells}
+pub use Rattle.ncl_merge.specs.Fold.{AreNeeded, AreThrough, Depends, FoldsTo, IsFold, IsFoldOf, IsFoldable, IsIndependent, IsOnOnePin, agrees, assigned, line_length, more as folded_more, none as unfolded, one_at, pins_of as net_pins, pins_sum, same_value, value_through, with_cells}
 pub use Rattle.ncl_merge.specs.Folding.{AreAllFolds, AreFewer, AreFoldsOf, CountsPins, HasNoFoldable, HasNone, HasNoneAt, HasNoneBefore, HasNoneIn, HasNoneUpTo, HasPlaces, IsFoldedAt, IsFolding, present, with_gate, with_slot}
 pub use Rattle.ncl_merge.specs.Merged.{HasLabelOf, IsMergedBank, IsMergedStage, IsOnTheWay, IsSmaller, IsSoundNetlist, Keeps, Merged, NothingFoldable, cell_name, rail_names, standing}
 pub use Rattle.ncl_merge.specs.Rebuilt.{IsChoice, IsWhole, kept, kept_parts, name_at, number_in, with_kept}
 pub use Rattle.ncl_merge.specs.Search.{ArePins, ArePinsSoFar, HasNoFold, IsGateOf, IsJoinedAt, added, all_agree, differs_at, is_in, is_needed, is_told, nets_through}
 pub use Rattle.ncl_merge.specs.Thinned.{IsOld, IsRailGate, IsStood, IsThinGate, IsThinStage, IsThinned, moved, moved_bank, moved_bit, moved_pipeline}
 pub use Rattle.ncl_merge.specs.declared.needed.TheConstants.{WORDS}
+pub use Rattle.ncl_merge.specs.declared.search.Gate.{Gate as FoldGate}
 pub use Rattle.ncl_netlist.proofs.FaultLaws.{IsFaultOf-excludes}
 pub use Rattle.ncl_netlist.proofs.NameLists.{AllDiffer-once_each, equal_names, get_or-name_number, list_any-once_each, name_number-get_or, name_number-lt-length, same_itself, take-once_each}
 pub use Rattle.ncl_netlist.specs.Faults.{IsFaultless, drivers_at}
@@ -80,7 +81,7 @@ pub use Rattle.ncl_shape.proofs.ClosureLaws.{pin_values-same}
 pub use Rattle.ncl_shape.proofs.FaultLaws.{shape_is_unbroken}
 pub use Rattle.ncl_shape.proofs.JoinedLists.{append_split}
 pub use Rattle.ncl_shape.proofs.NetSources.{only_origin}
-pub use Rattle.ncl_shape.proofs.RailLaws.{rail_one, rail_zero}
+pub use Rattle.ncl_shape.proofs.RailLaws.{rail_found, rail_one, rail_zero}
 pub use Rattle.ncl_shape.proofs.RenamedNets.{known-renamed, nets-renamed, rail_nets-renamed}
 pub use Rattle.ncl_shape.proofs.Rounds.{rounds-below_settled, rounds-keep, rounds-settled}
 pub use Rattle.ncl_shape.proofs.ShapeLaws.{last_bank, request_at, requests, same_cell, shape_is_one}
@@ -95,6 +96,7 @@ pub use Rattle.ncl_shape.specs.SamePipeline.{IsSamePipeline, IsSameStage}
 pub use Rattle.ncl_shape.specs.Shape.{AreBitsOf, AreInputsOf, AreRailsOf, Broken, IsBankOf, IsBitOf, IsShapeFault, IsStageOf, Shape}
 pub use Rattle.ncl_shape.specs.Stage.{IsInOrder, IsStage, Reads, StageData, named_rails, nets_of, out_of, rail_nets, rail_of}
 pub use Rattle.ncl_shape.specs.declared.bank.Bank.{Bank}
+pub use Rattle.ncl_shape.specs.declared.bank.Bit.{Bit as BankBit}
 pub use Rattle.ncl_shape.specs.declared.fault.ShapeFault.{ShapeFault}
 pub use Rattle.ncl_shape.specs.declared.fault.ShapeFault.TheVariants.{CellRule, Memory, NoChain, TooLong, TooWide}
 pub use Rattle.ncl_shape.specs.declared.rails.Rails.{Rails}
@@ -103,3 +105,27 @@ pub use Rattle.ncl_space.specs.Table.{words}
 pub use Rattle.ncl_stage.proofs.Reordered.{IsSameVariant, base, bit, cell, same_values}
 pub use Rattle.ncl_writer.specs.Names.{spelled_name}
 pub use Rattle.ncl_writer.specs.Text.{cell_line, header_line, opened, pin_text, pin_texts, port_line, text_of, wire_line}
+pub use Rattle.std.proofs.Common.{Bool, List, None, Option, Some, [], ap, append_assoc, arith, cond, drop, eq-eqb, false, get_or, get_or-set_other, get_or-set_same, inl, inr, is_some, length, length-append, length-set, map, nat_eq, not, refl, set, subst, suc, sym, take, true, zero, ℕ, ◌&&◌, ◌++◌, ◌+◌, ◌-◌, ◌<◌, ◌^◌, ◌||◌, ◌∙◌, ◌∷◌, ◌≡◌, ◌≢◌, ◌≤◌, ◌⊎◌}
+pub use Rattle.std.proofs.Math.Path.{fun_ext}
+pub use Rattle.std.proofs.lemmas.Bool.{and_from, and_parts, both_ways, cases_Bool, cases_eq, cases_lt, eqb-true, false_from_ne_true, ne_eqb, not-true, or_cases, or_parts}
+pub use Rattle.std.proofs.lemmas.Bool.Decides.{Decides-eqb}
+pub use Rattle.std.proofs.lemmas.Grind.{flat_map-append}
+pub use Rattle.std.proofs.lemmas.List.{append-nil, drop_more, get_or-map, get_or-take, get_or_default, get_or_past, length-drop, length-map, length-take, length_push, map-append, take-append-drop, take_all, take_more}
+pub use Rattle.std.proofs.lemmas.List.Concat.{flat_map-cons, length-flat_map}
+pub use Rattle.std.proofs.lemmas.List.Elements.{All-contains, filter_agree}
+pub use Rattle.std.proofs.lemmas.List.Folds.{find-append, list_all-map}
+pub use Rattle.std.proofs.lemmas.List.Kept.{AllPairs-cons, AllPairs-filter}
+pub use Rattle.std.proofs.lemmas.List.Quantifiers.{all_pairs_push}
+pub use Rattle.std.proofs.lemmas.List.Sorted.{Contains-permutation, IsPermutation-sym, list_any-IsPermutation}
+pub use Rattle.std.proofs.lemmas.List.Sums.{sum_by-append, sum_by-cons, sum_by_more, sum_by_push}
+pub use Rattle.std.proofs.lemmas.Map.Made.{AllPairs-from_IsDistinct, IsDistinct-from_AllPairs}
+pub use Rattle.std.proofs.lemmas.Option.{get_or_from_slice_get, slice_get-get_or, slice_get_within}
+pub use Rattle.std.proofs.lemmas.Simd.{map-map}
+pub use Rattle.std.proofs.lemmas.Slice.Eq.{slice_eq-Decides}
+pub use Rattle.std.proofs.lemmas.Slice.Zip.{AllZip-long}
+pub use Rattle.std.specs.Bool.{beq}
+pub use Rattle.std.specs.List.{AllZip, flat_map, list_all, list_any, range_with_len, slice_index_or, zip}
+pub use Rattle.std.specs.List.Sorted.{IsPermutation}
+pub use Rattle.std.specs.Option.{option_or}
+pub use Rattle.std.specs.Prelude.{All, AllPairs, Contains, MatchOption, codes, count_by, filter, if◌then◌else◌, slice_get, sum_by, ◌==◌}
+pub use Rattle.std.specs.Str.{bytes_eq}

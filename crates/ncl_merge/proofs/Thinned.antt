@@ -1,7 +1,6 @@
 -- Where nets of a thinned netlist come from, and its first rules of shape.
-use Rattle.ncl_merge.proofs.Kit.{◌≡◌, ◌<◌, ◌+◌, ℕ, zero, suc, Bool, true, false, List, [], ◌∷◌, length, map, Some, ◌⊎◌, inl, inr, refl, sym, ap, ◌∙◌, subst, arith, Contains, slice_get, not, cond, ◌==◌, filter, sum_by, count_by, slice_get_within, cases_Bool, cases_eq, eq-eqb, ne_eqb, both_ways, sum_by-cons}
-use Rattle.ncl_merge.proofs.Terms.{pins_of-gate, arity_of-some, Kind, arity_of, pins_of, is_register, is_data_register, register_no_gate, data_is_register, CellKind, Gate, Register, RegisterData, Ack, NetId, Port, Cell, NetlistData, IsCell, CellAt, IsGate, IsRegister, IsAck, ReadsNet, OnPin, A, B, RST, IsInputPort, IsOutputPort, IsOfBank, AcksBank, IsDataBank, Origin, FromPort, RailOf, AckOf, ComesFrom, port, rail, ack, gate, HasOnlyOrigin, LeadsTo, one, IsReadPort, IsOffCycles, IsTied, IsUnmixed, IsGateOfOne, IsRegisterOfOne, IsAckOfOne, IsFirstOfBank, IsPaired, ack_pins, ack_pins_of, pins_with, is_gate, IsFree, Member, here, there, member_of_filter, Member-map, slice_get-some, Contains-from_Member, Member-from_Contains, Contains-from_slice_get, slice_get-from_Contains, at_of_map, at_map, All-member, driver_of, cell_fits, same_place, place_of, sort_of, bank_of_register, bank_of_ack, only_origin, renamed_net, moved, IsRailGate, IsStood, IsThinned}
-use Rattle.ncl_cell_rules.specs.Origin.{more}
+pub use Rattle.ncl_merge.proofs.Terms.{A, Ack, AckOf, AcksBank, All-member, B, Bool, Cell, CellAt, CellKind, ComesFrom, Contains, Contains-from_Member, Contains-from_slice_get, FromPort, Gate, HasOnlyOrigin, IsAck, IsAckOfOne, IsCell, IsDataBank, IsFirstOfBank, IsFree, IsGate, IsGateOfOne, IsInputPort, IsOfBank, IsOffCycles, IsOutputPort, IsPaired, IsRailGate, IsReadPort, IsRegister, IsRegisterOfOne, IsStood, IsThinned, IsTied, IsUnmixed, Kind, LeadsTo, List, Member, Member-from_Contains, Member-map, NetId, NetlistData, OnPin, Origin, Port, RST, RailOf, ReadsNet, Register, RegisterData, Some, [], ack, ack_pins, ack_pins_of, ap, arith, arity_of, arity_of-some, at_map, at_of_map, bank_of_ack, bank_of_register, both_ways, cases_Bool, cases_eq, cell_fits, cond, count_by, data_is_register, driver_of, eq-eqb, false, filter, gate, inl, inr, is_data_register, is_gate, is_register, length, map, member_of_filter, more, moved, ne_eqb, not, one, only_origin, pins_of, pins_of-gate, pins_with, place_of, port, rail, refl, register_no_gate, renamed_net, same_place, slice_get, slice_get-from_Contains, slice_get-some, slice_get_within, sort_of, subst, suc, sum_by, sum_by-cons, sum_by-map, sym, there, true, zero, ℕ, ◌+◌, ◌<◌, ◌==◌, ◌∙◌, ◌∷◌, ◌≡◌, ◌⊎◌}
+use Rattle.ncl_merge.proofs.Weights.{sum-same}
 
 -- where an origin leads back to
 abbrev pub origin_back : (ℕ → ℕ) → Origin → Origin
@@ -47,17 +46,8 @@ sum_of_passing f test (x ∷ xs) none =
           total ∙ ap (sum_by f) (sym gone)
     ]
 
-sum_of_map : {X Y : Type 0} (f : Y → ℕ) (g : X → Y) (h : X → ℕ) (xs : List X) → ((x : X) → Member x xs → f (g x) ≡ h x) → sum_by f (map g xs) ≡ sum_by h xs
-sum_of_map f g h [] same = refl
-sum_of_map f g h (x ∷ xs) same =
-    let rest = sum_of_map f g h xs (λ y m. same y (there m)) in
-    let first = same x here in
-    let left : sum_by f (g x ∷ map g xs) ≡ f (g x) + sum_by f (map g xs) = sum_by-cons f (g x) (map g xs) in
-    let right : sum_by h (x ∷ xs) ≡ h x + sum_by h xs = sum_by-cons h x xs in
-    omega (arith, rest, first, left, right)
-
 count_of_map : {X Y : Type 0} (p : Y → Bool) (g : X → Y) (q : X → Bool) (xs : List X) → ((x : X) → Member x xs → p (g x) ≡ q x) → count_by p (map g xs) ≡ count_by q xs
-count_of_map p g q xs same = sum_of_map (λ y. cond (p y) 1 0) g (λ x. cond (q x) 1 0) xs (λ x m. ap (λ b. cond b 1 0) (same x m))
+count_of_map p g q xs same = sum_by-map (λ y. cond (p y) 1 0) g xs ∙ sum-same (λ x. cond (p (g x)) 1 0) (λ x. cond (q x) 1 0) xs (λ x m. ap (λ b. cond b 1 0) (same x m))
 
 module _ (n m : NetlistData) (is : IsThinned n m) (free : IsFree n) where
   -- ---- cells that stand
@@ -478,7 +468,8 @@ module _ (n m : NetlistData) (is : IsThinned n m) (free : IsFree n) where
   ack-pins-same x kept =
       sum_of_passing (λ (c : Cell). ack_pins_of c.kind (is.to x) c.ins.items) plain_test m.cells (λ c fails. gate_pins c (is.to x) fails)
       ∙ ap (sum_by (λ (c : Cell). ack_pins_of c.kind (is.to x) c.ins.items)) is.plain
-      ∙ sum_of_map (λ (c : Cell). ack_pins_of c.kind (is.to x) c.ins.items) (moved is.to) (λ (c : Cell). ack_pins_of c.kind x c.ins.items) (filter plain_test n.cells) (moved_pins x kept)
+      ∙ sum_by-map (λ (c : Cell). ack_pins_of c.kind (is.to x) c.ins.items) (moved is.to) (filter plain_test n.cells)
+      ∙ sum-same (λ (c : Cell). ack_pins_of (moved is.to c).kind (is.to x) (moved is.to c).ins.items) (λ (c : Cell). ack_pins_of c.kind x c.ins.items) (filter plain_test n.cells) (moved_pins x kept)
       ∙ sym (sum_of_passing (λ (c : Cell). ack_pins_of c.kind x c.ins.items) plain_test n.cells (λ c fails. gate_pins c x fails))
 
   pub paired : (d : Cell) → IsCell m d → IsPaired m d

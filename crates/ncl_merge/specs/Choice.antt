@@ -1,7 +1,7 @@
 -- What becomes of the cells of a pipeline's netlist where the cells of its stages have been folded, and the stages that are
 -- made of these.
-use Rattle.std.specs.Prelude.{◌≡◌, ◌<◌, ℕ, Contains, Bool, true, false, if◌then◌else◌, nat_eq, List, [], ◌∷◌, length, map, take, Option, None, Some}
-use Rattle.std.specs.List.{list_any, flat_map, slice_index_or}
+use Rattle.std.specs.Prelude.{◌≡◌, ◌<◌, ℕ, Contains, Bool, true, false, nat_eq, List, [], ◌∷◌, length, map, take, Option, None, Some}
+use Rattle.std.specs.List.{find, list_any, flat_map, slice_index_or}
 use Rattle.ncl_gates.specs.declared.cell_kind.CellKind.TheVariants.{Gate}
 use Rattle.ncl_netlist.specs.declared.cell.Cell.{Cell}
 use Rattle.ncl_netlist.specs.Netlist.{NetlistData}
@@ -15,8 +15,7 @@ use Rattle.ncl_merge.specs.Rebuilt.{kept, kept_parts, number_in}
 
 -- the first of some cells that drives a net
 abbrev pub cell_driving : ℕ → List StageCell → Option StageCell
-cell_driving net [] = None
-cell_driving net (g ∷ cells) = if nat_eq g.out.0 net then Some g else cell_driving net cells
+cell_driving net cells = find (λ (g : StageCell). nat_eq g.out.0 net) cells
 
 -- a net that some of the cells drive, or a cell of some stage
 abbrev pub is_driven : ℕ → List StageCell → Bool

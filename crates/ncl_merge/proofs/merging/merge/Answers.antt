@@ -1,6 +1,4 @@
-use Rattle.ncl_merge.proofs.Kit.{inl, refl, subst, MatchOption}
-use Rattle.ncl_merge.proofs.Terms.{IsSmaller, NothingFoldable}
-use Rattle.ncl_merge.proofs.Rounds.{way-sound, way-on, way-ends}
+use Rattle.ncl_merge.proofs.Keeping.{IsSmaller, MatchOption, NothingFoldable, inl, refl, subst, way-ends, way-on, way-sound}
 use Rattle.ncl_merge.proofs.merging.merge.Goals as goal
 
 pub loop-merged-init : goal.loop-merged-init

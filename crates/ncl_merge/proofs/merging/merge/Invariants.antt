@@ -1,5 +1,4 @@
-use Rattle.ncl_merge.proofs.Kit.{length}
-use Rattle.ncl_merge.proofs.Terms.{IsOnTheWay}
+use Rattle.ncl_merge.proofs.Terms.{IsOnTheWay, length}
 use Rattle.ncl_merge.proofs.merging.merge.Given as goal
 
 abbrev pub invariant-loop-merged : goal.invariant-loop-merged

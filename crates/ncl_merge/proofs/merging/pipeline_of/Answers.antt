@@ -1,4 +1,4 @@
-use Rattle.ncl_merge.proofs.Rounds.{sound-unbroken}
+use Rattle.ncl_merge.proofs.Keeping.{sound-unbroken}
 use Rattle.ncl_merge.proofs.merging.pipeline_of.Goals as goal
 
 pub unreachable-requires : goal.unreachable-requires

@@ -1,6 +1,4 @@
-use Rattle.ncl_merge.proofs.Kit.{sym, subst, MatchOption}
-use Rattle.ncl_merge.proofs.Terms.{HasNoFoldable, AreFewer}
-use Rattle.ncl_merge.proofs.Rounds.{nothing-foldable, round-smaller}
+use Rattle.ncl_merge.proofs.Keeping.{AreFewer, HasNoFoldable, MatchOption, subst, sym, nothing-foldable, round-smaller}
 use Rattle.ncl_merge.proofs.merging.round.Goals as goal
 
 pub returns-in-Some : goal.returns-in-Some

@@ -1,6 +1,4 @@
-use Rattle.ncl_merge.proofs.Kit.{◌≡◌, ◌<◌, false, length, map, sym, ap, ◌∙◌, subst, All}
-use Rattle.ncl_merge.proofs.Terms.{NetId, NetlistData, part_of, IsTable, StageCell, kept, HaveGates, all_of, choice_by, choice_of, is_stage_net}
-use Rattle.ncl_merge.proofs.FoldedParts.{all-inside, all-once, gate-pins, kept-by-tables}
+use Rattle.ncl_merge.proofs.Choices.{All, HaveGates, IsTable, NetId, NetlistData, StageCell, all_of, ap, choice_by, choice_of, false, is_stage_net, kept, length, map, part_of, subst, sym, ◌<◌, ◌∙◌, ◌≡◌, all-inside, all-once, gate-pins, kept-by-tables}
 use Rattle.ncl_merge.proofs.rebuilding.folded_parts.Goals as goal
 
 pub gates_by_net-requires-clause-inside : goal.gates_by_net-requires-clause-inside

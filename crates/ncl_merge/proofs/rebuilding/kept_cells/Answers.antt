@@ -1,7 +1,4 @@
-use Rattle.ncl_merge.proofs.Kit.{◌≡◌, ◌<◌, false, [], ◌++◌, length, map, get_or, sym, subst}
-use Rattle.ncl_merge.proofs.Terms.{Cell, part_of, with_kept, becomes}
-use Rattle.ncl_merge.proofs.Lists.{member-read}
-use Rattle.ncl_merge.proofs.NetTables.{kept-more}
+use Rattle.ncl_merge.proofs.Choices.{Cell, [], becomes, false, get_or, length, map, part_of, subst, sym, with_kept, ◌++◌, ◌<◌, ◌≡◌, kept-more, member-read}
 use Rattle.ncl_merge.proofs.rebuilding.kept_cells.Goals as goal
 
 pub loop-cell-preserved : goal.loop-cell-preserved

@@ -1,5 +1,4 @@
-use Rattle.ncl_merge.proofs.Kit.{◌≡◌, map, take}
-use Rattle.ncl_merge.proofs.Terms.{part_of, kept, choice_by}
+use Rattle.ncl_merge.proofs.Terms.{choice_by, kept, map, part_of, take, ◌≡◌}
 use Rattle.ncl_merge.proofs.rebuilding.kept_cells.Given as goal
 
 abbrev pub invariant-loop-cell : goal.invariant-loop-cell

@@ -1,5 +1,4 @@
-use Rattle.ncl_merge.proofs.Kit.{◌≡◌, ℕ, ◌<◌, ◌||◌, false, length, take, slice_index_or}
-use Rattle.ncl_merge.proofs.Terms.{is_driven}
+use Rattle.ncl_merge.proofs.Terms.{false, is_driven, length, slice_index_or, take, ℕ, ◌<◌, ◌||◌, ◌≡◌}
 use Rattle.ncl_merge.proofs.rebuilding.mark.Given as goal
 
 -- the nets of the cells so far are marked

@@ -1,5 +1,4 @@
-use Rattle.ncl_merge.proofs.Kit.{◌≡◌, [], map, take, slice_index_or}
-use Rattle.ncl_merge.proofs.Terms.{NetId}
+use Rattle.ncl_merge.proofs.Terms.{NetId, [], map, slice_index_or, take, ◌≡◌}
 use Rattle.ncl_merge.proofs.rebuilding.pin_names.Given as goal
 
 -- the names of the pins so far

@@ -1,6 +1,4 @@
-use Rattle.ncl_merge.proofs.Kit.{◌<◌, ◌++◌, length, sym, subst, arith, take_all}
-use Rattle.ncl_merge.proofs.Terms.{StageCell, HaveGates}
-use Rattle.ncl_merge.proofs.NetTables.{put-more}
+use Rattle.ncl_merge.proofs.Choices.{HaveGates, StageCell, arith, length, subst, sym, take_all, ◌++◌, ◌<◌, put-more}
 use Rattle.ncl_merge.proofs.rebuilding.put_gates.Goals as goal
 
 pub loop-cell-preserved : goal.loop-cell-preserved

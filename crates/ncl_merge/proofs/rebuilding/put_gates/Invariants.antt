@@ -1,5 +1,4 @@
-use Rattle.ncl_merge.proofs.Kit.{List, ◌++◌, take}
-use Rattle.ncl_merge.proofs.Terms.{StageCell, DriveOnce, HaveGates}
+use Rattle.ncl_merge.proofs.Terms.{DriveOnce, HaveGates, List, StageCell, take, ◌++◌}
 use Rattle.ncl_merge.proofs.rebuilding.put_gates.Given as goal
 
 -- the cells so far are at their nets

@@ -1,6 +1,4 @@
-use Rattle.ncl_merge.proofs.Kit.{◌≡◌, ◌<◌, ◌++◌, length, take, get_or, sym, ap, ◌∙◌, subst, arith, All, take_all}
-use Rattle.ncl_merge.proofs.Terms.{StageCell, HaveGates, DriveOnce, all_of}
-use Rattle.ncl_merge.proofs.NetTables.{all_of-at, all_of-more, once-more}
+use Rattle.ncl_merge.proofs.Choices.{All, DriveOnce, HaveGates, StageCell, all_of, ap, arith, get_or, length, subst, sym, take, take_all, ◌++◌, ◌<◌, ◌∙◌, ◌≡◌, all_of-at, all_of-more, once-more}
 use Rattle.ncl_merge.proofs.rebuilding.put_lists.Goals as goal
 
 pub put_gates-requires : goal.put_gates-requires

@@ -1,5 +1,4 @@
-use Rattle.ncl_merge.proofs.Kit.{take}
-use Rattle.ncl_merge.proofs.Terms.{HaveGates, all_of}
+use Rattle.ncl_merge.proofs.Terms.{HaveGates, all_of, take}
 use Rattle.ncl_merge.proofs.rebuilding.put_lists.Given as goal
 
 -- the cells of the lists so far are at their nets

@@ -1,7 +1,4 @@
-use Rattle.ncl_merge.proofs.Kit.{◌<◌, ◌^◌, length, sym, subst, All}
-use Rattle.ncl_merge.proofs.Terms.{Parts, IsFaultless, AllDiffer, HasAllPins, port_names, choice_of}
-use Rattle.ncl_merge.proofs.Faultless.{faultless-kept, ports-apart, all-pins}
-use Rattle.ncl_merge.proofs.WholeChoice.{is-choice, is-whole}
+use Rattle.ncl_merge.proofs.Choices.{All, AllDiffer, HasAllPins, IsFaultless, Parts, choice_of, length, port_names, subst, sym, ◌<◌, ◌^◌, all-pins, faultless-kept, is-choice, is-whole, ports-apart}
 use Rattle.ncl_merge.proofs.rebuilding.rebuild.Goals as goal
 
 pub built-requires-clause-ports_differ : goal.built-requires-clause-ports_differ

@@ -1,6 +1,4 @@
-use Rattle.ncl_merge.proofs.Kit.{◌<◌, length, sym, ap, subst, arith, All}
-use Rattle.ncl_merge.proofs.Terms.{StageCell}
-use Rattle.ncl_merge.proofs.AllFolding.{item-at, stage-inside}
+use Rattle.ncl_merge.proofs.FoldingSteps.{All, StageCell, ap, arith, length, subst, sym, ◌<◌, item-at, stage-inside}
 use Rattle.ncl_merge.proofs.rebuilding.stage_nets.Goals as goal
 
 pub mark-requires : goal.mark-requires

@@ -1,4 +1,4 @@
-use Rattle.ncl_merge.proofs.NetTables.{AreStageNets}
+use Rattle.ncl_merge.proofs.Choices.{AreStageNets}
 use Rattle.ncl_merge.proofs.rebuilding.stage_nets.Given as goal
 
 abbrev pub invariant-loop-stage : goal.invariant-loop-stage

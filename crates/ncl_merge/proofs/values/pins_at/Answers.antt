@@ -1,6 +1,4 @@
-use Rattle.ncl_merge.proofs.Kit.{◌∙◌}
-use Rattle.ncl_merge.proofs.Terms.{pin_values-same, assigned}
-use Rattle.ncl_merge.proofs.FoldValues.{with_net-again}
+use Rattle.ncl_merge.proofs.Folds.{assigned, pin_values-same, ◌∙◌, with_net-again}
 use Rattle.ncl_merge.proofs.values.pins_at.Goals as goal
 
 pub returns : goal.returns

@@ -1,6 +1,6 @@
 -- A folded netlist keeps what the netlist has: what its stages lose the netlist loses, its text is no longer, and it gives
 -- what the netlist gave.
-pub use Rattle.ncl_merge.proofs.Terms.{All, All-contains, All-from_members, All-member, AllPairs, AllPairs-append, AllPairs-cons, AllZip, AllZip-from_places, AreFewer, Bank, BankBit, Bool, Cell, CellAt, Contains, Contains-from_Member, Contains-from_slice_get, Differ, FoldsTo, Gate, HasLabelOf, IsCell, IsLayoutOf, IsMergedBank, IsMergedStage, IsNetlist, IsRailGate, IsSmaller, IsSound, Keeps, Kind, Layout, List, Member, Member-append_cases, Member-append_left, Member-append_right, Member-from_Contains, Member-map, NetId, NetlistData, None, Option, PartCell, PipelineData, Shape, Some, StageCell, StageData, [], all_of, ap, arith, arity_of, at_map, both_ways, cases_Bool, cases_lt, cell_line, cell_name, cell_name_of, choice_of, closed-is, codes, composed, cond, drop, eq-eqb, eqb-true, false, false_from_ne_true, filter, flat_map, flat_map-cons, folded_netlist, folded_pipeline, function_at, get_or_from_slice_get, header_line, held-in, held_from, held_nets, here, if◌then◌else◌, inl, input_pins, inr, is_composition, is_some, is_stage_cell, kept, laid_out, length, length-append, length-drop, length-flat_map, length-join_with_byte, length-map, line_length, list_any, list_any-from_member, map, map-map, member_cases, member_from_list_any, member_of_flat_map, member_of_map, moved, moved_bank, moved_bit, moved_gate, moved_stage, name_at, name_number, name_number-get_or, name_of, nat_eq, net_there, nets_at, nets_of, not, number_in, opened, out_of, part_of, pin_names, pin_text, pin_texts, pins_of, pins_of-gate, place_of, place_there, port_line, rail_nets, refl, renamed_rails, same_driver, same_place, slice_get, slice_get-drop, slice_get-from_Contains, slice_get-some, slice_get_within, sound-when_held, spelled_name, stage_function, stages_apart, standing, subst, suc, sum_by, sum_by-append, sum_by-cons, sum_by-map, sym, take, take-append-drop, text_of, there, true, under-own, value_or_low, wire_line, wires-pass, wires_or_stage, wires_sound, with_cells, with_gate_of, with_kept, word-passes, word_held, word_under, zero, zip, ℕ, ◌++◌, ◌+◌, ◌-◌, ◌<◌, ◌∙◌, ◌∷◌, ◌≡◌, ◌≢◌, ◌≤◌}
+pub use Rattle.ncl_merge.proofs.Terms.{All, All-contains, All-from_members, All-member, AllPairs, AllPairs-append, AllPairs-cons, AllZip, AllZip-from_places, AllZip-same, AreFewer, Bank, BankBit, Bool, Cell, CellAt, Contains, Contains-from_Member, Contains-from_slice_get, Differ, FoldsTo, Gate, HasLabelOf, IsCell, IsLayoutOf, IsMergedBank, IsMergedStage, IsNetlist, IsRailGate, IsSmaller, IsSound, Keeps, Kind, Layout, List, Member, Member-append_cases, Member-append_left, Member-append_right, Member-from_Contains, Member-map, NetId, NetlistData, None, Option, PartCell, PipelineData, Shape, Some, StageCell, StageData, Th12, [], all_of, ap, arith, arity_of, at_map, both_ways, cases_Bool, cases_lt, cell_line, cell_name, cell_name_of, choice_of, closed-is, codes, composed, cond, drop, eq-eqb, eqb-true, false, false_from_ne_true, filter, flat_map, flat_map-cons, folded_netlist, folded_pipeline, function_at, get_or_from_slice_get, header_line, held-in, held_from, held_nets, here, if◌then◌else◌, inl, input_pins, inr, is_composition, is_some, is_stage_cell, kept, laid_out, length, length-append, length-drop, length-flat_map, length-join_with_byte, length-map, line_length, list_all, list_all-member, list_any, list_any-from_member, map, map-map, member_cases, member_from_list_any, member_of_flat_map, member_of_map, moved, moved_bank, moved_bit, moved_gate, moved_stage, name_at, name_number, name_number-get_or, name_of, nat_eq, net_there, nets_at, nets_of, not, number_in, opened, out_of, part_of, pin_names, pin_text, pin_texts, pins_of, pins_of-gate, place_of, place_there, port_line, rail_nets, refl, renamed_rails, same_driver, same_place, slice_get, slice_get-drop, slice_get-from_Contains, slice_get-some, slice_get_within, sound-when_held, spelled_name, stage_function, stages_apart, standing, subst, suc, sum_by, sum_by-append, sum_by-cons, sum_by-map, sym, take, take-append-drop, text_of, there, true, under-own, value_or_low, wire_line, wires-pass, wires_or_stage, wires_sound, with_cells, with_gate_of, with_kept, word-passes, word_held, word_under, zero, zip, ℕ, ◌++◌, ◌+◌, ◌-◌, ◌<◌, ◌∙◌, ◌∷◌, ◌≡◌, ◌≢◌, ◌≤◌}
 use Rattle.ncl_merge.proofs.Weights.{halves, lines_no_longer, no_more, ones, outs-differ, sum-same, sum_by-flat_map, sums-le, sums-split}
 use Rattle.ncl_merge.proofs.Folds.{function-folded, sound-folded}
 use Rattle.ncl_merge.proofs.Renamed.{function-renamed, sound-renamed}
@@ -62,22 +62,12 @@ pins-length (pin ∷ pins) (net ∷ names) one same =
     omega (arith, left, right, rest, letter, length-append (codes ".") (pin ++ (codes "(" ++ (spelled_name net ++ codes ")"))), length-append pin (codes "(" ++ (spelled_name net ++ codes ")")), length-append (codes "(") (spelled_name net ++ codes ")"), length-append (spelled_name net) (codes ")"))
 
 -- the pins of a gate have one letter
-one_more : (x : List ℕ) (xs : List (List ℕ)) → length x ≡ 1 → ((pin : List ℕ) → Member pin xs → length pin ≡ 1) → (pin : List ℕ) → Member pin (x ∷ xs) → length pin ≡ 1
-one_more x xs one rest pin m = elim (member_cases pin x xs m) [ inl same ↦ ap length (sym same) ∙ one | inr later ↦ rest pin later ]
+letters : (kind : Kind) → list_all (λ pin. nat_eq (length pin) 1) (pins_of (Gate kind)) ≡ true
+letters Th12 = refl
+letters kind = refl
 
 one-letter : (kind : Kind) (pin : List ℕ) → Member pin (pins_of (Gate kind)) → length pin ≡ 1
-one-letter kind pin m =
-    elim (Member-append_cases pin (take (arity_of kind) input_pins) (codes "Z" ∷ []) m) [
-      | inl input ↦ letters pin (subst (Member pin) (take-append-drop (arity_of kind) input_pins) (Member-append_left pin (drop (arity_of kind) input_pins) input))
-      | inr last ↦ one_more (codes "Z") [] refl (λ x none. elim none [ ]) pin last
-    ]
-  where
-    letters : (pin : List ℕ) → Member pin input_pins → length pin ≡ 1
-    letters =
-        one_more (codes "A") (codes "B" ∷ codes "C" ∷ codes "D" ∷ []) refl
-        (one_more (codes "B") (codes "C" ∷ codes "D" ∷ []) refl
-        (one_more (codes "C") (codes "D" ∷ []) refl
-        (one_more (codes "D") [] refl (λ x none. elim none [ ]))))
+one-letter kind pin m = eqb-true (length pin) 1 (list_all-member (λ pin. nat_eq (length pin) 1) (pins_of (Gate kind)) (letters kind) pin m)
 
 opened-length : (texts : List (List ℕ)) → length (opened texts) ≡ sum_by (λ t. length t + 1) texts
 opened-length [] = refl
@@ -200,10 +190,7 @@ held-is_composition p shape sound k b at word held =
 -- ---- stages and banks
 
 functions-of : (n m : NetlistData) (xs ys : List StageData) → AllZip (IsMergedStage n m) xs ys → AllZip (λ (s t : StageData). (word : List Bool) → stage_function t word ≡ stage_function s word) xs ys
-functions-of n m [] [] all = tt
-functions-of n m [] (y ∷ ys) all = absurd all
-functions-of n m (x ∷ xs) [] all = absurd all
-functions-of n m (x ∷ xs) (y ∷ ys) (first, rest) = (first.function, functions-of n m xs ys rest)
+functions-of n m xs ys all = AllZip-same (IsMergedStage n m) (λ (s t : StageData). (word : List Bool) → stage_function t word ≡ stage_function s word) xs ys all (λ k s t at merged. merged.function)
 
 -- ---- banks
 

@@ -85,7 +85,7 @@ pub use Rattle.ncl_shape.proofs.RailLaws.{rail_found, rail_one, rail_zero}
 pub use Rattle.ncl_shape.proofs.RenamedNets.{known-renamed, nets-renamed, rail_nets-renamed}
 pub use Rattle.ncl_shape.proofs.Rounds.{rounds-below_settled, rounds-keep, rounds-settled}
 pub use Rattle.ncl_shape.proofs.ShapeLaws.{last_bank, request_at, requests, same_cell, shape_is_one}
-pub use Rattle.ncl_shape.proofs.ZippedLists.{AllZip-find, AllZip-found, zip_split}
+pub use Rattle.ncl_shape.proofs.ZippedLists.{AllZip-find, AllZip-found, AllZip-same, zip_split}
 pub use Rattle.ncl_shape.specs.Chain.{ChainedRequests, Follows, HasEnds, HasOne, HasOneRole, HasRegister, HasRoots, IsAcknowledged, IsBank, IsChain, IsChained, IsClosed, IsDataApart, IsFirstBank, IsHead, IsInputOf, IsLastBank, IsPath, IsRoot, IsUnforked, NoFork, OnPinNamed, OneChain, OneRoleEach, OneRootEach, ShownOutputs, SomeRegister, TwoEnds, WordsApart, end, next}
 pub use Rattle.ncl_shape.specs.Closure.{close, function_at, held_nets, pin_values}
 pub use Rattle.ncl_shape.specs.Held.{is_data_bank, value_or_low, word_held}
@@ -110,6 +110,7 @@ pub use Rattle.std.proofs.Math.Path.{fun_ext}
 pub use Rattle.std.proofs.lemmas.Bool.{and_from, and_parts, both_ways, cases_Bool, cases_eq, cases_lt, eqb-true, false_from_ne_true, ne_eqb, not-true, or_cases, or_parts}
 pub use Rattle.std.proofs.lemmas.Bool.Decides.{Decides-eqb}
 pub use Rattle.std.proofs.lemmas.Grind.{flat_map-append}
+pub use Rattle.std.proofs.lemmas.List.FromFn.{get_or-range_with_len, length-range_with_len}
 pub use Rattle.std.proofs.lemmas.List.{append-nil, drop_more, get_or-map, get_or-take, get_or_default, get_or_past, length-drop, length-map, length-take, length_push, map-append, take-append-drop, take_all, take_more}
 pub use Rattle.std.proofs.lemmas.List.Concat.{flat_map-cons, length-flat_map}
 pub use Rattle.std.proofs.lemmas.List.Elements.{All-contains, filter_agree}

@@ -1,6 +1,6 @@
 -- The netlist of the kept cells has the shape of the pipeline of the folded stages, and its nets and cells have the names that
 -- they had.
-pub use Rattle.ncl_merge.proofs.Terms.{All, All-from_members, AllPairs, AllZip, AllZip-long, AreFewer, AreRailsOf, Bool, Cell, CellAt, CellId, Contains, Contains-filter_map, Contains-from_Member, Contains-from_slice_get, Gate, HasLabelOf, IsCell, IsChoice, IsInputPort, IsNetlist, IsOutputPort, IsRailGate, IsRegister, IsRenamedCell, IsRenamedStage, IsThinStage, IsThinned, Kind, List, Member, Member-append_cases, Member-append_left, Member-append_right, Member-from_Contains, Member-get_or, Member-map, NetId, NetlistData, OneRootEach, Option, PartCell, PipelineData, Port, Rails, Shape, Some, StageCell, StageData, [], ap, arith, at_map, cell_fits, cell_name, choice_of, drives_rail, drop, false, first_bank, flat_map, folded_netlist, folded_pipeline, get_or, get_or-name_number, get_or_from_slice_get, inl, input_is_port, inr, is_gate, kept, kept_parts, ki_is_port, last_bank, length, map, map-append, map-map, map-same, member_of_flat_map, member_of_map, moved, moved_gate, moved_stage, moved_stages, name_at, name_number, name_number-get_or, name_number-lt-length, net_there, nets_at, nets_of, no_rails, number_in, out_of, part_of, pin_names, place_of, place_there, port_names, rail_at, rail_names, rail_nets, rail_one, rail_zero, refl, register_no_gate, register_of_rail, renamed_net, renamed_rails, request_at, requests, same_cell, same_driver, same_place, slice_get, slice_get-from_Contains, slice_get_within, stages_apart, subst, suc, sym, take-append-drop, true, with_cells, with_gate_of, zero, ℕ, ◌++◌, ◌<◌, ◌∙◌, ◌∷◌, ◌≡◌, ◌≢◌}
+use Rattle.ncl_merge.proofs.Terms.{All, All-from_members, AllPairs, AllZip, AreFewer, Cell, CellAt, CellId, Contains, Contains-filter_map, Contains-from_Member, Contains-from_slice_get, Gate, HasLabelOf, IsCell, IsChoice, IsInputPort, IsNetlist, IsOutputPort, IsRailGate, IsRegister, IsRenamedCell, IsRenamedStage, IsThinStage, IsThinned, Kind, List, Member, Member-append_cases, Member-append_left, Member-append_right, Member-from_Contains, Member-get_or, Member-map, NetId, NetlistData, OneRootEach, Option, PartCell, PipelineData, Port, Rails, Shape, Some, StageCell, StageData, [], ap, arith, at_map, cell_fits, cell_name, choice_of, drop, first_bank, flat_map, folded_netlist, folded_pipeline, get_or-name_number, get_or_from_slice_get, inl, input_is_port, inr, is_gate, kept, kept_parts, ki_is_port, last_bank, length, map, map-append, map-map, map-same, member_of_flat_map, member_of_map, moved, moved_gate, moved_stage, moved_stages, name_at, name_number, name_number-get_or, name_number-lt-length, net_there, nets_at, nets_of, number_in, out_of, part_of, pin_names, place_of, place_there, port_names, rail_names, rail_nets, rail_one, rail_zero, refl, register_no_gate, register_of_rail, renamed_net, renamed_rails, request_at, requests, same_cell, same_driver, same_place, slice_get, slice_get_within, stages_apart, subst, suc, sym, take-append-drop, with_cells, with_gate_of, zero, ℕ, ◌++◌, ◌<◌, ◌∙◌, ◌∷◌, ◌≡◌, ◌≢◌}
 use Rattle.ncl_merge.proofs.Weights.{ones, outs-differ}
 use Rattle.ncl_merge.proofs.Folds.{cell-folded}
 use Rattle.ncl_merge.proofs.Renamed.{pairs-map, renamed-stage}
@@ -210,21 +210,10 @@ module _ (p : PipelineData) (shape : Shape p.netlist p) (lists : List (List Stag
   pub outputs-named : map (rail_names m) (map (renamed_rails to) p.outputs) ≡ map (rail_names n) p.outputs
   outputs-named =
       let (k, last, end, at_last) = last_bank n p shape in
-      let rails = (shape.outputs k last end at_last).0 in
-      let bank = (shape.banks k last at_last).0 in
-      pairs-named p.outputs (λ r m-r.
-      let (j, at_r) = slice_get-from_Contains p.outputs r (Contains-from_Member r m-r) in
-      let within = slice_get_within p.outputs j r at_r in
-      let long = AllZip-long (AreRailsOf n) last.bits p.outputs rails in
-      let here_is : get_or p.outputs j no_rails ≡ r = get_or_from_slice_get p.outputs j r no_rails at_r in
-      let side : (b : Bool) → name_at m (to (rail_at p.outputs j b)) ≡ name_at n (rail_at p.outputs j b) =
-      λ b.
-      let (c, of_rail) = register_of_rail n shape.is_netlist shape.free last bank j b (omega (arith, within, long)) in
-      let drives = (drives_rail n last p.outputs rails j b c of_rail).1 in
-      subst (λ x. name_at m (to x) ≡ name_at n x) drives (name-register c of_rail.of_bank.0 of_rail.of_bank.1) in (
-        subst (λ (q : Rails). name_at m (to q.zero.0) ≡ name_at n q.zero.0) here_is (side false),
-        subst (λ (q : Rails). name_at m (to q.one.0) ≡ name_at n q.one.0) here_is (side true),
-      ))
+      let side : (net : ℕ) → Member net (rail_nets p.outputs) → name_at m (to net) ≡ name_at n net = λ net m-net.
+      let (c, of_bank, out) = register_of_rail n shape.is_netlist shape.free last.request.0 last.bits (shape.banks k last at_last).0.bits p.outputs (shape.outputs k last end at_last).0 net (Contains-from_Member net m-net) in
+      subst (λ x. name_at m (to x) ≡ name_at n x) out (name-register c of_bank.0 of_bank.1) in
+      pairs-named p.outputs (λ r m-r. (side r.zero.0 (rail_zero r m-r), side r.one.0 (rail_one r m-r)))
 
   -- ---- cells
 

@@ -1,8 +1,7 @@
 -- What becomes of each cell of a netlist whose stages were folded, by tables too, and that what is kept can be built.
-pub use Rattle.ncl_merge.proofs.Terms.{A, AckOf, All, All-from_members, All-member, AllDiffer, AllPairs, AllZip-long, AreFewer, AreRailsOf, B, Bank, Bool, Cell, CellAt, CellId, ComesFrom, Contains, Contains-from_Member, Contains-from_slice_get, DriveOnce, FoldsTo, HasAllPins, HaveGates, IsCell, IsChoice, IsFaultless, IsGate, IsInputPort, IsOfBank, IsOutputPort, IsRailGate, IsRegister, IsStage, IsStageOf, IsTable, IsWhole, List, Member, Member-append_cases, Member-append_left, Member-append_right, Member-flat_map, Member-from_Contains, Member-get_or, Member-map, NetId, NetlistData, None, OnPin, Option, Origin, PartCell, Parts, PipelineData, RailOf, ReadsNet, Shape, ShownOutputs, Some, StageCell, StageData, [], all_of, ap, append-nil, append_assoc, arith, arity_of, bank_named, bank_of_register, bank_rails, becomes, both_ways, cases_Bool, cases_eq, cell_driving, cell_fits, cell_of_rail, choice_by, choice_of, cond, drives_rail, drop, eq-eqb, eqb-true, false, filter_map-more, find-append, first_bank, flat_map, flat_map-append, flat_map-cons, gate, gate_of_stage, get_or, get_or-set_other, get_or-set_same, get_or_from_slice_get, here, inl, inner_or_last, inner_stage, input_is_port, inr, is_gate, is_stage_cell, is_stage_net, kept, last_bank, last_stage, length, length-map, length-set, list_any, list_any-from_member, map, map-append, map_push, member_cases, member_from_list_any, member_of_flat_map, member_of_map, nat_eq, ne_eqb, nets_at, nets_of, no_cell_drives_port, only_origin, option_or, origin_within, out_of, pairs-head, pairs-tail, part_of, pins_of, pins_of-gate, place_of, port_names, rail-place, rail-within, rail_at, rail_nets, rail_of_register, refl, register_no_gate, register_of_rail, register_on, register_pins_of, request_at, requests, same_driver, set, slice_get, slice_get-from_Contains, slice_get-get_or, slice_get-some, slice_get_within, sort_of, stage_at, stage_origin, stages_apart, stages_join, subst, suc, sym, take, take-append-drop, take_all, take_more, there, true, with_cells, with_gate_of, with_kept, zero, ℕ, ◌++◌, ◌+◌, ◌<◌, ◌^◌, ◌∙◌, ◌∷◌, ◌≡◌, ◌≢◌, ◌≤◌, ◌⊎◌}
-use Rattle.ncl_merge.proofs.Weights.{outs-differ}
+pub use Rattle.ncl_merge.proofs.Terms.{A, AckOf, All, All-from_members, All-member, AllDiffer, AreFewer, B, Bank, Bool, Cell, CellAt, CellId, ComesFrom, Contains, Contains-from_Member, Contains-from_slice_get, DriveOnce, FoldsTo, HasAllPins, HaveGates, IsCell, IsChoice, IsFaultless, IsGate, IsInputPort, IsOfBank, IsOutputPort, IsRailGate, IsRegister, IsStage, IsStageOf, IsTable, IsWhole, List, Member, Member-append_cases, Member-append_left, Member-append_right, Member-flat_map, Member-from_Contains, Member-get_or, Member-map, NetId, NetlistData, None, OnPin, Option, Origin, PartCell, Parts, PipelineData, RailOf, ReadsNet, Shape, ShownOutputs, Some, StageCell, StageData, [], all_of, ap, append-nil, append_assoc, arith, arity_of, bank_named, bank_of_register, becomes, both_ways, cases_Bool, cases_eq, cell_driving, cell_fits, cell_of_rail, choice_by, choice_of, cond, drop, eq-eqb, eqb-true, false, filter_map-more, find-append, first_bank, flat_map, flat_map-append, flat_map-cons, gate, gate_of_stage, get_or, get_or-set_other, get_or-set_same, get_or_from_slice_get, here, inl, inner_or_last, inner_stage, input_is_port, inr, is_gate, is_stage_cell, is_stage_net, kept, kept_parts, last_bank, last_stage, length, length-map, length-set, list_any, list_any-from_member, map, map-append, map_push, member_cases, member_from_list_any, member_of_flat_map, member_of_map, nat_eq, ne_eqb, nets_at, nets_of, no_cell_drives_port, only_origin, option_or, origin_within, out_of, part_of, pins_of, pins_of-gate, place_of, port_names, rail-within, rail_at, rail_nets, rail_of_register, refl, register_no_gate, register_of_rail, register_on, register_pins_of, request_at, requests, same_driver, same_output, set, slice_get, slice_get-from_Contains, slice_get-get_or, slice_get-some, slice_get_within, sort_of, stage_at, stage_origin, stages_apart, stages_join, subst, suc, sym, take, take-append-drop, take_all, take_more, there, true, with_cells, with_gate_of, with_kept, zero, ℕ, ◌++◌, ◌+◌, ◌<◌, ◌^◌, ◌∙◌, ◌∷◌, ◌≡◌, ◌≤◌, ◌⊎◌}
 use Rattle.ncl_merge.proofs.Folds.{cell-folded, rank-folded, stage-folded, stage-pin}
-pub use Rattle.ncl_merge.proofs.Rebuilt.{all-pins, decide, faultless-kept, ports-apart, rail_or_not, same-choice}
+use Rattle.ncl_merge.proofs.Rebuilt.{all-pins, decide, faultless-kept, ports-apart, rail_or_not, same-choice}
 
 -- ---- marks
 
@@ -125,22 +124,6 @@ member-read read xs k x same lt is = (subst (λ l. k < length l) same lt, is ∙
 
 -- ---- what each cell becomes
 
--- where outputs differ there is one cell for each
-one-member : (cells : List StageCell) → AllPairs (λ (x y : StageCell). x.out.0 ≢ y.out.0) cells → (g h : StageCell) → Member g cells → Member h cells → g.out.0 ≡ h.out.0 → g ≡ h
-one-member [] differ g h m o e = elim m [ ]
-one-member (x ∷ cells) differ g h m o e =
-    let apart = pairs-head (λ (x y : StageCell). x.out.0 ≢ y.out.0) x cells differ in
-    elim (member_cases g x cells m) [
-      | inl first ↦ elim (member_cases h x cells o) [
-        | inl also ↦ sym first ∙ also
-        | inr later ↦ absurd (apart h later (ap (λ (x : StageCell). x.out.0) first ∙ e))
-      ]
-      | inr rest ↦ elim (member_cases h x cells o) [
-        | inl also ↦ absurd (apart g rest (ap (λ (x : StageCell). x.out.0) also ∙ sym e))
-        | inr later ↦ one-member cells (pairs-tail (λ (x y : StageCell). x.out.0 ≢ y.out.0) x cells differ) g h rest later e
-      ]
-    ]
-
 -- a stage between its banks, and its cells after folds
 pub record IsFoldedStageAt (p : PipelineData) (lists : List (List StageCell)) (k : ℕ) (s : StageData) (cells : List StageCell) : Type 0 where
   pub stage : slice_get p.stages k ≡ Some s
@@ -241,12 +224,9 @@ module _ (p : PipelineData) (shape : Shape p.netlist p) (lists : List (List Stag
     -- an input of the stage is the net of a register cell
     pub input-register : (net : ℕ) → Member net (rail_nets s.inputs) → (r : Cell) × IsCell n r × IsRegister r × (r.out.0 ≡ net)
     input-register net m =
-        let inputs : (stage_at p (suc k)).inputs ≡ s.inputs = ap (λ (t : StageData). t.inputs) stage-is in
-        let (j, r, within, e) = rail-place (stage_at p (suc k)).inputs net (subst (λ xs. Member net (rail_nets xs)) (sym inputs) m) in
-        let rails = bank_rails p shape k at.bank at.bank_at in
-        let width = AllZip-long (AreRailsOf n) at.bank.bits (stage_at p (suc k)).inputs rails in
-        let (c, of_rail) = register_of_rail n shape.is_netlist shape.free at.bank (shape.banks k at.bank at.bank_at).0 j r (omega (arith, within, width)) in
-        (c, of_rail.of_bank.0, of_rail.of_bank.1, (drives_rail n at.bank (stage_at p (suc k)).inputs rails j r c of_rail).1 ∙ sym e)
+        let bits = (shape.banks k at.bank at.bank_at).0.bits in
+        let (c, of_bank, out) = register_of_rail n shape.is_netlist shape.free at.bank.request.0 at.bank.bits bits s.inputs at.between.inputs net (Contains-from_Member net m) in
+        (c, of_bank.0, of_bank.1, out)
 
     pub in-all : (g : StageCell) → Member g cells → Member g all
     in-all g m = Member-flat_map (λ (cells : List StageCell). cells) cells g (Member-from_Contains lists cells (Contains-from_slice_get lists k cells at.list)) m
@@ -284,7 +264,7 @@ module _ (p : PipelineData) (shape : Shape p.netlist p) (lists : List (List Stag
       let place : u.place ≡ v.place = omega (arith, numbers) in
       let both : Some u.cells ≡ Some v.cells = sym u.at.list ∙ ap (slice_get lists) place ∙ v.at.list in
       let lists_are : v.cells ≡ u.cells = cc in
-      one-member u.cells (outs-differ (with_cells u.stage u.cells) (is-folded u.place u.stage u.cells u.at)) g h u.among (subst (Member h) lists_are v.among) e
+      same_output (with_cells u.stage u.cells) (is-folded u.place u.stage u.cells u.at) g h u.among (subst (Member h) lists_are v.among) e
 
   -- ---- what a cell becomes
 
@@ -544,6 +524,14 @@ module _ (p : PipelineData) (shape : Shape p.netlist p) (lists : List (List Stag
           | inl rail ↦ absurd (not-shown b in_b rail output)
         ];
   }
+
+  -- so the parts of what is kept are a netlist's
+  pub parts-kept : IsFaultless (kept_parts n choice) × AllDiffer (port_names (kept_parts n choice)) × All HasAllPins (kept_parts n choice).cells
+  parts-kept = (
+    faultless-kept n shape.is_netlist shape.free choice is-choice is-whole,
+    ports-apart n shape.is_netlist shape.free choice is-choice is-whole,
+    all-pins n shape.is_netlist shape.free choice is-choice is-whole,
+  )
 
   -- ---- the tables from which the netlist is rebuilt
 

@@ -1,11 +1,11 @@
 -- A folded netlist keeps what the netlist has: what its stages lose the netlist loses, its text is no longer, and it gives
 -- what the netlist gave.
-pub use Rattle.ncl_merge.proofs.Terms.{All, All-contains, All-from_members, All-member, AllPairs, AllPairs-append, AllPairs-cons, AllZip, AllZip-from_places, AllZip-same, AreFewer, Bank, BankBit, Bool, Cell, CellAt, Contains, Contains-from_Member, Contains-from_slice_get, Differ, FoldsTo, Gate, HasLabelOf, IsCell, IsLayoutOf, IsMergedBank, IsMergedStage, IsNetlist, IsRailGate, IsSmaller, IsSound, Keeps, Kind, Layout, List, Member, Member-append_cases, Member-append_left, Member-append_right, Member-from_Contains, Member-map, NetId, NetlistData, None, Option, PartCell, PipelineData, Shape, Some, StageCell, StageData, Th12, [], all_of, ap, arith, arity_of, at_map, both_ways, cases_Bool, cases_lt, cell_line, cell_name, cell_name_of, choice_of, closed-is, codes, composed, cond, drop, eq-eqb, eqb-true, false, false_from_ne_true, filter, flat_map, flat_map-cons, folded_netlist, folded_pipeline, function_at, get_or_from_slice_get, header_line, held-in, held_from, held_nets, here, if◌then◌else◌, inl, input_pins, inr, is_composition, is_some, is_stage_cell, kept, laid_out, length, length-append, length-drop, length-flat_map, length-join_with_byte, length-map, line_length, list_all, list_all-member, list_any, list_any-from_member, map, map-map, member_cases, member_from_list_any, member_of_flat_map, member_of_map, moved, moved_bank, moved_bit, moved_gate, moved_stage, name_at, name_number, name_number-get_or, name_of, nat_eq, net_there, nets_at, nets_of, not, number_in, opened, out_of, part_of, pin_names, pin_text, pin_texts, pins_of, pins_of-gate, place_of, place_there, port_line, rail_nets, refl, renamed_rails, same_driver, same_place, slice_get, slice_get-drop, slice_get-from_Contains, slice_get-some, slice_get_within, sound-when_held, spelled_name, stage_function, stages_apart, standing, subst, suc, sum_by, sum_by-append, sum_by-cons, sum_by-map, sym, take, take-append-drop, text_of, there, true, under-own, value_or_low, wire_line, wires-pass, wires_or_stage, wires_sound, with_cells, with_gate_of, with_kept, word-passes, word_held, word_under, zero, zip, ℕ, ◌++◌, ◌+◌, ◌-◌, ◌<◌, ◌∙◌, ◌∷◌, ◌≡◌, ◌≢◌, ◌≤◌}
+use Rattle.ncl_merge.proofs.Terms.{All, All-contains, All-from_members, All-member, AllPairs, AllPairs-append, AllPairs-cons, AllZip, AllZip-from_places, AllZip-same, AreFewer, Bank, BankBit, Bool, Cell, CellAt, Contains, Contains-from_Member, Contains-from_slice_get, Differ, FoldsTo, Gate, HasLabelOf, IsCell, IsLayoutOf, IsMergedBank, IsMergedStage, IsNetlist, IsRailGate, IsSmaller, IsSound, Keeps, Kind, Layout, List, Member, Member-append_right, Member-from_Contains, Member-map, NetId, NetlistData, None, Option, PartCell, PipelineData, Shape, Some, StageCell, StageData, Th12, [], all_of, ap, arith, arity_of, at_map, both_ways, cases_Bool, cases_lt, cell_line, cell_name, cell_name_of, choice_of, closed-is, codes, composed, cond, drop, eq-eqb, eqb-true, false, false_from_ne_true, filter, flat_map, flat_map-cons, folded_netlist, folded_pipeline, function_at, get_or_from_slice_get, header_line, held-in, held_from, held_nets, here, if◌then◌else◌, inl, inr, is_composition, is_some, is_stage_cell, kept, laid_out, length, length-append, length-drop, length-flat_map, length-join_with_byte, length-map, line_length, list_all, list_all-member, list_any, list_any-from_member, map, map-map, member_from_list_any, member_of_flat_map, member_of_map, moved, moved_bank, moved_bit, moved_gate, moved_stage, name_at, name_number, name_number-get_or, name_of, nat_eq, net_there, nets_at, nets_of, not, number_in, opened, out_of, part_of, pin_names, pin_text, pin_texts, pins_of, pins_of-gate, place_of, place_there, port_line, rail_nets, refl, renamed_rails, same_driver, same_place, slice_get, slice_get-drop, slice_get-from_Contains, slice_get-some, slice_get_within, sound-when_held, spelled_name, stage_function, stages_apart, standing, subst, suc, sum_by, sum_by-append, sum_by-cons, sum_by-map, sym, text_of, there, true, under-own, value_or_low, wire_line, wires-pass, wires_or_stage, wires_sound, with_cells, with_gate_of, with_kept, word-passes, word_held, word_under, zero, zip, ℕ, ◌++◌, ◌+◌, ◌-◌, ◌<◌, ◌∙◌, ◌∷◌, ◌≡◌, ◌≢◌, ◌≤◌}
 use Rattle.ncl_merge.proofs.Weights.{halves, lines_no_longer, no_more, ones, outs-differ, sum-same, sum_by-flat_map, sums-le, sums-split}
 use Rattle.ncl_merge.proofs.Folds.{function-folded, sound-folded}
 use Rattle.ncl_merge.proofs.Renamed.{function-renamed, sound-renamed}
 use Rattle.ncl_merge.proofs.Thinned.{filter_gone, filter_kept}
-use Rattle.ncl_merge.proofs.Rebuilt.{cells-moved, decide, kept_none, kept_some, port-name, port-within}
+use Rattle.ncl_merge.proofs.Rebuilt.{in-kept, cells-moved, decide, kept_none, kept_some, port-name, port-within}
 use Rattle.ncl_merge.proofs.Choices.{IsFoldedStageAt, choice-rail, choice-stands, folded-stage, folds, gate-cell, is-choice, is-folded, out-known, place-in, rail-staged, stage-is, stage-within, staged-rail}
 use Rattle.ncl_merge.proofs.ChoiceShape.{inputs-named, is-thinned, ki-named, ko-named, label-there, moved-at, moved-count, name-of_cell, net-back, no-new_cells, no-new_nets, outputs-named, part-kept, renamed-at, shape-folded}
 
@@ -470,42 +470,32 @@ module _ (p : PipelineData) (shape : Shape p.netlist p) (lists : List (List Stag
     stays_here c = not (is_stage_cell p c)
 
     -- all others stand, in their order
-    standing-part : (cells : List Cell) → ((c : Cell) → Member c cells → IsCell n c) → ((d : Cell) → Member d (kept (choice_of p lists) cells) → Member d (kept (choice_of p lists) n.cells))
-        → map (part_of m.nets) (filter stays_there (map (moved to) (kept (choice_of p lists) cells))) ≡ map (part_of n.nets) (filter stays_here cells)
-    standing-part [] among kept_among = refl
-    standing-part (c ∷ cells) among kept_among =
+    standing-part : (cells : List Cell) → ((c : Cell) → Member c cells → IsCell n c) → map (part_of m.nets) (filter stays_there (map (moved to) (kept (choice_of p lists) cells))) ≡ map (part_of n.nets) (filter stays_here cells)
+    standing-part [] among = refl
+    standing-part (c ∷ cells) among =
         let in_c = among c here in
+        let rest = standing-part cells (λ b m-b. among b (there m-b)) in
+        let there_is : List Cell → List PartCell = λ xs. map (part_of m.nets) (filter stays_there (map (moved to) xs)) in
         elim (cases_Bool (is_stage_cell p c)) [
-          | inl staged ↦
-              let right : filter stays_here (c ∷ cells) ≡ filter stays_here cells = filter_gone stays_here c cells (ap not staged) in
-              elim (decide (choice_of p lists c)) [
-                | inl gone ↦
-                    let left = kept_none (choice_of p lists) c cells gone in
-                    ap (λ xs. map (part_of m.nets) (filter stays_there (map (moved to) xs))) left
-                    ∙ standing-part cells (λ b m-b. among b (there m-b)) (λ b m-b. kept_among b (subst (Member b) (sym left) m-b))
-                    ∙ ap (map (part_of n.nets)) (sym right)
-                | inr (d, is) ↦
-                    let left = kept_some (choice_of p lists) c d cells is in
-                    ap (λ xs. map (part_of m.nets) (filter stays_there (map (moved to) xs))) left
-                    ∙ ap (map (part_of m.nets)) (filter_gone stays_there (moved to d) (map (moved to) (kept (choice_of p lists) cells)) (ap not (staged-there c d in_c staged is)))
-                    ∙ standing-part cells (λ b m-b. among b (there m-b)) (λ b m-b. kept_among b (subst (Member b) (sym left) (there m-b)))
-                    ∙ ap (map (part_of n.nets)) (sym right)
-              ]
+          | inl staged ↦ elim (decide (choice_of p lists c)) [
+            | inl gone ↦ ap there_is (kept_none (choice_of p lists) c cells gone) ∙ rest ∙ ap (map (part_of n.nets)) (sym (filter_gone stays_here c cells (ap not staged)))
+            | inr (d, is) ↦
+                ap there_is (kept_some (choice_of p lists) c d cells is)
+                ∙ ap (map (part_of m.nets)) (filter_gone stays_there (moved to d) (map (moved to) (kept (choice_of p lists) cells)) (ap not (staged-there c d in_c staged is)))
+                ∙ rest ∙ ap (map (part_of n.nets)) (sym (filter_gone stays_here c cells (ap not staged)))
+          ]
           | inr other ↦
               let is : choice_of p lists c ≡ Some c = choice-stands p shape lists fewer c in_c (λ rail. both_ways (is_stage_cell p c) other (rail-staged p shape lists fewer c in_c rail)) in
-              let left = kept_some (choice_of p lists) c c cells is in
-              let own : part_of m.nets (moved to c) ≡ part_of n.nets c = part-kept p shape lists fewer is_m c (kept_among c (subst (Member c) (sym left) here)) in
-              let rest = standing-part cells (λ b m-b. among b (there m-b)) (λ b m-b. kept_among b (subst (Member b) (sym left) (there m-b))) in
-              ap (λ xs. map (part_of m.nets) (filter stays_there (map (moved to) xs))) left
+              let own = part-kept p shape lists fewer is_m c (in-kept n shape.is_netlist shape.free (choice_of p lists) (is-choice p shape lists fewer) c c in_c is) in
+              ap there_is (kept_some (choice_of p lists) c c cells is)
               ∙ ap (map (part_of m.nets)) (filter_kept stays_there (moved to c) (map (moved to) (kept (choice_of p lists) cells)) (ap not (other-there c in_c other is)))
-              ∙ (λ i. own i ∷ rest i)
-              ∙ ap (map (part_of n.nets)) (sym (filter_kept stays_here c cells (ap not other)))
+              ∙ (λ i. own i ∷ rest i) ∙ ap (map (part_of n.nets)) (sym (filter_kept stays_here c cells (ap not other)))
         ]
 
     standing-kept : standing q ≡ standing p
     standing-kept =
         ap (λ cells. map (part_of m.nets) (filter stays_there cells)) (cells-moved n shape.is_netlist shape.free (choice_of p lists) (is-choice p shape lists fewer))
-        ∙ standing-part n.cells (λ c m-c. Contains-from_Member c m-c) (λ d m-d. m-d)
+        ∙ standing-part n.cells (λ c m-c. Contains-from_Member c m-c)
 
     -- ---- stages
 

@@ -6,16 +6,16 @@ pub use Rattle.ncl_base.proofs.Members.{All-from_members, Contains-from_Member, 
 pub use Rattle.ncl_base.proofs.Places.{AllZip-back, at_map, at_of_map, push_cases}
 pub use Rattle.ncl_base.proofs.Tests.{All-member, AllPairs-append, list_all-member, map-same, same_from_both}
 pub use Rattle.ncl_base.specs.declared.word.TheConstants.{MOST_BITS}
-pub use Rattle.ncl_cell_roles.proofs.BankBits.{drives_rail, rail_of_register, register_of_rail}
+pub use Rattle.ncl_cell_roles.proofs.BankBits.{rail_of_register}
 pub use Rattle.ncl_cell_roles.proofs.BetweenBanks.{gate_of_stage, register_on, stage_origin, stages_join}
 pub use Rattle.ncl_cell_roles.proofs.EndLaws.{first_bank, input_is_port, ki_is_port}
 pub use Rattle.ncl_cell_roles.proofs.HeldWords.{held-some}
 pub use Rattle.ncl_cell_roles.proofs.LaidOut.{laid_out}
 pub use Rattle.ncl_cell_roles.proofs.NetsApart.{nets_at, stages_apart}
-pub use Rattle.ncl_cell_roles.proofs.Numbering.{bank_named, bank_rails, inner_or_last, inner_stage, last_stage, stage_at}
-pub use Rattle.ncl_cell_roles.proofs.RailNets.{rail-place, rail-within}
+pub use Rattle.ncl_cell_roles.proofs.Numbering.{bank_named, inner_or_last, inner_stage, last_stage, stage_at}
+pub use Rattle.ncl_cell_roles.proofs.RailNets.{rail-within}
 pub use Rattle.ncl_cell_roles.proofs.StageNumbers.{wires_or_stage}
-pub use Rattle.ncl_cell_roles.specs.Layout.{IsLayoutOf, Layout, no_rails, rail_at}
+pub use Rattle.ncl_cell_roles.specs.Layout.{IsLayoutOf, Layout, rail_at}
 pub use Rattle.ncl_cell_rules.proofs.Drivers.{cell_fits, driver_of, no_cell_drives_port, same_driver, same_place}
 pub use Rattle.ncl_cell_rules.proofs.GateRanks.{gate_ranks}
 pub use Rattle.ncl_cell_rules.proofs.OriginLaws.{bank_of_ack, bank_of_register, cell_of_rail, driver_of_ack, origin_within, place_of, sort_of}
@@ -27,7 +27,7 @@ pub use Rattle.ncl_cell_rules.specs.Rules.{IsAckOfOne, IsFirstOfBank, IsGateOfOn
 pub use Rattle.ncl_cell_rules.specs.Tables.{IsTable}
 pub use Rattle.ncl_faults.proofs.Apart.{named-within, right-differ}
 pub use Rattle.ncl_faults.proofs.OnePass.{among-from_member}
-pub use Rattle.ncl_faults.proofs.ValueLaws.{rail-no_output, rises-monotone, start-within, val-keeps, val-output, val-settled}
+pub use Rattle.ncl_faults.proofs.ValueLaws.{rail-no_output, rises-monotone, same_output, start-within, val-keeps, val-output, val-settled}
 pub use Rattle.ncl_faults.specs.Faults.{BothRails, Incomplete, IsSound, IsWordOf, NoRail, Orphan, all_data, has_data, holds_at, is_illegal}
 pub use Rattle.ncl_faults.specs.Values.{both_rails, holds, kept_low, output_net, rises, start, val}
 pub use Rattle.ncl_faults.specs.declared.variant.Variant.{Variant}
@@ -35,7 +35,7 @@ pub use Rattle.ncl_faults.specs.declared.variant.Variant.TheVariants.{Base, Bit,
 pub use Rattle.ncl_gates.proofs.PinLaws.{arity_of-few, arity_of-some, name_of-long, name_of-short, pins_of-gate}
 pub use Rattle.ncl_gates.proofs.RegisterLaws.{data_is_register, register_no_gate, register_pins_of}
 pub use Rattle.ncl_gates.proofs.Table.{kind_named-name_of}
-pub use Rattle.ncl_gates.specs.Cell.{input_pins, is_data_register, is_register, pins_of}
+pub use Rattle.ncl_gates.specs.Cell.{is_data_register, is_register, pins_of}
 pub use Rattle.ncl_gates.specs.Gate.{arity_of, set_of}
 pub use Rattle.ncl_gates.specs.Name.{cell_name_of, name_of}
 pub use Rattle.ncl_gates.specs.declared.cell_kind.CellKind.{CellKind}
@@ -81,7 +81,7 @@ pub use Rattle.ncl_shape.proofs.ClosureLaws.{pin_values-same}
 pub use Rattle.ncl_shape.proofs.FaultLaws.{shape_is_unbroken}
 pub use Rattle.ncl_shape.proofs.JoinedLists.{append_split}
 pub use Rattle.ncl_shape.proofs.NetSources.{only_origin}
-pub use Rattle.ncl_shape.proofs.RailLaws.{rail_found, rail_one, rail_zero}
+pub use Rattle.ncl_shape.proofs.RailLaws.{rail_found, rail_one, rail_zero, register_of_rail}
 pub use Rattle.ncl_shape.proofs.RenamedNets.{known-renamed, nets-renamed, rail_nets-renamed}
 pub use Rattle.ncl_shape.proofs.Rounds.{rounds-below_settled, rounds-keep, rounds-settled}
 pub use Rattle.ncl_shape.proofs.ShapeLaws.{last_bank, request_at, requests, same_cell, shape_is_one}
@@ -105,7 +105,7 @@ pub use Rattle.ncl_space.specs.Table.{words}
 pub use Rattle.ncl_stage.proofs.Reordered.{IsSameVariant, base, bit, cell, same_values}
 pub use Rattle.ncl_writer.specs.Names.{spelled_name}
 pub use Rattle.ncl_writer.specs.Text.{cell_line, header_line, opened, pin_text, pin_texts, port_line, text_of, wire_line}
-pub use Rattle.std.proofs.Common.{Bool, List, None, Option, Some, [], ap, append_assoc, arith, cond, drop, eq-eqb, false, get_or, get_or-set_other, get_or-set_same, inl, inr, is_some, length, length-append, length-set, map, nat_eq, not, refl, set, subst, suc, sym, take, true, zero, ℕ, ◌&&◌, ◌++◌, ◌+◌, ◌-◌, ◌<◌, ◌^◌, ◌||◌, ◌∙◌, ◌∷◌, ◌≡◌, ◌≢◌, ◌≤◌, ◌⊎◌}
+pub use Rattle.std.proofs.Common.{All, AllPairs, Bool, Contains, IsPermutation, List, MatchOption, None, Option, Some, [], ap, append_assoc, arith, bytes_eq, codes, cond, count_by, drop, eq-eqb, false, filter, get_or, get_or-set_other, get_or-set_same, if◌then◌else◌, inl, inr, is_some, length, length-append, length-set, map, nat_eq, not, refl, set, slice_get, subst, suc, sum_by, sym, take, true, zero, ℕ, ◌&&◌, ◌++◌, ◌+◌, ◌-◌, ◌<◌, ◌==◌, ◌^◌, ◌||◌, ◌∙◌, ◌∷◌, ◌≡◌, ◌≢◌, ◌≤◌, ◌⊎◌}
 pub use Rattle.std.proofs.Math.Path.{fun_ext}
 pub use Rattle.std.proofs.lemmas.Bool.{and_from, and_parts, both_ways, cases_Bool, cases_eq, cases_lt, eqb-true, false_from_ne_true, ne_eqb, not-true, or_cases, or_parts}
 pub use Rattle.std.proofs.lemmas.Bool.Decides.{Decides-eqb}
@@ -123,10 +123,6 @@ pub use Rattle.std.proofs.lemmas.Map.Made.{AllPairs-from_IsDistinct, IsDistinct-
 pub use Rattle.std.proofs.lemmas.Option.{get_or_from_slice_get, slice_get-get_or, slice_get_within}
 pub use Rattle.std.proofs.lemmas.Simd.{map-map}
 pub use Rattle.std.proofs.lemmas.Slice.Eq.{slice_eq-Decides}
-pub use Rattle.std.proofs.lemmas.Slice.Zip.{AllZip-long}
 pub use Rattle.std.specs.Bool.{beq}
 pub use Rattle.std.specs.List.{AllZip, flat_map, list_all, list_any, range_with_len, slice_index_or, zip}
-pub use Rattle.std.specs.List.Sorted.{IsPermutation}
 pub use Rattle.std.specs.Option.{option_or}
-pub use Rattle.std.specs.Prelude.{All, AllPairs, Contains, MatchOption, codes, count_by, filter, if◌then◌else◌, slice_get, sum_by, ◌==◌}
-pub use Rattle.std.specs.Str.{bytes_eq}

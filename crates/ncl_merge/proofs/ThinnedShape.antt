@@ -1,6 +1,6 @@
 -- A thinned netlist has a shape: the same banks in the chain that they formed, with the stages that those of the netlist have
 -- become.
-pub use Rattle.ncl_merge.proofs.Terms.{A, AckOf, AcksBank, AllZip, AreBitsOf, AreInputsOf, AreRailsOf, B, Bank, BankBit, Cell, CellAt, ChainedRequests, ComesFrom, Contains, Contains-from_Member, Contains-from_slice_get, Follows, FromPort, HasEnds, HasOne, HasOneRole, HasOnlyOrigin, HasRegister, HasRoots, IsAcknowledged, IsBank, IsBankOf, IsBitOf, IsCell, IsChain, IsChained, IsClosed, IsDataApart, IsFirstBank, IsFree, IsHead, IsInputOf, IsInputPort, IsLastBank, IsOfBank, IsOutputPort, IsPath, IsRailGate, IsRequest, IsRoot, IsStageOf, IsStood, IsThinStage, IsThinned, IsUnforked, List, MOST_BITS, Member, Member-from_Contains, Member-map, NetId, NetlistData, NoFork, None, OnPin, OnPinNamed, OneChain, OneRoleEach, OneRootEach, PipelineData, RailOf, Rails, Shape, ShownOutputs, Some, SomeRegister, StageData, TwoEnds, WordsApart, [], ap, arith, at_map, at_of_map, banks_of_chain, driver_of_ack, end, get_or, get_or-map, here, inl, inr, is_gate, length, length-map, map, moved, moved_bank, moved_bit, moved_pipeline, next, only_origin, pins_of, place_of, port, refl, renamed_net, renamed_rails, request_at, same_cell, slice_get, slice_get-from_Contains, slice_get-get_or, slice_get-some, slice_get_within, subst, sym, there, ℕ, ◌+◌, ◌<◌, ◌∙◌, ◌∷◌, ◌≡◌, ◌≤◌, ◌⊎◌}
+use Rattle.ncl_merge.proofs.Terms.{A, AckOf, AcksBank, AllZip, AreBitsOf, AreInputsOf, AreRailsOf, B, Bank, BankBit, Cell, CellAt, ChainedRequests, ComesFrom, Contains, Contains-from_Member, Contains-from_slice_get, Follows, FromPort, HasEnds, HasOne, HasOneRole, HasOnlyOrigin, HasRegister, HasRoots, IsAcknowledged, IsBank, IsBankOf, IsBitOf, IsCell, IsChain, IsChained, IsClosed, IsDataApart, IsFirstBank, IsFree, IsHead, IsInputOf, IsInputPort, IsLastBank, IsOfBank, IsOutputPort, IsPath, IsRailGate, IsRequest, IsRoot, IsStageOf, IsStood, IsThinStage, IsThinned, IsUnforked, List, MOST_BITS, Member, Member-from_Contains, Member-map, NetId, NetlistData, NoFork, None, OnPin, OnPinNamed, OneChain, OneRoleEach, OneRootEach, PipelineData, RailOf, Rails, Shape, ShownOutputs, Some, SomeRegister, StageData, TwoEnds, WordsApart, [], ap, arith, at_map, at_of_map, banks_of_chain, driver_of_ack, end, get_or, get_or-map, here, inl, inr, is_gate, length, length-map, map, moved, moved_bank, moved_bit, moved_pipeline, next, only_origin, pins_of, place_of, port, refl, renamed_net, renamed_rails, request_at, same_cell, slice_get, slice_get-from_Contains, slice_get-get_or, slice_get-some, slice_get_within, subst, sym, there, ℕ, ◌+◌, ◌<◌, ◌∙◌, ◌∷◌, ◌≡◌, ◌≤◌, ◌⊎◌}
 pub use Rattle.ncl_merge.proofs.Thinned.{ack-no_rail, acks-back, acks-forth, bank-back, bank-forth, comes-back, comes-forth, data-back, free-thinned, input-back, input-forth, kind-apart, only-forth, out-back, out-within, output-back, output-forth, pin-back, pin-forth, pin-within, register-no_rail}
 
 -- ---- the chain of banks

@@ -5,7 +5,7 @@ use Rattle.ncl_merge.proofs.Weights.{ones, outs-differ}
 use Rattle.ncl_merge.proofs.Folds.{cell-folded}
 use Rattle.ncl_merge.proofs.Renamed.{pairs-map, renamed-stage}
 use Rattle.ncl_merge.proofs.ThinnedShape.{shape-there}
-use Rattle.ncl_merge.proofs.Rebuilt.{cells-moved, from_once, in-kept, kept_at, named, out-in, out-source, pin-kept, port-name, source, thinned-rebuilt}
+use Rattle.ncl_merge.proofs.Rebuilt.{cells-moved, from_once, in-kept, kept_at, named, out-in, pin-kept, port-name, source, thinned-rebuilt}
 use Rattle.ncl_merge.proofs.Choices.{IsFoldedStageAt, choice-cases, choice-found, choice-rail, choice-stands, folded-stage, folds, gate-cell, in-all, input-register, is-choice, is-folded, net-at, old-cell, out-known, place-in, stage-is, stage-within}
 
 pub zip-moved : (to at : ℕ → ℕ) (cells : List StageCell) → AllZip (IsRenamedCell to) cells (map (moved_gate to at) cells)
@@ -121,19 +121,14 @@ module _ (p : PipelineData) (shape : Shape p.netlist p) (lists : List (List Stag
     -- a cell there that drives what a cell of the stage drove is of the stage
     every-there : (i : ℕ) (kind : Kind) (d : Cell) → CellAt m i d → d.kind ≡ Gate kind → (old : StageCell) → Contains s.cells old → d.out.0 ≡ to old.out.0 → (g : StageCell) × Contains (map (moved_gate to at) cells) g × (g.cell.0 ≡ i)
     every-there i kind d at_d is_gate old among out =
-        let (j, c, e, at_c, is, place, moved-e) = source n shape.is_netlist shape.free choice chosen i d at_d in
-        let in_c : IsCell n c = Contains-from_slice_get n.cells j c at_c in
-        let in_d : IsCell m d = Contains-from_slice_get m.cells i d at_d in
-        let e-out : e.out ≡ c.out = out-source n shape.is_netlist shape.free choice chosen c e in_c is in
-        let within_d : d.out.0 < length m.nets = (cell_fits m is_m d in_d).output in
+        let (j, c, e, at_c, is, place, moved-e, in_c, kept_e, c-back) = source n shape.is_netlist shape.free choice chosen i d at_d in
+        let within_d : d.out.0 < length m.nets = (cell_fits m is_m d (Contains-from_slice_get m.cells i d at_d)).output in
         let m-old = Member-from_Contains s.cells old among in
         let (b, at_b, out_b, rail) = old-cell p shape lists fewer k s cells of old m-old in
         let in_b : IsCell n b = Contains-from_slice_get n.cells old.cell.0 b at_b in
         let old-within : old.out.0 < length n.nets = subst (λ (x : NetId). x.0 < length n.nets) out_b (cell_fits n shape.is_netlist b in_b).output in
         let old-back : from (to old.out.0) ≡ old.out.0 = back-there old.out.0 old-within (subst (λ x. x < length m.nets) out within_d) in
-        let c-number : to c.out.0 ≡ d.out.0 = ap (λ (x : NetId). to x.0) (sym e-out) ∙ ap (λ (z : Cell). z.out.0) (sym moved-e) in
-        let c-back : from (to c.out.0) ≡ c.out.0 = back-there c.out.0 (cell_fits n shape.is_netlist c in_c).output (subst (λ x. x < length m.nets) (sym c-number) within_d) in
-        let outs : c.out.0 ≡ old.out.0 = sym c-back ∙ ap from (c-number ∙ out) ∙ old-back in
+        let outs : c.out.0 ≡ old.out.0 = sym c-back ∙ ap from out ∙ old-back in
         let one : b ≡ c = same_driver n shape.is_netlist b c in_b in_c (ap (λ (x : NetId). x.0) out_b ∙ sym outs) in
         let (g, m-g, out_g, e-is) = choice-rail p shape lists fewer c e in_c (subst (IsRailGate n) one rail) is in
         let u = place-in p shape lists fewer g m-g in

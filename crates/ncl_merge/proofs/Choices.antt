@@ -1,5 +1,5 @@
 -- What becomes of each cell of a netlist whose stages were folded, by tables too, and that what is kept can be built.
-pub use Rattle.ncl_merge.proofs.Terms.{A, AckOf, All, All-from_members, All-member, AllDiffer, AreFewer, B, Bank, Bool, Cell, CellAt, CellId, ComesFrom, Contains, Contains-from_Member, Contains-from_slice_get, DriveOnce, FoldsTo, HasAllPins, HaveGates, IsCell, IsChoice, IsFaultless, IsGate, IsInputPort, IsOfBank, IsOutputPort, IsRailGate, IsRegister, IsStage, IsStageOf, IsTable, IsWhole, List, Member, Member-append_cases, Member-append_left, Member-append_right, Member-flat_map, Member-from_Contains, Member-get_or, Member-map, NetId, NetlistData, None, OnPin, Option, Origin, PartCell, Parts, PipelineData, RailOf, ReadsNet, Shape, ShownOutputs, Some, StageCell, StageData, [], all_of, ap, append-nil, append_assoc, arith, arity_of, bank_named, bank_of_register, becomes, both_ways, cases_Bool, cases_eq, cell_driving, cell_fits, cell_of_rail, choice_by, choice_of, cond, drop, eq-eqb, eqb-true, false, filter_map-more, find-append, first_bank, flat_map, flat_map-append, flat_map-cons, gate, gate_of_stage, get_or, get_or-set_other, get_or-set_same, get_or_from_slice_get, here, inl, inner_or_last, inner_stage, input_is_port, inr, is_gate, is_stage_cell, is_stage_net, kept, kept_parts, last_bank, last_stage, length, length-map, length-set, list_any, list_any-from_member, map, map-append, map_push, member_cases, member_from_list_any, member_of_flat_map, member_of_map, nat_eq, ne_eqb, nets_at, nets_of, no_cell_drives_port, only_origin, option_or, origin_within, out_of, part_of, pins_of, pins_of-gate, place_of, port_names, rail-within, rail_at, rail_nets, rail_of_register, refl, register_no_gate, register_of_rail, register_on, register_pins_of, request_at, requests, same_driver, same_output, set, slice_get, slice_get-from_Contains, slice_get-get_or, slice_get-some, slice_get_within, sort_of, stage_at, stage_origin, stages_apart, stages_join, subst, suc, sym, take, take-append-drop, take_all, take_more, there, true, with_cells, with_gate_of, with_kept, zero, ℕ, ◌++◌, ◌+◌, ◌<◌, ◌^◌, ◌∙◌, ◌∷◌, ◌≡◌, ◌≤◌, ◌⊎◌}
+pub use Rattle.ncl_merge.proofs.Terms.{A, AckOf, All, All-from_members, All-member, AllDiffer, AreFewer, B, Bank, Bool, Cell, CellAt, CellId, ComesFrom, Contains, Contains-from_Member, Contains-from_slice_get, DriveOnce, FoldsTo, HasAllPins, HaveGates, IsCell, IsChoice, IsFaultless, IsGate, IsInputPort, IsOfBank, IsOutputPort, IsRailGate, IsRegister, IsStage, IsStageOf, IsTable, IsWhole, List, Member, Member-append_cases, Member-append_left, Member-append_right, Member-flat_map, Member-from_Contains, Member-get_or, Member-map, NetId, NetlistData, None, OnPin, Option, Origin, PartCell, Parts, PipelineData, RailOf, ReadsNet, Shape, ShownOutputs, Some, StageCell, StageData, [], all_of, ap, append-nil, append_assoc, arith, arity_of, bank_named, bank_of_register, becomes, both_ways, cases_eq, cell_driving, cell_fits, cell_of_rail, choice_by, choice_of, cond, drop, eq-eqb, eqb-true, false, filter_map-more, find-append, first_bank, flat_map, flat_map-append, flat_map-cons, gate, gate_of_stage, get_or, get_or-set_other, get_or-set_same, get_or_from_slice_get, here, inl, inner_or_last, inner_stage, input_is_port, inr, is_gate, is_stage_cell, is_stage_net, kept, kept_parts, last_bank, last_stage, length, length-map, length-set, list_any, list_any-from_member, map, map-append, map_push, member_cases, member_from_list_any, member_of_flat_map, member_of_map, nat_eq, ne_eqb, nets_at, nets_of, no_cell_drives_port, only_origin, option_or, origin_within, out_of, part_of, pins_of, pins_of-gate, place_of, port_names, rail-within, rail_at, rail_nets, rail_of_register, refl, register_no_gate, register_of_rail, register_on, register_pins_of, request_at, requests, same_Some, same_driver, same_output, set, slice_get, slice_get-from_Contains, slice_get-get_or, slice_get-some, slice_get_within, sort_of, stage_at, stage_origin, stages_apart, stages_join, subst, suc, sym, take, take-append-drop, take_all, take_more, there, true, with_cells, with_gate_of, with_kept, zero, ℕ, ◌++◌, ◌+◌, ◌<◌, ◌^◌, ◌∙◌, ◌∷◌, ◌≡◌, ◌≤◌, ◌⊎◌}
 use Rattle.ncl_merge.proofs.Folds.{cell-folded, rank-folded, stage-folded, stage-pin}
 use Rattle.ncl_merge.proofs.Rebuilt.{all-pins, decide, faultless-kept, ports-apart, rail_or_not, same-choice}
 
@@ -279,23 +279,13 @@ module _ (p : PipelineData) (shape : Shape p.netlist p) (lists : List (List Stag
       ]
 
   pub choice-cases : (c d : Cell) → choice c ≡ Some d → ((g : StageCell) × Member g all × (g.out.0 ≡ c.out.0) × (d ≡ with_gate_of c g)) ⊎ ((is_stage_cell p c ≡ false) × (d ≡ c))
-  choice-cases c d is =
-      elim (decide (cell_driving c.out.0 all)) [
-        | inr (g, some) ↦
-            let (m, out) = driving-some c.out.0 all g some in
-            let both : Some (with_gate_of c g) ≡ Some d = sym (ap (λ o. becomes o (is_stage_cell p c) c) some) ∙ is in
-            let same : with_gate_of c g ≡ d = cc in
-            inl (g, m, out, sym same)
-        | inl none ↦
-            let left : becomes None (is_stage_cell p c) c ≡ Some d = sym (ap (λ o. becomes o (is_stage_cell p c) c) none) ∙ is in
-            elim (cases_Bool (is_stage_cell p c)) [
-              | inl staged ↦ let both : None ≡ Some d = sym (ap (λ b. becomes None b c) staged) ∙ left in absurd cc
-              | inr other ↦
-                  let both : Some c ≡ Some d = sym (ap (λ b. becomes None b c) other) ∙ left in
-                  let same : c ≡ d = cc in
-                  inr (other, sym same)
-            ]
-      ]
+  choice-cases c d is = by (cell_driving c.out.0 all) refl (is_stage_cell p c) refl is
+    where
+      by : (o : Option StageCell) → cell_driving c.out.0 all ≡ o → (staged : Bool) → is_stage_cell p c ≡ staged → becomes o staged c ≡ Some d
+          → ((g : StageCell) × Member g all × (g.out.0 ≡ c.out.0) × (d ≡ with_gate_of c g)) ⊎ ((is_stage_cell p c ≡ false) × (d ≡ c))
+      by (Some g) some staged e found = let (m, out) = driving-some c.out.0 all g some in inl (g, m, out, sym (same_Some (with_gate_of c g) d found))
+      by None none true e found = absurd cc
+      by None none false e found = inr (e, sym (same_Some c d found))
 
   -- a cell of a stage is a gate that comes from a rail, and each such gate is a cell of a stage
   pub rail-staged : (c : Cell) → IsCell n c → IsRailGate n c → is_stage_cell p c ≡ true
@@ -332,14 +322,12 @@ module _ (p : PipelineData) (shape : Shape p.netlist p) (lists : List (List Stag
       subst (IsRailGate n) one rail
 
   pub choice-stands : (c : Cell) → IsCell n c → (IsRailGate n c → ⊥) → choice c ≡ Some c
-  choice-stands c in_c no_rail =
-      elim (decide (cell_driving c.out.0 all)) [
-        | inr (g, some) ↦ let (m, out) = driving-some c.out.0 all g some in absurd (no_rail (found-rail c in_c g m out))
-        | inl none ↦ elim (cases_Bool (is_stage_cell p c)) [
-          | inl staged ↦ absurd (no_rail (staged-rail c in_c staged))
-          | inr other ↦ ap (λ o. becomes o (is_stage_cell p c) c) none ∙ ap (λ b. becomes None b c) other
-        ]
-      ]
+  choice-stands c in_c no_rail = by (cell_driving c.out.0 all) refl (is_stage_cell p c) refl
+    where
+      by : (o : Option StageCell) → cell_driving c.out.0 all ≡ o → (staged : Bool) → is_stage_cell p c ≡ staged → becomes o staged c ≡ Some c
+      by (Some g) some staged e = let (m, out) = driving-some c.out.0 all g some in absurd (no_rail (found-rail c in_c g m out))
+      by None none true e = absurd (no_rail (staged-rail c in_c e))
+      by None none false e = refl
 
   pub choice-rail : (c d : Cell) → IsCell n c → IsRailGate n c → choice c ≡ Some d → (g : StageCell) × Member g all × (g.out.0 ≡ c.out.0) × (d ≡ with_gate_of c g)
   choice-rail c d in_c rail is =

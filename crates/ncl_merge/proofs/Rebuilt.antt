@@ -254,29 +254,22 @@ module _ (n : NetlistData) (is_n : IsNetlist n) (free : IsFree n) (choice : Cell
         pins = λ x reads. (pin-kept c among x (Member-append_left x (c.out ∷ []) (Member-from_Contains c.ins.items x reads))).1;
       }
 
-  -- what a cell of m was
-  pub source : (i : ℕ) (d : Cell) → CellAt m i d → (k : ℕ) × (c : Cell) × (e : Cell) × CellAt n k c × (choice c ≡ Some e) × (at k ≡ i) × (d ≡ moved to e)
+  -- what a cell of m was, and where its net leads back
+  pub source : (i : ℕ) (d : Cell) → CellAt m i d → (k : ℕ) × (c : Cell) × (e : Cell) × CellAt n k c × (choice c ≡ Some e) × (at k ≡ i) × (d ≡ moved to e) × IsCell n c × Member e (kept choice n.cells) × (from d.out.0 ≡ c.out.0)
   source i d at-d =
       let (e, stands, is) = at_of_map (moved to) (kept choice n.cells) i d (subst (λ cells. slice_get cells i ≡ Some d) cells-moved at-d) in
       let (k, c, at-c, from-c, place) = kept_from choice n.cells i e stands in
-      (k, c, e, at-c, from-c, place, sym is)
-
-  -- and where its net leads back
-  pub cell-was : (d : Cell) → IsCell m d → (c : Cell) × (e : Cell) × IsCell n c × (choice c ≡ Some e) × Member e (kept choice n.cells) × (d ≡ moved to e) × (from d.out.0 ≡ c.out.0)
-  cell-was d in_d =
-      let (e, m-e, is) = member_of_map (moved to) (kept choice n.cells) d (subst (Member d) cells-moved (Member-from_Contains m.cells d in_d)) in
-      let (c, in_c, chose) = kept-from e m-e in
-      (c, e, in_c, chose, m-e, sym is, ap (λ (z : Cell). from z.out.0) (sym is) ∙ (pin-kept e m-e e.out (out-in e)).1 ∙ ap (λ (y : NetId). y.0) (out-source c e in_c chose))
+      let in_c : IsCell n c = Contains-from_slice_get n.cells k c at-c in
+      let among = in-kept c e in_c from-c in
+      (k, c, e, at-c, from-c, place, sym is, in_c, among, ap (λ (z : Cell). from z.out.0) (sym is) ∙ (pin-kept e among e.out (out-in e)).1 ∙ ap (λ (y : NetId). y.0) (out-source c e in_c from-c))
 
   pub each-cell : (i : ℕ) (d : Cell) → CellAt m i d → IsOld n to at i d ⊎ IsThinGate n to from d
   each-cell i d at-d =
-      let (k, c, e, at-c, is, place, moved-e) = source i d at-d in
-      let in_c : IsCell n c = Contains-from_slice_get n.cells k c at-c in
+      let (k, c, e, at-c, is, place, moved-e, in_c, among, back-c) = source i d at-d in
       elim (rail_or_not c in_c) [
         | inr no_rail ↦ inl (record { place = k; cell = c; in_n = at-c; no_rail = no_rail; is_at = place; is = moved-e ∙ ap (moved to) (sym (same-choice c e (chosen.stands c in_c no_rail) is)) })
         | inl rail ↦
             let (is_gate_e, out) = chosen.gate c e in_c rail is in
-            let among = in-kept c e in_c is in
             inr (record {
               old = c;
               bank = rail.1.0;
@@ -335,8 +328,10 @@ module _ (n : NetlistData) (is_n : IsNetlist n) (free : IsFree n) (choice : Cell
 
   pub ranks : (c d : Cell) → IsCell m c → IsGate c → IsCell m d → ReadsNet c d.out.0 → rank d.out.0 < rank c.out.0
   ranks c d in_c is_gate_c in_d reads =
-      let (a, e, in_a, is, m-e, moved-e, c-back) = cell-was c in_c in
-      let (b, g, in_b, is-b, m-g, moved-g, d-back) = cell-was d in_d in
+      let (i, at-c) = place_of m c in_c in
+      let (j, at-d) = place_of m d in_d in
+      let (k, a, e, at-a, is, place, moved-e, in_a, m-e, c-back) = source i c at-c in
+      let (l, b, g, at-b, is-b, place-b, moved-g, in_b, m-g, d-back) = source j d at-d in
       let (x, m-x, same) = member_of_map (renamed_net to) e.ins.items (record { 0 = d.out.0 }) (Member-from_Contains (moved to e).ins.items (record { 0 = d.out.0 }) (subst (λ (w : Cell). Contains w.ins.items (record { 0 = d.out.0 })) moved-e reads)) in
       let x-back : from d.out.0 ≡ x.0 = ap (λ (y : NetId). from y.0) (sym same) ∙ (pin-kept e m-e x (Member-append_left x (e.out ∷ []) m-x)).1 in
       let (old_rank, top, below, rises) = gate_ranks n is_n free in

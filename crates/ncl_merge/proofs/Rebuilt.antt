@@ -96,16 +96,15 @@ kept_differ : {X : Type 0} (key : Cell → X) (choice : Cell → Option Cell) (c
 kept_differ key choice [] same differ = differ
 kept_differ key choice (c ∷ cells) same differ =
     let rest = kept_differ key choice cells (λ b d m. same b d (there m)) (pairs-tail (λ a b. a ≢ b) (key c) (map key cells) differ) in
-    elim (decide (choice c)) [
-      | inl gone ↦ subst (λ xs. AllPairs (λ a b. a ≢ b) (map key xs)) (sym (kept_none choice c cells gone)) rest
-      | inr (d, is) ↦
-          subst (λ xs. AllPairs (λ a b. a ≢ b) (map key xs)) (sym (kept_some choice c d cells is))
-          (AllPairs-cons (λ a b. a ≢ b) (key d) (map key (kept choice cells)) (All-from_members (λ b. key d ≢ b) (map key (kept choice cells)) (λ y m e.
+    elim (choice c) as (λ o. choice c ≡ o → AllPairs (λ a b. a ≢ b) (map key (with_kept o (kept choice cells)))) [
+      | None ↦ λ gone. rest
+      | Some d ↦ λ is.
+          AllPairs-cons (λ a b. a ≢ b) (key d) (map key (kept choice cells)) (All-from_members (λ b. key d ≢ b) (map key (kept choice cells)) (λ y m e.
           let (g, m-g, at-g) = member_of_map key (kept choice cells) y m in
           let (b, in_b, is-b) = Contains-filter_map choice cells g (Contains-from_Member g m-g) in
           let m-b = Member-from_Contains cells b in_b in
-          pairs-head (λ a b. a ≢ b) (key c) (map key cells) differ (key b) (Member-map key b m-b) (sym (same c d here is) ∙ e ∙ sym at-g ∙ same b g (there m-b) is-b))) rest)
-    ]
+          pairs-head (λ a b. a ≢ b) (key c) (map key cells) differ (key b) (Member-map key b m-b) (sym (same c d here is) ∙ e ∙ sym at-g ∙ same b g (there m-b) is-b))) rest
+    ] refl
 
 -- a cell has a name for each pin, and one for its output
 pub pins-count : (nets : List (List ℕ)) (d : Cell) → length (pin_names nets d) ≡ length d.ins.items + 1
@@ -313,12 +312,10 @@ module _ (n : NetlistData) (is_n : IsNetlist n) (free : IsFree n) (choice : Cell
             ap (filter no_gate) (kept_some choice c c cells is) ∙ ap (λ xs. cond (no_gate c) (c ∷ xs) xs) rest
         | inl rail ↦
             let fails = gate-fails c rail.0 in
-            elim (decide (choice c)) [
-              | inl gone ↦ ap (filter no_gate) (kept_none choice c cells gone) ∙ rest ∙ sym (filter_gone no_gate c cells fails)
-              | inr (d, is) ↦
-                  ap (filter no_gate) (kept_some choice c d cells is)
-                  ∙ filter_gone no_gate d (kept choice cells) (gate-fails d (chosen.gate c d in_c rail is).0) ∙ rest ∙ sym (filter_gone no_gate c cells fails)
-            ]
+            elim (choice c) as (λ o. choice c ≡ o → filter no_gate (with_kept o (kept choice cells)) ≡ filter no_gate (c ∷ cells)) [
+              | None ↦ λ gone. rest ∙ sym (filter_gone no_gate c cells fails)
+              | Some d ↦ λ is. filter_gone no_gate d (kept choice cells) (gate-fails d (chosen.gate c d in_c rail is).0) ∙ rest ∙ sym (filter_gone no_gate c cells fails)
+            ] refl
       ]
 
   -- ---- ranks

@@ -1,5 +1,5 @@
 -- Where nets of a thinned netlist come from, and its first rules of shape.
-use Rattle.ncl_merge.proofs.Terms.{A, Ack, AckOf, AcksBank, All-member, B, Bool, Cell, CellAt, CellKind, ComesFrom, Contains, Contains-from_Member, Contains-from_slice_get, FromPort, Gate, HasOnlyOrigin, IsAck, IsAckOfOne, IsCell, IsDataBank, IsFirstOfBank, IsFree, IsGate, IsGateOfOne, IsInputPort, IsOfBank, IsOffCycles, IsOutputPort, IsPaired, IsRailGate, IsReadPort, IsRegister, IsRegisterOfOne, IsStood, IsThinned, IsTied, IsUnmixed, Kind, LeadsTo, List, Member, Member-from_Contains, Member-map, NetId, NetlistData, OnPin, Origin, Port, RST, RailOf, ReadsNet, Register, RegisterData, Some, [], ack, ack_pins, ack_pins_of, ap, arith, arity_of, arity_of-some, at_map, at_of_map, bank_of_ack, bank_of_register, both_ways, cases_Bool, cases_eq, cell_fits, cond, count_by, data_is_register, driver_of, eq-eqb, false, filter, gate, inl, inr, is_data_register, is_gate, is_register, length, map, member_of_filter, more, moved, ne_eqb, not, one, only_origin, pins_of, pins_of-gate, pins_with, place_of, port, rail, refl, register_no_gate, renamed_net, same_place, slice_get, slice_get-from_Contains, slice_get-some, slice_get_within, sort_of, subst, suc, sum_by, sum_by-cons, sum_by-map, sym, there, true, zero, ℕ, ◌+◌, ◌<◌, ◌==◌, ◌∙◌, ◌∷◌, ◌≡◌, ◌⊎◌}
+use Rattle.ncl_merge.proofs.Terms.{A, Ack, AckOf, AcksBank, All-member, B, Bool, Cell, CellAt, CellKind, ComesFrom, Contains, Contains-from_Member, Contains-from_slice_get, FromPort, Gate, HasOnlyOrigin, IsAck, IsAckOfOne, IsCell, IsDataBank, IsFirstOfBank, IsFree, IsGate, IsGateOfOne, IsInputPort, IsOfBank, IsOffCycles, IsOutputPort, IsPaired, IsRailGate, IsReadPort, IsRegister, IsRegisterOfOne, IsStood, IsThinned, IsTied, IsUnmixed, Kind, LeadsTo, List, Member, Member-from_Contains, Member-map, NetId, NetlistData, OnPin, Origin, Port, RST, RailOf, ReadsNet, Register, RegisterData, Some, [], ack, ack_pins, ack_pins_of, ap, arith, arity_of, arity_of-some, at_map, at_of_map, bank_of_ack, bank_of_register, both_ways, cases_eq, cell_fits, cond, count_by, data_is_register, driver_of, eq-eqb, false, filter, gate, inl, inr, is_data_register, is_gate, is_register, length, map, member_of_filter, more, moved, ne_eqb, not, one, only_origin, pins_of, pins_of-gate, pins_with, place_of, port, rail, refl, register_no_gate, renamed_net, same_place, slice_get, slice_get-from_Contains, slice_get-some, slice_get_within, sort_of, subst, suc, sum_by, sum_by-cons, sum_by-map, sym, there, true, zero, ℕ, ◌+◌, ◌<◌, ◌==◌, ◌∙◌, ◌∷◌, ◌≡◌, ◌⊎◌}
 use Rattle.ncl_merge.proofs.Weights.{sum-same}
 
 -- where an origin leads back to
@@ -33,18 +33,10 @@ sum_of_passing f test [] none = refl
 sum_of_passing f test (x ∷ xs) none =
     let rest = sum_of_passing f test xs none in
     let whole : sum_by f (x ∷ xs) ≡ f x + sum_by f xs = sum_by-cons f x xs in
-    elim (cases_Bool (test x)) [
-      | inl passes ↦
-          let kept : filter test (x ∷ xs) ≡ x ∷ filter test xs = filter_kept test x xs passes in
-          let after : sum_by f (x ∷ filter test xs) ≡ f x + sum_by f (filter test xs) = sum_by-cons f x (filter test xs) in
-          let total : sum_by f (x ∷ xs) ≡ sum_by f (x ∷ filter test xs) = omega (arith, whole, rest, after) in
-          total ∙ ap (sum_by f) (sym kept)
-      | inr fails ↦
-          let gone : filter test (x ∷ xs) ≡ filter test xs = filter_gone test x xs fails in
-          let zero-term = none x fails in
-          let total : sum_by f (x ∷ xs) ≡ sum_by f (filter test xs) = omega (arith, whole, rest, zero-term) in
-          total ∙ ap (sum_by f) (sym gone)
-    ]
+    elim (test x) as (λ b. test x ≡ b → sum_by f (x ∷ xs) ≡ sum_by f (cond b (x ∷ filter test xs) (filter test xs))) [
+      | true ↦ λ passes. let after : sum_by f (x ∷ filter test xs) ≡ f x + sum_by f (filter test xs) = sum_by-cons f x (filter test xs) in omega (arith, whole, rest, after)
+      | false ↦ λ fails. let zero-term = none x fails in omega (arith, whole, rest, zero-term)
+    ] refl
 
 count_of_map : {X Y : Type 0} (p : Y → Bool) (g : X → Y) (q : X → Bool) (xs : List X) → ((x : X) → Member x xs → p (g x) ≡ q x) → count_by p (map g xs) ≡ count_by q xs
 count_of_map p g q xs same = sum_by-map (λ y. cond (p y) 1 0) g xs ∙ sum-same (λ x. cond (p (g x)) 1 0) (λ x. cond (q x) 1 0) xs (λ x m. ap (λ b. cond b 1 0) (same x m))
@@ -59,21 +51,19 @@ module _ (n m : NetlistData) (is : IsThinned n m) (free : IsFree n) where
   ack-no_rail c is_ack ((kind, is_gate), comes) = sort_ack kind c.kind is_gate is_ack
 
   -- a cell of m that is no gate is one of n, moved
-  pub old-register : (d : Cell) → IsCell m d → IsRegister d → (c : Cell) × (k : ℕ) × CellAt n k c × IsStood m is.to is.from is.at k c × (d ≡ moved is.to c)
-  old-register d in_d register =
+  old-plain : (d : Cell) → IsCell m d → (IsGate d → ⊥) → (c : Cell) × (k : ℕ) × CellAt n k c × IsStood m is.to is.from is.at k c × (d ≡ moved is.to c)
+  old-plain d in_d no_gate =
       let (i, at) = place_of m d in_d in
       elim (is.each i d at) [
         | inl old ↦ (old.cell, old.place, old.in_n, is.stood old.place old.cell old.in_n old.no_rail, old.is)
-        | inr thin ↦ absurd (register_no_gate d.kind register thin.gate.0 thin.gate.1)
+        | inr thin ↦ absurd (no_gate thin.gate)
       ]
 
+  pub old-register : (d : Cell) → IsCell m d → IsRegister d → (c : Cell) × (k : ℕ) × CellAt n k c × IsStood m is.to is.from is.at k c × (d ≡ moved is.to c)
+  old-register d in_d register = old-plain d in_d (λ (kind, e). register_no_gate d.kind register kind e)
+
   pub old-ack : (d : Cell) → IsCell m d → IsAck d → (c : Cell) × (k : ℕ) × CellAt n k c × IsStood m is.to is.from is.at k c × (d ≡ moved is.to c)
-  old-ack d in_d is_ack =
-      let (i, at) = place_of m d in_d in
-      elim (is.each i d at) [
-        | inl old ↦ (old.cell, old.place, old.in_n, is.stood old.place old.cell old.in_n old.no_rail, old.is)
-        | inr thin ↦ absurd (sort_ack thin.gate.0 d.kind thin.gate.1 is_ack)
-      ]
+  old-ack d in_d is_ack = old-plain d in_d (λ (kind, e). sort_ack kind d.kind e is_ack)
 
   -- a pin of a cell that stands
   pub pin-back : (k : ℕ) (c d : Cell) → IsStood m is.to is.from is.at k c → d ≡ moved is.to c → (pin y : ℕ) → OnPin d pin y → OnPin c pin (is.from y) × (is.to (is.from y) ≡ y)

@@ -18,13 +18,12 @@ moved-count to at (s ∷ stages) [] sized = absurd (omega (arith, sized))
 moved-count to at (s ∷ stages) (cells ∷ lists) sized = ap suc (moved-count to at stages lists (omega (arith, sized)))
 
 pub moved-at : (to at : ℕ → ℕ) (stages : List StageData) (lists : List (List StageCell)) (k : ℕ) (s t : StageData) → slice_get stages k ≡ Some s → slice_get (moved_stages to at stages lists) k ≡ Some t → (cells : List StageCell) × (slice_get lists k ≡ Some cells) × (moved_stage to at s cells ≡ t)
-moved-at to at [] lists k s t at_s at_t = absurd cc
-moved-at to at (x ∷ stages) [] k s t at_s at_t = absurd cc
 moved-at to at (x ∷ stages) (cells ∷ lists) zero s t at_s at_t =
     let same : x ≡ s = cc in
     let moved_same : moved_stage to at x cells ≡ t = cc in
     (cells, refl, ap (λ y. moved_stage to at y cells) (sym same) ∙ moved_same)
 moved-at to at (x ∷ stages) (cells ∷ lists) (suc k) s t at_s at_t = moved-at to at stages lists k s t at_s at_t
+moved-at to at stages lists k s t at_s at_t = absurd cc
 
 -- the name of the cell at a place
 pub name-of_cell : (n : NetlistData) (k : ℕ) (c : Cell) → CellAt n k c → cell_name n k ≡ c.name

@@ -1,7 +1,7 @@
 -- What becomes of each cell of a netlist whose stages were folded, by tables too, and that what is kept can be built.
 pub use Rattle.ncl_merge.proofs.Terms.{A, AckOf, All, All-from_members, All-member, AllDiffer, AreFewer, B, Bank, Bool, Cell, CellAt, CellId, ComesFrom, Contains, Contains-from_Member, Contains-from_slice_get, DriveOnce, FoldsTo, HasAllPins, HaveGates, IsCell, IsChoice, IsFaultless, IsGate, IsInputPort, IsOfBank, IsOutputPort, IsRailGate, IsRegister, IsStage, IsStageOf, IsTable, IsWhole, List, Member, Member-append_cases, Member-append_left, Member-append_right, Member-flat_map, Member-from_Contains, Member-get_or, Member-map, NetId, NetlistData, None, OnPin, Option, Origin, PartCell, Parts, PipelineData, RailOf, ReadsNet, Shape, ShownOutputs, Some, StageCell, StageData, [], all_of, ap, append-nil, append_assoc, arith, arity_of, bank_named, bank_of_register, becomes, both_ways, cases_eq, cell_driving, cell_fits, cell_of_rail, choice_by, choice_of, cond, drop, eq-eqb, eqb-true, false, filter_map-more, find-append, first_bank, flat_map, flat_map-append, flat_map-cons, gate, gate_of_stage, get_or, get_or-set_other, get_or-set_same, get_or_from_slice_get, here, inl, inner_or_last, inner_stage, input_is_port, inr, is_gate, is_stage_cell, is_stage_net, kept, kept_parts, last_bank, last_stage, length, length-map, length-set, list_any, list_any-from_member, map, map-append, map_push, member_cases, member_from_list_any, member_of_flat_map, member_of_map, nat_eq, ne_eqb, nets_at, nets_of, no_cell_drives_port, only_origin, option_or, origin_within, out_of, part_of, pins_of, pins_of-gate, place_of, port_names, rail-within, rail_at, rail_nets, rail_of_register, refl, register_no_gate, register_of_rail, register_on, register_pins_of, request_at, requests, same_Some, same_driver, same_output, set, slice_get, slice_get-from_Contains, slice_get-get_or, slice_get-some, slice_get_within, sort_of, stage_at, stage_origin, stages_apart, stages_join, subst, suc, sym, take, take-append-drop, take_all, take_more, there, true, with_cells, with_gate_of, with_kept, zero, ℕ, ◌++◌, ◌+◌, ◌<◌, ◌^◌, ◌∙◌, ◌∷◌, ◌≡◌, ◌≤◌, ◌⊎◌}
 use Rattle.ncl_merge.proofs.Folds.{cell-folded, rank-folded, stage-folded, stage-pin}
-use Rattle.ncl_merge.proofs.Rebuilt.{all-pins, decide, faultless-kept, ports-apart, rail_or_not, same-choice}
+use Rattle.ncl_merge.proofs.Rebuilt.{all-pins, faultless-kept, ports-apart, rail_or_not, same-choice}
 
 -- ---- marks
 
@@ -270,13 +270,10 @@ module _ (p : PipelineData) (shape : Shape p.netlist p) (lists : List (List Stag
 
   pub choice-found : (c : Cell) (g : StageCell) → Member g all → g.out.0 ≡ c.out.0 → choice c ≡ Some (with_gate_of c g)
   choice-found c g m out =
-      elim (decide (cell_driving c.out.0 all)) [
-        | inl none ↦ absurd (driving-none c.out.0 all none g m out)
-        | inr (h, some) ↦
-            let (m-h, out-h) = driving-some c.out.0 all h some in
-            let same : h ≡ g = one-driving h g m-h m (out-h ∙ sym out) in
-            ap (λ o. becomes o (is_stage_cell p c) c) (some ∙ ap Some same)
-      ]
+      elim (cell_driving c.out.0 all) as (λ o. cell_driving c.out.0 all ≡ o → becomes o (is_stage_cell p c) c ≡ Some (with_gate_of c g)) [
+        | None ↦ λ none. absurd (driving-none c.out.0 all none g m out)
+        | Some h ↦ λ some. let (m-h, out-h) = driving-some c.out.0 all h some in ap (λ x. Some (with_gate_of c x)) (one-driving h g m-h m (out-h ∙ sym out))
+      ] refl
 
   pub choice-cases : (c d : Cell) → choice c ≡ Some d → ((g : StageCell) × Member g all × (g.out.0 ≡ c.out.0) × (d ≡ with_gate_of c g)) ⊎ ((is_stage_cell p c ≡ false) × (d ≡ c))
   choice-cases c d is = by (cell_driving c.out.0 all) refl (is_stage_cell p c) refl is

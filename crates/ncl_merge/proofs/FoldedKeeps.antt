@@ -48,14 +48,13 @@ kept-sum f choice (c ∷ cells) =
 pins-length : (pins names : List (List ℕ)) → ((pin : List ℕ) → Member pin pins → length pin ≡ 1) → length pins ≡ length names
     → sum_by (λ t. length t + 1) (map (λ (pin, net). pin_text pin net) (zip pins names)) ≡ sum_by (λ name. 5 + length (spelled_name name)) names
 pins-length [] [] one same = refl
-pins-length [] (net ∷ names) one same = absurd (omega (arith, same))
-pins-length (pin ∷ pins) [] one same = absurd (omega (arith, same))
 pins-length (pin ∷ pins) (net ∷ names) one same =
     let left : sum_by (λ t. length t + 1) (pin_text pin net ∷ map (λ (pin, net). pin_text pin net) (zip pins names)) ≡ length (pin_text pin net) + 1 + sum_by (λ t. length t + 1) (map (λ (pin, net). pin_text pin net) (zip pins names)) = sum_by-cons (λ t. length t + 1) (pin_text pin net) (map (λ (pin, net). pin_text pin net) (zip pins names)) in
     let right : sum_by (λ name. 5 + length (spelled_name name)) (net ∷ names) ≡ 5 + length (spelled_name net) + sum_by (λ name. 5 + length (spelled_name name)) names = sum_by-cons (λ name. 5 + length (spelled_name name)) net names in
     let rest = pins-length pins names (λ x m. one x (there m)) (omega (arith, same)) in
     let letter = one pin here in
     omega (arith, left, right, rest, letter, length-append (codes ".") (pin ++ (codes "(" ++ (spelled_name net ++ codes ")"))), length-append pin (codes "(" ++ (spelled_name net ++ codes ")")), length-append (codes "(") (spelled_name net ++ codes ")"), length-append (spelled_name net) (codes ")"))
+pins-length pins names one same = absurd (omega (arith, same))
 
 -- the pins of a gate have one letter
 letters : (kind : Kind) → list_all (λ pin. nat_eq (length pin) 1) (pins_of (Gate kind)) ≡ true
@@ -97,14 +96,13 @@ lists-lines : (w title : ℕ → ℕ) (stages : List StageData) (lists : List (L
     → ((k : ℕ) (s : StageData) (cells : List StageCell) → slice_get stages k ≡ Some s → slice_get lists k ≡ Some cells → FoldsTo s cells)
     → sum_by (λ cells. sum_by (line_length w title) cells) lists ≤ sum_by (λ (s : StageData). sum_by (line_length w title) s.cells) stages
 lists-lines w title [] [] sized folds = omega arith
-lists-lines w title [] (cells ∷ lists) sized folds = absurd (omega (arith, sized))
-lists-lines w title (s ∷ stages) [] sized folds = absurd (omega (arith, sized))
 lists-lines w title (s ∷ stages) (cells ∷ lists) sized folds =
     let a : sum_by (λ cells. sum_by (line_length w title) cells) (cells ∷ lists) ≡ sum_by (line_length w title) cells + sum_by (λ cells. sum_by (line_length w title) cells) lists = sum_by-cons (λ cells. sum_by (line_length w title) cells) cells lists in
     let b : sum_by (λ (s : StageData). sum_by (line_length w title) s.cells) (s ∷ stages) ≡ sum_by (line_length w title) s.cells + sum_by (λ (s : StageData). sum_by (line_length w title) s.cells) stages = sum_by-cons (λ (s : StageData). sum_by (line_length w title) s.cells) s stages in
     let first = lines_no_longer w title s cells (folds 0 s cells refl refl) in
     let rest = lists-lines w title stages lists (omega (arith, sized)) (λ k t others at_t at_l. folds (suc k) t others at_t at_l) in
     omega (arith, a, b, first, rest)
+lists-lines w title stages lists sized folds = absurd (omega (arith, sized))
 
 -- a text by its parts
 text-sum : (n : NetlistData) → length (text_of n) ≡ length (header_line n.name n.ports) + (length (flat_map port_line n.ports) + (length (flat_map wire_line (drop (length n.ports) n.nets)) + (length (flat_map (cell_line n.nets) n.cells) + 10)))
@@ -120,16 +118,14 @@ text-sum n =
 pub zip-drop : {X Y : Type 0} (R : X → Y → Type 0) (k : ℕ) (xs : List X) (ys : List Y) → AllZip R xs ys → AllZip R (drop k xs) (drop k ys)
 zip-drop R zero xs ys all = all
 zip-drop R (suc k) [] [] all = tt
-zip-drop R (suc k) [] (y ∷ ys) all = absurd all
-zip-drop R (suc k) (x ∷ xs) [] all = absurd all
 zip-drop R (suc k) (x ∷ xs) (y ∷ ys) (first, rest) = zip-drop R k xs ys rest
+zip-drop R (suc k) xs ys all = absurd all
 
 -- stages with the same functions make the same of a word
 pub same-composed : (xs ys : List StageData) → AllZip (λ (s t : StageData). (word : List Bool) → stage_function t word ≡ stage_function s word) xs ys → (word : List Bool) → composed ys word ≡ composed xs word
 same-composed [] [] same word = refl
-same-composed [] (y ∷ ys) same word = absurd same
-same-composed (x ∷ xs) [] same word = absurd same
 same-composed (x ∷ xs) (y ∷ ys) (first, rest) word = ap (composed ys) (first word) ∙ same-composed xs ys rest (stage_function x word)
+same-composed xs ys same word = absurd same
 
 module _ {p : PipelineData} {l : Layout} (is : IsLayoutOf p l) (sound : All IsSound p.stages) where
   -- the stages of the layout are sound
@@ -271,17 +267,13 @@ module _ (p : PipelineData) (shape : Shape p.netlist p) (lists : List (List Stag
 
     kept-halves : (c : Cell) → Member c n.cells → kept_weight f (choice c) ≤ outer c + inner_kept c
     kept-halves c m =
-        elim (cases_Bool (is_stage_cell p c)) [
-          | inl staged_is ↦
-              let a : outer c ≡ 0 = ap (λ b. cond b 0 (f c)) staged_is in
-              let b : inner_kept c ≡ kept_weight f (choice c) = ap (λ b. cond b (kept_weight f (choice c)) 0) staged_is in
-              omega (arith, a, b)
-          | inr other ↦
+        elim (is_stage_cell p c) as (λ b. is_stage_cell p c ≡ b → kept_weight f (choice c) ≤ cond b 0 (f c) + cond b (kept_weight f (choice c)) 0) [
+          | true ↦ λ staged_is. omega arith
+          | false ↦ λ other.
               let in_c : IsCell n c = Contains-from_Member c m in
-              let a : outer c ≡ f c = ap (λ b. cond b 0 (f c)) other in
-              let b : kept_weight f (choice c) ≡ f c = ap (kept_weight f) (choice-stands p shape lists fewer c in_c (λ rail. both_ways (is_stage_cell p c) other (rail-staged p shape lists fewer c in_c rail))) in
-              omega (arith, a, b)
-        ]
+              let same : kept_weight f (choice c) ≡ f c = ap (kept_weight f) (choice-stands p shape lists fewer c in_c (λ rail. both_ways (is_stage_cell p c) other (rail-staged p shape lists fewer c in_c rail))) in
+              omega (arith, same)
+        ] refl
 
     -- what is kept of them is of the lists
     kept-among : sum_by inner_kept n.cells ≤ sum_by h (all_of lists)

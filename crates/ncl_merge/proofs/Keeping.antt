@@ -1,6 +1,6 @@
 -- What is kept doesn't depend on the order of the cells of stages, a pipeline keeps what it has itself, and what is kept
 -- once and again is kept; so rounds of folding may follow one another.
-pub use Rattle.ncl_merge.proofs.Terms.{All, All-contains, All-from_members, All-member, AllZip, AllZip-found, AreFewer, Bank, Base, Bit, Bool, BothRails, Broken, CellRule, Contains, Contains-from_Member, Contains-from_slice_get, Contains-permutation, HasNoFoldable, Incomplete, IsMergedBank, IsMergedStage, IsNetlist, IsOnTheWay, IsPermutation, IsPermutation-sym, IsSamePipeline, IsSameStage, IsSameVariant, IsShapeFault, IsSmaller, IsSound, IsSoundNetlist, IsWordOf, Keeps, List, LowCell, MatchOption, Member-from_Contains, Member-map, Memory, Merged, NetlistCell, NetlistData, Nets, NoChain, NoRail, None, NothingFoldable, Option, Orphan, PipelineData, Rails, Shape, ShapeFault, Some, StageCell, StageData, TooLong, TooWide, Variant, [], all_data, among, ap, arith, base, bit, cell, cell_name, close, false, filter, filter_agree, folded_netlist, function_at, has_data, held-some, held_nets, holds_at, inl, inr, is_data_bank, is_illegal, is_some, is_stage_cell, length, length-map, list_any, list_any-IsPermutation, map, member_of_map, name_at, named_rails, nat_eq, net_pins, not, part_of, rail_names, refl, same_values, shape_is_one, shape_is_unbroken, slice_get, slice_get-from_Contains, stage_function, standing, subst, sym, text_of, true, val, with_cells, word_held, ℕ, ◌&&◌, ◌∙◌, ◌∷◌, ◌≡◌, ◌≢◌}
+pub use Rattle.ncl_merge.proofs.Terms.{All, All-contains, All-from_members, All-member, AllZip, AllZip-found, AreFewer, Bank, Base, Bit, Bool, BothRails, Broken, Contains, Contains-from_Member, Contains-from_slice_get, Contains-permutation, HasNoFoldable, Incomplete, IsMergedBank, IsMergedStage, IsNetlist, IsOnTheWay, IsPermutation, IsPermutation-sym, IsSamePipeline, IsSameStage, IsSameVariant, IsShapeFault, IsSmaller, IsSound, IsSoundNetlist, IsWordOf, Keeps, List, LowCell, MatchOption, Member-from_Contains, Member-map, Memory, Merged, NetlistCell, NetlistData, Nets, NoRail, None, NothingFoldable, Option, Orphan, PipelineData, Rails, Shape, ShapeFault, Some, StageCell, StageData, Variant, [], all_data, among, ap, arith, base, bit, cell, cell_name, close, false, filter, filter_agree, folded_netlist, function_at, has_data, held-some, held_nets, holds_at, inl, inr, is_data_bank, is_illegal, is_some, is_stage_cell, length, length-map, list_any, list_any-IsPermutation, map, member_of_map, name_at, named_rails, nat_eq, net_pins, not, part_of, rail_names, refl, same_values, shape_is_one, shape_is_unbroken, slice_get, slice_get-from_Contains, stage_function, standing, subst, sym, text_of, true, val, with_cells, word_held, ℕ, ◌&&◌, ◌∙◌, ◌∷◌, ◌≡◌, ◌≢◌}
 use Rattle.ncl_merge.proofs.FoldedKeeps.{folded-smaller}
 
 -- ---- the order of cells
@@ -55,12 +55,11 @@ same-all_sound xs ys same sound =
 same-staged : (c : NetlistCell) (xs ys : List StageData) → AllZip IsSameStage xs ys
     → list_any (λ (s : StageData). list_any (λ (g : StageCell). nat_eq g.out.0 c.out.0) s.cells) xs ≡ list_any (λ (s : StageData). list_any (λ (g : StageCell). nat_eq g.out.0 c.out.0) s.cells) ys
 same-staged c [] [] same = refl
-same-staged c [] (t ∷ ys) same = absurd same
-same-staged c (s ∷ xs) [] same = absurd same
 same-staged c (s ∷ xs) (t ∷ ys) (first, rest) =
     let one = list_any-IsPermutation (λ (g : StageCell). nat_eq g.out.0 c.out.0) s.cells t.cells first.cells in
     let others = same-staged c xs ys rest in
     cc
+same-staged c xs ys same = absurd same
 
 same-standing : (p q : PipelineData) → IsSamePipeline p q → standing p ≡ standing q
 same-standing p q same =
@@ -101,12 +100,6 @@ module _ (p q u r : PipelineData) (one : Keeps p q) (same : IsSamePipeline u q) 
   stages-along : (xs ys zs ws : List StageData) → AllZip (IsMergedStage p.netlist q.netlist) xs ys → AllZip IsSameStage zs ys → AllZip (IsMergedStage u.netlist r.netlist) zs ws
       → AllZip (IsMergedStage p.netlist r.netlist) xs ws
   stages-along [] [] [] [] a b c = tt
-  stages-along [] [] [] (w ∷ ws) a b c = absurd c
-  stages-along [] [] (z ∷ zs) ws a b c = absurd b
-  stages-along [] (y ∷ ys) zs ws a b c = absurd a
-  stages-along (x ∷ xs) [] zs ws a b c = absurd a
-  stages-along (x ∷ xs) (y ∷ ys) [] ws a b c = absurd b
-  stages-along (x ∷ xs) (y ∷ ys) (z ∷ zs) [] a b c = absurd c
   stages-along (x ∷ xs) (y ∷ ys) (z ∷ zs) (w ∷ ws) (first, rest) (alike, others) (next, last) = (
     record {
       labels = λ g m.
@@ -124,6 +117,11 @@ module _ (p q u r : PipelineData) (one : Keeps p q) (same : IsSamePipeline u q) 
     },
     stages-along xs ys zs ws rest others last,
   )
+  stages-along [] [] [] ws a b c = absurd c
+  stages-along (x ∷ xs) (y ∷ ys) (z ∷ zs) ws a b c = absurd c
+  stages-along [] [] zs ws a b c = absurd b
+  stages-along (x ∷ xs) (y ∷ ys) zs ws a b c = absurd b
+  stages-along xs ys zs ws a b c = absurd a
 
   function-same : (request : ℕ) → function_at u request ≡ function_at q request
   function-same request =
@@ -132,10 +130,6 @@ module _ (p q u r : PipelineData) (one : Keeps p q) (same : IsSamePipeline u q) 
 
   banks-along : (xs ys ws : List Bank) → AllZip (IsMergedBank p q) xs ys → AllZip (IsMergedBank u r) ys ws → AllZip (IsMergedBank p r) xs ws
   banks-along [] [] [] a c = tt
-  banks-along [] [] (w ∷ ws) a c = absurd c
-  banks-along [] (y ∷ ys) ws a c = absurd a
-  banks-along (x ∷ xs) [] ws a c = absurd a
-  banks-along (x ∷ xs) (y ∷ ys) [] a c = absurd c
   banks-along (x ∷ xs) (y ∷ ys) (w ∷ ws) (first, rest) (next, last) = (
     record {
       held = next.held ∙ first.held;
@@ -143,6 +137,9 @@ module _ (p q u r : PipelineData) (one : Keeps p q) (same : IsSamePipeline u q) 
     },
     banks-along xs ys ws rest last,
   )
+  banks-along [] [] ws a c = absurd c
+  banks-along (x ∷ xs) (y ∷ ys) ws a c = absurd c
+  banks-along xs ys ws a c = absurd a
 
   names-along : All (Contains p.netlist.nets) r.netlist.nets
   names-along =
@@ -186,11 +183,8 @@ module _ (p q u r : PipelineData) (one : Keeps p q) (same : IsSamePipeline u q) 
 
 -- a netlist with a shape has no fault of shape but want of memory
 broken : (n : NetlistData) (fault : ShapeFault) → fault ≢ Memory → IsShapeFault n fault → Broken n fault
-broken n (CellRule fault) named is = is
-broken n (NoChain rule) named is = is
-broken n (TooWide number) named is = is
-broken n TooLong named is = is
 broken n Memory named is = absurd (named refl)
+broken n fault named is = is
 
 pub sound-unbroken : (n : NetlistData) → IsSoundNetlist n → (fault : ShapeFault) → fault ≢ Memory → IsShapeFault n fault → ⊥
 sound-unbroken n has fault named is = shape_is_unbroken n has.shape.is_netlist has.pipeline has.shape fault (broken n fault named is).breaks

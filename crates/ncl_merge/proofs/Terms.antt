@@ -39,7 +39,7 @@ pub use Rattle.ncl_gates.specs.Cell.{is_data_register, is_register, pins_of}
 pub use Rattle.ncl_gates.specs.Gate.{arity_of, set_of}
 pub use Rattle.ncl_gates.specs.Name.{cell_name_of, name_of}
 pub use Rattle.ncl_gates.specs.declared.cell_kind.CellKind.{CellKind}
-pub use Rattle.ncl_gates.specs.declared.cell_kind.CellKind.TheVariants.{Ack, Gate, Register, RegisterData}
+pub use Rattle.ncl_gates.specs.declared.cell_kind.CellKind.TheVariants.{Ack, Gate}
 pub use Rattle.ncl_gates.specs.declared.kind.Kind.{Kind}
 pub use Rattle.ncl_gates.specs.declared.kind.Kind.TheVariants.{Th12, Th22}
 pub use Rattle.ncl_gates.specs.declared.kind.TheConstants.{KINDS}
@@ -98,7 +98,7 @@ pub use Rattle.ncl_shape.specs.Stage.{IsInOrder, IsStage, Reads, StageData, name
 pub use Rattle.ncl_shape.specs.declared.bank.Bank.{Bank}
 pub use Rattle.ncl_shape.specs.declared.bank.Bit.{Bit as BankBit}
 pub use Rattle.ncl_shape.specs.declared.fault.ShapeFault.{ShapeFault}
-pub use Rattle.ncl_shape.specs.declared.fault.ShapeFault.TheVariants.{CellRule, Memory, NoChain, TooLong, TooWide}
+pub use Rattle.ncl_shape.specs.declared.fault.ShapeFault.TheVariants.{Memory}
 pub use Rattle.ncl_shape.specs.declared.rails.Rails.{Rails}
 pub use Rattle.ncl_shape.specs.declared.stage.StageCell.{StageCell}
 pub use Rattle.ncl_space.specs.Table.{words}

@@ -1,5 +1,5 @@
 -- Where nets of a thinned netlist come from, and its first rules of shape.
-use Rattle.ncl_merge.proofs.Terms.{A, Ack, AckOf, AcksBank, All-member, B, Bool, Cell, CellAt, CellKind, ComesFrom, Contains, Contains-from_Member, Contains-from_slice_get, FromPort, Gate, HasOnlyOrigin, IsAck, IsAckOfOne, IsCell, IsDataBank, IsFirstOfBank, IsFree, IsGate, IsGateOfOne, IsInputPort, IsOfBank, IsOffCycles, IsOutputPort, IsPaired, IsRailGate, IsReadPort, IsRegister, IsRegisterOfOne, IsStood, IsThinned, IsTied, IsUnmixed, Kind, LeadsTo, List, Member, Member-from_Contains, Member-map, NetId, NetlistData, OnPin, Origin, Port, RST, RailOf, ReadsNet, Register, RegisterData, Some, [], ack, ack_pins, ack_pins_of, ap, arith, arity_of, arity_of-some, at_map, at_of_map, bank_of_ack, bank_of_register, both_ways, cases_eq, cell_fits, cond, count_by, data_is_register, driver_of, eq-eqb, false, filter, gate, inl, inr, is_data_register, is_gate, is_register, length, map, member_of_filter, more, moved, ne_eqb, not, one, only_origin, pins_of, pins_of-gate, pins_with, place_of, port, rail, refl, register_no_gate, renamed_net, same_place, slice_get, slice_get-from_Contains, slice_get-some, slice_get_within, sort_of, subst, suc, sum_by, sum_by-cons, sum_by-map, sym, there, true, zero, ℕ, ◌+◌, ◌<◌, ◌==◌, ◌∙◌, ◌∷◌, ◌≡◌, ◌⊎◌}
+use Rattle.ncl_merge.proofs.Terms.{A, Ack, AckOf, AcksBank, All-member, B, Bool, Cell, CellAt, CellKind, ComesFrom, Contains, Contains-from_Member, Contains-from_slice_get, FromPort, Gate, HasOnlyOrigin, IsAck, IsAckOfOne, IsCell, IsDataBank, IsFirstOfBank, IsFree, IsGate, IsGateOfOne, IsInputPort, IsOfBank, IsOffCycles, IsOutputPort, IsPaired, IsRailGate, IsReadPort, IsRegister, IsRegisterOfOne, IsStood, IsThinned, IsTied, IsUnmixed, Kind, LeadsTo, List, Member, Member-from_Contains, Member-map, NetId, NetlistData, OnPin, Origin, Port, RST, RailOf, ReadsNet, Some, [], ack, ack_pins, ack_pins_of, ap, arith, arity_of, arity_of-some, at_map, at_of_map, bank_of_ack, bank_of_register, both_ways, cases_eq, cell_fits, cond, count_by, data_is_register, driver_of, eq-eqb, false, filter, gate, inl, inr, is_data_register, is_gate, is_register, length, map, member_of_filter, more, moved, ne_eqb, not, one, only_origin, pins_of, pins_of-gate, pins_with, place_of, port, rail, refl, register_no_gate, renamed_net, same_place, slice_get, slice_get-from_Contains, slice_get-some, slice_get_within, sort_of, subst, suc, sum_by, sum_by-cons, sum_by-map, sym, there, true, zero, ℕ, ◌+◌, ◌<◌, ◌==◌, ◌∙◌, ◌∷◌, ◌≡◌, ◌⊎◌}
 use Rattle.ncl_merge.proofs.Weights.{sum-same}
 
 -- where an origin leads back to
@@ -434,9 +434,7 @@ module _ (n m : NetlistData) (is : IsThinned n m) (free : IsFree n) where
     where
       by_kind : (kind : CellKind) → not (is_gate kind) ≡ false → ack_pins_of kind net c.ins.items ≡ 0
       by_kind (Gate kind) fails = refl
-      by_kind Register fails = absurd (both_ways true fails refl)
-      by_kind RegisterData fails = absurd (both_ways true fails refl)
-      by_kind Ack fails = absurd (both_ways true fails refl)
+      by_kind other fails = absurd (both_ways true fails refl)
 
   plain_no_rail : (c : Cell) → plain_test c ≡ true → IsRailGate n c → ⊥
   plain_no_rail c passes ((kind, is_gate_c), comes) = both_ways (not (is_gate c.kind)) (ap (λ k. not (is_gate k)) is_gate_c) passes
@@ -449,10 +447,8 @@ module _ (n m : NetlistData) (is : IsThinned n m) (free : IsFree n) where
       by_kind c.kind (count_of_map (λ (z : NetId). z.0 == is.to x) (renamed_net is.to) (λ (z : NetId). z.0 == x) c.ins.items (λ z o. same-number z.0 x (stood.pins z (Contains-from_Member z o)) kept))
     where
       by_kind : (kind : CellKind) → pins_with (is.to x) (map (renamed_net is.to) c.ins.items) ≡ pins_with x c.ins.items → ack_pins_of kind (is.to x) (map (renamed_net is.to) c.ins.items) ≡ ack_pins_of kind x c.ins.items
-      by_kind (Gate kind) same = refl
-      by_kind Register same = refl
-      by_kind RegisterData same = refl
       by_kind Ack same = same
+      by_kind other same = refl
 
   ack-pins-same : (x : ℕ) → is.from (is.to x) ≡ x → ack_pins m (is.to x) ≡ ack_pins n x
   ack-pins-same x kept =

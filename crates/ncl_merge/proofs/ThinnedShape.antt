@@ -291,9 +291,8 @@ module _ (n m : NetlistData) (is : IsThinned n m) (free : IsFree n) where
 -- zipped lists to which functions were applied
 zip-map : {X Y X' Y' : Type 0} (R : X → Y → Type 0) (Q : X' → Y' → Type 0) (f : X → X') (g : Y → Y') (xs : List X) (ys : List Y) → ((x : X) (y : Y) → Member x xs → R x y → Q (f x) (g y)) → AllZip R xs ys → AllZip Q (map f xs) (map g ys)
 zip-map R Q f g [] [] each zip = tt
-zip-map R Q f g [] (y ∷ ys) each zip = absurd zip
-zip-map R Q f g (x ∷ xs) [] each zip = absurd zip
 zip-map R Q f g (x ∷ xs) (y ∷ ys) each zip = (each x y here zip.0, zip-map R Q f g xs ys (λ a b m. each a b (there m)) zip.1)
+zip-map R Q f g xs ys each zip = absurd zip
 
 module _ (n m : NetlistData) (is : IsThinned n m) (free : IsFree n) where
   -- ---- bits and banks

@@ -16,6 +16,9 @@ origin_forth to (AckOf bank) = AckOf (to bank)
 sort_ack : (k : Kind) (s : CellKind) → s ≡ Gate k → s ≡ Ack → ⊥
 sort_ack k s e f = cc
 
+pub port_apart : (bank : ℕ) → FromPort ≡ RailOf bank → ⊥
+port_apart bank e = cc
+
 -- ---- sums over the cells that are no gates
 
 abbrev plain_test : Cell → Bool
@@ -76,6 +79,16 @@ module _ (n m : NetlistData) (is : IsThinned n m) (free : IsFree n) where
   pub pin-forth : (c : Cell) (pin x : ℕ) → OnPin c pin x → OnPin (moved is.to c) pin (is.to x)
   pin-forth c pin x on = at_map (renamed_net is.to) c.ins.items pin (record { 0 = x }) on
 
+  pub reads-forth : (c : Cell) (x : ℕ) → ReadsNet c x → ReadsNet (moved is.to c) (is.to x)
+  reads-forth c x reads = Contains-from_Member (record { 0 = is.to x }) (Member-map (renamed_net is.to) (record { 0 = x }) (Member-from_Contains c.ins.items (record { 0 = x }) reads))
+
+  -- a cell that is no rail gate stands, and its nets lead back
+  pub stands : (c : Cell) → IsCell n c → (IsRailGate n c → ⊥) → IsCell m (moved is.to c) × (is.from (is.to c.out.0) ≡ c.out.0) × ((x : NetId) → Contains c.ins.items x → is.from (is.to x.0) ≡ x.0)
+  stands c in_c no_rail =
+      let (k, at) = place_of n c in_c in
+      let stood = is.stood k c at no_rail in
+      (Contains-from_slice_get m.cells (is.at k) (moved is.to c) stood.stands, stood.out, stood.pins)
+
   pub reads-back : (k : ℕ) (c d : Cell) → IsStood m is.to is.from is.at k c → d ≡ moved is.to c → (y : ℕ) → ReadsNet d y → ReadsNet c (is.from y)
   reads-back k c d stood e y reads =
       let (pin, at) = slice_get-from_Contains d.ins.items (record { 0 = y }) reads in
@@ -94,10 +107,7 @@ module _ (n m : NetlistData) (is : IsThinned n m) (free : IsFree n) where
       (c, k, at, (Contains-from_slice_get n.cells k c at, ap (λ (z : Cell). is_register z.kind) (sym e) ∙ of_bank.1, on), e, same)
 
   pub bank-forth : (bank : ℕ) (c : Cell) → IsOfBank n bank c → IsOfBank m (is.to bank) (moved is.to c)
-  bank-forth bank c of_bank =
-      let (k, at) = place_of n c of_bank.0 in
-      let stood = is.stood k c at (register-no_rail c of_bank.1) in
-      (Contains-from_slice_get m.cells (is.at k) (moved is.to c) stood.stands, of_bank.1, pin-forth c B bank of_bank.2)
+  bank-forth bank c of_bank = ((stands c of_bank.0 (register-no_rail c of_bank.1)).0, of_bank.1, pin-forth c B bank of_bank.2)
 
   pub input-back : (net : ℕ) → IsInputPort m net → IsInputPort n (is.from net)
   input-back net (p, at, input) =
@@ -156,10 +166,8 @@ module _ (n m : NetlistData) (is : IsThinned n m) (free : IsFree n) where
 
   pub acks-forth : (bank : ℕ) (c : Cell) → AcksBank n bank c → AcksBank m (is.to bank) (moved is.to c)
   acks-forth bank c acks =
-      let (k, at) = place_of n c acks.0 in
-      let stood = is.stood k c at (ack-no_rail c acks.1) in
       let (r, of_r, on) = acks.2 in
-      (Contains-from_slice_get m.cells (is.at k) (moved is.to c) stood.stands, acks.1, (moved is.to r, bank-forth bank r of_r, pin-forth c A r.out.0 on))
+      ((stands c acks.0 (ack-no_rail c acks.1)).0, acks.1, (moved is.to r, bank-forth bank r of_r, pin-forth c A r.out.0 on))
 
   pub acks-back : (bank : ℕ) (k : ℕ) (d : Cell) → CellAt m k d → AcksBank m bank d → (c : Cell) × (j : ℕ) × CellAt n j c × AcksBank n (is.from bank) c × (is.at j ≡ k) × (d ≡ moved is.to c)
   acks-back bank k d at acks =
@@ -244,16 +252,8 @@ module _ (n m : NetlistData) (is : IsThinned n m) (free : IsFree n) where
   port-read net (p, at, input) =
       let at-n : slice_get n.ports net ≡ Some p = ap (λ ports. slice_get ports net) (sym is.ports) ∙ at in
       let (c, in_c, reads) = free.ports_read net (p, at-n, input) in
-      let (k, at-c) = place_of n c in_c in
-      let no_rail : IsRailGate n c → ⊥ = λ (is_gate, (bank, comes)).
-      let two : FromPort ≡ RailOf bank = (only_origin n is.is_n free c.out.0 (RailOf bank) comes).only FromPort (gate c in_c is_gate reads (port (p, at-n, input))) in
-      port-apart bank two in
-      let stood = is.stood k c at-c no_rail in
-      let kept : is.to net ≡ net = is.port_to net (slice_get_within n.ports net p at-n) in
-      (moved is.to c, Contains-from_slice_get m.cells (is.at k) (moved is.to c) stood.stands, subst (λ x. ReadsNet (moved is.to c) x) kept (Contains-from_Member (record { 0 = is.to net }) (Member-map (renamed_net is.to) (record { 0 = net }) (Member-from_Contains c.ins.items (record { 0 = net }) reads))))
-    where
-      port-apart : (bank : ℕ) → FromPort ≡ RailOf bank → ⊥
-      port-apart bank e = cc
+      let no_rail : IsRailGate n c → ⊥ = λ (is_gate, (bank, comes)). port_apart bank ((only_origin n is.is_n free c.out.0 (RailOf bank) comes).only FromPort (gate c in_c is_gate reads (port (p, at-n, input)))) in
+      (moved is.to c, (stands c in_c no_rail).0, subst (λ x. ReadsNet (moved is.to c) x) (is.port_to net (slice_get_within n.ports net p at-n)) (reads-forth c net reads))
 
   -- ---- what is asked of ports, requests and readers
 
@@ -298,16 +298,9 @@ module _ (n m : NetlistData) (is : IsThinned n m) (free : IsFree n) where
             let sort-n : IsAck c ⊎ IsGate c = elim sort [ inl a ↦ inl (ap (λ (z : Cell). z.kind) (sym old.is) ∙ a) | inr g ↦ inr (g.0, ap (λ (z : Cell). z.kind) (sym old.is) ∙ g.1) ] in
             elim (free.tied old.place c old.in_n (is.from request) sort-n back) [
               | inl (g, in_g, is_gate, reads) ↦
-                  let (k, at-g) = place_of n g in_g in
                   let no_rail : IsRailGate n g → ⊥ = λ (also, (bank, from)).
                   kind-apart bank (is.from request) ((only_origin n is.is_n free g.out.0 (RailOf bank) from).only (AckOf (is.from request)) (gate g in_g is_gate reads back)) in
-                  let g-stood = is.stood k g at-g no_rail in
-                  inl (
-                    moved is.to g,
-                    Contains-from_slice_get m.cells (is.at k) (moved is.to g) g-stood.stands,
-                    is_gate,
-                    subst (λ x. ReadsNet (moved is.to g) x) out (Contains-from_Member (record { 0 = is.to c.out.0 }) (Member-map (renamed_net is.to) (record { 0 = c.out.0 }) (Member-from_Contains g.ins.items (record { 0 = c.out.0 }) reads))),
-                  )
+                  inl (moved is.to g, (stands g in_g no_rail).0, is_gate, subst (λ x. ReadsNet (moved is.to g) x) out (reads-forth g c.out.0 reads))
               | inr (inl (r, of_bank)) ↦ inr (inl (moved is.to r, subst (λ x. IsOfBank m x (moved is.to r)) out (bank-forth c.out.0 r of_bank)))
               | inr (inr shown) ↦ inr (inr (subst (IsOutputPort m) out (output-forth c.out.0 shown)))
             ]
@@ -342,9 +335,6 @@ module _ (n m : NetlistData) (is : IsThinned n m) (free : IsFree n) where
   data-back bank (d, of_bank, data_is) =
       let (c, k, at, of_n, e, same) = bank-back bank d of_bank in
       (c, of_n, ap (λ (z : Cell). is_data_register z.kind) (sym e) ∙ data_is)
-
-  reads-forth : (c : Cell) (x : ℕ) → ReadsNet c x → ReadsNet (moved is.to c) (is.to x)
-  reads-forth c x reads = Contains-from_Member (record { 0 = is.to x }) (Member-map (renamed_net is.to) (record { 0 = x }) (Member-from_Contains c.ins.items (record { 0 = x }) reads))
 
   pub unmixed : (d : Cell) → IsCell m d → IsUnmixed m d
   unmixed d in_d = record { gate = of-gate; register = of-register; ack = of-ack }
@@ -415,9 +405,7 @@ module _ (n m : NetlistData) (is : IsThinned n m) (free : IsFree n) where
           let (i, at-d) = place_of m d in_d in
           let (c, k, at, acks-n, place, e) = acks-back request i d at-d acks in
           let (r, in_r, data_is, reads) = (free.unmixed k c at).ack acks-n.1 (is.from request) acks-n (data-back request has_data) in
-          let (j, at-r) = place_of n r in_r in
-          let stood = is.stood j r at-r (register-no_rail r (data_is_register r.kind data_is)) in
-          (moved is.to r, Contains-from_slice_get m.cells (is.at j) (moved is.to r) stood.stands, data_is, subst (λ (z : Cell). ReadsNet z (is.to r.out.0)) (sym e) (reads-forth c r.out.0 reads))
+          (moved is.to r, (stands r in_r (register-no_rail r (data_is_register r.kind data_is))).0, data_is, subst (λ (z : Cell). ReadsNet z (is.to r.out.0)) (sym e) (reads-forth c r.out.0 reads))
 
   -- ---- rule 3
 
@@ -442,9 +430,8 @@ module _ (n m : NetlistData) (is : IsThinned n m) (free : IsFree n) where
   moved_pins : (x : ℕ) → is.from (is.to x) ≡ x → (c : Cell) → Member c (filter plain_test n.cells) → ack_pins_of (moved is.to c).kind (is.to x) (moved is.to c).ins.items ≡ ack_pins_of c.kind x c.ins.items
   moved_pins x kept c m =
       let (among, passes) = member_of_filter plain_test c n.cells m in
-      let (k, at) = place_of n c (Contains-from_Member c among) in
-      let stood = is.stood k c at (plain_no_rail c passes) in
-      by_kind c.kind (count_of_map (λ (z : NetId). z.0 == is.to x) (renamed_net is.to) (λ (z : NetId). z.0 == x) c.ins.items (λ z o. same-number z.0 x (stood.pins z (Contains-from_Member z o)) kept))
+      let pins = (stands c (Contains-from_Member c among) (plain_no_rail c passes)).2 in
+      by_kind c.kind (count_of_map (λ (z : NetId). z.0 == is.to x) (renamed_net is.to) (λ (z : NetId). z.0 == x) c.ins.items (λ z o. same-number z.0 x (pins z (Contains-from_Member z o)) kept))
     where
       by_kind : (kind : CellKind) → pins_with (is.to x) (map (renamed_net is.to) c.ins.items) ≡ pins_with x c.ins.items → ack_pins_of kind (is.to x) (map (renamed_net is.to) c.ins.items) ≡ ack_pins_of kind x c.ins.items
       by_kind Ack same = same
@@ -467,10 +454,7 @@ module _ (n m : NetlistData) (is : IsThinned n m) (free : IsFree n) where
     ack = λ is_ack.
         let (c, k, at, stood, e) = old-ack d in_d is_ack in
         let was = (free.paired k c at).ack (ap (λ (z : Cell). z.kind) (sym e) ∙ is_ack) in
-        let (i, at-z) = place_of n was.zero was.zero_of.0 in
-        let (j, at-o) = place_of n was.one was.one_of.0 in
-        let z-stood = is.stood i was.zero at-z (register-no_rail was.zero was.zero_of.1) in
-        let o-stood = is.stood j was.one at-o (register-no_rail was.one was.one_of.1) in
+        let kept : (r : Cell) → IsOfBank n was.request r → is.from (is.to r.out.0) ≡ r.out.0 = λ r of_r. (stands r of_r.0 (register-no_rail r of_r.1)).1 in
         record {
           request = is.to was.request;
           zero = moved is.to was.zero;
@@ -479,7 +463,7 @@ module _ (n m : NetlistData) (is : IsThinned n m) (free : IsFree n) where
           one_of = bank-forth was.request was.one was.one_of;
           on_a = subst (λ (z : Cell). OnPin z A (is.to was.zero.out.0)) (sym e) (pin-forth c A was.zero.out.0 was.on_a);
           on_b = subst (λ (z : Cell). OnPin z B (is.to was.one.out.0)) (sym e) (pin-forth c B was.one.out.0 was.on_b);
-          differ = λ same. was.differ (sym z-stood.out ∙ ap is.from same ∙ o-stood.out);
+          differ = λ same. was.differ (sym (kept was.zero was.zero_of) ∙ ap is.from same ∙ kept was.one was.one_of);
           few_data = was.few_data;
         };
   }

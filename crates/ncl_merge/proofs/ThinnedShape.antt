@@ -1,7 +1,7 @@
 -- A thinned netlist has a shape: the same banks in the chain that they formed, with the stages that those of the netlist have
 -- become.
 use Rattle.ncl_merge.proofs.Terms.{A, AckOf, AcksBank, AllZip, AreBitsOf, AreInputsOf, AreRailsOf, B, Bank, BankBit, Cell, CellAt, ChainedRequests, ComesFrom, Contains, Contains-from_Member, Contains-from_slice_get, Follows, FromPort, HasEnds, HasOne, HasOneRole, HasOnlyOrigin, HasRegister, HasRoots, IsAcknowledged, IsBank, IsBankOf, IsBitOf, IsCell, IsChain, IsChained, IsClosed, IsDataApart, IsFirstBank, IsFree, IsHead, IsInputOf, IsInputPort, IsLastBank, IsOfBank, IsOutputPort, IsPath, IsRailGate, IsRequest, IsRoot, IsStageOf, IsStood, IsThinStage, IsThinned, IsUnforked, List, MOST_BITS, Member, Member-from_Contains, Member-map, NetId, NetlistData, NoFork, None, OnPin, OnPinNamed, OneChain, OneRoleEach, OneRootEach, PipelineData, RailOf, Rails, Shape, ShownOutputs, Some, SomeRegister, StageData, TwoEnds, WordsApart, [], ap, arith, at_map, at_of_map, banks_of_chain, driver_of_ack, end, get_or, get_or-map, here, inl, inr, is_gate, length, length-map, map, moved, moved_bank, moved_bit, moved_pipeline, next, only_origin, pins_of, place_of, port, refl, renamed_net, renamed_rails, request_at, same_cell, slice_get, slice_get-from_Contains, slice_get-get_or, slice_get-some, slice_get_within, subst, sym, there, ℕ, ◌+◌, ◌<◌, ◌∙◌, ◌∷◌, ◌≡◌, ◌≤◌, ◌⊎◌}
-pub use Rattle.ncl_merge.proofs.Thinned.{ack-no_rail, acks-back, acks-forth, bank-back, bank-forth, comes-back, comes-forth, data-back, free-thinned, input-back, input-forth, kind-apart, only-forth, out-back, out-within, output-back, output-forth, pin-back, pin-forth, pin-within, register-no_rail}
+pub use Rattle.ncl_merge.proofs.Thinned.{stands, port_apart, ack-no_rail, acks-back, acks-forth, bank-back, bank-forth, comes-back, comes-forth, data-back, free-thinned, input-back, input-forth, kind-apart, only-forth, out-back, out-within, output-back, output-forth, pin-back, pin-forth, pin-within, register-no_rail}
 
 -- ---- the chain of banks
 
@@ -10,8 +10,7 @@ module _ (n m : NetlistData) (is : IsThinned n m) (free : IsFree n) where
 
   pub bank-kept : (bank : ℕ) → IsBank n bank → is.from (is.to bank) ≡ bank
   bank-kept bank (c, of_bank) =
-      let (k, at) = place_of n c of_bank.0 in
-      (is.stood k c at (register-no_rail n m is free c of_bank.1)).pins (record { 0 = bank }) (Contains-from_slice_get c.ins.items B (record { 0 = bank }) of_bank.2)
+      (stands n m is free c of_bank.0 (register-no_rail n m is free c of_bank.1)).2 (record { 0 = bank }) (Contains-from_slice_get c.ins.items B (record { 0 = bank }) of_bank.2)
 
   is_bank-forth : (bank : ℕ) → IsBank n bank → IsBank m (is.to bank)
   is_bank-forth bank (c, of_bank) = (moved is.to c, bank-forth n m is free bank c of_bank)
@@ -21,9 +20,8 @@ module _ (n m : NetlistData) (is : IsThinned n m) (free : IsFree n) where
 
   input_of-forth : (bank net : ℕ) → IsInputOf n bank net → IsInputOf m (is.to bank) (is.to net) × (is.from (is.to net) ≡ net)
   input_of-forth bank net (c, of_bank, on) =
-      let (k, at) = place_of n c of_bank.0 in
-      let stood = is.stood k c at (register-no_rail n m is free c of_bank.1) in
-      ((moved is.to c, bank-forth n m is free bank c of_bank, pin-forth n m is free c A net on), stood.pins (record { 0 = net }) (Contains-from_slice_get c.ins.items A (record { 0 = net }) on))
+      let pins = (stands n m is free c of_bank.0 (register-no_rail n m is free c of_bank.1)).2 in
+      ((moved is.to c, bank-forth n m is free bank c of_bank, pin-forth n m is free c A net on), pins (record { 0 = net }) (Contains-from_slice_get c.ins.items A (record { 0 = net }) on))
 
   input_of-back : (bank net : ℕ) → IsInputOf m bank net → IsInputOf n (is.from bank) (is.from net) × (is.to (is.from net) ≡ net)
   input_of-back bank net (d, of_bank, on) =
@@ -76,9 +74,7 @@ module _ (n m : NetlistData) (is : IsThinned n m) (free : IsFree n) where
   -- ---- rules 1 to 4
 
   register-there : HasRegister n → HasRegister m
-  register-there (c, in_c, register) =
-      let (k, at) = place_of n c in_c in
-      (moved is.to c, Contains-from_slice_get m.cells (is.at k) (moved is.to c) (is.stood k c at (register-no_rail n m is free c register)).stands, register)
+  register-there (c, in_c, register) = (moved is.to c, (stands n m is free c in_c (register-no_rail n m is free c register)).0, register)
 
   ends-there : HasEnds n → HasEnds m
   ends-there ends = record {
@@ -148,11 +144,10 @@ module _ (n m : NetlistData) (is : IsThinned n m) (free : IsFree n) where
   ack-kept : (bank net : ℕ) → ComesFrom n net (AckOf bank) → (is.from (is.to net) ≡ net) × (is.to net < length m.nets)
   ack-kept bank net comes =
       let (c, in_c, out, sort) = driver_of_ack n net (AckOf bank) bank refl comes in
-      let (k, at) = place_of n c in_c in
       let no_rail : IsRailGate n c → ⊥ = λ (is_gate, (b, from)).
       kind-apart n m is free b bank ((only_origin n is.is_n free c.out.0 (RailOf b) from).only (AckOf bank) (subst (λ x. ComesFrom n x (AckOf bank)) (sym out) comes)) in
-      let stood = is.stood k c at no_rail in
-      (subst (λ x. is.from (is.to x) ≡ x) out stood.out, subst (λ x. is.to x < length m.nets) out (out-within n m is free (moved is.to c) (Contains-from_slice_get m.cells (is.at k) (moved is.to c) stood.stands)))
+      let (there_is, kept, pins) = stands n m is free c in_c no_rail in
+      (subst (λ x. is.from (is.to x) ≡ x) out kept, subst (λ x. is.to x < length m.nets) out (out-within n m is free (moved is.to c) there_is))
 
   ack-back : (bank net : ℕ) → ComesFrom m net (AckOf bank) → is.to (is.from net) ≡ net
   ack-back bank net comes =
@@ -236,11 +231,8 @@ module _ (n m : NetlistData) (is : IsThinned n m) (free : IsFree n) where
         | inr thin ↦
             let (x, z-is, kept, comes) = thin.pins (record { 0 = net }) (Contains-from_slice_get d.ins.items pin (record { 0 = net }) on) in
             let there : ComesFrom n x FromPort = subst (λ y. ComesFrom n y FromPort) (ap is.from z-is ∙ kept) (port (input-back n m is free net input)) in
-            absurd (port-apart thin.bank ((only_origin n is.is_n free x (RailOf thin.bank) comes).only FromPort there))
+            absurd (port_apart thin.bank ((only_origin n is.is_n free x (RailOf thin.bank) comes).only FromPort there))
       ]
-    where
-      port-apart : (bank : ℕ) → FromPort ≡ RailOf bank → ⊥
-      port-apart bank e = cc
 
   named-back : (d : Cell) → IsCell m d → (name : List ℕ) (net : ℕ) → IsInputPort m net → OnPinNamed d name net → (c : Cell) × IsCell n c × OnPinNamed c name (is.from net) × (d ≡ moved is.to c)
   named-back d in_d name net input (pin, named, on) =

@@ -1,11 +1,11 @@
 -- A folded netlist keeps what the netlist has: what its stages lose the netlist loses, its text is no longer, and it gives
 -- what the netlist gave.
-use Rattle.ncl_merge.proofs.Terms.{All, All-contains, All-from_members, All-member, AllPairs, AllPairs-append, AllZip, AllZip-from_places, AllZip-same, AreFewer, Bank, BankBit, Bool, Cell, CellAt, Contains, Contains-from_Member, Contains-from_slice_get, Differ, FoldsTo, Gate, HasLabelOf, IsCell, IsLayoutOf, IsMergedBank, IsMergedStage, IsNetlist, IsRailGate, IsSmaller, IsSound, Keeps, Kind, Layout, List, Member, Member-append_right, Member-from_Contains, Member-map, NetId, NetlistData, None, Option, PartCell, PipelineData, Shape, Some, StageCell, StageData, Th12, [], all_of, ap, arith, arity_of, at_map, both_ways, cases_Bool, cases_lt, cell_line, cell_name, cell_name_of, choice_of, closed-is, codes, composed, cond, drop, eq-eqb, eqb-true, false, false_from_ne_true, filter, flat_map, flat_map-cons, folded_netlist, folded_pipeline, function_at, get_or, get_or_from_slice_get, header_line, held-in, held_from, held_nets, here, if◌then◌else◌, inl, inr, is_composition, is_some, is_stage_cell, kept, laid_out, length, length-append, length-drop, length-flat_map, length-join_with_byte, length-map, line_length, list_all, list_all-member, list_any, list_any-from_member, map, map-map, member_from_list_any, member_of_flat_map, member_of_map, moved, moved_bank, moved_bit, moved_gate, moved_stage, name_at, name_number, name_number-get_or, name_of, nat_eq, net_there, nets_at, nets_of, not, number_in, opened, out_of, part_of, pin_names, pin_text, pin_texts, pins_of, pins_of-gate, place_of, place_there, port_line, rail_nets, refl, renamed_rails, same_driver, same_place, slice_get, slice_get-drop, slice_get-from_Contains, slice_get-get_or, slice_get-some, slice_get_within, sound-when_held, spelled_name, stage_function, stages_apart, standing, subst, suc, sum_by, sum_by-append, sum_by-cons, sum_by-map, sym, text_of, there, true, under-own, value_or_low, wire_line, wires-pass, wires_or_stage, wires_sound, with_cells, with_gate_of, with_kept, word-passes, word_held, word_under, zero, zip, ℕ, ◌++◌, ◌+◌, ◌-◌, ◌<◌, ◌∙◌, ◌∷◌, ◌≡◌, ◌≢◌, ◌≤◌}
+use Rattle.ncl_merge.proofs.Terms.{All, All-contains, All-from_members, All-member, AllPairs, AllPairs-append, AllZip, AllZip-from_places, AllZip-same, AreFewer, Bank, BankBit, Bool, Cell, CellAt, Contains, Contains-from_Member, Contains-from_slice_get, Differ, FoldsTo, Gate, HasLabelOf, IsCell, IsLayoutOf, IsMergedBank, IsMergedStage, IsNetlist, IsRailGate, IsSmaller, IsSound, Keeps, Kind, Layout, List, Member, Member-append_right, Member-from_Contains, Member-map, NetId, NetlistData, None, Option, PartCell, PipelineData, Shape, Some, StageCell, StageData, Th12, [], all_of, ap, arith, arity_of, at_map, both_ways, cases_Bool, cases_lt, cell_line, cell_name, cell_name_of, choice_of, closed-is, codes, composed, cond, drop, eq-eqb, eqb-true, false, false_from_ne_true, filter, flat_map, flat_map-cons, folded_netlist, folded_pipeline, function_at, get_or, get_or_from_slice_get, header_line, held-in, held_from, held_nets, here, if◌then◌else◌, inl, inr, is_composition, is_some, is_stage_cell, kept, laid_out, length, length-append, length-drop, length-flat_map, length-join_with_byte, length-map, line_length, list_all, list_all-member, list_any, list_any-from_member, map, map-map, member_from_list_any, member_of_flat_map, member_of_map, moved, moved_bank, moved_bit, moved_gate, moved_stage, name_at, name_number, name_number-get_or, name_of, nat_eq, net_there, nets_at, nets_of, not, number_in, opened, out_of, part_of, pin_names, pin_text, pin_texts, pins_of, pins_of-gate, place_of, place_there, port_line, rail_nets, refl, renamed_rails, same_driver, same_place, slice_get, slice_get-drop, slice_get-from_Contains, slice_get-get_or, slice_get-some, slice_get_within, sound-when_held, spelled_name, stage_function, stages_apart, standing, subst, suc, sum_by, sum_by-append, sum_by-cons, sum_by-map, sym, text_of, there, true, under-own, value_or_low, wire_line, wires-pass, wires_or_stage, wires_sound, with_cells, with_gate_of, with_kept, word-passes, word_held, word_under, zero, zip, ℕ, ◌++◌, ◌+◌, ◌-◌, ◌<◌, ◌∙◌, ◌∷◌, ◌≡◌, ◌≢◌, ◌≤◌, ◌⊎◌}
 use Rattle.ncl_merge.proofs.Weights.{halves, lines_no_longer, no_more, ones, outs-differ, sum-same, sum_by-flat_map, sums-le, sums-split}
 use Rattle.ncl_merge.proofs.Folds.{function-folded, sound-folded}
 use Rattle.ncl_merge.proofs.Renamed.{function-renamed, sound-renamed}
 use Rattle.ncl_merge.proofs.Thinned.{filter_gone, filter_kept}
-use Rattle.ncl_merge.proofs.Rebuilt.{in-kept, cells-moved, decide, kept_none, kept_some, port-name, port-within}
+use Rattle.ncl_merge.proofs.Rebuilt.{in-kept, cells-moved, kept_some, port-name, port-within}
 use Rattle.ncl_merge.proofs.Choices.{IsFoldedStageAt, choice-rail, choice-stands, folded-stage, folds, gate-cell, is-choice, is-folded, out-known, place-in, rail-staged, stage-is, stage-within, staged-rail}
 use Rattle.ncl_merge.proofs.ChoiceShape.{inputs-named, is-thinned, ki-named, ko-named, label-there, moved-at, moved-count, name-of_cell, net-back, no-new_cells, no-new_nets, outputs-named, part-kept, renamed-at, shape-folded}
 
@@ -279,22 +279,20 @@ module _ (p : PipelineData) (shape : Shape p.netlist p) (lists : List (List Stag
     kept-among : sum_by inner_kept n.cells ≤ sum_by h (all_of lists)
     kept-among =
         no_more (λ (c : Cell). c.out.0) (λ (g : StageCell). g.out.0) inner_kept h n.cells (all_of lists) cells-differ (λ c m.
-        elim (cases_Bool (is_stage_cell p c)) [
-          | inr other ↦ inl (ap (λ b. cond b (kept_weight f (choice c)) 0) other)
-          | inl staged_is ↦
-              let whole : inner_kept c ≡ kept_weight f (choice c) = ap (λ b. cond b (kept_weight f (choice c)) 0) staged_is in
-              elim (decide (choice c)) [
-                | inl gone ↦ inl (whole ∙ ap (kept_weight f) gone)
-                | inr (d, stays) ↦
-                    let (g, m-g, out, is) = choice-rail p shape lists fewer c d (Contains-from_Member c m) (staged-rail p shape lists fewer c (Contains-from_Member c m) staged_is) stays in
-                    let u = place-in p shape lists fewer g m-g in
-                    let (b, at_b, out_b, rail) = gate-cell p shape lists fewer u.place u.stage u.cells u.at g u.among in
-                    let one : b ≡ c = same_driver n shape.is_netlist b c (Contains-from_slice_get n.cells g.cell.0 b at_b) (Contains-from_Member c m) (ap (λ (x : NetId). x.0) out_b ∙ out) in
-                    let weighs : f (with_gate_of c g) ≡ h g = same g c (subst (CellAt n g.cell.0) one at_b) (subst (λ (z : Cell). z.out ≡ g.out) one out_b) (All-member (λ (e : StageCell). length e.ins.items ≡ arity_of e.kind) u.cells (is-folded p shape lists fewer u.place u.stage u.cells u.at).arities g u.among) in
-                    let equal : inner_kept c ≡ h g = whole ∙ ap (kept_weight f) (stays ∙ ap Some is) ∙ weighs in
-                    inr (g, m-g, out, omega (arith, equal))
-              ]
-        ])
+        elim (is_stage_cell p c) as (λ b. is_stage_cell p c ≡ b → (cond b (kept_weight f (choice c)) 0 ≡ 0) ⊎ ((g : StageCell) × Member g (all_of lists) × (g.out.0 ≡ c.out.0) × (cond b (kept_weight f (choice c)) 0 ≤ h g))) [
+          | false ↦ λ other. inl refl
+          | true ↦ λ staged_is. elim (choice c) as (λ o. choice c ≡ o → (kept_weight f o ≡ 0) ⊎ ((g : StageCell) × Member g (all_of lists) × (g.out.0 ≡ c.out.0) × (kept_weight f o ≤ h g))) [
+            | None ↦ λ gone. inl refl
+            | Some d ↦ λ stays.
+                let (g, m-g, out, is) = choice-rail p shape lists fewer c d (Contains-from_Member c m) (staged-rail p shape lists fewer c (Contains-from_Member c m) staged_is) stays in
+                let u = place-in p shape lists fewer g m-g in
+                let (b, at_b, out_b, rail) = gate-cell p shape lists fewer u.place u.stage u.cells u.at g u.among in
+                let one : b ≡ c = same_driver n shape.is_netlist b c (Contains-from_slice_get n.cells g.cell.0 b at_b) (Contains-from_Member c m) (ap (λ (x : NetId). x.0) out_b ∙ out) in
+                let weighs : f (with_gate_of c g) ≡ h g = same g c (subst (CellAt n g.cell.0) one at_b) (subst (λ (z : Cell). z.out ≡ g.out) one out_b) (All-member (λ (e : StageCell). length e.ins.items ≡ arity_of e.kind) u.cells (is-folded p shape lists fewer u.place u.stage u.cells u.at).arities g u.among) in
+                let equal : f d ≡ h g = ap f is ∙ weighs in
+                inr (g, m-g, out, omega (arith, equal))
+          ] refl
+        ] refl)
 
     -- and those of the stages are cells of the netlist
     staged-among : sum_by h staged ≤ sum_by inner n.cells
@@ -465,13 +463,12 @@ module _ (p : PipelineData) (shape : Shape p.netlist p) (lists : List (List Stag
         let rest = standing-part cells (λ b m-b. among b (there m-b)) in
         let there_is : List Cell → List PartCell = λ xs. map (part_of m.nets) (filter stays_there (map (moved to) xs)) in
         elim (cases_Bool (is_stage_cell p c)) [
-          | inl staged ↦ elim (decide (choice_of p lists c)) [
-            | inl gone ↦ ap there_is (kept_none (choice_of p lists) c cells gone) ∙ rest ∙ ap (map (part_of n.nets)) (sym (filter_gone stays_here c cells (ap not staged)))
-            | inr (d, is) ↦
-                ap there_is (kept_some (choice_of p lists) c d cells is)
-                ∙ ap (map (part_of m.nets)) (filter_gone stays_there (moved to d) (map (moved to) (kept (choice_of p lists) cells)) (ap not (staged-there c d in_c staged is)))
-                ∙ rest ∙ ap (map (part_of n.nets)) (sym (filter_gone stays_here c cells (ap not staged)))
-          ]
+          | inl staged ↦
+              let here_is = ap (map (part_of n.nets)) (sym (filter_gone stays_here c cells (ap not staged))) in
+              elim (choice_of p lists c) as (λ o. choice_of p lists c ≡ o → there_is (with_kept o (kept (choice_of p lists) cells)) ≡ map (part_of n.nets) (filter stays_here (c ∷ cells))) [
+                | None ↦ λ gone. rest ∙ here_is
+                | Some d ↦ λ is. ap (map (part_of m.nets)) (filter_gone stays_there (moved to d) (map (moved to) (kept (choice_of p lists) cells)) (ap not (staged-there c d in_c staged is))) ∙ rest ∙ here_is
+              ] refl
           | inr other ↦
               let is : choice_of p lists c ≡ Some c = choice-stands p shape lists fewer c in_c (λ rail. both_ways (is_stage_cell p c) other (rail-staged p shape lists fewer c in_c rail)) in
               let own = part-kept p shape lists fewer is_m c (in-kept n shape.is_netlist shape.free (choice_of p lists) (is-choice p shape lists fewer) c c in_c is) in

@@ -11,10 +11,6 @@ kept_some choice c d cells is = ap (λ o. with_kept o (kept choice cells)) is
 pub kept_none : (choice : Cell → Option Cell) (c : Cell) (cells : List Cell) → choice c ≡ None → kept choice (c ∷ cells) ≡ kept choice cells
 kept_none choice c cells is = ap (λ o. with_kept o (kept choice cells)) is
 
-pub decide : {X : Type 0} (o : Option X) → (o ≡ None) ⊎ ((d : X) × (o ≡ Some d))
-decide None = inl refl
-decide (Some d) = inr (d, refl)
-
 -- the place of what a cell becomes: after all that is kept of those before it
 abbrev pub place_in : (Cell → Option Cell) → List Cell → ℕ → ℕ
 place_in choice cells k = length (kept choice (take k cells))
@@ -42,12 +38,12 @@ kept_rises choice (b ∷ cells) (suc j) (suc k) c d at is lt =
 pub kept_from : (choice : Cell → Option Cell) (cells : List Cell) (i : ℕ) (d : Cell) → slice_get (kept choice cells) i ≡ Some d → (k : ℕ) × (c : Cell) × (slice_get cells k ≡ Some c) × (choice c ≡ Some d) × (place_in choice cells k ≡ i)
 kept_from choice [] i d at = absurd cc
 kept_from choice (b ∷ cells) i d at =
-    elim (decide (choice b)) [
-      | inl gone ↦
-          let (k, c, at-c, is, place) = kept_from choice cells i d (ap (λ xs. slice_get xs i) (sym (kept_none choice b cells gone)) ∙ at) in
+    elim (choice b) as (λ o. choice b ≡ o → slice_get (with_kept o (kept choice cells)) i ≡ Some d → (k : ℕ) × (c : Cell) × (slice_get (b ∷ cells) k ≡ Some c) × (choice c ≡ Some d) × (place_in choice (b ∷ cells) k ≡ i)) [
+      | None ↦ λ gone stands.
+          let (k, c, at-c, is, place) = kept_from choice cells i d stands in
           (suc k, c, at-c, is, ap length (kept_none choice b (take k cells) gone) ∙ place)
-      | inr (e, stays) ↦ by_place e stays i (ap (λ xs. slice_get xs i) (sym (kept_some choice b e cells stays)) ∙ at) (λ j at-j. kept_from choice cells j d at-j)
-    ]
+      | Some e ↦ λ stays stands. by_place e stays i stands (λ j at-j. kept_from choice cells j d at-j)
+    ] refl at
   where
     by_place : (e : Cell) → choice b ≡ Some e → (i : ℕ) → slice_get (e ∷ kept choice cells) i ≡ Some d → ((j : ℕ) → slice_get (kept choice cells) j ≡ Some d → (k : ℕ) × (c : Cell) × (slice_get cells k ≡ Some c) × (choice c ≡ Some d) × (place_in choice cells k ≡ j)) → (k : ℕ) × (c : Cell) × (slice_get (b ∷ cells) k ≡ Some c) × (choice c ≡ Some d) × (place_in choice (b ∷ cells) k ≡ i)
     by_place e stays zero at below = let same : e ≡ d = cc in (zero, b, refl, stays ∙ ap Some same, refl)

@@ -1,6 +1,6 @@
 -- The netlist of the kept cells has the shape of the pipeline of the folded stages, and its nets and cells have the names that
 -- they had.
-use Rattle.ncl_merge.proofs.Terms.{All, All-from_members, AllPairs, AllZip, AreFewer, Cell, CellAt, CellId, Contains, Contains-filter_map, Contains-from_Member, Contains-from_slice_get, Gate, HasLabelOf, IsCell, IsChoice, IsInputPort, IsNetlist, IsOutputPort, IsRailGate, IsRegister, IsRenamedCell, IsRenamedStage, IsThinStage, IsThinned, Kind, List, Member, Member-append_cases, Member-append_left, Member-append_right, Member-from_Contains, Member-get_or, Member-map, NetId, NetlistData, OneRootEach, Option, PartCell, PipelineData, Port, Rails, Shape, Some, StageCell, StageData, [], ap, arith, at_map, cell_fits, cell_name, choice_of, drop, first_bank, flat_map, folded_netlist, folded_pipeline, get_or-name_number, get_or_from_slice_get, inl, input_is_port, inr, is_gate, kept, kept_parts, ki_is_port, last_bank, length, map, map-append, map-map, map-same, member_of_flat_map, member_of_map, moved, moved_gate, moved_stage, moved_stages, name_at, name_number, name_number-get_or, name_number-lt-length, net_there, nets_at, nets_of, number_in, out_of, part_of, pin_names, place_of, place_there, port_names, rail_names, rail_nets, rail_one, rail_zero, refl, register_no_gate, register_of_rail, renamed_net, renamed_rails, request_at, requests, same_cell, same_driver, same_place, slice_get, slice_get_within, stages_apart, subst, suc, sym, take-append-drop, with_cells, with_gate_of, zero, ℕ, ◌++◌, ◌<◌, ◌∙◌, ◌∷◌, ◌≡◌, ◌≢◌}
+use Rattle.ncl_merge.proofs.Terms.{All, All-from_members, AllPairs, AllZip, AreFewer, Cell, CellAt, CellId, Contains, Contains-filter_map, Contains-from_Member, Contains-from_slice_get, Gate, HasLabelOf, IsCell, IsChoice, IsInputPort, IsNetlist, IsOutputPort, IsRailGate, IsRegister, IsRenamedCell, IsRenamedStage, IsThinStage, IsThinned, Kind, List, Member, Member-append_cases, Member-append_left, Member-append_right, Member-from_Contains, Member-get_or, Member-map, NetId, NetlistData, OneRootEach, Option, PartCell, PipelineData, Port, Rails, Shape, Some, StageCell, StageData, [], ap, arith, at_map, cell_fits, cell_name, choice_of, drop, first_bank, flat_map, folded_netlist, folded_pipeline, get_or-name_number, get_or_from_slice_get, inl, input_is_port, inr, is_gate, kept, kept_parts, ki_is_port, last_bank, length, map, map-append, map-map, map-same, member_of_flat_map, member_of_map, moved, moved_gate, moved_stage, moved_stages, name_at, name_number, name_number-get_or, name_number-lt-length, net_there, nets_at, nets_of, number_in, out_of, part_of, pin_names, place_of, place_there, port_names, rail_names, rail_nets, rail_one, rail_zero, refl, register_no_gate, register_of_rail, renamed_net, renamed_rails, request_at, requests, same_Some, same_cell, same_driver, same_place, slice_get, slice_get_within, stages_apart, subst, suc, sym, take-append-drop, with_cells, with_gate_of, zero, ℕ, ◌++◌, ◌<◌, ◌∙◌, ◌∷◌, ◌≡◌, ◌≢◌}
 use Rattle.ncl_merge.proofs.Weights.{ones, outs-differ}
 use Rattle.ncl_merge.proofs.Folds.{cell-folded}
 use Rattle.ncl_merge.proofs.Renamed.{pairs-map, renamed-stage}
@@ -137,8 +137,7 @@ module _ (p : PipelineData) (shape : Shape p.netlist p) (lists : List (List Stag
         let own : Member old.out.0 (nets_at p (suc k)) = subst (λ (t : StageData). Member old.out.0 (nets_of t.inputs t.cells)) (sym (stage-is p shape lists fewer k s cells of)) (Member-append_right (rail_nets s.inputs) old.out.0 (Member-map out_of old m-old)) in
         let numbers : suc u.place ≡ suc k = stages_apart p shape (suc u.place) (suc k) old.out.0 (stage-within p shape lists fewer u.place u.stage u.at.stage) (stage-within p shape lists fewer k s of.stage) (subst (λ x. Member x (nets_at p (suc u.place))) (out_g ∙ outs) first) own in
         let same-place : u.place ≡ k = omega (arith, numbers) in
-        let both : Some u.cells ≡ Some cells = sym u.at.list ∙ ap (slice_get lists) same-place ∙ of.list in
-        let lists-are : u.cells ≡ cells = cc in
+        let lists-are : u.cells ≡ cells = same_Some u.cells cells (sym u.at.list ∙ ap (slice_get lists) same-place ∙ of.list) in
         (moved_gate to at g, Contains-from_Member (moved_gate to at g) (Member-map (moved_gate to at) g (subst (Member g) lists-are u.among)), ap at number ∙ place)
 
     pub thin-stage : IsThinStage m to from s (moved_stage to at s cells)

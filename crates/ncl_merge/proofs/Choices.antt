@@ -1,5 +1,6 @@
 -- What becomes of each cell of a netlist whose stages were folded, by tables too, and that what is kept can be built.
 pub use Rattle.ncl_merge.proofs.Terms.{A, AckOf, All, All-from_members, All-member, AllDiffer, AreFewer, B, Bank, Bool, Cell, CellAt, CellId, ComesFrom, Contains, Contains-from_Member, Contains-from_slice_get, DriveOnce, FoldsTo, HasAllPins, HaveGates, IsCell, IsChoice, IsFaultless, IsGate, IsInputPort, IsOfBank, IsOutputPort, IsRailGate, IsRegister, IsStage, IsStageOf, IsTable, IsWhole, List, Member, Member-append_cases, Member-append_left, Member-append_right, Member-flat_map, Member-from_Contains, Member-get_or, Member-map, NetId, NetlistData, None, OnPin, Option, Origin, PartCell, Parts, PipelineData, RailOf, ReadsNet, Shape, ShownOutputs, Some, StageCell, StageData, [], all_of, ap, append-nil, append_assoc, arith, arity_of, bank_named, bank_of_register, becomes, both_ways, cases_eq, cell_driving, cell_fits, cell_of_rail, choice_by, choice_of, cond, drop, eq-eqb, eqb-true, false, filter_map-more, find-append, first_bank, flat_map, flat_map-append, flat_map-cons, gate, gate_of_stage, get_or, get_or-set_other, get_or-set_same, get_or_from_slice_get, here, inl, inner_or_last, inner_stage, input_is_port, inr, is_gate, is_stage_cell, is_stage_net, kept, kept_parts, last_bank, last_stage, length, length-map, length-set, list_any, list_any-from_member, map, map-append, map_push, member_cases, member_from_list_any, member_of_flat_map, member_of_map, nat_eq, ne_eqb, nets_at, nets_of, no_cell_drives_port, only_origin, option_or, origin_within, out_of, part_of, pins_of, pins_of-gate, place_of, port_names, rail-within, rail_at, rail_nets, rail_of_register, refl, register_no_gate, register_of_rail, register_on, register_pins_of, request_at, requests, same_Some, same_driver, same_output, set, slice_get, slice_get-from_Contains, slice_get-get_or, slice_get-some, slice_get_within, sort_of, stage_at, stage_origin, stages_apart, stages_join, subst, suc, sym, take, take-append-drop, take_all, take_more, there, true, with_cells, with_gate_of, with_kept, zero, ℕ, ◌++◌, ◌+◌, ◌<◌, ◌^◌, ◌∙◌, ◌∷◌, ◌≡◌, ◌≤◌, ◌⊎◌}
+use Rattle.ncl_merge.proofs.Thinned.{kind-apart}
 use Rattle.ncl_merge.proofs.Folds.{cell-folded, rank-folded, stage-folded, stage-pin}
 use Rattle.ncl_merge.proofs.Rebuilt.{all-pins, faultless-kept, ports-apart, rail_or_not, same-choice}
 
@@ -133,14 +134,10 @@ pub record IsFoldedStageAt (p : PipelineData) (lists : List (List StageCell)) (k
   pub bank_at : slice_get p.banks k ≡ Some bank
   pub between : IsStageOf p.netlist bank next s
 
-kinds-apart : (bank other : ℕ) → RailOf bank ≡ AckOf other → ⊥
-kinds-apart bank other e = cc
-
 -- what stands at one place is one net
 one-net : (o : Option NetId) (x y : NetId) → o ≡ Some x → o ≡ Some y → x.0 ≡ y.0
 one-net o x y e f =
-    let both : Some x ≡ Some y = sym e ∙ f in
-    let same : x ≡ y = cc in
+    let same : x ≡ y = same_Some x y (sym e ∙ f) in
     ap (λ (z : NetId). z.0) same
 
 module _ (p : PipelineData) (shape : Shape p.netlist p) (lists : List (List StageCell)) (fewer : AreFewer p.stages lists) where
@@ -262,8 +259,7 @@ module _ (p : PipelineData) (shape : Shape p.netlist p) (lists : List (List Stag
       let second : Member h.out.0 (nets_at p (suc v.place)) = net-at v.place v.stage v.cells v.at h.out.0 (out-known v.place v.stage v.cells v.at h v.among) in
       let numbers : suc u.place ≡ suc v.place = stages_apart p shape (suc u.place) (suc v.place) h.out.0 (stage-within u.place u.stage u.at.stage) (stage-within v.place v.stage v.at.stage) (subst (λ x. Member x (nets_at p (suc u.place))) e first) second in
       let place : u.place ≡ v.place = omega (arith, numbers) in
-      let both : Some u.cells ≡ Some v.cells = sym u.at.list ∙ ap (slice_get lists) place ∙ v.at.list in
-      let lists_are : v.cells ≡ u.cells = cc in
+      let lists_are : v.cells ≡ u.cells = sym (same_Some u.cells v.cells (sym u.at.list ∙ ap (slice_get lists) place ∙ v.at.list)) in
       same_output (with_cells u.stage u.cells) (is-folded u.place u.stage u.cells u.at) g h u.among (subst (Member h) lists_are v.among) e
 
   -- ---- what a cell becomes
@@ -293,11 +289,8 @@ module _ (p : PipelineData) (shape : Shape p.netlist p) (lists : List (List Stag
         | inl inner ↦
             let there : Member (stage_at p (suc k)) p.stages = Member-from_Contains p.stages (stage_at p (suc k)) (Contains-from_slice_get p.stages k (stage_at p (suc k)) (inner_stage p shape k inner)) in
             list_any-from_member (λ (s : StageData). list_any (λ (g : StageCell). nat_eq g.out.0 c.out.0) s.cells) (stage_at p (suc k)) there (list_any-from_member (λ (g : StageCell). nat_eq g.out.0 c.out.0) g m (eq-eqb g.out.0 c.out.0 (sym of.out)))
-        | inr last ↦ absurd (none g (subst (λ (s : StageData). Member g s.cells) (last_stage p shape k last) m))
+        | inr last ↦ elim (subst (λ (s : StageData). Member g s.cells) (last_stage p shape k last) m) [ ]
       ]
-    where
-      none : (g : StageCell) → Member g [] → ⊥
-      none g m = elim m [ ]
 
   pub staged-rail : (c : Cell) → IsCell n c → is_stage_cell p c ≡ true → IsRailGate n c
   staged-rail c in_c staged =
@@ -453,7 +446,7 @@ module _ (p : PipelineData) (shape : Shape p.netlist p) (lists : List (List Stag
       by_pin k at_c register (suc zero) lt on =
           elim (((shape.free.unmixed k c at_c).register register).request b.out.0 on) [
             | inl input ↦ absurd (no_cell_drives_port n shape.is_netlist b in_b input)
-            | inr (other, acks) ↦ absurd (kinds-apart bank other (acks.only (RailOf bank) from))
+            | inr (other, acks) ↦ absurd (kind-apart bank other (sym (acks.only (RailOf bank) from)))
           ]
       by_pin k at_c register (suc (suc zero)) lt on = absurd (no_cell_drives_port n shape.is_netlist b in_b (((shape.free.unmixed k c at_c).register register).reset b.out.0 on))
       by_pin k at_c register (suc (suc (suc pin))) lt on = absurd (omega (arith, lt))
@@ -470,7 +463,7 @@ module _ (p : PipelineData) (shape : Shape p.netlist p) (lists : List (List Stag
         | inl (r, of_bank, out) ↦
             let one : r ≡ b = same_driver n shape.is_netlist r b of_bank.0 in_b out in
             register_no_gate r.kind of_bank.1 is_gate.0 (ap (λ (z : Cell). z.kind) one ∙ is_gate.1)
-        | inr root ↦ kinds-apart bank first.request.0 (only b.out.0 (AckOf first.request.0) root.acks (RailOf bank) from)
+        | inr root ↦ kind-apart bank first.request.0 (sym (only b.out.0 (AckOf first.request.0) root.acks (RailOf bank) from))
       ]
 
   -- ---- whole

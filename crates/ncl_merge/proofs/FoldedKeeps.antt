@@ -1,6 +1,6 @@
 -- A folded netlist keeps what the netlist has: what its stages lose the netlist loses, its text is no longer, and it gives
 -- what the netlist gave.
-use Rattle.ncl_merge.proofs.Terms.{All, All-contains, All-from_members, All-member, AllPairs, AllPairs-append, AllZip, AllZip-from_places, AllZip-same, AreFewer, Bank, BankBit, Bool, Cell, CellAt, Contains, Contains-from_Member, Contains-from_slice_get, Differ, FoldsTo, Gate, HasLabelOf, IsCell, IsLayoutOf, IsMergedBank, IsMergedStage, IsNetlist, IsRailGate, IsSmaller, IsSound, Keeps, Kind, Layout, List, Member, Member-append_right, Member-from_Contains, Member-map, NetId, NetlistData, None, Option, PartCell, PipelineData, Shape, Some, StageCell, StageData, Th12, [], all_of, ap, arith, arity_of, at_map, both_ways, cases_Bool, cases_lt, cell_line, cell_name, cell_name_of, choice_of, closed-is, codes, composed, cond, drop, eq-eqb, eqb-true, false, false_from_ne_true, filter, flat_map, flat_map-cons, folded_netlist, folded_pipeline, function_at, get_or, get_or_from_slice_get, header_line, held-in, held_from, held_nets, here, if◌then◌else◌, inl, inr, is_composition, is_some, is_stage_cell, kept, laid_out, length, length-append, length-drop, length-flat_map, length-join_with_byte, length-map, line_length, list_all, list_all-member, list_any, list_any-from_member, map, map-map, member_from_list_any, member_of_flat_map, member_of_map, moved, moved_bank, moved_bit, moved_gate, moved_stage, name_at, name_number, name_number-get_or, name_of, nat_eq, net_there, nets_at, nets_of, not, number_in, opened, out_of, part_of, pin_names, pin_text, pin_texts, pins_of, pins_of-gate, place_of, place_there, port_line, rail_nets, refl, renamed_rails, same_driver, same_place, slice_get, slice_get-drop, slice_get-from_Contains, slice_get-get_or, slice_get-some, slice_get_within, sound-when_held, spelled_name, stage_function, stages_apart, standing, subst, suc, sum_by, sum_by-append, sum_by-cons, sum_by-map, sym, text_of, there, true, under-own, value_or_low, wire_line, wires-pass, wires_or_stage, wires_sound, with_cells, with_gate_of, with_kept, word-passes, word_held, word_under, zero, zip, ℕ, ◌++◌, ◌+◌, ◌-◌, ◌<◌, ◌∙◌, ◌∷◌, ◌≡◌, ◌≢◌, ◌≤◌, ◌⊎◌}
+use Rattle.ncl_merge.proofs.Terms.{All, All-contains, All-from_members, All-member, AllPairs, AllPairs-append, AllZip, AllZip-from_places, AllZip-same, AreFewer, Bank, BankBit, Bool, Cell, CellAt, Contains, Contains-from_Member, Contains-from_slice_get, Differ, FoldsTo, Gate, HasLabelOf, IsCell, IsLayoutOf, IsMergedBank, IsMergedStage, IsNetlist, IsRailGate, IsSmaller, IsSound, Keeps, Kind, Layout, List, Member, Member-append_right, Member-from_Contains, Member-map, NetId, NetlistData, None, Option, PartCell, PipelineData, Shape, Some, StageCell, StageData, Th12, [], all_of, ap, arith, arity_of, at_map, both_ways, cases_Bool, cases_lt, cell_line, cell_name, cell_name_of, choice_of, closed-is, codes, composed, cond, drop, eq-eqb, eqb-true, false, false_from_ne_true, filter, flat_map, flat_map-cons, folded_netlist, folded_pipeline, function_at, get_or, get_or_from_slice_get, header_line, held-in, held_from, held_nets, here, if◌then◌else◌, inl, inr, is_composition, is_some, is_stage_cell, kept, laid_out, length, length-append, length-drop, length-flat_map, length-join_with_byte, length-map, line_length, list_all, list_all-member, list_any, list_any-from_member, map, map-map, member_from_list_any, member_of_flat_map, member_of_map, moved, moved_bank, moved_bit, moved_gate, moved_stage, name_at, name_number, name_number-get_or, name_of, nat_eq, net_there, nets_at, nets_of, not, number_in, opened, out_of, part_of, pin_names, pin_text, pin_texts, pins_of, pins_of-gate, place_of, place_there, port_line, rail_nets, refl, renamed_rails, same_Some, same_driver, same_place, slice_get, slice_get-drop, slice_get-from_Contains, slice_get-get_or, slice_get-some, slice_get_within, sound-when_held, spelled_name, stage_function, stages_apart, standing, subst, suc, sum_by, sum_by-append, sum_by-cons, sum_by-map, sym, text_of, there, true, under-own, value_or_low, wire_line, wires-pass, wires_or_stage, wires_sound, with_cells, with_gate_of, with_kept, word-passes, word_held, word_under, zero, zip, ℕ, ◌++◌, ◌+◌, ◌-◌, ◌<◌, ◌∙◌, ◌∷◌, ◌≡◌, ◌≢◌, ◌≤◌, ◌⊎◌}
 use Rattle.ncl_merge.proofs.Weights.{halves, lines_no_longer, no_more, ones, outs-differ, sum-same, sum_by-flat_map, sums-le, sums-split}
 use Rattle.ncl_merge.proofs.Folds.{function-folded, sound-folded}
 use Rattle.ncl_merge.proofs.Renamed.{function-renamed, sound-renamed}
@@ -423,8 +423,7 @@ module _ (p : PipelineData) (shape : Shape p.netlist p) (lists : List (List Stag
         let count = moved-count to at p.stages lists fewer.sized in
         let (t, at_t) = slice_get-some q.stages u.place (omega (arith, within, count)) in
         let (cells, at_l, moved_t) = moved-at to at p.stages lists u.place u.stage t u.at.stage at_t in
-        let both : Some u.cells ≡ Some cells = sym u.at.list ∙ at_l in
-        let lists_are : u.cells ≡ cells = cc in
+        let lists_are : u.cells ≡ cells = same_Some u.cells cells (sym u.at.list ∙ at_l) in
         let among : Member (moved_gate to at g) t.cells = subst (λ (s : StageData). Member (moved_gate to at g) s.cells) moved_t (Member-map (moved_gate to at) g (subst (Member g) lists_are u.among)) in
         let drives : to g.out.0 ≡ (moved to d).out.0 = ap to (out ∙ ap (λ (z : Cell). z.out.0) (sym same)) in
         list_any-from_member (λ (s : StageData). list_any (λ (f : StageCell). nat_eq f.out.0 (moved to d).out.0) s.cells) t (Member-from_Contains q.stages t (Contains-from_slice_get q.stages u.place t at_t))
@@ -542,8 +541,7 @@ module _ (p : PipelineData) (shape : Shape p.netlist p) (lists : List (List Stag
       banks-kept : AllZip (IsMergedBank p q) p.banks q.banks
       banks-kept =
           AllZip-from_places (IsMergedBank p q) p.banks q.banks (sym (length-map p.banks (moved_bank to at))) (λ k b d at_b at_d.
-          let both : Some (moved_bank to at b) ≡ Some d = sym (at_map (moved_bank to at) p.banks k b at_b) ∙ at_d in
-          let same : moved_bank to at b ≡ d = cc in
+          let same : moved_bank to at b ≡ d = same_Some (moved_bank to at b) d (sym (at_map (moved_bank to at) p.banks k b at_b) ∙ at_d) in
           subst (IsMergedBank p q b) same (bank-kept k b at_b))
 
       pub folded-keeps : Keeps p q

@@ -1,7 +1,7 @@
 -- A netlist that is built of kept cells is thinned, and their parts break no rule.
-use Rattle.ncl_merge.proofs.Terms.{AckOf, All, All-from_members, All-member, AllDiffer, AllDiffer-once_each, AllPairs, AllPairs-cons, AllPairs-from_IsDistinct, Bool, Cell, CellAt, CellKind, Contains, Contains-filter_map, Contains-filter_map_of, Contains-from_Member, Contains-from_slice_get, Decides-eqb, Gate, HasAllPins, IsCell, IsChoice, IsDistinct-from_AllPairs, IsFaultless, IsFree, IsGate, IsInputPort, IsNetlist, IsOld, IsOutputPort, IsRailGate, IsStood, IsThinGate, IsThinned, IsWhole, List, Member, Member-append_cases, Member-append_left, Member-append_right, Member-flat_map, Member-from_Contains, Member-get_or, Member-map, NetId, NetlistData, None, Option, PartCell, Parts, Port, RailOf, ReadsNet, Some, [], ap, arith, at_map, at_of_map, cases_Bool, cases_eq, cases_lt, cell_fits, cell_names, cell_of, cond, count_by, count_from_member, drivers_at, drives, drop, eq-eqb, eqb-true, equal_names, false, filter, flat_map, gate_ranks, get_or, get_or-map, get_or-name_number, get_or-take, get_or_from_slice_get, get_or_past, here, inl, inr, is_gate, kept, kept_parts, length, length-map, length-take, length_push, list_any, list_any-from_member, list_any-once_each, map, map-append, map-map, map-same, member_cases, member_from_count, member_from_list_any, member_of_flat_map, member_of_map, most_cells, moved, name_at, name_number, name_number-get_or, name_number-lt-length, nat_eq, ne_eqb, net_of, netlist_of, no_cell_drives_port, not, number_in, once_each, only_origin, pairs-head, pairs-tail, part_of, pin_names, pins_of, place_of, port_names, refl, renamed_net, same_driver, same_itself, same_name, slice_eq-Decides, slice_get, slice_get-from_Contains, slice_get_within, subst, suc, sum_by-cons, sum_by-map, sym, take, take-append-drop, take-once_each, there, true, with_kept, zero, ℕ, ◌++◌, ◌+◌, ◌-◌, ◌<◌, ◌∙◌, ◌∷◌, ◌≡◌, ◌≢◌, ◌≤◌, ◌⊎◌}
-use Rattle.ncl_merge.proofs.Weights.{sum-same}
-use Rattle.ncl_merge.proofs.Thinned.{filter_gone}
+use Rattle.ncl_merge.proofs.Terms.{AckOf, All, All-from_members, All-member, AllDiffer, AllDiffer-once_each, AllPairs, AllPairs-cons, AllPairs-from_IsDistinct, Bool, Cell, CellAt, CellKind, Contains, Contains-filter_map, Contains-filter_map_of, Contains-from_Member, Contains-from_slice_get, Decides-eqb, Gate, HasAllPins, IsCell, IsChoice, IsDistinct-from_AllPairs, IsFaultless, IsFree, IsGate, IsInputPort, IsNetlist, IsOld, IsOutputPort, IsRailGate, IsStood, IsThinGate, IsThinned, IsWhole, List, Member, Member-append_cases, Member-append_left, Member-append_right, Member-flat_map, Member-from_Contains, Member-get_or, Member-map, NetId, NetlistData, None, Option, PartCell, Parts, Port, RailOf, ReadsNet, Some, [], ap, arith, at_map, at_of_map, cases_Bool, cases_lt, cell_fits, cell_names, cell_of, cond, count_by, count_from_member, drivers_at, drives, drop, eqb-true, equal_names, false, filter, flat_map, gate_ranks, get_or, get_or-map, get_or-name_number, get_or-take, get_or_from_slice_get, get_or_past, here, inl, inr, is_gate, kept, kept_parts, length, length-map, length-take, length_push, list_any, list_any-from_member, list_any-once_each, map, map-append, map-map, map-same, member_cases, member_from_count, member_from_list_any, member_of_flat_map, member_of_map, most_cells, moved, name_at, name_number, name_number-get_or, name_number-lt-length, nat_eq, net_of, netlist_of, no_cell_drives_port, not, number_in, once_each, only_origin, pairs-head, pairs-tail, part_of, pin_names, pins_of, place_of, port_names, refl, renamed_net, same_driver, same_itself, same_name, slice_eq-Decides, slice_get, slice_get-from_Contains, slice_get_within, subst, suc, sum_by-cons, sum_by-map, sym, take, take-append-drop, take-once_each, there, true, with_kept, zero, ℕ, ◌++◌, ◌+◌, ◌-◌, ◌<◌, ◌∙◌, ◌∷◌, ◌≡◌, ◌≢◌, ◌≤◌, ◌⊎◌}
+use Rattle.ncl_merge.proofs.Weights.{same-number, sum-same}
+use Rattle.ncl_merge.proofs.Thinned.{filter_gone, kind-apart}
 
 -- ---- which cells are kept, and where
 
@@ -60,9 +60,6 @@ last-of d (x ∷ xs) y =
     let count : length (x ∷ xs ++ y ∷ []) - 1 ≡ suc (length (xs ++ y ∷ []) - 1) = (let long = length_push xs y in omega (arith, long)) in
     let (front, end) = last-of d xs y in
     (ap (λ k. take k (x ∷ xs ++ y ∷ [])) count ∙ ap (λ rest. x ∷ rest) front, ap (λ k. get_or (x ∷ xs ++ y ∷ []) k d) count ∙ end)
-
-kind_apart : (bank other : ℕ) → AckOf other ≡ RailOf bank → ⊥
-kind_apart bank other e = cc
 
 -- ---- names and counts of what is kept
 
@@ -200,7 +197,7 @@ module _ (n : NetlistData) (is_n : IsNetlist n) (free : IsFree n) (choice : Cell
           let (k, at-c) = place_of n c in_c in
           elim ((free.unmixed k c at-c).gate kind e) [
             | inl (bank, only) ↦ inl ((kind, e), (bank, only.comes))
-            | inr (bank, only, tree) ↦ inr (λ (is_gate_c, (other, from)). kind_apart other bank ((only_origin n is_n free c.out.0 (RailOf other) from).only (AckOf bank) only.comes))
+            | inr (bank, only, tree) ↦ inr (λ (is_gate_c, (other, from)). kind-apart other bank ((only_origin n is_n free c.out.0 (RailOf other) from).only (AckOf bank) only.comes))
           ]
       by_kind other e = inr (λ ((kind, f), comes). (let no : Gate kind ≡ other = sym f ∙ e in absurd cc))
 
@@ -484,10 +481,7 @@ module _ (n : NetlistData) (is_n : IsNetlist n) (free : IsFree n) (choice : Cell
 
       out-same : (d : Cell) → Member d cells → nat_eq (to d.out.0) net ≡ nat_eq d.out.0 was
       out-same d m-d =
-          elim (cases_eq d.out.0 was) [
-            | inl e ↦ eq-eqb _ net (ap to e ∙ to-was) ∙ sym (eq-eqb d.out.0 was e)
-            | inr ne ↦ ne_eqb _ net (λ e. ne (sym (pin-kept d m-d d.out (out-in d)).1 ∙ ap from e ∙ from-net)) ∙ sym (ne_eqb d.out.0 was ne)
-          ]
+          ap (nat_eq (to d.out.0)) (sym to-was) ∙ same-number to from d.out.0 was (pin-kept d m-d d.out (out-in d)).1 (ap from to-was ∙ from-net)
 
       cells-count : count_by (λ (c : Cell). nat_eq c.out.0 net) k.cells ≡ count_by (λ (d : Cell). nat_eq d.out.0 was) cells
       cells-count =

@@ -1,6 +1,6 @@
 -- Where nets of a thinned netlist come from, and its first rules of shape.
-use Rattle.ncl_merge.proofs.Terms.{A, Ack, AckOf, AcksBank, All-member, B, Bool, Cell, CellAt, CellKind, ComesFrom, Contains, Contains-from_Member, Contains-from_slice_get, FromPort, Gate, HasOnlyOrigin, IsAck, IsAckOfOne, IsCell, IsDataBank, IsFirstOfBank, IsFree, IsGate, IsGateOfOne, IsInputPort, IsOfBank, IsOffCycles, IsOutputPort, IsPaired, IsRailGate, IsReadPort, IsRegister, IsRegisterOfOne, IsStood, IsThinned, IsTied, IsUnmixed, Kind, LeadsTo, List, Member, Member-from_Contains, Member-map, NetId, NetlistData, OnPin, Origin, Port, RST, RailOf, ReadsNet, Some, [], ack, ack_pins, ack_pins_of, ap, arith, arity_of, arity_of-some, at_map, at_of_map, bank_of_ack, bank_of_register, both_ways, cases_eq, cell_fits, cond, count_by, data_is_register, driver_of, eq-eqb, false, filter, gate, inl, inr, is_data_register, is_gate, is_register, length, map, member_of_filter, more, moved, ne_eqb, not, one, only_origin, pins_of, pins_of-gate, pins_with, place_of, port, rail, refl, register_no_gate, renamed_net, same_place, slice_get, slice_get-from_Contains, slice_get-some, slice_get_within, sort_of, subst, suc, sum_by, sum_by-cons, sum_by-map, sym, there, true, zero, ℕ, ◌+◌, ◌<◌, ◌==◌, ◌∙◌, ◌∷◌, ◌≡◌, ◌⊎◌}
-use Rattle.ncl_merge.proofs.Weights.{sum-same}
+use Rattle.ncl_merge.proofs.Terms.{A, Ack, AckOf, AcksBank, All-member, B, Bool, Cell, CellAt, CellKind, ComesFrom, Contains, Contains-from_Member, Contains-from_slice_get, FromPort, Gate, HasOnlyOrigin, IsAck, IsAckOfOne, IsCell, IsDataBank, IsFirstOfBank, IsFree, IsGate, IsGateOfOne, IsInputPort, IsOfBank, IsOffCycles, IsOutputPort, IsPaired, IsRailGate, IsReadPort, IsRegister, IsRegisterOfOne, IsStood, IsThinned, IsTied, IsUnmixed, Kind, LeadsTo, List, Member, Member-from_Contains, Member-map, NetId, NetlistData, OnPin, Origin, Port, RST, RailOf, ReadsNet, Some, [], ack, ack_pins, ack_pins_of, ap, arith, arity_of, arity_of-some, at_map, at_of_map, bank_of_ack, bank_of_register, both_ways, cell_fits, cond, count_by, data_is_register, driver_of, false, filter, gate, inl, inr, is_data_register, is_gate, is_register, length, map, member_of_filter, more, moved, not, one, only_origin, pins_of, pins_of-gate, pins_with, place_of, port, rail, refl, register_no_gate, renamed_net, same_place, slice_get, slice_get-from_Contains, slice_get-some, slice_get_within, sort_of, subst, suc, sum_by, sum_by-cons, sum_by-map, sym, there, true, zero, ℕ, ◌+◌, ◌<◌, ◌==◌, ◌∙◌, ◌∷◌, ◌≡◌, ◌⊎◌}
+use Rattle.ncl_merge.proofs.Weights.{same-number, sum-same}
 
 -- where an origin leads back to
 abbrev pub origin_back : (ℕ → ℕ) → Origin → Origin
@@ -15,6 +15,9 @@ origin_forth to (AckOf bank) = AckOf (to bank)
 
 sort_ack : (k : Kind) (s : CellKind) → s ≡ Gate k → s ≡ Ack → ⊥
 sort_ack k s e f = cc
+
+pub kind-apart : (bank other : ℕ) → AckOf other ≡ RailOf bank → ⊥
+kind-apart bank other e = cc
 
 pub port_apart : (bank : ℕ) → FromPort ≡ RailOf bank → ⊥
 port_apart bank e = cc
@@ -280,9 +283,6 @@ module _ (n m : NetlistData) (is : IsThinned n m) (free : IsFree n) where
   pub pin-within : (d : Cell) → IsCell m d → (pin y : ℕ) → OnPin d pin y → y < length m.nets
   pin-within d in_d pin y on = each-pin d in_d (record { 0 = y }) (Contains-from_slice_get d.ins.items pin (record { 0 = y }) on)
 
-  pub kind-apart : (bank other : ℕ) → AckOf other ≡ RailOf bank → ⊥
-  kind-apart bank other e = cc
-
   -- ---- rule 5
 
   pub tied : (d : Cell) → IsCell m d → IsTied m d
@@ -409,14 +409,6 @@ module _ (n m : NetlistData) (is : IsThinned n m) (free : IsFree n) where
 
   -- ---- rule 3
 
-  -- nets that are kept have one number each
-  same-number : (x y : ℕ) → is.from (is.to x) ≡ x → is.from (is.to y) ≡ y → (is.to x == is.to y) ≡ (x == y)
-  same-number x y kept-x kept-y =
-      elim (cases_eq x y) [
-        | inl e ↦ eq-eqb (is.to x) (is.to y) (ap is.to e) ∙ sym (eq-eqb x y e)
-        | inr ne ↦ ne_eqb (is.to x) (is.to y) (λ e. ne (sym kept-x ∙ ap is.from e ∙ kept-y)) ∙ sym (ne_eqb x y ne)
-      ]
-
   gate_pins : (c : Cell) (net : ℕ) → plain_test c ≡ false → ack_pins_of c.kind net c.ins.items ≡ 0
   gate_pins c net fails = by_kind c.kind fails
     where
@@ -431,7 +423,7 @@ module _ (n m : NetlistData) (is : IsThinned n m) (free : IsFree n) where
   moved_pins x kept c m =
       let (among, passes) = member_of_filter plain_test c n.cells m in
       let pins = (stands c (Contains-from_Member c among) (plain_no_rail c passes)).2 in
-      by_kind c.kind (count_of_map (λ (z : NetId). z.0 == is.to x) (renamed_net is.to) (λ (z : NetId). z.0 == x) c.ins.items (λ z o. same-number z.0 x (pins z (Contains-from_Member z o)) kept))
+      by_kind c.kind (count_of_map (λ (z : NetId). z.0 == is.to x) (renamed_net is.to) (λ (z : NetId). z.0 == x) c.ins.items (λ z o. same-number is.to is.from z.0 x (pins z (Contains-from_Member z o)) kept))
     where
       by_kind : (kind : CellKind) → pins_with (is.to x) (map (renamed_net is.to) c.ins.items) ≡ pins_with x c.ins.items → ack_pins_of kind (is.to x) (map (renamed_net is.to) c.ins.items) ≡ ack_pins_of kind x c.ins.items
       by_kind Ack same = same

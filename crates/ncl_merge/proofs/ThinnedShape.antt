@@ -145,7 +145,7 @@ module _ (n m : NetlistData) (is : IsThinned n m) (free : IsFree n) where
   ack-kept bank net comes =
       let (c, in_c, out, sort) = driver_of_ack n net (AckOf bank) bank refl comes in
       let no_rail : IsRailGate n c → ⊥ = λ (is_gate, (b, from)).
-      kind-apart n m is free b bank ((only_origin n is.is_n free c.out.0 (RailOf b) from).only (AckOf bank) (subst (λ x. ComesFrom n x (AckOf bank)) (sym out) comes)) in
+      kind-apart b bank ((only_origin n is.is_n free c.out.0 (RailOf b) from).only (AckOf bank) (subst (λ x. ComesFrom n x (AckOf bank)) (sym out) comes)) in
       let (there_is, kept, pins) = stands n m is free c in_c no_rail in
       (subst (λ x. is.from (is.to x) ≡ x) out kept, subst (λ x. is.to x < length m.nets) out (out-within n m is free (moved is.to c) there_is))
 

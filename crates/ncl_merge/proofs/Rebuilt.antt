@@ -8,9 +8,6 @@ use Rattle.ncl_merge.proofs.Thinned.{filter_gone, kind-apart}
 pub kept_some : (choice : Cell → Option Cell) (c d : Cell) (cells : List Cell) → choice c ≡ Some d → kept choice (c ∷ cells) ≡ d ∷ kept choice cells
 kept_some choice c d cells is = ap (λ o. with_kept o (kept choice cells)) is
 
-pub kept_none : (choice : Cell → Option Cell) (c : Cell) (cells : List Cell) → choice c ≡ None → kept choice (c ∷ cells) ≡ kept choice cells
-kept_none choice c cells is = ap (λ o. with_kept o (kept choice cells)) is
-
 -- the place of what a cell becomes: after all that is kept of those before it
 abbrev pub place_in : (Cell → Option Cell) → List Cell → ℕ → ℕ
 place_in choice cells k = length (kept choice (take k cells))
@@ -41,7 +38,7 @@ kept_from choice (b ∷ cells) i d at =
     elim (choice b) as (λ o. choice b ≡ o → slice_get (with_kept o (kept choice cells)) i ≡ Some d → (k : ℕ) × (c : Cell) × (slice_get (b ∷ cells) k ≡ Some c) × (choice c ≡ Some d) × (place_in choice (b ∷ cells) k ≡ i)) [
       | None ↦ λ gone stands.
           let (k, c, at-c, is, place) = kept_from choice cells i d stands in
-          (suc k, c, at-c, is, ap length (kept_none choice b (take k cells) gone) ∙ place)
+          (suc k, c, at-c, is, ap (λ o. length (with_kept o (kept choice (take k cells)))) gone ∙ place)
       | Some e ↦ λ stays stands. by_place e stays i stands (λ j at-j. kept_from choice cells j d at-j)
     ] refl at
   where
@@ -334,12 +331,6 @@ module _ (n : NetlistData) (is_n : IsNetlist n) (free : IsFree n) (choice : Cell
       less
 
   module _ (is_m : IsNetlist m) where
-    pub port-to : (net : ℕ) → net < length n.ports → to net ≡ net
-    port-to net lt = ap (name_number m.nets) (port-name n is_n refl net lt ∙ sym (port-name m is_m refl net lt)) ∙ name_number-get_or m.nets net [] is_m.net_names (port-within m is_m refl net lt)
-
-    pub port-from : (net : ℕ) → net < length n.ports → from net ≡ net
-    port-from net lt = ap (name_number n.nets) (port-name m is_m refl net lt ∙ sym (port-name n is_n refl net lt)) ∙ name_number-get_or n.nets net [] is_n.net_names (port-within n is_n refl net lt)
-
     abbrev pub thinned-rebuilt : IsThinned n m
     thinned-rebuilt = record {
       to = to;
@@ -348,8 +339,8 @@ module _ (n : NetlistData) (is_n : IsNetlist n) (free : IsFree n) (choice : Cell
       is_n = is_n;
       is_m = is_m;
       ports = refl;
-      port_to = port-to;
-      port_from = port-from;
+      port_to = λ net lt. ap (name_number m.nets) (port-name n is_n refl net lt ∙ sym (port-name m is_m refl net lt)) ∙ name_number-get_or m.nets net [] is_m.net_names (port-within m is_m refl net lt);
+      port_from = λ net lt. ap (name_number n.nets) (port-name m is_m refl net lt ∙ sym (port-name n is_n refl net lt)) ∙ name_number-get_or n.nets net [] is_n.net_names (port-within n is_n refl net lt);
       stood = stood;
       rises = λ j k c d at-c at-d no-c no-d lt. kept_rises choice n.cells j k c c at-c (chosen.stands c (Contains-from_slice_get n.cells j c at-c) no-c) lt;
       plain = ap (filter no_gate) cells-moved ∙ filter-moved (kept choice n.cells) ∙ ap (map (moved to)) (filter-kept n.cells (λ c o. Contains-from_Member c o));

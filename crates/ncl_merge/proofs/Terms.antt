@@ -23,7 +23,7 @@ pub use Rattle.ncl_cell_rules.proofs.PinCounts.{AreCountsOf, few_counts, own_pin
 pub use Rattle.ncl_cell_rules.specs.CellTests.{is_gate}
 pub use Rattle.ncl_cell_rules.specs.Free.{IsFree}
 pub use Rattle.ncl_cell_rules.specs.Origin.{A, AckOf, AcksBank, B, CellAt, ComesFrom, FromPort, HasOnlyOrigin, IsAck, IsCell, IsDataBank, IsGate, IsInputPort, IsOfBank, IsOutputPort, IsRegister, LeadsTo, OnPin, Origin, RST, RailOf, ReadsNet, ack, gate, more, one, port, rail}
-pub use Rattle.ncl_cell_rules.specs.Rules.{IsAckOfOne, IsFirstOfBank, IsGateOfOne, IsOffCycles, IsPaired, IsReadPort, IsRegisterOfOne, IsRequest, IsTied, IsUnmixed, ack_pins, ack_pins_of, pins_with}
+pub use Rattle.ncl_cell_rules.specs.Rules.{IsAckOfOne, IsFirstOfBank, IsGateOfOne, IsPaired, IsReadPort, IsRegisterOfOne, IsRequest, IsTied, IsUnmixed, ack_pins, ack_pins_of, pins_with}
 pub use Rattle.ncl_cell_rules.specs.Tables.{IsTable}
 pub use Rattle.ncl_faults.proofs.Apart.{named-within, right-differ}
 pub use Rattle.ncl_faults.proofs.OnePass.{among-from_member}
@@ -86,7 +86,7 @@ pub use Rattle.ncl_shape.proofs.RenamedNets.{known-renamed, nets-renamed, rail_n
 pub use Rattle.ncl_shape.proofs.Rounds.{rounds-below_settled, rounds-keep, rounds-settled}
 pub use Rattle.ncl_shape.proofs.ShapeLaws.{last_bank, request_at, requests, same_cell, shape_is_one}
 pub use Rattle.ncl_shape.proofs.ZippedLists.{AllZip-find, AllZip-found, AllZip-same, zip_split}
-pub use Rattle.ncl_shape.specs.Chain.{ChainedRequests, Follows, HasEnds, HasOne, HasOneRole, HasRegister, HasRoots, IsAcknowledged, IsBank, IsChain, IsChained, IsClosed, IsDataApart, IsFirstBank, IsHead, IsInputOf, IsLastBank, IsPath, IsRoot, IsUnforked, NoFork, OnPinNamed, OneChain, OneRoleEach, OneRootEach, ShownOutputs, SomeRegister, TwoEnds, WordsApart, end, next}
+pub use Rattle.ncl_shape.specs.Chain.{ChainedRequests, Follows, HasEnds, HasOne, HasOneRole, HasRoots, IsAcknowledged, IsBank, IsChain, IsChained, IsClosed, IsFirstBank, IsInputOf, IsLastBank, IsPath, IsRoot, IsUnforked, NoFork, OnPinNamed, OneChain, OneRoleEach, OneRootEach, ShownOutputs, SomeRegister, TwoEnds, WordsApart, end, next}
 pub use Rattle.ncl_shape.specs.Closure.{close, function_at, held_nets, pin_values}
 pub use Rattle.ncl_shape.specs.Held.{is_data_bank, value_or_low, word_held}
 pub use Rattle.ncl_shape.specs.Nets.{IsBelow, Nets, among, rounds, with_net}

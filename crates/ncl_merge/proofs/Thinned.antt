@@ -1,5 +1,5 @@
 -- Where nets of a thinned netlist come from, and its first rules of shape.
-use Rattle.ncl_merge.proofs.Terms.{A, Ack, AckOf, AcksBank, All-member, B, Bool, Cell, CellAt, CellKind, ComesFrom, Contains, Contains-from_Member, Contains-from_slice_get, FromPort, Gate, HasOnlyOrigin, IsAck, IsAckOfOne, IsCell, IsDataBank, IsFirstOfBank, IsFree, IsGate, IsGateOfOne, IsInputPort, IsOfBank, IsOffCycles, IsOutputPort, IsPaired, IsRailGate, IsReadPort, IsRegister, IsRegisterOfOne, IsStood, IsThinned, IsTied, IsUnmixed, Kind, LeadsTo, List, Member, Member-from_Contains, Member-map, NetId, NetlistData, OnPin, Origin, Port, RST, RailOf, ReadsNet, Some, [], ack, ack_pins, ack_pins_of, ap, arith, arity_of, arity_of-some, at_map, at_of_map, bank_of_ack, bank_of_register, both_ways, cell_fits, cond, count_by, data_is_register, driver_of, false, filter, gate, inl, inr, is_data_register, is_gate, is_register, length, map, member_of_filter, more, moved, not, one, only_origin, pins_of, pins_of-gate, pins_with, place_of, port, rail, refl, register_no_gate, renamed_net, same_place, slice_get, slice_get-from_Contains, slice_get-some, slice_get_within, sort_of, subst, suc, sum_by, sum_by-cons, sum_by-map, sym, there, true, zero, ℕ, ◌+◌, ◌<◌, ◌==◌, ◌∙◌, ◌∷◌, ◌≡◌, ◌⊎◌}
+use Rattle.ncl_merge.proofs.Terms.{A, Ack, AckOf, AcksBank, All-member, B, Bool, Cell, CellAt, CellKind, ComesFrom, Contains, Contains-from_Member, Contains-from_slice_get, FromPort, Gate, HasOnlyOrigin, IsAck, IsAckOfOne, IsCell, IsDataBank, IsFirstOfBank, IsFree, IsGate, IsGateOfOne, IsInputPort, IsOfBank, IsOutputPort, IsPaired, IsRailGate, IsReadPort, IsRegister, IsRegisterOfOne, IsStood, IsThinned, IsTied, IsUnmixed, Kind, LeadsTo, List, Member, Member-from_Contains, Member-map, NetId, NetlistData, OnPin, Origin, Port, RST, RailOf, ReadsNet, Some, [], ack, ack_pins, ack_pins_of, ap, arith, arity_of, arity_of-some, at_map, at_of_map, bank_of_ack, bank_of_register, both_ways, cell_fits, cond, count_by, data_is_register, driver_of, false, filter, gate, inl, inr, is_data_register, is_gate, is_register, length, map, member_of_filter, more, moved, not, one, only_origin, pins_of, pins_of-gate, pins_with, place_of, port, rail, refl, register_no_gate, renamed_net, same_place, slice_get, slice_get-from_Contains, slice_get-some, slice_get_within, sort_of, subst, suc, sum_by, sum_by-cons, sum_by-map, sym, there, true, zero, ℕ, ◌+◌, ◌<◌, ◌==◌, ◌∙◌, ◌∷◌, ◌≡◌, ◌⊎◌}
 use Rattle.ncl_merge.proofs.Weights.{same-number, sum-same}
 
 -- where an origin leads back to
@@ -246,9 +246,6 @@ module _ (n m : NetlistData) (is : IsThinned n m) (free : IsFree n) where
       let rest = path-rises c.out.0 y path c in_c refl in
       omega (arith, first, rest)
 
-  pub off-cycles : (d : Cell) → IsCell m d → IsOffCycles m d
-  off-cycles d in_d is_gate path = let up = path-rises d.out.0 d.out.0 path d in_d refl in omega (arith, up)
-
   -- ---- rule 1: a port is read by a register cell, which stands
 
   pub port-read : (net : ℕ) → IsReadPort m net
@@ -465,7 +462,7 @@ module _ (n m : NetlistData) (is : IsThinned n m) (free : IsFree n) where
   pub free-thinned : IsFree m
   free-thinned = record {
     ports_read = port-read;
-    off_cycles = λ k d at. off-cycles d (Contains-from_slice_get m.cells k d at);
+    off_cycles = λ k d at is_gate path. let up = path-rises d.out.0 d.out.0 path d (Contains-from_slice_get m.cells k d at) refl in omega (arith, up);
     paired = λ k d at. paired d (Contains-from_slice_get m.cells k d at);
     unmixed = λ k d at. unmixed d (Contains-from_slice_get m.cells k d at);
     tied = λ k d at. tied d (Contains-from_slice_get m.cells k d at);

@@ -1,6 +1,6 @@
 -- A thinned netlist has a shape: the same banks in the chain that they formed, with the stages that those of the netlist have
 -- become.
-use Rattle.ncl_merge.proofs.Terms.{A, AckOf, AcksBank, AllZip, AreBitsOf, AreInputsOf, AreRailsOf, B, Bank, BankBit, Cell, CellAt, ChainedRequests, ComesFrom, Contains, Contains-from_Member, Contains-from_slice_get, Follows, FromPort, HasEnds, HasOne, HasOneRole, HasOnlyOrigin, HasRegister, HasRoots, IsAcknowledged, IsBank, IsBankOf, IsBitOf, IsCell, IsChain, IsChained, IsClosed, IsDataApart, IsFirstBank, IsFree, IsHead, IsInputOf, IsInputPort, IsLastBank, IsOfBank, IsOutputPort, IsPath, IsRailGate, IsRequest, IsRoot, IsStageOf, IsStood, IsThinStage, IsThinned, IsUnforked, List, MOST_BITS, Member, Member-from_Contains, Member-map, NetId, NetlistData, NoFork, None, OnPin, OnPinNamed, OneChain, OneRoleEach, OneRootEach, PipelineData, RailOf, Rails, Shape, ShownOutputs, Some, SomeRegister, StageData, TwoEnds, WordsApart, [], ap, arith, at_map, at_of_map, banks_of_chain, driver_of_ack, end, get_or, get_or-map, here, inl, inr, is_gate, length, length-map, map, moved, moved_bank, moved_bit, moved_pipeline, next, only_origin, pins_of, place_of, port, refl, renamed_net, renamed_rails, request_at, same_cell, slice_get, slice_get-from_Contains, slice_get-get_or, slice_get-some, slice_get_within, subst, sym, there, ℕ, ◌+◌, ◌<◌, ◌∙◌, ◌∷◌, ◌≡◌, ◌≤◌, ◌⊎◌}
+use Rattle.ncl_merge.proofs.Terms.{A, AckOf, AcksBank, AllZip, AreBitsOf, AreInputsOf, AreRailsOf, B, Bank, BankBit, Cell, CellAt, ChainedRequests, ComesFrom, Contains, Contains-from_Member, Contains-from_slice_get, Follows, FromPort, HasEnds, HasOne, HasOneRole, HasOnlyOrigin, HasRoots, IsAcknowledged, IsBank, IsBankOf, IsBitOf, IsCell, IsChain, IsChained, IsClosed, IsFirstBank, IsFree, IsInputOf, IsInputPort, IsLastBank, IsOfBank, IsOutputPort, IsPath, IsRailGate, IsRequest, IsRoot, IsStageOf, IsStood, IsThinStage, IsThinned, IsUnforked, List, MOST_BITS, Member, Member-from_Contains, Member-map, NetId, NetlistData, NoFork, None, OnPin, OnPinNamed, OneChain, OneRoleEach, OneRootEach, PipelineData, RailOf, Rails, Shape, ShownOutputs, Some, SomeRegister, StageData, TwoEnds, WordsApart, [], ap, arith, at_map, at_of_map, banks_of_chain, driver_of_ack, end, get_or, get_or-map, here, inl, inr, is_gate, length, length-map, map, moved, moved_bank, moved_bit, moved_pipeline, next, only_origin, pins_of, place_of, port, refl, renamed_net, renamed_rails, request_at, same_cell, slice_get, slice_get-from_Contains, slice_get-get_or, slice_get-some, slice_get_within, subst, sym, there, ℕ, ◌+◌, ◌<◌, ◌∙◌, ◌∷◌, ◌≡◌, ◌≤◌, ◌⊎◌}
 pub use Rattle.ncl_merge.proofs.Thinned.{stands, port_apart, ack-no_rail, acks-back, acks-forth, bank-back, bank-forth, comes-back, comes-forth, data-back, free-thinned, input-back, input-forth, kind-apart, only-forth, out-back, out-within, output-back, output-forth, pin-back, pin-forth, pin-within, register-no_rail}
 
 -- ---- the chain of banks
@@ -73,9 +73,6 @@ module _ (n m : NetlistData) (is : IsThinned n m) (free : IsFree n) where
 
   -- ---- rules 1 to 4
 
-  register-there : HasRegister n → HasRegister m
-  register-there (c, in_c, register) = (moved is.to c, (stands n m is free c in_c (register-no_rail n m is free c register)).0, register)
-
   ends-there : HasEnds n → HasEnds m
   ends-there ends = record {
     first = one-forth (IsFirstBank n) (IsFirstBank m) first-forth (λ y f. (first-back y f, (is_bank-back y f.is_bank).1)) ends.first;
@@ -121,16 +118,14 @@ module _ (n m : NetlistData) (is : IsThinned n m) (free : IsFree n) where
 
   -- ---- rule 5
 
-  bank-within : (bank : ℕ) → IsBank m bank → bank < length m.nets
-  bank-within bank (d, of_bank) = pin-within n m is free d of_bank.0 B bank of_bank.2
-
   acknowledged-there : (banks : List ℕ) → IsChain m banks → IsAcknowledged n (map is.from banks) → IsAcknowledged m banks
   acknowledged-there banks chain acknowledged = record {
     by_next = λ k bank following at after.
         let (at-n, kept) = chain-kept banks chain k bank at in
         let (after-n, kept-next) = chain-kept banks chain (k + 1) following after in
         let only = acknowledged.by_next k (is.from bank) (is.from following) at-n after-n in
-        let within : is.to (is.from bank) < length m.nets = subst (λ x. x < length m.nets) (sym kept) (bank-within bank (banks_of_chain m banks chain k bank at)) in
+        let (d, of_bank) = banks_of_chain m banks chain k bank at in
+        let within : is.to (is.from bank) < length m.nets = subst (λ x. x < length m.nets) (sym kept) (pin-within n m is free d of_bank.0 B bank of_bank.2) in
         let there : HasOnlyOrigin m (is.to (is.from bank)) (AckOf (is.to (is.from following))) = only-forth n m is free (is.from bank) (AckOf (is.from following)) (ap is.from kept) within only.comes in
         subst (λ x. HasOnlyOrigin m x (AckOf following)) kept (subst (λ x. HasOnlyOrigin m (is.to (is.from bank)) (AckOf x)) kept-next there);
     by_port = λ k bank last at.
@@ -253,30 +248,23 @@ module _ (n m : NetlistData) (is : IsThinned n m) (free : IsFree n) where
             e ∙ ap (moved is.to) (role.one_rail a b in_a in_b on-a on-b) ∙ sym f;
       }
 
-  -- ---- rule 9
-
-  apart-there : IsDataApart n → IsDataApart m
-  apart-there apart bank following follows data_is data_next = apart (is.from bank) (is.from following) (follows-back bank following follows) (data-back n m is free bank data_is) (data-back n m is free following data_next)
-
   -- ---- all of them
 
-  head-kept : (banks : List ℕ) → IsChain m banks → (first : ℕ) → IsHead banks first → IsHead (map is.from banks) (is.from first) × (is.to (is.from first) ≡ first)
-  head-kept banks chain first head = chain-kept banks chain 0 first head
-
   pub chained-thinned : IsChained n → IsChained m
-  chained-thinned chained SomeRegister = register-there (chained SomeRegister)
+  chained-thinned chained SomeRegister = let (c, in_c, register) = chained SomeRegister in (moved is.to c, (stands n m is free c in_c (register-no_rail n m is free c register)).0, register)
   chained-thinned chained TwoEnds = ends-there (chained TwoEnds)
   chained-thinned chained NoFork = unforked-there (chained NoFork)
   chained-thinned chained OneChain = let (banks, chain) = chained OneChain in (map is.to banks, chain-forth banks chain)
   chained-thinned chained ChainedRequests = λ banks chain. acknowledged-there banks chain (chained ChainedRequests (map is.from banks) (chain-back banks chain))
   chained-thinned chained OneRootEach = λ banks chain. roots-there banks chain (chained OneRootEach (map is.from banks) (chain-back banks chain))
   chained-thinned chained ShownOutputs = λ banks first last chain head (k, count, at).
-      let (head-n, kept-first) = head-kept banks chain first head in
+      let (head-n, kept-first) = chain-kept banks chain 0 first head in
       let (at-n, kept-last) = chain-kept banks chain k last at in
       let same : length (map is.from banks) ≡ length banks = length-map banks is.from in
       closed-there first last kept-first kept-last (chained ShownOutputs (map is.from banks) (is.from first) (is.from last) (chain-back banks chain) head-n (k, omega (arith, count, same), at-n))
   chained-thinned chained OneRoleEach = role-there (chained OneRoleEach)
-  chained-thinned chained WordsApart = apart-there (chained WordsApart)
+  chained-thinned chained WordsApart = λ bank following follows data_is data_next.
+      chained WordsApart (is.from bank) (is.from following) (follows-back bank following follows) (data-back n m is free bank data_is) (data-back n m is free following data_next)
 
 -- ---- the shape
 
@@ -295,15 +283,12 @@ module _ (n m : NetlistData) (is : IsThinned n m) (free : IsFree n) where
   stood-at : (bank k : ℕ) (c d : Cell) → CellAt n k c → IsOfBank n bank c → CellAt m (is.at k) d → moved is.to c ≡ d
   stood-at bank k c d at of_bank at-d = same_cell m (is.at k) (is.at k) (moved is.to c) d refl (stood-register bank k c at of_bank).stands at-d
 
-  stood-ack : (bank k : ℕ) (c : Cell) → CellAt n k c → AcksBank n bank c → IsStood m is.to is.from is.at k c
-  stood-ack bank k c at acks = is.stood k c at (ack-no_rail n m is free c acks.1)
-
   bit-there : (bank : ℕ) (b : BankBit) → IsBitOf n bank b → IsBitOf m (is.to bank) (moved_bit is.at b)
   bit-there bank b is_bit = record {
     ack = moved is.to is_bit.ack;
     zero = moved is.to is_bit.zero;
     one = moved is.to is_bit.one;
-    ack_at = (stood-ack bank b.ack.0 is_bit.ack is_bit.ack_at is_bit.acks).stands;
+    ack_at = (is.stood b.ack.0 is_bit.ack is_bit.ack_at (ack-no_rail n m is free is_bit.ack is_bit.acks.1)).stands;
     zero_at = (stood-register bank b.rail0.0 is_bit.zero is_bit.zero_at is_bit.zero_of).stands;
     one_at = (stood-register bank b.rail1.0 is_bit.one is_bit.one_at is_bit.one_of).stands;
     acks = acks-forth n m is free bank is_bit.ack is_bit.acks;

@@ -128,7 +128,7 @@ fn word_there(sources: &[SignalSource], number: u32, ins: &[Signal]) -> Option<A
 }
 
 /// Whether a node that reads these signals waits for a source there.
-pub(crate) fn waits_under(
+fn waits_under(
     sources: &[SignalSource],
     number: u32,
     waits: Waits,

@@ -7,7 +7,7 @@ use crate::timing::Timing;
 use ncl_base::Memory;
 use ncl_cells::{Leaves, Offer, table_over};
 use ncl_network::{Network, Node, Signal, SignalSource};
-use ncl_template::{Waits, is_offered, least_waits, levels};
+use ncl_template::{Fits, Waits};
 use std::alloc::Global;
 
 /// What has become of a node.
@@ -50,6 +50,7 @@ pub(crate) struct Joiner {
     pub readers: Holders,
     pub holders: Holders,
     pub sharers: Sharers,
+    pub fits: Fits,
     pub joins: usize,
 }
 
@@ -83,6 +84,7 @@ impl Joiner {
             readers: Holders::of(alloc, network)?,
             holders: Holders::of(alloc, network)?,
             sharers: Sharers::new(alloc, network, relax)?,
+            fits: Fits::new(alloc),
             joins: 0,
         })
     }
@@ -99,44 +101,57 @@ impl Joiner {
     }
 
     /// Nodes of so many inputs that are as they were wait for less. Linear in the nodes.
-    pub fn relax(&mut self, least: usize, most: usize) {
+    pub fn relax(&mut self, least: usize, most: usize) -> Result<(), Memory> {
         for place in 0..self.slots.len() {
             if self.is_kept(place, least, most) {
                 self.release(place);
-                self.relax_one(place);
+                self.relax_one(place)?;
                 self.hold(place);
             }
         }
+        Ok(())
     }
 
-    /// A node waits for what nothing else holds, and for what its gates then wait for besides; one that reads a source twice
-    /// for all. It holds nothing meanwhile.
-    fn relax_one(&mut self, place: usize) {
-        let waits = match self.slots.get(place) {
+    /// What nothing else holds of what a node reads, and all where it reads a source twice. It holds nothing meanwhile.
+    fn needed_by(&self, place: usize) -> Waits {
+        match self.slots.get(place) {
             Some(slot) if !reads_twice(slot.node.ins.items()) => {
-                least_waits(&slot.node, self.needed(slot.node.ins.items()))
+                self.needed(slot.node.ins.items())
             }
             _ => Waits::ALL,
-        };
-        if let Some(slot) = self.slots.get_mut(place) {
-            slot.waits = waits;
         }
     }
 
+    /// A node waits for what nothing else holds, and for what its gates then wait for besides.
+    fn relax_one(&mut self, place: usize) -> Result<(), Memory> {
+        let needed = self.needed_by(place);
+        if let Some(slot) = self.slots.get_mut(place) {
+            slot.waits = self.fits.of(&slot.node, needed)?.waits;
+        }
+        Ok(())
+    }
+
     /// How many gates stand one after another, where there may be so many in all. Linear in the nodes.
-    pub fn timing(&self, alloc: Global, network: &Network, most: u32) -> Result<Timing, Memory> {
+    pub fn timing(
+        &mut self,
+        alloc: Global,
+        network: &Network,
+        most: u32,
+    ) -> Result<Timing, Memory> {
         let mut own = Vec::new(alloc);
         for slot in self.slots.iter() {
-            own.push(levels(&slot.node, slot.waits))?;
+            own.push(self.fits.of(&slot.node, slot.waits)?.levels)?;
         }
         Timing::of(alloc, network, &own, most)
     }
 
     /// Sets the level of a node as it now is.
-    pub fn settle(&self, place: usize, timing: &mut Timing) {
+    pub fn settle(&mut self, place: usize, timing: &mut Timing) -> Result<(), Memory> {
         if let Some(slot) = self.slots.get(place) {
-            timing.settle(place, slot.node.ins.items(), levels(&slot.node, slot.waits));
+            let fit = self.fits.of(&slot.node, slot.waits)?;
+            timing.settle(place, slot.node.ins.items(), fit.levels);
         }
+        Ok(())
     }
 
     /// What two nodes read, the second of which the first reads, if it is at most four sources.
@@ -193,14 +208,20 @@ impl Joiner {
     }
 
     /// The two gates of a function of some sources, which wait for those that nothing else holds, if there are such.
-    fn gates(&self, alloc: Global, sources: &Sources, table: u16) -> Result<Option<Pair>, Memory> {
+    fn gates(
+        &mut self,
+        alloc: Global,
+        sources: &Sources,
+        table: u16,
+    ) -> Result<Option<Pair>, Memory> {
         let signals = sources.signals();
         let needed = self.needed(&signals[..sources.count.min(4)]);
-        if !is_offered(sources.count, table, needed) {
+        if !self.fits.has(sources.count, table, needed)? {
             return Ok(None);
         }
         let node = node_of(alloc, sources, table)?;
-        let waits = least_waits(&node, self.needed(node.ins.items()));
+        let needed = self.needed(node.ins.items());
+        let waits = self.fits.of(&node, needed)?.waits;
         if waits == Waits::ALL {
             return Ok(None);
         }
@@ -229,7 +250,7 @@ impl Joiner {
 
     /// The gates of a node that is joined with one that it reads, if they are in time. Both hold nothing meanwhile.
     pub fn pair(
-        &self,
+        &mut self,
         alloc: Global,
         network: &Network,
         place: usize,
@@ -245,10 +266,14 @@ impl Joiner {
             }
             _ => None,
         };
-        Ok(found.filter(|pair| {
-            let own = levels(&pair.node, pair.waits);
-            timing.is_in_time(place, pair.node.ins.items(), own)
-        }))
+        let Some(pair) = found else {
+            return Ok(None);
+        };
+        let own = self.fits.of(&pair.node, pair.waits)?.levels;
+        if timing.is_in_time(place, pair.node.ins.items(), own) {
+            return Ok(Some(pair));
+        }
+        Ok(None)
     }
 
     /// What is found.

@@ -95,7 +95,7 @@ impl Joiner {
     ) -> Result<(), Memory> {
         for place in 0..network.nodes.items().len() {
             self.join_at(alloc, network, place, timing)?;
-            self.settle(place, timing);
+            self.settle(place, timing)?;
         }
         Ok(())
     }
@@ -109,12 +109,12 @@ impl Joiner {
         sums: Vec<Sum>,
         most: u32,
     ) -> Result<(), Memory> {
-        self.relax(3, 4);
+        self.relax(3, 4)?;
         let mut timing = self.timing(alloc, network, most)?;
         self.add_sums(sums);
         self.join_all(alloc, network, &mut timing)?;
         self.spread_all(alloc, network, &mut timing)?;
-        self.relax(2, 2);
+        self.relax(2, 2)?;
         Ok(())
     }
 }

@@ -8,7 +8,7 @@ use crate::joiner::Joiner;
 use ncl_base::Memory;
 use ncl_cells::may_relax;
 use ncl_network::{Network, Signal, SignalSource};
-use ncl_template::{Waits, least_waits};
+use ncl_template::{Waits, fit_of};
 use std::alloc::Global;
 
 /// For each input and each node how many outputs are of it, and how many nodes wait for it at every word.
@@ -94,7 +94,7 @@ fn waits_found(alloc: Global, network: &Network) -> Result<Vec<Waits>, Memory> {
         return Ok(Vec::new(alloc));
     }
     let mut joiner = Joiner::new(alloc, network, true)?;
-    joiner.relax(2, 4);
+    joiner.relax(2, 4)?;
     let joins = joiner.joins(alloc)?;
     Ok(joins.waits)
 }
@@ -205,7 +205,7 @@ fn raised(alloc: Global, network: &Network, waits: Vec<Waits>) -> Result<Vec<Wai
         if wanted != own
             && let Some(raised) = waits.get_mut(by)
         {
-            *raised = least_waits(node, wanted);
+            *raised = fit_of(node, wanted).waits;
         }
     }
     Ok(waits)

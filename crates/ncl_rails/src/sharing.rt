@@ -1,8 +1,9 @@
 //! Nodes that hold a source together: each waits for it at some words.
 ghost use Rattle.std.specs.Prelude.{◌≤◌, length};
 
-use crate::held::{MOST_HOLDERS, waits_under};
+use crate::held::MOST_HOLDERS;
 use crate::together::{MOST_SOURCES, Together};
+use arrayvec::ArrayVec;
 use ncl_base::Memory;
 use ncl_network::{Network, Signal, SignalSource};
 use ncl_template::Waits;
@@ -39,6 +40,49 @@ impl Sharer {
     /// What it reads.
     fn signals(&self) -> &[Signal] {
         &self.ins[..self.count.min(4)]
+    }
+
+    /// When it waits for a source, where all that it reads is among some sources.
+    fn rule(&self, sources: &[SignalSource], source: SignalSource) -> Option<Rule> {
+        let mut rule = Rule {
+            places: [NO_PLACE; 4],
+            turned: 0,
+            words: 0,
+        };
+        for (k, signal) in self.signals().iter().enumerate() {
+            let place = sources.iter().position(|from| *from == signal.from)?;
+            rule.places[k % 4] = place;
+            if signal.inverted {
+                rule.turned |= 1u32 << (k % 4);
+            }
+            if signal.from == source {
+                rule.words |= self.waits.mask(k);
+            }
+        }
+        Some(rule)
+    }
+}
+
+/// The place of no source: there every number of few sources has the bit 0.
+const NO_PLACE: usize = 31;
+
+/// When a node waits for a source, by the number that has the bits of some sources: the places of those that it reads, which of them
+/// are inverted, and at which of its words it waits.
+#[derive(Clone, Copy, Debug, Default, PartialEq, Eq)]
+struct Rule {
+    places: [usize; 4],
+    turned: u32,
+    words: u16,
+}
+
+impl Rule {
+    /// Whether it waits at a number.
+    fn waits(&self, number: u32) -> bool {
+        let mut word = self.turned;
+        for (k, place) in self.places.iter().enumerate() {
+            word ^= ((number >> (place % 32)) & 1) << (k % 4);
+        }
+        (self.words >> (word % 16)) & 1 == 1
     }
 }
 
@@ -170,27 +214,33 @@ impl Sharers {
     }
 }
 
-/// Whether one of some nodes waits for a source where the bits of some sources are those of a number.
-fn one_waits(few: &Few, sources: &[SignalSource], number: u32, source: SignalSource) -> bool
-    requires { length sources.now ≤ MOST_SOURCES }
-{
-    for sharer in few.at.iter() {
+/// When each of some nodes waits for a source.
+fn rules_of(
+    few: &Few,
+    sources: &[SignalSource],
+    source: SignalSource,
+) -> ArrayVec<Rule, MOST_HOLDERS> {
+    let mut rules = ArrayVec::new();
+    for sharer in few.at {
         if let Some(sharer) = sharer
-            && waits_under(sources, number, sharer.waits, sharer.signals(), source)
+            && let Some(rule) = sharer.rule(sources, source)
+            && rules.len() < MOST_HOLDERS
         {
-            return true;
+            rules.push(rule);
         }
     }
-    false
+    rules
 }
 
-/// The words of the first of some sources at which none of some nodes waits for a source, whatever the others are.
+/// The words of the first of some sources at which none of some nodes waits for a source, whatever the others are. Exponential in
+/// the sources, which are at most ten.
 fn unheld_by(few: &Few, sources: &[SignalSource], ins: &[Signal], source: SignalSource) -> u16
     requires { length sources.now ≤ MOST_SOURCES }
 {
+    let rules = rules_of(few, sources, source);
     let mut words = 0u16;
     for number in 0..1u32 << sources.len() {
-        if !one_waits(few, sources, number, source) {
+        if !rules.iter().any(|rule| rule.waits(number)) {
             words |= 1u16 << (word_of(ins, number) % 16);
         }
     }

@@ -74,7 +74,7 @@ impl Joiner {
 
     /// What a node becomes that takes in one that it reads. Both hold nothing meanwhile.
     fn taker(
-        &self,
+        &mut self,
         alloc: Global,
         network: &Network,
         place: u32,
@@ -144,7 +144,7 @@ impl Joiner {
         }
         for taker in takers {
             self.put(taker.place as usize, taker.leaves, taker.pair);
-            self.settle(taker.place as usize, timing);
+            self.settle(taker.place as usize, timing)?;
         }
         self.drop_node(inner as usize);
         Ok(())

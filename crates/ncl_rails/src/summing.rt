@@ -8,7 +8,7 @@ use ncl_base::Memory;
 use ncl_cells::{Leaves, table_over};
 use ncl_decomp::table::inverted;
 use ncl_network::{Network, Node, Signal, SignalSource};
-use ncl_template::{Waits, least_waits, waits_with_last};
+use ncl_template::{Waits, fit_of, waits_with_last};
 use std::alloc::Global;
 use std::collections::BTreeMap;
 
@@ -305,7 +305,7 @@ impl Joiner {
         let kept = outer.state == State::Kept && inner.state == State::Kept;
         let first = (sum.carry as usize) < sum.place;
         let held = !self.holders.is_free(SignalSource::Node(sum.carry));
-        let eager = least_waits(&carry.node, Waits::NONE);
+        let eager = fit_of(&carry.node, Waits::NONE).waits;
         if kept
             && first
             && held

@@ -2,7 +2,7 @@
 
 use ncl_base::Memory;
 use ncl_network::{Network, Signal, SignalSource};
-use ncl_template::{Waits, levels};
+use ncl_template::{Waits, fit_of};
 use std::alloc::Global;
 
 /// For each node of a network how many gates stand one after another up to its rails, and behind them.
@@ -94,12 +94,11 @@ impl Timing {
     }
 }
 
-/// How many gates stand one after another at most, where each node waits for all that it reads, and none has more than three
-/// itself. Linear in the network.
+/// How many gates stand one after another at most, where each node waits for all that it reads. Linear in the network.
 pub(crate) fn reckoned_depth(alloc: Global, network: &Network) -> Result<u32, Memory> {
     let mut own = Vec::new(alloc);
     for node in network.nodes.items() {
-        own.push(levels(node, Waits::ALL).min(3))?;
+        own.push(fit_of(node, Waits::ALL).levels)?;
     }
     let timing = Timing::of(alloc, network, &own, u32::MAX)?;
     Ok(timing.depth())

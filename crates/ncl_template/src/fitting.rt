@@ -103,7 +103,7 @@ pub(crate) fn fits(form: &Form, node: &Node, waits: Waits) -> bool
 }
 
 /// The table of a node of at most four inputs.
-fn node_table(node: &Node) -> u16 {
+pub(crate) fn node_table(node: &Node) -> u16 {
     cover_table(node.on, node.rows.items(), &INPUTS)
 }
 
@@ -128,31 +128,42 @@ pub(crate) fn fitting(node: &Node, waits: Waits) -> Option<Form>
     None
 }
 
-/// What the gates that the table has for a node wait for, where they wait for these at least: all, where it has none.
-/// Gates with fewer transistors stand before others in the table. Linear in the rows of the node.
-pub fn least_waits(node: &Node, waits: Waits) -> Waits {
-    match fitting(node, waits) {
-        Some(form) => form.waits,
-        None => Waits::ALL,
+/// What the gates of a node wait for, and how many of them stand one after another at most.
+#[derive(Clone, Copy, Debug, PartialEq, Eq)]
+pub struct Fit {
+    /// For which inputs they wait.
+    pub waits: Waits,
+    /// How many stand one after another.
+    pub levels: u32,
+}
+
+/// How many gates stand one after another at most in the template of a node of so many inputs.
+fn template_levels(inputs: usize) -> u32 {
+    match inputs {
+        0..=2 => 1,
+        3 => 3,
+        _ => 5,
     }
 }
 
-/// How many gates stand one after another at most in those of a node that waits for these. Where the table has none for
-/// it, what its own template has. Linear in the rows of the node.
-pub fn levels(node: &Node, waits: Waits) -> u32 {
+/// The first gates of the table that are of a node and wait for these of its inputs at least, or where it has none its own template,
+/// which waits for all. Gates with fewer transistors stand before others in the table. Linear in the rows of the node.
+pub fn fit_of(node: &Node, waits: Waits) -> Fit {
     match fitting(node, waits) {
-        Some(form) => form.levels(),
-        None => match node.ins.items().len() {
-            0..=2 => 1,
-            3 => 3,
-            _ => 5,
+        Some(form) => Fit {
+            waits: form.waits,
+            levels: form.levels(),
+        },
+        None => Fit {
+            waits: Waits::ALL,
+            levels: template_levels(node.ins.items().len()),
         },
     }
 }
 
 /// Whether the table has gates for a function of so many inputs, given by its table, that wait for these: bit w of a table
 /// is the value at the word w, and bit k of w is input k. Takes a fixed time.
-pub fn is_offered(inputs: usize, table: u16, waits: Waits) -> bool {
+pub(crate) fn is_offered(inputs: usize, table: u16, waits: Waits) -> bool {
     let turns = turns_of(inputs, table);
     for pattern in patterns(inputs) {
         if turn_for(pattern, turns.as_slice(), waits).is_some() {

@@ -6,7 +6,7 @@ ghost use Rattle.ncl_template.specs.Waits.{mask_of, word_number, waits_at, waits
 /// At which words the gates of a node wait for each of its inputs, by their places: where this input is NULL, no rail of
 /// the node rises. Bit w of a mask is for the word w, and bit k of w is input k. At other words the node is eager: a rail
 /// may rise before the input comes. A choice waits always for what selects, and for each of the others where it is taken.
-#[derive(Clone, Copy, Debug, PartialEq, Eq)]
+#[derive(Clone, Copy, Debug, PartialEq, Eq, Hash)]
 pub struct Waits {
     /// The words at which it waits for the first input.
     pub first: u16,

@@ -1,4 +1,5 @@
 //! What each node of a network becomes.
+use crate::borrowing::{Wanted, borrowed};
 use crate::cone::Leaves;
 use crate::cone_table::cone_table;
 use crate::cut::{Cut, NodeCuts, network_cuts, source_of};
@@ -9,10 +10,11 @@ use crate::leaves::{Made, leaves_of, reached_leaves};
 use crate::levels::add_levels;
 use crate::plan::{Arg, Plan};
 use crate::pool::Pool;
-use crate::prices::Prices;
 use crate::rules::Planner;
 use crate::stop::Stop;
-use crate::trying::{Reached, Trial, added};
+use crate::tabled::Tables;
+use crate::trying::{Reached, Trial, Trying};
+use crate::way::Way;
 use ncl_base::Memory;
 use ncl_network::{Network, Node, Signal, SignalSource};
 use std::alloc::Global;
@@ -36,6 +38,7 @@ pub(crate) struct Chooser {
     readers: Vec<u32>,
     cuts: Vec<NodeCuts>,
     levels: Vec<u32>,
+    tables: Tables,
 }
 
 /// A node of a network, with the signals that the nodes before it have become.
@@ -54,6 +57,16 @@ struct Weighed {
     freed: usize,
     added: Trial,
 }
+
+/// A plan, and what it adds.
+#[derive(Drop)]
+struct Tried {
+    plan: Plan,
+    added: Trial,
+}
+
+/// The cells that two operations cost.
+const TWO_OPERATIONS: usize = 4;
 
 /// The steps that no plan needs more of.
 const FUEL: u32 = 12;
@@ -94,12 +107,9 @@ fn images_of(alloc: Global, images: &[Signal], places: &[u32]) -> Result<Vec<Sig
 }
 
 /// The levels of the four leaves.
-fn levels_of(reached: &[Reached]) -> [u32; 4] {
-    let mut levels = [0u32; 4];
-    for (place, one) in reached.iter().take(4).enumerate() {
-        levels[place % 4] = one.level;
-    }
-    levels
+fn levels_of(leaves: [Reached; 4]) -> [u32; 4] {
+    let [first, second, third, fourth] = leaves;
+    [first.level, second.level, third.level, fourth.level]
 }
 
 /// What saves more cells, or else has fewer gates one after another, the first where both have as many.
@@ -114,15 +124,56 @@ fn better(first: Weighed, second: Weighed) -> Weighed {
     }
 }
 
+/// A plan over leaves, with what it adds.
+fn tried_plan(
+    alloc: Global,
+    trying: &Trying,
+    plan: Plan,
+    leaves: [Reached; 4],
+) -> Result<Tried, Memory> {
+    let added = trying.added(alloc, &plan, leaves)?;
+    Ok(Tried { plan, added })
+}
+
+/// What adds fewer cells, or as many and comes earlier, the first where both are alike.
+fn cheaper(first: Tried, second: Tried) -> Tried {
+    let is_fewer = second.added.cells < first.added.cells;
+    let is_earlier = second.added.cells == first.added.cells
+        && second.added.level < first.added.level;
+    if is_fewer || is_earlier {
+        second
+    } else {
+        first
+    }
+}
+
+/// A plan, or one of what small nodes compute already, whichever is cheaper. Two operations are looked for only where both what is
+/// freed and what the plan adds cost more.
+fn or_borrowed(
+    alloc: Global,
+    trying: &Trying,
+    drafted: Tried,
+    wanted: Wanted,
+    freed: usize,
+) -> Result<Tried, Memory> {
+    let is_dear = drafted.added.cells > TWO_OPERATIONS && freed > TWO_OPERATIONS;
+    let most = if is_dear { 2u8 } else { 1 };
+    match borrowed(alloc, trying, wanted, most.min(trying.way.borrowed))? {
+        Some(plan) => Ok(cheaper(drafted, tried_plan(alloc, trying, plan, wanted.leaves)?)),
+        None => Ok(drafted),
+    }
+}
+
 impl Chooser {
-    /// Looks at each node alone, at these prices.
-    pub(crate) fn new(alloc: Global, prices: Prices) -> Result<Chooser, Memory> {
+    /// Looks at each node alone, this way.
+    pub(crate) fn new(alloc: Global, way: Way) -> Result<Chooser, Memory> {
         Ok(Chooser {
-            planner: Planner::new(alloc, prices)?,
+            planner: Planner::new(alloc, way)?,
             look: Look::Alone,
             readers: Vec::new(alloc),
             cuts: Vec::new(alloc),
             levels: Vec::new(alloc),
+            tables: Tables::new(alloc, 0),
         })
     }
 
@@ -130,15 +181,16 @@ impl Chooser {
     pub(crate) fn begin(&mut self, alloc: Global, network: &Network) -> Result<(), Memory> {
         self.readers = readers_of(alloc, network)?;
         self.levels = Vec::new(alloc);
+        self.tables = Tables::new(alloc, network.inputs);
         if self.look != Look::Alone {
             self.cuts = network_cuts(alloc, network)?;
         }
         Ok(())
     }
 
-    /// At which prices it chooses.
-    pub(crate) fn prices(&self) -> Prices {
-        self.planner.prices
+    /// Which way it makes a network anew.
+    pub(crate) fn way(&self) -> Way {
+        self.planner.way
     }
 
     /// Whether it has no other way to look.
@@ -181,18 +233,23 @@ impl Chooser {
     ) -> Result<Weighed, Stop> {
         let nodes = turn.network.nodes.items();
         let table = cone_table(alloc, nodes, &cone, leaves)?;
-        let reached = reached_leaves(alloc, self.made(turn.images), leaves)?;
-        let plan = self.plan(alloc, table, levels_of(&reached))?;
-        let freed = freed(alloc, self.planner.prices, nodes, &self.readers, &cone)?;
+        let reached = reached_leaves(self.made(turn.images), leaves);
+        let plan = self.plan(alloc, table, levels_of(reached))?;
+        let freed = freed(alloc, self.way(), nodes, &self.readers, &cone)?;
         let lost = images_of(alloc, turn.images, &freed.places)?;
-        let added = added(
-            self.planner.prices,
-            turn.pool,
-            &self.levels,
-            &lost,
-            &plan,
-            reached,
-        )?;
+        let trying = Trying {
+            way: self.way(),
+            pool: turn.pool,
+            tables: &self.tables,
+            levels: &self.levels,
+            lost: &lost,
+        };
+        let drafted = tried_plan(alloc, &trying, plan, reached)?;
+        let wanted = Wanted {
+            table,
+            leaves: reached,
+        };
+        let Tried { plan, added } = or_borrowed(alloc, &trying, drafted, wanted, freed.cells)?;
         let choice = Choice { leaves, cone, plan };
         Ok(Weighed {
             choice,
@@ -226,6 +283,9 @@ impl Chooser {
     /// What a node becomes: of the sources that it reads, or of those of a cut of it, what saves the most cells.
     pub(crate) fn choose(&mut self, alloc: Global, turn: &Turn) -> Result<Choice, Stop> {
         add_levels(&mut self.levels, &turn.pool.smalls)?;
+        if self.look != Look::Alone && self.way().borrowed > 0 {
+            self.tables.add_all(alloc, &turn.pool.smalls)?;
+        }
         let mut best = self.own_choice(alloc, turn)?;
         let cuts = match self.cuts.get(turn.place as usize) {
             Some(cuts) => *cuts,

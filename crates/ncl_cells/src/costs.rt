@@ -2,8 +2,12 @@
 ghost use Rattle.std.specs.Prelude.{◌≡◌, ◌<◌, ◌≤◌, ◌^◌, length};
 ghost use Rattle.ncl_decomp.specs.Split.{cost_of_inputs, cost_of_network};
 
-use crate::prices::Prices;
+use crate::way::Way;
+use ncl_base::MOST_BYTES;
 use ncl_network::{Network, Node};
+
+/// The most that any network costs.
+pub(crate) const MOST_COST: usize = 5 * MOST_BYTES;
 
 /// What a node costs by its inputs: two cells for two, 12 for three, 22 for four.
 fn node_cost(node: &Node) -> usize
@@ -31,20 +35,20 @@ pub(crate) fn cost(network: &Network) -> usize
 }
 
 /// About how many cells a node becomes: of those of three inputs a majority has three rows, and a choice two.
-pub(crate) fn node_cells(prices: Prices, node: &Node) -> usize {
+pub(crate) fn node_cells(way: Way, node: &Node) -> usize {
     match node.ins.items().len() {
         2 => 2,
-        3 if node.rows.items().len() == 3 => usize::from(prices.majority),
-        3 => usize::from(prices.choice),
+        3 if node.rows.items().len() == 3 => usize::from(way.majority),
+        3 => usize::from(way.choice),
         _ => 14,
     }
 }
 
 /// About how many cells a network becomes. Linear in its nodes.
-pub(crate) fn cells(prices: Prices, network: &Network) -> usize {
+pub(crate) fn cells(way: Way, network: &Network) -> usize {
     let mut sum = 0usize;
     for node in network.nodes.items() {
-        sum = sum.saturating_add(node_cells(prices, node));
+        sum = sum.saturating_add(node_cells(way, node));
     }
     sum
 }

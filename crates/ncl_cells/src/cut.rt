@@ -1,16 +1,16 @@
 //! Cuts: for each node of a network, some small sets of sources that it is computed of.
 use ncl_base::Memory;
-use ncl_network::{Network, Node, SignalSource};
+use ncl_network::{Network, Signal, SignalSource};
 use std::alloc::Global;
 
 /// The most cuts of a node.
-const MOST_CUTS: usize = 8;
+pub(crate) const MOST_CUTS: usize = 8;
 
 /// The most that are looked at for one.
 const MOST_FOUND: usize = 200;
 
 /// No source.
-const NONE: u32 = u32::MAX;
+pub(crate) const NONE: u32 = u32::MAX;
 
 /// At most four sources by their numbers, the least first: inputs by their places, and then nodes.
 #[derive(Clone, Copy, Debug, PartialEq, Eq)]
@@ -18,15 +18,25 @@ pub(crate) struct Cut {
     pub codes: [u32; 4],
 }
 
+impl Cut {
+    /// The place of a source, by its number, if it is there.
+    pub(crate) fn place_of(self, code: u32) -> Option<usize> {
+        if code == NONE {
+            return None;
+        }
+        self.codes.iter().position(|other| *other == code)
+    }
+}
+
 /// The cuts of a node.
 #[derive(Clone, Copy, Debug)]
 pub(crate) struct NodeCuts {
-    pub cuts: [Cut; 8],
+    pub cuts: [Cut; MOST_CUTS],
     pub count: usize,
 }
 
 /// The cut of no source.
-const EMPTY: Cut = Cut { codes: [NONE; 4] };
+pub(crate) const EMPTY: Cut = Cut { codes: [NONE; 4] };
 
 /// The number of a source.
 pub(crate) fn code_of(inputs: u32, from: SignalSource) -> u32 {
@@ -49,7 +59,7 @@ pub(crate) fn source_of(inputs: u32, code: u32) -> SignalSource {
 }
 
 /// A cut with one source more, if there is room.
-fn with(cut: Cut, code: u32) -> Option<Cut> {
+pub(crate) fn with(cut: Cut, code: u32) -> Option<Cut> {
     if cut.codes.iter().any(|other| *other == code) {
         return Some(cut);
     }
@@ -92,7 +102,7 @@ fn size(cut: Cut) -> usize {
 }
 
 /// Whether a cut has all sources of another.
-fn has_all(cut: Cut, other: Cut) -> bool {
+pub(crate) fn has_all(cut: Cut, other: Cut) -> bool {
     other.codes.iter().all(|code| *code == NONE || cut.codes.iter().any(|one| *one == *code))
 }
 
@@ -120,7 +130,7 @@ fn unions(alloc: Global, found: &[Cut], cuts: &NodeCuts, code: u32) -> Result<Ve
 
 /// No cuts.
 const NO_CUTS: NodeCuts = NodeCuts {
-    cuts: [EMPTY; 8],
+    cuts: [EMPTY; MOST_CUTS],
     count: 0,
 };
 
@@ -134,7 +144,7 @@ fn kept_of_size(kept: NodeCuts, found: &[Cut], wanted: usize) -> NodeCuts {
             .take(more.count)
             .any(|other| has_all(*cut, *other));
         if size(*cut) == wanted && !idle && more.count < MOST_CUTS {
-            more.cuts[more.count % 8] = *cut;
+            more.cuts[more.count % MOST_CUTS] = *cut;
             more.count = more.count.saturating_add(1);
         }
     }
@@ -150,15 +160,15 @@ fn kept(found: &[Cut]) -> NodeCuts {
     cuts
 }
 
-/// The cuts of a node, from those of the nodes before it.
-fn node_cuts(
+/// The cuts of a node that reads these, from those of the nodes before it.
+pub(crate) fn cuts_of(
     alloc: Global,
     inputs: u32,
     before: &[NodeCuts],
-    node: &Node,
+    ins: &[Signal],
 ) -> Result<NodeCuts, Memory> {
     let mut found = vec![in alloc; EMPTY]?;
-    for signal in node.ins.items() {
+    for signal in ins {
         let code = code_of(inputs, signal.from);
         let cuts = match signal.from {
             SignalSource::Node(place) => match before.get(place as usize) {
@@ -176,7 +186,7 @@ fn node_cuts(
 pub(crate) fn network_cuts(alloc: Global, network: &Network) -> Result<Vec<NodeCuts>, Memory> {
     let mut cuts = Vec::new(alloc);
     for node in network.nodes.items() {
-        let own = node_cuts(alloc, network.inputs, &cuts, node)?;
+        let own = cuts_of(alloc, network.inputs, &cuts, node.ins.items())?;
         cuts.push(own)?;
     }
     Ok(cuts)

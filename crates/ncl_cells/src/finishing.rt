@@ -4,13 +4,10 @@ ghost use Rattle.ncl_network.specs.Prune.{IsInOrder};
 ghost use Rattle.ncl_decomp.specs.Split.{IsNarrow, IsSplit};
 ghost use Rattle.ncl_cells.specs.Remade.{IsSameAs};
 
-use crate::costs::cost;
-use ncl_base::{MOST_BYTES, Memory};
+use crate::costs::{MOST_COST, cost};
+use ncl_base::Memory;
 use ncl_network::{Network, prune};
 use std::alloc::Global;
-
-/// The most that any network costs.
-const MOST_COST: usize = 5 * MOST_BYTES;
 
 /// The network without the nodes that reach no output; nothing where it would cost more than any may. Linear in the
 /// network. The only error is want of memory.

@@ -1,8 +1,8 @@
 //! What is read no more once a node is made of leaves.
 use crate::cone::Leaves;
 use crate::costs::node_cells;
-use crate::prices::Prices;
 use crate::stop::Stop;
+use crate::way::Way;
 use ncl_base::Memory;
 use ncl_network::{Network, Node, Signal, SignalSource};
 use std::alloc::Global;
@@ -104,7 +104,7 @@ pub(crate) struct Lost {
 /// the cone.
 pub(crate) fn freed(
     alloc: Global,
-    prices: Prices,
+    way: Way,
     nodes: &[Node],
     readers: &[u32],
     cone: &[u32],
@@ -118,7 +118,7 @@ pub(crate) fn freed(
         if let Some(node) = nodes.get(place)
             && (is_last || readers.get(place) == counts.get(at))
         {
-            cells = cells.saturating_add(node_cells(prices, node));
+            cells = cells.saturating_add(node_cells(way, node));
             places.push(cone[at])?;
             count_inner(&mut counts, cone, node.ins.items());
         }

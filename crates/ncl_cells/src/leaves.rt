@@ -2,9 +2,7 @@
 use crate::cone::Leaves;
 use crate::levels::signal_level;
 use crate::trying::Reached;
-use ncl_base::Memory;
 use ncl_network::{Signal, SignalSource};
-use std::alloc::Global;
 
 /// What stands where there are fewer than four leaves.
 const NO_LEAF: SignalSource = SignalSource::Const(false);
@@ -88,20 +86,22 @@ pub(crate) fn leaves_of(made: Made, turned: bool, sources: &[SignalSource]) -> L
     }
 }
 
+/// What a leaf is, and its level.
+fn reached_leaf(made: Made, from: SignalSource) -> Reached {
+    let signal = image(made, from);
+    let level = match signal {
+        Some(signal) => signal_level(made.levels, signal),
+        None => 0,
+    };
+    Reached { signal, level }
+}
+
 /// What leaves are, and their levels.
-pub(crate) fn reached_leaves(
-    alloc: Global,
-    made: Made,
-    leaves: Leaves,
-) -> Result<Vec<Reached>, Memory> {
-    let mut found = Vec::new(alloc);
-    for from in [leaves.first, leaves.second, leaves.third, leaves.fourth] {
-        let signal = image(made, from);
-        let level = match signal {
-            Some(signal) => signal_level(made.levels, signal),
-            None => 0,
-        };
-        found.push(Reached { signal, level })?;
-    }
-    Ok(found)
+pub(crate) fn reached_leaves(made: Made, leaves: Leaves) -> [Reached; 4] {
+    [
+        reached_leaf(made, leaves.first),
+        reached_leaf(made, leaves.second),
+        reached_leaf(made, leaves.third),
+        reached_leaf(made, leaves.fourth),
+    ]
 }

@@ -5,15 +5,17 @@
 //! and finds equal ones again; `adding` and `plan` add operations one after another. For each node a choice is made: at most
 //! four leaves, the nodes through which it is computed of them, and a plan. The choice is not trusted: `evaluating` tries
 //! the plan at the sixteen words of the leaves, through the nodes between (`cone`, `cover`), and where it fails the network
-//! stays as it was. So the functions that search have no contract: `rules` and `drafting` make plans, `cut`,
-//! `cone_table`, `freeing` and `trying` weigh leaves, `levels` and `leaves` say how late they come and in which order they
-//! are joined, and `choice` takes the best. `remaking` makes a round, and `improving` some rounds, each kept only if it
-//! costs no more than it may (`costs`) and has fewer cells, reckoned by the inputs of the nodes. `recasting` puts other
-//! nodes in the places of those of a network, as a caller offers them, where `offer` finds that they compute the same at the
-//! sixteen words of four leaves.
+//! stays as it was. So the functions that search have no contract: `rules` and `drafting` make plans, `borrowing` makes them of
+//! what is there already (`tabled` keeps small nodes by the sources that they are functions of, `operands` those of some leaves,
+//! and `operations` tries one or two operations on these), `cut`, `cone_table`, `freeing` and `trying` weigh leaves, `levels` and
+//! `leaves` say how late they come and in which order they are joined, and `choice` takes the best. `remaking` makes a round, and
+//! `improving` some rounds, each kept only if it costs no more than any network may (`costs`) and has fewer cells, as is reckoned
+//! in a `way`. `recasting` puts other nodes in the places of those of a network, as a caller offers them, where `offer` finds that
+//! they compute the same at the sixteen words of four leaves.
 #![tactic(auto)]
 
 mod adding;
+mod borrowing;
 mod carries;
 mod choice;
 mod cone;
@@ -29,22 +31,25 @@ mod improving;
 mod leaves;
 mod levels;
 mod offer;
+mod operands;
+mod operations;
 mod plan;
 mod pool;
-mod prices;
 mod recasting;
 mod remaking;
 mod reordering;
 mod rules;
 mod small;
 mod stop;
+mod tabled;
 mod trying;
+mod way;
 
 pub use carries::carries_first;
 pub use cone::Leaves;
 pub use cone_table::table_over;
 pub use improving::improve;
 pub use offer::Offer;
-pub use prices::{Prices, may_relax};
 pub use recasting::recast;
 pub use reordering::reordered;
+pub use way::{Way, may_relax};

@@ -1,5 +1,5 @@
 //! How a function of up to four bits is made of small nodes.
-use crate::prices::Prices;
+use crate::way::Way;
 use ncl_base::Memory;
 use ncl_decomp::table::{cofactor, depends, input, joined, support};
 use std::alloc::Global;
@@ -32,10 +32,10 @@ pub(crate) struct Priced {
     pub cells: u32,
 }
 
-/// Finds rules at some prices, and keeps what functions cost.
+/// Finds rules, and keeps what functions cost.
 #[derive(Drop)]
 pub(crate) struct Planner {
-    pub prices: Prices,
+    pub way: Way,
     costs: Vec<u8>,
 }
 
@@ -109,7 +109,7 @@ fn majority_table(first: u16, second: u16, third: u16) -> u16 {
 }
 
 /// The table, or its inverse.
-fn turned(table: u16, turn: bool) -> u16 {
+pub(crate) fn turned(table: u16, turn: bool) -> u16 {
     if turn { !table } else { table }
 }
 
@@ -177,9 +177,9 @@ fn cheaper(first: Option<Priced>, second: Priced) -> Option<Priced> {
 
 impl Planner {
     /// Knows no costs yet.
-    pub(crate) fn new(alloc: Global, prices: Prices) -> Result<Planner, Memory> {
+    pub(crate) fn new(alloc: Global, way: Way) -> Result<Planner, Memory> {
         let costs = vec![in alloc; UNKNOWN; 65_536]?;
-        Ok(Planner { prices, costs })
+        Ok(Planner { way, costs })
     }
 
     /// About how many cells a function costs.
@@ -240,8 +240,8 @@ impl Planner {
                 .cells(fuel, cofactor(table, k, false))
                 .saturating_add(2),
             Rule::Join(_, _, _, rest) => self.cells(fuel, rest).saturating_add(2),
-            Rule::Majority(..) => u32::from(self.prices.majority),
-            Rule::Choose(_) => u32::from(self.prices.choice),
+            Rule::Majority(..) => u32::from(self.way.majority),
+            Rule::Choose(_) => u32::from(self.way.choice),
             Rule::Add(k, at) => {
                 let low = cofactor(table, k, false);
                 let high = cofactor(table, k, true);

@@ -3,10 +3,12 @@ use crate::form::{Form, and, choose, differ, majority};
 use crate::levels::{op_level, signal_level};
 use crate::plan::{Arg, Plan, Step};
 use crate::pool::Pool;
-use crate::prices::Prices;
 use crate::small::Op;
+use crate::tabled::Tables;
+use crate::way::Way;
 use ncl_base::Memory;
 use ncl_network::{Signal, SignalSource};
+use std::alloc::Global;
 
 /// A signal, if it is there, and the gates on the longest way to it.
 #[derive(Clone, Copy, Debug, PartialEq, Eq)]
@@ -68,68 +70,83 @@ struct Counted {
     is_added: bool,
 }
 
-/// The signal of a step, if it is there, where nothing would read these small nodes.
-fn step_signal(pool: &Pool, lost: &[Signal], reached: &[Reached], step: &Step) -> Counted {
-    let none = Counted {
-        signal: None,
-        is_added: true,
-    };
-    match step_form(reached, step) {
-        None => none,
-        Some(Form::Known(signal)) => Counted {
-            signal: Some(signal),
-            is_added: false,
-        },
-        Some(Form::New(small, inverted)) => match pool.find(&small) {
+/// What plans are tried on: small nodes, what they are functions of, how late they come, and those that nothing else would read.
+#[derive(Clone, Copy)]
+pub(crate) struct Trying<'a> {
+    pub way: Way,
+    pub pool: &'a Pool,
+    pub tables: &'a Tables,
+    pub levels: &'a [u32],
+    pub lost: &'a [Signal],
+}
+
+impl<'a> Trying<'a> {
+    /// The signal of a step, if it is there.
+    fn step_signal(&self, reached: &[Reached], step: &Step) -> Counted {
+        let none = Counted {
+            signal: None,
+            is_added: true,
+        };
+        match step_form(reached, step) {
             None => none,
-            Some(place) => {
-                let from = SignalSource::Node(place);
-                Counted {
-                    signal: Some(Signal { from, inverted }),
-                    is_added: lost.iter().any(|other| other.from == from),
+            Some(Form::Known(signal)) => Counted {
+                signal: Some(signal),
+                is_added: false,
+            },
+            Some(Form::New(small, inverted)) => match self.pool.find(&small) {
+                None => none,
+                Some(place) => {
+                    let from = SignalSource::Node(place);
+                    Counted {
+                        signal: Some(Signal { from, inverted }),
+                        is_added: self.lost.iter().any(|other| other.from == from),
+                    }
                 }
-            }
-        },
-    }
-}
-
-/// The level of a step, which is known where its node is there.
-fn step_level(levels: &[u32], reached: &[Reached], step: &Step, signal: Option<Signal>) -> u32 {
-    match signal {
-        Some(signal) => signal_level(levels, signal),
-        None => op_level(
-            step.op,
-            reached_by(reached, step.first).level,
-            reached_by(reached, step.second).level,
-            reached_by(reached, step.third).level,
-        ),
-    }
-}
-
-/// The cells that a plan over these leaves would add, where nothing else reads the small nodes that are lost, and its
-/// level. Linear in the steps times what is lost.
-pub(crate) fn added(
-    prices: Prices,
-    pool: &Pool,
-    levels: &[u32],
-    lost: &[Signal],
-    plan: &Plan,
-    leaves: Vec<Reached>,
-) -> Result<Trial, Memory> {
-    let mut reached = leaves;
-    let mut cells = 0usize;
-    for step in &plan.steps {
-        let Counted { signal, is_added } = step_signal(pool, lost, &reached, step);
-        if is_added {
-            cells = cells.saturating_add(match step.op {
-                Op::And | Op::Differ => 2,
-                Op::Majority => usize::from(prices.majority),
-                Op::Choose => usize::from(prices.choice),
-            });
+            },
         }
-        let level = step_level(levels, &reached, step, signal);
-        reached.push(Reached { signal, level })?;
     }
-    let level = reached_by(&reached, plan.out).level;
-    Ok(Trial { cells, level })
+
+    /// The level of a step, which is known where its node is there.
+    fn step_level(&self, reached: &[Reached], step: &Step, signal: Option<Signal>) -> u32 {
+        match signal {
+            Some(signal) => signal_level(self.levels, signal),
+            None => op_level(
+                step.op,
+                reached_by(reached, step.first).level,
+                reached_by(reached, step.second).level,
+                reached_by(reached, step.third).level,
+            ),
+        }
+    }
+
+    /// About how many cells an operation becomes.
+    fn cells(&self, op: Op) -> usize {
+        match op {
+            Op::And | Op::Differ => 2,
+            Op::Majority => usize::from(self.way.majority),
+            Op::Choose => usize::from(self.way.choice),
+        }
+    }
+
+    /// The cells that a plan over these leaves would add, and its level. Linear in the steps times what is lost.
+    pub(crate) fn added(
+        &self,
+        alloc: Global,
+        plan: &Plan,
+        leaves: [Reached; 4],
+    ) -> Result<Trial, Memory> {
+        let [first, second, third, fourth] = leaves;
+        let mut reached = vec![in alloc; first, second, third, fourth]?;
+        let mut cells = 0usize;
+        for step in &plan.steps {
+            let Counted { signal, is_added } = self.step_signal(&reached, step);
+            if is_added {
+                cells = cells.saturating_add(self.cells(step.op));
+            }
+            let level = self.step_level(&reached, step, signal);
+            reached.push(Reached { signal, level })?;
+        }
+        let level = reached_by(&reached, plan.out).level;
+        Ok(Trial { cells, level })
+    }
 }

@@ -27,7 +27,7 @@ fn rows_weight(rows: &[Row]) -> usize
 }
 
 /// The weight of the rows of a model. Linear in its rows.
-pub(crate) fn model_weight(model: &Model) -> usize
+fn model_weight(model: &Model) -> usize
     requires { weight_of_model model.now ≤ most_size }
     ensures { result ≡ weight_of_model model.now }
 {

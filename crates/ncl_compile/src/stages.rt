@@ -1,40 +1,17 @@
 //! The stages that models become.
-ghost use Rattle.std.specs.Prelude.{◌<◌, ◌≤◌, ◌*◌, length, IfOk, All};
+ghost use Rattle.std.specs.Prelude.{◌<◌, ◌≤◌, length, IfOk, All};
 ghost use Rattle.ncl_blif.specs.Model.{IsModel};
-ghost use Rattle.ncl_network.specs.Network.{IsNetwork, weight_of_network};
-ghost use Rattle.ncl_decomp.specs.Split.{IsSplit, cost_of_network, most_cost};
-ghost use Rattle.ncl_cells.specs.Remade.{IsSameAs};
 ghost use Rattle.ncl_compile.specs.Size.{IsSlim, most_models};
 ghost use Rattle.ncl_compile.specs.InnerNames.{inner_pairs, stage_prefix};
 ghost use Rattle.ncl_compile.specs.Pieces.{IsStageOfModel, AreStages};
 
 use crate::naming::{inner_pairs, numbered};
-use crate::sizing::model_weight;
 use ncl_base::Memory;
 use ncl_blif::Model;
-use ncl_cells::{Prices, improve};
 use ncl_decomp::split;
-use ncl_network::{Network, reduce};
+use ncl_network::reduce;
 use ncl_rails::{StageParts, stage_parts};
 use std::alloc::Global;
-
-/// A network made anew with nodes of few inputs, at these prices.
-fn improved(
-    alloc: Global,
-    network: &Network,
-    bound: usize,
-    prices: Prices,
-) -> Result<Network, Memory>
-    requires network { IsNetwork network.now }
-    requires bound { (5 * weight_of_network network.now ≤ bound) × (bound ≤ most_cost) }
-    ensures split { IfOk result IsSplit }
-    ensures same { IfOk result (IsSameAs network.now) }
-    ensures cost { IfOk result (λ made. cost_of_network made ≤ bound) }
-{
-    let narrow = split(alloc, network)?;
-    let made = improve(alloc, narrow, bound, prices)?;
-    Ok(made)
-}
 
 /// The stage of this number, from 0, that a model becomes.
 fn stage_of(alloc: Global, number: usize, model: &Model) -> Result<StageParts, Memory>
@@ -44,12 +21,10 @@ fn stage_of(alloc: Global, number: usize, model: &Model) -> Result<StageParts, M
     ensures { IfOk result (IsStageOfModel model.now (inner_pairs number (length model.now.inputs)) (stage_prefix number)) }
 {
     let folded = reduce(alloc, model)?;
-    let bound = 5 * model_weight(model);
-    let waiting = improved(alloc, &folded, bound, Prices::WAITING)?;
-    let eager = improved(alloc, &folded, bound, Prices::EAGER)?;
+    let narrow = split(alloc, &folded)?;
     let ins = inner_pairs(alloc, number, model.inputs.items().len())?;
     let prefix = numbered(alloc, b's', number)?;
-    stage_parts(alloc, &waiting, &eager, &ins, &prefix)
+    stage_parts(alloc, &narrow, &ins, &prefix)
 }
 
 /// The stages that models become, in their order. Near linear in the rows of the models.

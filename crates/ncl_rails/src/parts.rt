@@ -22,20 +22,17 @@ pub struct StageParts {
 /// it works at every gate delay. Inputs that nothing reads are joined to the first output.
 ///
 /// It may be made of another network with the same answers, where fewer gates come of that and not many more stand one
-/// after another. Near linear in both. The only error is want of memory.
+/// after another. Near linear in the network. The only error is want of memory.
 pub fn stage_parts(
     alloc: Global,
     network: &Network,
-    other: &Network,
     ins: &[NamePair],
     prefix: &[u8],
 ) -> Result<StageParts, Memory>
-    requires stage { CanBeStage network.now ins.now prefix.now }
-    requires other { IsSplit other.now }
-    requires same { IsSameAs network.now other.now }
+    requires { CanBeStage network.now ins.now prefix.now }
     ensures { IfOk result (AreStageParts network.now ins.now prefix.now) }
 {
-    let layout = stage_gates(alloc, network, other)?;
+    let layout = stage_gates(alloc, network)?;
     let cells = parts_of_gates(alloc, ins, prefix, layout.gates.cells())?;
     let outputs = names_of_pairs(alloc, ins, prefix, &layout.outputs)?;
     Ok(StageParts {

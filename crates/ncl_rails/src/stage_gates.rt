@@ -15,7 +15,7 @@ use crate::relaxing::{relaxed, told_or_all};
 use crate::summing::sums_of;
 use crate::timing::reckoned_depth;
 use ncl_base::Memory;
-use ncl_cells::{carries_first, recast, reordered};
+use ncl_cells::{Way, carries_first, improve, recast, reordered};
 use ncl_network::Network;
 use ncl_template::Waits;
 use std::alloc::Global;
@@ -78,6 +78,11 @@ impl Size {
     }
 }
 
+/// A number and a tenth of it.
+fn a_tenth_more(number: u32) -> u32 {
+    number.saturating_add(number / 10)
+}
+
 /// The most gates that may stand one after another: a tenth more than where each node waits for all that it reads, as is reckoned.
 /// Linear in the network.
 fn most_depth(alloc: Global, network: &Network) -> Result<u32, Memory>
@@ -85,7 +90,7 @@ fn most_depth(alloc: Global, network: &Network) -> Result<u32, Memory>
 {
     let complete = complete(alloc, network)?;
     let depth = reckoned_depth(alloc, &complete)?;
-    Ok(depth.saturating_add(depth / 10))
+    Ok(a_tenth_more(depth))
 }
 
 /// The gates of a network, or those of another one with the same answers, where these are better: fewer, and no deeper than the
@@ -206,22 +211,80 @@ fn best_gates(
     summed_gates(alloc, network, joined, most, other)
 }
 
-/// Gates that compute a network: its own, or those of another one with the same answers, where these are better: fewer, and no
-/// deeper than the others or than a tenth more than where all nodes of the first wait for all, as is reckoned; or as many, and less
-/// deep. Near linear in both. The only error is want of memory.
-pub(crate) fn stage_gates(
+/// The gates of a network, or those of another one with the same answers, where these are better, with some of its nodes joined or
+/// as they are.
+fn other_gates(
     alloc: Global,
     network: &Network,
+    usual: Layout,
+    most: u32,
     other: &Network,
 ) -> Result<Layout, Memory>
     requires network { CanHaveGates network.now }
+    requires usual { AreGatesOf network.now usual.gates usual.outputs.items }
     requires other { IsSplit other.now }
     requires same { IsSameAs network.now other.now }
-    ensures { IfOk result (λ layout. AreGatesOf network.now layout.gates layout.outputs.items) }
+    ensures gates { IfOk result (λ layout. AreGatesOf network.now layout.gates layout.outputs.items) }
+    ensures fewer { IfOk result (λ layout. length layout.gates.cells ≤ length usual.gates.cells) }
+{
+    let found = better_gates(alloc, network, usual, most, other, None)?;
+    best_gates(alloc, network, found, most, other)
+}
+
+/// The gates of a network, or those of one that is made anew this way, where these are better.
+fn anew_gates(
+    alloc: Global,
+    network: &Network,
+    usual: Layout,
+    most: u32,
+    way: Way,
+) -> Result<Layout, Memory>
+    requires network { CanHaveGates network.now }
+    requires usual { AreGatesOf network.now usual.gates usual.outputs.items }
+    ensures gates { IfOk result (λ layout. AreGatesOf network.now layout.gates layout.outputs.items) }
+    ensures fewer { IfOk result (λ layout. length layout.gates.cells ≤ length usual.gates.cells) }
+{
+    match improve(alloc, network, way)? {
+        Some(other) => other_gates(alloc, network, usual, most, &other),
+        None => Ok(usual),
+    }
+}
+
+/// Gates of a network, and how many may stand one after another in others.
+#[derive(Drop)]
+struct FirstGates {
+    layout: Layout,
+    most: u32,
+}
+
+/// The gates of a network, or those of one that is made anew as if each node waited for all, where these are better. Others may be a
+/// tenth deeper than its nodes are where each waits for all, as is reckoned.
+fn first_gates(alloc: Global, network: &Network) -> Result<FirstGates, Memory>
+    requires { CanHaveGates network.now }
+    ensures { IfOk result (λ first. AreGatesOf network.now first.layout.gates first.layout.outputs.items) }
 {
     let usual = gates_of(alloc, network, None)?;
-    let most = most_depth(alloc, network)?;
-    let found = best_gates(alloc, network, usual, most, network)?;
-    let found = better_gates(alloc, network, found, most, other, None)?;
-    best_gates(alloc, network, found, most, other)
+    let Some(waiting) = improve(alloc, network, Way::WAITING)? else {
+        let most = most_depth(alloc, network)?;
+        let layout = best_gates(alloc, network, usual, most, network)?;
+        return Ok(FirstGates { layout, most });
+    };
+    let most = most_depth(alloc, &waiting)?;
+    let layout = other_gates(alloc, network, usual, most, &waiting)?;
+    Ok(FirstGates { layout, most })
+}
+
+/// Gates that compute a network: its own, or those of others with the same answers that are made of it, where these are better:
+/// fewer, and no deeper than the others or than they may be; or as many, and less deep. What reads other nodes in place of its own
+/// may be a tenth deeper than what was found before. Near linear in the network. The only error is want of memory.
+pub(crate) fn stage_gates(alloc: Global, network: &Network) -> Result<Layout, Memory>
+    requires { CanHaveGates network.now }
+    ensures { IfOk result (λ layout. AreGatesOf network.now layout.gates layout.outputs.items) }
+{
+    let FirstGates { layout, most } = first_gates(alloc, network)?;
+    let found = anew_gates(alloc, network, layout, most, Way::EAGER)?;
+    let Size { depth, .. } = Size::of(alloc, &found, network.inputs)?;
+    let most = a_tenth_more(depth);
+    let found = anew_gates(alloc, network, found, most, Way::BORROWING)?;
+    anew_gates(alloc, network, found, most, Way::BORROWING_TWICE)
 }

@@ -1,4 +1,4 @@
-//! About how many cells nodes of three inputs become.
+//! Ways to make a network anew.
 
 use ncl_network::Network;
 
@@ -17,26 +17,45 @@ pub fn may_relax(network: &Network) -> bool {
     inputs <= FEW_INPUTS || inputs.saturating_mul(nodes) <= FEW_NODES
 }
 
-/// About how many cells a majority becomes, and a choice.
+/// A way to make a network anew: about how many cells nodes of three inputs become, and how many operations on what other nodes
+/// compute a node may be made of.
 #[derive(Clone, Copy, Debug, PartialEq, Eq)]
-pub struct Prices {
-    /// A majority.
+pub struct Way {
+    /// The cells of a majority.
     pub majority: u8,
-    /// A choice.
+    /// The cells of a choice.
     pub choice: u8,
+    /// The most operations on what others compute.
+    pub borrowed: u8,
 }
 
-impl Prices {
+impl Way {
     /// Where each node waits for all that it reads.
-    pub const WAITING: Prices = Prices {
+    pub const WAITING: Way = Way {
         majority: 5,
         choice: 5,
+        borrowed: 0,
     };
 
     /// Where nodes may wait for less. Both then have two cells and may need more to wait; a majority is reckoned cheaper, since a sum
     /// can stand beside it.
-    pub const EAGER: Prices = Prices {
+    pub const EAGER: Way = Way {
         majority: 4,
         choice: 5,
+        borrowed: 0,
+    };
+
+    /// The same, where a node may also be an operation on what others compute.
+    pub const BORROWING: Way = Way {
+        majority: 4,
+        choice: 5,
+        borrowed: 1,
+    };
+
+    /// The same, where it may be two operations.
+    pub const BORROWING_TWICE: Way = Way {
+        majority: 4,
+        choice: 5,
+        borrowed: 2,
     };
 }

@@ -2,7 +2,7 @@
 //! and counterexamples of it.
 //!
 //! No program is in it: one stage at work (`RisingLaws`, and `FallingLaws` of `ncl_machine`, on which `State` rests too), an
-//! invariant of runs (`Invariant`, `Keeping`), and what is read off it (`Persistence`, `Safety`, `Quiescence`, `RunBound`).
+//! invariant of runs (`Invariant`, `Keeping`), and what is read off it (`Persistence`, `Quiescence`, `RunBound`, `Headline`).
 //! Words held at reset are in the start of the proof (`StartKept`), in the words under way (`OfferedWords`, `HeldDue`) and
 //! in their count (`HeldCounts`). Who reads the claim needs `ncl_machine` alone; docs/headline.md tells how it is proved.
 #![tactic(auto)]

@@ -5,7 +5,8 @@
 
 An entry of "Who does what" is the head of the crate's `lib.rt` or `main.rt`, up to the paragraph that introduces an example, which
 ends with a colon; the crates have the order and the groups of crates.txt. Without --write nothing is written. Prints the crates
-whose entry is another; the status is 1 where there are some, or where a crate has no head.
+whose entry is another, and names in heads that no file has and that stand in no program and no definition; the status is 1 where
+there are some, or where a crate has no head.
 """
 import pathlib
 import re
@@ -29,6 +30,25 @@ def head_of(crate):
     if not "".join(paragraphs[:stop]):
         raise Refused(f"{crate}: no head")
     return " ".join(" ".join(paragraphs[:stop]).split())
+
+
+def known_names():
+    """What a head may name: files of all crates, and the words of programs and definitions, without those of heads."""
+    found = set()
+    for file in (TOP / "crates").glob("*/*"):
+        found.update((file.name, file.parent.name))
+    for file in (TOP / "crates").glob("*/*/**/*.*t*"):
+        if file.suffix in (".rt", ".antt") and "out" not in file.parts:
+            found.update((file.stem, file.parent.name))
+            if "proofs" not in file.parts:
+                found.update(re.findall(r"\w+", re.sub(r"(?m)^//!.*", "", file.read_text())))
+    return found
+
+
+def stray_names(crate, known):
+    """The names in a crate's head that nothing has."""
+    named = re.findall(r"`([A-Za-z_][\w:]*)`", head_of(crate))
+    return [name for name in named if name.split("::")[-1] not in known]
 
 
 def entries():
@@ -61,7 +81,11 @@ def main():
     if write:
         PAGE.write_text(front + TITLE + made + mark + behind)
     print(f"{'written' if write else 'differ'}: {', '.join(differ) or 'none'}")
-    return 0 if write or made == body else 1
+    known = known_names()
+    stray = [f"{crate} {name}" for crate, _ in listed if crate for name in stray_names(crate, known)]
+    for line in stray:
+        print(f"no such name: {line}")
+    return 0 if (write or made == body) and not stray else 1
 
 
 if __name__ == "__main__":

@@ -1,5 +1,5 @@
 //! The cells of a bank, named by their places.
-ghost use Rattle.std.specs.Prelude.{◌≡◌, ◌+◌, ◌*◌, ◌<◌, ◌≤◌, [], ◌∷◌, ◌++◌, All, OnOk, IfOk, length, map};
+ghost use Rattle.std.specs.Prelude.{◌≡◌, ◌+◌, ◌*◌, ◌<◌, ◌≤◌, [], ◌∷◌, All, OnOk, IfOk, length, map};
 ghost use Rattle.std.specs.List.{zip};
 ghost use Rattle.ncl_tree.specs.PartNames.{most_parts};
 ghost use Rattle.ncl_bank.specs.BankParts.{bank_pins};

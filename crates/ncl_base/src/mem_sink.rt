@@ -1,5 +1,5 @@
 //! A sink in memory that takes small pieces and fails at chosen calls.
-ghost use Rattle.std.specs.Prelude.{◌≡◌, ℕ, ◌-◌, ◌<◌, ◌≤◌, ◌↔◌, ◌++◌, ◌||◌, [], length, take, min, nat_le, Some, IsTrue, IsErr, IfOk, OnErr};
+ghost use Rattle.std.specs.Prelude.{◌≡◌, ◌-◌, ◌<◌, ◌≤◌, ◌↔◌, ◌++◌, ◌||◌, [], length, take, min, nat_le, Some, IsTrue, IsErr, IfOk, OnErr};
 ghost use Rattle.ncl_base.specs.Held.{next_count, next_fails};
 
 use crate::calls::Calls;
@@ -21,7 +21,7 @@ pub struct MemSink {
 }
 
 impl Model for MemSink {
-    ghost use Rattle.std.specs.Prelude.{ℕ, ◌<◌, ◌≤◌, vec_len, vec_capacity};
+    ghost use Rattle.std.specs.Prelude.{◌<◌, ◌≤◌, vec_len, vec_capacity};
     ghost use Rattle.ncl_base.specs.Held.{MemSinkData};
 
     ghost Value = { MemSinkData };

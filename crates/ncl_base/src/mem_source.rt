@@ -1,6 +1,6 @@
 //! A source in memory that gives small pieces and fails at chosen calls.
-ghost use Rattle.std.specs.Prelude.{◌≡◌, ℕ, ◌<◌, ◌≤◌, ◌↔◌, ◌++◌, ◌||◌, [], length, take, drop, min, not, Some, true, IsTrue, IsErr, IfSome, IfOk, OnOk, OnErr};
-ghost use Rattle.ncl_base.specs.Files.{bytes_of, raised, Rose};
+ghost use Rattle.std.specs.Prelude.{◌≡◌, ◌<◌, ◌≤◌, ◌↔◌, ◌++◌, ◌||◌, [], length, take, drop, min, not, Some, true, IsTrue, IsErr, IfOk, OnOk, OnErr};
+ghost use Rattle.ncl_base.specs.Files.{bytes_of, raised};
 ghost use Rattle.ncl_base.specs.Held.{files_of, has_file, next_count, next_fails};
 
 use crate::calls::Calls;
@@ -21,7 +21,7 @@ pub struct MemSource {
 }
 
 impl Model for MemSource {
-    ghost use Rattle.std.specs.Prelude.{ℕ, ◌<◌};
+    ghost use Rattle.std.specs.Prelude.{◌<◌};
     ghost use Rattle.ncl_base.specs.Held.{MemSourceData};
 
     ghost Value = { MemSourceData };

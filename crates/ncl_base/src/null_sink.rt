@@ -1,5 +1,5 @@
 //! A sink that drops what it takes.
-ghost use Rattle.std.specs.Prelude.{◌≡◌, ℕ, ◌≤◌, length, None, IfOk, IsOk};
+ghost use Rattle.std.specs.Prelude.{◌≡◌, length, None};
 
 use crate::sink::Sink;
 use crate::source::Failed;

@@ -1,5 +1,5 @@
 //! A source that never fails.
-ghost use Rattle.std.specs.Prelude.{◌≡◌, ℕ, ◌<◌, ◌≤◌, ◌++◌, [], length, take, drop, min, nat_lt, Some, true, IsOk, IfOk};
+ghost use Rattle.std.specs.Prelude.{◌≡◌, ◌<◌, ◌++◌, [], length, take, drop, min, nat_lt, Some, true, IsOk, IfOk};
 ghost use Rattle.ncl_base.specs.Files.{bytes_of, raised};
 ghost use Rattle.ncl_base.specs.Held.{files_of, has_file, bytes_at, next_count};
 

@@ -1,5 +1,5 @@
 //! Words of bits.
-ghost use Rattle.std.specs.Prelude.{◌≡◌, ◌<◌, ◌≤◌, ◌↔◌, ◌++◌, [], ◌∷◌, map, length, IsSome, IfSome};
+ghost use Rattle.std.specs.Prelude.{◌≡◌, ◌<◌, ◌≤◌, ◌↔◌, ◌++◌, [], ◌∷◌, length, IsSome, IfSome};
 ghost use Rattle.ncl_base.specs.Words.{IsWordText, text_of};
 
 use arrayvec::ArrayVec;

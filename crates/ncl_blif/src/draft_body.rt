@@ -1,5 +1,5 @@
 //! What the parts of a model say so far.
-ghost use Rattle.std.specs.Prelude.{◌≡◌, List, ◌⊎◌, ◌+◌, ◌<◌, ◌≤◌, [], ◌∷◌, ◌++◌, Some, None, true, false, length, map, OnOk, MatchResult};
+ghost use Rattle.std.specs.Prelude.{◌≡◌, List, ◌⊎◌, ◌+◌, ◌<◌, ◌≤◌, [], ◌∷◌, ◌++◌, Some, None, true, false, length, map, MatchResult};
 ghost use Rattle.ncl_blif.specs.declared.fault.BlifFault.TheVariants.{Memory as OutOfMemory};
 ghost use Rattle.ncl_blif.specs.Parts.{PartData, first_field, is_names};
 ghost use Rattle.ncl_blif.specs.Commands.{field_of};

@@ -1,5 +1,5 @@
 //! Worked examples: what small texts say, what their models mean, and what breaks a text.
-ghost use Rattle.std.specs.Prelude.{◌≡◌, ℕ, Bool, true, false, List, [], ◌∷◌, ◌++◌, map, codes, None};
+ghost use Rattle.std.specs.Prelude.{◌≡◌, true, false, [], ◌∷◌, map, codes, None};
 ghost use Rattle.ncl_blif.specs.declared.fault.BlifFault.TheVariants.{Syntax, Unsupported, BadRow, MixedCover, TwoDrivers, Undriven, Cycle, NoBits, Width};
 ghost use Rattle.ncl_blif.specs.Lines.{lines_of};
 ghost use Rattle.ncl_blif.specs.LineFaults.{first_line_fault};

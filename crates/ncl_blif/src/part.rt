@@ -1,5 +1,5 @@
 //! Commands with the rows that follow them.
-ghost use Rattle.std.specs.Prelude.{◌≡◌, length, IfOk};
+ghost use Rattle.std.specs.Prelude.{◌≡◌, IfOk};
 ghost use Rattle.std.specs.List.{take_while};
 ghost use Rattle.ncl_blif.specs.Parts.{parts_of, is_row};
 

@@ -1,5 +1,5 @@
 //! The reader of a text.
-ghost use Rattle.std.specs.Prelude.{◌≡◌, ℕ, ◌<◌, ◌≤◌, ◌^◌, ◌⊎◌, List, length, map, All, IfOk, IfErr};
+ghost use Rattle.std.specs.Prelude.{◌≡◌, ◌<◌, ◌≤◌, ◌^◌, ◌⊎◌, length, map, All, IfOk, IfErr};
 ghost use Rattle.ncl_blif.specs.declared.fault.BlifFault.TheVariants.{Memory as OutOfMemory};
 ghost use Rattle.ncl_blif.specs.Numbered.{numbered_model};
 ghost use Rattle.ncl_blif.specs.Model.{AreModels};

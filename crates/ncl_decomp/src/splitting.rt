@@ -1,5 +1,5 @@
 //! A network, split.
-ghost use Rattle.std.specs.Prelude.{◌≡◌, ◌≤◌, ◌*◌, ℕ, List, Bool, length, All, IfOk};
+ghost use Rattle.std.specs.Prelude.{◌≡◌, ◌≤◌, ◌*◌, List, Bool, length, All, IfOk};
 ghost use Rattle.ncl_network.specs.Network.{IsNetwork, answer_of, weight_of_network};
 ghost use Rattle.ncl_network.specs.Prune.{IsInOrder};
 ghost use Rattle.ncl_decomp.specs.Split.{IsSplit, IsNarrow, IsOfTwoOr, cost_of_network};

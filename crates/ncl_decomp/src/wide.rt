@@ -1,5 +1,5 @@
 //! One node, split.
-ghost use Rattle.std.specs.Prelude.{◌≡◌, ◌<◌, ◌≤◌, ◌+◌, ◌^◌, ◌∷◌, [], length, All, IfOk};
+ghost use Rattle.std.specs.Prelude.{◌≡◌, ◌<◌, ◌+◌, ◌^◌, ◌∷◌, [], length, All, IfOk};
 ghost use Rattle.ncl_blif.specs.Model.{weight_of_rows};
 ghost use Rattle.ncl_network.specs.Network.{IsNode};
 ghost use Rattle.ncl_decomp.specs.Products.{total, IsFilled};

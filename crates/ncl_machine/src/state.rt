@@ -1,5 +1,5 @@
 //! The firing machine as a program.
-ghost use Rattle.std.specs.Prelude.{◌≡◌, ◌+◌, ◌<◌, ◌≤◌, ◌↔◌, ◌++◌, ◌∷◌, [], ℕ, Bool, true, false, not, length, set, slice_get, Some, None, Err, Ok, IsTrue, IfOk, IfSome, IfNone, OnOk, OnErr, Contains};
+ghost use Rattle.std.specs.Prelude.{◌≡◌, ◌+◌, ◌<◌, ◌≤◌, ◌↔◌, ℕ, true, false, not, length, set, slice_get, Some, None, Err, Ok, IsTrue, IfOk, IfSome, IfNone, OnOk, OnErr, Contains};
 ghost use Rattle.ncl_shape.specs.declared.item.Item.TheVariants.{Cell as Fire, Raise, Lower, Take, Ready};
 ghost use Rattle.ncl_netlist.specs.declared.ids.CellId.{CellId};
 ghost use Rattle.ncl_netlist.specs.Netlist.{CellFits};
@@ -7,7 +7,7 @@ ghost use Rattle.ncl_shape.specs.Held.{data_banks};
 ghost use Rattle.ncl_shape.specs.Stage.{rail_nets, rail_of};
 ghost use Rattle.ncl_machine.specs.declared.step_fault.StepFault.TheVariants.{NotEnabled, Memory as OutOfMemory};
 ghost use Rattle.ncl_machine.specs.State.{reset};
-ghost use Rattle.ncl_machine.specs.Steps.{enabled, step, next_value, is_excited, has_value, pair_at};
+ghost use Rattle.ncl_machine.specs.Steps.{enabled, step, next_value, is_excited, has_value};
 ghost use Rattle.ncl_machine.specs.Run.{AreWordsOf, IsQuiet};
 ghost use Rattle.ncl_machine.specs.OneChange.{net_of_step};
 ghost use Rattle.ncl_machine.specs.Held.{IsFor, InRange, meaning, net_values};

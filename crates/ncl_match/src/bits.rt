@@ -1,5 +1,4 @@
 //! The comparison of one output by a decision diagram.
-ghost use Rattle.std.specs.Prelude.{◌≡◌, ◌≤◌};
 
 use crate::answer::BitAnswer;
 use crate::bit::told;

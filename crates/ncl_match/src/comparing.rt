@@ -1,5 +1,5 @@
 //! The comparison of all outputs.
-ghost use Rattle.std.specs.Prelude.{◌≡◌, ◌≤◌, length, IfOk};
+ghost use Rattle.std.specs.Prelude.{◌≤◌, length, IfOk};
 ghost use Rattle.ncl_blif.specs.Model.{AreModels};
 ghost use Rattle.ncl_match.specs.Circuit.{circuit_of};
 ghost use Rattle.ncl_match.specs.Answer.{HaveWidths, IsAnswer, IsBitAnswer};

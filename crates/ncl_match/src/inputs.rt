@@ -1,5 +1,5 @@
 //! The functions of the rails of the inputs in a space.
-ghost use Rattle.std.specs.Prelude.{◌≡◌, ◌≢◌, ◌<◌, ◌≤◌, ◌||◌, All, AllPairs, IfOk, OnOk, IsErrOf, false, length};
+ghost use Rattle.std.specs.Prelude.{◌≡◌, ◌≢◌, ◌<◌, ◌||◌, All, AllPairs, OnOk, IsErrOf, false, length};
 ghost use Rattle.ncl_shape.specs.declared.rails.Rails.{Rails};
 ghost use Rattle.ncl_shape.specs.Stage.{rail_nets};
 ghost use Rattle.ncl_space.specs.Space.{Keeps, fits};

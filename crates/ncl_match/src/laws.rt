@@ -1,8 +1,7 @@
 //! Laws of the comparison. Each function states some, and does nothing.
-ghost use Rattle.std.specs.Prelude.{◌≡◌, ◌≢◌, ◌<◌, ◌≤◌, ◌↔◌, ℕ, suc, List, Bool, false, not, length, map, All, IsTrue, Result, Err, Some, slice_get, slice_index_or};
+ghost use Rattle.std.specs.Prelude.{◌≡◌, ◌≢◌, ◌<◌, ◌≤◌, ◌↔◌, ℕ, suc, List, Bool, false, length, All, IsTrue, Result, Err, Some, slice_get, slice_index_or};
 ghost use Rattle.ncl_blif.specs.declared.model.Model.{Model};
-ghost use Rattle.ncl_gates.specs.declared.kind.Kind.{Kind};
-ghost use Rattle.ncl_gates.specs.Gate.{arity_of, set_of};
+ghost use Rattle.ncl_gates.specs.Gate.{set_of};
 ghost use Rattle.ncl_shape.specs.Closure.{function_of, pin_values};
 ghost use Rattle.ncl_shape.specs.Pipeline.{PipelineData};
 ghost use Rattle.ncl_shape.specs.SamePipeline.{IsSamePipeline};

@@ -1,5 +1,5 @@
 //! Which signals an output depends on.
-ghost use Rattle.std.specs.Prelude.{◌≡◌, ℕ, ◌+◌, ◌<◌, ◌≤◌, ◌^◌, ◌||◌, false, All, IfOk, length, replicate};
+ghost use Rattle.std.specs.Prelude.{◌≡◌, ℕ, ◌+◌, ◌<◌, ◌^◌, ◌||◌, false, All, IfOk, length, replicate};
 ghost use Rattle.ncl_match.specs.Needed.{AreNeeded, is_among};
 ghost use Rattle.ncl_match.specs.Steps.{AreOrdered, bit_at};
 

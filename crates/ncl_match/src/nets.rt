@@ -1,5 +1,5 @@
 //! The functions of the nets of a plan in a space.
-ghost use Rattle.std.specs.Prelude.{◌≡◌, ℕ, ◌<◌, ◌≤◌, true, false, List, Bool, All, IfOk, OnOk, IsErrOf, length, map};
+ghost use Rattle.std.specs.Prelude.{◌≡◌, ℕ, ◌<◌, ◌≤◌, false, List, Bool, All, IfOk, OnOk, IsErrOf, length, map};
 ghost use Rattle.ncl_netlist.specs.declared.ids.NetId.{NetId};
 ghost use Rattle.ncl_shape.specs.Nets.{Nets};
 ghost use Rattle.ncl_space.specs.Space.{Keeps, fits};

@@ -1,11 +1,10 @@
 //! Functions with their complements, in a space.
-ghost use Rattle.std.specs.Prelude.{◌≡◌, ◌≤◌, [], ◌∷◌, true, false, All, IfOk, OnOk, IsErrOf, length, map};
+ghost use Rattle.std.specs.Prelude.{◌≡◌, ◌≤◌, true, false, All, IfOk, IsErrOf, length, map};
 ghost use Rattle.ncl_gates.specs.Dual.{dual_pins};
 ghost use Rattle.ncl_gates.specs.Gate.{arity_of};
-ghost use Rattle.ncl_space.specs.Space.{IsLive, Keeps, fits};
-ghost use Rattle.ncl_match.specs.Pairs.{HasFunction, IsPair, MakesPair, both_tables, function_at, functions_at, gate_function, inverse, side_of};
-ghost use Rattle.ncl_space.specs.Functions.{is_value};
-ghost use Rattle.std.specs.Prelude.{slice_index_or, ◌<◌, List, Bool};
+ghost use Rattle.ncl_space.specs.Space.{Keeps, fits};
+ghost use Rattle.ncl_match.specs.Pairs.{HasFunction, IsPair, MakesPair, both_tables, functions_at, gate_function, side_of};
+ghost use Rattle.std.specs.Prelude.{slice_index_or, ◌<◌};
 
 use arrayvec::ArrayVec;
 use ncl_gates::Kind;

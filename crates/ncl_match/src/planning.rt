@@ -1,5 +1,5 @@
 //! The plan of a pipeline: its cells that pass DATA on, in the order of the pipeline.
-ghost use Rattle.std.specs.Prelude.{◌≡◌, ◌<◌, ◌≤◌, ◌++◌, List, [], ◌∷◌, IfOk, Some, length, map, slice_get};
+ghost use Rattle.std.specs.Prelude.{◌≡◌, ◌<◌, ◌≤◌, ◌++◌, IfOk, Some, length, map};
 ghost use Rattle.ncl_match.specs.Planned.{before_at, gate_cell, plan_of, register_cell, register_cells};
 
 use arrayvec::ArrayVec;

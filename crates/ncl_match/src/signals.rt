@@ -1,5 +1,5 @@
 //! The functions of the signals of models in a space.
-ghost use Rattle.std.specs.Prelude.{◌≡◌, ℕ, ◌+◌, ◌<◌, ◌≤◌, List, [], true, false, if◌then◌else◌, All, IfOk, OnOk, IsErrOf, length, map};
+ghost use Rattle.std.specs.Prelude.{◌≡◌, ℕ, ◌<◌, ◌≤◌, [], true, false, if◌then◌else◌, All, IfOk, OnOk, IsErrOf, length, map};
 ghost use Rattle.ncl_blif.specs.Meaning.{width_of};
 ghost use Rattle.ncl_space.specs.Space.{Keeps, fits, with_tables};
 ghost use Rattle.ncl_match.specs.Answer.{outputs_of};

@@ -1,7 +1,5 @@
 //! The parts of a stage.
 ghost use Rattle.std.specs.Prelude.{IfOk};
-ghost use Rattle.ncl_decomp.specs.Split.{IsSplit};
-ghost use Rattle.ncl_cells.specs.Remade.{IsSameAs};
 ghost use Rattle.ncl_rails.specs.StageParts.{CanBeStage, AreStageParts};
 
 use crate::naming::{names_of_pairs, parts_of_gates};

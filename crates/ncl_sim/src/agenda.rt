@@ -1,5 +1,5 @@
 //! What waits, with the first at hand.
-ghost use Rattle.std.specs.Prelude.{◌≡◌, ◌<◌, ℕ, None, Some, IfNone, IfOk, IfSome, OnErr, OnOk, length, replicate, set, slice_get};
+ghost use Rattle.std.specs.Prelude.{◌≡◌, ◌<◌, ℕ, None, Some, IfNone, IfOk, IfSome, OnOk, length, replicate, set, slice_get};
 ghost use Rattle.ncl_sim.specs.Queue.{IsFirst, NoneWaits, is_waiting};
 
 use crate::calendar::Calendar;

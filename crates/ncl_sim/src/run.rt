@@ -1,5 +1,5 @@
 //! A run under way.
-ghost use Rattle.std.specs.Prelude.{◌≡◌, ◌+◌, ◌*◌, ◌<◌, ◌≤◌, ◌^◌, ◌++◌, ◌∷◌, [], true, IfOk, IfSome, OnOk, Some, length};
+ghost use Rattle.std.specs.Prelude.{◌≡◌, ◌+◌, ◌<◌, ◌≤◌, ◌^◌, ◌++◌, ◌∷◌, [], true, IfOk, IfSome, OnOk, Some, length};
 ghost use Rattle.ncl_machine.specs.Held.{IsFor, meaning};
 ghost use Rattle.ncl_machine.specs.OneChange.{net_of_step};
 ghost use Rattle.ncl_machine.specs.Run.{AreWordsOf};

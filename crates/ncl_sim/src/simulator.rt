@@ -1,6 +1,5 @@
 //! The simulator.
-ghost use Rattle.std.specs.Prelude.{◌≡◌, ◌≤◌, ◌*◌, ◌^◌, All, IfOk, filter, length, map};
-ghost use Rattle.ncl_shape.specs.Pipeline.{PipelineData};
+ghost use Rattle.std.specs.Prelude.{◌≡◌, ◌≤◌, ◌*◌, All, IfOk, length, map};
 ghost use Rattle.ncl_faults.specs.Faults.{IsSound};
 ghost use Rattle.ncl_machine.specs.Run.{AreWordsOf};
 ghost use Rattle.ncl_sim.specs.TimedRun.{DeliversAll, IsTimedRun, takes_in};

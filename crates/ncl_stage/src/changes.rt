@@ -1,5 +1,5 @@
 //! The functions of the nets of a stage under a variant, from those under Base.
-ghost use Rattle.std.specs.Prelude.{◌≡◌, ◌≢◌, ◌<◌, ◌≤◌, ◌+◌, ◌-◌, ◌*◌, ◌++◌, ℕ, [], ◌∷◌, false, true, not, All, Contains, IfNone, IfOk, IfSome, IsErrOf, MatchOption, OnOk, drop, length, replicate, slice_index_or, take};
+ghost use Rattle.std.specs.Prelude.{◌≡◌, ◌≢◌, ◌<◌, ◌≤◌, ◌+◌, ◌-◌, ◌*◌, ◌++◌, ℕ, [], ◌∷◌, false, true, not, All, Contains, IfOk, IsErrOf, MatchOption, OnOk, drop, length, replicate, slice_index_or, take};
 ghost use Rattle.std.specs.List.{list_any};
 ghost use Rattle.ncl_shape.specs.Stage.{nets_of};
 ghost use Rattle.ncl_space.specs.Making.{HaveTables, MakesAll};

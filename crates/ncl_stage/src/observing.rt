@@ -1,9 +1,8 @@
 //! Whether the nets of a stage are observed, each by the gates that read it.
-ghost use Rattle.std.specs.Prelude.{◌≡◌, ◌<◌, ◌≤◌, ◌+◌, ◌-◌, ◌%◌, ℕ, [], false, true, nat_eq, All, IfOk, if◌then◌else◌, length, map, slice_index_or, take};
+ghost use Rattle.std.specs.Prelude.{◌≡◌, ◌<◌, ◌≤◌, ◌+◌, ◌-◌, ◌%◌, ℕ, false, true, nat_eq, All, IfOk, if◌then◌else◌, length, map, slice_index_or, take};
 ghost use Rattle.ncl_gates.specs.Dual.{dual_pins};
 ghost use Rattle.ncl_gates.specs.Gate.{arity_of};
 ghost use Rattle.ncl_shape.specs.Stage.{nets_of};
-ghost use Rattle.ncl_space.specs.Functions.{constant_table};
 ghost use Rattle.ncl_space.specs.Making.{HaveTables};
 ghost use Rattle.ncl_space.specs.Space.{IsLive, Keeps, Restores};
 ghost use Rattle.ncl_stage.specs.Changes.{net_at};

@@ -29,7 +29,7 @@ pub struct Wiring {
 }
 
 impl Model for Wiring {
-    ghost use Rattle.std.specs.Prelude.{◌-◌, length, map, List, ℕ};
+    ghost use Rattle.std.specs.Prelude.{◌-◌, length, map, ℕ};
     ghost use Rattle.arrayvec.specs.declared.ArrayVec.{ArrayVec};
     ghost use Rattle.ncl_stage.specs.Wiring.{WiringData};
 

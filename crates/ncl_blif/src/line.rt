@@ -14,7 +14,7 @@ use std::marker::Model;
 
 /// A line that has fields: its number, and the fields.
 #[derive(Drop, Debug)]
-pub struct Line<'t, 'a> {
+pub(crate) struct Line<'t, 'a> {
     number: u32,
     fields: &'t [&'a [u8]],
 }
@@ -30,21 +30,21 @@ impl<'t, 'a> Model for Line<'t, 'a> {
 
 impl<'t, 'a> Line<'t, 'a> {
     /// Its number, counted from 1. One that is continued has that of its first part.
-    pub fn number(&self) -> u32
+    pub(crate) fn number(&self) -> u32
         ensures { result ≡ self.now.number }
     {
         self.number
     }
 
     /// Its fields, in order.
-    pub fn fields(&self) -> &'t [&'a [u8]]
+    pub(crate) fn fields(&self) -> &'t [&'a [u8]]
         ensures { map (λ field. field.now) result.now ≡ self.now.fields }
     {
         self.fields
     }
 
     /// Its first field, or no bytes where it has no field.
-    pub fn first_field(&self) -> &'a [u8]
+    pub(crate) fn first_field(&self) -> &'a [u8]
         ensures { result.now ≡ first_field self.now }
     {
         match self.fields.first() {
@@ -54,7 +54,7 @@ impl<'t, 'a> Line<'t, 'a> {
     }
 
     /// Whether it is a row: its first field doesn't begin with a dot.
-    pub fn is_row(&self) -> bool
+    pub(crate) fn is_row(&self) -> bool
         ensures { result ≡ is_row self.now }
     {
         match self.first_field() {

@@ -14,7 +14,7 @@ use std::alloc::{AllocError, Global};
 
 /// An option of a form, by its name.
 #[derive(Clone, Copy, Debug)]
-pub enum FormOption<'a> {
+pub(crate) enum FormOption<'a> {
     /// It may be given, with a value.
     Optional(&'a str),
     /// It must be given, with a value.
@@ -97,7 +97,7 @@ fn form_command<'a>(
 
 /// The values of the form's names in the arguments, or `None` where they aren't of the form. The only error is want of
 /// memory.
-pub fn form_values<'a>(
+pub(crate) fn form_values<'a>(
     alloc: Global,
     places: &[&'a str],
     options: &[FormOption<'a>],

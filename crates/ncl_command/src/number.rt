@@ -30,7 +30,7 @@ fn number(text: &str, most_digits: usize) -> Option<u32>
 }
 
 /// A number from 1 to `most`, in at most so many decimal digits. Linear in the text.
-pub fn counted(text: &str, most_digits: usize, most: u32) -> Option<u32>
+pub(crate) fn counted(text: &str, most_digits: usize, most: u32) -> Option<u32>
     requires { most_digits ≤ 9 }
     ensures number { result ≡ counted most_digits most text.now }
     ensures within { IfSome result (λ n. (1 ≤ n) × (n ≤ most)) }

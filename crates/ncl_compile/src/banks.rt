@@ -41,7 +41,7 @@ fn bank_between(
 }
 
 /// How many bits the bank of this number has, from 0.
-pub fn width_at(models: &[Model], number: usize) -> usize
+pub(crate) fn width_at(models: &[Model], number: usize) -> usize
     requires are_models { AreModels models.now }
     requires within { number ≤ length models.now }
     ensures { result ≡ slice_index (widths_of models.now) number }
@@ -75,7 +75,7 @@ fn bank_at(
 }
 
 /// The banks before each stage and after the last, in their order. Near linear in their bits.
-pub fn banks_of(
+pub(crate) fn banks_of(
     alloc: Global,
     models: &[Model],
     stages: &[StageParts],

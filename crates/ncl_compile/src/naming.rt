@@ -21,7 +21,7 @@ fn three_digits(number: usize) -> [u8; 3]
 }
 
 /// A letter, and in three digits the number, from 1, of what stands at a place.
-pub fn numbered(alloc: Global, letter: u8, place: usize) -> Result<Vec<u8>, Memory>
+pub(crate) fn numbered(alloc: Global, letter: u8, place: usize) -> Result<Vec<u8>, Memory>
     requires { place < 999 }
     ensures { IfOk result (λ name. name.items ≡ numbered letter place) }
 {
@@ -57,7 +57,7 @@ fn port_pair(alloc: Global, letter: u8, number: usize) -> Result<NamePair, Memor
 }
 
 /// The rails of the ports of this letter, from 1. Linear in their number.
-pub fn port_pairs(alloc: Global, letter: u8, width: usize) -> Result<Vec<NamePair>, Memory>
+pub(crate) fn port_pairs(alloc: Global, letter: u8, width: usize) -> Result<Vec<NamePair>, Memory>
     requires { width < 999 }
     ensures { IfOk result (λ pairs. pairs.items ≡ map (port_pair (letter ∷ [])) (range_with_len 1 width)) }
 {
@@ -82,7 +82,7 @@ fn inner_pair(alloc: Global, bank: usize, bit: usize) -> Result<NamePair, Memory
 }
 
 /// The rails that a bank keeps. Linear in their number.
-pub fn inner_pairs(alloc: Global, bank: usize, width: usize) -> Result<Vec<NamePair>, Memory>
+pub(crate) fn inner_pairs(alloc: Global, bank: usize, width: usize) -> Result<Vec<NamePair>, Memory>
     requires few_banks { bank < 999 }
     requires few_bits { width < 999 }
     ensures { IfOk result (λ pairs. pairs.items ≡ inner_pairs bank width) }
@@ -96,7 +96,7 @@ pub fn inner_pairs(alloc: Global, bank: usize, width: usize) -> Result<Vec<NameP
 }
 
 /// The rails that a bank drives, where the last bank has the place `last`. Linear in their number.
-pub fn pairs_driven(
+pub(crate) fn pairs_driven(
     alloc: Global,
     last: usize,
     bank: usize,
@@ -113,7 +113,7 @@ pub fn pairs_driven(
 }
 
 /// The root of a bank.
-pub fn root_name(alloc: Global, bank: usize) -> Result<Name, Memory>
+pub(crate) fn root_name(alloc: Global, bank: usize) -> Result<Name, Memory>
     requires { bank < 999 }
     ensures { IfOk result (λ name. name ≡ root_name bank) }
 {
@@ -125,7 +125,7 @@ pub fn root_name(alloc: Global, bank: usize) -> Result<Name, Memory>
 }
 
 /// What requests a bank, where the last bank has the place `last`.
-pub fn request_name(alloc: Global, last: usize, bank: usize) -> Result<Name, Memory>
+pub(crate) fn request_name(alloc: Global, last: usize, bank: usize) -> Result<Name, Memory>
     requires { bank < 998 }
     ensures { IfOk result (λ name. name ≡ request_name last bank) }
 {

@@ -89,7 +89,7 @@ fn add_stages(cells: &mut Vec<PartCell>, stages: Vec<StageParts>) -> Result<(), 
 }
 
 /// The parts of the netlist that models become, of their banks and stages. Linear in the cells.
-pub fn put_together(
+pub(crate) fn put_together(
     alloc: Global,
     models: &[Model],
     banks: Vec<BankParts>,

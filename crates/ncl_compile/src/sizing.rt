@@ -59,7 +59,7 @@ fn is_slim(model: &Model) -> bool
 
 /// Refuses models that are too large to be compiled: the first that is too wide, too many, or too large together.
 /// Linear in the rows.
-pub fn check_size(models: &[Model]) -> Result<(), CompileFault>
+pub(crate) fn check_size(models: &[Model]) -> Result<(), CompileFault>
     requires { AreModels models.now }
     ensures small { OnOk result (CanBeCompiled models.now) }
     ensures fault { IfErr result (IsCompileFault models.now) }

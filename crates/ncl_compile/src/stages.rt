@@ -28,7 +28,7 @@ fn stage_of(alloc: Global, number: usize, model: &Model) -> Result<StageParts, M
 }
 
 /// The stages that models become, in their order. Near linear in the rows of the models.
-pub fn stages_of(alloc: Global, models: &[Model]) -> Result<Vec<StageParts>, Memory>
+pub(crate) fn stages_of(alloc: Global, models: &[Model]) -> Result<Vec<StageParts>, Memory>
     requires few { length models.now ≤ most_models }
     requires are_models { All IsModel models.now }
     requires slim { All IsSlim models.now }

@@ -7,20 +7,20 @@ use ncl_blif::{Cover, Lit};
 use std::alloc::Global;
 
 /// The carry of two bits: both are 1.
-pub const HALF_CARRY: [[Lit; 2]; 1] = [[Lit::One, Lit::One]];
+pub(crate) const HALF_CARRY: [[Lit; 2]; 1] = [[Lit::One, Lit::One]];
 
 /// The sum of two bits: one is 1.
-pub const HALF_SUM: [[Lit; 2]; 2] = [[Lit::Zero, Lit::One], [Lit::One, Lit::Zero]];
+pub(crate) const HALF_SUM: [[Lit; 2]; 2] = [[Lit::Zero, Lit::One], [Lit::One, Lit::Zero]];
 
 /// The carry of three bits: two are 1.
-pub const FULL_CARRY: [[Lit; 3]; 3] = [
+pub(crate) const FULL_CARRY: [[Lit; 3]; 3] = [
     [Lit::Dash, Lit::One, Lit::One],
     [Lit::One, Lit::Dash, Lit::One],
     [Lit::One, Lit::One, Lit::Dash],
 ];
 
 /// The sum of three bits: one is 1, or all are.
-pub const FULL_SUM: [[Lit; 3]; 4] = [
+pub(crate) const FULL_SUM: [[Lit; 3]; 4] = [
     [Lit::Zero, Lit::Zero, Lit::One],
     [Lit::Zero, Lit::One, Lit::Zero],
     [Lit::One, Lit::Zero, Lit::Zero],
@@ -50,7 +50,7 @@ fn cover<const W: usize>(
 
 /// The covers of these rows that read these signals, for the carry under a number and for the sum under the next.
 /// Linear in the rows.
-pub fn covers<const W: usize>(
+pub(crate) fn covers<const W: usize>(
     alloc: Global,
     ins: &[u32; W],
     first: u32,

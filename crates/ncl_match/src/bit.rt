@@ -35,7 +35,7 @@ fn without_pair<P: Space>(space: &mut P, f: Pair, g: Pair) -> Result<Pair, Space
 ///
 /// `Full` comes exactly where the beads held with those of the six tables are more than the limit. What is made
 /// before a refusal stays.
-pub fn apart<P: Space>(space: &mut P, f: Pair, g: Pair) -> Result<Pair, SpaceFault>
+pub(crate) fn apart<P: Space>(space: &mut P, f: Pair, g: Pair) -> Result<Pair, SpaceFault>
     requires f { IsPair (P.meaning space.old) f }
     requires g { IsPair (P.meaning space.old) g }
     ensures made { let s = P.meaning space.old in
@@ -53,7 +53,7 @@ pub fn apart<P: Space>(space: &mut P, f: Pair, g: Pair) -> Result<Pair, SpaceFau
 /// The answer to an output whose tables don't pass the limit, by the function of where the netlist and the models differ.
 ///
 /// Takes no memory.
-pub fn told<P: Space>(space: &P, apart: Pair) -> BitAnswer
+pub(crate) fn told<P: Space>(space: &P, apart: Pair) -> BitAnswer
     requires { IsLive (P.meaning space.now) apart.one }
     ensures { (c : Circuit) (models : List Model) (limit output : ℕ) (f g : WordFunction) → All IsModel models → AreCompared c models (output - 1) f g → (P.meaning space.now).width ≡ length c.inputs
         → (P.meaning space.now).table apart.one ≡ table_of (words (length c.inputs)) (apart_function f g) → (IsOver c models limit output → ⊥) → IsBitAnswer c models limit output result }

@@ -15,7 +15,7 @@ use ncl_space::{Space, SpaceFault};
 ///
 /// Linear in the bits, with one function and its complement for each of them. `Full` comes exactly where the beads held
 /// with those of all these are more than the limit. What is made before a refusal stays.
-pub fn input_pairs<P: Space>(
+pub(crate) fn input_pairs<P: Space>(
     space: &mut P,
     inputs: &[Rails],
     marks: &[bool],

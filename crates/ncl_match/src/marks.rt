@@ -36,7 +36,7 @@ fn mark_reaching(marks: &mut [bool], plan: &[DataCell], root: NetId)
 
 /// For each net, whether a root is reached from it through the cells of a plan. Linear in the plan and the nets.
 /// The only error is want of memory.
-pub fn marked_nets(
+pub(crate) fn marked_nets(
     alloc: Global,
     plan: &[DataCell],
     nets: usize,

@@ -19,7 +19,7 @@ use std::alloc::Global;
 ///
 /// Linear in the netlist, with one function and its complement for each net that counts. `Full` comes exactly where the
 /// beads held with those of all these are more than the limit. What is made before a refusal stays.
-pub fn netlist_pair<P: Space>(
+pub(crate) fn netlist_pair<P: Space>(
     alloc: Global,
     space: &mut P,
     planned: &PlannedPipeline,

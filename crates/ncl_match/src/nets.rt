@@ -32,7 +32,7 @@ fn pins(pairs: &[Pair], nets: &[NetId]) -> ArrayVec<Pair, 4>
 ///
 /// `Full` comes exactly where the beads held with those of both its functions are more than the limit. What is made before
 /// a refusal stays.
-pub fn cell_pair<P: Space>(
+pub(crate) fn cell_pair<P: Space>(
     space: &mut P,
     cell: &DataCell,
     pairs: &[Pair],
@@ -60,7 +60,7 @@ pub fn cell_pair<P: Space>(
 ///
 /// Linear in the plan, with one function and its complement for each marked gate. `Full` comes exactly where the beads
 /// held with those of all these functions and complements are more than the limit. What is made before a refusal stays.
-pub fn plan_pairs<P: Space>(
+pub(crate) fn plan_pairs<P: Space>(
     space: &mut P,
     plan: &[DataCell],
     marks: &[bool],

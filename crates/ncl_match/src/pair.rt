@@ -63,7 +63,7 @@ fn dual_zeros(kind: Kind, pairs: &[Pair]) -> ArrayVec<Ref, 4>
 }
 
 /// The pair of a constant. Takes no memory.
-pub fn constant_pair<P: Space>(space: &P, value: bool) -> Pair
+pub(crate) fn constant_pair<P: Space>(space: &P, value: bool) -> Pair
     ensures { HasFunction (P.meaning space.now) result (λ word. value) }
 {
     let one = space.constant(value);
@@ -75,7 +75,7 @@ pub fn constant_pair<P: Space>(space: &P, value: bool) -> Pair
 ///
 /// `Full` comes exactly where the beads held with those of both are more than the limit. What is made
 /// before a refusal stays.
-pub fn rail_pair<P: Space>(space: &mut P, bit: usize) -> Result<Pair, SpaceFault>
+pub(crate) fn rail_pair<P: Space>(space: &mut P, bit: usize) -> Result<Pair, SpaceFault>
     requires { bit < (P.meaning space.old).width }
     ensures made { let s = P.meaning space.old in
         IfOk result (λ p. MakesPair s (P.meaning space.new) p (λ word. slice_index_or word bit false) (both_tables s.width (λ word. slice_index_or word bit false))) }
@@ -93,7 +93,11 @@ pub fn rail_pair<P: Space>(space: &mut P, bit: usize) -> Result<Pair, SpaceFault
 ///
 /// `Full` comes exactly where the beads held with those of both are more than the limit. What is made
 /// before a refusal stays.
-pub fn gate_pair<P: Space>(space: &mut P, kind: Kind, ins: &[Pair]) -> Result<Pair, SpaceFault>
+pub(crate) fn gate_pair<P: Space>(
+    space: &mut P,
+    kind: Kind,
+    ins: &[Pair],
+) -> Result<Pair, SpaceFault>
     requires arity { length ins.now ≡ arity_of kind }
     requires pairs { All (IsPair (P.meaning space.old)) ins.now }
     ensures made { let s = P.meaning space.old in let f = gate_function kind (functions_at s ins.now) in

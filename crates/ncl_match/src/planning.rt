@@ -12,7 +12,7 @@ use std::marker::Model;
 
 /// A cell that passes DATA on: a gate cell of a stage, or a register cell.
 #[derive(Clone, Debug, Drop)]
-pub struct DataCell {
+pub(crate) struct DataCell {
     /// The gate, or none for a register cell.
     pub kind: Option<Kind>,
     /// The nets on its pins in their order; of a register cell the net on pin A alone.
@@ -66,7 +66,7 @@ impl<'a> PlannedPipeline<'a> {
 
 /// The plan of a pipeline: for each bank its register cells, bit by bit, rail 0 first, and then the gate cells of the
 /// stage after it, as they stand there. Linear in the rails and the gates. An error is want of memory.
-pub fn plan(alloc: Global, pipeline: &Pipeline) -> Result<Vec<DataCell>, Memory>
+pub(crate) fn plan(alloc: Global, pipeline: &Pipeline) -> Result<Vec<DataCell>, Memory>
     ensures { IfOk result (λ made. made.items ≡ plan_of pipeline.now) }
 {
     let mut made = Vec::new(alloc);

@@ -21,7 +21,7 @@ use std::alloc::Global;
 ///
 /// `Full` comes exactly where the beads held with those of all its tables are more than the limit. What is made before
 /// a refusal stays.
-pub fn difference<P: Space>(
+pub(crate) fn difference<P: Space>(
     alloc: Global,
     space: &mut P,
     sides: &Sides,

@@ -61,7 +61,7 @@ fn place_of(pins: &[u32], places: &[usize], net: NetId) -> Option<usize>
 
 /// A slot whose cell is folded, and the gate that it is folded with into another.
 #[derive(Debug, Drop)]
-pub struct Fold {
+pub(crate) struct Fold {
     pub place: usize,
     pub gate: Gate,
 }
@@ -116,7 +116,7 @@ fn with_gate(cell: StageCell, gate: Gate) -> StageCell
 
 /// A cell, and whether others were folded into it.
 #[derive(Debug, Drop)]
-pub struct Folded {
+pub(crate) struct Folded {
     pub cell: StageCell,
     pub folded: bool,
 }
@@ -205,7 +205,7 @@ pub(crate) fn cells_of(stage: &Stage) -> &[StageCell]
 
 /// The cells of a stage after folds, or `None` where no cell can be folded whose net is counted once. Each cell is looked
 /// at once, and once more for each that is folded into it.
-pub fn fold_stage(
+pub(crate) fn fold_stage(
     alloc: Global,
     stage: &Stage,
     pins: &[u32],
@@ -232,7 +232,7 @@ pub fn fold_stage(
 }
 
 /// The same, where a table has room for the place of each cell at its net.
-pub fn fold_next_stage(
+pub(crate) fn fold_next_stage(
     alloc: Global,
     stage: &Stage,
     pins: &[u32],
@@ -249,7 +249,7 @@ pub fn fold_next_stage(
 
 /// The cells of a stage, and whether any were folded.
 #[derive(Debug, Drop)]
-pub struct StageFolds {
+pub(crate) struct StageFolds {
     pub cells: Items<StageCell>,
     pub folded: bool,
 }
@@ -286,7 +286,7 @@ fn fold_or_copy(
 
 /// The folds of all stages.
 #[derive(Debug, Drop)]
-pub struct AllFolds {
+pub(crate) struct AllFolds {
     pub stages: Vec<Items<StageCell>>,
     pub folded: bool,
 }
@@ -304,7 +304,7 @@ fn put_folds(all: &mut AllFolds, next: StageFolds) -> Result<(), Memory>
 }
 
 /// Folds what can be folded in each stage of a pipeline, once. Near linear in the cells. The only error is want of memory.
-pub fn fold_stages(
+pub(crate) fn fold_stages(
     alloc: Global,
     pipeline: &Pipeline,
     pins: &[u32],

@@ -78,7 +78,7 @@ fn reads_twice(ins: &[Signal]) -> bool {
 
 impl Joiner {
     /// The nodes of a network as they are, which wait for all until they are to wait for less. Linear in the network.
-    pub fn new(alloc: Global, network: &Network, relax: bool) -> Result<Joiner, Memory> {
+    pub(crate) fn new(alloc: Global, network: &Network, relax: bool) -> Result<Joiner, Memory> {
         Ok(Joiner {
             slots: slots_of(alloc, network)?,
             readers: Holders::of(alloc, network)?,
@@ -101,7 +101,7 @@ impl Joiner {
     }
 
     /// Nodes of so many inputs that are as they were wait for less. Linear in the nodes.
-    pub fn relax(&mut self, least: usize, most: usize) -> Result<(), Memory> {
+    pub(crate) fn relax(&mut self, least: usize, most: usize) -> Result<(), Memory> {
         for place in 0..self.slots.len() {
             if self.is_kept(place, least, most) {
                 self.release(place);
@@ -132,7 +132,7 @@ impl Joiner {
     }
 
     /// How many gates stand one after another, where there may be so many in all. Linear in the nodes.
-    pub fn timing(
+    pub(crate) fn timing(
         &mut self,
         alloc: Global,
         network: &Network,
@@ -146,7 +146,7 @@ impl Joiner {
     }
 
     /// Sets the level of a node as it now is.
-    pub fn settle(&mut self, place: usize, timing: &mut Timing) -> Result<(), Memory> {
+    pub(crate) fn settle(&mut self, place: usize, timing: &mut Timing) -> Result<(), Memory> {
         if let Some(slot) = self.slots.get(place) {
             let fit = self.fits.of(&slot.node, slot.waits)?;
             timing.settle(place, slot.node.ins.items(), fit.levels);
@@ -155,7 +155,7 @@ impl Joiner {
     }
 
     /// What two nodes read, the second of which the first reads, if it is at most four sources.
-    pub fn sources(&self, place: usize, inner: u32) -> Option<Sources> {
+    pub(crate) fn sources(&self, place: usize, inner: u32) -> Option<Sources> {
         let outer = self.slots.get(place)?;
         let read = self.slots.get(inner as usize)?;
         let from = SignalSource::Node(inner);
@@ -169,19 +169,19 @@ impl Joiner {
     }
 
     /// What waits so for some signals holds them.
-    pub fn take(&mut self, ins: &[Signal], waits: Waits) {
+    pub(crate) fn take(&mut self, ins: &[Signal], waits: Waits) {
         self.holders.take(ins, waits);
         self.sharers.take(ins, waits);
     }
 
     /// It holds them no more.
-    pub fn give_up(&mut self, ins: &[Signal], waits: Waits) {
+    pub(crate) fn give_up(&mut self, ins: &[Signal], waits: Waits) {
         self.holders.give_up(ins, waits);
         self.sharers.give_up(ins, waits);
     }
 
     /// A node holds what it waits for no more.
-    pub fn release(&mut self, place: usize) {
+    pub(crate) fn release(&mut self, place: usize) {
         if let Some(slot) = self.slots.get(place) {
             self.holders.give_up(slot.node.ins.items(), slot.waits);
             self.sharers.give_up(slot.node.ins.items(), slot.waits);
@@ -189,7 +189,7 @@ impl Joiner {
     }
 
     /// A node holds what it waits for.
-    pub fn hold(&mut self, place: usize) {
+    pub(crate) fn hold(&mut self, place: usize) {
         if let Some(slot) = self.slots.get(place) {
             self.holders.take(slot.node.ins.items(), slot.waits);
             self.sharers.take(slot.node.ins.items(), slot.waits);
@@ -229,7 +229,7 @@ impl Joiner {
     }
 
     /// Drops a node.
-    pub fn drop_node(&mut self, place: usize) {
+    pub(crate) fn drop_node(&mut self, place: usize) {
         if let Some(slot) = self.slots.get_mut(place) {
             self.readers.give_up(slot.node.ins.items(), Waits::ALL);
             slot.state = State::Gone;
@@ -238,7 +238,7 @@ impl Joiner {
     }
 
     /// Puts a joined node in the place of a node.
-    pub fn put(&mut self, place: usize, leaves: Leaves, pair: Pair) {
+    pub(crate) fn put(&mut self, place: usize, leaves: Leaves, pair: Pair) {
         if let Some(slot) = self.slots.get_mut(place) {
             self.readers.give_up(slot.node.ins.items(), Waits::ALL);
             self.readers.take(pair.node.ins.items(), Waits::ALL);
@@ -249,7 +249,7 @@ impl Joiner {
     }
 
     /// The gates of a node that is joined with one that it reads, if they are in time. Both hold nothing meanwhile.
-    pub fn pair(
+    pub(crate) fn pair(
         &mut self,
         alloc: Global,
         network: &Network,
@@ -277,7 +277,7 @@ impl Joiner {
     }
 
     /// What is found.
-    pub fn joins(self, alloc: Global) -> Result<Joins, Memory> {
+    pub(crate) fn joins(self, alloc: Global) -> Result<Joins, Memory> {
         let mut offers = Vec::new(alloc);
         let mut waits = Vec::new(alloc);
         for slot in self.slots {

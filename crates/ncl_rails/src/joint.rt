@@ -19,7 +19,7 @@ pub(crate) struct Sources {
 
 impl Sources {
     /// No source.
-    pub fn new() -> Sources {
+    pub(crate) fn new() -> Sources {
         Sources {
             at: [NONE; 4],
             count: 0,
@@ -40,7 +40,7 @@ impl Sources {
     }
 
     /// Adds the sources of signals but for a node, and tells whether there is room for them.
-    pub fn add_all(&mut self, signals: &[Signal], but: SignalSource) -> bool {
+    pub(crate) fn add_all(&mut self, signals: &[Signal], but: SignalSource) -> bool {
         for signal in signals {
             if signal.from != but && !self.add(signal.from) {
                 return false;
@@ -50,7 +50,7 @@ impl Sources {
     }
 
     /// The sources as signals that aren't inverted.
-    pub fn signals(&self) -> [Signal; 4] {
+    pub(crate) fn signals(&self) -> [Signal; 4] {
         self.at.map(|from| Signal {
             from,
             inverted: false,
@@ -58,7 +58,7 @@ impl Sources {
     }
 
     /// The sources as leaves.
-    pub fn leaves(&self) -> Leaves {
+    pub(crate) fn leaves(&self) -> Leaves {
         Leaves {
             first: self.at[0],
             second: self.at[1],

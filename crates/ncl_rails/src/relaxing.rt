@@ -20,7 +20,7 @@ pub(crate) struct Holders {
 
 impl Holders {
     /// All outputs and all readers. Linear in the network.
-    pub fn of(alloc: Global, network: &Network) -> Result<Holders, Memory> {
+    pub(crate) fn of(alloc: Global, network: &Network) -> Result<Holders, Memory> {
         let inputs = vec![in alloc; 0u32; network.inputs as usize]?;
         let nodes = vec![in alloc; 0u32; network.nodes.items().len()]?;
         let mut holders = Holders { inputs, nodes };
@@ -50,7 +50,7 @@ impl Holders {
     }
 
     /// How many hold a source.
-    pub fn count_of(&self, source: SignalSource) -> Option<u32> {
+    pub(crate) fn count_of(&self, source: SignalSource) -> Option<u32> {
         match source {
             SignalSource::Input(i) => self.inputs.get(i as usize).copied(),
             SignalSource::Node(k) => self.nodes.get(k as usize).copied(),
@@ -59,12 +59,12 @@ impl Holders {
     }
 
     /// Whether nothing holds an input or a node.
-    pub fn is_free(&self, source: SignalSource) -> bool {
+    pub(crate) fn is_free(&self, source: SignalSource) -> bool {
         self.count_of(source) == Some(0)
     }
 
     /// Adds a reader of each signal that is waited for at every word.
-    pub fn take(&mut self, ins: &[Signal], waits: Waits) {
+    pub(crate) fn take(&mut self, ins: &[Signal], waits: Waits) {
         for (place, signal) in ins.iter().enumerate() {
             if !waits.always(place) {
                 continue;
@@ -76,7 +76,7 @@ impl Holders {
     }
 
     /// Takes a reader of each signal away that is waited for at every word.
-    pub fn give_up(&mut self, ins: &[Signal], waits: Waits) {
+    pub(crate) fn give_up(&mut self, ins: &[Signal], waits: Waits) {
         for (place, signal) in ins.iter().enumerate() {
             if !waits.always(place) {
                 continue;

@@ -130,7 +130,7 @@ fn word_of(ins: &[Signal], number: u32) -> u32 {
 
 impl Sharers {
     /// None, and places for them where nodes may wait for less. Linear in the network.
-    pub fn new(alloc: Global, network: &Network, relax: bool) -> Result<Sharers, Memory> {
+    pub(crate) fn new(alloc: Global, network: &Network, relax: bool) -> Result<Sharers, Memory> {
         let none = Few {
             at: [None; MOST_HOLDERS],
         };
@@ -164,7 +164,7 @@ impl Sharers {
     }
 
     /// Adds a node for each signal that it waits for at some words.
-    pub fn take(&mut self, ins: &[Signal], waits: Waits) {
+    pub(crate) fn take(&mut self, ins: &[Signal], waits: Waits) {
         let sharer = Sharer::of(ins, waits);
         for (place, signal) in ins.iter().enumerate() {
             if !waits.once(place) || waits.always(place) {
@@ -177,7 +177,7 @@ impl Sharers {
     }
 
     /// Takes such a node away.
-    pub fn give_up(&mut self, ins: &[Signal], waits: Waits) {
+    pub(crate) fn give_up(&mut self, ins: &[Signal], waits: Waits) {
         let sharer = Sharer::of(ins, waits);
         for (place, signal) in ins.iter().enumerate() {
             if !waits.once(place) || waits.always(place) {
@@ -191,7 +191,7 @@ impl Sharers {
 
     /// The words of some signals, each of another source, at which nothing waits for a source: all, where there is no place
     /// for one node more.
-    pub fn unheld(&self, ins: &[Signal], source: SignalSource) -> u16 {
+    pub(crate) fn unheld(&self, ins: &[Signal], source: SignalSource) -> u16 {
         let Some(few) = self.of(source) else {
             return u16::MAX;
         };

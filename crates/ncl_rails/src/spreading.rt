@@ -152,7 +152,7 @@ impl Joiner {
 
     /// Joins nodes that several nodes read with each of these, where all can take them in. What a node read at first is looked at,
     /// not what it comes to read. Near linear in the nodes.
-    pub fn spread_all(
+    pub(crate) fn spread_all(
         &mut self,
         alloc: Global,
         network: &Network,

@@ -319,7 +319,7 @@ impl Joiner {
     }
 
     /// Makes all sums beside their carries that can be.
-    pub fn add_sums(&mut self, sums: Vec<Sum>) {
+    pub(crate) fn add_sums(&mut self, sums: Vec<Sum>) {
         for sum in sums {
             self.add_sum(sum);
         }

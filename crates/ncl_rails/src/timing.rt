@@ -45,7 +45,12 @@ fn behind_of(alloc: Global, network: &Network, own: &[u32]) -> Result<Vec<u32>, 
 
 impl Timing {
     /// Of a network whose nodes have so many gates one after another, and which may have so many in all. Linear in it.
-    pub fn of(alloc: Global, network: &Network, own: &[u32], most: u32) -> Result<Timing, Memory> {
+    pub(crate) fn of(
+        alloc: Global,
+        network: &Network,
+        own: &[u32],
+        most: u32,
+    ) -> Result<Timing, Memory> {
         let levels = vec![in alloc; 0u32; network.nodes.items().len()]?;
         let behind = behind_of(alloc, network, own)?;
         let mut timing = Timing {
@@ -80,7 +85,7 @@ impl Timing {
     }
 
     /// Sets the level of a node.
-    pub fn settle(&mut self, place: usize, signals: &[Signal], own: u32) {
+    pub(crate) fn settle(&mut self, place: usize, signals: &[Signal], own: u32) {
         let level = self.level(signals, own);
         if let Some(known) = self.levels.get_mut(place) {
             *known = level;
@@ -88,7 +93,7 @@ impl Timing {
     }
 
     /// Whether no more gates than may stand one after another where a node reads these and has so many itself.
-    pub fn is_in_time(&self, place: usize, signals: &[Signal], own: u32) -> bool {
+    pub(crate) fn is_in_time(&self, place: usize, signals: &[Signal], own: u32) -> bool {
         let level = self.level(signals, own);
         level.saturating_add(at(&self.behind, place)) <= self.most
     }

@@ -14,7 +14,7 @@ pub(crate) struct Together {
 
 impl Together {
     /// No source.
-    pub fn new() -> Together {
+    pub(crate) fn new() -> Together {
         Together {
             at: [SignalSource::Const(false); MOST_SOURCES],
             count: 0,
@@ -22,7 +22,7 @@ impl Together {
     }
 
     /// Adds the sources of some signals that are not there yet, while there is room.
-    pub fn add_all(&mut self, ins: &[Signal]) {
+    pub(crate) fn add_all(&mut self, ins: &[Signal]) {
         for signal in ins {
             let known = &self.at[..self.count.min(MOST_SOURCES)];
             if self.count < MOST_SOURCES && !known.iter().any(|from| *from == signal.from) {

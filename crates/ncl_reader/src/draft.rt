@@ -21,12 +21,12 @@ use ncl_netlist::{PartCell, Parts};
 use std::alloc::Global;
 
 /// What a step comes to: the next place, `None` where the token breaks, or want of memory.
-pub type Step = Result<Option<Place>, Memory>;
+pub(crate) type Step = Result<Option<Place>, Memory>;
 
 /// What was read so far: the name of the module, its header and whether declarations stand there, what the declaration
 /// that is read begins with, the names that stand, the instance that is read, and the cells.
 #[derive(Debug, Drop)]
-pub struct Draft<'a> {
+pub(crate) struct Draft<'a> {
     pub title: &'a [u8],
     pub header: Header<'a>,
     pub ansi: bool,
@@ -38,7 +38,7 @@ pub struct Draft<'a> {
 
 impl<'a> Draft<'a> {
     /// Nothing was read.
-    pub fn new(alloc: Global) -> Draft<'a>
+    pub(crate) fn new(alloc: Global) -> Draft<'a>
         ensures { HoldsAt Place.Module result start }
     {
         Draft {
@@ -64,7 +64,7 @@ impl<'a> Draft<'a> {
     }
 
     /// One token more, or `None` where it breaks, and then nothing changes.
-    pub fn step(&mut self, alloc: Global, place: Place, lexeme: &Lexeme<'a>) -> Step
+    pub(crate) fn step(&mut self, alloc: Global, place: Place, lexeme: &Lexeme<'a>) -> Step
         ensures { Steps place self.old lexeme.now result self.new }
     {
         match place {
@@ -89,7 +89,7 @@ impl<'a> Draft<'a> {
     }
 
     /// The parts that a whole text says.
-    pub fn into_parts(self, alloc: Global) -> Result<Parts, Memory>
+    pub(crate) fn into_parts(self, alloc: Global) -> Result<Parts, Memory>
         ensures says { (p : Partial) → HoldsAt Place.End self.entry p → IfOk result (SaysAt p) }
         ensures differ { (p : Partial) → HoldsAt Place.End self.entry p
             → IfOk result (λ parts. AllDiffer (port_names parts)) }
@@ -145,7 +145,7 @@ impl<'a> Draft<'a> {
 
     /// A name that isn't declared.
     #[inline(always)]
-    pub fn at_plain(&mut self, alloc: Global, place: Place, name: &'a [u8]) -> Step
+    pub(crate) fn at_plain(&mut self, alloc: Global, place: Place, name: &'a [u8]) -> Step
         requires { takes_plain place ≡ true }
         ensures { StepsAt place self.old (NameLexeme name.now) result self.new }
     {

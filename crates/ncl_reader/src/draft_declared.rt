@@ -22,7 +22,7 @@ use std::alloc::Global;
 
 impl<'a> Draft<'a> {
     /// In front of an item.
-    pub fn at_item(&mut self, alloc: Global, lexeme: &Lexeme<'a>) -> Step
+    pub(crate) fn at_item(&mut self, alloc: Global, lexeme: &Lexeme<'a>) -> Step
         ensures { Steps Place.Item self.old lexeme.now result self.new }
     {
         if let Some(name) = lexeme.name() {
@@ -69,7 +69,7 @@ impl<'a> Draft<'a> {
     }
 
     /// Behind the word that begins a declaration.
-    pub fn at_lead(&mut self, alloc: Global, at: LeadPlace, lexeme: &Lexeme<'a>) -> Step
+    pub(crate) fn at_lead(&mut self, alloc: Global, at: LeadPlace, lexeme: &Lexeme<'a>) -> Step
         ensures { Steps (Place.Lead at) self.old lexeme.now result self.new }
     {
         let Some(name) = lexeme.name() else {
@@ -89,7 +89,7 @@ impl<'a> Draft<'a> {
     }
 
     /// At a further name of a declaration.
-    pub fn at_declared(&mut self, alloc: Global, lexeme: &Lexeme<'a>) -> Step
+    pub(crate) fn at_declared(&mut self, alloc: Global, lexeme: &Lexeme<'a>) -> Step
         ensures { Steps Place.Declared self.old lexeme.now result self.new }
     {
         let Some(name) = lexeme.name() else {

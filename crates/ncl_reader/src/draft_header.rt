@@ -20,7 +20,7 @@ use std::alloc::Global;
 
 impl<'a> Draft<'a> {
     /// Where a header begins.
-    pub fn at_first_port(&mut self, alloc: Global, lexeme: &Lexeme<'a>) -> Step
+    pub(crate) fn at_first_port(&mut self, alloc: Global, lexeme: &Lexeme<'a>) -> Step
         ensures { Steps Place.FirstPort self.old lexeme.now result self.new }
     {
         if lexeme.is_mark(Sign::RParen) {
@@ -38,7 +38,12 @@ impl<'a> Draft<'a> {
     }
 
     /// Behind a direction of the header.
-    pub fn at_header_lead(&mut self, alloc: Global, at: LeadPlace, lexeme: &Lexeme<'a>) -> Step
+    pub(crate) fn at_header_lead(
+        &mut self,
+        alloc: Global,
+        at: LeadPlace,
+        lexeme: &Lexeme<'a>,
+    ) -> Step
         ensures { Steps (Place.HeaderLead at) self.old lexeme.now result self.new }
     {
         let Some(name) = lexeme.name() else {
@@ -58,7 +63,7 @@ impl<'a> Draft<'a> {
     }
 
     /// At a further name of a header of declarations, or at the next declaration.
-    pub fn at_header_name(&mut self, alloc: Global, lexeme: &Lexeme<'a>) -> Step
+    pub(crate) fn at_header_name(&mut self, alloc: Global, lexeme: &Lexeme<'a>) -> Step
         ensures { Steps Place.HeaderName self.old lexeme.now result self.new }
     {
         if let Some(way) = lexeme.way() {
@@ -115,7 +120,7 @@ impl<'a> Draft<'a> {
 }
 
 /// What a declaration begins with that gives a direction.
-pub fn begun(way: Way) -> Lead
+pub(crate) fn begun(way: Way) -> Lead
     ensures output { result.output ≡ Some (way_output way) }
     ensures span { result.span ≡ None }
 {

@@ -8,7 +8,7 @@ use std::alloc::Global;
 
 impl<'a> Draft<'a> {
     /// Behind a connection.
-    pub fn after_connection(&mut self, alloc: Global, lexeme: &Lexeme<'a>) -> Step
+    pub(crate) fn after_connection(&mut self, alloc: Global, lexeme: &Lexeme<'a>) -> Step
         ensures { Steps Place.AfterConnection self.old lexeme.now result self.new }
     {
         if lexeme.is_mark(Sign::Comma) {

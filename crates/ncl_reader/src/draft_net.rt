@@ -16,7 +16,7 @@ use std::alloc::Global;
 
 impl<'a> Draft<'a> {
     /// At the name of a net.
-    pub fn at_net(&mut self, alloc: Global, lexeme: &Lexeme<'a>) -> Step
+    pub(crate) fn at_net(&mut self, alloc: Global, lexeme: &Lexeme<'a>) -> Step
         ensures { Steps Place.Net self.old lexeme.now result self.new }
     {
         let Some(name) = lexeme.name() else {
@@ -31,7 +31,7 @@ impl<'a> Draft<'a> {
     }
 
     /// Behind the name of a net.
-    pub fn after_net(&mut self, lexeme: &Lexeme<'a>) -> Step
+    pub(crate) fn after_net(&mut self, lexeme: &Lexeme<'a>) -> Step
         ensures { Steps Place.AfterNet self.old lexeme.now result self.new }
     {
         let range = self.net_range();
@@ -57,7 +57,7 @@ impl<'a> Draft<'a> {
     }
 
     /// At the number of a bit.
-    pub fn at_index(&mut self, lexeme: &Lexeme<'a>) -> Option<Place>
+    pub(crate) fn at_index(&mut self, lexeme: &Lexeme<'a>) -> Option<Place>
         ensures { Steps Place.Index self.old lexeme.now (Ok result) self.new }
     {
         let Some(number) = lexeme.number() else {
@@ -77,7 +77,7 @@ impl<'a> Draft<'a> {
     }
 
     /// Behind a bit.
-    pub fn net_end(&mut self, lexeme: &Lexeme<'a>) -> Step
+    pub(crate) fn net_end(&mut self, lexeme: &Lexeme<'a>) -> Step
         ensures { Steps Place.NetEnd self.old lexeme.now result self.new }
     {
         if !lexeme.is_mark(Sign::RParen) {
@@ -94,7 +94,7 @@ impl<'a> Draft<'a> {
 
     /// The numbers of the net that is joined, if it is a vector. A look-up of O(log n) comparisons,
     /// where n is the number of vectors.
-    pub fn net_range(&self) -> Option<Span>
+    pub(crate) fn net_range(&self) -> Option<Span>
         ensures { (xs : List Token) → KeepsNames self.now.known xs
             → MatchOption result ((range : Range) → ¬ IsVector xs self.now.instance.net.now range)
             (λ span. (range : Range) × IsVector xs self.now.instance.net.now range × (span_of range ≡ span)) }

@@ -20,7 +20,7 @@ use std::alloc::Global;
 
 /// The names that stand: how they were declared, which have the form of a bit's name, and which a connection used.
 #[derive(Debug, Drop)]
-pub struct Known<'a> {
+pub(crate) struct Known<'a> {
     pub ranges: Ranges<'a>,
     pub bits: KeptBits<'a>,
     pub uses: NameSet<'a>,
@@ -28,7 +28,7 @@ pub struct Known<'a> {
 
 impl<'a> Known<'a> {
     /// No names.
-    pub fn new(alloc: Global) -> Known<'a>
+    pub(crate) fn new(alloc: Global) -> Known<'a>
         ensures { KeepsNames result [] }
     {
         Known {
@@ -40,7 +40,7 @@ impl<'a> Known<'a> {
 
     /// Whether a name that is declared was declared with another range, or used before it gets one. Costs as
     /// `agrees` of `Ranges`, and where a range is given as `has` of `NameSet`.
-    pub fn redeclares(&self, name: &[u8], span: Option<Span>) -> bool
+    pub(crate) fn redeclares(&self, name: &[u8], span: Option<Span>) -> bool
         ensures { (xs : List Lexeme) (range : Option Range) → KeepsNames self.now xs → IsDeclaring xs range
             → option_map span_of range ≡ span → Decides result (Redeclares xs name.now) }
     {
@@ -55,7 +55,7 @@ impl<'a> Known<'a> {
 
     /// Whether a name that isn't declared here is that of a bit of a vector. A look-up of O(log n) comparisons,
     /// where n is the number of vectors.
-    pub fn clashes(&self, name: &[u8]) -> bool
+    pub(crate) fn clashes(&self, name: &[u8]) -> bool
         ensures { (xs : List Lexeme) → KeepsNames self.now xs → ((range : Option Range) → IsDeclaring xs range → ⊥)
             → Decides result (Clashes xs name.now) }
     {
@@ -65,7 +65,7 @@ impl<'a> Known<'a> {
     /// Whether a name that is declared is that of a bit of a vector, or a name of one of its bits stands. Three
     /// look-ups of O(log n) comparisons; where the name is declared as a vector for the first time, each number
     /// that stands with it is looked at.
-    pub fn clashes_declared(&self, name: &[u8], span: Option<Span>) -> bool
+    pub(crate) fn clashes_declared(&self, name: &[u8], span: Option<Span>) -> bool
         ensures { (xs : List Lexeme) (range : Option Range) → KeepsNames self.now xs → IsDeclaring xs range
             → option_map span_of range ≡ span → (Redeclares xs name.now → ⊥) → Decides result (Clashes xs name.now) }
     {
@@ -82,7 +82,7 @@ impl<'a> Known<'a> {
     }
 
     /// Keeps a name that is neither declared nor used here. Two look-ups of O(log n) comparisons.
-    pub fn stand(&mut self, alloc: Global, name: &'a [u8]) -> Result<(), Memory>
+    pub(crate) fn stand(&mut self, alloc: Global, name: &'a [u8]) -> Result<(), Memory>
         ensures { (xs : List Lexeme) → KeepsNames self.old xs → ((range : Option Range) → IsDeclaring xs range → ⊥)
             → (IsAtNet xs → ⊥) → (Clashes xs name.now → ⊥) → IfOk result (λ u. KeepsNames self.new (xs ++ NameLexeme name.now ∷ [])) }
     {
@@ -92,7 +92,7 @@ impl<'a> Known<'a> {
 
     /// Keeps a name that is declared. Two look-ups of O(log n) comparisons; for a vector two more, and one for each name
     /// that was declared or used since the last.
-    pub fn declare(
+    pub(crate) fn declare(
         &mut self,
         alloc: Global,
         name: &'a [u8],
@@ -111,7 +111,7 @@ impl<'a> Known<'a> {
     }
 
     /// Keeps the name of a net on a pin. Two look-ups of O(log n) comparisons.
-    pub fn join(&mut self, alloc: Global, name: &'a [u8]) -> Result<(), Memory>
+    pub(crate) fn join(&mut self, alloc: Global, name: &'a [u8]) -> Result<(), Memory>
         ensures { (xs : List Lexeme) → KeepsNames self.old xs → IsAtNet xs → (Clashes xs name.now → ⊥)
             → IfOk result (λ u. KeepsNames self.new (xs ++ NameLexeme name.now ∷ [])) }
     {

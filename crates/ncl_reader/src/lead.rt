@@ -19,7 +19,7 @@ const MOST_VECTOR_BITS: u32 = 1024;
 /// What a declaration begins with, as far as it is read: whether it tells outputs, if it gives a direction; its
 /// range, if it has one; and the first number of a range that isn't read whole.
 #[derive(Clone, Copy, Debug)]
-pub struct Lead {
+pub(crate) struct Lead {
     pub output: Option<bool>,
     pub span: Option<Span>,
     pub first: u16,
@@ -27,7 +27,7 @@ pub struct Lead {
 
 impl Lead {
     /// One token more that is no name, or `None` where it breaks.
-    pub fn step(&mut self, at: LeadPlace, lexeme: &Lexeme) -> Option<LeadPlace>
+    pub(crate) fn step(&mut self, at: LeadPlace, lexeme: &Lexeme) -> Option<LeadPlace>
         ensures output { self.new.output ≡ self.old.output }
         ensures header { (title : List ℕ) (groups : List (Group Direction)) (part : LeadPart Direction)
             → ((x : List ℕ) → meant lexeme.now ≢ Name x) → lead_place direction_place part ≡ at
@@ -83,7 +83,7 @@ fn behind(lexeme: &Lexeme, sign: Sign, after: LeadPlace) -> Option<LeadPlace>
 }
 
 /// Whether a name may come next.
-pub fn takes_name(at: LeadPlace) -> bool
+pub(crate) fn takes_name(at: LeadPlace) -> bool
     ensures { result ≡ takes_name at }
 {
     match at {

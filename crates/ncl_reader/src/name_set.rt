@@ -10,14 +10,14 @@ use std::collections::BTreeMap;
 /// A set of names that many are added to before one is asked for: those that were added last wait in a list until they
 /// are sorted in.
 #[derive(Debug, Drop)]
-pub struct NameSet<'a> {
+pub(crate) struct NameSet<'a> {
     sorted: BTreeMap<&'a [u8], bool>,
     waiting: Vec<&'a [u8]>,
 }
 
 impl<'a> NameSet<'a> {
     /// No names.
-    pub fn new(alloc: Global) -> NameSet<'a>
+    pub(crate) fn new(alloc: Global) -> NameSet<'a>
         ensures { (x : List ℕ) → has_name result x ≡ false }
     {
         NameSet {
@@ -27,14 +27,14 @@ impl<'a> NameSet<'a> {
     }
 
     /// Whether the set has the name. A look-up of O(log n) comparisons, and one with each name that waits.
-    pub fn has(&self, name: &[u8]) -> bool
+    pub(crate) fn has(&self, name: &[u8]) -> bool
         ensures { result ≡ has_name self.now name.now }
     {
         self.sorted.contains_key(name) || self.waiting.contains(&name)
     }
 
     /// Adds the name, which waits from now on. Compares nothing.
-    pub fn add(&mut self, name: &'a [u8]) -> Result<(), Memory>
+    pub(crate) fn add(&mut self, name: &'a [u8]) -> Result<(), Memory>
         ensures { IfOk result (λ u. (x : List ℕ) → has_name self.new x ≡ cond (bytes_eq name.now x) true (has_name self.old x)) }
     {
         self.waiting.push(name)?;
@@ -42,7 +42,7 @@ impl<'a> NameSet<'a> {
     }
 
     /// Sorts the names in that wait. A look-up of O(log n) comparisons for each.
-    pub fn sort(&mut self) -> Result<(), Memory>
+    pub(crate) fn sort(&mut self) -> Result<(), Memory>
         ensures { IfOk result (λ u. (x : List ℕ) → has_name self.new x ≡ has_name self.old x) }
     {
         while let Some(name) = self.waiting.pop() {

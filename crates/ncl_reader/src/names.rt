@@ -10,7 +10,7 @@ use crate::ranges::Ranges;
 
 /// Whether a name is that of a bit of a vector that is declared. Linear in the name, and a look-up of O(log n)
 /// comparisons.
-pub fn is_bit(ranges: &Ranges, name: &[u8]) -> bool
+pub(crate) fn is_bit(ranges: &Ranges, name: &[u8]) -> bool
     ensures { (xs : List Lexeme) → IsRanges ranges.now xs → Decides result (IsBit xs name.now) }
 {
     let Some((vector, number)) = bit_of(name) else {

@@ -10,7 +10,7 @@ use crate::span::Span;
 
 /// A number as it is written: decimal digits.
 #[derive(Clone, Copy, Debug)]
-pub struct Number<'a> {
+pub(crate) struct Number<'a> {
     pub digits: &'a [u8],
     ghost are_digits: { list_all is_ascii_digit digits.now ≡ true },
 }
@@ -23,7 +23,7 @@ const MOST_NUMBER: u32 = 65_535;
 /// The value of a number, or `None` where it has more than five digits or is above 65,535.
 ///
 /// Looks at five digits at most.
-pub fn small(number: Number) -> Option<u16>
+pub(crate) fn small(number: Number) -> Option<u16>
     ensures { MatchOption result (IsTooLarge number.entry.digits.now)
         (λ n. (n ≡ digits_value 10 number.entry.digits.now) × ¬ IsTooLarge number.entry.digits.now) }
 {
@@ -33,7 +33,7 @@ pub fn small(number: Number) -> Option<u16>
 /// Whether no bit of a vector has the number, however many digits it has.
 ///
 /// Linear in the digits.
-pub fn is_outside(number: Number, span: Span) -> bool
+pub(crate) fn is_outside(number: Number, span: Span) -> bool
     ensures { Decides result (Covers span (digits_value 10 number.entry.digits.now) → ⊥) }
 {
     lies_outside(number.digits, span)

@@ -17,14 +17,14 @@ use std::collections::BTreeMap;
 
 /// The names that are declared: vectors, each with its range, and names with none.
 #[derive(Debug, Drop)]
-pub struct Ranges<'a> {
+pub(crate) struct Ranges<'a> {
     vectors: BTreeMap<&'a [u8], Span>,
     plain: NameSet<'a>,
 }
 
 impl<'a> Ranges<'a> {
     /// No names.
-    pub fn new(alloc: Global) -> Ranges<'a>
+    pub(crate) fn new(alloc: Global) -> Ranges<'a>
         ensures { IsRanges result [] }
     {
         Ranges {
@@ -35,7 +35,7 @@ impl<'a> Ranges<'a> {
 
     /// How a name was declared, if it was. Two look-ups of O(log n) comparisons, and one with each name that was
     /// declared since the last vector.
-    pub fn of(&self, name: &[u8]) -> Option<Option<Span>>
+    pub(crate) fn of(&self, name: &[u8]) -> Option<Option<Span>>
         ensures { result ≡ range_at self.now name.now }
     {
         if let Some(span) = self.vectors.get(name) {
@@ -49,7 +49,7 @@ impl<'a> Ranges<'a> {
 
     /// The range of a name that is declared with one. A look-up of O(log n) comparisons, where n is the number of
     /// vectors.
-    pub fn vector(&self, name: &[u8]) -> Option<Span>
+    pub(crate) fn vector(&self, name: &[u8]) -> Option<Span>
         ensures { MatchOption result ((span : Span) → range_at self.now name.now ≢ Some (Some span))
             (λ span. range_at self.now name.now ≡ Some (Some span)) }
     {
@@ -58,7 +58,7 @@ impl<'a> Ranges<'a> {
 
     /// Whether a name was never declared with another range. Costs as `vector` does where no range is given, and as `of`
     /// does where one is.
-    pub fn agrees(&self, name: &[u8], span: Option<Span>) -> bool
+    pub(crate) fn agrees(&self, name: &[u8], span: Option<Span>) -> bool
         ensures { (xs : List Lexeme) → IsRanges self.now xs
             → Decides result ((other : Option Range) → IsDeclared xs name.now other → option_map span_of other ≡ span) }
     {
@@ -76,7 +76,7 @@ impl<'a> Ranges<'a> {
 
     /// Declares a name with a range or with none. A look-up of O(log n) comparisons, for a vector and for each name that
     /// was declared since the last.
-    pub fn declare(&mut self, name: &'a [u8], span: Option<Span>) -> Result<(), Memory>
+    pub(crate) fn declare(&mut self, name: &'a [u8], span: Option<Span>) -> Result<(), Memory>
         ensures { (xs : List Lexeme) (range : Option Range) → IsRanges self.old xs → IsDeclaring xs range
             → option_map span_of range ≡ span
             → ((other : Option Range) → IsDeclared xs name.now other → option_map span_of other ≡ span)

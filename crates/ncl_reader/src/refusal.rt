@@ -24,7 +24,7 @@ use crate::place::{LeadPlace, Place};
 
 impl<'a> Draft<'a> {
     /// Why a token that breaks is refused. Costs what the step cost.
-    pub fn refusal(&self, place: Place, lexeme: &Lexeme<'a>, at: usize) -> NetFault
+    pub(crate) fn refusal(&self, place: Place, lexeme: &Lexeme<'a>, at: usize) -> NetFault
         ensures { (p : Partial) → HoldsAt place self.now p → Breaks (spelled p) (meant lexeme.now)
             → IsFaultAt (spelled p) (record { lexeme = meant lexeme.now; place = at }) result }
     {
@@ -98,7 +98,7 @@ impl<'a> Draft<'a> {
     }
 
     /// Whether a name that a declaration of the header has makes the bits of ports too many.
-    pub fn crowds_header(&self, name: &[u8]) -> bool
+    pub(crate) fn crowds_header(&self, name: &[u8]) -> bool
         ensures { (groups : List (Group Direction)) (spec : Spec Direction) (names : List (List ℕ))
             → IsSaid direction_output spec self.now.lead → IsGroupedWith self.now groups spec names
             → Decides result (Crowds (in_ansi self.now.title.now groups spec names) name.now) }
@@ -113,7 +113,7 @@ impl<'a> Draft<'a> {
     }
 
     /// Whether a name that a declaration of an item has makes the bits of ports too many.
-    pub fn crowds_items(&self, name: &[u8]) -> bool
+    pub(crate) fn crowds_items(&self, name: &[u8]) -> bool
         ensures { (head : Head) (items : List Item) (spec : Spec LeadOf) (names : List (List ℕ))
             → IsSaid lead_output spec self.now.lead → IsEarly self.now → IsBodyWith self.now head items spec names
             → Decides result (Crowds (at_declared head items spec names) name.now) }

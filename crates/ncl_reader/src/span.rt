@@ -5,14 +5,14 @@ ghost use Rattle.ncl_reader.specs.Vectors.{Covers, width, numbers_of};
 
 /// The first and the last number of a vector, which may fall or rise.
 #[derive(Clone, Copy, Debug, PartialEq, Eq)]
-pub struct Span {
+pub(crate) struct Span {
     pub first: u16,
     pub last: u16,
 }
 
 impl Span {
     /// The number of bits, 1 to 65,536. Costs nothing.
-    pub fn width(self) -> u32
+    pub(crate) fn width(self) -> u32
         ensures { result ≡ width self }
     {
         let first = u32::from(self.first);
@@ -25,7 +25,7 @@ impl Span {
     }
 
     /// Whether a bit has the number. Costs nothing.
-    pub fn covers(self, number: u16) -> bool
+    pub(crate) fn covers(self, number: u16) -> bool
         ensures { Decides result (Covers self number) }
     {
         if self.first <= self.last {
@@ -35,7 +35,7 @@ impl Span {
     }
 
     /// The number at a place, from the first to the last. Costs nothing.
-    pub fn number(self, place: u32) -> u16
+    pub(crate) fn number(self, place: u32) -> u16
         requires { place < width self }
         ensures { result ≡ slice_index (numbers_of self) place }
     {

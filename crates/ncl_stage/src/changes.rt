@@ -91,7 +91,7 @@ impl Changes {
 /// that `base` has, or that of the constant 0 where the variant keeps it low. `Full` comes exactly where
 /// the beads held with those of all these functions are more than the limit. What is made before a refusal
 /// stays.
-pub fn net_refs_from<P: Space>(
+pub(crate) fn net_refs_from<P: Space>(
     alloc: Global,
     space: &mut P,
     stage: &Stage,

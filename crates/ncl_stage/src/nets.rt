@@ -20,7 +20,7 @@ use std::alloc::Global;
 ///
 /// It asks the space for one function for each net, in that order. `Full` comes exactly where the beads
 /// held with those of all these functions are more than the limit. What is made before a refusal stays.
-pub fn net_refs<P: Space>(
+pub(crate) fn net_refs<P: Space>(
     alloc: Global,
     space: &mut P,
     stage: &Stage,

@@ -9,7 +9,7 @@ use std::io::{Read, Write};
 
 /// How many calls of the system have failed, how many bytes its reads have given, and how many files it was to open.
 #[derive(Clone, Copy, Debug)]
-pub struct Tally {
+pub(crate) struct Tally {
     /// The calls that failed, which count no further than 2^64 - 1.
     pub faults: u64,
     /// The bytes that were read, which count no further than that either.
@@ -20,7 +20,7 @@ pub struct Tally {
 
 impl Tally {
     /// No calls yet.
-    pub fn new() -> Tally
+    pub(crate) fn new() -> Tally
         ensures { result ≡ record { faults = 0; given = 0; opens = 0 } }
     {
         Tally {
@@ -31,7 +31,7 @@ impl Tally {
     }
 
     /// Counts a call that failed.
-    pub fn fail(&mut self) -> Failed
+    pub(crate) fn fail(&mut self) -> Failed
         ensures counted { self.new ≡ record self.old { faults = raised self.old.faults 1 } }
         ensures faults { self.old.faults ≤ self.new.faults }
     {
@@ -40,7 +40,7 @@ impl Tally {
     }
 
     /// The file that the system opened, or `None` where it failed. Both are counted.
-    pub fn after_open<F>(&mut self, opened: io::Result<F>) -> Option<F>
+    pub(crate) fn after_open<F>(&mut self, opened: io::Result<F>) -> Option<F>
         ensures file { IfOk opened (λ file. (result ≡ Some file) × (self.new ≡ record self.old { opens = raised self.old.opens 1 })) }
         ensures failed { OnErr opened ((result ≡ None) × (self.new ≡ record self.old {
           faults = raised self.old.faults 1;
@@ -59,7 +59,7 @@ impl Tally {
     }
 
     /// How many bytes the system's read gave, which is counted, or `Failed` where it failed.
-    pub fn after_read(&mut self, read: io::Result<usize>) -> Result<usize, Failed>
+    pub(crate) fn after_read(&mut self, read: io::Result<usize>) -> Result<usize, Failed>
         ensures gave { IfOk read (λ n. (result ≡ Ok n) × (self.new ≡ record self.old { given = raised self.old.given n })) }
         ensures failed { OnErr read ((result ≡ Err (record {})) × (self.new ≡ record self.old { faults = raised self.old.faults 1 })) }
         ensures faults { self.old.faults ≤ self.new.faults }
@@ -74,7 +74,7 @@ impl Tally {
     }
 
     /// How many bytes the system's write took, or `Failed` where it failed or took none.
-    pub fn after_write(&mut self, written: io::Result<usize>) -> Result<usize, Failed>
+    pub(crate) fn after_write(&mut self, written: io::Result<usize>) -> Result<usize, Failed>
         ensures took { IfOk written (λ n. 0 < n → (result ≡ Ok n) × (self.new ≡ self.old)) }
         ensures none { IfOk written (λ n. n ≡ 0
             → (result ≡ Err (record {})) × (self.new ≡ record self.old { faults = raised self.old.faults 1 })) }
@@ -89,7 +89,7 @@ impl Tally {
 }
 
 /// Reads by one call of a reader, and counts what came of it.
-pub fn read_from<F: Read>(
+pub(crate) fn read_from<F: Read>(
     tally: &mut Tally,
     reader: &mut F,
     buf: &mut [u8],
@@ -104,7 +104,11 @@ pub fn read_from<F: Read>(
 }
 
 /// Writes by one call of a writer, and counts what came of it.
-pub fn write_to<W: Write>(tally: &mut Tally, writer: &mut W, piece: &[u8]) -> Result<usize, Failed>
+pub(crate) fn write_to<W: Write>(
+    tally: &mut Tally,
+    writer: &mut W,
+    piece: &[u8],
+) -> Result<usize, Failed>
     ensures some { IfOk result (λ n. 0 < n) }
     ensures within { IfOk result (λ n. n ≤ length piece.now) }
     ensures bytes { WriteAppends (W.contents writer.old) (W.contents writer.new) result piece.now }

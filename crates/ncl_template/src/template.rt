@@ -102,7 +102,7 @@ fn pair(ins: &[Rails], place: usize) -> Rails
 /// inputs, 8 for three and 20 for four. Pairs may be equal, or each other's inverse.
 ///
 /// Linear in the rows of the node. The only error is want of memory.
-pub fn add_template(gates: &mut Gates, node: &Node, ins: &[Rails]) -> Result<Rails, Memory>
+pub(crate) fn add_template(gates: &mut Gates, node: &Node, ins: &[Rails]) -> Result<Rails, Memory>
     requires narrow { IsNarrow node.now }
     requires as_many { length ins.now ≡ length node.now.ins }
     requires room { nets_so_far gates.old + 32 < 2 ^ 32 }

@@ -19,7 +19,7 @@ use std::thread::Threads;
 /// Carries out a command and gives its reply.
 ///
 /// Reads each file that the command names from the source.
-pub fn carry_out<R: Threads + Sync, S: Source, J: Judge + Sync>(
+pub(crate) fn carry_out<R: Threads + Sync, S: Source, J: Judge + Sync>(
     rt: &R,
     alloc: Global,
     source: &mut S,

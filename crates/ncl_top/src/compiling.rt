@@ -21,7 +21,7 @@ use std::alloc::Global;
 /// from being compiled.
 ///
 /// Costs what compiling, merging and writing cost.
-pub fn compile_models(alloc: Global, models: &[Model], merged: bool) -> Result<Reply, Memory>
+pub(crate) fn compile_models(alloc: Global, models: &[Model], merged: bool) -> Result<Reply, Memory>
     requires { AreModels models.now }
     ensures { IfOk result (Gives (IsModelsReply models.now merged)) }
 {

@@ -27,7 +27,7 @@ use std::thread::Threads;
 /// of nodes, with the verdict and the netlist.
 ///
 /// Costs what compiling, the check and the run cost.
-pub fn demonstrate<R: Threads + Sync, J: Judge + Sync>(
+pub(crate) fn demonstrate<R: Threads + Sync, J: Judge + Sync>(
     rt: &R,
     alloc: Global,
     judge: &J,

@@ -26,7 +26,7 @@ use std::thread::Threads;
 /// Loads a file and replies to `check` of it.
 ///
 /// Costs a pass over the bytes, and the check.
-pub fn check_file<R: Threads + Sync, S: Source, J: Judge + Sync>(
+pub(crate) fn check_file<R: Threads + Sync, S: Source, J: Judge + Sync>(
     rt: &R,
     alloc: Global,
     source: &mut S,
@@ -53,7 +53,7 @@ pub fn check_file<R: Threads + Sync, S: Source, J: Judge + Sync>(
 /// Loads a file and replies to `compile` of it.
 ///
 /// Costs a pass over the bytes, and what reading, compiling, merging if it is asked for, and writing cost.
-pub fn compile_file<S: Source>(
+pub(crate) fn compile_file<S: Source>(
     alloc: Global,
     source: &mut S,
     file: &str,
@@ -77,7 +77,7 @@ pub fn compile_file<S: Source>(
 /// They are read in this order, and the first that is refused is told; a later file is not opened then.
 ///
 /// Costs a pass over the bytes of each file, what reading them costs, and the run.
-pub fn sim_files<S: Source>(
+pub(crate) fn sim_files<S: Source>(
     alloc: Global,
     source: &mut S,
     netlist: &str,
@@ -105,7 +105,7 @@ pub fn sim_files<S: Source>(
 /// this order, and the first that is refused is told; the models are not opened then.
 ///
 /// Costs a pass over the bytes of each file, what reading them costs, and the comparison.
-pub fn match_files<R: Threads + Sync, S: Source>(
+pub(crate) fn match_files<R: Threads + Sync, S: Source>(
     rt: &R,
     alloc: Global,
     source: &mut S,

@@ -12,7 +12,11 @@ use ncl_shape::Pipeline;
 use std::alloc::Global;
 
 /// The line for words that have not the same numbers of bits. Fails where memory is refused.
-pub fn widths_text(alloc: Global, pipeline: &Pipeline, models: &[Model]) -> Result<Vec<u8>, Memory>
+pub(crate) fn widths_text(
+    alloc: Global,
+    pipeline: &Pipeline,
+    models: &[Model],
+) -> Result<Vec<u8>, Memory>
     ensures { IfOk result (λ text. text.items ≡ widths_line (circuit_of pipeline.now) models.now) }
 {
     let mut digits = Buffer::new();
@@ -29,7 +33,7 @@ pub fn widths_text(alloc: Global, pipeline: &Pipeline, models: &[Model]) -> Resu
 }
 
 /// The line for functions that differ at a word in an output, from 1. Fails where memory is refused. Linear in the word.
-pub fn differ_text(alloc: Global, word: &Word, output: u32) -> Result<Vec<u8>, Memory>
+pub(crate) fn differ_text(alloc: Global, word: &Word, output: u32) -> Result<Vec<u8>, Memory>
     ensures { IfOk result (λ text. text.items ≡ differ_line word.now output) }
 {
     let mut digits = Buffer::new();

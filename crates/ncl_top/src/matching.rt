@@ -18,7 +18,7 @@ use std::thread::Threads;
 
 /// Compares a pipeline with models, each output by a decision diagram of its own, and replies with what is found. Up to
 /// four threads run.
-pub fn match_models<R: Threads + Sync>(
+pub(crate) fn match_models<R: Threads + Sync>(
     rt: &R,
     alloc: Global,
     pipeline: &Pipeline,

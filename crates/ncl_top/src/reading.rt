@@ -22,7 +22,7 @@ use std::alloc::Global;
 /// The models that the bytes of a file say, or the line that tells the first thing that keeps them from saying any.
 ///
 /// Costs as reading does: near linear in the bytes.
-pub fn models_in(alloc: Global, bytes: &[u8]) -> Result<Vec<Model>, Refusal>
+pub(crate) fn models_in(alloc: Global, bytes: &[u8]) -> Result<Vec<Model>, Refusal>
     requires { length bytes.now ≤ MOST_BYTES }
     ensures models { IfOk result (λ models. AreModelsText bytes.now models.items) }
     ensures refused { IfErr result (TellsLine (AreRefusedModels bytes.now)) }
@@ -36,7 +36,7 @@ pub fn models_in(alloc: Global, bytes: &[u8]) -> Result<Vec<Model>, Refusal>
 /// The delays that the bytes of a file state for the cells of a netlist, or the line that tells the first that breaks.
 ///
 /// Costs as reading does: near linear in the bytes.
-pub fn delays_in(alloc: Global, bytes: &[u8], netlist: &Netlist) -> Result<Delays, Refusal>
+pub(crate) fn delays_in(alloc: Global, bytes: &[u8], netlist: &Netlist) -> Result<Delays, Refusal>
     requires { length bytes.now ≤ MOST_BYTES }
     ensures delays { IfOk result (AreDelaysText netlist.now bytes.now) }
     ensures refused { IfErr result (TellsLine (AreRefusedDelays netlist.now bytes.now)) }
@@ -50,7 +50,11 @@ pub fn delays_in(alloc: Global, bytes: &[u8], netlist: &Netlist) -> Result<Delay
 /// The words that the bytes of a file say, each as wide as the pipeline, or the line that tells the first that breaks.
 ///
 /// Linear in the bytes.
-pub fn words_in(alloc: Global, bytes: &[u8], pipeline: &Pipeline) -> Result<Vec<Word>, Refusal>
+pub(crate) fn words_in(
+    alloc: Global,
+    bytes: &[u8],
+    pipeline: &Pipeline,
+) -> Result<Vec<Word>, Refusal>
     requires { length bytes.now ≤ MOST_BYTES }
     ensures words { IfOk result (λ words. AreWordsText (length pipeline.now.inputs) bytes.now words.items) }
     ensures refused { IfErr result (TellsLine (AreRefusedWords (length pipeline.now.inputs) bytes.now)) }

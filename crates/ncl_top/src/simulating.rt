@@ -16,7 +16,7 @@ use ncl_vcd::dump;
 use std::alloc::Global;
 
 /// The reply to words that are offered to a pipeline with delays: its run, told by a value change dump or by its lines.
-pub fn run_reply(
+pub(crate) fn run_reply(
     alloc: Global,
     pipeline: &Pipeline,
     delays: &Delays,

@@ -8,7 +8,7 @@ use ncl_base::Memory;
 use ncl_reader::Keyword;
 
 /// Appends a name as it is, or where it is no word or is reserved, escaped. Linear in the name.
-pub fn push_name(text: &mut Vec<u8>, name: &[u8]) -> Result<(), Memory>
+pub(crate) fn push_name(text: &mut Vec<u8>, name: &[u8]) -> Result<(), Memory>
     ensures { OnOk result (text.new.items ≡ text.old.items ++ spelled_name name.now) }
 {
     if is_plain(name) {
@@ -41,7 +41,7 @@ fn all_continue(bytes: &[u8]) -> bool
 }
 
 /// Whether a name has a byte, and only bytes from 33 to 126. Linear in the name.
-pub fn is_writable_name(name: &[u8]) -> bool
+pub(crate) fn is_writable_name(name: &[u8]) -> bool
     ensures { result ≡ is_writable_name name.now }
 {
     match name {

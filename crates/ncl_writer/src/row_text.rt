@@ -10,7 +10,7 @@ use ncl_base::{Memory, Name};
 use ncl_netlist::{Cell, Port};
 
 /// Appends the names of ports between parentheses, and nothing where there are none. Linear in the names.
-pub fn push_ports(text: &mut Vec<u8>, ports: &[Port]) -> Result<(), Memory>
+pub(crate) fn push_ports(text: &mut Vec<u8>, ports: &[Port]) -> Result<(), Memory>
     ensures { OnOk result (text.new.items ≡ text.old.items ++ (opened (map (λ (port : Port). spelled_name port.name) ports.now) ++ closed (map (λ (port : Port). spelled_name port.name) ports.now))) }
 {
     let mut front = b'(';
@@ -26,7 +26,7 @@ pub fn push_ports(text: &mut Vec<u8>, ports: &[Port]) -> Result<(), Memory>
 }
 
 /// Appends the opening parenthesis of a cell and its pins with their nets. Linear in what is appended.
-pub fn push_pins(text: &mut Vec<u8>, nets: &[Name], cell: &Cell) -> Result<(), Memory>
+pub(crate) fn push_pins(text: &mut Vec<u8>, nets: &[Name], cell: &Cell) -> Result<(), Memory>
     requires { CellFits (length nets.now) cell.now }
     ensures { OnOk result (text.new.items ≡ text.old.items ++ opened (pin_texts nets.now cell.now)) }
 {

@@ -19,7 +19,7 @@ use std::{env, io};
 
 /// Answers the arguments of the command line, from the system's files to standard output, and ends with the answer's
 /// status.
-pub fn process<R>(rt: &R) -> ExitCode
+pub(crate) fn process<R>(rt: &R) -> ExitCode
 where
     R: Threads + Sync + Env + Files + Print + AllocGlobal,
 {
@@ -37,7 +37,12 @@ where
 /// The code to end with is the status of the top call's answer to the arguments after the program's name. Where one of
 /// them is no text, none of them is asked for. Where there was no memory for the arguments it is 7, and nothing is begun
 /// or written.
-pub fn answer<R, S, K>(rt: &R, args: io::Result<Args>, source: &mut S, sink: &mut K) -> ExitCode
+pub(crate) fn answer<R, S, K>(
+    rt: &R,
+    args: io::Result<Args>,
+    source: &mut S,
+    sink: &mut K,
+) -> ExitCode
 where
     R: Threads + Sync + AllocGlobal,
     S: Source,

@@ -4,7 +4,7 @@ use std::alloc::Global;
 use std::test::Fail;
 
 /// Two banks of one bit, joined by wires.
-pub const WIRES: &str = "module t(x1_0,x1_1,ki,rst,z1_0,z1_1,ko);
+pub(crate) const WIRES: &str = "module t(x1_0,x1_1,ki,rst,z1_0,z1_1,ko);
 input x1_0,x1_1,ki,rst;
 output z1_0,z1_1,ko;
 TH22N r1_0(.A(x1_0),.B(c),.RST(rst),.Z(p1_0));
@@ -17,7 +17,7 @@ endmodule
 ";
 
 /// Three banks of one bit, joined by wires.
-pub const THREE_BANKS: &str = "module three(x1_0,x1_1,ki,rst,z1_0,z1_1,ko);
+pub(crate) const THREE_BANKS: &str = "module three(x1_0,x1_1,ki,rst,z1_0,z1_1,ko);
 input x1_0,x1_1,ki,rst;
 output z1_0,z1_1,ko;
 TH22N r1_0(.A(x1_0),.B(c1),.RST(rst),.Z(p1_0));
@@ -33,7 +33,7 @@ endmodule
 ";
 
 /// Nine banks of one bit, joined by wires but for the first stage, in which both rails are high where the bit is 1.
-pub const FIRST_IS_WRONG: &str = "module nine(x_0,x_1,ki,rst,z_0,z_1,ko);
+pub(crate) const FIRST_IS_WRONG: &str = "module nine(x_0,x_1,ki,rst,z_0,z_1,ko);
 input x_0,x_1,ki,rst;
 output z_0,z_1,ko;
 TH22N r0_0(.A(x_0),.B(c1),.RST(rst),.Z(a_0));
@@ -68,7 +68,7 @@ endmodule
 ";
 
 /// Two banks of one bit with so many gates in a row between them on each rail. Linear in them.
-pub fn long_stage(alloc: Global, gates: usize) -> Result<Vec<u8>, Fail> {
+pub(crate) fn long_stage(alloc: Global, gates: usize) -> Result<Vec<u8>, Fail> {
     let mut text = LONG_HEAD.as_bytes().to_vec(alloc)?;
     for i in 0..gates {
         let next = i + 1;
@@ -95,7 +95,7 @@ TH12B k(.A(a0),.B(b0),.Z(ko));
 ";
 
 /// The file `f` with these bytes.
-pub fn held(alloc: Global, bytes: Vec<u8>) -> Result<Vec<MemFile>, Memory> {
+pub(crate) fn held(alloc: Global, bytes: Vec<u8>) -> Result<Vec<MemFile>, Memory> {
     let file = MemFile {
         name: Name::from_bytes(alloc, b"f")?,
         bytes: Items::from_vec(bytes),

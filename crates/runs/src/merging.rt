@@ -17,7 +17,7 @@ const NODES: u32 = 100_000;
 
 /// Reads a netlist whose stages are sound, merges its gates, and prints the text of what comes of it. It fails where the text
 /// is no netlist or has no shape, where a stage isn't sound or passes the limit, and where nothing can be printed.
-pub fn print_merged<R: AllocGlobal + Print>(rt: &R, text: &[u8]) -> anyhow::Result<()> {
+pub(crate) fn print_merged<R: AllocGlobal + Print>(rt: &R, text: &[u8]) -> anyhow::Result<()> {
     let alloc = rt.alloc();
     let netlist = netlist_of(alloc, text)?;
     anyhow::ensure!(is_accepted(alloc, &netlist)?, "a stage that is refused");

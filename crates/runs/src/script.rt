@@ -113,7 +113,7 @@ fn carry_out_line<R: Threads + Sync + Files + AllocGlobal + Print>(
 /// writes is kept as a file of this name for those that follow.
 ///
 /// Fails where memory is refused, where nothing can be printed, or where a command writes more than a million bytes.
-pub fn carry_out<R: Threads + Sync + Files + AllocGlobal + Print>(
+pub(crate) fn carry_out<R: Threads + Sync + Files + AllocGlobal + Print>(
     rt: &R,
     folder: &str,
 ) -> anyhow::Result<()> {

@@ -29,7 +29,7 @@ const NODES: u32 = 100_000;
 
 /// Compiles a text of BLIF and merges the gates, checks the netlist that comes of it, compares it with the text, runs it at
 /// some delays on some words, and makes a dump of the run. Prints what is found.
-pub fn go_all_the_way<R: Threads + Sync + AllocGlobal + Print>(
+pub(crate) fn go_all_the_way<R: Threads + Sync + AllocGlobal + Print>(
     rt: &R,
     blif: &[u8],
     delays: &[u8],

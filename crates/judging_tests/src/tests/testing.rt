@@ -13,7 +13,7 @@ use std::alloc::Global;
 use std::marker::Model;
 
 /// The carry and the sum of three bits, by two gates each. An error is want of memory.
-pub fn full_adder(alloc: Global) -> Result<Stage, Memory>
+pub(crate) fn full_adder(alloc: Global) -> Result<Stage, Memory>
     ensures { IfOk result (λ stage. stage ≡ adder_stage) }
 {
     let inputs = vec![in alloc; pair(0, 1), pair(2, 3), pair(4, 5)]?;
@@ -32,7 +32,7 @@ pub fn full_adder(alloc: Global) -> Result<Stage, Memory>
 }
 
 /// A bit on two nets.
-pub fn pair(zero: u32, one: u32) -> Rails
+pub(crate) fn pair(zero: u32, one: u32) -> Rails
     ensures { result ≡ rails zero one }
 {
     Rails {
@@ -42,7 +42,7 @@ pub fn pair(zero: u32, one: u32) -> Rails
 }
 
 /// A gate cell: its number in the file, its gate, its input nets and its output net. Linear in the inputs.
-pub fn cell(number: u32, kind: Kind, ins: &[u32], out: u32) -> StageCell
+pub(crate) fn cell(number: u32, kind: Kind, ins: &[u32], out: u32) -> StageCell
     requires { length ins.now ≤ 4 }
     ensures { result ≡ gate number kind ins.now out }
 {
@@ -60,7 +60,7 @@ pub fn cell(number: u32, kind: Kind, ins: &[u32], out: u32) -> StageCell
 
 /// The space of truth tables, with the number of gates that were asked of it.
 #[derive(Drop)]
-pub struct Counting {
+pub(crate) struct Counting {
     space: Plain,
     applied: usize,
 }
@@ -75,7 +75,7 @@ impl Model for Counting {
 
 impl Counting {
     /// The space of words of this many bits, of which no gate has been asked. Takes no memory.
-    pub fn new(alloc: Global, width: usize) -> Counting
+    pub(crate) fn new(alloc: Global, width: usize) -> Counting
         requires some { 1 ≤ width }
         requires few { width ≤ 10 }
         ensures { (plain_space result).width ≡ width }
@@ -87,7 +87,7 @@ impl Counting {
     }
 
     /// How many gates were asked of the space. Takes no memory.
-    pub fn applied(&self) -> usize {
+    pub(crate) fn applied(&self) -> usize {
         self.applied
     }
 }

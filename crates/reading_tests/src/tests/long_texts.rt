@@ -4,7 +4,7 @@ use std::test::Fail;
 
 /// A part of a text.
 #[derive(Clone, Copy)]
-pub enum Part {
+pub(crate) enum Part {
     /// These characters.
     Text(&'static str),
     /// These, so many times.
@@ -43,7 +43,7 @@ fn push_part(alloc: Global, text: &mut String, part: Part) -> Result<(), Fail> {
 }
 
 /// The text of its parts.
-pub fn text_of(alloc: Global, parts: &[Part]) -> Result<String, Fail> {
+pub(crate) fn text_of(alloc: Global, parts: &[Part]) -> Result<String, Fail> {
     let mut text = String::new(alloc);
     for part in parts {
         push_part(alloc, &mut text, *part)?;

@@ -17,7 +17,11 @@ fn rewritten(rt: &impl Abort, alloc: Global, text: &str) -> Result<Vec<u8>, Fail
 }
 
 /// Each text is written as the one beside it, once it is read.
-pub fn are_rewritten(rt: &impl Abort, alloc: Global, rows: &[(&str, &str)]) -> Result<(), Fail> {
+pub(crate) fn are_rewritten(
+    rt: &impl Abort,
+    alloc: Global,
+    rows: &[(&str, &str)],
+) -> Result<(), Fail> {
     for row in rows {
         let (text, wanted) = *row;
         let written = rewritten(rt, alloc, text)?;

@@ -17,7 +17,7 @@ use ncl_stage::{
 };
 use std::alloc::Global;
 
-// For each output that some rail of it is high, and that both are.
+/// For each output that some rail of it is high, and that both are.
 #[derive(Drop)]
 struct OutputRefs {
     some: Vec<Ref>,
@@ -58,7 +58,7 @@ pub fn valid_rails<P: Space>(
     }
 }
 
-// All functions that are asked of the outputs under Base. What is made before a refusal stays.
+/// All functions that are asked of the outputs under Base. What is made before a refusal stays.
 fn output_refs<P: Space>(
     alloc: Global,
     space: &mut P,
@@ -89,7 +89,7 @@ fn output_refs<P: Space>(
     Ok(OutputRefs { some, both })
 }
 
-// The first fault of an output, of those that are made. Linear in the outputs.
+/// The first fault of an output, of those that are made. Linear in the outputs.
 fn first_fault<P: Space>(
     space: &P,
     stage: &Stage,

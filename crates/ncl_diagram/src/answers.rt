@@ -11,15 +11,15 @@ use ncl_gates::Kind;
 use ncl_space::Ref;
 use std::alloc::Global;
 
-// How many slots there are at first, and at most.
+/// How many slots there are at first, and at most.
 const FIRST_SLOTS: usize = 1 << 10;
 
 const MOST_SLOTS: usize = 1 << 14;
 
-// From how many nodes on that go at once all answers are forgotten.
+/// From how many nodes on that go at once all answers are forgotten.
 const MANY_NODES: usize = 1 << 13;
 
-// Whether the functions of an answer stand below a place.
+/// Whether the functions of an answer stand below a place.
 fn are_below(floor: u32, key: Key, found: Ref) -> bool
     ensures { result ≡ are_below floor (found.place ∷ places key) }
 {
@@ -115,7 +115,7 @@ impl Answers {
         }
     }
 
-    // Lowers the floor to where so many nodes end.
+    /// Lowers the floor to where so many nodes end.
     fn lower(&mut self, count: u32)
         ensures slots { self.new.slots.items ≡ self.old.slots.items }
         ensures lower { self.new.floor ≤ self.old.floor }
@@ -124,7 +124,7 @@ impl Answers {
         self.floor = self.floor.min(count.saturating_add(2));
     }
 
-    // Forgets all answers. The slots stay, where memory is had for them.
+    /// Forgets all answers. The slots stay, where memory is had for them.
     fn forget(&mut self)
         ensures { HasNone self.new }
     {

@@ -103,7 +103,7 @@ impl Diagram {
     }
 }
 
-// `apply_steps` with a count that nobody reads.
+/// `apply_steps` with a count that nobody reads.
 fn apply_uncounted<L: Ledger>(
     diagram: &mut Diagram,
     kind: Kind,

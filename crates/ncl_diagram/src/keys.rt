@@ -9,13 +9,13 @@ use ncl_space::SpaceFault;
 use std::alloc::Global;
 use std::marker::Model;
 
-// How many buckets there are at first.
+/// How many buckets there are at first.
 const FIRST_BUCKETS: usize = 1 << 8;
 
-// The most keys that one operation may meet. With their buckets and answers so many take some 170 MB.
+/// The most keys that one operation may meet. With their buckets and answers so many take some 170 MB.
 const MOST_KEYS: usize = 1 << 22;
 
-// The most keys of an operation whose room is kept for the next one.
+/// The most keys of an operation whose room is kept for the next one.
 pub(crate) const MOST_KEPT: usize = 1 << 16;
 
 /// A bucket: in the round of this number it has the index of a key, in each other it is free.
@@ -33,7 +33,7 @@ pub(crate) enum End {
     Nowhere,
 }
 
-// Walks over the buckets that are taken.
+/// Walks over the buckets that are taken.
 #[inline(always)]
 fn probe(keys: &[Key], buckets: &[Bucket], round: u32, key: Key, hash: u64) -> End
     requires within { AreWithin buckets.now round (length keys.now) }
@@ -60,7 +60,7 @@ fn probe(keys: &[Key], buckets: &[Bucket], round: u32, key: Key, hash: u64) -> E
     End::Nowhere
 }
 
-// So many buckets, with these keys in this round. Linear in both.
+/// So many buckets, with these keys in this round. Linear in both.
 #[inline(never)]
 fn filled(alloc: Global, keys: &[Key], round: u32, count: usize) -> Result<Vec<Bucket>, SpaceFault>
     requires round { 1 ≤ round }
@@ -85,7 +85,7 @@ fn filled(alloc: Global, keys: &[Key], round: u32, count: usize) -> Result<Vec<B
     Ok(buckets)
 }
 
-// Puts a key last, with its index in the free bucket where its walk ends. Past the most keys it answers `Memory`.
+/// Puts a key last, with its index in the free bucket where its walk ends. Past the most keys it answers `Memory`.
 fn put(
     keys: &mut Vec<Key>,
     buckets: &mut Vec<Bucket>,
@@ -179,7 +179,7 @@ impl Keys {
         }
     }
 
-    // Makes twice the buckets where half of them are taken.
+    /// Makes twice the buckets where half of them are taken.
     fn grow(&mut self) -> Result<(), SpaceFault>
         ensures same { self.new ≡ self.old }
         ensures never_full { result ≢ Err SpaceFault.Full }

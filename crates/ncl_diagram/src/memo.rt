@@ -17,7 +17,7 @@ pub(crate) struct Key {
     pub(crate) d: Ref,
 }
 
-// Two places in one number.
+/// Two places in one number.
 fn pair(x: Ref, y: Ref) -> u64
     ensures { result ≡ x.place * 2 ^ 32 + y.place }
 {

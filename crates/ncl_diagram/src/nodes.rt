@@ -14,7 +14,7 @@ use std::hash::{Hash, Hasher};
 use std::marker::Model;
 use std::sync::ledger::Ledger;
 
-// How many nodes have a place of 32 bits, since the constants have the first two.
+/// How many nodes have a place of 32 bits, since the constants have the first two.
 const MOST_NODE_REFS: usize = 4_294_967_294;
 
 /// A node: the bit that it reads, and where it goes on from a 0 and from a 1.

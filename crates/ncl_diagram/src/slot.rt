@@ -12,7 +12,7 @@ use std::marker::Model;
 /// How many places a slot can name: those of 24 bits.
 pub(crate) const MOST_PLACES: u32 = 1 << 24;
 
-// Where the answer begins in the second word.
+/// Where the answer begins in the second word.
 const FOUND_SHIFT: u32 = 38;
 
 /// The answer of an operation, seen as what it says, or as None where it says nothing.
@@ -41,7 +41,7 @@ impl Model for Slot {
     ghost inverse_ok = { λ s h i. record { first = h.0 i; second = h.1 i } };
 }
 
-// The number of a gate, from 1.
+/// The number of a gate, from 1.
 fn kind_number(kind: Kind) -> u64
     ensures number { result ≡ kind_number kind }
     ensures few { result < 2 ^ 6 }
@@ -49,7 +49,7 @@ fn kind_number(kind: Kind) -> u64
     kind as u64 + 1
 }
 
-// The first word of a key. The last shift drops the 8 higher bits of pin c.
+/// The first word of a key. The last shift drops the 8 higher bits of pin c.
 fn first_of(key: Key) -> u64
     ensures { are_below MOST_PLACES (places key) ≡ true → result ≡ first_of key }
 {
@@ -58,7 +58,7 @@ fn first_of(key: Key) -> u64
     top | middle | key.a.place as u64
 }
 
-// The second word of a key, with 0 for the answer.
+/// The second word of a key, with 0 for the answer.
 fn below_answer(kind: Kind, key: Key) -> u64
     ensures { are_below MOST_PLACES (places key) ≡ true → result ≡ below_answer kind key }
 {

@@ -17,7 +17,7 @@ use ncl_base::Word;
 use ncl_gates::Kind;
 use ncl_space::{Ref, Space, SpaceFault};
 
-// The words at which the first of two functions is 1 and the second isn't.
+/// The words at which the first of two functions is 1 and the second isn't.
 fn without_pair<P: Space>(space: &mut P, f: Pair, g: Pair) -> Result<Pair, SpaceFault>
     requires f { IsPair (P.meaning space.old) f }
     requires g { IsPair (P.meaning space.old) g }
@@ -64,7 +64,7 @@ pub(crate) fn told<P: Space>(space: &P, apart: Pair) -> BitAnswer
     }
 }
 
-// The least word at which a function is 1, if there is one. Takes no memory.
+/// The least word at which a function is 1, if there is one. Takes no memory.
 fn least_word<P: Space>(space: &P, function: Ref) -> Option<Word>
     requires { IsLive (P.meaning space.now) function }
     ensures { let s = P.meaning space.now in result ≡ least true s.width (s.table function) }

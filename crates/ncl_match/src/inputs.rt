@@ -44,7 +44,7 @@ pub(crate) fn input_pairs<P: Space>(
     Ok(())
 }
 
-// Whether one of two rails is marked. Takes no memory.
+/// Whether one of two rails is marked. Takes no memory.
 fn is_needed(marks: &[bool], rails: Rails) -> bool
     requires zero { rails.zero.0 < length marks.now }
     requires one { rails.one.0 < length marks.now }

@@ -32,7 +32,7 @@ pub(crate) fn joined(first: RunAnswer, second: RunAnswer) -> RunAnswer
     }
 }
 
-// The same where the first run has a difference.
+/// The same where the first run has a difference.
 fn with_difference(word: Word, output: u32, second: RunAnswer) -> RunAnswer
     ensures { (c : Circuit) (models : List Model) (limit low middle high : ℕ) → low ≤ middle → middle ≤ high → IsRunAnswer c models limit low middle (RunAnswer.Differ word output) → IsRunAnswer c models limit middle high second
         → IsRunAnswer c models limit low high result }

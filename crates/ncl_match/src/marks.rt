@@ -8,7 +8,7 @@ use ncl_base::Memory;
 use ncl_netlist::NetId;
 use std::alloc::Global;
 
-// Marks some nets. Linear in them.
+/// Marks some nets. Linear in them.
 fn mark(marks: &mut [bool], nets: &[NetId])
     requires { All (λ (x : NetId). x.0 < length marks.old) nets.now }
     ensures { (net : ℕ) → is_marked marks.new net ≡ (is_marked marks.old net || is_on nets.now net) }
@@ -18,7 +18,7 @@ fn mark(marks: &mut [bool], nets: &[NetId])
     }
 }
 
-// Marks what a root is reached from, where it alone is marked. Linear in the plan.
+/// Marks what a root is reached from, where it alone is marked. Linear in the plan.
 fn mark_reaching(marks: &mut [bool], plan: &[DataCell], root: NetId)
     requires ordered { IsOrdered plan.now (length marks.old) }
     requires fresh { marks.old ≡ replicate (length marks.old) false }

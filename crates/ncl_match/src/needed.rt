@@ -7,7 +7,7 @@ use crate::steps::Step;
 use ncl_base::Memory;
 use std::alloc::Global;
 
-// Marks some signals. Linear in them.
+/// Marks some signals. Linear in them.
 fn mark(marks: &mut [bool], numbers: &[u32])
     requires { All (λ (x : ℕ). x < length marks.old) numbers.now }
     ensures { (number : ℕ) → bit_at marks.new number ≡ (bit_at marks.old number || is_among numbers.now number) }
@@ -17,7 +17,7 @@ fn mark(marks: &mut [bool], numbers: &[u32])
     }
 }
 
-// Marks what a root depends on, where nothing is marked. Linear in the steps.
+/// Marks what a root depends on, where nothing is marked. Linear in the steps.
 fn mark_needed(marks: &mut [bool], inputs: usize, steps: &[Step], root: u32)
     requires ordered { AreOrdered inputs steps.now }
     requires many { length marks.old ≡ inputs + length steps.now }

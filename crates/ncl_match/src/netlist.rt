@@ -40,7 +40,7 @@ pub(crate) fn netlist_pair<P: Space>(
     filled_pair(space, planned, output, &marks, &mut pairs)
 }
 
-// The same with the marks of the nets, and a pair for each net, which is filled in for those that count.
+/// The same with the marks of the nets, and a pair for each net, which is filled in for those that count.
 fn filled_pair<P: Space>(
     space: &mut P,
     planned: &PlannedPipeline,

@@ -14,7 +14,7 @@ use arrayvec::ArrayVec;
 use ncl_netlist::NetId;
 use ncl_space::{Space, SpaceFault};
 
-// The pairs of some nets. Linear in them.
+/// The pairs of some nets. Linear in them.
 fn pins(pairs: &[Pair], nets: &[NetId]) -> ArrayVec<Pair, 4>
     requires few { length nets.now ≤ 4 }
     requires within { All (λ (x : NetId). x.0 < length pairs.now) nets.now }

@@ -31,7 +31,7 @@ impl Pair {
         }
     }
 
-    // The function, or the complement.
+    /// The function, or the complement.
     fn side(self, one: bool) -> Ref
         ensures { result ≡ side_of one self }
     {
@@ -39,7 +39,7 @@ impl Pair {
     }
 }
 
-// The functions of some pairs, or their complements. Linear in them.
+/// The functions of some pairs, or their complements. Linear in them.
 fn sides(pairs: &[Pair], one: bool) -> ArrayVec<Ref, 4>
     requires { length pairs.now ≤ 4 }
     ensures { result.items ≡ map (side_of one) pairs.now }
@@ -51,7 +51,7 @@ fn sides(pairs: &[Pair], one: bool) -> ArrayVec<Ref, 4>
     found
 }
 
-// Their complements as the pins of the dual of a gate.
+/// Their complements as the pins of the dual of a gate.
 fn dual_zeros(kind: Kind, pairs: &[Pair]) -> ArrayVec<Ref, 4>
     requires { length pairs.now ≡ arity_of kind }
     ensures { result.items ≡ dual_pins kind (map (λ (p : Pair). p.zero) pairs.now) }

@@ -88,7 +88,7 @@ pub(crate) fn plan(alloc: Global, pipeline: &Pipeline) -> Result<Vec<DataCell>, 
     Ok(made)
 }
 
-// The rails that a bank reads: the inputs of the pipeline, or the outputs of the stage before it. Takes no memory.
+/// The rails that a bank reads: the inputs of the pipeline, or the outputs of the stage before it. Takes no memory.
 fn rails_before<'a>(pipeline: &'a Pipeline, bank: usize) -> &'a [Rails]
     requires { bank ≤ length pipeline.now.stages }
     ensures { result.now ≡ before_at pipeline.now bank }
@@ -100,7 +100,7 @@ fn rails_before<'a>(pipeline: &'a Pipeline, bank: usize) -> &'a [Rails]
     stage.outputs.items()
 }
 
-// The register cells of a bank, from the rails that it reads and those that it drives. Linear in them.
+/// The register cells of a bank, from the rails that it reads and those that it drives. Linear in them.
 fn add_registers(made: &mut Vec<DataCell>, before: &[Rails], bits: &[Rails]) -> Result<(), Memory>
     requires { length before.now ≡ length bits.now }
     ensures { IfOk result (λ done. made.new.items ≡ made.old.items ++ register_cells before.now bits.now) }
@@ -114,7 +114,7 @@ fn add_registers(made: &mut Vec<DataCell>, before: &[Rails], bits: &[Rails]) -> 
     Ok(())
 }
 
-// The gate cells of a stage. Linear in them.
+/// The gate cells of a stage. Linear in them.
 fn add_gates(made: &mut Vec<DataCell>, cells: &[StageCell]) -> Result<(), Memory>
     ensures { IfOk result (λ done. made.new.items ≡ made.old.items ++ map gate_cell cells.now) }
 {
@@ -124,7 +124,7 @@ fn add_gates(made: &mut Vec<DataCell>, cells: &[StageCell]) -> Result<(), Memory
     Ok(())
 }
 
-// A register cell, which passes on from its A net. Takes no memory.
+/// A register cell, which passes on from its A net. Takes no memory.
 fn register_on(from: NetId, to: NetId) -> DataCell
     ensures { result ≡ register_cell from.0 to.0 }
 {
@@ -137,7 +137,7 @@ fn register_on(from: NetId, to: NetId) -> DataCell
     }
 }
 
-// A gate cell of a stage.
+/// A gate cell of a stage.
 fn gate_of(cell: &StageCell) -> Result<DataCell, Memory>
     ensures { IfOk result (λ made. made ≡ gate_cell cell.now) }
 {

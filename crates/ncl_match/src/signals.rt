@@ -25,7 +25,7 @@ use ncl_base::Memory;
 use ncl_space::{Space, SpaceFault};
 use std::alloc::Global;
 
-// The pairs of some signals. Linear in them.
+/// The pairs of some signals. Linear in them.
 fn pairs_of(alloc: Global, pairs: &[Pair], numbers: &[u32]) -> Result<Vec<Pair>, Memory>
     requires { All (λ (x : ℕ). x < length pairs.now) numbers.now }
     ensures { IfOk result (λ found. found.items ≡ map (pair_at pairs.now) numbers.now) }
@@ -37,7 +37,7 @@ fn pairs_of(alloc: Global, pairs: &[Pair], numbers: &[u32]) -> Result<Vec<Pair>,
     Ok(found)
 }
 
-// The pair of the signal of a step from those of the signals that it reads, or that of the constant 0 where it isn't marked.
+/// The pair of the signal of a step from those of the signals that it reads, or that of the constant 0 where it isn't marked.
 fn step_pair<P: Space>(
     alloc: Global,
     space: &mut P,
@@ -65,7 +65,7 @@ fn step_pair<P: Space>(
     cover_pair(space, &ins, step.cover)
 }
 
-// The pair of an input, or that of the constant 0 where it isn't marked.
+/// The pair of an input, or that of the constant 0 where it isn't marked.
 fn bit_pair<P: Space>(space: &mut P, bit: usize, is_marked: bool) -> Result<Pair, SpaceFault>
     requires { bit < (P.meaning space.old).width }
     ensures pair { IfOk result (IsPair (P.meaning space.new)) }
@@ -81,10 +81,10 @@ fn bit_pair<P: Space>(space: &mut P, bit: usize, is_marked: bool) -> Result<Pair
     rail_pair(space, bit)
 }
 
-// Makes the functions of the inputs that are marked. The constant 0 stands in place of the others.
-//
-// Linear in the inputs. `Full` comes exactly where the beads held with those of all these functions and their
-// complements are more than the limit. What is made before a refusal stays.
+/// Makes the functions of the inputs that are marked. The constant 0 stands in place of the others.
+///
+/// Linear in the inputs. `Full` comes exactly where the beads held with those of all these functions and their
+/// complements are more than the limit. What is made before a refusal stays.
 fn bit_pairs<P: Space>(
     alloc: Global,
     space: &mut P,
@@ -106,11 +106,11 @@ fn bit_pairs<P: Space>(
     Ok(pairs)
 }
 
-// Makes the functions of the signals that are marked, where those of the inputs are there. The constant 0 stands in place
-// of the others.
-//
-// Linear in the steps. `Full` comes exactly where the beads held with those of the rows of all covers whose signals are
-// marked are more than the limit. What is made before a refusal stays.
+/// Makes the functions of the signals that are marked, where those of the inputs are there. The constant 0 stands in place
+/// of the others.
+///
+/// Linear in the steps. `Full` comes exactly where the beads held with those of the rows of all covers whose signals are
+/// marked are more than the limit. What is made before a refusal stays.
 fn step_pairs<P: Space>(
     alloc: Global,
     space: &mut P,

@@ -45,7 +45,7 @@ impl<'a> std::marker::Model for OrderedModels<'a> {
     ghost invariant = { λ a. AreInRow a.models.now a.steps.items a.outputs.items };
 }
 
-// The numbers of the inputs of a model by their signals. `n log n` in the inputs.
+/// The numbers of the inputs of a model by their signals. `n log n` in the inputs.
 fn begin(alloc: Global, ins: &[u32]) -> Result<BTreeMap<u32, u32>, Memory>
     requires { length ins.now < 2 ^ 32 }
     ensures { IfOk result (λ numbers. (signal : ℕ) → get nat_cmp numbers signal
@@ -58,7 +58,7 @@ fn begin(alloc: Global, ins: &[u32]) -> Result<BTreeMap<u32, u32>, Memory>
     Ok(numbers)
 }
 
-// The numbers of some signals, in order. A look-up for each.
+/// The numbers of some signals, in order. A look-up for each.
 fn look_up(alloc: Global, numbers: &BTreeMap<u32, u32>, signals: &[u32]) -> Result<Vec<u32>, Memory>
     requires { All (λ signal. IsSome (get nat_cmp numbers.now signal)) signals.now }
     ensures { IfOk result (λ found. map Some found.items ≡ map (get nat_cmp numbers.now) signals.now) }
@@ -71,8 +71,8 @@ fn look_up(alloc: Global, numbers: &BTreeMap<u32, u32>, signals: &[u32]) -> Resu
     Ok(found)
 }
 
-// Puts the step of a cover after the others, where there are so many signals before the steps. A look-up for each
-// signal that it reads.
+/// Puts the step of a cover after the others, where there are so many signals before the steps. A look-up for each
+/// signal that it reads.
 fn add_step<'a>(
     alloc: Global,
     inputs: usize,
@@ -94,8 +94,8 @@ fn add_step<'a>(
     Ok(())
 }
 
-// Puts the steps of the covers of a model after the others, where its inputs have these numbers, and gives those of its
-// outputs. `n log n` in the model.
+/// Puts the steps of the covers of a model after the others, where its inputs have these numbers, and gives those of its
+/// outputs. `n log n` in the model.
 fn add_model<'a>(
     alloc: Global,
     inputs: usize,
@@ -120,7 +120,7 @@ fn add_model<'a>(
     Ok(outs)
 }
 
-// The numbers of the inputs of the first model. Linear in them.
+/// The numbers of the inputs of the first model. Linear in them.
 fn first_numbers(alloc: Global, inputs: usize) -> Result<Vec<u32>, Memory>
     requires { inputs < 2 ^ 32 }
     ensures { IfOk result (λ numbers. numbers.items ≡ range_with_len 0 inputs) }

@@ -66,7 +66,7 @@ pub fn orphan_word<P: Space>(
     Ok(least_one(space, base.order(), high))
 }
 
-// That the cell is high, and all outputs are DATA without it. What is made before a refusal stays.
+/// That the cell is high, and all outputs are DATA without it. What is made before a refusal stays.
 fn unobserved<P: Space>(
     alloc: Global,
     space: &mut P,

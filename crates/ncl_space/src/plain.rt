@@ -23,13 +23,13 @@ use ncl_gates::Kind;
 use std::alloc::Global;
 use std::marker::Model;
 
-// The function that is 0 everywhere.
+/// The function that is 0 everywhere.
 const ZERO: Ref = Ref { place: 0 };
 
-// The most chunks of 64 values that a table has.
+/// The most chunks of 64 values that a table has.
 const MOST_CHUNKS: usize = 16;
 
-// The chunks of one table.
+/// The chunks of one table.
 type Row = ArrayVec<u64, MOST_CHUNKS>;
 
 /// A space of functions of 1 to 10 bits that keeps the table of each, 64 values to a word. It has no
@@ -72,7 +72,7 @@ impl Plain {
         }
     }
 
-    // Word j of a table: bit k is its value at 64 * j + k, or 0 past its end.
+    /// Word j of a table: bit k is its value at 64 * j + k, or 0 past its end.
     fn word(&self, x: Ref, j: usize) -> u64
         requires live { IsLive (plain_space self.now) x }
         requires within { j < stride_of self.now.width }
@@ -86,7 +86,7 @@ impl Plain {
         }
     }
 
-    // The words of the function that is 1 where a bit has this value. Linear in them.
+    /// The words of the function that is 1 where a bit has this value. Linear in them.
     fn rail_row(&self, bit: usize, value: bool) -> Row
         requires { bit < self.now.width }
         ensures { let n = self.now.width in Holds n result.items (rail_table n bit value) }
@@ -101,7 +101,7 @@ impl Plain {
         row
     }
 
-    // The words of a gate's function. Linear in them.
+    /// The words of a gate's function. Linear in them.
     fn gate_row(&self, kind: Kind, ins: &[Ref]) -> Row
         requires arity { length ins.now ≡ arity_of kind }
         requires live { All (IsLive (plain_space self.now)) ins.now }
@@ -121,8 +121,8 @@ impl Plain {
         row
     }
 
-    // Keeps the table of these words, after the others. Linear in the words, but for room that has to
-    // grow.
+    /// Keeps the table of these words, after the others. Linear in the words, but for room that has to
+    /// grow.
     fn push_row(&mut self, row: &[u64]) -> Result<Ref, SpaceFault>
         requires { IsRow self.old.width row.now }
         ensures place { IfOk result (λ r. r.place ≡ length self.old.tables + 2) }
@@ -142,7 +142,7 @@ impl Plain {
         })
     }
 
-    // Word j of where a function has this value: bit k is 1 where it has it at 64 * j + k.
+    /// Word j of where a function has this value: bit k is 1 where it has it at 64 * j + k.
     fn places(&self, x: Ref, value: bool, j: usize) -> u64
         requires live { IsLive (plain_space self.now) x }
         requires within { j < stride_of self.now.width }
@@ -158,7 +158,7 @@ impl Plain {
         }
     }
 
-    // The first number at which a function has this value. Linear in the words of its table.
+    /// The first number at which a function has this value. Linear in the words of its table.
     fn first(&self, x: Ref, value: bool) -> Option<usize>
         requires { IsLive (plain_space self.now) x }
         ensures some { IfSome result (λ i. IsFirst ((plain_space self.now).table x) value i) }
@@ -173,7 +173,7 @@ impl Plain {
         None
     }
 
-    // Whether a function has this value at some word, and then `out` is the least of these words.
+    /// Whether a function has this value at some word, and then `out` is the least of these words.
     fn find_least(&self, x: Ref, value: bool, out: &mut Word) -> bool
         requires { IsLive (plain_space self.now) x }
         ensures word { let s = plain_space self.now in
@@ -190,14 +190,14 @@ impl Plain {
     }
 }
 
-// What stands at a pin, or 0 where the gate has no such pin.
+/// What stands at a pin, or 0 where the gate has no such pin.
 fn pin(ins: &[Ref], place: usize) -> Ref
     ensures { result ≡ slice_index_or ins.now place ZERO }
 {
     ins.get(place).copied().unwrap_or(ZERO)
 }
 
-// The word of a number, the first bit the most significant. Linear in the bits.
+/// The word of a number, the first bit the most significant. Linear in the bits.
 fn numbered_word(width: usize, number: usize) -> Word
     requires { width ≤ 10 }
     ensures { result ≡ word_of width number }

@@ -16,7 +16,7 @@ pub(crate) fn all_ones(width: usize) -> u64
     }
 }
 
-// The bits of the numbers below 64, a word for each of their six bits.
+/// The bits of the numbers below 64, a word for each of their six bits.
 const MASKS: [u64; 6] = [
     0xAAAA_AAAA_AAAA_AAAA,
     0xCCCC_CCCC_CCCC_CCCC,

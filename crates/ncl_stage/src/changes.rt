@@ -111,7 +111,7 @@ pub(crate) fn net_refs_from<P: Space>(
     Ok(changes.refs)
 }
 
-// Looks at the nets that wait, one after another, where none is known yet.
+/// Looks at the nets that wait, one after another, where none is known yet.
 fn follow<P: Space>(
     space: &mut P,
     stage: &Stage,
@@ -140,7 +140,7 @@ fn follow<P: Space>(
     Ok(())
 }
 
-// The places of the nets that the variant keeps low, or that of some net where it keeps fewer low. Takes no memory.
+/// The places of the nets that the variant keeps low, or that of some net where it keeps fewer low. Takes no memory.
 fn forced_places(stage: &Stage, wiring: &Wiring, variant: Variant) -> (usize, usize)
     requires { IsWiring stage.now wiring.now }
     ensures within { (result.0 < length wiring.now.nets) × (result.1 < length wiring.now.nets) }
@@ -167,7 +167,7 @@ fn forced_places(stage: &Stage, wiring: &Wiring, variant: Variant) -> (usize, us
     }
 }
 
-// The first marked place from one on. Linear in the places between.
+/// The first marked place from one on. Linear in the places between.
 fn next_waiting(marks: &[bool], from: usize) -> Option<usize>
     requires { from ≤ length marks.now }
     ensures { MatchOption result ((other : ℕ) → from ≤ other → other < length marks.now → slice_index_or marks.now other true ≡ false)
@@ -179,7 +179,7 @@ fn next_waiting(marks: &[bool], from: usize) -> Option<usize>
     }
 }
 
-// The first marked place. Linear in the places up to it.
+/// The first marked place. Linear in the places up to it.
 fn first_marked(marks: &[bool]) -> Option<usize>
     ensures { MatchOption result ((other : ℕ) → other < length marks.now → slice_index_or marks.now other true ≡ false)
         (λ place. (place < length marks.now) × ((other : ℕ) → other < place → slice_index_or marks.now other true ≡ false)) }
@@ -187,7 +187,7 @@ fn first_marked(marks: &[bool]) -> Option<usize>
     marks.iter().position(|mark| *mark)
 }
 
-// Marks some places, unless the net that they read has its function of Base. Linear in the places.
+/// Marks some places, unless the net that they read has its function of Base. Linear in the places.
 fn wait_unless(is_same: bool, marks: &mut [bool], readers: &[usize])
     requires { All (λ reader. reader < length marks.old) readers.now }
     ensures many { length marks.new ≡ length marks.old }
@@ -202,7 +202,7 @@ fn wait_unless(is_same: bool, marks: &mut [bool], readers: &[usize])
     }
 }
 
-// The function of the net at a place, from what is known of the nets before it. Linear in the pins of its cell.
+/// The function of the net at a place, from what is known of the nets before it. Linear in the pins of its cell.
 fn ref_from<P: Space>(
     space: &mut P,
     stage: &Stage,
@@ -234,7 +234,7 @@ fn ref_from<P: Space>(
     Ok(base.refs()[place])
 }
 
-// Whether the net at a place is the output of a cell that reads a net that has changed. Linear in its pins.
+/// Whether the net at a place is the output of a cell that reads a net that has changed. Linear in its pins.
 fn is_reached(stage: &Stage, wiring: &Wiring, place: usize, changed: &[bool]) -> bool
     requires wiring { IsWiring stage.now wiring.now }
     requires place { place < length (nets_of stage.now.inputs stage.now.cells) }
@@ -249,7 +249,7 @@ fn is_reached(stage: &Stage, wiring: &Wiring, place: usize, changed: &[bool]) ->
     is_marked(changed, wiring.pins(place - rails))
 }
 
-// Whether a mark stands at one of the places. Linear in the places.
+/// Whether a mark stands at one of the places. Linear in the places.
 fn is_marked(marks: &[bool], places: &[usize]) -> bool
     requires { All (λ place. place < length marks.now) places.now }
     ensures { result ≡ list_any (λ place. slice_index_or marks.now place true) places.now }

@@ -59,7 +59,7 @@ pub fn values_in<P: Space>(
     values_by(alloc, space, stage, Some(order), variant)
 }
 
-// The functions of all nets, in the order that is given, or else in the bit order of the stage.
+/// The functions of all nets, in the order that is given, or else in the bit order of the stage.
 fn values_by<P: Space>(
     alloc: Global,
     space: &mut P,
@@ -87,7 +87,7 @@ fn values_by<P: Space>(
     }
 }
 
-// The same, but what is made before a refusal stays.
+/// The same, but what is made before a refusal stays.
 fn make_values<P: Space>(
     alloc: Global,
     space: &mut P,
@@ -141,7 +141,7 @@ pub fn revalue<P: Space>(
     }
 }
 
-// The same, but what is made before a refusal stays.
+/// The same, but what is made before a refusal stays.
 fn make_values_from<P: Space>(
     alloc: Global,
     space: &mut P,

@@ -14,7 +14,7 @@ use ncl_shape::Stage;
 use std::alloc::Global;
 use std::marker::Model;
 
-// The place of a bit among some bits. Takes as long as a look-up in a table of hashes.
+/// The place of a bit among some bits. Takes as long as a look-up in a table of hashes.
 fn place_of(bits: &IndexSet<usize>, bit: usize) -> usize
     requires { Contains bits.now.keys bit }
     ensures place { result ≡ place_in bits.now.keys bit }

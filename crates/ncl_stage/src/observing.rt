@@ -43,7 +43,7 @@ pub fn all_observed<P: Space>(
     answer
 }
 
-// The same, but what is made stays.
+/// The same, but what is made stays.
 fn are_observed<P: Space>(
     alloc: Global,
     space: &mut P,
@@ -68,7 +68,7 @@ fn are_observed<P: Space>(
     Ok(true)
 }
 
-// For each of so many places whether a rail of an output stands there. Linear in the places and the outputs.
+/// For each of so many places whether a rail of an output stands there. Linear in the places and the outputs.
 fn output_marks(alloc: Global, wiring: &Wiring, count: usize) -> Result<Vec<bool>, Memory>
     requires { All (λ pair. (pair.0 < count) × (pair.1 < count)) wiring.now.outputs }
     ensures many { IfOk result (λ marks. length marks.items ≡ count) }
@@ -82,7 +82,7 @@ fn output_marks(alloc: Global, wiring: &Wiring, count: usize) -> Result<Vec<bool
     Ok(marks)
 }
 
-// For each net the function that is 1 where the net is low under Base. One function for each cell.
+/// For each net the function that is 1 where the net is low under Base. One function for each cell.
 fn low_refs<P: Space>(
     alloc: Global,
     space: &mut P,
@@ -103,8 +103,8 @@ fn low_refs<P: Space>(
     Ok(lows)
 }
 
-// The function of where the net at a place is low, from those of the nets before it: of a rail it is that of the other rail,
-// and of a gate that of its dual on where its inputs are low. Linear in the pins of its cell.
+/// The function of where the net at a place is low, from those of the nets before it: of a rail it is that of the other rail,
+/// and of a gate that of its dual on where its inputs are low. Linear in the pins of its cell.
 fn low_ref<P: Space>(
     space: &mut P,
     stage: &Stage,
@@ -131,7 +131,7 @@ fn low_ref<P: Space>(
     space.apply(kind.dual(), ins.as_slice())
 }
 
-// The place of the other rail of a bit: rail 0 stands before rail 1. Takes no memory.
+/// The place of the other rail of a bit: rail 0 stands before rail 1. Takes no memory.
 fn other_rail(place: usize) -> usize
     requires { place < usize.MAX }
     ensures { result ≡ (if nat_eq (place % 2) 1 then place - 1 else place + 1) }
@@ -139,7 +139,7 @@ fn other_rail(place: usize) -> usize
     if place % 2 == 1 { place - 1 } else { place + 1 }
 }
 
-// The Refs at the pins of a gate, as its dual takes them. Linear in the pins.
+/// The Refs at the pins of a gate, as its dual takes them. Linear in the pins.
 fn dual_ins(kind: Kind, refs: &[Ref], pins: &[usize]) -> ArrayVec<Ref, 4>
     requires arity { length pins.now ≡ arity_of kind }
     requires within { All (λ pin. pin < length refs.now) pins.now }
@@ -151,7 +151,7 @@ fn dual_ins(kind: Kind, refs: &[Ref], pins: &[usize]) -> ArrayVec<Ref, 4>
     refs_at(refs, pins)
 }
 
-// Whether a gate falls with the net at a place wherever the net is high. Two functions for each gate that reads the net.
+/// Whether a gate falls with the net at a place wherever the net is high. Two functions for each gate that reads the net.
 fn is_observed<P: Space>(
     space: &mut P,
     stage: &Stage,
@@ -178,8 +178,8 @@ fn is_observed<P: Space>(
     Ok(space.same(left, never))
 }
 
-// Where the net at a place is high and none of the gates so far falls with it, and nor does one more, which stands at a place
-// too. Two functions.
+/// Where the net at a place is high and none of the gates so far falls with it, and nor does one more, which stands at a place
+/// too. Two functions.
 fn left_by<P: Space>(
     space: &mut P,
     stage: &Stage,
@@ -209,7 +209,7 @@ fn left_by<P: Space>(
     space.apply(Kind::Th33w2, &[left, lows[reader], fallen])
 }
 
-// The function of a cell's set function with the net at a place low. One function.
+/// The function of a cell's set function with the net at a place low. One function.
 fn without<P: Space>(
     space: &mut P,
     stage: &Stage,
@@ -231,7 +231,7 @@ fn without<P: Space>(
     space.apply(stage.cells.items()[cell].kind, ins.as_slice())
 }
 
-// The Refs at some places, but for one place another. Linear in the places.
+/// The Refs at some places, but for one place another. Linear in the places.
 fn refs_without(refs: &[Ref], places: &[usize], place: usize, other: Ref) -> ArrayVec<Ref, 4>
     requires few { length places.now ≤ 4 }
     requires within { All (λ at. at < length refs.now) places.now }

@@ -99,7 +99,7 @@ pub fn data_fronts<P: Space>(
     Ok(made)
 }
 
-// The conjunction of a function, if there is one, with another.
+/// The conjunction of a function, if there is one, with another.
 fn conjoin<P: Space>(space: &mut P, front: Option<Ref>, next: Ref) -> Result<Ref, SpaceFault>
     requires front { ForSome front (IsLive (P.meaning space.old)) }
     requires next { IsLive (P.meaning space.old) next }

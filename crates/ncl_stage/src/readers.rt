@@ -23,7 +23,7 @@ impl Model for Readers {
 }
 
 impl Readers {
-    // No cell at so many nets. An error is want of memory. Linear in their count.
+    /// No cell at so many nets. An error is want of memory. Linear in their count.
     fn new(alloc: Global, nets: usize) -> Result<Readers, Memory>
         ensures { IfOk result (λ readers. readers ≡ replicate nets []) }
     {
@@ -34,7 +34,7 @@ impl Readers {
         Ok(Readers { lists })
     }
 
-    // One cell more that reads a net. An error is want of memory.
+    /// One cell more that reads a net. An error is want of memory.
     fn put(&mut self, net: usize, reader: usize) -> Result<(), Memory>
         requires { net < length self.old }
         ensures { OnOk result (self.new ≡ put_into self.old net reader) }
@@ -43,7 +43,7 @@ impl Readers {
         Ok(())
     }
 
-    // One cell more that reads some nets. An error is want of memory. Linear in them.
+    /// One cell more that reads some nets. An error is want of memory. Linear in them.
     fn put_at(&mut self, nets: &[usize], reader: usize) -> Result<(), Memory>
         requires { All (λ net. net < length self.old) nets.now }
         ensures grows { OnOk result ((count : ℕ) → reader < count → Grows count self.old self.new) }

@@ -73,7 +73,7 @@ impl Wiring {
         Wiring::of_parts(alloc, nets, pins, outputs, order)
     }
 
-    // The wiring of these parts. An error is want of memory. Linear in the nets and the pins.
+    /// The wiring of these parts. An error is want of memory. Linear in the nets and the pins.
     fn of_parts(
         alloc: Global,
         nets: IndexSet<u32>,
@@ -158,7 +158,7 @@ impl Wiring {
     }
 }
 
-// The nets of a stage in their order. Linear in the nets.
+/// The nets of a stage in their order. Linear in the nets.
 fn number_nets(alloc: Global, stage: &Stage) -> Result<IndexSet<u32>, Memory>
     ensures { IfOk result (λ nets. nets.keys ≡ nets_of stage.now.inputs stage.now.cells) }
 {
@@ -170,7 +170,7 @@ fn number_nets(alloc: Global, stage: &Stage) -> Result<IndexSet<u32>, Memory>
     Ok(nets)
 }
 
-// The rails of the inputs in their order. Linear in the inputs.
+/// The rails of the inputs in their order. Linear in the inputs.
 fn number_rails(alloc: Global, stage: &Stage) -> Result<IndexSet<u32>, Memory>
     ensures { IfOk result (λ nets. nets.keys ≡ rail_nets stage.now.inputs) }
 {
@@ -191,7 +191,7 @@ pub fn place_of(nets: &IndexSet<u32>, net: NetId) -> usize
     nets.get_index_of(&net.0).unwrap()
 }
 
-// The places of the inputs of a cell, in pin order. Linear in the pins.
+/// The places of the inputs of a cell, in pin order. Linear in the pins.
 fn places_of_pins(nets: &IndexSet<u32>, cell: &StageCell) -> ArrayVec<usize, 4>
     requires { All (λ (net : NetId). Contains nets.now.keys net.0) cell.now.ins.items }
     ensures { result.items ≡ pin_places nets.now.keys cell.now }
@@ -203,7 +203,7 @@ fn places_of_pins(nets: &IndexSet<u32>, cell: &StageCell) -> ArrayVec<usize, 4>
     places
 }
 
-// The places of the inputs of each cell. Linear in the pins of the cells.
+/// The places of the inputs of each cell. Linear in the pins of the cells.
 fn places_of_cells(
     alloc: Global,
     nets: &IndexSet<u32>,
@@ -220,7 +220,7 @@ fn places_of_cells(
     Ok(places)
 }
 
-// The places of the rails of each output. Linear in the outputs.
+/// The places of the rails of each output. Linear in the outputs.
 fn places_of_outputs(
     alloc: Global,
     nets: &IndexSet<u32>,

@@ -15,7 +15,7 @@ use ncl_space::{Mark, Space, SpaceFault};
 use ncl_stage::Variant;
 use std::alloc::Global;
 
-// How many nodes of variants may stay, where Base has no more than so many.
+/// How many nodes of variants may stay, where Base has no more than so many.
 const NODES_THAT_STAY: u32 = 1 << 13;
 
 const SMALL_BASE: u32 = 1 << 12;
@@ -52,7 +52,7 @@ pub(crate) fn asked_word<P: Space>(
     }
 }
 
-// The same over all that the space holds. What is made stays.
+/// The same over all that the space holds. What is made stays.
 fn word_over<P: Space>(
     alloc: Global,
     space: &mut P,
@@ -75,7 +75,7 @@ fn word_over<P: Space>(
     }
 }
 
-// Goes back to Base where much was made since, or where Base itself is large. Takes no memory.
+/// Goes back to Base where much was made since, or where Base itself is large. Takes no memory.
 fn make_room<P: Space>(space: &mut P, start: Mark)
     requires { IsTrue ((P.meaning space.old).stands start) }
     ensures { (limit : Option ℕ) (asked : AskedData) → asked.start ≡ start → IsAsked (P.meaning space.old) limit asked → IsAsked (P.meaning space.new) limit asked }

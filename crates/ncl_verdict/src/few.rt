@@ -8,7 +8,7 @@ use crate::supports::{reaches, supports};
 use ncl_base::Memory;
 use std::alloc::Global;
 
-// How many functions of three bits and less there are that have a node of their own, at most.
+/// How many functions of three bits and less there are that have a node of their own, at most.
 const SMALL_FUNCTIONS: u64 = 276;
 
 /// Whether no variant of a stage has more nodes than the limit, as far as tell the bits on which its nets depend. A function that
@@ -36,7 +36,7 @@ pub(crate) fn are_few(alloc: Global, ready: &Ready) -> Result<bool, Memory>
     Ok(are_within(ready.space.nodes(), nets, most, ready.limit))
 }
 
-// Whether so many nodes, those of the small functions and two weights together are within a limit, where both weights are known.
+/// Whether so many nodes, those of the small functions and two weights together are within a limit, where both weights are known.
 fn are_within(nodes: u32, nets: u64, most: u64, limit: u32) -> bool
     ensures { result ≡ true → (nets < 2 ^ 64 - 1) × (most < 2 ^ 64 - 1) × (nodes + 276 + nets + most ≤ limit) }
 {
@@ -44,7 +44,7 @@ fn are_within(nodes: u32, nets: u64, most: u64, limit: u32) -> bool
     small.saturating_add(nets).saturating_add(most) <= limit as u64
 }
 
-// How many nodes that decide at least four bits a function has at most that depends on the bits of a mask. Takes no memory.
+/// How many nodes that decide at least four bits a function has at most that depends on the bits of a mask. Takes no memory.
 fn weight(mask: u128) -> u64
     ensures { Covers (weight_of mask) result }
 {
@@ -56,7 +56,7 @@ fn weight(mask: u128) -> u64
     }
 }
 
-// The weights of some masks together. Linear in the masks.
+/// The weights of some masks together. Linear in the masks.
 fn net_weights(masks: &[u128]) -> u64
     ensures { Covers (sum_by weight_of masks.now) result }
 {
@@ -67,7 +67,7 @@ fn net_weights(masks: &[u128]) -> u64
     sum
 }
 
-// The most that the variants weigh which keep a bit or a cell low. For each place linear in the outputs.
+/// The most that the variants weigh which keep a bit or a cell low. For each place linear in the outputs.
 fn most_lost(masks: &[u128], outputs: &[(usize, usize)], reaches: &[u128], bits: usize) -> u64
     requires outputs { All (λ pair. (pair.0 < length masks.now) × (pair.1 < length masks.now)) outputs.now }
     requires bits { 2 * bits ≤ length reaches.now }
@@ -83,7 +83,7 @@ fn most_lost(masks: &[u128], outputs: &[(usize, usize)], reaches: &[u128], bits:
     most
 }
 
-// The greater of two numbers.
+/// The greater of two numbers.
 fn greater(first: u64, second: u64) -> u64
     ensures first { first ≤ result }
     ensures second { second ≤ result }
@@ -91,7 +91,7 @@ fn greater(first: u64, second: u64) -> u64
     if first < second { second } else { first }
 }
 
-// What the variant reaches that keeps the net at a place low, and with a rail the other of its bit. Takes no memory.
+/// What the variant reaches that keeps the net at a place low, and with a rail the other of its bit. Takes no memory.
 fn lost(reaches: &[u128], bits: usize, place: usize) -> u128
     requires bits { 2 * bits ≤ length reaches.now }
     requires place { place < length reaches.now }
@@ -104,8 +104,8 @@ fn lost(reaches: &[u128], bits: usize, place: usize) -> u128
     reaches[place]
 }
 
-// What the DATA of outputs, their conjunctions and a question weigh where a variant changes what depends on the bits of a mask.
-// Linear in the outputs.
+/// What the DATA of outputs, their conjunctions and a question weigh where a variant changes what depends on the bits of a mask.
+/// Linear in the outputs.
 fn lost_weight(masks: &[u128], outputs: &[(usize, usize)], lost: u128) -> u64
     requires { All (λ pair. (pair.0 < length masks.now) × (pair.1 < length masks.now)) outputs.now }
     ensures { Covers (weight_lost masks.now outputs.now lost) result }

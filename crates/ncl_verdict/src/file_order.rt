@@ -20,7 +20,7 @@ pub(crate) fn cells_in_file_order(alloc: Global, stage: &Stage) -> Result<Vec<(u
     Ok(cells)
 }
 
-// The cells of a stage in its own order, each by its number and its place. Linear in the cells.
+/// The cells of a stage in its own order, each by its number and its place. Linear in the cells.
 fn numbered_cells(alloc: Global, stage: &Stage) -> Result<Vec<(u32, usize)>, Memory>
     ensures { IfOk result (λ cells. cells.items ≡ map (λ place. (file_number stage.now place, place)) (below (length stage.now.cells))) }
 {

@@ -83,7 +83,7 @@ pub(crate) fn after_base<P: Space>(
     first_said(alloc, space, &asked, variants.as_slice())
 }
 
-// What is said under Base, once the functions of the nets are made.
+/// What is said under Base, once the functions of the nets are made.
 fn at_outputs<P: Space>(
     alloc: Global,
     space: &mut P,
@@ -105,7 +105,7 @@ fn at_outputs<P: Space>(
     }
 }
 
-// The verdict of a fault of an output.
+/// The verdict of a fault of an output.
 fn told(stage: &Stage, fault: RailFault) -> Verdict
     requires { output_of fault < length stage.now.outputs }
     ensures { result ≡ rail_verdict stage.now fault }

@@ -63,7 +63,7 @@ pub fn judge_stage_par<R: Threads + Sync>(
     }
 }
 
-// What is said of a stage that is not sound, or has too many nodes.
+/// What is said of a stage that is not sound, or has too many nodes.
 fn refusal(alloc: Global, stage: &Stage, limit: u32) -> Result<Option<Verdict>, Memory>
     requires { 1 ≤ limit }
     ensures { IfOk result (λ answer. answer ≡ of_stage (stopped_at limit) stage.now) }
@@ -74,7 +74,7 @@ fn refusal(alloc: Global, stage: &Stage, limit: u32) -> Result<Option<Verdict>, 
     }
 }
 
-// The same, by at most so many threads.
+/// The same, by at most so many threads.
 fn refusal_par<R: Threads + Sync>(
     rt: &R,
     alloc: Global,
@@ -97,7 +97,7 @@ fn refusal_par<R: Threads + Sync>(
     }
 }
 
-// What is said of a stage where no variant after Base has to be asked for it; else the stage that is ready for that.
+/// What is said of a stage where no variant after Base has to be asked for it; else the stage that is ready for that.
 fn begun<'a>(
     alloc: Global,
     stage: &'a Stage,

@@ -102,7 +102,7 @@ fn together(first: Part, second: Part) -> Part
     Part { silent, said }
 }
 
-// Marks the places too that others mark. Linear in these.
+/// Marks the places too that others mark. Linear in these.
 fn mark_also(marks: &mut Vec<bool>, others: &[bool])
     ensures { (place : ℕ) → get_or marks.new.items place false ≡ true → (get_or marks.old.items place false ≡ true) ⊎ (get_or others.now place false ≡ true) }
 {
@@ -113,7 +113,7 @@ fn mark_also(marks: &mut Vec<bool>, others: &[bool])
     }
 }
 
-// What is said at the lesser of two places.
+/// What is said at the lesser of two places.
 fn earlier(
     first: Option<(usize, Verdict)>,
     second: Option<(usize, Verdict)>,
@@ -133,7 +133,7 @@ fn earlier(
     }
 }
 
-// What was heard of so many variants, where all before the one at which something is said were asked, or all. Linear in them.
+/// What was heard of so many variants, where all before the one at which something is said were asked, or all. Linear in them.
 fn settled(part: Part, count: usize) -> Heard
     ensures { (shared : SharedData) → length shared.variants ≡ count → IsPart shared part → IsHeard shared result }
 {
@@ -157,7 +157,7 @@ fn settled(part: Part, count: usize) -> Heard
     }
 }
 
-// How many places are marked before the first that isn't.
+/// How many places are marked before the first that isn't.
 fn marked_first(marks: &[bool]) -> usize
     ensures { (place : ℕ) → place < result → get_or marks.now place false ≡ true }
 {

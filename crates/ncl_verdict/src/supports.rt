@@ -30,7 +30,7 @@ pub(crate) fn supports(alloc: Global, stage: &Stage, base: &Values) -> Result<Ve
     Ok(masks)
 }
 
-// The bits on which the net at a place can depend, from those of the nets before it. Linear in the pins of its cell.
+/// The bits on which the net at a place can depend, from those of the nets before it. Linear in the pins of its cell.
 fn support(stage: &Stage, base: &Values, place: usize, masks: &[u128]) -> u128
     requires wiring { IsWiring stage.now base.now.wiring }
     requires place { place < length (nets_of stage.now.inputs stage.now.cells) }
@@ -45,7 +45,7 @@ fn support(stage: &Stage, base: &Values, place: usize, masks: &[u128]) -> u128
     all_of(masks, base.wiring().pins(place - rails))
 }
 
-// The bit of an input bit, unless that stands at one of the last three places. Takes no memory.
+/// The bit of an input bit, unless that stands at one of the last three places. Takes no memory.
 fn rail_mask(order: &BitOrder, bit: usize) -> u128
     requires bit { bit < length order.now }
     requires few { length order.now ≤ 128 }
@@ -59,7 +59,7 @@ fn rail_mask(order: &BitOrder, bit: usize) -> u128
     }
 }
 
-// The masks at some places together. Linear in the places.
+/// The masks at some places together. Linear in the places.
 fn all_of(masks: &[u128], places: &[usize]) -> u128
     requires { All (λ place. place < length masks.now) places.now }
     ensures { All (λ place. IsPart (mask_at masks.now place) result) places.now }
@@ -100,7 +100,7 @@ pub(crate) fn reaches(
     Ok(reaches)
 }
 
-// A copy of some masks. Linear in them.
+/// A copy of some masks. Linear in them.
 fn copied(alloc: Global, masks: &[u128]) -> Result<Vec<u128>, Memory>
     ensures { IfOk result (λ copy. copy.items ≡ masks.now) }
 {
@@ -108,7 +108,7 @@ fn copied(alloc: Global, masks: &[u128]) -> Result<Vec<u128>, Memory>
     Ok(copy)
 }
 
-// The masks that the nets reach, where at first each net has its own. Linear in the outputs and the pins.
+/// The masks that the nets reach, where at first each net has its own. Linear in the outputs and the pins.
 fn spread(reaches: &mut [u128], masks: &[u128], wiring: &Wiring, bits: usize, cells: usize)
     requires own { reaches.old ≡ masks.now }
     requires cells { cells ≡ length wiring.now.pins }
@@ -126,7 +126,7 @@ fn spread(reaches: &mut [u128], masks: &[u128], wiring: &Wiring, bits: usize, ce
     }
 }
 
-// Adds to the rails of each output what both depend on. Linear in the outputs.
+/// Adds to the rails of each output what both depend on. Linear in the outputs.
 fn add_outputs(reaches: &mut [u128], masks: &[u128], outputs: &[(usize, usize)])
     requires own { reaches.old ≡ masks.now }
     requires outputs { All (λ pair. (pair.0 < length masks.now) × (pair.1 < length masks.now)) outputs.now }
@@ -140,7 +140,7 @@ fn add_outputs(reaches: &mut [u128], masks: &[u128], outputs: &[(usize, usize)])
     }
 }
 
-// Adds the bits of a mask to those at some places. Linear in the places.
+/// Adds the bits of a mask to those at some places. Linear in the places.
 fn add_at(masks: &mut [u128], places: &[usize], mask: u128)
     requires { All (λ place. place < length masks.old) places.now }
     ensures grown { (place : ℕ) → IsPart (mask_at masks.old place) (mask_at masks.new place) }

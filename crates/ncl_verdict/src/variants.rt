@@ -30,7 +30,7 @@ pub fn variants_after_base(alloc: Global, stage: &Stage) -> Result<Vec<Variant>,
     Ok(variants)
 }
 
-// Puts so many input bits after some variants.
+/// Puts so many input bits after some variants.
 fn push_bits(variants: &mut Vec<Variant>, bits: usize) -> Result<(), Memory>
     ensures { OnOk result (variants.new.items ≡ variants.old.items ++ map Variant.Bit (below bits)) }
 {
@@ -40,7 +40,7 @@ fn push_bits(variants: &mut Vec<Variant>, bits: usize) -> Result<(), Memory>
     Ok(())
 }
 
-// Puts cells, told by number and place, after some variants.
+/// Puts cells, told by number and place, after some variants.
 fn push_cells(variants: &mut Vec<Variant>, cells: &[(u32, usize)]) -> Result<(), Memory>
     ensures { OnOk result (variants.new.items ≡ variants.old.items ++ map (λ cell. Variant.Cell cell.1) cells.now) }
 {
@@ -94,7 +94,7 @@ pub(crate) fn said_at<P: Space>(
     }
 }
 
-// What a word says that shows the fault of a variant after Base.
+/// What a word says that shows the fault of a variant after Base.
 fn told(stage: &Stage, variant: Variant, word: Word) -> Option<Verdict>
     requires { IsAfterBase stage.now variant }
     ensures { (fault : StageFault) → faults_of stage.now variant ≡ fault ∷ [] → result ≡ Some (verdict_of stage.now fault word) }
@@ -127,7 +127,7 @@ pub(crate) fn stopped(stage: &Stage, fault: SpaceFault) -> Result<Option<Verdict
     }
 }
 
-// The cell at a place of a stage, by its number.
+/// The cell at a place of a stage, by its number.
 fn cell_at(stage: &Stage, place: usize) -> CellId
     requires { place < length stage.now.cells }
     ensures { result ≡ cell_number (slice_get stage.now.cells place) }

@@ -167,7 +167,7 @@ fn two_stages_are_judged_at_one_time(rt: HostRuntime) -> Result<(), Fail> {
     Ok(())
 }
 
-// Four threads have two stages each. What comes after a stage that is known to be refused isn't begun.
+/// Four threads have two stages each. What comes after a stage that is known to be refused isn't begun.
 #[test]
 fn stages_after_a_refused_one_are_not_begun(rt: HostRuntime) -> Result<(), Fail> {
     let mut source = source_of(rt.alloc(), FIRST_IS_WRONG)?;
@@ -179,7 +179,7 @@ fn stages_after_a_refused_one_are_not_begun(rt: HostRuntime) -> Result<(), Fail>
     Ok(())
 }
 
-// Two stages share four threads, and are judged once each.
+/// Two stages share four threads, and are judged once each.
 #[test]
 fn stages_share_the_threads(rt: HostRuntime) -> Result<(), Fail> {
     let mut source = source_of(rt.alloc(), THREE_BANKS)?;
@@ -192,7 +192,7 @@ fn stages_share_the_threads(rt: HostRuntime) -> Result<(), Fail> {
     Ok(())
 }
 
-// Asked variant by variant, 100,000 gates would take minutes, and a test may take one.
+/// Asked variant by variant, 100,000 gates would take minutes, and a test may take one.
 #[test]
 fn a_long_stage_is_judged_without_its_variants(rt: HostRuntime) -> Result<(), Fail> {
     let files = held(rt.alloc(), long_stage(rt.alloc(), 50_000)?)?;

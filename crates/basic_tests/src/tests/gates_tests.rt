@@ -1,8 +1,8 @@
 //! Tests against tables that were written apart from the code.
 use ncl_gates::{CellKind, Kind};
 
-// Each gate with its name, its arity and its set function at the words of PINS, worked out from the sum of products
-// that docs/formats.md has for it.
+/// Each gate with its name, its arity and its set function at the words of PINS, worked out from the sum of products
+/// that docs/formats.md has for it.
 static GATES: [(Kind, &[u8], usize, &[u8]); 27] = [
     // A+B
     (Kind::Th12, b"TH12", 2, b"0111011101110111"),
@@ -60,7 +60,7 @@ static GATES: [(Kind, &[u8], usize, &[u8]); 27] = [
     (Kind::Th24comp, b"TH24comp", 4, b"0000011101110111"),
 ];
 
-// The values of four pins.
+/// The values of four pins.
 const O: bool = false;
 
 const I: bool = true;
@@ -84,13 +84,13 @@ static PINS: [[bool; 4]; 16] = [
     [I, I, I, I],
 ];
 
-// The set function of a gate at the inputs that it has of these, and its next value from 0 and from 1.
+/// The set function of a gate at the inputs that it has of these, and its next value from 0 and from 1.
 fn answers(kind: Kind, pins: &[bool; 4]) -> [bool; 3] {
     let ins = &pins[..kind.arity()];
     [kind.set(ins), kind.next(ins, false), kind.next(ins, true)]
 }
 
-// Whether a gate has the values that a row tells, at each word of the pins.
+/// Whether a gate has the values that a row tells, at each word of the pins.
 fn has_values(kind: Kind, arity: usize, values: &[u8]) -> bool {
     for (pins, value) in PINS.iter().zip(values) {
         let set = *value == b'1';
@@ -110,7 +110,7 @@ fn gates_are_those_of_the_table(rt: HostRuntime) {
     }
 }
 
-// The next values from 0 and from 1 of the two register cells and of an acknowledge cell.
+/// The next values from 0 and from 1 of the two register cells and of an acknowledge cell.
 fn others(a: bool, b: bool, reset: bool) -> [bool; 6] {
     [
         CellKind::Register.next(&[a, b, reset], false),
@@ -122,8 +122,8 @@ fn others(a: bool, b: bool, reset: bool) -> [bool; 6] {
     ]
 }
 
-// A register cell rises where its first two inputs are 1, and falls where both are 0, whatever the reset. An acknowledge
-// cell is 1 where both are 0.
+/// A register cell rises where its first two inputs are 1, and falls where both are 0, whatever the reset. An acknowledge
+/// cell is 1 where both are 0.
 #[test]
 fn other_cells_follow_two_inputs(rt: HostRuntime) {
     for &[a, b, reset, _] in &PINS {

@@ -38,7 +38,7 @@ fn gates_for(alloc: Global, stage: &Stage, variant: Variant) -> Result<Option<us
     }
 }
 
-// All four gates of the adder read each bit. Then come a DATA table for each output, and the conjunction.
+/// All four gates of the adder read each bit. Then come a DATA table for each output, and the conjunction.
 #[test]
 fn bits_by_few_gates(rt: HostRuntime) -> Result<(), Fail> {
     let adder = full_adder(rt.alloc())?;
@@ -49,8 +49,8 @@ fn bits_by_few_gates(rt: HostRuntime) -> Result<(), Fail> {
     Ok(())
 }
 
-// Each carry of the adder is read by one sum, and no other gate is read. Then come a DATA table for each
-// output, the conjunction, and the conjunction with the cell.
+/// Each carry of the adder is read by one sum, and no other gate is read. Then come a DATA table for each
+/// output, the conjunction, and the conjunction with the cell.
 #[test]
 fn cells_by_few_gates(rt: HostRuntime) -> Result<(), Fail> {
     let adder = full_adder(rt.alloc())?;
@@ -74,7 +74,7 @@ fn gates_to_observe(alloc: Global, stage: &Stage) -> Result<Option<usize>, Space
     Ok(Some(space.applied().saturating_sub(before)))
 }
 
-// One gate for each of four cells, and two for each of the twelve pins that read a net which no output shows.
+/// One gate for each of four cells, and two for each of the twelve pins that read a net which no output shows.
 #[test]
 fn an_adder_observed_by_few_gates(rt: HostRuntime) -> Result<(), Fail> {
     let adder = full_adder(rt.alloc())?;

@@ -23,7 +23,7 @@ fn gates_for(alloc: Global, stage: &Stage, variant: Variant) -> Result<usize, Sp
     Ok(space.applied().saturating_sub(before))
 }
 
-// All four gates of the adder read each bit, and each carry is read by one sum.
+/// All four gates of the adder read each bit, and each carry is read by one sum.
 #[test]
 fn variants_of_a_full_adder(rt: HostRuntime) -> Result<(), Fail> {
     let stage = full_adder(rt.alloc())?;
@@ -54,7 +54,7 @@ fn numbered(alloc: Global, count: u32) -> Result<IndexSet<u32>, Memory>
     Ok(nets)
 }
 
-// By a pass over the nets these look-ups would take minutes.
+/// By a pass over the nets these look-ups would take minutes.
 #[test]
 fn places_of_a_million_nets(rt: HostRuntime) -> Result<(), Fail> {
     let nets = numbered(rt.alloc(), 1_000_000)?;

@@ -161,7 +161,7 @@ impl CompareBit for Counting {
     }
 }
 
-// Each output is compared once, and no more of them at one time than there are parts.
+/// Each output is compared once, and no more of them at one time than there are parts.
 #[test]
 fn outputs_are_compared_once_by_so_many_threads(rt: HostRuntime) -> Result<(), Fail> {
     for parts in 1..=2 {

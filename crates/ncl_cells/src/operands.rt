@@ -1,5 +1,6 @@
 //! What is there already of some leaves: these, and small nodes that are functions of them.
 use crate::cut::{Cut, EMPTY, NONE, code_of, with};
+use crate::tabled::spread;
 use crate::trying::{Reached, Trying};
 use ncl_base::Memory;
 use ncl_decomp::table::input;
@@ -9,10 +10,10 @@ use std::alloc::Global;
 /// The most operands that are looked at for a node.
 const MOST_OPERANDS: usize = 28;
 
-/// Four leaves: the numbers of their sources, whether they are inverted, and how late they come.
+/// Four leaves: their sources, whether they are inverted, and how late they come.
 #[derive(Clone, Copy, Debug)]
 pub(crate) struct Ground {
-    pub codes: [u32; 4],
+    pub sources: Cut,
     pub inverted: [bool; 4],
     levels: [u32; 4],
 }
@@ -38,7 +39,7 @@ impl Ground {
     /// Of leaves in a network of so many inputs, if all are there and no two of one source.
     pub(crate) fn of(inputs: u32, reached: [Reached; 4]) -> Option<Ground> {
         let mut ground = Ground {
-            codes: [NONE; 4],
+            sources: EMPTY,
             inverted: [false; 4],
             levels: [0; 4],
         };
@@ -48,7 +49,7 @@ impl Ground {
             if ground.leaf_of(code).is_some() {
                 return None;
             }
-            ground.codes[k % 4] = code;
+            ground.sources.codes[k % 4] = code;
             ground.inverted[k % 4] = signal.inverted;
             ground.levels[k % 4] = one.level;
         }
@@ -57,13 +58,13 @@ impl Ground {
 
     /// The leaf that is of the source with this number, if one is.
     pub(crate) fn leaf_of(&self, code: u32) -> Option<usize> {
-        Cut { codes: self.codes }.place_of(code)
+        self.sources.place_of(code)
     }
 
     /// The sources of some leaves, the bits of a number, if they are there and at least two.
     fn cut(&self, some: u32) -> Option<Cut> {
         let mut cut = EMPTY;
-        for (k, code) in self.codes.iter().enumerate() {
+        for (k, code) in self.sources.codes.iter().enumerate() {
             if (some >> (k % 4)) & 1 == 1 {
                 if *code == NONE {
                     return None;
@@ -77,34 +78,15 @@ impl Ground {
         Some(cut)
     }
 
-    /// The word of the sources of a cut, where the leaves have this word.
-    fn word_of(&self, cut: Cut, word: u32) -> u32 {
-        let mut found = 0u32;
-        for (i, code) in cut.codes.iter().enumerate() {
-            if let Some(k) = self.leaf_of(*code)
-                && ((word >> (k % 4)) & 1 == 1) != self.inverted[k % 4]
-            {
-                found |= 1u32 << (i % 4);
-            }
-        }
-        found
-    }
-
     /// A function of the sources of a cut as one of the leaves.
     fn table(&self, cut: Cut, table: u16) -> u16 {
-        let mut found = 0u16;
-        for word in 0..16u32 {
-            if (table >> (self.word_of(cut, word) % 16)) & 1 == 1 {
-                found |= 1u16 << word;
-            }
-        }
-        found
+        spread(table, cut, self.sources, self.inverted)
     }
 
     /// The leaves as operands.
     fn leaves(&self, alloc: Global) -> Result<Vec<Operand>, Memory> {
         let mut found = Vec::new(alloc);
-        for (k, code) in self.codes.iter().enumerate() {
+        for (k, code) in self.sources.codes.iter().enumerate() {
             if *code != NONE {
                 found.push(Operand {
                     from: OperandSource::Leaf(k),

@@ -31,12 +31,12 @@ pub(crate) struct Tables {
     last: HashMap<[u32; 4], u32>,
 }
 
-/// The word of the sources of a cut, where those of a larger one have this word.
-fn word_within(cut: Cut, larger: Cut, word: u32) -> u32 {
+/// The word of the sources of a cut, where those of a larger one, some of them inverted, have this word.
+fn word_within(cut: Cut, larger: Cut, inverted: [bool; 4], word: u32) -> u32 {
     let mut found = 0u32;
     for (k, code) in cut.codes.iter().enumerate() {
         if let Some(place) = larger.place_of(*code)
-            && (word >> (place % 4)) & 1 == 1
+            && ((word >> (place % 4)) & 1 == 1) != inverted[place % 4]
         {
             found |= 1u32 << (k % 4);
         }
@@ -44,11 +44,11 @@ fn word_within(cut: Cut, larger: Cut, word: u32) -> u32 {
     found
 }
 
-/// A function of the sources of a cut as one of those of a larger one.
-fn spread(table: u16, cut: Cut, larger: Cut) -> u16 {
+/// A function of the sources of a cut as one of those of a larger one, some of them inverted.
+pub(crate) fn spread(table: u16, cut: Cut, larger: Cut, inverted: [bool; 4]) -> u16 {
     let mut found = 0u16;
     for word in 0..16u32 {
-        if (table >> (word_within(cut, larger, word) % 16)) & 1 == 1 {
+        if (table >> (word_within(cut, larger, inverted, word) % 16)) & 1 == 1 {
             found |= 1u16 << word;
         }
     }
@@ -83,7 +83,7 @@ impl Tables {
         let tables = self.tables.get(place)?;
         for (other, table) in own.cuts.iter().take(own.count).zip(tables) {
             if has_all(cut, *other) {
-                return Some(spread(*table, *other, cut));
+                return Some(spread(*table, *other, cut, [false; 4]));
             }
         }
         None

@@ -1,17 +1,7 @@
 -- Lists as they grow at their end, maps with gaps, and how long lists are.
-use Rattle.std.proofs.Common.{◌≡◌, ℕ, zero, suc, ◌+◌, ◌<◌, Bool, true, false, cond, List, [], ◌∷◌, ◌++◌, length, map, take, get_or, Option, Some, None, is_some, inl, inr, ◌⊎◌, refl, sym, ap, ◌∙◌, arith, length-append, ◌≢◌, ◌≤◌, drop, subst, sum_by, eqb}
-use Rattle.std.specs.Prelude.{Contains, slice_get}
-use Rattle.std.specs.List.{position_from, filter_map, cons_option, AllByRecursion, All, AllPairs}
-use Rattle.std.specs.Option.{option_or}
-use Rattle.std.proofs.lemmas.List.{take_more, length-take-le, map_more, get_or_push, length_push, get_or_append_left, take-append-drop, drop_more}
-use Rattle.std.proofs.lemmas.List.Elements.{filter_map-append, All-contains}
+use Rattle.ncl_base.proofs.Terms.{All-contains, AllByRecursion, Bool, Contains, Decides-eqb, IsDistinct-from_AllPairs, List, None, Option, Some, [], ap, arith, cond, cons_option, drop, drop_more, eqb, false, false≢true, filter_map, filter_map-append, get_or, get_or_append_left, get_or_push, inl, inr, is_member, is_member-Decides, is_some, le-length_from_below, length, length-append, length-le_from_distinct_below, length-take-le, length_push, map, map_more, option_or, position_from, refl, slice_get, subst, suc, sum_by, sum_by-cons, sym, take, take-append-drop, take_more, true, zero, ℕ, ◌++◌, ◌+◌, ◌<◌, ◌∙◌, ◌∷◌, ◌≡◌, ◌≢◌, ◌≤◌, ◌⊎◌}
+use Rattle.std.specs.List.{All, AllPairs}
 use Rattle.ncl_base.proofs.Members.{Contains-from_slice_get, slice_get-from_Contains}
-use Rattle.std.specs.Set.{is_member}
-use Rattle.std.proofs.lemmas.Bool.{false≢true}
-use Rattle.std.proofs.lemmas.Bool.Decides.{Decides-eqb}
-use Rattle.std.proofs.lemmas.List.Sums.{sum_by-cons}
-use Rattle.std.proofs.lemmas.Map.Made.{IsDistinct-from_AllPairs, is_member-Decides}
-use Rattle.std.proofs.lemmas.Map.Steps.{length-le_from_distinct_below, le-length_from_below}
 
 -- what stands in a list with one more element stands in the list, or is that element
 pub split_push : {X : Type 0} (xs : List X) (y : X) (before : List X) (x : X) (rest : List X) → xs ++ y ∷ [] ≡ before ++ x ∷ rest → ((before ≡ xs) × (x ≡ y)) ⊎ ((left : List X) × (xs ≡ before ++ x ∷ left))

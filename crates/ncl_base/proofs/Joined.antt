@@ -1,7 +1,5 @@
 -- Lists that are joined of lists.
-use Rattle.std.proofs.Common.{◌≡◌, ℕ, ◌+◌, List, [], ◌∷◌, ◌++◌, length, map, sum_by, inl, inr, refl, arith, length-append}
-use Rattle.std.specs.List.{flat_map, join_with_byte}
-use Rattle.std.proofs.lemmas.List.Sums.{sum_by-cons}
+use Rattle.ncl_base.proofs.Terms.{List, [], arith, flat_map, inl, inr, join_with_byte, length, length-append, sum_by, sum_by-cons, ℕ, ◌+◌, ◌∷◌, ◌≡◌}
 use Rattle.ncl_base.proofs.Members.{Member, here, there, Member-append_left, Member-append_right, Member-append_cases}
 
 -- a member of a part is a member of the whole

@@ -1,9 +1,10 @@
+mod Terms
 pub mod Written
 pub mod Named
 pub mod Members
 pub mod Lists
 pub mod Growing
-pub mod NumberLists
+pub mod ListTables
 pub mod Ranges
 pub mod Places
 pub mod Joined

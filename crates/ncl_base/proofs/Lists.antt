@@ -1,13 +1,5 @@
 -- When two lists are the same: at each place, in increasing order, or but for their order.
-use Rattle.std.proofs.Common.{◌≡◌, ◌≢◌, ℕ, zero, suc, ◌<◌, ◌≤◌, List, [], ◌∷◌, ◌++◌, length, map, get_or, Some, inl, inr, refl, sym, ap, subst, arith, length-append}
-use Rattle.std.specs.Prelude.{AllPairs, slice_get}
-use Rattle.std.specs.List.{AllZip, remove}
-use Rattle.std.specs.List.Sorted.{IsPermutation}
-use Rattle.std.proofs.lemmas.Bool.{cases_lt}
-use Rattle.std.proofs.lemmas.List.{append-nil}
-use Rattle.std.proofs.lemmas.List.Kept.{AllPairs-cons}
-use Rattle.std.proofs.lemmas.List.Sorted.{IsPermutation-refl, IsPermutation-cons, IsPermutation-trans, IsPermutation-remove, Contains-permutation, length_permutation}
-use Rattle.std.proofs.lemmas.Option.{slice_get_within, get_or_from_slice_get}
+use Rattle.ncl_base.proofs.Terms.{AllPairs, AllPairs-cons, AllZip, Contains-permutation, IsPermutation, IsPermutation-cons, IsPermutation-refl, IsPermutation-remove, IsPermutation-trans, List, Some, [], ap, append-nil, arith, cases_lt, get_or, get_or_from_slice_get, inl, inr, length, length-append, length_permutation, map, refl, remove, slice_get, slice_get_within, subst, suc, sym, zero, ℕ, ◌++◌, ◌<◌, ◌∷◌, ◌≡◌, ◌≢◌, ◌≤◌}
 use Rattle.ncl_base.proofs.Members.{Member, here, there, member_of_map, Contains-from_Member, Member-from_Contains, All-from_members}
 
 -- lists that have the same at each place

@@ -1,11 +1,7 @@
 -- The laws of members of a list.
-use Rattle.std.proofs.Common.{◌≡◌, ℕ, zero, suc, ◌+◌, ◌<◌, ◌≤◌, Bool, true, false, cond, List, [], ◌∷◌, ◌++◌, length, map, get_or, Some, ◌⊎◌, inl, inr, refl, sym, ap, subst, ◌∙◌, arith}
-use Rattle.std.specs.Prelude.{Contains, All, slice_get, count_by, filter}
-use Rattle.std.specs.List.{list_any, find, AllByRecursion}
-use Rattle.std.proofs.lemmas.Bool.{or_cases, or_left, or_right, both_ways, cases_Bool, cond-true, cond-false, cond_both}
-use Rattle.std.proofs.lemmas.List.Sums.{sum_by-cons}
-use Rattle.std.proofs.lemmas.Option.{slice_get_within, slice_get-get_or, get_or_from_slice_get}
-pub use Rattle.ncl_base.specs.Members.{Member, here, there}
+pub use Rattle.ncl_base.proofs.Terms.{Member, here, there}
+use Rattle.ncl_base.proofs.Terms.{AllByRecursion, Bool, Contains, List, Some, [], ap, arith, both_ways, cases_Bool, cond, cond-false, cond-true, cond_both, count_by, false, filter, find, get_or, get_or_from_slice_get, inl, inr, length, list_any, map, or_cases, or_left, or_right, refl, slice_get, slice_get-get_or, slice_get_within, subst, suc, sum_by-cons, sym, true, zero, ℕ, ◌++◌, ◌+◌, ◌<◌, ◌∙◌, ◌∷◌, ◌≡◌, ◌≤◌, ◌⊎◌}
+use Rattle.std.specs.Prelude.{All}
 
 -- a member is the first, or a member of the rest
 pub member_cases : {X : Type 0} (x y : X) (xs : List X) → Member x (y ∷ xs) → (y ≡ x) ⊎ Member x xs

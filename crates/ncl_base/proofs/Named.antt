@@ -1,9 +1,5 @@
 -- Files by their names.
-use Rattle.std.proofs.Common.{◌≡◌, ℕ, ◌||◌, zero, suc, ◌<◌, ◌≤◌, true, false, List, [], ◌∷◌, drop, get_or, length, refl, sym, ap, subst, cond, arith}
-use Rattle.std.specs.Str.{bytes_eq}
-use Rattle.ncl_base.specs.Files.{Files, bytes_of}
-use Rattle.ncl_base.specs.Held.{files_of, has_file, bytes_at}
-use Rattle.ncl_base.specs.declared.mem_file.MemFile.{MemFile}
+use Rattle.ncl_base.proofs.Terms.{Files, List, MemFile, [], ap, arith, bytes_at, bytes_eq, bytes_of, cond, drop, false, files_of, get_or, has_file, length, refl, subst, suc, sym, true, zero, ℕ, ◌<◌, ◌||◌, ◌∷◌, ◌≡◌, ◌≤◌}
 
 -- a name that no file has stands for the empty file
 pub absent : (files : Files) (name : List ℕ) → has_file files name ≡ false → bytes_of files name ≡ []

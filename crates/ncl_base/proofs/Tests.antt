@@ -1,21 +1,10 @@
 -- Tests: of truth values, of entries that may be missing, and of all members of a list.
-use Rattle.std.proofs.Common.{rules, ◌≡◌, ℕ, Bool, true, false, not, nat_eq, ◌||◌, List, [], ◌∷◌, ◌++◌, length, map, Option, Some, None, ◌⊎◌, inl, inr, refl, sym, ap, subst, ◌∙◌, arith}
-use Rattle.std.specs.Prelude.{All, AllPairs, slice_get, IsTrue, ◌↔◌}
-use Rattle.std.specs.List.{list_all, list_any, position_or_len}
-use Rattle.std.specs.Option.{option_or}
-use Rattle.std.proofs.lemmas.Bool.{and_parts, or_parts, both_ways, cases_eq, eqb-true, ne_eqb}
-use Rattle.std.proofs.lemmas.List.Elements.{All-nil, All-cons, All-head, All-tail, All-append, All-contains}
-use Rattle.std.proofs.lemmas.List.Kept.{AllPairs-cons}
-use Rattle.std.proofs.lemmas.Grind.{common_steps}
+use Rattle.ncl_base.proofs.Terms.{All-append, All-cons, All-contains, All-head, All-nil, All-tail, AllPairs, AllPairs-cons, Bool, List, None, Option, Some, [], and_parts, ap, arith, both_ways, cases_eq, common_steps, eqb-true, false, inl, inr, length, list_all, list_any, map, nat_eq, ne_eqb, not, option_or, or_parts, position_or_len, refl, rules, slice_get, subst, sym, true, ℕ, ◌++◌, ◌||◌, ◌↔◌, ◌∙◌, ◌∷◌, ◌≡◌, ◌⊎◌}
+use Rattle.std.specs.Prelude.{All, IsTrue}
 use Rattle.ncl_base.proofs.Lists.{pairs-head, pairs-tail}
 use Rattle.ncl_base.proofs.Members.{Member, here, there, Contains-from_Member, Contains-from_slice_get, All-from_members, member_from_list_any}
 
 -- ---- truth values
-
--- what holds of both truth values holds of each
-pub of_both : (P : Bool → Type 0) → P false → P true → (b : Bool) → P b
-of_both P low high true = high
-of_both P low high false = low
 
 -- two tests that imply one another are one
 pub same_from_both : (a b : Bool) → (a ≡ true → b ≡ true) → (b ≡ true → a ≡ true) → a ≡ b

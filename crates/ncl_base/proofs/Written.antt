@@ -1,8 +1,5 @@
 -- One write, or one read, more.
-use Rattle.std.proofs.Common.{◌≡◌, ℕ, ◌+◌, ◌-◌, List, ◌++◌, length, take, drop, Option, Some, None, sym, ap, ◌∙◌, subst, arith, append_assoc, length-drop}
-use Rattle.std.proofs.Math.Seq.{take-add}
-use Rattle.std.proofs.lemmas.List.{take-append-drop, take_all}
-use Rattle.ncl_base.specs.Files.{Grew, GrewWithin}
+use Rattle.ncl_base.proofs.Terms.{Grew, GrewWithin, List, None, Option, Some, ap, append_assoc, arith, drop, length, length-drop, subst, sym, take, take-add, take-append-drop, take_all, ℕ, ◌++◌, ◌+◌, ◌-◌, ◌∙◌, ◌≡◌}
 
 rest_whole : (bytes : List ℕ) (d : ℕ) → take (length bytes - d) (drop d bytes) ≡ drop d bytes
 rest_whole bytes d = take_all _ (drop d bytes) (omega (arith, length-drop d bytes))

@@ -2,5 +2,5 @@ pub mod Words
 pub mod Files
 pub mod Held
 pub mod Members
-pub mod NumberLists
+pub mod ListTables
 pub mod TextLines

@@ -8,6 +8,7 @@
 
 mod calls;
 mod items;
+mod list_table;
 mod mem_file;
 mod mem_sink;
 mod mem_source;
@@ -21,6 +22,7 @@ mod text_line;
 mod word;
 
 pub use items::Items;
+pub use list_table::ListTable;
 pub use mem_file::MemFile;
 pub use mem_sink::MemSink;
 pub use mem_source::MemSource;

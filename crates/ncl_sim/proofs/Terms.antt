@@ -1,9 +1,9 @@
 -- What the proofs of this crate take from the library and the terms that they speak of, passed on.
-pub use Rattle.std.proofs.Common.{Bool, Global, List, None, Option, Some, Vec, [], add-one, ap, append_assoc, arith, cond, drop, eqb, false, get_or, if◌then◌else◌, inl, inr, length, ltb, map, min, not, refl, replicate, rules, set, subst, suc, sym, take, true, zero, ℕ, ◌%◌, ◌&&◌, ◌*◌, ◌++◌, ◌+◌, ◌-◌, ◌<◌, ◌==◌, ◌^◌, ◌||◌, ◌∙◌, ◌∷◌, ◌≡◌, ◌≢◌, ◌≤◌, ◌⊎◌}
+pub use Rattle.std.proofs.Common.{Bool, Global, List, None, Option, Some, Vec, [], ap, append_assoc, arith, cond, eqb, false, get_or, if◌then◌else◌, inl, inr, length, ltb, map, min, not, refl, replicate, rules, set, subst, suc, sym, take, true, zero, ℕ, ◌%◌, ◌&&◌, ◌*◌, ◌++◌, ◌+◌, ◌-◌, ◌<◌, ◌==◌, ◌^◌, ◌||◌, ◌∙◌, ◌∷◌, ◌≡◌, ◌≢◌, ◌≤◌, ◌⊎◌}
 pub use Rattle.std.proofs.Math.Nat.{mul-le-mul_left}
 pub use Rattle.std.proofs.lemmas.Bool.{and_from, and_left, and_parts, and_right, both_ways, cases_Bool, cases_eq, cases_lt, cond-false, cond-true, eq-eqb, eqb-false, eqb-true, false_from_ne_true, le-ltb, lt-ltb, ne_eqb, not-true, not_from_false, not_from_true, true_from_ne_false}
 pub use Rattle.std.proofs.lemmas.Bool.Decides.{nat_tests}
-pub use Rattle.std.proofs.lemmas.List.{append-nil, drop-append-le, drop_at, get_or-map, get_or-set_other, get_or-set_same, get_or_past, get_or_push, length-append, length-drop, length-map, length-replicate, length-set, length_push, map-append, map-set, same_from_push, set-get_or, take-append-le, take_at, take_more}
+pub use Rattle.std.proofs.lemmas.List.{append-nil, get_or-map, get_or-set_other, get_or-set_same, get_or_past, get_or_push, length-append, length-map, length-replicate, length-set, length_push, map-append, map-set, same_from_push, set-get_or, take_more}
 pub use Rattle.std.proofs.lemmas.List.Elements.{All-append, All-cons, All-contains, All-from_recursion, All-head, All-map, All-nil, All-push, All-weaker}
 pub use Rattle.std.proofs.lemmas.List.Sorted.{All-permutation, IsPermutation-append_comm, IsPermutation-append_left, IsPermutation-append_right, IsPermutation-cons, IsPermutation-map, IsPermutation-middle, IsPermutation-refl, IsPermutation-sym, IsPermutation-trans, length_permutation, sorted_far, sum_by-IsPermutation}
 pub use Rattle.std.proofs.lemmas.List.Sums.{sum_by-append, sum_by-cons}
@@ -15,14 +15,14 @@ pub use Rattle.std.specs.List.{AllByRecursion, flat_map, list_all, sum_by}
 pub use Rattle.std.specs.List.Sorted.{IsPermutation, IsSorted}
 pub use Rattle.std.specs.Option.{option_map, option_to_list}
 pub use Rattle.std.specs.Ordering.{is_lt, nat_cmp, ordering_then}
-pub use Rattle.std.specs.Prelude.{All, AllPairs, Contains, IfSome, filter, slice_get, slice_range}
+pub use Rattle.std.specs.Prelude.{All, AllPairs, Contains, IfSome, filter, slice_get}
 pub use Rattle.std.specs.declared.cmp.Reverse.{Reverse}
 pub use Rattle.ncl_base.proofs.Growing.{Contains-last, cases_contains, from_push, last_of}
 pub use Rattle.ncl_base.proofs.Lists.{pairs-head, pairs-tail}
 pub use Rattle.ncl_base.proofs.Members.{All-from_members, Contains-from_Member, Contains-from_slice_get, Member, Member-append_left, Member-append_right, Member-from_Contains, Member-get_or, Member-map, here, member_cases, recursion_from_members, slice_get-some, there}
-pub use Rattle.ncl_base.proofs.NumberLists.{grows-along, grows-put, nothing-at, put-has}
+pub use Rattle.ncl_base.proofs.ListTables.{grows-along, nothing-at, put-more}
 pub use Rattle.ncl_base.proofs.Places.{push_cases}
-pub use Rattle.ncl_base.specs.NumberLists.{Grows, put_into}
+pub use Rattle.ncl_base.specs.ListTables.{Grows, items_at}
 pub use Rattle.ncl_base.specs.declared.word.TheConstants.{MOST_BITS}
 pub use Rattle.ncl_cell_roles.proofs.EndLaws.{inputs_differ}
 pub use Rattle.ncl_cell_roles.proofs.LaidOut.{few_inputs, laid_out_of}
@@ -76,10 +76,10 @@ pub use Rattle.ncl_sim.specs.Course.{CourseData}
 pub use Rattle.ncl_sim.specs.Numbers.{item_number, output_is_low, rises}
 pub use Rattle.ncl_sim.specs.Queue.{IsBefore, IsFirst, IsTracked, NoneWaits, begins, due_now, is_waiting, least_of, look_at, looks, loses, lower, note}
 pub use Rattle.ncl_sim.specs.Rows.{AreRowsOf, HasNetsBelow, IsDelayAt, IsDelayOfRow, IsRowOf, is_excited_by_row, next_by_row, pin_or_output}
-pub use Rattle.ncl_sim.specs.Running.{GoesOn, HasTouched, IsPopped, IsStopped, IsUnderWay, Turned, touched_at}
+pub use Rattle.ncl_sim.specs.Running.{GoesOn, HasTouched, IsPopped, IsStopped, IsUnderWay, Turned}
 pub use Rattle.ncl_sim.specs.TimedRun.{ComesFirst, DeliversAll, Ends, IsLost, IsNext, IsTimedRun, LosesNone, TraceData, due_after, due_along, due_from, due_next, due_step, is_take, items_in, last_time, lost, most_steps, over, quiet, state_after, takes_in, words_due}
 pub use Rattle.ncl_sim.specs.Times.{AreWithin, IsTimely}
-pub use Rattle.ncl_sim.specs.Touch.{AreApart, AreDrivenOnce, AreEnds, AreInTurn, AreStarts, Avoids, IsApart, IsUntouched, cut_at, cuts}
+pub use Rattle.ncl_sim.specs.Touch.{AreApart, AreDrivenOnce, AreEnds, Avoids, IsApart, IsUntouched}
 pub use Rattle.ncl_sim.specs.declared.rows.Row.{Row}
 pub use Rattle.ncl_sim.specs.declared.run.Run.{Run}
 pub use Rattle.ncl_sim.specs.declared.trace.End.{End}

@@ -1,73 +1,5 @@
 -- What a net touches: the pins of cells and the ends of a pipeline.
-pub use Rattle.ncl_sim.proofs.Terms.{All, All-contains, All-from_members, AllPairs, AreApart, AreDrivenOnce, AreEnds, AreInTurn, AreStarts, Cell, CellAt, Contains, Contains-from_Member, Grows, HasTouched, IsApart, IsLayoutOf, Layout, List, MOST_BITS, Member, Member-append_left, Member-append_right, Member-from_Contains, Member-map, NetId, NetlistData, Part, PipelineData, Rails, Shape, Some, StageCell, [], add-one, ap, append-nil, arith, cases_eq, cut_at, cuts, drop, drop-append-le, drop_at, few_inputs, from_push, get_or, get_or-map, get_or_from_slice_get, grows-along, here, in_rail, inl, inputs_differ, inr, laid_out_of, length, length-append, length-drop, length-map, length-replicate, map, most_cells, net_of, no_rails, nothing-at, number_count, of_bank, of_stage, of_tree, out_of, pairs-head, pairs-tail, rail-within, rail_nets, recursion_from_members, refl, replicate, same_place, slice_get, slice_get_within, slice_range, stage_nets, subst, suc, sym, take, take-append-le, take_at, take_more, there, touched_at, zero, ℕ, ◌++◌, ◌+◌, ◌-◌, ◌<◌, ◌∙◌, ◌∷◌, ◌≡◌, ◌≢◌, ◌≤◌, ◌⊎◌}
-
--- ---- numbers cut into lists, one list after another
-
-pub ends-within : (from : ℕ) (ends : List ℕ) (count : ℕ) → AreInTurn from ends count → from ≤ count
-ends-within from [] count are = omega (arith, are)
-ends-within from (end ∷ ends) count are = let (first, others) = are in omega (arith, first, ends-within end ends count others)
-
--- as many lists as ends
-pub length-cuts : (from : ℕ) (ends numbers : List ℕ) → length (cuts from ends numbers) ≡ length ends
-length-cuts from [] numbers = refl
-length-cuts from (end ∷ ends) numbers = ap suc (length-cuts end ends numbers)
-
--- a range among the first numbers
-range-append : (numbers more : List ℕ) (from end : ℕ) → from ≤ end → end ≤ length numbers → slice_range (numbers ++ more) from end ≡ slice_range numbers from end
-range-append numbers more from end le within =
-    ap (take (end - from)) (drop-append-le from numbers more (omega arith)) ∙ take-append-le (end - from) (drop from numbers) more (omega (arith, length-drop from numbers))
-
--- the last numbers
-range-last : (numbers more : List ℕ) → slice_range (numbers ++ more) (length numbers) (length numbers + length more) ≡ more
-range-last numbers more =
-    ap (take (length numbers + length more - length numbers)) (drop_at numbers more (length numbers) refl)
-    ∙ (let whole : length more ≡ length numbers + length more - length numbers = omega arith in ap (take (length numbers + length more - length numbers)) (sym (append-nil more)) ∙ take_at more [] (length numbers + length more - length numbers) whole)
-
--- one more list
-pub cuts-push : (from : ℕ) (ends numbers more : List ℕ) → AreInTurn from ends (length numbers) → cuts from (ends ++ (length numbers + length more) ∷ []) (numbers ++ more) ≡ cuts from ends numbers ++ more ∷ []
-cuts-push from [] numbers more are = ap (λ list. list ∷ []) (subst (λ n. slice_range (numbers ++ more) n (length numbers + length more) ≡ more) (sym are) (range-last numbers more))
-cuts-push from (end ∷ ends) numbers more are =
-    let (first, others) = are in
-    let head = range-append numbers more from end first (ends-within end ends (length numbers) others) in
-    λ i. head i ∷ cuts-push end ends numbers more others i
-
-pub ends-push : (from : ℕ) (ends : List ℕ) (count more : ℕ) → AreInTurn from ends count → AreInTurn from (ends ++ (count + more) ∷ []) (count + more)
-ends-push from [] count more are = (omega (arith, are), refl)
-ends-push from (end ∷ ends) count more are = let (first, others) = are in (first, ends-push end ends count more others)
-
--- the list at a place, and where it begins and ends
-pub record IsCut (starts numbers : List ℕ) (place from end : ℕ) : Type 0 where
-  pub inside : place + 1 < length starts
-  pub list : get_or (cut_at starts numbers) place [] ≡ slice_range numbers from end
-  pub order : from ≤ end
-  pub fits : end ≤ length numbers
-
-from_first : (from : ℕ) (ends numbers : List ℕ) (place d e : ℕ) → place < length ends → AreInTurn from ends (length numbers) → IsCut (from ∷ ends) numbers place (get_or (from ∷ ends) place d) (get_or ends place e)
-from_first from [] numbers place d e lt are = absurd (omega arith)
-from_first from (end ∷ ends) numbers zero d e lt are = let (first, others) = are in record { inside = omega arith; list = refl; order = first; fits = ends-within end ends (length numbers) others }
-from_first from (end ∷ ends) numbers (suc place) d e lt are =
-    let (first, others) = are in
-    let next = from_first end ends numbers place d e (omega arith) others in
-    record { inside = omega (arith, next.inside); list = next.list; order = next.order; fits = next.fits }
-
-pub cut-is : (starts numbers : List ℕ) (place from end : ℕ) {table : List (List ℕ)} → cut_at starts numbers ≡ table → place < length table → AreStarts starts (length numbers) → from ≡ get_or starts place from → end ≡ get_or starts (place + 1) end → IsCut starts numbers place from end
-cut-is [] numbers place from end view lt are is_from is_end = absurd are
-cut-is (first ∷ ends) numbers place from end view lt are is_from is_end =
-    let ends_at : end ≡ get_or ends place end = is_end ∙ ap (λ n. get_or (first ∷ ends) n end) (add-one place) in
-    subst (λ f. IsCut (first ∷ ends) numbers place f end) (sym is_from) (subst (λ t. IsCut (first ∷ ends) numbers place (get_or (first ∷ ends) place from) t) (sym ends_at)
-    (from_first first ends numbers place from end (omega (arith, length-cuts first ends numbers, ap length view, lt)) are))
-
-pub inside-is : (starts numbers : List ℕ) (place : ℕ) {table : List (List ℕ)} → cut_at starts numbers ≡ table → place < length table → place + 1 < length starts
-inside-is [] numbers place view lt = absurd (omega (arith, ap length view, lt))
-inside-is (first ∷ ends) numbers place view lt = omega (arith, length-cuts first ends numbers, ap length view, lt)
-
--- one more list
-pub starts-push : (starts numbers more : List ℕ) → AreStarts starts (length numbers) → AreStarts (starts ++ (length numbers + length more) ∷ []) (length (numbers ++ more)) × (cut_at (starts ++ (length numbers + length more) ∷ []) (numbers ++ more) ≡ cut_at starts numbers ++ more ∷ [])
-starts-push [] numbers more are = absurd are
-starts-push (from ∷ ends) numbers more are = (
-  subst (AreInTurn from (ends ++ (length numbers + length more) ∷ [])) (sym (length-append numbers more)) (ends-push from ends (length numbers) (length more) are),
-  cuts-push from ends numbers more are,
-)
+pub use Rattle.ncl_sim.proofs.Terms.{All, All-contains, All-from_members, AllPairs, AreApart, AreDrivenOnce, AreEnds, Cell, CellAt, Contains, Contains-from_Member, Grows, HasTouched, IsApart, IsLayoutOf, Layout, List, MOST_BITS, Member, Member-append_left, Member-append_right, Member-from_Contains, Member-map, NetId, NetlistData, Part, PipelineData, Rails, Shape, Some, StageCell, [], ap, arith, cases_eq, few_inputs, from_push, get_or, get_or_from_slice_get, grows-along, here, in_rail, inl, inputs_differ, inr, laid_out_of, length, length-replicate, map, most_cells, net_of, no_rails, nothing-at, number_count, of_bank, of_stage, of_tree, out_of, pairs-head, pairs-tail, rail-within, rail_nets, recursion_from_members, refl, replicate, same_place, slice_get, slice_get_within, stage_nets, subst, suc, sym, take, take_more, there, items_at, zero, ℕ, ◌++◌, ◌+◌, ◌<◌, ◌∙◌, ◌∷◌, ◌≡◌, ◌≢◌, ◌≤◌, ◌⊎◌}
 
 -- ---- the ends and the drivers of a pipeline that its netlist has the shape of
 
@@ -178,22 +110,22 @@ items-few p shape bits cells netlist =
 -- ---- a table of what steps can touch, as numbers come to it
 
 -- pins up to a place have the number, and so one more
-pub pins-next : (table new : List (List ℕ)) (pins : List NetId) (i k : ℕ) (d : NetId) (count : ℕ) → i < length pins → Grows count table new → Contains (touched_at new (get_or pins i d).0) k → ((pin : NetId) → Contains (take i pins) pin → Contains (touched_at table pin.0) k) → (pin : NetId) → Contains (take (i + 1) pins) pin → Contains (touched_at new pin.0) k
+pub pins-next : (table new : List (List ℕ)) (pins : List NetId) (i k : ℕ) (d : NetId) (count : ℕ) → i < length pins → Grows count table new → Contains (items_at new (get_or pins i d).0) k → ((pin : NetId) → Contains (take i pins) pin → Contains (items_at table pin.0) k) → (pin : NetId) → Contains (take (i + 1) pins) pin → Contains (items_at new pin.0) k
 pins-next table new pins i k d count lt grows now before pin has =
     elim (from_push (take i pins) (get_or pins i d) pin (subst (λ ps. Contains ps pin) (take_more pins i d lt) has)) [
       | inl earlier ↦ grows.kept pin.0 k (before pin earlier)
-      | inr same ↦ subst (λ (x : NetId). Contains (touched_at new x.0) k) same now
+      | inr same ↦ subst (λ (x : NetId). Contains (items_at new x.0) k) same now
     ]
 
 -- and so the rails of outputs
-pub rails-next : (table new : List (List ℕ)) (outputs : List Rails) (i k : ℕ) (d : Rails) (count : ℕ) → i < length outputs → Grows count table new → Contains (touched_at new (get_or outputs i d).zero.0) k → Contains (touched_at new (get_or outputs i d).one.0) k → ((net : ℕ) → Contains (rail_nets (take i outputs)) net → Contains (touched_at table net) k) → (net : ℕ) → Contains (rail_nets (take (i + 1) outputs)) net → Contains (touched_at new net) k
+pub rails-next : (table new : List (List ℕ)) (outputs : List Rails) (i k : ℕ) (d : Rails) (count : ℕ) → i < length outputs → Grows count table new → Contains (items_at new (get_or outputs i d).zero.0) k → Contains (items_at new (get_or outputs i d).one.0) k → ((net : ℕ) → Contains (rail_nets (take i outputs)) net → Contains (items_at table net) k) → (net : ℕ) → Contains (rail_nets (take (i + 1) outputs)) net → Contains (items_at new net) k
 rails-next table new outputs i k d count lt grows low high before net has =
     let m = Member-from_Contains (rail_nets (take (i + 1) outputs)) net has in
     elim (member_push (take i outputs) (get_or outputs i d) (subst (λ bits. Member net (rail_nets bits)) (take_more outputs i d lt) m)) [
       | inl earlier ↦ grows.kept net k (before net (Contains-from_Member net earlier))
       | inr last ↦ elim last [
-        | inl is_zero ↦ subst (λ n. Contains (touched_at new n) k) (sym is_zero) low
-        | inr is_one ↦ subst (λ n. Contains (touched_at new n) k) (sym is_one) high
+        | inl is_zero ↦ subst (λ n. Contains (items_at new n) k) (sym is_zero) low
+        | inr is_one ↦ subst (λ n. Contains (items_at new n) k) (sym is_one) high
       ]
     ]
   where
@@ -218,12 +150,12 @@ rails-at outputs i d P lt all =
     members (r ∷ bits) (suc i) lt = let (low, high) = members bits i (omega arith) in (there (there low), there (there high))
 
 -- cells up to a place are at the nets of their pins, and so one more
-pub cells-next : (table new : List (List ℕ)) (cells : List Cell) (k : ℕ) (cell : Cell) (pins : List NetId) (count : ℕ) → cell ≡ get_or cells k cell → pins ≡ cell.ins.items → Grows count table new → ((pin : NetId) → Contains pins pin → Contains (touched_at new pin.0) k) → ((j : ℕ) (c : Cell) → j < k → slice_get cells j ≡ Some c → (pin : NetId) → Contains c.ins.items pin → Contains (touched_at table pin.0) j) → (j : ℕ) (c : Cell) → j < k + 1 → slice_get cells j ≡ Some c → (pin : NetId) → Contains c.ins.items pin → Contains (touched_at new pin.0) j
+pub cells-next : (table new : List (List ℕ)) (cells : List Cell) (k : ℕ) (cell : Cell) (pins : List NetId) (count : ℕ) → cell ≡ get_or cells k cell → pins ≡ cell.ins.items → Grows count table new → ((pin : NetId) → Contains pins pin → Contains (items_at new pin.0) k) → ((j : ℕ) (c : Cell) → j < k → slice_get cells j ≡ Some c → (pin : NetId) → Contains c.ins.items pin → Contains (items_at table pin.0) j) → (j : ℕ) (c : Cell) → j < k + 1 → slice_get cells j ≡ Some c → (pin : NetId) → Contains c.ins.items pin → Contains (items_at new pin.0) j
 cells-next table new cells k cell pins count is read grows now before j c lt at pin has = elim (cases_eq j k) [
   | inl same ↦
       let found : get_or cells k cell ≡ c = get_or_from_slice_get cells k c cell (subst (λ n. slice_get cells n ≡ Some c) same at) in
       let pins_are : c.ins.items ≡ pins = ap (λ (x : Cell). x.ins.items) (sym (is ∙ found)) ∙ sym read in
-      subst (Contains (touched_at new pin.0)) (sym same) (now pin (subst (λ ps. Contains ps pin) pins_are has))
+      subst (Contains (items_at new pin.0)) (sym same) (now pin (subst (λ ps. Contains ps pin) pins_are has))
   | inr other ↦ grows.kept pin.0 j (before j c (omega arith) at pin has)
 ]
 
@@ -235,11 +167,11 @@ module _ (p : PipelineData) (shape : Shape p.netlist p) where
 
   pub table-made : (empty with_cells with_bits table : List (List ℕ)) → empty ≡ replicate (length p.netlist.nets) []
       → ((count : ℕ) → length p.netlist.cells ≤ count → Grows count empty with_cells)
-      → ((k : ℕ) (c : Cell) → CellAt p.netlist k c → (pin : NetId) → Contains c.ins.items pin → Contains (touched_at with_cells pin.0) k)
+      → ((k : ℕ) (c : Cell) → CellAt p.netlist k c → (pin : NetId) → Contains c.ins.items pin → Contains (items_at with_cells pin.0) k)
       → ((count : ℕ) → length p.netlist.cells + length p.inputs ≤ count → Grows count with_cells with_bits)
-      → ((bit : ℕ) → bit < length p.inputs → Contains (touched_at with_bits p.ko) (length p.netlist.cells + bit))
+      → ((bit : ℕ) → bit < length p.inputs → Contains (items_at with_bits p.ko) (length p.netlist.cells + bit))
       → ((count : ℕ) → length p.netlist.cells + length p.inputs < count → Grows count with_bits table)
-      → ((net : ℕ) → Contains (rail_nets p.outputs) net → Contains (touched_at table net) (length p.netlist.cells + length p.inputs))
+      → ((net : ℕ) → Contains (rail_nets p.outputs) net → Contains (items_at table net) (length p.netlist.cells + length p.inputs))
       → HasTouched p table
   table-made empty with_cells with_bits table none grows_cells cells grows_bits bits grows_sink sink =
       let to_cells : Grows (number_count p) empty with_cells = grows_cells (number_count p) (omega arith) in
@@ -249,7 +181,7 @@ module _ (p : PipelineData) (shape : Shape p.netlist p) where
       record {
         size = all.size ∙ ap length none ∙ length-replicate (length p.netlist.nets) [];
         below = λ net k has. elim (all.below net k has) [
-          | inl before ↦ absurd (nothing-at (length p.netlist.nets) net k (subst (λ t. Contains (touched_at t net) k) none before))
+          | inl before ↦ absurd (nothing-at (length p.netlist.nets) net k (subst (λ t. Contains (items_at t net) k) none before))
           | inr lt ↦ lt
         ];
         cells = λ k c at x has. to_sink.kept x.0 k (to_bits.kept x.0 k (cells k c at x has));
@@ -261,11 +193,11 @@ module _ (p : PipelineData) (shape : Shape p.netlist p) where
   pub table-from : (n : NetlistData) (nets cells bits ko : ℕ) (outputs : List Rails) → n ≡ p.netlist → nets ≡ length n.nets → cells ≡ length n.cells → bits ≡ length p.inputs → ko ≡ p.ko → outputs ≡ p.outputs
       → (empty with_cells with_bits table : List (List ℕ)) → empty ≡ replicate nets []
       → ((count : ℕ) → length n.cells ≤ count → Grows count empty with_cells)
-      → ((k : ℕ) (c : Cell) → CellAt n k c → (pin : NetId) → Contains c.ins.items pin → Contains (touched_at with_cells pin.0) k)
+      → ((k : ℕ) (c : Cell) → CellAt n k c → (pin : NetId) → Contains c.ins.items pin → Contains (items_at with_cells pin.0) k)
       → ((count : ℕ) → cells + bits ≤ count → Grows count with_cells with_bits)
-      → ((bit : ℕ) → bit < bits → Contains (touched_at with_bits ko) (cells + bit))
+      → ((bit : ℕ) → bit < bits → Contains (items_at with_bits ko) (cells + bit))
       → ((count : ℕ) → cells + bits < count → Grows count with_bits table)
-      → ((net : ℕ) → Contains (rail_nets outputs) net → Contains (touched_at table net) (cells + bits))
+      → ((net : ℕ) → Contains (rail_nets outputs) net → Contains (items_at table net) (cells + bits))
       → HasTouched p table
   table-from n nets cells bits ko outputs is_n is_nets is_cells is_bits is_ko is_outputs empty with_cells with_bits table none grows_cells in_cells grows_bits in_bits grows_sink in_sink =
       let nets_are : nets ≡ length p.netlist.nets = is_nets ∙ ap (λ (m : NetlistData). length m.nets) is_n in
@@ -275,6 +207,6 @@ module _ (p : PipelineData) (shape : Shape p.netlist p) where
       (λ count few. grows_cells count (omega (arith, few, read)))
       (λ k c at. in_cells k c (ap (λ (m : NetlistData). slice_get m.cells k) is_n ∙ at))
       (λ count few. grows_bits count (omega (arith, few, cells_are, is_bits)))
-      (λ bit lt. subst (λ m. Contains (touched_at with_bits m) (length p.netlist.cells + bit)) is_ko (subst (λ m. Contains (touched_at with_bits ko) (m + bit)) cells_are (in_bits bit (omega (arith, lt, is_bits)))))
+      (λ bit lt. subst (λ m. Contains (items_at with_bits m) (length p.netlist.cells + bit)) is_ko (subst (λ m. Contains (items_at with_bits ko) (m + bit)) cells_are (in_bits bit (omega (arith, lt, is_bits)))))
       (λ count few. grows_sink count (omega (arith, few, cells_are, is_bits)))
-      (λ net has. subst (λ m. Contains (touched_at table net) (m + length p.inputs)) cells_are (subst (λ m. Contains (touched_at table net) (cells + m)) is_bits (in_sink net (subst (λ os. Contains (rail_nets os) net) (sym is_outputs) has))))
+      (λ net has. subst (λ m. Contains (items_at table net) (m + length p.inputs)) cells_are (subst (λ m. Contains (items_at table net) (cells + m)) is_bits (in_sink net (subst (λ os. Contains (rail_nets os) net) (sym is_outputs) has))))

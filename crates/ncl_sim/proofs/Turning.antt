@@ -1,5 +1,5 @@
 -- The queue of a run, and how it turns by one event.
-pub use Rattle.ncl_sim.proofs.Terms.{All, All-contains, All-from_members, AreDelays, AreDrivenOnce, AreEnds, AreWithin, Bool, Contains, Contains-from_Member, Contains-from_slice_get, DelaysData, Edges, Ends, Fire, Fired, GoesOn, HasDelays, HasTouched, Hazard, IfSome, IsFirst, IsFor, IsFree, IsNext, IsPopped, IsQuiet, IsStopped, IsTimely, IsTracked, IsUnderWay, Item, List, LosesNone, Lower, MOST_DELAY, Member, Member-from_Contains, NetId, None, NoneWaits, Option, Over, PipelineData, Quiet, Raise, Ready, Run, Shape, Some, State, Take, Turned, [], and_from, and_parts, ap, arith, begins, both_ways, candidate, cases_Bool, cases_contains, cases_eq, cond-false, cond-true, current_rails, delay_of, due_at, due_next, due_now, edges_of, enabled, eq-eqb, eqb, false, here, if◌then◌else◌, inl, inr, is_waiting, item_number, least_of, length, length-set, list_all, look, look_at, looks, loses, lost, meaning, member_cases, most_steps, ne_eqb, net_of_step, none-some, not, not-true, number_count, over, popped, put_at, quiet, rail_nets, recursion_from_members, refl, rises, same_Some, set, slice_get, slice_get-some, slice_get_within, state_after, stated_or, step, subst, sym, there, touched_at, true, ℕ, ◌*◌, ◌++◌, ◌+◌, ◌-◌, ◌<◌, ◌∙◌, ◌∷◌, ◌≡◌, ◌≢◌, ◌≤◌, ◌⊎◌}
+pub use Rattle.ncl_sim.proofs.Terms.{All, All-contains, All-from_members, AreDelays, AreDrivenOnce, AreEnds, AreWithin, Bool, Contains, Contains-from_Member, Contains-from_slice_get, DelaysData, Edges, Ends, Fire, Fired, GoesOn, HasDelays, HasTouched, Hazard, IfSome, IsFirst, IsFor, IsFree, IsNext, IsPopped, IsQuiet, IsStopped, IsTimely, IsTracked, IsUnderWay, Item, List, LosesNone, Lower, MOST_DELAY, Member, Member-from_Contains, NetId, None, NoneWaits, Option, Over, PipelineData, Quiet, Raise, Ready, Run, Shape, Some, State, Take, Turned, [], and_from, and_parts, ap, arith, begins, both_ways, candidate, cases_Bool, cases_contains, cases_eq, cond-false, cond-true, current_rails, delay_of, due_at, due_next, due_now, edges_of, enabled, eq-eqb, eqb, false, here, if◌then◌else◌, inl, inr, is_waiting, item_number, least_of, length, length-set, list_all, look, look_at, looks, loses, lost, meaning, member_cases, most_steps, ne_eqb, net_of_step, none-some, not, not-true, number_count, over, popped, put_at, quiet, rail_nets, recursion_from_members, refl, rises, same_Some, set, slice_get, slice_get-some, slice_get_within, state_after, stated_or, step, subst, sym, there, items_at, true, ℕ, ◌*◌, ◌++◌, ◌+◌, ◌-◌, ◌<◌, ◌∙◌, ◌∷◌, ◌≡◌, ◌≢◌, ◌≤◌, ◌⊎◌}
 use Rattle.ncl_sim.proofs.Existence.{candidate-number, enabled_from_due, first_due, first_is_next, goes_on-more, none_is_quiet, number_within}
 use Rattle.ncl_sim.proofs.Looks.{IsLeastOf, IsSeenLost, begins-both, begins-off, begins-waiting, due_at-free, due_at-looked, due_at-rests, enabled-net, free-bit, free-cell, free-sink, free_not_lost, look-off, lost_is_seen, none-of_least, seen_is_lost, set-elsewhere, set-there, some-of_least, state-more}
 use Rattle.ncl_sim.proofs.TouchedLaws.{shape-driven, shape-ends}
@@ -187,19 +187,19 @@ module _ (p : PipelineData) (d : DelaysData) (offered : List (List Bool)) (steps
 
 -- ---- what isn't in the table needs no look
 
-pub free-of_table : (p : PipelineData) (table : List (List ℕ)) → HasTouched p table → (net k : ℕ) → k < number_count p → (Contains (touched_at table net) k → ⊥) → IsFree p net k
+pub free-of_table : (p : PipelineData) (table : List (List ℕ)) → HasTouched p table → (net k : ℕ) → k < number_count p → (Contains (items_at table net) k → ⊥) → IsFree p net k
 free-of_table p table is net k lt not_in = elim (below_or (length p.netlist.cells) k) [
   | inl cell ↦
       free-cell p net k cell (λ c at. recursion_from_members (λ (x : NetId). net ≢ x.0) c.ins.items (λ x m e.
-      not_in (subst (λ n. Contains (touched_at table n) k) (sym e) (is.cells k c at x (Contains-from_Member x m)))))
+      not_in (subst (λ n. Contains (items_at table n) k) (sym e) (is.cells k c at x (Contains-from_Member x m)))))
   | inr past ↦ elim (below_or (length p.netlist.cells + length p.inputs) k) [
     | inl bit ↦
         let place : length p.netlist.cells + (k - length p.netlist.cells) ≡ k = omega arith in
-        free-bit p net k past bit (λ e. not_in (subst (λ n. Contains (touched_at table n) k) (sym e) (subst (Contains (touched_at table p.ko)) place (is.bits (k - length p.netlist.cells) (omega arith)))))
+        free-bit p net k past bit (λ e. not_in (subst (λ n. Contains (items_at table n) k) (sym e) (subst (Contains (items_at table p.ko)) place (is.bits (k - length p.netlist.cells) (omega arith)))))
     | inr sink ↦
         let place : length p.netlist.cells + length p.inputs ≡ k = omega arith in
         free-sink p net k sink (recursion_from_members (λ other. net ≢ other) (rail_nets p.outputs) (λ other m e.
-        not_in (subst (λ n. Contains (touched_at table n) k) (sym e) (subst (Contains (touched_at table other)) place (is.sink other (Contains-from_Member other m))))))
+        not_in (subst (λ n. Contains (items_at table n) k) (sym e) (subst (Contains (items_at table other)) place (is.sink other (Contains-from_Member other m))))))
   ]
 ]
   where
@@ -207,7 +207,7 @@ free-of_table p table is net k lt not_in = elim (below_or (length p.netlist.cell
     below_or m k = search arith
 
 -- and what is in it is a number
-pub below-table : (p : PipelineData) (table : List (List ℕ)) → HasTouched p table → (net : ℕ) (numbers : List ℕ) → numbers ≡ touched_at table net → All (λ k. k < number_count p) numbers
+pub below-table : (p : PipelineData) (table : List (List ℕ)) → HasTouched p table → (net : ℕ) (numbers : List ℕ) → numbers ≡ items_at table net → All (λ k. k < number_count p) numbers
 below-table p table is net numbers same = All-from_members (λ k. k < number_count p) numbers (λ k m. is.below net k (subst (λ ks. Contains ks k) same (Contains-from_Member k m)))
 
 -- ---- looks at many numbers
@@ -268,30 +268,30 @@ module _ (p : PipelineData) (d : DelaysData) (shape : Shape p.netlist p) (table 
         (ap is_waiting (is.lost j lt is_lost ∙ ap (λ w. Some w) is_lost.waited))
 
     -- what was lost is among the numbers of the net
-    lost-touched : (j : ℕ) → j < number_count p → IsSeenLost p d offered steps f j → Member j (touched_at table net)
-    lost-touched j lt is_lost = elim (cases_contains (touched_at table net) j) [
-      | inl in_table ↦ Member-from_Contains (touched_at table net) j in_table
+    lost-touched : (j : ℕ) → j < number_count p → IsSeenLost p d offered steps f j → Member j (items_at table net)
+    lost-touched j lt is_lost = elim (cases_contains (items_at table net) j) [
+      | inl in_table ↦ Member-from_Contains (items_at table net) j in_table
       | inr not_in ↦ absurd (free_not_seen p d offered steps f (shape-ends p shape) (shape-driven p shape) on net j changed lt (free-of_table p table touched net j lt not_in) is_lost)
     ]
 
-    pub none-lost : least_of (loses p after ws) None (touched_at table net) ≡ None → LosesNone p offered (steps ++ f ∷ [])
+    pub none-lost : least_of (loses p after ws) None (items_at table net) ≡ None → LosesNone p offered (steps ++ f ∷ [])
     none-lost none =
         none_seen p d offered steps f (shape-ends p shape) (shape-driven p shape) on
-        (λ j lt is_lost. both_ways (loses p after ws j) ((none-of_least (loses p after ws) None (touched_at table net) none).1 j (lost-touched j lt is_lost)) (loses-lost j lt is_lost))
+        (λ j lt is_lost. both_ways (loses p after ws j) ((none-of_least (loses p after ws) None (items_at table net) none).1 j (lost-touched j lt is_lost)) (loses-lost j lt is_lost))
 
-    pub all-looked : LosesNone p offered (steps ++ f ∷ []) → IsTracked p d offered (steps ++ f ∷ []) (looks p d after f.time ws (touched_at table net))
+    pub all-looked : LosesNone p offered (steps ++ f ∷ []) → IsTracked p d offered (steps ++ f ∷ []) (looks p d after f.time ws (items_at table net))
     all-looked none =
-        looked_is_tracked p d offered steps f (shape-ends p shape) (shape-driven p shape) on (SeenAfter (IsFree p net) (touched_at table net)) (looks p d after f.time ws (touched_at table net))
-        (keep-all (IsFree p net) ws (touched_at table net) is (λ j m. touched.below net j (Contains-from_Member j m)))
-        (λ j lt. elim (cases_contains (touched_at table net) j) [
-          | inl in_table ↦ seen-member (IsFree p net) (touched_at table net) j (Member-from_Contains (touched_at table net) j in_table)
-          | inr not_in ↦ seen-still (IsFree p net) (touched_at table net) j (free-of_table p table touched net j lt not_in)
+        looked_is_tracked p d offered steps f (shape-ends p shape) (shape-driven p shape) on (SeenAfter (IsFree p net) (items_at table net)) (looks p d after f.time ws (items_at table net))
+        (keep-all (IsFree p net) ws (items_at table net) is (λ j m. touched.below net j (Contains-from_Member j m)))
+        (λ j lt. elim (cases_contains (items_at table net) j) [
+          | inl in_table ↦ seen-member (IsFree p net) (items_at table net) j (Member-from_Contains (items_at table net) j in_table)
+          | inr not_in ↦ seen-still (IsFree p net) (items_at table net) j (free-of_table p table touched net j lt not_in)
         ])
         none
 
-    pub first-lost : (m : ℕ) → least_of (loses p after ws) None (touched_at table net) ≡ Some m → (m < number_count p) × Ends p offered (steps ++ f ∷ []) (Hazard (candidate p after m) f.time)
+    pub first-lost : (m : ℕ) → least_of (loses p after ws) None (items_at table net) ≡ Some m → (m < number_count p) × Ends p offered (steps ++ f ∷ []) (Hazard (candidate p after m) f.time)
     first-lost m e =
-        let least : IsLeastOf (loses p after ws) None (touched_at table net) m = some-of_least (loses p after ws) None (touched_at table net) m e in
+        let least : IsLeastOf (loses p after ws) None (items_at table net) m = some-of_least (loses p after ws) None (items_at table net) m e in
         let (listed, passes) = there_is least.is in
         let within : m < number_count p = touched.below net m (Contains-from_Member m listed) in
         let (off, waits) = and_parts (not (enabled p after (candidate p after m))) (is_waiting (slice_get ws m)) passes in
@@ -307,7 +307,7 @@ module _ (p : PipelineData) (d : DelaysData) (shape : Shape p.netlist p) (table 
               omega (arith, number, le))),
         )
       where
-        there_is : (None ≡ Some m) ⊎ (Member m (touched_at table net) × (loses p after ws m ≡ true)) → Member m (touched_at table net) × (loses p after ws m ≡ true)
+        there_is : (None ≡ Some m) ⊎ (Member m (items_at table net) × (loses p after ws m ≡ true)) → Member m (items_at table net) × (loses p after ws m ≡ true)
         there_is (inl never) = absurd (none-some m never)
         there_is (inr listed) = listed
 
@@ -341,8 +341,8 @@ pub record IsTurn (p : PipelineData) (d : DelaysData) (table : List (List ℕ)) 
   pub made : IsFor p new.state
   pub state : meaning new.state ≡ step p (meaning old.state) (candidate p (meaning old.state) k)
   pub steps : new.steps.items ≡ old.steps.items ++ record { time = time; item = candidate p (meaning old.state) k } ∷ []
-  pub agenda : new.agenda ≡ looks p d (meaning new.state) time old.agenda (touched_at table net)
-  pub found : least ≡ least_of (loses p (meaning new.state) old.agenda) None (touched_at table net)
+  pub agenda : new.agenda ≡ looks p d (meaning new.state) time old.agenda (items_at table net)
+  pub found : least ≡ least_of (loses p (meaning new.state) old.agenda) None (items_at table net)
   pub changes : IfSome (net_of_step p (meaning old.state) (candidate p (meaning old.state) k)) (λ changed. net ≡ changed)
 
 module _ (p : PipelineData) (d : DelaysData) (shape : Shape p.netlist p) (table : List (List ℕ)) (touched : HasTouched p table) (old new : Run) (time k net : ℕ) (was : IsPopped p d old time k) (few : length old.steps.items < most_steps p old.state.offered) where
@@ -378,11 +378,11 @@ module _ (p : PipelineData) (d : DelaysData) (shape : Shape p.netlist p) (table 
       let (n, at) = enabled-net p before next_step.item is_on in
       let same : net ≡ n = subst (λ o. IfSome o (λ changed. net ≡ changed)) at (subst (λ s. IfSome (net_of_step p s (candidate p s k)) (λ changed. net ≡ changed)) was_state is.changes) in
       let changed : net_of_step p before next_step.item ≡ Some net = at ∙ ap (λ m. Some m) (sym same) in
-      let agenda : new.agenda ≡ looks p d (step p before next_step.item) time old.agenda (touched_at table net) = is.agenda ∙ ap (λ s. looks p d s time old.agenda (touched_at table net)) state in
-      let found : least ≡ least_of (loses p (step p before next_step.item) old.agenda) None (touched_at table net) = is.found ∙ ap (λ s. least_of (loses p s old.agenda) None (touched_at table net)) state in
+      let agenda : new.agenda ≡ looks p d (step p before next_step.item) time old.agenda (items_at table net) = is.agenda ∙ ap (λ s. looks p d s time old.agenda (items_at table net)) state in
+      let found : least ≡ least_of (loses p (step p before next_step.item) old.agenda) None (items_at table net) = is.found ∙ ap (λ s. least_of (loses p s old.agenda) None (items_at table net)) state in
       by_lost least state steps offered changed agenda (sym found)
     where
-      by_lost : (least : Option ℕ) → meaning new.state ≡ step p before next_step.item → new.steps.items ≡ old.steps.items ++ next_step ∷ [] → new.state.offered ≡ offered_words → net_of_step p before next_step.item ≡ Some net → new.agenda ≡ looks p d (step p before next_step.item) time old.agenda (touched_at table net) → least_of (loses p (step p before next_step.item) old.agenda) None (touched_at table net) ≡ least → Turned p d new time least
+      by_lost : (least : Option ℕ) → meaning new.state ≡ step p before next_step.item → new.steps.items ≡ old.steps.items ++ next_step ∷ [] → new.state.offered ≡ offered_words → net_of_step p before next_step.item ≡ Some net → new.agenda ≡ looks p d (step p before next_step.item) time old.agenda (items_at table net) → least_of (loses p (step p before next_step.item) old.agenda) None (items_at table net) ≡ least → Turned p d new time least
       by_lost None state steps offered changed agenda found =
           let none : LosesNone p offered_words (old.steps.items ++ next_step ∷ []) = none-lost p d shape table touched offered_words old.steps.items next_step is_on net changed old.agenda (looking-from changed) found in
           record {

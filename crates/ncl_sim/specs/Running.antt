@@ -1,6 +1,6 @@
 -- A run under way, and the table of what a step can touch.
 use Rattle.std.specs.Prelude.{◌≡◌, ℕ, ◌+◌, ◌<◌, Bool, List, [], ◌∷◌, ◌++◌, length, Contains, Option, None, Some, set}
-use Rattle.std.specs.List.{slice_index_or}
+use Rattle.ncl_base.specs.ListTables.{items_at}
 use Rattle.ncl_netlist.specs.declared.cell.Cell.{Cell}
 use Rattle.ncl_netlist.specs.declared.ids.NetId.{NetId}
 use Rattle.ncl_cell_rules.specs.Origin.{CellAt}
@@ -50,15 +50,11 @@ abbrev pub Turned : PipelineData → DelaysData → Run → ℕ → Option ℕ �
 Turned p d r time None = IsUnderWay p d r
 Turned p d r time (Some k) = IsStopped p d r (Hazard (candidate p (meaning r.state) k) time) × (k < number_count p) × IsFor p r.state
 
--- the numbers at a net of a table
-abbrev pub touched_at : List (List ℕ) → ℕ → List ℕ
-touched_at table net = slice_index_or table net []
-
 -- a table of the numbers that a change of each net can touch: the cells that read it; the bits where it is `ko`;
 -- the sink where it is a rail of an output
 pub record HasTouched (p : PipelineData) (table : List (List ℕ)) : Type 0 where
   pub size : length table ≡ length p.netlist.nets
-  pub below : (net k : ℕ) → Contains (touched_at table net) k → k < number_count p
-  pub cells : (k : ℕ) (c : Cell) → CellAt p.netlist k c → (x : NetId) → Contains c.ins.items x → Contains (touched_at table x.0) k
-  pub bits : (bit : ℕ) → bit < length p.inputs → Contains (touched_at table p.ko) (length p.netlist.cells + bit)
-  pub sink : (net : ℕ) → Contains (rail_nets p.outputs) net → Contains (touched_at table net) (length p.netlist.cells + length p.inputs)
+  pub below : (net k : ℕ) → Contains (items_at table net) k → k < number_count p
+  pub cells : (k : ℕ) (c : Cell) → CellAt p.netlist k c → (x : NetId) → Contains c.ins.items x → Contains (items_at table x.0) k
+  pub bits : (bit : ℕ) → bit < length p.inputs → Contains (items_at table p.ko) (length p.netlist.cells + bit)
+  pub sink : (net : ℕ) → Contains (rail_nets p.outputs) net → Contains (items_at table net) (length p.netlist.cells + length p.inputs)

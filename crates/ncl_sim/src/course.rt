@@ -3,11 +3,11 @@ ghost use Rattle.std.specs.Prelude.{◌≡◌, ◌<◌, IfOk, length};
 ghost use Rattle.ncl_shape.specs.Shape.{Shape};
 ghost use Rattle.ncl_sim.specs.Course.{IsCourse};
 ghost use Rattle.ncl_sim.specs.Rows.{AreRowsOf};
-ghost use Rattle.ncl_sim.specs.Running.{touched_at};
+ghost use Rattle.ncl_base.specs.ListTables.{items_at};
 
 use crate::rows::{Row, rows_of};
-use crate::touched::{Touched, touched_of};
-use ncl_base::Memory;
+use crate::touched::touched_of;
+use ncl_base::{ListTable, Memory};
 use ncl_delay::Delays;
 use ncl_netlist::NetId;
 use ncl_shape::Pipeline;
@@ -21,7 +21,7 @@ pub(crate) struct Course<'a> {
     pipeline: &'a Pipeline<'a>,
     delays: &'a Delays,
     rows: Vec<Row>,
-    touched: Touched,
+    touched: ListTable<u32>,
 }
 
 impl<'a> Model for Course<'a> {
@@ -81,9 +81,9 @@ impl<'a> Course<'a> {
     #[inline(always)]
     pub(crate) fn touched(&self, net: NetId) -> &[u32]
         requires { net.0 < length self.now.touched }
-        ensures { result.now ≡ touched_at self.now.touched net.0 }
+        ensures { result.now ≡ items_at self.now.touched net.0 }
     {
-        self.touched.of(net)
+        self.touched.at(net.0 as usize)
     }
 
     /// That the rows and numbers are those of the pipeline and the delays. Costs nothing.

@@ -1,30 +1,9 @@
 -- The laws of the bit order: what a walk from a place meets, and that each bit stands in the order once.
-use Rattle.std.proofs.Common.{◌≡◌, ◌≢◌, ℕ, zero, suc, ◌+◌, ◌-◌, ◌*◌, ◌/◌, ◌<◌, append_assoc, cond, ◌||◌, List, [], ◌∷◌, ◌++◌, length, map, take, drop, get_or, Some, None, inl, inr, refl, sym, ap, ◌∙◌, subst, arith}
-use Rattle.std.specs.Prelude.{All, Contains, nat_eq}
-use Rattle.std.specs.List.{flat_map, range_with_len}
-use Rattle.std.proofs.lemmas.Bool.{cases_lt, eq-eqb, ne_eqb, or_right}
-use Rattle.std.proofs.lemmas.List.{append-nil, get_or-map, get_or_append_left, length-map, length-append, length-take-le}
-use Rattle.std.proofs.lemmas.List.Elements.{All-contains, All-head, All-tail}
-use Rattle.std.proofs.lemmas.Simd.{map-map}
-use Rattle.ncl_gates.specs.declared.kind.Kind.TheVariants.{Th12}
-use Rattle.ncl_netlist.specs.declared.ids.NetId.{NetId}
-use Rattle.ncl_shape.specs.declared.rails.Rails.{Rails}
-use Rattle.ncl_shape.specs.declared.stage.StageCell.{StageCell}
-use Rattle.ncl_shape.specs.Stage.{StageData, IsStage, rail_nets, nets_of, out_of}
-use Rattle.ncl_base.proofs.Members.{Member, here, there, member_cases, member_of_map, Member-get_or, Member-map, Contains-from_Member, All-from_members}
-use Rattle.ncl_base.proofs.Lists.{pairs-head, pairs-tail}
-use Rattle.ncl_stage.specs.BitOrder.{bit_order, bits_from, driver_of, met, place_in, read_by, with_bits}
-use Rattle.ncl_stage.specs.Changes.{net_at}
-use Rattle.ncl_faults.specs.Examples.{gate}
-use Rattle.ncl_stage.specs.Walk.{AreMet, ReadEarlier}
-use Rattle.ncl_stage.specs.Wiring.{pin_places, rail_places}
-use Rattle.ncl_faults.proofs.Apart.{right-differ}
-use Rattle.ncl_shape.proofs.RailLaws.{rails-length}
+use Rattle.ncl_stage.proofs.Terms.{All, All-contains, All-from_members, All-head, All-tail, AllDiffer, AreMet, Contains, Contains-from_Member, IsStage, List, Member, Member-get_or, Member-map, NetId, None, Rails, ReadEarlier, Some, StageCell, StageData, Th12, [], ap, append-nil, append_assoc, arith, bit_order, bits_from, cases_lt, cond, driver_of, drop, eq-eqb, flat_map, gate, get_or, get_or-map, get_or_append_left, here, inl, inr, length, length-append, length-map, length-take-le, map, map-map, member_cases, member_of_map, met, nat_eq, ne_eqb, net_at, nets_of, or_right, out_of, pairs-head, pairs-tail, pin_places, rail-no_output, rail_nets, rail_places, rails-length, range_with_len, read_by, refl, right-differ, subst, suc, sym, take, there, with_bits, zero, ℕ, ◌*◌, ◌++◌, ◌+◌, ◌-◌, ◌/◌, ◌<◌, ◌||◌, ◌∙◌, ◌∷◌, ◌≡◌, ◌≢◌}
+use Rattle.ncl_stage.specs.BitOrder.{place_in}
 use Rattle.ncl_stage.proofs.ChangedLaws.{nets-length, net_at-rail, net_at-cell, nets-before}
 use Rattle.ncl_stage.proofs.NetLaws.{left-differ, nets-cut, out_at, out_at-is, place_in-front, reads-before}
 use Rattle.ncl_stage.proofs.PlaceLaws.{place_in-at}
-use Rattle.ncl_faults.proofs.ValueLaws.{rail-no_output}
-use Rattle.ncl_faults.proofs.WiringLaws.{AllDiffer}
 
 -- ---- lists of lists
 

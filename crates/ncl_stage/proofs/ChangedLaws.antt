@@ -1,39 +1,8 @@
 -- What a variant leaves unchanged, net by net in the order of a stage.
-use Rattle.std.proofs.Common.{◌≡◌, ℕ, zero, suc, ◌+◌, ◌-◌, ◌*◌, ◌/◌, ◌%◌, ◌^◌, ◌<◌, ◌≤◌, Bool, true, false, not, ◌&&◌, List, [], ◌∷◌, ◌++◌, length, map, take, drop, get_or, inl, inr, refl, sym, ap, ◌∙◌, subst, arith}
-use Rattle.std.specs.Prelude.{All, Contains, ◌↔◌, nat_eq}
-use Rattle.std.specs.List.{list_any, take-map}
-use Rattle.std.proofs.lemmas.Bool.{cases_lt, or_parts}
-use Rattle.std.proofs.lemmas.List.{get_or-map, get_or_append_left, get_or_push, get_or-append-add, length-map, length-append, length-take-le}
-use Rattle.std.proofs.lemmas.List.Elements.{All-head, All-tail, All-nil, All-cons}
-use Rattle.std.proofs.Math.Seq.{take-append-add}
-use Rattle.ncl_gates.specs.declared.kind.Kind.TheVariants.{Th12}
-use Rattle.ncl_netlist.specs.declared.ids.NetId.{NetId}
-use Rattle.ncl_shape.specs.declared.rails.Rails.{Rails}
-use Rattle.ncl_shape.specs.declared.stage.StageCell.{StageCell}
-use Rattle.ncl_shape.specs.Nets.{among}
-use Rattle.ncl_shape.specs.Stage.{StageData, IsStage, named_rails, rail_nets, rail_of, nets_of, out_of}
-use Rattle.ncl_shape.proofs.RailLaws.{rails-length}
-use Rattle.ncl_base.proofs.Members.{Member, Member-get_or}
-use Rattle.ncl_space.specs.Functions.{gate_table}
-use Rattle.std.proofs.Math.Pow.{pow-lt}
-use Rattle.ncl_space.specs.Table.{words}
-use Rattle.ncl_space.specs.Space.{SpaceData, IsLive, IsSpace, Keeps}
-use Rattle.ncl_space.specs.declared.space.Ref.{Ref}
-use Rattle.ncl_space.proofs.MakingLaws.{have-kept, have-at, have-length}
-use Rattle.ncl_space.proofs.TableLaws.{length-table_of}
-use Rattle.ncl_stage.specs.BitOrder.{IsOrderOf, placed, words_by}
+use Rattle.ncl_stage.proofs.Terms.{All, All-cons, All-head, All-nil, All-tail, AllDiffer, AreValues, Base, Bool, Contains, IsLive, IsOrderOf, IsSpace, IsStage, IsUnchanged, IsUnreached, IsWiring, Keeps, List, MarksChanges, Member, Member-get_or, NetId, Rails, Ref, SpaceData, StageCell, StageData, Th12, ValuesData, Variant, WiringData, [], among, ap, arith, cases_lt, drop, false, gate, gate_table, get_or, get_or-append-add, get_or-map, get_or_append_left, get_or_push, have-at, have-kept, have-length, inl, inr, length, length-append, length-map, length-table_of, length-take-le, list_any, map, named_rails, nat_eq, net_at, net_table_by, net_tables_by, nets_of, not, or_parts, out_of, pin_places, place_in, placed, pow-lt, rail_at, rail_nets, rail_of, rails-length, reads-within, refl, subst, suc, sym, take, take-append-add, take-map, true, val, val-rail, words, words_by, zero, ℕ, ◌%◌, ◌&&◌, ◌*◌, ◌++◌, ◌+◌, ◌-◌, ◌/◌, ◌<◌, ◌^◌, ◌↔◌, ◌∙◌, ◌∷◌, ◌≡◌, ◌≤◌}
 use Rattle.ncl_stage.proofs.OrderedTables.{table-any}
-use Rattle.ncl_faults.specs.declared.variant.Variant.{Variant}
-use Rattle.ncl_faults.specs.declared.variant.Variant.TheVariants.{Base}
-use Rattle.ncl_faults.specs.Examples.{gate}
-use Rattle.ncl_stage.specs.Changes.{net_at, IsUnchanged, IsUnreached, MarksChanges}
-use Rattle.ncl_stage.specs.StageTables.{ValuesData, AreValues, net_table_by, net_tables_by, rail_at}
-use Rattle.ncl_faults.specs.Values.{val}
-use Rattle.ncl_stage.specs.Wiring.{WiringData, IsWiring, place_in, pin_places}
 use Rattle.ncl_stage.proofs.NetLaws.{cell-net, nets-cut, out_at, out_at-is, pins-of, place_in-front, reads-before}
-use Rattle.ncl_faults.proofs.ValueLaws.{val-rail}
 use Rattle.ncl_stage.proofs.PlaceLaws.{place_in-at}
-use Rattle.ncl_faults.proofs.WiringLaws.{AllDiffer, reads-within}
 
 pub nets-length : (s : StageData) → length (nets_of s.inputs s.cells) ≡ 2 * length s.inputs + length s.cells
 nets-length s = length-append (rail_nets s.inputs) (map out_of s.cells) ∙ (λ i. rails-length s.inputs i + length-map s.cells out_of i)

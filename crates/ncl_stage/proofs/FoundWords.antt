@@ -1,8 +1,5 @@
 -- A word that is found has as many bits as the space.
-use Rattle.std.proofs.Common.{◌≡◌, ℕ, Bool, List, length, Some}
-use Rattle.ncl_base.proofs.Members.{member-found}
-use Rattle.ncl_space.specs.Table.{words}
-use Rattle.ncl_space.specs.Functions.{at, is_value, least}
+use Rattle.ncl_stage.proofs.Terms.{Bool, List, Some, at, is_value, least, length, member-found, words, ℕ, ◌≡◌}
 use Rattle.ncl_stage.proofs.OrderLaws.{words-length}
 
 pub least-length : (value : Bool) (n : ℕ) (table word : List Bool) → least value n table ≡ Some word → length word ≡ n

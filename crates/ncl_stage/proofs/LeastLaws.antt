@@ -1,23 +1,5 @@
 -- Least words by tables, and the first of several answers.
-use Rattle.std.proofs.Common.{◌≡◌, ℕ, zero, suc, ◌+◌, ◌<◌, ◌≤◌, Bool, true, false, not, cond, List, [], ◌∷◌, ◌++◌, length, map, get_or, Option, Some, None, inl, inr, refl, sym, ap, ◌∙◌, arith}
-use Rattle.std.specs.Prelude.{slice_get}
-use Rattle.std.specs.List.{find, flat_map, range_with_len}
-use Rattle.std.specs.Option.{option_map}
-use Rattle.std.proofs.lemmas.Bool.{cases_eq}
-use Rattle.std.proofs.lemmas.Option.{slice_get-get_or}
-use Rattle.std.proofs.lemmas.List.{map-append}
-use Rattle.ncl_shape.specs.declared.rails.Rails.{Rails}
-use Rattle.ncl_shape.specs.Stage.{StageData}
-use Rattle.ncl_space.specs.Table.{table_of}
-use Rattle.ncl_space.specs.Functions.{least}
-use Rattle.ncl_faults.specs.declared.variant.Variant.{Variant}
-use Rattle.ncl_faults.specs.declared.variant.Variant.TheVariants.{Base, Bit}
-use Rattle.ncl_stage.specs.BitOrder.{IsOrderOf, placed, words_by}
-use Rattle.ncl_faults.specs.Faults.{StageFault, BothRails, NoRail, Incomplete, has_data, is_illegal, all_data, holds_at, shows}
-use Rattle.ncl_stage.specs.LeastWords.{below, first_of, least_word_by}
-use Rattle.ncl_stage.specs.StageTables.{shared_tables_by}
-use Rattle.ncl_stage.specs.Tables.{ValuesAt, net_functions, data_functions, data_fronts, function_tables_by, question_functions, tables_by}
-use Rattle.ncl_faults.specs.Values.{val}
+use Rattle.ncl_stage.proofs.Terms.{Base, Bit, Bool, BothRails, Incomplete, IsOrderOf, List, NoRail, None, Option, Rails, Some, StageData, StageFault, ValuesAt, Variant, [], all_data, ap, arith, below, cases_eq, cond, data_fronts, data_functions, false, find, first_of, flat_map, function_tables_by, get_or, has_data, holds_at, inl, inr, is_illegal, least, least_word_by, length, map, map-append, net_functions, not, option_map, placed, question_functions, range_with_len, refl, shared_tables_by, shows, slice_get, slice_get-get_or, suc, sym, table_of, tables_by, true, val, words_by, zero, ℕ, ◌++◌, ◌+◌, ◌<◌, ◌∙◌, ◌∷◌, ◌≡◌, ◌≤◌}
 use Rattle.ncl_stage.proofs.OrderedTables.{ordered-one, ordered-zero}
 use Rattle.ncl_stage.proofs.OutputLaws.{values_at}
 

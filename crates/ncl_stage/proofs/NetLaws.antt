@@ -1,35 +1,10 @@
 -- The tables of the nets of a stage, as a space makes them: of rails, of outputs of cells, and of what is
 -- kept low.
-use Rattle.std.proofs.Common.{◌≡◌, ◌≢◌, ℕ, zero, suc, ◌+◌, ◌<◌, Bool, true, false, not, ◌||◌, ◌&&◌, List, [], ◌∷◌, ◌++◌, length, map, take, drop, get_or, inl, inr, refl, sym, ap, ◌∙◌, subst, arith}
-use Rattle.std.specs.Prelude.{All, Contains, nat_eq}
-use Rattle.std.proofs.lemmas.Bool.{cases_eq, cases_lt, eq-eqb, ne_eqb, false_from_ne_true}
-use Rattle.std.proofs.lemmas.List.{get_or-map, get_or_append_left, length-map, length-append, map-append, append_assoc, take-append-drop, drop_more}
-use Rattle.std.proofs.lemmas.List.Elements.{All-head, All-tail, All-nil, All-cons}
-use Rattle.ncl_gates.specs.Gate.{set_of}
-use Rattle.ncl_netlist.specs.declared.ids.NetId.{NetId}
-use Rattle.ncl_shape.specs.declared.rails.Rails.{Rails}
-use Rattle.ncl_shape.specs.declared.stage.StageCell.{StageCell}
-use Rattle.ncl_shape.specs.Nets.{among}
-use Rattle.ncl_shape.specs.Stage.{StageData, IsStage, named_rails, rail_nets, rail_of, nets_of, out_of}
-use Rattle.ncl_shape.specs.Closure.{pin_values}
-use Rattle.ncl_base.proofs.Members.{Member, here, there, Member-append_cases, member_of_map}
-use Rattle.ncl_base.proofs.Lists.{pairs-head, pairs-tail}
-use Rattle.ncl_space.specs.Functions.{at, is_value, constant_table, rail_table, gate_table}
-use Rattle.ncl_space.specs.Space.{SpaceData, IsLive}
-use Rattle.ncl_space.specs.Making.{HaveTables}
-use Rattle.ncl_space.specs.declared.space.Ref.{Ref}
-use Rattle.ncl_space.proofs.MakingLaws.{have-length, have-at}
-use Rattle.ncl_faults.specs.declared.variant.Variant.{Variant}
-use Rattle.ncl_stage.specs.BitOrder.{IsOrderOf, placed}
-use Rattle.ncl_faults.specs.Values.{holds, kept_low, val}
-use Rattle.ncl_stage.specs.Wiring.{WiringData, IsWiring, place_in, pin_places}
-use Rattle.ncl_stage.specs.StageTables.{net_table_by, rail_at, ref_at}
-use Rattle.ncl_faults.proofs.Apart.{named-within}
+use Rattle.ncl_stage.proofs.Terms.{All, All-cons, All-head, All-nil, All-tail, AllDiffer, Bool, Contains, HaveTables, IsLive, IsOrderOf, IsStage, IsWiring, List, Member, Member-append_cases, NetId, Rails, Ref, SpaceData, StageCell, StageData, Variant, WiringData, [], among, ap, arith, at, cases_eq, cases_lt, constant_table, drop, drop_more, eq-eqb, false, false_from_ne_true, gate_table, get_or, get_or-map, get_or_append_left, have-at, have-length, here, holds, inl, inr, is_value, kept_low, length, length-append, length-map, map, map-append, member_of_map, named-within, named_rails, nat_eq, ne_eqb, net_table_by, nets_of, not, one-member, out_of, pairs-head, pairs-tail, pin_places, pin_values, place_in, placed, rail_at, rail_nets, rail_of, rail_table, ref_at, refl, set_of, subst, suc, sym, take, take-append-drop, there, true, val, val-output, val-rail, zero, zero-member, ℕ, ◌&&◌, ◌++◌, ◌+◌, ◌<◌, ◌||◌, ◌∙◌, ◌∷◌, ◌≡◌, ◌≢◌}
+use Rattle.std.proofs.lemmas.List.{append_assoc}
 use Rattle.ncl_stage.proofs.OrderLaws.{placed-at}
 use Rattle.ncl_stage.proofs.OrderedTables.{ordered-at, ordered-same, placed-length}
-use Rattle.ncl_faults.proofs.ValueLaws.{val-rail, val-output}
 use Rattle.ncl_stage.proofs.PlaceLaws.{place_in-at}
-use Rattle.ncl_faults.proofs.WiringLaws.{AllDiffer, zero-member, one-member}
 
 pub rail-member : (rails : List Rails) (i : ℕ) (d : Rails) (value : Bool) → i < length rails → Member (rail_of (get_or rails i d) value) (rail_nets rails)
 rail-member rails i d true lt = one-member rails i d lt

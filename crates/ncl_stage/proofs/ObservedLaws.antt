@@ -1,28 +1,5 @@
 -- A stage whose outputs have one high rail each, and whose nets are all observed, is sound.
-use Rattle.std.proofs.Common.{◌≡◌, ◌≢◌, ℕ, ◌<◌, Bool, true, false, not, ◌&&◌, ◌||◌, cond, List, [], ◌∷◌, ◌++◌, length, map, get_or, Option, Some, None, ◌⊎◌, inl, inr, refl, sym, ap, ◌∙◌, subst, append_assoc}
-use Rattle.std.specs.Prelude.{AllPairs, Contains, nat_eq, slice_get}
-use Rattle.std.specs.List.{list_all}
-use Rattle.std.proofs.lemmas.Bool.{cases_eq, and_parts, both_ways, eq-eqb, ne_eqb, or_left, or_right, false_from_ne_true}
-use Rattle.std.proofs.lemmas.List.{map-append}
-use Rattle.std.proofs.lemmas.List.Elements.{All-contains}
-use Rattle.std.proofs.lemmas.Option.{slice_get_within, get_or_from_slice_get}
-use Rattle.ncl_gates.specs.Gate.{set_of}
-use Rattle.ncl_netlist.specs.declared.ids.NetId.{NetId}
-use Rattle.ncl_shape.specs.declared.rails.Rails.{Rails}
-use Rattle.ncl_shape.specs.declared.stage.StageCell.{StageCell}
-use Rattle.ncl_shape.specs.Nets.{Nets, IsBelow, among, with_net}
-use Rattle.ncl_shape.specs.Closure.{pin_values}
-use Rattle.ncl_shape.specs.Stage.{StageData, IsStage, named_rails, nets_of, out_of, rail_nets, rail_of}
-use Rattle.ncl_base.proofs.Growing.{split_at}
-use Rattle.ncl_base.proofs.Members.{Member, here, there, member_cases, Contains-from_Member, Member-from_Contains, Member-append_right, Member-append_cases, Member-map, slice_get-from_Contains, Contains-from_slice_get}
-use Rattle.ncl_space.specs.Functions.{is_value}
-use Rattle.ncl_faults.specs.declared.variant.Variant.{Variant}
-use Rattle.ncl_faults.specs.declared.variant.Variant.TheVariants.{Base, Bit, Cell}
-use Rattle.ncl_faults.specs.Values.{both_rails, holds, kept_low, output_net, val}
-use Rattle.ncl_faults.specs.Faults.{BothRails, NoRail, Incomplete, Orphan, IsSound, IsWordOf, all_data, has_data, holds_at, is_illegal}
-use Rattle.ncl_stage.specs.Observed.{AreObserved, HasValidRails, falls_with}
-use Rattle.ncl_faults.proofs.Apart.{parts-differ}
-use Rattle.ncl_faults.proofs.ValueLaws.{holds-grows, val-below_base, val-output, val-rail}
+use Rattle.ncl_stage.proofs.Terms.{All-contains, AllPairs, AreObserved, Base, Bit, Bool, BothRails, Cell, Contains, Contains-from_Member, Contains-from_slice_get, HasValidRails, Incomplete, IsBelow, IsSound, IsStage, IsWordOf, List, Member, Member-append_cases, Member-append_right, Member-from_Contains, Member-map, NetId, Nets, NoRail, None, Option, Orphan, Rails, Some, StageCell, StageData, Variant, [], all_data, among, and_parts, ap, append_assoc, both_rails, both_ways, cases_eq, cond, eq-eqb, falls_with, false, false_from_ne_true, get_or, get_or_from_slice_get, has_data, here, holds, holds-grows, holds_at, inl, inr, is_illegal, is_value, kept_low, length, list_all, map, map-append, member_cases, named_rails, nat_eq, ne_eqb, nets_of, not, or_left, or_right, out_of, output_net, parts-differ, pin_values, rail_nets, rail_of, refl, set_of, slice_get, slice_get-from_Contains, slice_get_within, split_at, subst, sym, there, true, val, val-below_base, val-output, val-rail, with_net, ℕ, ◌&&◌, ◌++◌, ◌<◌, ◌||◌, ◌∙◌, ◌∷◌, ◌≡◌, ◌≢◌, ◌⊎◌}
 use Rattle.ncl_stage.proofs.NetLaws.{left-differ, named-at, rail-member}
 
 not_true : (b : Bool) → not b ≡ true → b ≡ false

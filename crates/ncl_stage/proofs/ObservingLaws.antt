@@ -1,43 +1,12 @@
 -- Functions of where nets are low and of what gates make where one net is, and that a net is observed where nothing is left.
-use Rattle.std.proofs.Common.{◌≡◌, ℕ, ◌+◌, ◌-◌, ◌*◌, ◌/◌, ◌%◌, ◌<◌, Bool, true, false, not, ◌&&◌, cond, List, [], ◌∷◌, ◌++◌, length, map, take, get_or, set, ◌⊎◌, inl, inr, refl, sym, ap, ◌∙◌, subst, arith}
-use Rattle.std.specs.Prelude.{All, Contains, nat_eq, if◌then◌else◌}
-use Rattle.std.proofs.lemmas.Bool.{both_ways, cases_eq, cases_lt, eq-eqb, ne_eqb}
-use Rattle.std.proofs.lemmas.List.{get_or-map, get_or-set_other, length-map, map-append, take_more}
-use Rattle.std.proofs.lemmas.List.Elements.{All-append, All-contains, All-head, All-tail, All-nil, All-cons}
-use Rattle.ncl_gates.specs.declared.kind.Kind.{Kind}
-use Rattle.ncl_gates.specs.declared.kind.Kind.TheVariants.{Th33w2}
-use Rattle.ncl_gates.specs.Dual.{crossed, dual_of, dual_pins, is_crossed}
-use Rattle.ncl_gates.specs.Gate.{arity_of, set_of}
-use Rattle.ncl_gates.proofs.DualLaws.{dual-set, dual_pins-map}
-use Rattle.ncl_netlist.specs.declared.ids.NetId.{NetId}
-use Rattle.ncl_shape.specs.declared.rails.Rails.{Rails}
-use Rattle.ncl_shape.specs.declared.stage.StageCell.{StageCell}
-use Rattle.ncl_shape.specs.Closure.{pin_values}
-use Rattle.ncl_shape.specs.Nets.{with_net}
-use Rattle.ncl_shape.specs.Stage.{StageData, IsStage, nets_of, out_of, rail_nets}
-use Rattle.ncl_base.proofs.Members.{Member, here, there, member_cases, member_of_map, Contains-from_Member, Member-append_left, Member-append_right, Member-from_Contains, Member-get_or}
-use Rattle.ncl_space.specs.Functions.{at, is_value, constant_table, gate_table}
-use Rattle.ncl_space.specs.Making.{HaveTables}
-use Rattle.ncl_space.specs.Space.{SpaceData, IsLive, Keeps}
-use Rattle.ncl_space.specs.declared.space.Ref.{Ref}
-use Rattle.ncl_space.proofs.MakingLaws.{have-at, have-kept}
-use Rattle.ncl_space.proofs.TableLaws.{at_table}
-use Rattle.ncl_stage.specs.BitOrder.{IsOrderOf, place_in, placed, taken}
-use Rattle.ncl_stage.specs.Changes.{net_at}
-use Rattle.ncl_faults.specs.declared.variant.Variant.TheVariants.{Base}
-use Rattle.ncl_stage.specs.Observed.{SomeFalls}
-use Rattle.ncl_stage.specs.Observing.{IsAlwaysObserved, IsLeft, IsShown, low_table_by, low_tables_by, table_without}
-use Rattle.ncl_stage.specs.StageTables.{net_table_by, net_tables_by, rail_at, ref_at}
-use Rattle.ncl_faults.specs.Values.{holds, val}
-use Rattle.ncl_stage.specs.Wiring.{WiringData, IsWiring, rail_places}
+use Rattle.ncl_stage.proofs.Terms.{All, All-append, All-cons, All-contains, All-head, All-nil, All-tail, AllDiffer, Base, Bool, Contains, Contains-from_Member, HaveTables, IsAlwaysObserved, IsLeft, IsLive, IsOrderOf, IsShown, IsStage, IsWiring, Keeps, Kind, List, Member, Member-append_left, Member-append_right, Member-from_Contains, Member-get_or, NetId, Rails, Ref, SomeFalls, SpaceData, StageCell, StageData, Th33w2, WiringData, [], ap, arith, arity_of, at, at_table, both_ways, cases_eq, cases_lt, cond, constant_table, crossed, dual-set, dual_of, dual_pins, dual_pins-map, eq-eqb, false, gate_table, get_or, get_or-map, get_or-set_other, have-at, have-kept, here, holds, if◌then◌else◌, inl, inr, is_crossed, is_value, length, length-map, low_table_by, low_tables_by, map, map-append, member_cases, member_of_map, nat_eq, ne_eqb, net_at, net_table_by, net_tables_by, nets_of, not, out_of, pin_values, placed, rail_at, rail_nets, rail_places, ref_at, refl, set, set_of, subst, sym, table_without, take, take_more, taken, there, true, val, val-output, with_net, ℕ, ◌%◌, ◌&&◌, ◌*◌, ◌++◌, ◌+◌, ◌-◌, ◌/◌, ◌<◌, ◌∙◌, ◌∷◌, ◌≡◌, ◌⊎◌}
+use Rattle.ncl_stage.specs.BitOrder.{place_in}
 use Rattle.ncl_stage.proofs.ChangedLaws.{net_at-cell, net_at-place}
 use Rattle.ncl_stage.proofs.NetLaws.{rail-net, out_at-is}
 use Rattle.ncl_stage.proofs.OrderLaws.{length-taken, placed-taken}
 use Rattle.ncl_stage.proofs.OrderedTables.{ordered-at, ordered-same}
 use Rattle.ncl_stage.proofs.OutputLaws.{net-ref}
 use Rattle.ncl_stage.proofs.PlaceLaws.{place_in-at}
-use Rattle.ncl_faults.proofs.ValueLaws.{val-output}
-use Rattle.ncl_faults.proofs.WiringLaws.{AllDiffer}
 
 -- ---- lists that grow
 -- one table more

@@ -1,7 +1,5 @@
 -- The bit orders of worked examples.
-use Rattle.std.proofs.Common.{◌≡◌, [], ◌∷◌, refl}
-use Rattle.ncl_stage.specs.BitOrder.{bit_order}
-use Rattle.ncl_faults.specs.Examples.{adder_stage, swapped_stage, unmet_stage}
+use Rattle.ncl_stage.proofs.Terms.{[], adder_stage, bit_order, refl, swapped_stage, unmet_stage, ◌∷◌, ◌≡◌}
 
 pub adder-order : bit_order adder_stage ≡ 0 ∷ 1 ∷ 2 ∷ []
 adder-order = refl

@@ -1,22 +1,8 @@
 -- The laws of words in an order of their bits.
-use Rattle.std.proofs.Common.{◌≡◌, ℕ, zero, suc, ◌+◌, ◌^◌, ◌<◌, ◌≤◌, Bool, true, false, cond, List, [], ◌∷◌, ◌++◌, length, map, get_or, Option, Some, ◌⊎◌, inl, inr, refl, sym, ap, ◌∙◌, subst, arith}
-use Rattle.std.specs.Prelude.{Contains, nat_eq}
-use Rattle.std.specs.List.{AllByRecursion, IsDistinct, find, list_any, range_with_len}
-use Rattle.std.specs.Option.{option_map}
-use Rattle.std.proofs.lemmas.Bool.{eqb-true, eq-eqb, both_ways}
-use Rattle.std.proofs.lemmas.List.{append-nil, append_assoc, get_or-map, length-map, map-append}
-use Rattle.std.proofs.lemmas.List.FromFn.{get_or-range_with_len, length-range_with_len}
-use Rattle.std.proofs.lemmas.Grind.{common_steps}
-use Rattle.std.proofs.lemmas.Cmp.{nat_eq_equiv}
-use Rattle.std.proofs.lemmas.Map.Keys.{IsDistinct-push}
-use Rattle.std.proofs.lemmas.Map.Steps.{length-le_from_distinct_below, le-length_from_below}
-use Rattle.std.proofs.lemmas.Simd.{map-map}
-use Rattle.ncl_base.proofs.Members.{Member, here, there, member_cases, Member-append_left, Member-append_right, Member-append_cases, Member-map, member_of_map, Member-from_Contains, Contains-from_Member, member_from_list_any, list_any-from_member}
-use Rattle.ncl_base.proofs.Tests.{stands_or_not, map-same}
-use Rattle.ncl_base.proofs.Ranges.{Member-range, below_of_range}
-use Rattle.ncl_space.specs.Table.{words, table_of, word_number}
-use Rattle.ncl_space.proofs.BoundLaws.{Member-words}
-use Rattle.ncl_stage.specs.BitOrder.{place_in, with_bit, with_bits, IsOrderOf, taken, placed, words_by}
+use Rattle.std.specs.List.{IsDistinct}
+use Rattle.ncl_stage.proofs.Terms.{AllByRecursion, Bool, Contains, Contains-from_Member, IsDistinct-push, IsOrderOf, List, Member, Member-append_cases, Member-append_left, Member-append_right, Member-from_Contains, Member-map, Member-range, Member-words, Option, Some, [], ap, append-nil, arith, below_of_range, both_ways, common_steps, cond, eq-eqb, eqb-true, false, find, get_or, get_or-map, get_or-range_with_len, here, inl, inr, le-length_from_below, length, length-le_from_distinct_below, length-map, length-range_with_len, list_any, list_any-from_member, map, map-append, map-map, map-same, member_cases, member_from_list_any, member_of_map, nat_eq, nat_eq_equiv, option_map, placed, range_with_len, refl, stands_or_not, subst, suc, sym, table_of, taken, there, true, with_bit, with_bits, word_number, words, words_by, zero, ℕ, ◌++◌, ◌+◌, ◌<◌, ◌^◌, ◌∙◌, ◌∷◌, ◌≡◌, ◌≤◌, ◌⊎◌}
+use Rattle.std.proofs.lemmas.List.{append_assoc}
+use Rattle.ncl_stage.specs.BitOrder.{place_in}
 use Rattle.ncl_stage.proofs.PlaceLaws.{place_in-at}
 
 -- ---- orders

@@ -1,17 +1,6 @@
 -- Tables over words in an order of their bits, as tables over places of that order; and that the bit order of a stage
 -- is one.
-use Rattle.std.proofs.Common.{◌≡◌, ℕ, zero, suc, ◌+◌, ◌<◌, Bool, true, false, not, cond, ◌||◌, List, [], ◌∷◌, length, inl, inr, refl, sym, ap, ◌∙◌, arith}
-use Rattle.std.specs.Prelude.{nat_eq}
-use Rattle.std.specs.List.{find, flat_map}
-use Rattle.std.specs.Option.{option_map}
-use Rattle.ncl_shape.specs.declared.rails.Rails.{Rails}
-use Rattle.ncl_shape.specs.Stage.{StageData, rail_nets}
-use Rattle.ncl_base.proofs.Members.{Member, member_cases, Member-append_cases}
-use Rattle.ncl_base.proofs.Joined.{member_of_flat_map}
-use Rattle.ncl_space.specs.Table.{words, table_of}
-use Rattle.ncl_space.specs.Functions.{at, least}
-use Rattle.ncl_space.proofs.TableLaws.{table_of-same, at_table, least-table_of, least-zero_table_of}
-use Rattle.ncl_stage.specs.BitOrder.{IsOrderOf, bit_order, bits_from, driver_of, met, placed, read_by, walk, words_by}
+use Rattle.ncl_stage.proofs.Terms.{Bool, IsOrderOf, List, Member, Member-append_cases, Rails, StageData, [], ap, arith, at, at_table, bit_order, bits_from, cond, driver_of, false, find, flat_map, inl, inr, least, least-table_of, least-zero_table_of, length, member_cases, member_of_flat_map, met, nat_eq, not, option_map, placed, rail_nets, read_by, refl, suc, sym, table_of, table_of-same, true, walk, words, words_by, zero, ℕ, ◌+◌, ◌<◌, ◌||◌, ◌∙◌, ◌∷◌, ◌≡◌}
 use Rattle.ncl_stage.proofs.OrderLaws.{is_order, length-placed, table_by, find_by}
 
 -- ---- each bit stands in the bit order once

@@ -1,35 +1,8 @@
 -- The tables of the DATA of the outputs, of their conjunctions, and of what a variant asks, as a space makes
 -- them from the tables of the nets.
-use Rattle.std.proofs.Common.{◌≡◌, ℕ, zero, suc, ◌+◌, ◌-◌, ◌^◌, ◌<◌, ◌≤◌, Bool, true, false, ◌||◌, ◌&&◌, List, [], ◌∷◌, ◌++◌, length, map, take, drop, get_or, Option, Some, None, refl, sym, ap, ◌∙◌, subst, arith}
-use Rattle.std.specs.Prelude.{All, Contains}
-use Rattle.std.specs.List.{list_all}
-use Rattle.std.specs.Option.{option_map}
-use Rattle.std.proofs.lemmas.List.{get_or-map, length-map, length-append, map-append, take-append-drop, take_more, take_all, get_or_push, get_or-take, length-take-le}
-use Rattle.std.proofs.lemmas.List.Elements.{All-head, All-tail}
-use Rattle.std.proofs.lemmas.List.Folds.{list_all-append}
-use Rattle.std.proofs.lemmas.Simd.{map-map}
-use Rattle.ncl_gates.specs.declared.kind.Kind.{Kind}
-use Rattle.ncl_gates.specs.declared.kind.Kind.TheVariants.{Th12, Th22}
-use Rattle.ncl_gates.specs.Gate.{set_of}
-use Rattle.ncl_shape.specs.declared.rails.Rails.{Rails}
-use Rattle.ncl_shape.specs.Stage.{StageData, IsStage, nets_of, rail_nets}
-use Rattle.ncl_space.specs.Table.{words, table_of}
-use Rattle.ncl_space.specs.Functions.{at, gate_table}
-use Rattle.ncl_space.specs.Space.{SpaceData, IsLive}
-use Rattle.ncl_space.specs.Making.{HaveTables}
-use Rattle.ncl_space.specs.declared.space.Ref.{Ref}
-use Rattle.ncl_space.proofs.TableLaws.{pow_suc, table_of-same, table_of-halves, at_table, at-low, at-high}
-use Rattle.ncl_space.proofs.MakingLaws.{have-length, have-at}
-use Rattle.ncl_faults.specs.declared.variant.Variant.{Variant}
-use Rattle.ncl_stage.specs.BitOrder.{IsOrderOf, placed, words_by}
-use Rattle.ncl_faults.specs.Faults.{has_data, is_illegal}
-use Rattle.ncl_stage.specs.Tables.{ValuesAt, fronts, net_functions, data_functions, data_fronts, function_tables_by, illegal_functions, all_data_function}
-use Rattle.ncl_faults.specs.Values.{val}
-use Rattle.ncl_stage.specs.Wiring.{WiringData, IsWiring, place_in, rail_places}
-use Rattle.ncl_stage.specs.StageTables.{net_table_by, net_tables_by, shared_tables_by, pair_table, all_table, conjunction, front_tables}
+use Rattle.ncl_stage.proofs.Terms.{All, All-head, All-tail, Bool, Contains, HaveTables, IsLive, IsOrderOf, IsStage, IsWiring, Kind, List, None, Option, Rails, Ref, Some, SpaceData, StageData, Th12, Th22, ValuesAt, Variant, WiringData, [], all_data_function, all_table, ap, arith, at, at-high, at-low, at_rail, at_table, conjunction, data_fronts, data_functions, drop, false, front_tables, fronts, function_tables_by, gate_table, get_or, get_or-map, get_or-take, get_or_push, has_data, have-at, have-length, illegal_functions, is_illegal, length, length-append, length-map, length-take-le, list_all, list_all-append, map, map-append, map-map, net_functions, net_table_by, net_tables_by, nets_of, option_map, pair_table, place_in, placed, pow_suc, rail_nets, rail_places, refl, set_of, shared_tables_by, subst, suc, sym, table_of, table_of-halves, table_of-same, take, take-append-drop, take_all, take_more, true, val, words, words_by, zero, ℕ, ◌&&◌, ◌++◌, ◌+◌, ◌-◌, ◌<◌, ◌^◌, ◌||◌, ◌∙◌, ◌∷◌, ◌≡◌, ◌≤◌}
 use Rattle.ncl_stage.proofs.OrderedTables.{ordered-at, ordered-same}
 use Rattle.ncl_stage.proofs.PlaceLaws.{place_in-at}
-use Rattle.ncl_faults.proofs.WiringLaws.{at_rail}
 
 -- a table is that of its values
 pub table_of-at : (n : ℕ) (t : List Bool) → length t ≡ 2 ^ n → table_of (words n) (at t) ≡ t

@@ -1,41 +1,24 @@
 -- Which cells read a net, one cell after another.
-use Rattle.std.proofs.Common.{◌≡◌, ℕ, ◌+◌, ◌<◌, ◌≤◌, List, [], length, map, take, get_or, inl, inr, sym, ap, ◌∙◌, subst, arith}
-use Rattle.std.specs.Prelude.{All, Contains, IfOk, Result}
-use Rattle.std.proofs.lemmas.Bool.{cases_lt}
-use Rattle.std.proofs.lemmas.Result.{IfOk-weaker}
-use Rattle.std.proofs.lemmas.List.{length-map, take_more}
-use Rattle.std.proofs.lemmas.List.Elements.{All-map}
-use Rattle.ncl_base.proofs.Growing.{from_push}
-use Rattle.ncl_netlist.specs.declared.ids.NetId.{NetId}
-use Rattle.ncl_shape.specs.Stage.{StageData, IsStage, nets_of}
-use Rattle.ncl_base.specs.NumberLists.{Grows, numbers_at, put_into}
-use Rattle.ncl_base.proofs.NumberLists.{grows-put, put-has}
-use Rattle.ncl_stage.specs.Wiring.{WiringData, IsWiring, pin_places, place_in}
+use Rattle.ncl_stage.proofs.Terms.{All, All-map, Contains, Grows, IfOk, IfOk-weaker, IsStage, IsWiring, List, NetId, Result, StageData, WiringData, [], ap, arith, cases_lt, from_push, get_or, inl, inr, length, length-map, map, nets_of, items_at, pin_places, place_in, reads-within, subst, sym, take, take_more, ℕ, ◌+◌, ◌<◌, ◌∙◌, ◌≡◌, ◌≤◌}
 use Rattle.ncl_stage.proofs.ChangedLaws.{nets-length}
 use Rattle.ncl_stage.proofs.PlaceLaws.{place_in-at}
-use Rattle.ncl_faults.proofs.WiringLaws.{reads-within}
-
--- a reader comes to a net
-pub more-at : (lists new : List (List ℕ)) (net reader : ℕ) → new ≡ put_into lists net reader → net < length lists → ((count : ℕ) → reader < count → Grows count lists new) × Contains (numbers_at new net) reader
-more-at lists new net reader is lt =
-    (λ count few. subst (Grows count lists) (sym is) (grows-put count lists net reader lt few), subst (λ now. Contains (numbers_at now net) reader) (sym is) (put-has lists net reader lt))
 
 -- nets up to a place have the reader, and so one more
-pub nets-next : (count : ℕ) (lists new : List (List ℕ)) (nets : List ℕ) (i reader d : ℕ) → i < length nets → Grows count lists new → Contains (numbers_at new (get_or nets i d)) reader → ((net : ℕ) → Contains (take i nets) net → Contains (numbers_at lists net) reader) → (net : ℕ) → Contains (take (i + 1) nets) net → Contains (numbers_at new net) reader
+pub nets-next : (count : ℕ) (lists new : List (List ℕ)) (nets : List ℕ) (i reader d : ℕ) → i < length nets → Grows count lists new → Contains (items_at new (get_or nets i d)) reader → ((net : ℕ) → Contains (take i nets) net → Contains (items_at lists net) reader) → (net : ℕ) → Contains (take (i + 1) nets) net → Contains (items_at new net) reader
 nets-next count lists new nets i reader d lt grows now before net has =
     elim (from_push (take i nets) (get_or nets i d) net (subst (λ ns. Contains ns net) (take_more nets i d lt) has)) [
       | inl earlier ↦ grows.kept net reader (before net earlier)
-      | inr same ↦ subst (λ n. Contains (numbers_at new n) reader) same now
+      | inr same ↦ subst (λ n. Contains (items_at new n) reader) same now
     ]
 
 -- the cells so far are readers of what they read, and so is one more
-pub each-next : (count rails : ℕ) (pins lists new : List (List ℕ)) (i : ℕ) → Grows count lists new → ((net : ℕ) → Contains (get_or pins i []) net → Contains (numbers_at new net) (rails + i)) → ((cell net : ℕ) → cell < i → Contains (get_or pins cell []) net → Contains (numbers_at lists net) (rails + cell)) → (cell net : ℕ) → cell < i + 1 → Contains (get_or pins cell []) net → Contains (numbers_at new net) (rails + cell)
+pub each-next : (count rails : ℕ) (pins lists new : List (List ℕ)) (i : ℕ) → Grows count lists new → ((net : ℕ) → Contains (get_or pins i []) net → Contains (items_at new net) (rails + i)) → ((cell net : ℕ) → cell < i → Contains (get_or pins cell []) net → Contains (items_at lists net) (rails + cell)) → (cell net : ℕ) → cell < i + 1 → Contains (get_or pins cell []) net → Contains (items_at new net) (rails + cell)
 each-next count rails pins lists new i grows now before cell net lt reads =
     elim (cases_lt cell i) [
       | inl earlier ↦ grows.kept net (rails + cell) (before cell net earlier reads)
       | inr later ↦
           let at : i ≡ cell = omega (arith, lt, later) in
-          subst (λ n. Contains (numbers_at new net) (rails + n)) at (now net (subst (λ n. Contains (get_or pins n []) net) (sym at) reads))
+          subst (λ n. Contains (items_at new net) (rails + n)) at (now net (subst (λ n. Contains (get_or pins n []) net) (sym at) reads))
     ]
 
 -- what the cells of a stage read are its nets, and it has a net for each cell

@@ -1,19 +1,5 @@
 -- The values and the count of a stage do not depend on the order in which its cells are listed.
-use Rattle.std.proofs.Common.{◌≡◌, ℕ, zero, suc, Bool, ◌||◌, ◌&&◌, List, [], ◌∷◌, ◌++◌, map, length, Option, None, Some, refl, sym, ap, ◌∙◌, subst}
-use Rattle.std.proofs.Math.Path.{fun_ext}
-use Rattle.std.specs.Prelude.{slice_get, nat_eq}
-use Rattle.std.specs.List.Sorted.{IsPermutation}
-use Rattle.std.proofs.lemmas.List.Sorted.{list_any-IsPermutation, length_permutation, IsPermutation-map, IsPermutation-append, IsPermutation-append_left, IsPermutation-append_right}
-use Rattle.ncl_shape.specs.declared.stage.StageCell.{StageCell}
-use Rattle.ncl_shape.specs.Nets.{Nets, round, rounds}
-use Rattle.ncl_shape.specs.Stage.{StageData, rail_nets, nets_of, out_of}
-use Rattle.ncl_space.specs.Table.{table_of}
-use Rattle.ncl_stage.specs.BitOrder.{bit_order, words_by}
-use Rattle.ncl_space.proofs.BeadLaws.{bead_count-permuted}
-use Rattle.ncl_faults.specs.declared.variant.Variant.{Variant}
-use Rattle.ncl_faults.specs.declared.variant.Variant.TheVariants.{Base, Bit, Cell}
-use Rattle.ncl_faults.specs.Values.{kept_low, output_net, rises, start, val}
-use Rattle.ncl_stage.specs.Tables.{ValuesAt, net_functions, data_functions, data_fronts, all_data_function, orphan_function, question_functions, functions_of, tables_of, count}
+use Rattle.ncl_stage.proofs.Terms.{Base, Bit, Bool, Cell, IsPermutation, IsPermutation-append, IsPermutation-append_left, IsPermutation-append_right, IsPermutation-map, List, Nets, None, Option, Some, StageCell, StageData, ValuesAt, Variant, [], all_data_function, ap, bead_count-permuted, bit_order, count, data_fronts, data_functions, fun_ext, functions_of, kept_low, length, length_permutation, list_any-IsPermutation, map, nat_eq, net_functions, nets_of, orphan_function, out_of, output_net, question_functions, rail_nets, refl, rises, round, rounds, slice_get, start, subst, suc, sym, table_of, tables_of, val, words_by, zero, ℕ, ◌&&◌, ◌++◌, ◌||◌, ◌∙◌, ◌∷◌, ◌≡◌}
 
 -- as many rounds over the same cells in another order
 rounds-permuted : {C : Type 0} (out : C → ℕ) (raises : Nets → C → Bool) (xs ys : List C) → IsPermutation xs ys → (n : ℕ) (v : Nets) → rounds out raises xs n v ≡ rounds out raises ys n v

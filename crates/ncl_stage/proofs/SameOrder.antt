@@ -1,14 +1,5 @@
 -- The bit order of a stage does not depend on the order in which its cells are listed.
-use Rattle.std.proofs.Common.{◌≡◌, ℕ, zero, suc, List, [], ◌∷◌, ◌++◌, length, map, ◌⊎◌, inl, inr, refl, sym, ap, ◌∙◌}
-use Rattle.std.specs.List.{flat_map, range_with_len}
-use Rattle.std.specs.List.Sorted.{IsPermutation}
-use Rattle.std.proofs.lemmas.Bool.{cases_eq}
-use Rattle.std.proofs.lemmas.List.Sorted.{Contains-permutation, IsPermutation-sym, length_permutation}
-use Rattle.ncl_shape.specs.declared.stage.StageCell.{StageCell}
-use Rattle.ncl_shape.specs.Stage.{StageData, IsStage, rail_nets, out_of}
-use Rattle.ncl_base.proofs.Members.{Member, here, there, member_cases, Contains-from_Member, Member-from_Contains}
-use Rattle.ncl_stage.specs.BitOrder.{bit_order, bits_from, driver_of, met, read_by, with_bits}
-use Rattle.ncl_faults.proofs.Apart.{right-differ}
+use Rattle.ncl_stage.proofs.Terms.{Contains-from_Member, Contains-permutation, IsPermutation, IsPermutation-sym, IsStage, List, Member, Member-from_Contains, StageCell, StageData, [], ap, bit_order, bits_from, cases_eq, driver_of, flat_map, here, inl, inr, length, length_permutation, map, member_cases, met, out_of, rail_nets, range_with_len, read_by, refl, right-differ, suc, sym, there, with_bits, zero, ℕ, ◌++◌, ◌∙◌, ◌∷◌, ◌≡◌, ◌⊎◌}
 use Rattle.ncl_stage.proofs.BitOrderLaws.{driver-none, driver-some, flat_map_same}
 use Rattle.ncl_stage.proofs.Reordered.{with_cells}
 

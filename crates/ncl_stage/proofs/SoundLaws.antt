@@ -1,27 +1,9 @@
 -- In a sound stage each net that is high is observed.
-use Rattle.std.proofs.Common.{◌≡◌, ℕ, Bool, true, false, not, ◌&&◌, ◌||◌, cond, List, [], ◌∷◌, ◌++◌, map, get_or, Some, ◌⊎◌, inl, inr, refl, sym, ap, ◌∙◌, subst, append_assoc, append-nil}
-use Rattle.std.specs.Prelude.{Contains, nat_eq, slice_get}
-use Rattle.std.specs.List.{list_all}
-use Rattle.std.proofs.lemmas.Bool.{cases_eq, and_parts, both_ways, eq-eqb, ne_eqb, or_cases, or_left, or_right, false_from_ne_true}
-use Rattle.std.proofs.lemmas.List.Elements.{All-contains}
-use Rattle.std.proofs.lemmas.Option.{slice_get_within, get_or_from_slice_get}
-use Rattle.ncl_netlist.specs.declared.ids.NetId.{NetId}
-use Rattle.ncl_shape.specs.declared.rails.Rails.{Rails}
-use Rattle.ncl_shape.specs.declared.stage.StageCell.{StageCell}
-use Rattle.ncl_shape.specs.Nets.{Nets, among, with_net}
-use Rattle.ncl_shape.specs.Stage.{StageData, IsStage, named_rails, nets_of, out_of, rail_nets, rail_of}
-use Rattle.ncl_shape.proofs.ClosureLaws.{set_of-grows}
-use Rattle.ncl_base.proofs.Members.{Member, here, there, member_cases, Contains-from_Member, Member-from_Contains, Member-append_left, Member-append_right, Member-append_cases, Member-map, member_of_map, recursion_from_members, slice_get-from_Contains}
-use Rattle.ncl_space.specs.Functions.{is_value}
-use Rattle.ncl_faults.specs.declared.variant.Variant.{Variant}
-use Rattle.ncl_faults.specs.declared.variant.Variant.TheVariants.{Base, Bit, Cell}
-use Rattle.ncl_faults.specs.Values.{both_rails, holds, kept_low, output_net, val}
-use Rattle.ncl_faults.specs.Faults.{NoRail, Incomplete, Orphan, IsSound, IsWordOf, all_data, has_data, holds_at}
-use Rattle.ncl_stage.specs.Observed.{AreObserved, falls_with}
+use Rattle.ncl_stage.proofs.Terms.{All-contains, AreObserved, Base, Bit, Bool, Cell, Contains, Contains-from_Member, Incomplete, IsSound, IsStage, IsWordOf, List, Member, Member-append_cases, Member-append_left, Member-append_right, Member-from_Contains, Member-map, NetId, Nets, NoRail, Orphan, Rails, Some, StageCell, StageData, Variant, [], all_data, among, and_parts, ap, append_assoc, both_rails, both_ways, cases_eq, cond, eq-eqb, falls_with, false, false_from_ne_true, get_or, get_or_from_slice_get, has_data, here, holds, holds_at, inl, inr, is_value, kept_low, list_all, map, member_cases, member_of_map, named_rails, nat_eq, ne_eqb, nets_of, not, or_cases, or_left, or_right, out_of, output_net, rail_nets, rail_of, recursion_from_members, refl, set_of-grows, slice_get, slice_get-from_Contains, slice_get_within, subst, sym, there, true, val, val-output, val-rail, val-within, with_net, ℕ, ◌&&◌, ◌++◌, ◌||◌, ◌∙◌, ◌∷◌, ◌≡◌, ◌⊎◌}
+use Rattle.std.proofs.Common.{append-nil}
 use Rattle.ncl_stage.proofs.NetLaws.{left-differ, named-at}
 use Rattle.ncl_stage.proofs.ObservedLaws.{rail-cases}
 use Rattle.ncl_stage.proofs.ObservingLaws.{rails-listed}
-use Rattle.ncl_faults.proofs.ValueLaws.{val-output, val-rail, val-within}
 
 -- what holds of the rails of the inputs, and of the output of each cell where it holds of its pins, holds of every net
 module _ (s : StageData) (is : IsStage s) (P : ℕ → Type 0) (cell : (c : StageCell) → Member c s.cells → ((pin : NetId) → Member pin c.ins.items → P pin.0) → P (out_of c)) where

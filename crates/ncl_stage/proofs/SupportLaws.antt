@@ -1,22 +1,6 @@
 -- Where two words agree on the bits on which a net can depend, the net has one value, under every variant.
-use Rattle.std.proofs.Common.{◌≡◌, ℕ, ◌<◌, Bool, true, false, not, ◌&&◌, List, [], ◌∷◌, ◌++◌, length, map, get_or, Some, inl, inr, refl, sym, ap, ◌∙◌, subst, append_assoc, append-nil}
-use Rattle.std.specs.Prelude.{Contains, slice_get}
-use Rattle.std.proofs.lemmas.List.Elements.{All-contains}
-use Rattle.std.proofs.lemmas.Option.{slice_get_within, get_or_from_slice_get}
-use Rattle.ncl_gates.specs.Gate.{set_of}
-use Rattle.ncl_netlist.specs.declared.ids.NetId.{NetId}
-use Rattle.ncl_shape.specs.declared.rails.Rails.{Rails}
-use Rattle.ncl_shape.specs.declared.stage.StageCell.{StageCell}
-use Rattle.ncl_shape.specs.Nets.{among}
-use Rattle.ncl_shape.specs.Closure.{pin_values}
-use Rattle.ncl_shape.specs.Stage.{StageData, IsStage, named_rails, nets_of, out_of, rail_nets, rail_of}
-use Rattle.ncl_base.proofs.Members.{Member, here, there, member_cases, Contains-from_Member, Member-from_Contains, Member-append_left, Member-append_right, Member-append_cases, Member-map, member_of_map, slice_get-from_Contains}
-use Rattle.ncl_space.specs.Functions.{is_value}
-use Rattle.ncl_faults.specs.declared.variant.Variant.{Variant}
-use Rattle.ncl_faults.specs.Values.{kept_low, val}
-use Rattle.ncl_faults.specs.Faults.{IsWordOf}
-use Rattle.ncl_stage.specs.Supports.{AgreeOn, AreSupports, Marks}
-use Rattle.ncl_faults.proofs.ValueLaws.{val-output, val-rail}
+use Rattle.ncl_stage.proofs.Terms.{AgreeOn, All-contains, AreSupports, Bool, Contains, Contains-from_Member, IsStage, IsWordOf, List, Marks, Member, Member-append_cases, Member-append_left, Member-append_right, Member-from_Contains, Member-map, NetId, Rails, Some, StageCell, StageData, Variant, [], among, ap, append_assoc, false, get_or, get_or_from_slice_get, here, inl, inr, is_value, kept_low, length, map, member_cases, member_of_map, named_rails, nets_of, not, out_of, pin_values, rail_nets, rail_of, refl, set_of, slice_get, slice_get-from_Contains, slice_get_within, subst, sym, there, true, val, val-output, val-rail, ℕ, ◌&&◌, ◌++◌, ◌<◌, ◌∙◌, ◌∷◌, ◌≡◌}
+use Rattle.std.proofs.Common.{append-nil}
 use Rattle.ncl_stage.proofs.NetLaws.{left-differ, named-at}
 use Rattle.ncl_stage.proofs.ObservedLaws.{rail-cases}
 

@@ -1,24 +1,6 @@
 -- Nets that a variant leaves as they are, so that nobody has to look at them.
-use Rattle.std.proofs.Common.{◌≡◌, ◌≢◌, ℕ, zero, suc, ◌+◌, ◌-◌, ◌*◌, ◌<◌, ◌≤◌, Bool, true, false, List, [], ◌∷◌, ◌++◌, length, map, take, drop, get_or, inl, inr, refl, sym, ap, ◌∙◌, subst, arith}
-use Rattle.std.specs.Prelude.{Contains, ◌||◌, ◌==◌, ◌↔◌, Some}
-use Rattle.std.proofs.lemmas.Bool.{cases_lt, ne_eqb}
-use Rattle.std.proofs.lemmas.List.{get_or_append_left, get_or-append_right, length-append, map-append}
-use Rattle.std.specs.List.{take-map, drop-map}
-use Rattle.std.proofs.lemmas.List.Elements.{All-append, All-drop, All-take}
-use Rattle.ncl_base.proofs.Members.{Member-get_or, Contains-from_Member}
-use Rattle.ncl_shape.specs.declared.rails.Rails.{Rails}
-use Rattle.ncl_shape.specs.Stage.{StageData, IsStage, nets_of}
-use Rattle.ncl_space.specs.Space.{SpaceData, IsLive, with_tables}
-use Rattle.ncl_space.specs.Making.{HaveTables}
-use Rattle.ncl_space.specs.declared.space.Ref.{Ref}
-use Rattle.ncl_space.proofs.MakingLaws.{Making, held-along, with_tables-live}
-use Rattle.ncl_stage.specs.BitOrder.{IsOrderOf}
-use Rattle.ncl_faults.specs.declared.variant.Variant.{Variant}
-use Rattle.ncl_faults.specs.declared.variant.Variant.TheVariants.{Base}
-use Rattle.ncl_stage.specs.Changes.{IsUnchanged, MarksChanges, net_at}
-use Rattle.ncl_stage.specs.StageTables.{net_table_by, net_tables_by}
-use Rattle.ncl_faults.specs.Values.{both_rails, kept_low}
-use Rattle.ncl_stage.specs.Wiring.{WiringData, IsWiring, place_in}
+use Rattle.ncl_stage.proofs.Terms.{All-append, All-drop, All-take, Base, Bool, Contains, Contains-from_Member, HaveTables, IsLive, IsOrderOf, IsStage, IsUnchanged, IsWiring, List, Making, MarksChanges, Member-get_or, Rails, Ref, SpaceData, StageData, Variant, WiringData, [], ap, arith, both_rails, cases_lt, drop, drop-map, false, get_or, get_or-append_right, get_or_append_left, held-along, inl, inr, kept_low, length, length-append, map, map-append, ne_eqb, net_at, net_table_by, net_tables_by, nets_of, place_in, refl, subst, suc, sym, take, take-map, true, with_tables, with_tables-live, zero, ℕ, ◌*◌, ◌++◌, ◌+◌, ◌-◌, ◌<◌, ◌==◌, ◌↔◌, ◌∙◌, ◌∷◌, ◌≡◌, ◌≢◌, ◌≤◌}
+use Rattle.std.specs.Prelude.{◌||◌, Some}
 use Rattle.ncl_stage.proofs.ChangedLaws.{nets-length, net_at-rail, net_at-cell, pins-before, rail-unreached, places-unreached}
 use Rattle.ncl_stage.proofs.PlaceLaws.{place_in-at}
 

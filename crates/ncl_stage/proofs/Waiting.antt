@@ -1,13 +1,5 @@
 -- Marks of the places that wait to be looked at.
-use Rattle.std.proofs.Common.{◌≡◌, ℕ, ◌+◌, ◌*◌, ◌<◌, ◌≤◌, Bool, true, false, List, [], length, take, get_or, set, inl, inr, refl, sym, ap, ◌∙◌, subst, arith}
-use Rattle.std.specs.Prelude.{Contains}
-use Rattle.std.proofs.lemmas.Bool.{cases_eq, cases_lt}
-use Rattle.std.proofs.lemmas.List.{get_or-set_other, get_or-set_same, take_more}
-use Rattle.ncl_base.proofs.Growing.{from_push}
-use Rattle.ncl_shape.specs.Stage.{StageData, IsStage}
-use Rattle.ncl_faults.specs.declared.variant.Variant.{Variant}
-use Rattle.ncl_stage.specs.Changes.{AreWaiting, IsUnchanged, net_at}
-use Rattle.ncl_stage.specs.Wiring.{WiringData, IsWiring}
+use Rattle.ncl_stage.proofs.Terms.{AreWaiting, Bool, Contains, IsStage, IsUnchanged, IsWiring, List, StageData, Variant, WiringData, [], ap, arith, cases_eq, cases_lt, false, from_push, get_or, get_or-set_other, get_or-set_same, inl, inr, length, net_at, refl, set, subst, sym, take, take_more, true, ℕ, ◌*◌, ◌+◌, ◌<◌, ◌∙◌, ◌≡◌, ◌≤◌}
 use Rattle.ncl_stage.proofs.Unvisited.{unvisited}
 
 -- a place is marked

@@ -1,17 +1,6 @@
 -- The laws of a walk over places.
-use Rattle.std.proofs.Common.{◌≡◌, ℕ, ◌+◌, ◌-◌, ◌*◌, ◌/◌, ◌<◌, ◌≤◌, Bool, true, false, not, cond, List, [], ◌∷◌, ◌++◌, length, take, get_or, set, reverse, inl, inr, refl, sym, ap, ◌∙◌, subst, arith, append_assoc}
-use Rattle.std.specs.Prelude.{◌⊎◌, nat_eq, count_by}
-use Rattle.std.specs.List.{flat_map, range_with_len}
-use Rattle.std.proofs.lemmas.Bool.{cases_eq}
-use Rattle.std.proofs.lemmas.List.{append-nil, take_more, reverse-append, reverse-reverse, get_or-set_other, length-set}
-use Rattle.std.proofs.lemmas.List.Concat.{flat_map-append}
-use Rattle.std.proofs.lemmas.List.Elements.{All-contains}
-use Rattle.std.proofs.lemmas.List.Sums.{sum_by-set}
-use Rattle.ncl_base.proofs.Members.{Member, here, there, member_cases, Member-append_left, Member-append_right, Member-append_cases, Contains-from_Member, list_any-from_member}
-use Rattle.ncl_base.proofs.Tests.{stands_or_not}
-use Rattle.ncl_base.proofs.Ranges.{range_with_len-more}
-use Rattle.ncl_stage.specs.BitOrder.{with_bit, with_bits}
-use Rattle.ncl_stage.specs.Walk.{AreMet, ReadEarlier, was_entered, IsAhead, IsWalk, IsDone}
+use Rattle.ncl_stage.proofs.Terms.{All-contains, AreMet, Bool, Contains-from_Member, IsAhead, IsDone, IsWalk, List, Member, Member-append_cases, Member-append_left, Member-append_right, ReadEarlier, [], ap, append-nil, append_assoc, arith, cases_eq, cond, count_by, false, flat_map, flat_map-append, get_or, get_or-set_other, here, inl, inr, length, length-set, list_any-from_member, member_cases, nat_eq, not, range_with_len, range_with_len-more, refl, reverse, reverse-append, reverse-reverse, set, stands_or_not, subst, sum_by-set, sym, take, take_more, there, true, was_entered, with_bit, with_bits, ℕ, ◌*◌, ◌++◌, ◌+◌, ◌-◌, ◌/◌, ◌<◌, ◌∙◌, ◌∷◌, ◌≡◌, ◌≤◌}
+use Rattle.std.specs.Prelude.{◌⊎◌}
 
 pub with_bits-append : (a xs ys : List ℕ) → with_bits a (xs ++ ys) ≡ with_bits (with_bits a xs) ys
 with_bits-append a [] ys = refl

@@ -7,7 +7,7 @@ use Rattle.ncl_shape.specs.declared.stage.StageCell.{StageCell}
 use Rattle.ncl_shape.specs.Stage.{StageData, nets_of}
 pub use Rattle.ncl_stage.specs.BitOrder.{place_in}
 use Rattle.ncl_stage.specs.BitOrder.{IsOrderOf}
-use Rattle.ncl_base.specs.NumberLists.{numbers_at}
+use Rattle.ncl_base.specs.ListTables.{items_at}
 
 -- the nets in their order, and by places in it the inputs of each cell and the rails of each output, rail 0
 -- first; and an order of the bits
@@ -33,5 +33,5 @@ pub record IsWiring (s : StageData) (w : WiringData) : Type 0 where
 -- of each net the places of the cells that read it; so many nets stand before the outputs of the cells
 pub record AreReaders (rails : ℕ) (pins : List (List ℕ)) (nets : ℕ) (readers : List (List ℕ)) : Type 0 where
   pub many : length readers ≡ nets
-  pub each : (cell net : ℕ) → cell < length pins → Contains (slice_index_or pins cell []) net → Contains (numbers_at readers net) (rails + cell)
-  pub within : (net place : ℕ) → Contains (numbers_at readers net) place → place < nets
+  pub each : (cell net : ℕ) → cell < length pins → Contains (slice_index_or pins cell []) net → Contains (items_at readers net) (rails + cell)
+  pub within : (net place : ℕ) → Contains (items_at readers net) place → place < nets

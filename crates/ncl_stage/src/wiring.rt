@@ -7,10 +7,10 @@ ghost use Rattle.ncl_stage.specs.BitOrder.{IsOrderOf, bit_order};
 ghost use Rattle.ncl_stage.specs.Wiring.{IsWiring, pin_places, place_in, rail_places};
 
 use crate::input_order::{BitOrder, order_of};
-use crate::readers::{Readers, readers_of};
+use crate::readers::readers_of;
 use arrayvec::ArrayVec;
 use indexmap::IndexSet;
-use ncl_base::Memory;
+use ncl_base::{ListTable, Memory};
 use ncl_netlist::NetId;
 use ncl_shape::{Stage, StageCell};
 use std::alloc::Global;
@@ -25,7 +25,7 @@ pub struct Wiring {
     pins: Vec<ArrayVec<usize, 4>>,
     outputs: Vec<(usize, usize)>,
     order: BitOrder,
-    readers: Readers,
+    readers: ListTable<usize>,
 }
 
 impl Model for Wiring {
@@ -133,7 +133,7 @@ impl Wiring {
         ensures all { (cell : ℕ) → cell < length self.now.pins → Contains (slice_index_or self.now.pins cell []) place → Contains result.now (length self.now.nets - length self.now.pins + cell) }
         ensures within { All (λ reader. reader < length self.now.nets) result.now }
     {
-        self.readers.of(place)
+        self.readers.at(place)
     }
 
     /// The places of the rails of each output, rail 0 first. Takes no memory.

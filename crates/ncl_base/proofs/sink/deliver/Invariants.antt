@@ -1,5 +1,4 @@
-use Rattle.std.proofs.Common.{length, take, ◌-◌, ◌≤◌}
-use Rattle.ncl_base.specs.Files.{Grew}
+use Rattle.ncl_base.proofs.Terms.{Grew, length, take, ◌-◌, ◌≤◌}
 use Rattle.ncl_base.proofs.sink.deliver.Given as goal
 
 -- what was written so far

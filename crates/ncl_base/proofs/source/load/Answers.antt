@@ -1,7 +1,4 @@
-use Rattle.std.proofs.Common.{◌≡◌, ℕ, ◌+◌, List, ◌++◌, length, drop, Option, Some, None, IfSome, sym, ap, ◌∙◌, arith}
-use Rattle.std.proofs.Math.Seq.{drop-append_seam}
-use Rattle.ncl_base.specs.Files.{Files, bytes_of}
-use Rattle.ncl_base.specs.declared.source.TheConstants.{MOST_BYTES}
+use Rattle.ncl_base.proofs.Terms.{Files, IfSome, List, MOST_BYTES, None, Option, Some, ap, arith, bytes_of, drop, drop-append_seam, length, sym, ℕ, ◌++◌, ◌+◌, ◌∙◌, ◌≡◌}
 use Rattle.ncl_base.proofs.source.load.Goals as goal
 
 -- what is left of a file is what comes after the bytes that were read

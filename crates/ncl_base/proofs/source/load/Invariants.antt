@@ -1,6 +1,4 @@
-use Rattle.std.proofs.Common.{◌+◌, ◌-◌, ◌≡◌, ◌≤◌, ◌⊎◌, ◌++◌, List, ℕ, Some, IfSome, IsTrue, vec_len}
-use Rattle.ncl_base.specs.Files.{bytes_of, raised}
-use Rattle.ncl_base.specs.declared.source.TheConstants.{MOST_BYTES}
+use Rattle.ncl_base.proofs.Terms.{IfSome, IsTrue, List, MOST_BYTES, Some, bytes_of, raised, vec_len, ℕ, ◌++◌, ◌+◌, ◌-◌, ◌≡◌, ◌≤◌, ◌⊎◌}
 use Rattle.ncl_base.proofs.source.load.Given as goal
 
 -- what was read, and what is left, is the file

@@ -1,6 +1,4 @@
-use Rattle.std.proofs.Common.{◌≡◌, length, sym, ap, ◌∙◌, arith, true}
-use Rattle.std.specs.Str.{bytes_eq}
-use Rattle.ncl_base.specs.Held.{bytes_at}
+use Rattle.ncl_base.proofs.Terms.{ap, arith, bytes_at, bytes_eq, length, sym, true, ◌∙◌, ◌≡◌}
 use Rattle.ncl_base.proofs.Named.{first_here, past_all}
 use Rattle.ncl_base.proofs.steady_source.place_of.Goals as goal
 

@@ -1,6 +1,4 @@
-use Rattle.std.proofs.Common.{◌≡◌, drop}
-use Rattle.ncl_base.specs.Files.{bytes_of}
-use Rattle.ncl_base.specs.Held.{files_of, has_file}
+use Rattle.ncl_base.proofs.Terms.{bytes_of, drop, files_of, has_file, ◌≡◌}
 use Rattle.ncl_base.proofs.steady_source.place_of.Given as goal
 
 -- the files before this one have other names

@@ -1,18 +1,4 @@
-use Rattle.std.proofs.Common.{rules, ◌≡◌, ℕ, ◌+◌, ◌-◌, ◌<◌, ◌≤◌, Bool, true, false, not, List, [], ◌∷◌, ◌++◌, Err, length, get_or, take, drop, replicate, refl, sym, ◌∙◌, ap, subst, arith}
-use Rattle.std.specs.Prelude.{Contains, IsTrue, ◌↔◌}
-use Rattle.std.proofs.lemmas.List.{get_or-replicate, length-append, length-map, length-replicate, length-take-le, take_all}
-use Rattle.ncl_base.proofs.Tests.{from_test}
-use Rattle.ncl_shape.specs.Stage.{StageData, IsStage, nets_of}
-use Rattle.ncl_space.specs.Space.{SpaceData, Keeps, Makes}
-use Rattle.ncl_space.specs.Making.{MakesAll}
-use Rattle.ncl_space.specs.declared.space.Ref.{Ref}
-use Rattle.ncl_space.proofs.SpaceLaws.{keeps_along}
-use Rattle.ncl_space.proofs.MakingLaws.{Making, making-none, making-next, too_much-next, have-length, handed_on}
-use Rattle.ncl_faults.specs.declared.variant.Variant.{Variant}
-use Rattle.ncl_faults.specs.declared.variant.Variant.TheVariants.{Base}
-use Rattle.ncl_stage.specs.Changes.{AreWaiting, IsUnchanged, MarksChanges, net_at}
-use Rattle.ncl_stage.specs.StageTables.{ValuesData, AreValues, net_table_by, net_tables_by}
-use Rattle.ncl_stage.specs.Wiring.{WiringData, pin_places}
+use Rattle.ncl_stage.proofs.Terms.{AreValues, AreWaiting, Base, Bool, Contains, Err, IsStage, IsTrue, IsUnchanged, Keeps, List, Makes, MakesAll, Making, MarksChanges, Ref, SpaceData, StageData, ValuesData, Variant, WiringData, [], ap, arith, drop, false, from_test, get_or, get_or-replicate, handed_on, have-length, keeps_along, length, length-append, length-map, length-replicate, length-take-le, making-next, making-none, net_at, net_table_by, net_tables_by, nets_of, not, pin_places, refl, replicate, rules, subst, sym, take, take_all, too_much-next, true, ℕ, ◌++◌, ◌+◌, ◌-◌, ◌<◌, ◌↔◌, ◌∙◌, ◌∷◌, ◌≡◌, ◌≤◌}
 use Rattle.ncl_stage.proofs.ChangedLaws.{marks-more, marks-none, nets-length, table-at, value-at, values-kept}
 use Rattle.ncl_stage.proofs.Unvisited.{making-along, marks-along}
 use Rattle.ncl_stage.proofs.Waiting.{between, waiting-next}

@@ -1,7 +1,4 @@
-use Rattle.std.proofs.Common.{◌≡◌, ◌-◌, ◌≤◌, length, take}
-use Rattle.ncl_space.proofs.MakingLaws.{Making}
-use Rattle.ncl_stage.specs.Changes.{AreWaiting, MarksChanges}
-use Rattle.ncl_stage.specs.StageTables.{net_tables_by}
+use Rattle.ncl_stage.proofs.Terms.{AreWaiting, Making, MarksChanges, length, net_tables_by, take, ◌-◌, ◌≡◌, ◌≤◌}
 use Rattle.ncl_stage.proofs.changes.follow.Given as goal
 
 -- the functions of the nets at the places so far have been made, and exactly those that have changed are marked; what is kept

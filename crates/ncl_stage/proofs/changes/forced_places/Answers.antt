@@ -1,15 +1,5 @@
-use Rattle.std.proofs.Common.{◌≡◌, ℕ, ◌<◌, ◌≤◌, List, Some, length, get_or, refl, sym, ap, ◌∙◌, subst}
-use Rattle.std.specs.Prelude.{Contains, slice_get}
-use Rattle.std.proofs.lemmas.Option.{slice_get-get_or, slice_get_past}
-use Rattle.ncl_base.proofs.Members.{Member, Contains-from_Member, Member-append_left, Member-append_right, Member-get_or, Member-map}
-use Rattle.ncl_shape.specs.declared.rails.Rails.{Rails}
-use Rattle.ncl_shape.specs.declared.stage.StageCell.{StageCell}
-use Rattle.ncl_shape.specs.Stage.{StageData, IsStage, rail_nets, nets_of, out_of}
-use Rattle.ncl_stage.specs.Changes.{net_at}
-use Rattle.ncl_faults.specs.Values.{both_rails, kept_low, output_net}
-use Rattle.ncl_stage.specs.Wiring.{place_in}
+use Rattle.ncl_stage.proofs.Terms.{Contains, Contains-from_Member, IsStage, List, Member, Member-append_left, Member-append_right, Member-get_or, Member-map, Rails, Some, StageCell, StageData, ap, both_rails, get_or, kept_low, length, net_at, nets_of, one-member, out_of, output_net, place_in, rail_nets, refl, slice_get, slice_get-get_or, slice_get_past, subst, sym, zero-member, ℕ, ◌<◌, ◌∙◌, ◌≡◌, ◌≤◌}
 use Rattle.ncl_stage.proofs.Unvisited.{other-rail, other-output, place-within, some-net}
-use Rattle.ncl_faults.proofs.WiringLaws.{zero-member, one-member}
 use Rattle.ncl_stage.proofs.changes.forced_places.Goals as goal
 
 -- the rails of an input that is read are nets

@@ -1,5 +1,4 @@
-use Rattle.std.proofs.Common.{◌≡◌, true, false, get_or, take}
-use Rattle.std.specs.List.{list_any}
+use Rattle.ncl_stage.proofs.Terms.{false, get_or, list_any, take, true, ◌≡◌}
 use Rattle.ncl_stage.proofs.changes.is_marked.Given as goal
 
 -- no mark stands at the places so far

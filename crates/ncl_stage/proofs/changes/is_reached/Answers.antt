@@ -1,10 +1,4 @@
-use Rattle.std.proofs.Common.{◌≡◌, ℕ, ◌+◌, ◌-◌, ◌*◌, ◌<◌, true, length, get_or, sym, ◌∙◌, ap, subst, arith}
-use Rattle.std.specs.Prelude.{All}
-use Rattle.std.specs.List.{list_any}
-use Rattle.std.proofs.lemmas.List.{length-map}
-use Rattle.ncl_shape.specs.Stage.{StageData}
-use Rattle.ncl_stage.specs.Changes.{IsUnreached, net_at}
-use Rattle.ncl_stage.specs.Wiring.{WiringData, pin_places}
+use Rattle.ncl_stage.proofs.Terms.{All, IsUnreached, StageData, WiringData, ap, arith, get_or, length, length-map, list_any, net_at, pin_places, subst, sym, true, ℕ, ◌*◌, ◌+◌, ◌-◌, ◌<◌, ◌∙◌, ◌≡◌}
 use Rattle.ncl_stage.proofs.ChangedLaws.{nets-length, net_at-rail, net_at-cell, pins-before, rail-unreached, unmarked-unreached}
 use Rattle.ncl_stage.proofs.changes.is_reached.Goals as goal
 

@@ -1,5 +1,4 @@
-use Rattle.std.proofs.Common.{ap, ◌∙◌, length, sym, subst, arith, ◌<◌}
-use Rattle.ncl_stage.specs.Wiring.{WiringData}
+use Rattle.ncl_stage.proofs.Terms.{WiringData, ap, arith, length, subst, sym, ◌<◌, ◌∙◌}
 use Rattle.ncl_stage.proofs.changes.net_refs_from.Goals as goal
 
 pub new-requires : goal.new-requires

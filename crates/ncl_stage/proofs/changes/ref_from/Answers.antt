@@ -1,17 +1,4 @@
-use Rattle.std.proofs.Common.{◌≡◌, true, false, [], ◌∷◌, get_or, take, sym, ◌∙◌, ap, subst}
-use Rattle.std.specs.Prelude.{IfOk}
-use Rattle.ncl_base.proofs.Members.{Member-get_or}
-use Rattle.ncl_shape.specs.Stage.{StageData, nets_of}
-use Rattle.ncl_space.specs.Functions.{constant_table}
-use Rattle.ncl_space.specs.Making.{HaveTables}
-use Rattle.ncl_space.specs.Space.{SpaceData, IsLive, Makes, fits}
-use Rattle.ncl_space.specs.declared.space.Ref.{Ref}
-use Rattle.ncl_space.proofs.MakingLaws.{makes-live}
-use Rattle.ncl_faults.specs.declared.variant.Variant.TheVariants.{Base}
-use Rattle.ncl_stage.specs.Changes.{IsUnreached, MarksChanges, net_at}
-use Rattle.ncl_stage.specs.StageTables.{net_table_by, net_tables_by}
-use Rattle.ncl_faults.specs.Values.{kept_low}
-use Rattle.ncl_stage.specs.Wiring.{WiringData}
+use Rattle.ncl_stage.proofs.Terms.{Base, HaveTables, IfOk, IsLive, IsUnreached, Makes, MarksChanges, Member-get_or, Ref, SpaceData, StageData, WiringData, [], ap, constant_table, false, fits, get_or, kept_low, makes-live, net_at, net_table_by, net_tables_by, nets_of, subst, sym, take, true, ◌∙◌, ◌∷◌, ◌≡◌}
 use Rattle.ncl_stage.proofs.ChangedLaws.{value-at, values-width}
 use Rattle.ncl_stage.proofs.NetLaws.{low-net}
 use Rattle.ncl_stage.proofs.changes.ref_from.Goals as goal

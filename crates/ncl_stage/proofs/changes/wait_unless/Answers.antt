@@ -1,5 +1,4 @@
-use Rattle.std.proofs.Common.{◌<◌, true, get_or, length, sym, subst, ◌∙◌}
-use Rattle.std.proofs.lemmas.List.{length-set}
+use Rattle.ncl_stage.proofs.Terms.{get_or, length, length-set, subst, sym, true, ◌<◌, ◌∙◌}
 use Rattle.ncl_stage.proofs.Waiting.{marked-next, was-unmarked}
 use Rattle.ncl_stage.proofs.changes.wait_unless.Goals as goal
 

@@ -1,5 +1,4 @@
-use Rattle.std.proofs.Common.{◌≡◌, ℕ, true, false, length, take, get_or}
-use Rattle.std.specs.Prelude.{Contains}
+use Rattle.ncl_stage.proofs.Terms.{Contains, false, get_or, length, take, true, ℕ, ◌≡◌}
 use Rattle.ncl_stage.proofs.changes.wait_unless.Given as goal
 
 -- the readers so far are marked, and what was marked still is

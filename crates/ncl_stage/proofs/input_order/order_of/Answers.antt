@@ -1,12 +1,4 @@
-use Rattle.std.proofs.Common.{◌≡◌, ℕ, ◌+◌, ◌*◌, ◌<◌, ◌≤◌, ◌++◌, [], List, length, map, sym, ap, ◌∙◌, subst, refl, arith}
-use Rattle.std.specs.Prelude.{All, unwrap_or}
-use Rattle.std.specs.List.{flat_map, range_with_len}
-use Rattle.std.proofs.lemmas.List.{length-map}
-use Rattle.ncl_shape.specs.Stage.{StageData, nets_of}
-use Rattle.ncl_stage.specs.BitOrder.{IsOrderOf, bit_order, met, with_bits}
-use Rattle.ncl_stage.specs.Changes.{net_at}
-use Rattle.ncl_stage.specs.Walk.{AreMet, ReadEarlier}
-use Rattle.ncl_stage.specs.Wiring.{WiringData, IsWiring, pin_places, rail_places}
+use Rattle.ncl_stage.proofs.Terms.{All, AreMet, IsOrderOf, IsWiring, List, ReadEarlier, StageData, WiringData, [], ap, arith, bit_order, flat_map, length, length-map, map, met, net_at, nets_of, pin_places, rail_places, range_with_len, refl, subst, sym, unwrap_or, with_bits, ℕ, ◌*◌, ◌++◌, ◌+◌, ◌<◌, ◌∙◌, ◌≡◌, ◌≤◌}
 use Rattle.ncl_stage.proofs.BitOrderLaws.{are_met, order-walked, read-earlier}
 use Rattle.ncl_stage.proofs.ChangedLaws.{nets-length}
 use Rattle.ncl_stage.proofs.OrderedTables.{order-is}

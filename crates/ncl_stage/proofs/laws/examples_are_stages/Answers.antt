@@ -1,6 +1,4 @@
-use Rattle.std.proofs.Common.{refl}
-use Rattle.ncl_faults.specs.Examples.{and_stage, eager_and_stage, orphan_and_stage, crossed_stage, dead_rail_stage, adder_stage, sum_stage, swapped_stage, straight_stage, unmet_stage}
-use Rattle.ncl_faults.proofs.StageTest.{IsStage-from_test}
+use Rattle.ncl_stage.proofs.Terms.{IsStage-from_test, adder_stage, and_stage, crossed_stage, dead_rail_stage, eager_and_stage, orphan_and_stage, refl, straight_stage, sum_stage, swapped_stage, unmet_stage}
 use Rattle.ncl_stage.proofs.laws.examples_are_stages.Goals as goal
 
 pub returns : goal.returns

@@ -1,22 +1,5 @@
-use Rattle.std.proofs.Common.{◌≡◌, ℕ, ◌+◌, ◌-◌, ◌*◌, ◌/◌, ◌%◌, ◌<◌, false, List, [], ◌∷◌, length, get_or, map, take, sym, ◌∙◌, ap, subst, arith, rules}
-use Rattle.std.specs.Prelude.{All, IfOk, nat_eq}
-use Rattle.std.proofs.lemmas.List.{length-map}
-use Rattle.ncl_gates.specs.Gate.{arity_of}
-use Rattle.ncl_netlist.specs.declared.ids.NetId.{NetId}
-use Rattle.ncl_shape.specs.declared.stage.StageCell.{StageCell}
-use Rattle.ncl_shape.specs.Stage.{StageData, IsStage, nets_of}
-use Rattle.ncl_base.proofs.Members.{Member-get_or}
-use Rattle.ncl_space.specs.Space.{SpaceData, IsLive, Makes, fits}
-use Rattle.ncl_space.specs.Functions.{constant_table, gate_table, rail_table}
-use Rattle.ncl_space.specs.Making.{HaveTables}
-use Rattle.ncl_space.proofs.MakingLaws.{makes-live}
-use Rattle.ncl_space.specs.declared.space.Ref.{Ref}
-use Rattle.ncl_faults.specs.declared.variant.Variant.{Variant}
-use Rattle.ncl_stage.specs.BitOrder.{IsOrderOf, place_in}
-use Rattle.ncl_stage.specs.Changes.{net_at}
-use Rattle.ncl_stage.specs.StageTables.{net_table_by, net_tables_by, rail_at, ref_at}
-use Rattle.ncl_faults.specs.Values.{kept_low}
-use Rattle.ncl_stage.specs.Wiring.{WiringData, IsWiring, pin_places}
+use Rattle.ncl_stage.proofs.Terms.{All, HaveTables, IfOk, IsLive, IsOrderOf, IsStage, IsWiring, List, Makes, Member-get_or, NetId, Ref, SpaceData, StageCell, StageData, Variant, WiringData, [], ap, arith, arity_of, constant_table, false, fits, gate_table, get_or, kept_low, length, length-map, makes-live, map, nat_eq, net_at, net_table_by, net_tables_by, nets_of, pin_places, rail_at, rail_table, ref_at, rules, subst, sym, take, ℕ, ◌%◌, ◌*◌, ◌+◌, ◌-◌, ◌/◌, ◌<◌, ◌∙◌, ◌∷◌, ◌≡◌}
+use Rattle.ncl_stage.specs.BitOrder.{place_in}
 use Rattle.ncl_stage.proofs.ChangedLaws.{net_at-cell, net_at-place, tables-before, behind-inputs}
 use Rattle.ncl_stage.proofs.NetLaws.{Shows, low-net, rail-net, cell-net, cell-refs, pins-of, out_at, out_at-is}
 use Rattle.ncl_stage.proofs.nets.net_ref.Goals as goal

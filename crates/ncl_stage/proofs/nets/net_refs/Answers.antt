@@ -1,12 +1,4 @@
-use Rattle.std.proofs.Common.{◌≡◌, ℕ, ◌+◌, ◌<◌, ◌≤◌, Bool, List, [], Err, length, take, sym, ◌∙◌, ap, subst}
-use Rattle.std.proofs.lemmas.List.{length-map, take_all}
-use Rattle.ncl_shape.specs.Stage.{StageData, nets_of}
-use Rattle.ncl_space.specs.Making.{MakesAll}
-use Rattle.ncl_space.specs.Space.{SpaceData}
-use Rattle.ncl_space.proofs.MakingLaws.{Making, making-none, making-next, too_much-next, handed_on}
-use Rattle.ncl_faults.specs.declared.variant.Variant.{Variant}
-use Rattle.ncl_stage.specs.Changes.{net_at}
-use Rattle.ncl_stage.specs.StageTables.{net_table_by, net_tables_by}
+use Rattle.ncl_stage.proofs.Terms.{Bool, Err, List, MakesAll, Making, SpaceData, StageData, Variant, [], ap, handed_on, length, length-map, making-next, making-none, net_at, net_table_by, net_tables_by, nets_of, subst, sym, take, take_all, too_much-next, ℕ, ◌+◌, ◌<◌, ◌∙◌, ◌≡◌, ◌≤◌}
 use Rattle.ncl_stage.proofs.ChangedLaws.{table-at}
 use Rattle.ncl_stage.proofs.nets.net_refs.Goals as goal
 

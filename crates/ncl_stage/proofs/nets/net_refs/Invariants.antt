@@ -1,6 +1,4 @@
-use Rattle.std.proofs.Common.{take}
-use Rattle.ncl_space.proofs.MakingLaws.{Making}
-use Rattle.ncl_stage.specs.StageTables.{net_tables_by}
+use Rattle.ncl_stage.proofs.Terms.{Making, net_tables_by, take}
 use Rattle.ncl_stage.proofs.nets.net_refs.Given as goal
 
 -- the functions of the nets at the places so far have been made

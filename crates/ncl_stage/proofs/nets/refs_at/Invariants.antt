@@ -1,5 +1,4 @@
-use Rattle.std.proofs.Common.{◌≡◌, map, take}
-use Rattle.ncl_stage.specs.StageTables.{ref_at}
+use Rattle.ncl_stage.proofs.Terms.{map, ref_at, take, ◌≡◌}
 use Rattle.ncl_stage.proofs.nets.refs_at.Given as goal
 
 -- the Refs at the places so far

@@ -1,25 +1,9 @@
-use Rattle.std.proofs.Common.{◌≡◌, ℕ, ◌<◌, true, false, length, get_or, inl, sym, ◌∙◌, ap, subst, arith}
-use Rattle.std.specs.Prelude.{All, Contains}
-use Rattle.std.proofs.lemmas.List.{get_or_default, length-map}
-use borrow.Author.Count.{below_more}
-use Rattle.ncl_base.proofs.Members.{Contains-from_Member}
-use Rattle.ncl_shape.specs.Stage.{StageData, nets_of}
-use Rattle.ncl_space.specs.Space.{SpaceData}
-use Rattle.ncl_space.proofs.MakingLaws.{have-length}
-use Rattle.ncl_space.proofs.SpaceLaws.{keeps_along}
-use Rattle.ncl_space.proofs.MakingLaws.{have-kept}
+use Rattle.ncl_stage.proofs.Terms.{All, Base, Contains, Contains-from_Member, IsAlwaysObserved, IsObserved, IsShown, SpaceData, StageData, WiringData, ap, arith, below_more, false, get_or, get_or_default, have-kept, have-length, inl, keeps_along, length, length-map, low_table_by, low_tables_by, net_at, nets_of, subst, sym, true, val, val-within, ℕ, ◌<◌, ◌∙◌, ◌≡◌}
 use Rattle.ncl_stage.specs.BitOrder.{place_in}
-use Rattle.ncl_stage.specs.Changes.{net_at}
-use Rattle.ncl_stage.specs.Observed.{IsObserved}
-use Rattle.ncl_stage.specs.Observing.{IsAlwaysObserved, IsShown, low_table_by, low_tables_by}
-use Rattle.ncl_faults.specs.Values.{val}
-use Rattle.ncl_stage.specs.Wiring.{WiringData}
-use Rattle.ncl_faults.specs.declared.variant.Variant.TheVariants.{Base}
 use Rattle.ncl_stage.proofs.ChangedLaws.{values-kept}
 use Rattle.ncl_stage.proofs.ObservingLaws.{shown-net}
 use Rattle.ncl_stage.proofs.OutputLaws.{outputs-within}
 use Rattle.ncl_stage.proofs.PlaceLaws.{place_in-at}
-use Rattle.ncl_faults.proofs.ValueLaws.{val-within}
 use Rattle.ncl_stage.proofs.observing.are_observed.Goals as goal
 
 pub output_marks-requires : goal.output_marks-requires

@@ -1,8 +1,4 @@
-use Rattle.std.proofs.Common.{ℕ, ◌<◌}
-use Rattle.ncl_space.specs.Making.{HaveTables}
-use Rattle.ncl_space.specs.Space.{Keeps}
-use Rattle.ncl_stage.specs.Changes.{net_at}
-use Rattle.ncl_stage.specs.Observing.{IsAlwaysObserved, low_tables_by}
+use Rattle.ncl_stage.proofs.Terms.{HaveTables, IsAlwaysObserved, Keeps, low_tables_by, net_at, ℕ, ◌<◌}
 use Rattle.ncl_stage.proofs.observing.are_observed.Given as goal
 
 -- the nets at the places so far are observed

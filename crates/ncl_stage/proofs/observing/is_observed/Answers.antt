@@ -1,15 +1,4 @@
-use Rattle.std.proofs.Common.{◌≡◌, ℕ, false, List, get_or, sym, ◌∙◌, ap, subst}
-use Rattle.ncl_base.proofs.Tests.{from_test}
-use Rattle.ncl_shape.specs.Stage.{StageData, IsStage}
-use Rattle.ncl_space.specs.Functions.{constant_table}
-use Rattle.ncl_space.specs.Space.{SpaceData, IsLive, IsSpace, Keeps}
-use Rattle.ncl_space.specs.declared.space.Ref.{Ref}
-use Rattle.ncl_space.proofs.SpaceLaws.{keeps_all}
-use Rattle.ncl_space.proofs.MakingLaws.{have-kept}
-use Rattle.ncl_stage.specs.Changes.{net_at}
-use Rattle.ncl_stage.specs.Observing.{IsAlwaysObserved, IsLeft, low_tables_by}
-use Rattle.ncl_stage.specs.StageTables.{AreValues, ValuesData}
-use Rattle.ncl_faults.specs.declared.variant.Variant.TheVariants.{Base}
+use Rattle.ncl_stage.proofs.Terms.{AreValues, Base, IsAlwaysObserved, IsLeft, IsLive, IsSpace, IsStage, Keeps, List, Ref, SpaceData, StageData, ValuesData, ap, constant_table, false, from_test, get_or, have-kept, keeps_all, low_tables_by, net_at, subst, sym, ℕ, ◌∙◌, ◌≡◌}
 use Rattle.ncl_stage.proofs.ChangedLaws.{value-at, values-kept, values-width}
 use Rattle.ncl_stage.proofs.ObservingLaws.{left-first, none-left}
 use Rattle.ncl_stage.proofs.observing.is_observed.Goals as goal

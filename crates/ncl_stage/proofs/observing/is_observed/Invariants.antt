@@ -1,6 +1,4 @@
-use Rattle.ncl_space.specs.Space.{IsLive, Keeps}
-use Rattle.ncl_stage.specs.Changes.{net_at}
-use Rattle.ncl_stage.specs.Observing.{IsLeft}
+use Rattle.ncl_stage.proofs.Terms.{IsLeft, IsLive, Keeps, net_at}
 use Rattle.ncl_stage.proofs.observing.is_observed.Given as goal
 
 -- wherever the net is high, something is left or a gate falls with it

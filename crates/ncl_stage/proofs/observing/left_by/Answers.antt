@@ -1,15 +1,4 @@
-use Rattle.std.proofs.Common.{◌≡◌, ℕ, ◌+◌, ◌-◌, ◌*◌, ◌<◌, List, [], length, sym, ◌∙◌, ap, subst, arith}
-use Rattle.std.proofs.lemmas.List.{length-map}
-use Rattle.std.proofs.lemmas.Result.{IfOk-weaker}
-use Rattle.ncl_gates.specs.declared.kind.Kind.TheVariants.{Th12}
-use Rattle.ncl_shape.specs.declared.stage.StageCell.{StageCell}
-use Rattle.ncl_shape.specs.Stage.{StageData, nets_of}
-use Rattle.ncl_space.specs.Space.{SpaceData}
-use Rattle.ncl_space.proofs.MakingLaws.{have-length}
-use Rattle.ncl_stage.specs.Changes.{net_at}
-use Rattle.ncl_faults.specs.Examples.{gate}
-use Rattle.ncl_stage.specs.Observing.{IsLeft, low_table_by, low_tables_by}
-use Rattle.ncl_faults.specs.declared.variant.Variant.TheVariants.{Base}
+use Rattle.ncl_stage.proofs.Terms.{Base, IfOk-weaker, IsLeft, List, SpaceData, StageCell, StageData, Th12, [], ap, arith, gate, have-length, length, length-map, low_table_by, low_tables_by, net_at, nets_of, subst, sym, ℕ, ◌*◌, ◌+◌, ◌-◌, ◌<◌, ◌∙◌, ◌≡◌}
 use Rattle.ncl_stage.proofs.ChangedLaws.{nets-length, values-width}
 use Rattle.ncl_stage.proofs.ObservingLaws.{left-by}
 use Rattle.ncl_stage.proofs.observing.left_by.Goals as goal

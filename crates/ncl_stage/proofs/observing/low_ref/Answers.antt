@@ -1,25 +1,4 @@
-use Rattle.std.proofs.Common.{◌≡◌, ℕ, ◌+◌, ◌-◌, ◌*◌, ◌<◌, List, [], length, map, take, get_or, sym, ◌∙◌, ap, subst, arith, rules}
-use Rattle.std.specs.Prelude.{All}
-use Rattle.std.specs.List.{take-map}
-use Rattle.std.proofs.lemmas.List.{length-map}
-use Rattle.std.proofs.lemmas.Result.{IfOk-weaker}
-use Rattle.ncl_gates.specs.declared.kind.Kind.{Kind}
-use Rattle.ncl_gates.specs.Dual.{dual_of, dual_pins}
-use Rattle.ncl_gates.specs.Gate.{arity_of}
-use Rattle.ncl_gates.proofs.DualLaws.{dual-arity, dual_pins-length}
-use Rattle.ncl_netlist.specs.declared.ids.NetId.{NetId}
-use Rattle.ncl_shape.specs.declared.stage.StageCell.{StageCell}
-use Rattle.ncl_shape.specs.Stage.{StageData, IsStage, nets_of, out_of}
-use Rattle.ncl_base.proofs.Members.{Member-get_or}
-use Rattle.ncl_space.specs.Functions.{gate_table}
-use Rattle.ncl_space.specs.Making.{HaveTables}
-use Rattle.ncl_space.specs.Space.{SpaceData, IsLive}
-use Rattle.ncl_space.specs.declared.space.Ref.{Ref}
-use Rattle.ncl_stage.specs.Changes.{net_at}
-use Rattle.ncl_stage.specs.Observing.{low_table_by, low_tables_by}
-use Rattle.ncl_stage.specs.StageTables.{ref_at}
-use Rattle.ncl_stage.specs.Wiring.{WiringData, IsWiring, pin_places, place_in}
-use Rattle.ncl_faults.specs.declared.variant.Variant.TheVariants.{Base}
+use Rattle.ncl_stage.proofs.Terms.{All, Base, HaveTables, IfOk-weaker, IsLive, IsStage, IsWiring, Kind, List, Member-get_or, NetId, Ref, SpaceData, StageCell, StageData, WiringData, [], ap, arith, arity_of, dual-arity, dual_of, dual_pins, dual_pins-length, gate_table, get_or, length, length-map, low_table_by, low_tables_by, map, net_at, nets_of, out_of, pin_places, place_in, ref_at, rules, subst, sym, take, take-map, ℕ, ◌*◌, ◌+◌, ◌-◌, ◌<◌, ◌∙◌, ◌≡◌}
 use Rattle.ncl_stage.proofs.ChangedLaws.{nets-before, nets-length, net_at-cell, value-at, values-width, behind-inputs}
 use Rattle.ncl_stage.proofs.NetLaws.{Shows, cell-refs, out_at-is, pins-of}
 use Rattle.ncl_stage.proofs.ObservingLaws.{dual_pins-all, low-cell, low-place}

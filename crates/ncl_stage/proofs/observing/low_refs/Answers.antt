@@ -1,12 +1,4 @@
-use Rattle.std.proofs.Common.{ℕ, ◌+◌, ◌<◌, List, length, take, sym, ap, subst, arith}
-use Rattle.std.proofs.lemmas.List.{length-map}
-use Rattle.ncl_shape.specs.Stage.{StageData, nets_of}
-use Rattle.ncl_space.specs.Making.{HaveTables}
-use Rattle.ncl_space.specs.Space.{SpaceData}
-use Rattle.ncl_space.proofs.SpaceLaws.{keeps_along}
-use Rattle.ncl_stage.specs.Changes.{net_at}
-use Rattle.ncl_stage.specs.Observing.{low_table_by, low_tables_by}
-use Rattle.ncl_faults.specs.declared.variant.Variant.TheVariants.{Base}
+use Rattle.ncl_stage.proofs.Terms.{Base, HaveTables, List, SpaceData, StageData, ap, arith, keeps_along, length, length-map, low_table_by, low_tables_by, net_at, nets_of, subst, sym, take, ℕ, ◌+◌, ◌<◌}
 use Rattle.ncl_stage.proofs.ChangedLaws.{values-kept}
 use Rattle.ncl_stage.proofs.ObservingLaws.{have-next, low-table_at}
 use Rattle.ncl_stage.proofs.observing.low_refs.Goals as goal

@@ -1,7 +1,4 @@
-use Rattle.std.proofs.Common.{take}
-use Rattle.ncl_space.specs.Making.{HaveTables}
-use Rattle.ncl_space.specs.Space.{Keeps}
-use Rattle.ncl_stage.specs.Observing.{low_tables_by}
+use Rattle.ncl_stage.proofs.Terms.{HaveTables, Keeps, low_tables_by, take}
 use Rattle.ncl_stage.proofs.observing.low_refs.Given as goal
 
 -- the functions of where the nets at the places so far are low

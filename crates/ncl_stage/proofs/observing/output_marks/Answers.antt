@@ -1,6 +1,4 @@
-use Rattle.std.proofs.Common.{◌≡◌, ℕ, ◌+◌, List, get_or, set, take, true, false, sym, ◌∙◌, subst}
-use Rattle.std.proofs.lemmas.List.{length-set}
-use Rattle.ncl_stage.specs.Observing.{IsShown}
+use Rattle.ncl_stage.proofs.Terms.{IsShown, List, false, get_or, length-set, set, subst, sym, take, true, ℕ, ◌+◌, ◌∙◌, ◌≡◌}
 use Rattle.ncl_stage.proofs.ObservingLaws.{shown-next}
 use Rattle.ncl_stage.proofs.observing.output_marks.Goals as goal
 

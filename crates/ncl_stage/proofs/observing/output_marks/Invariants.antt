@@ -1,5 +1,4 @@
-use Rattle.std.proofs.Common.{◌≡◌, ℕ, true, false, length, take, get_or}
-use Rattle.ncl_stage.specs.Observing.{IsShown}
+use Rattle.ncl_stage.proofs.Terms.{IsShown, false, get_or, length, take, true, ℕ, ◌≡◌}
 use Rattle.ncl_stage.proofs.observing.output_marks.Given as goal
 
 -- what is marked is a rail of the outputs so far

@@ -1,6 +1,4 @@
-use Rattle.std.proofs.Common.{◌≡◌, map, take}
-use Rattle.std.specs.Prelude.{nat_eq, if◌then◌else◌}
-use Rattle.ncl_stage.specs.StageTables.{ref_at}
+use Rattle.ncl_stage.proofs.Terms.{if◌then◌else◌, map, nat_eq, ref_at, take, ◌≡◌}
 use Rattle.ncl_stage.proofs.observing.refs_without.Given as goal
 
 -- the Refs at the places so far, but for one place

@@ -1,24 +1,7 @@
-use Rattle.std.proofs.Common.{◌≡◌, ℕ, ◌<◌, false, List, [], length, map, get_or, sym, ◌∙◌, ap, subst}
-use Rattle.std.specs.Prelude.{All, nat_eq, if◌then◌else◌}
-use Rattle.std.proofs.lemmas.List.{get_or_default}
-use Rattle.std.proofs.lemmas.Result.{IfOk-weaker}
-use Rattle.ncl_gates.specs.declared.kind.Kind.TheVariants.{Th12}
-use Rattle.ncl_netlist.specs.declared.ids.NetId.{NetId}
-use Rattle.ncl_shape.specs.declared.stage.StageCell.{StageCell}
-use Rattle.ncl_shape.specs.Stage.{StageData, IsStage, nets_of}
-use Rattle.ncl_space.specs.Functions.{constant_table, gate_table}
-use Rattle.ncl_space.specs.Space.{SpaceData, IsLive, IsSpace}
-use Rattle.ncl_space.specs.declared.space.Ref.{Ref}
-use Rattle.ncl_stage.specs.Changes.{net_at}
-use Rattle.ncl_faults.specs.Examples.{gate}
-use Rattle.ncl_stage.specs.Observing.{table_without}
-use Rattle.ncl_stage.specs.StageTables.{AreValues, ValuesData, ref_at}
-use Rattle.ncl_stage.specs.Wiring.{WiringData, IsWiring, place_in}
-use Rattle.ncl_faults.specs.declared.variant.Variant.TheVariants.{Base}
+use Rattle.ncl_stage.proofs.Terms.{All, AreValues, Base, IfOk-weaker, IsLive, IsSpace, IsStage, IsWiring, List, NetId, Ref, SpaceData, StageCell, StageData, Th12, ValuesData, WiringData, [], ap, constant_table, false, gate, gate_table, get_or, get_or_default, if◌then◌else◌, length, map, nat_eq, net_at, nets_of, place_in, reads-within, ref_at, subst, sym, table_without, ℕ, ◌<◌, ◌∙◌, ◌≡◌}
 use Rattle.ncl_stage.proofs.ChangedLaws.{values-width}
 use Rattle.ncl_stage.proofs.NetLaws.{pins-of}
 use Rattle.ncl_stage.proofs.ObservingLaws.{PinsWithout, pins-without, without-table}
-use Rattle.ncl_faults.proofs.WiringLaws.{reads-within}
 use Rattle.ncl_stage.proofs.observing.without.Goals as goal
 
 -- the places of the pins of a cell

@@ -1,27 +1,5 @@
-use Rattle.std.proofs.Common.{◌≡◌, ℕ, ◌-◌, Bool, false, List, [], ◌++◌, Err, length, get_or, map, sym, ◌∙◌, ap, subst, arith, rules}
-use Rattle.std.specs.Prelude.{unwrap_or}
-use Rattle.std.specs.List.{list_all}
-use Rattle.std.specs.Option.{option_map}
-use Rattle.std.specs.Borrow.{Bor}
-use Rattle.std.proofs.lemmas.List.{length-map}
-use Rattle.ncl_gates.specs.declared.kind.Kind.TheVariants.{Th12}
-use Rattle.ncl_shape.specs.Stage.{StageData, IsStage, nets_of}
-use Rattle.ncl_shape.specs.declared.rails.Rails.{Rails}
-use Rattle.ncl_space.specs.Table.{table_of}
-use Rattle.ncl_stage.specs.BitOrder.{IsOrderOf, words_by}
-use Rattle.ncl_space.specs.Space.{SpaceData, Keeps, fits, with_tables}
-use Rattle.ncl_space.specs.Making.{HaveTables, MakesAll}
-use Rattle.ncl_space.specs.declared.space.Ref.{Ref}
-use Rattle.ncl_space.proofs.SpaceLaws.{keeps_along, too_much_by_front}
-use Rattle.ncl_space.proofs.MakingLaws.{have-length, have-at, held-along, too_much-after, handed_on}
-use Rattle.ncl_faults.specs.declared.variant.Variant.{Variant}
-use Rattle.ncl_faults.specs.Faults.{has_data}
-use Rattle.ncl_stage.specs.Tables.{fronts, function_tables_by, data_functions, data_fronts}
-use Rattle.ncl_faults.specs.Values.{val}
-use Rattle.ncl_stage.specs.Wiring.{WiringData, IsWiring}
-use Rattle.ncl_stage.specs.StageTables.{net_table_by, net_tables_by, pair_table, front_tables}
+use Rattle.ncl_stage.proofs.Terms.{Base, Bool, Bor, Err, HaveTables, IsOrderOf, IsStage, IsWiring, Keeps, List, MakesAll, Rails, Ref, SpaceData, StageData, Th12, Variant, WiringData, [], ap, arith, data_fronts, data_functions, false, fits, front_tables, fronts, function_tables_by, get_or, handed_on, has_data, have-at, have-length, held-along, keeps_along, length, length-map, list_all, map, net_table_by, net_tables_by, nets_of, option_map, pair_table, rules, subst, sym, table_of, too_much-after, too_much_by_front, unwrap_or, val, with_tables, words_by, ℕ, ◌++◌, ◌-◌, ◌∙◌, ◌≡◌}
 use Rattle.ncl_stage.proofs.OutputLaws.{values_at, outputs-within, data-tables, front-tables, shared-tables, last-front, length-fronts}
-use Rattle.ncl_faults.specs.declared.variant.Variant.TheVariants.{Base}
 use Rattle.ncl_stage.proofs.ChangedLaws.{values-width}
 use Rattle.ncl_stage.proofs.outputs.all_data.Goals as goal
 

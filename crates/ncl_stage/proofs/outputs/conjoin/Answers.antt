@@ -1,8 +1,4 @@
-use Rattle.std.proofs.Common.{sym, refl, subst}
-use Rattle.std.specs.Option.{option_map}
-use Rattle.ncl_space.specs.Space.{SpaceData, Makes}
-use Rattle.ncl_space.proofs.MakingLaws.{makes-live}
-use Rattle.ncl_stage.specs.StageTables.{conjunction}
+use Rattle.ncl_stage.proofs.Terms.{Makes, SpaceData, conjunction, makes-live, option_map, refl, subst, sym}
 use Rattle.ncl_stage.proofs.outputs.conjoin.Goals as goal
 
 pub returns-in-None-clause-made : goal.returns-in-None-clause-made

@@ -1,12 +1,4 @@
-use Rattle.std.proofs.Common.{◌≡◌, ℕ, ◌<◌, ◌≤◌, ◌+◌, ◌^◌, Bool, List, [], Err, Option, Some, length, get_or, map, take, sym, ◌∙◌, ap, subst, arith}
-use Rattle.std.specs.Prelude.{All}
-use Rattle.std.specs.Option.{option_map}
-use Rattle.std.proofs.lemmas.List.{get_or-map, length-map, take_all}
-use Rattle.ncl_space.specs.Space.{SpaceData, IsLive, IsSpace}
-use Rattle.ncl_space.specs.Making.{MakesAll}
-use Rattle.ncl_space.specs.declared.space.Ref.{Ref}
-use Rattle.ncl_space.proofs.MakingLaws.{Making, making-none, making-next, too_much-next, handed_on}
-use Rattle.ncl_stage.specs.StageTables.{conjunction, front_tables}
+use Rattle.ncl_stage.proofs.Terms.{All, Bool, Err, IsLive, IsSpace, List, MakesAll, Making, Option, Ref, Some, SpaceData, [], ap, arith, conjunction, front_tables, get_or, get_or-map, handed_on, length, length-map, making-next, making-none, map, option_map, subst, sym, take, take_all, too_much-next, ℕ, ◌+◌, ◌<◌, ◌^◌, ◌∙◌, ◌≡◌, ◌≤◌}
 use Rattle.ncl_stage.proofs.OutputLaws.{IsLast, last-live, last-table, conjunction-at, length-front_tables}
 use Rattle.ncl_stage.proofs.outputs.data_fronts.Goals as goal
 

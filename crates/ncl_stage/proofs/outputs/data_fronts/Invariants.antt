@@ -1,6 +1,4 @@
-use Rattle.std.proofs.Common.{map, take}
-use Rattle.ncl_space.proofs.MakingLaws.{Making}
-use Rattle.ncl_stage.specs.StageTables.{front_tables}
+use Rattle.ncl_stage.proofs.Terms.{Making, front_tables, map, take}
 use Rattle.ncl_stage.proofs.OutputLaws.{IsLast}
 use Rattle.ncl_stage.proofs.outputs.data_fronts.Given as goal
 

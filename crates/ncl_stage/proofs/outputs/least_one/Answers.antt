@@ -1,5 +1,4 @@
-use Rattle.std.proofs.Common.{true, ◌∙◌}
-use Rattle.ncl_space.specs.Space.{SpaceData}
+use Rattle.ncl_stage.proofs.Terms.{SpaceData, true, ◌∙◌}
 use Rattle.ncl_stage.proofs.FoundWords.{least-length}
 use Rattle.ncl_stage.proofs.outputs.least_one.Goals as goal
 

@@ -1,5 +1,4 @@
-use Rattle.std.proofs.Common.{false, ◌∙◌}
-use Rattle.ncl_space.specs.Space.{SpaceData}
+use Rattle.ncl_stage.proofs.Terms.{SpaceData, false, ◌∙◌}
 use Rattle.ncl_stage.proofs.FoundWords.{least-length}
 use Rattle.ncl_stage.proofs.outputs.least_zero.Goals as goal
 

@@ -1,12 +1,4 @@
-use Rattle.std.proofs.Common.{◌≡◌, ℕ, false, ◌<◌, ◌+◌, Bool, List, [], ◌∷◌, ◌++◌, Err, length, get_or, map, take, drop, sym, ◌∙◌, ap, subst}
-use Rattle.std.proofs.lemmas.List.{get_or-map, map_more}
-use Rattle.ncl_gates.specs.declared.kind.Kind.{Kind}
-use Rattle.ncl_space.specs.Functions.{gate_table}
-use Rattle.ncl_space.specs.Space.{SpaceData, IsLive, Keeps, Makes, fits}
-use Rattle.ncl_space.specs.declared.space.Ref.{Ref}
-use Rattle.std.specs.Prelude.{All}
-use Rattle.ncl_space.proofs.MakingLaws.{Making, making-none, making-one, too_much-front, map-cut, handed_on}
-use Rattle.ncl_stage.specs.StageTables.{pair_table}
+use Rattle.ncl_stage.proofs.Terms.{All, Bool, Err, IsLive, Keeps, Kind, List, Makes, Making, Ref, SpaceData, [], ap, drop, false, fits, gate_table, get_or, get_or-map, handed_on, length, making-none, making-one, map, map-cut, map_more, pair_table, subst, sym, take, too_much-front, ℕ, ◌++◌, ◌+◌, ◌<◌, ◌∙◌, ◌∷◌, ◌≡◌}
 use Rattle.ncl_stage.proofs.outputs.pair_refs.Goals as goal
 
 -- the gate on two Refs that were live at first

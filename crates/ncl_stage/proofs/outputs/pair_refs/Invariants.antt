@@ -1,6 +1,4 @@
-use Rattle.std.proofs.Common.{map, take}
-use Rattle.ncl_space.proofs.MakingLaws.{Making}
-use Rattle.ncl_stage.specs.StageTables.{pair_table}
+use Rattle.ncl_stage.proofs.Terms.{Making, map, pair_table, take}
 use Rattle.ncl_stage.proofs.outputs.pair_refs.Given as goal
 
 -- the functions of the pairs so far have been made

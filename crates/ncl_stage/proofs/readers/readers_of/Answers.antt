@@ -1,8 +1,4 @@
-use Rattle.std.proofs.Common.{◌≡◌, ℕ, ◌-◌, ◌<◌, List, [], length, map, get_or, inl, inr, sym, ap, ◌∙◌, subst, arith}
-use Rattle.std.specs.Prelude.{All, Contains}
-use Rattle.std.proofs.lemmas.List.{get_or-map, length-map, length-replicate}
-use Rattle.ncl_base.specs.NumberLists.{numbers_at}
-use Rattle.ncl_base.proofs.NumberLists.{nothing-at}
+use Rattle.ncl_stage.proofs.Terms.{All, Contains, List, [], ap, arith, get_or, get_or-map, inl, inr, length, length-map, length-replicate, map, nothing-at, items_at, subst, sym, ℕ, ◌-◌, ◌<◌, ◌∙◌, ◌≡◌}
 use Rattle.ncl_stage.proofs.ReaderLists.{each-next}
 use Rattle.ncl_stage.proofs.readers.readers_of.Goals as goal
 
@@ -11,7 +7,7 @@ loop-places-init c = record {
   many = ap length c.in_ok-readers.ensures ∙ length-replicate c.args.nets [];
   next = omega arith;
   each = λ cell net lt reads. absurd (omega (arith, lt));
-  within = λ net place has. absurd (nothing-at c.args.nets net place (subst (λ lists. Contains (numbers_at lists net) place) c.in_ok-readers.ensures has));
+  within = λ net place has. absurd (nothing-at c.args.nets net place (subst (λ lists. Contains (items_at lists net) place) c.in_ok-readers.ensures has));
 }
 
 pub put_at-requires : goal.put_at-requires
@@ -29,7 +25,7 @@ loop-places-preserved c =
     let rails = c.args.nets - length c.args.pins.now in
     let pins : List (List ℕ) = map (λ p. p.items) c.args.pins.now in
     let lists = c.loop-places.readers in
-    let new = c.put_at.new.self in
+    let new = c.put_at.new.readers in
     let at : c.as_slice.result.now ≡ get_or pins i [] = c.as_slice.ensures.value ∙ ap (λ p. p.items) c.places-item.is ∙ sym (get_or-map (λ p. p.items) c.args.pins.now i c.places-item.result [] c.loop-places-test.true) in
     let next = c.loop-places.invariant.next in
     let few : c.loop-places.reader < c.args.nets = omega (arith, next, c.loop-places-test.true, c.requires.many) in
@@ -39,7 +35,7 @@ loop-places-preserved c =
       next = omega (arith, next);
       each =
           each-next c.args.nets rails pins lists new i grows
-          (λ net reads. subst (Contains (numbers_at new net)) next (c.in_ok-put_at.ensures.has net (subst (λ places. Contains places net) (sym at) reads))) c.loop-places.invariant.each;
+          (λ net reads. subst (Contains (items_at new net)) next (c.in_ok-put_at.ensures.has net (subst (λ places. Contains places net) (sym at) reads))) c.loop-places.invariant.each;
       within = λ net place has. elim (grows.below net place has) [ inl before ↦ c.loop-places.invariant.within net place before | inr lt ↦ lt ];
     }
 

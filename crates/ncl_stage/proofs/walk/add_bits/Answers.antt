@@ -1,5 +1,4 @@
-use Rattle.std.proofs.Common.{ap, ◌∙◌}
-use Rattle.ncl_stage.specs.BitOrder.{with_bit}
+use Rattle.ncl_stage.proofs.Terms.{ap, with_bit, ◌∙◌}
 use Rattle.ncl_stage.proofs.WalkLaws.{with_bits-more}
 use Rattle.ncl_stage.proofs.walk.add_bits.Goals as goal
 

@@ -1,6 +1,4 @@
-use Rattle.std.proofs.Common.{◌≡◌}
-use Rattle.std.specs.List.{range_with_len}
-use Rattle.ncl_stage.specs.BitOrder.{with_bits}
+use Rattle.ncl_stage.proofs.Terms.{range_with_len, with_bits, ◌≡◌}
 use Rattle.ncl_stage.proofs.walk.add_bits.Given as goal
 
 -- so many bits were added

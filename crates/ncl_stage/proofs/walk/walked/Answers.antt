@@ -1,6 +1,4 @@
-use Rattle.std.proofs.Common.{ℕ, ◌++◌, [], sym, ap, ◌∙◌}
-use Rattle.std.specs.List.{flat_map, range_with_len}
-use Rattle.ncl_stage.specs.BitOrder.{with_bits}
+use Rattle.ncl_stage.proofs.Terms.{[], ap, flat_map, range_with_len, sym, with_bits, ℕ, ◌++◌, ◌∙◌}
 use Rattle.ncl_stage.proofs.WalkLaws.{with_bits-append}
 use Rattle.ncl_stage.proofs.walk.walked.Goals as goal
 

@@ -1,9 +1,4 @@
-use Rattle.std.proofs.Common.{take, ◌∙◌, ap}
-use Rattle.std.specs.Prelude.{nat_eq}
-use Rattle.indexmap.specs.IndexSet.{insert_key}
-use Rattle.ncl_shape.specs.declared.stage.StageCell.{StageCell}
-use Rattle.ncl_shape.specs.Stage.{StageData, nets_of}
-use Rattle.ncl_faults.proofs.WiringLaws.{insert_out, cell-read}
+use Rattle.ncl_stage.proofs.Terms.{StageCell, StageData, ap, cell-read, insert_key, insert_out, nat_eq, nets_of, take, ◌∙◌}
 use Rattle.ncl_stage.proofs.wiring.number_nets.Goals as goal
 
 pub loop-cell-preserved : goal.loop-cell-preserved

@@ -1,5 +1,4 @@
-use Rattle.std.proofs.Common.{◌≡◌, take}
-use Rattle.ncl_shape.specs.Stage.{nets_of}
+use Rattle.ncl_stage.proofs.Terms.{nets_of, take, ◌≡◌}
 use Rattle.ncl_stage.proofs.wiring.number_nets.Given as goal
 
 -- the rails and the outputs of the cells so far are numbered

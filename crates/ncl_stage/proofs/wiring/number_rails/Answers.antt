@@ -1,9 +1,4 @@
-use Rattle.std.proofs.Common.{◌≡◌, ◌<◌, length, take, get_or, ◌∙◌, ap, subst}
-use Rattle.std.specs.Prelude.{nat_eq}
-use Rattle.indexmap.specs.IndexSet.{insert_key}
-use Rattle.ncl_shape.specs.declared.rails.Rails.{Rails}
-use Rattle.ncl_shape.specs.Stage.{StageData, rail_nets}
-use Rattle.ncl_faults.proofs.WiringLaws.{insert_rails}
+use Rattle.ncl_stage.proofs.Terms.{Rails, StageData, ap, get_or, insert_key, insert_rails, length, nat_eq, rail_nets, subst, take, ◌<◌, ◌∙◌, ◌≡◌}
 use Rattle.ncl_stage.proofs.wiring.number_rails.Goals as goal
 
 pub loop-pair-preserved : goal.loop-pair-preserved

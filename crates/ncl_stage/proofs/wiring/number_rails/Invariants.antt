@@ -1,5 +1,4 @@
-use Rattle.std.proofs.Common.{◌≡◌, take}
-use Rattle.ncl_shape.specs.Stage.{rail_nets}
+use Rattle.ncl_stage.proofs.Terms.{rail_nets, take, ◌≡◌}
 use Rattle.ncl_stage.proofs.wiring.number_rails.Given as goal
 
 -- the rails of the bits so far are numbered

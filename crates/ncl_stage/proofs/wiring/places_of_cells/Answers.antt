@@ -1,9 +1,4 @@
-use Rattle.std.proofs.Common.{get_or, sym, ◌∙◌, ap, subst}
-use Rattle.std.specs.Prelude.{All, Contains}
-use Rattle.ncl_netlist.specs.declared.ids.NetId.{NetId}
-use Rattle.ncl_shape.specs.declared.stage.StageCell.{StageCell}
-use Rattle.ncl_shape.specs.Stage.{StageData}
-use Rattle.ncl_faults.proofs.WiringLaws.{reads-within, cell-read}
+use Rattle.ncl_stage.proofs.Terms.{All, Contains, NetId, StageCell, StageData, ap, cell-read, get_or, reads-within, subst, sym, ◌∙◌}
 use Rattle.ncl_stage.proofs.wiring.places_of_cells.Goals as goal
 
 pub places_of_pins-requires : goal.places_of_pins-requires

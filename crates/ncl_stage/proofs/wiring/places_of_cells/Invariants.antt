@@ -1,5 +1,4 @@
-use Rattle.std.proofs.Common.{◌≡◌, map, take}
-use Rattle.ncl_stage.specs.Wiring.{pin_places}
+use Rattle.ncl_stage.proofs.Terms.{map, pin_places, take, ◌≡◌}
 use Rattle.ncl_stage.proofs.wiring.places_of_cells.Given as goal
 
 -- the places of the pins of the cells so far

@@ -1,10 +1,4 @@
-use Rattle.std.proofs.Common.{◌≡◌, ℕ, ◌<◌, List, length, get_or, sym, ◌∙◌, ap, subst}
-use Rattle.std.specs.Prelude.{Contains}
-use Rattle.ncl_base.proofs.Growing.{map_push}
-use Rattle.ncl_shape.specs.declared.rails.Rails.{Rails}
-use Rattle.ncl_shape.specs.Stage.{StageData, IsStage, nets_of}
-use Rattle.ncl_stage.specs.Wiring.{rail_places}
-use Rattle.ncl_faults.proofs.WiringLaws.{at_rail}
+use Rattle.ncl_stage.proofs.Terms.{Contains, IsStage, List, Rails, StageData, ap, at_rail, get_or, length, map_push, nets_of, rail_places, subst, sym, ℕ, ◌<◌, ◌∙◌, ◌≡◌}
 use Rattle.ncl_stage.proofs.wiring.places_of_outputs.Goals as goal
 
 -- the rails of an output that is read are nets that have numbers

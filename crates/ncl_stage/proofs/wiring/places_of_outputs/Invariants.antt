@@ -1,5 +1,4 @@
-use Rattle.std.proofs.Common.{◌≡◌, map, take}
-use Rattle.ncl_stage.specs.Wiring.{rail_places}
+use Rattle.ncl_stage.proofs.Terms.{map, rail_places, take, ◌≡◌}
 use Rattle.ncl_stage.proofs.wiring.places_of_outputs.Given as goal
 
 -- the places of the rails of the outputs so far

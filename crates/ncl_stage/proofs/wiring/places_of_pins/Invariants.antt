@@ -1,6 +1,4 @@
-use Rattle.std.proofs.Common.{◌≡◌, map, take}
-use Rattle.ncl_netlist.specs.declared.ids.NetId.{NetId}
-use Rattle.ncl_stage.specs.Wiring.{place_in}
+use Rattle.ncl_stage.proofs.Terms.{NetId, map, place_in, take, ◌≡◌}
 use Rattle.ncl_stage.proofs.wiring.places_of_pins.Given as goal
 
 -- the places of the pins so far

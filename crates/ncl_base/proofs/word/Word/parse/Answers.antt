@@ -1,7 +1,4 @@
-use Rattle.std.proofs.Common.{◌≡◌, ℕ, ◌<◌, ◌+◌, ◌⊎◌, Bool, true, false, List, [], ◌∷◌, ◌++◌, take, All, get_or, length, inl, inr, sym, ap, ◌∙◌, subst}
-use Rattle.std.proofs.lemmas.List.{take_more, map_push}
-use Rattle.std.proofs.lemmas.List.Elements.{All-push}
-use Rattle.ncl_base.specs.Words.{character_of, text_of}
+use Rattle.ncl_base.proofs.Terms.{All, All-push, Bool, List, [], ap, character_of, false, get_or, inl, inr, length, map_push, subst, sym, take, take_more, text_of, true, ℕ, ◌++◌, ◌+◌, ◌<◌, ◌∙◌, ◌∷◌, ◌≡◌, ◌⊎◌}
 use Rattle.ncl_base.proofs.word.Word.parse.Goals.{in-48, in-49}
 use Rattle.ncl_base.proofs.word.Word.parse.Goals as goal
 

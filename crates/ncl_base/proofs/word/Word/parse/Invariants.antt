@@ -1,5 +1,4 @@
-use Rattle.std.proofs.Common.{◌≡◌, ◌⊎◌, take, All}
-use Rattle.ncl_base.specs.Words.{text_of}
+use Rattle.ncl_base.proofs.Terms.{All, take, text_of, ◌≡◌, ◌⊎◌}
 use Rattle.ncl_base.proofs.word.Word.parse.Given as goal
 
 -- the word is that of the characters so far, which are binary

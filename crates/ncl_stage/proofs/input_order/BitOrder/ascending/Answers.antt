@@ -1,7 +1,4 @@
-use Rattle.std.proofs.Common.{◌≡◌, ℕ, ◌≤◌, [], List, length, sym, ◌∙◌, ap, subst, arith}
-use Rattle.std.specs.List.{range_with_len}
-use Rattle.std.proofs.lemmas.List.FromFn.{length-range_with_len}
-use Rattle.ncl_stage.specs.BitOrder.{IsOrderOf, with_bits}
+use Rattle.ncl_stage.proofs.Terms.{IsOrderOf, List, [], ap, arith, length, length-range_with_len, range_with_len, subst, sym, with_bits, ℕ, ◌∙◌, ◌≡◌, ◌≤◌}
 use Rattle.ncl_stage.proofs.OrderLaws.{ascending-is, ascending-order}
 use Rattle.ncl_stage.proofs.input_order.BitOrder.ascending.Goals as goal
 

@@ -1,7 +1,4 @@
-use Rattle.std.proofs.Common.{◌≡◌, ℕ, ◌+◌, ◌≤◌, ◌++◌, ◌∷◌, [], false, Bool, length, get_or, sym, ap, ◌∙◌, arith}
-use Rattle.std.specs.List.{range_with_len}
-use Rattle.std.proofs.lemmas.List.{length-map}
-use Rattle.std.proofs.lemmas.List.FromFn.{length-range_with_len, map-range_with_len_more}
+use Rattle.ncl_stage.proofs.Terms.{Bool, [], ap, arith, false, get_or, length, length-map, length-range_with_len, map-range_with_len_more, range_with_len, sym, ℕ, ◌++◌, ◌+◌, ◌∙◌, ◌∷◌, ◌≡◌, ◌≤◌}
 use Rattle.ncl_stage.specs.BitOrder.{place_in}
 use Rattle.ncl_stage.proofs.input_order.BitOrder.placed.Goals as goal
 

@@ -1,5 +1,4 @@
-use Rattle.std.proofs.Common.{◌≡◌, false, map, get_or}
-use Rattle.std.specs.List.{range_with_len}
+use Rattle.ncl_stage.proofs.Terms.{false, get_or, map, range_with_len, ◌≡◌}
 use Rattle.ncl_stage.specs.BitOrder.{place_in}
 use Rattle.ncl_stage.proofs.input_order.BitOrder.placed.Given as goal
 

@@ -1,8 +1,4 @@
-use Rattle.std.proofs.Common.{◌≡◌, ◌∙◌, sym, ap, subst, map, get_or}
-use Rattle.ncl_space.specs.Making.{HaveTables}
-use Rattle.ncl_space.specs.Space.{IsLive}
-use Rattle.ncl_stage.specs.StageTables.{ValuesData, net_table_by}
-use Rattle.ncl_stage.specs.Wiring.{WiringData, place_in}
+use Rattle.ncl_stage.proofs.Terms.{HaveTables, IsLive, ValuesData, WiringData, ap, get_or, map, net_table_by, place_in, subst, sym, ◌∙◌, ◌≡◌}
 use Rattle.ncl_stage.proofs.OutputLaws.{net-ref}
 use Rattle.ncl_stage.proofs.net_values.Values.of.Goals as goal
 

@@ -1,7 +1,4 @@
-use Rattle.std.proofs.Common.{◌≡◌, ℕ, ◌+◌, ◌-◌, ◌*◌, ◌<◌, ◌≤◌, ◌++◌, ◌∷◌, [], Bool, not, false, true, List, length, map, get_or, set, reverse, sym, ap, subst, ◌∙◌, arith, rules}
-use Rattle.std.specs.Prelude.{count_by}
-use Rattle.std.proofs.lemmas.List.{length-map, length-reverse, length-append, get_or_read}
-use Rattle.ncl_stage.specs.Walk.{IsWalk, turns}
+use Rattle.ncl_stage.proofs.Terms.{Bool, IsWalk, List, [], ap, arith, count_by, false, get_or, get_or_read, length, length-append, length-map, length-reverse, map, not, reverse, rules, set, subst, sym, true, turns, ℕ, ◌*◌, ◌++◌, ◌+◌, ◌-◌, ◌<◌, ◌∙◌, ◌∷◌, ◌≡◌, ◌≤◌}
 use Rattle.ncl_stage.proofs.WalkLaws.{walk_begins, walk_ends, walk_at, walk_rail, cell_there, cell_within, turn_enters, turn_known, turns-enter}
 use Rattle.ncl_stage.proofs.walk.Walk.from.Goals as goal
 

@@ -1,5 +1,4 @@
-use Rattle.std.proofs.Common.{ℕ, get_or, ap, ◌∙◌}
-use Rattle.ncl_stage.specs.BitOrder.{with_bits}
+use Rattle.ncl_stage.proofs.Terms.{ap, get_or, with_bits, ℕ, ◌∙◌}
 use Rattle.ncl_stage.proofs.WalkLaws.{with_bits-pair}
 use Rattle.ncl_stage.proofs.walk.Walk.from_pairs.Goals as goal
 

@@ -1,7 +1,4 @@
-use Rattle.std.proofs.Common.{◌≡◌, ℕ, ◌++◌, [], List, map, take}
-use Rattle.std.specs.List.{flat_map}
-use Rattle.ncl_stage.specs.BitOrder.{with_bits}
-use Rattle.ncl_stage.specs.Walk.{AreMet, IsDone}
+use Rattle.ncl_stage.proofs.Terms.{AreMet, IsDone, List, [], flat_map, map, take, with_bits, ℕ, ◌++◌, ◌≡◌}
 use Rattle.ncl_stage.proofs.walk.Walk.from_pairs.Given as goal
 
 -- the pairs so far have been walked from, and nothing waits

@@ -1,8 +1,4 @@
-use Rattle.std.proofs.Common.{ℕ, List, Option, Some, None, length, refl, sym, subst}
-use Rattle.std.specs.Prelude.{unwrap_or}
-use Rattle.std.specs.Option.{ForSome}
-use Rattle.ncl_shape.specs.Stage.{StageData}
-use Rattle.ncl_stage.specs.BitOrder.{IsOrderOf, bit_order}
+use Rattle.ncl_stage.proofs.Terms.{ForSome, IsOrderOf, List, None, Option, Some, StageData, bit_order, length, refl, subst, sym, unwrap_or, ℕ}
 use Rattle.ncl_stage.proofs.OrderedTables.{order-is}
 use Rattle.ncl_stage.proofs.ReaderLists.{pins-within, few-pins, wired}
 use Rattle.ncl_stage.proofs.wiring.Wiring.in_order.Goals as goal
